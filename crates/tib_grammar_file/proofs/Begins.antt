@@ -1,0 +1,105 @@
+-- How a grammar file begins.
+use Rattle.std.proofs.Common.{◌≡◌, ℕ, ◌+◌, ◌-◌, ◌<◌, ◌≤◌, List, [], ◌∷◌, ◌++◌, length, take, drop, refl, ap, sym, ◌∙◌, subst, arith, Option, Bool, true, false, zero, suc}
+use Rattle.std.specs.Prelude.{Some, None, Result, Ok, Err, cond, map}
+use Rattle.std.specs.Global.{Vec}
+use Rattle.std.specs.List.{prefix_len}
+use Rattle.std.proofs.lemmas.List.{drop-drop, drop_all, length-drop}
+use Rattle.tib_lex.specs.Grammar.{Word}
+use Rattle.tib_lex.specs.Line.{words_of, words_at}
+use Rattle.tib_lex.specs.declared.token.Token.{Token}
+use Rattle.tib_tree.specs.File.{lines_of, not_feed}
+use Rattle.tib_tree.specs.Grows.{Adds}
+use Rattle.tib_tree.proofs.FileRead.{lines_step, Next}
+use Rattle.tib_grammar_file.specs.Rule.{has_dot, RuleLine}
+use Rattle.tib_grammar_file.specs.Raw.{AddsAll}
+use Rattle.tib_grammar_file.specs.RawFile.{left_of, IsRawRules, file_error_of}
+use Rattle.tib_grammar_file.specs.RawGrammar.{IsStartLine, Began, IsBegun, IsRawGrammar, ReadsGrammar}
+use Rattle.tib_grammar_file.specs.GrammarText.{FaultAt, fault_at, start_of, plain_start, start_in, start_line, started, with_start, rules_from, grammar_from, grammar_of}
+use Rattle.tib_grammar_file.specs.declared.rule.FaultKind.{FaultKind}
+use Rattle.tib_grammar_file.specs.declared.rule.FaultKind.TheVariants as kinds
+use Rattle.tib_grammar_file.specs.declared.rule.RuleError.{RuleError}
+use Rattle.tib_grammar_file.specs.declared.rule.RuleError.TheVariants as rule_errors
+use Rattle.tib_grammar_file.specs.declared.raw.RawRule.{RawRule}
+use Rattle.tib_grammar_file.specs.declared.raw.FileError.{FileError}
+use Rattle.tib_grammar_file.specs.declared.raw.FileError.TheVariants as errors
+use Rattle.tib_grammar_file.specs.declared.grammar.Begun.{Begun}
+
+pub bad_start : (line : List ℕ) → words_of line ≡ None → start_line line ≡ Err kinds.BadToken
+unfolding start_line
+bad_start line e = rw e refl
+
+pub blank_start : (line : List ℕ) (ts : List Token) → words_of line ≡ Some (words_at line ts) → length ts ≡ 0 → start_line line ≡ Ok None
+unfolding start_line
+blank_start line [] e h = rw e refl
+blank_start line (t ∷ ts) e h = absurd (omega arith)
+
+pub some_start : (line : List ℕ) (ts us : List Token) (o : Option (List ℕ)) → words_of line ≡ Some (words_at line ts) → 0 < length ts → us ≡ ts → start_of (words_at line us) ≡ o → start_line line ≡ plain_start o
+unfolding start_line
+some_start line [] us o w h e s = absurd (omega arith)
+some_start line (t ∷ ts) us o w h e s = let k : start_of (words_at line (t ∷ ts)) ≡ o = ap (λ (xs : List Token). start_of (words_at line xs)) (sym e) ∙ s in rw (w, k) refl
+
+pub dotted_start : (text : List ℕ) → has_dot text ≡ true → plain_start (Some text) ≡ Err kinds.BadRule
+dotted_start text e = rw e refl
+
+pub plainly : (text : List ℕ) → has_dot text ≡ false → plain_start (Some text) ≡ Ok (Some text)
+plainly text e = rw e refl
+
+split : (weighted : Bool) (n : ℕ) (bytes : List ℕ) (at end : ℕ) (line : List ℕ) → Next bytes at end line → grammar_from weighted n (lines_of (drop at bytes)) ≡ with_start n (start_line line) (rules_from weighted (n + 1) (lines_of (drop (end + 1) bytes))) (grammar_from weighted (n + 1) (lines_of (drop (end + 1) bytes)))
+split weighted n bytes at end line next =
+    let p : ℕ = prefix_len not_feed (drop at bytes) in
+    let long = length-drop at bytes in
+    let s : lines_of (drop at bytes) ≡ take p (drop at bytes) ∷ lines_of (drop (p + 1) (drop at bytes)) = lines_step (drop at bytes) (omega (arith, next.more)) in
+    let e : at + (p + 1) ≡ end + 1 = omega (arith, next.ends, next.long) in
+    let m : suc n ≡ n + 1 = omega arith in
+    ap (grammar_from weighted n) s
+    ∙ ap (λ (x : List ℕ). with_start n (start_line x) (rules_from weighted (suc n) (lines_of (drop (p + 1) (drop at bytes)))) (grammar_from weighted (suc n) (lines_of (drop (p + 1) (drop at bytes))))) (sym next.is)
+    ∙ ap (λ (x : List ℕ). with_start n (start_line line) (rules_from weighted (suc n) (lines_of x)) (grammar_from weighted (suc n) (lines_of x))) (drop-drop (p + 1) at bytes ∙ ap (λ (k : ℕ). drop k bytes) e)
+    ∙ ap (λ (k : ℕ). with_start n (start_line line) (rules_from weighted k (lines_of (drop (end + 1) bytes))) (grammar_from weighted k (lines_of (drop (end + 1) bytes)))) m
+
+-- no start so far
+pub record Waits (before names : List (List ℕ)) (bytes : List ℕ) (at n : ℕ) : Type 0 where
+  pub read : (weighted : Bool) → grammar_from weighted n (lines_of (drop at bytes)) ≡ grammar_from weighted 1 (lines_of bytes)
+  pub same : names ≡ before
+
+pub waits_on : (z a b : List (List ℕ)) (bytes : List ℕ) (at end n : ℕ) (line : List ℕ) → Next bytes at end line → IsStartLine a b (Ok false) (start_line line) → Waits z a bytes at n → Waits z b bytes (end + 1) (n + 1)
+waits_on z a b bytes at end n line next (none, same) w = record {
+  read = λ weighted. sym (split weighted n bytes at end line next ∙ ap (λ r. with_start n r (rules_from weighted (n + 1) (lines_of (drop (end + 1) bytes))) (grammar_from weighted (n + 1) (lines_of (drop (end + 1) bytes)))) none) ∙ w.read weighted;
+  same = same ∙ w.same;
+}
+
+pub begins : (z a b : List (List ℕ)) (bytes : List ℕ) (at end n : ℕ) (line : List ℕ) (begun : Begun) → Next bytes at end line → begun ≡ record { at = end + 1; number = n + 1 } → end + 1 ≤ length bytes + 1 → n + 1 ≤ end + 1 + 1 → IsStartLine a b (Ok true) (start_line line) → Waits z a bytes at n → Began bytes z b begun
+begins z a b bytes at end n line begun next is place few (start, some, adds) w =
+    subst (λ (g : Begun). Began bytes z b g) (sym is) (record {
+      start = start;
+      read = λ weighted. sym (w.read weighted) ∙ split weighted n bytes at end line next ∙ ap (λ r. with_start n r (rules_from weighted (n + 1) (lines_of (drop (end + 1) bytes))) (grammar_from weighted (n + 1) (lines_of (drop (end + 1) bytes)))) some;
+      adds = subst (λ (x : List (List ℕ)). Adds x start b) w.same adds;
+      place = place;
+      few = few;
+    })
+
+pub start_failed : (z a b : List (List ℕ)) (bytes : List ℕ) (at end n : ℕ) (line : List ℕ) (error : RuleError) (r : FileError) → Next bytes at end line → r ≡ file_error_of n error → IsStartLine a b (Err error) (start_line line) → Waits z a bytes at n → IsBegun bytes z b (Err r)
+start_failed z a b bytes at end n line (rule_errors.Fault kind) r next e h w =
+    subst (λ (x : FileError). IsBegun bytes z b (Err x)) (sym e)
+    (λ weighted. sym (w.read weighted) ∙ split weighted n bytes at end line next ∙ ap (λ r. with_start n r (rules_from weighted (n + 1) (lines_of (drop (end + 1) bytes))) (grammar_from weighted (n + 1) (lines_of (drop (end + 1) bytes)))) h)
+start_failed z a b bytes at end n line rule_errors.OutOfMemory r next e h w = subst (λ (x : FileError). IsBegun bytes z b (Err x)) (sym e) tt
+
+pub no_start : (z a : List (List ℕ)) (bytes : List ℕ) (at n : ℕ) → length bytes ≤ at → Waits z a bytes at n → (weighted : Bool) → grammar_from weighted 1 (lines_of bytes) ≡ Err (fault_at 1 kinds.NoStart)
+no_start z a bytes at n h w = λ weighted. sym (w.read weighted) ∙ ap (λ (x : List ℕ). grammar_from weighted n (lines_of x)) (drop_all at bytes h)
+
+-- the whole file
+pub whole_read : (weighted : Bool) (z a b t : List (List ℕ)) (bytes : List ℕ) (begun : Begun) (r : Result (Vec RawRule) FileError) → Began bytes z a begun → IsRawRules a b t r (rules_from weighted begun.number (lines_of (drop begun.at bytes))) → ReadsGrammar z b t r (grammar_of weighted bytes)
+unfolding grammar_of
+whole_read weighted z a b t bytes begun (Ok rules) g (lines, read, are, added) = record {
+  start = g.start;
+  lines = lines;
+  read = g.read weighted ∙ ap (started g.start) read;
+  rules_are = are;
+  added = (a, g.adds, added);
+}
+whole_read weighted z a b t bytes begun (Err (errors.Fault line kind)) g h = g.read weighted ∙ ap (started g.start) h
+whole_read weighted z a b t bytes begun (Err errors.OutOfMemory) g h = tt
+
+pub whole_failed : (weighted : Bool) (z a t : List (List ℕ)) (bytes : List ℕ) (error : FileError) → IsBegun bytes z a (Err error) → ReadsGrammar z a t (Err error) (grammar_of weighted bytes)
+unfolding grammar_of
+whole_failed weighted z a t bytes (errors.Fault line kind) h = h weighted
+whole_failed weighted z a t bytes errors.OutOfMemory h = tt

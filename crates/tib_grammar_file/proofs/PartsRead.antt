@@ -1,0 +1,143 @@
+-- What a rule line holds, by what was found in it.
+use Rattle.std.proofs.Common.{◌≡◌, ℕ, ◌+◌, ◌-◌, ◌<◌, ◌≤◌, List, [], ◌∷◌, ◌++◌, length, get_or, take, drop, refl, ap, sym, ◌∙◌, subst, arith, Option, Bool, true, false, zero, suc}
+use Rattle.std.specs.Prelude.{Some, None, Result, Ok, Err, option_map, slice_get, map, reverse, nat_lt, cond, if◌then◌else◌, IsTrue, Contains}
+use Rattle.std.specs.List.{All}
+use Rattle.std.proofs.lemmas.List.{length-map, take-map, length-reverse}
+use Rattle.std.proofs.lemmas.List.Elements.{All-drop, All-take}
+use Rattle.std.proofs.lemmas.Bool.Decides.{nat_tests}
+use Rattle.tib_lex.specs.Grammar.{Word}
+use Rattle.tib_lex.specs.Line.{word_at, words_at, words_of, text_of, Lies}
+use Rattle.tib_lex.specs.declared.token.Token.{Token}
+use Rattle.tib_tree.specs.Written.{Item}
+use Rattle.tib_tree.specs.Machine.{nodes_of}
+use Rattle.tib_tree.specs.Shape.{items_back, item_at}
+use Rattle.tib_tree.specs.declared.shape.Place.{Place}
+use Rattle.tib_grammar_file.specs.Rule.{has_dot, Parts, parts, weight_in, weight_size, front_of, with_nodes, right_parts, plain_parts, head_of, parts_with, parts_of, rule_line, rule_in, good_parts, with_cost, few_nodes, rule_line_of, RuleLine}
+use Rattle.tib_grammar_file.specs.Found.{text_at, WeightLies, left_in, found_parts, FoundIn, FoundLies, IsCost}
+use Rattle.tib_grammar_file.specs.Value.{IsRuleLine}
+use Rattle.tib_grammar_file.specs.Raw.{IsRawLine}
+use Rattle.tib_grammar_file.specs.declared.rule.Found.{Found}
+use Rattle.tib_grammar_file.specs.declared.rule.RuleError.{RuleError}
+use Rattle.tib_grammar_file.specs.declared.rule.RuleError.TheVariants as errors
+use Rattle.tib_grammar_file.specs.Weight.{cost_of}
+use Rattle.tib_grammar_file.specs.declared.rule.FaultKind.{FaultKind}
+use Rattle.tib_grammar_file.specs.declared.rule.FaultKind.TheVariants as kinds
+
+pub no_head : (words : List Word) → head_of words ≡ None → parts_of words ≡ None
+unfolding parts_of
+no_head words e = rw e refl
+
+dot_parts : (b : Bool) (left : List ℕ) (words : List Word) → b ≡ true → plain_parts b left words ≡ None
+dot_parts true left words e = refl
+dot_parts false left words e = cc
+
+plain : (b : Bool) (left : List ℕ) (words : List Word) → b ≡ false → plain_parts b left words ≡ right_parts left words
+plain true left words e = cc
+plain false left words e = refl
+
+pub dotted : (words rest : List Word) (left : List ℕ) → head_of words ≡ Some (left, rest) → has_dot left ≡ true → parts_of words ≡ None
+unfolding parts_of
+dotted words rest left e d = ap parts_with e ∙ dot_parts (has_dot left) left rest d
+
+words_front : (line : List ℕ) (weight : Option Token) (rest : List Token) → words_at line (front_of weight rest) ≡ front_of (text_at line weight) (words_at line rest)
+words_front line None rest = sym (ap (λ (n : ℕ). take (n - 0) (words_at line rest)) (length-map rest (word_at line)) ∙ take-map (word_at line) (length rest - 0) rest)
+words_front line (Some t) rest = sym (ap (λ (n : ℕ). take (n - 2) (words_at line rest)) (length-map rest (word_at line)) ∙ take-map (word_at line) (length rest - 2) rest)
+
+-- the parts, by what was read of the tree's tokens
+pub parts_found : (line : List ℕ) (words : List Word) (left : List ℕ) (rest tree : List Token) (weight : Option Token) (o : Option (List Item)) → head_of words ≡ Some (left, words_at line rest) → has_dot left ≡ false → weight_in (words_at line rest) ≡ text_at line weight → tree ≡ front_of weight rest → nodes_of (words_at line tree) ≡ o → parts_of words ≡ with_nodes left (text_at line weight) o
+unfolding parts_of
+parts_found line words left rest tree weight o e d w t n =
+    ap parts_with e
+    ∙ plain (has_dot left) left (words_at line rest) d
+    ∙ ap (λ (v : Option (List ℕ)). with_nodes left v (nodes_of (front_of v (words_at line rest)))) w
+    ∙ ap (λ (ws : List Word). with_nodes left (text_at line weight) (nodes_of ws)) (sym (words_front line weight rest) ∙ sym (ap (words_at line) t))
+    ∙ ap (with_nodes left (text_at line weight)) n
+
+pub found_with : (line : List ℕ) (tokens rest tree : List Token) (left text : List ℕ) (weight : Option Token) (o : Option (List Item)) → head_of (words_at line tokens) ≡ Some (left, words_at line (drop 2 tokens)) → has_dot text ≡ false → text ≡ left → rest ≡ drop 2 tokens → weight_in (words_at line rest) ≡ text_at line weight → tree ≡ front_of weight rest → nodes_of (words_at line tree) ≡ o → parts_of (words_at line tokens) ≡ with_nodes left (text_at line weight) o
+found_with line tokens rest tree left text weight o e d s r w t n =
+    parts_found line (words_at line tokens) left rest tree weight o (e ∙ ap (λ (ts : List Token). Some (left, words_at line ts)) (sym r)) (sym (ap has_dot s) ∙ d) w t n
+
+pub all_rest : (long : ℕ) (tokens rest : List Token) → rest ≡ drop 2 tokens → All (Lies long) tokens → All (Lies long) rest
+all_rest long tokens rest e h = subst (λ (ts : List Token). All (Lies long) ts) (sym e) (All-drop (Lies long) 2 tokens h)
+
+pub all_front : (long : ℕ) (weight : Option Token) (rest tree : List Token) → tree ≡ front_of weight rest → All (Lies long) rest → All (Lies long) tree
+all_front long weight rest tree e h = subst (λ (ts : List Token). All (Lies long) ts) (sym e) (All-take (Lies long) (length rest - weight_size weight) rest h)
+
+-- lines
+pub bad_rule_line : (weighted : Bool) (line : List ℕ) → words_of line ≡ None → rule_line weighted line ≡ Err kinds.BadToken
+unfolding rule_line
+bad_rule_line weighted line e = rw e refl
+
+pub blank_rule_line : (weighted : Bool) (line : List ℕ) (ts : List Token) → words_of line ≡ Some (words_at line ts) → length ts ≡ 0 → rule_line weighted line ≡ Ok None
+unfolding rule_line
+blank_rule_line weighted line [] e h = rw e refl
+blank_rule_line weighted line (t ∷ ts) e h = absurd (omega arith)
+
+-- a line with tokens, by its parts
+pub record SomeLine (line : List ℕ) (ts us : List Token) (o : Option Parts) : Type 0 where
+  pub words : words_of line ≡ Some (words_at line ts)
+  pub some : 0 < length ts
+  pub same : us ≡ ts
+  pub read : parts_of (words_at line us) ≡ o
+
+some_line : (weighted : Bool) (line : List ℕ) (ts : List Token) (o : Option Parts) → words_of line ≡ Some (words_at line ts) → 0 < length ts → parts_of (words_at line ts) ≡ o → rule_line weighted line ≡ good_parts weighted o
+unfolding rule_line
+some_line weighted line [] o e h p = absurd (omega arith)
+some_line weighted line (t ∷ ts) o e h p = rw (e, p) refl
+
+line_parts : (weighted : Bool) (line : List ℕ) (ts us : List Token) (o : Option Parts) → SomeLine line ts us o → rule_line weighted line ≡ good_parts weighted o
+line_parts weighted line ts us o s = some_line weighted line ts o s.words s.some (ap (λ (xs : List Token). parts_of (words_at line xs)) (sym s.same) ∙ s.read)
+
+pub no_rule_line : (weighted : Bool) (line : List ℕ) (ts us : List Token) → SomeLine line ts us None → rule_line weighted line ≡ Err kinds.BadRule
+no_rule_line weighted line ts us s = line_parts weighted line ts us None s
+
+pub bad_cost_line : (weighted : Bool) (line : List ℕ) (ts us : List Token) (p : Parts) (kind : FaultKind) → SomeLine line ts us (Some p) → cost_of weighted p.weight ≡ Err kind → rule_line weighted line ≡ Err kind
+bad_cost_line weighted line ts us p kind s e = line_parts weighted line ts us (Some p) s ∙ ap (with_cost p.left p.nodes) e
+
+back_long : (line : List ℕ) (places : List Place) → length (items_back line places) ≡ length places
+back_long line places = length-reverse (map (item_at line) places) ∙ length-map places (item_at line)
+
+chosen : {A : Type 0} (n m : ℕ) (x y : A) → n ≡ m → (m ≤ 10000 → cond (nat_lt 10000 n) x y ≡ y) × (10000 < m → cond (nat_lt 10000 n) x y ≡ x)
+chosen n m x y e = (λ h. grind (arith, nat_tests), λ h. grind (arith, nat_tests))
+
+pub large_rule_line : (weighted : Bool) (line : List ℕ) (ts us : List Token) (left : List ℕ) (places : List Place) (w : Option (List ℕ)) (cost : ℕ) → SomeLine line ts us (Some (parts left (items_back line places) w)) → cost_of weighted w ≡ Ok cost → 10000 < length places → rule_line weighted line ≡ Err kinds.TooManyNodes
+large_rule_line weighted line ts us left places w cost s e h =
+    line_parts weighted line ts us _ s ∙ ap (with_cost left (items_back line places)) e ∙ (chosen (length (items_back line places)) (length places) _ _ (back_long line places)).1 h
+
+pub good_rule_line : (weighted : Bool) (line : List ℕ) (ts us : List Token) (left : List ℕ) (places : List Place) (w : Option (List ℕ)) (cost : ℕ) → SomeLine line ts us (Some (parts left (items_back line places) w)) → cost_of weighted w ≡ Ok cost → length places ≤ 10000 → rule_line weighted line ≡ Ok (Some (rule_line_of left (items_back line places) cost))
+good_rule_line weighted line ts us left places w cost s e h =
+    line_parts weighted line ts us _ s ∙ ap (with_cost left (items_back line places)) e ∙ (chosen (length (items_back line places)) (length places) _ _ (back_long line places)).0 h
+
+-- the parts' left name is the line's
+parts_head : (words : List Word) (o : Option (List ℕ × List Word)) (p : Parts) → head_of words ≡ o → parts_with o ≡ Some p → option_map (λ h. h.0) o ≡ Some p.left
+parts_head words None p e h = let bad : None ≡ Some p = h in cc
+parts_head words (Some x) p e h = by (has_dot x.0) h
+  where
+    with_left : (left : List ℕ) (w : Option (List ℕ)) (o : Option (List Item)) (p : Parts) → with_nodes left w o ≡ Some p → Some left ≡ Some p.left
+    with_left left w None p h = let bad : None ≡ Some p = h in cc
+    with_left left w (Some is) p h = let same : parts left is w ≡ p = cc in ap (λ (q : Parts). Some q.left) same
+    by : (b : Bool) → plain_parts b x.0 x.1 ≡ Some p → Some x.0 ≡ Some p.left
+    by true h = let bad : None ≡ Some p = h in cc
+    by false h = with_left x.0 (weight_in x.1) (nodes_of (front_of (weight_in x.1) x.1)) p h
+
+left_of_parts : (words : List Word) (p : Parts) → parts_of words ≡ Some p → left_in (Some words) ≡ Some p.left
+unfolding parts_of
+left_of_parts words p e = parts_head words (head_of words) p refl e
+
+pub left_named : (line : List ℕ) (ts us : List Token) (p : Parts) → SomeLine line ts us (Some p) → left_in (words_of line) ≡ Some p.left
+left_named line ts us p s =
+    ap left_in s.words ∙ left_of_parts (words_at line ts) p (ap (λ (xs : List Token). parts_of (words_at line xs)) (sym s.same) ∙ s.read)
+
+pub some_found : (line : List ℕ) (ts us : List Token) (places : List Place) (o p : Option Found) → words_of line ≡ Some (words_at line ts) → 0 < length ts → us ≡ ts → parts_of (words_at line us) ≡ found_parts line places o → o ≡ p → SomeLine line ts us (found_parts line places p)
+some_found line ts us places o p w n e r s = record { words = w; some = n; same = e; read = r ∙ ap (found_parts line places) s }
+
+pub found_lies : (long : ℕ) (places : List Place) (o : Option Found) (f : Found) → FoundLies long places o → o ≡ Some f → FoundIn long places f
+found_lies long places o f h e = subst (λ (p : Option Found). FoundLies long places p) e h
+
+pub cost_failed : (weighted : Bool) (names labels : List (List ℕ)) (line : List ℕ) (ts us : List Token) (places : List Place) (f : Found) (error : RuleError) → SomeLine line ts us (found_parts line places (Some f)) → IsCost (Err error) (cost_of weighted (text_at line f.weight)) → IsRuleLine names labels (Err error) (rule_line weighted line)
+cost_failed weighted names labels line ts us places f (errors.Fault kind) s h = bad_cost_line weighted line ts us _ kind s h
+cost_failed weighted names labels line ts us places f errors.OutOfMemory s h = tt
+
+pub raw_cost_failed : (weighted : Bool) (before names texts : List (List ℕ)) (line : List ℕ) (ts us : List Token) (places : List Place) (f : Found) (error : RuleError) → SomeLine line ts us (found_parts line places (Some f)) → IsCost (Err error) (cost_of weighted (text_at line f.weight)) → IsRawLine before names texts (Err error) (rule_line weighted line)
+raw_cost_failed weighted before names texts line ts us places f (errors.Fault kind) s h = bad_cost_line weighted line ts us _ kind s h
+raw_cost_failed weighted before names texts line ts us places f errors.OutOfMemory s h = tt

@@ -1,0 +1,81 @@
+-- How a weight is read.
+use Rattle.std.proofs.Common.{◌≡◌, ℕ, ◌+◌, ◌-◌, ◌*◌, ◌<◌, ◌≤◌, List, [], ◌∷◌, length, get_or, drop, drop-cons, add-one, refl, ap, sym, ◌∙◌, subst, arith, min, Option, Bool, true, false, zero, suc}
+use Rattle.std.specs.Prelude.{Some, None, Result, Ok, Err, option_map, nat_lt, ◌==◌, ◌&&◌, if◌then◌else◌, cond}
+use Rattle.std.specs.List.{list_all}
+use Rattle.std.proofs.lemmas.List.{drop_all}
+use Rattle.std.proofs.lemmas.Bool.Decides.{nat_tests}
+use Rattle.tib_grammar_file.specs.Weight.{is_digit, is_zero_digit, whole_from, whole, small, cost_of}
+use Rattle.tib_grammar_file.specs.declared.rule.FaultKind.{FaultKind}
+use Rattle.tib_grammar_file.specs.declared.rule.FaultKind.TheVariants as kinds
+
+pub record Value (text : List ℕ) (value at : ℕ) : Type 0 where
+  pub sum : ℕ
+  pub cut : value ≡ min sum 1000000000000001
+  pub rest : whole_from sum (drop at text) ≡ whole text
+
+first : (b : ℕ) (rest : List ℕ) (c : Bool) → c ≡ true → cond c (whole_from (10 * 0 + (b - 48)) rest) (cond (b == 46 && list_all is_zero_digit rest) (Some 0) None) ≡ cond c (whole_from (b - 48) rest) None
+first b rest true e = ap (λ (n : ℕ). whole_from n rest) (omega arith)
+first b rest false e = cc
+
+pub value_starts : (text : List ℕ) → 0 < length text → is_digit (get_or text 0 0) ≡ true → Value text 0 0
+value_starts [] h e = absurd (omega arith)
+value_starts (b ∷ rest) h e = record { sum = 0; cut = omega arith; rest = first b rest (is_digit b) e }
+
+digit_step : (s : ℕ) (text : List ℕ) (at : ℕ) → at < length text → is_digit (get_or text at 0) ≡ true → whole_from s (drop at text) ≡ whole_from (10 * s + (get_or text at 0 - 48)) (drop (at + 1) text)
+digit_step s text at h e = rw (drop-cons text at 0, e, add-one) refl
+
+pub value_goes : (text : List ℕ) (value next at : ℕ) → at < length text → is_digit (get_or text at 0) ≡ true → next ≡ min (10 * value + (get_or text at 0 - 48)) 1000000000000001 → Value text value at → Value text next (at + 1)
+value_goes text value next at h e n v = record {
+  sum = 10 * v.sum + (get_or text at 0 - 48);
+  cut = omega (arith, n, v.cut);
+  rest = sym (digit_step v.sum text at h e) ∙ v.rest;
+}
+
+pub value_ends : (text : List ℕ) (value at : ℕ) → length text ≤ at → (v : Value text value at) → whole text ≡ Some v.sum
+value_ends text value at h v = sym v.rest ∙ ap (whole_from v.sum) (drop_all at text h)
+
+pub value_stops : (text : List ℕ) (value at : ℕ) → at < length text → is_digit (get_or text at 0) ≡ false → (v : Value text value at) → whole text ≡ cond (get_or text at 0 == 46 && list_all is_zero_digit (drop (at + 1) text)) (Some v.sum) None
+value_stops text value at h e v = sym v.rest ∙ rw (drop-cons text at 0, e, add-one) refl
+
+pub not_whole : (text : List ℕ) → 0 < length text → is_digit (get_or text 0 0) ≡ false → whole text ≡ None
+not_whole [] h e = refl
+not_whole (b ∷ rest) h e = rw e refl
+
+pub cost_free : (w : Bool) (text : List ℕ) → w ≡ false → Ok 0 ≡ cost_of w (Some text)
+unfolding cost_of
+cost_free w text e = rw e refl
+
+weighed : (w : Bool) (text : List ℕ) (r : Result ℕ FaultKind) → w ≡ true → r ≡ small (whole text) → r ≡ cost_of w (Some text)
+unfolding cost_of
+weighed w text r e h = rw e h
+
+none_small : (o : Option ℕ) → None ≡ option_map (λ n. min n 1000000000000001) o → Err kinds.NotWhole ≡ small o
+none_small None e = refl
+none_small (Some m) e = let bad : None ≡ Some (min m 1000000000000001) = e in cc
+
+below : (n m : ℕ) → n ≡ min m 1000000000000001 → n < 1000000000000001 → nat_lt 1000000000000000 m ≡ false
+below n m e h = grind (arith, nat_tests)
+
+above : (n m : ℕ) → n ≡ min m 1000000000000001 → 1000000000000001 ≤ n → nat_lt 1000000000000000 m ≡ true
+above n m e h = grind (arith, nat_tests)
+
+some_small : (n : ℕ) (o : Option ℕ) → Some n ≡ option_map (λ n. min n 1000000000000001) o → n < 1000000000000001 → Ok n ≡ small o
+some_small n None e h = let bad : Some n ≡ None = e in cc
+some_small n (Some m) e h =
+    let s : n ≡ min m 1000000000000001 = cc in
+    rw (below n m s h) (ap (λ k. Ok k) (omega (arith, s)))
+
+some_large : (n : ℕ) (o : Option ℕ) → Some n ≡ option_map (λ n. min n 1000000000000001) o → 1000000000000001 ≤ n → Err kinds.WeightTooLarge ≡ small o
+some_large n None e h = let bad : Some n ≡ None = e in cc
+some_large n (Some m) e h =
+    let s : n ≡ min m 1000000000000001 = cc in
+    rw (above n m s h) refl
+
+pub cost_none : (w : Bool) (text : List ℕ) → w ≡ true → None ≡ option_map (λ n. min n 1000000000000001) (whole text) → Err kinds.NotWhole ≡ cost_of w (Some text)
+cost_none w text e h = weighed w text _ e (none_small (whole text) h)
+
+pub cost_some : (w : Bool) (text : List ℕ) (n : ℕ) → w ≡ true → Some n ≡ option_map (λ n. min n 1000000000000001) (whole text) → n < 1000000000000001 → Ok n ≡ cost_of w (Some text)
+cost_some w text n e h k = weighed w text _ e (some_small n (whole text) h k)
+
+pub cost_large : (w : Bool) (text : List ℕ) (n : ℕ) → w ≡ true → Some n ≡ option_map (λ n. min n 1000000000000001) (whole text) → 1000000000000001 ≤ n → Err kinds.WeightTooLarge ≡ cost_of w (Some text)
+cost_large w text n e h k = weighed w text _ e (some_large n (whole text) h k)

@@ -1,0 +1,106 @@
+// Reads grammar files.
+ghost use Rattle.std.specs.Prelude.{◌≡◌, ◌≤◌, ◌<◌, ◌+◌, ◌-◌, ℕ, List, length, IfOk, Some, None, All};
+ghost use Rattle.tib_lex.specs.Line.{words_at, Lies};
+ghost use Rattle.tib_grammar_file.specs.Found.{text_at, WeightLies};
+ghost use Rattle.tib_grammar_file.specs.GrammarText.{start_of, start_line, grammar_of};
+ghost use Rattle.tib_grammar_file.specs.RawGrammar.{IsStartLine, IsBegun, ReadsGrammar};
+
+use crate::raw::{FileError, RawRule, file_error, read_rules};
+use crate::rule::{FaultKind, RuleError, has_dot};
+use std::alloc::{AllocError, Global};
+use tib_lex::{Kind, Token, read_text, read_tokens};
+use tib_tree::{Labels, line_at};
+
+// The token of a start line.
+fn start_token(tokens: &[Token]) -> Option<Token>
+    ensures start { (line : List ℕ) → start_of (words_at line tokens.now) ≡ text_at line result }
+    ensures lies { (long : ℕ) → All (Lies long) tokens.now → WeightLies long result }
+{
+    if tokens.len() != 1 {
+        return None;
+    }
+    let token = tokens[0];
+    match token.kind {
+        Kind::Name => Some(token),
+        _ => None,
+    }
+}
+
+// Whether a line is the start line, whose name goes into the table.
+fn read_start(
+    line: &[u8],
+    tokens: &mut Vec<Token>,
+    text: &mut Vec<u8>,
+    names: &mut Labels,
+) -> Result<bool, RuleError>
+    requires { length line.now ≤ 8388608 }
+    ensures { IsStartLine names.old names.new result (start_line line.now) }
+{
+    if !read_tokens(line, tokens)? {
+        return Err(RuleError::Fault(FaultKind::BadToken));
+    }
+    if tokens.is_empty() {
+        return Ok(false);
+    }
+    let token = match start_token(tokens) {
+        Some(token) => token,
+        None => return Err(RuleError::Fault(FaultKind::BadRule)),
+    };
+    read_text(line, token, text)?;
+    if has_dot(text) {
+        return Err(RuleError::Fault(FaultKind::BadRule));
+    }
+    names.intern(text)?;
+    Ok(true)
+}
+
+/// Where the line behind the start line begins, and its number.
+#[derive(Clone, Copy, Debug)]
+pub struct Begun {
+    pub at: usize,
+    pub number: u32,
+}
+
+fn find_start(alloc: Global, bytes: &[u8], names: &mut Labels) -> Result<Begun, FileError>
+    requires { length bytes.now ≤ 8388608 }
+    ensures { IsBegun bytes.now names.old names.new result }
+{
+    let mut tokens = Vec::new(alloc);
+    let mut text = Vec::new(alloc);
+    let mut at = 0;
+    let mut number: u32 = 1;
+    while at < bytes.len() {
+        let line = line_at(bytes, at);
+        let found = match read_start(line, &mut tokens, &mut text, names) {
+            Ok(found) => found,
+            Err(error) => return Err(file_error(number, error)),
+        };
+        at += line.len() + 1;
+        number += 1;
+        if found {
+            return Ok(Begun { at, number });
+        }
+    }
+    Err(FileError::Fault {
+        line: 1,
+        kind: FaultKind::NoStart,
+    })
+}
+
+/// The rules of a grammar file. The names of its states go into one table, and the texts in its trees into another.
+pub fn read_grammar(
+    alloc: Global,
+    weighted: bool,
+    bytes: &[u8],
+    names: &mut Labels,
+    texts: &mut Labels,
+) -> Result<Vec<RawRule>, FileError>
+    requires { length bytes.now ≤ 8388608 }
+    ensures { ReadsGrammar names.old names.new texts.new result (grammar_of weighted bytes.now) }
+{
+    let begun = match find_start(alloc, bytes, names) {
+        Ok(begun) => begun,
+        Err(error) => return Err(error),
+    };
+    read_rules(alloc, weighted, bytes, begun.at, begun.number, names, texts)
+}

@@ -1,0 +1,9 @@
+pub mod Read
+pub mod Steps
+pub mod Growing
+pub mod Texts
+pub mod NodesRead
+pub mod LineRead
+pub mod FileRead
+pub mod Values
+pub mod Preorders

@@ -1,0 +1,14 @@
+use Rattle.std.proofs.Common.{◌≡◌, ◌≤◌, ◌+◌, length, drop}
+use Rattle.tib_tree.specs.Trees.{HasChildren, parse, count}
+use Rattle.tib_tree.proofs.preorder.is_one_tree.Given as goal
+
+abbrev pub invariant-loop-i : goal.invariant-loop-i
+invariant-loop-i l = record {
+  within : l.i ≤ length l.items;
+  nested : HasChildren (drop l.i l.items);
+  roots : l.roots ≡ count (parse (drop l.i l.items));
+  few : l.roots + l.i ≤ length l.items;
+}
+
+abbrev pub decreases-loop-i : goal.decreases-loop-i
+decreases-loop-i l = l.i

@@ -1,0 +1,13 @@
+use Rattle.std.proofs.Common.{arith}
+use Rattle.tib_tree.proofs.Growing.{grows_twice}
+use Rattle.tib_tree.proofs.NodesRead.{nodes_step}
+use Rattle.tib_tree.proofs.trees.read_nodes.Goals as goal
+
+pub loop-i-preserved : goal.loop-i-preserved
+loop-i-preserved c =
+    let i = c.loop-i.invariant in
+    record {
+      within = omega arith;
+      nodes = nodes_step c.args.line.now c.args.places.now c.loop-i.i _ c.loop-i.labels c.read_node.new.labels c.loop-i.nodes.items _ _ c.loop-i-test.true i.within i.nodes c.read_node.ensures.grows c.in_ok-node.ensures.node c.in_ok-push.ensures.items;
+      grows = grows_twice _ _ _ i.grows c.read_node.ensures.grows;
+    }

@@ -1,0 +1,15 @@
+use Rattle.std.proofs.Common.{◌≤◌, length, drop}
+use Rattle.tib_tree.specs.Grows.{Grows}
+use Rattle.tib_tree.specs.Nodes.{AreNodes}
+use Rattle.tib_tree.specs.Shape.{items_back}
+use Rattle.tib_tree.proofs.trees.read_nodes.Given as goal
+
+abbrev pub invariant-loop-i : goal.invariant-loop-i
+invariant-loop-i l = record {
+  within : l.i ≤ length l.places;
+  nodes : AreNodes l.labels l.nodes.items (items_back l.line (drop l.i l.places));
+  grows : Grows l.fn.labels l.labels;
+}
+
+abbrev pub decreases-loop-i : goal.decreases-loop-i
+decreases-loop-i l = l.i

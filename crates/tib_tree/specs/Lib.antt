@@ -1,0 +1,14 @@
+pub mod Written
+pub mod Machine
+pub mod Shape
+pub mod Grows
+pub mod LabelTexts
+pub mod Nodes
+pub mod Lines
+pub mod File
+pub mod Trees
+pub mod Meaning
+pub mod Pairs
+pub mod Growth
+pub mod Order
+pub mod TreeView

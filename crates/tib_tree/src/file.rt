@@ -1,0 +1,118 @@
+ghost use Rattle.std.specs.Prelude.{◌≡◌, ◌<◌, ◌+◌, take, drop, ◌≤◌, ℕ, length, not, ◌==◌, IfOk, List, [], ◌∷◌, ◌++◌};
+ghost use Rattle.std.specs.List.{prefix_len};
+ghost use Rattle.tib_tree.specs.File.{trees_of, AreTrees, AddsLine, IsFile, Pushes, file_error_of, not_feed};
+ghost use Rattle.tib_tree.specs.Grows.{Grows};
+ghost use Rattle.tib_tree.specs.Lines.{tree_line};
+
+use crate::labels::Labels;
+use crate::trees::{FaultKind, LineError, LineReader, Tree};
+use std::alloc::{AllocError, Global};
+
+#[derive(Clone, Copy, Debug, PartialEq, Eq)]
+pub struct FileFault {
+    pub line: u32,
+    pub kind: FaultKind,
+}
+
+#[derive(Clone, Copy, Debug, PartialEq, Eq)]
+pub enum ReadError {
+    Fault(FileFault),
+    OutOfMemory,
+}
+
+fn is_not_feed(byte: u8) -> bool
+    ensures { result ≡ not_feed byte }
+{
+    byte != b'\n'
+}
+
+// How many bytes the first line has.
+fn line_length(bytes: &[u8]) -> usize
+    ensures count { result ≡ prefix_len not_feed bytes.now }
+    ensures within { result ≤ length bytes.now }
+{
+    let mut count = 0;
+    while count < bytes.len() && is_not_feed(bytes[count]) {
+        count += 1;
+    }
+    count
+}
+
+// The line at a place.
+pub fn line_at(bytes: &[u8], at: usize) -> &[u8]
+    requires { at < length bytes.now }
+    ensures first { result.now ≡ take (prefix_len not_feed (drop at bytes.now)) (drop at bytes.now) }
+    ensures long { length result.now ≡ prefix_len not_feed (drop at bytes.now) }
+    ensures within { at + length result.now ≤ length bytes.now }
+{
+    let rest = &bytes[at..];
+    &rest[..line_length(rest)]
+}
+
+// Reads a line, and adds its tree if it has one.
+fn add_line(
+    alloc: Global,
+    reader: &mut LineReader,
+    line: &[u8],
+    labels: &mut Labels,
+    trees: &mut Vec<Tree>,
+) -> Result<(), LineError>
+    requires { length line.now ≤ 8388608 }
+    ensures line { AddsLine labels.new trees.old.items trees.new.items result (tree_line line.now) }
+    ensures grows { Grows labels.old labels.new }
+{
+    match reader.read(alloc, line, labels) {
+        Ok(Some(tree)) => push_tree(trees, tree),
+        Ok(None) => Ok(()),
+        Err(e) => Err(e),
+    }
+}
+
+fn push_tree(trees: &mut Vec<Tree>, tree: Tree) -> Result<(), LineError>
+    ensures { Pushes trees.old.items trees.new.items tree result }
+{
+    push(trees, tree)?;
+    Ok(())
+}
+
+fn push(trees: &mut Vec<Tree>, tree: Tree) -> Result<(), AllocError>
+    ensures { IfOk result (λ _. trees.new.items ≡ trees.old.items ++ tree ∷ []) }
+{
+    trees.push(tree)?;
+    Ok(())
+}
+
+fn file_error(line: u32, error: LineError) -> ReadError
+    ensures { result ≡ file_error_of line error }
+{
+    match error {
+        LineError::Fault(kind) => ReadError::Fault(FileFault { line, kind }),
+        LineError::OutOfMemory => ReadError::OutOfMemory,
+    }
+}
+
+/// The trees of a file, over a table that grows by their labels.
+pub fn read_trees(
+    alloc: Global,
+    bytes: &[u8],
+    labels: &mut Labels,
+) -> Result<Vec<Tree>, ReadError>
+    requires { length bytes.now ≤ 8388608 }
+    ensures trees { IsFile labels.new result (trees_of bytes.now) }
+    ensures grows { Grows labels.old labels.new }
+{
+    let mut reader = LineReader::new(alloc);
+    let mut trees = Vec::new(alloc);
+    let mut at = 0;
+    let mut number: u32 = 1;
+    while at < bytes.len() {
+        let line = line_at(bytes, at);
+        match add_line(alloc, &mut reader, line, labels, &mut trees) {
+            Ok(()) => {}
+            Err(error) => return Err(file_error(number, error)),
+        }
+        at += line.len() + 1;
+        number += 1;
+    }
+    Ok(trees)
+}

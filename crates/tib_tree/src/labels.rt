@@ -1,0 +1,84 @@
+// The table of labels.
+ghost use Rattle.std.specs.Prelude.{◌≡◌, ℕ, ◌+◌, ◌-◌, ◌^◌, ◌<◌, ◌≤◌, List, [], ◌∷◌, ◌++◌, length, IfOk, OnOk, OnErr, slice_get, Some, Contains, IfSome, None};
+ghost use Rattle.tib_tree.specs.Grows.{Grows, Adds};
+
+use indexmap::IndexSet;
+use std::alloc::{AllocError, Global};
+use std::marker::Model;
+
+/// Distinct texts in the order of first sight. A text's number is its place.
+#[derive(Drop)]
+pub struct Labels {
+    texts: IndexSet<Vec<u8>>,
+    alloc: Global,
+}
+
+impl Model for Labels {
+    ghost use Rattle.std.specs.Prelude.{ℕ, List};
+
+    ghost Value = { List (List ℕ) };
+
+    ghost use Rattle.tib_tree.specs.LabelTexts.{texts_of};
+
+    ghost view = { texts_of };
+
+    ghost use Rattle.std.specs.Prelude.{length, ◌<◌};
+
+    ghost invariant = { λ l. length l.texts.keys < 4294967296 };
+}
+
+impl Labels {
+    /// An empty table.
+    pub fn new(alloc: Global) -> Labels
+        ensures { result ≡ [] }
+    {
+        Labels {
+            texts: IndexSet::new(alloc),
+            alloc,
+        }
+    }
+
+    /// How many texts.
+    pub fn len(&self) -> usize
+        ensures { result ≡ length self.now }
+    {
+        self.texts.len()
+    }
+
+    /// The number of a text, if the table has it.
+    pub fn find(&self, text: &[u8]) -> Option<u32>
+        ensures found { IfSome result (λ n. slice_get self.now n ≡ Some text.now) }
+        ensures none { result ≡ None → Contains self.now text.now → ⊥ }
+    {
+        match self.texts.get_index_of(text) {
+            Some(i) => Some(i as u32),
+            None => None,
+        }
+    }
+
+    /// The number of a text, which goes last where it is new.
+    pub fn intern(&mut self, text: &[u8]) -> Result<u32, AllocError>
+        ensures named { IfOk result (λ n. slice_get self.new n ≡ Some text.now) }
+        ensures err { OnErr result (self.new ≡ self.old) }
+        ensures grows { Grows self.old self.new }
+        ensures adds { IfOk result (λ n. Adds self.old text.now self.new) }
+    {
+        if let Some(i) = self.texts.get_index_of(text) {
+            return Ok(i as u32);
+        }
+        if self.texts.len() >= 4294967295 {
+            return Err(AllocError);
+        }
+        let owned = text.to_vec(self.alloc)?;
+        let (i, _) = self.texts.insert_full(owned)?;
+        Ok(i as u32)
+    }
+
+    /// The text of a number.
+    pub fn text(&self, label: u32) -> &[u8]
+        requires { label < length self.now }
+        ensures { slice_get self.now label ≡ Some result.now }
+    {
+        &self.texts[label as usize]
+    }
+}

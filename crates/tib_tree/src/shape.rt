@@ -1,0 +1,131 @@
+// Reads the nodes of a tree off its tokens, from the last one on.
+ghost use Rattle.std.specs.Prelude.{◌≡◌, ℕ, ◌+◌, ◌-◌, ◌<◌, ◌≤◌, ◌^◌, List, [], length, IfOk, Some, None, if◌then◌else◌, Bool, map, All, IsTrue};
+ghost use Rattle.tib_lex.specs.Line.{word_at, words_at, Lies};
+ghost use Rattle.tib_tree.specs.Machine.{put, nodes_of, start, finish};
+ghost use Rattle.tib_tree.specs.Shape.{state_of, PlaceLies, items_back, node_put, put_open_of, put_close_of};
+
+use std::alloc::{AllocError, Global};
+use tib_lex::{Kind, Token};
+
+/// A node of a tree: its label's token, and how many children a head has.
+#[derive(Clone, Copy, Debug)]
+pub struct Place {
+    pub token: Token,
+    pub kids: Option<u32>,
+}
+
+/// What was read of a line's trees.
+#[derive(Drop)]
+pub struct Reader {
+    /// The nodes, the last one first.
+    pub places: Vec<Place>,
+    // How many trees were read at this level.
+    pub top: u32,
+    // The same for each level above it that is still to be opened, the nearest last.
+    pub above: Vec<u32>,
+    // How many children wait for their head.
+    pub held: Option<u32>,
+}
+
+impl Reader {
+    pub fn new(alloc: Global) -> Reader
+        ensures { (line : List ℕ) → state_of line result ≡ start }
+    {
+        Reader {
+            places: Vec::new(alloc),
+            top: 0,
+            above: Vec::new(alloc),
+            held: None,
+        }
+    }
+
+    fn clear(&mut self)
+        ensures places { self.new.places.items ≡ [] }
+        ensures start { (line : List ℕ) → state_of line self.new ≡ start }
+    {
+        self.places.clear();
+        self.top = 0;
+        self.above.clear();
+        self.held = None;
+    }
+
+    fn put_node(&mut self, token: Token) -> Result<(), AllocError>
+        requires { self.old.top < 2 ^ 32 - 1 }
+        ensures places { IfOk result (λ _. (long : ℕ) → Lies long token → All (PlaceLies long) self.old.places.items → All (PlaceLies long) self.new.places.items) }
+        ensures put { IfOk result (λ _. (line : List ℕ) → state_of line self.new ≡ node_put (word_at line token) (state_of line self.old)) }
+    {
+        let kids = self.held;
+        self.places.push(Place { token, kids })?;
+        self.held = None;
+        self.top += 1;
+        Ok(())
+    }
+
+    // Reads one more token, if it may stand there.
+    fn put(&mut self, token: Token) -> Result<bool, AllocError>
+        requires { self.old.top < 2 ^ 32 - 1 }
+        ensures places { IfOk result (λ ok. (long : ℕ) → Lies long token → All (PlaceLies long) self.old.places.items → All (PlaceLies long) self.new.places.items) }
+        ensures put { IfOk result (λ ok. (line : List ℕ) → put (word_at line token) (state_of line self.old) ≡ (if ok then Some (state_of line self.new) else None)) }
+    {
+        match token.kind {
+            Kind::Name | Kind::Quoted => {
+                self.put_node(token)?;
+                Ok(true)
+            }
+            Kind::Open => Ok(self.open()),
+            Kind::Close => self.close(),
+            Kind::Hash | Kind::Arrow => Ok(false),
+        }
+    }
+
+    fn open(&mut self) -> bool
+        ensures places { self.new.places.items ≡ self.old.places.items }
+        ensures put { (line : List ℕ) → put_open_of (state_of line self.old) ≡ (if result then Some (state_of line self.new) else None) }
+    {
+        if self.held.is_some() {
+            return false;
+        }
+        let Some(top) = self.above.pop() else {
+            return false;
+        };
+        self.held = Some(self.top);
+        self.top = top;
+        true
+    }
+
+    fn close(&mut self) -> Result<bool, AllocError>
+        ensures places { self.new.places.items ≡ self.old.places.items }
+        ensures put { IfOk result (λ ok. (line : List ℕ) → put_close_of (state_of line self.old) ≡ (if ok then Some (state_of line self.new) else None)) }
+    {
+        if self.held.is_some() {
+            return Ok(false);
+        }
+        let top = self.top;
+        self.above.push(top)?;
+        self.top = 0;
+        Ok(true)
+    }
+
+    /// Reads these tokens as one tree, if they are one.
+    pub fn read(&mut self, tokens: &[Token]) -> Result<bool, AllocError>
+        requires { length tokens.now < 2 ^ 32 - 1 }
+        ensures places { IfOk result (λ ok. IsTrue ok → (long : ℕ) → All (Lies long) tokens.now → All (PlaceLies long) self.new.places.items) }
+        ensures nodes { IfOk result (λ ok. (line : List ℕ) → nodes_of (words_at line tokens.now) ≡ (if ok then Some (items_back line self.new.places.items) else None)) }
+    {
+        self.clear();
+        let mut i = tokens.len();
+        while i > 0 {
+            i -= 1;
+            if !self.put(tokens[i])? {
+                return Ok(false);
+            }
+        }
+        Ok(self.is_one())
+    }
+
+    fn is_one(&self) -> bool
+        ensures { (line : List ℕ) → finish (Some (state_of line self.now)) ≡ (if result then Some (items_back line self.now.places.items) else None) }
+    {
+        self.held.is_none() && self.top == 1 && self.above.is_empty()
+    }
+}

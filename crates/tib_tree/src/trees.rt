@@ -1,0 +1,143 @@
+ghost use Rattle.std.specs.Prelude.{◌≡◌, ◌≤◌, ◌<◌, ℕ, length, IfOk, Some, slice_get, All};
+ghost use Rattle.tib_lex.specs.Line.{word_at, text_of, Lies};
+ghost use Rattle.tib_tree.specs.Grows.{Grows};
+ghost use Rattle.tib_tree.specs.Lines.{tree_line, IsLine};
+ghost use Rattle.tib_tree.specs.Nodes.{IsNode, AreNodes};
+ghost use Rattle.tib_tree.specs.Shape.{item_at, items_back, PlaceLies};
+ghost use Rattle.tib_tree.specs.declared.trees.LineError.TheVariants.{OutOfMemory};
+
+use crate::labels::Labels;
+use crate::shape::{Place, Reader};
+use std::alloc::{AllocError, Global};
+use tib_lex::{Token, read_text, read_tokens};
+
+/// A node with the number of its children.
+#[derive(Clone, Copy, Debug)]
+pub struct Node {
+    pub label: u32,
+    pub rank: u32,
+}
+
+/// A tree, kept as its preorder.
+#[derive(Drop)]
+pub struct Tree {
+    pub nodes: Vec<Node>,
+}
+
+#[derive(Clone, Copy, Debug, PartialEq, Eq)]
+pub enum FaultKind {
+    BadToken,
+    BadTree,
+    TooManyNodes,
+}
+
+#[derive(Clone, Copy, Debug, PartialEq, Eq)]
+pub enum LineError {
+    Fault(FaultKind),
+    OutOfMemory,
+}
+
+impl From<AllocError> for LineError {
+    ghost from_gives = { λ _ e. e ≡ OutOfMemory };
+
+    fn from(_: AllocError) -> Self {
+        LineError::OutOfMemory
+    }
+}
+
+// The number of a token's label.
+fn intern(
+    line: &[u8],
+    token: Token,
+    labels: &mut Labels,
+    text: &mut Vec<u8>,
+) -> Result<u32, AllocError>
+    requires { Lies (length line.now) token }
+    ensures named { IfOk result (λ n. slice_get labels.new n ≡ Some (text_of (word_at line.now token))) }
+    ensures grows { Grows labels.old labels.new }
+{
+    read_text(line, token, text)?;
+    labels.intern(text)
+}
+
+fn read_node(
+    line: &[u8],
+    place: Place,
+    labels: &mut Labels,
+    text: &mut Vec<u8>,
+) -> Result<Node, AllocError>
+    requires { PlaceLies (length line.now) place }
+    ensures node { IfOk result (λ n. IsNode labels.new n (item_at line.now place)) }
+    ensures grows { Grows labels.old labels.new }
+{
+    let label = intern(line, place.token, labels, text)?;
+    let rank = place.kids.unwrap_or(0);
+    Ok(Node { label, rank })
+}
+
+// The nodes at some places, the last place first.
+fn read_nodes(
+    alloc: Global,
+    line: &[u8],
+    places: &[Place],
+    labels: &mut Labels,
+    text: &mut Vec<u8>,
+) -> Result<Vec<Node>, AllocError>
+    requires { All (PlaceLies (length line.now)) places.now }
+    ensures nodes { IfOk result (λ ns. AreNodes labels.new ns.items (items_back line.now places.now)) }
+    ensures grows { Grows labels.old labels.new }
+{
+    let mut nodes = Vec::new(alloc);
+    let mut i = places.len();
+    while i > 0 {
+        i -= 1;
+        let node = read_node(line, places[i], labels, text)?;
+        nodes.push(node)?;
+    }
+    Ok(nodes)
+}
+
+/// Reads lines of a tree file, with room that is used again for each.
+#[derive(Drop)]
+pub struct LineReader {
+    tokens: Vec<Token>,
+    reader: Reader,
+    text: Vec<u8>,
+}
+
+impl LineReader {
+    pub fn new(alloc: Global) -> LineReader {
+        LineReader {
+            tokens: Vec::new(alloc),
+            reader: Reader::new(alloc),
+            text: Vec::new(alloc),
+        }
+    }
+
+    /// The tree of a line, if it has tokens.
+    pub fn read(
+        &mut self,
+        alloc: Global,
+        line: &[u8],
+        labels: &mut Labels,
+    ) -> Result<Option<Tree>, LineError>
+        requires { length line.now ≤ 8388608 }
+        ensures line { IsLine labels.new result (tree_line line.now) }
+        ensures grows { Grows labels.old labels.new }
+    {
+        if !read_tokens(line, &mut self.tokens)? {
+            return Err(LineError::Fault(FaultKind::BadToken));
+        }
+        if self.tokens.is_empty() {
+            return Ok(None);
+        }
+        if !self.reader.read(&self.tokens)? {
+            return Err(LineError::Fault(FaultKind::BadTree));
+        }
+        if self.reader.places.len() > 10000 {
+            return Err(LineError::Fault(FaultKind::TooManyNodes));
+        }
+        let nodes = read_nodes(alloc, line, &self.reader.places, labels, &mut self.text)?;
+        Ok(Some(Tree { nodes }))
+    }
+}
