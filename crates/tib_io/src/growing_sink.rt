@@ -1,0 +1,68 @@
+// A sink in memory that grows.
+ghost use Rattle.std.specs.Prelude.{◌≡◌, Some, None, [], false};
+
+use crate::{Failed, Sink};
+use std::alloc::Global;
+use std::marker::Model;
+
+/// A sink that takes memory for what is written. It fails only where memory is refused.
+#[derive(Drop)]
+pub struct GrowingSink {
+    bytes: Vec<u8>,
+    faults: u64,
+    finished: bool,
+}
+
+impl Model for GrowingSink {
+    ghost use Rattle.tib_io.specs.Memory.{SinkThatGrows};
+
+    ghost Value = { SinkThatGrows };
+
+    ghost view = { λ s. record { bytes = s.bytes.items; faults = s.faults; finished = s.finished } };
+}
+
+impl GrowingSink {
+    /// An empty sink. It takes no memory yet.
+    pub fn new(alloc: Global) -> GrowingSink
+        ensures { result ≡ record { bytes = []; faults = 0; finished = false } }
+    {
+        GrowingSink {
+            bytes: Vec::new(alloc),
+            faults: 0,
+            finished: false,
+        }
+    }
+
+    /// What was written.
+    pub fn bytes(&self) -> &[u8]
+        ensures { result.now ≡ self.now.bytes }
+    {
+        &self.bytes
+    }
+}
+
+impl Sink for GrowingSink {
+    ghost written = { λ s. Some s.bytes };
+
+    ghost faults = { λ s. s.faults };
+
+    ghost finished = { λ s. s.finished };
+
+    ghost free = { λ _. None };
+
+    fn write(&mut self, piece: &[u8]) -> Result<usize, Failed> {
+        self.finished = false;
+        match self.bytes.extend_from_slice(piece) {
+            Ok(()) => Ok(piece.len()),
+            Err(_) => {
+                self.faults = self.faults.saturating_add(1);
+                Err(Failed)
+            }
+        }
+    }
+
+    fn finish(&mut self) -> Result<(), Failed> {
+        self.finished = true;
+        Ok(())
+    }
+}
