@@ -3,4 +3,7 @@ pub mod Next
 pub mod Grammar
 pub mod Laws
 pub mod Line
+pub mod Lines
+pub mod NextLine
+pub mod FaultOf
 pub mod Lists

@@ -4,14 +4,16 @@
 mod bytes;
 mod fault;
 mod laws;
-mod line;
+mod lines;
 mod next;
 mod text;
 mod token;
+mod tokens;
 
-pub use fault::{FaultKind, FileFault, ReadError};
+pub use fault::{FaultKind, FileFault, LineError, ReadError, file_error};
 pub use laws::tokens_are_words;
-pub use line::read_tokens;
+pub use lines::{Line, line_bytes, next_line};
 pub use next::next_token;
 pub use text::read_text;
 pub use token::{Kind, Lexed, Token};
+pub use tokens::read_tokens;

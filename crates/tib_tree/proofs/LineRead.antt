@@ -1,19 +1,17 @@
 -- What a line of a tree file holds, by what was read of it.
-use Rattle.std.proofs.Common.{◌≡◌, ℕ, ◌<◌, ◌≤◌, List, [], ◌∷◌, length, refl, ap, sym, ◌∙◌, subst, arith, Option, Bool, true, false, zero, suc}
-use Rattle.std.specs.Prelude.{Some, None, Result, Ok, Err, map, reverse, nat_lt, if◌then◌else◌, cond}
+use Rattle.std.proofs.Common.{◌≡◌, ℕ, ◌<◌, ◌≤◌, List, [], ◌∷◌, length, refl, ap, sym, ◌∙◌, subst, arith, Option}
+use Rattle.std.specs.Prelude.{Some, None, Ok, Err, map, nat_lt, cond}
 use Rattle.std.proofs.lemmas.List.{length-map, length-reverse}
 use Rattle.std.specs.List.{All}
 use Rattle.std.proofs.lemmas.Bool.Decides.{nat_tests}
-use Rattle.tib_lex.specs.Grammar.{Word}
-use Rattle.tib_lex.specs.Line.{words_of, words_at, word_at}
+use Rattle.tib_lex.specs.Line.{words_of, words_at}
 use Rattle.tib_lex.specs.declared.token.Token.{Token}
 use Rattle.tib_tree.specs.Written.{Item}
 use Rattle.tib_tree.specs.Machine.{nodes_of}
-use Rattle.tib_tree.specs.Lines.{tree_line, tree_in, small_tree}
+use Rattle.tib_tree.specs.Lines.{tree_line, small_tree}
 use Rattle.tib_tree.specs.Shape.{items_back, item_at}
 use Rattle.tib_tree.specs.declared.shape.Place.{Place}
-use Rattle.tib_tree.specs.declared.trees.FaultKind.{FaultKind}
-use Rattle.tib_tree.specs.declared.trees.FaultKind.TheVariants as kinds
+use Rattle.tib_lex.specs.declared.fault.FaultKind.TheVariants as kinds
 
 pub bad_line : (line : List ℕ) → words_of line ≡ None → tree_line line ≡ Err kinds.BadToken
 unfolding tree_line

@@ -1,9 +1,9 @@
 -- Nodes that are read one after another.
-use Rattle.std.proofs.Common.{◌≡◌, ℕ, ◌+◌, ◌-◌, ◌<◌, ◌≤◌, List, [], ◌∷◌, ◌++◌, length, get_or, drop, drop-cons, sub-one, refl, ap, sym, ◌∙◌, subst, arith, Option, zero, suc}
-use Rattle.std.specs.Prelude.{slice_get, Some, None, map, reverse}
+use Rattle.std.proofs.Common.{◌≡◌, ℕ, ◌-◌, ◌<◌, ◌≤◌, List, [], ◌∷◌, ◌++◌, length, get_or, drop, drop-cons, sub-one, refl, sym, subst, arith, Option, zero, suc}
+use Rattle.std.specs.Prelude.{map}
 use Rattle.std.proofs.lemmas.List.{reverse-append}
 use Rattle.tib_lex.specs.Grammar.{Word, open_, close, hash, arrow, name, label}
-use Rattle.tib_lex.specs.Line.{word_at, text_of}
+use Rattle.tib_lex.specs.Line.{text_of}
 use Rattle.tib_tree.specs.Grows.{Grows}
 use Rattle.tib_tree.specs.Written.{Item}
 use Rattle.tib_tree.specs.Nodes.{IsNode, AreNodes}

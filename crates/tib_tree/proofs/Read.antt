@@ -3,7 +3,7 @@ use Rattle.std.proofs.Common.{◌≡◌, ℕ, List, [], ◌∷◌, ◌++◌, ref
 use Rattle.std.specs.Prelude.{Some, None, option_and_then, option_map, map}
 use Rattle.tib_lex.specs.Grammar.{Word, open_, close, hash, arrow, name, label}
 use Rattle.tib_tree.specs.Written.{Written, end, leaf, head, word_for, spell, count, Item, item, items}
-use Rattle.tib_tree.specs.Machine.{State, state, start, put_node, put_open, put_close, put, machine, one_tree, finish, nodes_of, IsTree}
+use Rattle.tib_tree.specs.Machine.{State, state, put_node, put, machine, one_tree, finish, nodes_of, IsTree}
 
 abbrev join : Written → Written → Written
 join end g = g

@@ -1,10 +1,10 @@
 -- How far a reader gets.
-use Rattle.std.proofs.Common.{◌≡◌, ℕ, ◌+◌, ◌-◌, ◌<◌, ◌≤◌, List, [], ◌∷◌, length, drop, get_or, drop-cons, add-one, sub-one, refl, ap, sym, ◌∙◌, subst, arith, Option, zero, suc, Bool, true, false}
-use Rattle.std.specs.Prelude.{Some, None, option_and_then, map, if◌then◌else◌}
+use Rattle.std.proofs.Common.{◌≡◌, ℕ, ◌+◌, ◌-◌, ◌<◌, ◌≤◌, List, [], ◌∷◌, length, drop, get_or, drop-cons, sub-one, refl, ap, ◌∙◌, subst, arith, Option, zero, suc, Bool, true, false}
+use Rattle.std.specs.Prelude.{Some, None, option_and_then, if◌then◌else◌}
 use Rattle.tib_lex.specs.Grammar.{Word, open_, close, hash, arrow, name, label}
 use Rattle.tib_lex.specs.Line.{word_at, words_at}
 use Rattle.tib_lex.specs.declared.token.Token.{Token}
-use Rattle.tib_tree.specs.Machine.{State, state, start, put, machine, finish, nodes_of}
+use Rattle.tib_tree.specs.Machine.{State, state, put, machine, finish, nodes_of}
 
 abbrev total : List ℕ → ℕ
 total [] = 0

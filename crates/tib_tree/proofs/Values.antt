@@ -1,11 +1,11 @@
 -- The value of nodes that were read.
-use Rattle.std.proofs.Common.{◌≡◌, ℕ, List, [], ◌∷◌, ◌++◌, refl, ap, sym, ◌∙◌, subst, get_or, zero, suc}
-use Rattle.std.specs.Prelude.{slice_get, Some, map}
+use Rattle.std.proofs.Common.{◌≡◌, ℕ, List, [], ◌∷◌, ◌++◌, refl, ap, sym, ◌∙◌, suc}
+use Rattle.std.specs.Prelude.{map}
 use Rattle.std.proofs.lemmas.List.{map-append}
 use Rattle.std.proofs.lemmas.Option.{get_or_from_slice_get}
 use Rattle.tib_tree.specs.Trees.{Trees, none, tree, preorder, relabel, count as trees_count}
 use Rattle.tib_tree.specs.Written.{Written, end, leaf, head, count, Item, items}
-use Rattle.tib_tree.specs.Nodes.{IsNode, AreNodes, rank_of}
+use Rattle.tib_tree.specs.Nodes.{AreNodes}
 use Rattle.tib_tree.specs.Meaning.{trees, text_at, pair_of, IsValue}
 use Rattle.tib_tree.specs.declared.trees.Node.{Node}
 
@@ -57,11 +57,11 @@ value_of labels (head q t kids rest) (n ∷ ns) h =
     let w = value_of labels rest p.right p.are_right in
     let text : text_at labels n.label ≡ t = get_or_from_slice_get labels n.label t [] h.0.0 in
     let pairs : preorder v.value ++ preorder w.value ≡ map pair_of ns =
-        ap (λ (xs : List (ℕ × ℕ)). xs ++ preorder w.value) v.nodes ∙ ap (λ (xs : List (ℕ × ℕ)). map pair_of p.left ++ xs) w.nodes ∙ sym (map-append pair_of p.left p.right) ∙ ap (map pair_of) (sym p.all) in
+    ap (λ (xs : List (ℕ × ℕ)). xs ++ preorder w.value) v.nodes ∙ ap (λ (xs : List (ℕ × ℕ)). map pair_of p.left ++ xs) w.nodes ∙ sym (map-append pair_of p.left p.right) ∙ ap (map pair_of) (sym p.all) in
     record {
       value = tree n.label v.value w.value;
       nodes = ap (λ (x : ℕ × ℕ). x ∷ (preorder v.value ++ preorder w.value)) (same_pair n.label n.rank (trees_count v.value) (h.0.1 ∙ sym (many labels kids p.left v))) ∙ ap (λ (xs : List (ℕ × ℕ)). (n.label, n.rank) ∷ xs) pairs;
       texts = ap (λ (x : List ℕ). tree x (relabel (text_at labels) v.value) (relabel (text_at labels) w.value)) text
-        ∙ ap (λ (us : Trees (List ℕ)). tree t us (relabel (text_at labels) w.value)) v.texts
-        ∙ ap (tree t (trees kids)) w.texts;
+          ∙ ap (λ (us : Trees (List ℕ)). tree t us (relabel (text_at labels) w.value)) v.texts
+          ∙ ap (tree t (trees kids)) w.texts;
     }

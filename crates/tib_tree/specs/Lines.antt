@@ -5,10 +5,10 @@ use Rattle.tib_lex.specs.Line.{words_of}
 use Rattle.tib_tree.specs.Written.{Item}
 use Rattle.tib_tree.specs.Machine.{nodes_of}
 use Rattle.tib_tree.specs.Nodes.{AreNodes}
-use Rattle.tib_tree.specs.declared.trees.FaultKind.{FaultKind}
-use Rattle.tib_tree.specs.declared.trees.FaultKind.TheVariants as kinds
-use Rattle.tib_tree.specs.declared.trees.LineError.{LineError}
-use Rattle.tib_tree.specs.declared.trees.LineError.TheVariants as errors
+use Rattle.tib_lex.specs.declared.fault.FaultKind.{FaultKind}
+use Rattle.tib_lex.specs.declared.fault.FaultKind.TheVariants as kinds
+use Rattle.tib_lex.specs.declared.fault.LineError.{LineError}
+use Rattle.tib_lex.specs.declared.fault.LineError.TheVariants as errors
 use Rattle.tib_tree.specs.declared.trees.Tree.{Tree}
 
 abbrev pub small_tree : Option (List Item) → Result (Option (List Item)) FaultKind

@@ -1,6 +1,6 @@
 -- Reads trees from their last token on.
-use Rattle.std.specs.Prelude.{◌≡◌, ℕ, Bool, true, false, List, [], ◌∷◌, ◌++◌, Option, Some, None, option_and_then, zero, suc}
-use Rattle.tib_lex.specs.Grammar.{Word, open_, close, hash, arrow, name, label}
+use Rattle.std.specs.Prelude.{◌≡◌, ℕ, Bool, true, false, List, [], ◌∷◌, Option, Some, None, option_and_then, zero, suc}
+use Rattle.tib_lex.specs.Grammar.{Word, open_, close, name, label}
 use Rattle.tib_tree.specs.Written.{Written, spell, count, items, Item, item}
 
 -- how many trees were read at this level and at each one above it that is still to be opened, how many wait for their

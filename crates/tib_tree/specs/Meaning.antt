@@ -1,5 +1,5 @@
 -- The trees that are written, and the trees over numbers that nodes are.
-use Rattle.std.specs.Prelude.{◌≡◌, ℕ, List, [], ◌∷◌, map}
+use Rattle.std.specs.Prelude.{◌≡◌, ℕ, List, [], map}
 use Rattle.std.proofs.Common.{get_or}
 use Rattle.tib_tree.specs.Trees.{Trees, none, tree, preorder, relabel}
 use Rattle.tib_tree.specs.Written.{Written, end, leaf, head, items}

@@ -1,6 +1,6 @@
 -- The state of a reader, for each line that its tokens may be of.
-use Rattle.std.specs.Prelude.{◌≡◌, ℕ, Bool, true, false, List, [], ◌∷◌, map, reverse, Option, Some, None, if◌then◌else◌, suc}
-use Rattle.tib_lex.specs.Grammar.{Word, open_, close, hash, arrow, name, label}
+use Rattle.std.specs.Prelude.{ℕ, true, false, List, [], ◌∷◌, map, reverse, Option, None, suc}
+use Rattle.tib_lex.specs.Grammar.{Word, name, label}
 use Rattle.tib_lex.specs.Line.{word_at, Lies}
 use Rattle.tib_tree.specs.Written.{Item, item}
 use Rattle.tib_tree.specs.Machine.{State, state, put_open, put_close}

@@ -1,6 +1,6 @@
 -- What a list of nodes stands for.
-use Rattle.std.specs.Prelude.{◌≡◌, ℕ, List, map}
-use Rattle.tib_tree.specs.Trees.{Tree, Trees, preorder_of, parse, first_of}
+use Rattle.std.specs.Prelude.{◌≡◌, ℕ}
+use Rattle.tib_tree.specs.Trees.{Tree, preorder_of, parse, first_of}
 use Rattle.tib_tree.specs.Pairs.{pairs_of}
 use Rattle.tib_tree.specs.declared.preorder.Tree.TheInside.{Inside}
 

@@ -1,24 +1,14 @@
 ghost use Rattle.std.specs.Prelude.{◌≡◌, ◌<◌, ◌+◌, take, drop, ◌≤◌, ℕ, length, not, ◌==◌, IfOk, List, [], ◌∷◌, ◌++◌};
 ghost use Rattle.std.specs.List.{prefix_len};
-ghost use Rattle.tib_tree.specs.File.{trees_of, AreTrees, AddsLine, IsFile, Pushes, file_error_of, not_feed};
+ghost use Rattle.tib_lex.specs.Lines.{not_feed};
+ghost use Rattle.tib_tree.specs.File.{trees_of, AddsLine, IsFile, Pushes};
 ghost use Rattle.tib_tree.specs.Grows.{Grows};
 ghost use Rattle.tib_tree.specs.Lines.{tree_line};
 
 use crate::labels::Labels;
-use crate::trees::{FaultKind, LineError, LineReader, Tree};
+use crate::trees::{LineReader, Tree};
 use std::alloc::{AllocError, Global};
-
-#[derive(Clone, Copy, Debug, PartialEq, Eq)]
-pub struct FileFault {
-    pub line: u32,
-    pub kind: FaultKind,
-}
-
-#[derive(Clone, Copy, Debug, PartialEq, Eq)]
-pub enum ReadError {
-    Fault(FileFault),
-    OutOfMemory,
-}
+use tib_lex::{LineError, ReadError, file_error, line_bytes, next_line};
 
 fn is_not_feed(byte: u8) -> bool
     ensures { result ≡ not_feed byte }
@@ -82,36 +72,28 @@ fn push(trees: &mut Vec<Tree>, tree: Tree) -> Result<(), AllocError>
     Ok(())
 }
 
-fn file_error(line: u32, error: LineError) -> ReadError
-    ensures { result ≡ file_error_of line error }
-{
-    match error {
-        LineError::Fault(kind) => ReadError::Fault(FileFault { line, kind }),
-        LineError::OutOfMemory => ReadError::OutOfMemory,
-    }
-}
-
 /// The trees of a file, over a table that grows by their labels.
-pub fn read_trees(
-    alloc: Global,
-    bytes: &[u8],
-    labels: &mut Labels,
-) -> Result<Vec<Tree>, ReadError>
+pub fn read_trees(alloc: Global, bytes: &[u8], labels: &mut Labels) -> Result<Vec<Tree>, ReadError>
     requires { length bytes.now ≤ 8388608 }
     ensures trees { IsFile labels.new result (trees_of bytes.now) }
     ensures grows { Grows labels.old labels.new }
 {
     let mut reader = LineReader::new(alloc);
     let mut trees = Vec::new(alloc);
-    let mut at = 0;
+    let mut at: u32 = 0;
     let mut number: u32 = 1;
-    while at < bytes.len() {
-        let line = line_at(bytes, at);
-        match add_line(alloc, &mut reader, line, labels, &mut trees) {
+    while let Some(line) = next_line(bytes, number, at) {
+        match add_line(
+            alloc,
+            &mut reader,
+            line_bytes(bytes, line),
+            labels,
+            &mut trees,
+        ) {
             Ok(()) => {}
-            Err(error) => return Err(file_error(number, error)),
+            Err(error) => return Err(file_error(line.number, error)),
         }
-        at += line.len() + 1;
+        at = line.next;
         number += 1;
     }
     Ok(trees)

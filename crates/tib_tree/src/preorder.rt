@@ -4,7 +4,6 @@ ghost use Rattle.std.specs.Prelude.{◌≡◌, ℕ, ◌+◌, ◌<◌, ◌≤◌,
 ghost use Rattle.tib_tree.specs.Trees.{preorder_of, IsOneTree, Tree as TreeOf};
 ghost use Rattle.tib_tree.specs.Pairs.{pairs_of};
 
-
 use std::alloc::{AllocError, Global};
 use std::marker::Model;
 

@@ -4,12 +4,11 @@ ghost use Rattle.tib_tree.specs.Grows.{Grows};
 ghost use Rattle.tib_tree.specs.Lines.{tree_line, IsLine};
 ghost use Rattle.tib_tree.specs.Nodes.{IsNode, AreNodes};
 ghost use Rattle.tib_tree.specs.Shape.{item_at, items_back, PlaceLies};
-ghost use Rattle.tib_tree.specs.declared.trees.LineError.TheVariants.{OutOfMemory};
 
 use crate::labels::Labels;
 use crate::shape::{Place, Reader};
 use std::alloc::{AllocError, Global};
-use tib_lex::{Token, read_text, read_tokens};
+use tib_lex::{FaultKind, LineError, Token, read_text, read_tokens};
 
 /// A node with the number of its children.
 #[derive(Clone, Copy, Debug)]
@@ -22,27 +21,6 @@ pub struct Node {
 #[derive(Drop)]
 pub struct Tree {
     pub nodes: Vec<Node>,
-}
-
-#[derive(Clone, Copy, Debug, PartialEq, Eq)]
-pub enum FaultKind {
-    BadToken,
-    BadTree,
-    TooManyNodes,
-}
-
-#[derive(Clone, Copy, Debug, PartialEq, Eq)]
-pub enum LineError {
-    Fault(FaultKind),
-    OutOfMemory,
-}
-
-impl From<AllocError> for LineError {
-    ghost from_gives = { λ _ e. e ≡ OutOfMemory };
-
-    fn from(_: AllocError) -> Self {
-        LineError::OutOfMemory
-    }
 }
 
 // The number of a token's label.

@@ -1,6 +1,6 @@
-use Rattle.std.proofs.Common.{◌≡◌, ◌+◌, ◌≤◌, ◌-◌, ℕ, List, length, drop}
+use Rattle.std.proofs.Common.{◌≡◌, ◌+◌, ◌≤◌, ◌-◌, length, drop}
 use Rattle.std.specs.List.{prefix_len}
-use Rattle.tib_tree.specs.File.{not_feed}
+use Rattle.tib_lex.specs.Lines.{not_feed}
 use Rattle.tib_tree.proofs.file.line_length.Given as goal
 
 abbrev pub invariant-loop-count : goal.invariant-loop-count

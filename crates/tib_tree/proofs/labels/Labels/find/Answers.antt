@@ -1,4 +1,4 @@
-use Rattle.std.proofs.Common.{◌≡◌, ℕ, List, [], length, slice_get, Some, Contains, map, sym, ◌∙◌, ap, subst, refl}
+use Rattle.std.proofs.Common.{[], Some, Contains, map, sym, ◌∙◌, ap, subst}
 use Rattle.std.proofs.lemmas.Option.{slice_get-get_or}
 use Rattle.tib_tree.proofs.Texts.{found_at, not_held}
 use Rattle.tib_tree.proofs.labels.Labels.find.Goals as goal

@@ -1,4 +1,4 @@
-use Rattle.std.proofs.Common.{◌≡◌, ℕ, List, [], length, slice_get, Some, Contains, map, sym, ◌∙◌, ap, subst, refl, inl, inr}
+use Rattle.std.proofs.Common.{◌≡◌, [], Some, Contains, map, sym, ◌∙◌, ap, subst, refl, inl, inr}
 use Rattle.std.proofs.lemmas.Option.{slice_get-get_or}
 use Rattle.std.specs.Prelude.{nat_eq}
 use Rattle.std.specs.Cmp.Lexicographic.{pointwise}
@@ -27,7 +27,8 @@ returns-clause-adds c =
     let same : c.in_ok-owned.owned.items ≡ c.args.text.now = c.in_ok-owned.ensures.items_if_clones_equal (λ x y e. e) in
     inr (
       (λ held. not_held c.args.text.now c.self.inside.texts.keys c.in_default.ensures.found (subst (λ l. Contains l c.args.text.now) (sym c.self.view_is) held)),
-      insert_adds c.args.self.now c.args.text.now c.self.inside.texts.keys _ c.in_ok-owned.owned c.self.view_is same c.in_default.ensures.found c.in_ok-i.ensures.keys)
+      insert_adds c.args.self.now c.args.text.now c.self.inside.texts.keys _ c.in_ok-owned.owned c.self.view_is same c.in_default.ensures.found c.in_ok-i.ensures.keys,
+    )
 
 pub returns-clause-grows : goal.returns-clause-grows
 returns-clause-grows c = insert_grows (λ a b. pointwise nat_eq a.items b.items) _ _ _ c.in_ok-owned.owned c.self.view_is c.in_ok-i.ensures.keys

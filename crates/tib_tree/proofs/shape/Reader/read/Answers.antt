@@ -1,8 +1,5 @@
-use Rattle.std.proofs.Common.{arith, ◌≡◌, ℕ, List, [], ◌-◌, length, drop, ◌∙◌, sym, ap, refl, Option}
-use Rattle.std.specs.Prelude.{option_and_then}
+use Rattle.std.proofs.Common.{arith, [], ◌-◌, drop, ◌∙◌}
 use Rattle.std.proofs.lemmas.List.{length-drop}
-use Rattle.tib_lex.specs.Line.{word_at}
-use Rattle.tib_tree.specs.Machine.{State, put}
 use Rattle.tib_tree.proofs.Steps.{few_trees, stops, goes, refused, accepted, finished}
 use Rattle.tib_tree.proofs.shape.Reader.read.Goals as goal
 
@@ -27,7 +24,7 @@ loop-i-preserved c =
     record {
       within = omega arith;
       read = λ line.
-        let e = c.in_ok-put.ensures.put line in
-        goes line c.args.tokens.now c.loop-i.i _ _ _ c.loop-i-test.true i.within (i.read line) (accepted c.in_ok-put.field-0 _ _ c.if-not-branch.false e);
+          let e = c.in_ok-put.ensures.put line in
+          goes line c.args.tokens.now c.loop-i.i _ _ _ c.loop-i-test.true i.within (i.read line) (accepted c.in_ok-put.field-0 _ _ c.if-not-branch.false e);
       places = λ long all. c.in_ok-put.ensures.places long (all (c.loop-i.i - 1) _ (omega (arith, i.within))) (i.places long all);
     }

@@ -1,4 +1,4 @@
-use Rattle.std.proofs.Common.{arith, sym, ◌∙◌, ap, refl, ◌≡◌, ◌<◌, length, subst, List}
+use Rattle.std.proofs.Common.{arith, ◌≡◌, ◌<◌, length, subst, List}
 use Rattle.std.proofs.lemmas.Bool.Decides.{nat_tests}
 use Rattle.tib_lex.specs.Line.{Lies}
 use Rattle.tib_tree.specs.Nodes.{AreNodes}
@@ -45,9 +45,10 @@ pub returns-clause-line : goal.returns-clause-line
 returns-clause-line c =
     let ts = c.read_tokens.new.tokens in
     let e = c.if-is_empty.ensures in
-    let n : 0 < length ts.items = grind (arith, nat_tests, ts.ok.0) in
-    (items_back c.args.line.now c.read.new.self.places.items,
+    let n : 0 < length ts.items = grind (arith, nat_tests, ts.ok.0) in (
+      items_back c.args.line.now c.read.new.self.places.items,
       good_line c.args.line.now ts.items c.read.new.self.places.items (accepted c.in_ok-read_tokens.field-0 _ _ c.if-not-branch.false c.in_ok-read_tokens.ensures.words) n
-      (same_tokens _ _ _ _ c.deref.ensures.value (accepted c.in_ok-read.field-0 _ _ c.if-not-branch-2.false (c.in_ok-read.ensures.nodes c.args.line.now)))
-      (omega (arith, c.read.new.self.places.ok.0, c.if-len-gt10000.false)),
-      subst (λ (ps : List Place). AreNodes c.read_nodes.new.labels c.in_ok-nodes.nodes.items (items_back c.args.line.now ps)) c.deref-2.ensures.value c.in_ok-nodes.ensures.nodes)
+          (same_tokens _ _ _ _ c.deref.ensures.value (accepted c.in_ok-read.field-0 _ _ c.if-not-branch-2.false (c.in_ok-read.ensures.nodes c.args.line.now)))
+          (omega (arith, c.read.new.self.places.ok.0, c.if-len-gt10000.false)),
+      subst (λ (ps : List Place). AreNodes c.read_nodes.new.labels c.in_ok-nodes.nodes.items (items_back c.args.line.now ps)) c.deref-2.ensures.value c.in_ok-nodes.ensures.nodes,
+    )
