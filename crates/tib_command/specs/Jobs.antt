@@ -1,0 +1,103 @@
+-- The job that the words ask for.
+use Rattle.std.specs.Prelude.{ℕ, ◌==◌, ◌&&◌, Bool, not, List, [], ◌∷◌, map, Option, Some, None, length}
+use Rattle.std.specs.Prelude.{if◌then◌else◌, codes, option_map, option_and_then, nat_le, unwrap_or}
+use Rattle.std.specs.List.{list_any}
+use Rattle.std.specs.String.{string_bytes}
+use Rattle.std.specs.Str.{bytes_eq, all_ascii_digits}
+use Rattle.std.specs.Str.Parse.{digits_value}
+use Rattle.tib_command.specs.declared.job.Mode.{Mode}
+use Rattle.tib_command.specs.declared.job.Mode.TheVariants as m
+use Rattle.tib_command.specs.declared.job.Operation.{Operation}
+use Rattle.tib_command.specs.declared.job.Operation.TheVariants as o
+use Rattle.tib_command.specs.declared.job.Job.{Job}
+use Rattle.tib_command.specs.declared.values.Task.{Task as Read}
+use Rattle.std.specs.Borrow.{Bor}
+use Rattle.tib_command.specs.Words.{Text, Item, reads, values_of, mode, depth, workers, limit, place}
+
+abbrev pub mode_in : Text → Option Mode
+mode_in text = if bytes_eq text (codes "minplus") then Some m.MinPlus
+    else (if bytes_eq text (codes "bottleneck") then Some m.Bottleneck
+    else (if bytes_eq text (codes "boolean") then Some m.Boolean else None))
+
+-- one to twelve decimal digits
+abbrev pub is_numeral : Text → Bool
+is_numeral text = nat_le 1 (length text) && (nat_le (length text) 12 && all_ascii_digits text)
+
+abbrev pub numeral_in : Text → Option ℕ
+numeral_in text = if is_numeral text then Some (digits_value 10 text) else None
+
+abbrev pub within : ℕ → ℕ → ℕ → Option ℕ
+within least most n = if nat_le least n && nat_le n most then Some n else None
+
+-- their value, where it lies within the bounds
+abbrev pub number_in : ℕ → ℕ → Text → Option ℕ
+number_in least most text = option_and_then (within least most) (numeral_in text)
+
+-- an option that stands at most once, read from its values
+abbrev pub once : {X : Type 0} → X → (Text → Option X) → List Text → Option X
+once default read [] = Some default
+once default read (v ∷ []) = read v
+once default read (v ∷ w ∷ rest) = None
+
+abbrev pub operation_in : Text → Option Operation
+operation_in text = if bytes_eq text (codes "weigh") then Some o.Weigh else None
+
+-- how many words follow the operation
+abbrev pub word_count : Operation → ℕ
+word_count o.Weigh = 2
+
+-- what the positional words say: the operation and its files
+pub record Task : Type 0 where
+  pub operation : Operation
+  pub files : List Text
+
+abbrev pub are_files : Operation → List Text → Bool
+are_files op files = (length files == word_count op) && not (list_any (λ f. length f == 0) files)
+
+-- as many file names as the operation takes, none of them empty
+abbrev pub files_in : Operation → List Text → Option Task
+files_in op files = if are_files op files then Some (record { operation = op; files = files }) else None
+
+abbrev pub task_in : List Text → Option Task
+task_in [] = None
+task_in (name ∷ rest) = option_and_then (λ op. files_in op rest) (operation_in name)
+
+pub record Asked : Type 0 where
+  pub mode : Mode
+  pub k : ℕ
+  pub workers : ℕ
+  pub limit : ℕ
+  pub task : Task
+
+abbrev pub asked_by : List Item → Option Asked
+asked_by items =
+    option_and_then (λ md. option_and_then (λ k. option_and_then (λ w. option_and_then (λ l.
+    option_map (λ t. record { mode = md; k = k; workers = w; limit = l; task = t })
+    (task_in (values_of place items)))
+    (once 20000000 (number_in 1 20000000) (values_of limit items)))
+    (once 1 (number_in 1 16) (values_of workers items)))
+    (once 1 (number_in 1 10000) (values_of depth items)))
+    (once m.MinPlus mode_in (values_of mode items))
+
+-- what the words ask for, where they are of the language
+abbrev pub job_of : List Text → Option Asked
+job_of words = option_and_then asked_by (reads words None)
+
+abbrev pub meaning : Job → Asked
+meaning job = record {
+  mode = job.mode;
+  k = job.k;
+  workers = job.workers;
+  limit = job.limit;
+  task = record {
+    operation = job.operation;
+    files = map (λ s. string_bytes s) job.files.items;
+  };
+}
+
+-- the texts behind what `clap` gives for an argument
+abbrev pub texts_of : Option (Bor (List (Bor Text))) → List Text
+texts_of values = unwrap_or (option_map (λ vs. map (λ v. v.now) vs.now) values) []
+
+abbrev pub task_meaning : Read → Task
+task_meaning t = record { operation = t.operation; files = map (λ s. string_bytes s) t.files.items }

@@ -1,0 +1,58 @@
+// What the words ask for.
+ghost use Rattle.std.specs.Prelude.{◌≡◌};
+ghost use Rattle.tib_command.specs.declared.job.CommandError.TheVariants.{OutOfMemory};
+
+use std::alloc::AllocError;
+use thiserror::Error;
+
+/// How weights are read and combined.
+#[derive(Debug, Clone, Copy, PartialEq, Eq)]
+pub enum Mode {
+    /// The least sum of weights.
+    MinPlus,
+    /// The least greatest weight.
+    Bottleneck,
+    /// Whether there is a run; any name is a weight, and none is kept.
+    Boolean,
+}
+
+/// What is done with the files.
+#[derive(Debug, Clone, Copy, PartialEq, Eq)]
+pub enum Operation {
+    /// Each tree of the second file with its cost by the grammar of the first.
+    Weigh,
+}
+
+/// What the words ask for.
+#[derive(Drop)]
+pub struct Job {
+    pub mode: Mode,
+    /// How many trees are listed at most, from 1 to 10,000.
+    pub k: u32,
+    /// How many workers, from 1 to 16.
+    pub workers: u32,
+    /// How many parts a constructed object may have, from 1 to 20,000,000.
+    pub limit: u64,
+    pub operation: Operation,
+    /// The names of the files, as many as the operation takes, none empty.
+    pub files: Vec<String>,
+}
+
+/// Why the words gave no job.
+#[derive(Debug, Clone, Copy, PartialEq, Eq, Error)]
+pub enum CommandError {
+    /// The words are not in the word language.
+    #[error("the words are no command")]
+    Usage,
+    /// Memory was refused.
+    #[error("out of memory")]
+    OutOfMemory,
+}
+
+impl From<AllocError> for CommandError {
+    ghost from_gives = { λ _ e. e ≡ OutOfMemory };
+
+    fn from(_: AllocError) -> CommandError {
+        CommandError::OutOfMemory
+    }
+}

@@ -1,0 +1,53 @@
+//! The word language of the command line: options `-m`, `-k`, `-w` and `--limit` in all their forms, anywhere among the
+//! words and each at most once, then the operation and the names of its files. `read_words` answers a job exactly where
+//! the words are of the language, for all lists of words. `clap` tells what each word belongs to, and takes each value as
+//! a text; this crate reads the texts and counts them and the files.
+#![tactic(auto)]
+
+ghost use Rattle.std.specs.Prelude.{◌≡◌, IfOk, IfErr, None, Some, map};
+ghost use Rattle.std.specs.String.{string_bytes};
+ghost use Rattle.tib_command.specs.declared.job.CommandError.TheVariants.{Usage};
+ghost use Rattle.tib_command.specs.Jobs.{job_of, meaning};
+
+mod job;
+mod options;
+#[cfg(test)]
+mod tests;
+mod values;
+
+pub use job::{CommandError, Job, Mode, Operation};
+use options::matches_of;
+use std::alloc::Global;
+use values::{mode_once, number_once, read_task};
+
+/// The job that the words ask for, which are those behind the program's name. `Usage` comes exactly where they are not of
+/// the word language.
+pub fn read_words(alloc: Global, words: &[String]) -> Result<Job, CommandError>
+    ensures ok { IfOk result (λ job. job_of (map (λ s. string_bytes s) words.now) ≡ Some (meaning job)) }
+    ensures err { IfErr result (λ e. e ≡ Usage → job_of (map (λ s. string_bytes s) words.now) ≡ None) }
+{
+    let matches = matches_of(alloc, words)?;
+    let Some(mode) = mode_once(matches.get_strs("m")) else {
+        return Err(CommandError::Usage);
+    };
+    let Some(k) = number_once(matches.get_strs("k"), 1, 10_000) else {
+        return Err(CommandError::Usage);
+    };
+    let Some(workers) = number_once(matches.get_strs("w"), 1, 16) else {
+        return Err(CommandError::Usage);
+    };
+    let Some(limit) = number_once(matches.get_strs("limit"), 20_000_000, 20_000_000) else {
+        return Err(CommandError::Usage);
+    };
+    let Some(task) = read_task(alloc, matches.get_strs("places"))? else {
+        return Err(CommandError::Usage);
+    };
+    Ok(Job {
+        mode,
+        k: k as u32,
+        workers: workers as u32,
+        limit,
+        operation: task.operation,
+        files: task.files,
+    })
+}

@@ -1,0 +1,258 @@
+use crate::values::copied;
+use crate::{CommandError, Job, Mode, read_words};
+use std::alloc::Global;
+use std::test::Fail;
+
+fn job(alloc: Global, words: &[&str]) -> Result<Job, CommandError> {
+    let words = copied(alloc, words)?;
+    read_words(alloc, words.as_slice())
+}
+
+// Words, and the mode, the numbers of `-k`, `-w` and `--limit` and the names of the files that they give.
+type Accepted = (
+    &'static [&'static str],
+    Mode,
+    u32,
+    u32,
+    u64,
+    [&'static str; 2],
+);
+
+static ACCEPTED: [Accepted; 20] = [
+    (
+        &["-k5", "weigh", "g", "t"],
+        Mode::MinPlus,
+        5,
+        1,
+        20000000,
+        ["g", "t"],
+    ),
+    (
+        &["-k=5", "weigh", "g", "t"],
+        Mode::MinPlus,
+        5,
+        1,
+        20000000,
+        ["g", "t"],
+    ),
+    (
+        &["-k", "5", "weigh", "g", "t"],
+        Mode::MinPlus,
+        5,
+        1,
+        20000000,
+        ["g", "t"],
+    ),
+    (
+        &["weigh", "-k", "000000000005", "g", "t"],
+        Mode::MinPlus,
+        5,
+        1,
+        20000000,
+        ["g", "t"],
+    ),
+    (
+        &["weigh", "g", "t", "--limit=5"],
+        Mode::MinPlus,
+        1,
+        1,
+        5,
+        ["g", "t"],
+    ),
+    (
+        &["weigh", "g", "--limit", "5", "t"],
+        Mode::MinPlus,
+        1,
+        1,
+        5,
+        ["g", "t"],
+    ),
+    (
+        &["weigh", "g", "t", "--limit", "20000000"],
+        Mode::MinPlus,
+        1,
+        1,
+        20000000,
+        ["g", "t"],
+    ),
+    (
+        &["weigh", "-k10000", "g", "t"],
+        Mode::MinPlus,
+        10000,
+        1,
+        20000000,
+        ["g", "t"],
+    ),
+    (
+        &["-w16", "weigh", "g", "t"],
+        Mode::MinPlus,
+        1,
+        16,
+        20000000,
+        ["g", "t"],
+    ),
+    (
+        &["weigh", "--", "-g", "-t"],
+        Mode::MinPlus,
+        1,
+        1,
+        20000000,
+        ["-g", "-t"],
+    ),
+    (
+        &["--", "weigh", "-g", "-t"],
+        Mode::MinPlus,
+        1,
+        1,
+        20000000,
+        ["-g", "-t"],
+    ),
+    (
+        &["weigh", "g", "--", "-t"],
+        Mode::MinPlus,
+        1,
+        1,
+        20000000,
+        ["g", "-t"],
+    ),
+    (
+        &["weigh", "--", "--", "-k5"],
+        Mode::MinPlus,
+        1,
+        1,
+        20000000,
+        ["--", "-k5"],
+    ),
+    (
+        &["weigh", "-", "-"],
+        Mode::MinPlus,
+        1,
+        1,
+        20000000,
+        ["-", "-"],
+    ),
+    (
+        &["weigh", "é", "a/b.txt"],
+        Mode::MinPlus,
+        1,
+        1,
+        20000000,
+        ["é", "a/b.txt"],
+    ),
+    (
+        &["-w", "2", "weigh", "-k", "3", "g", "--limit=7", "t"],
+        Mode::MinPlus,
+        3,
+        2,
+        7,
+        ["g", "t"],
+    ),
+    (
+        &["-m", "minplus", "weigh", "a", "b"],
+        Mode::MinPlus,
+        1,
+        1,
+        20000000,
+        ["a", "b"],
+    ),
+    (
+        &["-mboolean", "weigh", "a", "b"],
+        Mode::Boolean,
+        1,
+        1,
+        20000000,
+        ["a", "b"],
+    ),
+    (
+        &["-m=bottleneck", "weigh", "a", "a"],
+        Mode::Bottleneck,
+        1,
+        1,
+        20000000,
+        ["a", "a"],
+    ),
+    (
+        &["weigh", "weigh", "weigh"],
+        Mode::MinPlus,
+        1,
+        1,
+        20000000,
+        ["weigh", "weigh"],
+    ),
+];
+
+static REFUSED: [&[&str]; 54] = [
+    &[],
+    &["--"],
+    &["weigh"],
+    &["weigh", "g"],
+    &["weigh", "g", "t", "u"],
+    &["tiburon", "weigh", "g", "t"],
+    &["Weigh", "g", "t"],
+    &["kbest", "g"],
+    &["normal", "g"],
+    &["-k==5", "weigh", "g", "t"],
+    &["-k=", "weigh", "g", "t"],
+    &["-k", "-5", "weigh", "g", "t"],
+    &["-k", "-", "weigh", "g", "t"],
+    &["-k", "", "weigh", "g", "t"],
+    &["-k", "=5", "weigh", "g", "t"],
+    &["-k", "--", "weigh", "g", "t"],
+    &["-k"],
+    &["weigh", "g", "t", "-k"],
+    &["-k+5", "weigh", "g", "t"],
+    &["-k", "+5", "weigh", "g", "t"],
+    &["-k0", "weigh", "g", "t"],
+    &["-k10001", "weigh", "g", "t"],
+    &["-w0", "weigh", "g", "t"],
+    &["-w17", "weigh", "g", "t"],
+    &["--limit=0", "weigh", "g", "t"],
+    &["--limit=20000001", "weigh", "g", "t"],
+    &["--limit=", "weigh", "g", "t"],
+    &["--limit==5", "weigh", "g", "t"],
+    &["--limit", "-5", "weigh", "g", "t"],
+    &["--limi", "5", "weigh", "g", "t"],
+    &["--limi=5", "weigh", "g", "t"],
+    &["--limit5", "weigh", "g", "t"],
+    &["-limit", "5", "weigh", "g", "t"],
+    &["--k=5", "weigh", "g", "t"],
+    &["--=5", "weigh", "g", "t"],
+    &["---", "weigh", "g", "t"],
+    &["-kmk", "weigh", "g", "t"],
+    &["-k5w3", "weigh", "g", "t"],
+    &["-k5", "-k5", "weigh", "g", "t"],
+    &["-m", "minplus", "-m", "minplus", "weigh", "a", "b"],
+    &["-m", "MinPlus", "weigh", "a", "b"],
+    &["-m"],
+    &["--help"],
+    &["-h"],
+    &["-V"],
+    &["--version"],
+    &["help", "weigh"],
+    &["-é", "weigh", "g", "t"],
+    &["-ké", "weigh", "g", "t"],
+    &["-k1234567890123", "weigh", "g", "t"],
+    &["-k0000000000005", "weigh", "g", "t"],
+    &["", "weigh", "g", "t"],
+    &["weigh", "", "t"],
+    &["weigh", "g", ""],
+];
+
+#[test]
+fn words_of_the_language_give_their_job(rt: HostRuntime) -> Result<(), Fail> {
+    for (words, mode, k, workers, limit, files) in &ACCEPTED {
+        let job = job(rt.alloc(), words)?;
+        assert_eq!(rt; job.mode, *mode);
+        assert_eq!(rt; (job.k, job.workers, job.limit), (*k, *workers, *limit));
+        assert_eq!(rt; job.files.len(), 2);
+        assert!(rt; job.files[0].as_str() == files[0] && job.files[1].as_str() == files[1]);
+    }
+    Ok(())
+}
+
+#[test]
+fn other_words_are_refused(rt: HostRuntime) {
+    for words in &REFUSED {
+        assert!(rt; matches!(job(rt.alloc(), words), Err(CommandError::Usage)));
+    }
+}

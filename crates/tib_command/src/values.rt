@@ -1,0 +1,142 @@
+// The values of the options and the positional words, which are taken as texts.
+ghost use Rattle.std.specs.Prelude.{◌≡◌, ◌≤◌, ◌==◌, ℕ, IfOk, IfSome, option_map, length, map};
+ghost use Rattle.std.specs.List.{list_any};
+ghost use Rattle.std.specs.String.{string_bytes};
+ghost use Rattle.tib_command.specs.declared.job.Mode.TheVariants.{MinPlus};
+ghost use Rattle.tib_command.specs.Jobs.{are_files, mode_in, number_in, numeral_in, once, operation_in, task_in, task_meaning, texts_of, word_count};
+
+use crate::{Mode, Operation};
+use std::alloc::{AllocError, Global};
+
+/// The mode that has this name.
+fn mode_in(text: &str) -> Option<Mode>
+    ensures { result ≡ mode_in text.now }
+{
+    match text {
+        "minplus" => Some(Mode::MinPlus),
+        "bottleneck" => Some(Mode::Bottleneck),
+        "boolean" => Some(Mode::Boolean),
+        _ => None,
+    }
+}
+
+/// The operation that has this name.
+fn operation_in(text: &str) -> Option<Operation>
+    ensures { result ≡ operation_in text.now }
+{
+    match text {
+        "weigh" => Some(Operation::Weigh),
+        _ => None,
+    }
+}
+
+/// The number that one to twelve digits write.
+fn numeral_in(text: &str) -> Option<u64>
+    ensures { result ≡ numeral_in text.now }
+{
+    if text.len() > 12 || text.starts_with('+') {
+        return None;
+    }
+    text.parse::<u64>().ok()
+}
+
+/// The number that one to twelve digits write, where it lies from `least` to `most`.
+fn number_in(text: &str, least: u64, most: u64) -> Option<u64>
+    ensures { result ≡ number_in least most text.now }
+{
+    match numeral_in(text) {
+        Some(n) if least <= n && n <= most => Some(n),
+        _ => None,
+    }
+}
+
+/// The number of an option that stands at most once.
+pub(crate) fn number_once(values: Option<&[&str]>, default: u64, most: u64) -> Option<u64>
+    requires { default ≤ most }
+    ensures bound { IfSome result (λ n. n ≤ most) }
+    ensures value { result ≡ once default (number_in 1 most) (texts_of values.entry) }
+{
+    match values {
+        None | Some([]) => Some(default),
+        Some([value]) => number_in(value, 1, most),
+        Some(_) => None,
+    }
+}
+
+/// The mode, which stands at most once.
+pub(crate) fn mode_once(values: Option<&[&str]>) -> Option<Mode>
+    ensures { result ≡ once MinPlus mode_in (texts_of values.entry) }
+{
+    match values {
+        None | Some([]) => Some(Mode::MinPlus),
+        Some([value]) => mode_in(value),
+        Some(_) => None,
+    }
+}
+
+/// What the positional words say.
+#[derive(Drop)]
+pub(crate) struct Task {
+    pub(crate) operation: Operation,
+    pub(crate) files: Vec<String>,
+}
+
+/// The words as texts of their own.
+pub(crate) fn copied(alloc: Global, words: &[&str]) -> Result<Vec<String>, AllocError>
+    ensures { IfOk result (λ v. map (λ s. string_bytes s) v.items ≡ map (λ w. w.now) words.now) }
+{
+    let mut copies = Vec::new(alloc);
+    for word in words {
+        copies.push(String::from_str(alloc, word)?)?;
+    }
+    Ok(copies)
+}
+
+/// How many words follow the operation.
+fn word_count(operation: Operation) -> usize
+    ensures { result ≡ word_count operation }
+{
+    match operation {
+        Operation::Weigh => 2,
+    }
+}
+
+/// One of the words is empty.
+fn has_empty(words: &[&str]) -> bool
+    ensures { result ≡ list_any (λ w. length w == 0) (map (λ w. w.now) words.now) }
+{
+    for word in words {
+        if word.is_empty() {
+            return true;
+        }
+    }
+    false
+}
+
+/// The words are as many file names as the operation takes.
+fn are_files(operation: Operation, words: &[&str]) -> bool
+    ensures { result ≡ are_files operation (map (λ w. w.now) words.now) }
+{
+    words.len() == word_count(operation) && !has_empty(words)
+}
+
+/// What the positional words say, where they are of the language.
+pub(crate) fn read_task(alloc: Global, places: Option<&[&str]>) -> Result<Option<Task>, AllocError>
+    ensures { IfOk result (λ r. option_map task_meaning r ≡ task_in (texts_of places.entry)) }
+{
+    let Some([name, words @ ..]) = places else {
+        return Ok(None);
+    };
+    match operation_in(name) {
+        None => Ok(None),
+        Some(operation) => {
+            if !are_files(operation, words) {
+                return Ok(None);
+            }
+            Ok(Some(Task {
+                operation,
+                files: copied(alloc, words)?,
+            }))
+        }
+    }
+}
