@@ -1,28 +1,24 @@
 -- How a grammar file begins.
-use Rattle.std.proofs.Common.{◌≡◌, ℕ, ◌+◌, ◌-◌, ◌<◌, ◌≤◌, List, [], ◌∷◌, ◌++◌, length, take, drop, refl, ap, sym, ◌∙◌, subst, arith, Option, Bool, true, false, zero, suc}
-use Rattle.std.specs.Prelude.{Some, None, Result, Ok, Err, cond, map}
-use Rattle.std.specs.Global.{Vec}
+use Rattle.std.proofs.Common.{◌≡◌, ℕ, ◌+◌, ◌<◌, ◌≤◌, List, [], ◌∷◌, length, take, drop, refl, ap, sym, ◌∙◌, subst, arith, Option, Bool, true, false, suc}
+use Rattle.std.specs.Prelude.{Some, None, Result, Ok, Err}
 use Rattle.std.specs.List.{prefix_len}
 use Rattle.std.proofs.lemmas.List.{drop-drop, drop_all, length-drop}
-use Rattle.tib_lex.specs.Grammar.{Word}
 use Rattle.tib_lex.specs.Line.{words_of, words_at}
 use Rattle.tib_lex.specs.declared.token.Token.{Token}
 use Rattle.tib_tree.specs.File.{lines_of, not_feed}
 use Rattle.tib_tree.specs.Grows.{Adds}
 use Rattle.tib_tree.proofs.FileRead.{lines_step, Next}
-use Rattle.tib_grammar_file.specs.Rule.{has_dot, RuleLine}
-use Rattle.tib_grammar_file.specs.Raw.{AddsAll}
-use Rattle.tib_grammar_file.specs.RawFile.{left_of, IsRawRules, file_error_of}
-use Rattle.tib_grammar_file.specs.RawGrammar.{IsStartLine, Began, IsBegun, IsRawGrammar, ReadsGrammar}
-use Rattle.tib_grammar_file.specs.GrammarText.{FaultAt, fault_at, start_of, plain_start, start_in, start_line, started, with_start, rules_from, grammar_from, grammar_of}
-use Rattle.tib_grammar_file.specs.declared.rule.FaultKind.{FaultKind}
-use Rattle.tib_grammar_file.specs.declared.rule.FaultKind.TheVariants as kinds
-use Rattle.tib_grammar_file.specs.declared.rule.RuleError.{RuleError}
-use Rattle.tib_grammar_file.specs.declared.rule.RuleError.TheVariants as rule_errors
-use Rattle.tib_grammar_file.specs.declared.raw.RawRule.{RawRule}
-use Rattle.tib_grammar_file.specs.declared.raw.FileError.{FileError}
-use Rattle.tib_grammar_file.specs.declared.raw.FileError.TheVariants as errors
-use Rattle.tib_grammar_file.specs.declared.grammar.Begun.{Begun}
+use Rattle.tib_grammar_file.specs.Rule.{has_dot}
+use Rattle.tib_grammar_file.specs.RawFile.{IsRawFile, read_error_of}
+use Rattle.tib_grammar_file.specs.RawGrammar.{IsStartLine, Began, IsBegun, ReadsRaw}
+use Rattle.tib_grammar_file.specs.Reading.{fault_at, start_of, plain_start, start_line, started, with_start, rules_from, grammar_from, grammar_of}
+use Rattle.tib_lex.specs.declared.fault.FaultKind.TheVariants as kinds
+use Rattle.tib_grammar_file.specs.declared.rule.LineError.{LineError}
+use Rattle.tib_grammar_file.specs.declared.rule.LineError.TheVariants as line_errors
+use Rattle.tib_grammar_file.specs.declared.raw.RawRules.{RawRules}
+use Rattle.tib_lex.specs.declared.fault.ReadError.{ReadError}
+use Rattle.tib_lex.specs.declared.fault.ReadError.TheVariants as errors
+use Rattle.tib_grammar_file.specs.declared.start.Begun.{Begun}
 
 pub bad_start : (line : List ℕ) → words_of line ≡ None → start_line line ≡ Err kinds.BadToken
 unfolding start_line
@@ -77,29 +73,29 @@ begins z a b bytes at end n line begun next is place few (start, some, adds) w =
       few = few;
     })
 
-pub start_failed : (z a b : List (List ℕ)) (bytes : List ℕ) (at end n : ℕ) (line : List ℕ) (error : RuleError) (r : FileError) → Next bytes at end line → r ≡ file_error_of n error → IsStartLine a b (Err error) (start_line line) → Waits z a bytes at n → IsBegun bytes z b (Err r)
-start_failed z a b bytes at end n line (rule_errors.Fault kind) r next e h w =
-    subst (λ (x : FileError). IsBegun bytes z b (Err x)) (sym e)
+pub start_failed : (z a b : List (List ℕ)) (bytes : List ℕ) (at end n : ℕ) (line : List ℕ) (error : LineError) (r : ReadError) → Next bytes at end line → r ≡ read_error_of n error → IsStartLine a b (Err error) (start_line line) → Waits z a bytes at n → IsBegun bytes z b (Err r)
+start_failed z a b bytes at end n line (line_errors.Fault kind) r next e h w =
+    subst (λ (x : ReadError). IsBegun bytes z b (Err x)) (sym e)
     (λ weighted. sym (w.read weighted) ∙ split weighted n bytes at end line next ∙ ap (λ r. with_start n r (rules_from weighted (n + 1) (lines_of (drop (end + 1) bytes))) (grammar_from weighted (n + 1) (lines_of (drop (end + 1) bytes)))) h)
-start_failed z a b bytes at end n line rule_errors.OutOfMemory r next e h w = subst (λ (x : FileError). IsBegun bytes z b (Err x)) (sym e) tt
+start_failed z a b bytes at end n line line_errors.OutOfMemory r next e h w = subst (λ (x : ReadError). IsBegun bytes z b (Err x)) (sym e) tt
 
 pub no_start : (z a : List (List ℕ)) (bytes : List ℕ) (at n : ℕ) → length bytes ≤ at → Waits z a bytes at n → (weighted : Bool) → grammar_from weighted 1 (lines_of bytes) ≡ Err (fault_at 1 kinds.NoStart)
 no_start z a bytes at n h w = λ weighted. sym (w.read weighted) ∙ ap (λ (x : List ℕ). grammar_from weighted n (lines_of x)) (drop_all at bytes h)
 
 -- the whole file
-pub whole_read : (weighted : Bool) (z a b t : List (List ℕ)) (bytes : List ℕ) (begun : Begun) (r : Result (Vec RawRule) FileError) → Began bytes z a begun → IsRawRules a b t r (rules_from weighted begun.number (lines_of (drop begun.at bytes))) → ReadsGrammar z b t r (grammar_of weighted bytes)
+pub whole_read : (weighted : Bool) (z a b t : List (List ℕ)) (bytes : List ℕ) (begun : Begun) (r : Result RawRules ReadError) → Began bytes z a begun → IsRawFile a b t r (rules_from weighted begun.number (lines_of (drop begun.at bytes))) → ReadsRaw z b t r (grammar_of weighted bytes)
 unfolding grammar_of
-whole_read weighted z a b t bytes begun (Ok rules) g (lines, read, are, added) = record {
+whole_read weighted z a b t bytes begun (Ok raw) g (lines, read, are, added) = record {
   start = g.start;
   lines = lines;
   read = g.read weighted ∙ ap (started g.start) read;
   rules_are = are;
   added = (a, g.adds, added);
 }
-whole_read weighted z a b t bytes begun (Err (errors.Fault line kind)) g h = g.read weighted ∙ ap (started g.start) h
+whole_read weighted z a b t bytes begun (Err (errors.Fault fault)) g h = g.read weighted ∙ ap (started g.start) h
 whole_read weighted z a b t bytes begun (Err errors.OutOfMemory) g h = tt
 
-pub whole_failed : (weighted : Bool) (z a t : List (List ℕ)) (bytes : List ℕ) (error : FileError) → IsBegun bytes z a (Err error) → ReadsGrammar z a t (Err error) (grammar_of weighted bytes)
+pub whole_failed : (weighted : Bool) (z a t : List (List ℕ)) (bytes : List ℕ) (error : ReadError) → IsBegun bytes z a (Err error) → ReadsRaw z a t (Err error) (grammar_of weighted bytes)
 unfolding grammar_of
-whole_failed weighted z a t bytes (errors.Fault line kind) h = h weighted
+whole_failed weighted z a t bytes (errors.Fault fault) h = h weighted
 whole_failed weighted z a t bytes errors.OutOfMemory h = tt

@@ -1,6 +1,6 @@
 use Rattle.std.proofs.Common.{◌≤◌, ◌+◌, ◌-◌, length}
 use Rattle.tib_grammar_file.proofs.Begins.{Waits}
-use Rattle.tib_grammar_file.proofs.grammar.find_start.Given as goal
+use Rattle.tib_grammar_file.proofs.start.find_start.Given as goal
 
 abbrev pub invariant-loop-at : goal.invariant-loop-at
 invariant-loop-at l = record {
