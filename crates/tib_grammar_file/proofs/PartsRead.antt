@@ -17,8 +17,8 @@ use Rattle.tib_grammar_file.specs.Found.{text_at, found_parts, FoundIn, FoundLie
 use Rattle.tib_grammar_file.specs.Raw.{AddsLine}
 use Rattle.tib_grammar_file.specs.declared.raw.RawRules.{RawRules}
 use Rattle.tib_grammar_file.specs.declared.rule.Found.{Found}
-use Rattle.tib_grammar_file.specs.declared.rule.LineError.{LineError}
-use Rattle.tib_grammar_file.specs.declared.rule.LineError.TheVariants as errors
+use Rattle.tib_lex.specs.declared.fault.LineError.{LineError}
+use Rattle.tib_lex.specs.declared.fault.LineError.TheVariants as errors
 use Rattle.tib_grammar_file.specs.Weight.{cost_of}
 use Rattle.tib_lex.specs.declared.fault.FaultKind.{FaultKind}
 use Rattle.tib_lex.specs.declared.fault.FaultKind.TheVariants as kinds

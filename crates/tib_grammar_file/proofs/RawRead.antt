@@ -1,26 +1,27 @@
 -- How the rules of a file are read.
-use Rattle.std.proofs.Common.{◌≡◌, ℕ, ◌+◌, ◌-◌, ◌<◌, ◌≤◌, inl, inr, List, [], ◌∷◌, ◌++◌, length, get_or, take, drop, refl, ap, sym, ◌∙◌, subst, arith, append_assoc, append-nil, Option, suc}
-use Rattle.std.specs.Prelude.{Result, Ok, Err, map}
-use Rattle.std.specs.List.{prefix_len}
-use Rattle.std.proofs.lemmas.List.{drop-drop, drop_all, length-drop, map-append}
+use Rattle.std.proofs.Common.{◌≡◌, ℕ, ◌+◌, ◌-◌, ◌<◌, ◌≤◌, inl, inr, List, [], ◌∷◌, ◌++◌, length, get_or, drop, refl, ap, sym, ◌∙◌, subst, arith, append_assoc, append-nil, Option}
+use Rattle.std.specs.Prelude.{slice_range, Some, None, Result, Ok, Err, map}
+use Rattle.std.proofs.lemmas.List.{drop_all, map-append}
+use Rattle.tib_lex.specs.Lines.{lines_of, front, with_line, each_line}
+use Rattle.tib_lex.specs.NextLine.{IsNextLine}
+use Rattle.tib_lex.specs.FaultOf.{file_error_of}
 use Rattle.tib_lex.specs.Lists.{Along}
+use Rattle.tib_lex.specs.declared.lines.Line.{Line}
 use Rattle.tib_lex.specs.declared.fault.FaultKind.{FaultKind}
 use Rattle.tib_lex.specs.declared.fault.FileFault.{FileFault}
 use Rattle.tib_lex.specs.declared.fault.ReadError.{ReadError}
+use Rattle.tib_lex.specs.declared.fault.LineError.{LineError}
+use Rattle.tib_lex.specs.declared.fault.LineError.TheVariants as line_errors
+use Rattle.tib_lex.proofs.LinesRead.{front_none, front_more, line_read, none_left}
 use Rattle.tib_tree.specs.Grows.{Grows, Adds}
 use Rattle.tib_tree.specs.Written.{Item}
 use Rattle.tib_tree.specs.Shape.{item_at, items_back}
-use Rattle.tib_tree.specs.File.{lines_of, not_feed}
 use Rattle.tib_tree.specs.declared.shape.Place.{Place}
 use Rattle.tib_tree.proofs.NodesRead.{back_more}
-use Rattle.tib_tree.proofs.FileRead.{lines_step, Next}
 use Rattle.tib_grammar_file.specs.Rule.{RuleLine}
 use Rattle.tib_grammar_file.specs.Raw.{IsRaw, IsRawRule, AreRawRules, AddsNodes, AddsRule, AddsLine, all_nodes}
-use Rattle.tib_grammar_file.specs.RawFile.{IsRawFile, read_error_of}
+use Rattle.tib_grammar_file.specs.RawFile.{IsRawFile}
 use Rattle.tib_grammar_file.specs.GrammarText.{AddsAll, left_of}
-use Rattle.tib_grammar_file.specs.Reading.{front, with_line, all_from}
-use Rattle.tib_grammar_file.specs.declared.rule.LineError.{LineError}
-use Rattle.tib_grammar_file.specs.declared.rule.LineError.TheVariants as line_errors
 use Rattle.tib_grammar_file.specs.declared.raw.RawItem.{RawItem}
 use Rattle.tib_grammar_file.specs.declared.raw.RawRule.{RawRule}
 use Rattle.tib_grammar_file.specs.declared.raw.RawRules.{RawRules}
@@ -78,14 +79,6 @@ pub record SoFar (before names texts : List (List ℕ)) (raw : RawRules) (left w
   pub added : AddsAll before (map left_of done) names
   pub same : front done left ≡ wanted
 
-front_none : {X F : Type 0} (r : Result (List X) F) → front [] r ≡ r
-front_none (Ok more) = refl
-front_none (Err fault) = refl
-
-front_more : {X F : Type 0} (done : List X) (x : X) (r : Result (List X) F) → front done (front (x ∷ []) r) ≡ front (done ++ x ∷ []) r
-front_more done x (Ok more) = ap Ok (sym (append_assoc done (x ∷ []) more))
-front_more done x (Err fault) = refl
-
 none_raw : (names texts : List (List ℕ)) (rules : List RawRule) (nodes : List RawItem) → rules ≡ [] → nodes ≡ [] → AreRawRules names texts rules nodes []
 none_raw names texts rules nodes e f = record {
   heads = subst (λ (rs : List RawRule). Along (IsRawRule names) rs []) (sym e) tt;
@@ -100,40 +93,33 @@ starts names texts raw wanted e f = record {
   same = front_none wanted;
 }
 
-pub split : {X : Type 0} (one : List ℕ → Result (Option X) FaultKind) (n : ℕ) (bytes : List ℕ) (at end : ℕ) (line : List ℕ) → Next bytes at end line → all_from one n (lines_of (drop at bytes)) ≡ with_line n (one line) (all_from one (n + 1) (lines_of (drop (end + 1) bytes)))
-split one n bytes at end line next =
-    let p : ℕ = prefix_len not_feed (drop at bytes) in
-    let long = length-drop at bytes in
-    let s : lines_of (drop at bytes) ≡ take p (drop at bytes) ∷ lines_of (drop (p + 1) (drop at bytes)) = lines_step (drop at bytes) (omega (arith, next.more)) in
-    let e : at + (p + 1) ≡ end + 1 = omega (arith, next.ends, next.long) in
-    let m : suc n ≡ n + 1 = omega arith in
-    ap (all_from one n) s
-    ∙ ap (λ (x : List ℕ). with_line n (one x) (all_from one (suc n) (lines_of (drop (p + 1) (drop at bytes))))) (sym next.is)
-    ∙ ap (λ (x : List ℕ). with_line n (one line) (all_from one (suc n) (lines_of x))) (drop-drop (p + 1) at bytes ∙ ap (λ (k : ℕ). drop k bytes) e)
-    ∙ ap (λ (k : ℕ). with_line n (one line) (all_from one k (lines_of (drop (end + 1) bytes)))) m
+step : (one : List ℕ → Result (Option RuleLine) FaultKind) (wanted : Result (List RuleLine) FileFault) (done : List RuleLine) (n at : ℕ) (bytes : List ℕ) (line : Line) (r : Result (Option RuleLine) FaultKind) → IsNextLine bytes n at line → one (slice_range bytes line.start line.end) ≡ r → front done (each_line one n (lines_of (drop at bytes))) ≡ wanted → front done (with_line n r (each_line one (n + 1) (lines_of (drop line.next bytes)))) ≡ wanted
+step one wanted done n at bytes line r is e w = ap (front done) (ap (λ x. with_line n x (each_line one (n + 1) (lines_of (drop line.next bytes)))) (sym e) ∙ sym (line_read one bytes n at line is)) ∙ w
 
-pub goes : (one : List ℕ → Result (Option RuleLine) FaultKind) (z a b t u : List (List ℕ)) (old now : RawRules) (n at end : ℕ) (line bytes : List ℕ) (wanted : Result (List RuleLine) FileFault) → Next bytes at end line → Grows a b → Grows t u → AddsLine a b u old now (Ok tt) (one line) → SoFar z a t old (all_from one n (lines_of (drop at bytes))) wanted → SoFar z b u now (all_from one (n + 1) (lines_of (drop (end + 1) bytes))) wanted
-goes one z a b t u old now n at end line bytes wanted next g h (inl (none, names, same)) so = record {
+pub goes : (one : List ℕ → Result (Option RuleLine) FaultKind) (z a b t u : List (List ℕ)) (old now : RawRules) (n at : ℕ) (line : Line) (bytes : List ℕ) (wanted : Result (List RuleLine) FileFault) → IsNextLine bytes n at line → Grows a b → Grows t u → AddsLine a b u old now (Ok tt) (one (slice_range bytes line.start line.end)) → SoFar z a t old (each_line one n (lines_of (drop at bytes))) wanted → SoFar z b u now (each_line one (n + 1) (lines_of (drop line.next bytes))) wanted
+goes one z a b t u old now n at line bytes wanted next g h (inl (none, names, same)) so = record {
   done = so.done;
   rules_are = subst (λ (r : RawRules). AreRawRules b u r.rules.items r.nodes.items so.done) (sym same) (raw_grows a b t u old.rules.items old.nodes.items so.done g h so.rules_are);
   added = subst (λ (x : List (List ℕ)). AddsAll z (map left_of so.done) x) (sym names) so.added;
-  same = ap (front so.done) (ap (λ r. with_line n r (all_from one (n + 1) (lines_of (drop (end + 1) bytes)))) (sym none) ∙ sym (split one n bytes at end line next)) ∙ so.same;
+  same = step one wanted so.done n at bytes line (Ok None) next none so.same;
 }
-goes one z a b t u old now n at end line bytes wanted next g h (inr (rule, some, adds)) so = record {
+goes one z a b t u old now n at line bytes wanted next g h (inr (rule, some, adds)) so = record {
   done = so.done ++ rule ∷ [];
   rules_are = raw_more a b u old now so.done rule (raw_grows a b t u old.rules.items old.nodes.items so.done g h so.rules_are) adds;
   added = subst (λ (x : List (List ℕ)). AddsAll z x b) (sym (map-append left_of so.done (rule ∷ []))) (adds_more z a b (map left_of so.done) rule.left so.added adds.adds);
-  same = sym (front_more so.done rule (all_from one (n + 1) (lines_of (drop (end + 1) bytes))))
-      ∙ ap (front so.done) (ap (λ r. with_line n r (all_from one (n + 1) (lines_of (drop (end + 1) bytes)))) (sym some) ∙ sym (split one n bytes at end line next))
-      ∙ so.same;
+  same = sym (front_more so.done rule (each_line one (n + 1) (lines_of (drop line.next bytes)))) ∙ step one wanted so.done n at bytes line (Ok (Some rule)) next some so.same;
 }
 
-pub failed : (one : List ℕ → Result (Option RuleLine) FaultKind) (z a b t u : List (List ℕ)) (old now : RawRules) (n at end : ℕ) (line bytes : List ℕ) (wanted : Result (List RuleLine) FileFault) (error : LineError) (r : ReadError) → Next bytes at end line → r ≡ read_error_of n error → AddsLine a b u old now (Err error) (one line) → SoFar z a t old (all_from one n (lines_of (drop at bytes))) wanted → IsRawFile z b u (Err r) wanted
-failed one z a b t u old now n at end line bytes wanted (line_errors.Fault kind) r next e h so =
-    subst (λ (x : ReadError). IsRawFile z b u (Err x) wanted) (sym e)
-    (sym so.same ∙ ap (front so.done) (split one n bytes at end line next ∙ ap (λ r. with_line n r (all_from one (n + 1) (lines_of (drop (end + 1) bytes)))) h))
-failed one z a b t u old now n at end line bytes wanted line_errors.OutOfMemory r next e h so = subst (λ (x : ReadError). IsRawFile z b u (Err x) wanted) (sym e) tt
+failed_as : (one : List ℕ → Result (Option RuleLine) FaultKind) (z a b t u : List (List ℕ)) (old now : RawRules) (n m at : ℕ) (line : Line) (bytes : List ℕ) (wanted : Result (List RuleLine) FileFault) (error : LineError) → n ≡ m → IsNextLine bytes n at line → AddsLine a b u old now (Err error) (one (slice_range bytes line.start line.end)) → SoFar z a t old (each_line one n (lines_of (drop at bytes))) wanted → IsRawFile z b u (Err (file_error_of m error)) wanted
+failed_as one z a b t u old now n m at line bytes wanted (line_errors.Fault kind) e next h so =
+    sym (step one wanted so.done n at bytes line (Err kind) next h so.same) ∙ ap (λ (k : ℕ). Err (record { line = k; kind = kind })) e
+failed_as one z a b t u old now n m at line bytes wanted line_errors.OutOfMemory e next h so = tt
 
-pub ended : (one : List ℕ → Result (Option RuleLine) FaultKind) (z a t : List (List ℕ)) (raw : RawRules) (n at : ℕ) (bytes : List ℕ) (wanted : Result (List RuleLine) FileFault) → length bytes ≤ at → SoFar z a t raw (all_from one n (lines_of (drop at bytes))) wanted → (lines : List RuleLine) × (wanted ≡ Ok lines) × AreRawRules a t raw.rules.items raw.nodes.items lines × AddsAll z (map left_of lines) a
+pub failed : (one : List ℕ → Result (Option RuleLine) FaultKind) (z a b t u : List (List ℕ)) (old now : RawRules) (n at : ℕ) (line : Line) (text bytes : List ℕ) (wanted : Result (List RuleLine) FileFault) (error : LineError) (r : ReadError) → IsNextLine bytes n at line → text ≡ slice_range bytes line.start line.end → r ≡ file_error_of line.number error → AddsLine a b u old now (Err error) (one text) → SoFar z a t old (each_line one n (lines_of (drop at bytes))) wanted → IsRawFile z b u (Err r) wanted
+failed one z a b t u old now n at line text bytes wanted error r next is e h so =
+    subst (λ (x : ReadError). IsRawFile z b u (Err x) wanted) (sym e)
+    (failed_as one z a b t u old now n line.number at line bytes wanted error (sym next.numbered) next (subst (λ (x : List ℕ). AddsLine a b u old now (Err error) (one x)) is h) so)
+
+pub ended : (one : List ℕ → Result (Option RuleLine) FaultKind) (z a t : List (List ℕ)) (raw : RawRules) (n at : ℕ) (bytes : List ℕ) (wanted : Result (List RuleLine) FileFault) → at ≡ length bytes → SoFar z a t raw (each_line one n (lines_of (drop at bytes))) wanted → (lines : List RuleLine) × (wanted ≡ Ok lines) × AreRawRules a t raw.rules.items raw.nodes.items lines × AddsAll z (map left_of lines) a
 ended one z a t raw n at bytes wanted h so =
-    (so.done, sym so.same ∙ ap (λ (x : List ℕ). front so.done (all_from one n (lines_of x))) (drop_all at bytes h) ∙ ap Ok (append-nil so.done), so.rules_are, so.added)
+    (so.done, sym so.same ∙ ap (front so.done) (none_left one bytes n at h) ∙ ap Ok (append-nil so.done), so.rules_are, so.added)

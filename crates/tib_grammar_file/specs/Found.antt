@@ -8,8 +8,8 @@ use Rattle.tib_tree.specs.declared.shape.Place.{Place}
 use Rattle.tib_grammar_file.specs.Rule.{Parts, parts}
 use Rattle.tib_grammar_file.specs.declared.rule.Found.{Found}
 use Rattle.tib_lex.specs.declared.fault.FaultKind.{FaultKind}
-use Rattle.tib_grammar_file.specs.declared.rule.LineError.{LineError}
-use Rattle.tib_grammar_file.specs.declared.rule.LineError.TheVariants as errors
+use Rattle.tib_lex.specs.declared.fault.LineError.{LineError}
+use Rattle.tib_lex.specs.declared.fault.LineError.TheVariants as errors
 
 abbrev pub text_at : List ℕ → Option Token → Option (List ℕ)
 text_at line None = None

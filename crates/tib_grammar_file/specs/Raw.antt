@@ -5,8 +5,8 @@ use Rattle.tib_lex.specs.declared.fault.FaultKind.{FaultKind}
 use Rattle.tib_tree.specs.Written.{Item}
 use Rattle.tib_tree.specs.Grows.{Adds}
 use Rattle.tib_grammar_file.specs.Rule.{RuleLine}
-use Rattle.tib_grammar_file.specs.declared.rule.LineError.{LineError}
-use Rattle.tib_grammar_file.specs.declared.rule.LineError.TheVariants as errors
+use Rattle.tib_lex.specs.declared.fault.LineError.{LineError}
+use Rattle.tib_lex.specs.declared.fault.LineError.TheVariants as errors
 use Rattle.tib_grammar_file.specs.declared.raw.RawItem.{RawItem}
 use Rattle.tib_grammar_file.specs.declared.raw.RawRule.{RawRule}
 use Rattle.tib_grammar_file.specs.declared.raw.RawRules.{RawRules}

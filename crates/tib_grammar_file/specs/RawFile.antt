@@ -5,17 +5,10 @@ use Rattle.tib_lex.specs.declared.fault.ReadError.{ReadError}
 use Rattle.tib_lex.specs.declared.fault.ReadError.TheVariants as errors
 use Rattle.tib_grammar_file.specs.Rule.{RuleLine}
 use Rattle.tib_grammar_file.specs.Raw.{AreRawRules}
-use Rattle.tib_grammar_file.specs.Reading.{fault_at}
 use Rattle.tib_grammar_file.specs.GrammarText.{AddsAll, left_of}
-use Rattle.tib_grammar_file.specs.declared.rule.LineError.{LineError}
-use Rattle.tib_grammar_file.specs.declared.rule.LineError.TheVariants as line_errors
 use Rattle.tib_grammar_file.specs.declared.raw.RawRules.{RawRules}
 
 abbrev pub IsRawFile : List (List ℕ) → List (List ℕ) → List (List ℕ) → Result RawRules ReadError → Result (List RuleLine) FileFault → Type 0
 IsRawFile before names texts (Ok raw) wanted = (lines : List RuleLine) × (wanted ≡ Ok lines) × AreRawRules names texts raw.rules.items raw.nodes.items lines × AddsAll before (map left_of lines) names
 IsRawFile before names texts (Err (errors.Fault fault)) wanted = wanted ≡ Err fault
 IsRawFile before names texts (Err errors.OutOfMemory) wanted = Unit {0}
-
-abbrev pub read_error_of : ℕ → LineError → ReadError
-read_error_of n (line_errors.Fault kind) = errors.Fault (fault_at n kind)
-read_error_of n line_errors.OutOfMemory = errors.OutOfMemory

@@ -4,14 +4,14 @@ use Rattle.tib_lex.specs.declared.fault.FaultKind.{FaultKind}
 use Rattle.tib_lex.specs.declared.fault.FileFault.{FileFault}
 use Rattle.tib_lex.specs.declared.fault.ReadError.{ReadError}
 use Rattle.tib_lex.specs.declared.fault.ReadError.TheVariants as errors
-use Rattle.tib_tree.specs.File.{lines_of}
+use Rattle.tib_lex.specs.Lines.{lines_of}
 use Rattle.tib_tree.specs.Grows.{Adds}
 use Rattle.tib_grammar_file.specs.Rule.{RuleLine}
 use Rattle.tib_grammar_file.specs.Raw.{AreRawRules}
 use Rattle.tib_grammar_file.specs.GrammarText.{AddsAll, left_of}
 use Rattle.tib_grammar_file.specs.Reading.{grammar_from, started, rules_from}
-use Rattle.tib_grammar_file.specs.declared.rule.LineError.{LineError}
-use Rattle.tib_grammar_file.specs.declared.rule.LineError.TheVariants as line_errors
+use Rattle.tib_lex.specs.declared.fault.LineError.{LineError}
+use Rattle.tib_lex.specs.declared.fault.LineError.TheVariants as line_errors
 use Rattle.tib_grammar_file.specs.declared.raw.RawRules.{RawRules}
 use Rattle.tib_grammar_file.specs.declared.start.Begun.{Begun}
 
@@ -26,7 +26,7 @@ pub record Began (bytes : List ℕ) (before names : List (List ℕ)) (b : Begun)
   pub start : List ℕ
   pub read : (weighted : Bool) → grammar_from weighted 1 (lines_of bytes) ≡ started start (rules_from weighted b.number (lines_of (drop b.at bytes)))
   pub adds : Adds before start names
-  pub place : b.at ≤ length bytes + 1
+  pub place : b.at ≤ length bytes
   pub few : b.number ≤ b.at + 1
 
 abbrev pub IsBegun : List ℕ → List (List ℕ) → List (List ℕ) → Result Begun ReadError → Type 0

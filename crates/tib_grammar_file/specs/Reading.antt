@@ -1,8 +1,8 @@
 -- What is read of a file: its start and its rules, or its first fault.
-use Rattle.std.specs.Prelude.{ℕ, Bool, List, [], ◌∷◌, ◌++◌, Option, None, Some, Result, Ok, Err, if◌then◌else◌, suc}
+use Rattle.std.specs.Prelude.{ℕ, Bool, List, [], ◌∷◌, Option, None, Some, Result, Ok, Err, if◌then◌else◌, suc}
 use Rattle.tib_lex.specs.Grammar.{Word, name}
 use Rattle.tib_lex.specs.Line.{words_of}
-use Rattle.tib_tree.specs.File.{lines_of}
+use Rattle.tib_lex.specs.Lines.{lines_of, each_line}
 use Rattle.tib_lex.specs.declared.fault.FaultKind.{FaultKind}
 use Rattle.tib_lex.specs.declared.fault.FaultKind.TheVariants as kinds
 use Rattle.tib_lex.specs.declared.fault.FileFault.{FileFault}
@@ -11,25 +11,9 @@ use Rattle.tib_grammar_file.specs.Rule.{has_dot, RuleLine, rule_line}
 abbrev pub fault_at : ℕ → FaultKind → FileFault
 fault_at n kind = record { line = n; kind = kind }
 
--- values in front of those that are read
-abbrev pub front : {X F : Type 0} → List X → Result (List X) F → Result (List X) F
-front done (Ok more) = Ok (done ++ more)
-front done (Err fault) = Err fault
-
--- the line of a number, and the lines behind it
-abbrev pub with_line : {X : Type 0} → ℕ → Result (Option X) FaultKind → Result (List X) FileFault → Result (List X) FileFault
-with_line n (Err kind) more = Err (fault_at n kind)
-with_line n (Ok None) more = more
-with_line n (Ok (Some x)) more = front (x ∷ []) more
-
--- each line by one function, up to the first fault
-abbrev pub all_from : {X : Type 0} → (List ℕ → Result (Option X) FaultKind) → ℕ → List (List ℕ) → Result (List X) FileFault
-all_from one n [] = Ok []
-all_from one n (line ∷ lines) = with_line n (one line) (all_from one (suc n) lines)
-
 -- the rules of the lines from a number on
 abbrev pub rules_from : Bool → ℕ → List (List ℕ) → Result (List RuleLine) FileFault
-rules_from weighted n lines = all_from (rule_line weighted) n lines
+rules_from weighted n lines = each_line (rule_line weighted) n lines
 
 abbrev pub start_of : List Word → Option (List ℕ)
 start_of (name text ∷ []) = Some text

@@ -1,19 +1,22 @@
 // Rules whose leaves are not told apart: which of them are states shows at the end of the file.
 ghost use Rattle.std.specs.Prelude.{◌≡◌, ◌≤◌, ◌<◌, ◌-◌, ◌+◌, ◌^◌, ℕ, List, [], ◌∷◌, ◌++◌, length, drop, IfOk, IfSome, Some, None, slice_get, All};
 ghost use Rattle.tib_lex.specs.Line.{word_at, text_of, Lies};
-ghost use Rattle.tib_tree.specs.File.{lines_of};
+ghost use Rattle.tib_lex.specs.Lines.{lines_of};
 ghost use Rattle.tib_tree.specs.Grows.{Grows, Adds};
 ghost use Rattle.tib_tree.specs.Shape.{item_at, items_back, PlaceLies};
 ghost use Rattle.tib_grammar_file.specs.Reading.{rules_from};
 ghost use Rattle.tib_grammar_file.specs.Raw.{IsRaw, AddsLine, AddsNodes};
-ghost use Rattle.tib_grammar_file.specs.RawFile.{IsRawFile, read_error_of};
+ghost use Rattle.tib_grammar_file.specs.RawFile.{IsRawFile};
 ghost use Rattle.tib_grammar_file.specs.Rule.{rule_line};
 
-use crate::rule::{LineError, read_cost, read_parts};
+use crate::rule::{read_cost, read_parts};
 use std::alloc::{AllocError, Global};
 use tib_cost::Cost;
-use tib_lex::{FaultKind, FileFault, Kind, ReadError, Token, read_text, read_tokens};
-use tib_tree::{Labels, Place, Reader, line_at};
+use tib_lex::{
+    FaultKind, Kind, LineError, ReadError, Token, file_error, line_bytes, next_line, read_text,
+    read_tokens,
+};
+use tib_tree::{Labels, Place, Reader};
 
 /// A node whose text may be a state's.
 #[derive(Clone, Copy, Debug)]
@@ -167,27 +170,18 @@ impl RawReader {
     }
 }
 
-pub(crate) fn read_error(line: u32, error: LineError) -> ReadError
-    ensures { result ≡ read_error_of line error }
-{
-    match error {
-        LineError::Fault(kind) => ReadError::Fault(FileFault { line, kind }),
-        LineError::OutOfMemory => ReadError::OutOfMemory,
-    }
-}
-
 /// The rules from a place of a file on, where a line of this number begins.
 pub(crate) fn read_rules(
     alloc: Global,
     weighted: bool,
     bytes: &[u8],
-    start: usize,
+    start: u32,
     first: u32,
     names: &mut Labels,
     texts: &mut Labels,
 ) -> Result<RawRules, ReadError>
     requires short { length bytes.now ≤ 8388608 }
-    requires place { start ≤ length bytes.now + 1 }
+    requires place { start ≤ length bytes.now }
     requires number { first ≤ start + 1 }
     ensures rules { IsRawFile names.old names.new texts.new result (rules_from weighted first (lines_of (drop start bytes.now))) }
 {
@@ -198,13 +192,12 @@ pub(crate) fn read_rules(
     };
     let mut at = start;
     let mut number = first;
-    while at < bytes.len() {
-        let line = line_at(bytes, at);
-        match reader.add_line(weighted, line, names, texts, &mut raw) {
+    while let Some(line) = next_line(bytes, number, at) {
+        match reader.add_line(weighted, line_bytes(bytes, line), names, texts, &mut raw) {
             Ok(()) => {}
-            Err(error) => return Err(read_error(number, error)),
+            Err(error) => return Err(file_error(line.number, error)),
         }
-        at += line.len() + 1;
+        at = line.next;
         number += 1;
     }
     Ok(raw)

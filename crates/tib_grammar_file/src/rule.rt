@@ -6,28 +6,12 @@ ghost use Rattle.tib_lex.specs.Line.{word_at, words_at, text_of, Lies};
 ghost use Rattle.tib_grammar_file.specs.Rule.{last_two, weight_in, front_of, head_of, has_dot as spec_has_dot, parts_of};
 ghost use Rattle.tib_grammar_file.specs.Found.{text_at, found_parts, FoundLies, WeightLies, IsCost};
 ghost use Rattle.tib_grammar_file.specs.Weight.{cost_of};
-ghost use Rattle.tib_grammar_file.specs.declared.rule.LineError.TheVariants.{OutOfMemory};
 
 use crate::weight::{one, read_weight};
 use std::alloc::AllocError;
 use tib_cost::Cost;
-use tib_lex::{FaultKind, Kind, Token, read_text};
+use tib_lex::{Kind, LineError, Token, read_text};
 use tib_tree::Reader;
-
-/// Why a line gave nothing.
-#[derive(Clone, Copy, Debug, PartialEq, Eq)]
-pub(crate) enum LineError {
-    Fault(FaultKind),
-    OutOfMemory,
-}
-
-impl From<AllocError> for LineError {
-    ghost from_gives = { λ _ e. e ≡ OutOfMemory };
-
-    fn from(_: AllocError) -> Self {
-        LineError::OutOfMemory
-    }
-}
 
 // The tokens of a rule's left state and of its weight.
 #[derive(Clone, Copy, Debug)]

@@ -5,11 +5,14 @@ ghost use Rattle.tib_grammar_file.specs.Found.{text_at, WeightLies};
 ghost use Rattle.tib_grammar_file.specs.Reading.{start_of, start_line, grammar_of};
 ghost use Rattle.tib_grammar_file.specs.RawGrammar.{IsStartLine, IsBegun, ReadsRaw};
 
-use crate::raw::{RawRules, read_error, read_rules};
-use crate::rule::{LineError, has_dot};
+use crate::raw::{RawRules, read_rules};
+use crate::rule::has_dot;
 use std::alloc::Global;
-use tib_lex::{FaultKind, FileFault, Kind, ReadError, Token, read_text, read_tokens};
-use tib_tree::{Labels, line_at};
+use tib_lex::{
+    FaultKind, FileFault, Kind, LineError, ReadError, Token, file_error, line_bytes, next_line,
+    read_text, read_tokens,
+};
+use tib_tree::Labels;
 
 // The token of a start line.
 fn start_token(tokens: &[Token]) -> Option<Token>
@@ -57,7 +60,7 @@ fn read_start(
 /// Where the line behind the start line begins, and its number.
 #[derive(Clone, Copy, Debug)]
 pub(crate) struct Begun {
-    pub at: usize,
+    pub at: u32,
     pub number: u32,
 }
 
@@ -67,15 +70,14 @@ fn find_start(alloc: Global, bytes: &[u8], names: &mut Labels) -> Result<Begun, 
 {
     let mut tokens = Vec::new(alloc);
     let mut text = Vec::new(alloc);
-    let mut at = 0;
+    let mut at: u32 = 0;
     let mut number: u32 = 1;
-    while at < bytes.len() {
-        let line = line_at(bytes, at);
-        let found = match read_start(line, &mut tokens, &mut text, names) {
+    while let Some(line) = next_line(bytes, number, at) {
+        let found = match read_start(line_bytes(bytes, line), &mut tokens, &mut text, names) {
             Ok(found) => found,
-            Err(error) => return Err(read_error(number, error)),
+            Err(error) => return Err(file_error(line.number, error)),
         };
-        at += line.len() + 1;
+        at = line.next;
         number += 1;
         if found {
             return Ok(Begun { at, number });
