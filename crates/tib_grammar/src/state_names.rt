@@ -1,0 +1,107 @@
+// Names of states.
+ghost use Rattle.std.specs.Prelude.{◌≡◌, ℕ, ◌<◌, ◌&&◌, ◌==◌, ◌^◌, not, length, map, IfOk, IfSome, None, Some, IsTrue, false, slice_get, Contains, ◌∷◌, []};
+ghost use Rattle.std.specs.List.{list_all};
+ghost use Rattle.std.specs.Str.{bytes_eq};
+ghost use Rattle.tib_lex.specs.Bytes as spec;
+ghost use Rattle.tib_grammar.specs.StateName.{IsStateName, AreStateNames};
+
+use crate::Names;
+use indexmap::IndexSet;
+use std::alloc::{AllocError, Global};
+
+// Whether a byte is of a state name: a name byte but the full stop.
+fn is_state_byte(byte: u8) -> bool
+    ensures { result ≡ (spec.is_name_byte byte && not (byte == 46)) }
+{
+    byte > 32
+        && byte != 127
+        && byte != b'('
+        && byte != b')'
+        && byte != b'"'
+        && byte != b'#'
+        && byte != b'%'
+        && byte != b'.'
+}
+
+fn are_state_bytes(text: &[u8]) -> bool
+    ensures { result ≡ list_all (λ byte. spec.is_name_byte byte && not (byte == 46)) text.now }
+{
+    text.iter().all(|byte| is_state_byte(*byte))
+}
+
+fn is_arrow(text: &[u8]) -> bool
+    ensures { result ≡ bytes_eq text.now (45 ∷ 62 ∷ []) }
+{
+    text == &b"->"[..]
+}
+
+// Whether a text is a state name.
+fn is_state_name(text: &[u8]) -> bool
+    ensures yes { IsTrue result → IsStateName text.now }
+    ensures no { result ≡ false → IsStateName text.now → ⊥ }
+{
+    if text.is_empty() {
+        return false;
+    }
+    if is_arrow(text) {
+        return false;
+    }
+    are_state_bytes(text)
+}
+
+impl Names {
+    /// The texts as names, in their order. It answers none exactly where a text is not a state name, which is a
+    /// nonempty run of name bytes without a full stop that is not `->`, or stands twice.
+    pub fn from_list(alloc: Global, texts: Vec<Vec<u8>>) -> Result<Option<Names>, AllocError>
+        requires { length texts.items < 2 ^ 32 }
+        ensures same { IfOk result (λ r. IfSome r (λ n. n ≡ map (λ text. text.items) texts.items)) }
+        ensures sound { IfOk result (λ r. IfSome r (λ n. AreStateNames n)) }
+        ensures none { IfOk result (λ r. r ≡ None → AreStateNames (map (λ text. text.items) texts.items) → ⊥) }
+    {
+        let mut names = IndexSet::with_capacity(alloc, texts.len())?;
+        for text in texts {
+            if !is_state_name(&text) {
+                return Ok(None);
+            }
+            let (_, is_new) = names.insert_full(text)?;
+            if !is_new {
+                return Ok(None);
+            }
+        }
+        Ok(Some(Names { texts: names }))
+    }
+
+    /// How many names. It takes no memory.
+    pub fn len(&self) -> u32
+        ensures { result ≡ length self.now }
+    {
+        self.texts.len() as u32
+    }
+
+    /// The name of a state, by its number. It takes no memory.
+    pub fn text(&self, state: u32) -> &[u8]
+        requires { state < length self.now }
+        ensures { slice_get self.now state ≡ Some result.now }
+    {
+        &self.texts[state as usize]
+    }
+
+    /// The number of a name, if it is there. It takes no memory.
+    pub fn find(&self, text: &[u8]) -> Option<u32>
+        ensures found { IfSome result (λ n. slice_get self.now n ≡ Some text.now) }
+        ensures none { result ≡ None → Contains self.now text.now → ⊥ }
+    {
+        match self.texts.get_index_of(text) {
+            Some(i) => Some(i as u32),
+            None => None,
+        }
+    }
+
+    /// What holds of all names: each is a state name, none stands twice, and they are fewer than 2^32.
+    pub fn is_sound(&self)
+        ensures names { AreStateNames self.now }
+        ensures few { length self.now < 2 ^ 32 }
+    {
+        let _ = &self.texts;
+    }
+}
