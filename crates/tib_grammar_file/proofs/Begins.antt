@@ -1,28 +1,25 @@
 -- How a grammar file begins.
-use Rattle.std.proofs.Common.{◌≡◌, ℕ, ◌+◌, ◌-◌, ◌<◌, ◌≤◌, List, [], ◌∷◌, ◌++◌, length, take, drop, refl, ap, sym, ◌∙◌, subst, arith, Option, Bool, true, false, zero, suc}
-use Rattle.std.specs.Prelude.{Some, None, Result, Ok, Err, cond, map}
-use Rattle.std.specs.Global.{Vec}
-use Rattle.std.specs.List.{prefix_len}
-use Rattle.std.proofs.lemmas.List.{drop-drop, drop_all, length-drop}
-use Rattle.tib_lex.specs.Grammar.{Word}
+use Rattle.std.proofs.Common.{◌≡◌, ℕ, ◌+◌, ◌<◌, ◌≤◌, List, [], ◌∷◌, length, drop, refl, ap, sym, ◌∙◌, subst, arith, Option, Bool, true, false, suc}
+use Rattle.std.specs.Prelude.{slice_range, Some, None, Result, Ok, Err}
+use Rattle.std.proofs.lemmas.List.{drop_all}
 use Rattle.tib_lex.specs.Line.{words_of, words_at}
+use Rattle.tib_lex.specs.Lines.{lines_of}
+use Rattle.tib_lex.specs.NextLine.{IsNextLine}
+use Rattle.tib_lex.specs.FaultOf.{file_error_of}
+use Rattle.tib_lex.specs.declared.lines.Line.{Line}
 use Rattle.tib_lex.specs.declared.token.Token.{Token}
-use Rattle.tib_tree.specs.File.{lines_of, not_feed}
+use Rattle.tib_lex.specs.declared.fault.FaultKind.TheVariants as kinds
+use Rattle.tib_lex.specs.declared.fault.ReadError.{ReadError}
+use Rattle.tib_lex.specs.declared.fault.ReadError.TheVariants as errors
+use Rattle.tib_lex.specs.declared.fault.LineError.{LineError}
+use Rattle.tib_lex.specs.declared.fault.LineError.TheVariants as line_errors
 use Rattle.tib_tree.specs.Grows.{Adds}
-use Rattle.tib_tree.proofs.FileRead.{lines_step, Next}
-use Rattle.tib_grammar_file.specs.Rule.{has_dot, RuleLine}
-use Rattle.tib_grammar_file.specs.Raw.{AddsAll}
-use Rattle.tib_grammar_file.specs.RawFile.{left_of, IsRawRules, file_error_of}
-use Rattle.tib_grammar_file.specs.RawGrammar.{IsStartLine, Began, IsBegun, IsRawGrammar, ReadsGrammar}
-use Rattle.tib_grammar_file.specs.GrammarText.{FaultAt, fault_at, start_of, plain_start, start_in, start_line, started, with_start, rules_from, grammar_from, grammar_of}
-use Rattle.tib_grammar_file.specs.declared.rule.FaultKind.{FaultKind}
-use Rattle.tib_grammar_file.specs.declared.rule.FaultKind.TheVariants as kinds
-use Rattle.tib_grammar_file.specs.declared.rule.RuleError.{RuleError}
-use Rattle.tib_grammar_file.specs.declared.rule.RuleError.TheVariants as rule_errors
-use Rattle.tib_grammar_file.specs.declared.raw.RawRule.{RawRule}
-use Rattle.tib_grammar_file.specs.declared.raw.FileError.{FileError}
-use Rattle.tib_grammar_file.specs.declared.raw.FileError.TheVariants as errors
-use Rattle.tib_grammar_file.specs.declared.grammar.Begun.{Begun}
+use Rattle.tib_grammar_file.specs.Rule.{has_dot}
+use Rattle.tib_grammar_file.specs.RawFile.{IsRawFile}
+use Rattle.tib_grammar_file.specs.RawGrammar.{IsStartLine, Began, IsBegun, ReadsRaw}
+use Rattle.tib_grammar_file.specs.Reading.{fault_at, start_of, plain_start, start_line, started, with_start, rules_from, grammar_from, grammar_of}
+use Rattle.tib_grammar_file.specs.declared.raw.RawRules.{RawRules}
+use Rattle.tib_grammar_file.specs.declared.start.Begun.{Begun}
 
 pub bad_start : (line : List ℕ) → words_of line ≡ None → start_line line ≡ Err kinds.BadToken
 unfolding start_line
@@ -44,62 +41,62 @@ dotted_start text e = rw e refl
 pub plainly : (text : List ℕ) → has_dot text ≡ false → plain_start (Some text) ≡ Ok (Some text)
 plainly text e = rw e refl
 
-split : (weighted : Bool) (n : ℕ) (bytes : List ℕ) (at end : ℕ) (line : List ℕ) → Next bytes at end line → grammar_from weighted n (lines_of (drop at bytes)) ≡ with_start n (start_line line) (rules_from weighted (n + 1) (lines_of (drop (end + 1) bytes))) (grammar_from weighted (n + 1) (lines_of (drop (end + 1) bytes)))
-split weighted n bytes at end line next =
-    let p : ℕ = prefix_len not_feed (drop at bytes) in
-    let long = length-drop at bytes in
-    let s : lines_of (drop at bytes) ≡ take p (drop at bytes) ∷ lines_of (drop (p + 1) (drop at bytes)) = lines_step (drop at bytes) (omega (arith, next.more)) in
-    let e : at + (p + 1) ≡ end + 1 = omega (arith, next.ends, next.long) in
+line_there : (weighted : Bool) (n at : ℕ) (bytes : List ℕ) (line : Line) → IsNextLine bytes n at line → grammar_from weighted n (lines_of (drop at bytes)) ≡ with_start n (start_line (slice_range bytes line.start line.end)) (rules_from weighted (n + 1) (lines_of (drop line.next bytes))) (grammar_from weighted (n + 1) (lines_of (drop line.next bytes)))
+line_there weighted n at bytes line is =
     let m : suc n ≡ n + 1 = omega arith in
-    ap (grammar_from weighted n) s
-    ∙ ap (λ (x : List ℕ). with_start n (start_line x) (rules_from weighted (suc n) (lines_of (drop (p + 1) (drop at bytes)))) (grammar_from weighted (suc n) (lines_of (drop (p + 1) (drop at bytes))))) (sym next.is)
-    ∙ ap (λ (x : List ℕ). with_start n (start_line line) (rules_from weighted (suc n) (lines_of x)) (grammar_from weighted (suc n) (lines_of x))) (drop-drop (p + 1) at bytes ∙ ap (λ (k : ℕ). drop k bytes) e)
-    ∙ ap (λ (k : ℕ). with_start n (start_line line) (rules_from weighted k (lines_of (drop (end + 1) bytes))) (grammar_from weighted k (lines_of (drop (end + 1) bytes)))) m
+    ap (grammar_from weighted n) is.lines
+    ∙ ap (λ (k : ℕ). with_start n (start_line (slice_range bytes line.start line.end)) (rules_from weighted k (lines_of (drop line.next bytes))) (grammar_from weighted k (lines_of (drop line.next bytes)))) m
 
 -- no start so far
 pub record Waits (before names : List (List ℕ)) (bytes : List ℕ) (at n : ℕ) : Type 0 where
   pub read : (weighted : Bool) → grammar_from weighted n (lines_of (drop at bytes)) ≡ grammar_from weighted 1 (lines_of bytes)
   pub same : names ≡ before
 
-pub waits_on : (z a b : List (List ℕ)) (bytes : List ℕ) (at end n : ℕ) (line : List ℕ) → Next bytes at end line → IsStartLine a b (Ok false) (start_line line) → Waits z a bytes at n → Waits z b bytes (end + 1) (n + 1)
-waits_on z a b bytes at end n line next (none, same) w = record {
-  read = λ weighted. sym (split weighted n bytes at end line next ∙ ap (λ r. with_start n r (rules_from weighted (n + 1) (lines_of (drop (end + 1) bytes))) (grammar_from weighted (n + 1) (lines_of (drop (end + 1) bytes)))) none) ∙ w.read weighted;
+pub waits_on : (z a b : List (List ℕ)) (bytes : List ℕ) (at n : ℕ) (line : Line) (text : List ℕ) (found : Bool) → IsNextLine bytes n at line → text ≡ slice_range bytes line.start line.end → found ≡ false → IsStartLine a b (Ok found) (start_line text) → Waits z a bytes at n → Waits z b bytes line.next (n + 1)
+waits_on z a b bytes at n line text true next is e h w = cc
+waits_on z a b bytes at n line text false next is e (none, same) w = record {
+  read = λ weighted. sym (line_there weighted n at bytes line next ∙ ap (λ r. with_start n r (rules_from weighted (n + 1) (lines_of (drop line.next bytes))) (grammar_from weighted (n + 1) (lines_of (drop line.next bytes)))) (sym (ap start_line is) ∙ none)) ∙ w.read weighted;
   same = same ∙ w.same;
 }
 
-pub begins : (z a b : List (List ℕ)) (bytes : List ℕ) (at end n : ℕ) (line : List ℕ) (begun : Begun) → Next bytes at end line → begun ≡ record { at = end + 1; number = n + 1 } → end + 1 ≤ length bytes + 1 → n + 1 ≤ end + 1 + 1 → IsStartLine a b (Ok true) (start_line line) → Waits z a bytes at n → Began bytes z b begun
-begins z a b bytes at end n line begun next is place few (start, some, adds) w =
-    subst (λ (g : Begun). Began bytes z b g) (sym is) (record {
-      start = start;
-      read = λ weighted. sym (w.read weighted) ∙ split weighted n bytes at end line next ∙ ap (λ r. with_start n r (rules_from weighted (n + 1) (lines_of (drop (end + 1) bytes))) (grammar_from weighted (n + 1) (lines_of (drop (end + 1) bytes)))) some;
-      adds = subst (λ (x : List (List ℕ)). Adds x start b) w.same adds;
-      place = place;
-      few = few;
-    })
+pub begins : (z a b : List (List ℕ)) (bytes : List ℕ) (at n : ℕ) (line : Line) (text : List ℕ) (found : Bool) → IsNextLine bytes n at line → text ≡ slice_range bytes line.start line.end → found ≡ true → n ≤ at + 1 → IsStartLine a b (Ok found) (start_line text) → Waits z a bytes at n → Began bytes z b (record { at = line.next; number = n + 1 })
+begins z a b bytes at n line text false next is e few h w = cc
+begins z a b bytes at n line text true next is e few (start, some, adds) w = record {
+  start = start;
+  read = λ weighted. sym (w.read weighted) ∙ line_there weighted n at bytes line next ∙ ap (λ r. with_start n r (rules_from weighted (n + 1) (lines_of (drop line.next bytes))) (grammar_from weighted (n + 1) (lines_of (drop line.next bytes)))) (sym (ap start_line is) ∙ some);
+  adds = subst (λ (x : List (List ℕ)). Adds x start b) w.same adds;
+  place = next.ahead;
+  few = omega (arith, few, next.goes_on);
+}
 
-pub start_failed : (z a b : List (List ℕ)) (bytes : List ℕ) (at end n : ℕ) (line : List ℕ) (error : RuleError) (r : FileError) → Next bytes at end line → r ≡ file_error_of n error → IsStartLine a b (Err error) (start_line line) → Waits z a bytes at n → IsBegun bytes z b (Err r)
-start_failed z a b bytes at end n line (rule_errors.Fault kind) r next e h w =
-    subst (λ (x : FileError). IsBegun bytes z b (Err x)) (sym e)
-    (λ weighted. sym (w.read weighted) ∙ split weighted n bytes at end line next ∙ ap (λ r. with_start n r (rules_from weighted (n + 1) (lines_of (drop (end + 1) bytes))) (grammar_from weighted (n + 1) (lines_of (drop (end + 1) bytes)))) h)
-start_failed z a b bytes at end n line rule_errors.OutOfMemory r next e h w = subst (λ (x : FileError). IsBegun bytes z b (Err x)) (sym e) tt
+failed_as : (z a b : List (List ℕ)) (bytes : List ℕ) (at n m : ℕ) (line : Line) (text : List ℕ) (error : LineError) → n ≡ m → IsNextLine bytes n at line → text ≡ slice_range bytes line.start line.end → IsStartLine a b (Err error) (start_line text) → Waits z a bytes at n → IsBegun bytes z b (Err (file_error_of m error))
+failed_as z a b bytes at n m line text (line_errors.Fault kind) e next is h w =
+    λ weighted. sym (w.read weighted) ∙ line_there weighted n at bytes line next
+    ∙ ap (λ r. with_start n r (rules_from weighted (n + 1) (lines_of (drop line.next bytes))) (grammar_from weighted (n + 1) (lines_of (drop line.next bytes)))) (sym (ap start_line is) ∙ h)
+    ∙ ap (λ (k : ℕ). Err (fault_at k kind)) e
+failed_as z a b bytes at n m line text line_errors.OutOfMemory e next is h w = tt
 
-pub no_start : (z a : List (List ℕ)) (bytes : List ℕ) (at n : ℕ) → length bytes ≤ at → Waits z a bytes at n → (weighted : Bool) → grammar_from weighted 1 (lines_of bytes) ≡ Err (fault_at 1 kinds.NoStart)
-no_start z a bytes at n h w = λ weighted. sym (w.read weighted) ∙ ap (λ (x : List ℕ). grammar_from weighted n (lines_of x)) (drop_all at bytes h)
+pub start_failed : (z a b : List (List ℕ)) (bytes : List ℕ) (at n : ℕ) (line : Line) (text : List ℕ) (error : LineError) (r : ReadError) → IsNextLine bytes n at line → text ≡ slice_range bytes line.start line.end → r ≡ file_error_of line.number error → IsStartLine a b (Err error) (start_line text) → Waits z a bytes at n → IsBegun bytes z b (Err r)
+start_failed z a b bytes at n line text error r next is e h w =
+    subst (λ (x : ReadError). IsBegun bytes z b (Err x)) (sym e) (failed_as z a b bytes at n line.number line text error (sym next.numbered) next is h w)
+
+pub no_start : (z a : List (List ℕ)) (bytes : List ℕ) (at n : ℕ) → at ≡ length bytes → Waits z a bytes at n → (weighted : Bool) → grammar_from weighted 1 (lines_of bytes) ≡ Err (fault_at 1 kinds.NoStart)
+no_start z a bytes at n h w = λ weighted. sym (w.read weighted) ∙ ap (λ (x : List ℕ). grammar_from weighted n (lines_of x)) (drop_all at bytes (omega arith))
 
 -- the whole file
-pub whole_read : (weighted : Bool) (z a b t : List (List ℕ)) (bytes : List ℕ) (begun : Begun) (r : Result (Vec RawRule) FileError) → Began bytes z a begun → IsRawRules a b t r (rules_from weighted begun.number (lines_of (drop begun.at bytes))) → ReadsGrammar z b t r (grammar_of weighted bytes)
+pub whole_read : (weighted : Bool) (z a b t : List (List ℕ)) (bytes : List ℕ) (begun : Begun) (r : Result RawRules ReadError) → Began bytes z a begun → IsRawFile a b t r (rules_from weighted begun.number (lines_of (drop begun.at bytes))) → ReadsRaw z b t r (grammar_of weighted bytes)
 unfolding grammar_of
-whole_read weighted z a b t bytes begun (Ok rules) g (lines, read, are, added) = record {
+whole_read weighted z a b t bytes begun (Ok raw) g (lines, read, are, added) = record {
   start = g.start;
   lines = lines;
   read = g.read weighted ∙ ap (started g.start) read;
   rules_are = are;
   added = (a, g.adds, added);
 }
-whole_read weighted z a b t bytes begun (Err (errors.Fault line kind)) g h = g.read weighted ∙ ap (started g.start) h
+whole_read weighted z a b t bytes begun (Err (errors.Fault fault)) g h = g.read weighted ∙ ap (started g.start) h
 whole_read weighted z a b t bytes begun (Err errors.OutOfMemory) g h = tt
 
-pub whole_failed : (weighted : Bool) (z a t : List (List ℕ)) (bytes : List ℕ) (error : FileError) → IsBegun bytes z a (Err error) → ReadsGrammar z a t (Err error) (grammar_of weighted bytes)
+pub whole_failed : (weighted : Bool) (z a t : List (List ℕ)) (bytes : List ℕ) (error : ReadError) → IsBegun bytes z a (Err error) → ReadsRaw z a t (Err error) (grammar_of weighted bytes)
 unfolding grammar_of
-whole_failed weighted z a t bytes (errors.Fault line kind) h = h weighted
+whole_failed weighted z a t bytes (errors.Fault fault) h = h weighted
 whole_failed weighted z a t bytes errors.OutOfMemory h = tt

@@ -1,27 +1,27 @@
 -- What a rule line holds, by what was found in it.
-use Rattle.std.proofs.Common.{◌≡◌, ℕ, ◌+◌, ◌-◌, ◌<◌, ◌≤◌, List, [], ◌∷◌, ◌++◌, length, get_or, take, drop, refl, ap, sym, ◌∙◌, subst, arith, Option, Bool, true, false, zero, suc}
-use Rattle.std.specs.Prelude.{Some, None, Result, Ok, Err, option_map, slice_get, map, reverse, nat_lt, cond, if◌then◌else◌, IsTrue, Contains}
+use Rattle.std.proofs.Common.{◌≡◌, ℕ, ◌-◌, ◌<◌, ◌≤◌, List, [], ◌∷◌, length, take, drop, refl, ap, sym, ◌∙◌, subst, arith, Option, Bool, true, false}
+use Rattle.std.specs.Prelude.{Some, None, Ok, Err, map, nat_lt, cond}
 use Rattle.std.specs.List.{All}
 use Rattle.std.proofs.lemmas.List.{length-map, take-map, length-reverse}
 use Rattle.std.proofs.lemmas.List.Elements.{All-drop, All-take}
 use Rattle.std.proofs.lemmas.Bool.Decides.{nat_tests}
 use Rattle.tib_lex.specs.Grammar.{Word}
-use Rattle.tib_lex.specs.Line.{word_at, words_at, words_of, text_of, Lies}
+use Rattle.tib_lex.specs.Line.{word_at, words_at, words_of, Lies}
 use Rattle.tib_lex.specs.declared.token.Token.{Token}
 use Rattle.tib_tree.specs.Written.{Item}
 use Rattle.tib_tree.specs.Machine.{nodes_of}
 use Rattle.tib_tree.specs.Shape.{items_back, item_at}
 use Rattle.tib_tree.specs.declared.shape.Place.{Place}
-use Rattle.tib_grammar_file.specs.Rule.{has_dot, Parts, parts, weight_in, weight_size, front_of, with_nodes, right_parts, plain_parts, head_of, parts_with, parts_of, rule_line, rule_in, good_parts, with_cost, few_nodes, rule_line_of, RuleLine}
-use Rattle.tib_grammar_file.specs.Found.{text_at, WeightLies, left_in, found_parts, FoundIn, FoundLies, IsCost}
-use Rattle.tib_grammar_file.specs.Value.{IsRuleLine}
-use Rattle.tib_grammar_file.specs.Raw.{IsRawLine}
+use Rattle.tib_grammar_file.specs.Rule.{has_dot, Parts, parts, weight_in, weight_size, front_of, with_nodes, right_parts, plain_parts, head_of, parts_with, parts_of, rule_line, good_parts, with_cost, rule_line_of}
+use Rattle.tib_grammar_file.specs.Found.{text_at, found_parts, FoundIn, FoundLies, IsCost}
+use Rattle.tib_grammar_file.specs.Raw.{AddsLine}
+use Rattle.tib_grammar_file.specs.declared.raw.RawRules.{RawRules}
 use Rattle.tib_grammar_file.specs.declared.rule.Found.{Found}
-use Rattle.tib_grammar_file.specs.declared.rule.RuleError.{RuleError}
-use Rattle.tib_grammar_file.specs.declared.rule.RuleError.TheVariants as errors
+use Rattle.tib_lex.specs.declared.fault.LineError.{LineError}
+use Rattle.tib_lex.specs.declared.fault.LineError.TheVariants as errors
 use Rattle.tib_grammar_file.specs.Weight.{cost_of}
-use Rattle.tib_grammar_file.specs.declared.rule.FaultKind.{FaultKind}
-use Rattle.tib_grammar_file.specs.declared.rule.FaultKind.TheVariants as kinds
+use Rattle.tib_lex.specs.declared.fault.FaultKind.{FaultKind}
+use Rattle.tib_lex.specs.declared.fault.FaultKind.TheVariants as kinds
 
 pub no_head : (words : List Word) → head_of words ≡ None → parts_of words ≡ None
 unfolding parts_of
@@ -94,7 +94,7 @@ no_rule_line weighted line ts us s = line_parts weighted line ts us None s
 pub bad_cost_line : (weighted : Bool) (line : List ℕ) (ts us : List Token) (p : Parts) (kind : FaultKind) → SomeLine line ts us (Some p) → cost_of weighted p.weight ≡ Err kind → rule_line weighted line ≡ Err kind
 bad_cost_line weighted line ts us p kind s e = line_parts weighted line ts us (Some p) s ∙ ap (with_cost p.left p.nodes) e
 
-back_long : (line : List ℕ) (places : List Place) → length (items_back line places) ≡ length places
+pub back_long : (line : List ℕ) (places : List Place) → length (items_back line places) ≡ length places
 back_long line places = length-reverse (map (item_at line) places) ∙ length-map places (item_at line)
 
 chosen : {A : Type 0} (n m : ℕ) (x y : A) → n ≡ m → (m ≤ 10000 → cond (nat_lt 10000 n) x y ≡ y) × (10000 < m → cond (nat_lt 10000 n) x y ≡ x)
@@ -108,36 +108,12 @@ pub good_rule_line : (weighted : Bool) (line : List ℕ) (ts us : List Token) (l
 good_rule_line weighted line ts us left places w cost s e h =
     line_parts weighted line ts us _ s ∙ ap (with_cost left (items_back line places)) e ∙ (chosen (length (items_back line places)) (length places) _ _ (back_long line places)).0 h
 
--- the parts' left name is the line's
-parts_head : (words : List Word) (o : Option (List ℕ × List Word)) (p : Parts) → head_of words ≡ o → parts_with o ≡ Some p → option_map (λ h. h.0) o ≡ Some p.left
-parts_head words None p e h = let bad : None ≡ Some p = h in cc
-parts_head words (Some x) p e h = by (has_dot x.0) h
-  where
-    with_left : (left : List ℕ) (w : Option (List ℕ)) (o : Option (List Item)) (p : Parts) → with_nodes left w o ≡ Some p → Some left ≡ Some p.left
-    with_left left w None p h = let bad : None ≡ Some p = h in cc
-    with_left left w (Some is) p h = let same : parts left is w ≡ p = cc in ap (λ (q : Parts). Some q.left) same
-    by : (b : Bool) → plain_parts b x.0 x.1 ≡ Some p → Some x.0 ≡ Some p.left
-    by true h = let bad : None ≡ Some p = h in cc
-    by false h = with_left x.0 (weight_in x.1) (nodes_of (front_of (weight_in x.1) x.1)) p h
-
-left_of_parts : (words : List Word) (p : Parts) → parts_of words ≡ Some p → left_in (Some words) ≡ Some p.left
-unfolding parts_of
-left_of_parts words p e = parts_head words (head_of words) p refl e
-
-pub left_named : (line : List ℕ) (ts us : List Token) (p : Parts) → SomeLine line ts us (Some p) → left_in (words_of line) ≡ Some p.left
-left_named line ts us p s =
-    ap left_in s.words ∙ left_of_parts (words_at line ts) p (ap (λ (xs : List Token). parts_of (words_at line xs)) (sym s.same) ∙ s.read)
-
 pub some_found : (line : List ℕ) (ts us : List Token) (places : List Place) (o p : Option Found) → words_of line ≡ Some (words_at line ts) → 0 < length ts → us ≡ ts → parts_of (words_at line us) ≡ found_parts line places o → o ≡ p → SomeLine line ts us (found_parts line places p)
 some_found line ts us places o p w n e r s = record { words = w; some = n; same = e; read = r ∙ ap (found_parts line places) s }
 
 pub found_lies : (long : ℕ) (places : List Place) (o : Option Found) (f : Found) → FoundLies long places o → o ≡ Some f → FoundIn long places f
 found_lies long places o f h e = subst (λ (p : Option Found). FoundLies long places p) e h
 
-pub cost_failed : (weighted : Bool) (names labels : List (List ℕ)) (line : List ℕ) (ts us : List Token) (places : List Place) (f : Found) (error : RuleError) → SomeLine line ts us (found_parts line places (Some f)) → IsCost (Err error) (cost_of weighted (text_at line f.weight)) → IsRuleLine names labels (Err error) (rule_line weighted line)
-cost_failed weighted names labels line ts us places f (errors.Fault kind) s h = bad_cost_line weighted line ts us _ kind s h
-cost_failed weighted names labels line ts us places f errors.OutOfMemory s h = tt
-
-pub raw_cost_failed : (weighted : Bool) (before names texts : List (List ℕ)) (line : List ℕ) (ts us : List Token) (places : List Place) (f : Found) (error : RuleError) → SomeLine line ts us (found_parts line places (Some f)) → IsCost (Err error) (cost_of weighted (text_at line f.weight)) → IsRawLine before names texts (Err error) (rule_line weighted line)
-raw_cost_failed weighted before names texts line ts us places f (errors.Fault kind) s h = bad_cost_line weighted line ts us _ kind s h
-raw_cost_failed weighted before names texts line ts us places f errors.OutOfMemory s h = tt
+pub cost_failed : (weighted : Bool) (before names texts : List (List ℕ)) (old now : RawRules) (line : List ℕ) (ts us : List Token) (places : List Place) (f : Found) (error : LineError) → SomeLine line ts us (found_parts line places (Some f)) → IsCost (Err error) (cost_of weighted (text_at line f.weight)) → AddsLine before names texts old now (Err error) (rule_line weighted line)
+cost_failed weighted before names texts old now line ts us places f (errors.Fault kind) s h = bad_cost_line weighted line ts us _ kind s h
+cost_failed weighted before names texts old now line ts us places f errors.OutOfMemory s h = tt

@@ -1,13 +1,13 @@
 -- The parts of tokens are those of the rule that they spell.
-use Rattle.std.proofs.Common.{◌≡◌, ℕ, ◌+◌, ◌-◌, ◌<◌, ◌≤◌, List, [], ◌∷◌, ◌++◌, length, take, drop, refl, ap, sym, ◌∙◌, subst, arith, append-nil, append_assoc, Option, Bool, true, false, zero, suc}
+use Rattle.std.proofs.Common.{◌≡◌, ℕ, ◌-◌, ◌≤◌, List, [], ◌∷◌, ◌++◌, length, take, drop, refl, ap, sym, ◌∙◌, subst, arith, append-nil, Option, Bool, true, false, zero, suc}
 use Rattle.std.specs.Prelude.{Some, None}
-use Rattle.std.proofs.lemmas.List.{length-append, take-append-drop, length-drop}
-use Rattle.std.proofs.Math.Seq.{drop-append_seam, take-append_seam, drop-nil}
+use Rattle.std.proofs.lemmas.List.{length-append, take-append-drop}
+use Rattle.std.proofs.Math.Seq.{drop-append_seam, take-append_seam}
 use Rattle.tib_lex.specs.Grammar.{Word, open_, close, hash, arrow, name, label}
 use Rattle.tib_tree.specs.Written.{Written, end, leaf, head, word_for, spell, count, items, Item}
-use Rattle.tib_tree.specs.Machine.{nodes_of, IsTree}
+use Rattle.tib_tree.specs.Machine.{nodes_of}
 use Rattle.tib_tree.proofs.Read.{tree_back, tree_forth}
-use Rattle.tib_grammar_file.specs.Rule.{has_dot, weight_words, Parts, parts, SpellsRule, last_two, weight_in, weight_size, front_of, with_nodes, right_parts, plain_parts, head_of, parts_with, parts_of}
+use Rattle.tib_grammar_file.specs.Rule.{has_dot, weight_words, Parts, parts, SpellsRule, last_two, weight_in, front_of, with_nodes, right_parts, plain_parts, head_of, parts_with, parts_of}
 
 -- trees have no hash
 abbrev HasNoHash : List Word → Type 0

@@ -1,12 +1,13 @@
 -- How a weight is read.
-use Rattle.std.proofs.Common.{◌≡◌, ℕ, ◌+◌, ◌-◌, ◌*◌, ◌<◌, ◌≤◌, List, [], ◌∷◌, length, get_or, drop, drop-cons, add-one, refl, ap, sym, ◌∙◌, subst, arith, min, Option, Bool, true, false, zero, suc}
-use Rattle.std.specs.Prelude.{Some, None, Result, Ok, Err, option_map, nat_lt, ◌==◌, ◌&&◌, if◌then◌else◌, cond}
+use Rattle.std.proofs.Common.{◌≡◌, ℕ, ◌+◌, ◌-◌, ◌*◌, ◌<◌, ◌≤◌, List, [], ◌∷◌, length, get_or, drop, drop-cons, add-one, refl, ap, sym, ◌∙◌, arith, min, Option, Bool, true, false}
+use Rattle.std.specs.Prelude.{Some, None, Result, Ok, Err, option_map, nat_lt, nat_le, ◌==◌, ◌&&◌, cond}
 use Rattle.std.specs.List.{list_all}
 use Rattle.std.proofs.lemmas.List.{drop_all}
 use Rattle.std.proofs.lemmas.Bool.Decides.{nat_tests}
+use Rattle.tib_cost.specs.Semiring.{cut}
 use Rattle.tib_grammar_file.specs.Weight.{is_digit, is_zero_digit, whole_from, whole, small, cost_of}
-use Rattle.tib_grammar_file.specs.declared.rule.FaultKind.{FaultKind}
-use Rattle.tib_grammar_file.specs.declared.rule.FaultKind.TheVariants as kinds
+use Rattle.tib_lex.specs.declared.fault.FaultKind.{FaultKind}
+use Rattle.tib_lex.specs.declared.fault.FaultKind.TheVariants as kinds
 
 pub record Value (text : List ℕ) (value at : ℕ) : Type 0 where
   pub sum : ℕ
@@ -74,8 +75,30 @@ some_large n (Some m) e h =
 pub cost_none : (w : Bool) (text : List ℕ) → w ≡ true → None ≡ option_map (λ n. min n 1000000000000001) (whole text) → Err kinds.NotWhole ≡ cost_of w (Some text)
 cost_none w text e h = weighed w text _ e (none_small (whole text) h)
 
-pub cost_some : (w : Bool) (text : List ℕ) (n : ℕ) → w ≡ true → Some n ≡ option_map (λ n. min n 1000000000000001) (whole text) → n < 1000000000000001 → Ok n ≡ cost_of w (Some text)
+cost_some : (w : Bool) (text : List ℕ) (n : ℕ) → w ≡ true → Some n ≡ option_map (λ n. min n 1000000000000001) (whole text) → n < 1000000000000001 → Ok n ≡ cost_of w (Some text)
 cost_some w text n e h k = weighed w text _ e (some_small n (whole text) h k)
 
-pub cost_large : (w : Bool) (text : List ℕ) (n : ℕ) → w ≡ true → Some n ≡ option_map (λ n. min n 1000000000000001) (whole text) → 1000000000000001 ≤ n → Err kinds.WeightTooLarge ≡ cost_of w (Some text)
+cost_large : (w : Bool) (text : List ℕ) (n : ℕ) → w ≡ true → Some n ≡ option_map (λ n. min n 1000000000000001) (whole text) → 1000000000000001 ≤ n → Err kinds.WeightTooLarge ≡ cost_of w (Some text)
 cost_large w text n e h k = weighed w text _ e (some_large n (whole text) h k)
+
+cut_some : (b : Bool) (n c : ℕ) → cond b (Some n) None ≡ Some c → (b ≡ true) × (n ≡ c)
+cut_some true n c e = (refl, cc)
+cut_some false n c e = let bad : None ≡ Some c = e in cc
+
+cut_none : (b : Bool) (n : ℕ) → cond b (Some n) None ≡ None → b ≡ false
+cut_none true n e = let bad : Some n ≡ None = e in cc
+cut_none false n e = refl
+
+pub cost_made : (w : Bool) (text : List ℕ) (n c : ℕ) (r : Option ℕ) → w ≡ true → Some n ≡ option_map (λ n. min n 1000000000000001) (whole text) → r ≡ cut n → r ≡ Some c → Ok c ≡ cost_of w (Some text)
+cost_made w text n c r e h k is =
+    let b = cut_some (nat_le n 1000000000000000) n c (sym k ∙ is) in
+    let t : nat_le n 1000000000000000 ≡ true = b.0 in
+    let same : n ≡ c = b.1 in
+    let m : n < 1000000000000001 = grind (arith, nat_tests) in
+    ap (λ (x : ℕ). Ok x) (sym same) ∙ cost_some w text n e h m
+
+pub cost_over : (w : Bool) (text : List ℕ) (n : ℕ) (r : Option ℕ) → w ≡ true → Some n ≡ option_map (λ n. min n 1000000000000001) (whole text) → r ≡ cut n → r ≡ None → Err kinds.WeightTooLarge ≡ cost_of w (Some text)
+cost_over w text n r e h k is =
+    let t : nat_le n 1000000000000000 ≡ false = cut_none (nat_le n 1000000000000000) n (sym k ∙ is) in
+    let m : 1000000000000001 ≤ n = grind (arith, nat_tests) in
+    cost_large w text n e h m

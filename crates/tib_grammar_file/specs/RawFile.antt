@@ -1,25 +1,14 @@
 -- What was read of a file's rules.
-use Rattle.std.specs.Prelude.{◌≡◌, ℕ, List, [], ◌∷◌, map, Result, Ok, Err}
-use Rattle.std.specs.Global.{Vec}
-use Rattle.tib_grammar_file.specs.Each.{Each}
+use Rattle.std.specs.Prelude.{◌≡◌, ℕ, List, map, Result, Ok, Err}
+use Rattle.tib_lex.specs.declared.fault.FileFault.{FileFault}
+use Rattle.tib_lex.specs.declared.fault.ReadError.{ReadError}
+use Rattle.tib_lex.specs.declared.fault.ReadError.TheVariants as errors
 use Rattle.tib_grammar_file.specs.Rule.{RuleLine}
-use Rattle.tib_grammar_file.specs.Raw.{IsRawRule, AddsAll}
-use Rattle.tib_grammar_file.specs.GrammarText.{FaultAt, fault_at}
-use Rattle.tib_grammar_file.specs.declared.rule.FaultKind.{FaultKind}
-use Rattle.tib_grammar_file.specs.declared.rule.RuleError.{RuleError}
-use Rattle.tib_grammar_file.specs.declared.rule.RuleError.TheVariants as rule_errors
-use Rattle.tib_grammar_file.specs.declared.raw.RawRule.{RawRule}
-use Rattle.tib_grammar_file.specs.declared.raw.FileError.{FileError}
-use Rattle.tib_grammar_file.specs.declared.raw.FileError.TheVariants as errors
+use Rattle.tib_grammar_file.specs.Raw.{AreRawRules}
+use Rattle.tib_grammar_file.specs.GrammarText.{AddsAll, left_of}
+use Rattle.tib_grammar_file.specs.declared.raw.RawRules.{RawRules}
 
-abbrev pub left_of : RuleLine → List ℕ
-left_of line = line.left
-
-abbrev pub IsRawRules : List (List ℕ) → List (List ℕ) → List (List ℕ) → Result (Vec RawRule) FileError → Result (List RuleLine) (FaultAt FaultKind) → Type 0
-IsRawRules before names texts (Ok rules) wanted = (lines : List RuleLine) × (wanted ≡ Ok lines) × Each (IsRawRule names texts) rules.items lines × AddsAll before (map left_of lines) names
-IsRawRules before names texts (Err (errors.Fault line kind)) wanted = wanted ≡ Err (fault_at line kind)
-IsRawRules before names texts (Err errors.OutOfMemory) wanted = Unit {0}
-
-abbrev pub file_error_of : ℕ → RuleError → FileError
-file_error_of n (rule_errors.Fault kind) = errors.Fault n kind
-file_error_of n rule_errors.OutOfMemory = errors.OutOfMemory
+abbrev pub IsRawFile : List (List ℕ) → List (List ℕ) → List (List ℕ) → Result RawRules ReadError → Result (List RuleLine) FileFault → Type 0
+IsRawFile before names texts (Ok raw) wanted = (lines : List RuleLine) × (wanted ≡ Ok lines) × AreRawRules names texts raw.rules.items raw.nodes.items lines × AddsAll before (map left_of lines) names
+IsRawFile before names texts (Err (errors.Fault fault)) wanted = wanted ≡ Err fault
+IsRawFile before names texts (Err errors.OutOfMemory) wanted = Unit {0}

@@ -1,14 +1,13 @@
 -- A rule line of a grammar file.
-use Rattle.std.specs.Prelude.{◌≡◌, ℕ, ◌+◌, ◌-◌, Bool, true, false, ◌==◌, nat_lt, List, [], ◌∷◌, ◌++◌, length, take, drop, Option, Some, None, Result, Ok, Err, if◌then◌else◌, slice_get, Contains}
+use Rattle.std.specs.Prelude.{◌≡◌, ℕ, ◌-◌, Bool, true, false, ◌==◌, nat_lt, List, [], ◌∷◌, ◌++◌, length, take, drop, Option, Some, None, Result, Ok, Err, if◌then◌else◌}
 use Rattle.std.specs.List.{list_any}
-use Rattle.tib_lex.specs.Grammar.{Word, open_, close, hash, arrow, name, label}
-use Rattle.tib_lex.specs.Line.{words_of, word_at, words_at, text_of}
-use Rattle.tib_lex.specs.declared.token.Token.{Token}
+use Rattle.tib_lex.specs.Grammar.{Word, hash, arrow, name}
+use Rattle.tib_lex.specs.Line.{words_of}
 use Rattle.tib_tree.specs.Written.{Written, spell, count, items, Item}
 use Rattle.tib_tree.specs.Machine.{nodes_of}
 use Rattle.tib_grammar_file.specs.Weight.{cost_of}
-use Rattle.tib_grammar_file.specs.declared.rule.FaultKind.{FaultKind}
-use Rattle.tib_grammar_file.specs.declared.rule.FaultKind.TheVariants as kinds
+use Rattle.tib_lex.specs.declared.fault.FaultKind.{FaultKind}
+use Rattle.tib_lex.specs.declared.fault.FaultKind.TheVariants as kinds
 
 abbrev pub has_dot : List ℕ → Bool
 has_dot text = list_any (λ b. b == 46) text

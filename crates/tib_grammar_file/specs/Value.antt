@@ -1,15 +1,12 @@
--- The value of a rule line, over the tables of states and labels.
-use Rattle.std.specs.Prelude.{◌≡◌, ℕ, Bool, true, false, List, [], ◌∷◌, Option, Some, None, Result, Ok, Err, slice_get, Contains}
+-- What the nodes of a rule stand for, over the tables of states and labels.
+use Rattle.std.specs.Prelude.{◌≡◌, ℕ, false, List, Some, None, slice_get, Contains}
+use Rattle.tib_lex.specs.Lists.{Along}
 use Rattle.tib_tree.specs.Written.{Item}
 use Rattle.tib_tree.specs.Nodes.{rank_of}
-use Rattle.tib_grammar_file.specs.Each.{Each}
+use Rattle.tib_tree.specs.Trees.{preorder_of}
+use Rattle.tib_grammar.specs.Sides.{Symbol, label, hole}
+use Rattle.tib_grammar.specs.declared.Rule.{Rule}
 use Rattle.tib_grammar_file.specs.Rule.{RuleLine}
-use Rattle.tib_grammar_file.specs.declared.rule.SideItem.{SideItem}
-use Rattle.tib_grammar_file.specs.declared.rule.SideItem.TheVariants.{Label, State}
-use Rattle.tib_grammar_file.specs.declared.rule.Rule.{Rule}
-use Rattle.tib_grammar_file.specs.declared.rule.FaultKind.{FaultKind}
-use Rattle.tib_grammar_file.specs.declared.rule.RuleError.{RuleError}
-use Rattle.tib_grammar_file.specs.declared.rule.RuleError.TheVariants as errors
 
 -- an unquoted leaf that is the name of a state
 pub record IsStateLeaf (names : List (List ℕ)) (i : Item) : Type 0 where
@@ -18,17 +15,16 @@ pub record IsStateLeaf (names : List (List ℕ)) (i : Item) : Type 0 where
   pub held : Contains names i.text
 
 -- an unquoted leaf is a state if it is the name of one, and all else is a label
-abbrev pub IsSide : List (List ℕ) → List (List ℕ) → SideItem → Item → Type 0
-IsSide names labels (State q) i = IsStateLeaf names i × (slice_get names q ≡ Some i.text)
-IsSide names labels (Label f rank) i = (IsStateLeaf names i → ⊥) × (slice_get labels f ≡ Some i.text) × (rank ≡ rank_of i.kids)
+abbrev pub IsSymbol : List (List ℕ) → List (List ℕ) → Symbol ℕ ℕ → Item → Type 0
+IsSymbol names labels (hole q) i = IsStateLeaf names i × (slice_get names q ≡ Some i.text)
+IsSymbol names labels (label f) i = (IsStateLeaf names i → ⊥) × (slice_get labels f ≡ Some i.text)
 
-pub record IsRule (names labels : List (List ℕ)) (rule : Rule) (line : RuleLine) : Type 0 where
+-- a symbol with its number of children stands for a node
+abbrev pub IsNode : List (List ℕ) → List (List ℕ) → Symbol ℕ ℕ × ℕ → Item → Type 0
+IsNode names labels p i = IsSymbol names labels p.0 i × (p.1 ≡ rank_of i.kids)
+
+-- a rule stands for what its line says
+pub record IsRule (names labels : List (List ℕ)) (rule : Rule ℕ) (line : RuleLine) : Type 0 where
   pub left : slice_get names rule.left ≡ Some line.left
-  pub right : Each (IsSide names labels) rule.right.items line.nodes
+  pub right : Along (IsNode names labels) (preorder_of rule.right) line.nodes
   pub cost : rule.cost ≡ line.cost
-
-abbrev pub IsRuleLine : List (List ℕ) → List (List ℕ) → Result (Option Rule) RuleError → Result (Option RuleLine) FaultKind → Type 0
-IsRuleLine names labels (Ok None) wanted = wanted ≡ Ok None
-IsRuleLine names labels (Ok (Some rule)) wanted = (line : RuleLine) × (wanted ≡ Ok (Some line)) × IsRule names labels rule line
-IsRuleLine names labels (Err (errors.Fault kind)) wanted = wanted ≡ Err kind
-IsRuleLine names labels (Err errors.OutOfMemory) wanted = Unit {0}

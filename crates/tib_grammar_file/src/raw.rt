@@ -1,34 +1,44 @@
-// Rules whose leaves are not resolved: which of them are states shows at the end of the file.
+// Rules whose leaves are not told apart: which of them are states shows at the end of the file.
 ghost use Rattle.std.specs.Prelude.{◌≡◌, ◌≤◌, ◌<◌, ◌-◌, ◌+◌, ◌^◌, ℕ, List, [], ◌∷◌, ◌++◌, length, drop, IfOk, IfSome, Some, None, slice_get, All};
 ghost use Rattle.tib_lex.specs.Line.{word_at, text_of, Lies};
-ghost use Rattle.tib_tree.specs.File.{lines_of};
+ghost use Rattle.tib_lex.specs.Lines.{lines_of};
 ghost use Rattle.tib_tree.specs.Grows.{Grows, Adds};
 ghost use Rattle.tib_tree.specs.Shape.{item_at, items_back, PlaceLies};
-ghost use Rattle.tib_grammar_file.specs.Each.{Each};
-ghost use Rattle.tib_grammar_file.specs.GrammarText.{rules_from};
-ghost use Rattle.tib_grammar_file.specs.Raw.{IsRaw, IsRawLine, AddsRaw, PushesRaw};
-ghost use Rattle.tib_grammar_file.specs.RawFile.{IsRawRules, file_error_of};
+ghost use Rattle.tib_grammar_file.specs.Reading.{rules_from};
+ghost use Rattle.tib_grammar_file.specs.Raw.{IsRaw, AddsLine, AddsNodes};
+ghost use Rattle.tib_grammar_file.specs.RawFile.{IsRawFile};
 ghost use Rattle.tib_grammar_file.specs.Rule.{rule_line};
 
-use crate::rule::{FaultKind, RuleError, read_cost, read_parts};
+use crate::rule::{read_cost, read_parts};
 use std::alloc::{AllocError, Global};
-use tib_lex::{Kind, Token, read_text, read_tokens};
-use tib_tree::{Labels, Place, Reader, line_at};
+use tib_cost::Cost;
+use tib_lex::{
+    FaultKind, Kind, LineError, ReadError, Token, file_error, line_bytes, next_line, read_text,
+    read_tokens,
+};
+use tib_tree::{Labels, Place, Reader};
 
 /// A node whose text may be a state's.
 #[derive(Clone, Copy, Debug)]
-pub struct RawItem {
+pub(crate) struct RawItem {
     pub text: u32,
     pub quoted: bool,
     pub kids: Option<u32>,
 }
 
-/// A rule over the texts of its file.
-#[derive(Drop)]
-pub struct RawRule {
+/// A rule over the texts of its file, without its nodes.
+#[derive(Clone, Copy, Debug)]
+pub(crate) struct RawRule {
     pub left: u32,
-    pub right: Vec<RawItem>,
-    pub cost: u64,
+    pub nodes: u32,
+    pub cost: Cost,
+}
+
+/// The rules of a file, and the nodes of each after those of the one before.
+#[derive(Drop)]
+pub(crate) struct RawRules {
+    pub rules: Vec<RawRule>,
+    pub nodes: Vec<RawItem>,
 }
 
 fn is_quoted(place: Place) -> bool
@@ -74,37 +84,37 @@ fn read_item(
     })
 }
 
+// The nodes at some places, which go last.
 fn read_side(
-    alloc: Global,
     line: &[u8],
     places: &[Place],
     texts: &mut Labels,
     text: &mut Vec<u8>,
-) -> Result<Vec<RawItem>, AllocError>
+    nodes: &mut Vec<RawItem>,
+) -> Result<(), AllocError>
     requires { All (PlaceLies (length line.now)) places.now }
-    ensures items { IfOk result (λ is. Each (IsRaw texts.new) is.items (items_back line.now places.now)) }
+    ensures nodes { IfOk result (λ _. AddsNodes texts.new nodes.old.items nodes.new.items (items_back line.now places.now)) }
     ensures grows { Grows texts.old texts.new }
 {
-    let mut items = Vec::new(alloc);
     let mut i = places.len();
     while i > 0 {
         i -= 1;
         let item = read_item(line, places[i], texts, text)?;
-        items.push(item)?;
+        nodes.push(item)?;
     }
-    Ok(items)
+    Ok(())
 }
 
 /// Reads rule lines of a grammar file, with room that is used again for each.
 #[derive(Drop)]
-pub struct RawReader {
+struct RawReader {
     tokens: Vec<Token>,
     reader: Reader,
     text: Vec<u8>,
 }
 
 impl RawReader {
-    pub fn new(alloc: Global) -> RawReader {
+    fn new(alloc: Global) -> RawReader {
         RawReader {
             tokens: Vec::new(alloc),
             reader: Reader::new(alloc),
@@ -112,121 +122,83 @@ impl RawReader {
         }
     }
 
-    /// The rule of a line, if it has tokens. Its left state goes into the table of names.
-    pub fn read(
+    /// Adds the rule of a line, if it has tokens. Its left state goes into the table of names.
+    fn add_line(
         &mut self,
-        alloc: Global,
         weighted: bool,
         line: &[u8],
         names: &mut Labels,
         texts: &mut Labels,
-    ) -> Result<Option<RawRule>, RuleError>
+        raw: &mut RawRules,
+    ) -> Result<(), LineError>
         requires { length line.now ≤ 8388608 }
-        ensures line { IsRawLine names.old names.new texts.new result (rule_line weighted line.now) }
+        ensures line { AddsLine names.old names.new texts.new raw.old raw.new result (rule_line weighted line.now) }
         ensures names { Grows names.old names.new }
         ensures texts { Grows texts.old texts.new }
     {
         if !read_tokens(line, &mut self.tokens)? {
-            return Err(RuleError::Fault(FaultKind::BadToken));
+            return Err(LineError::Fault(FaultKind::BadToken));
         }
         if self.tokens.is_empty() {
-            return Ok(None);
+            return Ok(());
         }
         let found = match read_parts(line, &self.tokens, &mut self.reader, &mut self.text)? {
             Some(found) => found,
-            None => return Err(RuleError::Fault(FaultKind::BadRule)),
+            None => return Err(LineError::Fault(FaultKind::BadRule)),
         };
         let cost = match read_cost(weighted, line, found.weight, &mut self.text) {
             Ok(cost) => cost,
             Err(error) => return Err(error),
         };
-        if self.reader.places.len() > 10000 {
-            return Err(RuleError::Fault(FaultKind::TooManyNodes));
+        let count = self.reader.places.len();
+        if count > 10000 {
+            return Err(LineError::Fault(FaultKind::TooManyNodes));
         }
         let left = read_name(line, found.left, names, &mut self.text)?;
-        let right = read_side(alloc, line, &self.reader.places, texts, &mut self.text)?;
-        Ok(Some(RawRule { left, right, cost }))
-    }
-}
-
-#[derive(Clone, Copy, Debug, PartialEq, Eq)]
-pub enum FileError {
-    Fault { line: u32, kind: FaultKind },
-    OutOfMemory,
-}
-
-pub(crate) fn file_error(line: u32, error: RuleError) -> FileError
-    ensures { result ≡ file_error_of line error }
-{
-    match error {
-        RuleError::Fault(kind) => FileError::Fault { line, kind },
-        RuleError::OutOfMemory => FileError::OutOfMemory,
-    }
-}
-
-fn push(rules: &mut Vec<RawRule>, rule: RawRule) -> Result<(), AllocError>
-    ensures { IfOk result (λ _. rules.new.items ≡ rules.old.items ++ rule ∷ []) }
-{
-    rules.push(rule)?;
-    Ok(())
-}
-
-fn push_rule(rules: &mut Vec<RawRule>, rule: RawRule) -> Result<(), RuleError>
-    ensures { PushesRaw rules.old.items rules.new.items rule result }
-{
-    push(rules, rule)?;
-    Ok(())
-}
-
-// Reads a line, and adds its rule if it has one.
-fn add_rule(
-    alloc: Global,
-    weighted: bool,
-    reader: &mut RawReader,
-    line: &[u8],
-    names: &mut Labels,
-    texts: &mut Labels,
-    rules: &mut Vec<RawRule>,
-) -> Result<(), RuleError>
-    requires { length line.now ≤ 8388608 }
-    ensures line { AddsRaw names.old names.new texts.new rules.old.items rules.new.items result (rule_line weighted line.now) }
-    ensures names { Grows names.old names.new }
-    ensures texts { Grows texts.old texts.new }
-{
-    match reader.read(alloc, weighted, line, names, texts) {
-        Ok(Some(rule)) => push_rule(rules, rule),
-        Ok(None) => Ok(()),
-        Err(e) => Err(e),
+        read_side(
+            line,
+            &self.reader.places,
+            texts,
+            &mut self.text,
+            &mut raw.nodes,
+        )?;
+        let nodes = count as u32;
+        match raw.rules.push(RawRule { left, nodes, cost }) {
+            Ok(()) => Ok(()),
+            Err(_) => Err(LineError::OutOfMemory),
+        }
     }
 }
 
 /// The rules from a place of a file on, where a line of this number begins.
-pub fn read_rules(
+pub(crate) fn read_rules(
     alloc: Global,
     weighted: bool,
     bytes: &[u8],
-    start: usize,
+    start: u32,
     first: u32,
     names: &mut Labels,
     texts: &mut Labels,
-) -> Result<Vec<RawRule>, FileError>
+) -> Result<RawRules, ReadError>
     requires short { length bytes.now ≤ 8388608 }
-    requires place { start ≤ length bytes.now + 1 }
+    requires place { start ≤ length bytes.now }
     requires number { first ≤ start + 1 }
-    ensures rules { IsRawRules names.old names.new texts.new result (rules_from weighted first (lines_of (drop start bytes.now))) }
+    ensures rules { IsRawFile names.old names.new texts.new result (rules_from weighted first (lines_of (drop start bytes.now))) }
 {
     let mut reader = RawReader::new(alloc);
-    let mut rules = Vec::new(alloc);
+    let mut raw = RawRules {
+        rules: Vec::new(alloc),
+        nodes: Vec::new(alloc),
+    };
     let mut at = start;
     let mut number = first;
-    while at < bytes.len() {
-        let line = line_at(bytes, at);
-        match add_rule(alloc, weighted, &mut reader, line, names, texts, &mut rules) {
+    while let Some(line) = next_line(bytes, number, at) {
+        match reader.add_line(weighted, line_bytes(bytes, line), names, texts, &mut raw) {
             Ok(()) => {}
-            Err(error) => return Err(file_error(number, error)),
+            Err(error) => return Err(file_error(line.number, error)),
         }
-        at += line.len() + 1;
+        at = line.next;
         number += 1;
     }
-    Ok(rules)
+    Ok(raw)
 }

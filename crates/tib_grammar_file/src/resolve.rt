@@ -1,17 +1,19 @@
-// Tells states from labels at the leaves of rules, once all names are known.
-ghost use Rattle.std.specs.Prelude.{◌≡◌, ◌≤◌, ◌<◌, ◌-◌, ◌+◌, ℕ, List, length, IfOk, IfSome, Some, None, All};
+// Which leaves are states.
+ghost use Rattle.std.specs.Prelude.{◌≡◌, ◌≤◌, ◌<◌, ◌+◌, ◌^◌, ℕ, List, length, take, drop, IfOk, IfSome, Some, None, slice_get, All};
+ghost use Rattle.tib_lex.specs.Lists.{Along};
 ghost use Rattle.tib_tree.specs.Grows.{Grows};
-ghost use Rattle.tib_tree.specs.Written.{Item};
-ghost use Rattle.tib_grammar_file.specs.Each.{Each};
+ghost use Rattle.tib_tree.specs.Written.{Item as ItemOf};
+ghost use Rattle.tib_grammar.specs.Items.{pair_of, pairs_of};
+ghost use Rattle.tib_tree.specs.Trees.{preorder_of};
 ghost use Rattle.tib_grammar_file.specs.Raw.{IsRaw, IsRawRule};
-ghost use Rattle.tib_grammar_file.specs.Resolve.{IsFoundRaw};
+ghost use Rattle.tib_grammar_file.specs.Resolve.{IsFoundRaw, IsRawTree, IsRawGrammarOf};
 ghost use Rattle.tib_grammar_file.specs.Rule.{RuleLine};
-ghost use Rattle.tib_grammar_file.specs.Value.{IsSide, IsRule};
+ghost use Rattle.tib_grammar_file.specs.Value.{IsNode, IsRule};
 
-use crate::raw::{RawItem, RawRule};
-use crate::rule::{Rule, SideItem};
+use crate::raw::{RawItem, RawRule, RawRules};
 use std::alloc::{AllocError, Global};
-use tib_tree::Labels;
+use tib_grammar::{Item, Rule, Side};
+use tib_tree::{Labels, ShapeError};
 
 // The state that a leaf is.
 fn state_of(item: RawItem, text: &[u8], names: &Labels) -> Option<u32>
@@ -31,32 +33,33 @@ fn resolve_item(
     names: &Labels,
     texts: &Labels,
     labels: &mut Labels,
-) -> Result<SideItem, AllocError>
+) -> Result<Item<u32>, AllocError>
     requires { item.text < length texts.now }
-    ensures item { IfOk result (λ s. (i : Item) → IsRaw texts.now item i → IsSide names.now labels.new s i) }
+    ensures item { IfOk result (λ s. (i : ItemOf) → IsRaw texts.now item i → IsNode names.now labels.new (pair_of s) i) }
     ensures grows { Grows labels.old labels.new }
 {
     let text = texts.text(item.text);
     if let Some(state) = state_of(item, text, names) {
-        return Ok(SideItem::State(state));
+        return Ok(Item::Hole(state));
     }
     let label = labels.intern(text)?;
     let rank = item.kids.unwrap_or(0);
-    Ok(SideItem::Label { label, rank })
+    Ok(Item::Label { label, rank })
 }
 
-fn resolve_side(
+fn resolve_items(
     alloc: Global,
     items: &[RawItem],
     names: &Labels,
     texts: &Labels,
     labels: &mut Labels,
-) -> Result<Vec<SideItem>, AllocError>
+) -> Result<Vec<Item<u32>>, AllocError>
     requires { All (λ r. r.text < length texts.now) items.now }
-    ensures items { IfOk result (λ ss. (is : List Item) → Each (IsRaw texts.now) items.now is → Each (IsSide names.now labels.new) ss.items is) }
+    ensures items { IfOk result (λ ss. (is : List ItemOf) → Along (IsRaw texts.now) items.now is → Along (IsNode names.now labels.new) (pairs_of ss.items) is) }
+    ensures long { IfOk result (λ ss. length ss.items ≡ length items.now) }
     ensures grows { Grows labels.old labels.new }
 {
-    let mut side = Vec::new(alloc);
+    let mut side = Vec::with_capacity(alloc, items.len())?;
     for item in items {
         let resolved = resolve_item(*item, names, texts, labels)?;
         side.push(resolved)?;
@@ -64,22 +67,76 @@ fn resolve_side(
     Ok(side)
 }
 
-/// The rule with its leaves told apart.
-pub fn resolve_rule(
+// The side of nodes that are a tree.
+fn resolve_side(
     alloc: Global,
-    rule: &RawRule,
+    items: &[RawItem],
     names: &Labels,
     texts: &Labels,
     labels: &mut Labels,
-) -> Result<Rule, AllocError>
-    requires { All (λ r. r.text < length texts.now) rule.now.right.items }
-    ensures rule { IfOk result (λ r. (line : RuleLine) → IsRawRule names.now texts.now rule.now line → IsRule names.now labels.new r line) }
+) -> Result<Side<u32>, AllocError>
+    requires tree { IsRawTree texts.now items.now }
+    requires few { length items.now ≤ 10000 }
+    ensures side { IfOk result (λ s. (is : List ItemOf) → Along (IsRaw texts.now) items.now is → Along (IsNode names.now labels.new) (preorder_of s) is) }
     ensures grows { Grows labels.old labels.new }
 {
-    let right = resolve_side(alloc, &rule.right, names, texts, labels)?;
+    let resolved = resolve_items(alloc, items, names, texts, labels)?;
+    match Side::from_preorder(resolved) {
+        Ok(side) => Ok(side),
+        Err(ShapeError::NotATree) => unreachable!(),
+        Err(ShapeError::OutOfMemory) => unreachable!(),
+    }
+}
+
+fn resolve_rule(
+    alloc: Global,
+    rule: RawRule,
+    items: &[RawItem],
+    names: &Labels,
+    texts: &Labels,
+    labels: &mut Labels,
+) -> Result<Rule<u32>, AllocError>
+    requires tree { IsRawTree texts.now items.now }
+    requires few { length items.now ≤ 10000 }
+    ensures rule { IfOk result (λ r. (line : RuleLine) → IsRawRule names.now rule line → Along (IsRaw texts.now) items.now line.nodes → IsRule names.now labels.new r line) }
+    ensures grows { Grows labels.old labels.new }
+{
+    let right = resolve_side(alloc, items, names, texts, labels)?;
     Ok(Rule {
         left: rule.left,
         right,
         cost: rule.cost,
     })
+}
+
+// So many nodes from a place on.
+fn nodes_at(nodes: &[RawItem], at: usize, count: u32) -> &[RawItem]
+    requires { at + count ≤ length nodes.now }
+    ensures { result.now ≡ take count (drop at nodes.now) }
+{
+    let rest = &nodes[at..];
+    &rest[..count as usize]
+}
+
+/// The rules with their leaves told apart.
+pub(crate) fn resolve_rules(
+    alloc: Global,
+    raw: &RawRules,
+    names: &Labels,
+    texts: &Labels,
+    labels: &mut Labels,
+) -> Result<Vec<Rule<u32>>, AllocError>
+    requires { (lines : List RuleLine) × IsRawGrammarOf names.now texts.now raw.now lines }
+    ensures rules { IfOk result (λ rs. (lines : List RuleLine) → IsRawGrammarOf names.now texts.now raw.now lines → Along (IsRule names.now labels.new) rs.items lines) }
+    ensures grows { Grows labels.old labels.new }
+{
+    let mut rules = Vec::with_capacity(alloc, raw.rules.len())?;
+    let mut at = 0;
+    for rule in &raw.rules {
+        let nodes = nodes_at(&raw.nodes, at, rule.nodes);
+        let resolved = resolve_rule(alloc, *rule, nodes, names, texts, labels)?;
+        rules.push(resolved)?;
+        at += rule.nodes as usize;
+    }
+    Ok(rules)
 }

@@ -1,59 +1,17 @@
-ghost use Rattle.std.specs.Prelude.{◌≡◌, ◌≤◌, ◌<◌, ◌-◌, ◌^◌, ℕ, List, [], ◌∷◌, length, drop, IfOk, IfSome, Some, None, slice_get, All, Contains};
+// The parts of a rule line.
+ghost use Rattle.std.specs.Prelude.{◌≡◌, ◌≤◌, ◌<◌, ◌-◌, ◌^◌, ℕ, List, [], ◌∷◌, length, drop, IfOk, IfSome, All};
 ghost use Rattle.std.specs.Option.{option_map};
 ghost use Rattle.tib_lex.specs.Grammar.{Word};
-ghost use Rattle.tib_lex.specs.Line.{word_at, words_at, words_of, text_of, Lies};
-ghost use Rattle.tib_tree.specs.Grows.{Grows};
-ghost use Rattle.tib_tree.specs.Shape.{item_at, items_back, PlaceLies};
-ghost use Rattle.tib_grammar_file.specs.Each.{Each};
-ghost use Rattle.tib_grammar_file.specs.Rule.{last_two, weight_in, front_of, head_of, has_dot as spec_has_dot, parts_of, rule_line, rule_line_of};
-ghost use Rattle.tib_grammar_file.specs.Found.{text_at, found_parts, FoundLies, WeightLies, IsCost, IsFound, left_in};
-ghost use Rattle.tib_grammar_file.specs.Value.{IsSide, IsRule, IsRuleLine};
+ghost use Rattle.tib_lex.specs.Line.{word_at, words_at, text_of, Lies};
+ghost use Rattle.tib_grammar_file.specs.Rule.{last_two, weight_in, front_of, head_of, has_dot as spec_has_dot, parts_of};
+ghost use Rattle.tib_grammar_file.specs.Found.{text_at, found_parts, FoundLies, WeightLies, IsCost};
 ghost use Rattle.tib_grammar_file.specs.Weight.{cost_of};
-ghost use Rattle.tib_grammar_file.specs.declared.rule.RuleError.TheVariants.{OutOfMemory};
 
-use crate::weight::read_weight;
-use std::alloc::{AllocError, Global};
-use tib_lex::{Kind, Token, read_text, read_tokens};
-use tib_tree::{Labels, Place, Reader};
-
-#[derive(Clone, Copy, Debug, PartialEq, Eq)]
-pub enum FaultKind {
-    NoStart,
-    BadToken,
-    BadRule,
-    NotWhole,
-    WeightTooLarge,
-    TooManyNodes,
-}
-
-#[derive(Clone, Copy, Debug, PartialEq, Eq)]
-pub enum RuleError {
-    Fault(FaultKind),
-    OutOfMemory,
-}
-
-impl From<AllocError> for RuleError {
-    ghost from_gives = { λ _ e. e ≡ OutOfMemory };
-
-    fn from(_: AllocError) -> Self {
-        RuleError::OutOfMemory
-    }
-}
-
-/// A node of a right side, or a state at a leaf.
-#[derive(Clone, Copy, Debug)]
-pub enum SideItem {
-    Label { label: u32, rank: u32 },
-    State(u32),
-}
-
-/// A rule over the numbers of states and labels.
-#[derive(Drop)]
-pub struct Rule {
-    pub left: u32,
-    pub right: Vec<SideItem>,
-    pub cost: u64,
-}
+use crate::weight::{one, read_weight};
+use std::alloc::AllocError;
+use tib_cost::Cost;
+use tib_lex::{Kind, LineError, Token, read_text};
+use tib_tree::Reader;
 
 // The tokens of a rule's left state and of its weight.
 #[derive(Clone, Copy, Debug)]
@@ -170,146 +128,18 @@ pub(crate) fn read_cost(
     line: &[u8],
     weight: Option<Token>,
     text: &mut Vec<u8>,
-) -> Result<u64, RuleError>
+) -> Result<Cost, LineError>
     requires { WeightLies (length line.now) weight }
     ensures { IsCost result (cost_of weighted (text_at line.now weight)) }
 {
     match weight {
-        None => Ok(0),
+        None => Ok(one()),
         Some(token) => {
             read_text(line, token, text)?;
             match read_weight(weighted, text) {
                 Ok(cost) => Ok(cost),
-                Err(kind) => Err(RuleError::Fault(kind)),
+                Err(kind) => Err(LineError::Fault(kind)),
             }
         }
-    }
-}
-
-// The state that a leaf is.
-fn state_leaf(place: Place, names: &Labels, text: &[u8]) -> Option<u32>
-    ensures { (line : List ℕ) → text.now ≡ text_of (word_at line place.token) → IsFound names.now result (item_at line place) }
-{
-    match place.token.kind {
-        Kind::Name => match place.kids {
-            None => names.find(text),
-            Some(_) => None,
-        },
-        _ => None,
-    }
-}
-
-fn read_item(
-    line: &[u8],
-    place: Place,
-    names: &Labels,
-    labels: &mut Labels,
-    text: &mut Vec<u8>,
-) -> Result<SideItem, AllocError>
-    requires { PlaceLies (length line.now) place }
-    ensures item { IfOk result (λ i. IsSide names.now labels.new i (item_at line.now place)) }
-    ensures grows { Grows labels.old labels.new }
-{
-    read_text(line, place.token, text)?;
-    if let Some(state) = state_leaf(place, names, text) {
-        return Ok(SideItem::State(state));
-    }
-    let label = labels.intern(text)?;
-    let rank = place.kids.unwrap_or(0);
-    Ok(SideItem::Label { label, rank })
-}
-
-// The items at some places, the last place first.
-fn read_side(
-    alloc: Global,
-    line: &[u8],
-    places: &[Place],
-    names: &Labels,
-    labels: &mut Labels,
-    text: &mut Vec<u8>,
-) -> Result<Vec<SideItem>, AllocError>
-    requires { All (PlaceLies (length line.now)) places.now }
-    ensures items { IfOk result (λ is. Each (IsSide names.now labels.new) is.items (items_back line.now places.now)) }
-    ensures grows { Grows labels.old labels.new }
-{
-    let mut items = Vec::new(alloc);
-    let mut i = places.len();
-    while i > 0 {
-        i -= 1;
-        let item = read_item(line, places[i], names, labels, text)?;
-        items.push(item)?;
-    }
-    Ok(items)
-}
-
-// The number of a state.
-fn read_state(
-    line: &[u8],
-    token: Token,
-    names: &Labels,
-    text: &mut Vec<u8>,
-) -> Result<u32, AllocError>
-    requires lies { Lies (length line.now) token }
-    requires known { Contains names.now (text_of (word_at line.now token)) }
-    ensures { IfOk result (λ q. slice_get names.now q ≡ Some (text_of (word_at line.now token))) }
-{
-    read_text(line, token, text)?;
-    match names.find(text) {
-        Some(state) => Ok(state),
-        None => unreachable!(),
-    }
-}
-
-/// Reads rule lines of a grammar file, with room that is used again for each.
-#[derive(Drop)]
-pub struct RuleReader {
-    tokens: Vec<Token>,
-    reader: Reader,
-    text: Vec<u8>,
-}
-
-impl RuleReader {
-    pub fn new(alloc: Global) -> RuleReader {
-        RuleReader {
-            tokens: Vec::new(alloc),
-            reader: Reader::new(alloc),
-            text: Vec::new(alloc),
-        }
-    }
-
-    /// The rule of a line, if it has tokens, over a table of states that has its left one.
-    pub fn read(
-        &mut self,
-        alloc: Global,
-        weighted: bool,
-        line: &[u8],
-        names: &Labels,
-        labels: &mut Labels,
-    ) -> Result<Option<Rule>, RuleError>
-        requires short { length line.now ≤ 8388608 }
-        requires known { (left : List ℕ) → left_in (words_of line.now) ≡ Some left → Contains names.now left }
-        ensures line { IsRuleLine names.now labels.new result (rule_line weighted line.now) }
-        ensures grows { Grows labels.old labels.new }
-    {
-        if !read_tokens(line, &mut self.tokens)? {
-            return Err(RuleError::Fault(FaultKind::BadToken));
-        }
-        if self.tokens.is_empty() {
-            return Ok(None);
-        }
-        let found = match read_parts(line, &self.tokens, &mut self.reader, &mut self.text)? {
-            Some(found) => found,
-            None => return Err(RuleError::Fault(FaultKind::BadRule)),
-        };
-        let cost = match read_cost(weighted, line, found.weight, &mut self.text) {
-            Ok(cost) => cost,
-            Err(error) => return Err(error),
-        };
-        if self.reader.places.len() > 10000 {
-            return Err(RuleError::Fault(FaultKind::TooManyNodes));
-        }
-        let left = read_state(line, found.left, names, &mut self.text)?;
-        let right = read_side(alloc, line, &self.reader.places, names, labels, &mut self.text)?;
-        Ok(Some(Rule { left, right, cost }))
     }
 }

@@ -2,11 +2,19 @@
 ghost use Rattle.std.specs.Prelude.{◌≡◌, ◌≤◌, ◌<◌, ◌+◌, ℕ, length, Some, None, min, ◌==◌, ◌*◌, ◌-◌, true};
 ghost use Rattle.std.specs.List.{list_all};
 ghost use Rattle.std.specs.Option.{option_map};
-ghost use Rattle.tib_grammar_file.specs.Weight.{most, is_digit as spec_is_digit, is_zero_digit, whole, cost_of};
+ghost use Rattle.tib_grammar_file.specs.Weight.{is_digit as spec_is_digit, is_zero_digit, whole, cost_of};
 
-use crate::rule::FaultKind;
+use tib_cost::{Boolean, Cost, Semiring};
+use tib_lex::FaultKind;
 
 const TOO_LARGE: u64 = 1_000_000_000_000_001;
+
+/// The cost of a rule without a weight, which is the same in each semiring.
+pub(crate) fn one() -> Cost
+    ensures { result ≡ 0 }
+{
+    <Boolean as Semiring>::one()
+}
 
 fn is_digit(byte: u8) -> bool
     ensures { result ≡ spec_is_digit byte }
@@ -53,20 +61,17 @@ fn read_whole(text: &[u8]) -> Option<u64>
 }
 
 /// The cost of a weight.
-pub fn read_weight(weighted: bool, text: &[u8]) -> Result<u64, FaultKind>
+pub(crate) fn read_weight(weighted: bool, text: &[u8]) -> Result<Cost, FaultKind>
     ensures { result ≡ cost_of weighted (Some text.now) }
 {
     if !weighted {
-        return Ok(0);
+        return Ok(one());
     }
     match read_whole(text) {
         None => Err(FaultKind::NotWhole),
-        Some(n) => {
-            if n < TOO_LARGE {
-                Ok(n)
-            } else {
-                Err(FaultKind::WeightTooLarge)
-            }
-        }
+        Some(n) => match Cost::new(n) {
+            Some(cost) => Ok(cost),
+            None => Err(FaultKind::WeightTooLarge),
+        },
     }
 }

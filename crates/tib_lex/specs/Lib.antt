@@ -3,6 +3,7 @@ pub mod Next
 pub mod Grammar
 pub mod Laws
 pub mod Line
+pub mod Reads
 pub mod Lines
 pub mod NextLine
 pub mod FaultOf

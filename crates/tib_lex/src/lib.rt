@@ -11,9 +11,9 @@ mod token;
 mod tokens;
 
 pub use fault::{FaultKind, FileFault, LineError, ReadError, file_error};
-pub use laws::tokens_are_words;
+pub use laws::{files_have_lines, lines_have_words, tokens_are_words};
 pub use lines::{Line, line_bytes, next_line};
 pub use next::next_token;
-pub use text::read_text;
+pub use text::{read_text, token_text};
 pub use token::{Kind, Lexed, Token};
 pub use tokens::read_tokens;

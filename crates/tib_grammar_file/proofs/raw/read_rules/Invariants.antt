@@ -1,15 +1,15 @@
 use Rattle.std.proofs.Common.{◌≤◌, ◌+◌, ◌-◌, length, drop}
-use Rattle.tib_tree.specs.File.{lines_of}
-use Rattle.tib_grammar_file.specs.GrammarText.{rules_from}
+use Rattle.tib_lex.specs.Lines.{lines_of}
+use Rattle.tib_grammar_file.specs.Reading.{rules_from}
 use Rattle.tib_grammar_file.proofs.RawRead.{SoFar}
 use Rattle.tib_grammar_file.proofs.raw.read_rules.Given as goal
 
-abbrev pub invariant-loop-at : goal.invariant-loop-at
-invariant-loop-at l = record {
-  within : l.at ≤ length l.bytes + 1;
+abbrev pub invariant-loop-line : goal.invariant-loop-line
+invariant-loop-line l = record {
+  within : l.at ≤ length l.bytes;
   number : l.number ≤ l.at + 1;
-  so_far : SoFar l.fn.names l.names l.texts l.rules.items (rules_from l.weighted l.number (lines_of (drop l.at l.bytes))) (rules_from l.weighted l.first (lines_of (drop l.start l.bytes)));
+  so_far : SoFar l.fn.names l.names l.texts l.raw (rules_from l.weighted l.number (lines_of (drop l.at l.bytes))) (rules_from l.weighted l.first (lines_of (drop l.start l.bytes)));
 }
 
-abbrev pub decreases-loop-at : goal.decreases-loop-at
-decreases-loop-at l = length l.bytes + 1 - l.at
+abbrev pub decreases-loop-line : goal.decreases-loop-line
+decreases-loop-line l = length l.bytes - l.at

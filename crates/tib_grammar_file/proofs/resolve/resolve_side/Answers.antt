@@ -1,13 +1,12 @@
-use Rattle.std.proofs.Common.{arith}
-use Rattle.std.proofs.lemmas.List.{take_more}
-use Rattle.tib_tree.proofs.Growing.{grows_twice}
-use Rattle.tib_grammar_file.proofs.Resolved.{resolve_step}
+use Rattle.std.proofs.Common.{ap, ◌∙◌}
+use Rattle.std.specs.Prelude.{Err}
+use Rattle.tib_grammar_file.proofs.Resolved.{all_texts, is_a_tree}
 use Rattle.tib_grammar_file.proofs.resolve.resolve_side.Goals as goal
 
-pub loop-item-preserved : goal.loop-item-preserved
-loop-item-preserved c =
-    let i = c.loop-item.invariant in
-    record {
-      side = resolve_step c.args.names.now c.loop-item.labels c.resolve_item.new.labels c.args.texts.now _ _ _ c.loop-item.side.items _ _ (take_more c.args.items.now c.loop-item.item-index _ (omega arith)) c.in_ok-push.ensures.items c.resolve_item.ensures.grows c.in_ok-resolved.ensures.item i.side;
-      grows = grows_twice _ _ _ i.grows c.resolve_item.ensures.grows;
-    }
+pub resolve_items-requires : goal.resolve_items-requires
+resolve_items-requires c = all_texts c.args.texts.now c.args.items.now c.requires.tree.is c.requires.tree.are
+
+pub unreachable-requires : goal.unreachable-requires
+unreachable-requires c =
+    is_a_tree c.args.names.now c.resolve_items.new.labels c.args.texts.now c.args.items.now c.in_ok-resolved.resolved.items c.requires.tree c.in_ok-resolved.ensures.items
+    (c.from_preorder.ensures.not_a_tree (c.in-Err-NotATree.is ∙ ap Err c.in-Err-NotATree.field-0-is))

@@ -1,9 +1,6 @@
-use Rattle.std.proofs.Common.{arith, sym, ap, ◌∙◌, ◌≡◌, refl, length, drop, List, ℕ}
-use Rattle.std.specs.Prelude.{Some}
-use Rattle.tib_lex.specs.Line.{words_at, word_at, text_of}
-use Rattle.tib_lex.specs.declared.token.Token.{Token}
+use Rattle.std.proofs.Common.{sym, ap, ◌∙◌, length, List, ℕ}
 use Rattle.tib_tree.proofs.Steps.{accepted, refused}
-use Rattle.tib_grammar_file.specs.Rule.{head_of, has_dot}
+use Rattle.tib_grammar_file.specs.Rule.{has_dot}
 use Rattle.tib_grammar_file.proofs.PartsRead.{no_head, dotted, found_with, all_rest, all_front}
 use Rattle.tib_grammar_file.proofs.rule.read_parts.Goals as goal
 

@@ -1,15 +1,18 @@
-// Reads grammar files.
-ghost use Rattle.std.specs.Prelude.{◌≡◌, ◌≤◌, ◌<◌, ◌+◌, ◌-◌, ℕ, List, length, IfOk, Some, None, All};
+// The start of a grammar file, and what follows it.
+ghost use Rattle.std.specs.Prelude.{◌≡◌, ◌≤◌, ℕ, List, length, All};
 ghost use Rattle.tib_lex.specs.Line.{words_at, Lies};
 ghost use Rattle.tib_grammar_file.specs.Found.{text_at, WeightLies};
-ghost use Rattle.tib_grammar_file.specs.GrammarText.{start_of, start_line, grammar_of};
-ghost use Rattle.tib_grammar_file.specs.RawGrammar.{IsStartLine, IsBegun, ReadsGrammar};
+ghost use Rattle.tib_grammar_file.specs.Reading.{start_of, start_line, grammar_of};
+ghost use Rattle.tib_grammar_file.specs.RawGrammar.{IsStartLine, IsBegun, ReadsRaw};
 
-use crate::raw::{FileError, RawRule, file_error, read_rules};
-use crate::rule::{FaultKind, RuleError, has_dot};
-use std::alloc::{AllocError, Global};
-use tib_lex::{Kind, Token, read_text, read_tokens};
-use tib_tree::{Labels, line_at};
+use crate::raw::{RawRules, read_rules};
+use crate::rule::has_dot;
+use std::alloc::Global;
+use tib_lex::{
+    FaultKind, FileFault, Kind, LineError, ReadError, Token, file_error, line_bytes, next_line,
+    read_text, read_tokens,
+};
+use tib_tree::Labels;
 
 // The token of a start line.
 fn start_token(tokens: &[Token]) -> Option<Token>
@@ -32,23 +35,23 @@ fn read_start(
     tokens: &mut Vec<Token>,
     text: &mut Vec<u8>,
     names: &mut Labels,
-) -> Result<bool, RuleError>
+) -> Result<bool, LineError>
     requires { length line.now ≤ 8388608 }
     ensures { IsStartLine names.old names.new result (start_line line.now) }
 {
     if !read_tokens(line, tokens)? {
-        return Err(RuleError::Fault(FaultKind::BadToken));
+        return Err(LineError::Fault(FaultKind::BadToken));
     }
     if tokens.is_empty() {
         return Ok(false);
     }
     let token = match start_token(tokens) {
         Some(token) => token,
-        None => return Err(RuleError::Fault(FaultKind::BadRule)),
+        None => return Err(LineError::Fault(FaultKind::BadRule)),
     };
     read_text(line, token, text)?;
     if has_dot(text) {
-        return Err(RuleError::Fault(FaultKind::BadRule));
+        return Err(LineError::Fault(FaultKind::BadRule));
     }
     names.intern(text)?;
     Ok(true)
@@ -56,47 +59,46 @@ fn read_start(
 
 /// Where the line behind the start line begins, and its number.
 #[derive(Clone, Copy, Debug)]
-pub struct Begun {
-    pub at: usize,
+pub(crate) struct Begun {
+    pub at: u32,
     pub number: u32,
 }
 
-fn find_start(alloc: Global, bytes: &[u8], names: &mut Labels) -> Result<Begun, FileError>
+fn find_start(alloc: Global, bytes: &[u8], names: &mut Labels) -> Result<Begun, ReadError>
     requires { length bytes.now ≤ 8388608 }
     ensures { IsBegun bytes.now names.old names.new result }
 {
     let mut tokens = Vec::new(alloc);
     let mut text = Vec::new(alloc);
-    let mut at = 0;
+    let mut at: u32 = 0;
     let mut number: u32 = 1;
-    while at < bytes.len() {
-        let line = line_at(bytes, at);
-        let found = match read_start(line, &mut tokens, &mut text, names) {
+    while let Some(line) = next_line(bytes, number, at) {
+        let found = match read_start(line_bytes(bytes, line), &mut tokens, &mut text, names) {
             Ok(found) => found,
-            Err(error) => return Err(file_error(number, error)),
+            Err(error) => return Err(file_error(line.number, error)),
         };
-        at += line.len() + 1;
+        at = line.next;
         number += 1;
         if found {
             return Ok(Begun { at, number });
         }
     }
-    Err(FileError::Fault {
+    Err(ReadError::Fault(FileFault {
         line: 1,
         kind: FaultKind::NoStart,
-    })
+    }))
 }
 
 /// The rules of a grammar file. The names of its states go into one table, and the texts in its trees into another.
-pub fn read_grammar(
+pub(crate) fn read_raw(
     alloc: Global,
     weighted: bool,
     bytes: &[u8],
     names: &mut Labels,
     texts: &mut Labels,
-) -> Result<Vec<RawRule>, FileError>
+) -> Result<RawRules, ReadError>
     requires { length bytes.now ≤ 8388608 }
-    ensures { ReadsGrammar names.old names.new texts.new result (grammar_of weighted bytes.now) }
+    ensures { ReadsRaw names.old names.new texts.new result (grammar_of weighted bytes.now) }
 {
     let begun = match find_start(alloc, bytes, names) {
         Ok(begun) => begun,

@@ -5,10 +5,9 @@ use Rattle.std.proofs.Common.{subst}
 use Rattle.tib_lex.specs.Line.{text_of, word_at}
 use Rattle.tib_tree.specs.Grows.{Adds}
 use Rattle.tib_tree.proofs.Steps.{accepted, refused}
-use Rattle.tib_grammar_file.specs.Found.{text_at}
 use Rattle.tib_grammar_file.specs.Rule.{has_dot}
 use Rattle.tib_grammar_file.proofs.Begins.{bad_start, blank_start, some_start, dotted_start, plainly}
-use Rattle.tib_grammar_file.proofs.grammar.read_start.Goals as goal
+use Rattle.tib_grammar_file.proofs.start.read_start.Goals as goal
 
 pub returns-then-not-branch : goal.returns-then-not-branch
 returns-then-not-branch c = bad_start c.args.line.now (refused c.in_ok-read_tokens.field-0 _ _ c.if-not-branch.true c.in_ok-read_tokens.ensures.words)
@@ -40,8 +39,9 @@ returns c =
     let ts = c.read_tokens.new.tokens in
     let e = c.if-is_empty.ensures in
     let n : 0 < length ts.items = grind (arith, nat_tests, ts.ok.0) in
-    let text : List ℕ = text_of (word_at c.args.line.now c.in-Some.token) in
-    (text,
+    let text : List ℕ = text_of (word_at c.args.line.now c.in-Some.token) in (
+      text,
       some_start c.args.line.now ts.items c.deref.result.now (Some text) (accepted c.in_ok-read_tokens.field-0 _ _ c.if-not-branch.false c.in_ok-read_tokens.ensures.words) n c.deref.ensures.value (c.in-Some.ensures.start c.args.line.now)
-      ∙ plainly text (sym (ap has_dot (c.deref-2.ensures.value ∙ c.in_ok-read_text.ensures)) ∙ sym c.if-has_dot.ensures),
-      subst (λ (t : List ℕ). Adds c.args.names.now t c.intern.new.self) (c.deref-3.ensures.value ∙ c.in_ok-read_text.ensures) c.in_ok-intern.ensures.adds)
+          ∙ plainly text (sym (ap has_dot (c.deref-2.ensures.value ∙ c.in_ok-read_text.ensures)) ∙ sym c.if-has_dot.ensures),
+      subst (λ (t : List ℕ). Adds c.args.names.now t c.intern.new.self) (c.deref-3.ensures.value ∙ c.in_ok-read_text.ensures) c.in_ok-intern.ensures.adds,
+    )
