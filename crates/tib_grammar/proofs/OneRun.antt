@@ -118,7 +118,7 @@ module _ (rules : List (Rule ℕ)) where
       inside : StandsInSide rules state
       apart : StandsInSide rules 0 → ⊥
 
-    chained : (n : ℕ) (runs : Trees ℕ) → n < length rules → AreRuns rules (holes_of (rule_at rules n).right) runs → IsStartChain rules n → IsChained n runs
+    chained : (n : ℕ) (runs : Trees ℕ) → n < length rules → AreRuns rules (holes_of (rule_at rules n).right) runs → IsStartChain rules (rule_at rules n) → IsChained n runs
     chained n runs h a chain =
         let p : ℕ = chain.lone.state in
         let holes_are : holes_of (rule_at rules n).right ≡ p ∷ [] = ap holes_of chain.lone.is in
