@@ -1,0 +1,4 @@
+pub mod Buckets
+pub mod Positions
+pub mod Pairwise
+pub mod Keys

@@ -1,0 +1,14 @@
+use Rattle.tib_grammar.specs.Run.{no_rule}
+use Rattle.std.proofs.lemmas.List.{get_or_read}
+use Rattle.tib_normal.specs.Index.{same_shape}
+use Rattle.tib_normal.proofs.Positions.{positions-one}
+use Rattle.tib_normal.proofs.index.Index.new.Goals as goal
+
+pub loop-n-preserved : goal.loop-n-preserved
+loop-n-preserved c =
+    let at = get_or_read c.args.rules.now c.loop-n.n c.index-rules-n.result c.loop-n-test.true c.index-rules-n.is no_rule in
+    record {
+      numbered = c.in_ok-add.ensures.numbered;
+      few = c.in_ok-add.ensures.few;
+      positions = λ f n. positions-one c.args.rules.now f n c.loop-n.n c.loop-n-test.true (same_shape c.shape_of.result (f, n)) c.index-rules-n.result at (c.shape_of.ensures f n) _ _ (c.loop-n.invariant.positions f n) (c.in_ok-add.ensures.added (f, n));
+    }
