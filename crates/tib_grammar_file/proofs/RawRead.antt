@@ -21,7 +21,8 @@ use Rattle.tib_tree.proofs.NodesRead.{back_more}
 use Rattle.tib_grammar_file.specs.Rule.{RuleLine}
 use Rattle.tib_grammar_file.specs.Raw.{IsRaw, IsRawRule, AreRawRules, AddsNodes, AddsRule, AddsLine, all_nodes}
 use Rattle.tib_grammar_file.specs.RawFile.{IsRawFile}
-use Rattle.tib_grammar_file.specs.GrammarText.{AddsAll, left_of}
+use Rattle.tib_grammar_file.specs.GrammarText.{AddsAll}
+use Rattle.tib_grammar_file.specs.Value.{left_of}
 use Rattle.tib_grammar_file.specs.declared.raw.RawItem.{RawItem}
 use Rattle.tib_grammar_file.specs.declared.raw.RawRule.{RawRule}
 use Rattle.tib_grammar_file.specs.declared.raw.RawRules.{RawRules}

@@ -2,13 +2,13 @@
 use Rattle.std.proofs.Common.{◌≡◌, ℕ, ◌+◌, ◌<◌, ◌≤◌, List, [], ◌∷◌, ◌++◌, length, get_or, take, drop, refl, ap, sym, ◌∙◌, subst, arith, append-nil, zero, suc}
 use Rattle.std.specs.Prelude.{slice_get, Some, None, Contains}
 use Rattle.std.specs.List.{All}
-use Rattle.std.proofs.lemmas.List.{map-append, take-append-drop, length-append, length-drop, drop-drop, take_all}
+use Rattle.std.proofs.lemmas.List.{map-append, length-append, length-drop, drop-drop, take_all}
 use Rattle.std.proofs.lemmas.Option.{slice_get_within}
 use Rattle.tib_lex.specs.Lists.{Along, Each}
 use Rattle.tib_tree.specs.Grows.{Grows}
 use Rattle.tib_tree.specs.Nodes.{rank_of}
 use Rattle.tib_tree.specs.Trees.{Tree, Trees, none, tree, only, preorder, preorder_of, count as count_trees}
-use Rattle.tib_tree.specs.Written.{Written, Item, end, leaf, head, items, count}
+use Rattle.tib_tree.specs.Written.{Item, items}
 use Rattle.tib_grammar.specs.Sides.{Symbol, label, hole}
 use Rattle.tib_grammar.specs.Items.{pair_of, pairs_of}
 use Rattle.tib_grammar.specs.declared.Item.{Item as SideItem}
@@ -20,6 +20,7 @@ use Rattle.tib_grammar_file.specs.declared.raw.RawItem.{RawItem}
 use Rattle.tib_grammar_file.specs.declared.raw.RawRule.{RawRule}
 use Rattle.tib_grammar_file.specs.declared.raw.RawRules.{RawRules}
 use Rattle.tib_grammar.specs.declared.Rule.{Rule}
+use Rattle.tib_grammar_file.proofs.Meanings.{grown}
 use Rattle.tib_grammar_file.proofs.Alongs.{along_changes, along_more, along_front, along_back, along_last, along_long}
 
 same_text : (texts : List (List ℕ)) (n : ℕ) (t u : List ℕ) → slice_get texts n ≡ Some t → slice_get texts n ≡ Some u → t ≡ u
@@ -75,40 +76,6 @@ all_texts texts [] is h i d k = absurd (omega arith)
 all_texts texts (r ∷ rs) [] h i d k = absurd h
 all_texts texts (r ∷ rs) (x ∷ xs) h zero d k = slice_get_within texts r.text x.text h.0.0
 all_texts texts (r ∷ rs) (x ∷ xs) h (suc i) d k = all_texts texts rs xs h.1 i d (omega arith)
-
--- symbols that stand for the nodes of written trees are the preorder of as many trees
-pub record Grown (xs : List (Symbol ℕ ℕ × ℕ)) (f : Written) : Type 0 where
-  pub trees : Trees (Symbol ℕ ℕ)
-  pub order : preorder trees ≡ xs
-  pub many : count_trees trees ≡ count f
-
-rank_same : (x : Symbol ℕ ℕ × ℕ) (n : ℕ) → x.1 ≡ n → (x.0, n) ≡ x
-rank_same x n e = ap (λ (m : ℕ). (x.0, m)) (sym e)
-
-pub grown : (names labels : List (List ℕ)) (f : Written) (xs : List (Symbol ℕ ℕ × ℕ)) → Along (IsNode names labels) xs (items f) → Grown xs f
-grown names labels end [] h = record { trees = none; order = refl; many = refl }
-grown names labels end (x ∷ xs) h = absurd h
-grown names labels (leaf q t rest) [] h = absurd h
-grown names labels (leaf q t rest) (x ∷ xs) h =
-    let g = grown names labels rest xs h.1 in
-    record {
-      trees = tree x.0 none g.trees;
-      order = ap (λ (p : Symbol ℕ ℕ × ℕ). p ∷ preorder g.trees) (rank_same x 0 h.0.1) ∙ ap (λ (ys : List (Symbol ℕ ℕ × ℕ)). x ∷ ys) g.order;
-      many = ap suc g.many;
-    }
-grown names labels (head q t kids rest) [] h = absurd h
-grown names labels (head q t kids rest) (x ∷ xs) h =
-    let n : ℕ = length (items kids) in
-    let k = grown names labels kids (take n xs) (along_front (IsNode names labels) xs (items kids) (items rest) h.1) in
-    let g = grown names labels rest (drop n xs) (along_back (IsNode names labels) xs (items kids) (items rest) h.1) in
-    record {
-      trees = tree x.0 k.trees g.trees;
-      order = ap (λ (p : Symbol ℕ ℕ × ℕ). p ∷ (preorder k.trees ++ preorder g.trees)) (rank_same x (count_trees k.trees) (h.0.1 ∙ sym k.many))
-          ∙ ap (λ (ys : List (Symbol ℕ ℕ × ℕ)). x ∷ (ys ++ preorder g.trees)) k.order
-          ∙ ap (λ (ys : List (Symbol ℕ ℕ × ℕ)). x ∷ (take n xs ++ ys)) g.order
-          ∙ ap (λ (ys : List (Symbol ℕ ℕ × ℕ)). x ∷ ys) (take-append-drop n xs);
-      many = ap suc g.many;
-    }
 
 -- one tree is a tree
 pub one_tree : {A : Type 0} (ts : Trees A) → count_trees ts ≡ 1 → (s : Tree A) × (only s ≡ ts) × (preorder_of s ≡ preorder ts)

@@ -5,7 +5,8 @@ use Rattle.tib_lex.specs.declared.fault.ReadError.{ReadError}
 use Rattle.tib_lex.specs.declared.fault.ReadError.TheVariants as errors
 use Rattle.tib_grammar_file.specs.Rule.{RuleLine}
 use Rattle.tib_grammar_file.specs.Raw.{AreRawRules}
-use Rattle.tib_grammar_file.specs.GrammarText.{AddsAll, left_of}
+use Rattle.tib_grammar_file.specs.GrammarText.{AddsAll}
+use Rattle.tib_grammar_file.specs.Value.{left_of}
 use Rattle.tib_grammar_file.specs.declared.raw.RawRules.{RawRules}
 
 abbrev pub IsRawFile : List (List ℕ) → List (List ℕ) → List (List ℕ) → Result RawRules ReadError → Result (List RuleLine) FileFault → Type 0

@@ -8,7 +8,8 @@ use Rattle.tib_lex.specs.Lines.{lines_of}
 use Rattle.tib_tree.specs.Grows.{Adds}
 use Rattle.tib_grammar_file.specs.Rule.{RuleLine}
 use Rattle.tib_grammar_file.specs.Raw.{AreRawRules}
-use Rattle.tib_grammar_file.specs.GrammarText.{AddsAll, left_of}
+use Rattle.tib_grammar_file.specs.GrammarText.{AddsAll}
+use Rattle.tib_grammar_file.specs.Value.{left_of}
 use Rattle.tib_grammar_file.specs.Reading.{grammar_from, started, rules_from}
 use Rattle.tib_lex.specs.declared.fault.LineError.{LineError}
 use Rattle.tib_lex.specs.declared.fault.LineError.TheVariants as line_errors

@@ -1,5 +1,5 @@
 -- A rule line of a grammar file.
-use Rattle.std.specs.Prelude.{◌≡◌, ℕ, ◌-◌, Bool, true, false, ◌==◌, nat_lt, List, [], ◌∷◌, ◌++◌, length, take, drop, Option, Some, None, Result, Ok, Err, if◌then◌else◌}
+use Rattle.std.specs.Prelude.{◌≡◌, ℕ, ◌-◌, Bool, true, false, nat_lt, nat_eq, List, [], ◌∷◌, ◌++◌, length, take, drop, Option, Some, None, Result, Ok, Err, if◌then◌else◌}
 use Rattle.std.specs.List.{list_any}
 use Rattle.tib_lex.specs.Grammar.{Word, hash, arrow, name}
 use Rattle.tib_lex.specs.Line.{words_of}
@@ -10,7 +10,7 @@ use Rattle.tib_lex.specs.declared.fault.FaultKind.{FaultKind}
 use Rattle.tib_lex.specs.declared.fault.FaultKind.TheVariants as kinds
 
 abbrev pub has_dot : List ℕ → Bool
-has_dot text = list_any (λ b. b == 46) text
+has_dot text = list_any (nat_eq 46) text
 
 abbrev pub weight_words : Option (List ℕ) → List Word
 weight_words None = []

@@ -1,12 +1,14 @@
 -- What the nodes of a rule stand for, over the tables of states and labels.
-use Rattle.std.specs.Prelude.{◌≡◌, ℕ, false, List, Some, None, slice_get, Contains}
+use Rattle.std.specs.Prelude.{◌≡◌, ℕ, false, List, [], ◌∷◌, map, Some, None, slice_get, Contains}
 use Rattle.tib_lex.specs.Lists.{Along}
 use Rattle.tib_tree.specs.Written.{Item}
 use Rattle.tib_tree.specs.Nodes.{rank_of}
 use Rattle.tib_tree.specs.Trees.{preorder_of}
 use Rattle.tib_grammar.specs.Sides.{Symbol, label, hole}
 use Rattle.tib_grammar.specs.declared.Rule.{Rule}
+use Rattle.tib_grammar.specs.GrammarOf.{GrammarOf}
 use Rattle.tib_grammar_file.specs.Rule.{RuleLine}
+use Rattle.tib_grammar_file.specs.GrammarText.{AddsAll}
 
 -- an unquoted leaf that is the name of a state
 pub record IsStateLeaf (names : List (List ℕ)) (i : Item) : Type 0 where
@@ -28,3 +30,11 @@ pub record IsRule (names labels : List (List ℕ)) (rule : Rule ℕ) (line : Rul
   pub left : slice_get names rule.left ≡ Some line.left
   pub right : Along (IsNode names labels) (preorder_of rule.right) line.nodes
   pub cost : rule.cost ≡ line.cost
+
+abbrev pub left_of : RuleLine → List ℕ
+left_of line = line.left
+
+-- a grammar stands for a start and the lines of its rules
+pub record IsGrammarOf (labels : List (List ℕ)) (g : GrammarOf) (start : List ℕ) (lines : List RuleLine) : Type 0 where
+  pub names : AddsAll [] (start ∷ map left_of lines) g.names
+  pub rules : Along (IsRule g.names labels) g.rules lines

@@ -1,5 +1,5 @@
 -- Weights as they are written.
-use Rattle.std.specs.Prelude.{ℕ, ◌+◌, ◌*◌, ◌-◌, Bool, ◌&&◌, ◌==◌, nat_lt, List, [], ◌∷◌, Option, Some, None, Result, Ok, Err, if◌then◌else◌}
+use Rattle.std.specs.Prelude.{◌≡◌, ◌<◌, ◌≤◌, ◌++◌, length, ℕ, ◌+◌, ◌*◌, ◌-◌, Bool, true, false, ◌&&◌, ◌==◌, nat_lt, List, [], ◌∷◌, Option, Some, None, Result, Ok, Err, if◌then◌else◌}
 use Rattle.std.specs.List.{list_all}
 use Rattle.tib_lex.specs.declared.fault.FaultKind.{FaultKind}
 use Rattle.tib_lex.specs.declared.fault.FaultKind.TheVariants as kinds
@@ -13,7 +13,40 @@ is_digit b = nat_lt 47 b && nat_lt b 58
 abbrev pub is_zero_digit : ℕ → Bool
 is_zero_digit b = b == 48
 
--- the value of the digits up to a point, behind which zeros alone may stand
+-- the number that decimal digits write, behind a number that was written before them
+abbrev pub decimal_from : ℕ → List ℕ → ℕ
+decimal_from value [] = value
+decimal_from value (d ∷ digits) = decimal_from (10 * value + (d - 48)) digits
+
+abbrev pub decimal : List ℕ → ℕ
+decimal digits = decimal_from 0 digits
+
+-- a point and what stands behind it, or nothing
+abbrev pub behind_digits : Option (List ℕ) → List ℕ
+behind_digits None = []
+behind_digits (Some zeros) = 46 ∷ zeros
+
+abbrev pub AreZeros : Option (List ℕ) → Type 0
+AreZeros None = Unit {0}
+AreZeros (Some zeros) = list_all is_zero_digit zeros ≡ true
+
+-- A whole weight: one or more decimal digits, and maybe a point with zeros behind it. Its value is that of the digits.
+pub record IsWhole (text : List ℕ) (n : ℕ) : Type 0 where
+  pub digits : List ℕ
+  pub zeros : Option (List ℕ)
+  pub some : 0 < length digits
+  pub are_digits : list_all is_digit digits ≡ true
+  pub are_zeros : AreZeros zeros
+  pub spelled : text ≡ digits ++ behind_digits zeros
+  pub value : n ≡ decimal digits
+
+-- The cost of a weight. A missing one is the semiring's one, which is 0, and where nothing is weighed each cost is.
+abbrev pub IsCostOf : Bool → Option (List ℕ) → ℕ → Type 0
+IsCostOf weighted None cost = cost ≡ 0
+IsCostOf true (Some text) cost = IsWhole text cost × (cost ≤ most)
+IsCostOf false (Some text) cost = cost ≡ 0
+
+-- The reading: the value of the digits up to a point, behind which zeros alone may stand.
 abbrev pub whole_from : ℕ → List ℕ → Option ℕ
 whole_from value [] = Some value
 whole_from value (b ∷ rest) =

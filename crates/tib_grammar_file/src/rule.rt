@@ -92,7 +92,7 @@ fn after_head(tokens: &[Token]) -> &[Token]
 pub(crate) fn has_dot(text: &[u8]) -> bool
     ensures { result ≡ spec_has_dot text.now }
 {
-    text.iter().any(|byte| *byte == b'.')
+    text.iter().any(|byte| b'.' == *byte)
 }
 
 // Reads the tree of a rule, and finds its left state and its weight.

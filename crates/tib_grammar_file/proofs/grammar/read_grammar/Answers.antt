@@ -1,0 +1,9 @@
+use Rattle.tib_grammar_file.proofs.TextRead.{source_of, read_as}
+use Rattle.tib_grammar_file.proofs.grammar.read_grammar.Goals as goal
+
+pub build-requires : goal.build-requires
+build-requires g c = source_of _ c.args.bytes.now c.new-names.result c.read_raw.new.names c.read_raw.new.texts c.in-Ok.raw c.requires c.new-names.ensures c.in-Ok.ensures
+
+pub returns-in-Ok-build-clause-text : goal.returns-in-Ok-build-clause-text
+returns-in-Ok-build-clause-text g c =
+    read_as g.S.Semiring.WEIGHTED _ c.build.new.labels c.args.bytes.now c.new-names.result c.read_raw.new.names c.read_raw.new.texts c.in-Ok.raw c.in-Ok-build.grammar c.WEIGHTED.ensures c.new-names.ensures c.requires c.in-Ok.ensures c.in-Ok-build.ensures.grammar
