@@ -167,9 +167,9 @@ added_last v q c a b = record {
   ascends = IsAscending-push v (entry q c) a b;
   last = EndsBy-push v (entry q c) q (EndsBy-below v q q b (omega arith)) (omega arith);
   costs = λ p. rw (cost_in-append v (entry q c ∷ []) p) (elim (nat_eq_cases q p) [
-      | inl y ↦ let none : cost_in v p ≡ None = subst (λ r. cost_in v r ≡ None) y.0 (cost_in-below v q b) in rw (y.1, none) refl
-      | inr n ↦ rw n.1 (keeps (cost_in v p))
-    ]);
+    | inl y ↦ let none : cost_in v p ≡ None = subst (λ r. cost_in v r ≡ None) y.0 (cost_in-below v q b) in rw (y.1, none) refl
+    | inr n ↦ rw n.1 (keeps (cost_in v p))
+  ]);
 }
   where
     keeps : (o : Option ℕ) → or_else o None ≡ o
@@ -185,12 +185,12 @@ added_over v x q c a e =
       ascends = IsAscending-push v (entry q (min x.cost c)) (IsAscending-front v x a) below;
       last = EndsBy-push v (entry q (min x.cost c)) q (EndsBy-below v q q below (omega arith)) (omega arith);
       costs = λ p. rw (cost_in-append v (entry q (min x.cost c) ∷ []) p, cost_in-append v (x ∷ []) p) (elim (nat_eq_cases q p) [
-          | inl y ↦
-              let none_p : cost_in v p ≡ None = subst (λ r. cost_in v r ≡ None) y.0 none in
-              let x_is : nat_eq x.state p ≡ true = rw (e, y.1) refl in
-              rw (y.1, none_p, x_is) refl
-          | inr n ↦ let x_not : nat_eq x.state p ≡ false = rw (e, n.1) refl in rw (n.1, x_not) refl
-        ]);
+        | inl y ↦
+            let none_p : cost_in v p ≡ None = subst (λ r. cost_in v r ≡ None) y.0 none in
+            let x_is : nat_eq x.state p ≡ true = rw (e, y.1) refl in
+            rw (y.1, none_p, x_is) refl
+        | inr n ↦ let x_not : nat_eq x.state p ≡ false = rw (e, n.1) refl in rw (n.1, x_not) refl
+      ]);
     }
 
 -- behind an entry of a lesser state
