@@ -10,3 +10,6 @@ pub mod Preorders
 pub mod Fill
 pub mod Sizing
 pub mod Placing
+pub mod Writing
+pub mod Runs
+pub mod Printing

@@ -12,3 +12,5 @@ pub mod Pairs
 pub mod Growth
 pub mod TreeView
 pub mod Filled
+pub mod Printed
+pub mod Wrote

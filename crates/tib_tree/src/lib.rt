@@ -5,6 +5,7 @@ mod file;
 mod labels;
 mod laws;
 mod preorder;
+mod print;
 mod shape;
 mod trees;
 
@@ -12,5 +13,6 @@ pub use file::read_trees;
 pub use labels::Labels;
 pub use laws::nodes_are_read;
 pub use preorder::{Label, Node, ShapeError, Tree};
+pub use print::{needs_quotes, print_label, print_tree};
 pub use shape::{Place, Reader};
 pub use trees::LineReader;
