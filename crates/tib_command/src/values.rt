@@ -52,7 +52,9 @@ fn number_in(text: &str, least: u64, most: u64) -> Option<u64>
 
 /// The number of an option that stands at most once.
 pub(crate) fn number_once(values: Option<&[&str]>, default: u64, most: u64) -> Option<u64>
-    requires { default ≤ most }
+    requires least { 1 ≤ default }
+    requires most { default ≤ most }
+    ensures least { IfSome result (λ n. 1 ≤ n) }
     ensures bound { IfSome result (λ n. n ≤ most) }
     ensures value { result ≡ once default (number_in 1 most) (texts_of values.entry) }
 {
