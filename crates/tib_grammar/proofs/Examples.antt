@@ -1,14 +1,14 @@
 -- The definitions computed on a small grammar: 0 -> 7(0, 0) # 1 and 0 -> 8 # 2.
-use Rattle.std.specs.Prelude.{◌≡◌, ℕ, ◌+◌, ◌<◌, max, List, [], ◌∷◌, length, refl, Option, Some, None}
-use Rattle.std.proofs.Common.{zero, suc, arith, subst}
+use Rattle.std.specs.Prelude.{◌≡◌, ℕ, ◌+◌, max, List, [], ◌∷◌, refl, Some, None}
+use Rattle.std.proofs.Common.{zero, suc, arith}
 use Rattle.tib_cost.specs.Semiring.{sum_laws}
 use Rattle.tib_tree.specs.Trees.{Tree, Trees, none, tree, only}
-use Rattle.tib_grammar.specs.Sides.{Symbol, label, hole, holes_of, fill, over, leaves, Lone}
-use Rattle.tib_grammar.specs.Run.{rule_at, AreRuns, yields, cost}
+use Rattle.tib_grammar.specs.Sides.{label, hole, holes_of, fill, over, leaves}
+use Rattle.tib_grammar.specs.Run.{AreRuns, yields, cost}
 use Rattle.tib_grammar.specs.Series.{IsSeries}
-use Rattle.tib_grammar.specs.Forms.{IsNormalSide, AreNormal}
+use Rattle.tib_grammar.specs.Forms.{AreNormal}
 use Rattle.tib_grammar.specs.declared.Rule.{Rule}
-use Rattle.tib_grammar.proofs.Best.{best, best-is_least}
+use Rattle.tib_grammar.proofs.Best.{best-is_least}
 
 abbrev rules : List (Rule ℕ)
 rules = record { left = 0; right = over 7 (0 ∷ 0 ∷ []); cost = 1 } ∷ record { left = 0; right = over 8 []; cost = 2 } ∷ []

@@ -1,11 +1,11 @@
 -- Right sides that were noted, and faults.
-use Rattle.std.proofs.Common.{◌≡◌, ℕ, ◌+◌, ◌<◌, ◌≤◌, ◌⊎◌, List, [], ◌∷◌, ◌++◌, length, get_or, Some, refl, zero, suc, arith, ap, sym, ◌∙◌, subst, inl, inr}
+use Rattle.std.proofs.Common.{◌≡◌, ℕ, ◌+◌, ◌<◌, ◌⊎◌, List, [], ◌∷◌, ◌++◌, length, get_or, Some, refl, zero, suc, arith, ap, sym, ◌∙◌, subst, inl, inr}
 use Rattle.std.proofs.lemmas.List.{length-append}
 use Rattle.tib_lex.specs.Lists.{Has}
 use Rattle.tib_tree.specs.Trees.{preorder_of}
 use Rattle.tib_grammar.specs.Items.{pairs_of}
 use Rattle.tib_grammar.specs.Run.{rule_at}
-use Rattle.tib_grammar.specs.Forms.{IsShaped, IsNew, IsShared, IsFirstFault, IsFaultOf, IsDeterministic}
+use Rattle.tib_grammar.specs.Forms.{IsShaped, IsNew, IsShared, IsFaultOf}
 use Rattle.tib_grammar.specs.Checked.{IsShapeFault, IsFirstPlace, AreFirstSides}
 use Rattle.tib_grammar.specs.declared.Item.{Item}
 use Rattle.tib_grammar.specs.declared.Rule.{Rule}
@@ -75,16 +75,3 @@ fault_here rules n number (Nested m) e h shaped new f = record { position = n; n
 fault_here rules n number (Chain m) e h shaped new f = record { position = n; numbered = f.0 ∙ e; below = h; shaped = shaped; new = new; fault = f.1 }
 fault_here rules n number (Shared l m) e h shaped new f = absurd f
 fault_here rules n number OutOfMemory e h shaped new f = absurd f
-
-order : (m n : ℕ) → (m < n) ⊎ ((m ≡ n) ⊎ (n < m))
-order m n = grind arith
-
--- rules that are in shape and new are in deterministic form
-pub IsDeterministic-from : (rules : List (Rule ℕ)) → ((m : ℕ) → m < length rules → IsShaped rules (rule_at rules m)) → ((m : ℕ) → m < length rules → IsNew rules m) → IsDeterministic rules
-IsDeterministic-from rules shaped new = record {
-  shaped = shaped;
-  apart = λ m n b d e. elim (order m n) [
-    | inl l ↦ absurd (new n d m l e)
-    | inr o ↦ elim o [ inl s ↦ s | inr g ↦ absurd (new m b n g (sym e)) ]
-  ];
-}

@@ -2,7 +2,7 @@
 use Rattle.std.specs.Prelude.{◌≡◌, ℕ, ◌<◌, ◌⊎◌, List, length}
 use Rattle.std.proofs.Common.{suc}
 use Rattle.tib_lex.specs.Lists.{Has}
-use Rattle.tib_tree.specs.Trees.{Tree, only}
+use Rattle.tib_tree.specs.Trees.{Tree}
 use Rattle.tib_grammar.specs.Sides.{Symbol, label, hole, Side as SideFor, holes_of, AreHoles, Lone}
 use Rattle.tib_grammar.specs.Run.{rule_at}
 use Rattle.tib_grammar.specs.declared.Rule.{Rule}

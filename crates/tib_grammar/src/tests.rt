@@ -2,7 +2,10 @@
 use crate::*;
 use std::alloc::Global;
 use std::test::Fail;
-use tib_cost::MinPlus;
+use tib_cost::{MinPlus, Semiring};
+
+// A label over states, or a lone state where there is no label.
+type Right<'a> = (Option<Label>, &'a [u32]);
 
 fn names(alloc: Global, texts: &[&str]) -> Result<Option<Names>, Fail> {
     let mut list = Vec::new(alloc);
@@ -15,56 +18,64 @@ fn names(alloc: Global, texts: &[&str]) -> Result<Option<Names>, Fail> {
     Ok(Names::from_list(alloc, list)?)
 }
 
-fn rule(alloc: Global, left: u32, right: Side<u32>, cost: u64) -> Result<Rule<u32>, Fail> {
-    let _ = alloc;
-    match Cost::new(cost) {
-        Some(cost) => Ok(Rule { left, right, cost }),
-        None => Err("no cost".into()),
-    }
-}
-
-// A label over states.
-fn flat(
-    alloc: Global,
-    left: u32,
-    label: Label,
-    states: &[u32],
-    cost: u64,
-) -> Result<Rule<u32>, Fail> {
-    if states.len() > 1000 {
-        return Err("too many states".into());
-    }
-    rule(alloc, left, Side::over(alloc, label, states)?, cost)
-}
-
-// A lone state.
-fn chain(alloc: Global, left: u32, state: u32) -> Result<Rule<u32>, Fail> {
+// The states as items.
+fn holes(alloc: Global, states: &[u32]) -> Result<Option<Side<u32>>, Fail> {
     let mut items = Vec::new(alloc);
-    items.push(Item::Hole(state))?;
+    for state in states {
+        items.push(Item::Hole(*state))?;
+    }
     if items.len() > 1000 {
         return Err("too many items".into());
     }
-    rule(alloc, left, Side::from_preorder(items)?, 0)
+    Ok(Side::from_preorder(items).ok())
 }
 
-// The grammar with these names and rules, and its fault.
-fn fault(alloc: Global, texts: &[&str], rules: Vec<Rule<u32>>) -> Result<Option<DeterminismFault>, Fail> {
+fn side(alloc: Global, right: Right<'_>) -> Result<Side<u32>, Fail> {
+    if right.1.len() > 1000 {
+        return Err("too many states".into());
+    }
+    match right.0 {
+        Some(label) => Ok(Side::over(alloc, label, right.1)?),
+        None => holes(alloc, right.1)?.ok_or_else(|| "no tree".into()),
+    }
+}
+
+// Rules that cost nothing.
+fn rules(alloc: Global, table: &[(u32, Right<'_>)]) -> Result<Vec<Rule<u32>>, Fail> {
+    let mut rules = Vec::new(alloc);
+    for (left, right) in table {
+        rules.push(Rule {
+            left: *left,
+            right: side(alloc, *right)?,
+            cost: MinPlus::one(),
+        })?;
+    }
+    Ok(rules)
+}
+
+fn grammar(
+    alloc: Global,
+    texts: &[&str],
+    table: &[(u32, Right<'_>)],
+) -> Result<Option<Grammar<MinPlus>>, Fail> {
+    let rules = rules(alloc, table)?;
     if rules.len() > 1000 {
         return Err("too many rules".into());
     }
-    let Some(names) = names(alloc, texts)? else {
-        return Err("no names".into());
-    };
-    let grammar: Option<Grammar<MinPlus>> = Grammar::new(names, rules);
-    let Some(grammar) = grammar else {
-        return Err("no grammar".into());
-    };
-    match grammar.deterministic(alloc) {
-        Ok(view) => {
-            let _ = view.grammar().states();
-            Ok(None)
-        }
-        Err(fault) => Ok(Some(fault)),
+    match names(alloc, texts)? {
+        Some(names) => Ok(Grammar::new(names, rules)),
+        None => Err("no names".into()),
+    }
+}
+
+fn fault(
+    alloc: Global,
+    texts: &[&str],
+    table: &[(u32, Right<'_>)],
+) -> Result<Option<DeterminismFault>, Fail> {
+    match grammar(alloc, texts, table)? {
+        Some(grammar) => Ok(grammar.deterministic(alloc).err()),
+        None => Err("no grammar".into()),
     }
 }
 
@@ -72,101 +83,83 @@ fn fault(alloc: Global, texts: &[&str], rules: Vec<Rule<u32>>) -> Result<Option<
 fn state_names_are_told_from_others(rt: HostRuntime) -> Result<(), Fail> {
     let alloc = rt.alloc();
     assert!(rt; names(alloc, &["q", "q0", "x->", "é"])?.is_some());
-    assert!(rt; names(alloc, &[])?.is_some());
+    for other in ["->", "", "q.x", "q r", "q#"] {
+        assert!(rt; names(alloc, &[other])?.is_none());
+    }
     assert!(rt; names(alloc, &["q", "p", "q"])?.is_none());
-    assert!(rt; names(alloc, &["->"])?.is_none());
-    assert!(rt; names(alloc, &[""])?.is_none());
-    assert!(rt; names(alloc, &["q.x"])?.is_none());
-    assert!(rt; names(alloc, &["q r"])?.is_none());
-    assert!(rt; names(alloc, &["q#"])?.is_none());
     Ok(())
 }
 
 #[test]
 fn a_side_is_one_tree(rt: HostRuntime) -> Result<(), Fail> {
     let alloc = rt.alloc();
-    let mut items: Vec<Item<u32>> = Vec::new(alloc);
-    items.push(Item::Label { label: 0, rank: 2 })?;
-    items.push(Item::Label { label: 1, rank: 0 })?;
-    if items.len() > 1000 {
-        return Err("too many items".into());
-    }
-    assert!(rt; Side::from_preorder(items).is_err());
-    let side = Side::over(alloc, 0, &[7, 8])?;
-    assert_eq!(rt; side.items().len(), 3);
-    assert!(rt; side.items()[0] == Item::Label { label: 0, rank: 2 });
-    assert!(rt; side.items()[2] == Item::Hole(8));
+    assert_eq!(rt; side(alloc, (Some(0), &[7, 8]))?.items().len(), 3);
+    assert_eq!(rt; side(alloc, (None, &[7]))?.items().len(), 1);
+    assert!(rt; holes(alloc, &[7, 8])?.is_none());
     Ok(())
 }
 
-// q -> f(q q) # 1, q -> a # 2
+// q -> f(q q), q -> a
 #[test]
 fn a_grammar_gives_its_parts(rt: HostRuntime) -> Result<(), Fail> {
     let alloc = rt.alloc();
-    let Some(names) = names(alloc, &["q"])? else {
-        return Err("no names".into());
-    };
-    let mut rules = Vec::new(alloc);
-    rules.push(flat(alloc, 0, 0, &[0, 0], 1)?)?;
-    rules.push(flat(alloc, 0, 1, &[], 2)?)?;
-    if rules.len() > 1000 {
-        return Err("too many rules".into());
-    }
-    let grammar: Option<Grammar<MinPlus>> = Grammar::new(names, rules);
-    let Some(grammar) = grammar else {
+    let Some(grammar) = grammar(
+        alloc,
+        &["q"],
+        &[(0, (Some(0), &[0, 0])), (0, (Some(1), &[]))],
+    )?
+    else {
         return Err("no grammar".into());
     };
-    assert_eq!(rt; grammar.states(), 1);
-    assert_eq!(rt; grammar.rules(), 2);
-    assert_eq!(rt; grammar.name(0), &b"q"[..]);
-    assert_eq!(rt; grammar.names().find(&b"q"[..]), Some(0));
-    assert_eq!(rt; grammar.rule(2).cost.get(), 2);
-    assert_eq!(rt; grammar.rule_list().len(), 2);
     assert!(rt; grammar.is_normal());
+    assert_eq!(rt; (grammar.states(), grammar.rules()), (1, 2));
+    assert_eq!(rt; grammar.name(0), &b"q"[..]);
+    assert_eq!(rt; grammar.rule(2).cost.get(), 0);
+    assert_eq!(rt; grammar.rule_list().len(), 2);
     let (names, rules) = grammar.into_parts();
-    assert_eq!(rt; names.len(), 1);
-    assert_eq!(rt; rules.len(), 2);
-    Ok(())
-}
-
-#[test]
-fn a_state_without_a_name_is_refused(rt: HostRuntime) -> Result<(), Fail> {
-    let alloc = rt.alloc();
-    let Some(names) = names(alloc, &["q"])? else {
-        return Err("no names".into());
-    };
-    let mut rules = Vec::new(alloc);
-    rules.push(flat(alloc, 0, 0, &[0, 1], 1)?)?;
-    if rules.len() > 1000 {
-        return Err("too many rules".into());
-    }
-    let grammar: Option<Grammar<MinPlus>> = Grammar::new(names, rules);
-    assert!(rt; grammar.is_none());
+    assert_eq!(rt; names.find(&b"q"[..]), Some(0));
+    assert_eq!(rt; (names.len(), rules.len()), (1, 2));
     Ok(())
 }
 
 #[test]
 fn the_first_fault_is_named(rt: HostRuntime) -> Result<(), Fail> {
     let alloc = rt.alloc();
-    // q -> f(p) # 1, q -> f(r) # 3, p -> a # 2, r -> a # 1
-    let mut rules = Vec::new(alloc);
-    rules.push(flat(alloc, 0, 0, &[1], 1)?)?;
-    rules.push(flat(alloc, 0, 0, &[2], 3)?)?;
-    rules.push(flat(alloc, 1, 1, &[], 2)?)?;
-    rules.push(flat(alloc, 2, 1, &[], 1)?)?;
-    let shared = fault(alloc, &["q", "p", "r"], rules)?;
-    assert_eq!(rt; shared, Some(DeterminismFault::Shared { first: 3, second: 4 }));
+    // q -> f(p), q -> f(r), p -> a, r -> a
+    let shared = fault(
+        alloc,
+        &["q", "p", "r"],
+        &[
+            (0, (Some(0), &[1])),
+            (0, (Some(0), &[2])),
+            (1, (Some(1), &[])),
+            (2, (Some(1), &[])),
+        ],
+    )?;
+    assert!(rt;
+        matches!(
+            &shared,
+            Some(DeterminismFault::Shared {
+                first: 3,
+                second: 4
+            })
+        )
+    );
     // q -> p, p -> f(q)
-    let mut rules = Vec::new(alloc);
-    rules.push(chain(alloc, 0, 1)?)?;
-    rules.push(flat(alloc, 1, 0, &[0], 1)?)?;
-    let broken = fault(alloc, &["q", "p"], rules)?;
-    assert_eq!(rt; broken, Some(DeterminismFault::Chain { rule: 1 }));
+    let broken = fault(
+        alloc,
+        &["q", "p"],
+        &[(0, (None, &[1])), (1, (Some(0), &[0]))],
+    )?;
+    assert!(rt; matches!(&broken, Some(DeterminismFault::Chain { rule: 1 })));
     // q -> p, p -> f(p), p -> a
-    let mut rules = Vec::new(alloc);
-    rules.push(chain(alloc, 0, 1)?)?;
-    rules.push(flat(alloc, 1, 0, &[1], 1)?)?;
-    rules.push(flat(alloc, 1, 1, &[], 2)?)?;
-    assert_eq!(rt; fault(alloc, &["q", "p"], rules)?, None);
+    let good = [
+        (0, (None, &[1][..])),
+        (1, (Some(0), &[1][..])),
+        (1, (Some(1), &[][..])),
+    ];
+    assert!(rt; fault(alloc, &["q", "p"], &good)?.is_none());
+    // q -> f(p), where p has no name
+    assert!(rt; grammar(alloc, &["q"], &[(0, (Some(0), &[1]))])?.is_none());
     Ok(())
 }

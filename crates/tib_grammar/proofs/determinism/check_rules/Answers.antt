@@ -1,7 +1,6 @@
-use Rattle.std.proofs.Common.{◌≡◌, ℕ, arith, ap, sym, ◌∙◌, subst, Some, None, map, ◌+◌, ◌<◌}
+use Rattle.std.proofs.Common.{◌≡◌, arith, ap, ◌∙◌, subst, Some, None, map, ◌+◌}
 use Rattle.std.proofs.lemmas.List.{get_or_read}
 use Rattle.tib_tree.specs.Trees.{preorder_of}
-use Rattle.tib_grammar.specs.Items.{pairs_of}
 use Rattle.tib_grammar.specs.Run.{rule_at, no_rule}
 use Rattle.tib_grammar.specs.Forms.{IsShaped, IsNew}
 use Rattle.tib_grammar.specs.Checked.{IsShapeFault, IsNoted}

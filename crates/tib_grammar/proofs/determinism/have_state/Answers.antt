@@ -1,4 +1,4 @@
-use Rattle.std.proofs.Common.{arith, ap, sym, ◌∙◌}
+use Rattle.std.proofs.Common.{arith, ap, ◌∙◌}
 use Rattle.tib_grammar.specs.declared.Item.TheVariants.{Hole}
 use Rattle.tib_grammar.proofs.Holes.{none_has, has_hole}
 use Rattle.tib_grammar.proofs.determinism.have_state.Goals as goal

@@ -1,5 +1,3 @@
-use Rattle.std.proofs.Common.{get_or}
-use Rattle.tib_grammar.specs.declared.Item.TheVariants.{Label}
 use Rattle.tib_grammar.proofs.Holes.{IsLoneState-from}
 use Rattle.tib_grammar.proofs.determinism.is_lone_rule.Goals as goal
 

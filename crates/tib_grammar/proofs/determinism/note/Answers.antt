@@ -1,5 +1,5 @@
 use Rattle.std.proofs.Common.{refl}
-use Rattle.tib_grammar.proofs.RightSides.{IsItemTest, noted_new, noted_before, was_new, was_held}
+use Rattle.tib_grammar.proofs.RightSides.{noted_new, noted_before, was_new, was_held}
 use Rattle.tib_grammar.proofs.determinism.note.Goals as goal
 
 pub returns-then-is_new : goal.returns-then-is_new
