@@ -1,14 +1,20 @@
 -- How chains are put together, and how the least costs of all are found.
-use Rattle.std.specs.Prelude.{◌≡◌, ℕ, ◌+◌, ◌<◌, ◌≤◌, ◌⊎◌, List, [], ◌∷◌, ◌++◌, length, Option, None, Some, Contains, Bool, refl}
-use Rattle.std.proofs.Common.{zero, suc, get_or, arith, ap, sym, ◌∙◌, subst, inl, inr}
-use Rattle.tib_grammar.specs.Sides.{holes_of}
+use Rattle.std.specs.Prelude.{◌≡◌, ℕ, ◌+◌, ◌<◌, ◌≤◌, ◌⊎◌, List, [], ◌∷◌, ◌++◌, length, Option, None, Some, Contains, Bool, refl, slice_set, sum_by, ◌*◌}
+use Rattle.std.proofs.Common.{zero, suc, get_or, arith, ap, sym, ◌∙◌, subst, inl, inr, add-one}
+use Rattle.tib_grammar.specs.Sides.{Side, Symbol, hole, holes_of, Lone}
 use Rattle.tib_grammar.specs.Range.{AllBelow, AreInRange}
-use Rattle.tib_grammar.specs.Runs.{rule_at}
+use Rattle.tib_grammar.specs.Run.{rule_at}
 use Rattle.tib_grammar.specs.declared.Rule.{Rule}
-use Rattle.tib_cost.specs.Semiring.{ProductLaws, most}
+use Rattle.tib_cost.specs.Semiring.{ProductLaws, most, cut}
+use Rattle.tib_cost.proofs.Least.{cut-cases}
 use Rattle.tib_cost.specs.Least.{IsLeast, AtMost}
-use Rattle.tib_normal.specs.NormalForm.{Lone, IsChain, chain_cost, IsChainCost, IsDistance}
-use Rattle.tib_normal.specs.Closure.{LeadsTo, Waits, AreChains, IsClosing, Spreads}
+use Rattle.tib_normal.specs.NormalForm.{IsChain, chain_cost, IsChainCost, IsDistance}
+use Rattle.tib_normal.specs.Closure.{LeadsTo, Waits, AreChains, IsClosing, Spreads, IsStep, Skips, Settles, AreListed, AreBelow}
+use Rattle.std.proofs.lemmas.List.Elements.{Contains-push, Contains-append_left}
+use Rattle.std.proofs.lemmas.List.{get_or-set_same, get_or-set_other, length-set}
+use Rattle.std.proofs.lemmas.List.Sums.{sum_by-set}
+use Rattle.std.proofs.Math.Nat.{suc-mul}
+use Rattle.tib_normal.specs.Links.{IsNext}
 use Rattle.tib_normal.specs.Entries.{AddsEntry, TakesLeast}
 
 chain-append : (rules : List (Rule ℕ)) (q : ℕ) (ns : List ℕ) (p n r : ℕ) → IsChain rules q ns p → LeadsTo rules p n r → IsChain rules q (ns ++ n ∷ []) r
@@ -19,7 +25,7 @@ chain-append rules q (m ∷ ns) p n r c l = (c.0, c.1, (c.2.0, c.2.1, chain-appe
 pub chain-below : (rules : List (Rule ℕ)) (states q : ℕ) (ns : List ℕ) (r : ℕ) → AreInRange states rules → q < states → IsChain rules q ns r → r < states
 chain-below rules states q [] r range h c = subst (λ z. z < states) c h
 chain-below rules states q (n ∷ ns) r range h c =
-    let below : AllBelow states (holes_of (Lone c.2.0)) = subst (λ s. AllBelow states (holes_of s)) c.2.1 (range n c.0).1 in
+    let below : AllBelow states (holes_of {A = ℕ} {P = ℕ} (Lone c.2.0)) = subst (λ (s : Side ℕ ℕ). AllBelow states (holes_of s)) c.2.1 (range n c.0).1 in
     chain-below rules states c.2.0 ns r range below.0 c.2.2
 
 module _ {levelled weighted : Bool} {product : ℕ → ℕ → ℕ} (laws : ProductLaws levelled weighted product) (rules : List (Rule ℕ)) where
@@ -180,3 +186,144 @@ module _ {levelled weighted : Bool} {product : ℕ → ℕ → ℕ} (laws : Prod
     where
       own : (x : ℕ × ℕ) → x.0 ≡ 0 → x.1 ≡ q → IsChainCost product rules q x.1 x.0
       own x e k = record { chain = []; leads = sym k; costs = sym e }
+
+-- what one rule adds
+cut-none : (a : ℕ) → cut a ≡ None → a ≤ most → ⊥
+cut-none a e h = elim (cut-cases a) [
+  | inl k ↦ let v : Some a ≡ None = sym k.1 ∙ e in absurd (cc v)
+  | inr k ↦ omega (arith, k.0)
+]
+
+cut-some : (a c : ℕ) → cut a ≡ Some c → (a ≡ c) × (c ≤ most)
+cut-some a c e = elim (cut-cases a) [
+  | inl k ↦ let v : Some a ≡ Some c = sym k.1 ∙ e in let same : a ≡ c = cc v in (same, omega (arith, k.0))
+  | inr k ↦ let v : None ≡ Some c = sym k.1 ∙ e in absurd (cc v)
+]
+
+pub step-none : (product : ℕ → ℕ → ℕ) (r : Rule ℕ) (d : ℕ) (old : List (ℕ × ℕ)) → ((q : ℕ) → r.right ≡ Lone q → ⊥) → IsStep product r d old old
+step-none product r d old h = record { kept = λ e k. k; added = λ q e b. absurd (h q e); only = λ e k. inl k; long = omega arith }
+
+pub step-dear : (product : ℕ → ℕ → ℕ) (r : Rule ℕ) (d : ℕ) (old : List (ℕ × ℕ)) → None ≡ cut (product d r.cost) → IsStep product r d old old
+step-dear product r d old h = record { kept = λ e k. k; added = λ q e b. absurd (cut-none (product d r.cost) (sym h) b); only = λ e k. inl k; long = omega arith }
+
+pub step-push :
+    (product : ℕ → ℕ → ℕ) (r : Rule ℕ) (d : ℕ) (old new : List (ℕ × ℕ)) (q c : ℕ) → r.right ≡ Lone q → Some c ≡ cut (product d r.cost) → AddsEntry old (c, q) new → IsStep product r d old new
+step-push product r d old new q c lone fits adds =
+    let cost = cut-some (product d r.cost) c (sym fits) in
+    record {
+      kept = adds.kept;
+      added = λ p e b. subst (λ z. Contains new (z, p)) (sym cost.0) (subst (λ z. Contains new (c, z)) (state p (sym lone ∙ e)) adds.new_one);
+      only = λ e k. elim (adds.only e k) [
+        | inl s ↦ inr (subst (λ z. r.right ≡ Lone z) (sym (ap (λ z. z.1) s)) lone, cost.0 ∙ sym (ap (λ z. z.0) s), omega (arith, cost.1, ap (λ z. z.0) s))
+        | inr s ↦ inl s
+      ];
+      long = omega (arith, adds.long);
+    }
+  where
+    state : (p : ℕ) → ◌≡◌ {A = Side ℕ ℕ} (Lone q) (Lone p) → q ≡ p
+    state p e = let h : ◌≡◌ {A = Symbol ℕ ℕ} (hole q) (hole p) = ap (λ s. s.label) e in cc h
+
+-- one rule more
+pub spread-more :
+    (product : ℕ → ℕ → ℕ) (rules : List (Rule ℕ)) (p d n m : ℕ) (old mid new : List (ℕ × ℕ)) (r : Rule ℕ) → r ≡ rule_at rules n → n < length rules → (rule_at rules n).left ≡ p →
+    IsNext rules p (n + 1) m → Spreads product rules p d n old mid → IsStep product r d mid new → Spreads product rules p d m old new
+spread-more product rules p d n m old mid new r at h own next spreads step = record {
+  kept = λ e k. step.kept e (spreads.kept e k);
+  added = λ i q b l c. added i q b l c (place i n);
+  only = λ e k. elim (step.only e k) [
+    | inl s ↦ spreads.only e s
+    | inr s ↦ inr (n, record { below = h; left = own; right = sym (ap (λ z. z.right) at) ∙ s.0 }, ap (λ z. product d z.cost) (sym at) ∙ s.1, s.2)
+  ];
+  long = omega (arith, spreads.long, step.long, next.from);
+}
+  where
+    place : (i n : ℕ) → (i < n) ⊎ ((i ≡ n) ⊎ (n < i))
+    place i n = grind arith
+
+    added : (i q : ℕ) → i < m → LeadsTo rules p i q → product d (rule_at rules i).cost ≤ most → (i < n) ⊎ ((i ≡ n) ⊎ (n < i)) → Contains new (product d (rule_at rules i).cost, q)
+    added i q b l c (inl k) = step.kept (product d (rule_at rules i).cost, q) (spreads.added i q k l c)
+    added i q b l c (inr (inr k)) = absurd (next.none_between i (omega arith) b l.left)
+    added i q b l c (inr (inl k)) =
+        let here : rule_at rules i ≡ r = ap (rule_at rules) k ∙ sym at in
+        let cost_is : product d (rule_at rules i).cost ≡ product d r.cost = ap (λ z. product d z.cost) here in
+        subst (λ z. Contains new (z, q)) (sym cost_is) (step.added q (sym (ap (λ z. z.right) here) ∙ l.right) (omega arith))
+
+pub spread-start : (product : ℕ → ℕ → ℕ) (rules : List (Rule ℕ)) (p d n : ℕ) (old : List (ℕ × ℕ)) → IsNext rules p 0 n → Spreads product rules p d n old old
+spread-start product rules p d n old next = record { kept = λ e k. k; added = λ i q b l c. absurd (next.none_between i (omega arith) b l.left); only = λ e k. inl k; long = omega arith }
+
+-- one for a state without a distance
+abbrev pub unset : Option ℕ → ℕ
+unset None = 1
+unset (Some d) = 0
+
+-- how one visit leaves what is known
+listed-more : (old : List (Option ℕ)) (reached : List ℕ) (state cost : ℕ) → state < length old → AreListed old reached → AreListed (slice_set old state (Some cost)) (reached ++ state ∷ [])
+listed-more old reached state cost h listed r d e = by_case (same_state r state)
+  where
+    same_state : (r p : ℕ) → (r ≡ p) ⊎ (r ≡ p → ⊥)
+    same_state r p = grind arith
+
+    by_case : (r ≡ state) ⊎ (r ≡ state → ⊥) → Contains (reached ++ state ∷ []) r
+    by_case (inl k) = subst (λ z. Contains (reached ++ state ∷ []) z) (sym k) (Contains-push reached state)
+    by_case (inr k) = Contains-append_left reached (state ∷ []) r (listed r d (sym (get_or-set_other old state r (Some cost) None k) ∙ e))
+
+below-more : (n : ℕ) (reached : List ℕ) (state : ℕ) → state < n → AreBelow n reached → AreBelow n (reached ++ state ∷ [])
+below-more n [] state h b zero l = h
+below-more n [] state h b (suc i) l = absurd (omega arith)
+below-more n (x ∷ reached) state h b zero l = b 0 (omega arith)
+below-more n (x ∷ reached) state h b (suc i) l = below-more n reached state h (λ j k. b (suc j) (omega arith)) i (omega arith)
+
+unset_one : (o : Option ℕ) → o ≡ None → unset o ≡ 1
+unset_one None e = refl
+unset_one (Some d) e = absurd (cc)
+
+module _ {levelled weighted : Bool} {product : ℕ → ℕ → ℕ} (laws : ProductLaws levelled weighted product) (rules : List (Rule ℕ)) (from states : ℕ) where
+  pub record Visited (entries : List (ℕ × ℕ)) (old new : List (Option ℕ)) (after : List (ℕ × ℕ)) (now : List ℕ) : Type 0 where
+    pub closing : IsClosing product rules from (λ r. get_or new r None) after
+    pub listed : AreListed new now
+    pub below : AreBelow states now
+    pub long : length new ≡ states
+    pub smaller : length after + sum_by unset new * (length rules + 1) < length entries + sum_by unset old * (length rules + 1)
+
+  pub visited :
+      (entries : List (ℕ × ℕ)) (e : ℕ × ℕ) (rest after : List (ℕ × ℕ)) (old new : List (Option ℕ)) (reached now : List ℕ) →
+      IsClosing product rules from (λ r. get_or old r None) entries → length old ≡ states → AreListed old reached → AreBelow states reached → e.1 < states → TakesLeast entries e rest →
+      Skips e.1 old new rest after reached now ⊎ Settles product rules e.1 e.0 old new rest after reached now → Visited entries old new after now
+  visited entries e rest after old new reached now closing long listed below h t (inl s) =
+      let skip : IsClosing product rules from (λ r. get_or old r None) rest = skipped laws rules from (λ r. get_or old r None) entries closing e rest s.distance t s.known in
+      record {
+        closing = subst (λ xs. IsClosing product rules from (λ r. get_or xs r None) after) (sym s.same) (subst (λ es. IsClosing product rules from (λ r. get_or old r None) es) (sym s.waiting) skip);
+        listed = subst (λ xs. AreListed xs now) (sym s.same) (subst (λ l. AreListed old l) (sym s.list) listed);
+        below = subst (λ l. AreBelow states l) (sym s.list) below;
+        long = ap length s.same ∙ long;
+        smaller = omega (arith, t.long, ap length s.waiting, ap (λ xs. sum_by unset xs * (length rules + 1)) s.same);
+      }
+  visited entries e rest after old new reached now closing long listed below h t (inr s) =
+      let within : e.1 < length old = omega arith in
+      let here : get_or (slice_set old e.1 (Some e.0)) e.1 None ≡ Some e.0 = get_or-set_same old e.1 (Some e.0) None within in
+      let done : IsClosing product rules from (λ r. get_or (slice_set old e.1 (Some e.0)) r None) after =
+      settled laws rules from (λ r. get_or old r None) entries closing e rest after (λ r. get_or (slice_set old e.1 (Some e.0)) r None) t s.unknown s.spreads here
+      (λ r k. get_or-set_other old e.1 r (Some e.0) None k)
+      in
+      let one : unset (get_or old e.1 None) ≡ 1 = unset_one (get_or old e.1 None) s.unknown in
+      let sums : sum_by unset (slice_set old e.1 (Some e.0)) + unset (get_or old e.1 None) ≡ sum_by unset old + 0 = sum_by-set unset old e.1 (Some e.0) None within in
+      let fewer : sum_by unset new + 1 ≡ sum_by unset old = omega (arith, ap (sum_by unset) s.set) in
+      record {
+        closing = subst (λ xs. IsClosing product rules from (λ r. get_or xs r None) after) (sym s.set) done;
+        listed = subst (λ xs. AreListed xs now) (sym s.set) (subst (λ l. AreListed (slice_set old e.1 (Some e.0)) l) (sym s.list) (listed-more old reached e.1 e.0 within listed));
+        below = subst (λ l. AreBelow states l) (sym s.list) (below-more states reached e.1 h below);
+        long = ap length s.set ∙ length-set old e.1 (Some e.0) ∙ long;
+        smaller = less (sum_by unset new) (sum_by unset old) (length rules) (length after) (length rest) (length entries) fewer s.spreads.long t.long;
+      }
+    where
+      less : (u v n a r l : ℕ) → u + 1 ≡ v → a ≤ r + n → r + 1 ≡ l → a + u * (n + 1) < l + v * (n + 1)
+      less u v n a r l e b k =
+          let more : v * (n + 1) ≡ u * (n + 1) + (n + 1) = ap (λ z. z * (n + 1)) (sym e ∙ add-one u) ∙ suc-mul u (n + 1) in
+          far (u * (n + 1)) (v * (n + 1)) n a r l more b k
+        where
+          far : (x y n a r l : ℕ) → y ≡ x + (n + 1) → a ≤ r + n → r + 1 ≡ l → a + x < l + y
+          far x y n a r l m b k = omega arith
+
+  -- a state that waits is one of the states
+  pub entry-below : (distance : ℕ → Option ℕ) (entries : List (ℕ × ℕ)) (e : ℕ × ℕ) → IsClosing product rules from distance entries → AreInRange states rules → from < states → Contains entries e → e.1 < states
+  entry-below distance entries e closing range h k = let chain = (closing.chains e k).0 in chain-below rules states from chain.chain e.1 range h chain.leads

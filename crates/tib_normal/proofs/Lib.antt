@@ -3,5 +3,5 @@ pub mod Positions
 pub mod Pairwise
 pub mod Keys
 pub mod Waiting
-pub mod Sides
+pub mod LoneSides
 pub mod Closing

@@ -2,7 +2,7 @@
 use Rattle.std.specs.Prelude.{◌≡◌, ℕ, ◌+◌, ◌<◌, ◌≤◌, List, length}
 use Rattle.std.proofs.Common.{get_or}
 use Rattle.tib_grammar.specs.declared.Rule.{Rule}
-use Rattle.tib_grammar.specs.Runs.{rule_at}
+use Rattle.tib_grammar.specs.Run.{rule_at}
 use Rattle.tib_normal.specs.declared.links.Links.{Links}
 
 -- p is the first position from i on of a rule of the state q, and the number of rules where there is none

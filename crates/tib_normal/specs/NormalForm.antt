@@ -2,18 +2,15 @@
 use Rattle.std.specs.Prelude.{◌≡◌, ℕ, ◌+◌, ◌<◌, ◌≤◌, ◌⊎◌, ◌↔◌, List, [], ◌∷◌, ◌++◌, length, Option, None, Some}
 use Rattle.std.proofs.Common.{zero, suc}
 use Rattle.tib_tree.specs.Trees.{Tree, Trees, none, tree, size}
-use Rattle.tib_grammar.specs.Sides.{Symbol, label, hole, Side as SideFor, holes_of}
-use Rattle.tib_grammar.specs.Runs.{rule_at, IsSeriesAt}
-use Rattle.tib_grammar.specs.Range.{AreInRange}
+use Rattle.tib_grammar.specs.Sides.{Symbol, label, hole, Side as SideFor, holes_of, Lone}
+use Rattle.tib_grammar.specs.Run.{rule_at}
+use Rattle.tib_grammar.specs.Series.{IsSeriesAt}
+use Rattle.tib_grammar.specs.Range.{AreInRange, AreLone}
 use Rattle.tib_grammar.specs.declared.Rule.{Rule}
 use Rattle.tib_cost.specs.Least.{IsLeast}
 use Rattle.tib_lex.specs.Lists.{Has, Ascends}
 
--- a chain rule has a lone state as its right side
-abbrev pub Lone : ℕ → SideFor ℕ ℕ
-Lone q = record { label = hole q; kids = none }
-
--- the rules at these positions are chain rules that lead from q to r
+-- A chain rule has a lone state as its right side. The rules at these positions are chain rules from q to r.
 abbrev pub IsChain : List (Rule ℕ) → ℕ → List ℕ → ℕ → Type 0
 IsChain rules q [] r = q ≡ r
 IsChain rules q (n ∷ ns) r =
@@ -93,10 +90,6 @@ pub record IsNormalForm (product : ℕ → ℕ → ℕ) (states : ℕ) (rules : 
   pub whole :
       (q : ℕ) (side : SideFor ℕ ℕ) →
       ((c : ℕ) × Has new_rules (record { left = q; right = side; cost = c })) ⊎ IsLeast (IsNormalCost product states rules q side) None
-
--- a lone state has nothing below it
-abbrev pub AreLone : List (Rule ℕ) → Type 0
-AreLone rules = (n q : ℕ) → n < length rules → (rule_at rules n).right.label ≡ hole q → (rule_at rules n).right ≡ Lone q
 
 -- the normal form has the series of the grammar at each of its states
 abbrev pub IsNormalized : (ℕ → ℕ → ℕ) → Type 0

@@ -7,6 +7,12 @@ mod error;
 mod index;
 mod links;
 mod normal;
+mod normal_form;
+mod rows;
+mod sides;
+#[cfg(test)]
+mod tests;
 
 pub use error::NormalError;
 pub use normal::Normal;
+pub use normal_form::normalize;

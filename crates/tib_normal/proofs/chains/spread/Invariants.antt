@@ -1,5 +1,5 @@
 use Rattle.std.proofs.Common.{length, ℕ, ◌-◌, ◌<◌, ◌≤◌, ◌≡◌}
-use Rattle.tib_grammar.specs.Runs.{rule_at}
+use Rattle.tib_grammar.specs.Run.{rule_at}
 use Rattle.tib_normal.specs.Closure.{Spreads}
 use Rattle.tib_normal.proofs.chains.spread.Given as goal
 

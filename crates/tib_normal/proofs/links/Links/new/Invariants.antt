@@ -1,5 +1,5 @@
 use Rattle.std.proofs.Common.{ℕ, ◌≡◌, ◌+◌, ◌<◌, ◌≤◌, length, get_or}
-use Rattle.tib_grammar.specs.Runs.{rule_at}
+use Rattle.tib_grammar.specs.Run.{rule_at}
 use Rattle.tib_normal.specs.Links.{IsNext}
 use Rattle.tib_normal.proofs.links.Links.new.Given as goal
 
