@@ -13,3 +13,4 @@ pub mod Placing
 pub mod Writing
 pub mod Runs
 pub mod Printing
+pub mod TreesText

@@ -1,0 +1,29 @@
+-- What the trees that are read of a text are.
+use Rattle.std.specs.Prelude.{◌≡◌, ℕ, List, Result, Ok, Err}
+use Rattle.tib_lex.specs.Lists.{Each}
+use Rattle.tib_lex.specs.declared.fault.FileFault.{FileFault}
+use Rattle.tib_tree.specs.Trees.{Tree}
+use Rattle.tib_tree.specs.Written.{Item}
+use Rattle.tib_tree.specs.Grows.{AreDistinct}
+use Rattle.tib_tree.specs.File.{trees_of, AreTrees}
+use Rattle.tib_tree.specs.TreesText.{TreesText, IsSmall, IsFirstFault}
+
+-- `trees_of` is Ok with these trees exactly where the bytes are their text and each is small
+abbrev pub GivesTexts : Type 0
+GivesTexts =
+    (labels : List (List ℕ)) (bytes : List ℕ) (ts : List (Tree ℕ)) →
+    (((iss : List (List Item)) × (trees_of bytes ≡ Ok iss) × AreTrees labels ts iss) → TreesText labels bytes ts × Each IsSmall ts)
+    × ((TreesText labels bytes ts × Each IsSmall ts) → ((iss : List (List Item)) × (trees_of bytes ≡ Ok iss) × AreTrees labels ts iss))
+
+-- and else it is the first fault
+abbrev pub GivesFaults : Type 0
+GivesFaults =
+    (bytes : List ℕ) (fault : FileFault) → (trees_of bytes ≡ Err fault → IsFirstFault bytes fault) × (IsFirstFault bytes fault → trees_of bytes ≡ Err fault)
+
+-- bytes are the text of at most one list of trees over one table of distinct labels
+abbrev pub MeansOne : Type 0
+MeansOne = (labels : List (List ℕ)) (bytes : List ℕ) (ts us : List (Tree ℕ)) → AreDistinct labels → TreesText labels bytes ts → TreesText labels bytes us → ts ≡ us
+
+-- a text of small trees has no fault
+abbrev pub FaultsAlone : Type 0
+FaultsAlone = (labels : List (List ℕ)) (bytes : List ℕ) (ts : List (Tree ℕ)) (fault : FileFault) → TreesText labels bytes ts → Each IsSmall ts → IsFirstFault bytes fault → ⊥
