@@ -14,3 +14,4 @@ pub mod Writing
 pub mod Runs
 pub mod Printing
 pub mod TreesText
+pub mod ReadBack

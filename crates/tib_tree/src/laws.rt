@@ -1,4 +1,4 @@
-ghost use Rattle.tib_tree.specs.Laws.{GivesTexts, GivesFaults, MeansOne, FaultsAlone};
+ghost use Rattle.tib_tree.specs.Laws.{GivesTexts, GivesFaults, MeansOne, FaultsAlone, PrintsBack, PrintsText};
 ghost use Rattle.tib_tree.specs.Machine.{ReadsTrees};
 
 /// The nodes that are read of tokens are those of the tree that is spelled so.
@@ -16,4 +16,10 @@ pub fn texts_are_read()
 pub fn texts_mean_one()
     ensures one { MeansOne }
     ensures alone { FaultsAlone }
+{}
+
+/// What is printed of a tree reads back as this tree.
+pub fn printed_trees_are_read()
+    ensures line { PrintsBack }
+    ensures text { PrintsText }
 {}
