@@ -4,10 +4,10 @@
 //! a text; this crate reads the texts and counts them and the files.
 #![tactic(auto)]
 
-ghost use Rattle.std.specs.Prelude.{◌≡◌, IfOk, IfErr, None, Some, map};
+ghost use Rattle.std.specs.Prelude.{◌≡◌, ◌≤◌, IfOk, IfErr, None, Some, length, map};
 ghost use Rattle.std.specs.String.{string_bytes};
 ghost use Rattle.tib_command.specs.declared.job.CommandError.TheVariants.{Usage};
-ghost use Rattle.tib_command.specs.Jobs.{job_of, meaning};
+ghost use Rattle.tib_command.specs.Jobs.{job_of, meaning, word_count};
 
 mod job;
 mod options;
@@ -24,6 +24,10 @@ use values::{mode_once, number_once, read_task};
 /// the word language.
 pub fn read_words(alloc: Global, words: &[String]) -> Result<Job, CommandError>
     ensures ok { IfOk result (λ job. job_of (map (λ s. string_bytes s) words.now) ≡ Some (meaning job)) }
+    ensures k { IfOk result (λ job. (1 ≤ job.k) × (job.k ≤ 10000)) }
+    ensures workers { IfOk result (λ job. (1 ≤ job.workers) × (job.workers ≤ 16)) }
+    ensures limit { IfOk result (λ job. (1 ≤ job.limit) × (job.limit ≤ 20000000)) }
+    ensures files { IfOk result (λ job. length job.files.items ≡ word_count job.operation) }
     ensures err { IfErr result (λ e. e ≡ Usage → job_of (map (λ s. string_bytes s) words.now) ≡ None) }
 {
     let matches = matches_of(alloc, words)?;

@@ -1,5 +1,5 @@
 // The values of the options and the positional words, which are taken as texts.
-ghost use Rattle.std.specs.Prelude.{◌≡◌, ◌≤◌, ◌==◌, ℕ, IfOk, IfSome, option_map, length, map};
+ghost use Rattle.std.specs.Prelude.{◌≡◌, ◌≤◌, ◌==◌, ℕ, IfOk, IfSome, IsTrue, option_map, length, map};
 ghost use Rattle.std.specs.List.{list_any};
 ghost use Rattle.std.specs.String.{string_bytes};
 ghost use Rattle.tib_command.specs.declared.job.Mode.TheVariants.{MinPlus};
@@ -52,7 +52,9 @@ fn number_in(text: &str, least: u64, most: u64) -> Option<u64>
 
 /// The number of an option that stands at most once.
 pub(crate) fn number_once(values: Option<&[&str]>, default: u64, most: u64) -> Option<u64>
-    requires { default ≤ most }
+    requires least { 1 ≤ default }
+    requires most { default ≤ most }
+    ensures least { IfSome result (λ n. 1 ≤ n) }
     ensures bound { IfSome result (λ n. n ≤ most) }
     ensures value { result ≡ once default (number_in 1 most) (texts_of values.entry) }
 {
@@ -83,7 +85,8 @@ pub(crate) struct Task {
 
 /// The words as texts of their own.
 pub(crate) fn copied(alloc: Global, words: &[&str]) -> Result<Vec<String>, AllocError>
-    ensures { IfOk result (λ v. map (λ s. string_bytes s) v.items ≡ map (λ w. w.now) words.now) }
+    ensures texts { IfOk result (λ v. map (λ s. string_bytes s) v.items ≡ map (λ w. w.now) words.now) }
+    ensures many { IfOk result (λ v. length v.items ≡ length words.now) }
 {
     let mut copies = Vec::new(alloc);
     for word in words {
@@ -115,14 +118,16 @@ fn has_empty(words: &[&str]) -> bool
 
 /// The words are as many file names as the operation takes.
 fn are_files(operation: Operation, words: &[&str]) -> bool
-    ensures { result ≡ are_files operation (map (λ w. w.now) words.now) }
+    ensures test { result ≡ are_files operation (map (λ w. w.now) words.now) }
+    ensures many { IsTrue result → length words.now ≡ word_count operation }
 {
     words.len() == word_count(operation) && !has_empty(words)
 }
 
 /// What the positional words say, where they are of the language.
 pub(crate) fn read_task(alloc: Global, places: Option<&[&str]>) -> Result<Option<Task>, AllocError>
-    ensures { IfOk result (λ r. option_map task_meaning r ≡ task_in (texts_of places.entry)) }
+    ensures task { IfOk result (λ r. option_map task_meaning r ≡ task_in (texts_of places.entry)) }
+    ensures files { IfOk result (λ r. IfSome r (λ t. length t.files.items ≡ word_count t.operation)) }
 {
     let Some([name, words @ ..]) = places else {
         return Ok(None);

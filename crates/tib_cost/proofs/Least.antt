@@ -1,9 +1,9 @@
 -- The least cost of a set, and how it is put together.
-use Rattle.std.specs.Prelude.{◌≡◌, ℕ, min, max, ◌<◌, ◌≤◌, Bool, true, false, Option, None, Some, ◌⊎◌, ◌↔◌, refl, if◌then◌else◌, nat_le}
-use Rattle.std.proofs.Common.{arith, inl, inr, ap, sym, ◌∙◌, le_refl, le_trans, subst}
+use Rattle.std.specs.Prelude.{◌≡◌, ℕ, min, ◌<◌, ◌≤◌, Bool, Option, None, Some, ◌⊎◌, refl}
+use Rattle.std.proofs.Common.{arith, inl, inr, ap, sym, le_refl, le_trans, subst}
 use Rattle.std.proofs.lemmas.Bool.Decides.{nat_tests}
 use Rattle.tib_cost.specs.Semiring.{most, cut, ProductLaws}
-use Rattle.tib_cost.specs.Least.{AtMost, IsMember, IsLeast, lesser, times, Products}
+use Rattle.tib_cost.specs.Least.{IsMember, IsLeast, lesser, times, Products}
 
 -- at most one cost is the least
 pub IsLeast-unique : {S : ℕ → Type 0} {v w : Option ℕ} → IsLeast S v → IsLeast S w → v ≡ w

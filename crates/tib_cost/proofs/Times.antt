@@ -1,8 +1,8 @@
 -- The laws of the product of costs, where none is no cost.
-use Rattle.std.specs.Prelude.{◌≡◌, ℕ, min, max, ◌<◌, ◌≤◌, Bool, true, false, IsTrue, Option, None, Some, ◌⊎◌, refl, if◌then◌else◌, nat_le, IfSome}
-use Rattle.std.proofs.Common.{arith, inl, inr, ap, sym, ◌∙◌, le_refl, le_trans, subst}
+use Rattle.std.specs.Prelude.{◌≡◌, ℕ, min, max, ◌<◌, ◌≤◌, Bool, true, false, Option, None, Some, ◌⊎◌, refl, IfSome}
+use Rattle.std.proofs.Common.{arith, inl, inr, ap, sym, ◌∙◌}
 use Rattle.tib_cost.specs.Semiring.{most, cut, ProductLaws, IsResidual}
-use Rattle.tib_cost.specs.Least.{AtMost, lesser, times, IsNoGreater, IsBelow, IsCut}
+use Rattle.tib_cost.specs.Least.{lesser, times, IsNoGreater, IsBelow, IsCut}
 use Rattle.tib_cost.proofs.Least.{cut-cases, at_least_right}
 
 pub cut-within : (a : ℕ) → a ≤ most → cut a ≡ Some a

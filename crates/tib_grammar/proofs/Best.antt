@@ -1,12 +1,12 @@
 -- The series of a grammar in normal form, by recursion over the trees.
-use Rattle.std.specs.Prelude.{◌≡◌, ℕ, ◌+◌, ◌<◌, List, [], ◌∷◌, length, Bool, true, false, ◌&&◌, ◌⊎◌, nat_eq, refl, Option, None, Some, if◌then◌else◌}
-use Rattle.std.proofs.Common.{zero, suc, arith, ap, sym, ◌∙◌, subst, inl, inr, add-one}
+use Rattle.std.specs.Prelude.{◌≡◌, ℕ, List, [], ◌∷◌, length, Bool, true, false, ◌&&◌, ◌⊎◌, nat_eq, refl, Option, None, Some, if◌then◌else◌}
+use Rattle.std.proofs.Common.{zero, suc, arith, ap, inl, inr, add-one}
 use Rattle.std.proofs.lemmas.Bool.Decides.{nat_tests}
-use Rattle.tib_tree.specs.Trees.{Tree, Trees, none, tree, only, count}
+use Rattle.tib_tree.specs.Trees.{Trees, none, tree, count}
 use Rattle.tib_grammar.specs.Sides.{Symbol, label, hole, holes}
-use Rattle.tib_grammar.specs.Run.{rule_at, AreRuns, IsCost}
+use Rattle.tib_grammar.specs.Run.{rule_at, IsCost}
 use Rattle.tib_grammar.specs.Forms.{AreNormal}
-use Rattle.tib_grammar.proofs.NormalRuns.{count-yields, Begins, BeginsBelow, IsLeast-no_states, IsLeast-one_more, IsLeast-no_rules, IsLeast-rule, IsLeast-no_rule, IsLeast-all_rules}
+use Rattle.tib_grammar.proofs.NormalRuns.{count-yields, BeginsBelow, IsLeast-no_states, IsLeast-one_more, IsLeast-no_rules, IsLeast-rule, IsLeast-no_rule, IsLeast-all_rules}
 use Rattle.tib_grammar.specs.declared.Rule.{Rule}
 use Rattle.tib_cost.specs.Semiring.{ProductLaws}
 use Rattle.tib_cost.specs.Least.{IsLeast, times, lesser}

@@ -1,6 +1,6 @@
 -- A grammar whose rules cover those of another has no greater series.
-use Rattle.std.specs.Prelude.{◌≡◌, ℕ, ◌<◌, ◌≤◌, ◌↔◌, List, [], ◌∷◌, length, Bool, Option, refl}
-use Rattle.std.proofs.Common.{arith, ap, sym, ◌∙◌, subst, le_refl, inl, inr}
+use Rattle.std.specs.Prelude.{◌≡◌, ℕ, ◌≤◌, List, [], ◌∷◌, Bool, Option, refl}
+use Rattle.std.proofs.Common.{ap, sym, ◌∙◌, subst, le_refl, inl, inr}
 use Rattle.tib_lex.specs.Lists.{Has}
 use Rattle.tib_tree.specs.Trees.{Tree, Trees, none, tree, join, only}
 use Rattle.tib_grammar.specs.Sides.{holes_of, fill}

@@ -1,5 +1,5 @@
 -- Members of lists.
-use Rattle.std.proofs.Common.{◌≡◌, ℕ, ◌<◌, ◌+◌, ◌⊎◌, List, [], ◌∷◌, ◌++◌, length, get_or, refl, ap, sym, ◌∙◌, subst, arith, zero, suc, inl, inr}
+use Rattle.std.proofs.Common.{◌≡◌, ℕ, ◌<◌, ◌⊎◌, List, [], ◌∷◌, ◌++◌, length, get_or, refl, sym, subst, arith, zero, suc, inl, inr}
 use Rattle.tib_lex.specs.Lists.{Has, Each, Distinct}
 
 pub each_has : {A : Type 0} (P : A → Type 0) (xs : List A) (x : A) → Each P xs → Has xs x → P x
@@ -52,11 +52,3 @@ distinct_more (x ∷ xs) y d n = (
 pub each_more : {A : Type 0} (P : A → Type 0) (xs : List A) (y : A) → Each P xs → P y → Each P (xs ++ y ∷ [])
 each_more P [] y e p = (p, tt)
 each_more P (x ∷ xs) y e p = (e.0, each_more P xs y e.1 p)
-
--- what is behind a member that stood before is not distinct
-pub not_distinct : {A : Type 0} (xs : List A) (y : A) (ys : List A) → Has xs y → Distinct (xs ++ y ∷ ys) → ⊥
-not_distinct [] y ys h d = h
-not_distinct (x ∷ xs) y ys h d = elim h [
-  | inl e ↦ d.0 (subst (Has (xs ++ y ∷ ys)) (sym e) (has_right xs (y ∷ ys) y (inl refl)))
-  | inr k ↦ not_distinct xs y ys k d.1
-]

@@ -1,6 +1,6 @@
 -- Runs of a grammar in normal form, put together from the leaves.
-use Rattle.std.specs.Prelude.{◌≡◌, ℕ, ◌+◌, ◌<◌, ◌≤◌, List, [], ◌∷◌, ◌++◌, length, ◌⊎◌, Bool, refl, Option, None, Some}
-use Rattle.std.proofs.Common.{zero, suc, arith, ap, sym, ◌∙◌, subst, inl, inr}
+use Rattle.std.specs.Prelude.{◌≡◌, ℕ, ◌+◌, ◌<◌, List, [], ◌∷◌, length, ◌⊎◌, Bool, refl, Option, None, Some}
+use Rattle.std.proofs.Common.{arith, ap, sym, ◌∙◌, subst, inl, inr}
 use Rattle.tib_tree.specs.Trees.{Tree, Trees, none, tree, count, only, join, join-none, count-join}
 use Rattle.tib_grammar.specs.Sides.{Symbol, label, hole, holes, holes_of, fill}
 use Rattle.tib_grammar.specs.Run.{rule_at, AreRuns, yields, cost, IsCost}

@@ -1,11 +1,11 @@
 -- In deterministic form a tree has at most one run from the start.
-use Rattle.std.specs.Prelude.{◌≡◌, ℕ, ◌<◌, ◌⊎◌, List, [], ◌∷◌, ◌++◌, length, refl}
+use Rattle.std.specs.Prelude.{◌≡◌, ℕ, ◌<◌, List, [], ◌∷◌, length, refl}
 use Rattle.std.proofs.Common.{arith, ap, sym, ◌∙◌, subst, inl, inr}
 use Rattle.tib_lex.specs.Lists.{Has}
-use Rattle.tib_tree.specs.Trees.{Tree, Trees, none, tree, join, only, count, join-none}
-use Rattle.tib_grammar.specs.Sides.{Symbol, label, hole, Side as SideFor, holes, holes_of, fill, AreHoles, HolesAreLeaves, leaves, Lone}
+use Rattle.tib_tree.specs.Trees.{Trees, none, tree, join, only, count, join-none}
+use Rattle.tib_grammar.specs.Sides.{Symbol, label, hole, Side as SideFor, holes, holes_of, fill, HolesAreLeaves, leaves, Lone}
 use Rattle.tib_grammar.specs.Run.{rule_at, AreRuns, yields}
-use Rattle.tib_grammar.specs.Forms.{IsNormalSide, IsLoneState, StandsInSide, IsStartChain, IsDeterministic}
+use Rattle.tib_grammar.specs.Forms.{IsNormalSide, StandsInSide, IsStartChain, IsDeterministic}
 use Rattle.tib_grammar.specs.Range.{SidesEndInHoles}
 use Rattle.tib_grammar.specs.declared.Rule.{Rule}
 use Rattle.tib_grammar.proofs.Sides.{holes_of-label, fill-normal, leaves-holes}
@@ -118,7 +118,7 @@ module _ (rules : List (Rule ℕ)) where
       inside : StandsInSide rules state
       apart : StandsInSide rules 0 → ⊥
 
-    chained : (n : ℕ) (runs : Trees ℕ) → n < length rules → AreRuns rules (holes_of (rule_at rules n).right) runs → IsStartChain rules n → IsChained n runs
+    chained : (n : ℕ) (runs : Trees ℕ) → n < length rules → AreRuns rules (holes_of (rule_at rules n).right) runs → IsStartChain rules (rule_at rules n) → IsChained n runs
     chained n runs h a chain =
         let p : ℕ = chain.lone.state in
         let holes_are : holes_of (rule_at rules n).right ≡ p ∷ [] = ap holes_of chain.lone.is in

@@ -1,8 +1,8 @@
 -- Filling the holes of sides.
-use Rattle.std.proofs.Common.{◌≡◌, ℕ, ◌+◌, List, [], ◌∷◌, ◌++◌, length, map, refl, zero, suc, arith, ap, sym, ◌∙◌, length-append}
+use Rattle.std.proofs.Common.{◌≡◌, ℕ, List, [], ◌∷◌, ◌++◌, length, map, refl, zero, suc, arith, ap, sym, ◌∙◌, length-append}
 use Rattle.std.proofs.lemmas.List.{length-map, map-append}
-use Rattle.tib_tree.specs.Trees.{Tree, Trees, none, tree, count, first_trees, other_trees, only, relabel, preorder, count-first, count-other}
-use Rattle.tib_grammar.specs.Sides.{Symbol, label, hole, Side, holes, holes_of, fill, AreHoles, HolesAreLeaves, leaves, over, Lone, symbol_map, side_map}
+use Rattle.tib_tree.specs.Trees.{Trees, none, tree, count, first_trees, other_trees, only, relabel, preorder, count-other}
+use Rattle.tib_grammar.specs.Sides.{Symbol, label, hole, Side, holes, holes_of, fill, AreHoles, HolesAreLeaves, leaves, over, Lone, symbol_map}
 
 pub count-fill : {A P : Type 0} (s : Trees (Symbol A P)) (ts : Trees A) → count ts ≡ length (holes s) → count (fill s ts) ≡ count s
 count-fill none ts h = refl

@@ -1,5 +1,5 @@
 -- State names, and texts among the keys of a table.
-use Rattle.std.proofs.Common.{◌≡◌, ℕ, ◌+◌, ◌<◌, ◌≤◌, List, [], ◌∷◌, ◌++◌, length, map, take, Some, None, slice_get, Contains, get_or, Bool, true, false, not, cond, ◌||◌, position, refl, ap, sym, ◌∙◌, subst, arith, true≢false, zero, suc, inl, inr, ◌⊎◌}
+use Rattle.std.proofs.Common.{◌≡◌, ℕ, ◌+◌, ◌<◌, List, [], ◌∷◌, ◌++◌, length, map, take, Some, None, slice_get, Contains, get_or, Bool, true, false, not, cond, ◌||◌, position, refl, ap, sym, ◌∙◌, subst, arith, true≢false, zero, suc, inl, inr, ◌⊎◌}
 use Rattle.std.specs.Prelude.{nat_eq, nat_lt, ◌==◌, ◌&&◌, if◌then◌else◌}
 use Rattle.std.specs.Global.{Vec}
 use Rattle.std.specs.Cmp.Lexicographic.{pointwise}
@@ -11,9 +11,9 @@ use Rattle.indexmap.specs.IndexSet.{insert_key}
 use Rattle.std.proofs.lemmas.Bool.Decides.{nat_tests}
 use lib.Pointwise.{bytes_decides}
 use Rattle.tib_lex.specs.Bytes.{is_name_byte}
-use Rattle.tib_lex.specs.Lists.{Has, Each, Distinct}
+use Rattle.tib_lex.specs.Lists.{Has, Distinct}
 use Rattle.tib_grammar.specs.StateName.{IsStateName, AreStateNames}
-use Rattle.tib_grammar.proofs.Members.{has_at, at_has, each_has, each_more, distinct_more}
+use Rattle.tib_grammar.proofs.Members.{has_at, each_more, distinct_more}
 
 -- a byte of a state name
 abbrev pub is_state_byte : ℕ → Bool

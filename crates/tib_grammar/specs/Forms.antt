@@ -2,7 +2,7 @@
 use Rattle.std.specs.Prelude.{◌≡◌, ℕ, ◌<◌, ◌⊎◌, List, length}
 use Rattle.std.proofs.Common.{suc}
 use Rattle.tib_lex.specs.Lists.{Has}
-use Rattle.tib_tree.specs.Trees.{Tree, only}
+use Rattle.tib_tree.specs.Trees.{Tree}
 use Rattle.tib_grammar.specs.Sides.{Symbol, label, hole, Side as SideFor, holes_of, AreHoles, Lone}
 use Rattle.tib_grammar.specs.Run.{rule_at}
 use Rattle.tib_grammar.specs.declared.Rule.{Rule}
@@ -34,20 +34,20 @@ pub record StandsInSide (rules : List (Rule ℕ)) (q : ℕ) : Type 0 where
   pub stands : Has (holes_of (rule_at rules rule).right) q
 
 -- a rule from the start to a lone state, while the start stands in no right side
-pub record IsStartChain (rules : List (Rule ℕ)) (n : ℕ) : Type 0 where
-  pub left : (rule_at rules n).left ≡ 0
-  pub lone : IsLoneState (rule_at rules n).right
+pub record IsStartChain (rules : List (Rule ℕ)) (r : Rule ℕ) : Type 0 where
+  pub left : r.left ≡ 0
+  pub lone : IsLoneState r.right
   pub apart : StandsInSide rules 0 → ⊥
 
 -- the right side of a rule in deterministic form
-abbrev pub IsShaped : List (Rule ℕ) → ℕ → Type 0
-IsShaped rules n = IsNormalSide (rule_at rules n).right ⊎ IsStartChain rules n
+abbrev pub IsShaped : List (Rule ℕ) → Rule ℕ → Type 0
+IsShaped rules r = IsNormalSide r.right ⊎ IsStartChain rules r
 
 -- Deterministic form (bottom-up determinism, Comon et al. 2007): each right side is one label over states, or a
 -- lone state in a rule of the start while the start stands in no right side; and no two rules have the same right
 -- side.
 pub record IsDeterministic (rules : List (Rule ℕ)) : Type 0 where
-  pub shaped : (n : ℕ) → n < length rules → IsShaped rules n
+  pub shaped : (n : ℕ) → n < length rules → IsShaped rules (rule_at rules n)
   pub apart : (m n : ℕ) → m < length rules → n < length rules → (rule_at rules m).right ≡ (rule_at rules n).right → m ≡ n
 
 -- no rule before n has its right side
@@ -55,18 +55,18 @@ abbrev pub IsNew : List (Rule ℕ) → ℕ → Type 0
 IsNew rules n = (m : ℕ) → m < n → (rule_at rules m).right ≡ (rule_at rules n).right → ⊥
 
 -- a right side that is neither one label over states nor a lone state
-pub record IsNested (rules : List (Rule ℕ)) (n : ℕ) : Type 0 where
-  pub not_normal : IsNormalSide (rule_at rules n).right → ⊥
-  pub not_lone : IsLoneState (rule_at rules n).right → ⊥
+pub record IsNested (r : Rule ℕ) : Type 0 where
+  pub not_normal : IsNormalSide r.right → ⊥
+  pub not_lone : IsLoneState r.right → ⊥
 
 -- a lone state on the right, but not in a rule of the start, or while the start stands in some right side
-pub record IsBrokenChain (rules : List (Rule ℕ)) (n : ℕ) : Type 0 where
-  pub lone : IsLoneState (rule_at rules n).right
-  pub broken : ((rule_at rules n).left ≡ 0 → ⊥) ⊎ StandsInSide rules 0
+pub record IsBrokenChain (rules : List (Rule ℕ)) (r : Rule ℕ) : Type 0 where
+  pub lone : IsLoneState r.right
+  pub broken : (r.left ≡ 0 → ⊥) ⊎ StandsInSide rules 0
 
--- a right side that stood before, first in the rule with the number `first`
+-- the right side of rule n stood before, first in the rule with the number `first`
 pub record IsShared (rules : List (Rule ℕ)) (first n : ℕ) : Type 0 where
-  pub shaped : IsShaped rules n
+  pub shaped : IsShaped rules (rule_at rules n)
   pub position : ℕ
   pub numbered : first ≡ suc position
   pub before : position < n
@@ -78,13 +78,13 @@ pub record IsFirstFault (rules : List (Rule ℕ)) (number : ℕ) (Fault : ℕ �
   pub position : ℕ
   pub numbered : number ≡ suc position
   pub below : position < length rules
-  pub shaped : (m : ℕ) → m < position → IsShaped rules m
+  pub shaped : (m : ℕ) → m < position → IsShaped rules (rule_at rules m)
   pub new : (m : ℕ) → m < position → IsNew rules m
   pub fault : Fault position
 
 -- what each fault says of the rules; numbers of rules begin at 1
 abbrev pub IsFaultOf : List (Rule ℕ) → DeterminismFault → Type 0
-IsFaultOf rules (Nested rule) = IsFirstFault rules rule (IsNested rules)
-IsFaultOf rules (Chain rule) = IsFirstFault rules rule (IsBrokenChain rules)
+IsFaultOf rules (Nested rule) = IsFirstFault rules rule (λ n. IsNested (rule_at rules n))
+IsFaultOf rules (Chain rule) = IsFirstFault rules rule (λ n. IsBrokenChain rules (rule_at rules n))
 IsFaultOf rules (Shared first second) = IsFirstFault rules second (IsShared rules first)
 IsFaultOf rules OutOfMemory = Unit {0}

@@ -1,8 +1,8 @@
 -- Runs of a grammar, what they yield, and what they cost (derivations of a regular tree grammar).
 use Rattle.std.specs.Prelude.{◌≡◌, ℕ, ◌<◌, List, [], ◌∷◌, length}
-use Rattle.std.proofs.Common.{get_or, zero, suc}
+use Rattle.std.proofs.Common.{get_or}
 use Rattle.tib_tree.specs.Trees.{Trees, none, tree, only, join}
-use Rattle.tib_grammar.specs.Sides.{label, Side, holes_of, fill}
+use Rattle.tib_grammar.specs.Sides.{label, holes_of, fill}
 use Rattle.tib_grammar.specs.declared.Rule.{Rule}
 
 -- what is read past the last rule

@@ -1,5 +1,5 @@
 -- Names of states.
-use Rattle.std.specs.Prelude.{◌≡◌, ℕ, false, nat_eq, List, ◌<◌, length}
+use Rattle.std.specs.Prelude.{◌≡◌, ℕ, false, nat_eq, List}
 use Rattle.std.specs.List.{list_any}
 use Rattle.tib_lex.specs.Grammar.{IsName}
 use Rattle.tib_lex.specs.Lists.{Each, Distinct}

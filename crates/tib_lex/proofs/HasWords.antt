@@ -235,10 +235,11 @@ same_token t word at e = cc
 token_word : (bytes bl back : List ℕ) (t : Token) (f : Found back (length bl) (lexed.Token t)) → bytes ≡ bl ++ back → (word_of t.kind (slice_range bytes t.start t.end) ≡ f.word) × (drop t.end bytes ≡ f.rest)
 token_word bytes bl back t f e =
     let same : t ≡ token_of f.word (length bl) = same_token t f.word (length bl) f.is in
-    let parts : bytes ≡ bl ++ (spelling f.word ++ f.rest) = behind bytes bl back f.rest f.word e f.begins in
-    (ap (λ (u : Token). word_of u.kind (slice_range bytes u.start u.end)) same
-        ∙ ap (λ (l : List ℕ). word_of (kind_of f.word) (slice_range l (length bl) (length bl + length (spelling f.word)))) parts ∙ word_there bl f.word f.rest,
-      ap (λ (u : Token). drop u.end bytes) same ∙ ap (λ (l : List ℕ). drop (length bl + length (spelling f.word)) l) parts ∙ drop_there bl (spelling f.word) f.rest)
+    let parts : bytes ≡ bl ++ (spelling f.word ++ f.rest) = behind bytes bl back f.rest f.word e f.begins in (
+      ap (λ (u : Token). word_of u.kind (slice_range bytes u.start u.end)) same
+          ∙ ap (λ (l : List ℕ). word_of (kind_of f.word) (slice_range l (length bl) (length bl + length (spelling f.word)))) parts ∙ word_there bl f.word f.rest,
+      ap (λ (u : Token). drop u.end bytes) same ∙ ap (λ (l : List ℕ). drop (length bl + length (spelling f.word)) l) parts ∙ drop_there bl (spelling f.word) f.rest,
+    )
 
 put_before : (w : Word) (o : Option (List Word)) (words : List Word) → option_map (λ ws. w ∷ ws) o ≡ Some words → (more : List Word) × (o ≡ Some more) × (words ≡ w ∷ more)
 put_before w None words e = let bad : None ≡ Some words = e in absurd (cc)
@@ -304,9 +305,9 @@ bad_in zero bytes few e = absurd (omega arith)
 bad_in (suc n) bytes few e =
     bad_after n bytes (split_blanks bytes) (next bytes 0) (means_of bytes (split_blanks bytes))
     (λ t is none.
-      let h = takes bytes t is in
-      let d = length-drop t.end bytes in
-      bad_in n (drop t.end bytes) (omega (arith, h.0, h.1)) none) e
+    let h = takes bytes t is in
+    let d = length-drop t.end bytes in
+    bad_in n (drop t.end bytes) (omega (arith, h.0, h.1)) none) e
 
 pub bad_had : (bytes : List ℕ) → words_of bytes ≡ None → HasBadToken bytes
 unfolding words_of

@@ -10,6 +10,7 @@ mod text;
 mod token;
 mod tokens;
 
+pub use bytes::is_name;
 pub use fault::{FaultKind, FileFault, LineError, ReadError, file_error};
 pub use laws::{files_have_lines, lines_have_words, tokens_are_words};
 pub use lines::{Line, line_bytes, next_line};

@@ -3,3 +3,8 @@ pub mod Index
 pub mod IsIndex
 pub mod NormalView
 pub mod Keys
+pub mod NormalForm
+pub mod Links
+pub mod Entries
+pub mod Agenda
+pub mod Closure

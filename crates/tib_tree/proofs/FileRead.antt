@@ -11,36 +11,28 @@ use Rattle.tib_lex.specs.declared.fault.LineError.{LineError}
 use Rattle.tib_lex.specs.declared.fault.LineError.TheVariants as line_errors
 use Rattle.tib_lex.specs.declared.fault.ReadError.{ReadError}
 use Rattle.tib_lex.specs.declared.fault.FileFault.{FileFault}
-pub use Rattle.tib_lex.proofs.LinesRead.{lines_step}
 use Rattle.tib_lex.proofs.LinesRead.{front_none, front_more, line_read, none_left}
 use Rattle.tib_tree.specs.Grows.{Grows}
 use Rattle.tib_tree.specs.Written.{Item}
 use Rattle.tib_tree.specs.Nodes.{AreNodes}
 use Rattle.tib_tree.specs.Lines.{tree_line}
 use Rattle.tib_tree.specs.File.{trees_from, trees_of, AreTrees, Adds, AddsLine, IsFile, Pushes}
-use Rattle.tib_tree.specs.declared.trees.Tree.{Tree}
+use Rattle.tib_tree.specs.Trees.{Tree, preorder_of}
 use Rattle.tib_tree.proofs.NodesRead.{nodes_grow}
 
 -- what was read so far
-pub record SoFar (labels : List (List ℕ)) (trees : List Tree) (n : ℕ) (left bytes : List ℕ) : Type 0 where
+pub record SoFar (labels : List (List ℕ)) (trees : List (Tree ℕ)) (n : ℕ) (left bytes : List ℕ) : Type 0 where
   pub done : List (List Item)
   pub trees_are : AreTrees labels trees done
   pub wanted : front done (trees_from n (lines_of left)) ≡ trees_of bytes
 
--- the next line
-pub record Next (bytes : List ℕ) (at end : ℕ) (line : List ℕ) : Type 0 where
-  pub more : at < length bytes
-  pub long : length line ≡ prefix_len not_feed (drop at bytes)
-  pub ends : end ≡ at + length line
-  pub is : line ≡ take (prefix_len not_feed (drop at bytes)) (drop at bytes)
-
-trees_grow : (a b : List (List ℕ)) (ts : List Tree) (iss : List (List Item)) → Grows a b → AreTrees a ts iss → AreTrees b ts iss
+trees_grow : (a b : List (List ℕ)) (ts : List (Tree ℕ)) (iss : List (List Item)) → Grows a b → AreTrees a ts iss → AreTrees b ts iss
 trees_grow a b [] [] g h = tt
 trees_grow a b [] (is ∷ iss) g h = absurd h
 trees_grow a b (t ∷ ts) [] g h = absurd h
-trees_grow a b (t ∷ ts) (is ∷ iss) g h = (nodes_grow a b t.nodes.items is g h.0, trees_grow a b ts iss g h.1)
+trees_grow a b (t ∷ ts) (is ∷ iss) g h = (nodes_grow a b (preorder_of t) is g h.0, trees_grow a b ts iss g h.1)
 
-trees_more : (a : List (List ℕ)) (ts : List Tree) (iss : List (List Item)) (t : Tree) (is : List Item) → AreTrees a ts iss → AreNodes a t.nodes.items is → AreTrees a (ts ++ t ∷ []) (iss ++ is ∷ [])
+trees_more : (a : List (List ℕ)) (ts : List (Tree ℕ)) (iss : List (List Item)) (t : Tree ℕ) (is : List Item) → AreTrees a ts iss → AreNodes a (preorder_of t) is → AreTrees a (ts ++ t ∷ []) (iss ++ is ∷ [])
 trees_more a [] [] t is h k = (k, tt)
 trees_more a [] (js ∷ iss) t is h k = absurd h
 trees_more a (u ∷ ts) [] t is h k = absurd h
@@ -53,32 +45,32 @@ starts labels bytes = record { done = []; trees_are = tt; wanted = front_none (t
 step : (so : Result (List (List Item)) FileFault) (done : List (List Item)) (n at : ℕ) (bytes : List ℕ) (line : Line) (r : Result (Option (List Item)) FaultKind) → IsNextLine bytes n at line → tree_line (slice_range bytes line.start line.end) ≡ r → front done (trees_from n (lines_of (drop at bytes))) ≡ so → front done (with_line n r (trees_from (n + 1) (lines_of (drop line.next bytes)))) ≡ so
 step so done n at bytes line r is e w = ap (front done) (ap (λ x. with_line n x (trees_from (n + 1) (lines_of (drop line.next bytes)))) (sym e) ∙ sym (line_read tree_line bytes n at line is)) ∙ w
 
-pub adds : (a b : List (List ℕ)) (ts us : List Tree) (n at : ℕ) (line : Line) (bytes : List ℕ) → IsNextLine bytes n at line → Grows a b → Adds b ts us (tree_line (slice_range bytes line.start line.end)) → SoFar a ts n (drop at bytes) bytes → SoFar b us (n + 1) (drop line.next bytes) bytes
+pub adds : (a b : List (List ℕ)) (ts us : List (Tree ℕ)) (n at : ℕ) (line : Line) (bytes : List ℕ) → IsNextLine bytes n at line → Grows a b → Adds b ts us (tree_line (slice_range bytes line.start line.end)) → SoFar a ts n (drop at bytes) bytes → SoFar b us (n + 1) (drop line.next bytes) bytes
 adds a b ts us n at line bytes next g (inl (none, same)) so = record {
   done = so.done;
-  trees_are = subst (λ (vs : List Tree). AreTrees b vs so.done) (sym same) (trees_grow a b ts so.done g so.trees_are);
+  trees_are = subst (λ (vs : List (Tree ℕ)). AreTrees b vs so.done) (sym same) (trees_grow a b ts so.done g so.trees_are);
   wanted = step (trees_of bytes) so.done n at bytes line (Ok None) next none so.wanted;
 }
 adds a b ts us n at line bytes next g (inr (t, is, some, are, same)) so = record {
   done = so.done ++ is ∷ [];
-  trees_are = subst (λ (vs : List Tree). AreTrees b vs (so.done ++ is ∷ [])) (sym same) (trees_more b ts so.done t is (trees_grow a b ts so.done g so.trees_are) are);
+  trees_are = subst (λ (vs : List (Tree ℕ)). AreTrees b vs (so.done ++ is ∷ [])) (sym same) (trees_more b ts so.done t is (trees_grow a b ts so.done g so.trees_are) are);
   wanted = sym (front_more so.done is (trees_from (n + 1) (lines_of (drop line.next bytes)))) ∙ step (trees_of bytes) so.done n at bytes line (Ok (Some is)) next some so.wanted;
 }
 
-pub ended : (a : List (List ℕ)) (ts : List Tree) (n at : ℕ) (bytes : List ℕ) → at ≡ length bytes → SoFar a ts n (drop at bytes) bytes → (iss : List (List Item)) × (trees_of bytes ≡ Ok iss) × AreTrees a ts iss
+pub ended : (a : List (List ℕ)) (ts : List (Tree ℕ)) (n at : ℕ) (bytes : List ℕ) → at ≡ length bytes → SoFar a ts n (drop at bytes) bytes → (iss : List (List Item)) × (trees_of bytes ≡ Ok iss) × AreTrees a ts iss
 ended a ts n at bytes h so =
     (so.done, sym so.wanted ∙ ap (front so.done) (none_left tree_line bytes n at h) ∙ ap Ok (append-nil so.done), so.trees_are)
 
-pub line_added : (labels : List (List ℕ)) (before now : List Tree) (t : Tree) (r : Result (Unit {0}) LineError) (wanted : Result (Option (List Item)) FaultKind) → (is : List Item) × (wanted ≡ Ok (Some is)) × AreNodes labels t.nodes.items is → Pushes before now t r → AddsLine labels before now r wanted
+pub line_added : (labels : List (List ℕ)) (before now : List (Tree ℕ)) (t : Tree ℕ) (r : Result (Unit {0}) LineError) (wanted : Result (Option (List Item)) FaultKind) → (is : List Item) × (wanted ≡ Ok (Some is)) × AreNodes labels (preorder_of t) is → Pushes before now t r → AddsLine labels before now r wanted
 line_added labels before now t (Ok done) wanted (is, some, are) e = inr (t, is, some, are, e)
 line_added labels before now t (Err (line_errors.Fault kind)) wanted h e = cc
 line_added labels before now t (Err line_errors.OutOfMemory) wanted h e = tt
 
-failed_as : (a b : List (List ℕ)) (ts us : List Tree) (n m at : ℕ) (line : Line) (bytes : List ℕ) (error : LineError) → n ≡ m → IsNextLine bytes n at line → AddsLine b ts us (Err error) (tree_line (slice_range bytes line.start line.end)) → SoFar a ts n (drop at bytes) bytes → IsFile b (Err (file_error_of m error)) (trees_of bytes)
+failed_as : (a b : List (List ℕ)) (ts us : List (Tree ℕ)) (n m at : ℕ) (line : Line) (bytes : List ℕ) (error : LineError) → n ≡ m → IsNextLine bytes n at line → AddsLine b ts us (Err error) (tree_line (slice_range bytes line.start line.end)) → SoFar a ts n (drop at bytes) bytes → IsFile b (Err (file_error_of m error)) (trees_of bytes)
 failed_as a b ts us n m at line bytes (line_errors.Fault kind) e next h so =
     sym (step (trees_of bytes) so.done n at bytes line (Err kind) next h so.wanted) ∙ ap (λ (k : ℕ). Err (record { line = k; kind = kind })) e
 failed_as a b ts us n m at line bytes line_errors.OutOfMemory e next h so = tt
 
-pub failed : (a b : List (List ℕ)) (ts us : List Tree) (n at : ℕ) (line : Line) (bytes : List ℕ) (error : LineError) (r : ReadError) → IsNextLine bytes n at line → r ≡ file_error_of line.number error → AddsLine b ts us (Err error) (tree_line (slice_range bytes line.start line.end)) → SoFar a ts n (drop at bytes) bytes → IsFile b (Err r) (trees_of bytes)
+pub failed : (a b : List (List ℕ)) (ts us : List (Tree ℕ)) (n at : ℕ) (line : Line) (bytes : List ℕ) (error : LineError) (r : ReadError) → IsNextLine bytes n at line → r ≡ file_error_of line.number error → AddsLine b ts us (Err error) (tree_line (slice_range bytes line.start line.end)) → SoFar a ts n (drop at bytes) bytes → IsFile b (Err r) (trees_of bytes)
 failed a b ts us n at line bytes error r next e h so =
     subst (λ (x : ReadError). IsFile b (Err x) (trees_of bytes)) (sym e) (failed_as a b ts us n line.number at line bytes error (sym next.numbered) next h so)

@@ -7,3 +7,9 @@ pub mod LineRead
 pub mod FileRead
 pub mod Values
 pub mod Preorders
+pub mod Fill
+pub mod Sizing
+pub mod Placing
+pub mod Writing
+pub mod Runs
+pub mod Printing

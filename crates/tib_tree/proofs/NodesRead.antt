@@ -8,7 +8,6 @@ use Rattle.tib_tree.specs.Grows.{Grows}
 use Rattle.tib_tree.specs.Written.{Item}
 use Rattle.tib_tree.specs.Nodes.{IsNode, AreNodes}
 use Rattle.tib_tree.specs.Shape.{item_of, item_at, items_back}
-use Rattle.tib_tree.specs.declared.trees.Node.{Node}
 use Rattle.tib_tree.specs.declared.shape.Place.{Place}
 
 pub item_text : (word : Word) (kids : Option ℕ) → (item_of word kids).text ≡ text_of word
@@ -28,13 +27,13 @@ item_kids hash kids = refl
 item_kids arrow kids = refl
 
 -- nodes stay as the table grows
-pub nodes_grow : (a b : List (List ℕ)) (ns : List Node) (is : List Item) → Grows a b → AreNodes a ns is → AreNodes b ns is
+pub nodes_grow : (a b : List (List ℕ)) (ns : List (ℕ × ℕ)) (is : List Item) → Grows a b → AreNodes a ns is → AreNodes b ns is
 nodes_grow a b [] [] g h = tt
 nodes_grow a b [] (i ∷ is) g h = absurd h
 nodes_grow a b (n ∷ ns) [] g h = absurd h
-nodes_grow a b (n ∷ ns) (i ∷ is) g h = ((g.kept n.label i.text h.0.0, h.0.1), nodes_grow a b ns is g h.1)
+nodes_grow a b (n ∷ ns) (i ∷ is) g h = ((g.kept n.0 i.text h.0.0, h.0.1), nodes_grow a b ns is g h.1)
 
-pub nodes_more : (a : List (List ℕ)) (ns : List Node) (is : List Item) (n : Node) (i : Item) → AreNodes a ns is → IsNode a n i → AreNodes a (ns ++ n ∷ []) (is ++ i ∷ [])
+pub nodes_more : (a : List (List ℕ)) (ns : List (ℕ × ℕ)) (is : List Item) (n : ℕ × ℕ) (i : Item) → AreNodes a ns is → IsNode a n i → AreNodes a (ns ++ n ∷ []) (is ++ i ∷ [])
 nodes_more a [] [] n i h k = (k, tt)
 nodes_more a [] (j ∷ is) n i h k = absurd h
 nodes_more a (m ∷ ns) [] n i h k = absurd h
@@ -45,8 +44,8 @@ pub back_more : (line : List ℕ) (places : List Place) (i : ℕ) (d : Place) �
 back_more line places zero d h k = absurd (omega arith)
 back_more line places (suc i) d h k = rw (sub-one, drop-cons places i d) (reverse-append (item_at line (get_or places i d) ∷ []) (map (item_at line) (drop (suc i) places)))
 
-pub nodes_step : (line : List ℕ) (places : List Place) (i : ℕ) (d : Place) (a b : List (List ℕ)) (ns more : List Node) (n : Node) → 0 < i → i ≤ length places → AreNodes a ns (items_back line (drop i places)) → Grows a b → IsNode b n (item_at line (get_or places (i - 1) d)) → more ≡ ns ++ n ∷ [] → AreNodes b more (items_back line (drop (i - 1) places))
+pub nodes_step : (line : List ℕ) (places : List Place) (i : ℕ) (d : Place) (a b : List (List ℕ)) (ns more : List (ℕ × ℕ)) (n : ℕ × ℕ) → 0 < i → i ≤ length places → AreNodes a ns (items_back line (drop i places)) → Grows a b → IsNode b n (item_at line (get_or places (i - 1) d)) → more ≡ ns ++ n ∷ [] → AreNodes b more (items_back line (drop (i - 1) places))
 nodes_step line places i d a b ns more n h k all g new e =
     subst (λ (is : List Item). AreNodes b more is) (sym (back_more line places i d h k))
-    (subst (λ (ms : List Node). AreNodes b ms (items_back line (drop i places) ++ item_at line (get_or places (i - 1) d) ∷ [])) (sym e)
+    (subst (λ (ms : List (ℕ × ℕ)). AreNodes b ms (items_back line (drop i places) ++ item_at line (get_or places (i - 1) d) ∷ [])) (sym e)
     (nodes_more b ns (items_back line (drop i places)) n (item_at line (get_or places (i - 1) d)) (nodes_grow a b ns (items_back line (drop i places)) g all) new))

@@ -1,67 +1,80 @@
 -- The value of nodes that were read.
-use Rattle.std.proofs.Common.{◌≡◌, ℕ, List, [], ◌∷◌, ◌++◌, refl, ap, sym, ◌∙◌, suc}
-use Rattle.std.specs.Prelude.{map}
-use Rattle.std.proofs.lemmas.List.{map-append}
-use Rattle.std.proofs.lemmas.Option.{get_or_from_slice_get}
-use Rattle.tib_tree.specs.Trees.{Trees, none, tree, preorder, relabel, count as trees_count}
-use Rattle.tib_tree.specs.Written.{Written, end, leaf, head, count, Item, items}
-use Rattle.tib_tree.specs.Nodes.{AreNodes}
-use Rattle.tib_tree.specs.Meaning.{trees, text_at, pair_of, IsValue}
-use Rattle.tib_tree.specs.declared.trees.Node.{Node}
+use Rattle.std.proofs.Common.{◌≡◌, ℕ, ◌+◌, List, [], ◌∷◌, ◌++◌, refl, ap, sym, ◌∙◌, subst, zero, suc, arith}
+use Rattle.std.specs.Prelude.{slice_get, Some, None}
+use Rattle.tib_lex.specs.Grammar.{Word}
+use Rattle.tib_tree.specs.Trees.{Tree, Trees, none, tree, only, preorder, preorder_of, parse, count as trees_count, IsOneTree, HasChildren, HasChildren_of_preorder, parse_of_preorder, append_nil}
+use Rattle.tib_tree.specs.Written.{Written, end, leaf, head, spell, count, Item, items}
+use Rattle.tib_tree.specs.Machine.{IsTree}
+use Rattle.tib_tree.specs.Nodes.{IsNode, AreNodes, rank_of}
+use Rattle.tib_tree.specs.Meaning.{Says, SpellsTree, HaveValue}
 
-record Parts (labels : List (List ℕ)) (ns : List Node) (xs ys : List Item) : Type 0 where
-  left : List Node
-  right : List Node
+record Parts (labels : List (List ℕ)) (ns : List (ℕ × ℕ)) (xs ys : List Item) : Type 0 where
+  left : List (ℕ × ℕ)
+  right : List (ℕ × ℕ)
   all : ns ≡ left ++ right
   are_left : AreNodes labels left xs
   are_right : AreNodes labels right ys
 
-split : (labels : List (List ℕ)) (ns : List Node) (xs ys : List Item) → AreNodes labels ns (xs ++ ys) → Parts labels ns xs ys
+split : (labels : List (List ℕ)) (ns : List (ℕ × ℕ)) (xs ys : List Item) → AreNodes labels ns (xs ++ ys) → Parts labels ns xs ys
 split labels ns [] ys h = record { left = []; right = ns; all = refl; are_left = tt; are_right = h }
 split labels [] (x ∷ xs) ys h = absurd h
 split labels (n ∷ ns) (x ∷ xs) ys h =
     let p = split labels ns xs ys h.1 in
-    record { left = n ∷ p.left; right = p.right; all = ap (λ (ms : List Node). n ∷ ms) p.all; are_left = (h.0, p.are_left); are_right = p.are_right }
+    record { left = n ∷ p.left; right = p.right; all = ap (λ (ms : List (ℕ × ℕ)). n ∷ ms) p.all; are_left = (h.0, p.are_left); are_right = p.are_right }
 
-count_trees : (w : Written) → trees_count (trees w) ≡ count w
-count_trees end = refl
-count_trees (leaf q t rest) = ap suc (count_trees rest)
-count_trees (head q t kids rest) = ap suc (count_trees rest)
+-- as many trees are said as are written
+pub count_said : (labels : List (List ℕ)) (w : Written) (ts : Trees ℕ) → Says labels w ts → trees_count ts ≡ count w
+count_said labels end none h = refl
+count_said labels end (tree f kids rest) h = absurd h
+count_said labels (leaf q t more) none h = absurd h
+count_said labels (leaf q t more) (tree f none rest) h = ap suc (count_said labels more rest h.1)
+count_said labels (leaf q t more) (tree f (tree g kids others) rest) h = absurd h
+count_said labels (head q t inner more) none h = absurd h
+count_said labels (head q t inner more) (tree f kids rest) h = ap suc (count_said labels more rest h.2)
 
-count_relabel : {A B : Type 0} (g : A → B) (ts : Trees A) → trees_count (relabel g ts) ≡ trees_count ts
-count_relabel g none = refl
-count_relabel g (tree f kids rest) = ap suc (count_relabel g rest)
+same_pair : (f : ℕ) (n : ℕ × ℕ) (r : ℕ) → f ≡ n.0 → r ≡ n.1 → ◌≡◌ {A = ℕ × ℕ} (f, r) n
+same_pair f n r e g = ap {A = ℕ} {B = ℕ × ℕ} (λ x. (x, r)) e ∙ ap {A = ℕ} {B = ℕ × ℕ} (λ x. (n.0, x)) g
 
-many : (labels : List (List ℕ)) (w : Written) (ns : List Node) (v : IsValue labels w ns) → trees_count v.value ≡ count w
-many labels w ns v = sym (count_relabel (text_at labels) v.value) ∙ ap trees_count v.texts ∙ count_trees w
-
-same_pair : (f r s : ℕ) → r ≡ s → ◌≡◌ {A = ℕ × ℕ} (f, s) (f, r)
-same_pair f r s e = ap {A = ℕ} {B = ℕ × ℕ} (λ x. (f, x)) (sym e)
-
-pub value_of : (labels : List (List ℕ)) (w : Written) (ns : List Node) → AreNodes labels ns (items w) → IsValue labels w ns
-value_of labels end [] h = record { value = none; nodes = refl; texts = refl }
+pub value_of : (labels : List (List ℕ)) (w : Written) (ns : List (ℕ × ℕ)) → AreNodes labels ns (items w) → HaveValue labels w ns
+value_of labels end [] h = record { value = none; nodes = refl; says = tt }
 value_of labels end (n ∷ ns) h = absurd h
-value_of labels (leaf q t rest) [] h = absurd h
-value_of labels (leaf q t rest) (n ∷ ns) h =
-    let v = value_of labels rest ns h.1 in
-    let text : text_at labels n.label ≡ t = get_or_from_slice_get labels n.label t [] h.0.0 in
+value_of labels (leaf q t more) [] h = absurd h
+value_of labels (leaf q t more) (n ∷ ns) h =
+    let v = value_of labels more ns h.1 in
     record {
-      value = tree n.label none v.value;
-      nodes = ap (λ (x : ℕ × ℕ). x ∷ preorder v.value) (same_pair n.label n.rank 0 h.0.1) ∙ ap (λ (xs : List (ℕ × ℕ)). (n.label, n.rank) ∷ xs) v.nodes;
-      texts = ap (λ (x : List ℕ). tree x none (relabel (text_at labels) v.value)) text ∙ ap (tree t none) v.texts;
+      value = tree n.0 none v.value;
+      nodes = ap (λ (x : ℕ × ℕ). x ∷ preorder v.value) (same_pair n.0 n 0 refl (sym h.0.1)) ∙ ap (λ (xs : List (ℕ × ℕ)). n ∷ xs) v.nodes;
+      says = (h.0.0, v.says);
     }
-value_of labels (head q t kids rest) [] h = absurd h
-value_of labels (head q t kids rest) (n ∷ ns) h =
-    let p = split labels ns (items kids) (items rest) h.1 in
-    let v = value_of labels kids p.left p.are_left in
-    let w = value_of labels rest p.right p.are_right in
-    let text : text_at labels n.label ≡ t = get_or_from_slice_get labels n.label t [] h.0.0 in
-    let pairs : preorder v.value ++ preorder w.value ≡ map pair_of ns =
-    ap (λ (xs : List (ℕ × ℕ)). xs ++ preorder w.value) v.nodes ∙ ap (λ (xs : List (ℕ × ℕ)). map pair_of p.left ++ xs) w.nodes ∙ sym (map-append pair_of p.left p.right) ∙ ap (map pair_of) (sym p.all) in
+value_of labels (head q t inner more) [] h = absurd h
+value_of labels (head q t inner more) (n ∷ ns) h =
+    let p = split labels ns (items inner) (items more) h.1 in
+    let v = value_of labels inner p.left p.are_left in
+    let w = value_of labels more p.right p.are_right in
+    let rank : trees_count v.value ≡ n.1 = count_said labels inner v.value v.says ∙ sym h.0.1 in
     record {
-      value = tree n.label v.value w.value;
-      nodes = ap (λ (x : ℕ × ℕ). x ∷ (preorder v.value ++ preorder w.value)) (same_pair n.label n.rank (trees_count v.value) (h.0.1 ∙ sym (many labels kids p.left v))) ∙ ap (λ (xs : List (ℕ × ℕ)). (n.label, n.rank) ∷ xs) pairs;
-      texts = ap (λ (x : List ℕ). tree x (relabel (text_at labels) v.value) (relabel (text_at labels) w.value)) text
-          ∙ ap (λ (us : Trees (List ℕ)). tree t us (relabel (text_at labels) w.value)) v.texts
-          ∙ ap (tree t (trees kids)) w.texts;
+      value = tree n.0 v.value w.value;
+      nodes = ap (λ (x : ℕ × ℕ). x ∷ (preorder v.value ++ preorder w.value)) (same_pair n.0 n (trees_count v.value) refl rank)
+          ∙ ap (λ (xs : List (ℕ × ℕ)). n ∷ (xs ++ preorder w.value)) v.nodes
+          ∙ ap (λ (xs : List (ℕ × ℕ)). n ∷ (p.left ++ xs)) w.nodes
+          ∙ ap (λ (xs : List (ℕ × ℕ)). n ∷ xs) (sym p.all);
+      says = (h.0.0, v.says, w.says);
     }
+
+-- nodes of one tree that is written are the preorder of one tree
+pub one_read : (labels : List (List ℕ)) (words : List Word) (is : List Item) (ns : List (ℕ × ℕ)) → IsTree words is → AreNodes labels ns is → IsOneTree ns
+one_read labels words is ns t are =
+    let v = value_of labels t.tree ns (subst (λ (js : List Item). AreNodes labels ns js) (sym t.nodes) are) in
+    let one : trees_count v.value ≡ 1 = count_said labels t.tree v.value v.says ∙ t.one in
+    record {
+      nested = subst HasChildren v.nodes (HasChildren_of_preorder v.value);
+      one = sym (ap (λ (xs : List (ℕ × ℕ)). trees_count (parse xs)) v.nodes) ∙ ap trees_count (parse_of_preorder v.value) ∙ one;
+    }
+
+-- a tree with the nodes of what is written is what it says
+pub said : (labels : List (List ℕ)) (words : List Word) (is : List Item) (t : Tree ℕ) → IsTree words is → AreNodes labels (preorder_of t) is → SpellsTree labels words t
+said labels words is t tree_is are =
+    let v = value_of labels tree_is.tree (preorder_of t) (subst (λ (js : List Item). AreNodes labels (preorder_of t) js) (sym tree_is.nodes) are) in
+    let p : preorder v.value ≡ preorder (only t) = v.nodes ∙ ap (λ (xs : List (ℕ × ℕ)). (t.label, trees_count t.kids) ∷ xs) (sym (append_nil (preorder t.kids))) in
+    let same : v.value ≡ only t = sym (parse_of_preorder v.value) ∙ ap parse p ∙ parse_of_preorder (only t) in
+    record { written = tree_is.tree; spelled = tree_is.spelled; says = subst (λ (ts : Trees ℕ). Says labels tree_is.tree ts) same v.says }

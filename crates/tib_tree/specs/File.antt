@@ -1,12 +1,12 @@
 -- What a tree file holds.
 use Rattle.std.specs.Prelude.{◌≡◌, ℕ, ◌⊎◌, List, [], ◌∷◌, ◌++◌, Option, Some, None, Result, Ok, Err}
 use Rattle.std.specs.Global.{Vec}
-pub use Rattle.tib_lex.specs.Lines.{not_feed, lines_of, each_line}
+use Rattle.tib_lex.specs.Lines.{lines_of, each_line}
 use Rattle.tib_tree.specs.Written.{Item}
 use Rattle.tib_tree.specs.Nodes.{AreNodes}
 use Rattle.tib_tree.specs.Lines.{tree_line}
 use Rattle.tib_lex.specs.declared.fault.FaultKind.{FaultKind}
-use Rattle.tib_tree.specs.declared.trees.Tree.{Tree}
+use Rattle.tib_tree.specs.Trees.{Tree, preorder_of}
 use Rattle.tib_lex.specs.declared.fault.LineError.{LineError}
 use Rattle.tib_lex.specs.declared.fault.LineError.TheVariants as line_errors
 use Rattle.tib_lex.specs.declared.fault.FileFault.{FileFault}
@@ -21,29 +21,29 @@ trees_from n lines = each_line tree_line n lines
 unfoldable pub trees_of : List ℕ → Result (List (List Item)) FileFault
 trees_of bytes = trees_from 1 (lines_of bytes)
 
-abbrev pub AreTrees : List (List ℕ) → List Tree → List (List Item) → Type 0
+abbrev pub AreTrees : List (List ℕ) → List (Tree ℕ) → List (List Item) → Type 0
 AreTrees labels [] [] = Unit {0}
 AreTrees labels [] (is ∷ iss) = ⊥
 AreTrees labels (t ∷ ts) [] = ⊥
-AreTrees labels (t ∷ ts) (is ∷ iss) = AreNodes labels t.nodes.items is × AreTrees labels ts iss
+AreTrees labels (t ∷ ts) (is ∷ iss) = AreNodes labels (preorder_of t) is × AreTrees labels ts iss
 
 -- a line has no tokens, or its tree went last
-abbrev pub Adds : List (List ℕ) → List Tree → List Tree → Result (Option (List Item)) FaultKind → Type 0
+abbrev pub Adds : List (List ℕ) → List (Tree ℕ) → List (Tree ℕ) → Result (Option (List Item)) FaultKind → Type 0
 Adds labels before now wanted =
     ((wanted ≡ Ok None) × (now ≡ before))
-    ⊎ ((t : Tree) × (is : List Item) × (wanted ≡ Ok (Some is)) × AreNodes labels t.nodes.items is × (now ≡ before ++ t ∷ []))
+    ⊎ ((t : Tree ℕ) × (is : List Item) × (wanted ≡ Ok (Some is)) × AreNodes labels (preorder_of t) is × (now ≡ before ++ t ∷ []))
 
-abbrev pub AddsLine : List (List ℕ) → List Tree → List Tree → Result (Unit {0}) LineError → Result (Option (List Item)) FaultKind → Type 0
+abbrev pub AddsLine : List (List ℕ) → List (Tree ℕ) → List (Tree ℕ) → Result (Unit {0}) LineError → Result (Option (List Item)) FaultKind → Type 0
 AddsLine labels before now (Ok done) wanted = Adds labels before now wanted
 AddsLine labels before now (Err (line_errors.Fault kind)) wanted = wanted ≡ Err kind
 AddsLine labels before now (Err line_errors.OutOfMemory) wanted = Unit {0}
 
 -- what was read of a file
-abbrev pub IsFile : List (List ℕ) → Result (Vec Tree) ReadError → Result (List (List Item)) FileFault → Type 0
+abbrev pub IsFile : List (List ℕ) → Result (Vec (Tree ℕ)) ReadError → Result (List (List Item)) FileFault → Type 0
 IsFile labels (Ok trees) wanted = (iss : List (List Item)) × (wanted ≡ Ok iss) × AreTrees labels trees.items iss
 IsFile labels (Err (errors.Fault fault)) wanted = wanted ≡ Err fault
 IsFile labels (Err errors.OutOfMemory) wanted = Unit {0}
 
-abbrev pub Pushes : List Tree → List Tree → Tree → Result (Unit {0}) LineError → Type 0
+abbrev pub Pushes : List (Tree ℕ) → List (Tree ℕ) → Tree ℕ → Result (Unit {0}) LineError → Type 0
 Pushes before now tree (Ok done) = now ≡ before ++ tree ∷ []
 Pushes before now tree (Err e) = e ≡ line_errors.OutOfMemory

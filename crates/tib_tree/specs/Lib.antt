@@ -10,5 +10,7 @@ pub mod Trees
 pub mod Meaning
 pub mod Pairs
 pub mod Growth
-pub mod Order
 pub mod TreeView
+pub mod Filled
+pub mod Printed
+pub mod Wrote

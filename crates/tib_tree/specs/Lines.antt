@@ -9,7 +9,7 @@ use Rattle.tib_lex.specs.declared.fault.FaultKind.{FaultKind}
 use Rattle.tib_lex.specs.declared.fault.FaultKind.TheVariants as kinds
 use Rattle.tib_lex.specs.declared.fault.LineError.{LineError}
 use Rattle.tib_lex.specs.declared.fault.LineError.TheVariants as errors
-use Rattle.tib_tree.specs.declared.trees.Tree.{Tree}
+use Rattle.tib_tree.specs.Trees.{Tree, preorder_of}
 
 abbrev pub small_tree : Option (List Item) → Result (Option (List Item)) FaultKind
 small_tree None = Err kinds.BadTree
@@ -25,8 +25,8 @@ unfoldable pub tree_line : List ℕ → Result (Option (List Item)) FaultKind
 tree_line line = tree_in (words_of line)
 
 -- what was read of a line, over a table of labels
-abbrev pub IsLine : List (List ℕ) → Result (Option Tree) LineError → Result (Option (List Item)) FaultKind → Type 0
+abbrev pub IsLine : List (List ℕ) → Result (Option (Tree ℕ)) LineError → Result (Option (List Item)) FaultKind → Type 0
 IsLine labels (Ok None) wanted = wanted ≡ Ok None
-IsLine labels (Ok (Some tree)) wanted = (is : List Item) × (wanted ≡ Ok (Some is)) × AreNodes labels tree.nodes.items is
+IsLine labels (Ok (Some tree)) wanted = (is : List Item) × (wanted ≡ Ok (Some is)) × AreNodes labels (preorder_of tree) is
 IsLine labels (Err (errors.Fault kind)) wanted = wanted ≡ Err kind
 IsLine labels (Err errors.OutOfMemory) wanted = Unit {0}

@@ -1,29 +1,34 @@
--- The trees that are written, and the trees over numbers that nodes are.
-use Rattle.std.specs.Prelude.{◌≡◌, ℕ, List, [], map}
-use Rattle.std.proofs.Common.{get_or}
-use Rattle.tib_tree.specs.Trees.{Trees, none, tree, preorder, relabel}
-use Rattle.tib_tree.specs.Written.{Written, end, leaf, head, items}
+-- What trees that are written say, over a table of labels.
+use Rattle.std.specs.Prelude.{◌≡◌, ℕ, Bool, List, Some, slice_get}
+use Rattle.tib_lex.specs.Grammar.{Word, HasWords}
+use Rattle.tib_tree.specs.Trees.{Tree, Trees, none, tree, only, preorder}
+use Rattle.tib_tree.specs.Written.{Written, end, leaf, head, spell, items}
 use Rattle.tib_tree.specs.Nodes.{AreNodes}
-use Rattle.tib_tree.specs.declared.trees.Node.{Node}
 
--- the trees by their texts
-abbrev pub trees : Written → Trees (List ℕ)
-trees end = none
-trees (leaf quoted text rest) = tree text none (trees rest)
-trees (head quoted text kids rest) = tree text (trees kids) (trees rest)
+-- trees that are written are these trees over the labels' numbers: a leaf has no children, and each label its text
+abbrev pub Says : List (List ℕ) → Written → Trees ℕ → Type 0
+Says labels end none = Unit {0}
+Says labels end (tree f kids rest) = ⊥
+Says labels (leaf quoted text more) none = ⊥
+Says labels (leaf quoted text more) (tree f none rest) = (slice_get labels f ≡ Some text) × Says labels more rest
+Says labels (leaf quoted text more) (tree f (tree g kids others) rest) = ⊥
+Says labels (head quoted text inner more) none = ⊥
+Says labels (head quoted text inner more) (tree f kids rest) = (slice_get labels f ≡ Some text) × Says labels inner kids × Says labels more rest
 
-abbrev pub text_at : List (List ℕ) → ℕ → List ℕ
-text_at labels f = get_or labels f []
+-- the tokens of a line are those of a tree
+pub record SpellsTree (labels : List (List ℕ)) (words : List Word) (t : Tree ℕ) : Type 0 where
+  pub written : Written
+  pub spelled : spell written ≡ words
+  pub says : Says labels written (only t)
 
-abbrev pub pair_of : Node → ℕ × ℕ
-pair_of n = (n.label, n.rank)
+-- a line is a tree
+pub record IsTreeLine (labels : List (List ℕ)) (line : List ℕ) (t : Tree ℕ) : Type 0 where
+  pub words : List Word
+  pub has : HasWords words line
+  pub spells : SpellsTree labels words t
 
--- nodes are the preorder of trees that have the texts of what is written
-pub record IsValue (labels : List (List ℕ)) (w : Written) (ns : List Node) : Type 0 where
+-- nodes are the preorder of the trees that are written
+pub record HaveValue (labels : List (List ℕ)) (w : Written) (ns : List (ℕ × ℕ)) : Type 0 where
   pub value : Trees ℕ
-  pub nodes : preorder value ≡ map pair_of ns
-  pub texts : relabel (text_at labels) value ≡ trees w
-
--- nodes that agree with the nodes of a written tree have its value
-abbrev pub HaveValues : Type 0
-HaveValues = (labels : List (List ℕ)) (w : Written) (ns : List Node) → AreNodes labels ns (items w) → IsValue labels w ns
+  pub nodes : preorder value ≡ ns
+  pub says : Says labels w value

@@ -1,17 +1,17 @@
 -- Nodes over a table of labels.
 use Rattle.std.specs.Prelude.{◌≡◌, ℕ, List, [], ◌∷◌, Option, Some, None, slice_get}
 use Rattle.tib_tree.specs.Written.{Item}
-use Rattle.tib_tree.specs.declared.trees.Node.{Node}
 
 abbrev pub rank_of : Option ℕ → ℕ
 rank_of None = 0
 rank_of (Some n) = n
 
-abbrev pub IsNode : List (List ℕ) → Node → Item → Type 0
-IsNode labels n i = (slice_get labels n.label ≡ Some i.text) × (n.rank ≡ rank_of i.kids)
+-- a label with a number of children is a node that is written
+abbrev pub IsNode : List (List ℕ) → ℕ × ℕ → Item → Type 0
+IsNode labels n i = (slice_get labels n.0 ≡ Some i.text) × (n.1 ≡ rank_of i.kids)
 
 -- the nodes have these texts and numbers of children
-abbrev pub AreNodes : List (List ℕ) → List Node → List Item → Type 0
+abbrev pub AreNodes : List (List ℕ) → List (ℕ × ℕ) → List Item → Type 0
 AreNodes labels [] [] = Unit {0}
 AreNodes labels [] (i ∷ is) = ⊥
 AreNodes labels (n ∷ ns) [] = ⊥

@@ -1,43 +1,14 @@
 ghost use Rattle.std.specs.Prelude.{◌≡◌, ◌<◌, ◌+◌, take, drop, ◌≤◌, ℕ, length, not, ◌==◌, IfOk, List, [], ◌∷◌, ◌++◌};
 ghost use Rattle.std.specs.List.{prefix_len};
-ghost use Rattle.tib_lex.specs.Lines.{not_feed};
 ghost use Rattle.tib_tree.specs.File.{trees_of, AddsLine, IsFile, Pushes};
 ghost use Rattle.tib_tree.specs.Grows.{Grows};
 ghost use Rattle.tib_tree.specs.Lines.{tree_line};
 
 use crate::labels::Labels;
-use crate::trees::{LineReader, Tree};
+use crate::preorder::Tree;
+use crate::trees::LineReader;
 use std::alloc::{AllocError, Global};
 use tib_lex::{LineError, ReadError, file_error, line_bytes, next_line};
-
-fn is_not_feed(byte: u8) -> bool
-    ensures { result ≡ not_feed byte }
-{
-    byte != b'\n'
-}
-
-// How many bytes the first line has.
-fn line_length(bytes: &[u8]) -> usize
-    ensures count { result ≡ prefix_len not_feed bytes.now }
-    ensures within { result ≤ length bytes.now }
-{
-    let mut count = 0;
-    while count < bytes.len() && is_not_feed(bytes[count]) {
-        count += 1;
-    }
-    count
-}
-
-// The line at a place.
-pub fn line_at(bytes: &[u8], at: usize) -> &[u8]
-    requires { at < length bytes.now }
-    ensures first { result.now ≡ take (prefix_len not_feed (drop at bytes.now)) (drop at bytes.now) }
-    ensures long { length result.now ≡ prefix_len not_feed (drop at bytes.now) }
-    ensures within { at + length result.now ≤ length bytes.now }
-{
-    let rest = &bytes[at..];
-    &rest[..line_length(rest)]
-}
 
 // Reads a line, and adds its tree if it has one.
 fn add_line(

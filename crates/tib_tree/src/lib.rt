@@ -5,12 +5,14 @@ mod file;
 mod labels;
 mod laws;
 mod preorder;
+mod print;
 mod shape;
 mod trees;
 
-pub use file::{line_at, read_trees};
+pub use file::read_trees;
 pub use labels::Labels;
-pub use laws::{nodes_are_read, nodes_have_values};
+pub use laws::nodes_are_read;
 pub use preorder::{Label, Node, ShapeError, Tree};
+pub use print::{needs_quotes, print_label, print_tree};
 pub use shape::{Place, Reader};
-pub use trees::{LineReader, Node as PlainNode, Tree as PlainTree};
+pub use trees::LineReader;

@@ -6,22 +6,10 @@ ghost use Rattle.tib_tree.specs.Nodes.{IsNode, AreNodes};
 ghost use Rattle.tib_tree.specs.Shape.{item_at, items_back, PlaceLies};
 
 use crate::labels::Labels;
+use crate::preorder::{Label, Room, Tree, tree_from};
 use crate::shape::{Place, Reader};
 use std::alloc::{AllocError, Global};
 use tib_lex::{FaultKind, LineError, Token, read_text, read_tokens};
-
-/// A node with the number of its children.
-#[derive(Clone, Copy, Debug)]
-pub struct Node {
-    pub label: u32,
-    pub rank: u32,
-}
-
-/// A tree, kept as its preorder.
-#[derive(Drop)]
-pub struct Tree {
-    pub nodes: Vec<Node>,
-}
 
 // The number of a token's label.
 fn intern(
@@ -43,36 +31,37 @@ fn read_node(
     place: Place,
     labels: &mut Labels,
     text: &mut Vec<u8>,
-) -> Result<Node, AllocError>
+) -> Result<(Label, u32), AllocError>
     requires { PlaceLies (length line.now) place }
     ensures node { IfOk result (λ n. IsNode labels.new n (item_at line.now place)) }
     ensures grows { Grows labels.old labels.new }
 {
     let label = intern(line, place.token, labels, text)?;
     let rank = place.kids.unwrap_or(0);
-    Ok(Node { label, rank })
+    Ok((label, rank))
 }
 
-// The nodes at some places, the last place first.
+// Puts the nodes at some places, the last place first, into `nodes`.
 fn read_nodes(
-    alloc: Global,
     line: &[u8],
     places: &[Place],
     labels: &mut Labels,
     text: &mut Vec<u8>,
-) -> Result<Vec<Node>, AllocError>
+    nodes: &mut Vec<(Label, u32)>,
+) -> Result<(), AllocError>
     requires { All (PlaceLies (length line.now)) places.now }
-    ensures nodes { IfOk result (λ ns. AreNodes labels.new ns.items (items_back line.now places.now)) }
+    ensures nodes { IfOk result (λ _. AreNodes labels.new nodes.new.items (items_back line.now places.now)) }
+    ensures few { IfOk result (λ _. length nodes.new.items ≡ length places.now) }
     ensures grows { Grows labels.old labels.new }
 {
-    let mut nodes = Vec::new(alloc);
+    nodes.clear();
     let mut i = places.len();
     while i > 0 {
         i -= 1;
         let node = read_node(line, places[i], labels, text)?;
         nodes.push(node)?;
     }
-    Ok(nodes)
+    Ok(())
 }
 
 /// Reads lines of a tree file, with room that is used again for each.
@@ -81,6 +70,8 @@ pub struct LineReader {
     tokens: Vec<Token>,
     reader: Reader,
     text: Vec<u8>,
+    nodes: Vec<(Label, u32)>,
+    room: Room,
 }
 
 impl LineReader {
@@ -89,6 +80,8 @@ impl LineReader {
             tokens: Vec::new(alloc),
             reader: Reader::new(alloc),
             text: Vec::new(alloc),
+            nodes: Vec::new(alloc),
+            room: Room::new(alloc),
         }
     }
 
@@ -115,7 +108,14 @@ impl LineReader {
         if self.reader.places.len() > 10000 {
             return Err(LineError::Fault(FaultKind::TooManyNodes));
         }
-        let nodes = read_nodes(alloc, line, &self.reader.places, labels, &mut self.text)?;
-        Ok(Some(Tree { nodes }))
+        read_nodes(
+            line,
+            &self.reader.places,
+            labels,
+            &mut self.text,
+            &mut self.nodes,
+        )?;
+        let tree = tree_from(alloc, &self.nodes, &mut self.room)?;
+        Ok(Some(tree))
     }
 }

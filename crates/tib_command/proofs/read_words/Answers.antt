@@ -68,7 +68,7 @@ returns-in_default-2-clause-err c =
     let k = sym (ap (once 1 (number_in 1 10000)) (texts_are f (codes "k") c.get_strs-2.result c.get_strs-2.ensures)) ∙ sym c.number_once.ensures.value ∙ c.in-Some-number_once.is in
     let w = sym (ap (once 1 (number_in 1 16)) (texts_are f (codes "w") c.get_strs-3.result c.get_strs-3.ensures)) ∙ sym c.number_once-2.ensures.value ∙ c.in-Some-number_once-2.is in
     let l = sym (ap (once 20000000 (number_in 1 20000000)) (texts_are f (codes "limit") c.get_strs-4.result c.get_strs-4.ensures)) ∙ sym c.number_once-3.ensures.value ∙ c.in-Some-number_once-3.is in
-    let t = sym (ap task_in (texts_are f (codes "places") c.get_strs-5.result c.get_strs-5.ensures)) ∙ sym c.in_ok-task.ensures ∙ ap (option_map task_meaning) c.in_default-2.is in
+    let t = sym (ap task_in (texts_are f (codes "places") c.get_strs-5.result c.get_strs-5.ensures)) ∙ sym c.in_ok-task.ensures.task ∙ ap (option_map task_meaning) c.in_default-2.is in
     λ _. job_from _ (strings_utf8 c.args.words.now) f c.in_ok-matches.ensures.ok _ _ _ _ None md k w l t
 
 pub returns-clause-ok : goal.returns-clause-ok
@@ -78,5 +78,5 @@ returns-clause-ok c =
     let k = sym (ap (once 1 (number_in 1 10000)) (texts_are f (codes "k") c.get_strs-2.result c.get_strs-2.ensures)) ∙ sym c.number_once.ensures.value ∙ c.in-Some-number_once.is in
     let w = sym (ap (once 1 (number_in 1 16)) (texts_are f (codes "w") c.get_strs-3.result c.get_strs-3.ensures)) ∙ sym c.number_once-2.ensures.value ∙ c.in-Some-number_once-2.is in
     let l = sym (ap (once 20000000 (number_in 1 20000000)) (texts_are f (codes "limit") c.get_strs-4.result c.get_strs-4.ensures)) ∙ sym c.number_once-3.ensures.value ∙ c.in-Some-number_once-3.is in
-    let t = sym (ap task_in (texts_are f (codes "places") c.get_strs-5.result c.get_strs-5.ensures)) ∙ sym c.in_ok-task.ensures ∙ ap (option_map task_meaning) c.in-Some-2.is in
+    let t = sym (ap task_in (texts_are f (codes "places") c.get_strs-5.result c.get_strs-5.ensures)) ∙ sym c.in_ok-task.ensures.task ∙ ap (option_map task_meaning) c.in-Some-2.is in
     job_from _ (strings_utf8 c.args.words.now) f c.in_ok-matches.ensures.ok _ _ _ _ _ md k w l t ∙ refl

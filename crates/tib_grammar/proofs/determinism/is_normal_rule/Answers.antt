@@ -1,4 +1,4 @@
-use Rattle.std.proofs.Common.{ap, sym, subst, arith, ◌≡◌, ℕ, ◌<◌, ◌-◌, length, drop, take, get_or, true≢false}
+use Rattle.std.proofs.Common.{ap, sym, subst, arith, length, get_or, true≢false}
 use Rattle.std.proofs.lemmas.List.{take_rest}
 use Rattle.tib_grammar.specs.Items.{IsHole}
 use Rattle.tib_grammar.specs.declared.Item.TheVariants.{Label}

@@ -1,4 +1,4 @@
-use Rattle.std.proofs.Common.{arith, get_or, ◌<◌}
+use Rattle.std.proofs.Common.{arith, get_or}
 use Rattle.tib_grammar.specs.declared.Item.TheVariants.{Label}
 use Rattle.tib_grammar.proofs.Holes.{AllBelow-from, IsBelow-from, IsBelow}
 use Rattle.tib_grammar.proofs.grammars.are_below.Goals as goal

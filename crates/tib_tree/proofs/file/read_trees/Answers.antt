@@ -3,14 +3,14 @@ use Rattle.tib_tree.specs.File.{Adds}
 use Rattle.tib_tree.specs.Lines.{tree_line}
 use Rattle.tib_tree.proofs.Growing.{grows_twice, grows_not}
 use Rattle.tib_tree.proofs.FileRead.{SoFar, starts, adds}
-use Rattle.tib_tree.specs.declared.trees.Tree.{Tree}
+use Rattle.tib_tree.specs.Trees.{Tree}
 use Rattle.tib_tree.proofs.file.read_trees.Goals as goal
 
 pub loop-line-init : goal.loop-line-init
 loop-line-init c = record {
   within = omega arith;
   number = omega arith;
-  so_far = subst (λ (ts : List Tree). SoFar c.args.labels.now ts 1 c.args.bytes.now c.args.bytes.now) (sym c.new-trees.ensures.items) (starts c.args.labels.now c.args.bytes.now);
+  so_far = subst (λ (ts : List (Tree ℕ)). SoFar c.args.labels.now ts 1 c.args.bytes.now c.args.bytes.now) (sym c.new-trees.ensures.items) (starts c.args.labels.now c.args.bytes.now);
   grows = grows_not _ _ refl;
 }
 

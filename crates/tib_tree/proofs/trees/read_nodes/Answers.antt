@@ -9,5 +9,6 @@ loop-i-preserved c =
     record {
       within = omega arith;
       nodes = nodes_step c.args.line.now c.args.places.now c.loop-i.i _ c.loop-i.labels c.read_node.new.labels c.loop-i.nodes.items _ _ c.loop-i-test.true i.within i.nodes c.read_node.ensures.grows c.in_ok-node.ensures.node c.in_ok-push.ensures.items;
+      few = omega (arith, i.few, c.in_ok-push.ensures.len);
       grows = grows_twice _ _ _ i.grows c.read_node.ensures.grows;
     }

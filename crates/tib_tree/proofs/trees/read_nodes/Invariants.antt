@@ -1,4 +1,4 @@
-use Rattle.std.proofs.Common.{◌≤◌, length, drop}
+use Rattle.std.proofs.Common.{◌≡◌, ◌+◌, ◌≤◌, length, drop}
 use Rattle.tib_tree.specs.Grows.{Grows}
 use Rattle.tib_tree.specs.Nodes.{AreNodes}
 use Rattle.tib_tree.specs.Shape.{items_back}
@@ -8,6 +8,7 @@ abbrev pub invariant-loop-i : goal.invariant-loop-i
 invariant-loop-i l = record {
   within : l.i ≤ length l.places;
   nodes : AreNodes l.labels l.nodes.items (items_back l.line (drop l.i l.places));
+  few : length l.nodes.items + l.i ≡ length l.places;
   grows : Grows l.fn.labels l.labels;
 }
 

@@ -1,0 +1,12 @@
+use Rattle.std.proofs.Common.{length, ℕ, ◌-◌, ◌<◌, ◌≤◌, ◌≡◌}
+use Rattle.tib_grammar.specs.Run.{rule_at}
+use Rattle.tib_normal.proofs.rows.Offers.offer_rules.Given as goal
+
+abbrev pub invariant-loop-n : goal.invariant-loop-n
+invariant-loop-n g l = record {
+  within : l.n ≤ length l.rules;
+  own : l.n < length l.rules → (rule_at l.rules l.n).left ≡ l.state;
+}
+
+abbrev pub decreases-loop-n : goal.decreases-loop-n
+decreases-loop-n g l = length l.rules - l.n

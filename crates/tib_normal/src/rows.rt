@@ -1,0 +1,253 @@
+// The rules of the states of the grammar in its normal form.
+ghost use Rattle.std.specs.Prelude.{◌≡◌, ℕ, ◌+◌, ◌<◌, ◌≤◌, ◌^◌, List, [], ◌∷◌, length, OnOk, IfOk, None, Some, Option, replicate};
+ghost use Rattle.std.proofs.Common.{get_or};
+ghost use Rattle.tib_grammar.specs.Range.{AreInRange};
+ghost use Rattle.tib_normal.specs.Links.{AreLinks};
+ghost use Rattle.tib_normal.specs.Closure.{AreBelow, AreListed};
+
+use crate::agenda::Agenda;
+use crate::chains::close;
+use crate::error::NormalError;
+use crate::links::Links;
+use crate::sides::{NO_SIDE, Sides};
+use std::alloc::{AllocError, Global};
+use tib_cost::{Cost, Semiring};
+use tib_grammar::{Rule, Side};
+
+/// The rules so far and their parts, which are at most the limit.
+#[derive(Drop)]
+pub struct Made {
+    pub rules: Vec<Rule<u32>>,
+    pub parts: u64,
+    pub limit: u64,
+    ghost within: { parts ≤ limit },
+    ghost small: { limit ≤ 20000000 },
+}
+
+impl Made {
+    /// Adds a rule, where the parts stay within the limit.
+    fn add(
+        &mut self,
+        alloc: Global,
+        state: u32,
+        side: &[u32],
+        cost: Cost,
+    ) -> Result<(), NormalError> {
+        let parts = 1 + side.len() as u64;
+        if parts > self.limit || self.parts > self.limit - parts {
+            return Err(NormalError::TooMany { limit: self.limit });
+        }
+        self.push(alloc, state, side, cost)?;
+        self.parts += parts;
+        Ok(())
+    }
+
+    fn push(
+        &mut self,
+        alloc: Global,
+        state: u32,
+        side: &[u32],
+        cost: Cost,
+    ) -> Result<(), AllocError>
+        requires { length side.now < 2 ^ 32 }
+        ensures parts { self.new.parts ≡ self.old.parts }
+        ensures limit { self.new.limit ≡ self.old.limit }
+    {
+        if let [label, states @ ..] = side {
+            let right = Side::over(alloc, *label, states)?;
+            self.rules.push(Rule {
+                left: state,
+                right,
+                cost,
+            })?;
+        }
+        Ok(())
+    }
+}
+
+/// The least costs of sides so far, by their numbers, and the sides that have one.
+#[derive(Drop)]
+struct Offers {
+    best: Vec<Option<Cost>>,
+    offered: Vec<u32>,
+}
+
+impl Offers {
+    /// Offers a side at a cost.
+    fn offer(&mut self, side: u32, cost: Cost) -> Result<(), AllocError>
+        requires { side < length self.old.best.items }
+        ensures { length self.new.best.items ≡ length self.old.best.items }
+    {
+        match self.best[side as usize] {
+            Some(least) => {
+                if cost < least {
+                    self.best[side as usize] = Some(cost);
+                }
+            }
+            None => {
+                self.best[side as usize] = Some(cost);
+                self.offered.push(side)?;
+            }
+        }
+        Ok(())
+    }
+}
+
+/// The end of a rule by its position.
+fn number_at(numbers: &[u32], n: usize) -> u32 {
+    match numbers.get(n) {
+        Some(number) => *number,
+        None => NO_SIDE,
+    }
+}
+
+impl Offers {
+    /// Offers the side of a rule, where it is no chain rule and the cost is at most the greatest.
+    fn offer_rule<S: Semiring>(
+        &mut self,
+        rule: &Rule<u32>,
+        number: u32,
+        distance: Cost,
+    ) -> Result<(), AllocError> {
+        if number as usize >= self.best.len() {
+            return Ok(());
+        }
+        match S::times(distance, rule.cost) {
+            Some(cost) => self.offer(number, cost),
+            None => Ok(()),
+        }
+    }
+
+    /// Offers the sides of a state's rules.
+    fn offer_rules<S: Semiring>(
+        &mut self,
+        rules: &[Rule<u32>],
+        links: &Links,
+        numbers: &[u32],
+        state: u32,
+        distance: Cost,
+    ) -> Result<(), AllocError>
+        requires links { AreLinks rules.now (length links.now.first.items) links.now }
+        requires below { state < length links.now.first.items }
+    {
+        let mut n = links.first[state as usize] as usize;
+        while n < rules.len() {
+            self.offer_rule::<S>(&rules[n], number_at(numbers, n), distance)?;
+            n = links.next[n] as usize;
+        }
+        Ok(())
+    }
+
+    /// Offers the sides of the rules of all states that were reached.
+    fn offer_all<S: Semiring>(
+        &mut self,
+        rules: &[Rule<u32>],
+        links: &Links,
+        numbers: &[u32],
+        distances: &[Option<Cost>],
+        reached: &[u32],
+    ) -> Result<(), AllocError>
+        requires links { AreLinks rules.now (length links.now.first.items) links.now }
+        requires long { length distances.now ≡ length links.now.first.items }
+        requires below { AreBelow (length links.now.first.items) reached.now }
+    {
+        for state in reached {
+            if let Some(distance) = distances[*state as usize] {
+                self.offer_rules::<S>(rules, links, numbers, *state, distance)?;
+            }
+        }
+        Ok(())
+    }
+
+    /// Makes a rule of each side that was offered, at its least cost, and forgets the offers.
+    fn settle(
+        &mut self,
+        alloc: Global,
+        state: u32,
+        sides: &Sides,
+        made: &mut Made,
+    ) -> Result<(), NormalError> {
+        for i in 0..self.offered.len() {
+            if let Some(side) = self.offered.get(i).copied() {
+                self.settle_one(alloc, state, side, sides, made)?;
+            }
+        }
+        self.offered.clear();
+        Ok(())
+    }
+
+    fn settle_one(
+        &mut self,
+        alloc: Global,
+        state: u32,
+        side: u32,
+        sides: &Sides,
+        made: &mut Made,
+    ) -> Result<(), NormalError>
+        ensures long { length self.new.best.items ≡ length self.old.best.items }
+        ensures offered { self.new.offered.items ≡ self.old.offered.items }
+    {
+        if side as usize >= self.best.len() {
+            return Ok(());
+        }
+        let least = self.best[side as usize];
+        self.best[side as usize] = None;
+        if let (Some(key), Some(cost)) = (sides.table.get_index(side as usize), least) {
+            made.add(alloc, state, key, cost)?;
+        }
+        Ok(())
+    }
+}
+
+/// Forgets the distances of the states that were reached.
+fn forget(distances: &mut Vec<Option<Cost>>, reached: &mut Vec<u32>)
+    requires below { AreBelow (length distances.old.items) reached.old.items }
+    requires listed { AreListed distances.old.items reached.old.items }
+    ensures long { length distances.new.items ≡ length distances.old.items }
+    ensures clear { (r : ℕ) → get_or distances.new.items r None ≡ None }
+    ensures none { reached.new.items ≡ [] }
+{
+    while let Some(state) = reached.pop() {
+        distances[state as usize] = None;
+    }
+}
+
+/// The rules of the states of the grammar in its normal form, those of a state at its least costs.
+pub fn make_rules<S: Semiring>(
+    alloc: Global,
+    rules: &[Rule<u32>],
+    links: &Links,
+    sides: &Sides,
+    states: u32,
+    made: &mut Made,
+) -> Result<(), NormalError>
+    requires links { AreLinks rules.now (length links.now.first.items) links.now }
+    requires range { AreInRange (length links.now.first.items) rules.now }
+    requires long { length links.now.first.items ≡ states }
+{
+    let mut agenda = Agenda::new(alloc);
+    let mut distances = no_costs(alloc, states as usize)?;
+    let mut reached = Vec::new(alloc);
+    let mut offers = Offers {
+        best: no_costs(alloc, sides.table.len())?,
+        offered: Vec::new(alloc),
+    };
+    for q in 0..states {
+        close::<S>(rules, links, q, &mut agenda, &mut distances, &mut reached)?;
+        offers.offer_all::<S>(rules, links, &sides.numbers, &distances, &reached)?;
+        forget(&mut distances, &mut reached);
+        offers.settle(alloc, q, sides, made)?;
+    }
+    Ok(())
+}
+
+/// As many places without a cost.
+fn no_costs(alloc: Global, n: usize) -> Result<Vec<Option<Cost>>, AllocError>
+    ensures { IfOk result (λ v. v.items ≡ replicate n None) }
+{
+    let mut costs = Vec::with_capacity(alloc, n)?;
+    for _ in 0..n {
+        costs.push(None)?;
+    }
+    Ok(costs)
+}

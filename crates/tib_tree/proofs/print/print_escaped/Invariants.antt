@@ -1,0 +1,13 @@
+use Rattle.std.proofs.Common.{◌≤◌, ◌-◌, length, take}
+use Rattle.tib_lex.specs.Grammar.{escape}
+use Rattle.tib_tree.proofs.Writing.{HasWritten}
+use Rattle.tib_tree.proofs.print.print_escaped.Given as goal
+
+abbrev pub invariant-loop-at : goal.invariant-loop-at
+invariant-loop-at g l = record {
+  within : l.at ≤ length l.text;
+  wrote : HasWritten (g.W.Sink.written l.fn.out) (g.W.Sink.written l.out) (g.W.Sink.free l.fn.out) (g.W.Sink.free l.out) (g.W.Sink.faults l.fn.out) (g.W.Sink.faults l.out) (escape (take l.at l.text));
+}
+
+abbrev pub decreases-loop-at : goal.decreases-loop-at
+decreases-loop-at g l = length l.text - l.at

@@ -1,0 +1,6 @@
+use Rattle.tib_tree.proofs.Writing.{joined}
+use Rattle.tib_tree.proofs.Runs.{gap_not}
+use Rattle.tib_tree.proofs.print.print_gap.Goals as goal
+
+pub returns-in-Ok : goal.returns-in-Ok
+returns-in-Ok g c = joined _ _ _ _ _ _ _ _ _ _ _ _ _ _ _ c.in-Ok.is (gap_not c.args.above c.args.depth c.if-above-depth.false) c.print_closes.ensures c.print_piece-in-Ok.ensures

@@ -1,0 +1,16 @@
+use Rattle.std.proofs.Common.{◌≡◌, map, length, ℕ, List, sym, ◌∙◌, ap}
+use Rattle.std.proofs.lemmas.List.{take_rest}
+use Rattle.std.proofs.Math.ListN.{length-map}
+use Rattle.tib_grammar.specs.Sides.{holes as holes_of}
+use Rattle.tib_weigh.specs.Vectors.{state_in}
+use Rattle.tib_weigh.proofs.Sides.{states_below_root, length-holes}
+use Rattle.tib_weigh.proofs.node.holes.Goals as goal
+
+pub returns-clause-states : goal.returns-clause-states
+returns-clause-states c =
+    ap (map state_in) (take_rest c.items.result.now 1)
+    ∙ states_below_root c.items.result.now c.args.rule.now.right c.items.ensures.items c.requires.are_holes
+
+pub returns-clause-many : goal.returns-clause-many
+returns-clause-many c =
+    sym (length-map _ state_in) ∙ ap length (returns-clause-states c) ∙ length-holes c.args.rule.now.right.kids c.requires.are_holes

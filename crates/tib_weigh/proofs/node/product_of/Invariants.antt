@@ -1,0 +1,13 @@
+use Rattle.std.proofs.Common.{◌≡◌, ◌≤◌, length, drop, map}
+use Rattle.std.specs.Prelude.{Some}
+use Rattle.tib_weigh.specs.Vectors.{state_in, times_all, vectors}
+use Rattle.tib_weigh.proofs.node.product_of.Given as goal
+
+abbrev pub invariant-loop-i : goal.invariant-loop-i
+invariant-loop-i g l = record {
+  within : l.i ≤ length l.holes;
+  product : Some l.product ≡ times_all g.S.Semiring.product (drop l.i (map state_in l.holes)) (drop l.i (vectors l.stack));
+}
+
+abbrev pub decreases-loop-i : goal.decreases-loop-i
+decreases-loop-i g l = l.i

@@ -1,0 +1,59 @@
+use Rattle.std.proofs.Common.{◌≡◌, ℕ, ◌+◌, ◌-◌, ◌<◌, ◌≤◌, List, [], ◌∷◌, ◌++◌, length, get_or, drop, take, refl, arith, ap, sym, ◌∙◌, subst}
+use Rattle.tib_tree.specs.Trees.{parse, only}
+use Rattle.tib_tree.specs.Pairs.{pairs_of}
+use Rattle.tib_cost.specs.Least.{IsLeast}
+use Rattle.tib_grammar.specs.GrammarOf.{GrammarOf}
+use Rattle.tib_grammar.specs.Run.{IsCost}
+use Rattle.tib_grammar.specs.declared.Rule.{Rule}
+use Rattle.tib_weigh.specs.Entries.{IsAscending}
+use Rattle.tib_weigh.specs.Vectors.{vectors}
+use Rattle.tib_weigh.proofs.Walk.{on_stack, step_left, last_vector, ascending-Weighed}
+use Rattle.tib_weigh.proofs.weighing.weigh.Goals as goal
+
+pub node_vector-requires-clause-enough : goal.node_vector-requires-clause-enough
+node_vector-requires-clause-enough g c =
+    rw c.deref.ensures.value
+    (on_stack g.S.Semiring.product c.rule_list-rules.result.now c.nodes-nodes.result.now c.args.tree.now c.nodes-nodes.ensures.pairs c.loop-i.i
+    c.loop-i.stack.items c.loop-i-test.true c.loop-i.invariant.within c.loop-i.invariant.weighed)
+
+pub node_vector-requires-clause-ascend : goal.node_vector-requires-clause-ascend
+node_vector-requires-clause-ascend g c =
+    rw c.deref.ensures.value
+    (ascending-Weighed g.S.Semiring.product c.rule_list-rules.result.now (parse (drop c.loop-i.i (pairs_of c.nodes-nodes.result.now)))
+    (vectors c.loop-i.stack.items) c.loop-i.invariant.weighed)
+
+pub overflow_sub-len : goal.overflow_sub-len
+overflow_sub-len g c =
+    omega (
+      arith,
+      c.len.ensures,
+      c.loop-i.stack.ok.0,
+      on_stack g.S.Semiring.product c.rule_list-rules.result.now c.nodes-nodes.result.now c.args.tree.now c.nodes-nodes.ensures.pairs c.loop-i.i
+          c.loop-i.stack.items c.loop-i-test.true c.loop-i.invariant.within c.loop-i.invariant.weighed,
+    )
+
+pub loop-i-preserved : goal.loop-i-preserved
+loop-i-preserved g c = record {
+  within = omega arith;
+  weighed = rw (c.in_ok-push.ensures.items, c.truncate.ensures.items, c.len.ensures, c.loop-i.stack.ok.0) (
+      step_left g.S.Semiring.product c.rule_list-rules.result.now c.nodes-nodes.result.now c.args.tree.now c.nodes-nodes.ensures.pairs c.loop-i.i
+      c.loop-i.stack.items c.in_ok-vector.vector c.loop-i-test.true c.loop-i.invariant.within c.loop-i.invariant.weighed
+      (c.in_ok-vector.ensures (parse (drop c.loop-i.i (pairs_of c.nodes-nodes.result.now))) (rw c.deref.ensures.value c.loop-i.invariant.weighed))
+      );
+}
+
+pub cost_at-requires : goal.cost_at-requires
+cost_at-requires g c =
+    let last = last_vector g.S.Semiring.product c.rule_list-rules.result.now c.nodes-nodes.result.now c.args.tree.now c.nodes-nodes.ensures.pairs
+    c.loop-i.i c.loop-i.stack.items c.index.result.now (omega arith) c.loop-i.invariant.weighed c.index.ensures
+    in
+    subst IsAscending (sym c.deref-2.ensures.value) last.1.ascends
+
+pub returns : goal.returns
+returns g c =
+    let last = last_vector g.S.Semiring.product c.rule_list-rules.result.now c.nodes-nodes.result.now c.args.tree.now c.nodes-nodes.ensures.pairs
+    c.loop-i.i c.loop-i.stack.items c.index.result.now (omega arith) c.loop-i.invariant.weighed c.index.ensures
+    in
+    let same : c.rule_list-rules.result.now ≡ c.args.normal.now.rules = c.rule_list-rules.ensures ∙ ap (λ (x : GrammarOf). x.rules) c.grammar.ensures.same in
+    subst (λ (rules : List (Rule ℕ)). IsLeast (IsCost g.S.Semiring.product rules (0 ∷ []) (only c.args.tree.now)) c.cost_at.result) same
+    (rw (c.cost_at.ensures, c.deref-2.ensures.value) (last.1.least 0))

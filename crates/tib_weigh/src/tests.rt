@@ -1,0 +1,109 @@
+// Small grammars in normal form: the labels are numbers, 0 for S, 1 for a and 2 for b.
+use crate::{weigh, weigh_all};
+use std::alloc::Global;
+use std::test::Fail;
+use tib_cost::{Boolean, Bottleneck, Cost, MinPlus, Semiring};
+use tib_grammar::{Grammar, Names, Rule, Side};
+use tib_normal::Normal;
+use tib_tree::{Label, Tree};
+
+// A rule: its left state, its label, the states below it and its cost.
+type Row = (u32, Label, &'static [u32], u64);
+
+// `q -> S(q q) # 1` and `q -> a # 2`.
+static BINARY: [Row; 2] = [(0, 0, &[0, 0], 1), (0, 1, &[], 2)];
+
+// Two ways to S(a a), of which the second is cheaper, and one state that yields b.
+static AMBIGUOUS: [Row; 6] = [
+    (0, 0, &[1, 1], 5),
+    (0, 0, &[2, 2], 1),
+    (0, 1, &[], 9),
+    (1, 1, &[], 1),
+    (2, 1, &[], 2),
+    (2, 2, &[], 1_000_000_000_000_000),
+];
+
+fn normal<S: Semiring + Drop>(alloc: Global, rows: &[Row]) -> Result<Normal<S>, Fail> {
+    let mut texts = Vec::new(alloc);
+    for text in ["p", "q", "r"] {
+        texts.push(text.as_bytes().to_vec(alloc)?)?;
+    }
+    let mut rules = Vec::new(alloc);
+    for (left, label, states, cost) in rows {
+        if states.len() > 9 {
+            return Err("too many states".into());
+        }
+        rules.push(Rule {
+            left: *left,
+            right: Side::over(alloc, *label, states)?,
+            cost: Cost::new(*cost).ok_or("cost")?,
+        })?;
+    }
+    if texts.len() > 9 || rules.len() > 9 {
+        return Err("too many".into());
+    }
+    let names = Names::from_list(alloc, texts)?.ok_or("names")?;
+    let grammar = Grammar::new(names, rules).ok_or("grammar")?;
+    Ok(Normal::new(alloc, grammar)?.ok_or("normal form")?)
+}
+
+fn number(cost: Option<Cost>) -> Option<u64> {
+    cost.map(|cost| cost.get())
+}
+
+#[test]
+fn a_tree_has_the_least_cost_of_a_run(rt: HostRuntime) -> Result<(), Fail> {
+    let alloc = rt.alloc();
+    let deep: [(Label, u32); 5] = [(0, 2), (1, 0), (0, 2), (1, 0), (1, 0)];
+    let binary: Normal<MinPlus> = normal(alloc, &BINARY)?;
+    for (nodes, cost) in [
+        (&deep[1..2], Some(2)),
+        (&deep[2..], Some(5)),
+        (&deep[..], Some(8)),
+        ([(2, 0)].as_slice(), None),
+        ([(0, 1), (1, 0)].as_slice(), None),
+    ] {
+        let tree = Tree::from_preorder(alloc, nodes)?;
+        assert_eq!(rt; number(weigh(alloc, &binary, &tree)?), cost);
+    }
+    Ok(())
+}
+
+#[test]
+fn each_semiring_takes_its_own_least(rt: HostRuntime) -> Result<(), Fail> {
+    let alloc = rt.alloc();
+    let mut trees = Vec::new(alloc);
+    for nodes in [
+        [(0, 2), (1, 0), (1, 0)].as_slice(),
+        [(0, 2), (2, 0), (1, 0)].as_slice(),
+        [(1, 0)].as_slice(),
+    ] {
+        trees.push(Tree::from_preorder(alloc, nodes)?)?;
+    }
+    let sums = weigh_all(&rt, alloc, &normal::<MinPlus>(alloc, &AMBIGUOUS)?, &trees)?;
+    let greatest = weigh_all(
+        &rt,
+        alloc,
+        &normal::<Bottleneck>(alloc, &AMBIGUOUS)?,
+        &trees,
+    )?;
+    let any = weigh_all(&rt, alloc, &normal::<Boolean>(alloc, &BINARY)?, &trees)?;
+    assert_eq!(rt; (sums.len(), greatest.len(), any.len()), (3, 3, 3));
+    assert_eq!(rt;
+        (number(sums[0]), number(sums[1]), number(sums[2])),
+        (Some(5), None, Some(9))
+    );
+    assert_eq!(rt;
+        (
+            number(greatest[0]),
+            number(greatest[1]),
+            number(greatest[2])
+        ),
+        (Some(2), Some(1_000_000_000_000_000), Some(9))
+    );
+    assert_eq!(rt;
+        (any[0].is_some(), any[1].is_some(), any[2].is_some()),
+        (true, false, true)
+    );
+    Ok(())
+}
