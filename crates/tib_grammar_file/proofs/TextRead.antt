@@ -1,6 +1,6 @@
 -- The grammar that is read is the one whose text the bytes are.
 use Rattle.std.proofs.Common.{◌≡◌, ℕ, ◌+◌, ◌<◌, ◌≤◌, inl, inr, List, [], ◌∷◌, ◌++◌, length, length-append, take, refl, ap, sym, ◌∙◌, subst, arith, Bool, true, false, zero, suc}
-use Rattle.std.specs.Prelude.{Result, slice_get, Some, Ok, map, Contains, cond, ◌==◌}
+use Rattle.std.specs.Prelude.{Result, Err, slice_get, Some, Ok, map, Contains, cond, ◌==◌}
 use Rattle.std.proofs.lemmas.List.{length-map, map-append, take_more, take_all}
 use Rattle.std.specs.Global.{Vec}
 use Rattle.std.proofs.lemmas.Option.{slice_get_within, get_or_from_slice_get}

@@ -1,10 +1,9 @@
 -- A grammar as it is printed.
-use Rattle.std.specs.Prelude.{ℕ, ◌<◌, Bool, true, false, ◌&&◌, not, nat_lt, List, [], ◌∷◌, ◌++◌, length, decimal, if◌then◌else◌, zero, suc}
-use Rattle.std.specs.List.{list_all, list_any}
+use Rattle.std.specs.Prelude.{ℕ, ◌<◌, Bool, true, false, ◌&&◌, not, List, [], ◌∷◌, ◌++◌, length, decimal, if◌then◌else◌, zero, suc}
+use Rattle.std.specs.List.{list_any}
 use Rattle.std.specs.Str.{bytes_eq}
 use Rattle.std.proofs.Common.{get_or}
-use Rattle.tib_lex.specs.Bytes.{is_name_byte}
-use Rattle.tib_lex.specs.Grammar.{label, spelling}
+use Rattle.tib_lex.specs.Grammar.{is_name, label, spelling}
 use Rattle.tib_tree.specs.Trees.{Trees, none, tree, only, count, preorder_of}
 use Rattle.tib_lex.specs.Lists.{Each}
 use Rattle.tib_grammar.specs.Sides.{Symbol, Side, label as symbol_label, hole}
@@ -14,17 +13,13 @@ use Rattle.tib_grammar.specs.declared.Item.{Item}
 use Rattle.tib_grammar.specs.declared.Item.TheVariants.{Label, Hole}
 use Rattle.tib_grammar.specs.declared.Rule.{Rule}
 
--- whether a text reads as a name: it has a byte, name bytes alone, and is no arrow
-abbrev pub is_plain : List ℕ → Bool
-is_plain text = nat_lt 0 (length text) && list_all is_name_byte text && not (bytes_eq text (45 ∷ 62 ∷ []))
-
 -- whether a text is one of the names
 abbrev pub is_held : List (List ℕ) → List ℕ → Bool
 is_held names text = list_any (bytes_eq text) names
 
 -- a label's text, in quotes where it reads as no name or as a state's
 abbrev pub label_text : List (List ℕ) → List ℕ → List ℕ
-label_text names text = if is_plain text && not (is_held names text) then text else spelling (label text)
+label_text names text = if is_name text && not (is_held names text) then text else spelling (label text)
 
 abbrev pub symbol_text : List (List ℕ) → List (List ℕ) → Symbol ℕ ℕ → List ℕ
 symbol_text names labels (symbol_label f) = label_text names (get_or labels f [])

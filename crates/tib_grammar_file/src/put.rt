@@ -1,15 +1,13 @@
 // Writes the pieces of a printed grammar.
 ghost use Rattle.std.specs.Prelude.{◌≡◌, ◌<◌, ◌==◌, ◌||◌, ◌&&◌, ◌++◌, not, nat_lt, ℕ, [], ◌∷◌, length, IfOk};
-ghost use Rattle.std.specs.List.{list_all};
-ghost use Rattle.std.specs.Str.{bytes_eq};
-ghost use Rattle.tib_lex.specs.Bytes as spec;
 ghost use Rattle.tib_lex.specs.Grammar.{escape, label, spelling};
 ghost use Rattle.tib_grammar.specs.Items.{pair_of};
 ghost use Rattle.tib_grammar_file.specs.Prints.{Prints};
-ghost use Rattle.tib_grammar_file.specs.Printed.{is_plain as spec_is_plain, is_held as spec_is_held, label_text, symbol_text, space, opening, closing, IsWithin};
+ghost use Rattle.tib_grammar_file.specs.Printed.{is_held as spec_is_held, label_text, symbol_text, space, opening, closing, IsWithin};
 
 use tib_grammar::{Item, Names};
 use tib_io::{Failed, Sink, write_whole};
+use tib_lex::is_name;
 use tib_tree::Labels;
 
 pub(crate) fn put<W: Sink>(out: &mut W, piece: &[u8]) -> Result<(), Failed>
@@ -60,37 +58,6 @@ fn put_quoted<W: Sink>(out: &mut W, text: &[u8]) -> Result<(), Failed>
     }
 }
 
-fn is_name_byte(byte: u8) -> bool
-    ensures { result ≡ spec.is_name_byte byte }
-{
-    byte > 32
-        && byte != 127
-        && byte != b'('
-        && byte != b')'
-        && byte != b'"'
-        && byte != b'#'
-        && byte != b'%'
-}
-
-fn are_name_bytes(text: &[u8]) -> bool
-    ensures { result ≡ list_all spec.is_name_byte text.now }
-{
-    text.iter().all(|byte| is_name_byte(*byte))
-}
-
-fn is_arrow(text: &[u8]) -> bool
-    ensures { result ≡ bytes_eq text.now (45 ∷ 62 ∷ []) }
-{
-    text == &b"->"[..]
-}
-
-// Whether a text reads as a name.
-fn is_plain(text: &[u8]) -> bool
-    ensures { result ≡ spec_is_plain text.now }
-{
-    !text.is_empty() && are_name_bytes(text) && !is_arrow(text)
-}
-
 // Whether a text is the name of a state.
 fn is_held(names: &Names, text: &[u8]) -> bool
     ensures { result ≡ spec_is_held names.now text.now }
@@ -104,7 +71,7 @@ fn is_held(names: &Names, text: &[u8]) -> bool
 fn put_label<W: Sink>(out: &mut W, names: &Names, text: &[u8]) -> Result<(), Failed>
     ensures { Prints (W.written out.old) (W.written out.new) (W.free out.old) (W.free out.new) (W.faults out.old) (W.faults out.new) (label_text names.now text.now) result }
 {
-    if is_plain(text) && !is_held(names, text) {
+    if is_name(text) && !is_held(names, text) {
         put(out, text)
     } else {
         put_quoted(out, text)
