@@ -1,6 +1,6 @@
 -- The grammar that is read is the one whose text the bytes are.
 use Rattle.std.proofs.Common.{◌≡◌, ℕ, ◌+◌, ◌<◌, ◌≤◌, inl, inr, List, [], ◌∷◌, ◌++◌, length, length-append, take, refl, ap, sym, ◌∙◌, subst, arith, Bool, true, false, zero, suc}
-use Rattle.std.specs.Prelude.{slice_get, Some, Ok, map, Contains, cond, ◌==◌}
+use Rattle.std.specs.Prelude.{Result, Err, slice_get, Some, Ok, map, Contains, cond, ◌==◌}
 use Rattle.std.proofs.lemmas.List.{length-map, map-append, take_more, take_all}
 use Rattle.std.specs.Global.{Vec}
 use Rattle.std.proofs.lemmas.Option.{slice_get_within, get_or_from_slice_get}
@@ -10,7 +10,7 @@ use Rattle.tib_lex.specs.Lists.{Along, Each, Has}
 use Rattle.tib_lex.proofs.HasLines.{lines_read, lines_split}
 use Rattle.tib_tree.specs.Grows.{Adds}
 use Rattle.tib_tree.specs.Trees.{Trees, none, tree, only, preorder, preorder_of}
-use Rattle.tib_tree.specs.Written.{Item, items}
+use Rattle.tib_tree.specs.Written.{Item, items, Written, end, leaf, head}
 use Rattle.tib_grammar.specs.Sides.{Symbol, label as symbol_label, hole, holes}
 use Rattle.tib_grammar.specs.Range.{AllBelow, IsInRange, AreInRange}
 use Rattle.tib_grammar.specs.GrammarOf.{GrammarOf}
@@ -19,10 +19,12 @@ use Rattle.tib_grammar.specs.declared.Rule.{Rule}
 use Rattle.tib_grammar.proofs.Members.{at_has, each_more, distinct_more}
 use Rattle.tib_grammar_file.specs.Rule.{RuleLine, rule_line_of}
 use Rattle.tib_grammar_file.specs.Reading.{grammar_of}
-use Rattle.tib_grammar_file.specs.GrammarText.{HaveTokens, AddsAll, SpellsRuleOf, first_text, GrammarText, IsSmallRule, AreSmallRules}
+use Rattle.tib_grammar_file.specs.GrammarText.{HaveTokens, AddsAll, SpellsRuleOf, first_text, GrammarText, IsSmallRule, AreSmallRules, Means}
 use Rattle.tib_grammar_file.specs.Value.{IsNode, IsRule, IsGrammarOf, left_of}
 use Rattle.tib_grammar_file.specs.Built.{IsSource}
-use Rattle.tib_grammar_file.specs.Read.{ReadsAs}
+use Rattle.tib_grammar_file.specs.Read.{ReadsAs, IsFirstFault}
+use Rattle.tib_grammar_file.specs.Printed.{LabelsBelow, AreLabelled}
+use Rattle.tib_lex.specs.declared.fault.FileFault.{FileFault}
 use Rattle.tib_grammar_file.specs.RawGrammar.{IsRawGrammar}
 use Rattle.tib_grammar_file.specs.Resolve.{IsSmallTree}
 use Rattle.tib_grammar_file.specs.declared.raw.RawRules.{RawRules}
@@ -323,3 +325,32 @@ source_of weighted bytes before names texts raw short e r =
 pub read_as : (w v : Bool) (labels : List (List ℕ)) (bytes : List ℕ) (before names texts : List (List ℕ)) (raw : RawRules) (g : GrammarOf) → v ≡ w → before ≡ [] → length bytes ≤ 8388608 → IsRawGrammar before names texts raw (grammar_of v bytes) → ((start : List ℕ) (lines : List RuleLine) → IsSource names texts raw start lines → IsGrammarOf labels g start lines) → ReadsAs w labels bytes g
 read_as w v labels bytes before names texts raw g same empty short r all =
     reads_as w labels bytes names texts raw g short (raw_from w bytes before names texts raw empty (subst (λ (x : Bool). IsRawGrammar before names texts raw (grammar_of x bytes)) same r)) all
+
+-- the labels of what is meant are in the table
+means_below : (names labels : List (List ℕ)) (ts : Trees (Symbol ℕ ℕ)) (f : Written) → Means names labels ts f → LabelsBelow (length labels) ts
+means_below names labels none f h = tt
+means_below names labels (tree s kids rest) end h = absurd h
+means_below names labels (tree (symbol_label g) kids rest) (leaf quoted text more) h =
+    (slice_get_within labels g text h.0.1, subst (λ (ks : Trees (Symbol ℕ ℕ)). LabelsBelow (length labels) ks) (sym h.1) tt, means_below names labels rest more h.2)
+means_below names labels (tree (hole q) kids rest) (leaf quoted text more) h = means_below names labels rest more h.2
+means_below names labels (tree (symbol_label g) kids rest) (head quoted text below more) h =
+    (slice_get_within labels g text h.0, means_below names labels kids below h.1, means_below names labels rest more h.2)
+means_below names labels (tree (hole q) kids rest) (head quoted text below more) h = absurd h.0
+
+rules_labelled : (weighted : Bool) (names labels : List (List ℕ)) (rows : List (List Word)) (rules : List (Rule ℕ)) → Along (SpellsRuleOf weighted names labels) rows rules → AreLabelled (length labels) rules
+rules_labelled weighted names labels rows [] a m h = absurd (omega arith)
+rules_labelled weighted names labels [] (r ∷ rules) a m h = absurd a
+rules_labelled weighted names labels (w ∷ rows) (r ∷ rules) a zero h = means_below names labels (only r.right) a.0.right a.0.right_is
+rules_labelled weighted names labels (w ∷ rows) (r ∷ rules) a (suc m) h = rules_labelled weighted names labels rows rules a.1 m (omega arith)
+
+pub text_labelled : (weighted : Bool) (labels : List (List ℕ)) (bytes : List ℕ) (g : GrammarOf) → ReadsAs weighted labels bytes g → AreLabelled (length labels) g.rules
+text_labelled weighted labels bytes g r = rules_labelled weighted g.names labels r.text.rows g.rules r.text.rules
+
+-- a file with a fault is no grammar's text
+ok_or_err : (p : List ℕ × List RuleLine) (f : FileFault) → (let r : Result (List ℕ × List RuleLine) FileFault = Err f in r ≡ Ok p) → ⊥
+ok_or_err p f e = cc
+
+pub no_text : (weighted : Bool) (bytes : List ℕ) (fault : FileFault) → IsFirstFault weighted bytes fault → (labels : List (List ℕ)) (g : GrammarOf) → ReadsAs weighted labels bytes g → ⊥
+no_text weighted bytes fault e labels g r =
+    let t = text_forth weighted labels bytes g r.text r.small in
+    ok_or_err (t.start, t.lines) fault (sym e ∙ t.read)

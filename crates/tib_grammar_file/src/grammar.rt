@@ -4,6 +4,7 @@ ghost use Rattle.tib_tree.specs.Grows.{Grows};
 ghost use Rattle.tib_grammar.specs.StateName.{AreStateNames};
 ghost use Rattle.tib_grammar.specs.Range.{AreInRange};
 ghost use Rattle.tib_grammar_file.specs.Built.{IsSource};
+ghost use Rattle.tib_grammar_file.specs.Printed.{AreLabelled};
 ghost use Rattle.tib_grammar_file.specs.Read.{ReadsAs, IsCause};
 ghost use Rattle.tib_grammar_file.specs.Rule.{RuleLine};
 ghost use Rattle.tib_grammar_file.specs.Value.{IsGrammarOf};
@@ -89,6 +90,7 @@ pub fn read_grammar<S: Semiring>(
 ) -> Result<Grammar<S>, ReadError>
     requires { length bytes.now ≤ 8388608 }
     ensures text { IfOk result (λ g. ReadsAs S.WEIGHTED labels.new bytes.now g) }
+    ensures labelled { IfOk result (λ g. AreLabelled (length labels.new) g.rules) }
     ensures fault { IfErr result (λ e. IsCause S.WEIGHTED bytes.now e) }
     ensures labels { Grows labels.old labels.new }
 {

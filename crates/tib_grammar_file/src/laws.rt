@@ -1,6 +1,16 @@
+// What holds of the text of grammars.
+ghost use Rattle.std.specs.Prelude.{ℕ, List, Bool};
+ghost use Rattle.tib_lex.specs.declared.fault.FileFault.{FileFault};
+ghost use Rattle.tib_grammar.specs.GrammarOf.{GrammarOf};
+ghost use Rattle.tib_grammar_file.specs.Read.{ReadsAs, IsFirstFault};
 ghost use Rattle.tib_grammar_file.specs.Rule.{ReadsRules};
 
 /// The parts that are read of tokens are those of the rule that is spelled so.
 pub fn rules_are_read()
     ensures { ReadsRules }
+{}
+
+/// A file with a fault is no grammar's text within the limit on nodes, over no table of labels.
+pub fn faults_have_no_text()
+    ensures { (weighted : Bool) (bytes : List ℕ) (fault : FileFault) → IsFirstFault weighted bytes fault → (labels : List (List ℕ)) (g : GrammarOf) → ReadsAs weighted labels bytes g → ⊥ }
 {}

@@ -1,4 +1,4 @@
-use Rattle.tib_grammar_file.proofs.TextRead.{source_of, read_as}
+use Rattle.tib_grammar_file.proofs.TextRead.{source_of, read_as, text_labelled}
 use Rattle.tib_grammar_file.proofs.grammar.read_grammar.Goals as goal
 
 pub build-requires : goal.build-requires
@@ -7,3 +7,8 @@ build-requires g c = source_of _ c.args.bytes.now c.new-names.result c.read_raw.
 pub returns-in-Ok-build-clause-text : goal.returns-in-Ok-build-clause-text
 returns-in-Ok-build-clause-text g c =
     read_as g.S.Semiring.WEIGHTED _ c.build.new.labels c.args.bytes.now c.new-names.result c.read_raw.new.names c.read_raw.new.texts c.in-Ok.raw c.in-Ok-build.grammar c.WEIGHTED.ensures c.new-names.ensures c.requires c.in-Ok.ensures c.in-Ok-build.ensures.grammar
+
+pub returns-in-Ok-build-clause-labelled : goal.returns-in-Ok-build-clause-labelled
+returns-in-Ok-build-clause-labelled g c =
+    text_labelled g.S.Semiring.WEIGHTED c.build.new.labels c.args.bytes.now c.in-Ok-build.grammar
+    (read_as g.S.Semiring.WEIGHTED _ c.build.new.labels c.args.bytes.now c.new-names.result c.read_raw.new.names c.read_raw.new.texts c.in-Ok.raw c.in-Ok-build.grammar c.WEIGHTED.ensures c.new-names.ensures c.requires c.in-Ok.ensures c.in-Ok-build.ensures.grammar)

@@ -1,0 +1,23 @@
+use Rattle.std.proofs.Common.{refl, ℕ, []}
+use Rattle.tib_tree.specs.Trees.{only, preorder_of}
+use Rattle.tib_io.specs.declared.files.Failed.{Failed}
+use Rattle.tib_grammar_file.specs.Printed.{trees_text}
+use Rattle.tib_grammar_file.proofs.Printing.{items_within, side_trees, prints_as, fails_as}
+use Rattle.tib_grammar_file.proofs.print.put_side.Goals as goal
+
+pub put_trees-requires-clause-within : goal.put_trees-requires-clause-within
+put_trees-requires-clause-within g c = items_within c.args.names.now c.args.labels.now c.items.result.now (preorder_of c.args.side.now) c.items.ensures.items c.requires
+
+pub put_trees-requires-clause-trees : goal.put_trees-requires-clause-trees
+put_trees-requires-clause-trees g c = (only c.args.side.now, [], side_trees c.items.result.now c.args.side.now c.items.ensures.items, refl)
+
+pub returns-in-Ok : goal.returns-in-Ok
+returns-in-Ok g c =
+    let text = trees_text c.args.names.now c.args.labels.now (only c.args.side.now) 0 in
+    prints_as ℕ (Unit {0}) Failed (g.W.Sink.written c.args.out.now) (g.W.Sink.written c.put_trees.new.out) (g.W.Sink.free c.args.out.now) (g.W.Sink.free c.put_trees.new.out) (g.W.Sink.faults c.args.out.now) (g.W.Sink.faults c.put_trees.new.out) text text c.in-Ok.field-0 tt refl
+    (c.in-Ok.ensures.prints (only c.args.side.now) [] (side_trees c.items.result.now c.args.side.now c.items.ensures.items) refl)
+
+pub returns-in-Err : goal.returns-in-Err
+returns-in-Err g c =
+    fails_as ℕ (Unit {0}) Failed g.W.Sink.written g.W.Sink.free g.W.Sink.faults c.args.out.now c.put_trees.new.out (trees_text c.args.names.now c.args.labels.now (only c.args.side.now) 0) _
+    (c.in-Err.ensures.prints (only c.args.side.now) [] (side_trees c.items.result.now c.args.side.now c.items.ensures.items) refl)

@@ -1,0 +1,92 @@
+-- A grammar as it is printed.
+use Rattle.std.specs.Prelude.{ℕ, ◌<◌, Bool, true, false, ◌&&◌, not, List, [], ◌∷◌, ◌++◌, length, decimal, if◌then◌else◌, zero, suc}
+use Rattle.std.specs.List.{list_any}
+use Rattle.std.specs.Str.{bytes_eq}
+use Rattle.std.proofs.Common.{get_or}
+use Rattle.tib_lex.specs.Grammar.{is_name, label, spelling}
+use Rattle.tib_tree.specs.Trees.{Trees, none, tree, only, count, preorder_of}
+use Rattle.tib_lex.specs.Lists.{Each}
+use Rattle.tib_grammar.specs.Sides.{Symbol, Side, label as symbol_label, hole}
+use Rattle.tib_grammar.specs.GrammarOf.{GrammarOf}
+use Rattle.tib_grammar.specs.Run.{rule_at}
+use Rattle.tib_grammar.specs.declared.Item.{Item}
+use Rattle.tib_grammar.specs.declared.Item.TheVariants.{Label, Hole}
+use Rattle.tib_grammar.specs.declared.Rule.{Rule}
+
+-- whether a text is one of the names
+abbrev pub is_held : List (List ℕ) → List ℕ → Bool
+is_held names text = list_any (bytes_eq text) names
+
+-- a label's text, in quotes where it reads as no name or as a state's
+abbrev pub label_text : List (List ℕ) → List ℕ → List ℕ
+label_text names text = if is_name text && not (is_held names text) then text else spelling (label text)
+
+abbrev pub symbol_text : List (List ℕ) → List (List ℕ) → Symbol ℕ ℕ → List ℕ
+symbol_text names labels (symbol_label f) = label_text names (get_or labels f [])
+symbol_text names labels (hole q) = get_or names q []
+
+-- the label or the state of an item has a text
+abbrev pub IsWithin : List (List ℕ) → List (List ℕ) → Item ℕ → Type 0
+IsWithin names labels (Label f rank) = f < length labels
+IsWithin names labels (Hole q) = q < length names
+
+abbrev pub IsSymbolWithin : List (List ℕ) → List (List ℕ) → Symbol ℕ ℕ → Type 0
+IsSymbolWithin names labels (symbol_label f) = f < length labels
+IsSymbolWithin names labels (hole q) = q < length names
+
+-- the labels and states of a side have texts
+abbrev pub IsSideWithin : List (List ℕ) → List (List ℕ) → Side ℕ ℕ → Type 0
+IsSideWithin names labels s = Each (λ p. IsSymbolWithin names labels p.0) (preorder_of s)
+
+-- those of a rule have
+pub record IsRuleWithin (names labels : List (List ℕ)) (r : Rule ℕ) : Type 0 where
+  pub left : r.left < length names
+  pub right : IsSideWithin names labels r.right
+
+-- the labels of trees are below n
+abbrev pub LabelsBelow : ℕ → Trees (Symbol ℕ ℕ) → Type 0
+LabelsBelow n none = Unit {0}
+LabelsBelow n (tree (symbol_label f) kids rest) = (f < n) × LabelsBelow n kids × LabelsBelow n rest
+LabelsBelow n (tree (hole q) kids rest) = LabelsBelow n rest
+
+-- the labels of rules have texts in a table of n
+abbrev pub AreLabelled : ℕ → List (Rule ℕ) → Type 0
+AreLabelled n rules = (m : ℕ) → m < length rules → LabelsBelow n (only (rule_at rules m).right)
+
+-- a space between trees
+abbrev pub space : ℕ → List ℕ
+space zero = []
+space (suc k) = 32 ∷ []
+
+-- parentheses round children, where there are any
+abbrev pub opening : ℕ → List ℕ
+opening zero = []
+opening (suc n) = 40 ∷ []
+
+abbrev pub closing : ℕ → List ℕ
+closing zero = []
+closing (suc n) = 41 ∷ []
+
+-- trees behind k others
+abbrev pub trees_text : List (List ℕ) → List (List ℕ) → Trees (Symbol ℕ ℕ) → ℕ → List ℕ
+trees_text names labels none k = []
+trees_text names labels (tree s kids rest) k =
+    space k ++ (symbol_text names labels s ++ (opening (count kids) ++ (trees_text names labels kids 0 ++ (closing (count kids) ++ trees_text names labels rest (suc k)))))
+
+-- the cost of a rule, where costs are printed
+abbrev pub cost_text : Bool → ℕ → List ℕ
+cost_text false cost = []
+cost_text true cost = 32 ∷ (35 ∷ (32 ∷ decimal cost))
+
+-- the line of a rule
+abbrev pub rule_text : Bool → List (List ℕ) → List (List ℕ) → Rule ℕ → List ℕ
+rule_text weighted names labels r =
+    get_or names r.left [] ++ (32 ∷ (45 ∷ (62 ∷ (32 ∷ []))) ++ (trees_text names labels (only r.right) 0 ++ (cost_text weighted r.cost ++ 10 ∷ [])))
+
+abbrev pub rules_text : Bool → List (List ℕ) → List (List ℕ) → List (Rule ℕ) → List ℕ
+rules_text weighted names labels [] = []
+rules_text weighted names labels (r ∷ rules) = rule_text weighted names labels r ++ rules_text weighted names labels rules
+
+-- the start's line, and then a line for each rule
+abbrev pub grammar_text : Bool → List (List ℕ) → GrammarOf → List ℕ
+grammar_text weighted labels g = (get_or g.names 0 [] ++ 10 ∷ []) ++ rules_text weighted g.names labels g.rules
