@@ -26,9 +26,14 @@ fn write_both<W: Sink>(out: &mut W, first: &[u8], second: &[u8]) -> Result<(), F
     }
 }
 
-// Writes a number between two pieces.
+/// Writes a number between two pieces. It takes no memory.
 #[tactic(auto, using(tib_io::proofs::Pieces::takes_more, tib_io::proofs::Pieces::front_later, tib_io::proofs::Pieces::front_first))]
-fn write_about<W: Sink>(out: &mut W, first: &[u8], number: u64, last: &[u8]) -> Result<(), Failed>
+pub(crate) fn write_about<W: Sink>(
+    out: &mut W,
+    first: &[u8],
+    number: u64,
+    last: &[u8],
+) -> Result<(), Failed>
     ensures ok { OnOk result (Takes (W.written out.old) (W.written out.new) (W.free out.old) (W.free out.new) (first.now ++ decimal number ++ last.now)) }
     ensures err { OnErr result (TakesFront (W.written out.old) (W.written out.new) (W.free out.old) (W.free out.new) (first.now ++ decimal number ++ last.now)) }
     ensures cause { OnErr result (Rose (W.faults out.old) (W.faults out.new)) }

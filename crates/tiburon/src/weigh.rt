@@ -1,5 +1,7 @@
 // `weigh`: each tree of the second file with its cost by the grammar of the first.
-ghost use Rattle.std.specs.Prelude.{◌≡◌, ◌≤◌, ℕ, Some, length, true, IfErr};
+ghost use Rattle.std.specs.Prelude.{◌≡◌, ◌≤◌, Some, length, true, IfErr, IfOk};
+ghost use Rattle.std.specs.List.{AllZip};
+ghost use Rattle.tib_grammar.specs.Series.{IsSeries};
 ghost use Rattle.tib_io.specs.Causes.{GoesOn};
 ghost use Rattle.tib_command.specs.Jobs.{meaning};
 ghost use Rattle.tiburon.specs.Causes.{HasCause, IsEarly, IsTooMany, LeavesAlone, is_weighted};
@@ -13,9 +15,25 @@ use tib_command::Job;
 use tib_cost::{Cost, Semiring};
 use tib_grammar::Grammar;
 use tib_io::{Failed, Files, GrowingSink, Sink, write_and_finish};
-use tib_normal::{NormalError, normalize};
+use tib_normal::{Normal, NormalError, normalize};
 use tib_tree::{Labels, Tree};
 use tib_weigh::weigh_all;
+
+// The costs of the trees by a grammar in normal form.
+fn costs_by<S: Semiring + Sync, R: Threads + Sync>(
+    rt: &R,
+    alloc: Global,
+    normal: &Normal<S>,
+    trees: &[Tree],
+) -> Result<Vec<Option<Cost>>, Status>
+    ensures series { IfOk result (λ costs. AllZip (λ t v. IsSeries S.product normal.now.rules t v) trees.now costs.items) }
+    ensures err { IfErr result (λ s. s ≡ Status.OutOfMemory) }
+{
+    match weigh_all::<S, R>(rt, alloc, normal, trees) {
+        Ok(costs) => Ok(costs),
+        Err(_) => Err(Status::OutOfMemory),
+    }
+}
 
 // The costs of the trees by the grammar, which is brought into normal form.
 fn costs_of<S: Semiring + Sync + Drop, R: Threads + Sync>(
@@ -26,16 +44,17 @@ fn costs_of<S: Semiring + Sync + Drop, R: Threads + Sync>(
     limit: u64,
 ) -> Result<Vec<Option<Cost>>, Status>
     requires { (1 ≤ limit) × (limit ≤ 20000000) }
-    ensures { IfErr result (IsTooMany limit) }
+    ensures costs { IfOk result (λ costs. length costs.items ≡ length trees.now) }
+    ensures err { IfErr result (IsTooMany limit) }
 {
     let normal = match normalize::<S>(alloc, grammar, limit) {
         Ok(normal) => normal,
         Err(NormalError::TooMany { .. }) => return Err(Status::TooMany { limit }),
         Err(NormalError::OutOfMemory) => return Err(Status::OutOfMemory),
     };
-    match weigh_all::<S, R>(rt, alloc, &normal, trees) {
+    match costs_by::<S, R>(rt, alloc, &normal, trees) {
         Ok(costs) => Ok(costs),
-        Err(_) => Err(Status::OutOfMemory),
+        Err(status) => Err(status),
     }
 }
 
