@@ -1,4 +1,5 @@
--- Runs of a grammar, what they yield, and what they cost (derivations of a regular tree grammar).
+-- Runs of a grammar, what they yield, and what they cost (derivations of a regular
+-- tree grammar, Comon et al. 2007).
 use Rattle.std.specs.Prelude.{◌≡◌, ℕ, ◌<◌, List, [], ◌∷◌, length}
 use Rattle.std.proofs.Common.{get_or}
 use Rattle.tib_tree.specs.Trees.{Trees, none, tree, only, join}

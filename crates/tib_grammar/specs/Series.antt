@@ -1,4 +1,5 @@
--- The series of a grammar, and grammars whose rules cover those of another.
+-- The series of a grammar (a recognizable tree series, Berstel and Reutenauer 1982), and grammars whose rules cover
+-- those of another.
 use Rattle.std.specs.Prelude.{◌≡◌, ℕ, ◌≤◌, List, [], ◌∷◌, Option}
 use Rattle.tib_lex.specs.Lists.{Has}
 use Rattle.tib_tree.specs.Trees.{Tree, only}
