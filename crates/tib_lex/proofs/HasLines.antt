@@ -1,9 +1,9 @@
 -- A file has just the lines that are read of it.
-use Rattle.std.proofs.Common.{◌≡◌, ℕ, ◌<◌, ◌⊎◌, inl, inr, List, [], ◌∷◌, ◌++◌, length, refl, ap, sym, ◌∙◌, subst, arith, Bool, true, false}
+use Rattle.std.proofs.Common.{◌≡◌, ℕ, ◌<◌, inl, inr, List, [], ◌∷◌, ◌++◌, length, refl, ap, sym, ◌∙◌, subst, arith, Bool, true, false}
 use Rattle.std.specs.Prelude.{not, ◌==◌, ◌&&◌, cond}
 use Rattle.std.specs.List.{list_all}
 use Rattle.std.proofs.lemmas.Bool.Decides.{eqb_tells}
-use Rattle.tib_lex.specs.Lines.{not_feed, push_byte, lines_of, HasNoFeed, EndsFile, HasLines}
+use Rattle.tib_lex.specs.Lines.{not_feed, push_byte, lines_of, HasNoFeed, HasLines}
 
 no_feed_first : (c : Bool) (b : ℕ) (line : List ℕ) → c ≡ (b == 10) → (not c && list_all not_feed line) ≡ true → (c ≡ false) × (list_all not_feed line ≡ true)
 no_feed_first true b line e h = cc

@@ -1,12 +1,12 @@
 -- A line has just the tokens that are read of it.
-use Rattle.std.proofs.Common.{◌≡◌, ℕ, ◌+◌, ◌-◌, ◌<◌, ◌≤◌, ◌⊎◌, inl, inr, Bool, true, false, List, [], ◌∷◌, ◌++◌, length, take, drop, refl, ap, sym, ◌∙◌, subst, arith, append_assoc, Option, length-append, zero, suc, zero-add}
-use Rattle.std.specs.Prelude.{Some, None, ◌==◌, ◌||◌, ◌&&◌, option_map, cond, slice_range, nat_lt}
-use Rattle.std.specs.List.{list_all, prefix_len}
+use Rattle.std.proofs.Common.{◌≡◌, ℕ, ◌+◌, ◌-◌, ◌<◌, inl, inr, true, false, List, [], ◌∷◌, ◌++◌, length, take, drop, refl, ap, sym, ◌∙◌, subst, arith, Option, length-append, zero, suc, zero-add}
+use Rattle.std.specs.Prelude.{Some, None, ◌==◌, ◌||◌, option_map, slice_range, nat_lt}
+use Rattle.std.specs.List.{list_all}
 use Rattle.std.proofs.lemmas.Bool.Decides.{nat_tests}
 use Rattle.std.proofs.lemmas.List.{length-drop}
 use Rattle.std.proofs.Math.Seq.{take-append_seam}
 use Rattle.tib_lex.specs.Bytes.{is_blank, is_name_byte}
-use Rattle.tib_lex.specs.Grammar.{Word, open_, close, hash, arrow, name, label, escape, spelling, IsName, IsWord, MayPrecede, Begins, begins_blank, IsQuiet, AfterBlanks, HasWords, IsBad, IsBadAfter, HasBadToken}
+use Rattle.tib_lex.specs.Grammar.{Word, open_, close, hash, arrow, name, label, escape, spelling, IsName, IsWord, MayPrecede, Begins, begins_blank, IsQuiet, HasWords, IsBad, IsBadAfter, HasBadToken}
 use Rattle.tib_lex.specs.Next.{first, next, blanks, span, name_token, quoted, quoted_token}
 use Rattle.tib_lex.specs.Laws.{kind_of, Found}
 use Rattle.tib_lex.specs.Reads.{Reads}
@@ -17,7 +17,7 @@ use Rattle.tib_lex.specs.declared.token.Lexed.{Lexed}
 use Rattle.tib_lex.specs.declared.token.Lexed.TheVariants as lexed
 use Rattle.tib_lex.proofs.Quotes.{ne-eqb}
 use Rattle.tib_lex.proofs.Spelled.{both, and_true, or_false, run_of, first_again}
-use Rattle.tib_lex.proofs.Found.{found, which, pass, both_true, is_byte}
+use Rattle.tib_lex.proofs.Found.{found, which, both_true, is_byte}
 use Rattle.tib_lex.proofs.LineWords.{takes, words_step}
 
 -- no token begins with white space

@@ -1,11 +1,11 @@
 -- Which texts are names.
-use Rattle.std.proofs.Common.{◌≡◌, ℕ, ◌+◌, ◌<◌, ◌≤◌, suc, Bool, true, false, List, [], ◌∷◌, length, refl, ap, sym, ◌∙◌, arith}
+use Rattle.std.proofs.Common.{◌≡◌, ℕ, ◌+◌, ◌<◌, suc, Bool, true, false, List, [], ◌∷◌, length, refl, ap, sym, ◌∙◌, arith}
 use Rattle.std.specs.Prelude.{◌&&◌, not, cond}
 use Rattle.std.specs.List.{list_all, prefix_len}
 use Rattle.std.specs.Str.{bytes_eq}
 use Rattle.tib_lex.specs.Bytes.{is_name_byte}
 use Rattle.tib_lex.specs.Grammar.{IsName, is_name}
-use Rattle.tib_lex.proofs.Spelled.{both, and_true}
+use Rattle.tib_lex.proofs.Spelled.{and_true}
 use Rattle.tib_lex.proofs.Found.{both_true}
 
 not_true : (b : Bool) → not b ≡ true → b ≡ false

@@ -1,4 +1,5 @@
-//! Lines and tokens of the text formats.
+//! Lines and tokens of the text formats, over the bytes of a file, and the faults that a file may have. What is read of a line is
+//! just what the format says that it has: its tokens, by their spelling, or none where one is bad. It stands on no other crate.
 #![tactic(auto)]
 
 mod bytes;
@@ -6,6 +7,8 @@ mod fault;
 mod laws;
 mod lines;
 mod next;
+#[cfg(test)]
+mod tests;
 mod text;
 mod token;
 mod tokens;

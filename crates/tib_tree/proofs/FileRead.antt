@@ -1,8 +1,7 @@
 -- How a file is read line by line.
-use Rattle.std.proofs.Common.{◌≡◌, ℕ, ◌+◌, ◌<◌, inl, inr, List, [], ◌∷◌, ◌++◌, length, take, drop, ap, sym, ◌∙◌, subst, append-nil, Option}
+use Rattle.std.proofs.Common.{◌≡◌, ℕ, ◌+◌, inl, inr, List, [], ◌∷◌, ◌++◌, length, drop, ap, sym, ◌∙◌, subst, append-nil, Option}
 use Rattle.std.specs.Prelude.{Some, None, Result, Ok, Err, slice_range}
-use Rattle.std.specs.List.{prefix_len}
-use Rattle.tib_lex.specs.Lines.{not_feed, lines_of, front, with_line}
+use Rattle.tib_lex.specs.Lines.{lines_of, front, with_line}
 use Rattle.tib_lex.specs.NextLine.{IsNextLine}
 use Rattle.tib_lex.specs.FaultOf.{file_error_of}
 use Rattle.tib_lex.specs.declared.lines.Line.{Line}

@@ -1,5 +1,5 @@
 -- The pairs of a tree's nodes are its preorder.
-use Rattle.std.proofs.Common.{◌≡◌, ℕ, ◌+◌, List, [], ◌∷◌, ◌++◌, length, map, refl, ap, sym, ◌∙◌, suc, arith, length-append}
+use Rattle.std.proofs.Common.{◌≡◌, ℕ, List, [], ◌∷◌, ◌++◌, length, refl, ap, sym, ◌∙◌, suc, arith, length-append}
 use Rattle.std.proofs.lemmas.List.{map-append}
 use Rattle.tib_tree.specs.Trees.{Tree, Trees, none, tree, count, sizes, only, preorder, preorder_of, append_nil, parse, parse_of, first_of, IsOneTree, preorder-first}
 use Rattle.tib_tree.specs.Pairs.{pair_of, pairs_of}

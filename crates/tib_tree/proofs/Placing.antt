@@ -1,6 +1,5 @@
 -- How the depths of nodes are found from the first one on.
-use Rattle.std.proofs.Common.{◌≡◌, ℕ, ◌+◌, ◌-◌, ◌<◌, ◌≤◌, List, [], ◌∷◌, ◌++◌, length, refl, ap, sym, ◌∙◌, subst, arith, append_assoc, append-nil, length-append, zero, suc, Option, true, false}
-use Rattle.std.specs.Prelude.{Some, None}
+use Rattle.std.proofs.Common.{◌≡◌, ℕ, ◌-◌, ◌<◌, List, [], ◌∷◌, ◌++◌, length, refl, ap, sym, ◌∙◌, arith, append_assoc, append-nil, length-append, zero, suc, true, false}
 use Rattle.tib_tree.specs.Trees.{Tree, Trees, none, tree, count, sizes, only}
 use Rattle.tib_tree.specs.Filled.{nodes_at, nodes_of_tree, sized, sized_back}
 use Rattle.tib_tree.specs.declared.preorder.Node.{Node}

@@ -1,8 +1,8 @@
 -- The text of a tree, as it is printed node by node.
-use Rattle.std.proofs.Common.{◌≡◌, ℕ, ◌+◌, ◌-◌, ◌<◌, ◌≤◌, Bool, true, false, List, [], ◌∷◌, ◌++◌, length, get_or, drop, take, drop-cons, refl, ap, sym, ◌∙◌, subst, arith, append_assoc, append-nil, length-append, zero, suc}
-use Rattle.std.specs.Prelude.{nat_lt, replicate, if◌then◌else◌}
+use Rattle.std.proofs.Common.{◌≡◌, ℕ, ◌+◌, ◌-◌, ◌<◌, ◌≤◌, true, false, List, [], ◌∷◌, ◌++◌, length, get_or, drop, take, drop-cons, refl, ap, sym, ◌∙◌, subst, arith, append_assoc, zero, suc}
+use Rattle.std.specs.Prelude.{nat_lt, replicate}
 use Rattle.std.proofs.lemmas.Bool.Decides.{nat_tests}
-use Rattle.tib_tree.specs.Trees.{Tree, Trees, none, tree, count, only}
+use Rattle.tib_tree.specs.Trees.{Tree, Trees, none, tree, only}
 use Rattle.tib_tree.specs.Filled.{nodes_at, nodes_of_tree}
 use Rattle.tib_tree.specs.Growth.{text_at, LabelsBelow}
 use Rattle.tib_tree.specs.Printed.{text_from, label_text, gap_text, in_parentheses, behind_space, trees_text, tree_text}

@@ -1,18 +1,15 @@
 -- What is printed of trees reads back.
-use Rattle.std.proofs.Common.{◌≡◌, ℕ, ◌<◌, ◌⊎◌, inl, inr, Bool, true, false, List, [], ◌∷◌, ◌++◌, length, refl, ap, sym, ◌∙◌, subst, append_assoc, append-nil}
+use Rattle.std.proofs.Common.{◌≡◌, ℕ, ◌<◌, inl, inr, Bool, true, false, List, [], ◌∷◌, ◌++◌, length, refl, ap, sym, ◌∙◌, subst, append_assoc, append-nil}
 use Rattle.std.specs.Prelude.{Some, slice_get, not, cond}
 use Rattle.std.proofs.lemmas.Option.{slice_get-get_or}
-use Rattle.std.specs.List.{list_all}
-use Rattle.tib_lex.specs.Bytes.{is_blank}
-use Rattle.tib_lex.specs.Grammar.{Word, open_, close, name, label, is_name, spelling, IsWord, begins_name, MayPrecede, Begins, AfterBlanks, IsQuiet, HasWords}
-use Rattle.tib_lex.specs.Lines.{lines_of, HasNoFeed, HasLines}
+use Rattle.tib_lex.specs.Grammar.{Word, open_, close, name, label, is_name, spelling, IsWord, begins_name, MayPrecede, HasWords}
+use Rattle.tib_lex.specs.Lines.{HasNoFeed, HasLines}
 use Rattle.tib_lex.proofs.Spelled.{both}
-use Rattle.tib_lex.proofs.Found.{both_true}
 use Rattle.tib_lex.proofs.Names.{name_is}
 use Rattle.tib_lex.proofs.HasLines.{lines_read}
 use Rattle.tib_tree.specs.Trees.{Tree, Trees, none, tree, only}
 use Rattle.tib_tree.specs.Written.{Written, end, leaf, head, word_for, spell}
-use Rattle.tib_tree.specs.Meaning.{Says, SpellsTree, IsTreeLine}
+use Rattle.tib_tree.specs.Meaning.{Says, IsTreeLine}
 use Rattle.tib_tree.specs.Growth.{text_at, LabelsBelow}
 use Rattle.tib_tree.specs.Printed.{label_word, label_text, in_parentheses, behind_space, trees_text, tree_text}
 use Rattle.tib_tree.specs.TreesText.{HasTrees, TreesText}

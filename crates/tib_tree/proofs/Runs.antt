@@ -1,6 +1,6 @@
 -- Bytes in quotes, run by run.
-use Rattle.std.proofs.Common.{◌≡◌, ℕ, ◌+◌, ◌-◌, ◌<◌, ◌≤◌, Bool, true, false, List, [], ◌∷◌, ◌++◌, length, take, drop, inl, inr, refl, ap, sym, ◌∙◌, arith, suc, zero, append_assoc}
-use Rattle.std.specs.Prelude.{not, ◌||◌, ◌==◌, cond, slice_range, replicate, nat_lt, slice_get, Some}
+use Rattle.std.proofs.Common.{◌≡◌, ℕ, ◌+◌, ◌-◌, ◌<◌, ◌≤◌, false, List, [], ◌∷◌, ◌++◌, length, take, drop, inl, inr, refl, ap, sym, ◌∙◌, arith, suc, zero}
+use Rattle.std.specs.Prelude.{◌||◌, ◌==◌, replicate, nat_lt, slice_get, Some}
 use Rattle.std.specs.List.{prefix_len}
 use Rattle.std.proofs.Math.Seq.{take-add}
 use Rattle.tib_lex.specs.Grammar.{escape}

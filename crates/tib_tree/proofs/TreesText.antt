@@ -1,6 +1,6 @@
 -- The function that says what a file holds, and the text of trees.
-use Rattle.std.proofs.Common.{◌≡◌, ℕ, ◌+◌, ◌<◌, ◌≤◌, ◌⊎◌, inl, inr, Bool, true, false, List, [], ◌∷◌, ◌++◌, length, refl, ap, sym, ◌∙◌, subst, arith, Option, zero, suc, length-append}
-use Rattle.std.specs.Prelude.{Some, None, Result, Ok, Err, nat_lt, cond, slice_get}
+use Rattle.std.proofs.Common.{◌≡◌, ℕ, ◌<◌, ◌≤◌, inl, inr, Bool, true, false, List, [], ◌∷◌, ◌++◌, length, refl, ap, sym, ◌∙◌, subst, arith, Option, suc, length-append}
+use Rattle.std.specs.Prelude.{Some, None, Result, Ok, Err, nat_lt, cond}
 use Rattle.std.specs.Global.{Vec}
 use Rattle.std.proofs.lemmas.Bool.Decides.{nat_tests}
 use Rattle.tib_lex.specs.Grammar.{Word, HasWords, HasBadToken}
@@ -12,17 +12,19 @@ use Rattle.tib_lex.specs.declared.fault.FaultKind.TheVariants as kinds
 use Rattle.tib_lex.specs.declared.fault.FileFault.{FileFault}
 use Rattle.tib_lex.specs.declared.fault.ReadError.{ReadError}
 use Rattle.tib_lex.specs.declared.fault.ReadError.TheVariants as errors
-use Rattle.tib_lex.proofs.Spelled.{both}
 use Rattle.tib_lex.proofs.HasWords.{words_read, words_had, bad_read, bad_had}
 use Rattle.tib_tree.specs.Trees.{Tree, Trees, none, tree, only, sizes, size, preorder, preorder_of, parse, parse_of_preorder, append_nil, first_of, count as trees_count}
 use Rattle.tib_tree.specs.Written.{Written, end, leaf, head, spell, count, Item, items}
 use Rattle.tib_tree.specs.Machine.{nodes_of, IsTree}
 use Rattle.tib_tree.specs.Nodes.{AreNodes}
-use Rattle.tib_tree.specs.Meaning.{Says, SpellsTree, IsTreeLine}
+use Rattle.tib_tree.specs.Meaning.{Says, IsTreeLine}
 use Rattle.tib_tree.specs.Lines.{tree_line, tree_in, small_tree}
 use Rattle.tib_tree.specs.File.{trees_of, AreTrees, IsFile}
+use Rattle.std.specs.Prelude.{IfOk}
+use Rattle.std.proofs.lemmas.Option.{slice_get_within}
+use Rattle.tib_tree.specs.Growth.{LabelsBelow, HasLabels}
 use Rattle.tib_tree.specs.Grows.{AreDistinct}
-use Rattle.tib_tree.specs.TreesText.{HasTrees, TreesText, IsSmall, NoTree, HasNodes, LargeTree, HasFault, LineHolds, FirstFault, IsFirstFault, ReadsTrees}
+use Rattle.tib_tree.specs.TreesText.{HasTrees, TreesText, IsSmall, NoTree, HasNodes, HasFault, LineHolds, FirstFault, IsFirstFault, ReadsTrees}
 use Rattle.tib_tree.proofs.Read.{tree_back, tree_forth}
 use Rattle.tib_tree.proofs.Values.{count_said, said}
 
@@ -287,3 +289,23 @@ not_both labels bytes ts fault h small f =
     let r = text_read labels 1 (lines_of bytes) ts h small in
     let bad : Ok r.0 ≡ Err fault = sym r.1 ∙ fault_is 1 (lines_of bytes) fault f in
     cc
+
+-- the labels of what is said are in the table
+said_below : (labels : List (List ℕ)) (w : Written) (ts : Trees ℕ) → Says labels w ts → LabelsBelow (length labels) ts
+said_below labels end none h = tt
+said_below labels end (tree f kids rest) h = absurd h
+said_below labels (leaf q t more) none h = absurd h
+said_below labels (leaf q t more) (tree f none rest) h = (slice_get_within labels f t h.0, tt, said_below labels more rest h.1)
+said_below labels (leaf q t more) (tree f (tree g kids others) rest) h = absurd h
+said_below labels (head q t inner more) none h = absurd h
+said_below labels (head q t inner more) (tree f kids rest) h = (slice_get_within labels f t h.0, said_below labels inner kids h.1, said_below labels more rest h.2)
+
+texts_below : (labels : List (List ℕ)) (lines : List (List ℕ)) (ts : List (Tree ℕ)) → HasTrees labels lines ts → Each (HasLabels labels) ts
+texts_below labels [] ts h = subst (λ (us : List (Tree ℕ)). Each (HasLabels labels) us) (sym h) tt
+texts_below labels (line ∷ lines) ts (inl (blank, h)) = texts_below labels lines ts h
+texts_below labels (line ∷ lines) ts (inr (t, us, e, is, h)) =
+    subst (λ (vs : List (Tree ℕ)). Each (HasLabels labels) vs) (sym e) (said_below labels is.spells.written (only t) is.spells.says, texts_below labels lines us h)
+
+pub in_range : (labels : List (List ℕ)) (bytes : List ℕ) (r : Result (Vec (Tree ℕ)) ReadError) → IsFile labels r (trees_of bytes) → IfOk r (λ trees. Each (HasLabels labels) trees.items)
+in_range labels bytes (Ok trees) h = texts_below labels (lines_of bytes) trees.items (reads labels bytes (Ok trees) h).0
+in_range labels bytes (Err e) h = tt

@@ -1,8 +1,7 @@
 -- A text that is written piece by piece.
-use Rattle.std.proofs.Common.{◌≡◌, ℕ, ◌+◌, ◌-◌, ◌<◌, ◌≤◌, List, [], ◌∷◌, ◌++◌, length, take, refl, ap, sym, ◌∙◌, subst, arith, append-nil, length-append, Option, true, false}
+use Rattle.std.proofs.Common.{◌≡◌, ℕ, ◌+◌, ◌-◌, ◌≤◌, List, [], ◌++◌, length, refl, ap, sym, ◌∙◌, subst, arith, append-nil, length-append, Option, true, false}
 use Rattle.std.specs.Prelude.{Some, None, Result, Ok, Err, IsOk}
-use Rattle.tib_io.specs.Causes.{Rose, last_count}
-use Rattle.tib_io.specs.Writes.{Appends, Falls, Takes, TakesFront, Calm, Succeeds}
+use Rattle.tib_io.specs.Writes.{Appends, Falls, Calm, Succeeds}
 use Rattle.tib_io.proofs.Pieces.{takes_more, front_later, front_first}
 use Rattle.tib_tree.specs.Wrote.{Wrote}
 

@@ -1,9 +1,8 @@
 -- What trees that are written say, over a table of labels.
-use Rattle.std.specs.Prelude.{◌≡◌, ℕ, Bool, List, Some, slice_get}
+use Rattle.std.specs.Prelude.{◌≡◌, ℕ, List, Some, slice_get}
 use Rattle.tib_lex.specs.Grammar.{Word, HasWords}
 use Rattle.tib_tree.specs.Trees.{Tree, Trees, none, tree, only, preorder}
-use Rattle.tib_tree.specs.Written.{Written, end, leaf, head, spell, items}
-use Rattle.tib_tree.specs.Nodes.{AreNodes}
+use Rattle.tib_tree.specs.Written.{Written, end, leaf, head, spell}
 
 -- trees that are written are these trees over the labels' numbers: a leaf has no children, and each label its text
 abbrev pub Says : List (List ℕ) → Written → Trees ℕ → Type 0

@@ -1,6 +1,5 @@
 -- The text of a tree.
 use Rattle.std.specs.Prelude.{◌≡◌, ◌==◌, ◌||◌, ℕ, ◌-◌, nat_lt, Bool, not, if◌then◌else◌, List, [], ◌∷◌, ◌++◌, replicate}
-use Rattle.std.proofs.Common.{get_or}
 use Rattle.tib_lex.specs.Grammar.{Word, name, label, is_name, spelling, escape}
 use Rattle.tib_tree.specs.Trees.{Tree, Trees, none, tree, only}
 use Rattle.tib_tree.specs.Growth.{text_at}

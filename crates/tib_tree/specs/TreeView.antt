@@ -1,5 +1,5 @@
 -- What a list of nodes stands for.
-use Rattle.std.specs.Prelude.{◌≡◌, ℕ, List}
+use Rattle.std.specs.Prelude.{◌≡◌, ℕ}
 use Rattle.tib_tree.specs.Trees.{Tree, parse, first_of}
 use Rattle.tib_tree.specs.Pairs.{pairs_of}
 use Rattle.tib_tree.specs.Filled.{nodes_of_tree}

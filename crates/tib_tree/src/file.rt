@@ -4,6 +4,8 @@ ghost use Rattle.tib_tree.specs.File.{trees_of, AddsLine, IsFile, Pushes};
 ghost use Rattle.tib_tree.specs.Grows.{Grows};
 ghost use Rattle.tib_tree.specs.Lines.{tree_line};
 ghost use Rattle.tib_tree.specs.TreesText.{ReadsTrees};
+ghost use Rattle.tib_tree.specs.Growth.{HasLabels};
+ghost use Rattle.tib_lex.specs.Lists.{Each};
 
 use crate::labels::Labels;
 use crate::preorder::Tree;
@@ -78,6 +80,7 @@ pub fn read_trees(alloc: Global, bytes: &[u8], labels: &mut Labels) -> Result<Ve
     requires { length bytes.now ≤ 8388608 }
     ensures trees { ReadsTrees labels.new bytes.now result }
     ensures file { IsFile labels.new result (trees_of bytes.now) }
+    ensures labels { IfOk result (λ trees. Each (HasLabels labels.new) trees.items) }
     ensures grows { Grows labels.old labels.new }
 {
     read_lines(alloc, bytes, labels)

@@ -3,8 +3,7 @@ ghost use Rattle.std.specs.Prelude.{◌≡◌, ℕ, ◌<◌, ◌≤◌, List, []
 ghost use Rattle.std.specs.List.{prefix_len};
 ghost use Rattle.tib_lex.specs.Grammar.{IsName, is_name as is_name_text, escape, spelling, label};
 ghost use Rattle.tib_tree.specs.Printed.{label_text, tree_text, is_plain_byte, IsRun, backslash_for, gap_text, text_from};
-ghost use Rattle.tib_tree.specs.Growth.{text_at, LabelsBelow};
-ghost use Rattle.tib_tree.specs.Trees.{only};
+ghost use Rattle.tib_tree.specs.Growth.{text_at, HasLabels};
 ghost use Rattle.tib_tree.specs.Wrote.{Wrote};
 
 use crate::labels::Labels;
@@ -176,7 +175,7 @@ fn print_nodes<W: Sink>(out: &mut W, labels: &Labels, nodes: &[Node]) -> Result<
 /// written as `print_label` does. It fails only where the sink does, and then a front of the text was written. Takes no
 /// memory.
 pub fn print_tree<W: Sink>(tree: &Tree, labels: &Labels, out: &mut W) -> Result<(), Failed>
-    requires { LabelsBelow (length labels.now) (only tree.now) }
+    requires { HasLabels labels.now tree.now }
     ensures { Wrote (W.written out.old) (W.written out.new) (W.free out.old) (W.free out.new) (W.faults out.old) (W.faults out.new) (tree_text labels.now tree.now) result }
 {
     let nodes = tree.nodes();

@@ -1,5 +1,5 @@
-use Rattle.std.proofs.Common.{arith, ◌+◌, ◌-◌, ◌<◌, ◌≡◌, length, sym, ap}
-use Rattle.tib_tree.proofs.Placing.{Placed, placing_starts, all_placed, level_done, nodes_left, node_placed, nothing}
+use Rattle.std.proofs.Common.{arith, length, ap}
+use Rattle.tib_tree.proofs.Placing.{placing_starts, all_placed, level_done, nodes_left, node_placed, nothing}
 use Rattle.tib_tree.proofs.preorder.place_nodes.Goals as goal
 
 pub loop-count-init : goal.loop-count-init

@@ -1,4 +1,4 @@
-use Rattle.std.proofs.Common.{◌≡◌, ℕ, ◌+◌, ◌*◌, ◌≤◌, List, length}
+use Rattle.std.proofs.Common.{◌≡◌, ℕ, ◌+◌, ◌*◌, ◌≤◌, length}
 use Rattle.tib_tree.specs.Trees.{Tree}
 use Rattle.tib_tree.specs.Filled.{nodes_of_tree, sized_back}
 use Rattle.tib_tree.specs.Trees.{only}

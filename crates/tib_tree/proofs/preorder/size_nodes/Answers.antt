@@ -1,5 +1,5 @@
 use Rattle.std.proofs.Common.{arith}
-use Rattle.tib_tree.proofs.Sizing.{Sized, sized_step, end_within, few_starts}
+use Rattle.tib_tree.proofs.Sizing.{sized_step, end_within, few_starts}
 use Rattle.tib_tree.proofs.preorder.size_nodes.Goals as goal
 
 pub take_starts-end-requires : goal.take_starts-end-requires

@@ -1,7 +1,6 @@
-use Rattle.std.proofs.Common.{arith, ◌≡◌, ◌∙◌, ap, refl, List}
-use Rattle.tib_tree.specs.Trees.{parse, first_of, only}
-use Rattle.tib_tree.specs.Filled.{nodes_of_tree, sized_back}
-use Rattle.tib_tree.specs.declared.preorder.Node.{Node}
+use Rattle.std.proofs.Common.{arith, ◌∙◌, ap, refl}
+use Rattle.tib_tree.specs.Trees.{parse, first_of}
+use Rattle.tib_tree.specs.Filled.{sized_back}
 use Rattle.tib_tree.proofs.Fill.{filled, preorder_same, few_sized, only_one}
 use Rattle.tib_tree.proofs.preorder.tree_from.Goals as goal
 

@@ -1,4 +1,4 @@
-use Rattle.std.proofs.Common.{◌≡◌, ◌+◌, ◌≤◌, ◌-◌, ℕ, List, length, drop}
+use Rattle.std.proofs.Common.{◌≡◌, ◌+◌, ◌≤◌, ◌-◌, length, drop}
 use Rattle.std.specs.List.{prefix_len}
 use Rattle.tib_tree.specs.Printed.{is_plain_byte}
 use Rattle.tib_tree.proofs.print.count_plain.Given as goal

@@ -1,5 +1,5 @@
 use Rattle.std.proofs.Common.{arith, refl}
-use Rattle.tib_tree.proofs.Printing.{SoFar, starts, next, fails, closes_all}
+use Rattle.tib_tree.proofs.Printing.{starts, next, fails, closes_all}
 use Rattle.tib_tree.proofs.print.print_nodes.Goals as goal
 
 pub loop-i-init : goal.loop-i-init

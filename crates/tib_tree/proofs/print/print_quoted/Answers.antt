@@ -1,4 +1,4 @@
-use Rattle.std.proofs.Common.{refl, ◌++◌, ◌∷◌, []}
+use Rattle.std.proofs.Common.{refl, ◌∷◌, []}
 use Rattle.tib_tree.proofs.Writing.{joined, cut_off}
 use Rattle.tib_tree.proofs.print.print_quoted.Goals as goal
 

@@ -1,0 +1,58 @@
+use crate::{Kind, Lexed, Line, Token, line_bytes, next_line, next_token, read_tokens, token_text};
+use std::test::Fail;
+
+#[test]
+fn lines_end_before_a_feed_or_with_the_file(rt: HostRuntime) -> Result<(), Fail> {
+    let bytes = b"a\n\nb";
+    let first = Line {
+        number: 1,
+        start: 0,
+        end: 1,
+        next: 2,
+    };
+    let last = Line {
+        number: 3,
+        start: 3,
+        end: 4,
+        next: 4,
+    };
+    assert_eq!(rt; next_line(bytes, 1, 0), Some(first));
+    assert_eq!(rt; next_line(bytes, 3, 3), Some(last));
+    assert_eq!(rt; next_line(bytes, 4, 4), None);
+    assert_eq!(rt; line_bytes(bytes, last), b"b".as_slice());
+    Ok(())
+}
+
+fn token(kind: Kind, start: u32, end: u32) -> Lexed {
+    Lexed::Token(Token { kind, start, end })
+}
+
+#[test]
+fn a_token_is_read_behind_white_space(rt: HostRuntime) -> Result<(), Fail> {
+    assert_eq!(rt; next_token(b" \t\rq->a", 0), token(Kind::Name, 3, 7));
+    assert_eq!(rt; next_token(b"q -> a", 1), token(Kind::Arrow, 2, 4));
+    assert_eq!(rt; next_token(b"\"a\\\"\"(", 0), token(Kind::Quoted, 0, 5));
+    assert_eq!(rt; next_token(b"#", 0), token(Kind::Hash, 0, 1));
+    assert_eq!(rt; next_token(b"  % (", 0), Lexed::End);
+    assert_eq!(rt; next_token(b" \"a\\n\"", 0), Lexed::BadToken { at: 1 });
+    assert_eq!(rt; next_token(b"\x7f", 0), Lexed::BadToken { at: 0 });
+    Ok(())
+}
+
+#[test]
+fn a_quoted_text_loses_its_quotes(rt: HostRuntime) -> Result<(), Fail> {
+    let alloc = rt.alloc();
+    let line = b"f(\"\\\"\\\\\" )";
+    let mut tokens = Vec::new(alloc);
+    assert!(rt; read_tokens(line, &mut tokens)?);
+    assert_eq!(rt; tokens.len(), 4);
+    assert_eq!(rt;
+        token_text(alloc, line, &tokens[2])?.as_slice(),
+        b"\"\\".as_slice()
+    );
+    assert_eq!(rt;
+        token_text(alloc, line, &tokens[0])?.as_slice(),
+        b"f".as_slice()
+    );
+    Ok(())
+}
