@@ -3,27 +3,19 @@ use Rattle.std.specs.Prelude.{◌≡◌, ℕ, ◌<◌, List, [], ◌∷◌, leng
 use Rattle.std.proofs.Common.{arith, ap, sym, ◌∙◌, subst, inl, inr}
 use Rattle.tib_lex.specs.Lists.{Has}
 use Rattle.tib_tree.specs.Trees.{Trees, none, tree, join, only, count, join-none}
-use Rattle.tib_grammar.specs.Sides.{Symbol, label, hole, Side as SideFor, holes, holes_of, fill, HolesAreLeaves, leaves, Lone}
+use Rattle.tib_grammar.specs.Sides.{label, Side as SideFor, holes, holes_of, fill, HolesAreLeaves, over, Lone}
 use Rattle.tib_grammar.specs.Run.{rule_at, AreRuns, yields}
 use Rattle.tib_grammar.specs.Forms.{IsNormalSide, StandsInSide, IsStartChain, IsDeterministic}
 use Rattle.tib_grammar.specs.Range.{SidesEndInHoles}
 use Rattle.tib_grammar.specs.declared.Rule.{Rule}
-use Rattle.tib_grammar.proofs.Sides.{holes_of-label, fill-normal, leaves-holes}
+use Rattle.tib_grammar.proofs.Sides.{holes_of-label, fill-normal, over-from}
 use Rattle.tib_grammar.proofs.NormalRuns.{label_named, count-yields}
 
 -- normal sides with the same label and holes are the same
 same_side :
     (s t : SideFor ℕ ℕ) (f : ℕ) → IsNormalSide s → IsNormalSide t → HolesAreLeaves (only s) → HolesAreLeaves (only t) → s.label ≡ label f → t.label ≡ label f →
     holes s.kids ≡ holes t.kids → s ≡ t
-same_side s t f m n h k e d same =
-    let one : s.kids ≡ leaves (holes s.kids) = leaves-holes s.kids m.are_holes (kids_of s.label s.kids f e h) in
-    let two : t.kids ≡ leaves (holes t.kids) = leaves-holes t.kids n.are_holes (kids_of t.label t.kids f d k) in
-    let kids : s.kids ≡ t.kids = one ∙ ap leaves same ∙ sym two in
-    ap (λ x. record { label = x; kids = s.kids }) (e ∙ sym d) ∙ ap (λ ks. record { label = t.label; kids = ks }) kids
-  where
-    kids_of : (x : Symbol ℕ ℕ) (kids : Trees (Symbol ℕ ℕ)) (f : ℕ) → x ≡ label f → HolesAreLeaves (tree x kids none) → HolesAreLeaves kids
-    kids_of (label g) kids f e h = h.0
-    kids_of (hole p) kids f e h = absurd (cc)
+same_side s t f m n h k e d same = over-from s f e m.are_holes h ∙ ap (over f) same ∙ sym (over-from t f d n.are_holes k)
 
 module _ (rules : List (Rule ℕ)) where
   -- every rule of some runs has one label over states on its right

@@ -56,6 +56,18 @@ leaves-holes (tree (label f) kids rest) a h = absurd a
 leaves-holes (tree (hole p) none rest) a h = ap (tree (hole p) none) (leaves-holes rest a h)
 leaves-holes (tree (hole p) (tree s kids more) rest) a h = absurd h
 
+-- a label over holes that are leaves is that label over what they carry
+pub over-from : {A P : Type 0} (s : Side A P) (f : A) → s.label ≡ label f → AreHoles s.kids → HolesAreLeaves (only s) → s ≡ over f (holes s.kids)
+over-from {A} {P} s f e a h = by s.label s.kids f e a h
+  where
+    by :
+        (x : Symbol A P) (kids : Trees (Symbol A P)) (f : A) → x ≡ label f → AreHoles kids → HolesAreLeaves (tree x kids none) →
+        ◌≡◌ {A = Side A P} (record { label = x; kids = kids }) (over f (holes kids))
+    by (label g) kids f e a h =
+        let inner : kids ≡ leaves (holes kids) = leaves-holes kids a h.0 in
+        ap (λ ks. record { label = label g; kids = ks }) inner ∙ ap (λ x. record { label = x; kids = leaves (holes kids) }) e
+    by (hole p) kids f e a h = absurd (cc)
+
 pub holes_of-over : {A P : Type 0} (f : A) (ps : List P) → holes_of (over f ps) ≡ ps
 holes_of-over {A} f ps = append_nil (holes (leaves ps)) ∙ holes-leaves A ps
 

@@ -1,54 +1,17 @@
 -- State names, and texts among the keys of a table.
 use Rattle.std.proofs.Common.{◌≡◌, ℕ, ◌+◌, ◌<◌, List, [], ◌∷◌, ◌++◌, length, map, take, Some, None, slice_get, Contains, get_or, Bool, true, false, not, cond, ◌||◌, position, refl, ap, sym, ◌∙◌, subst, arith, true≢false, zero, suc, inl, inr, ◌⊎◌}
-use Rattle.std.specs.Prelude.{nat_eq, nat_lt, ◌==◌, ◌&&◌, if◌then◌else◌}
+use Rattle.std.specs.Prelude.{nat_eq, nat_lt, if◌then◌else◌}
 use Rattle.std.specs.Global.{Vec}
 use Rattle.std.specs.Cmp.Lexicographic.{pointwise}
-use Rattle.std.specs.List.{list_any, list_all, prefix_len}
+use Rattle.std.specs.List.{list_any, prefix_len}
 use Rattle.std.proofs.lemmas.List.{length-map, map-append}
 use Rattle.std.proofs.lemmas.List.Quantifiers.{position-Some}
 use Rattle.std.proofs.lemmas.Option.{slice_get-get_or}
 use Rattle.indexmap.specs.IndexSet.{insert_key}
-use Rattle.std.proofs.lemmas.Bool.Decides.{nat_tests}
 use lib.Pointwise.{bytes_decides}
-use Rattle.tib_lex.specs.Bytes.{is_name_byte}
 use Rattle.tib_lex.specs.Lists.{Has, Distinct}
 use Rattle.tib_grammar.specs.StateName.{IsStateName, AreStateNames}
 use Rattle.tib_grammar.proofs.Members.{has_at, each_more, distinct_more}
-
--- a byte of a state name
-abbrev pub is_state_byte : ℕ → Bool
-is_state_byte b = is_name_byte b && not (b == 46)
-
-both : (a b : Bool) → (a && b) ≡ true → (a ≡ true) × (b ≡ true)
-both true b e = (refl, e)
-both false b e = absurd (cc)
-
-neither : (a b : Bool) → (a || b) ≡ false → (a ≡ false) × (b ≡ false)
-neither true b e = absurd (cc)
-neither false b e = (refl, e)
-
-not_stop : (b : ℕ) → not (b == 46) ≡ true → nat_eq 46 b ≡ false
-not_stop b e = grind (arith, nat_tests)
-
-no_stop : (b : ℕ) → nat_eq 46 b ≡ false → (b == 46) ≡ false
-no_stop b e = grind (arith, nat_tests)
-
-pub bytes_split : (text : List ℕ) → list_all is_state_byte text ≡ true → (list_all is_name_byte text ≡ true) × (list_any (nat_eq 46) text ≡ false)
-bytes_split [] e = (refl, refl)
-bytes_split (b ∷ text) e =
-    let here = both (is_state_byte b) (list_all is_state_byte text) e in
-    let byte = both (is_name_byte b) (not (b == 46)) here.0 in
-    let rest = bytes_split text here.1 in
-    (rw (byte.0, rest.0) refl, rw (not_stop b byte.1, rest.1) refl)
-
-pub bytes_join : (text : List ℕ) → list_all is_name_byte text ≡ true → list_any (nat_eq 46) text ≡ false → list_all is_state_byte text ≡ true
-bytes_join [] e n = refl
-bytes_join (b ∷ text) e n =
-    let here = both (is_name_byte b) (list_all is_name_byte text) e in
-    let stop = neither (nat_eq 46 b) (list_any (nat_eq 46) text) n in
-    let other : (b == 46) ≡ false = no_stop b stop.0 in
-    let rest : list_all is_state_byte text ≡ true = bytes_join text here.1 stop.1 in
-    rw (here.0, other, rest) refl
 
 prefix_len-map : (p : List ℕ → Bool) (keys : List (Vec ℕ)) → prefix_len (λ k. p k.items) keys ≡ prefix_len p (map (λ k. k.items) keys)
 prefix_len-map p [] = refl

@@ -1,38 +1,18 @@
 // Names of states.
-ghost use Rattle.std.specs.Prelude.{◌≡◌, ℕ, ◌<◌, ◌&&◌, ◌==◌, ◌^◌, not, length, map, IfOk, IfSome, None, Some, IsTrue, false, slice_get, Contains, ◌∷◌, []};
-ghost use Rattle.std.specs.List.{list_all};
-ghost use Rattle.std.specs.Str.{bytes_eq};
-ghost use Rattle.tib_lex.specs.Bytes as spec;
+ghost use Rattle.std.specs.Prelude.{◌≡◌, ℕ, ◌<◌, ◌^◌, nat_eq, length, map, IfOk, IfSome, None, Some, IsTrue, false, slice_get, Contains};
+ghost use Rattle.std.specs.List.{list_any};
 ghost use Rattle.tib_grammar.specs.StateName.{IsStateName, AreStateNames};
 
 use crate::Names;
 use indexmap::IndexSet;
 use std::alloc::{AllocError, Global};
+use tib_lex::is_name;
 
-// Whether a byte is of a state name: a name byte but the full stop.
-fn is_state_byte(byte: u8) -> bool
-    ensures { result ≡ (spec.is_name_byte byte && not (byte == 46)) }
+// Whether a text has a full stop.
+fn has_stop(text: &[u8]) -> bool
+    ensures { result ≡ list_any (nat_eq 46) text.now }
 {
-    byte > 32
-        && byte != 127
-        && byte != b'('
-        && byte != b')'
-        && byte != b'"'
-        && byte != b'#'
-        && byte != b'%'
-        && byte != b'.'
-}
-
-fn are_state_bytes(text: &[u8]) -> bool
-    ensures { result ≡ list_all (λ byte. spec.is_name_byte byte && not (byte == 46)) text.now }
-{
-    text.iter().all(|byte| is_state_byte(*byte))
-}
-
-fn is_arrow(text: &[u8]) -> bool
-    ensures { result ≡ bytes_eq text.now (45 ∷ 62 ∷ []) }
-{
-    text == &b"->"[..]
+    text.contains(&b'.')
 }
 
 // Whether a text is a state name.
@@ -40,13 +20,10 @@ fn is_state_name(text: &[u8]) -> bool
     ensures yes { IsTrue result → IsStateName text.now }
     ensures no { result ≡ false → IsStateName text.now → ⊥ }
 {
-    if text.is_empty() {
+    if !is_name(text) {
         return false;
     }
-    if is_arrow(text) {
-        return false;
-    }
-    are_state_bytes(text)
+    !has_stop(text)
 }
 
 impl Names {

@@ -32,7 +32,7 @@ module _ {levelled weighted : Bool} {product : ℕ → ℕ → ℕ} (laws : Prod
   at_least_right : (a b : ℕ) → b ≤ product a b
   at_least_right a b = rw laws.commutes (laws.at_least b a)
 
-  grows_left : (a b c : ℕ) → a ≤ b → product a c ≤ product b c
+  pub grows_left : (a b c : ℕ) → a ≤ b → product a c ≤ product b c
   grows_left a b c h = rw (laws.commutes a c, laws.commutes b c) (laws.grows c a b h)
 
   cost-append : (ns : List ℕ) (n : ℕ) → chain_cost product rules (ns ++ n ∷ []) ≡ product (chain_cost product rules ns) (rule_at rules n).cost
@@ -188,13 +188,13 @@ module _ {levelled weighted : Bool} {product : ℕ → ℕ → ℕ} (laws : Prod
       own x e k = record { chain = []; leads = sym k; costs = sym e }
 
 -- what one rule adds
-cut-none : (a : ℕ) → cut a ≡ None → a ≤ most → ⊥
+pub cut-none : (a : ℕ) → cut a ≡ None → a ≤ most → ⊥
 cut-none a e h = elim (cut-cases a) [
   | inl k ↦ let v : Some a ≡ None = sym k.1 ∙ e in absurd (cc v)
   | inr k ↦ omega (arith, k.0)
 ]
 
-cut-some : (a c : ℕ) → cut a ≡ Some c → (a ≡ c) × (c ≤ most)
+pub cut-some : (a c : ℕ) → cut a ≡ Some c → (a ≡ c) × (c ≤ most)
 cut-some a c e = elim (cut-cases a) [
   | inl k ↦ let v : Some a ≡ Some c = sym k.1 ∙ e in let same : a ≡ c = cc v in (same, omega (arith, k.0))
   | inr k ↦ let v : None ≡ Some c = sym k.1 ∙ e in absurd (cc v)

@@ -5,3 +5,4 @@ pub mod Keys
 pub mod Waiting
 pub mod LoneSides
 pub mod Closing
+pub mod Bettering

@@ -8,3 +8,4 @@ pub mod Links
 pub mod Entries
 pub mod Agenda
 pub mod Closure
+pub mod Offers

@@ -3,7 +3,8 @@ ghost use Rattle.std.specs.Prelude.{◌≡◌, ℕ, ◌+◌, ◌<◌, ◌≤◌,
 ghost use Rattle.std.proofs.Common.{get_or};
 ghost use Rattle.tib_grammar.specs.Range.{AreInRange};
 ghost use Rattle.tib_normal.specs.Links.{AreLinks};
-ghost use Rattle.tib_normal.specs.Closure.{AreBelow, AreListed};
+ghost use Rattle.tib_normal.specs.Closure.{AreBelow, AreListed, AreDistances};
+ghost use Rattle.tib_normal.specs.Offers.{Improves, ImprovesBy, ImprovesAll, AreBest, no_side};
 
 use crate::agenda::Agenda;
 use crate::chains::close;
@@ -76,29 +77,41 @@ impl Offers {
     /// Offers a side at a cost.
     fn offer(&mut self, side: u32, cost: Cost) -> Result<(), AllocError>
         requires { side < length self.old.best.items }
-        ensures { length self.new.best.items ≡ length self.old.best.items }
+        ensures long { length self.new.best.items ≡ length self.old.best.items }
+        ensures improves { OnOk result (Improves side cost self.old.best.items self.new.best.items) }
     {
         match self.best[side as usize] {
             Some(least) => {
                 if cost < least {
                     self.best[side as usize] = Some(cost);
                 }
+                Ok(())
             }
             None => {
                 self.best[side as usize] = Some(cost);
                 self.offered.push(side)?;
+                Ok(())
             }
         }
-        Ok(())
     }
 }
 
-/// The end of a rule by its position.
-fn number_at(numbers: &[u32], n: usize) -> u32 {
+/// The number of a rule's side by the rule's position.
+fn number_at(numbers: &[u32], n: usize) -> u32
+    ensures { result ≡ get_or numbers.now n no_side }
+{
     match numbers.get(n) {
         Some(number) => *number,
         None => NO_SIDE,
     }
+}
+
+/// The distance of a state.
+fn distance_of(distances: &[Option<Cost>], state: u32) -> Option<Cost>
+    requires { state < length distances.now }
+    ensures { result ≡ get_or distances.now state None }
+{
+    distances[state as usize]
 }
 
 impl Offers {
@@ -108,12 +121,18 @@ impl Offers {
         rule: &Rule<u32>,
         number: u32,
         distance: Cost,
-    ) -> Result<(), AllocError> {
+    ) -> Result<(), AllocError>
+        ensures long { length self.new.best.items ≡ length self.old.best.items }
+        ensures improves { OnOk result (ImprovesBy S.product rule.now number distance self.old.best.items self.new.best.items) }
+    {
         if number as usize >= self.best.len() {
             return Ok(());
         }
         match S::times(distance, rule.cost) {
-            Some(cost) => self.offer(number, cost),
+            Some(cost) => {
+                self.offer(number, cost)?;
+                Ok(())
+            }
             None => Ok(()),
         }
     }
@@ -129,6 +148,8 @@ impl Offers {
     ) -> Result<(), AllocError>
         requires links { AreLinks rules.now (length links.now.first.items) links.now }
         requires below { state < length links.now.first.items }
+        ensures long { length self.new.best.items ≡ length self.old.best.items }
+        ensures improves { OnOk result (ImprovesAll S.product rules.now numbers.now state distance (length rules.now) self.old.best.items self.new.best.items) }
     {
         let mut n = links.first[state as usize] as usize;
         while n < rules.len() {
@@ -150,10 +171,13 @@ impl Offers {
         requires links { AreLinks rules.now (length links.now.first.items) links.now }
         requires long { length distances.now ≡ length links.now.first.items }
         requires below { AreBelow (length links.now.first.items) reached.now }
+        ensures long { length self.new.best.items ≡ length self.old.best.items }
+        ensures best { (q : ℕ) → OnOk result (AreDistances S.product rules.now q distances.now → AreListed distances.now reached.now → AreInRange (length distances.now) rules.now → ((s : ℕ) → get_or self.old.best.items s None ≡ None) → AreBest S.product rules.now numbers.now q self.new.best.items) }
     {
         for state in reached {
-            if let Some(distance) = distances[*state as usize] {
-                self.offer_rules::<S>(rules, links, numbers, *state, distance)?;
+            match distance_of(distances, *state) {
+                Some(distance) => self.offer_rules::<S>(rules, links, numbers, *state, distance)?,
+                None => {}
             }
         }
         Ok(())

@@ -13,3 +13,5 @@ pub mod Placing
 pub mod Writing
 pub mod Runs
 pub mod Printing
+pub mod TreesText
+pub mod ReadBack

@@ -13,4 +13,6 @@ pub mod Growth
 pub mod TreeView
 pub mod Filled
 pub mod Printed
+pub mod TreesText
+pub mod Laws
 pub mod Wrote

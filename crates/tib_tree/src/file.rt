@@ -3,6 +3,7 @@ ghost use Rattle.std.specs.List.{prefix_len};
 ghost use Rattle.tib_tree.specs.File.{trees_of, AddsLine, IsFile, Pushes};
 ghost use Rattle.tib_tree.specs.Grows.{Grows};
 ghost use Rattle.tib_tree.specs.Lines.{tree_line};
+ghost use Rattle.tib_tree.specs.TreesText.{ReadsTrees};
 
 use crate::labels::Labels;
 use crate::preorder::Tree;
@@ -43,8 +44,8 @@ fn push(trees: &mut Vec<Tree>, tree: Tree) -> Result<(), AllocError>
     Ok(())
 }
 
-/// The trees of a file, over a table that grows by their labels.
-pub fn read_trees(alloc: Global, bytes: &[u8], labels: &mut Labels) -> Result<Vec<Tree>, ReadError>
+// The trees of a file, by the function that says what it holds.
+fn read_lines(alloc: Global, bytes: &[u8], labels: &mut Labels) -> Result<Vec<Tree>, ReadError>
     requires { length bytes.now ≤ 8388608 }
     ensures trees { IsFile labels.new result (trees_of bytes.now) }
     ensures grows { Grows labels.old labels.new }
@@ -68,4 +69,16 @@ pub fn read_trees(alloc: Global, bytes: &[u8], labels: &mut Labels) -> Result<Ve
         number += 1;
     }
     Ok(trees)
+}
+
+/// The trees of a file, one a line, over a table that grows by their labels. Lines without tokens are skipped. The fault
+/// is the first line's that has one: `BadToken`, or else `BadTree`, or else `TooManyNodes` where its tree has more than
+/// 10,000 nodes. After any error the table may hold further texts, and those that it held keep their numbers.
+pub fn read_trees(alloc: Global, bytes: &[u8], labels: &mut Labels) -> Result<Vec<Tree>, ReadError>
+    requires { length bytes.now ≤ 8388608 }
+    ensures trees { ReadsTrees labels.new bytes.now result }
+    ensures file { IsFile labels.new result (trees_of bytes.now) }
+    ensures grows { Grows labels.old labels.new }
+{
+    read_lines(alloc, bytes, labels)
 }

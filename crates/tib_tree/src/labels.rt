@@ -1,6 +1,6 @@
 // The table of labels.
 ghost use Rattle.std.specs.Prelude.{◌≡◌, ℕ, ◌+◌, ◌-◌, ◌^◌, ◌<◌, ◌≤◌, List, [], ◌∷◌, ◌++◌, length, IfOk, OnOk, OnErr, slice_get, Some, Contains, IfSome, None};
-ghost use Rattle.tib_tree.specs.Grows.{Grows, Adds};
+ghost use Rattle.tib_tree.specs.Grows.{Grows, Adds, AreDistinct};
 
 use indexmap::IndexSet;
 use std::alloc::{AllocError, Global};
@@ -18,13 +18,11 @@ impl Model for Labels {
 
     ghost Value = { List (List ℕ) };
 
-    ghost use Rattle.tib_tree.specs.LabelTexts.{texts_of};
+    ghost use Rattle.tib_tree.specs.LabelTexts.{texts_of, IsTable};
 
     ghost view = { texts_of };
 
-    ghost use Rattle.std.specs.Prelude.{length, ◌<◌};
-
-    ghost invariant = { λ l. length l.texts.keys < 4294967296 };
+    ghost invariant = { IsTable };
 }
 
 impl Labels {
@@ -38,14 +36,16 @@ impl Labels {
         }
     }
 
-    /// How many texts.
+    /// How many texts, which are distinct. Takes no memory.
     pub fn len(&self) -> usize
-        ensures { result ≡ length self.now }
+        ensures value { result ≡ length self.now }
+        ensures few { length self.now < 2 ^ 32 }
+        ensures distinct { AreDistinct self.now }
     {
         self.texts.len()
     }
 
-    /// The number of a text, if the table has it.
+    /// The number of a text, if the table has it. Takes no memory.
     pub fn find(&self, text: &[u8]) -> Option<u32>
         ensures found { IfSome result (λ n. slice_get self.now n ≡ Some text.now) }
         ensures none { result ≡ None → Contains self.now text.now → ⊥ }
@@ -56,7 +56,7 @@ impl Labels {
         }
     }
 
-    /// The number of a text, which goes last where it is new.
+    /// The number of a text, which goes last where it is new. After an error the table is as before.
     pub fn intern(&mut self, text: &[u8]) -> Result<u32, AllocError>
         ensures named { IfOk result (λ n. slice_get self.new n ≡ Some text.now) }
         ensures err { OnErr result (self.new ≡ self.old) }
@@ -74,7 +74,7 @@ impl Labels {
         Ok(i as u32)
     }
 
-    /// The text of a number.
+    /// The text of a number. Takes no memory.
     pub fn text(&self, label: u32) -> &[u8]
         requires { label < length self.now }
         ensures { slice_get self.now label ≡ Some result.now }

@@ -1,7 +1,7 @@
 use Rattle.std.proofs.Common.{◌≤◌, ◌+◌, ◌-◌, length, drop}
 use Rattle.tib_tree.specs.Grows.{Grows}
 use Rattle.tib_tree.proofs.FileRead.{SoFar}
-use Rattle.tib_tree.proofs.file.read_trees.Given as goal
+use Rattle.tib_tree.proofs.file.read_lines.Given as goal
 
 abbrev pub invariant-loop-line : goal.invariant-loop-line
 invariant-loop-line l = record {

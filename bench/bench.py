@@ -1,0 +1,182 @@
+#!/usr/bin/env python3
+"""Measures the program on made inputs, and prints a table: time, peak memory, and how time grows over three doublings.
+
+No test times anything; the numbers depend on the machine and on what else it does."""
+
+import math
+import os
+import random
+import resource
+import subprocess
+import sys
+import time
+
+WORK = os.path.join(os.path.dirname(os.path.abspath(__file__)), "work")
+MEGABYTE = 1024 * 1024
+MOST = 8 * MEGABYTE
+
+
+def path(name):
+    return os.path.join(WORK, name)
+
+
+def write(name, lines):
+    """Writes lines to a file, and tells its name."""
+    with open(path(name), "w") as out:
+        out.write("\n".join(lines) + "\n")
+    return path(name)
+
+
+def measure(program, *words):
+    """The least of three runs: seconds, peak memory in megabytes, and the exit status."""
+    best = None
+    for _ in range(3):
+        begun = time.perf_counter()
+        child = subprocess.Popen([program, *words], stdout=subprocess.DEVNULL, stderr=subprocess.DEVNULL)
+        _, status, usage = os.wait4(child.pid, 0)
+        seconds = time.perf_counter() - begun
+        child.returncode = os.waitstatus_to_exitcode(status)
+        if best is None or seconds < best[0]:
+            best = (seconds, usage.ru_maxrss / 1024, child.returncode)
+    return best
+
+
+# ---- inputs
+
+def flat_grammar(size, states=2000):
+    """A grammar file of about `size` bytes, of rules of one label over states, as a treebank gives them."""
+    random.seed(1)
+    lines, length = ["s0"], 3
+    while length < size:
+        left, label = random.randrange(states), random.randrange(500)
+        rank = random.choice((0, 1, 2, 2, 3))
+        below = " ".join("s%d" % random.randrange(states) for _ in range(rank))
+        right = "L%d(%s)" % (label, below) if rank else "w%d" % random.randrange(20000)
+        line = "s%d -> %s # %d" % (left, right, random.randrange(1000))
+        lines.append(line)
+        length += len(line) + 1
+    return lines
+
+
+def some_trees(size):
+    """Trees of about `size` bytes, of up to a few thousand nodes each."""
+    random.seed(2)
+    lines, length = [], 0
+    while length < size:
+        line = "S(" + " ".join("NP(DT(w%d) NN(w%d))" % (random.randrange(500), random.randrange(9000)) for _ in range(200)) + ")"
+        lines.append(line)
+        length += len(line) + 1
+    return lines
+
+
+class Weighing:
+    """A grammar of 700 states and 18,000 rules, and trees that it yields."""
+
+    def __init__(self, states=700, rules=18000):
+        random.seed(3)
+        self.states, self.below = states, {}
+        lines = ["s0"]
+        for number in range(rules):
+            left = number % states
+            rank = 0 if number < states else random.choice((0, 0, 1, 2, 2, 2, 3))
+            children = [random.randrange(states) for _ in range(rank)]
+            label = "w%d" % random.randrange(4000) if rank == 0 else "N%d" % random.randrange(300)
+            self.below.setdefault(left, []).append((label, children))
+            right = "%s(%s)" % (label, " ".join("s%d" % q for q in children)) if rank else label
+            lines.append("s%d -> %s # %d" % (left, right, random.randrange(100)))
+        self.lines = lines
+
+    def tree(self, nodes):
+        """A tree of about so many nodes, put together from the root on: (its text, its nodes)."""
+        out, stack, count = [], [0], 0
+        while stack:
+            top = stack.pop()
+            if isinstance(top, str):
+                out.append(top)
+                continue
+            count += 1
+            rules = self.below[top]
+            short = [r for r in rules if not r[1]]
+            if count + len(stack) >= nodes:
+                label, children = random.choice(short)
+            else:
+                label, children = random.choice([r for r in rules if r[1]] or short)
+            out.append(label)
+            if children:
+                out.append("(")
+                stack.append(")")
+                for i, child in enumerate(reversed(children)):
+                    if i:
+                        stack.append(" ")
+                    stack.append(child)
+        return "".join(out), count
+
+    def trees(self, number, nodes):
+        made = [self.tree(nodes) for _ in range(number)]
+        return [text for text, _ in made], sum(count for _, count in made)
+
+
+def chain_family(size):
+    """The grammar of sets of positions: p0 loops, and a chain of states leads to it."""
+    lines = ["p%d" % size, "p0 -> e", "p0 -> a(p0)", "p0 -> b(p0)", "p1 -> a(p0) # 1"]
+    for i in range(1, size):
+        lines += ["p%d -> a(p%d)" % (i + 1, i), "p%d -> b(p%d)" % (i + 1, i)]
+    return lines
+
+
+def deep_trees(depth, number):
+    random.seed(4)
+    return ["".join(random.choice("ab") + "(" for _ in range(depth)) + "e" + ")" * depth for _ in range(number)]
+
+
+# ---- the table
+
+def row(name, measured, amount, unit):
+    seconds, memory, _ = measured
+    print("%-58s %8.3f s %8.0f MB %12.2f %s" % (name, seconds, memory, amount / seconds, unit))
+
+
+def main(program):
+    os.makedirs(WORK, exist_ok=True)
+    resource.setrlimit(resource.RLIMIT_CORE, (0, 0))
+    one = write("one.trees", ["w1"])
+    tiny = write("tiny.grammar", ["s0", "s0 -> w1"])
+
+    lines = flat_grammar(MOST - 4096)
+    size = sum(len(line) + 1 for line in lines) / MEGABYTE
+    row("read an 8 MB grammar (a fault in its last line)", measure(program, "weigh", write("faulty.grammar", lines + ["s0 -> ("]), one), size, "MB/s")
+    row("read an 8 MB grammar, normal form, one tree", measure(program, "weigh", write("large.grammar", lines), one), size, "MB/s")
+
+    lines = some_trees(MOST - 8192)
+    size = sum(len(line) + 1 for line in lines) / MEGABYTE
+    row("read 8 MB of trees (a fault in the last line)", measure(program, "weigh", tiny, write("faulty.trees", lines + ["("])), size, "MB/s")
+    row("read, weigh and print 8 MB of trees", measure(program, "weigh", tiny, write("large.trees", lines)), size, "MB/s")
+
+    weighing = Weighing()
+    grammar = write("weigh.grammar", weighing.lines)
+    texts, nodes = weighing.trees(800, 1625)
+    trees = write("weigh.trees", texts)
+    for mode in ("minplus", "bottleneck", "boolean"):
+        row("weigh %d nodes in 800 trees, 700 states, 18,000 rules, %s" % (nodes, mode), measure(program, "-m", mode, "weigh", grammar, trees), nodes / 1e6, "million nodes/s")
+
+    print("\nthe sets of positions, 200 trees of depth 4,000")
+    for size in (4, 8, 12, 16):
+        grammar = write("chain%d.grammar" % size, chain_family(size))
+        trees = write("chain%d.trees" % size, deep_trees(4000, 200))
+        row("  %d states" % (size + 1), measure(program, "weigh", grammar, trees), 200 * 4001 / 1e6, "million nodes/s")
+
+    print("\nhow time grows over three doublings (the exponent is about 1 where it grows as the input)")
+    for name, sizes, words in (
+        ("grammar read and brought into normal form", (1, 2, 4, 8), lambda n: (write("grow%d.grammar" % n, flat_grammar(n * (MEGABYTE - 4096))), one)),
+        ("trees read, weighed and printed", (1, 2, 4, 8), lambda n: (tiny, write("grow%d.trees" % n, some_trees(n * (MEGABYTE - 4096))))),
+    ):
+        seconds = [measure(program, "weigh", *words(n))[0] for n in sizes]
+
+        exponent = math.log(seconds[-1] / seconds[0]) / math.log(sizes[-1] / sizes[0])
+        print("%-58s %s s, exponent %.2f" % (name, ", ".join("%.3f" % s for s in seconds), exponent))
+
+
+if __name__ == "__main__":
+    if len(sys.argv) != 2:
+        sys.exit("usage: bench.py PROGRAM")
+    main(sys.argv[1])

@@ -1,0 +1,4 @@
+pub mod Codes
+pub mod Log
+pub mod Causes
+pub mod Text

@@ -1,0 +1,104 @@
+// `weigh`: each tree of the second file with its cost by the grammar of the first.
+ghost use Rattle.std.specs.Prelude.{◌≡◌, ◌≤◌, ℕ, Some, length, true, IfErr};
+ghost use Rattle.tib_io.specs.Causes.{GoesOn};
+ghost use Rattle.tib_command.specs.Jobs.{meaning};
+ghost use Rattle.tiburon.specs.Causes.{HasCause, IsEarly, IsTooMany, LeavesAlone, is_weighted};
+
+use crate::files::{grammar_in, trees_in};
+use crate::status::Status;
+use crate::text::weighed_text;
+use std::alloc::Global;
+use std::thread::Threads;
+use tib_command::Job;
+use tib_cost::{Cost, Semiring};
+use tib_grammar::Grammar;
+use tib_io::{Failed, Files, GrowingSink, Sink, write_and_finish};
+use tib_normal::{NormalError, normalize};
+use tib_tree::{Labels, Tree};
+use tib_weigh::weigh_all;
+
+// The costs of the trees by the grammar, which is brought into normal form.
+fn costs_of<S: Semiring + Sync + Drop, R: Threads + Sync>(
+    rt: &R,
+    alloc: Global,
+    grammar: &Grammar<S>,
+    trees: &[Tree],
+    limit: u64,
+) -> Result<Vec<Option<Cost>>, Status>
+    requires { (1 ≤ limit) × (limit ≤ 20000000) }
+    ensures { IfErr result (IsTooMany limit) }
+{
+    let normal = match normalize::<S>(alloc, grammar, limit) {
+        Ok(normal) => normal,
+        Err(NormalError::TooMany { .. }) => return Err(Status::TooMany { limit }),
+        Err(NormalError::OutOfMemory) => return Err(Status::OutOfMemory),
+    };
+    match weigh_all::<S, R>(rt, alloc, &normal, trees) {
+        Ok(costs) => Ok(costs),
+        Err(_) => Err(Status::OutOfMemory),
+    }
+}
+
+// The whole text, before any of it is written.
+fn text_of_files<S: Semiring + Sync + Drop, R: Threads + Sync, F: Files>(
+    rt: &R,
+    alloc: Global,
+    job: &Job,
+    files: &mut F,
+) -> Result<GrowingSink, Status>
+    requires files { length job.now.files.items ≡ 2 }
+    requires limit { (1 ≤ job.now.limit) × (job.now.limit ≤ 20000000) }
+    requires mode { S.WEIGHTED ≡ is_weighted job.now.mode }
+    ensures early { IfErr result IsEarly }
+    ensures cause { IfErr result (HasCause (Some (meaning job.now)) (F.held files.old) (F.faults files.old) (F.faults files.new) 0 0) }
+    ensures held { F.held files.new ≡ F.held files.old }
+    ensures sure { F.sure files.new ≡ F.sure files.old }
+    ensures counts { GoesOn (F.sure files.old) (F.faults files.old) (F.faults files.new) }
+{
+    let mut labels = Labels::new(alloc);
+    let grammar = match grammar_in::<S, F>(alloc, files, job.files[0].as_str(), &mut labels) {
+        Ok(grammar) => grammar,
+        Err(status) => return Err(status),
+    };
+    let trees = match trees_in::<F>(alloc, files, job.files[1].as_str(), &mut labels) {
+        Ok(trees) => trees,
+        Err(status) => return Err(status),
+    };
+    let costs = match costs_of::<S, R>(rt, alloc, &grammar, &trees, job.limit) {
+        Ok(costs) => costs,
+        Err(status) => return Err(status),
+    };
+    match weighed_text::<S>(alloc, &trees, &labels, &costs) {
+        Ok(text) => Ok(text),
+        Err(Failed) => Err(Status::OutOfMemory),
+    }
+}
+
+/// Writes each tree of the job's second file with its cost by the grammar of its first file.
+pub(crate) fn weigh_files<S: Semiring + Sync + Drop, R: Threads + Sync, F: Files, O: Sink>(
+    rt: &R,
+    alloc: Global,
+    job: &Job,
+    files: &mut F,
+    out: &mut O,
+) -> Status
+    requires files { length job.now.files.items ≡ 2 }
+    requires limit { (1 ≤ job.now.limit) × (job.now.limit ≤ 20000000) }
+    requires mode { S.WEIGHTED ≡ is_weighted job.now.mode }
+    ensures cause { HasCause (Some (meaning job.now)) (F.held files.old) (F.faults files.old) (F.faults files.new) (O.faults out.old) (O.faults out.new) result }
+    ensures alone { LeavesAlone result (O.written out.old) (O.written out.new) }
+    ensures finished { result ≡ Status.Done → O.finished out.new ≡ true }
+    ensures held { F.held files.new ≡ F.held files.old }
+    ensures sure { F.sure files.new ≡ F.sure files.old }
+    ensures counts { GoesOn (F.sure files.old) (F.faults files.old) (F.faults files.new) }
+    ensures later { O.faults out.old ≤ O.faults out.new }
+{
+    let text = match text_of_files::<S, R, F>(rt, alloc, job, files) {
+        Ok(text) => text,
+        Err(status) => return status,
+    };
+    match write_and_finish(out, text.bytes()) {
+        Ok(()) => Status::Done,
+        Err(Failed) => Status::WriteFault,
+    }
+}
