@@ -143,11 +143,11 @@ text_forth weighted labels bytes g t s =
     }
 
 -- the first word of each row is one of the format
-abbrev FirstIsWord : List Word → Type 0
+abbrev pub FirstIsWord : List Word → Type 0
 FirstIsWord [] = Unit {0}
 FirstIsWord (word ∷ words) = IsWord word
 
-first_words : (lines : List (List ℕ)) (rows : List (List Word)) → HaveTokens lines rows → Each FirstIsWord rows
+pub first_words : (lines : List (List ℕ)) (rows : List (List Word)) → HaveTokens lines rows → Each FirstIsWord rows
 first_words [] rows t = subst (λ (rs : List (List Word)). Each FirstIsWord rs) (sym t) tt
 first_words (line ∷ lines) rows (inl (blank, t)) = first_words lines rows t
 first_words (line ∷ lines) rows (inr (word, words, more, has, e, t)) =
@@ -172,7 +172,7 @@ one_name before text now (inr (new, same)) a n =
     subst (λ (ts : List (List ℕ)). AreStateNames ts) (sym same)
     (record { each = each_more IsStateName before text a.each n; distinct = distinct_more before text a.distinct (λ h. new (has_contains before text h)) })
 
-all_names : (before texts now : List (List ℕ)) → AddsAll before texts now → AreStateNames before → Each IsStateName texts → AreStateNames now
+pub all_names : (before texts now : List (List ℕ)) → AddsAll before texts now → AreStateNames before → Each IsStateName texts → AreStateNames now
 all_names before [] now same a e = subst (λ (ts : List (List ℕ)). AreStateNames ts) (sym same) a
 all_names before (text ∷ texts) now (middle, adds, more) a e = all_names middle texts now more (one_name before text middle adds a e.0) e.1
 

@@ -1,7 +1,9 @@
 // What holds of the text of grammars.
-ghost use Rattle.std.specs.Prelude.{ℕ, List, Bool};
+ghost use Rattle.std.specs.Prelude.{◌≡◌, ℕ, List, Bool};
+ghost use Rattle.tib_lex.specs.Lists.{Distinct};
 ghost use Rattle.tib_lex.specs.declared.fault.FileFault.{FileFault};
 ghost use Rattle.tib_grammar.specs.GrammarOf.{GrammarOf};
+ghost use Rattle.tib_grammar_file.specs.GrammarText.{GrammarText};
 ghost use Rattle.tib_grammar_file.specs.Read.{ReadsAs, IsFirstFault};
 ghost use Rattle.tib_grammar_file.specs.Rule.{ReadsRules};
 
@@ -13,4 +15,9 @@ pub fn rules_are_read()
 /// A file with a fault is no grammar's text within the limit on nodes, over no table of labels.
 pub fn faults_have_no_text()
     ensures { (weighted : Bool) (bytes : List ℕ) (fault : FileFault) → IsFirstFault weighted bytes fault → (labels : List (List ℕ)) (g : GrammarOf) → ReadsAs weighted labels bytes g → ⊥ }
+{}
+
+/// Bytes are the text of at most one grammar over one table of distinct labels.
+pub fn text_has_one_grammar()
+    ensures { (weighted : Bool) (labels : List (List ℕ)) (bytes : List ℕ) (g h : GrammarOf) → Distinct labels → GrammarText weighted labels bytes g → GrammarText weighted labels bytes h → g ≡ h }
 {}
