@@ -2,7 +2,7 @@
 use Rattle.std.specs.Prelude.{◌≡◌, ℕ, ◌+◌, ◌<◌, ◌≤◌, ◌⊎◌, ◌↔◌, List, [], ◌∷◌, ◌++◌, length, Option, None, Some}
 use Rattle.std.proofs.Common.{zero, suc}
 use Rattle.tib_tree.specs.Trees.{Tree, Trees, none, tree, size}
-use Rattle.tib_grammar.specs.Sides.{Symbol, label, hole, Side as SideFor, holes_of, Lone}
+use Rattle.tib_grammar.specs.Sides.{Symbol, label, hole, Side as SideFor, Lone}
 use Rattle.tib_grammar.specs.Run.{rule_at}
 use Rattle.tib_grammar.specs.Series.{IsSeriesAt}
 use Rattle.tib_grammar.specs.Range.{AreInRange, AreLone}

@@ -1,5 +1,7 @@
 // The normal form of a grammar.
-ghost use Rattle.std.specs.Prelude.{◌≡◌, ℕ, ◌+◌, ◌<◌, ◌≤◌, ◌^◌, List, [], ◌∷◌, length, OnOk, IfOk, None, Some, Option, IfSome};
+ghost use Rattle.std.specs.Prelude.{◌≡◌, ℕ, ◌+◌, ◌<◌, ◌≤◌, ◌^◌, List, [], ◌∷◌, length, OnOk, IfOk, None, Some, Option, IfSome, sum_by, reverse, ◌++◌};
+ghost use Rattle.tib_normal.specs.NormalForm.{labels_in};
+ghost use Rattle.tib_normal.specs.Places.{below_root, rule_labels};
 
 use crate::error::NormalError;
 use crate::links::Links;
@@ -26,6 +28,7 @@ impl Places {
         requires states { self.states ≤ self.parts }
         ensures parts { IfSome result (λ p. p.parts ≤ limit) }
         ensures states { IfSome result (λ p. p.states + self.parts ≤ p.parts + self.states) }
+        ensures counted { IfSome result (λ p. p.states ≡ self.states + labels_in (below_root items.now)) }
     {
         let Places {
             mut states,
@@ -50,6 +53,7 @@ fn count_places(rules: &[Rule<u32>], states: u32, limit: u64) -> Option<Places>
     requires { limit ≤ 20000000 }
     ensures parts { IfSome result (λ p. p.parts ≤ limit) }
     ensures states { IfSome result (λ p. p.states + states ≤ p.parts) }
+    ensures counted { IfSome result (λ p. p.states ≡ sum_by rule_labels rules.now) }
 {
     if states as u64 > limit {
         return None;
@@ -136,7 +140,7 @@ pub fn normalize<S: Semiring + Drop>(
         None => return Err(NormalError::TooMany { limit }),
     };
     let links = Links::new(alloc, rules, states as usize)?;
-    let sides = Sides::new(alloc, rules, states + places.states, S::one())?;
+    let sides = Sides::new(alloc, rules, states, states + places.states, S::one())?;
     let mut made = Made {
         rules: Vec::new(alloc),
         parts: places.parts,
@@ -149,13 +153,15 @@ pub fn normalize<S: Semiring + Drop>(
 }
 
 /// The rules of the states and those of the places behind them.
-fn with_places(rules: Vec<Rule<u32>>, sides: Sides) -> Result<Vec<Rule<u32>>, AllocError> {
-    let mut rules = rules;
+fn with_places(rules: Vec<Rule<u32>>, sides: Sides) -> Result<Vec<Rule<u32>>, AllocError>
+    ensures { IfOk result (λ all. all.items ≡ rules.items ++ reverse sides.inner.items) }
+{
+    let mut all = rules;
     let Sides { mut inner, .. } = sides;
     while let Some(rule) = inner.pop() {
-        rules.push(rule)?;
+        all.push(rule)?;
     }
-    Ok(rules)
+    Ok(all)
 }
 
 /// The grammar of these rules in normal form.
