@@ -1,6 +1,6 @@
 -- How the states and rules of places are put together.
 use Rattle.std.specs.Prelude.{◌≡◌, ℕ, ◌+◌, ◌<◌, ◌≤◌, List, [], ◌∷◌, ◌++◌, length, take, drop, reverse, refl, sum_by}
-use Rattle.std.proofs.Common.{zero, suc, get_or, arith, ap, sym, ◌∙◌, subst, append_assoc, add-one}
+use Rattle.std.proofs.Common.{length-append, zero, suc, get_or, arith, ap, sym, ◌∙◌, subst, append_assoc, add-one}
 use Rattle.std.proofs.lemmas.List.{reverse-append, length-reverse}
 use Rattle.std.proofs.lemmas.List.Sums.{sum_by-cons}
 use Rattle.tib_tree.specs.Trees.{Trees, none, tree, count, join, first_trees, other_trees, parse, HasChildren, join_parts, count-first, preorder_of, parse_of_preorder, HasChildren_of_preorder}
@@ -262,3 +262,22 @@ sum_suc f (x ∷ rules) (suc i) r h e =
 -- the sum with one rule more
 pub sum-more : (f : Rule ℕ → ℕ) (rules : List (Rule ℕ)) (i : ℕ) (r : Rule ℕ) → i < length rules → r ≡ rule_at rules i → sum_by f (take (i + 1) rules) ≡ sum_by f (take i rules) + f r
 sum-more f rules i r h e = ap (λ j. sum_by f (take j rules)) (add-one i) ∙ sum_suc f rules i r h e
+
+length-inner : (s : ℕ) (k : Trees (Symbol ℕ ℕ)) → length (inner_rules s k) ≡ labels_in k
+length-inner s none = refl
+length-inner s (tree (hole q) kids rest) = length-inner s rest
+length-inner s (tree (label f) kids rest) =
+    let both : length (inner_rules (suc s) kids ++ inner_rules (suc s + labels_in kids) rest) ≡ length (inner_rules (suc s) kids) + length (inner_rules (suc s + labels_in kids) rest) =
+    length-append (inner_rules (suc s) kids) (inner_rules (suc s + labels_in kids) rest)
+    in
+    omega (arith, length-inner (suc s) kids, length-inner (suc s + labels_in kids) rest)
+
+-- as many states of places as labels below roots
+pub length-all_inner : (s : ℕ) (rules : List (Rule ℕ)) → length (all_inner s rules) ≡ sum_by rule_labels rules
+length-all_inner s [] = refl
+length-all_inner s (r ∷ rules) =
+    let both : length (inner_rules s r.right.kids ++ all_inner (s + labels_in r.right.kids) rules) ≡ length (inner_rules s r.right.kids) + length (all_inner (s + labels_in r.right.kids) rules) =
+    length-append (inner_rules s r.right.kids) (all_inner (s + labels_in r.right.kids) rules)
+    in
+    let sum : sum_by rule_labels (r ∷ rules) ≡ rule_labels r + sum_by rule_labels rules = sum_by-cons rule_labels r rules in
+    omega (arith, length-inner s r.right.kids, length-all_inner (s + labels_in r.right.kids) rules)

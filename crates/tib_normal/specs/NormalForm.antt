@@ -91,6 +91,11 @@ pub record IsNormalForm (product : ℕ → ℕ → ℕ) (states : ℕ) (rules : 
       (q : ℕ) (side : SideFor ℕ ℕ) →
       ((c : ℕ) × Has new_rules (record { left = q; right = side; cost = c })) ⊎ IsLeast (IsNormalCost product states rules q side) None
 
+-- the rules end in those of the places, in order
+pub record EndsInPlaces (states : ℕ) (rules new_rules : List (Rule ℕ)) : Type 0 where
+  pub own : List (Rule ℕ)
+  pub are : new_rules ≡ own ++ all_inner states rules
+
 -- the normal form has the series of the grammar at each of its states
 abbrev pub IsNormalized : (ℕ → ℕ → ℕ) → Type 0
 IsNormalized product =

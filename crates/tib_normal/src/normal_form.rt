@@ -1,6 +1,6 @@
 // The normal form of a grammar.
 ghost use Rattle.std.specs.Prelude.{◌≡◌, ℕ, ◌+◌, ◌<◌, ◌≤◌, ◌^◌, List, [], ◌∷◌, length, OnOk, IfOk, None, Some, Option, IfSome, sum_by, reverse, ◌++◌};
-ghost use Rattle.tib_normal.specs.NormalForm.{labels_in};
+ghost use Rattle.tib_normal.specs.NormalForm.{labels_in, all_inner, EndsInPlaces};
 ghost use Rattle.tib_normal.specs.Places.{below_root, rule_labels};
 
 use crate::error::NormalError;
@@ -106,6 +106,7 @@ fn place_name(alloc: Global, number: u32, length: usize) -> Result<Vec<u8>, Allo
 /// The names of the states of the normal form: those of the grammar, and names for the places.
 fn all_names(alloc: Global, names: &Names, places: u32) -> Result<Option<Names>, AllocError>
     requires { length names.now + places < 2 ^ 32 }
+    ensures { IfOk result (λ made. IfSome made (λ all. length all ≡ length names.now + places)) }
 {
     let length = free_length(alloc, names)?;
     let mut texts = Vec::new(alloc);
@@ -131,6 +132,8 @@ pub fn normalize<S: Semiring + Drop>(
 ) -> Result<Normal<S>, NormalError>
     requires from { 1 ≤ limit }
     requires to { limit ≤ 20000000 }
+    ensures states { IfOk result (λ n. length n.names ≡ length grammar.now.names + length (all_inner (length grammar.now.names) grammar.now.rules)) }
+    ensures places { IfOk result (λ n. EndsInPlaces (length grammar.now.names) grammar.now.rules n.rules) }
 {
     grammar.is_sound();
     let rules = grammar.rule_list();
@@ -172,6 +175,8 @@ fn assemble<S: Drop>(
     rules: Vec<Rule<u32>>,
 ) -> Result<Normal<S>, NormalError>
     requires { length names.now + places < 2 ^ 32 }
+    ensures rules { IfOk result (λ n. n.rules ≡ rules.items) }
+    ensures states { IfOk result (λ n. length n.names ≡ length names.now + places) }
 {
     if rules.len() > 20_000_000 {
         return Err(NormalError::OutOfMemory);
