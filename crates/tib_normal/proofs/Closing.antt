@@ -7,9 +7,8 @@ use Rattle.tib_grammar.specs.Run.{rule_at}
 use Rattle.tib_grammar.specs.declared.Rule.{Rule}
 use Rattle.tib_cost.specs.Semiring.{ProductLaws, most, cut}
 use Rattle.tib_cost.proofs.Least.{cut-cases}
-use Rattle.tib_cost.specs.Least.{IsLeast, AtMost}
 use Rattle.tib_normal.specs.NormalForm.{IsChain, chain_cost, IsChainCost, IsDistance}
-use Rattle.tib_normal.specs.Closure.{LeadsTo, Waits, AreChains, IsClosing, Spreads, IsStep, Skips, Settles, AreListed, AreBelow}
+use Rattle.tib_normal.specs.Closure.{LeadsTo, Waits, IsClosing, Spreads, IsStep, Skips, Settles, AreListed, AreBelow}
 use Rattle.std.proofs.lemmas.List.Elements.{Contains-push, Contains-append_left}
 use Rattle.std.proofs.lemmas.List.{get_or-set_same, get_or-set_other, length-set}
 use Rattle.std.proofs.lemmas.List.Sums.{sum_by-set}

@@ -6,3 +6,4 @@ pub mod Waiting
 pub mod LoneSides
 pub mod Closing
 pub mod Bettering
+pub mod Placing

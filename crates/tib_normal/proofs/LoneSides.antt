@@ -1,8 +1,8 @@
 -- Sides by their items.
-use Rattle.std.specs.Prelude.{◌≡◌, ℕ, ◌+◌, ◌<◌, List, [], ◌∷◌, length, map, refl}
-use Rattle.std.proofs.Common.{zero, suc, get_or, arith, ap, sym, ◌∙◌, subst}
-use Rattle.tib_tree.specs.Trees.{Trees, none, tree, count, preorder, preorder_of}
-use Rattle.tib_grammar.specs.Sides.{Symbol, label, hole, Side as SideFor, Lone}
+use Rattle.std.specs.Prelude.{◌≡◌, ℕ, ◌<◌, List, [], ◌∷◌, length, refl}
+use Rattle.std.proofs.Common.{get_or, arith, ap, sym, ◌∙◌}
+use Rattle.tib_tree.specs.Trees.{Trees, none, tree, count, preorder_of}
+use Rattle.tib_grammar.specs.Sides.{Symbol, hole, Side as SideFor, Lone}
 use Rattle.tib_grammar.specs.Items.{pairs_of, pair_of}
 use Rattle.tib_grammar.specs.declared.Item.{Item}
 use Rattle.tib_grammar.specs.declared.Item.TheVariants.{Label, Hole}

@@ -1,5 +1,5 @@
 -- The chains from one state, state by state.
-use Rattle.std.specs.Prelude.{◌≡◌, ℕ, ◌+◌, ◌*◌, ◌<◌, ◌≤◌, ◌⊎◌, List, length, Option, None, Some, Contains, IsSome, slice_set, ◌∷◌, [], ◌++◌}
+use Rattle.std.specs.Prelude.{◌≡◌, ℕ, ◌+◌, ◌<◌, ◌≤◌, ◌⊎◌, List, length, Option, None, Some, Contains, slice_set, ◌∷◌, [], ◌++◌}
 use Rattle.std.proofs.Common.{get_or}
 use Rattle.tib_grammar.specs.declared.Rule.{Rule}
 use Rattle.tib_grammar.specs.Run.{rule_at}

@@ -9,3 +9,4 @@ pub mod Entries
 pub mod Agenda
 pub mod Closure
 pub mod Offers
+pub mod Places

@@ -2,7 +2,7 @@
 use Rattle.std.specs.Prelude.{◌≡◌, ℕ, ◌+◌, ◌<◌, ◌≤◌, ◌⊎◌, ◌↔◌, List, [], ◌∷◌, ◌++◌, length, Option, None, Some}
 use Rattle.std.proofs.Common.{zero, suc}
 use Rattle.tib_tree.specs.Trees.{Tree, Trees, none, tree, size}
-use Rattle.tib_grammar.specs.Sides.{Symbol, label, hole, Side as SideFor, holes_of, Lone}
+use Rattle.tib_grammar.specs.Sides.{Symbol, label, hole, Side as SideFor, Lone}
 use Rattle.tib_grammar.specs.Run.{rule_at}
 use Rattle.tib_grammar.specs.Series.{IsSeriesAt}
 use Rattle.tib_grammar.specs.Range.{AreInRange, AreLone}
@@ -90,6 +90,11 @@ pub record IsNormalForm (product : ℕ → ℕ → ℕ) (states : ℕ) (rules : 
   pub whole :
       (q : ℕ) (side : SideFor ℕ ℕ) →
       ((c : ℕ) × Has new_rules (record { left = q; right = side; cost = c })) ⊎ IsLeast (IsNormalCost product states rules q side) None
+
+-- the rules end in those of the places, in order
+pub record EndsInPlaces (states : ℕ) (rules new_rules : List (Rule ℕ)) : Type 0 where
+  pub own : List (Rule ℕ)
+  pub are : new_rules ≡ own ++ all_inner states rules
 
 -- the normal form has the series of the grammar at each of its states
 abbrev pub IsNormalized : (ℕ → ℕ → ℕ) → Type 0

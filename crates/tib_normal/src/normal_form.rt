@@ -1,5 +1,7 @@
 // The normal form of a grammar.
-ghost use Rattle.std.specs.Prelude.{◌≡◌, ℕ, ◌+◌, ◌<◌, ◌≤◌, ◌^◌, List, [], ◌∷◌, length, OnOk, IfOk, None, Some, Option, IfSome};
+ghost use Rattle.std.specs.Prelude.{◌≡◌, ℕ, ◌+◌, ◌<◌, ◌≤◌, ◌^◌, List, [], ◌∷◌, length, OnOk, IfOk, None, Some, Option, IfSome, sum_by, reverse, ◌++◌};
+ghost use Rattle.tib_normal.specs.NormalForm.{labels_in, all_inner, EndsInPlaces};
+ghost use Rattle.tib_normal.specs.Places.{below_root, rule_labels};
 
 use crate::error::NormalError;
 use crate::links::Links;
@@ -26,6 +28,7 @@ impl Places {
         requires states { self.states ≤ self.parts }
         ensures parts { IfSome result (λ p. p.parts ≤ limit) }
         ensures states { IfSome result (λ p. p.states + self.parts ≤ p.parts + self.states) }
+        ensures counted { IfSome result (λ p. p.states ≡ self.states + labels_in (below_root items.now)) }
     {
         let Places {
             mut states,
@@ -50,6 +53,7 @@ fn count_places(rules: &[Rule<u32>], states: u32, limit: u64) -> Option<Places>
     requires { limit ≤ 20000000 }
     ensures parts { IfSome result (λ p. p.parts ≤ limit) }
     ensures states { IfSome result (λ p. p.states + states ≤ p.parts) }
+    ensures counted { IfSome result (λ p. p.states ≡ sum_by rule_labels rules.now) }
 {
     if states as u64 > limit {
         return None;
@@ -102,6 +106,7 @@ fn place_name(alloc: Global, number: u32, length: usize) -> Result<Vec<u8>, Allo
 /// The names of the states of the normal form: those of the grammar, and names for the places.
 fn all_names(alloc: Global, names: &Names, places: u32) -> Result<Option<Names>, AllocError>
     requires { length names.now + places < 2 ^ 32 }
+    ensures { IfOk result (λ made. IfSome made (λ all. length all ≡ length names.now + places)) }
 {
     let length = free_length(alloc, names)?;
     let mut texts = Vec::new(alloc);
@@ -127,6 +132,8 @@ pub fn normalize<S: Semiring + Drop>(
 ) -> Result<Normal<S>, NormalError>
     requires from { 1 ≤ limit }
     requires to { limit ≤ 20000000 }
+    ensures states { IfOk result (λ n. length n.names ≡ length grammar.now.names + length (all_inner (length grammar.now.names) grammar.now.rules)) }
+    ensures places { IfOk result (λ n. EndsInPlaces (length grammar.now.names) grammar.now.rules n.rules) }
 {
     grammar.is_sound();
     let rules = grammar.rule_list();
@@ -136,7 +143,7 @@ pub fn normalize<S: Semiring + Drop>(
         None => return Err(NormalError::TooMany { limit }),
     };
     let links = Links::new(alloc, rules, states as usize)?;
-    let sides = Sides::new(alloc, rules, states + places.states, S::one())?;
+    let sides = Sides::new(alloc, rules, states, states + places.states, S::one())?;
     let mut made = Made {
         rules: Vec::new(alloc),
         parts: places.parts,
@@ -149,13 +156,15 @@ pub fn normalize<S: Semiring + Drop>(
 }
 
 /// The rules of the states and those of the places behind them.
-fn with_places(rules: Vec<Rule<u32>>, sides: Sides) -> Result<Vec<Rule<u32>>, AllocError> {
-    let mut rules = rules;
+fn with_places(rules: Vec<Rule<u32>>, sides: Sides) -> Result<Vec<Rule<u32>>, AllocError>
+    ensures { IfOk result (λ all. all.items ≡ rules.items ++ reverse sides.inner.items) }
+{
+    let mut all = rules;
     let Sides { mut inner, .. } = sides;
     while let Some(rule) = inner.pop() {
-        rules.push(rule)?;
+        all.push(rule)?;
     }
-    Ok(rules)
+    Ok(all)
 }
 
 /// The grammar of these rules in normal form.
@@ -166,6 +175,8 @@ fn assemble<S: Drop>(
     rules: Vec<Rule<u32>>,
 ) -> Result<Normal<S>, NormalError>
     requires { length names.now + places < 2 ^ 32 }
+    ensures rules { IfOk result (λ n. n.rules ≡ rules.items) }
+    ensures states { IfOk result (λ n. length n.names ≡ length names.now + places) }
 {
     if rules.len() > 20_000_000 {
         return Err(NormalError::OutOfMemory);

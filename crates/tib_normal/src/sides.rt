@@ -1,5 +1,9 @@
 // The right sides of the normal form: one label over states, with a state for each place below a root.
-ghost use Rattle.std.specs.Prelude.{◌≡◌, ℕ, ◌+◌, ◌<◌, ◌≤◌, ◌^◌, List, [], ◌∷◌, length, OnOk, IfOk};
+ghost use Rattle.std.specs.Prelude.{◌≡◌, ℕ, ◌+◌, ◌<◌, ◌≤◌, ◌^◌, List, [], ◌∷◌, ◌++◌, length, take, drop, reverse, sum_by, OnOk, IfOk};
+ghost use Rattle.tib_grammar.specs.Items.{pair_of, pairs_of};
+ghost use Rattle.tib_tree.specs.Trees.{HasChildren};
+ghost use Rattle.tib_normal.specs.NormalForm.{labels_in, inner_rules, all_inner};
+ghost use Rattle.tib_normal.specs.Places.{own_states, states_with, rules_with, head_states, below_root, rule_labels};
 
 use indexmap::IndexSet;
 use std::alloc::{AllocError, Global};
@@ -28,15 +32,18 @@ fn take_children(
     rank: usize,
     stack: &mut Vec<u32>,
 ) -> Result<Vec<u32>, AllocError>
-    ensures some { IfOk result (λ side. 1 ≤ length side.items) }
-    ensures few { IfOk result (λ side. length side.items ≤ rank + 1) }
+    requires { rank ≤ length stack.old.items }
+    ensures side { IfOk result (λ side. side.items ≡ label ∷ take rank (reverse stack.old.items)) }
+    ensures rest { OnOk result (reverse stack.new.items ≡ drop rank (reverse stack.old.items)) }
 {
     let mut side = Vec::new(alloc);
     side.push(label)?;
     for _ in 0..rank {
-        if let Some(state) = stack.pop() {
-            side.push(state)?;
-        }
+        let state = match stack.pop() {
+            Some(state) => state,
+            None => unreachable!(),
+        };
+        side.push(state)?;
     }
     Ok(side)
 }
@@ -49,14 +56,20 @@ fn place_item(
     zero: Cost,
     stack: &mut Vec<u32>,
     inner: &mut Vec<Rule<u32>>,
-) -> Result<u32, AllocError> {
+) -> Result<u32, AllocError>
+    requires own { own_states item.now ≤ state }
+    requires rank { (pair_of item.now).1 ≤ length stack.old.items }
+    ensures state { IfOk result (λ s. s + own_states item.now ≡ state) }
+    ensures states { IfOk result (λ s. reverse stack.new.items ≡ states_with item.now s (reverse stack.old.items)) }
+    ensures rules { IfOk result (λ s. inner.new.items ≡ inner.old.items ++ rules_with item.now s (reverse stack.old.items) zero) }
+{
     match item {
         Item::Hole(end) => {
             stack.push(*end)?;
             Ok(state)
         }
         Item::Label { label, rank } => {
-            let own = state.saturating_sub(1);
+            let own = state - 1;
             let side = take_children(alloc, *label, *rank as usize, stack)?;
             inner.push(Rule {
                 left: own,
@@ -78,22 +91,38 @@ fn place(
     zero: Cost,
     stack: &mut Vec<u32>,
     inner: &mut Vec<Rule<u32>>,
-) -> Result<u32, AllocError> {
-    let mut state = state;
-    for i in (1..items.len()).rev() {
-        state = place_item(alloc, &items[i], state, zero, stack, inner)?;
+) -> Result<u32, AllocError>
+    requires some { 0 < length items.now }
+    requires nested { HasChildren (drop 1 (pairs_of items.now)) }
+    requires own { labels_in (below_root items.now) ≤ state }
+    requires empty { stack.old.items ≡ [] }
+    requires zero { zero ≡ 0 }
+    ensures state { IfOk result (λ s. s + labels_in (below_root items.now) ≡ state) }
+    ensures states { IfOk result (λ s. reverse stack.new.items ≡ head_states s (below_root items.now)) }
+    ensures rules { IfOk result (λ s. reverse inner.new.items ≡ inner_rules s (below_root items.now) ++ reverse inner.old.items) }
+{
+    let mut first = state;
+    let mut i = items.len();
+    while i > 1 {
+        i -= 1;
+        first = place_item(alloc, &items[i], first, zero, stack, inner)?;
     }
-    Ok(state)
+    Ok(first)
 }
 
 impl Sides {
-    /// The sides of some rules, where the states of their places are those below `end`.
+    /// The sides of some rules over so many states, where the states of their places are those below `end`.
     pub fn new(
         alloc: Global,
         rules: &[Rule<u32>],
+        states: u32,
         end: u32,
         zero: Cost,
-    ) -> Result<Sides, AllocError> {
+    ) -> Result<Sides, AllocError>
+        requires end { end ≡ states + sum_by rule_labels rules.now }
+        requires zero { zero ≡ 0 }
+        ensures inner { IfOk result (λ sides. reverse sides.inner.items ≡ all_inner states rules.now) }
+    {
         let mut sides = Sides {
             table: IndexSet::new(alloc),
             numbers: vec![in alloc; NO_SIDE; rules.len()]?,
@@ -101,8 +130,10 @@ impl Sides {
         };
         let mut stack = Vec::new(alloc);
         let mut state = end;
-        for n in (0..rules.len()).rev() {
-            state = sides.add(alloc, rules, n, state, zero, &mut stack)?;
+        let mut n = rules.len();
+        while n > 0 {
+            n -= 1;
+            state = sides.add(alloc, &rules[n], n, state, zero, &mut stack)?;
         }
         Ok(sides)
     }
@@ -111,26 +142,39 @@ impl Sides {
     fn add(
         &mut self,
         alloc: Global,
-        rules: &[Rule<u32>],
+        rule: &Rule<u32>,
         n: usize,
         state: u32,
         zero: Cost,
         stack: &mut Vec<u32>,
     ) -> Result<u32, AllocError>
-        requires { n < length rules.now }
+        requires own { rule_labels rule.now ≤ state }
+        requires empty { stack.old.items ≡ [] }
+        requires zero { zero ≡ 0 }
+        ensures state { IfOk result (λ s. s + rule_labels rule.now ≡ state) }
+        ensures rules { IfOk result (λ s. reverse self.new.inner.items ≡ inner_rules s rule.now.right.kids ++ reverse self.old.inner.items) }
+        ensures empty { OnOk result (stack.new.items ≡ []) }
     {
-        let items = rules[n].right.items();
+        let items = rule.right.items();
         let label = match &items[0] {
             Item::Hole(_) => return Ok(state),
             Item::Label { label, .. } => *label,
         };
-        let state = place(alloc, items, state, zero, stack, &mut self.inner)?;
+        let first = place(alloc, items, state, zero, stack, &mut self.inner)?;
         let rank = stack.len();
         let side = take_children(alloc, label, rank, stack)?;
+        self.number(n, side)?;
+        Ok(first)
+    }
+
+    /// Gives a rule the number of its side, which goes last where it is new.
+    fn number(&mut self, n: usize, side: Vec<u32>) -> Result<(), AllocError>
+        ensures { self.new.inner ≡ self.old.inner }
+    {
         let (number, _) = self.table.insert_full(side)?;
         if n < self.numbers.len() && number < NO_SIDE as usize {
             self.numbers[n] = number as u32;
         }
-        Ok(state)
+        Ok(())
     }
 }

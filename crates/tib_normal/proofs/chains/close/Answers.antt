@@ -1,5 +1,5 @@
-use Rattle.std.proofs.Common.{length, arith, subst, ◌≡◌, ℕ, ◌<◌, get_or, List, sym, ◌∙◌, ap}
-use Rattle.std.specs.Prelude.{None, Option}
+use Rattle.std.proofs.Common.{length, subst, get_or}
+use Rattle.std.specs.Prelude.{None}
 use Rattle.tib_normal.specs.Closure.{IsClosing}
 use Rattle.tib_normal.proofs.Closing.{visited, ended, entry-below}
 use Rattle.tib_normal.proofs.chains.close.Goals as goal

@@ -1,5 +1,5 @@
-use Rattle.std.proofs.Common.{length, ℕ, ◌+◌, ◌*◌, ◌≡◌, get_or}
-use Rattle.std.specs.Prelude.{Option, None, sum_by}
+use Rattle.std.proofs.Common.{length, ◌+◌, ◌*◌, ◌≡◌, get_or}
+use Rattle.std.specs.Prelude.{None, sum_by}
 use Rattle.tib_normal.specs.Closure.{IsClosing, AreListed, AreBelow}
 use Rattle.tib_normal.proofs.Closing.{unset}
 use Rattle.tib_normal.proofs.chains.close.Given as goal

@@ -1,4 +1,3 @@
-use Rattle.std.proofs.Common.{sym, ◌∙◌, ap, subst}
 use Rattle.tib_normal.proofs.LoneSides.{lone_of_hole}
 use Rattle.tib_normal.proofs.chains.lone_state.Goals as goal
 

@@ -1,6 +1,6 @@
-use Rattle.std.proofs.Common.{arith, ap, sym, ◌∙◌, subst, ℕ, ◌≡◌, ◌<◌, get_or, ◌+◌}
+use Rattle.std.proofs.Common.{arith, sym, subst, ◌≡◌, get_or, ◌+◌}
 use Rattle.std.proofs.lemmas.List.{get_or_read}
-use Rattle.tib_grammar.specs.Run.{rule_at, no_rule}
+use Rattle.tib_grammar.specs.Run.{no_rule}
 use Rattle.tib_normal.specs.Links.{IsNext}
 use Rattle.tib_normal.proofs.Closing.{spread-more, spread-start}
 use Rattle.tib_normal.proofs.chains.spread.Goals as goal

@@ -1,9 +1,7 @@
-use Rattle.std.proofs.Common.{length, arith, subst, ◌≡◌, ℕ, ◌<◌, get_or, List, sym, ◌∙◌, ap, refl, ◌+◌}
-use Rattle.std.specs.Prelude.{None, Option}
-use Rattle.std.proofs.lemmas.List.{get_or_read}
+use Rattle.std.proofs.Common.{length, arith, subst, get_or, sym, ◌∙◌, ap, refl, ◌+◌}
 use Rattle.tib_normal.specs.declared.rows.Offers.{Offers}
 use Rattle.tib_normal.specs.Offers.{IsOffering}
-use Rattle.tib_normal.proofs.Bettering.{offering-more, offering-none, offering-start, best-all, until}
+use Rattle.tib_normal.proofs.Bettering.{offering-more, offering-none, best-all, until}
 use Rattle.tib_normal.proofs.rows.Offers.offer_all.Goals as goal
 use Rattle.tib_normal.proofs.rows.Offers.offer_all.Goals.{in-Some+in_ok-offer_rules-in-Some, in-None}
 

@@ -1,4 +1,4 @@
-use Rattle.std.proofs.Common.{length, ℕ, ◌-◌, ◌<◌, ◌≤◌, ◌≡◌}
+use Rattle.std.proofs.Common.{length, ◌-◌, ◌<◌, ◌≤◌, ◌≡◌}
 use Rattle.tib_grammar.specs.Run.{rule_at}
 use Rattle.tib_normal.specs.Offers.{ImprovesAll}
 use Rattle.tib_normal.proofs.rows.Offers.offer_rules.Given as goal

@@ -1,0 +1,16 @@
+use Rattle.std.proofs.Common.{◌+◌, ◌≤◌, ◌≡◌, [], take, drop, length}
+use Rattle.std.specs.Prelude.{sum_by, reverse}
+use Rattle.tib_normal.specs.NormalForm.{all_inner}
+use Rattle.tib_normal.specs.Places.{rule_labels}
+use Rattle.tib_normal.proofs.sides.Sides.new.Given as goal
+
+abbrev pub invariant-loop-n : goal.invariant-loop-n
+invariant-loop-n l = record {
+  within : l.n ≤ length l.rules;
+  counted : l.state ≡ l.states + sum_by rule_labels (take l.n l.rules);
+  inner : reverse l.sides.inner.items ≡ all_inner l.state (drop l.n l.rules);
+  empty : l.stack.items ≡ [];
+}
+
+abbrev pub decreases-loop-n : goal.decreases-loop-n
+decreases-loop-n l = l.n
