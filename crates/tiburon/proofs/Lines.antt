@@ -1,7 +1,8 @@
 -- The lines of trees, one more at a time.
 use Rattle.std.specs.Prelude.{◌≡◌, ℕ, ◌+◌, ◌<◌, Bool, List, [], ◌∷◌, ◌++◌, length, take, Option, None}
 use Rattle.std.specs.List.{AllZip}
-use Rattle.std.proofs.Common.{zero, suc, refl, arith, ap, sym, ◌∙◌, get_or, append_assoc}
+use Rattle.std.proofs.Common.{zero, suc, refl, arith, ap, sym, ◌∙◌, get_or, append_assoc, subst}
+use Rattle.tib_lex.specs.Lists.{Each}
 use Rattle.std.proofs.lemmas.List.{take_more}
 use Rattle.tib_tree.specs.Trees.{Tree}
 use Rattle.tiburon.specs.Text.{weighed_line, weighed_lines}
@@ -37,3 +38,9 @@ zip_long R [] [] h = refl
 zip_long R [] (y ∷ ys) h = absurd h
 zip_long R (x ∷ xs) [] h = absurd h
 zip_long R (x ∷ xs) (y ∷ ys) h = ap suc (zip_long R xs ys h.1)
+
+-- what holds of each holds of the one at a place
+pub each_at : {A : Type 0} (P : A → Type 0) (xs : List A) (i : ℕ) (x : A) → Each P xs → i < length xs → x ≡ get_or xs i x → P x
+each_at P [] i x h l e = absurd (omega arith)
+each_at P (y ∷ ys) zero x h l e = subst P (sym e) h.0
+each_at P (y ∷ ys) (suc i) x h l e = each_at P ys i x h.1 (omega arith) e

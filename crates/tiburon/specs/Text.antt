@@ -1,13 +1,7 @@
 -- The text that a job writes.
-use Rattle.std.specs.Prelude.{ℕ, Bool, List, [], ◌∷◌, ◌++◌, length, Option, None, Some, codes, decimal, if◌then◌else◌}
-use Rattle.std.specs.List.{All}
-use Rattle.tib_tree.specs.Trees.{Tree, only}
-use Rattle.tib_tree.specs.Growth.{LabelsBelow}
+use Rattle.std.specs.Prelude.{ℕ, Bool, List, [], ◌∷◌, ◌++◌, Option, None, Some, codes, decimal, if◌then◌else◌}
+use Rattle.tib_tree.specs.Trees.{Tree}
 use Rattle.tib_tree.specs.Printed.{tree_text}
-
--- the trees' labels are in the table
-abbrev pub AreBelow : List (List ℕ) → List (Tree ℕ) → Type 0
-AreBelow labels trees = All (λ t. LabelsBelow (length labels) (only t)) trees
 
 -- what stands behind a tree: its cost, which in Boolean is not printed, or that it has none
 abbrev pub cost_text : Bool → Option ℕ → List ℕ

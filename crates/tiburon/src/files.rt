@@ -4,7 +4,8 @@ ghost use Rattle.tib_io.specs.Causes.{GoesOn};
 ghost use Rattle.tib_tree.specs.File.{trees_of};
 ghost use Rattle.tib_grammar_file.specs.Reading.{grammar_of};
 ghost use Rattle.tiburon.specs.Causes.{IsFileFault};
-ghost use Rattle.tiburon.specs.Text.{AreBelow};
+ghost use Rattle.tib_lex.specs.Lists.{Each};
+ghost use Rattle.tib_tree.specs.Growth.{HasLabels};
 
 use crate::status::Status;
 use std::alloc::Global;
@@ -41,14 +42,13 @@ pub(crate) fn grammar_in<S: Semiring, F: Files>(
 }
 
 /// The trees of the second file, or the status with which the run ends.
-#[tactic(auto, using(crate::proofs::Below::are_below))]
 pub(crate) fn trees_in<F: Files>(
     alloc: Global,
     files: &mut F,
     name: &str,
     labels: &mut Labels,
 ) -> Result<Vec<Tree>, Status>
-    ensures labels { IfOk result (λ ts. AreBelow labels.new ts.items) }
+    ensures labels { IfOk result (λ ts. Each (HasLabels labels.new) ts.items) }
     ensures fault { IfErr result (λ s. IsFileFault (λ bytes fault. trees_of bytes ≡ Err fault) 2 (F.held files.old name.now) (F.faults files.old name.now) (F.faults files.new name.now) s) }
     ensures held { F.held files.new ≡ F.held files.old }
     ensures sure { F.sure files.new ≡ F.sure files.old }

@@ -1,9 +1,9 @@
 // The text of the weighed trees.
 ghost use Rattle.std.specs.Prelude.{◌≡◌, ◌+◌, ◌++◌, length, IfOk, OnOk};
 ghost use Rattle.tib_io.specs.Writes.{Takes};
-ghost use Rattle.tib_tree.specs.Growth.{LabelsBelow};
-ghost use Rattle.tib_tree.specs.Trees.{only};
-ghost use Rattle.tiburon.specs.Text.{AreBelow, cost_text, weighed_line, weighed_lines};
+ghost use Rattle.tib_lex.specs.Lists.{Each};
+ghost use Rattle.tib_tree.specs.Growth.{HasLabels};
+ghost use Rattle.tiburon.specs.Text.{cost_text, weighed_line, weighed_lines};
 
 use crate::log::write_about;
 use std::alloc::Global;
@@ -35,7 +35,7 @@ fn print_line<S: Semiring, W: Sink>(
     cost: Option<Cost>,
     out: &mut W,
 ) -> Result<(), Failed>
-    requires { LabelsBelow (length labels.now) (only tree.now) }
+    requires { HasLabels labels.now tree.now }
     ensures { OnOk result (Takes (W.written out.old) (W.written out.new) (W.free out.old) (W.free out.new) (weighed_line S.WEIGHTED labels.now tree.now cost)) }
 {
     match print_tree(tree, labels, out) {
@@ -51,7 +51,7 @@ fn add_line<S: Semiring>(
     labels: &Labels,
     cost: Option<Cost>,
 ) -> Result<(), Failed>
-    requires { LabelsBelow (length labels.now) (only tree.now) }
+    requires { HasLabels labels.now tree.now }
     ensures { OnOk result (text.new.bytes ≡ text.old.bytes ++ weighed_line S.WEIGHTED labels.now tree.now cost) }
 {
     print_line::<S, GrowingSink>(tree, labels, cost, text)
@@ -64,7 +64,7 @@ pub(crate) fn weighed_text<S: Semiring>(
     labels: &Labels,
     costs: &[Option<Cost>],
 ) -> Result<GrowingSink, Failed>
-    requires below { AreBelow labels.now trees.now }
+    requires labels { Each (HasLabels labels.now) trees.now }
     requires many { length costs.now ≡ length trees.now }
     ensures { IfOk result (λ text. text.bytes ≡ weighed_lines S.WEIGHTED labels.now trees.now costs.now) }
 {
