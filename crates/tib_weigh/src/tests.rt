@@ -2,6 +2,7 @@
 use crate::{weigh, weigh_all};
 use std::alloc::Global;
 use std::test::Fail;
+use std::thread::Threads;
 use tib_cost::{Boolean, Bottleneck, Cost, MinPlus, Semiring};
 use tib_grammar::{Grammar, Names, Rule, Side};
 use tib_normal::Normal;
@@ -69,9 +70,12 @@ fn a_tree_has_the_least_cost_of_a_run(rt: HostRuntime) -> Result<(), Fail> {
     Ok(())
 }
 
-#[test]
-fn each_semiring_takes_its_own_least(rt: HostRuntime) -> Result<(), Fail> {
-    let alloc = rt.alloc();
+// The costs that `weigh_all` gives three trees: S(a a), S(b a) and a.
+fn costs_of<S: Semiring + Drop + Sync, R: Threads + Sync>(
+    rt: &R,
+    alloc: Global,
+    rows: &[Row],
+) -> Result<Vec<Option<u64>>, Fail> {
     let mut trees = Vec::new(alloc);
     for nodes in [
         [(0, 2), (1, 0), (1, 0)].as_slice(),
@@ -80,30 +84,25 @@ fn each_semiring_takes_its_own_least(rt: HostRuntime) -> Result<(), Fail> {
     ] {
         trees.push(Tree::from_preorder(alloc, nodes)?)?;
     }
-    let sums = weigh_all(&rt, alloc, &normal::<MinPlus>(alloc, &AMBIGUOUS)?, &trees)?;
-    let greatest = weigh_all(
-        &rt,
-        alloc,
-        &normal::<Bottleneck>(alloc, &AMBIGUOUS)?,
-        &trees,
-    )?;
-    let any = weigh_all(&rt, alloc, &normal::<Boolean>(alloc, &BINARY)?, &trees)?;
-    assert_eq!(rt; (sums.len(), greatest.len(), any.len()), (3, 3, 3));
+    let normal = normal::<S>(alloc, rows)?;
+    let mut numbers = Vec::new(alloc);
+    for cost in &weigh_all(rt, alloc, &normal, &trees)? {
+        numbers.push(number(*cost))?;
+    }
+    Ok(numbers)
+}
+
+#[test]
+fn each_semiring_takes_its_own_least(rt: HostRuntime) -> Result<(), Fail> {
+    let alloc = rt.alloc();
+    let sums = costs_of::<MinPlus, _>(&rt, alloc, &AMBIGUOUS)?;
+    assert_eq!(rt; sums.as_slice(), [Some(5), None, Some(9)].as_slice());
+    let greatest = costs_of::<Bottleneck, _>(&rt, alloc, &AMBIGUOUS)?;
     assert_eq!(rt;
-        (number(sums[0]), number(sums[1]), number(sums[2])),
-        (Some(5), None, Some(9))
+        greatest.as_slice(),
+        [Some(2), Some(1_000_000_000_000_000), Some(9)].as_slice()
     );
-    assert_eq!(rt;
-        (
-            number(greatest[0]),
-            number(greatest[1]),
-            number(greatest[2])
-        ),
-        (Some(2), Some(1_000_000_000_000_000), Some(9))
-    );
-    assert_eq!(rt;
-        (any[0].is_some(), any[1].is_some(), any[2].is_some()),
-        (true, false, true)
-    );
+    let any = costs_of::<Boolean, _>(&rt, alloc, &BINARY)?;
+    assert_eq!(rt; any.as_slice(), [Some(2), None, Some(2)].as_slice());
     Ok(())
 }
