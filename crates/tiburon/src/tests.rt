@@ -14,15 +14,14 @@ impl Gate for Open {
 }
 
 // Words in front of the two files, the files, and what the run answers, writes and tells.
-#[derive(Drop)]
-struct Row {
-    words: &'static [&'static str],
-    grammar: &'static str,
-    trees: &'static str,
-    status: Status,
-    written: &'static str,
-    told: &'static str,
-}
+type Row = (
+    &'static [&'static str],
+    &'static str,
+    &'static str,
+    Status,
+    &'static str,
+    &'static str,
+);
 
 const BINARY: &str = "q\nq -> S(q q) # 1\nq -> a # 2\n";
 
@@ -32,273 +31,290 @@ const FOREST: &str =
 const READINGS: &str =
     "S(NP(PRP(I)) VP(V(saw) NP(DT(the) NN(man)) PP(P(with) NP(DT(the) NN(telescope)))))\nS(NP(PRP(I)) VP(V(saw) NP(NP(DT(the) NN(man)) PP(P(with) NP(DT(the) NN(telescope))))))\n";
 
-const fn bad(file: u32, line: u32, kind: FaultKind) -> Status {
-    Status::BadInput {
-        file,
-        fault: FileFault { line, kind },
-    }
-}
-
 const READINGS_WEIGHED: &str =
     "S(NP(PRP(I)) VP(V(saw) NP(DT(the) NN(man)) PP(P(with) NP(DT(the) NN(telescope))))) # 13\nS(NP(PRP(I)) VP(V(saw) NP(NP(DT(the) NN(man)) PP(P(with) NP(DT(the) NN(telescope)))))) # 15\n";
 
 // The worked rows.
-fn row_at(number: usize) -> Option<Row> {
-    let (words, grammar, trees, status, written, told): (
-        &'static [&'static str],
-        &'static str,
-        &'static str,
-        Status,
-        &'static str,
-        &'static str,
-    ) = match number {
-        // row 1: the cost of a tree
-        0 => (
-            &["weigh"],
-            BINARY,
-            "S(a a)\n",
-            Status::Done,
-            "S(a a) # 5\n",
-            "",
-        ),
-        // an unknown label is no fault
-        1 => (
-            &["weigh"],
-            BINARY,
-            "S(b a)\na\n",
-            Status::Done,
-            "S(b a) # none\na # 2\n",
-            "",
-        ),
-        // the same in bottleneck
-        2 => (
-            &["-m", "bottleneck", "weigh"],
-            BINARY,
-            "S(a a)\nS(b a)\n",
-            Status::Done,
-            "S(a a) # 2\nS(b a) # none\n",
-            "",
-        ),
-        // the same in Boolean, where no cost is printed
-        3 => (
-            &["weigh", "-mboolean"],
-            BINARY,
-            "S(a a)\nS(b a)\n",
-            Status::Done,
-            "S(a a)\nS(b a) # none\n",
-            "",
-        ),
-        // a file without tokens is no grammar
-        4 => (
-            &["weigh"],
-            "",
-            "a\n",
-            bad(1, 1, FaultKind::NoStart),
-            "",
-            "tiburon: file 1: line 1: no start\n",
-        ),
-        // a chain cycle of cost 0
-        5 => (
-            &["weigh"],
-            "q\nq -> r # 0\nr -> q # 0\nr -> a # 4\n",
-            "a\n",
-            Status::Done,
-            "a # 4\n",
-            "",
-        ),
-        // a cost above the greatest one counts as none
-        6 => (
-            &["weigh"],
-            "q\nq -> f(p) # 1000000000000000\np -> a # 1\n",
-            "f(a)\n",
-            Status::Done,
-            "f(a) # none\n",
-            "",
-        ),
-        // a weight above the greatest one
-        7 => (
-            &["weigh"],
-            "q\nq -> f(p) # 1000000000000001\np -> a # 1\n",
-            "f(a)\n",
-            bad(1, 2, FaultKind::WeightTooLarge),
-            "",
-            "tiburon: file 1: line 2: weight too large\n",
-        ),
-        // zeros behind the point
-        8 => (
-            &["weigh"],
-            "q\nq -> S(q q) # 1\nq -> a # 2.000\n",
-            "a\n",
-            Status::Done,
-            "a # 2\n",
-            "",
-        ),
-        // a weight that is not whole
-        9 => (
-            &["weigh"],
-            "q\nq -> S(q q) # 1\nq -> a # 0.5\n",
-            "a\n",
-            bad(1, 3, FaultKind::NotWhole),
-            "",
-            "tiburon: file 1: line 3: weight is not a whole number\n",
-        ),
-        // in Boolean any name is a weight
-        10 => (
-            &["-m", "boolean", "weigh"],
-            "q\nq -> S(q q) # 1\nq -> a # 0.5\n",
-            "a\n",
-            Status::Done,
-            "a\n",
-            "",
-        ),
-        // a right side that is no tree
-        11 => (
-            &["weigh"],
-            "q\nq -> S(q",
-            "a\n",
-            bad(1, 2, FaultKind::BadRule),
-            "",
-            "tiburon: file 1: line 2: bad rule\n",
-        ),
-        // a quoted token that is not closed
-        12 => (
-            &["weigh"],
-            "q\nq -> \"a",
-            "a\n",
-            bad(1, 2, FaultKind::BadToken),
-            "",
-            "tiburon: file 1: line 2: bad token\n",
-        ),
-        // a nested right side
-        13 => (
-            &["weigh"],
-            "q\nq -> f(a)\n",
-            "f(a)\n",
-            Status::Done,
-            "f(a) # 0\n",
-            "",
-        ),
-        // a chain rule
-        14 => (
-            &["weigh"],
-            "q\nq -> r\nr -> a\n",
-            "a\n",
-            Status::Done,
-            "a # 0\n",
-            "",
-        ),
-        // an empty tree file
-        15 => (&["weigh"], BINARY, "", Status::Done, "", ""),
-        // the normal form has as many parts as the limit
-        16 => (
-            &["weigh", "--limit", "7"],
-            BINARY,
-            "a\n",
-            Status::Done,
-            "a # 2\n",
-            "",
-        ),
-        // the normal form has more parts than the limit
-        17 => (
-            &["weigh", "--limit=6"],
-            BINARY,
-            "a\n",
-            Status::TooMany { limit: 6 },
-            "",
-            "tiburon: more than 6 parts\n",
-        ),
-        // quoted leaves are labels
-        18 => (
-            &["weigh"],
-            "q\nq -> f(\"q\" \"q0\")\n",
-            "f(q \"q0\")\n",
-            Status::Done,
-            "f(q q0) # 0\n",
-            "",
-        ),
-        // labels that need quotes
-        19 => (
-            &["weigh"],
-            "q\nq -> \"a b\"(\"->\" \"\\\"\")\n",
-            "\"a b\"(\"->\" \"\\\"\")\n",
-            Status::Done,
-            "\"a b\"(\"->\" \"\\\"\") # 0\n",
-            "",
-        ),
-        // nested sides and chain rules
-        20 => (
-            &["weigh"],
-            "q\nq -> f(g(a) q) # 3\nq -> r # 1\nr -> b # 2\n",
-            "f(g(a) b)\nb\n",
-            Status::Done,
-            "f(g(a) b) # 6\nb # 3\n",
-            "",
-        ),
-        // a parse forest
-        21 => (
-            &["weigh"],
-            FOREST,
-            READINGS,
-            Status::Done,
-            READINGS_WEIGHED,
-            "",
-        ),
-        // a faulty tree file is the second file
-        22 => (
-            &["weigh"],
-            BINARY,
-            "a\n\n(a)\n",
-            bad(2, 3, FaultKind::BadTree),
-            "",
-            "tiburon: file 2: line 3: bad tree\n",
-        ),
-        // the first file's fault comes first
-        23 => (
-            &["weigh"],
-            "q\nq ->\n",
-            "(\n",
-            bad(1, 2, FaultKind::BadRule),
-            "",
-            "tiburon: file 1: line 2: bad rule\n",
-        ),
-        // options behind the operation, workers accepted
-        24 => (
-            &["-w", "4", "weigh", "-k", "3"],
-            BINARY,
-            "a\n",
-            Status::Done,
-            "a # 2\n",
-            "",
-        ),
-        // an option twice
-        25 => (
-            &["-k1", "-k2", "weigh"],
-            BINARY,
-            "a\n",
-            Status::Usage,
-            "",
-            "tiburon: usage: tiburon [-m MODE] [-k N] [-w N] [--limit N] OPERATION FILE...\n",
-        ),
-        // a file too many
-        26 => (
-            &["weigh", "x"],
-            BINARY,
-            "a\n",
-            Status::Usage,
-            "",
-            "tiburon: usage: tiburon [-m MODE] [-k N] [-w N] [--limit N] OPERATION FILE...\n",
-        ),
-        _ => return None,
-    };
-    Some(Row {
-        words,
-        grammar,
-        trees,
-        status,
-        written,
-        told,
-    })
-}
+static ROWS: [Row; 27] = [
+    // row 1: the cost of a tree
+    (
+        &["weigh"],
+        BINARY,
+        "S(a a)\n",
+        Status::Done,
+        "S(a a) # 5\n",
+        "",
+    ),
+    // an unknown label is no fault
+    (
+        &["weigh"],
+        BINARY,
+        "S(b a)\na\n",
+        Status::Done,
+        "S(b a) # none\na # 2\n",
+        "",
+    ),
+    // the same in bottleneck
+    (
+        &["-m", "bottleneck", "weigh"],
+        BINARY,
+        "S(a a)\nS(b a)\n",
+        Status::Done,
+        "S(a a) # 2\nS(b a) # none\n",
+        "",
+    ),
+    // the same in Boolean, where no cost is printed
+    (
+        &["weigh", "-mboolean"],
+        BINARY,
+        "S(a a)\nS(b a)\n",
+        Status::Done,
+        "S(a a)\nS(b a) # none\n",
+        "",
+    ),
+    // a file without tokens is no grammar
+    (
+        &["weigh"],
+        "",
+        "a\n",
+        Status::BadInput {
+            file: 1,
+            fault: FileFault {
+                line: 1,
+                kind: FaultKind::NoStart,
+            },
+        },
+        "",
+        "tiburon: file 1: line 1: no start\n",
+    ),
+    // a chain cycle of cost 0
+    (
+        &["weigh"],
+        "q\nq -> r # 0\nr -> q # 0\nr -> a # 4\n",
+        "a\n",
+        Status::Done,
+        "a # 4\n",
+        "",
+    ),
+    // a cost above the greatest one counts as none
+    (
+        &["weigh"],
+        "q\nq -> f(p) # 1000000000000000\np -> a # 1\n",
+        "f(a)\n",
+        Status::Done,
+        "f(a) # none\n",
+        "",
+    ),
+    // a weight above the greatest one
+    (
+        &["weigh"],
+        "q\nq -> f(p) # 1000000000000001\np -> a # 1\n",
+        "f(a)\n",
+        Status::BadInput {
+            file: 1,
+            fault: FileFault {
+                line: 2,
+                kind: FaultKind::WeightTooLarge,
+            },
+        },
+        "",
+        "tiburon: file 1: line 2: weight too large\n",
+    ),
+    // zeros behind the point
+    (
+        &["weigh"],
+        "q\nq -> S(q q) # 1\nq -> a # 2.000\n",
+        "a\n",
+        Status::Done,
+        "a # 2\n",
+        "",
+    ),
+    // a weight that is not whole
+    (
+        &["weigh"],
+        "q\nq -> S(q q) # 1\nq -> a # 0.5\n",
+        "a\n",
+        Status::BadInput {
+            file: 1,
+            fault: FileFault {
+                line: 3,
+                kind: FaultKind::NotWhole,
+            },
+        },
+        "",
+        "tiburon: file 1: line 3: weight is not a whole number\n",
+    ),
+    // in Boolean any name is a weight
+    (
+        &["-m", "boolean", "weigh"],
+        "q\nq -> S(q q) # 1\nq -> a # 0.5\n",
+        "a\n",
+        Status::Done,
+        "a\n",
+        "",
+    ),
+    // a right side that is no tree
+    (
+        &["weigh"],
+        "q\nq -> S(q",
+        "a\n",
+        Status::BadInput {
+            file: 1,
+            fault: FileFault {
+                line: 2,
+                kind: FaultKind::BadRule,
+            },
+        },
+        "",
+        "tiburon: file 1: line 2: bad rule\n",
+    ),
+    // a quoted token that is not closed
+    (
+        &["weigh"],
+        "q\nq -> \"a",
+        "a\n",
+        Status::BadInput {
+            file: 1,
+            fault: FileFault {
+                line: 2,
+                kind: FaultKind::BadToken,
+            },
+        },
+        "",
+        "tiburon: file 1: line 2: bad token\n",
+    ),
+    // a nested right side
+    (
+        &["weigh"],
+        "q\nq -> f(a)\n",
+        "f(a)\n",
+        Status::Done,
+        "f(a) # 0\n",
+        "",
+    ),
+    // a chain rule
+    (
+        &["weigh"],
+        "q\nq -> r\nr -> a\n",
+        "a\n",
+        Status::Done,
+        "a # 0\n",
+        "",
+    ),
+    // an empty tree file
+    (&["weigh"], BINARY, "", Status::Done, "", ""),
+    // the normal form has as many parts as the limit
+    (
+        &["weigh", "--limit", "7"],
+        BINARY,
+        "a\n",
+        Status::Done,
+        "a # 2\n",
+        "",
+    ),
+    // the normal form has more parts than the limit
+    (
+        &["weigh", "--limit=6"],
+        BINARY,
+        "a\n",
+        Status::TooMany { limit: 6 },
+        "",
+        "tiburon: more than 6 parts\n",
+    ),
+    // quoted leaves are labels
+    (
+        &["weigh"],
+        "q\nq -> f(\"q\" \"q0\")\n",
+        "f(q \"q0\")\n",
+        Status::Done,
+        "f(q q0) # 0\n",
+        "",
+    ),
+    // labels that need quotes
+    (
+        &["weigh"],
+        "q\nq -> \"a b\"(\"->\" \"\\\"\")\n",
+        "\"a b\"(\"->\" \"\\\"\")\n",
+        Status::Done,
+        "\"a b\"(\"->\" \"\\\"\") # 0\n",
+        "",
+    ),
+    // nested sides and chain rules
+    (
+        &["weigh"],
+        "q\nq -> f(g(a) q) # 3\nq -> r # 1\nr -> b # 2\n",
+        "f(g(a) b)\nb\n",
+        Status::Done,
+        "f(g(a) b) # 6\nb # 3\n",
+        "",
+    ),
+    // a parse forest
+    (
+        &["weigh"],
+        FOREST,
+        READINGS,
+        Status::Done,
+        READINGS_WEIGHED,
+        "",
+    ),
+    // a faulty tree file is the second file
+    (
+        &["weigh"],
+        BINARY,
+        "a\n\n(a)\n",
+        Status::BadInput {
+            file: 2,
+            fault: FileFault {
+                line: 3,
+                kind: FaultKind::BadTree,
+            },
+        },
+        "",
+        "tiburon: file 2: line 3: bad tree\n",
+    ),
+    // the first file's fault comes first
+    (
+        &["weigh"],
+        "q\nq ->\n",
+        "(\n",
+        Status::BadInput {
+            file: 1,
+            fault: FileFault {
+                line: 2,
+                kind: FaultKind::BadRule,
+            },
+        },
+        "",
+        "tiburon: file 1: line 2: bad rule\n",
+    ),
+    // options behind the operation, workers accepted
+    (
+        &["-w", "4", "weigh", "-k", "3"],
+        BINARY,
+        "a\n",
+        Status::Done,
+        "a # 2\n",
+        "",
+    ),
+    // an option twice
+    (
+        &["-k1", "-k2", "weigh"],
+        BINARY,
+        "a\n",
+        Status::Usage,
+        "",
+        "tiburon: usage: tiburon [-m MODE] [-k N] [-w N] [--limit N] OPERATION FILE...\n",
+    ),
+    // a file too many
+    (
+        &["weigh", "x"],
+        BINARY,
+        "a\n",
+        Status::Usage,
+        "",
+        "tiburon: usage: tiburon [-m MODE] [-k N] [-w N] [--limit N] OPERATION FILE...\n",
+    ),
+];
 
 fn texts(alloc: Global, words: &[&str]) -> Result<Vec<String>, AllocError> {
     let mut all = Vec::new(alloc);
@@ -323,32 +339,31 @@ fn two_files(
     Ok(MemoryFiles::new(files, failing.to_vec(alloc)?))
 }
 
+// What a run of a row answers, writes and tells.
+fn run_row<R: Threads + Sync>(
+    rt: &R,
+    alloc: Global,
+    row: &Row,
+) -> Result<(Status, MemorySink, MemorySink), AllocError> {
+    let words = texts(alloc, row.0)?;
+    let grammar = row.1.as_bytes().to_vec(alloc)?;
+    let trees = row.2.as_bytes().to_vec(alloc)?;
+    let mut files = two_files(alloc, grammar, trees, &[])?;
+    let mut out = MemorySink::new(alloc, Vec::new(alloc), 1000)?;
+    let mut log = MemorySink::new(alloc, Vec::new(alloc), 1000)?;
+    let status = run(rt, alloc, &words, &mut files, &mut out, &mut log, &Open);
+    Ok((status, out, log))
+}
+
 #[test]
 fn the_worked_rows_run(rt: HostRuntime) -> Result<(), Fail> {
-    let alloc = rt.alloc();
-    for number in 0..100 {
-        let Some(row) = row_at(number) else {
-            return Ok(());
-        };
-        let words = texts(alloc, row.words)?;
-        let mut files = two_files(
-            alloc,
-            row.grammar.as_bytes().to_vec(alloc)?,
-            row.trees.as_bytes().to_vec(alloc)?,
-            &[],
-        )?;
-        let mut out = MemorySink::new(alloc, Vec::new(alloc), 1000)?;
-        let mut log = MemorySink::new(alloc, Vec::new(alloc), 1000)?;
-        let status = run(&rt, alloc, &words, &mut files, &mut out, &mut log, &Open);
-        assert_eq!(rt; status, row.status, "the status of row {number}");
-        assert_eq!(rt;
-            out.bytes(),
-            row.written.as_bytes(),
-            "the text of row {number}"
-        );
-        assert_eq!(rt; log.bytes(), row.told.as_bytes(), "the log of row {number}");
+    for (number, row) in ROWS.iter().enumerate() {
+        let (status, out, log) = run_row(&rt, rt.alloc(), row)?;
+        assert_eq!(rt; status, row.3, "the status of row {number}");
+        assert_eq!(rt; out.bytes(), row.4.as_bytes(), "the text of row {number}");
+        assert_eq!(rt; log.bytes(), row.5.as_bytes(), "the log of row {number}");
     }
-    Err("more rows than are run".into())
+    Ok(())
 }
 
 // The status of a run over these files, where the listed reads and writes fail.
@@ -372,7 +387,16 @@ fn files_are_as_long_as_they_may_be(rt: HostRuntime) -> Result<(), Fail> {
     let alloc = rt.alloc();
     for (length, status) in [
         (8_388_609, Status::TooLong { file: 1 }),
-        (8_388_608, bad(1, 1, FaultKind::NoStart)),
+        (
+            8_388_608,
+            Status::BadInput {
+                file: 1,
+                fault: FileFault {
+                    line: 1,
+                    kind: FaultKind::NoStart,
+                },
+            },
+        ),
     ] {
         let grammar = vec![in alloc; b'%'; length]?;
         assert_eq!(rt;
@@ -381,7 +405,16 @@ fn files_are_as_long_as_they_may_be(rt: HostRuntime) -> Result<(), Fail> {
         );
     }
     for (children, status) in [
-        (10_000, bad(2, 1, FaultKind::TooManyNodes)),
+        (
+            10_000,
+            Status::BadInput {
+                file: 2,
+                fault: FileFault {
+                    line: 1,
+                    kind: FaultKind::TooManyNodes,
+                },
+            },
+        ),
         (9_999, Status::WriteFault),
     ] {
         let mut trees = b"S(".to_vec(alloc)?;
