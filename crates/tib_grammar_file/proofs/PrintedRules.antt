@@ -1,5 +1,5 @@
 -- What is printed of a rule spells it.
-use Rattle.std.proofs.Common.{◌≡◌, ℕ, ◌+◌, ◌-◌, ◌*◌, ◌<◌, ◌≤◌, Bool, true, false, Option, List, [], ◌∷◌, ◌++◌, length, get_or, refl, ap, sym, ◌∙◌, subst, append_assoc, append-nil, arith, zero, suc}
+use Rattle.std.proofs.Common.{◌≡◌, ℕ, ◌<◌, ◌≤◌, Bool, true, false, Option, List, [], ◌∷◌, ◌++◌, length, get_or, refl, ap, sym, ◌∙◌, subst, append-nil, arith}
 use Rattle.std.specs.Prelude.{Some, None, slice_get, Contains, not, ◌&&◌, nat_lt, decimal as printed}
 use Rattle.std.specs.List.{list_all}
 use Rattle.std.specs.Str.{bytes_eq}
@@ -15,7 +15,7 @@ use Rattle.tib_lex.specs.Grammar.{Word, hash, arrow, name, is_name, IsName, begi
 use Rattle.tib_lex.specs.Lists.{Each}
 use Rattle.tib_lex.proofs.Spelled.{and_true}
 use Rattle.tib_tree.specs.Trees.{Trees, none, tree, only, relabel}
-use Rattle.tib_tree.specs.Written.{Written, spell}
+use Rattle.tib_tree.specs.Written.{spell}
 use Rattle.tib_grammar.specs.Sides.{Symbol, label as symbol_label, hole, symbol_map}
 use Rattle.tib_grammar.specs.GrammarOf.{named_rule}
 use Rattle.tib_grammar.specs.StateName.{IsStateName}

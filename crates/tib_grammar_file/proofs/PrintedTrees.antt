@@ -1,17 +1,16 @@
 -- The tokens of what is printed of right sides.
-use Rattle.std.proofs.Common.{◌≡◌, ℕ, ◌<◌, inl, inr, Bool, true, false, List, [], ◌∷◌, ◌++◌, length, get_or, refl, ap, sym, ◌∙◌, subst, append_assoc, arith, zero, suc}
-use Rattle.std.specs.Prelude.{Some, slice_get, Contains, not, cond, ◌&&◌}
-use Rattle.std.proofs.lemmas.Option.{slice_get-get_or}
+use Rattle.std.proofs.Common.{◌≡◌, ℕ, ◌<◌, Bool, true, false, List, [], ◌∷◌, ◌++◌, length, get_or, refl, ap, sym, ◌∙◌, subst, append_assoc, arith, zero, suc}
+use Rattle.std.specs.Prelude.{not, cond, ◌&&◌}
 use Rattle.tib_lex.specs.Grammar.{Word, open_, close, name, label, is_name, spelling, IsName, IsWord, begins_name, MayPrecede, HasWords}
 use Rattle.tib_lex.specs.Lists.{Each}
 use Rattle.tib_lex.proofs.Names.{name_is}
 use Rattle.tib_lex.proofs.Spelled.{and_true}
-use Rattle.tib_tree.specs.Trees.{Trees, none, tree, count}
+use Rattle.tib_tree.specs.Trees.{Trees, none, tree}
 use Rattle.tib_tree.specs.Written.{Written, end, leaf, head, word_for, spell}
 use Rattle.tib_grammar.specs.Sides.{Symbol, label as symbol_label, hole, holes, HolesAreLeaves}
 use Rattle.tib_grammar.specs.Range.{AllBelow}
 use Rattle.tib_grammar.specs.StateName.{IsStateName}
-use Rattle.tib_grammar_file.specs.Printed.{is_held, label_text, symbol_text, space, opening, closing, trees_text, LabelsBelow}
+use Rattle.tib_grammar_file.specs.Printed.{is_held, symbol_text, space, trees_text, LabelsBelow}
 
 -- the symbols of trees are in the tables, and nothing stands below a state
 abbrev pub FitsSymbol : ℕ → ℕ → Symbol ℕ ℕ → Trees (Symbol ℕ ℕ) → Type 0

@@ -3,6 +3,7 @@ use Rattle.std.specs.Prelude.{◌≡◌, ◌<◌, ◌≤◌, ℕ, Bool, true, fa
 use Rattle.std.proofs.Common.{get_or}
 use Rattle.tib_lex.specs.Lines.{HasNoFeed}
 use Rattle.tib_lex.specs.Lists.{Each}
+use Rattle.tib_lex.specs.declared.fault.FileFault.{FileFault}
 use Rattle.tib_grammar.specs.GrammarOf.{GrammarOf, named_rule}
 use Rattle.tib_grammar.specs.Range.{AreInRange, SidesEndInHoles}
 use Rattle.tib_grammar.specs.Run.{rule_at}
@@ -10,7 +11,7 @@ use Rattle.tib_grammar.specs.StateName.{AreStateNames}
 use Rattle.tib_grammar.specs.declared.Rule.{Rule}
 use Rattle.tib_grammar_file.specs.GrammarText.{GrammarText, AreSmallRules}
 use Rattle.tib_grammar_file.specs.Printed.{AreLabelled, grammar_text}
-use Rattle.tib_grammar_file.specs.Read.{ReadsAs}
+use Rattle.tib_grammar_file.specs.Read.{ReadsAs, IsFirstFault}
 use Rattle.tib_grammar_file.specs.Weight.{most}
 
 -- the rules with the name of each state in its place
@@ -44,8 +45,13 @@ pub record HasText (weighted : Bool) (labels : List (List ℕ)) (g : GrammarOf) 
   pub lefts : HaveRules g
   pub costs : (n : ℕ) → n < length g.rules → IsPlainCost weighted (rule_at g.rules n).cost
 
--- what is printed of such a grammar is the text of the same grammar, states by their names, and is read where its right sides are within the limit
+-- Bytes are the text of the same grammar, states by their names. The reader takes it where no right side has more than 10,000 nodes.
+pub record ReadsBack (weighted : Bool) (labels : List (List ℕ)) (bytes : List ℕ) (g h : GrammarOf) : Type 0 where
+  pub text : GrammarText weighted labels bytes h
+  pub same : IsSameByName g h
+  pub read : AreSmallRules g.rules → ReadsAs weighted labels bytes h
+  pub no_fault : AreSmallRules g.rules → (fault : FileFault) → IsFirstFault weighted bytes fault → ⊥
+
+-- what is printed of a grammar that has a text reads back
 abbrev pub PrintsBack : Type 0
-PrintsBack =
-    (weighted : Bool) (labels : List (List ℕ)) (g : GrammarOf) → HasText weighted labels g →
-    (h : GrammarOf) × GrammarText weighted labels (grammar_text weighted labels g) h × IsSameByName g h × (AreSmallRules g.rules → ReadsAs weighted labels (grammar_text weighted labels g) h)
+PrintsBack = (weighted : Bool) (labels : List (List ℕ)) (g : GrammarOf) → HasText weighted labels g → (h : GrammarOf) × ReadsBack weighted labels (grammar_text weighted labels g) g h
