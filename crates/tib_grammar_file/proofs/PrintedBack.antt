@@ -1,0 +1,127 @@
+-- What is printed of a grammar is the text of the same grammar, states by their names.
+use Rattle.std.proofs.Common.{◌≡◌, ℕ, ◌<◌, inr, Bool, List, [], ◌∷◌, length, get_or, length-append, append-nil, refl, ap, sym, ◌∙◌, subst, arith, suc}
+use Rattle.std.specs.Prelude.{map}
+use Rattle.std.proofs.lemmas.Option.{get_or_from_slice_get}
+use Rattle.tib_lex.specs.Grammar.{Word, name, HasWords}
+use Rattle.tib_lex.specs.Lists.{Along, Each}
+use Rattle.tib_tree.specs.Trees.{Trees, none, tree, only, preorder, relabel}
+use Rattle.tib_grammar.specs.Sides.{Symbol, label, hole, symbol_map}
+use Rattle.tib_grammar.specs.GrammarOf.{GrammarOf, named_rule}
+use Rattle.tib_grammar.specs.Run.{rule_at}
+use Rattle.tib_grammar.specs.StateName.{IsStateName}
+use Rattle.tib_grammar.specs.declared.Rule.{Rule}
+use Rattle.tib_grammar_file.specs.ByName.{HasText, PrintsBack}
+use Rattle.tib_grammar_file.specs.GrammarText.{SpellsRuleOf, GrammarText, AreSmallRules, first_text}
+use Rattle.tib_grammar_file.specs.Printed.{grammar_text}
+use Rattle.tib_grammar_file.specs.Read.{ReadsAs}
+use Rattle.tib_grammar_file.proofs.PrintedTrees.{Fits, FitsSymbol, fits_of, first_word, no_words, name_at_is}
+use Rattle.tib_grammar_file.proofs.PrintedRules.{FitsRule, Renames, rule_spelled}
+use Rattle.tib_grammar_file.proofs.PrintedLines.{names_free, lines_in, rows_in, grammar_lines, rules_tokens}
+use Rattle.tib_grammar_file.proofs.PrintedStates.{contains_has, has_contains, gathered, SameNames, same_names, number_by, renames}
+use Rattle.tib_grammar_file.proofs.TextRead.{no_text}
+
+-- what holds at each place holds of each
+each_rule : (P : Rule ℕ → Type 0) (rules : List (Rule ℕ)) → ((n : ℕ) → n < length rules → P (rule_at rules n)) → Each P rules
+each_rule P [] f = tt
+each_rule P (r ∷ rules) f = (f 0 (omega arith), each_rule P rules (λ n h. f (suc n) (omega arith)))
+
+rules_fit : (weighted : Bool) (labels : List (List ℕ)) (g : GrammarOf) → HasText weighted labels g → Each (FitsRule weighted (length g.names) (length labels)) g.rules
+rules_fit weighted labels g t = each_rule (FitsRule weighted (length g.names) (length labels)) g.rules (λ n h. record {
+  left = (t.range n h).0;
+  right = fits_of (length g.names) (length labels) (only (rule_at g.rules n).right) (t.leaves n h) (t.labelled n h) (t.range n h).1;
+  cost = t.costs n h;
+})
+
+-- the same rules, by the names of their states
+
+symbol_same : (names others : List (List ℕ)) (number : ℕ → ℕ) (m : ℕ) (s : Symbol ℕ ℕ) (kids : Trees (Symbol ℕ ℕ)) → Renames names others number → FitsSymbol (length names) m s kids → symbol_map (λ q. get_or names q []) s ≡ symbol_map (λ q. get_or others q []) (symbol_map number s)
+symbol_same names others number m (label f) kids r h = refl
+symbol_same names others number m (hole q) none r h = ap (λ (t : List ℕ). hole t) (sym (get_or_from_slice_get others (number q) (get_or names q []) [] (r.to q h)))
+symbol_same names others number m (hole q) (tree g inner next) r h = absurd h
+
+trees_same : (names others : List (List ℕ)) (number : ℕ → ℕ) (m : ℕ) (ts : Trees (Symbol ℕ ℕ)) → Renames names others number → Fits (length names) m ts → relabel (symbol_map (λ q. get_or names q [])) ts ≡ relabel (symbol_map (λ q. get_or others q [])) (relabel (symbol_map number) ts)
+trees_same names others number m none r h = refl
+trees_same names others number m (tree s kids rest) r h =
+    cc (symbol_same names others number m s kids r h.0, trees_same names others number m kids r h.1, trees_same names others number m rest r h.2)
+
+abbrev rule_with : List ℕ → Symbol ℕ (List ℕ) → Trees (Symbol ℕ (List ℕ)) → ℕ → Rule (List ℕ)
+rule_with left symbol kids cost = record { left = left; right = record { label = symbol; kids = kids }; cost = cost }
+
+with_same : (l k : List ℕ) (s t : Symbol ℕ (List ℕ)) (ts us : Trees (Symbol ℕ (List ℕ))) (cost : ℕ) → l ≡ k → s ≡ t → ts ≡ us → rule_with l s ts cost ≡ rule_with k t us cost
+with_same l k s t ts us cost a b c =
+    ap (λ (x : List ℕ). rule_with x s ts cost) a
+    ∙ ap (λ (x : Symbol ℕ (List ℕ)). rule_with k x ts cost) b
+    ∙ ap (λ (x : Trees (Symbol ℕ (List ℕ))). rule_with k t x cost) c
+
+rule_same : (weighted : Bool) (names others : List (List ℕ)) (number : ℕ → ℕ) (m : ℕ) (r : Rule ℕ) → Renames names others number → FitsRule weighted (length names) m r → named_rule (λ q. get_or names q []) r ≡ named_rule (λ q. get_or others q []) (named_rule number r)
+rule_same weighted names others number m r n f = with_same
+    (get_or names r.left [])
+    (get_or others (number r.left) [])
+    (symbol_map (λ q. get_or names q []) r.right.label)
+    (symbol_map (λ q. get_or others q []) (symbol_map number r.right.label))
+    (relabel (symbol_map (λ q. get_or names q [])) r.right.kids)
+    (relabel (symbol_map (λ q. get_or others q [])) (relabel (symbol_map number) r.right.kids))
+    r.cost
+    (sym (get_or_from_slice_get others (number r.left) (get_or names r.left []) [] (n.to r.left f.left)))
+    (symbol_same names others number m r.right.label r.right.kids n f.right.0)
+    (trees_same names others number m r.right.kids n f.right.1)
+
+rules_same : (weighted : Bool) (names others : List (List ℕ)) (number : ℕ → ℕ) (m : ℕ) (rules : List (Rule ℕ)) → Renames names others number → Each (FitsRule weighted (length names) m) rules → map (named_rule (λ q. get_or names q [])) rules ≡ map (named_rule (λ q. get_or others q [])) (map (named_rule number) rules)
+rules_same weighted names others number m [] n f = refl
+rules_same weighted names others number m (r ∷ rules) n f =
+    cc (rule_same weighted names others number m r n f.0, rules_same weighted names others number m rules n f.1)
+
+rules_spelled : (weighted : Bool) (names others labels : List (List ℕ)) (number : ℕ → ℕ) (rules : List (Rule ℕ)) → Each IsStateName names → Renames names others number → Each (FitsRule weighted (length names) (length labels)) rules → Along (SpellsRuleOf weighted others labels) (rows_in weighted names labels rules) (map (named_rule number) rules)
+rules_spelled weighted names others labels number [] e n f = tt
+rules_spelled weighted names others labels number (r ∷ rules) e n f =
+    (rule_spelled weighted names others labels number r e n f.0, rules_spelled weighted names others labels number rules e n f.1)
+
+-- other numbers leave the number of nodes
+count_same : {A B : Type 0} (f : A → B) (ts : Trees A) → length (preorder (relabel f ts)) ≡ length (preorder ts)
+count_same f none = refl
+count_same f (tree s kids rest) =
+    omega (arith, count_same f kids, count_same f rest, length-append (preorder (relabel f kids)) (preorder (relabel f rest)), length-append (preorder kids) (preorder rest))
+
+small_same : (number : ℕ → ℕ) (rules : List (Rule ℕ)) → AreSmallRules rules → AreSmallRules (map (named_rule number) rules)
+small_same number [] s = tt
+small_same number (r ∷ rules) s = (omega (arith, count_same (symbol_map number) r.right.kids, s.0), small_same number rules s.1)
+
+start_read : (text : List ℕ) → IsStateName text → HasWords (name text ∷ []) text
+start_read text is = subst (λ (l : List ℕ). HasWords (name text ∷ []) l) (append-nil text) (first_word (name text) [] [] is.is_name refl no_words)
+
+pub prints_back : PrintsBack
+prints_back weighted labels g t =
+    let fit = rules_fit weighted labels g t in
+    let rows : List (List Word) = rows_in weighted g.names labels g.rules in
+    let start : List ℕ = get_or g.names 0 [] in
+    let made = gathered [] (start ∷ map first_text rows) in
+    let names : List (List ℕ) = made.0 in
+    let lefts : Each (λ (r : Rule ℕ). r.left < length g.names) g.rules = each_rule (λ (r : Rule ℕ). r.left < length g.names) g.rules (λ n h. (t.range n h).0) in
+    let same : SameNames g.names names = same_names weighted labels g names t.start lefts t.lefts made.1 in
+    let number : ℕ → ℕ = number_by g.names names in
+    let ren : Renames g.names names number = renames g.names names same in
+    let is_start : IsStateName start = name_at_is g.names 0 t.names.each t.start in
+    let h : GrammarOf = record { names = names; rules = map (named_rule number) g.rules } in
+    let text : GrammarText weighted labels (grammar_text weighted labels g) h = record {
+      lines = start ∷ lines_in weighted g.names labels g.rules;
+      start = start;
+      rows = rows;
+      lines_are = grammar_lines weighted labels g (names_free g.names t.names.each) t.free fit;
+      tokens = inr (name start, [], rows, start_read start is_start, refl, rules_tokens weighted g.names labels g.rules t.names.each fit);
+      plain = is_start.no_stop;
+      states = made.1;
+      rules = rules_spelled weighted g.names names labels number g.rules t.names.each ren fit;
+    } in
+    let read : AreSmallRules g.rules → ReadsAs weighted labels (grammar_text weighted labels g) h = λ small. record { text = text; small = small_same number g.rules small } in (
+      h,
+      record {
+        text = text;
+        same = record {
+          start = same.start;
+          names = λ x. (λ c. has_contains names x (same.to x (contains_has g.names x c)), λ c. has_contains g.names x (same.back x (contains_has names x c)));
+          rules = rules_same weighted g.names names number (length labels) g.rules ren fit;
+        };
+        read = read;
+        no_fault = λ small fault first. no_text weighted (grammar_text weighted labels g) fault first labels h (read small);
+      },
+    )

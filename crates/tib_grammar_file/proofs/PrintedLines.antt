@@ -1,0 +1,141 @@
+-- The lines of what is printed of a grammar.
+use Rattle.std.proofs.Common.{◌≡◌, ℕ, inl, inr, Bool, true, false, List, [], ◌∷◌, ◌++◌, length, get_or, refl, ap, sym, ◌∙◌, subst, append_assoc, zero, suc}
+use Rattle.std.specs.Prelude.{not, cond, ◌==◌, ◌||◌, ◌&&◌}
+use Rattle.std.specs.List.{list_all}
+use Rattle.std.proofs.lemmas.Bool.Decides.{eqb_tells}
+use Rattle.std.proofs.lemmas.List.Folds.{list_all-append}
+use Rattle.tib_lex.specs.Bytes.{is_name_byte}
+use Rattle.tib_lex.specs.Grammar.{Word, label, escape, spelling, is_name}
+use Rattle.tib_lex.specs.Lines.{not_feed, HasNoFeed, HasLines}
+use Rattle.tib_lex.specs.Lists.{Each}
+use Rattle.tib_lex.proofs.Spelled.{and_true}
+use Rattle.tib_tree.specs.Trees.{Trees, none, tree, only, count}
+use Rattle.tib_grammar.specs.Sides.{Symbol, label as symbol_label, hole}
+use Rattle.tib_grammar.specs.GrammarOf.{GrammarOf}
+use Rattle.tib_grammar.specs.StateName.{IsStateName}
+use Rattle.tib_grammar.specs.declared.Rule.{Rule}
+use Rattle.tib_grammar_file.specs.ByName.{IsPlainCost}
+use Rattle.tib_grammar_file.specs.GrammarText.{HaveTokens}
+use Rattle.tib_grammar_file.specs.Printed.{is_held, label_text, symbol_text, space, opening, closing, trees_text, cost_text, rule_text, rules_text, grammar_text}
+use Rattle.tib_grammar_file.specs.Weight.{is_digit}
+use Rattle.tib_grammar_file.proofs.PrintedRules.{all_changes, digits_are, line_of, row_of, words_behind, line_read, FitsRule}
+use Rattle.std.specs.Prelude.{decimal as printed}
+
+-- no byte of a name, a label in quotes or a cost is a line feed
+
+is_ten : (b : ℕ) → (b == 10) ≡ true → b ≡ 10
+is_ten b e = elim (eqb_tells b 10) [ inl h ↦ h.1 | inr h ↦ cc ]
+
+no_feed_by : (p : ℕ → Bool) → p 10 ≡ false → (b : ℕ) (c : Bool) → (b == 10) ≡ c → p b ≡ true → not c ≡ true
+no_feed_by p ten b false e h = refl
+no_feed_by p ten b true e h = let bad : p 10 ≡ true = subst (λ (x : ℕ). p x ≡ true) (is_ten b e) h in cc
+
+free_from : (p : ℕ → Bool) → p 10 ≡ false → (xs : List ℕ) → list_all p xs ≡ true → HasNoFeed xs
+free_from p ten xs h = all_changes p not_feed xs (λ b k. no_feed_by p ten b (b == 10) refl k) h
+
+free_append : (xs ys : List ℕ) → HasNoFeed xs → HasNoFeed ys → HasNoFeed (xs ++ ys)
+free_append xs ys h k = list_all-append not_feed xs ys ∙ rw h k
+
+free_escape : (xs : List ℕ) → HasNoFeed xs → HasNoFeed (escape xs)
+free_escape [] h = refl
+free_escape (x ∷ xs) h = let t = and_true (not_feed x) (list_all not_feed xs) h in by (x == 34 || x == 92) t.0 (free_escape xs t.1)
+  where
+    by : (c : Bool) → not_feed x ≡ true → HasNoFeed (escape xs) → HasNoFeed (cond c (92 ∷ (x ∷ escape xs)) (x ∷ escape xs))
+    by true e k = rw e k
+    by false e k = rw e k
+
+free_quoted : (text : List ℕ) → HasNoFeed text → HasNoFeed (spelling (label text))
+free_quoted text h = free_append (escape text) (34 ∷ []) (free_escape text h) refl
+
+free_choice : (c : Bool) (xs ys : List ℕ) → HasNoFeed xs → HasNoFeed ys → HasNoFeed (cond c xs ys)
+free_choice true xs ys h k = h
+free_choice false xs ys h k = k
+
+free_label : (names : List (List ℕ)) (text : List ℕ) → HasNoFeed text → HasNoFeed (label_text names text)
+free_label names text h = free_choice (is_name text && not (is_held names text)) text (spelling (label text)) h (free_quoted text h)
+
+free_at : (texts : List (List ℕ)) (n : ℕ) → Each HasNoFeed texts → HasNoFeed (get_or texts n [])
+free_at [] n e = refl
+free_at (x ∷ xs) zero e = e.0
+free_at (x ∷ xs) (suc n) e = free_at xs n e.1
+
+pub names_free : (names : List (List ℕ)) → Each IsStateName names → Each HasNoFeed names
+names_free [] e = tt
+names_free (x ∷ xs) e = (free_from is_name_byte refl x e.0.is_name.bytes, names_free xs e.1)
+
+free_symbol : (names labels : List (List ℕ)) (s : Symbol ℕ ℕ) → Each HasNoFeed names → Each HasNoFeed labels → HasNoFeed (symbol_text names labels s)
+free_symbol names labels (symbol_label f) n l = free_label names (get_or labels f []) (free_at labels f l)
+free_symbol names labels (hole q) n l = free_at names q n
+
+free_space : (k : ℕ) → HasNoFeed (space k)
+free_space zero = refl
+free_space (suc k) = refl
+
+free_opening : (k : ℕ) → HasNoFeed (opening k)
+free_opening zero = refl
+free_opening (suc k) = refl
+
+free_closing : (k : ℕ) → HasNoFeed (closing k)
+free_closing zero = refl
+free_closing (suc k) = refl
+
+free_trees : (names labels : List (List ℕ)) (ts : Trees (Symbol ℕ ℕ)) (k : ℕ) → Each HasNoFeed names → Each HasNoFeed labels → HasNoFeed (trees_text names labels ts k)
+free_trees names labels none k n l = refl
+free_trees names labels (tree s kids rest) k n l =
+    let below : HasNoFeed (trees_text names labels kids 0) = free_trees names labels kids 0 n l in
+    let behind : HasNoFeed (trees_text names labels rest (suc k)) = free_trees names labels rest (suc k) n l in
+    let closed : HasNoFeed (closing (count kids) ++ trees_text names labels rest (suc k)) = free_append (closing (count kids)) (trees_text names labels rest (suc k)) (free_closing (count kids)) behind in
+    let inside : HasNoFeed (trees_text names labels kids 0 ++ (closing (count kids) ++ trees_text names labels rest (suc k))) = free_append (trees_text names labels kids 0) (closing (count kids) ++ trees_text names labels rest (suc k)) below closed in
+    let opened = free_append (opening (count kids)) (trees_text names labels kids 0 ++ (closing (count kids) ++ trees_text names labels rest (suc k))) (free_opening (count kids)) inside in
+    let named = free_append (symbol_text names labels s) (opening (count kids) ++ (trees_text names labels kids 0 ++ (closing (count kids) ++ trees_text names labels rest (suc k)))) (free_symbol names labels s n l) opened in
+    free_append (space k) (symbol_text names labels s ++ (opening (count kids) ++ (trees_text names labels kids 0 ++ (closing (count kids) ++ trees_text names labels rest (suc k))))) (free_space k) named
+
+free_cost : (weighted : Bool) (cost : ℕ) → IsPlainCost weighted cost → HasNoFeed (cost_text weighted cost)
+free_cost false cost h = refl
+free_cost true cost h = free_from is_digit refl (printed cost) (digits_are cost h)
+
+free_line : (weighted : Bool) (names labels : List (List ℕ)) (r : Rule ℕ) → Each HasNoFeed names → Each HasNoFeed labels → IsPlainCost weighted r.cost → HasNoFeed (line_of weighted names labels r)
+free_line weighted names labels r n l c =
+    let right : HasNoFeed (trees_text names labels (only r.right) 0 ++ cost_text weighted r.cost) = free_append (trees_text names labels (only r.right) 0) (cost_text weighted r.cost) (free_trees names labels (only r.right) 0 n l) (free_cost weighted r.cost c) in
+    free_append (get_or names r.left []) (32 ∷ (45 ∷ (62 ∷ (32 ∷ (trees_text names labels (only r.right) 0 ++ cost_text weighted r.cost))))) (free_at names r.left n) right
+
+-- the lines and their tokens
+abbrev pub lines_in : Bool → List (List ℕ) → List (List ℕ) → List (Rule ℕ) → List (List ℕ)
+lines_in weighted names labels [] = []
+lines_in weighted names labels (r ∷ rules) = line_of weighted names labels r ∷ lines_in weighted names labels rules
+
+abbrev pub rows_in : Bool → List (List ℕ) → List (List ℕ) → List (Rule ℕ) → List (List Word)
+rows_in weighted names labels [] = []
+rows_in weighted names labels (r ∷ rules) = row_of weighted names labels r ∷ rows_in weighted names labels rules
+
+line_ends : (weighted : Bool) (names labels : List (List ℕ)) (r : Rule ℕ) (more : List ℕ) → rule_text weighted names labels r ++ more ≡ line_of weighted names labels r ++ (10 ∷ more)
+line_ends weighted names labels r more =
+    let left : List ℕ = get_or names r.left [] in
+    let right : List ℕ = trees_text names labels (only r.right) 0 in
+    let cost : List ℕ = cost_text weighted r.cost in
+    append_assoc left (32 ∷ (45 ∷ (62 ∷ (32 ∷ (right ++ (cost ++ 10 ∷ [])))))) more
+    ∙ ap (λ (l : List ℕ). left ++ (32 ∷ (45 ∷ (62 ∷ (32 ∷ l))))) (append_assoc right (cost ++ 10 ∷ []) more ∙ ap (λ (l : List ℕ). right ++ l) (append_assoc cost (10 ∷ []) more) ∙ sym (append_assoc right cost (10 ∷ more)))
+    ∙ sym (append_assoc left (32 ∷ (45 ∷ (62 ∷ (32 ∷ (right ++ cost))))) (10 ∷ more))
+
+rules_lines : (weighted : Bool) (names labels : List (List ℕ)) (rules : List (Rule ℕ)) → Each HasNoFeed names → Each HasNoFeed labels → Each (FitsRule weighted (length names) (length labels)) rules → HasLines (lines_in weighted names labels rules) (rules_text weighted names labels rules)
+rules_lines weighted names labels [] n l f = refl
+rules_lines weighted names labels (r ∷ rules) n l f =
+    (free_line weighted names labels r n l f.0.cost, inr (rules_text weighted names labels rules, line_ends weighted names labels r (rules_text weighted names labels rules), rules_lines weighted names labels rules n l f.1))
+
+pub grammar_lines : (weighted : Bool) (labels : List (List ℕ)) (g : GrammarOf) → Each HasNoFeed g.names → Each HasNoFeed labels → Each (FitsRule weighted (length g.names) (length labels)) g.rules → HasLines (get_or g.names 0 [] ∷ lines_in weighted g.names labels g.rules) (grammar_text weighted labels g)
+grammar_lines weighted labels g n l f = (
+  free_at g.names 0 n,
+  inr (rules_text weighted g.names labels g.rules, append_assoc (get_or g.names 0 []) (10 ∷ []) (rules_text weighted g.names labels g.rules), rules_lines weighted g.names labels g.rules n l f),
+)
+
+pub rules_tokens : (weighted : Bool) (names labels : List (List ℕ)) (rules : List (Rule ℕ)) → Each IsStateName names → Each (FitsRule weighted (length names) (length labels)) rules → HaveTokens (lines_in weighted names labels rules) (rows_in weighted names labels rules)
+rules_tokens weighted names labels [] e f = refl
+rules_tokens weighted names labels (r ∷ rules) e f =
+    inr (
+      _,
+      words_behind weighted names labels r,
+      rows_in weighted names labels rules,
+      line_read weighted names labels r e f.0,
+      refl,
+      rules_tokens weighted names labels rules e f.1,
+    )
