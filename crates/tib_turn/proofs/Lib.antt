@@ -1,0 +1,7 @@
+mod Lists
+mod PrefixLemmas
+mod Queues
+mod Opening
+mod Entering
+mod Leaving
+mod Sharing
