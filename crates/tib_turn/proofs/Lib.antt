@@ -1,4 +1,4 @@
-mod Lists
+pub mod Lists
 mod PrefixLemmas
 mod Queues
 mod Opening

@@ -131,10 +131,9 @@ impl<V: Grows> TurnLock<V> {
         ensures that { IsPrefix other.seen pass.new.seen }
     {
         let Pass { seat: other } = other;
-        self.table
-            .shared
-            .join_seat::<JoinPasses>(&mut pass.seat, other);
-        self.table.shared.load::<SeeLonger<V>>(&mut pass.seat, 0);
+        let shared = &self.table.shared;
+        shared.join_seat::<JoinPasses>(&mut pass.seat, other);
+        shared.load::<SeeLonger<V>>(&mut pass.seat, 0);
     }
 }
 
