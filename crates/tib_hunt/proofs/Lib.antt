@@ -1,0 +1,3 @@
+mod Totals
+pub mod Occurrences
+mod ClaimSteps

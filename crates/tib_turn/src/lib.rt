@@ -1,0 +1,15 @@
+//! A lock that hands one value to one holder at a time, in the order of tickets, where the value has a log that only grows. Each
+//! holder's pass knows a list that it has seen, and whatever the threads do, that list is a prefix of the log of the value that the
+//! pass is handed next. It stands on `atomic_table`: a word for the next ticket, a word for the ticket served, a slot for the value.
+#![tactic(auto)]
+
+mod grows;
+mod lock;
+mod rule;
+#[cfg(test)]
+mod tests;
+mod ticket;
+mod view;
+
+pub use grows::Grows;
+pub use lock::{Pass, Turn, TurnLock};
