@@ -4,6 +4,8 @@ ghost use Rattle.tib_io.specs.Causes.{GoesOn};
 ghost use Rattle.tib_tree.specs.File.{trees_of};
 ghost use Rattle.tib_grammar_file.specs.Reading.{grammar_of};
 ghost use Rattle.tiburon.specs.Causes.{IsFileFault};
+ghost use Rattle.tiburon.specs.Weighed.{IsRead, ListsTrees};
+ghost use Rattle.tib_tree.specs.Grows.{AreDistinct, Grows};
 ghost use Rattle.tib_lex.specs.Lists.{Each};
 ghost use Rattle.tib_tree.specs.Growth.{HasLabels};
 
@@ -23,6 +25,7 @@ pub(crate) fn grammar_in<S: Semiring, F: Files>(
     name: &str,
     labels: &mut Labels,
 ) -> Result<Grammar<S>, Status>
+    ensures text { IfOk result (λ g. IfSome (F.held files.old name.now) (IsRead S.WEIGHTED labels.new g)) }
     ensures fault { IfErr result (λ s. IsFileFault (λ bytes fault. grammar_of S.WEIGHTED bytes ≡ Err fault) 1 (F.held files.old name.now) (F.faults files.old name.now) (F.faults files.new name.now) s) }
     ensures held { F.held files.new ≡ F.held files.old }
     ensures sure { F.sure files.new ≡ F.sure files.old }
@@ -48,6 +51,9 @@ pub(crate) fn trees_in<F: Files>(
     name: &str,
     labels: &mut Labels,
 ) -> Result<Vec<Tree>, Status>
+    ensures text { IfOk result (λ ts. IfSome (F.held files.old name.now) (ListsTrees labels.new ts.items)) }
+    ensures distinct { IfOk result (λ ts. AreDistinct labels.new) }
+    ensures grows { Grows labels.old labels.new }
     ensures labels { IfOk result (λ ts. Each (HasLabels labels.new) ts.items) }
     ensures fault { IfErr result (λ s. IsFileFault (λ bytes fault. trees_of bytes ≡ Err fault) 2 (F.held files.old name.now) (F.faults files.old name.now) (F.faults files.new name.now) s) }
     ensures held { F.held files.new ≡ F.held files.old }
@@ -61,7 +67,10 @@ pub(crate) fn trees_in<F: Files>(
         Err(FileError::OutOfMemory) => return Err(Status::OutOfMemory),
     };
     match read_trees(alloc, &bytes, labels) {
-        Ok(trees) => Ok(trees),
+        Ok(trees) => {
+            labels.len();
+            Ok(trees)
+        }
         Err(ReadError::Fault(fault)) => Err(Status::BadInput { file: 2, fault }),
         Err(ReadError::OutOfMemory) => Err(Status::OutOfMemory),
     }

@@ -5,6 +5,7 @@ ghost use Rattle.tib_io.specs.Writes.{Takes, TakesFront};
 ghost use Rattle.tib_command.specs.Jobs.{job_of, meaning, word_count};
 ghost use Rattle.tiburon.specs.Log.{line_of};
 ghost use Rattle.tiburon.specs.Causes.{HasCause, LeavesAlone};
+ghost use Rattle.tiburon.specs.Weighed.{HasAnswer};
 
 use crate::log::tell;
 use crate::status::Status;
@@ -32,6 +33,7 @@ fn perform_job<R: Threads + Sync, F: Files, O: Sink>(
     requires limit { (1 ≤ job.now.limit) × (job.now.limit ≤ 20000000) }
     ensures cause { HasCause (Some (meaning job.now)) (F.held files.old) (F.faults files.old) (F.faults files.new) (O.faults out.old) (O.faults out.new) result }
     ensures alone { LeavesAlone result (O.written out.old) (O.written out.new) }
+    ensures text { result ≡ Status.Done → HasAnswer (Some (meaning job.now)) (F.held files.old) (O.written out.old) (O.written out.new) }
     ensures finished { result ≡ Status.Done → O.finished out.new ≡ true }
     ensures held { F.held files.new ≡ F.held files.old }
     ensures sure { F.sure files.new ≡ F.sure files.old }
@@ -57,6 +59,7 @@ fn perform<R: Threads + Sync, F: Files, O: Sink>(
 ) -> Status
     ensures cause { HasCause (job_of (map (λ s. string_bytes s) words.now)) (F.held files.old) (F.faults files.old) (F.faults files.new) (O.faults out.old) (O.faults out.new) result }
     ensures alone { LeavesAlone result (O.written out.old) (O.written out.new) }
+    ensures text { result ≡ Status.Done → HasAnswer (job_of (map (λ s. string_bytes s) words.now)) (F.held files.old) (O.written out.old) (O.written out.new) }
     ensures finished { result ≡ Status.Done → O.finished out.new ≡ true }
     ensures held { F.held files.new ≡ F.held files.old }
     ensures sure { F.sure files.new ≡ F.sure files.old }
@@ -83,6 +86,7 @@ pub fn run_alone<R: Threads + Sync, F: Files, O: Sink, E: Sink, G: Gate + Sync>(
 ) -> Status
     ensures cause { HasCause (job_of (map (λ s. string_bytes s) words.now)) (F.held files.old) (F.faults files.old) (F.faults files.new) (O.faults out.old) (O.faults out.new) result }
     ensures alone { LeavesAlone result (O.written out.old) (O.written out.new) }
+    ensures text { result ≡ Status.Done → HasAnswer (job_of (map (λ s. string_bytes s) words.now)) (F.held files.old) (O.written out.old) (O.written out.new) }
     ensures finished { result ≡ Status.Done → O.finished out.new ≡ true }
     ensures held { F.held files.new ≡ F.held files.old }
     ensures sure { F.sure files.new ≡ F.sure files.old }
@@ -110,6 +114,7 @@ pub fn run<R: Threads + Sync, F: Files, O: Sink, E: Sink, G: Gate + Sync>(
 ) -> Status
     ensures cause { HasCause (job_of (map (λ s. string_bytes s) words.now)) (F.held files.old) (F.faults files.old) (F.faults files.new) (O.faults out.old) (O.faults out.new) result }
     ensures alone { LeavesAlone result (O.written out.old) (O.written out.new) }
+    ensures text { result ≡ Status.Done → HasAnswer (job_of (map (λ s. string_bytes s) words.now)) (F.held files.old) (O.written out.old) (O.written out.new) }
     ensures finished { result ≡ Status.Done → O.finished out.new ≡ true }
     ensures held { F.held files.new ≡ F.held files.old }
     ensures sure { F.sure files.new ≡ F.sure files.old }

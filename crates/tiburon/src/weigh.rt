@@ -4,7 +4,8 @@ ghost use Rattle.std.specs.List.{AllZip};
 ghost use Rattle.tib_grammar.specs.Series.{IsSeries};
 ghost use Rattle.tib_io.specs.Causes.{GoesOn};
 ghost use Rattle.tib_command.specs.Jobs.{meaning};
-ghost use Rattle.tiburon.specs.Causes.{HasCause, IsEarly, IsTooMany, LeavesAlone, is_weighted};
+ghost use Rattle.tiburon.specs.Causes.{HasCause, IsEarly, IsTooMany, LeavesAlone, file_at, is_weighted};
+ghost use Rattle.tiburon.specs.Weighed.{AreWeights, HasWritten, IsWeighed, bytes_at};
 
 use crate::files::{grammar_in, trees_in};
 use crate::status::Status;
@@ -45,6 +46,7 @@ fn costs_of<S: Semiring + Sync + Drop, R: Threads + Sync>(
 ) -> Result<Vec<Option<Cost>>, Status>
     requires { (1 ≤ limit) × (limit ≤ 20000000) }
     ensures costs { IfOk result (λ costs. length costs.items ≡ length trees.now) }
+    ensures weights { IfOk result (λ costs. AreWeights S.product grammar.now trees.now costs.items) }
     ensures err { IfErr result (IsTooMany limit) }
 {
     let normal = match normalize::<S>(alloc, grammar, limit) {
@@ -68,6 +70,7 @@ fn text_of_files<S: Semiring + Sync + Drop, R: Threads + Sync, F: Files>(
     requires files { length job.now.files.items ≡ 2 }
     requires limit { (1 ≤ job.now.limit) × (job.now.limit ≤ 20000000) }
     requires mode { S.WEIGHTED ≡ is_weighted job.now.mode }
+    ensures text { IfOk result (λ text. IsWeighed S.WEIGHTED S.product (bytes_at (F.held files.old) (file_at (Some (meaning job.now)) 1)) (bytes_at (F.held files.old) (file_at (Some (meaning job.now)) 2)) text.bytes) }
     ensures early { IfErr result IsEarly }
     ensures cause { IfErr result (HasCause (Some (meaning job.now)) (F.held files.old) (F.faults files.old) (F.faults files.new) 0 0) }
     ensures held { F.held files.new ≡ F.held files.old }
@@ -106,6 +109,7 @@ pub(crate) fn weigh_files<S: Semiring + Sync + Drop, R: Threads + Sync, F: Files
     requires mode { S.WEIGHTED ≡ is_weighted job.now.mode }
     ensures cause { HasCause (Some (meaning job.now)) (F.held files.old) (F.faults files.old) (F.faults files.new) (O.faults out.old) (O.faults out.new) result }
     ensures alone { LeavesAlone result (O.written out.old) (O.written out.new) }
+    ensures text { result ≡ Status.Done → HasWritten S.WEIGHTED S.product (bytes_at (F.held files.old) (file_at (Some (meaning job.now)) 1)) (bytes_at (F.held files.old) (file_at (Some (meaning job.now)) 2)) (O.written out.old) (O.written out.new) }
     ensures finished { result ≡ Status.Done → O.finished out.new ≡ true }
     ensures held { F.held files.new ≡ F.held files.old }
     ensures sure { F.sure files.new ≡ F.sure files.old }
