@@ -78,7 +78,12 @@ impl Items {
     pub fn join(&self, seat: &mut Seat, other: Seat)
         requires counter { seat.old.counter ≡ self.now }
         requires other_counter { other.counter ≡ self.now }
-        ensures both { seat.new ≡ record { counter = self.now; shares = seat.old.shares + other.shares; nones = seat.old.nones + other.nones; drawn = seat.old.drawn ++ other.drawn } }
+        ensures both { seat.new ≡ record {
+          counter = self.now;
+          shares = seat.old.shares + other.shares;
+          nones = seat.old.nones + other.nones;
+          drawn = seat.old.drawn ++ other.drawn;
+        } }
         ensures once { HasDrawnOnce seat.new }
     {
         let Seat { seat: other } = other;

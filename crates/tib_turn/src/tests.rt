@@ -5,6 +5,7 @@ use crate::{Grows, Pass, TurnLock};
 use std::alloc::AllocError;
 use std::sync::Wait;
 use std::test::Fail;
+use std::thread::{Threads, join};
 
 #[derive(Drop)]
 struct Numbers {
@@ -54,5 +55,66 @@ fn two_passes_push_in_turn(rt: HostRuntime) -> Result<(), Fail> {
     lock.join(&mut first, second);
     let numbers = lock.close(&rt, first);
     assert_eq!(rt; numbers.list.as_slice(), [7, 8, 9].as_slice());
+    Ok(())
+}
+
+#[derive(Drop)]
+struct Held {
+    pass: Pass<Numbers>,
+    appended: Result<(), AllocError>,
+}
+
+fn append_in_thread<R: Wait>(rt: &R, lock: &TurnLock<Numbers>, pass: Pass<Numbers>, n: u64) -> Held
+    requires lock { pass.lock ≡ lock.now }
+    requires outside { pass.inside ≡ false }
+    ensures lock { result.pass.lock ≡ lock.now }
+    ensures outside { result.pass.inside ≡ false }
+{
+    let mut pass = pass;
+    let appended = append_in_turn(rt, lock, &mut pass, n);
+    Held { pass, appended }
+}
+
+fn append_in_two_threads<R: Threads + Wait + Sync>(
+    rt: &R,
+    lock: &TurnLock<Numbers>,
+    first: Pass<Numbers>,
+    second: Pass<Numbers>,
+) -> (Held, Held)
+    requires first { (first.lock ≡ lock.now) × (first.inside ≡ false) }
+    requires second { (second.lock ≡ lock.now) × (second.inside ≡ false) }
+    ensures first { (result.0.pass.lock ≡ lock.now) × (result.0.pass.inside ≡ false) }
+    ensures second { (result.1.pass.lock ≡ lock.now) × (result.1.pass.inside ≡ false) }
+{
+    join(
+        rt,
+        move || -> Held
+            requires { (first.lock ≡ lock.now) × (first.inside ≡ false) }
+            ensures { (result.pass.lock ≡ lock.entry.now) × (result.pass.inside ≡ false) }
+        { append_in_thread(rt, lock, first, 8) },
+        move || -> Held
+            requires { (second.lock ≡ lock.now) × (second.inside ≡ false) }
+            ensures { (result.pass.lock ≡ lock.entry.now) × (result.pass.inside ≡ false) }
+        { append_in_thread(rt, lock, second, 9) },
+    )
+}
+
+#[test]
+fn two_threads_push_in_turn(rt: HostRuntime) -> Result<(), Fail> {
+    let alloc = rt.alloc();
+    let numbers = Numbers {
+        list: Vec::from_array(alloc, [7])?,
+    };
+    let (lock, mut first) = TurnLock::open(alloc, numbers).map_err(|_| AllocError)?;
+    let second = lock.split(&mut first);
+    let (mut first, second) = append_in_two_threads(&rt, &lock, first, second);
+    let Held { pass, appended } = second;
+    lock.join(&mut first.pass, pass);
+    first.appended?;
+    appended?;
+    let numbers = lock.close(&rt, first.pass);
+    let eight_first = numbers.list.as_slice() == [7, 8, 9].as_slice();
+    let nine_first = numbers.list.as_slice() == [7, 9, 8].as_slice();
+    assert!(rt; eight_first || nine_first);
     Ok(())
 }
