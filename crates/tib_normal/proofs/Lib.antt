@@ -7,3 +7,5 @@ pub mod LoneSides
 pub mod Closing
 pub mod Bettering
 pub mod Placing
+pub mod Costs
+pub mod Normalizing

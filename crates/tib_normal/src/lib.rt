@@ -5,6 +5,7 @@ mod agenda;
 mod chains;
 mod error;
 mod index;
+pub mod laws;
 mod links;
 mod normal;
 mod normal_form;

@@ -1,0 +1,101 @@
+-- The costs of runs of a grammar in normal form: the first rule named, and lists of trees cut and joined.
+use Rattle.std.specs.Prelude.{◌≡◌, ℕ, ◌<◌, ◌≤◌, List, [], ◌∷◌, ◌++◌, length, take, drop, Bool, refl}
+use Rattle.std.proofs.Common.{zero, suc, arith, ap, sym, ◌∙◌, subst}
+use Rattle.tib_tree.specs.Trees.{Trees, none, tree, count, join, first_trees, other_trees}
+use Rattle.tib_grammar.specs.Sides.{Symbol, label, hole, holes}
+use Rattle.tib_grammar.specs.Run.{rule_at, IsCost}
+use Rattle.tib_grammar.specs.Forms.{AreNormal}
+use Rattle.tib_grammar.specs.declared.Rule.{Rule}
+use Rattle.tib_grammar.proofs.NormalRuns.{BeginsBelow, split_all, merge_all, begin, none_to, IsLeast-no_states}
+use Rattle.tib_grammar.proofs.Best.{no_trees, no_states}
+use Rattle.tib_cost.specs.Semiring.{ProductLaws}
+
+pub same_label : {P : Type 0} (f g : ℕ) (s : Symbol ℕ P) → s ≡ label f → s ≡ label g → f ≡ g
+same_label f g (label h) e k = cc
+same_label f g (hole p) e k = absurd (cc)
+
+-- c is the cost of runs that yield the tree f over kids and then the trees rest, with the first rule named
+pub record IsOpened (product : ℕ → ℕ → ℕ) (rules : List (Rule ℕ)) (q : ℕ) (qs : List ℕ) (f : ℕ) (kids rest : Trees ℕ) (c : ℕ) : Type 0 where
+  pub rule : ℕ
+  pub below : rule < length rules
+  pub left : (rule_at rules rule).left ≡ q
+  pub root : (rule_at rules rule).right.label ≡ label f
+  pub inner : ℕ
+  pub outer : ℕ
+  pub kids_cost : IsCost product rules (holes (rule_at rules rule).right.kids) kids inner
+  pub rest_cost : IsCost product rules qs rest outer
+  pub costs : product (product (rule_at rules rule).cost inner) outer ≡ c
+
+-- c is the product of the costs of runs for the first n trees and of runs for the others
+pub record IsCutCost (product : ℕ → ℕ → ℕ) (rules : List (Rule ℕ)) (n : ℕ) (qs : List ℕ) (ts : Trees ℕ) (c : ℕ) : Type 0 where
+  pub first : ℕ
+  pub other : ℕ
+  pub first_cost : IsCost product rules (take n qs) (first_trees n ts) first
+  pub other_cost : IsCost product rules (drop n qs) (other_trees n ts) other
+  pub costs : product first other ≡ c
+
+module _
+    {levelled weighted : Bool} {product : ℕ → ℕ → ℕ} (laws : ProductLaws levelled weighted product)
+    (rules : List (Rule ℕ)) (normal : AreNormal rules) where
+  pub open_cost :
+      (q : ℕ) (qs : List ℕ) (f : ℕ) (kids rest : Trees ℕ) (c : ℕ) → IsCost product rules (q ∷ qs) (tree f kids rest) c →
+      IsOpened product rules q qs f kids rest c
+  open_cost q qs f kids rest c h =
+      let s = split_all laws rules q qs f kids rest c h in
+      let g : BeginsBelow product rules q f kids (length rules) s.0 =
+      subst (BeginsBelow product rules q f kids (length rules)) s.2.costs (begin laws rules normal q f kids s.2.runs s.2.are_runs s.2.yielded)
+      in
+      let b = g.2.below in
+      record {
+        rule = g.0;
+        below = g.1;
+        left = g.2.left;
+        root = g.2.root;
+        inner = b.1;
+        outer = s.1;
+        kids_cost = b.3;
+        rest_cost = s.3;
+        costs = ap (λ x. product x s.1) (ap (λ x. product x b.1) (sym b.2) ∙ b.4) ∙ s.4;
+      }
+
+  pub cut_costs :
+      (n : ℕ) (qs : List ℕ) (ts : Trees ℕ) (c : ℕ) → n ≤ count ts → IsCost product rules qs ts c →
+      IsCutCost product rules n qs ts c
+  cut_costs zero qs ts c h k = record {
+    first = 0;
+    other = c;
+    first_cost = (IsLeast-no_states laws rules).attained.0;
+    other_cost = k;
+    costs = laws.neutral c;
+  }
+  cut_costs (suc n) qs none c h k = absurd (omega arith)
+  cut_costs (suc n) [] (tree f kids rest) c h k = absurd (no_states laws rules normal f kids rest c k)
+  cut_costs (suc n) (q ∷ qs) (tree f kids rest) c h k =
+      let p = split_all laws rules q qs f kids rest c k in
+      let r = cut_costs n qs rest p.1 (omega arith) p.3 in
+      record {
+        first = product p.0 r.first;
+        other = r.other;
+        first_cost = merge_all laws rules q (take n qs) f kids (first_trees n rest) (product p.0 r.first) (p.0, r.first, p.2, r.first_cost, refl);
+        other_cost = r.other_cost;
+        costs = laws.regroups p.0 r.first r.other ∙ ap (product p.0) r.costs ∙ p.4;
+      }
+
+  -- runs for some trees and for some others are runs for all of them
+  pub join_costs :
+      (qs rs : List ℕ) (ts us : Trees ℕ) (a b : ℕ) → IsCost product rules qs ts a → IsCost product rules rs us b →
+      IsCost product rules (qs ++ rs) (join ts us) (product a b)
+  join_costs [] rs none us a b x y =
+      let e : a ≡ 0 = none_to laws rules a x in
+      subst (IsCost product rules rs us) (sym (ap (λ z. product z b) e ∙ laws.neutral b)) y
+  join_costs (q ∷ qs) rs none us a b x y = absurd (no_trees laws rules normal q qs a x)
+  join_costs [] rs (tree f kids rest) us a b x y = absurd (no_states laws rules normal f kids rest a x)
+  join_costs (q ∷ qs) rs (tree f kids rest) us a b x y =
+      let p = split_all laws rules q qs f kids rest a x in
+      merge_all laws rules q (qs ++ rs) f kids (join rest us) (product a b) (
+        p.0,
+        product p.1 b,
+        p.2,
+        join_costs qs rs rest us p.1 b p.3 y,
+        sym (laws.regroups p.0 p.1 b) ∙ ap (λ z. product z b) p.4,
+      )
