@@ -102,7 +102,7 @@ pub fn run_alone<R: Threads + Sync, F: Files, O: Sink, E: Sink, G: Gate + Sync>(
 
 /// Does what the words ask for: `words` are those behind the program's name. It tells on the log why it did not end with
 /// `Done`. Each status comes only with its cause, and after every status but `Done` and `WriteFault` nothing was written on
-/// `out`.
+/// `out`. After `Done` the whole answer was written, and `out` is finished.
 pub fn run<R: Threads + Sync, F: Files, O: Sink, E: Sink, G: Gate + Sync>(
     rt: &R,
     alloc: Global,
