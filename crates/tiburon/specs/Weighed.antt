@@ -1,7 +1,7 @@
 -- What a run that is done has written.
 use Rattle.std.specs.Prelude.{◌≡◌, ℕ, ◌+◌, max, Bool, List, length, Option, Some, None, IfSome}
 use Rattle.std.specs.List.{AllZip}
-use Rattle.tib_io.specs.Writes.{Appends}
+use Rattle.tib_io.specs.Writes.{Appends, AppendsFront}
 use Rattle.tib_lex.specs.Lists.{Each}
 use Rattle.tib_tree.specs.Trees.{Tree}
 use Rattle.tib_tree.specs.Grows.{Grows, AreDistinct}
@@ -64,8 +64,20 @@ pub record HasWritten (weighted : Bool) (product : ℕ → ℕ → ℕ) (first s
   pub written : Appends old new text
   pub weighed : IsWeighed weighted product first second text
 
+-- a front of such a text was written
+pub record HasFront (weighted : Bool) (product : ℕ → ℕ → ℕ) (first second old new : Option (List ℕ)) : Type 0 where
+  pub text : List ℕ
+  pub front : AppendsFront old new text
+  pub weighed : IsWeighed weighted product first second text
+
 -- the answer of the job was written, whole
 abbrev pub HasAnswer : Option Asked → (List ℕ → Option (List ℕ)) → Option (List ℕ) → Option (List ℕ) → Type 0
 HasAnswer None held old new = ⊥
 HasAnswer (Some asked) held old new =
     HasWritten (is_weighted asked.mode) (product_of asked.mode) (bytes_at held (file_at (Some asked) 1)) (bytes_at held (file_at (Some asked) 2)) old new
+
+-- a front of the answer was written
+abbrev pub HasFrontOfAnswer : Option Asked → (List ℕ → Option (List ℕ)) → Option (List ℕ) → Option (List ℕ) → Type 0
+HasFrontOfAnswer None held old new = ⊥
+HasFrontOfAnswer (Some asked) held old new =
+    HasFront (is_weighted asked.mode) (product_of asked.mode) (bytes_at held (file_at (Some asked) 1)) (bytes_at held (file_at (Some asked) 2)) old new

@@ -5,7 +5,7 @@ ghost use Rattle.tib_io.specs.Writes.{Takes, TakesFront};
 ghost use Rattle.tib_command.specs.Jobs.{job_of, meaning, word_count};
 ghost use Rattle.tiburon.specs.Log.{line_of};
 ghost use Rattle.tiburon.specs.Causes.{HasCause, LeavesAlone};
-ghost use Rattle.tiburon.specs.Weighed.{HasAnswer};
+ghost use Rattle.tiburon.specs.Weighed.{HasAnswer, HasFrontOfAnswer};
 
 use crate::log::tell;
 use crate::status::Status;
@@ -34,6 +34,7 @@ fn perform_job<R: Threads + Sync, F: Files, O: Sink>(
     ensures cause { HasCause (Some (meaning job.now)) (F.held files.old) (F.faults files.old) (F.faults files.new) (O.faults out.old) (O.faults out.new) result }
     ensures alone { LeavesAlone result (O.written out.old) (O.written out.new) }
     ensures text { result ≡ Status.Done → HasAnswer (Some (meaning job.now)) (F.held files.old) (O.written out.old) (O.written out.new) }
+    ensures front { result ≡ Status.WriteFault → HasFrontOfAnswer (Some (meaning job.now)) (F.held files.old) (O.written out.old) (O.written out.new) }
     ensures finished { result ≡ Status.Done → O.finished out.new ≡ true }
     ensures held { F.held files.new ≡ F.held files.old }
     ensures sure { F.sure files.new ≡ F.sure files.old }
@@ -60,6 +61,7 @@ fn perform<R: Threads + Sync, F: Files, O: Sink>(
     ensures cause { HasCause (job_of (map (λ s. string_bytes s) words.now)) (F.held files.old) (F.faults files.old) (F.faults files.new) (O.faults out.old) (O.faults out.new) result }
     ensures alone { LeavesAlone result (O.written out.old) (O.written out.new) }
     ensures text { result ≡ Status.Done → HasAnswer (job_of (map (λ s. string_bytes s) words.now)) (F.held files.old) (O.written out.old) (O.written out.new) }
+    ensures front { result ≡ Status.WriteFault → HasFrontOfAnswer (job_of (map (λ s. string_bytes s) words.now)) (F.held files.old) (O.written out.old) (O.written out.new) }
     ensures finished { result ≡ Status.Done → O.finished out.new ≡ true }
     ensures held { F.held files.new ≡ F.held files.old }
     ensures sure { F.sure files.new ≡ F.sure files.old }
@@ -87,6 +89,7 @@ pub fn run_alone<R: Threads + Sync, F: Files, O: Sink, E: Sink, G: Gate + Sync>(
     ensures cause { HasCause (job_of (map (λ s. string_bytes s) words.now)) (F.held files.old) (F.faults files.old) (F.faults files.new) (O.faults out.old) (O.faults out.new) result }
     ensures alone { LeavesAlone result (O.written out.old) (O.written out.new) }
     ensures text { result ≡ Status.Done → HasAnswer (job_of (map (λ s. string_bytes s) words.now)) (F.held files.old) (O.written out.old) (O.written out.new) }
+    ensures front { result ≡ Status.WriteFault → HasFrontOfAnswer (job_of (map (λ s. string_bytes s) words.now)) (F.held files.old) (O.written out.old) (O.written out.new) }
     ensures finished { result ≡ Status.Done → O.finished out.new ≡ true }
     ensures held { F.held files.new ≡ F.held files.old }
     ensures sure { F.sure files.new ≡ F.sure files.old }
@@ -102,7 +105,8 @@ pub fn run_alone<R: Threads + Sync, F: Files, O: Sink, E: Sink, G: Gate + Sync>(
 
 /// Does what the words ask for: `words` are those behind the program's name. It tells on the log why it did not end with
 /// `Done`. Each status comes only with its cause, and after every status but `Done` and `WriteFault` nothing was written on
-/// `out`. After `Done` the whole answer was written, and `out` is finished.
+/// `out`. After `Done` the whole answer was written, and `out` is finished; after `WriteFault` a front
+/// of it was.
 pub fn run<R: Threads + Sync, F: Files, O: Sink, E: Sink, G: Gate + Sync>(
     rt: &R,
     alloc: Global,
@@ -115,6 +119,7 @@ pub fn run<R: Threads + Sync, F: Files, O: Sink, E: Sink, G: Gate + Sync>(
     ensures cause { HasCause (job_of (map (λ s. string_bytes s) words.now)) (F.held files.old) (F.faults files.old) (F.faults files.new) (O.faults out.old) (O.faults out.new) result }
     ensures alone { LeavesAlone result (O.written out.old) (O.written out.new) }
     ensures text { result ≡ Status.Done → HasAnswer (job_of (map (λ s. string_bytes s) words.now)) (F.held files.old) (O.written out.old) (O.written out.new) }
+    ensures front { result ≡ Status.WriteFault → HasFrontOfAnswer (job_of (map (λ s. string_bytes s) words.now)) (F.held files.old) (O.written out.old) (O.written out.new) }
     ensures finished { result ≡ Status.Done → O.finished out.new ≡ true }
     ensures held { F.held files.new ≡ F.held files.old }
     ensures sure { F.sure files.new ≡ F.sure files.old }

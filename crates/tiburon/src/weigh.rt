@@ -5,7 +5,7 @@ ghost use Rattle.tib_grammar.specs.Series.{IsSeries};
 ghost use Rattle.tib_io.specs.Causes.{GoesOn};
 ghost use Rattle.tib_command.specs.Jobs.{meaning};
 ghost use Rattle.tiburon.specs.Causes.{HasCause, IsEarly, IsTooMany, LeavesAlone, file_at, is_weighted};
-ghost use Rattle.tiburon.specs.Weighed.{AreWeights, HasWritten, IsWeighed, bytes_at};
+ghost use Rattle.tiburon.specs.Weighed.{AreWeights, HasFront, HasWritten, IsWeighed, bytes_at};
 
 use crate::files::{grammar_in, trees_in};
 use crate::status::Status;
@@ -110,6 +110,7 @@ pub(crate) fn weigh_files<S: Semiring + Sync + Drop, R: Threads + Sync, F: Files
     ensures cause { HasCause (Some (meaning job.now)) (F.held files.old) (F.faults files.old) (F.faults files.new) (O.faults out.old) (O.faults out.new) result }
     ensures alone { LeavesAlone result (O.written out.old) (O.written out.new) }
     ensures text { result ≡ Status.Done → HasWritten S.WEIGHTED S.product (bytes_at (F.held files.old) (file_at (Some (meaning job.now)) 1)) (bytes_at (F.held files.old) (file_at (Some (meaning job.now)) 2)) (O.written out.old) (O.written out.new) }
+    ensures front { result ≡ Status.WriteFault → HasFront S.WEIGHTED S.product (bytes_at (F.held files.old) (file_at (Some (meaning job.now)) 1)) (bytes_at (F.held files.old) (file_at (Some (meaning job.now)) 2)) (O.written out.old) (O.written out.new) }
     ensures finished { result ≡ Status.Done → O.finished out.new ≡ true }
     ensures held { F.held files.new ≡ F.held files.old }
     ensures sure { F.sure files.new ≡ F.sure files.old }
