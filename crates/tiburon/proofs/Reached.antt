@@ -1,5 +1,5 @@
 -- From the fault of one file to the cause of the run.
-use Rattle.std.specs.Prelude.{◌≡◌, ℕ, ◌≤◌, ◌<◌, List, length, Option, Some, None}
+use Rattle.std.specs.Prelude.{◌≡◌, ℕ, ◌≤◌, ◌<◌, Bool, List, length, Option, Some, None, IfSome}
 use Rattle.std.proofs.Common.{subst, sym, arith, ap, zero, suc, map, get_or, [], ◌∷◌}
 use Rattle.std.specs.Prelude.{slice_get}
 use Rattle.tib_io.specs.Causes.{Rose}
@@ -7,7 +7,8 @@ use Rattle.tib_lex.specs.declared.fault.FileFault.{FileFault}
 use Rattle.tib_command.specs.Jobs.{Asked}
 use Rattle.tiburon.specs.declared.status.Status.{Status}
 use Rattle.tiburon.specs.declared.status.Status.TheVariants as statuses
-use Rattle.tiburon.specs.Causes.{file_at, OfName, OfFile, HasFault, weighted_by, Told, HasCause, IsFileFault, IsEarly}
+use Rattle.tiburon.specs.Weighed.{AreBefore, EarlierAre, bytes_at, IsGrammarFile, IsTreeFile}
+use Rattle.tiburon.specs.Causes.{file_at, OfName, OfFile, HasFault, weighted_by, Told, HasCause, IsFileFault, IsEarly, IsTooMany}
 
 named : (job : Option Asked) (n m : ℕ) (name : List ℕ) (P : ℕ → List ℕ → Type 0) → file_at job n ≡ Some name → m ≡ n → P m name → OfFile job m (P m)
 named job n m name P at e h = subst (λ (o : Option (List ℕ)). OfName o (P m)) (sym (subst (λ k. file_at job k ≡ Some name) (sym e) at)) h
@@ -45,3 +46,37 @@ pub name_at : {A : Type 0} (f : A → List ℕ) (xs : List A) (i : ℕ) (x : A) 
 name_at f [] i x h e = absurd (omega arith)
 name_at f (y ∷ ys) zero x h e = ap (λ z. Some (f z)) (sym e)
 name_at f (y ∷ ys) (suc i) x h e = name_at f ys i x (omega arith) e
+
+-- a fault of the n-th file comes where those before it are of their kinds
+pub earlier_at :
+    (weighted : Bool) (first second : Option (List ℕ)) (Fault : List ℕ → FileFault → Type 0) (n : ℕ) (held : Option (List ℕ)) (before now : ℕ) (s : Status) →
+    AreBefore weighted first n → IsFileFault Fault n held before now s → EarlierAre weighted first second s
+earlier_at weighted first second Fault n held before now statuses.Done b h = tt
+earlier_at weighted first second Fault n held before now statuses.Usage b h = tt
+earlier_at weighted first second Fault n held before now (statuses.BadInput m fault) b h = subst (λ k. AreBefore weighted first k) (sym h.0) b
+earlier_at weighted first second Fault n held before now (statuses.TooMany limit) b h = absurd h
+earlier_at weighted first second Fault n held before now (statuses.ReadFault m) b h = subst (λ k. AreBefore weighted first k) (sym h.0) b
+earlier_at weighted first second Fault n held before now statuses.WriteFault b h = tt
+earlier_at weighted first second Fault n held before now (statuses.TooLong m) b h = subst (λ k. AreBefore weighted first k) (sym h.0) b
+earlier_at weighted first second Fault n held before now statuses.OutOfMemory b h = tt
+
+-- too many parts come where both files are of their kinds
+pub earlier_parts :
+    (weighted : Bool) (first second : Option (List ℕ)) (limit : ℕ) (s : Status) → IfSome first (IsGrammarFile weighted) → IfSome second IsTreeFile → IsTooMany limit s →
+    EarlierAre weighted first second s
+earlier_parts weighted first second limit statuses.Done a b h = tt
+earlier_parts weighted first second limit statuses.Usage a b h = tt
+earlier_parts weighted first second limit (statuses.BadInput m fault) a b h = absurd h
+earlier_parts weighted first second limit (statuses.TooMany n) a b h = (a, b)
+earlier_parts weighted first second limit (statuses.ReadFault m) a b h = absurd h
+earlier_parts weighted first second limit statuses.WriteFault a b h = tt
+earlier_parts weighted first second limit (statuses.TooLong m) a b h = absurd h
+earlier_parts weighted first second limit statuses.OutOfMemory a b h = tt
+
+-- what holds of the bytes of a name holds of those of the n-th file
+pub told_at : (job : Option Asked) (held : List ℕ → Option (List ℕ)) (n : ℕ) (name : List ℕ) (P : List ℕ → Type 0) → file_at job n ≡ Some name → IfSome (held name) P → IfSome (bytes_at held (file_at job n)) P
+told_at job held n name P at h = subst (λ (o : Option (List ℕ)). IfSome (bytes_at held o) P) (sym at) h
+
+pub if_some : {P Q : List ℕ → Type 0} (o : Option (List ℕ)) → ((x : List ℕ) → P x → Q x) → IfSome o P → IfSome o Q
+if_some None f h = tt
+if_some (Some x) f h = f x h

@@ -1,6 +1,7 @@
 -- What a run that is done has written.
 use Rattle.std.specs.Prelude.{◌≡◌, ℕ, ◌+◌, max, Bool, List, length, Option, Some, None, IfSome}
 use Rattle.std.specs.List.{AllZip}
+use Rattle.std.proofs.Common.{zero, suc}
 use Rattle.tib_io.specs.Writes.{Appends, AppendsFront}
 use Rattle.tib_lex.specs.Lists.{Each}
 use Rattle.tib_tree.specs.Trees.{Tree}
@@ -14,6 +15,8 @@ use Rattle.tib_normal.specs.NormalForm.{EndsInPlaces}
 use Rattle.tib_command.specs.Jobs.{Asked}
 use Rattle.tib_command.specs.declared.job.Mode.{Mode}
 use Rattle.tib_command.specs.declared.job.Mode.TheVariants as modes
+use Rattle.tiburon.specs.declared.status.Status.{Status}
+use Rattle.tiburon.specs.declared.status.Status.TheVariants as statuses
 use Rattle.tiburon.specs.Causes.{file_at, is_weighted}
 use Rattle.tiburon.specs.Text.{weighed_lines}
 
@@ -81,3 +84,30 @@ abbrev pub HasFrontOfAnswer : Option Asked → (List ℕ → Option (List ℕ)) 
 HasFrontOfAnswer None held old new = ⊥
 HasFrontOfAnswer (Some asked) held old new =
     HasFront (is_weighted asked.mode) (product_of asked.mode) (bytes_at held (file_at (Some asked) 1)) (bytes_at held (file_at (Some asked) 2)) old new
+
+-- the bytes are the text of a grammar
+abbrev pub IsGrammarFile : Bool → List ℕ → Type 0
+IsGrammarFile weighted bytes = (labels : List (List ℕ)) × (g : GrammarOf) × ReadsAs weighted labels bytes g
+
+-- the bytes are the text of trees
+abbrev pub IsTreeFile : List ℕ → Type 0
+IsTreeFile bytes = (labels : List (List ℕ)) × (trees : List (Tree ℕ)) × ListsTrees labels trees bytes
+
+-- the files before the n-th are of their kinds
+abbrev pub AreBefore : Bool → Option (List ℕ) → ℕ → Type 0
+AreBefore weighted first zero = Unit {0}
+AreBefore weighted first (suc zero) = Unit {0}
+AreBefore weighted first (suc (suc n)) = IfSome first (IsGrammarFile weighted)
+
+-- an answer about a file comes only where the files before it are of their kinds, and one about the parts where both are
+abbrev pub EarlierAre : Bool → Option (List ℕ) → Option (List ℕ) → Status → Type 0
+EarlierAre weighted first second (statuses.BadInput n fault) = AreBefore weighted first n
+EarlierAre weighted first second (statuses.ReadFault n) = AreBefore weighted first n
+EarlierAre weighted first second (statuses.TooLong n) = AreBefore weighted first n
+EarlierAre weighted first second (statuses.TooMany limit) = IfSome first (IsGrammarFile weighted) × IfSome second IsTreeFile
+EarlierAre weighted first second status = Unit {0}
+
+-- the same of the files of a job
+abbrev pub HasEarlier : Option Asked → (List ℕ → Option (List ℕ)) → Status → Type 0
+HasEarlier None held status = Unit {0}
+HasEarlier (Some asked) held status = EarlierAre (is_weighted asked.mode) (bytes_at held (file_at (Some asked) 1)) (bytes_at held (file_at (Some asked) 2)) status

@@ -5,7 +5,7 @@ ghost use Rattle.tib_io.specs.Writes.{Takes, TakesFront};
 ghost use Rattle.tib_command.specs.Jobs.{job_of, meaning, word_count};
 ghost use Rattle.tiburon.specs.Log.{line_of};
 ghost use Rattle.tiburon.specs.Causes.{HasCause, LeavesAlone};
-ghost use Rattle.tiburon.specs.Weighed.{HasAnswer, HasFrontOfAnswer};
+ghost use Rattle.tiburon.specs.Weighed.{HasAnswer, HasEarlier, HasFrontOfAnswer};
 
 use crate::log::tell;
 use crate::status::Status;
@@ -32,6 +32,7 @@ fn perform_job<R: Threads + Sync, F: Files, O: Sink>(
     requires files { length job.now.files.items ≡ word_count job.now.operation }
     requires limit { (1 ≤ job.now.limit) × (job.now.limit ≤ 20000000) }
     ensures cause { HasCause (Some (meaning job.now)) (F.held files.old) (F.faults files.old) (F.faults files.new) (O.faults out.old) (O.faults out.new) result }
+    ensures earlier { HasEarlier (Some (meaning job.now)) (F.held files.old) result }
     ensures alone { LeavesAlone result (O.written out.old) (O.written out.new) }
     ensures text { result ≡ Status.Done → HasAnswer (Some (meaning job.now)) (F.held files.old) (O.written out.old) (O.written out.new) }
     ensures front { result ≡ Status.WriteFault → HasFrontOfAnswer (Some (meaning job.now)) (F.held files.old) (O.written out.old) (O.written out.new) }
@@ -59,6 +60,7 @@ fn perform<R: Threads + Sync, F: Files, O: Sink>(
     out: &mut O,
 ) -> Status
     ensures cause { HasCause (job_of (map (λ s. string_bytes s) words.now)) (F.held files.old) (F.faults files.old) (F.faults files.new) (O.faults out.old) (O.faults out.new) result }
+    ensures earlier { HasEarlier (job_of (map (λ s. string_bytes s) words.now)) (F.held files.old) result }
     ensures alone { LeavesAlone result (O.written out.old) (O.written out.new) }
     ensures text { result ≡ Status.Done → HasAnswer (job_of (map (λ s. string_bytes s) words.now)) (F.held files.old) (O.written out.old) (O.written out.new) }
     ensures front { result ≡ Status.WriteFault → HasFrontOfAnswer (job_of (map (λ s. string_bytes s) words.now)) (F.held files.old) (O.written out.old) (O.written out.new) }
@@ -87,6 +89,7 @@ pub fn run_alone<R: Threads + Sync, F: Files, O: Sink, E: Sink, G: Gate + Sync>(
     _gate: &G,
 ) -> Status
     ensures cause { HasCause (job_of (map (λ s. string_bytes s) words.now)) (F.held files.old) (F.faults files.old) (F.faults files.new) (O.faults out.old) (O.faults out.new) result }
+    ensures earlier { HasEarlier (job_of (map (λ s. string_bytes s) words.now)) (F.held files.old) result }
     ensures alone { LeavesAlone result (O.written out.old) (O.written out.new) }
     ensures text { result ≡ Status.Done → HasAnswer (job_of (map (λ s. string_bytes s) words.now)) (F.held files.old) (O.written out.old) (O.written out.new) }
     ensures front { result ≡ Status.WriteFault → HasFrontOfAnswer (job_of (map (λ s. string_bytes s) words.now)) (F.held files.old) (O.written out.old) (O.written out.new) }
@@ -117,6 +120,7 @@ pub fn run<R: Threads + Sync, F: Files, O: Sink, E: Sink, G: Gate + Sync>(
     gate: &G,
 ) -> Status
     ensures cause { HasCause (job_of (map (λ s. string_bytes s) words.now)) (F.held files.old) (F.faults files.old) (F.faults files.new) (O.faults out.old) (O.faults out.new) result }
+    ensures earlier { HasEarlier (job_of (map (λ s. string_bytes s) words.now)) (F.held files.old) result }
     ensures alone { LeavesAlone result (O.written out.old) (O.written out.new) }
     ensures text { result ≡ Status.Done → HasAnswer (job_of (map (λ s. string_bytes s) words.now)) (F.held files.old) (O.written out.old) (O.written out.new) }
     ensures front { result ≡ Status.WriteFault → HasFrontOfAnswer (job_of (map (λ s. string_bytes s) words.now)) (F.held files.old) (O.written out.old) (O.written out.new) }

@@ -5,7 +5,7 @@ ghost use Rattle.tib_grammar.specs.Series.{IsSeries};
 ghost use Rattle.tib_io.specs.Causes.{GoesOn};
 ghost use Rattle.tib_command.specs.Jobs.{meaning};
 ghost use Rattle.tiburon.specs.Causes.{HasCause, IsEarly, IsTooMany, LeavesAlone, file_at, is_weighted};
-ghost use Rattle.tiburon.specs.Weighed.{AreWeights, HasFront, HasWritten, IsWeighed, bytes_at};
+ghost use Rattle.tiburon.specs.Weighed.{AreWeights, EarlierAre, HasFront, HasWritten, IsWeighed, bytes_at};
 
 use crate::files::{grammar_in, trees_in};
 use crate::status::Status;
@@ -71,6 +71,7 @@ fn text_of_files<S: Semiring + Sync + Drop, R: Threads + Sync, F: Files>(
     requires limit { (1 ≤ job.now.limit) × (job.now.limit ≤ 20000000) }
     requires mode { S.WEIGHTED ≡ is_weighted job.now.mode }
     ensures text { IfOk result (λ text. IsWeighed S.WEIGHTED S.product (bytes_at (F.held files.old) (file_at (Some (meaning job.now)) 1)) (bytes_at (F.held files.old) (file_at (Some (meaning job.now)) 2)) text.bytes) }
+    ensures earlier { IfErr result (EarlierAre S.WEIGHTED (bytes_at (F.held files.old) (file_at (Some (meaning job.now)) 1)) (bytes_at (F.held files.old) (file_at (Some (meaning job.now)) 2))) }
     ensures early { IfErr result IsEarly }
     ensures cause { IfErr result (HasCause (Some (meaning job.now)) (F.held files.old) (F.faults files.old) (F.faults files.new) 0 0) }
     ensures held { F.held files.new ≡ F.held files.old }
@@ -108,6 +109,7 @@ pub(crate) fn weigh_files<S: Semiring + Sync + Drop, R: Threads + Sync, F: Files
     requires limit { (1 ≤ job.now.limit) × (job.now.limit ≤ 20000000) }
     requires mode { S.WEIGHTED ≡ is_weighted job.now.mode }
     ensures cause { HasCause (Some (meaning job.now)) (F.held files.old) (F.faults files.old) (F.faults files.new) (O.faults out.old) (O.faults out.new) result }
+    ensures earlier { EarlierAre S.WEIGHTED (bytes_at (F.held files.old) (file_at (Some (meaning job.now)) 1)) (bytes_at (F.held files.old) (file_at (Some (meaning job.now)) 2)) result }
     ensures alone { LeavesAlone result (O.written out.old) (O.written out.new) }
     ensures text { result ≡ Status.Done → HasWritten S.WEIGHTED S.product (bytes_at (F.held files.old) (file_at (Some (meaning job.now)) 1)) (bytes_at (F.held files.old) (file_at (Some (meaning job.now)) 2)) (O.written out.old) (O.written out.new) }
     ensures front { result ≡ Status.WriteFault → HasFront S.WEIGHTED S.product (bytes_at (F.held files.old) (file_at (Some (meaning job.now)) 1)) (bytes_at (F.held files.old) (file_at (Some (meaning job.now)) 2)) (O.written out.old) (O.written out.new) }
