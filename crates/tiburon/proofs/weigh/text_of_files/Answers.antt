@@ -24,7 +24,7 @@ returns-in-Err-trees_in-clause-earlier g c =
     let held : List ℕ → Option (List ℕ) = g.F.Files.held c.args.files.now in
     let one : file_at job 1 ≡ Some c.as_str.result.now = rw c.as_str.ensures.value (name_at (λ s. string_bytes s) c.args.job.now.files.items 0 c.index.result.now (omega (arith, c.requires.files)) c.index.ensures) in
     let first : IfSome (bytes_at held (file_at job 1)) (IsRead g.S.Semiring.WEIGHTED c.grammar_in.new.labels c.in-Ok.grammar) =
-      told_at job held 1 c.as_str.result.now (IsRead g.S.Semiring.WEIGHTED c.grammar_in.new.labels c.in-Ok.grammar) one c.in-Ok.ensures.text in
+    told_at job held 1 c.as_str.result.now (IsRead g.S.Semiring.WEIGHTED c.grammar_in.new.labels c.in-Ok.grammar) one c.in-Ok.ensures.text in
     earlier_at g.S.Semiring.WEIGHTED (bytes_at held (file_at job 1)) (bytes_at held (file_at job 2)) (λ bytes fault. trees_of bytes ≡ Err fault) 2 (g.F.Files.held c.grammar_in.new.files c.as_str-2.result.now)
     (g.F.Files.faults c.grammar_in.new.files c.as_str-2.result.now) (g.F.Files.faults c.trees_in.new.files c.as_str-2.result.now) c.in-Err-trees_in.status
     (if_some (bytes_at held (file_at job 1)) (λ bytes h. (c.grammar_in.new.labels, c.in-Ok.grammar, h)) first) c.in-Err-trees_in.ensures.fault
@@ -36,10 +36,10 @@ returns-in-Err-costs_of-clause-earlier g c =
     let one : file_at job 1 ≡ Some c.as_str.result.now = rw c.as_str.ensures.value (name_at (λ s. string_bytes s) c.args.job.now.files.items 0 c.index.result.now (omega (arith, c.requires.files)) c.index.ensures) in
     let two : file_at job 2 ≡ Some c.as_str-2.result.now = rw c.as_str-2.ensures.value (name_at (λ s. string_bytes s) c.args.job.now.files.items 1 c.index-2.result.now (omega (arith, c.requires.files)) c.index-2.ensures) in
     let first : IfSome (bytes_at held (file_at job 1)) (IsRead g.S.Semiring.WEIGHTED c.grammar_in.new.labels c.in-Ok.grammar) =
-      told_at job held 1 c.as_str.result.now (IsRead g.S.Semiring.WEIGHTED c.grammar_in.new.labels c.in-Ok.grammar) one c.in-Ok.ensures.text in
+    told_at job held 1 c.as_str.result.now (IsRead g.S.Semiring.WEIGHTED c.grammar_in.new.labels c.in-Ok.grammar) one c.in-Ok.ensures.text in
     let second : IfSome (bytes_at held (file_at job 2)) (ListsTrees c.trees_in.new.labels c.in-Ok-trees_in.trees.items) =
-      told_at job held 2 c.as_str-2.result.now (ListsTrees c.trees_in.new.labels c.in-Ok-trees_in.trees.items) two
-      (subst (λ (h : List ℕ → Option (List ℕ)). IfSome (h c.as_str-2.result.now) (ListsTrees c.trees_in.new.labels c.in-Ok-trees_in.trees.items)) c.in-Ok.ensures.held c.in-Ok-trees_in.ensures.text) in
+    told_at job held 2 c.as_str-2.result.now (ListsTrees c.trees_in.new.labels c.in-Ok-trees_in.trees.items) two
+    (subst (λ (h : List ℕ → Option (List ℕ)). IfSome (h c.as_str-2.result.now) (ListsTrees c.trees_in.new.labels c.in-Ok-trees_in.trees.items)) c.in-Ok.ensures.held c.in-Ok-trees_in.ensures.text) in
     earlier_parts g.S.Semiring.WEIGHTED (bytes_at held (file_at job 1)) (bytes_at held (file_at job 2)) c.args.job.now.limit c.in-Err-costs_of.status
     (if_some (bytes_at held (file_at job 1)) (λ bytes h. (c.grammar_in.new.labels, c.in-Ok.grammar, h)) first)
     (if_some (bytes_at held (file_at job 2)) (λ bytes h. (c.trees_in.new.labels, c.in-Ok-trees_in.trees.items, h)) second) c.in-Err-costs_of.ensures.err
@@ -60,7 +60,7 @@ returns-in-Ok-weighed_text-clause-text g c =
       grows = c.in-Ok-trees_in.ensures.grows;
       grammar = told_at job held 1 c.as_str.result.now (IsRead g.S.Semiring.WEIGHTED c.grammar_in.new.labels c.in-Ok.grammar) one c.in-Ok.ensures.text;
       listed = told_at job held 2 c.as_str-2.result.now (ListsTrees c.trees_in.new.labels c.in-Ok-trees_in.trees.items) two
-        (subst (λ (h : List ℕ → Option (List ℕ)). IfSome (h c.as_str-2.result.now) (ListsTrees c.trees_in.new.labels c.in-Ok-trees_in.trees.items)) c.in-Ok.ensures.held c.in-Ok-trees_in.ensures.text);
+          (subst (λ (h : List ℕ → Option (List ℕ)). IfSome (h c.as_str-2.result.now) (ListsTrees c.trees_in.new.labels c.in-Ok-trees_in.trees.items)) c.in-Ok.ensures.held c.in-Ok-trees_in.ensures.text);
       weights = rw (← c.deref.ensures.value) c.in-Ok-costs_of.ensures.weights;
-      are = rw (← c.deref-2.ensures.value, ← c.deref-3.ensures.value) c.in-Ok-weighed_text.ensures
+      are = rw (← c.deref-2.ensures.value, ← c.deref-3.ensures.value) c.in-Ok-weighed_text.ensures;
     }
