@@ -124,6 +124,27 @@ def chain_family(size):
     return lines
 
 
+def trie(rules):
+    """A grammar whose states are the nodes of a trie of words: each has a rule for each letter below it."""
+    random.seed(5)
+    lines, nodes, edges = ["t0"], 1, set()
+    while len(lines) <= rules:
+        node = 0
+        for _ in range(random.randrange(4, 12)):
+            letter = random.randrange(26)
+            if (node, letter) not in edges:
+                edges.add((node, letter))
+                lines.append("t%d -> %s(t%d) # %d" % (node, chr(97 + letter), nodes, random.randrange(9)))
+                node = nodes
+                nodes += 1
+            else:
+                node = random.randrange(nodes)
+            if len(lines) > rules:
+                break
+        lines.append("t%d -> end # 1" % node)
+    return lines
+
+
 def deep_trees(depth, number):
     random.seed(4)
     return ["".join(random.choice("ab") + "(" for _ in range(depth)) + "e" + ")" * depth for _ in range(number)]
@@ -165,13 +186,23 @@ def main(program):
         trees = write("chain%d.trees" % size, deep_trees(4000, 200))
         row("  %d states" % (size + 1), measure(program, "weigh", grammar, trees), 200 * 4001 / 1e6, "million nodes/s")
 
+    lines = trie(250000)
+    size = sum(len(line) + 1 for line in lines) / MEGABYTE
+    grammar = write("trie.grammar", lines)
+    row("read a trie of 250,000 rules (a fault in its last line)", measure(program, "inside", write("trie.faulty", lines + ["t0 -> ("])), size, "MB/s")
+    row("inside of that trie", measure(program, "inside", grammar), size, "MB/s")
+    row("normal of that trie", measure(program, "normal", grammar), size, "MB/s")
+    row("inside of 18,000 rules over 700 states", measure(program, "inside", path("weigh.grammar")), 18000 / 1e6, "million rules/s")
+    row("normal of 18,000 rules over 700 states", measure(program, "normal", path("weigh.grammar")), 18000 / 1e6, "million rules/s")
+
     print("\nhow time grows over three doublings (the exponent is about 1 where it grows as the input)")
     for name, sizes, words in (
-        ("grammar read and brought into normal form", (1, 2, 4, 8), lambda n: (write("grow%d.grammar" % n, flat_grammar(n * (MEGABYTE - 4096))), one)),
-        ("trees read, weighed and printed", (1, 2, 4, 8), lambda n: (tiny, write("grow%d.trees" % n, some_trees(n * (MEGABYTE - 4096))))),
+        ("grammar read and brought into normal form", (1, 2, 4, 8), lambda n: ("weigh", write("grow%d.grammar" % n, flat_grammar(n * (MEGABYTE - 4096))), one)),
+        ("trees read, weighed and printed", (1, 2, 4, 8), lambda n: ("weigh", tiny, write("grow%d.trees" % n, some_trees(n * (MEGABYTE - 4096))))),
+        ("inside of a trie", (1, 2, 4, 8), lambda n: ("inside", write("trie%d.grammar" % n, trie(n * 31250)))),
+        ("normal of a trie", (1, 2, 4, 8), lambda n: ("normal", write("trie%d.grammar" % n, trie(n * 31250)))),
     ):
-        seconds = [measure(program, "weigh", *words(n))[0] for n in sizes]
-
+        seconds = [measure(program, *words(n))[0] for n in sizes]
         exponent = math.log(seconds[-1] / seconds[0]) / math.log(sizes[-1] / sizes[0])
         print("%-58s %s s, exponent %.2f" % (name, ", ".join("%.3f" % s for s in seconds), exponent))
 

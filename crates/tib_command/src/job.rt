@@ -21,6 +21,10 @@ pub enum Mode {
 pub enum Operation {
     /// Each tree of the second file with its cost by the grammar of the first.
     Weigh,
+    /// Each state of a grammar with its inside cost, the least cost of a run from it.
+    Inside,
+    /// The canonical form of a grammar's normal form.
+    Normal,
 }
 
 /// What the words ask for.

@@ -1,5 +1,5 @@
 use crate::values::copied;
-use crate::{CommandError, Job, Mode, read_words};
+use crate::{CommandError, Job, Mode, Operation, read_words};
 use std::alloc::Global;
 use std::test::Fail;
 
@@ -8,180 +8,220 @@ fn job(alloc: Global, words: &[&str]) -> Result<Job, CommandError> {
     read_words(alloc, words.as_slice())
 }
 
-// Words, and the mode, the numbers of `-k`, `-w` and `--limit` and the names of the files that they give.
+// Words, and the mode, the operation, the numbers of `-k`, `-w` and `--limit` and the names of the files that they
+// give.
 type Accepted = (
     &'static [&'static str],
     Mode,
+    Operation,
     u32,
     u32,
     u64,
-    [&'static str; 2],
+    &'static [&'static str],
 );
 
-static ACCEPTED: [Accepted; 20] = [
+static ACCEPTED: [Accepted; 22] = [
     (
         &["-k5", "weigh", "g", "t"],
         Mode::MinPlus,
+        Operation::Weigh,
         5,
         1,
         20000000,
-        ["g", "t"],
+        &["g", "t"],
     ),
     (
         &["-k=5", "weigh", "g", "t"],
         Mode::MinPlus,
+        Operation::Weigh,
         5,
         1,
         20000000,
-        ["g", "t"],
+        &["g", "t"],
     ),
     (
         &["-k", "5", "weigh", "g", "t"],
         Mode::MinPlus,
+        Operation::Weigh,
         5,
         1,
         20000000,
-        ["g", "t"],
+        &["g", "t"],
     ),
     (
         &["weigh", "-k", "000000000005", "g", "t"],
         Mode::MinPlus,
+        Operation::Weigh,
         5,
         1,
         20000000,
-        ["g", "t"],
+        &["g", "t"],
     ),
     (
         &["weigh", "g", "t", "--limit=5"],
         Mode::MinPlus,
+        Operation::Weigh,
         1,
         1,
         5,
-        ["g", "t"],
+        &["g", "t"],
     ),
     (
         &["weigh", "g", "--limit", "5", "t"],
         Mode::MinPlus,
+        Operation::Weigh,
         1,
         1,
         5,
-        ["g", "t"],
+        &["g", "t"],
     ),
     (
         &["weigh", "g", "t", "--limit", "20000000"],
         Mode::MinPlus,
+        Operation::Weigh,
         1,
         1,
         20000000,
-        ["g", "t"],
+        &["g", "t"],
     ),
     (
         &["weigh", "-k10000", "g", "t"],
         Mode::MinPlus,
+        Operation::Weigh,
         10000,
         1,
         20000000,
-        ["g", "t"],
+        &["g", "t"],
     ),
     (
         &["-w16", "weigh", "g", "t"],
         Mode::MinPlus,
+        Operation::Weigh,
         1,
         16,
         20000000,
-        ["g", "t"],
+        &["g", "t"],
     ),
     (
         &["weigh", "--", "-g", "-t"],
         Mode::MinPlus,
+        Operation::Weigh,
         1,
         1,
         20000000,
-        ["-g", "-t"],
+        &["-g", "-t"],
     ),
     (
         &["--", "weigh", "-g", "-t"],
         Mode::MinPlus,
+        Operation::Weigh,
         1,
         1,
         20000000,
-        ["-g", "-t"],
+        &["-g", "-t"],
     ),
     (
         &["weigh", "g", "--", "-t"],
         Mode::MinPlus,
+        Operation::Weigh,
         1,
         1,
         20000000,
-        ["g", "-t"],
+        &["g", "-t"],
     ),
     (
         &["weigh", "--", "--", "-k5"],
         Mode::MinPlus,
+        Operation::Weigh,
         1,
         1,
         20000000,
-        ["--", "-k5"],
+        &["--", "-k5"],
     ),
     (
         &["weigh", "-", "-"],
         Mode::MinPlus,
+        Operation::Weigh,
         1,
         1,
         20000000,
-        ["-", "-"],
+        &["-", "-"],
     ),
     (
         &["weigh", "é", "a/b.txt"],
         Mode::MinPlus,
+        Operation::Weigh,
         1,
         1,
         20000000,
-        ["é", "a/b.txt"],
+        &["é", "a/b.txt"],
     ),
     (
         &["-w", "2", "weigh", "-k", "3", "g", "--limit=7", "t"],
         Mode::MinPlus,
+        Operation::Weigh,
         3,
         2,
         7,
-        ["g", "t"],
+        &["g", "t"],
     ),
     (
         &["-m", "minplus", "weigh", "a", "b"],
         Mode::MinPlus,
+        Operation::Weigh,
         1,
         1,
         20000000,
-        ["a", "b"],
+        &["a", "b"],
     ),
     (
         &["-mboolean", "weigh", "a", "b"],
         Mode::Boolean,
+        Operation::Weigh,
         1,
         1,
         20000000,
-        ["a", "b"],
+        &["a", "b"],
     ),
     (
         &["-m=bottleneck", "weigh", "a", "a"],
         Mode::Bottleneck,
+        Operation::Weigh,
         1,
         1,
         20000000,
-        ["a", "a"],
+        &["a", "a"],
     ),
     (
         &["weigh", "weigh", "weigh"],
         Mode::MinPlus,
+        Operation::Weigh,
         1,
         1,
         20000000,
-        ["weigh", "weigh"],
+        &["weigh", "weigh"],
+    ),
+    (
+        &["inside", "g"],
+        Mode::MinPlus,
+        Operation::Inside,
+        1,
+        1,
+        20000000,
+        &["g"],
+    ),
+    (
+        &["normal", "--limit=3", "-mboolean", "--", "-g"],
+        Mode::Boolean,
+        Operation::Normal,
+        1,
+        1,
+        3,
+        &["-g"],
     ),
 ];
 
-static REFUSED: [&[&str]; 54] = [
+static REFUSED: [&[&str]; 59] = [
     &[],
     &["--"],
     &["weigh"],
@@ -190,7 +230,12 @@ static REFUSED: [&[&str]; 54] = [
     &["tiburon", "weigh", "g", "t"],
     &["Weigh", "g", "t"],
     &["kbest", "g"],
-    &["normal", "g"],
+    &["normal"],
+    &["normal", "g", "h"],
+    &["normal", ""],
+    &["inside"],
+    &["inside", "g", "h"],
+    &["Inside", "g"],
     &["-k==5", "weigh", "g", "t"],
     &["-k=", "weigh", "g", "t"],
     &["-k", "-5", "weigh", "g", "t"],
@@ -240,12 +285,14 @@ static REFUSED: [&[&str]; 54] = [
 
 #[test]
 fn words_of_the_language_give_their_job(rt: HostRuntime) -> Result<(), Fail> {
-    for (words, mode, k, workers, limit, files) in &ACCEPTED {
+    for (words, mode, operation, k, workers, limit, files) in &ACCEPTED {
         let job = job(rt.alloc(), words)?;
-        assert_eq!(rt; job.mode, *mode);
+        assert_eq!(rt; (job.mode, job.operation), (*mode, *operation));
         assert_eq!(rt; (job.k, job.workers, job.limit), (*k, *workers, *limit));
-        assert_eq!(rt; job.files.len(), 2);
-        assert!(rt; job.files[0].as_str() == files[0] && job.files[1].as_str() == files[1]);
+        assert_eq!(rt; job.files.len(), files.len());
+        for at in 0..files.len() {
+            assert!(rt; job.files[at].as_str() == files[at]);
+        }
     }
     Ok(())
 }

@@ -26,6 +26,8 @@ fn operation_in(text: &str) -> Option<Operation>
 {
     match text {
         "weigh" => Some(Operation::Weigh),
+        "inside" => Some(Operation::Inside),
+        "normal" => Some(Operation::Normal),
         _ => None,
     }
 }
@@ -101,6 +103,8 @@ fn word_count(operation: Operation) -> usize
 {
     match operation {
         Operation::Weigh => 2,
+        Operation::Inside => 1,
+        Operation::Normal => 1,
     }
 }
 

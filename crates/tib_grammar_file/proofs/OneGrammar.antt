@@ -30,7 +30,7 @@ some_same x y e = cc
 cons_same : {A : Type 0} (x y : A) (xs ys : List A) → x ∷ xs ≡ y ∷ ys → (x ≡ y) × (xs ≡ ys)
 cons_same x y xs ys e = (cc, cc)
 
-words_same : (line : List ℕ) (ws vs : List Word) → HasWords ws line → HasWords vs line → ws ≡ vs
+pub words_same : (line : List ℕ) (ws vs : List Word) → HasWords ws line → HasWords vs line → ws ≡ vs
 words_same line ws vs h k = some_same ws vs (sym (words_read ws line h) ∙ words_read vs line k)
 
 tokens_same : (lines : List (List ℕ)) (rows others : List (List Word)) → HaveTokens lines rows → HaveTokens lines others → rows ≡ others
@@ -96,7 +96,7 @@ parts_as weighted names labels words r s = rule_forth words (parts s.left (items
 ok_same : (m n : ℕ) → (let r : Result ℕ FaultKind = Ok m in r ≡ Ok n) → m ≡ n
 ok_same m n e = cc
 
-rule_same : (weighted : Bool) (names labels : List (List ℕ)) → Distinct names → Distinct labels → (words : List Word) (q r : Rule ℕ) → SpellsRuleOf weighted names labels words q → SpellsRuleOf weighted names labels words r → q ≡ r
+pub rule_same : (weighted : Bool) (names labels : List (List ℕ)) → Distinct names → Distinct labels → (words : List Word) (q r : Rule ℕ) → SpellsRuleOf weighted names labels words q → SpellsRuleOf weighted names labels words r → q ≡ r
 rule_same weighted names labels d c words q r s t =
     let p : parts s.left (items s.right) s.weight ≡ parts t.left (items t.right) t.weight = some_same _ _ (sym (parts_as weighted names labels words q s) ∙ parts_as weighted names labels words r t) in
     let left : s.left ≡ t.left = ap (λ (x : Parts). x.left) p in

@@ -108,7 +108,7 @@ abbrev pub rows_in : Bool → List (List ℕ) → List (List ℕ) → List (Rule
 rows_in weighted names labels [] = []
 rows_in weighted names labels (r ∷ rules) = row_of weighted names labels r ∷ rows_in weighted names labels rules
 
-line_ends : (weighted : Bool) (names labels : List (List ℕ)) (r : Rule ℕ) (more : List ℕ) → rule_text weighted names labels r ++ more ≡ line_of weighted names labels r ++ (10 ∷ more)
+pub line_ends : (weighted : Bool) (names labels : List (List ℕ)) (r : Rule ℕ) (more : List ℕ) → rule_text weighted names labels r ++ more ≡ line_of weighted names labels r ++ (10 ∷ more)
 line_ends weighted names labels r more =
     let left : List ℕ = get_or names r.left [] in
     let right : List ℕ = trees_text names labels (only r.right) 0 in

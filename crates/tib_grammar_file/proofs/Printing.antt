@@ -445,7 +445,7 @@ trees_within names labels (tree (symbol_label f) kids rest) l b q =
 trees_within names labels (tree (hole p) none rest) l b q = (q.0, trees_within names labels rest l b q.1)
 trees_within names labels (tree (hole p) (tree s kids more) rest) l b q = absurd l
 
-rule_within : (names labels : List (List ℕ)) (rule : Rule ℕ) → IsInRange (length names) rule → HolesAreLeaves (only rule.right) → LabelsBelow (length labels) (only rule.right) → IsRuleWithin names labels rule
+pub rule_within : (names labels : List (List ℕ)) (rule : Rule ℕ) → IsInRange (length names) rule → HolesAreLeaves (only rule.right) → LabelsBelow (length labels) (only rule.right) → IsRuleWithin names labels rule
 rule_within names labels rule r l b = record {
   left = r.0;
   right = subst (λ (xs : List (Symbol ℕ ℕ × ℕ)). Each (λ p. IsSymbolWithin names labels p.0) xs) (ap (λ (xs : List (Symbol ℕ ℕ × ℕ)). (rule.right.label, count rule.right.kids) ∷ xs) (append-nil (preorder rule.right.kids))) (trees_within names labels (only rule.right) l b r.1);

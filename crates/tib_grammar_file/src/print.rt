@@ -224,3 +224,17 @@ pub fn print_grammar<S: Semiring, W: Sink>(
         labels,
     )
 }
+
+/// Prints the line of a rule, whose states and labels have texts, as `print_grammar` does. It takes no memory; its calls
+/// nest as deep as the right side.
+pub fn print_rule<S: Semiring, W: Sink>(
+    rule: &Rule<u32>,
+    names: &Names,
+    labels: &Labels,
+    out: &mut W,
+) -> Result<(), Failed>
+    requires { IsRuleWithin names.now labels.now rule.now }
+    ensures { Prints (W.written out.old) (W.written out.new) (W.free out.old) (W.free out.new) (W.faults out.old) (W.faults out.new) (rule_text S.WEIGHTED names.now labels.now rule.now) result }
+{
+    put_rule(out, S::WEIGHTED, rule, names, labels)
+}

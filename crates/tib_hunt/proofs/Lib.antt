@@ -1,3 +1,14 @@
 mod Totals
 pub mod Occurrences
 mod ClaimSteps
+pub mod Runs
+pub mod Rounds
+pub mod EdgeLemmas
+mod Members
+mod Reaching
+mod Sights
+mod Sorting
+mod Settling
+mod Holding
+mod Advancing
+mod Finding

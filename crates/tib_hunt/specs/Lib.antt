@@ -1,2 +1,10 @@
 pub mod Claims
 pub mod ClaimRule
+pub mod EdgeLists
+pub mod Reached
+pub mod Numbered
+pub mod Rows
+pub mod Held
+pub mod RoundModel
+pub mod RoundLaw
+pub mod Answers

@@ -1,11 +1,31 @@
-//! What the workers of a round draw their items from: a counter of the numbers below a count. Whatever the threads do, no number is
-//! drawn twice, and where all seats are joined again and one was answered None, each number was drawn. It stands on `atomic_table`:
-//! one word, which counts the draws.
+//! What an operation hunts, and how. Keys are reached from seeds along edges, in rounds. The core of a round is a machine over events, and
+//! every complete run of it leaves the same keys and the same edges, whatever the order of its events. The workers of a round draw
+//! their items from a counter, from which no number is drawn twice. It stands on `tib_table` and on `atomic_table`.
 #![tactic(auto)]
 
 mod claim;
+mod event;
+mod expand;
+mod found;
+mod hunting;
+mod itemized;
 mod items;
+pub mod laws;
+mod numbering;
+mod place;
+mod reach;
+mod round;
+mod round_of;
+mod row;
 #[cfg(test)]
 mod tests;
 
+pub use event::{Answer, Event};
+pub use expand::Expand;
+pub use found::{Found, Gate, HuntError};
+pub use itemized::Itemized;
 pub use items::{Items, Seat};
+pub use place::{Edges, ExpandError, Place};
+pub use reach::{hunt, hunt_alone};
+pub use round::Round;
+pub use round_of::RoundOf;

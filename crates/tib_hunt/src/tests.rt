@@ -1,8 +1,14 @@
 ghost use Rattle.std.specs.Prelude.{◌≡◌};
+ghost use Rattle.std.proofs.Common.{◌∙◌, sym};
 
-use crate::{Items, Seat};
+use crate::{
+    Answer, Edges, Event, Expand, ExpandError, Gate, HuntError, Itemized, Items, Place, Round,
+    RoundOf, Seat, hunt_alone,
+};
+use std::alloc::{AllocError, Global};
 use std::test::Fail;
 use std::thread::{Threads, join};
+use tib_table::{Number, Problem, TableKey};
 
 #[test]
 fn two_items_are_drawn_and_then_none(rt: HostRuntime) -> Result<(), Fail> {
@@ -76,5 +82,195 @@ fn two_threads_draw_different_items(rt: HostRuntime) -> Result<(), Fail> {
     let in_order = item == Some(0) && second.item == Some(1);
     let the_other_way = item == Some(1) && second.item == Some(0);
     assert!(rt; in_order || the_other_way);
+    Ok(())
+}
+
+#[derive(Clone, Copy, Debug, Drop, PartialEq, Eq, PartialOrd, Ord, Hash)]
+struct Node {
+    number: u32,
+}
+
+impl TableKey for Node {
+    ghost use Rattle.std.specs.Prelude.{◌%◌};
+    ghost use Rattle.std.proofs.Common.{rules, arith, mod-lt};
+
+    ghost shelf_of = { λ k. k.number % 16 };
+
+    ghost entries_of = { λ _. 1 };
+
+    fn shelf(&self) -> u32 {
+        self.number % 16
+    }
+
+    fn entries(&self) -> u64 {
+        1
+    }
+
+    ghost low = { λ k. mod-lt k.number (Prim.omega arith) };
+
+    ghost same = { λ x y e. Prim.search rules };
+}
+
+/// An operation whose seed is the node 5, and of which each position has one edge, to the node 7.
+struct Sevens;
+
+impl Expand for Sevens {
+    ghost use Rattle.std.specs.Prelude.{◌≡◌, [], ◌∷◌};
+
+    type Key = Node;
+
+    type Over = Place;
+
+    type Rule = u32;
+
+    type Origin = u32;
+
+    type Edge = Node;
+
+    ghost seed = { λ _ k. k ≡ record { number = 5 } };
+
+    ghost seed_edge = { λ _ _ _. ⊥ };
+
+    ghost edge = { λ _ _ _ o e. (o ≡ 0) × (e ≡ record { number = 7 }) };
+
+    ghost ends_of = { λ e. e ∷ [] };
+
+    ghost parts_of = { λ _. 1 };
+
+    ghost admits = { λ _ _. Unit {0} };
+
+    ghost places = { λ r. r ∷ [] };
+
+    ghost positions = { λ r. r ∷ [] };
+
+    ghost read_places = { λ f r. f r };
+
+    ghost read_positions = { λ f r. f r };
+
+    fn seeds(&self, alloc: Global, budget: u64) -> Result<Edges<Node, Place>, ExpandError> {
+        let _budget = budget;
+        let Ok(ends) = Vec::from_array(alloc, [Node { number: 5 }]) else {
+            return Err(ExpandError::OutOfMemory);
+        };
+        Ok(Edges {
+            ends,
+            rules: Vec::new(alloc),
+            parts: 0,
+        })
+    }
+
+    fn expand(
+        &self,
+        alloc: Global,
+        order: &[Node],
+        n: u32,
+        budget: u64,
+    ) -> Result<Edges<Node, Place>, ExpandError> {
+        let _position = &order[n as usize];
+        if budget == 0 {
+            return Err(ExpandError::More);
+        }
+        let Ok(ends) = Vec::from_array(alloc, [Node { number: 7 }]) else {
+            return Err(ExpandError::OutOfMemory);
+        };
+        let Ok(rules) = Vec::from_array(alloc, [Place::End(0)]) else {
+            return Err(ExpandError::OutOfMemory);
+        };
+        Ok(Edges {
+            ends,
+            rules,
+            parts: 1,
+        })
+    }
+
+    fn settle(&self, alloc: Global, rule: &Place, ends: &[u32]) -> Result<u32, AllocError> {
+        let _alloc = alloc;
+        match *rule {
+            Place::Known(position) => Ok(position),
+            Place::End(end) => Ok(ends[end as usize]),
+        }
+    }
+
+    ghost reads_places = { λ rule f g same. same.0 };
+
+    ghost reads_positions = { λ rule f g same. same.0 };
+
+    ghost one_edge = { λ p order n o e f a b. a.1 ∙ sym b.1 };
+
+    ghost one_seed_edge = { λ p o e f a b. absurd a };
+
+    ghost seeds_admitted = { λ p k s. tt };
+
+    ghost ends_admitted = { λ p order n o e k all low is has. tt };
+
+    ghost seeds_end = { λ p o e k is has. absurd is };
+
+    ghost edges_stay = { λ p xs ys n o e a b same is. is };
+}
+
+// The answers of a draw, of the number of the node 7, of the filing of the item that was drawn, and of another draw.
+fn take_one_item<P: Itemized + Problem<Key = Node> + Copy>(
+    alloc: Global,
+    problem: P,
+) -> Result<(Answer, Answer, Answer, Answer), AllocError>
+    requires one { P.count_of (P.about problem) ≡ 1 }
+    requires first { P.first_of (P.about problem) ≡ 0 }
+    requires seven { P.is_end (P.about problem) 0 (record { number = 7 }) }
+    requires only { (k : Node) → P.is_end (P.about problem) 0 k → k ≡ record { number = 7 } }
+{
+    let mut round = Round::open(alloc, problem)?;
+    let drawn = round.step(Event::Draw)?;
+    let key = Node { number: 7 };
+    let numbered = round.step(Event::Number { key })?;
+    let filed = round.step(Event::File { item: 0 })?;
+    let none = round.step(Event::Draw)?;
+    Ok((drawn, numbered, filed, none))
+}
+
+#[test]
+fn a_round_of_the_one_seed(rt: HostRuntime) -> Result<(), Fail> {
+    let alloc = rt.alloc();
+    let order = [Node { number: 5 }];
+    let round = RoundOf {
+        problem: &Sevens,
+        order: &order,
+        first: 0,
+    };
+    let (drawn, numbered, filed, none) = take_one_item(alloc, &round)?;
+    assert_eq!(rt; drawn, Answer::Drawn(Some(0)));
+    assert_eq!(rt; numbered, Answer::Numbered(Number { shelf: 7, place: 0 }));
+    assert_eq!(rt; filed, Answer::Filed);
+    assert_eq!(rt; none, Answer::Drawn(None));
+    Ok(())
+}
+
+// A gate that lets all pass.
+struct Open;
+
+impl Gate for Open {
+    fn pass(&self, worker: u32, item: u32) {
+        let _told = (worker, item);
+    }
+}
+
+#[test]
+fn sevens_are_found_within_six_parts(rt: HostRuntime) -> Result<(), Fail> {
+    match hunt_alone(rt.alloc(), &Sevens, 6, &Open) {
+        Ok(found) => {
+            assert_eq!(rt; found.parts, 6);
+            assert_eq!(rt; found.order.len(), 2);
+            assert_eq!(rt; found.rules.len(), 2);
+        }
+        Err(_) => assert!(rt; false),
+    }
+    Ok(())
+}
+
+#[test]
+fn sevens_have_more_than_five_parts(rt: HostRuntime) -> Result<(), Fail> {
+    match hunt_alone(rt.alloc(), &Sevens, 5, &Open) {
+        Ok(_) => assert!(rt; false),
+        Err(error) => assert_eq!(rt; error, HuntError::TooMany { limit: 5 }),
+    }
     Ok(())
 }

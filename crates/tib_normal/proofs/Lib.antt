@@ -6,6 +6,12 @@ pub mod Waiting
 pub mod LoneSides
 pub mod Closing
 pub mod Bettering
+pub mod Rowing
 pub mod Placing
 pub mod Costs
 pub mod Normalizing
+pub mod Forming
+pub mod Numbering
+pub mod Counting
+pub mod Lengths
+pub mod PlaceNames

@@ -22,7 +22,7 @@ use Rattle.tib_normal.proofs.Costs.{same_label, open_cost, cut_costs, join_costs
 
 -- heads, and the rules of places
 
-heads_holes : (s : ℕ) (k : Trees (Symbol ℕ ℕ)) → AreHoles (heads s k)
+pub heads_holes : (s : ℕ) (k : Trees (Symbol ℕ ℕ)) → AreHoles (heads s k)
 heads_holes s none = tt
 heads_holes s (tree (hole q) kids rest) = heads_holes s rest
 heads_holes s (tree (label f) kids rest) = heads_holes (suc s + labels_in kids) rest
@@ -36,21 +36,21 @@ stands_after :
     Has (inner_rules s (tree (label f) kids rest)) r
 stands_after s f kids rest r h = inr (has_right (inner_rules (suc s) kids) (inner_rules (suc s + labels_in kids) rest) r h)
 
-below_or_after :
+pub below_or_after :
     (s : ℕ) (kids rest : Trees (Symbol ℕ ℕ)) (r : Rule ℕ) → Has (inner_rules (suc s) kids ++ inner_rules (suc s + labels_in kids) rest) r →
     Has (inner_rules (suc s) kids) r ⊎ Has (inner_rules (suc s + labels_in kids) rest) r
 below_or_after s kids rest r h = has_either (inner_rules (suc s) kids) (inner_rules (suc s + labels_in kids) rest) r h
 
 -- one label over states, in a rule of a state from low on and below high
-record IsInner (low high : ℕ) (r : Rule ℕ) : Type 0 where
-  from : low ≤ r.left
-  to : r.left < high
-  normal : IsNormalSide r.right
+pub record IsInner (low high : ℕ) (r : Rule ℕ) : Type 0 where
+  pub from : low ≤ r.left
+  pub to : r.left < high
+  pub normal : IsNormalSide r.right
 
 wider : (a b c d : ℕ) (r : Rule ℕ) → a ≤ b → c ≤ d → IsInner b c r → IsInner a d r
 wider a b c d r h k i = record { from = omega (arith, i.from); to = omega (arith, i.to); normal = i.normal }
 
-inner_is : (s : ℕ) (k : Trees (Symbol ℕ ℕ)) (r : Rule ℕ) → Has (inner_rules s k) r → IsInner s (s + labels_in k) r
+pub inner_is : (s : ℕ) (k : Trees (Symbol ℕ ℕ)) (r : Rule ℕ) → Has (inner_rules s k) r → IsInner s (s + labels_in k) r
 inner_is s none r h = absurd h
 inner_is s (tree (hole q) kids rest) r h = inner_is s rest r h
 inner_is s (tree (label f) kids rest) r h = elim h [
@@ -97,14 +97,14 @@ inner_same s (tree (label f) kids rest) r t h g e = elim h [
       | inr n ↦ let z = inner_is (suc s + labels_in kids) rest x n in omega (arith, z.from)
     ]
 
-all_low : (s : ℕ) (rules : List (Rule ℕ)) (r : Rule ℕ) → Has (all_inner s rules) r → (s ≤ r.left) × IsNormalSide r.right
+pub all_low : (s : ℕ) (rules : List (Rule ℕ)) (r : Rule ℕ) → Has (all_inner s rules) r → (s ≤ r.left) × IsNormalSide r.right
 all_low s [] r h = absurd h
 all_low s (x ∷ rules) r h = elim (has_either (inner_rules s x.right.kids) (all_inner (s + labels_in x.right.kids) rules) r h) [
   | inl m ↦ let i = inner_is s x.right.kids r m in (i.from, i.normal)
   | inr m ↦ let i = all_low (s + labels_in x.right.kids) rules r m in (omega (arith, i.0), i.1)
 ]
 
-all_same : (s : ℕ) (rules : List (Rule ℕ)) (r t : Rule ℕ) → Has (all_inner s rules) r → Has (all_inner s rules) t → r.left ≡ t.left → r ≡ t
+pub all_same : (s : ℕ) (rules : List (Rule ℕ)) (r t : Rule ℕ) → Has (all_inner s rules) r → Has (all_inner s rules) t → r.left ≡ t.left → r ≡ t
 all_same s [] r t h g e = absurd h
 all_same s (x ∷ rules) r t h g e =
     elim (has_either (inner_rules s x.right.kids) (all_inner (s + labels_in x.right.kids) rules) r h) [
@@ -127,7 +127,7 @@ inner_in s (x ∷ rules) zero r h m = has_left (inner_rules s x.right.kids) (all
 inner_in s (x ∷ rules) (suc n) r h m =
     has_right (inner_rules s x.right.kids) (all_inner (s + labels_in x.right.kids) rules) r (inner_in (s + labels_in x.right.kids) rules n r (omega arith) m)
 
-first_low : (s : ℕ) (rules : List (Rule ℕ)) (n : ℕ) → s ≤ first_inner s rules n
+pub first_low : (s : ℕ) (rules : List (Rule ℕ)) (n : ℕ) → s ≤ first_inner s rules n
 first_low s [] n = omega arith
 first_low s (x ∷ rules) zero = omega arith
 first_low s (x ∷ rules) (suc n) = omega (arith, first_low (s + labels_in x.right.kids) rules n)
@@ -172,14 +172,12 @@ module _
   find :
       (q : ℕ) (side : SideFor ℕ ℕ) (c : ℕ) → IsNormalCost product states rules q side c → c ≤ most →
       (j : ℕ) × (j < length new) × ((rule_at new j).left ≡ q) × ((rule_at new j).right ≡ side) × ((rule_at new j).cost ≤ c)
-  find q side c n m = elim (form.whole q side) [
-    | inr nothing ↦ absurd (nothing.lower c n m)
-    | inl h ↦
-        let p = at_has new (record { left = q; right = side; cost = h.0 }) no_rule h.1 in
-        let low : h.0 ≤ c = (form.least (record { left = q; right = side; cost = h.0 }) h.1).lower c n m in
-        let e : (rule_at new p.0).cost ≡ h.0 = ap (λ r. r.cost) p.2 in
-        (p.0, p.1, ap (λ r. r.left) p.2, ap (λ r. r.right) p.2, omega arith)
-  ]
+  find q side c n m =
+      let h = form.whole q side c n m in
+      let p = at_has new (record { left = q; right = side; cost = h.0 }) no_rule h.1 in
+      let low : h.0 ≤ c = (form.least (record { left = q; right = side; cost = h.0 }) h.1).lower c n m in
+      let e : (rule_at new p.0).cost ≡ h.0 = ap (λ r. r.cost) p.2 in
+      (p.0, p.1, ap (λ r. r.left) p.2, ap (λ r. r.right) p.2, omega arith)
 
   -- what runs from the states of a side makes a run that begins with a rule of that side
   opens :

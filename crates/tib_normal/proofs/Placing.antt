@@ -263,7 +263,7 @@ sum_suc f (x ∷ rules) (suc i) r h e =
 pub sum-more : (f : Rule ℕ → ℕ) (rules : List (Rule ℕ)) (i : ℕ) (r : Rule ℕ) → i < length rules → r ≡ rule_at rules i → sum_by f (take (i + 1) rules) ≡ sum_by f (take i rules) + f r
 sum-more f rules i r h e = ap (λ j. sum_by f (take j rules)) (add-one i) ∙ sum_suc f rules i r h e
 
-length-inner : (s : ℕ) (k : Trees (Symbol ℕ ℕ)) → length (inner_rules s k) ≡ labels_in k
+pub length-inner : (s : ℕ) (k : Trees (Symbol ℕ ℕ)) → length (inner_rules s k) ≡ labels_in k
 length-inner s none = refl
 length-inner s (tree (hole q) kids rest) = length-inner s rest
 length-inner s (tree (label f) kids rest) =

@@ -9,4 +9,8 @@ pub mod Entries
 pub mod Agenda
 pub mod Closure
 pub mod Offers
+pub mod Rows
+pub mod Offered
 pub mod Places
+pub mod Numbering
+pub mod PlaceNames

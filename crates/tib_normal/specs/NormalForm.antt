@@ -1,5 +1,5 @@
 -- The normal form of a grammar.
-use Rattle.std.specs.Prelude.{◌≡◌, ℕ, ◌+◌, ◌<◌, ◌≤◌, ◌⊎◌, ◌↔◌, List, [], ◌∷◌, ◌++◌, length, Option, None, Some}
+use Rattle.std.specs.Prelude.{◌≡◌, ℕ, ◌+◌, ◌<◌, ◌≤◌, ◌⊎◌, ◌↔◌, List, [], ◌∷◌, ◌++◌, length, Option, Some}
 use Rattle.std.proofs.Common.{zero, suc}
 use Rattle.tib_tree.specs.Trees.{Tree, Trees, none, tree, size}
 use Rattle.tib_grammar.specs.Sides.{Symbol, label, hole, Side as SideFor, Lone}
@@ -8,6 +8,7 @@ use Rattle.tib_grammar.specs.Series.{IsSeriesAt}
 use Rattle.tib_grammar.specs.Range.{AreInRange, AreLone}
 use Rattle.tib_grammar.specs.declared.Rule.{Rule}
 use Rattle.tib_cost.specs.Least.{IsLeast}
+use Rattle.tib_cost.specs.Semiring.{most}
 use Rattle.tib_lex.specs.Lists.{Has, Ascends}
 
 -- A chain rule has a lone state as its right side. The rules at these positions are chain rules from q to r.
@@ -80,27 +81,26 @@ abbrev pub IsNormalCost : (ℕ → ℕ → ℕ) → ℕ → List (Rule ℕ) → 
 IsNormalCost product states rules q side c =
     Reaches product states rules q side c ⊎ Has (all_inner states rules) (record { left = q; right = side; cost = c })
 
--- No two rules agree in both sides, and a side has just the least of its costs: a rule where there is one,
--- and none where there is none of at most the greatest.
+-- No two rules agree in both sides. Each rule has the least cost of its side, and each side that has a cost of at
+-- most the greatest has a rule.
 pub record IsNormalForm (product : ℕ → ℕ → ℕ) (states : ℕ) (rules : List (Rule ℕ)) (new_states : ℕ) (new_rules : List (Rule ℕ)) : Type 0 where
   pub counted : new_states ≡ states + length (all_inner states rules)
   pub ascends : Ascends (λ r s. r.left ≤ s.left) new_rules
   pub distinct : Ascends (λ r s. r.left ≡ s.left → r.right ≡ s.right → ⊥) new_rules
   pub least : (r : Rule ℕ) → Has new_rules r → IsLeast (IsNormalCost product states rules r.left r.right) (Some r.cost)
   pub whole :
-      (q : ℕ) (side : SideFor ℕ ℕ) →
-      ((c : ℕ) × Has new_rules (record { left = q; right = side; cost = c })) ⊎ IsLeast (IsNormalCost product states rules q side) None
+      (q : ℕ) (side : SideFor ℕ ℕ) (c : ℕ) → IsNormalCost product states rules q side c → c ≤ most →
+      (d : ℕ) × Has new_rules (record { left = q; right = side; cost = d })
 
--- the rules end in those of the places, in order
-pub record EndsInPlaces (states : ℕ) (rules new_rules : List (Rule ℕ)) : Type 0 where
-  pub own : List (Rule ℕ)
-  pub are : new_rules ≡ own ++ all_inner states rules
+-- at each of the states the new rules have the series of the rules
+abbrev pub KeepsSeries : (ℕ → ℕ → ℕ) → ℕ → List (Rule ℕ) → List (Rule ℕ) → Type 0
+KeepsSeries product states rules new = (q : ℕ) → q < states → (t : Tree ℕ) (v : Option ℕ) → IsSeriesAt product rules q t v ↔ IsSeriesAt product new q t v
 
--- the normal form has the series of the grammar at each of its states
+-- the normal form keeps the series
 abbrev pub IsNormalized : (ℕ → ℕ → ℕ) → Type 0
 IsNormalized product =
     (states : ℕ) (rules : List (Rule ℕ)) → AreInRange states rules → AreLone rules → (more : ℕ) (new : List (Rule ℕ)) → IsNormalForm product states rules more new →
-    (q : ℕ) → q < states → (t : Tree ℕ) (v : Option ℕ) → IsSeriesAt product rules q t v ↔ IsSeriesAt product new q t v
+    KeepsSeries product states rules new
 
 -- one part, and one for each node of the right side
 abbrev pub rule_parts : Rule ℕ → ℕ

@@ -1,7 +1,7 @@
 -- The states and rules of places, item by item.
-use Rattle.std.specs.Prelude.{ℕ, ◌+◌, List, [], ◌∷◌, take, drop}
+use Rattle.std.specs.Prelude.{ℕ, ◌+◌, List, [], ◌∷◌, take, drop, sum_by}
 use Rattle.std.proofs.Common.{suc}
-use Rattle.tib_tree.specs.Trees.{Trees, none, tree, parse}
+use Rattle.tib_tree.specs.Trees.{Trees, none, tree, parse, count}
 use Rattle.tib_grammar.specs.Sides.{Symbol, label, hole, over}
 use Rattle.tib_grammar.specs.Items.{pairs_of}
 use Rattle.tib_grammar.specs.declared.Item.{Item}
@@ -37,3 +37,22 @@ below_root items = parse (drop 1 (pairs_of items))
 -- how many labels stand below a rule's root
 abbrev pub rule_labels : Rule ℕ → ℕ
 rule_labels r = labels_in r.right.kids
+
+-- the parts of the states and rules of the labels in some sides: one for a state, and two and the rank for its rule
+abbrev pub parts_in : Trees (Symbol ℕ ℕ) → ℕ
+parts_in none = 0
+parts_in (tree (label f) kids rest) = 3 + count kids + parts_in kids + parts_in rest
+parts_in (tree (hole q) kids rest) = parts_in rest
+
+-- the parts of an item's own state and its rule
+abbrev pub own_parts : Item ℕ → ℕ
+own_parts (Label f rank) = 3 + rank
+own_parts (Hole q) = 0
+
+-- the parts of the items below a root
+abbrev pub parts_below : List (Item ℕ) → ℕ
+parts_below items = sum_by own_parts (drop 1 items)
+
+-- the parts of a rule's places
+abbrev pub place_parts : Rule ℕ → ℕ
+place_parts r = parts_in r.right.kids

@@ -9,6 +9,7 @@ pub mod laws;
 mod links;
 mod normal;
 mod normal_form;
+mod place_names;
 mod rows;
 mod sides;
 #[cfg(test)]

@@ -1,11 +1,15 @@
 // The normal form of a grammar.
-ghost use Rattle.std.specs.Prelude.{◌≡◌, ℕ, ◌+◌, ◌<◌, ◌≤◌, ◌^◌, List, [], ◌∷◌, length, OnOk, IfOk, None, Some, Option, IfSome, sum_by, reverse, ◌++◌};
-ghost use Rattle.tib_normal.specs.NormalForm.{labels_in, all_inner, EndsInPlaces};
-ghost use Rattle.tib_normal.specs.Places.{below_root, rule_labels};
+ghost use Rattle.std.specs.Prelude.{◌≡◌, ℕ, ◌+◌, ◌<◌, ◌≤◌, ◌^◌, List, [], ◌∷◌, length, OnOk, IfErr, IfOk, None, Some, Option, IfSome, IfNone, sum_by, reverse, ◌++◌};
+ghost use Rattle.tib_normal.specs.NormalForm.{labels_in, all_inner, IsNormalForm, KeepsSeries, normal_parts};
+ghost use Rattle.tib_normal.specs.Rows.{IfTooMany, HasMoreParts};
+ghost use Rattle.tib_normal.specs.Rules.{IsNormal};
+ghost use Rattle.tib_grammar.specs.Range.{AreInRange};
+ghost use Rattle.tib_normal.specs.Places.{below_root, parts_below, rule_labels};
 
 use crate::error::NormalError;
 use crate::links::Links;
 use crate::normal::Normal;
+use crate::place_names::all_names;
 use crate::rows::{Made, make_rules};
 use crate::sides::Sides;
 use std::alloc::{AllocError, Global};
@@ -26,9 +30,11 @@ impl Places {
         requires limit { limit ≤ 20000000 }
         requires parts { self.parts ≤ limit }
         requires states { self.states ≤ self.parts }
-        ensures parts { IfSome result (λ p. p.parts ≤ limit) }
+        ensures within { IfSome result (λ p. p.parts ≤ limit) }
         ensures states { IfSome result (λ p. p.states + self.parts ≤ p.parts + self.states) }
         ensures counted { IfSome result (λ p. p.states ≡ self.states + labels_in (below_root items.now)) }
+        ensures parts { IfSome result (λ p. p.parts ≡ self.parts + parts_below items.now) }
+        ensures many { IfNone result (limit < self.parts + parts_below items.now) }
     {
         let Places {
             mut states,
@@ -51,9 +57,11 @@ impl Places {
 /// of the grammar's states; none where there are more than the limit.
 fn count_places(rules: &[Rule<u32>], states: u32, limit: u64) -> Option<Places>
     requires { limit ≤ 20000000 }
-    ensures parts { IfSome result (λ p. p.parts ≤ limit) }
+    ensures within { IfSome result (λ p. p.parts ≤ limit) }
     ensures states { IfSome result (λ p. p.states + states ≤ p.parts) }
     ensures counted { IfSome result (λ p. p.states ≡ sum_by rule_labels rules.now) }
+    ensures parts { IfSome result (λ p. p.parts ≡ normal_parts (states + length (all_inner states rules.now)) (all_inner states rules.now)) }
+    ensures many { IfNone result (limit < normal_parts (states + length (all_inner states rules.now)) (all_inner states rules.now)) }
 {
     if states as u64 > limit {
         return None;
@@ -66,57 +74,6 @@ fn count_places(rules: &[Rule<u32>], states: u32, limit: u64) -> Option<Places>
         places = places.count_side(rule.right.items(), limit)?;
     }
     Some(places)
-}
-
-/// The shortest length from nine on that no name has.
-fn free_length(alloc: Global, names: &Names) -> Result<usize, AllocError>
-    ensures { IfOk result (λ n. 9 ≤ n) }
-{
-    let count = names.len() as usize;
-    let mut taken = vec![in alloc; false; count + 1]?;
-    for state in 0..names.len() {
-        let length = names.text(state).len();
-        if length >= 9 && length - 9 < taken.len() {
-            taken[length - 9] = true;
-        }
-    }
-    let mut free = 0;
-    while free < taken.len() && taken[free] {
-        free += 1;
-    }
-    Ok(9 + free)
-}
-
-/// The name of a place: a letter and its number in so many digits.
-fn place_name(alloc: Global, number: u32, length: usize) -> Result<Vec<u8>, AllocError>
-    requires { 1 ≤ length }
-{
-    let mut name = vec![in alloc; b'0'; length]?;
-    let mut rest = number;
-    for i in (1..length).rev() {
-        if i < name.len() {
-            name[i] = b'0' + (rest % 10) as u8;
-        }
-        rest /= 10;
-    }
-    name[0] = b'p';
-    Ok(name)
-}
-
-/// The names of the states of the normal form: those of the grammar, and names for the places.
-fn all_names(alloc: Global, names: &Names, places: u32) -> Result<Option<Names>, AllocError>
-    requires { length names.now + places < 2 ^ 32 }
-    ensures { IfOk result (λ made. IfSome made (λ all. length all ≡ length names.now + places)) }
-{
-    let length = free_length(alloc, names)?;
-    let mut texts = Vec::new(alloc);
-    for state in 0..names.len() {
-        texts.push(names.text(state).to_vec(alloc)?)?;
-    }
-    for place in 0..places {
-        texts.push(place_name(alloc, place, length)?)?;
-    }
-    Names::from_list(alloc, texts)
 }
 
 /// The normal form of a grammar: its states, and one for each place below a root where a right side has a label.
@@ -132,12 +89,45 @@ pub fn normalize<S: Semiring + Drop>(
 ) -> Result<Normal<S>, NormalError>
     requires from { 1 ≤ limit }
     requires to { limit ≤ 20000000 }
-    ensures states { IfOk result (λ n. length n.names ≡ length grammar.now.names + length (all_inner (length grammar.now.names) grammar.now.rules)) }
-    ensures places { IfOk result (λ n. EndsInPlaces (length grammar.now.names) grammar.now.rules n.rules) }
+    ensures form { IfOk result (λ n. IsNormalForm S.product (length grammar.now.names) grammar.now.rules (length n.names) n.rules) }
+    ensures names { IfOk result (λ n. (rest : List (List ℕ)) × (n.names ≡ grammar.now.names ++ rest)) }
+    ensures series { IfOk result (λ n. KeepsSeries S.product (length grammar.now.names) grammar.now.rules n.rules) }
+    ensures within { IfOk result (λ n. normal_parts (length n.names) n.rules ≤ limit) }
+    ensures many { IfErr result (λ e. IfTooMany e limit (HasMoreParts S.product (length grammar.now.names) grammar.now.rules limit)) }
 {
     grammar.is_sound();
-    let rules = grammar.rule_list();
-    let states = grammar.states();
+    let listed = match list_rules::<S>(alloc, grammar.rule_list(), grammar.states(), limit) {
+        Ok(listed) => listed,
+        Err(fault) => return Err(fault),
+    };
+    let Listed { rules, places } = listed;
+    match assemble(alloc, grammar.names(), places, rules) {
+        Ok(normal) => Ok(normal),
+        Err(_) => Err(NormalError::OutOfMemory),
+    }
+}
+
+/// The rules of the normal form, and how many states of places they have.
+#[derive(Drop)]
+struct Listed {
+    rules: Vec<Rule<u32>>,
+    places: u32,
+}
+
+/// The rules of the normal form of some rules over so many states.
+fn list_rules<S: Semiring>(
+    alloc: Global,
+    rules: &[Rule<u32>],
+    states: u32,
+    limit: u64,
+) -> Result<Listed, NormalError>
+    requires limit { limit ≤ 20000000 }
+    requires few { length rules.now < 2 ^ 32 }
+    requires range { AreInRange states rules.now }
+    ensures form { IfOk result (λ l. IsNormalForm S.product states rules.now (states + l.places) l.rules.items) }
+    ensures within { IfOk result (λ l. normal_parts (states + l.places) l.rules.items ≤ limit) }
+    ensures many { IfErr result (λ e. IfTooMany e limit (HasMoreParts S.product states rules.now limit)) }
+{
     let places = match count_places(rules, states, limit) {
         Some(places) => places,
         None => return Err(NormalError::TooMany { limit }),
@@ -149,10 +139,16 @@ pub fn normalize<S: Semiring + Drop>(
         parts: places.parts,
         limit,
     };
-    make_rules::<S>(alloc, rules, &links, &sides, states, &mut made)?;
-    let Made { rules: all, .. } = made;
-    let all = with_places(all, sides)?;
-    assemble(alloc, grammar.names(), places.states, all)
+    match make_rules::<S>(alloc, rules, &links, &sides, states, &mut made) {
+        Ok(()) => {}
+        Err(fault) => return Err(fault),
+    }
+    let Made { rules: own, .. } = made;
+    let rules = with_places(own, sides)?;
+    Ok(Listed {
+        rules,
+        places: places.states,
+    })
 }
 
 /// The rules of the states and those of the places behind them.
@@ -173,24 +169,20 @@ fn assemble<S: Drop>(
     names: &Names,
     places: u32,
     rules: Vec<Rule<u32>>,
-) -> Result<Normal<S>, NormalError>
-    requires { length names.now + places < 2 ^ 32 }
+) -> Result<Normal<S>, AllocError>
+    requires start { 0 < length names.now }
+    requires few_places { places < 100000000 }
+    requires few_states { length names.now + places < 2 ^ 32 }
+    requires few_rules { length rules.items ≤ 20000000 }
+    requires range { AreInRange (length names.now + places) rules.items }
+    requires normal { IsNormal rules.items }
     ensures rules { IfOk result (λ n. n.rules ≡ rules.items) }
     ensures states { IfOk result (λ n. length n.names ≡ length names.now + places) }
+    ensures names { IfOk result (λ n. (rest : List (List ℕ)) × (n.names ≡ names.now ++ rest)) }
 {
-    if rules.len() > 20_000_000 {
-        return Err(NormalError::OutOfMemory);
-    }
-    let names = match all_names(alloc, names, places)? {
-        Some(names) => names,
-        None => return Err(NormalError::OutOfMemory),
-    };
-    let grammar = match Grammar::new(names, rules) {
-        Some(grammar) => grammar,
-        None => return Err(NormalError::OutOfMemory),
-    };
-    match Normal::new(alloc, grammar)? {
-        Some(normal) => Ok(normal),
-        None => Err(NormalError::OutOfMemory),
+    let names = all_names(alloc, names, places)?;
+    match Grammar::new(names, rules) {
+        Some(grammar) => Normal::indexed(alloc, grammar),
+        None => unreachable!(),
     }
 }

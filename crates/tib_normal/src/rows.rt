@@ -1,9 +1,13 @@
 // The rules of the states of the grammar in its normal form.
-ghost use Rattle.std.specs.Prelude.{◌≡◌, ℕ, ◌+◌, ◌<◌, ◌≤◌, ◌^◌, List, [], ◌∷◌, length, OnOk, IfOk, None, Some, Option, replicate};
+ghost use Rattle.std.specs.Prelude.{◌≡◌, ℕ, ◌+◌, ◌<◌, ◌≤◌, ◌^◌, List, [], ◌∷◌, ◌++◌, length, slice_set, OnOk, IfOk, IfErr, None, Some, Option, replicate};
 ghost use Rattle.std.proofs.Common.{get_or};
 ghost use Rattle.tib_grammar.specs.Range.{AreInRange};
 ghost use Rattle.tib_normal.specs.Links.{AreLinks};
 ghost use Rattle.tib_normal.specs.Closure.{AreBelow, AreListed, AreDistances};
+ghost use Rattle.tib_normal.specs.Index.{lists_of};
+ghost use Rattle.tib_normal.specs.NormalForm.{rule_parts, total};
+ghost use Rattle.tib_normal.specs.Rows.{AreSides, AreOwn, AreTooMany, IfTooMany};
+ghost use Rattle.tib_normal.specs.Offered.{AreOffered, AreFull, row_over, row_at, rows_of};
 ghost use Rattle.tib_normal.specs.Offers.{Improves, ImprovesBy, ImprovesAll, AreBest, no_side};
 
 use crate::agenda::Agenda;
@@ -33,7 +37,13 @@ impl Made {
         state: u32,
         side: &[u32],
         cost: Cost,
-    ) -> Result<(), NormalError> {
+    ) -> Result<(), NormalError>
+        requires full { 0 < length side.now }
+        ensures rules { OnOk result (self.new.rules.items ≡ self.old.rules.items ++ row_over state side.now cost ∷ []) }
+        ensures parts { OnOk result (self.new.parts ≡ self.old.parts + rule_parts (row_over state side.now cost)) }
+        ensures limit { self.new.limit ≡ self.old.limit }
+        ensures many { IfErr result (λ e. IfTooMany e self.old.limit (self.old.limit < self.old.parts + rule_parts (row_over state side.now cost))) }
+    {
         let parts = 1 + side.len() as u64;
         if parts > self.limit || self.parts > self.limit - parts {
             return Err(NormalError::TooMany { limit: self.limit });
@@ -50,7 +60,9 @@ impl Made {
         side: &[u32],
         cost: Cost,
     ) -> Result<(), AllocError>
-        requires { length side.now < 2 ^ 32 }
+        requires full { 0 < length side.now }
+        requires short { length side.now < 2 ^ 32 }
+        ensures rules { OnOk result (self.new.rules.items ≡ self.old.rules.items ++ row_over state side.now cost ∷ []) }
         ensures parts { self.new.parts ≡ self.old.parts }
         ensures limit { self.new.limit ≡ self.old.limit }
     {
@@ -79,6 +91,7 @@ impl Offers {
         requires { side < length self.old.best.items }
         ensures long { length self.new.best.items ≡ length self.old.best.items }
         ensures improves { OnOk result (Improves side cost self.old.best.items self.new.best.items) }
+        ensures offered { OnOk result (AreOffered self.old.best.items self.old.offered.items → AreOffered self.new.best.items self.new.offered.items) }
     {
         match self.best[side as usize] {
             Some(least) => {
@@ -124,6 +137,7 @@ impl Offers {
     ) -> Result<(), AllocError>
         ensures long { length self.new.best.items ≡ length self.old.best.items }
         ensures improves { OnOk result (ImprovesBy S.product rule.now number distance self.old.best.items self.new.best.items) }
+        ensures offered { OnOk result (AreOffered self.old.best.items self.old.offered.items → AreOffered self.new.best.items self.new.offered.items) }
     {
         if number as usize >= self.best.len() {
             return Ok(());
@@ -150,6 +164,7 @@ impl Offers {
         requires below { state < length links.now.first.items }
         ensures long { length self.new.best.items ≡ length self.old.best.items }
         ensures improves { OnOk result (ImprovesAll S.product rules.now numbers.now state distance (length rules.now) self.old.best.items self.new.best.items) }
+        ensures offered { OnOk result (AreOffered self.old.best.items self.old.offered.items → AreOffered self.new.best.items self.new.offered.items) }
     {
         let mut n = links.first[state as usize] as usize;
         while n < rules.len() {
@@ -173,6 +188,7 @@ impl Offers {
         requires below { AreBelow (length links.now.first.items) reached.now }
         ensures long { length self.new.best.items ≡ length self.old.best.items }
         ensures best { (q : ℕ) → OnOk result (AreDistances S.product rules.now q distances.now → AreListed distances.now reached.now → AreInRange (length distances.now) rules.now → ((s : ℕ) → get_or self.old.best.items s None ≡ None) → AreBest S.product rules.now numbers.now q self.new.best.items) }
+        ensures offered { OnOk result (AreOffered self.old.best.items self.old.offered.items → AreOffered self.new.best.items self.new.offered.items) }
     {
         for state in reached {
             match distance_of(distances, *state) {
@@ -190,16 +206,30 @@ impl Offers {
         state: u32,
         sides: &Sides,
         made: &mut Made,
-    ) -> Result<(), NormalError> {
+    ) -> Result<(), NormalError>
+        requires long { length self.old.best.items ≡ length sides.now.table.keys }
+        requires full { AreFull (lists_of sides.now.table.keys) }
+        requires offered { AreOffered self.old.best.items self.old.offered.items }
+        ensures long { length self.new.best.items ≡ length self.old.best.items }
+        ensures clear { OnOk result ((s : ℕ) → get_or self.new.best.items s None ≡ None) }
+        ensures offered { OnOk result (self.new.offered.items ≡ []) }
+        ensures rules { OnOk result (made.new.rules.items ≡ made.old.rules.items ++ rows_of state (lists_of sides.now.table.keys) self.old.best.items self.old.offered.items) }
+        ensures parts { OnOk result (made.new.parts ≡ made.old.parts + total rule_parts (rows_of state (lists_of sides.now.table.keys) self.old.best.items self.old.offered.items)) }
+        ensures limit { made.new.limit ≡ made.old.limit }
+        ensures many { IfErr result (λ e. IfTooMany e made.old.limit (made.old.limit < made.old.parts + total rule_parts (rows_of state (lists_of sides.now.table.keys) self.old.best.items self.old.offered.items))) }
+    {
         for i in 0..self.offered.len() {
-            if let Some(side) = self.offered.get(i).copied() {
-                self.settle_one(alloc, state, side, sides, made)?;
+            let side = self.offered[i];
+            match self.settle_one(alloc, state, side, sides, made) {
+                Ok(()) => {}
+                Err(error) => return Err(error),
             }
         }
         self.offered.clear();
         Ok(())
     }
 
+    /// Makes a rule of a side that was offered, and forgets its cost.
     fn settle_one(
         &mut self,
         alloc: Global,
@@ -208,18 +238,26 @@ impl Offers {
         sides: &Sides,
         made: &mut Made,
     ) -> Result<(), NormalError>
-        ensures long { length self.new.best.items ≡ length self.old.best.items }
+        requires long { length self.old.best.items ≡ length sides.now.table.keys }
+        requires full { AreFull (lists_of sides.now.table.keys) }
+        requires offered { (c : ℕ) × (get_or self.old.best.items side None ≡ Some c) }
+        ensures best { self.new.best.items ≡ slice_set self.old.best.items side None }
         ensures offered { self.new.offered.items ≡ self.old.offered.items }
+        ensures rules { OnOk result (made.new.rules.items ≡ made.old.rules.items ++ row_at state (lists_of sides.now.table.keys) self.old.best.items side ∷ []) }
+        ensures parts { OnOk result (made.new.parts ≡ made.old.parts + rule_parts (row_at state (lists_of sides.now.table.keys) self.old.best.items side)) }
+        ensures limit { made.new.limit ≡ made.old.limit }
+        ensures many { IfErr result (λ e. IfTooMany e made.old.limit (made.old.limit < made.old.parts + rule_parts (row_at state (lists_of sides.now.table.keys) self.old.best.items side))) }
     {
-        if side as usize >= self.best.len() {
-            return Ok(());
-        }
-        let least = self.best[side as usize];
+        let cost = match self.best[side as usize] {
+            Some(cost) => cost,
+            None => unreachable!(),
+        };
         self.best[side as usize] = None;
-        if let (Some(key), Some(cost)) = (sides.table.get_index(side as usize), least) {
-            made.add(alloc, state, key, cost)?;
-        }
-        Ok(())
+        let key = match sides.table.get_index(side as usize) {
+            Some(key) => key,
+            None => unreachable!(),
+        };
+        made.add(alloc, state, key, cost)
     }
 }
 
@@ -248,6 +286,12 @@ pub fn make_rules<S: Semiring>(
     requires links { AreLinks rules.now (length links.now.first.items) links.now }
     requires range { AreInRange (length links.now.first.items) rules.now }
     requires long { length links.now.first.items ≡ states }
+    requires sides { AreSides states rules.now (lists_of sides.now.table.keys) sides.now.numbers.items }
+    requires none { made.old.rules.items ≡ [] }
+    ensures own { OnOk result (AreOwn S.product states rules.now states made.new.rules.items) }
+    ensures parts { OnOk result (made.new.parts ≡ made.old.parts + total rule_parts made.new.rules.items) }
+    ensures within { OnOk result (made.new.parts ≤ made.old.limit) }
+    ensures many { IfErr result (λ e. IfTooMany e made.old.limit (AreTooMany S.product states rules.now made.old.parts made.old.limit)) }
 {
     let mut agenda = Agenda::new(alloc);
     let mut distances = no_costs(alloc, states as usize)?;
@@ -260,7 +304,10 @@ pub fn make_rules<S: Semiring>(
         close::<S>(rules, links, q, &mut agenda, &mut distances, &mut reached)?;
         offers.offer_all::<S>(rules, links, &sides.numbers, &distances, &reached)?;
         forget(&mut distances, &mut reached);
-        offers.settle(alloc, q, sides, made)?;
+        match offers.settle(alloc, q, sides, made) {
+            Ok(()) => {}
+            Err(error) => return Err(error),
+        }
     }
     Ok(())
 }

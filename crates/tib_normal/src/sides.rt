@@ -3,6 +3,10 @@ ghost use Rattle.std.specs.Prelude.{◌≡◌, ℕ, ◌+◌, ◌<◌, ◌≤◌,
 ghost use Rattle.tib_grammar.specs.Items.{pair_of, pairs_of};
 ghost use Rattle.tib_tree.specs.Trees.{HasChildren};
 ghost use Rattle.tib_normal.specs.NormalForm.{labels_in, inner_rules, all_inner};
+ghost use Rattle.tib_normal.specs.Index.{lists_of};
+ghost use Rattle.tib_normal.specs.Rows.{AreSides};
+ghost use Rattle.tib_normal.specs.Offers.{no_side};
+ghost use Rattle.tib_normal.specs.Numbering.{GetsNumber, IsNumbered};
 ghost use Rattle.tib_normal.specs.Places.{own_states, states_with, rules_with, head_states, below_root, rule_labels};
 
 use indexmap::IndexSet;
@@ -121,7 +125,9 @@ impl Sides {
     ) -> Result<Sides, AllocError>
         requires end { end ≡ states + sum_by rule_labels rules.now }
         requires zero { zero ≡ 0 }
+        requires few { length rules.now < 2 ^ 32 }
         ensures inner { IfOk result (λ sides. reverse sides.inner.items ≡ all_inner states rules.now) }
+        ensures sides { IfOk result (λ sides. AreSides states rules.now (lists_of sides.table.keys) sides.numbers.items) }
     {
         let mut sides = Sides {
             table: IndexSet::new(alloc),
@@ -151,9 +157,12 @@ impl Sides {
         requires own { rule_labels rule.now ≤ state }
         requires empty { stack.old.items ≡ [] }
         requires zero { zero ≡ 0 }
+        requires place { n < length self.old.numbers.items }
+        requires few { length self.old.table.keys < no_side }
         ensures state { IfOk result (λ s. s + rule_labels rule.now ≡ state) }
         ensures rules { IfOk result (λ s. reverse self.new.inner.items ≡ inner_rules s rule.now.right.kids ++ reverse self.old.inner.items) }
         ensures empty { OnOk result (stack.new.items ≡ []) }
+        ensures number { IfOk result (λ s. IsNumbered rule.now n s (lists_of self.old.table.keys) (lists_of self.new.table.keys) self.old.numbers.items self.new.numbers.items) }
     {
         let items = rule.right.items();
         let label = match &items[0] {
@@ -169,12 +178,13 @@ impl Sides {
 
     /// Gives a rule the number of its side, which goes last where it is new.
     fn number(&mut self, n: usize, side: Vec<u32>) -> Result<(), AllocError>
-        ensures { self.new.inner ≡ self.old.inner }
+        requires place { n < length self.old.numbers.items }
+        requires few { length self.old.table.keys < no_side }
+        ensures inner { self.new.inner ≡ self.old.inner }
+        ensures number { OnOk result (GetsNumber side.items n (lists_of self.old.table.keys) (lists_of self.new.table.keys) self.old.numbers.items self.new.numbers.items) }
     {
         let (number, _) = self.table.insert_full(side)?;
-        if n < self.numbers.len() && number < NO_SIDE as usize {
-            self.numbers[n] = number as u32;
-        }
+        self.numbers[n] = number as u32;
         Ok(())
     }
 }

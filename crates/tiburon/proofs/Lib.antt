@@ -1,2 +1,4 @@
 pub mod Reached
 pub mod Lines
+pub mod Complete
+pub mod Labelled

@@ -1,37 +1,40 @@
 -- The lines of trees, one more at a time.
-use Rattle.std.specs.Prelude.{◌≡◌, ℕ, ◌+◌, ◌<◌, Bool, List, [], ◌∷◌, ◌++◌, length, take, Option, None}
+use Rattle.std.specs.Prelude.{◌≡◌, ℕ, ◌+◌, ◌<◌, List, [], ◌∷◌, ◌++◌, length, take, Option}
 use Rattle.std.specs.List.{AllZip}
+use Rattle.std.specs.Prelude.{slice_get, Some}
 use Rattle.std.proofs.Common.{zero, suc, refl, arith, ap, sym, ◌∙◌, get_or, append_assoc, subst}
 use Rattle.tib_lex.specs.Lists.{Each}
 use Rattle.std.proofs.lemmas.List.{take_more}
-use Rattle.tib_tree.specs.Trees.{Tree}
-use Rattle.tiburon.specs.Text.{weighed_line, weighed_lines}
+use Rattle.tiburon.specs.Text.{lines_of_all}
 
-append_one : (weighted : Bool) (labels : List (List ℕ)) (ts : List (Tree ℕ)) (cs : List (Option ℕ)) (t : Tree ℕ) (c : Option ℕ) → length ts ≡ length cs →
-    weighed_lines weighted labels (ts ++ t ∷ []) (cs ++ c ∷ []) ≡ weighed_lines weighted labels ts cs ++ weighed_line weighted labels t c
-append_one weighted labels [] [] t c e = append_none (weighed_line weighted labels t c)
+append_one : {A : Type 0} (line : A → Option ℕ → List ℕ) (xs : List A) (cs : List (Option ℕ)) (x : A) (c : Option ℕ) → length xs ≡ length cs →
+    lines_of_all line (xs ++ x ∷ []) (cs ++ c ∷ []) ≡ lines_of_all line xs cs ++ line x c
+append_one line [] [] x c e = append_none (line x c)
   where
-    append_none : (xs : List ℕ) → xs ++ [] ≡ xs
+    append_none : (ys : List ℕ) → ys ++ [] ≡ ys
     append_none [] = refl
-    append_none (x ∷ xs) = ap (λ y. x ∷ y) (append_none xs)
-append_one weighted labels [] (d ∷ cs) t c e = absurd (omega arith)
-append_one weighted labels (u ∷ ts) [] t c e = absurd (omega arith)
-append_one weighted labels (u ∷ ts) (d ∷ cs) t c e =
-    ap (λ xs. weighed_line weighted labels u d ++ xs) (append_one weighted labels ts cs t c (omega arith))
-    ∙ sym (append_assoc (weighed_line weighted labels u d) (weighed_lines weighted labels ts cs) (weighed_line weighted labels t c))
+    append_none (y ∷ ys) = ap (λ z. y ∷ z) (append_none ys)
+append_one line [] (d ∷ cs) x c e = absurd (omega arith)
+append_one line (u ∷ xs) [] x c e = absurd (omega arith)
+append_one line (u ∷ xs) (d ∷ cs) x c e = ap (λ z. line u d ++ z) (append_one line xs cs x c (omega arith)) ∙ sym (append_assoc (line u d) (lines_of_all line xs cs) (line x c))
 
 take_long : {A : Type 0} (xs : List A) (i : ℕ) → i < length xs → length (take i xs) ≡ i
 take_long [] i h = absurd (omega arith)
 take_long (x ∷ xs) zero h = refl
 take_long (x ∷ xs) (suc i) h = ap suc (take_long xs i (omega arith))
 
--- the lines of one tree more
-pub lines_more : (weighted : Bool) (labels : List (List ℕ)) (ts : List (Tree ℕ)) (cs : List (Option ℕ)) (i : ℕ) (t : Tree ℕ) (c : Option ℕ) → i < length ts → length cs ≡ length ts →
-    t ≡ get_or ts i t → c ≡ get_or cs i c →
-    weighed_lines weighted labels (take (i + 1) ts) (take (i + 1) cs) ≡ weighed_lines weighted labels (take i ts) (take i cs) ++ weighed_line weighted labels t c
-lines_more weighted labels ts cs i t c h e at there =
-    let long : length (take i ts) ≡ length (take i cs) = take_long ts i h ∙ sym (take_long cs i (omega arith)) in
-    rw (take_more ts i t h, take_more cs i c (omega arith), ← at, ← there) (append_one weighted labels (take i ts) (take i cs) t c long)
+-- the lines of one thing more
+pub lines_more : {A : Type 0} (line : A → Option ℕ → List ℕ) (xs : List A) (cs : List (Option ℕ)) (i : ℕ) (x : A) (c : Option ℕ) → i < length xs → length cs ≡ length xs →
+    x ≡ get_or xs i x → c ≡ get_or cs i c → lines_of_all line (take (i + 1) xs) (take (i + 1) cs) ≡ lines_of_all line (take i xs) (take i cs) ++ line x c
+lines_more line xs cs i x c h e at there =
+    let long : length (take i xs) ≡ length (take i cs) = take_long xs i h ∙ sym (take_long cs i (omega arith)) in
+    rw (take_more xs i x h, take_more cs i c (omega arith), ← at, ← there) (append_one line (take i xs) (take i cs) x c long)
+
+-- an element by its place
+pub got : {A : Type 0} (xs : List A) (i : ℕ) (x : A) → slice_get xs i ≡ Some x → x ≡ get_or xs i x
+got [] i x e = absurd (cc e)
+got (y ∷ ys) zero x e = cc e
+got (y ∷ ys) (suc i) x e = got ys i x e
 
 pub zip_long : {A B : Type 0} (R : A → B → Type 0) (xs : List A) (ys : List B) → AllZip R xs ys → length ys ≡ length xs
 zip_long R [] [] h = refl

@@ -1,5 +1,6 @@
 pub mod Codes
 pub mod Log
+pub mod Kinds
 pub mod Causes
 pub mod Text
-pub mod Weighed
+pub mod Answers

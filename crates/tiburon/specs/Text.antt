@@ -3,7 +3,7 @@ use Rattle.std.specs.Prelude.{ℕ, Bool, List, [], ◌∷◌, ◌++◌, Option, 
 use Rattle.tib_tree.specs.Trees.{Tree}
 use Rattle.tib_tree.specs.Printed.{tree_text}
 
--- what stands behind a tree: its cost, which in Boolean is not printed, or that it has none
+-- what stands behind a tree or a state: its cost, which in Boolean is not printed, or that it has none
 abbrev pub cost_text : Bool → Option ℕ → List ℕ
 cost_text weighted None = codes " # none\n"
 cost_text weighted (Some cost) = if weighted then codes " # " ++ decimal cost ++ codes "\n" else codes "\n"
@@ -12,8 +12,20 @@ cost_text weighted (Some cost) = if weighted then codes " # " ++ decimal cost ++
 abbrev pub weighed_line : Bool → List (List ℕ) → Tree ℕ → Option ℕ → List ℕ
 weighed_line weighted labels t cost = tree_text labels t ++ cost_text weighted cost
 
+-- the line of a state with its inside cost
+abbrev pub inside_line : Bool → List ℕ → Option ℕ → List ℕ
+inside_line weighted name cost = name ++ cost_text weighted cost
+
+-- the lines of things with their costs, in order
+abbrev pub lines_of_all : {A : Type 0} → (A → Option ℕ → List ℕ) → List A → List (Option ℕ) → List ℕ
+lines_of_all line [] costs = []
+lines_of_all line (x ∷ xs) [] = []
+lines_of_all line (x ∷ xs) (cost ∷ costs) = line x cost ++ lines_of_all line xs costs
+
 -- the lines of trees and their costs
 abbrev pub weighed_lines : Bool → List (List ℕ) → List (Tree ℕ) → List (Option ℕ) → List ℕ
-weighed_lines weighted labels [] costs = []
-weighed_lines weighted labels (t ∷ ts) [] = []
-weighed_lines weighted labels (t ∷ ts) (cost ∷ costs) = weighed_line weighted labels t cost ++ weighed_lines weighted labels ts costs
+weighed_lines weighted labels ts costs = lines_of_all (weighed_line weighted labels) ts costs
+
+-- the lines of states and their inside costs
+abbrev pub inside_lines : Bool → List (List ℕ) → List (Option ℕ) → List ℕ
+inside_lines weighted names costs = lines_of_all (inside_line weighted) names costs

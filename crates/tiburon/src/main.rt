@@ -3,8 +3,11 @@
 //! all other crates of the repository.
 #![tactic(auto)]
 
+mod answer;
 mod files;
+mod inside;
 mod log;
+mod normal;
 mod run;
 mod status;
 #[cfg(test)]

@@ -4,15 +4,15 @@ ghost use Rattle.tib_io.specs.Causes.{GoesOn, last_count};
 ghost use Rattle.tib_io.specs.Writes.{Takes, TakesFront};
 ghost use Rattle.tib_command.specs.Jobs.{job_of, meaning, word_count};
 ghost use Rattle.tiburon.specs.Log.{line_of};
-ghost use Rattle.tiburon.specs.Causes.{HasCause, LeavesAlone};
-ghost use Rattle.tiburon.specs.Weighed.{HasAnswer, HasEarlier, HasFrontOfAnswer};
+ghost use Rattle.tiburon.specs.Causes.{HasCause, HasEarlier, LeavesAlone};
+ghost use Rattle.tiburon.specs.Answers.{HasAnswer, HasFrontOfAnswer, IsComplete, StandsStill};
 
+use crate::answer::answer_job;
 use crate::log::tell;
 use crate::status::Status;
-use crate::weigh::weigh_files;
 use std::alloc::Global;
 use std::thread::Threads;
-use tib_command::{CommandError, Job, Mode, Operation, read_words};
+use tib_command::{CommandError, Job, Mode, read_words};
 use tib_cost::{Boolean, Bottleneck, MinPlus};
 use tib_io::{Files, Sink};
 
@@ -41,13 +41,12 @@ fn perform_job<R: Threads + Sync, F: Files, O: Sink>(
     ensures sure { F.sure files.new ≡ F.sure files.old }
     ensures counts { GoesOn (F.sure files.old) (F.faults files.old) (F.faults files.new) }
     ensures later { O.faults out.old ≤ O.faults out.new }
+    ensures still { StandsStill (Some (meaning job.now)) (F.held files.old) (O.free out.old) (O.faults out.old) (O.faults out.new) }
 {
-    match job.operation {
-        Operation::Weigh => match job.mode {
-            Mode::MinPlus => weigh_files::<MinPlus, R, F, O>(rt, alloc, job, files, out),
-            Mode::Bottleneck => weigh_files::<Bottleneck, R, F, O>(rt, alloc, job, files, out),
-            Mode::Boolean => weigh_files::<Boolean, R, F, O>(rt, alloc, job, files, out),
-        },
+    match job.mode {
+        Mode::MinPlus => answer_job::<MinPlus, R, F, O>(rt, alloc, job, files, out),
+        Mode::Bottleneck => answer_job::<Bottleneck, R, F, O>(rt, alloc, job, files, out),
+        Mode::Boolean => answer_job::<Boolean, R, F, O>(rt, alloc, job, files, out),
     }
 }
 
@@ -69,6 +68,7 @@ fn perform<R: Threads + Sync, F: Files, O: Sink>(
     ensures sure { F.sure files.new ≡ F.sure files.old }
     ensures counts { GoesOn (F.sure files.old) (F.faults files.old) (F.faults files.new) }
     ensures later { O.faults out.old ≤ O.faults out.new }
+    ensures still { StandsStill (job_of (map (λ s. string_bytes s) words.now)) (F.held files.old) (O.free out.old) (O.faults out.old) (O.faults out.new) }
 {
     match read_words(alloc, words) {
         Ok(job) => perform_job::<R, F, O>(rt, alloc, &job, files, out),
@@ -98,6 +98,8 @@ pub fn run_alone<R: Threads + Sync, F: Files, O: Sink, E: Sink, G: Gate + Sync>(
     ensures sure { F.sure files.new ≡ F.sure files.old }
     ensures counts { GoesOn (F.sure files.old) (F.faults files.old) (F.faults files.new) }
     ensures later { O.faults out.old ≤ O.faults out.new }
+    ensures still { StandsStill (job_of (map (λ s. string_bytes s) words.now)) (F.held files.old) (O.free out.old) (O.faults out.old) (O.faults out.new) }
+    ensures complete { IsComplete (job_of (map (λ s. string_bytes s) words.now)) (F.held files.old) (F.faults files.old) (F.faults files.new) (O.faults out.old) (O.faults out.new) result }
     ensures log { TakesFront (E.written log.old) (E.written log.new) (E.free log.old) (E.free log.new) (line_of result) }
     ensures log_whole { E.faults log.old < last_count → E.faults log.new ≡ E.faults log.old → Takes (E.written log.old) (E.written log.new) (E.free log.old) (E.free log.new) (line_of result) }
 {
@@ -129,6 +131,8 @@ pub fn run<R: Threads + Sync, F: Files, O: Sink, E: Sink, G: Gate + Sync>(
     ensures sure { F.sure files.new ≡ F.sure files.old }
     ensures counts { GoesOn (F.sure files.old) (F.faults files.old) (F.faults files.new) }
     ensures later { O.faults out.old ≤ O.faults out.new }
+    ensures still { StandsStill (job_of (map (λ s. string_bytes s) words.now)) (F.held files.old) (O.free out.old) (O.faults out.old) (O.faults out.new) }
+    ensures complete { IsComplete (job_of (map (λ s. string_bytes s) words.now)) (F.held files.old) (F.faults files.old) (F.faults files.new) (O.faults out.old) (O.faults out.new) result }
     ensures log { TakesFront (E.written log.old) (E.written log.new) (E.free log.old) (E.free log.new) (line_of result) }
     ensures log_whole { E.faults log.old < last_count → E.faults log.new ≡ E.faults log.old → Takes (E.written log.old) (E.written log.new) (E.free log.old) (E.free log.new) (line_of result) }
 {

@@ -7,6 +7,10 @@ use std::thread::Threads;
 use tib_io::{MemoryFiles, MemorySink};
 use tib_lex::{FaultKind, FileFault};
 
+mod one_file;
+mod outside;
+mod piecewise;
+
 struct Open;
 
 impl Gate for Open {
@@ -36,7 +40,7 @@ const READINGS_WEIGHED: &str =
 
 // The worked rows.
 static ROWS: [Row; 27] = [
-    // row 1: the cost of a tree
+    // the cost of a tree
     (
         &["weigh"],
         BINARY,

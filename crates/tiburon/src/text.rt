@@ -1,4 +1,4 @@
-// The text of the weighed trees.
+// The text of weighed trees.
 ghost use Rattle.std.specs.Prelude.{◌≡◌, ◌+◌, ◌++◌, length, IfOk, OnOk};
 ghost use Rattle.tib_io.specs.Writes.{Takes};
 ghost use Rattle.tib_lex.specs.Lists.{Each};
@@ -11,8 +11,11 @@ use tib_cost::{Cost, Semiring};
 use tib_io::{Failed, GrowingSink, Sink, write_whole};
 use tib_tree::{Labels, Tree, print_tree};
 
-// Writes what stands behind a tree: its cost, which in Boolean is not printed, or that it has none.
-fn print_cost<S: Semiring, W: Sink>(cost: Option<Cost>, out: &mut W) -> Result<(), Failed>
+/// Writes what stands behind a tree or a state: its cost, which in Boolean is not printed, or that it has none.
+pub(crate) fn print_cost<S: Semiring, W: Sink>(
+    cost: Option<Cost>,
+    out: &mut W,
+) -> Result<(), Failed>
     ensures { OnOk result (Takes (W.written out.old) (W.written out.new) (W.free out.old) (W.free out.new) (cost_text S.WEIGHTED cost)) }
 {
     match cost {

@@ -1,21 +1,22 @@
 // `weigh`: each tree of the second file with its cost by the grammar of the first.
-ghost use Rattle.std.specs.Prelude.{◌≡◌, ◌≤◌, Some, length, true, IfErr, IfOk};
+ghost use Rattle.std.specs.Prelude.{◌≡◌, ◌≤◌, Some, length, IfErr, IfOk};
 ghost use Rattle.std.specs.List.{AllZip};
 ghost use Rattle.tib_grammar.specs.Series.{IsSeries};
 ghost use Rattle.tib_io.specs.Causes.{GoesOn};
 ghost use Rattle.tib_command.specs.Jobs.{meaning};
-ghost use Rattle.tiburon.specs.Causes.{HasCause, IsEarly, IsTooMany, LeavesAlone, file_at, is_weighted};
-ghost use Rattle.tiburon.specs.Weighed.{AreWeights, EarlierAre, HasFront, HasWritten, IsWeighed, bytes_at};
+ghost use Rattle.tiburon.specs.Causes.{HasCause, HasEarlier, IsEarly, IsFormFault, is_weighted, product_of};
+ghost use Rattle.tiburon.specs.Answers.{IsAnswer};
+ghost use Rattle.tib_normal.specs.Rows.{HasFormWithin};
 
 use crate::files::{grammar_in, trees_in};
 use crate::status::Status;
 use crate::text::weighed_text;
 use std::alloc::Global;
 use std::thread::Threads;
-use tib_command::Job;
+use tib_command::{Job, Operation};
 use tib_cost::{Cost, Semiring};
 use tib_grammar::Grammar;
-use tib_io::{Failed, Files, GrowingSink, Sink, write_and_finish};
+use tib_io::{Failed, Files, GrowingSink};
 use tib_normal::{Normal, NormalError, normalize};
 use tib_tree::{Labels, Tree};
 use tib_weigh::weigh_all;
@@ -46,9 +47,11 @@ fn costs_of<S: Semiring + Sync + Drop, R: Threads + Sync>(
 ) -> Result<Vec<Option<Cost>>, Status>
     requires { (1 ≤ limit) × (limit ≤ 20000000) }
     ensures costs { IfOk result (λ costs. length costs.items ≡ length trees.now) }
-    ensures weights { IfOk result (λ costs. AreWeights S.product grammar.now trees.now costs.items) }
-    ensures err { IfErr result (IsTooMany limit) }
+    ensures weights { IfOk result (λ costs. AllZip (λ t v. IsSeries S.product grammar.now.rules t v) trees.now costs.items) }
+    ensures within { IfOk result (λ _. HasFormWithin S.product (length grammar.now.names) grammar.now.rules limit) }
+    ensures err { IfErr result (IsFormFault S.product grammar.now limit) }
 {
+    grammar.is_sound();
     let normal = match normalize::<S>(alloc, grammar, limit) {
         Ok(normal) => normal,
         Err(NormalError::TooMany { .. }) => return Err(Status::TooMany { limit }),
@@ -60,30 +63,32 @@ fn costs_of<S: Semiring + Sync + Drop, R: Threads + Sync>(
     }
 }
 
-// The whole text, before any of it is written.
-fn text_of_files<S: Semiring + Sync + Drop, R: Threads + Sync, F: Files>(
+/// The whole text of a job that weighs trees, or the status with which the run ends.
+pub(crate) fn weigh_files<S: Semiring + Sync + Drop, R: Threads + Sync, F: Files>(
     rt: &R,
     alloc: Global,
     job: &Job,
     files: &mut F,
 ) -> Result<GrowingSink, Status>
+    requires operation { job.now.operation ≡ Operation.Weigh }
     requires files { length job.now.files.items ≡ 2 }
     requires limit { (1 ≤ job.now.limit) × (job.now.limit ≤ 20000000) }
     requires mode { S.WEIGHTED ≡ is_weighted job.now.mode }
-    ensures text { IfOk result (λ text. IsWeighed S.WEIGHTED S.product (bytes_at (F.held files.old) (file_at (Some (meaning job.now)) 1)) (bytes_at (F.held files.old) (file_at (Some (meaning job.now)) 2)) text.bytes) }
-    ensures earlier { IfErr result (EarlierAre S.WEIGHTED (bytes_at (F.held files.old) (file_at (Some (meaning job.now)) 1)) (bytes_at (F.held files.old) (file_at (Some (meaning job.now)) 2))) }
-    ensures early { IfErr result IsEarly }
+    requires product { S.product ≡ product_of job.now.mode }
+    ensures text { IfOk result (λ text. IsAnswer (meaning job.now) (F.held files.old) text.bytes) }
     ensures cause { IfErr result (HasCause (Some (meaning job.now)) (F.held files.old) (F.faults files.old) (F.faults files.new) 0 0) }
+    ensures earlier { IfErr result (HasEarlier (Some (meaning job.now)) (F.held files.old)) }
+    ensures early { IfErr result IsEarly }
     ensures held { F.held files.new ≡ F.held files.old }
     ensures sure { F.sure files.new ≡ F.sure files.old }
     ensures counts { GoesOn (F.sure files.old) (F.faults files.old) (F.faults files.new) }
 {
     let mut labels = Labels::new(alloc);
-    let grammar = match grammar_in::<S, F>(alloc, files, job.files[0].as_str(), &mut labels) {
+    let grammar = match grammar_in::<S, F>(alloc, job, 1, files, &mut labels) {
         Ok(grammar) => grammar,
         Err(status) => return Err(status),
     };
-    let trees = match trees_in::<F>(alloc, files, job.files[1].as_str(), &mut labels) {
+    let trees = match trees_in::<F>(alloc, job, 2, files, &mut labels) {
         Ok(trees) => trees,
         Err(status) => return Err(status),
     };
@@ -94,37 +99,5 @@ fn text_of_files<S: Semiring + Sync + Drop, R: Threads + Sync, F: Files>(
     match weighed_text::<S>(alloc, &trees, &labels, &costs) {
         Ok(text) => Ok(text),
         Err(Failed) => Err(Status::OutOfMemory),
-    }
-}
-
-/// Writes each tree of the job's second file with its cost by the grammar of its first file.
-pub(crate) fn weigh_files<S: Semiring + Sync + Drop, R: Threads + Sync, F: Files, O: Sink>(
-    rt: &R,
-    alloc: Global,
-    job: &Job,
-    files: &mut F,
-    out: &mut O,
-) -> Status
-    requires files { length job.now.files.items ≡ 2 }
-    requires limit { (1 ≤ job.now.limit) × (job.now.limit ≤ 20000000) }
-    requires mode { S.WEIGHTED ≡ is_weighted job.now.mode }
-    ensures cause { HasCause (Some (meaning job.now)) (F.held files.old) (F.faults files.old) (F.faults files.new) (O.faults out.old) (O.faults out.new) result }
-    ensures earlier { EarlierAre S.WEIGHTED (bytes_at (F.held files.old) (file_at (Some (meaning job.now)) 1)) (bytes_at (F.held files.old) (file_at (Some (meaning job.now)) 2)) result }
-    ensures alone { LeavesAlone result (O.written out.old) (O.written out.new) }
-    ensures text { result ≡ Status.Done → HasWritten S.WEIGHTED S.product (bytes_at (F.held files.old) (file_at (Some (meaning job.now)) 1)) (bytes_at (F.held files.old) (file_at (Some (meaning job.now)) 2)) (O.written out.old) (O.written out.new) }
-    ensures front { result ≡ Status.WriteFault → HasFront S.WEIGHTED S.product (bytes_at (F.held files.old) (file_at (Some (meaning job.now)) 1)) (bytes_at (F.held files.old) (file_at (Some (meaning job.now)) 2)) (O.written out.old) (O.written out.new) }
-    ensures finished { result ≡ Status.Done → O.finished out.new ≡ true }
-    ensures held { F.held files.new ≡ F.held files.old }
-    ensures sure { F.sure files.new ≡ F.sure files.old }
-    ensures counts { GoesOn (F.sure files.old) (F.faults files.old) (F.faults files.new) }
-    ensures later { O.faults out.old ≤ O.faults out.new }
-{
-    let text = match text_of_files::<S, R, F>(rt, alloc, job, files) {
-        Ok(text) => text,
-        Err(status) => return status,
-    };
-    match write_and_finish(out, text.bytes()) {
-        Ok(()) => Status::Done,
-        Err(Failed) => Status::WriteFault,
     }
 }

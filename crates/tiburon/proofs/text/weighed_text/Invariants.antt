@@ -1,4 +1,4 @@
-use Rattle.std.proofs.Common.{◌≡◌, ◌≤◌, length, take}
+use Rattle.std.proofs.Common.{◌≡◌, take}
 use Rattle.tiburon.specs.Text.{weighed_lines}
 use Rattle.tiburon.proofs.text.weighed_text.Given as goal
 

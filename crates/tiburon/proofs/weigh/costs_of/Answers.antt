@@ -1,5 +1,7 @@
 use Rattle.tib_grammar.specs.Series.{IsSeries}
 use Rattle.tiburon.proofs.Lines.{zip_long}
+use Rattle.tiburon.proofs.Reached.{weights_kept}
+use Rattle.std.specs.Prelude.{length}
 use Rattle.tiburon.proofs.weigh.costs_of.Goals as goal
 
 pub returns-in-Ok-costs_by-clause-costs : goal.returns-in-Ok-costs_by-clause-costs
@@ -8,4 +10,5 @@ returns-in-Ok-costs_by-clause-costs g c =
 
 pub returns-in-Ok-costs_by-clause-weights : goal.returns-in-Ok-costs_by-clause-weights
 returns-in-Ok-costs_by-clause-weights g c =
-    record { rules = c.in-Ok.normal.rules; places = c.in-Ok.ensures.places; series = c.in-Ok-costs_by.ensures.series }
+    weights_kept g.S.Semiring.product (length c.args.grammar.now.names) c.args.grammar.now.rules c.in-Ok.normal.rules c.args.trees.now c.in-Ok-costs_by.costs.items c.is_sound.ensures.start
+    c.in-Ok.ensures.series c.in-Ok-costs_by.ensures.series

@@ -1,0 +1,15 @@
+pub mod Noting
+pub mod Choosing
+pub mod StateNames
+pub mod Telling
+pub mod Permuting
+pub mod Sorting
+pub mod InOrder
+pub mod Within
+pub mod Alike
+pub mod One
+pub mod Trimmed
+pub mod TrimmedOnce
+pub mod NormalForms
+pub mod KeyOrder
+pub mod OverKeys

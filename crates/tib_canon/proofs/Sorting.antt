@@ -1,0 +1,76 @@
+-- Lines in order.
+use Rattle.std.proofs.Common.{◌≡◌, ℕ, ◌<◌, ◌≤◌, List, [], ◌∷◌, length, get_or, refl, ap, sym, ◌∙◌, inl, inr, ◌⊎◌, true, false}
+use Rattle.std.specs.Prelude.{IsSorted}
+use Rattle.std.specs.Cmp.{IsTotalOrder}
+use Rattle.std.specs.Cmp.Lexicographic.{slice_cmp}
+use Rattle.std.specs.Ordering.{nat_cmp, ordering_then, ordering_reverse, is_lt}
+use Rattle.std.specs.declared.cmp.Ordering.{Ordering}
+use Rattle.std.specs.declared.cmp.Ordering.TheVariants.{Less, Equal, Greater}
+use Rattle.std.proofs.lemmas.Cmp.{ranked, on_total, then_total, nat_cmp_total, nat_list_cmp_total}
+use Rattle.std.proofs.lemmas.List.Sorted.{ranks_by, sorted_far}
+use Rattle.tib_canon.specs.declared.lines.Line.{Line}
+
+-- lines by their left states and texts
+abbrev pub text_cmp : Line → Line → Ordering
+text_cmp x y = ordering_then (nat_cmp x.left y.left) (slice_cmp nat_cmp x.text.items y.text.items)
+
+-- and last by their positions
+abbrev pub line_cmp : Line → Line → Ordering
+line_cmp x y = ordering_then (nat_cmp x.left y.left) (ordering_then (slice_cmp nat_cmp x.text.items y.text.items) (nat_cmp x.position y.position))
+
+text_total : IsTotalOrder text_cmp
+text_total = then_total (on_total (λ (x : Line). x.left) nat_cmp_total) (on_total (λ (x : Line). x.text.items) nat_list_cmp_total)
+
+line_total : IsTotalOrder line_cmp
+line_total =
+    then_total (on_total (λ (x : Line). x.left) nat_cmp_total) (then_total (on_total (λ (x : Line). x.text.items) nat_list_cmp_total) (on_total (λ (x : Line). x.position) nat_cmp_total))
+
+any : (o : Ordering) → (o ≡ Less) ⊎ ((o ≡ Equal) ⊎ (o ≡ Greater))
+any Less = inl refl
+any Equal = inr (inl refl)
+any Greater = inr (inr refl)
+
+turned : (o : Ordering) → Greater ≡ ordering_reverse o → o ≡ Less
+turned Less e = refl
+turned Equal e = absurd (cc)
+turned Greater e = absurd (cc)
+
+both_equal : (a b : Ordering) → ordering_then a b ≡ Equal → (a ≡ Equal) × (b ≡ Equal)
+both_equal Less b e = absurd (cc)
+both_equal Equal b e = (refl, e)
+both_equal Greater b e = absurd (cc)
+
+number_same : (a b : ℕ) → nat_cmp a b ≡ Equal → a ≡ b
+number_same a b e = ranked a b Equal (sym e)
+
+text_same : (xs ys : List ℕ) → slice_cmp nat_cmp xs ys ≡ Equal → xs ≡ ys
+text_same [] [] e = refl
+text_same [] (y ∷ ys) e = absurd (cc)
+text_same (x ∷ xs) [] e = absurd (cc)
+text_same (x ∷ xs) (y ∷ ys) e =
+    let t = both_equal (nat_cmp x y) (slice_cmp nat_cmp xs ys) e in
+    ap (λ (z : ℕ). z ∷ xs) (number_same x y t.0) ∙ ap (λ (zs : List ℕ). y ∷ zs) (text_same xs ys t.1)
+
+less_goes_on : (a b c : Ordering) → ordering_then a b ≡ Less → is_lt (ordering_then a (ordering_then b c)) ≡ true
+less_goes_on Less b c e = refl
+less_goes_on Equal Less c e = refl
+less_goes_on Equal Equal c e = absurd (cc)
+less_goes_on Equal Greater c e = absurd (cc)
+less_goes_on Greater b c e = absurd (cc)
+
+-- of two lines in order the first is less, or they are the same
+in_turn : (x y : Line) → is_lt (line_cmp y x) ≡ false → (text_cmp x y ≡ Less) ⊎ ((x.left ≡ y.left) × (x.text.items ≡ y.text.items))
+in_turn x y h = elim (any (text_cmp x y)) [
+  | inl e ↦ inl e
+  | inr k ↦ elim k [
+    | inl e ↦ let t = both_equal (nat_cmp x.left y.left) (slice_cmp nat_cmp x.text.items y.text.items) e in inr (number_same x.left y.left t.0, text_same x.text.items y.text.items t.1)
+    | inr e ↦
+        let back : text_cmp y x ≡ Less = turned (text_cmp y x) (sym e ∙ text_total.antisymm x y) in
+        let bad : true ≡ false = sym (less_goes_on (nat_cmp y.left x.left) (slice_cmp nat_cmp y.text.items x.text.items) (nat_cmp y.position x.position) back) ∙ h in
+        absurd (cc)
+  ]
+]
+
+pub sorted_apart : (lines : List Line) (i j : ℕ) (d : Line) → IsSorted line_cmp lines → i ≤ j → j < length lines → let x = get_or lines i d in let y = get_or lines j d in (text_cmp x y ≡ Less) ⊎ ((x.left ≡ y.left) × (x.text.items ≡ y.text.items))
+sorted_apart lines i j d s h k =
+    in_turn (get_or lines i d) (get_or lines j d) (sorted_far (λ x y. is_lt (line_cmp x y)) (ranks_by line_total (λ x. x)) lines s i j d h k)

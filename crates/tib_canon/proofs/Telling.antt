@@ -1,0 +1,97 @@
+-- Rules are told by their lines.
+use Rattle.std.proofs.Common.{◌≡◌, ℕ, ◌<◌, ◌≤◌, Bool, true, false, List, [], ◌∷◌, ◌++◌, length, take, refl, ap, sym, ◌∙◌, subst, append-nil, arith, length-append}
+use Rattle.std.specs.Prelude.{◌-◌}
+use Rattle.std.proofs.lemmas.Option.{slice_get-get_or}
+use Rattle.tib_lex.specs.Grammar.{Word, HasWords}
+use Rattle.tib_lex.specs.Lists.{Distinct}
+use Rattle.tib_tree.specs.Trees.{Tree, Trees, none, tree, only, relabel}
+use Rattle.tib_grammar.specs.Sides.{Symbol, label, hole, symbol_map, side_map}
+use Rattle.tib_grammar.specs.GrammarOf.{named_rule}
+use Rattle.tib_grammar.specs.StateName.{AreStateNames}
+use Rattle.tib_grammar.specs.declared.Rule.{Rule}
+use Rattle.tib_grammar_file.specs.GrammarText.{SpellsRuleOf}
+use Rattle.tib_grammar_file.specs.Printed.{rule_text}
+use Rattle.tib_grammar_file.proofs.PrintedTrees.{Fits}
+use Rattle.tib_grammar_file.proofs.PrintedLines.{line_ends}
+use Rattle.tib_grammar_file.proofs.PrintedRules.{line_of as line_in, row_of, line_read, rule_spelled, FitsRule, Renames}
+use Rattle.tib_grammar_file.proofs.OneGrammar.{words_same, rule_same}
+use Rattle.tib_cost.specs.Semiring.{most}
+use Rattle.tib_canon.specs.Canonical.{line_of}
+
+-- a rule whose states and labels have texts, at a cost
+pub record IsSafe (names labels : List (List ℕ)) (r : Rule ℕ) : Type 0 where
+  pub left : r.left < length names
+  pub right : Fits (length names) (length labels) (only r.right)
+  pub within : r.cost ≤ most
+
+-- where nothing is weighed, the cost does not show
+abbrev plain : Bool → Rule ℕ → Rule ℕ
+plain true r = r
+plain false r = record { left = r.left; right = r.right; cost = 0 }
+
+plain_right : (weighted : Bool) (r : Rule ℕ) → (plain weighted r).right ≡ r.right
+plain_right true r = refl
+plain_right false r = refl
+
+plain_line : (weighted : Bool) (names labels : List (List ℕ)) (r : Rule ℕ) → line_in weighted names labels (plain weighted r) ≡ line_in weighted names labels r
+plain_line true names labels r = refl
+plain_line false names labels r = refl
+
+plain_fits : (weighted : Bool) (names labels : List (List ℕ)) (r : Rule ℕ) → IsSafe names labels r → FitsRule weighted (length names) (length labels) (plain weighted r)
+plain_fits true names labels r s = record { left = s.left; right = s.right; cost = s.within }
+plain_fits false names labels r s = record { left = s.left; right = s.right; cost = refl }
+
+itself : (names : List (List ℕ)) → Renames names names (λ q. q)
+itself names = record { to = λ q h. slice_get-get_or names q [] h; back = λ text h. h }
+
+symbol_itself : (s : Symbol ℕ ℕ) → symbol_map (λ (q : ℕ). q) s ≡ s
+symbol_itself (label f) = refl
+symbol_itself (hole q) = refl
+
+trees_themselves : (ts : Trees (Symbol ℕ ℕ)) → relabel (symbol_map (λ (q : ℕ). q)) ts ≡ ts
+trees_themselves none = refl
+trees_themselves (tree s kids rest) =
+    ap (λ (x : Symbol ℕ ℕ). tree x (relabel (symbol_map (λ (q : ℕ). q)) kids) (relabel (symbol_map (λ (q : ℕ). q)) rest)) (symbol_itself s)
+    ∙ ap (λ (x : Trees (Symbol ℕ ℕ)). tree s x (relabel (symbol_map (λ (q : ℕ). q)) rest)) (trees_themselves kids)
+    ∙ ap (λ (x : Trees (Symbol ℕ ℕ)). tree s kids x) (trees_themselves rest)
+
+side_itself : (s : Tree (Symbol ℕ ℕ)) → side_map (λ (q : ℕ). q) s ≡ s
+side_itself s =
+    ap (λ (x : Symbol ℕ ℕ). record { label = x; kids = relabel (symbol_map (λ (q : ℕ). q)) s.kids }) (symbol_itself s.label)
+    ∙ ap (λ (x : Trees (Symbol ℕ ℕ)). record { label = s.label; kids = x }) (trees_themselves s.kids)
+
+take_all : (xs ys : List ℕ) → take (length xs) (xs ++ ys) ≡ xs
+take_all [] [] = refl
+take_all [] (y ∷ ys) = refl
+take_all (x ∷ xs) ys = ap (λ (zs : List ℕ). x ∷ zs) (take_all xs ys)
+
+take_front : (text xs : List ℕ) → text ≡ xs ++ 10 ∷ [] → take (length text - 1) text ≡ xs
+take_front text xs e =
+    let long : length text - 1 ≡ length xs = omega (arith, ap length e, length-append xs (10 ∷ [])) in
+    ap (λ n. take n text) long ∙ ap (take (length xs)) e ∙ take_all xs (10 ∷ [])
+
+-- the line of the definition is that of the lemmas on printed rules
+line_is : (weighted : Bool) (names labels : List (List ℕ)) (r : Rule ℕ) → line_of weighted names labels r ≡ line_in weighted names labels r
+line_is weighted names labels r =
+    take_front (rule_text weighted names labels r) (line_in weighted names labels r) (sym (append-nil (rule_text weighted names labels r)) ∙ line_ends weighted names labels r [])
+
+-- rules with the same line have the same right side
+pub told_by_line :
+    (weighted : Bool) (names labels : List (List ℕ)) (r s : Rule ℕ) → AreStateNames names → Distinct labels → IsSafe names labels r → IsSafe names labels s → line_of weighted names labels r ≡ line_of weighted names labels s →
+    r.right ≡ s.right
+told_by_line weighted names labels r s are apart first second same =
+    let q : Rule ℕ = plain weighted r in
+    let p : Rule ℕ = plain weighted s in
+    let fit = plain_fits weighted names labels r first in
+    let fits = plain_fits weighted names labels s second in
+    let lines : line_in weighted names labels q ≡ line_in weighted names labels p =
+    plain_line weighted names labels r ∙ sym (line_is weighted names labels r) ∙ same ∙ line_is weighted names labels s ∙ sym (plain_line weighted names labels s) in
+    let mine : HasWords (row_of weighted names labels q) (line_in weighted names labels p) = subst (HasWords (row_of weighted names labels q)) lines (line_read weighted names labels q are.each fit) in
+    let words : row_of weighted names labels q ≡ row_of weighted names labels p =
+    words_same (line_in weighted names labels p) (row_of weighted names labels q) (row_of weighted names labels p) mine (line_read weighted names labels p are.each fits) in
+    let one : SpellsRuleOf weighted names labels (row_of weighted names labels p) (named_rule (λ (x : ℕ). x) q) =
+    subst (λ (ws : List Word). SpellsRuleOf weighted names labels ws (named_rule (λ (x : ℕ). x) q)) words (rule_spelled weighted names names labels (λ x. x) q are.each (itself names) fit) in
+    let two = rule_spelled weighted names names labels (λ x. x) p are.each (itself names) fits in
+    let rules : named_rule (λ (x : ℕ). x) q ≡ named_rule (λ (x : ℕ). x) p =
+    rule_same weighted names labels are.distinct apart (row_of weighted names labels p) (named_rule (λ x. x) q) (named_rule (λ x. x) p) one two in
+    sym (plain_right weighted r) ∙ sym (side_itself q.right) ∙ ap (λ (x : Rule ℕ). x.right) rules ∙ side_itself p.right ∙ plain_right weighted s

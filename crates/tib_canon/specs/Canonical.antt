@@ -1,0 +1,57 @@
+-- The canonical form of a grammar.
+use Rattle.std.specs.Prelude.{◌≡◌, ℕ, ◌-◌, ◌≤◌, Bool, List, [], ◌∷◌, ◌++◌, length, take, decimal, zero, suc}
+use Rattle.std.specs.declared.cmp.Ordering.{Ordering}
+use Rattle.std.specs.declared.cmp.Ordering.TheVariants.{Less}
+use Rattle.std.specs.Ordering.{nat_cmp, ordering_then}
+use Rattle.std.specs.Cmp.Lexicographic.{slice_cmp}
+use Rattle.tib_lex.specs.Lists.{Has, Ascends}
+use Rattle.tib_grammar.specs.GrammarOf.{GrammarOf}
+use Rattle.tib_grammar.specs.declared.Rule.{Rule}
+use Rattle.tib_grammar_file.specs.Printed.{rule_text}
+use Rattle.tib_inside.specs.Trimmed.{IsTrimmed}
+
+-- a `q` and the number of a state
+abbrev pub name_of : ℕ → List ℕ
+name_of n = 113 ∷ decimal n
+
+-- q0, q1, q2 and so on, so many
+abbrev pub names_of : ℕ → List (List ℕ)
+names_of zero = []
+names_of (suc n) = names_of n ++ name_of n ∷ []
+
+-- the line of a rule as it is printed, without the line feed
+abbrev pub line_of : Bool → List (List ℕ) → List (List ℕ) → Rule ℕ → List ℕ
+line_of weighted names labels r = take (length (rule_text weighted names labels r) - 1) (rule_text weighted names labels r)
+
+-- rules stand in the order of their left states, and those of one state in the order of their lines
+abbrev pub rule_cmp : Bool → List (List ℕ) → List (List ℕ) → Rule ℕ → Rule ℕ → Ordering
+rule_cmp weighted names labels r s =
+    ordering_then (nat_cmp r.left s.left) (slice_cmp nat_cmp (line_of weighted names labels r) (line_of weighted names labels s))
+
+-- the rules have the same left state and the same right side
+pub record AgreeInSides (r s : Rule ℕ) : Type 0 where
+  pub left : r.left ≡ s.left
+  pub right : r.right ≡ s.right
+
+-- some of the rules has the sides of r
+pub record HasSides (rules : List (Rule ℕ)) (r : Rule ℕ) : Type 0 where
+  pub rule : Rule ℕ
+  pub stands : Has rules rule
+  pub agrees : AgreeInSides rule r
+
+-- A grammar as it stands with canonical names and in canonical order, over a table of labels: its states are named q0, q1
+-- and so on by their numbers; its rules are rules of the grammar, each at the least cost of those with its sides, and all
+-- sides are there; and they ascend by their left states and then by their lines.
+pub record IsInOrder (weighted : Bool) (labels : List (List ℕ)) (g h : GrammarOf) : Type 0 where
+  pub names : h.names ≡ names_of (length g.names)
+  pub kept : (r : Rule ℕ) → Has h.rules r → Has g.rules r
+  pub least : (r s : Rule ℕ) → Has h.rules r → Has g.rules s → AgreeInSides r s → r.cost ≤ s.cost
+  pub whole : (r : Rule ℕ) → Has g.rules r → HasSides h.rules r
+  pub ascends : Ascends (λ r s. rule_cmp weighted h.names labels r s ≡ Less) h.rules
+
+-- The canonical form of a grammar: without the states and rules that no run within the greatest cost uses, and then with
+-- canonical names and in canonical order.
+pub record IsCanonical (product : ℕ → ℕ → ℕ) (weighted : Bool) (labels : List (List ℕ)) (g h : GrammarOf) : Type 0 where
+  pub trimmed : GrammarOf
+  pub is_trimmed : IsTrimmed product g trimmed
+  pub in_order : IsInOrder weighted labels trimmed h

@@ -1,0 +1,4 @@
+pub mod Canonical
+pub mod Merging
+pub mod Lines
+pub mod Keys

@@ -1,0 +1,62 @@
+-- The cheapest of the rules that agree in both sides.
+use Rattle.std.specs.Prelude.{◌≡◌, ℕ, ◌<◌, ◌≤◌, ◌⊎◌, List, [], ◌∷◌, ◌++◌, length, Option, None, Some}
+use Rattle.std.proofs.Common.{get_or}
+use Rattle.tib_lex.specs.Lists.{Has, Distinct}
+use Rattle.tib_tree.specs.Trees.{preorder_of}
+use Rattle.tib_grammar.specs.Items.{pairs_of}
+use Rattle.tib_grammar.specs.Run.{rule_at}
+use Rattle.tib_grammar.specs.declared.Item.{Item}
+use Rattle.tib_grammar.specs.declared.Rule.{Rule}
+use Rattle.tib_canon.specs.Canonical.{AgreeInSides}
+
+-- both sides of a rule: the left state, and the items of the right side
+abbrev pub Sides : Type 0
+Sides = ℕ × List (Item ℕ)
+
+abbrev pub no_sides : Sides
+no_sides = (0, [])
+
+-- these are the sides of the rule
+abbrev pub AreSidesOf : Sides → Rule ℕ → Type 0
+AreSidesOf k r = (k.0 ≡ r.left) × (pairs_of k.1 ≡ preorder_of r.right)
+
+-- sides were noted behind others, unless they stood among them
+abbrev pub IsNoted : List Sides → Sides → Option ℕ → List Sides → Type 0
+IsNoted old k None new = (Has old k → ⊥) × (new ≡ old ++ k ∷ [])
+IsNoted old k (Some i) new = (i < length old) × (get_or old i no_sides ≡ k) × (new ≡ old)
+
+-- one of two positions, at which no dearer rule stands than at either
+pub record IsCheaper (rules : List (Rule ℕ)) (a b c : ℕ) : Type 0 where
+  pub either : (c ≡ a) ⊎ (c ≡ b)
+  pub first : (rule_at rules c).cost ≤ (rule_at rules a).cost
+  pub second : (rule_at rules c).cost ≤ (rule_at rules b).cost
+
+-- at one of the positions stands a rule with the sides of r that costs no more
+pub record HasCheaperAt (rules : List (Rule ℕ)) (positions : List ℕ) (r : Rule ℕ) : Type 0 where
+  pub position : ℕ
+  pub stands : Has positions position
+  pub agrees : AgreeInSides (rule_at rules position) r
+  pub costs : (rule_at rules position).cost ≤ r.cost
+
+-- Of rules that agree in both sides one of the cheapest stands at one of the positions, and no other.
+pub record AreCheapest (rules : List (Rule ℕ)) (positions : List ℕ) : Type 0 where
+  pub below : (p : ℕ) → Has positions p → p < length rules
+  pub distinct : Distinct positions
+  pub few : length positions ≤ length rules
+  pub apart : (p q : ℕ) → Has positions p → Has positions q → AgreeInSides (rule_at rules p) (rule_at rules q) → p ≡ q
+  pub whole : (m : ℕ) → m < length rules → HasCheaperAt rules positions (rule_at rules m)
+
+-- sides i are those of rule m, and the rule at position i costs no more
+pub record IsChosenFor (rules : List (Rule ℕ)) (sides : List Sides) (best : List ℕ) (m i : ℕ) : Type 0 where
+  pub below : i < length best
+  pub sides_are : AreSidesOf (get_or sides i no_sides) (rule_at rules m)
+  pub costs : (rule_at rules (get_or best i 0)).cost ≤ (rule_at rules m).cost
+
+-- For each of the distinct sides of the first n rules, the position of the cheapest rule that has them.
+pub record IsChoosing (rules : List (Rule ℕ)) (n : ℕ) (sides : List Sides) (best : List ℕ) : Type 0 where
+  pub long : length sides ≡ length best
+  pub few : length best ≤ n
+  pub distinct : (i j : ℕ) → i < length sides → j < length sides → get_or sides i no_sides ≡ get_or sides j no_sides → i ≡ j
+  pub below : (i : ℕ) → i < length best → get_or best i 0 < n
+  pub are : (i : ℕ) → i < length best → AreSidesOf (get_or sides i no_sides) (rule_at rules (get_or best i 0))
+  pub whole : (m : ℕ) → m < n → (i : ℕ) × IsChosenFor rules sides best m i

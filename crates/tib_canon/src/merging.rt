@@ -1,0 +1,49 @@
+// The cheapest of the rules that agree in both sides.
+ghost use Rattle.std.specs.Prelude.{◌≡◌, ◌<◌, ◌^◌, length, map, IfOk};
+ghost use Rattle.tib_canon.specs.Merging.{IsNoted, IsCheaper, AreCheapest};
+
+use indexmap::IndexSet;
+use std::alloc::{AllocError, Global};
+use tib_grammar::{Item, Rule};
+
+// Notes both sides of a rule behind those noted before. If they are among them, it answers their place.
+fn note<'a>(
+    sides: &mut IndexSet<(u32, &'a [Item<u32>])>,
+    left: u32,
+    items: &'a [Item<u32>],
+) -> Result<Option<usize>, AllocError>
+    ensures { IfOk result (λ r. IsNoted (map (λ k. (k.0, k.1.now)) sides.old.keys) (left, items.now) r (map (λ k. (k.0, k.1.now)) sides.new.keys)) }
+{
+    let (place, is_new) = sides.insert_full((left, items))?;
+    Ok(if is_new { None } else { Some(place) })
+}
+
+// The position of the cheaper of two rules.
+fn cheaper(rules: &[Rule<u32>], first: u32, second: u32) -> u32
+    requires first { first < length rules.now }
+    requires second { second < length rules.now }
+    ensures { IsCheaper rules.now first second result }
+{
+    if rules[second as usize].cost < rules[first as usize].cost {
+        second
+    } else {
+        first
+    }
+}
+
+/// For rules that agree in both sides the position of a cheapest one, in the order in which their sides first stand.
+pub(crate) fn cheapest(alloc: Global, rules: &[Rule<u32>]) -> Result<Vec<u32>, AllocError>
+    requires { length rules.now < 2 ^ 32 }
+    ensures { IfOk result (λ best. AreCheapest rules.now best.items) }
+{
+    let mut sides: IndexSet<(u32, &[Item<u32>])> = IndexSet::new(alloc);
+    let mut best: Vec<u32> = Vec::new(alloc);
+    for n in 0..rules.len() {
+        let rule = &rules[n];
+        match note(&mut sides, rule.left, rule.right.items())? {
+            None => best.push(n as u32)?,
+            Some(place) => best[place] = cheaper(rules, best[place], n as u32),
+        }
+    }
+    Ok(best)
+}

@@ -1,0 +1,45 @@
+-- What holds after every complete run of a round, whatever the order of its events.
+use Rattle.std.specs.Prelude.{◌≡◌, ◌↔◌, ℕ, zero, suc, ◌+◌, Bool, List, [], ◌∷◌}
+use Rattle.tib_lex.specs.Lists.{Has, Distinct}
+use Rattle.tib_table.specs.Known.{on}
+use Rattle.tib_hunt.specs.declared.event.Event.{Event}
+use Rattle.tib_hunt.specs.RoundModel.{Core, opened, IsItem, Runs, draws, IsComplete}
+
+-- so many numbers from this one on
+abbrev pub numbers_from : ℕ → ℕ → List ℕ
+numbers_from n zero = []
+numbers_from n (suc k) = n ∷ numbers_from (n + 1) k
+
+-- A round whose items have these edges, each by its origin, with these ends.
+module _ {K O E : Type 0} (eq : K → K → Bool) (shelf_of : K → ℕ) (first count : ℕ) (edge : ℕ → O → E → Type 0) (ends : E → List K) where
+  -- k is an end of an edge of the item i
+  abbrev pub IsEndOf : ℕ → K → Type 0
+  IsEndOf i k = (o : O) × (e : E) × edge i o e × Has (ends e) k
+
+  -- the edge stands among those that were filed
+  abbrev pub IsFiled : Core K → ℕ → O → E → Type 0
+  IsFiled t i o e = Has t.filed i × edge i o e
+
+  -- After a complete run from the opened state: each item was drawn once and filed once, the filed edges are those of the items, and the keys
+  -- on the shelves are the distinct ends of the items, each once and on its own shelf.
+  pub record IsWhole (es : List (Event K)) (t : Core K) : Type 0 where
+    pub drawn_once : draws eq shelf_of first count IsEndOf opened es ≡ numbers_from first count
+    pub filed_once : Distinct t.filed
+    pub edges : (i : ℕ) (o : O) (e : E) → IsFiled t i o e ↔ (IsItem first count i × edge i o e)
+    pub items : (i : ℕ) → Has t.filed i ↔ IsItem first count i
+    pub keys : (shelf : ℕ) (k : K) → Has (on t.shelves shelf) k ↔ ((shelf_of k ≡ shelf) × ((i : ℕ) × IsItem first count i × IsEndOf i k))
+    pub keys_once : (shelf : ℕ) → Distinct (on t.shelves shelf)
+
+  abbrev pub IsCompleteRun : List (Event K) → Core K → Type 0
+  IsCompleteRun es t = Runs eq shelf_of first count IsEndOf opened es t × IsComplete eq shelf_of first count IsEndOf t
+
+  abbrev pub EveryRun : Type 0
+  EveryRun = (es : List (Event K)) (t : Core K) → IsCompleteRun es t → IsWhole es t
+
+  -- two states have the same keys on each shelf and the same filed edges
+  pub record HaveTheSame (t u : Core K) : Type 0 where
+    pub keys : (shelf : ℕ) (k : K) → Has (on t.shelves shelf) k ↔ Has (on u.shelves shelf) k
+    pub edges : (i : ℕ) (o : O) (e : E) → IsFiled t i o e ↔ IsFiled u i o e
+
+  abbrev pub TwoRuns : Type 0
+  TwoRuns = (es fs : List (Event K)) (t u : Core K) → IsCompleteRun es t → IsCompleteRun fs u → HaveTheSame t u

@@ -1,0 +1,24 @@
+-- Rows of rules whose ends have numbers.
+use Rattle.std.specs.Prelude.{ℕ, ◌<◌, List, [], ◌∷◌, ◌++◌, map, length}
+use Rattle.tib_lex.specs.Lists.{Each}
+use Rattle.tib_hunt.specs.EdgeLists.{position_of, IsWithin}
+use Rattle.tib_hunt.specs.declared.place.Place.{Place}
+use Rattle.tib_hunt.specs.declared.row.Row.{Row}
+
+module _ {R K E : Type 0} (read : (Place → K) → R → E) (at : ℕ → K) where
+  -- the edges of a row, where each number has its key
+  abbrev pub read_row : Row R → List E
+  read_row row = map (read (λ place. at (position_of row.ends.items place))) row.rules.items
+
+  -- those of all rows, one row after the other
+  abbrev pub read_rows : List (Row R) → List E
+  read_rows [] = []
+  read_rows (row ∷ rows) = read_row row ++ read_rows rows
+
+-- each place is a position below the first one or one of the ends, and these have numbers below the bound
+abbrev pub IsRowBelow : {R : Type 0} → (R → List Place) → ℕ → ℕ → Row R → Type 0
+IsRowBelow places first bound row = Each (λ rule. Each (IsWithin first (length row.ends.items)) (places rule)) row.rules.items × Each (λ n. n < bound) row.ends.items
+
+-- each position in the rules is below the bound
+abbrev pub AreBelow : {T : Type 0} → (T → List ℕ) → ℕ → List T → Type 0
+AreBelow positions bound rules = Each (λ rule. Each (λ n. n < bound) (positions rule)) rules

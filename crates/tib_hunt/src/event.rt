@@ -1,0 +1,23 @@
+use tib_table::Number;
+
+/// An event of a round: one atomic action of a worker.
+#[derive(Debug, Drop)]
+pub enum Event<K> {
+    /// The next item is drawn.
+    Draw,
+    /// A key is numbered.
+    Number { key: K },
+    /// The edges of an item are filed.
+    File { item: u32 },
+}
+
+/// What an event answers.
+#[derive(Clone, Copy, Debug, Drop, PartialEq, Eq)]
+pub enum Answer {
+    /// The item, or None where all are drawn.
+    Drawn(Option<u32>),
+    /// The number of the key.
+    Numbered(Number),
+    /// The edges were filed.
+    Filed,
+}

@@ -1,0 +1,185 @@
+ghost use Rattle.std.specs.Prelude.{◌≡◌, ℕ, ◌+◌, ◌≤◌, ◌<◌, ◌^◌, ◌++◌, [], ◌∷◌, length, map, take, drop, List, IfOk, IfErr, OnOk};
+ghost use Rattle.indexmap.specs.IndexSet.{insert_all};
+ghost use Rattle.tib_lex.specs.Lists.{Each, Distinct};
+ghost use Rattle.tib_hunt.specs.EdgeLists.{total};
+ghost use Rattle.tib_hunt.specs.Reached.{operation, IfTooMany, IsBeyond};
+ghost use Rattle.tib_hunt.specs.Numbered.{key_parts, Name, HaveMore, IsInOrder, moved_to};
+ghost use Rattle.tib_hunt.specs.Held.{IsBetween, IsWithinRound};
+ghost use Rattle.tib_hunt.specs.Rows.{read_rows, IsRowBelow, AreBelow};
+ghost use Rattle.tib_hunt.specs.declared.row.Row.{Row};
+
+use crate::expand::Expand;
+use crate::found::{Gate, HuntError};
+use crate::numbering::{number_ends, sort_new};
+use crate::place::{Edges, ExpandError};
+use crate::row::{Row, settle_rows};
+use indexmap::IndexSet;
+use std::alloc::{AllocError, Global};
+use tib_table::TableKey;
+
+/// The keys so far, the settled rules, the rows of the round, and the parts of all.
+#[derive(Drop)]
+pub(crate) struct Hunted<E: Expand> {
+    pub keys: IndexSet<E::Key>,
+    pub rules: Vec<E::Rule>,
+    pub rows: Vec<Row<E::Over>>,
+    pub parts: u64,
+}
+
+impl<E: Expand> Hunted<E> {
+    /// Puts a list of edges behind the rows, and numbers its ends.
+    pub fn add_edges(
+        &mut self,
+        alloc: Global,
+        limit: u64,
+        edges: Edges<E::Key, E::Over>,
+    ) -> Result<(), HuntError>
+        requires counted { total (key_parts E.Key.entries_of) self.old.keys.keys ≤ self.old.parts }
+        requires within { self.old.parts + edges.parts ≤ limit }
+        requires limit { limit ≤ 20000000 }
+        ensures keys { OnOk result (self.new.keys.keys ≡ insert_all E.Key.eq self.old.keys.keys edges.ends.items) }
+        ensures row { OnOk result ((row : Row E.Over) × (self.new.rows.items ≡ self.old.rows.items ++ row ∷ []) × (row.rules.items ≡ edges.rules.items) × Name self.new.keys.keys edges.ends.items row.ends.items) }
+        ensures rules { OnOk result (self.new.rules ≡ self.old.rules) }
+        ensures parts { OnOk result (self.new.parts + total (key_parts E.Key.entries_of) self.old.keys.keys ≡ (self.old.parts + edges.parts) + total (key_parts E.Key.entries_of) self.new.keys.keys) }
+        ensures within { OnOk result (self.new.parts ≤ limit) }
+        ensures more { IfErr result (IfTooMany limit (HaveMore E.Key.eq (key_parts E.Key.entries_of) self.old.keys.keys edges.ends.items (self.old.parts + edges.parts) limit)) }
+    {
+        self.parts += edges.parts;
+        let ends = match number_ends(alloc, &mut self.keys, &mut self.parts, limit, edges.ends) {
+            Ok(ends) => ends,
+            Err(error) => return Err(error),
+        };
+        let row = Row {
+            rules: edges.rules,
+            ends,
+        };
+        let Ok(()) = self.rows.push(row) else {
+            return Err(HuntError::OutOfMemory);
+        };
+        Ok(())
+    }
+
+    /// Puts the keys from `first` on in ascending order, and settles the rows.
+    pub fn settle(&mut self, alloc: Global, problem: &E, first: u32) -> Result<(), AllocError>
+        requires first { first ≤ length self.old.keys.keys }
+        requires few { length self.old.keys.keys < 2 ^ 32 }
+        requires distinct { Distinct self.old.keys.keys }
+        requires below { Each (IsRowBelow E.places first (length self.old.keys.keys)) self.old.rows.items }
+        ensures rows { OnOk result (self.new.rows.items ≡ []) }
+        ensures parts { OnOk result (self.new.parts ≡ self.old.parts) }
+        ensures settled { OnOk result ((moved : List ℕ) × IsInOrder E.Key.cmp (take first self.old.keys.keys) (drop first self.old.keys.keys) self.new.keys.keys moved
+            × ((at : ℕ → E.Key) → map (E.read_positions at) self.new.rules.items ≡ map (E.read_positions at) self.old.rules.items ++ read_rows E.read_places (λ n. at (moved_to first moved n)) self.old.rows.items)
+            × ((bound : ℕ) → first ≤ bound → Each (λ n. n < bound) moved → AreBelow E.positions bound self.old.rules.items → AreBelow E.positions bound self.new.rules.items)) }
+    {
+        let moved = sort_new(alloc, &mut self.keys, first as usize)?;
+        settle_rows(alloc, problem, &self.rows, first, &moved, &mut self.rules)?;
+        self.rows = Vec::new(alloc);
+        Ok(())
+    }
+}
+
+/// The keys of a set, in its order.
+pub(crate) fn list_keys<K: TableKey + Drop>(
+    alloc: Global,
+    keys: IndexSet<K>,
+) -> Result<Vec<K>, AllocError>
+    ensures { IfOk result (λ r. r.items ≡ keys.keys) }
+{
+    let mut keys = keys;
+    let mut order = Vec::new(alloc);
+    while let Some(key) = keys.pop() {
+        order.push(key)?;
+    }
+    order.reverse();
+    Ok(order)
+}
+
+impl<E: Expand> Hunted<E> {
+    /// Expands the positions of the order from `first` on, as long as the reached set may be within the limit.
+    pub fn expand_all<G: Gate>(
+        &mut self,
+        alloc: Global,
+        problem: &E,
+        limit: u64,
+        gate: &G,
+        first: u32,
+    ) -> Result<(), HuntError>
+        requires limit { limit ≤ 20000000 }
+        requires between { IsBetween (operation E.Key.cmp (E.seed problem.now) (E.seed_edge problem.now) (E.edge problem.now) E.ends_of (key_parts E.Key.entries_of) E.parts_of) (E.admits problem.now) E.places E.positions E.read_places E.read_positions first self.old.keys.keys self.old.rules.items self.old.parts limit }
+        requires rows { self.old.rows.items ≡ [] }
+        ensures within { OnOk result (IsWithinRound (operation E.Key.cmp (E.seed problem.now) (E.seed_edge problem.now) (E.edge problem.now) E.ends_of (key_parts E.Key.entries_of) E.parts_of) (E.admits problem.now) E.places E.positions E.read_places E.read_positions self.old.keys.keys first (length self.old.keys.keys) self.new.keys.keys self.new.rules.items self.new.rows.items self.new.parts limit) }
+        ensures more { IfErr result (IfTooMany limit (IsBeyond (operation E.Key.cmp (E.seed problem.now) (E.seed_edge problem.now) (E.edge problem.now) E.ends_of (key_parts E.Key.entries_of) E.parts_of) limit)) }
+    {
+        let bound = self.keys.len();
+        for n in first..bound as u32 {
+            gate.pass(0, n);
+            let order = &self.keys.as_slice()[..bound];
+            let edges = match problem.expand(alloc, order, n, limit - self.parts) {
+                Ok(edges) => edges,
+                Err(ExpandError::More) => return Err(HuntError::TooMany { limit }),
+                Err(ExpandError::OutOfMemory) => return Err(HuntError::OutOfMemory),
+            };
+            match self.add_edges(alloc, limit, edges) {
+                Ok(()) => {}
+                Err(error) => return Err(error),
+            }
+        }
+        Ok(())
+    }
+}
+
+impl<E: Expand> Hunted<E> {
+    /// The seeds in ascending order, and their edges.
+    pub fn begin(alloc: Global, problem: &E, limit: u64) -> Result<Hunted<E>, HuntError>
+        requires limit { limit ≤ 20000000 }
+        ensures between { IfOk result (λ h. IsBetween (operation E.Key.cmp (E.seed problem.now) (E.seed_edge problem.now) (E.edge problem.now) E.ends_of (key_parts E.Key.entries_of) E.parts_of) (E.admits problem.now) E.places E.positions E.read_places E.read_positions 0 h.keys.keys h.rules.items h.parts limit × (h.rows.items ≡ [])) }
+        ensures more { IfErr result (IfTooMany limit (IsBeyond (operation E.Key.cmp (E.seed problem.now) (E.seed_edge problem.now) (E.edge problem.now) E.ends_of (key_parts E.Key.entries_of) E.parts_of) limit)) }
+    {
+        let edges = match problem.seeds(alloc, limit) {
+            Ok(edges) => edges,
+            Err(ExpandError::More) => return Err(HuntError::TooMany { limit }),
+            Err(ExpandError::OutOfMemory) => return Err(HuntError::OutOfMemory),
+        };
+        let mut hunted = Hunted {
+            keys: IndexSet::new(alloc),
+            rules: Vec::new(alloc),
+            rows: Vec::new(alloc),
+            parts: 0,
+        };
+        match hunted.add_edges(alloc, limit, edges) {
+            Ok(()) => {}
+            Err(error) => return Err(error),
+        }
+        let Ok(()) = hunted.settle(alloc, problem, 0) else {
+            return Err(HuntError::OutOfMemory);
+        };
+        Ok(hunted)
+    }
+
+    /// Expands the positions from `first` on, and puts their new ends behind the order.
+    pub fn round<G: Gate>(
+        &mut self,
+        alloc: Global,
+        problem: &E,
+        limit: u64,
+        gate: &G,
+        first: u32,
+    ) -> Result<(), HuntError>
+        requires limit { limit ≤ 20000000 }
+        requires between { IsBetween (operation E.Key.cmp (E.seed problem.now) (E.seed_edge problem.now) (E.edge problem.now) E.ends_of (key_parts E.Key.entries_of) E.parts_of) (E.admits problem.now) E.places E.positions E.read_places E.read_positions first self.old.keys.keys self.old.rules.items self.old.parts limit }
+        requires rows { self.old.rows.items ≡ [] }
+        ensures between { OnOk result (IsBetween (operation E.Key.cmp (E.seed problem.now) (E.seed_edge problem.now) (E.edge problem.now) E.ends_of (key_parts E.Key.entries_of) E.parts_of) (E.admits problem.now) E.places E.positions E.read_places E.read_positions (length self.old.keys.keys) self.new.keys.keys self.new.rules.items self.new.parts limit) }
+        ensures rows { OnOk result (self.new.rows.items ≡ []) }
+        ensures more { IfErr result (IfTooMany limit (IsBeyond (operation E.Key.cmp (E.seed problem.now) (E.seed_edge problem.now) (E.edge problem.now) E.ends_of (key_parts E.Key.entries_of) E.parts_of) limit)) }
+    {
+        let order = self.keys.len() as u32;
+        match self.expand_all(alloc, problem, limit, gate, first) {
+            Ok(()) => {}
+            Err(error) => return Err(error),
+        }
+        let Ok(()) = self.settle(alloc, problem, order) else {
+            return Err(HuntError::OutOfMemory);
+        };
+        Ok(())
+    }
+}

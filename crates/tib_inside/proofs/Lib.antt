@@ -1,0 +1,12 @@
+pub mod Waiting
+pub mod Totals
+pub mod Segments
+pub mod Knuth
+pub mod Moving
+pub mod Following
+pub mod Chosen
+pub mod Renamed
+pub mod Living
+pub mod Keeping
+pub mod Assembling
+pub mod StillNormal

@@ -1,0 +1,10 @@
+pub mod Inside
+pub mod Useful
+pub mod Trimmed
+pub mod Entries
+pub mod Agenda
+pub mod Links
+pub mod Holes
+pub mod Settling
+pub mod Renaming
+pub mod Reaching

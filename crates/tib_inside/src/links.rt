@@ -1,0 +1,33 @@
+// The places of each state in a list.
+ghost use Rattle.std.specs.Prelude.{◌≡◌, ℕ, ◌+◌, ◌<◌, ◌≤◌, ◌^◌, IfOk, length};
+ghost use Rattle.tib_inside.specs.Links.{AreLinks, AreBelow};
+
+use std::alloc::{AllocError, Global};
+
+/// For each state its first place in a list, and for each place the next one of its state. The length of the list stands
+/// where there is none.
+#[derive(Drop)]
+pub struct Links {
+    pub first: Vec<usize>,
+    pub next: Vec<usize>,
+}
+
+impl Links {
+    /// The links of a list of states below the count.
+    pub fn new(alloc: Global, states: &[u32], count: usize) -> Result<Links, AllocError>
+        requires below { AreBelow count states.now }
+        ensures { IfOk result (AreLinks states.now count) }
+    {
+        let none = states.len();
+        let mut first = vec![in alloc; none; count]?;
+        let mut next = vec![in alloc; none; none]?;
+        let mut n = none;
+        while n > 0 {
+            n -= 1;
+            let state = states[n] as usize;
+            next[n] = first[state];
+            first[state] = n;
+        }
+        Ok(Links { first, next })
+    }
+}

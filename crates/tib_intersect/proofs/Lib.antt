@@ -1,0 +1,11 @@
+pub mod Steps
+pub mod Intersecting
+pub mod Buckets
+pub mod Positions
+pub mod Items
+pub mod Lists
+pub mod Listed
+pub mod Matches
+pub mod Below
+pub mod Settled
+pub mod Whole

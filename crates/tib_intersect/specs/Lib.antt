@@ -1,0 +1,7 @@
+pub mod PairEdges
+pub mod PairGrammar
+pub mod PairRules
+pub mod PairLaws
+pub mod Matching
+pub mod IsIndex
+pub mod Listing

@@ -1,0 +1,124 @@
+// The pairs of states as an operation: its seed, its edges, and the rules that stand for these.
+ghost use Rattle.std.specs.Prelude.{◌≡◌, ℕ, ◌<◌, ◌^◌, length, map};
+ghost use Rattle.tib_lex.specs.Lists.{Each};
+ghost use Rattle.tib_hunt.specs.EdgeLists.{IsWithin, position_of};
+ghost use Rattle.tib_intersect.specs.PairRules.{ends_from, places_of};
+
+use crate::pair::Pair;
+use crate::pair_rule::PairRule;
+use crate::pairs::Pairs;
+use std::alloc::{AllocError, Global};
+use tib_cost::Semiring;
+use tib_grammar::{Rule, Side};
+use tib_hunt::{Edges, Expand, ExpandError};
+
+/// The positions of the ends of a rule.
+fn states_at<'e>(rule: &PairRule, ends: &'e [u32]) -> &'e [u32]
+    requires { (known : ℕ) × Each (IsWithin known (length ends.now)) (places_of rule.now) }
+    ensures are { result.now ≡ map (position_of ends.now) (ends_from rule.now.first_end rule.now.rank) }
+    ensures few { length result.now < 2 ^ 32 }
+{
+    let PairRule {
+        first_end,
+        rank,
+        ..
+    } = *rule;
+    if rank == 0 {
+        return &[];
+    }
+    &ends[first_end as usize..first_end as usize + rank as usize]
+}
+
+impl<'a, S: Semiring> Expand for Pairs<'a, S> {
+    ghost use Rattle.std.specs.Prelude.{◌≡◌, ◌<◌, length};
+    ghost use Rattle.tib_grammar.specs.GrammarOf.{named_rule};
+    ghost use Rattle.tib_intersect.specs.PairEdges.{pair_at, IsPairEdge, ends_of, edge_parts};
+    ghost use Rattle.tib_intersect.specs.PairRules.{places_of, positions_of, read_places};
+    ghost use Rattle.tib_intersect.specs.PairLaws.{same_edge, reads_places, reads_positions, ends_below, pair_stays, seed_below};
+    ghost use Rattle.std.proofs.Common.{subst};
+
+    type Key = Pair;
+
+    type Over = PairRule;
+
+    type Rule = Rule<u32>;
+
+    type Origin = (u32, u32);
+
+    type Edge = Rule<Pair>;
+
+    ghost seed = { λ _ k. k ≡ (0, 0) };
+
+    ghost seed_edge = { λ _ _ _. ⊥ };
+
+    ghost edge = { λ p order n o e. IsPairEdge S.product p.left.now.rules p.right.now.rules (pair_at order n) o e };
+
+    ghost ends_of = { λ e. ends_of e };
+
+    ghost parts_of = { λ e. edge_parts e };
+
+    ghost admits = { λ p k. (k.0 < length p.left.now.names) × (k.1 < length p.right.now.names) };
+
+    ghost places = { λ r. places_of r };
+
+    ghost positions = { λ r. positions_of r };
+
+    ghost read_places = { λ f r. read_places f r };
+
+    ghost read_positions = { λ f r. named_rule f r };
+
+    fn seeds(&self, alloc: Global, budget: u64) -> Result<Edges<Pair, PairRule>, ExpandError> {
+        let _budget = budget;
+        let Ok(ends) = Vec::from_array(alloc, [Pair::new(0, 0)]) else {
+            return Err(ExpandError::OutOfMemory);
+        };
+        Ok(Edges {
+            ends,
+            rules: Vec::new(alloc),
+            parts: 0,
+        })
+    }
+
+    fn expand(
+        &self,
+        alloc: Global,
+        order: &[Pair],
+        n: u32,
+        budget: u64,
+    ) -> Result<Edges<Pair, PairRule>, ExpandError> {
+        match self.list_edges(alloc, order[n as usize], n, budget) {
+            Ok(listing) => Ok(listing.into_edges()),
+            Err(fault) => Err(fault),
+        }
+    }
+
+    fn settle(
+        &self,
+        alloc: Global,
+        rule: &PairRule,
+        ends: &[u32],
+    ) -> Result<Rule<u32>, AllocError> {
+        let right = Side::over(alloc, rule.label, states_at(rule, ends))?;
+        Ok(Rule {
+            left: rule.position,
+            right,
+            cost: rule.cost,
+        })
+    }
+
+    ghost reads_places = { λ rule f g same. reads_places rule f g same };
+
+    ghost reads_positions = { λ rule f g same. reads_positions rule f g same };
+
+    ghost one_edge = { λ p order n o e f a b. same_edge S.product p.left.now.rules p.right.now.rules (pair_at order n) o e f a b };
+
+    ghost one_seed_edge = { λ p o e f a b. absurd a };
+
+    ghost seeds_admitted = { λ p k is. seed_below (length p.left.now.names) (length p.right.now.names) k p.left_start p.right_start is };
+
+    ghost ends_admitted = { λ p order n o e k all low is has. ends_below S.product p.left.now.rules p.right.now.rules (length p.left.now.names) (length p.right.now.names) (pair_at order n) o e k p.left_range p.right_range is has };
+
+    ghost seeds_end = { λ p o e k is has. absurd is };
+
+    ghost edges_stay = { λ p xs ys n o e a b same is. subst (λ k. IsPairEdge S.product p.left.now.rules p.right.now.rules k o e) (pair_stays xs ys n same) is };
+}

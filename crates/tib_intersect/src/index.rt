@@ -1,0 +1,103 @@
+// The rules of a grammar in normal form by their left states and the labels and ranks of their right sides.
+ghost use Rattle.std.specs.Prelude.{◌≡◌, ℕ, ◌+◌, ◌<◌, ◌≤◌, ◌^◌, IfOk, OnOk, length, List, [], ◌∷◌, ◌++◌, if◌then◌else◌};
+ghost use Rattle.tib_grammar.specs.Forms.{AreNormal, IsNormalSide};
+ghost use Rattle.tib_grammar.specs.declared.Rule.{Rule};
+ghost use Rattle.tib_grammar.specs.Sides.{label as label_symbol};
+ghost use Rattle.tib_tree.specs.Trees.{count};
+ghost use Rattle.tib_intersect.specs.Matching.{AreNumbered, has_shape, held, positions_with, same_shape};
+ghost use Rattle.tib_intersect.specs.IsIndex.{IsIndex};
+
+use std::alloc::{AllocError, Global};
+use std::collections::HashMap;
+use tib_grammar::{Item, Rule};
+use tib_tree::Label;
+
+/// A left state, a label and a rank.
+pub type Shape = (u32, Label, u32);
+
+/// The label and the rank of a rule's right side.
+pub(crate) fn label_of(rule: &Rule<u32>) -> (Label, u32)
+    requires { IsNormalSide rule.now.right }
+    ensures label { rule.now.right.label ≡ label_symbol result.0 }
+    ensures rank { result.1 ≡ count rule.now.right.kids }
+{
+    match &rule.right.items()[0] {
+        Item::Label { label, rank } => (*label, *rank),
+        Item::Hole(_) => unreachable!(),
+    }
+}
+
+/// The shape of a rule.
+fn shape_of(rule: &Rule<u32>) -> Shape
+    requires { IsNormalSide rule.now.right }
+    ensures { (s : ℕ × ℕ × ℕ) → has_shape s rule.now ≡ same_shape result s }
+{
+    let (label, rank) = label_of(rule);
+    (rule.left, label, rank)
+}
+
+/// Puts a position last in the bucket of a shape.
+fn add(
+    alloc: Global,
+    shapes: &mut HashMap<Shape, u32>,
+    buckets: &mut Vec<Vec<u32>>,
+    shape: Shape,
+    position: u32,
+) -> Result<(), AllocError>
+    requires numbered { AreNumbered shapes.old buckets.old.items }
+    requires few { length buckets.old.items ≤ position }
+    ensures numbered { AreNumbered shapes.new buckets.new.items }
+    ensures added { OnOk result ((s : ℕ × ℕ × ℕ) → held shapes.new buckets.new.items s ≡ (if same_shape shape s then held shapes.old buckets.old.items s ++ position ∷ [] else held shapes.old buckets.old.items s)) }
+    ensures few { length buckets.new.items ≤ position + 1 }
+{
+    if let Some(number) = shapes.get(&shape).copied() {
+        buckets[number as usize].push(position)?;
+        return Ok(());
+    }
+    let mut bucket = Vec::new(alloc);
+    bucket.push(position)?;
+    let number = buckets.len() as u32;
+    buckets.push(bucket)?;
+    shapes.insert(shape, number)?;
+    Ok(())
+}
+
+/// The positions of the rules of each shape, ascending.
+#[derive(Drop)]
+pub struct Index {
+    shapes: HashMap<Shape, u32>,
+    buckets: Vec<Vec<u32>>,
+}
+
+impl Index {
+    /// The index of some rules.
+    pub fn new(alloc: Global, rules: &[Rule<u32>]) -> Result<Index, AllocError>
+        requires few { length rules.now < 2 ^ 32 }
+        requires normal { AreNormal rules.now }
+        ensures { IfOk result (IsIndex rules.now) }
+    {
+        let mut shapes = HashMap::new(alloc);
+        let mut buckets = Vec::new(alloc);
+        for (n, rule) in rules.iter().enumerate() {
+            add(alloc, &mut shapes, &mut buckets, shape_of(rule), n as u32)?;
+        }
+        Ok(Index { shapes, buckets })
+    }
+
+    /// The positions of the rules of a state whose right side is this label over so many states.
+    pub fn find(&self, state: u32, label: Label, rank: u32) -> &[u32]
+        ensures { (rules : List (Rule ℕ)) → IsIndex rules self.now → result.now ≡ positions_with (state, label, rank) rules }
+    {
+        match self.shapes.get(&(state, label, rank)) {
+            Some(number) => {
+                let number = *number as usize;
+                if number < self.buckets.len() {
+                    &self.buckets[number]
+                } else {
+                    &[]
+                }
+            }
+            None => &[],
+        }
+    }
+}

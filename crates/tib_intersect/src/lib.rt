@@ -1,0 +1,18 @@
+//! The intersection of two grammars in normal form: pairs of states, reached along pairs of rules that agree in label
+//! and rank. `Pairs` is this as an operation for `tib_hunt`. It stands on `tib_cost`, `tib_grammar`, `tib_normal`,
+//! `tib_table` and `tib_hunt`.
+#![tactic(auto)]
+
+mod expand;
+mod index;
+pub mod laws;
+mod listing;
+mod pair;
+mod pair_rule;
+mod pairs;
+#[cfg(test)]
+mod tests;
+
+pub use pair::Pair;
+pub use pair_rule::PairRule;
+pub use pairs::Pairs;

@@ -1,0 +1,159 @@
+// The edges of a pair of states, listed one after another.
+ghost use Rattle.std.specs.Prelude.{◌≡◌, ℕ, ◌<◌, ◌≤◌, ◌⊎◌, ◌++◌, List, length, map, zip, OnOk, Err};
+ghost use Rattle.tib_lex.specs.Lists.{Has, Each, Distinct};
+ghost use Rattle.tib_grammar.specs.Forms.{AreNormal, IsNormalSide};
+ghost use Rattle.tib_grammar.specs.Run.{rule_at};
+ghost use Rattle.tib_grammar.specs.declared.Rule.{Rule};
+ghost use Rattle.tib_intersect.specs.Listing.{state_in, states_of, pairs_of, Agree, IsNext, IsTooMuch, IsWithinBudget, IsListed, Overruns, Stands};
+
+use crate::index::label_of;
+use crate::pair::Pair;
+use crate::pair_rule::PairRule;
+use std::alloc::{AllocError, Global};
+use tib_cost::Semiring;
+use tib_grammar::{Item, Rule};
+use tib_hunt::{Edges, ExpandError};
+
+/// The state that an item carries.
+fn state_of(item: &Item<u32>) -> u32
+    ensures { result ≡ state_in item.now }
+{
+    match item {
+        Item::Label { .. } => 0,
+        Item::Hole(state) => *state,
+    }
+}
+
+/// The states below the root of a rule in normal form.
+fn states_below(rule: &Rule<u32>) -> &[Item<u32>]
+    requires { IsNormalSide rule.now.right }
+    ensures { map state_in result.now ≡ states_of rule.now }
+{
+    &rule.right.items()[1..]
+}
+
+/// Puts the pairs of the states of some items behind some ends.
+fn push_pairs(ends: &mut Vec<Pair>, one: &[Item<u32>], two: &[Item<u32>]) -> Result<(), AllocError>
+    requires { length one.now ≡ length two.now }
+    ensures { OnOk result (ends.new.items ≡ ends.old.items ++ zip (map state_in one.now) (map state_in two.now)) }
+{
+    for i in 0..one.len() {
+        let (first, second) = (&one[i], &two[i]);
+        ends.push(Pair::new(state_of(first), state_of(second)))?;
+    }
+    Ok(())
+}
+
+/// The edges of the pair at a position, as far as they are listed, within a budget of parts.
+#[derive(Drop)]
+pub struct Listing {
+    ends: Vec<Pair>,
+    rules: Vec<PairRule>,
+    parts: u64,
+    position: u32,
+    budget: u64,
+}
+
+impl Listing {
+    /// The empty list of edges of the pair at a position.
+    pub fn new(alloc: Global, position: u32, budget: u64) -> Listing
+        ensures position { result.position ≡ position }
+        ensures budget { result.budget ≡ budget }
+        ensures ends { length result.ends.items ≡ 0 }
+        ensures rules { length result.rules.items ≡ 0 }
+        ensures parts { result.parts ≡ 0 }
+    {
+        Listing {
+            ends: Vec::new(alloc),
+            rules: Vec::new(alloc),
+            parts: 0,
+            position,
+            budget,
+        }
+    }
+
+    /// Lists the edge of two rules, unless its cost is too great. `More` comes exactly where it has more parts than
+    /// the budget leaves.
+    fn add_edge<S: Semiring>(&mut self, one: &Rule<u32>, two: &Rule<u32>) -> Result<(), ExpandError>
+        requires one { IsNormalSide one.now.right }
+        requires two { IsNormalSide two.now.right }
+        requires agree { Agree one.now two.now }
+        requires within { IsWithinBudget self.old }
+        ensures next { OnOk result (IsNext S.product one.now two.now self.old self.new) }
+        ensures more { result ≡ Err ExpandError.More → IsTooMuch S.product one.now two.now self.old }
+        ensures within { OnOk result (IsWithinBudget self.new) }
+        ensures position { self.new.position ≡ self.old.position }
+        ensures budget { self.new.budget ≡ self.old.budget }
+    {
+        let Some(cost) = S::times(one.cost, two.cost) else {
+            return Ok(());
+        };
+        let (label, rank) = label_of(one);
+        let parts = self.parts + 2 + rank as u64;
+        if parts > self.budget {
+            return Err(ExpandError::More);
+        }
+        let first_end = self.ends.len() as u32;
+        match push_pairs(&mut self.ends, states_below(one), states_below(two)) {
+            Ok(()) => {}
+            Err(_) => return Err(ExpandError::OutOfMemory),
+        }
+        let rule = PairRule {
+            position: self.position,
+            label,
+            first_end,
+            rank,
+            cost,
+        };
+        match self.rules.push(rule) {
+            Ok(()) => {}
+            Err(_) => return Err(ExpandError::OutOfMemory),
+        }
+        self.parts = parts;
+        Ok(())
+    }
+
+    /// Lists the edges of a rule and those at these positions among the others.
+    pub fn add_matches<S: Semiring>(
+        &mut self,
+        one: &Rule<u32>,
+        others: &[Rule<u32>],
+        positions: &[u32],
+    ) -> Result<(), ExpandError>
+        requires one { IsNormalSide one.now.right }
+        requires others { AreNormal others.now }
+        requires positions { Each (λ j. (j < length others.now) × Agree one.now (rule_at others.now j)) positions.now }
+        requires distinct { Distinct positions.now }
+        requires within { IsWithinBudget self.old }
+        ensures listed { OnOk result ((ones : List (Rule ℕ)) (order : List (ℕ × ℕ)) (i : ℕ) (tried : List (ℕ × ℕ)) → Stands ones others.now order i self.old.position one.now positions.now → ((j : ℕ) → Has tried (i, j) → ⊥) →
+            IsListed S.product ones others.now order self.old.position tried self.old → IsListed S.product ones others.now order self.old.position (tried ++ map (λ j. (i, j)) positions.now) self.new) }
+        ensures more { result ≡ Err ExpandError.More → (ones : List (Rule ℕ)) (order : List (ℕ × ℕ)) (i : ℕ) (tried : List (ℕ × ℕ)) → Stands ones others.now order i self.old.position one.now positions.now → ((j : ℕ) → Has tried (i, j) → ⊥) →
+            IsListed S.product ones others.now order self.old.position tried self.old → Overruns S.product ones others.now order self.old.position self.old.budget }
+        ensures within { OnOk result (IsWithinBudget self.new) }
+        ensures position { self.new.position ≡ self.old.position }
+        ensures budget { self.new.budget ≡ self.old.budget }
+    {
+        for position in positions {
+            match self.add_edge::<S>(one, &others[*position as usize]) {
+                Ok(()) => {}
+                Err(fault) => return Err(fault),
+            }
+        }
+        Ok(())
+    }
+
+    /// The ends, the rules and their parts.
+    pub fn into_edges(self) -> Edges<Pair, PairRule>
+        ensures ends { result.ends.items ≡ self.ends.items }
+        ensures rules { result.rules.items ≡ self.rules.items }
+        ensures parts { result.parts ≡ self.parts }
+    {
+        let Listing {
+            ends,
+            rules,
+            parts,
+            ..
+        } = self;
+        Edges { ends, rules, parts }
+    }
+}

@@ -1,0 +1,75 @@
+// The pairs of the states of two grammars, as what is hunted.
+ghost use Rattle.std.specs.Prelude.{◌≡◌, ℕ, ◌<◌, ◌≤◌, List, length, IfOk, Err};
+ghost use Rattle.tib_intersect.specs.IsIndex.{IsIndex};
+ghost use Rattle.tib_intersect.specs.PairEdges.{pair_at, StatesBelow};
+ghost use Rattle.tib_intersect.specs.Listing.{IsWithinBudget, AreListedFrom, Overruns};
+
+use crate::index::{Index, label_of};
+use crate::listing::Listing;
+use crate::pair::Pair;
+use crate::pair_rule::PairRule;
+use std::alloc::{AllocError, Global};
+use tib_cost::Semiring;
+use tib_hunt::ExpandError;
+use tib_normal::Normal;
+
+/// The pairs of a state of the one grammar and a state of the other, reached from the pair of the starts.
+#[derive(Drop)]
+pub struct Pairs<'a, S> {
+    /// The first grammar.
+    pub left: &'a Normal<S>,
+    /// The second grammar.
+    pub right: &'a Normal<S>,
+    index: Index,
+    pub ghost indexed: { IsIndex right.now.rules index },
+    pub ghost left_start: { 0 < length left.now.names },
+    pub ghost right_start: { 0 < length right.now.names },
+    pub ghost left_range: { StatesBelow (length left.now.names) left.now.rules },
+    pub ghost right_range: { StatesBelow (length right.now.names) right.now.rules },
+}
+
+impl<'a, S: Semiring> Pairs<'a, S> {
+    /// The pairs of two grammars.
+    pub fn new(
+        alloc: Global,
+        left: &'a Normal<S>,
+        right: &'a Normal<S>,
+    ) -> Result<Pairs<'a, S>, AllocError>
+        ensures left { IfOk result (λ p. p.left.now ≡ left.now) }
+        ensures right { IfOk result (λ p. p.right.now ≡ right.now) }
+    {
+        left.grammar().is_sound();
+        right.grammar().is_sound();
+        let index = Index::new(alloc, right.grammar().rule_list())?;
+        Ok(Pairs { left, right, index })
+    }
+
+    /// The edges of a pair that stands at a position.
+    pub(crate) fn list_edges(
+        &self,
+        alloc: Global,
+        pair: Pair,
+        position: u32,
+        budget: u64,
+    ) -> Result<Listing, ExpandError>
+        requires first { pair.0 < length self.now.left.now.names }
+        requires budget { budget ≤ 20000000 }
+        ensures listed { IfOk result (λ l. (order : List (ℕ × ℕ)) → position < length order → pair_at order position ≡ pair → AreListedFrom S.product self.now.left.now.rules self.now.right.now.rules order position l) }
+        ensures more { result ≡ Err ExpandError.More → (order : List (ℕ × ℕ)) → position < length order → pair_at order position ≡ pair → Overruns S.product self.now.left.now.rules self.now.right.now.rules order position budget }
+        ensures within { IfOk result IsWithinBudget }
+        ensures budget { IfOk result (λ l. l.budget ≡ budget) }
+    {
+        let mut listing = Listing::new(alloc, position, budget);
+        self.left.grammar().is_sound();
+        let others = self.right.grammar().rule_list();
+        for one in self.left.rules_of(pair.first()) {
+            let (label, rank) = label_of(one);
+            let matches = self.index.find(pair.second(), label, rank);
+            match listing.add_matches::<S>(one, others, matches) {
+                Ok(()) => {}
+                Err(fault) => return Err(fault),
+            }
+        }
+        Ok(listing)
+    }
+}

@@ -1,0 +1,183 @@
+// The edges of pairs of states of two small grammars, as text.
+ghost use Rattle.std.specs.Prelude.{◌≤◌};
+
+use crate::{Pair, PairRule, Pairs};
+use std::alloc::{AllocError, Global};
+use std::test::Fail;
+use tib_cost::{Bottleneck, Cost, MOST, MinPlus, Semiring};
+use tib_grammar::{Grammar, Item, Names, Rule, Side};
+use tib_hunt::{Edges, Expand, ExpandError};
+use tib_normal::Normal;
+use tib_table::TableKey;
+use tib_tree::Label;
+
+// A rule: its left state, its label, the states below it and its cost.
+type Row = (u32, Label, &'static [u32], u64);
+
+static LEFT: [Row; 4] = [
+    (0, 7, &[0, 1], 1),
+    (0, 8, &[], 2),
+    (0, 7, &[1, 1], MOST),
+    (1, 8, &[], 3),
+];
+
+// One rule has another label, and one another rank.
+static RIGHT: [Row; 5] = [
+    (0, 8, &[], 5),
+    (0, 7, &[1, 0], 4),
+    (0, 7, &[0], 1),
+    (0, 9, &[0, 0], 1),
+    (1, 8, &[], 6),
+];
+
+fn normal<S: Semiring + Drop>(alloc: Global, rows: &[Row]) -> Result<Normal<S>, Fail> {
+    let mut texts = Vec::new(alloc);
+    for text in ["p", "q"] {
+        texts.push(text.as_bytes().to_vec(alloc)?)?;
+    }
+    let mut rules = Vec::new(alloc);
+    for (left, label, states, cost) in rows {
+        if states.len() > 9 {
+            return Err("too many states".into());
+        }
+        rules.push(Rule {
+            left: *left,
+            right: Side::over(alloc, *label, states)?,
+            cost: Cost::new(*cost).ok_or("cost")?,
+        })?;
+    }
+    if texts.len() > 9 || rules.len() > 9 {
+        return Err("too many".into());
+    }
+    let names = Names::from_list(alloc, texts)?.ok_or("names")?;
+    let grammar = Grammar::new(names, rules).ok_or("grammar")?;
+    Ok(Normal::new(alloc, grammar)?.ok_or("normal form")?)
+}
+
+fn write_number(text: &mut String, number: u64) -> Result<(), AllocError> {
+    let digits = number.to_string(*text.allocator())?;
+    text.push_str(digits.as_str())
+}
+
+fn write_edge(text: &mut String, rule: &PairRule, ends: &[Pair]) -> Result<(), AllocError> {
+    write_number(text, rule.label as u64)?;
+    let first = rule.first_end as usize;
+    for i in first..first + rule.rank as usize {
+        if let Some(pair) = ends.get(i).copied() {
+            text.push_str(" ")?;
+            write_number(text, pair.first() as u64)?;
+            text.push_str(".")?;
+            write_number(text, pair.second() as u64)?;
+        }
+    }
+    text.push_str(" # ")?;
+    write_number(text, rule.cost.get())?;
+    text.push_str("; ")
+}
+
+// The edges of a pair, in order, or that they have more parts than the budget.
+fn edges_of<S: Semiring>(
+    alloc: Global,
+    pairs: &Pairs<S>,
+    pair: Pair,
+    budget: u64,
+) -> Result<String, Fail>
+    requires { budget ≤ 20000000 }
+{
+    if pair.first() >= pairs.left.grammar().states() {
+        return Err("no such state".into());
+    }
+    if pair.second() >= pairs.right.grammar().states() {
+        return Err("no such state".into());
+    }
+    let mut text = String::new(alloc);
+    match pairs.expand(alloc, &[pair], 0, budget) {
+        Ok(edges) => {
+            for rule in &edges.rules {
+                write_edge(&mut text, rule, &edges.ends)?;
+            }
+            write_number(&mut text, edges.parts)?;
+        }
+        Err(ExpandError::More) => text.push_str("more")?,
+        Err(ExpandError::OutOfMemory) => return Err("no memory".into()),
+    }
+    Ok(text)
+}
+
+// The same for a pair of the two grammars above.
+fn edges_between<S: Semiring + Drop>(alloc: Global, pair: Pair, budget: u64) -> Result<String, Fail>
+    requires { budget ≤ 20000000 }
+{
+    let left: Normal<S> = normal(alloc, &LEFT)?;
+    let right = normal(alloc, &RIGHT)?;
+    let pairs = Pairs::new(alloc, &left, &right)?;
+    edges_of(alloc, &pairs, pair, budget)
+}
+
+#[test]
+fn a_pair_has_an_edge_for_each_two_rules_that_agree(rt: HostRuntime) -> Result<(), Fail> {
+    for (first, second, budget, want) in [
+        (0, 0, 20_000_000, "7 0.1 1.0 # 5; 8 # 7; 6"),
+        (0, 0, 6, "7 0.1 1.0 # 5; 8 # 7; 6"),
+        (0, 0, 5, "more"),
+        (0, 1, 2, "8 # 8; 2"),
+        (1, 0, 2, "8 # 8; 2"),
+        (1, 1, 1, "more"),
+    ] {
+        let text = edges_between::<MinPlus>(rt.alloc(), Pair::new(first, second), budget)?;
+        assert_eq!(rt; text.as_str(), want);
+    }
+    Ok(())
+}
+
+#[test]
+fn a_product_is_that_of_the_semiring(rt: HostRuntime) -> Result<(), Fail> {
+    let text = edges_between::<Bottleneck>(rt.alloc(), Pair::new(0, 0), 10)?;
+    assert_eq!(rt;
+        text.as_str(),
+        "7 0.1 1.0 # 4; 8 # 5; 7 1.1 1.0 # 1000000000000000; 10"
+    );
+    Ok(())
+}
+
+// The seeds, and the rule of an edge from position 4 to the last two of the positions 9, 5 and 6.
+fn seeds_and_rule(alloc: Global) -> Result<(Edges<Pair, PairRule>, Rule<u32>), Fail> {
+    let left: Normal<MinPlus> = normal(alloc, &LEFT)?;
+    let right = normal(alloc, &RIGHT)?;
+    let pairs = Pairs::new(alloc, &left, &right)?;
+    let edge = PairRule {
+        position: 4,
+        label: 7,
+        first_end: 1,
+        rank: 2,
+        cost: MinPlus::one(),
+    };
+    let rule = pairs.settle(alloc, &edge, &[9, 5, 6])?;
+    match pairs.seeds(alloc, 0) {
+        Ok(seeds) => Ok((seeds, rule)),
+        Err(_) => Err("no seeds".into()),
+    }
+}
+
+#[test]
+fn the_seed_is_the_pair_of_the_starts(rt: HostRuntime) -> Result<(), Fail> {
+    let (seeds, rule) = seeds_and_rule(rt.alloc())?;
+    assert_eq!(rt; seeds.ends.as_slice(), [Pair::new(0, 0)].as_slice());
+    assert_eq!(rt; seeds.rules.len(), 0);
+    assert_eq!(rt; rule.left, 4);
+    let items = [
+        Item::Label { label: 7, rank: 2 },
+        Item::Hole(5),
+        Item::Hole(6),
+    ];
+    assert_eq!(rt; rule.right.items(), items.as_slice());
+    Ok(())
+}
+
+#[test]
+fn a_key_has_two_entries_and_a_shelf(rt: HostRuntime) {
+    let key = Pair::new(3, 4);
+    assert_eq!(rt; key.entries(), 2);
+    assert_eq!(rt; key.shelf(), 11);
+    assert!(rt; Pair::new(3, 9) < Pair::new(4, 0));
+}

@@ -1,0 +1,5 @@
+pub mod Logs
+pub mod Passes
+pub mod Joining
+pub mod Closing
+pub mod Taking

@@ -1,0 +1,58 @@
+ghost use Rattle.std.specs.Prelude.{◌≡◌, ◌<◌, [], ◌∷◌, ◌++◌, map, length, slice_get, slice_set, option_copied, MatchOption};
+ghost use Rattle.tib_table.specs.Known.{on};
+ghost use Rattle.tib_table.specs.Kept.{keys_of};
+
+use crate::number::Number;
+use crate::on_shelf::OnShelf;
+use crate::problem::Problem;
+use crate::shelf::Shelf;
+use std::marker::Model;
+
+/// The sixteen shelves of a closed table.
+#[derive(Drop)]
+pub struct Shelves<P: Problem> {
+    shelves: Vec<Shelf<OnShelf<P>>>,
+}
+
+impl<P: Problem> Model for Shelves<P> {
+    ghost use Rattle.std.specs.Prelude.{◌≡◌, List, map, length};
+    ghost use Rattle.tib_table.specs.Kept.{keys_of};
+
+    ghost Value = { List (List P.Key) };
+
+    ghost view = { λ s. map keys_of s.shelves.items };
+
+    ghost invariant = { λ s. length s.shelves.items ≡ 16 };
+}
+
+impl<P: Problem> Shelves<P> {
+    /// The shelves of a list of sixteen.
+    pub(crate) fn from_list(shelves: Vec<Shelf<OnShelf<P>>>) -> Shelves<P>
+        requires { length shelves.items ≡ 16 }
+        ensures { result ≡ map keys_of shelves.items }
+    {
+        Shelves { shelves }
+    }
+
+    /// The key of a number, or None where the shelf has no such place. It takes no memory.
+    pub fn key(&self, number: Number) -> Option<&P::Key>
+        ensures { option_copied result ≡ slice_get (on self.now number.shelf) number.place }
+    {
+        let shelf = &self.shelves[number.shelf as usize];
+        if number.place < shelf.len() {
+            Some(shelf.key(number.place))
+        } else {
+            None
+        }
+    }
+
+    /// Removes the last key of a shelf and answers it, or None where the shelf is empty. All other keys keep their numbers. It takes
+    /// no memory.
+    pub fn take_last(&mut self, shelf: u32) -> Option<P::Key>
+        requires { shelf < 16 }
+        ensures taken { MatchOption result (on self.old shelf ≡ []) (λ k. on self.old shelf ≡ on self.new shelf ++ k ∷ []) }
+        ensures others { self.new ≡ slice_set self.old shelf (on self.new shelf) }
+    {
+        self.shelves[shelf as usize].take_last()
+    }
+}
