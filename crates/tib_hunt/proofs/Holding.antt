@@ -28,7 +28,7 @@ module _ {K : Type 0} (eq : K → K → Bool) (same : (x y : K) → eq x y ≡ t
       go (inr (inl e)) = inr e
       go (inr (inr n)) = absurd n
 
-  any_has : (k : K) (ks : List K) → list_any (eq k) ks ≡ true → Has ks k
+  pub any_has : (k : K) (ks : List K) → list_any (eq k) ks ≡ true → Has ks k
   any_has k [] e = absurd (true≢false (sym e))
   any_has k (x ∷ xs) e = go (eq k x) refl (any_has k xs) e
     where
@@ -36,7 +36,7 @@ module _ {K : Type 0} (eq : K → K → Bool) (same : (x y : K) → eq x y ≡ t
       go true q r e = inl (sym (same k x q))
       go false q r e = inr (r e)
 
-  not_any : (k : K) (ks : List K) → list_any (eq k) ks ≡ false → Has ks k → ⊥
+  pub not_any : (k : K) (ks : List K) → list_any (eq k) ks ≡ false → Has ks k → ⊥
   not_any k [] e h = h
   not_any k (x ∷ xs) e (inl i) = go (eq k x) (subst (λ z. eq k z ≡ true) (sym i) (self k)) e
     where
@@ -133,7 +133,7 @@ module _ {K O E R T : Type 0} (p : Operation K O E) (laws : Laws p) (admits : K 
   IsHeld = Held p admits places positions readp readn
 
   -- readings stay when keys are put behind
-  rules_same : (d : K) (xs ys : List K) (rules : List T) → AreBelow positions (length xs) rules → map (readn (at d (xs ++ ys))) rules ≡ map (readn (at d xs)) rules
+  pub rules_same : (d : K) (xs ys : List K) (rules : List T) → AreBelow positions (length xs) rules → map (readn (at d (xs ++ ys))) rules ≡ map (readn (at d xs)) rules
   rules_same d xs ys [] b = refl
   rules_same d xs ys (t ∷ ts) b = λ i. readsn t (at d (xs ++ ys)) (at d xs) (each_weaker (λ n. n < length xs) _ (positions t) (λ n l. at_front d xs ys n l) b.0) i ∷ rules_same d xs ys ts b.1 i
 

@@ -5,10 +5,14 @@ pub mod Runs
 pub mod Rounds
 pub mod EdgeLemmas
 mod Members
-mod Reaching
+pub mod Reaching
 mod Sights
 mod Sorting
 mod Settling
 mod Holding
 mod Advancing
 mod Finding
+mod OnShelves
+mod Placed
+mod Underway
+mod Taken

@@ -10,11 +10,12 @@ use Rattle.indexmap.specs.IndexSet.{insert_key}
 use Rattle.tib_table.specs.Known.{on}
 use Rattle.tib_hunt.specs.declared.event.Event.{Event}
 use Rattle.tib_hunt.specs.declared.event.Event.TheVariants.{Draw, Number, File}
-use Rattle.tib_hunt.specs.RoundModel.{Core, opened, IsItem, Allowed, after, Runs, put_item, draws}
-use Rattle.tib_hunt.specs.RoundLaw.{numbers_from, IsEndOf, EveryRun, TwoRuns}
+use Rattle.tib_hunt.specs.RoundModel.{Core, opened, IsItem, with_key, Allowed, after, Runs, put_item, draws}
+use Rattle.tib_hunt.specs.Shelved.{with_keys}
+use Rattle.tib_hunt.specs.RoundLaw.{numbers_from, IsKept, IsEndOf, EveryRun, TwoRuns}
 
 module _ {A : Type 0} where
-  has_snoc : (xs : List A) (x y : A) → Has (xs ++ x ∷ []) y → Has xs y ⊎ (x ≡ y)
+  pub has_snoc : (xs : List A) (x y : A) → Has (xs ++ x ∷ []) y → Has xs y ⊎ (x ≡ y)
   has_snoc [] x y (inl e) = inr e
   has_snoc [] x y (inr h) = absurd h
   has_snoc (z ∷ xs) x y (inl e) = inl (inl e)
@@ -25,7 +26,7 @@ module _ {A : Type 0} where
   has_left (z ∷ xs) ys y (inl e) = inl e
   has_left (z ∷ xs) ys y (inr h) = inr (has_left xs ys y h)
 
-  has_last : (xs : List A) (x : A) → Has (xs ++ x ∷ []) x
+  pub has_last : (xs : List A) (x : A) → Has (xs ++ x ∷ []) x
   has_last [] x = inl refl
   has_last (z ∷ xs) x = inr (has_last xs x)
 
@@ -73,21 +74,15 @@ module _ {K : Type 0} (eq : K → K → Bool) (same : (x y : K) → eq x y ≡ t
   number_once ks k false e d = distinct_snoc ks k d (not_any k ks e)
 
   module _ (shelf : K → ℕ) (low : (k : K) → shelf k < 16) (first count : ℕ) (is_end : ℕ → K → Type 0) where
-    -- what holds between any two events
-    pub record Kept (s : Core K) : Type 0 where
-      pub wide : length s.shelves ≡ 16
-      pub few : s.drawn ≤ count
-      pub only : (j : ℕ) (k : K) → Has (on s.shelves j) k → (shelf k ≡ j) × ((i : ℕ) × IsItem first s.drawn i × is_end i k)
-      pub once : (j : ℕ) → Distinct (on s.shelves j)
-      pub filed : Distinct s.filed × ((i : ℕ) → Has s.filed i → IsItem first s.drawn i)
-      pub stands : (i : ℕ) → Has s.filed i → (k : K) → is_end i k → Has (on s.shelves (shelf k)) k
+    abbrev Kept : Core K → Type 0
+    Kept = IsKept shelf first count is_end
 
     nothing : (j n : ℕ) → on (replicate {A = List K} n []) j ≡ []
     nothing j zero = refl
     nothing zero (suc n) = refl
     nothing (suc j) (suc n) = nothing j n
 
-    begins : Kept opened
+    pub begins : Kept opened
     begins = record {
       wide = refl;
       few = omega arith;
@@ -113,7 +108,7 @@ module _ {K : Type 0} (eq : K → K → Bool) (same : (x y : K) → eq x y ≡ t
       stands = c.stands;
     }
 
-    kept_after : (s : Core K) (e : Event K) → Kept s → Allowed eq shelf first count is_end s e → Kept (after eq shelf first count is_end s e)
+    pub kept_after : (s : Core K) (e : Event K) → Kept s → Allowed eq shelf first count is_end s e → Kept (after eq shelf first count is_end s e)
     kept_after s Draw c a = go (nat_lt s.drawn count) refl
       where
         go : (b : Bool) → nat_lt s.drawn count ≡ b → Kept (record { drawn = if b then s.drawn + 1 else s.drawn; shelves = s.shelves; filed = s.filed })
@@ -141,6 +136,31 @@ module _ {K : Type 0} (eq : K → K → Bool) (same : (x y : K) → eq x y ≡ t
           stands = λ i h x e. shelf_after s k ks' (shelf x) (λ n l. (shelf x ≡ n) → Has l x) c.wide
               (λ q. number_keeps ks k x (list_any (eq k) ks) (subst (λ (n : ℕ). Has (on s.shelves n) x) q (c.stands i h x e)))
               (λ _ _. c.stands i h x e) refl;
+        }
+
+    -- after keys of drawn items are numbered, each stands on its shelf
+    pub record KeptWith (s t : Core K) (ks : List K) : Type 0 where
+      pub kept : Kept t
+      pub drawn : t.drawn ≡ s.drawn
+      pub filed : t.filed ≡ s.filed
+      pub stays : (j : ℕ) (x : K) → Has (on s.shelves j) x → Has (on t.shelves j) x
+      pub there : (x : K) → Has ks x → Has (on t.shelves (shelf x)) x
+
+    pub kept_keys : (s : Core K) (ks : List K) → Kept s → ((k : K) → Has ks k → (i : ℕ) × IsItem first s.drawn i × is_end i k) → KeptWith s (with_keys eq shelf s ks) ks
+    kept_keys s [] c ends = record { kept = c; drawn = refl; filed = refl; stays = λ j x h. h; there = λ x h. absurd h }
+    kept_keys s (k ∷ ks) c ends =
+        let r = kept_keys (with_key eq shelf s k) ks (kept_after s (Number k) c (ends k (inl refl))) (λ x h. ends x (inr h)) in
+        record {
+          kept = r.kept;
+          drawn = r.drawn;
+          filed = r.filed;
+          stays = λ j x h. r.stays j x (shelf_after s k (insert_key eq (on s.shelves (shelf k)) k) j (λ n l. Has (on s.shelves n) x → Has l x) c.wide
+              (λ q. number_keeps (on s.shelves (shelf k)) k x (list_any (eq k) (on s.shelves (shelf k))) q) (λ _ q. q) h);
+          there = λ x h. elim h [
+            | inl e ↦ subst (λ (y : K). Has (on (with_keys eq shelf (with_key eq shelf s k) ks).shelves (shelf y)) y) e
+                (r.stays (shelf k) k (subst (λ (l : List K). Has l k) (sym (get_or-set_same s.shelves (shelf k) (insert_key eq (on s.shelves (shelf k)) k) [] (let l = low k in let w = c.wide in omega arith))) (number_has (on s.shelves (shelf k)) k (list_any (eq k) (on s.shelves (shelf k))) refl)))
+            | inr m ↦ r.there x m
+          ];
         }
 
     kept_run : (s : Core K) (es : List (Event K)) (t : Core K) → Kept s → Runs eq shelf first count is_end s es t → Kept t

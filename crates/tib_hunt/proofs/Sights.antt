@@ -16,6 +16,12 @@ pub total_least : {K : Type 0} (entries : K → ℕ) (ks : List K) → length ks
 total_least entries [] = omega arith
 total_least entries (k ∷ ks) = let h = total_least entries ks in omega arith
 
+pub along_snoc : {A B : Type 0} (R : A → B → Type 0) (xs : List A) (ys : List B) (x : A) (y : B) → Along R xs ys → R x y → Along R (xs ++ x ∷ []) (ys ++ y ∷ [])
+along_snoc R [] [] x y a r = (r, tt)
+along_snoc R [] (z ∷ ys) x y a r = absurd a
+along_snoc R (w ∷ xs) [] x y a r = absurd a
+along_snoc R (w ∷ xs) (z ∷ ys) x y a r = (a.0, along_snoc R xs ys x y a.1 r)
+
 module _ {K : Type 0} (eq : K → K → Bool) where
   pub total_new : (f : K → ℕ) (ks : List K) (k : K) (b : Bool) → b ≡ not (list_any (eq k) ks) → b ≡ true → total f (insert_key eq ks k) ≡ total f ks + f k
   total_new f ks k b is t = go (list_any (eq k) ks) (sym is ∙ t)
@@ -31,7 +37,7 @@ module _ {K : Type 0} (eq : K → K → Bool) where
       go true e = refl
       go false e = absurd (true≢false e)
 
-  get_left : (xs ys : List K) (n : ℕ) (k : K) → slice_get xs n ≡ Some k → slice_get (xs ++ ys) n ≡ Some k
+  pub get_left : (xs ys : List K) (n : ℕ) (k : K) → slice_get xs n ≡ Some k → slice_get (xs ++ ys) n ≡ Some k
   get_left [] ys n k e = grind (arith, e)
   get_left (x ∷ xs) ys zero k e = e
   get_left (x ∷ xs) ys (suc n) k e = get_left xs ys n k e
@@ -45,12 +51,6 @@ module _ {K : Type 0} (eq : K → K → Bool) where
       go : (b : Bool) → slice_get (if b then ks else ks ++ k ∷ []) n ≡ Some x
       go true = a.0
       go false = get_left ks (k ∷ []) n x a.0
-
-  along_snoc : {A B : Type 0} (R : A → B → Type 0) (xs : List A) (ys : List B) (x : A) (y : B) → Along R xs ys → R x y → Along R (xs ++ x ∷ []) (ys ++ y ∷ [])
-  along_snoc R [] [] x y a r = (r, tt)
-  along_snoc R [] (z ∷ ys) x y a r = absurd a
-  along_snoc R (w ∷ xs) [] x y a r = absurd a
-  along_snoc R (w ∷ xs) (z ∷ ys) x y a r = (a.0, along_snoc R xs ys x y a.1 r)
 
   -- what holds once these ends are numbered
   pub record SoFar (f : K → ℕ) (old ends done rest : List K) (was limit : ℕ) (keys : List K) (numbers : List ℕ) (parts : ℕ) : Type 0 where

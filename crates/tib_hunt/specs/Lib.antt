@@ -7,4 +7,5 @@ pub mod Rows
 pub mod Held
 pub mod RoundModel
 pub mod RoundLaw
+pub mod Shelved
 pub mod Answers

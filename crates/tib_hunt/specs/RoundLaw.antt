@@ -1,5 +1,5 @@
 -- What holds after every complete run of a round, whatever the order of its events.
-use Rattle.std.specs.Prelude.{◌≡◌, ◌↔◌, ℕ, zero, suc, ◌+◌, Bool, List, [], ◌∷◌}
+use Rattle.std.specs.Prelude.{◌≡◌, ◌↔◌, ℕ, zero, suc, ◌+◌, ◌≤◌, Bool, List, [], ◌∷◌, length}
 use Rattle.tib_lex.specs.Lists.{Has, Distinct}
 use Rattle.tib_table.specs.Known.{on}
 use Rattle.tib_hunt.specs.declared.event.Event.{Event}
@@ -9,6 +9,16 @@ use Rattle.tib_hunt.specs.RoundModel.{Core, opened, IsItem, Runs, draws, IsCompl
 abbrev pub numbers_from : ℕ → ℕ → List ℕ
 numbers_from n zero = []
 numbers_from n (suc k) = n ∷ numbers_from (n + 1) k
+
+-- What holds between any two events of a round: no more is drawn than there are items, a key on a shelf is an end of a drawn item and stands
+-- there once, and a filed item has all its ends on the shelves.
+pub record IsKept {K : Type 0} (shelf_of : K → ℕ) (first count : ℕ) (is_end : ℕ → K → Type 0) (s : Core K) : Type 0 where
+  pub wide : length s.shelves ≡ 16
+  pub few : s.drawn ≤ count
+  pub only : (shelf : ℕ) (k : K) → Has (on s.shelves shelf) k → (shelf_of k ≡ shelf) × ((i : ℕ) × IsItem first s.drawn i × is_end i k)
+  pub once : (shelf : ℕ) → Distinct (on s.shelves shelf)
+  pub filed : Distinct s.filed × ((i : ℕ) → Has s.filed i → IsItem first s.drawn i)
+  pub stands : (i : ℕ) → Has s.filed i → (k : K) → is_end i k → Has (on s.shelves (shelf_of k)) k
 
 -- A round whose items have these edges, each by its origin, with these ends.
 module _ {K O E : Type 0} (eq : K → K → Bool) (shelf_of : K → ℕ) (first count : ℕ) (edge : ℕ → O → E → Type 0) (ends : E → List K) where

@@ -1,18 +1,21 @@
 ghost use Rattle.std.specs.Prelude.{◌≡◌, ℕ, ◌+◌, ◌≤◌, ◌<◌, ◌^◌, ◌++◌, [], ◌∷◌, length, map, take, drop, List, IfOk, IfErr, OnOk};
 ghost use Rattle.indexmap.specs.IndexSet.{insert_all};
-ghost use Rattle.tib_lex.specs.Lists.{Each, Distinct};
+ghost use Rattle.tib_lex.specs.Lists.{Along, Each, Distinct};
 ghost use Rattle.tib_hunt.specs.EdgeLists.{total};
 ghost use Rattle.tib_hunt.specs.Reached.{operation, IfTooMany, IsBeyond};
 ghost use Rattle.tib_hunt.specs.Numbered.{key_parts, Name, HaveMore, IsInOrder, moved_to};
 ghost use Rattle.tib_hunt.specs.Held.{IsBetween, IsWithinRound};
 ghost use Rattle.tib_hunt.specs.Rows.{read_rows, IsRowBelow, AreBelow};
+ghost use Rattle.tib_hunt.specs.Shelved.{all_on, IsShelvedRow, IsPlacedRow};
 ghost use Rattle.tib_hunt.specs.declared.row.Row.{Row};
 
 use crate::expand::Expand;
 use crate::found::{Gate, HuntError};
 use crate::numbering::{number_ends, sort_new};
 use crate::place::{Edges, ExpandError};
+use crate::placing::{number_shelves, place_rows};
 use crate::row::{Row, settle_rows};
+use crate::working::{Worked, work_round};
 use indexmap::IndexSet;
 use std::alloc::{AllocError, Global};
 use tib_table::TableKey;
@@ -56,6 +59,47 @@ impl<E: Expand> Hunted<E> {
         let Ok(()) = self.rows.push(row) else {
             return Err(HuntError::OutOfMemory);
         };
+        Ok(())
+    }
+
+    /// Takes in what a round has made: its new keys go behind the others, and the ends of its rows get their numbers among these.
+    pub fn take_in(
+        &mut self,
+        alloc: Global,
+        limit: u64,
+        worked: Worked<E::Key, E::Over>,
+    ) -> Result<(), HuntError>
+        requires counted { total (key_parts E.Key.entries_of) self.old.keys.keys ≤ worked.parts }
+        requires within { worked.parts ≤ limit }
+        requires limit { limit ≤ 20000000 }
+        requires rows { (bound : ℕ) × (sights : List (List E.Key)) × Along (IsShelvedRow E.places bound (map (λ v. v.items) worked.shelves.items)) sights worked.rows.items }
+        ensures keys { OnOk result (self.new.keys.keys ≡ insert_all E.Key.eq self.old.keys.keys (all_on (map (λ v. v.items) worked.shelves.items))) }
+        ensures rules { OnOk result (self.new.rules ≡ self.old.rules) }
+        ensures rows { OnOk result ((positions : List (List ℕ)) × Along (Name self.new.keys.keys) (map (λ v. v.items) worked.shelves.items) positions × Along (IsPlacedRow positions) worked.rows.items self.new.rows.items) }
+        ensures parts { OnOk result (self.new.parts + total (key_parts E.Key.entries_of) self.old.keys.keys ≡ worked.parts + total (key_parts E.Key.entries_of) self.new.keys.keys) }
+        ensures within { OnOk result (self.new.parts ≤ limit) }
+        ensures more { IfErr result (IfTooMany limit (HaveMore E.Key.eq (key_parts E.Key.entries_of) self.old.keys.keys (all_on (map (λ v. v.items) worked.shelves.items)) worked.parts limit)) }
+    {
+        let Worked {
+            shelves,
+            rows,
+            parts,
+        } = worked;
+        self.parts = parts;
+        let positions = match number_shelves(
+            alloc,
+            &mut self.keys,
+            &mut self.parts,
+            limit,
+            shelves,
+        ) {
+            Ok(positions) => positions,
+            Err(error) => return Err(error),
+        };
+        let Ok(rows) = place_rows(alloc, rows, &positions) else {
+            return Err(HuntError::OutOfMemory);
+        };
+        self.rows = rows;
         Ok(())
     }
 
@@ -110,21 +154,15 @@ impl<E: Expand> Hunted<E> {
         ensures within { OnOk result (IsWithinRound (operation E.Key.cmp (E.seed problem.now) (E.seed_edge problem.now) (E.edge problem.now) E.ends_of (key_parts E.Key.entries_of) E.parts_of) (E.admits problem.now) E.places E.positions E.read_places E.read_positions self.old.keys.keys first (length self.old.keys.keys) self.new.keys.keys self.new.rules.items self.new.rows.items self.new.parts limit) }
         ensures more { IfErr result (IfTooMany limit (IsBeyond (operation E.Key.cmp (E.seed problem.now) (E.seed_edge problem.now) (E.edge problem.now) E.ends_of (key_parts E.Key.entries_of) E.parts_of) limit)) }
     {
-        let bound = self.keys.len();
-        for n in first..bound as u32 {
-            gate.pass(0, n);
-            let order = &self.keys.as_slice()[..bound];
-            let edges = match problem.expand(alloc, order, n, limit - self.parts) {
-                Ok(edges) => edges,
-                Err(ExpandError::More) => return Err(HuntError::TooMany { limit }),
-                Err(ExpandError::OutOfMemory) => return Err(HuntError::OutOfMemory),
-            };
-            match self.add_edges(alloc, limit, edges) {
-                Ok(()) => {}
-                Err(error) => return Err(error),
-            }
+        let order = self.keys.as_slice();
+        let worked = match work_round(alloc, problem, order, first, self.parts, limit, gate) {
+            Ok(worked) => worked,
+            Err(error) => return Err(error),
+        };
+        match self.take_in(alloc, limit, worked) {
+            Ok(()) => Ok(()),
+            Err(error) => Err(error),
         }
-        Ok(())
     }
 }
 

@@ -13,12 +13,18 @@ mod items;
 pub mod laws;
 mod numbering;
 mod place;
+mod placing;
+#[cfg(test)]
+mod plain;
 mod reach;
 mod round;
 mod round_of;
 mod row;
+mod shelved_row;
+mod shelving;
 #[cfg(test)]
 mod tests;
+mod working;
 
 pub use event::{Answer, Event};
 pub use expand::Expand;

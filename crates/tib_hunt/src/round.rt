@@ -1,4 +1,6 @@
-ghost use Rattle.std.specs.Prelude.{◌≡◌, ℕ, [], replicate, IfOk, OnOk, OnErr};
+ghost use Rattle.std.specs.Prelude.{◌≡◌, ◌<◌, ℕ, [], replicate, length, map, IfOk, OnOk, OnErr};
+ghost use Rattle.tib_table.specs.Kept.{keys_of};
+ghost use Rattle.tib_table.specs.Known.{on};
 ghost use Rattle.tib_hunt.specs.RoundModel.{opened, IsItem, Allowed, after, next_item, with_draw, with_key, with_filed};
 ghost use Rattle.tib_hunt.specs.Answers.{IsAnswer, NumbersKey};
 
@@ -57,6 +59,34 @@ fn open_shelves<P: Itemized + Copy>(alloc: Global, problem: P) -> Result<Vec<She
     Ok(shelves)
 }
 
+// The keys of a shelf.
+fn list_shelf<P: Itemized>(alloc: Global, shelf: Shelf<P>) -> Result<Vec<P::Key>, AllocError>
+    ensures { IfOk result (λ r. r.items ≡ shelf.keys) }
+{
+    let mut shelf = shelf;
+    let mut keys = Vec::new(alloc);
+    while let Some(key) = shelf.take_last() {
+        keys.push(key)?;
+    }
+    keys.reverse();
+    Ok(keys)
+}
+
+// The keys of shelves.
+fn list_shelves<P: Itemized>(
+    alloc: Global,
+    shelves: Vec<Shelf<P>>,
+) -> Result<Vec<Vec<P::Key>>, AllocError>
+    ensures { IfOk result (λ r. map (λ v. v.items) r.items ≡ map keys_of shelves.items) }
+{
+    let mut lists = Vec::new(alloc);
+    for shelf in shelves {
+        let keys = list_shelf(alloc, shelf)?;
+        lists.push(keys)?;
+    }
+    Ok(lists)
+}
+
 impl<P: Itemized> Round<P> {
     /// Performs one event. A draw answers the next item, or None where all are drawn; a key is numbered on its shelf; an item is filed.
     /// Only for want of memory it fails, and then nothing changed.
@@ -72,6 +102,27 @@ impl<P: Itemized> Round<P> {
             Event::Number { key } => self.number(key),
             Event::File { item } => self.file(item),
         }
+    }
+
+    /// How many keys a shelf has.
+    pub fn held(&self, shelf: u32) -> u64
+        requires { shelf < 16 }
+        ensures { result ≡ length (on self.now.core.shelves shelf) }
+    {
+        self.shelves[shelf as usize].len()
+    }
+
+    /// The keys of the sixteen shelves, each shelf in the order of first sight. It fails only for want of memory.
+    pub fn close(self, alloc: Global) -> Result<Vec<Vec<P::Key>>, AllocError>
+        ensures { IfOk result (λ r. map (λ v. v.items) r.items ≡ self.core.shelves) }
+    {
+        let Round {
+            problem: _,
+            shelves,
+            drawn: _,
+            filed: _,
+        } = self;
+        list_shelves(alloc, shelves)
     }
 
     // The next item, or None where all are drawn.

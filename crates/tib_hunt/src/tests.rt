@@ -1,6 +1,9 @@
-ghost use Rattle.std.specs.Prelude.{◌≡◌};
+ghost use Rattle.std.specs.Prelude.{◌≡◌, ◌<◌, ◌+◌, ◌-◌, ℕ, [], ◌∷◌, length, IfOk, IfErr};
+ghost use Rattle.tib_hunt.specs.EdgeLists.{IsWithin, position_of};
+ghost use Rattle.tib_hunt.specs.declared.place.Place.{Place};
 ghost use Rattle.std.proofs.Common.{◌∙◌, sym};
 
+use crate::plain::hunt_plainly;
 use crate::{
     Answer, Edges, Event, Expand, ExpandError, Gate, HuntError, Itemized, Items, Place, Round,
     RoundOf, Seat, hunt_alone,
@@ -96,14 +99,14 @@ impl TableKey for Node {
 
     ghost shelf_of = { λ k. k.number % 16 };
 
-    ghost entries_of = { λ _. 1 };
+    ghost entries_of = { λ k. k.number % 3 };
 
     fn shelf(&self) -> u32 {
         self.number % 16
     }
 
     fn entries(&self) -> u64 {
-        1
+        self.number as u64 % 3
     }
 
     ghost low = { λ k. mod-lt k.number (Prim.omega arith) };
@@ -254,10 +257,10 @@ impl Gate for Open {
 }
 
 #[test]
-fn sevens_are_found_within_six_parts(rt: HostRuntime) -> Result<(), Fail> {
-    match hunt_alone(rt.alloc(), &Sevens, 6, &Open) {
+fn sevens_are_found_within_seven_parts(rt: HostRuntime) -> Result<(), Fail> {
+    match hunt_alone(rt.alloc(), &Sevens, 7, &Open) {
         Ok(found) => {
-            assert_eq!(rt; found.parts, 6);
+            assert_eq!(rt; found.parts, 7);
             assert_eq!(rt; found.order.len(), 2);
             assert_eq!(rt; found.rules.len(), 2);
         }
@@ -267,10 +270,199 @@ fn sevens_are_found_within_six_parts(rt: HostRuntime) -> Result<(), Fail> {
 }
 
 #[test]
-fn sevens_have_more_than_five_parts(rt: HostRuntime) -> Result<(), Fail> {
-    match hunt_alone(rt.alloc(), &Sevens, 5, &Open) {
+fn sevens_have_more_than_six_parts(rt: HostRuntime) -> Result<(), Fail> {
+    match hunt_alone(rt.alloc(), &Sevens, 6, &Open) {
         Ok(_) => assert!(rt; false),
-        Err(error) => assert_eq!(rt; error, HuntError::TooMany { limit: 5 }),
+        Err(error) => assert_eq!(rt; error, HuntError::TooMany { limit: 6 }),
+    }
+    Ok(())
+}
+
+/// An operation whose seed is the node 1, and of which each of the first four positions n has one edge, to the nodes 15 + n and 18 - n. The first round appends
+/// 15 and 18, of which 18 has the lower shelf. The second sees 16 and 17 twice, and the third ends at known keys alone.
+struct Fans;
+
+impl Expand for Fans {
+    ghost use Rattle.std.specs.Prelude.{◌≡◌, ◌<◌, ◌+◌, ◌-◌, [], ◌∷◌};
+
+    type Key = Node;
+
+    type Over = (Place, Place);
+
+    type Rule = (u32, u32);
+
+    type Origin = u32;
+
+    type Edge = (Node, Node);
+
+    ghost seed = { λ _ k. k ≡ record { number = 1 } };
+
+    ghost seed_edge = { λ _ _ _. ⊥ };
+
+    ghost edge = { λ _ _ n o e. (n < 4) × (o ≡ 0) × (e ≡ (record { number = 15 + n }, record { number = 18 - n })) };
+
+    ghost ends_of = { λ e. e.0 ∷ e.1 ∷ [] };
+
+    ghost parts_of = { λ _. 1 };
+
+    ghost admits = { λ _ _. Unit {0} };
+
+    ghost places = { λ r. r.0 ∷ r.1 ∷ [] };
+
+    ghost positions = { λ r. r.0 ∷ r.1 ∷ [] };
+
+    ghost read_places = { λ f r. (f r.0, f r.1) };
+
+    ghost read_positions = { λ f r. (f r.0, f r.1) };
+
+    fn seeds(
+        &self,
+        alloc: Global,
+        budget: u64,
+    ) -> Result<Edges<Node, (Place, Place)>, ExpandError> {
+        let _budget = budget;
+        let Ok(ends) = Vec::from_array(alloc, [Node { number: 1 }]) else {
+            return Err(ExpandError::OutOfMemory);
+        };
+        Ok(Edges {
+            ends,
+            rules: Vec::new(alloc),
+            parts: 0,
+        })
+    }
+
+    fn expand(
+        &self,
+        alloc: Global,
+        order: &[Node],
+        n: u32,
+        budget: u64,
+    ) -> Result<Edges<Node, (Place, Place)>, ExpandError> {
+        let _position = &order[n as usize];
+        if n >= 4 {
+            return Ok(Edges {
+                ends: Vec::new(alloc),
+                rules: Vec::new(alloc),
+                parts: 0,
+            });
+        }
+        if budget == 0 {
+            return Err(ExpandError::More);
+        }
+        match fan(alloc, n) {
+            Ok(edges) => Ok(edges),
+            Err(error) => Err(error),
+        }
+    }
+
+    fn settle(
+        &self,
+        alloc: Global,
+        rule: &(Place, Place),
+        ends: &[u32],
+    ) -> Result<(u32, u32), AllocError> {
+        let _alloc = alloc;
+        Ok((position_at(rule.0, ends), position_at(rule.1, ends)))
+    }
+
+    ghost reads_places = { λ rule f g same. λ i. (same.0 i, same.1.0 i) };
+
+    ghost reads_positions = { λ rule f g same. λ i. (same.0 i, same.1.0 i) };
+
+    ghost one_edge = { λ p order n o e f a b. a.2 ∙ sym b.2 };
+
+    ghost one_seed_edge = { λ p o e f a b. absurd a };
+
+    ghost seeds_admitted = { λ p k s. tt };
+
+    ghost ends_admitted = { λ p order n o e k all low is has. tt };
+
+    ghost seeds_end = { λ p o e k is has. absurd is };
+
+    ghost edges_stay = { λ p xs ys n o e a b same is. is };
+}
+
+// The edge of a position.
+fn fan(alloc: Global, n: u32) -> Result<Edges<Node, (Place, Place)>, ExpandError>
+    requires { n < 4 }
+    ensures ends { IfOk result (λ r. r.ends.items ≡ record { number = 15 + n } ∷ record { number = 18 - n } ∷ []) }
+    ensures rules { IfOk result (λ r. r.rules.items ≡ (Place.End 0, Place.End 1) ∷ []) }
+    ensures parts { IfOk result (λ r. r.parts ≡ 1) }
+    ensures error { IfErr result (λ e. e ≡ ExpandError.OutOfMemory) }
+{
+    let nodes = [Node { number: 15 + n }, Node { number: 18 - n }];
+    let Ok(ends) = Vec::from_array(alloc, nodes) else {
+        return Err(ExpandError::OutOfMemory);
+    };
+    let Ok(rules) = Vec::from_array(alloc, [(Place::End(0), Place::End(1))]) else {
+        return Err(ExpandError::OutOfMemory);
+    };
+    Ok(Edges {
+        ends,
+        rules,
+        parts: 1,
+    })
+}
+
+fn position_at(place: Place, ends: &[u32]) -> u32
+    requires { (known : ℕ) × IsWithin known (length ends.now) place }
+    ensures { result ≡ position_of ends.now place }
+{
+    match place {
+        Place::Known(position) => position,
+        Place::End(end) => ends[end as usize],
+    }
+}
+
+#[test]
+fn fans_are_found_in_the_order_by_rounds(rt: HostRuntime) -> Result<(), Fail> {
+    match hunt_alone(rt.alloc(), &Fans, 13, &Open) {
+        Ok(found) => {
+            let numbers: [u32; 5] = [1, 15, 18, 16, 17];
+            for (place, number) in numbers.into_iter().enumerate() {
+                assert_eq!(rt; found.order.get(place), Some(&Node { number }));
+            }
+            assert_eq!(rt; found.order.len(), 5);
+            assert_eq!(rt;
+                &found.rules[..],
+                &[(1u32, 2u32), (3, 4), (4, 3), (2, 1)][..]
+            );
+            assert_eq!(rt; found.parts, 13);
+        }
+        Err(_) => assert!(rt; false),
+    }
+    Ok(())
+}
+
+#[test]
+fn fans_have_more_than_twelve_parts(rt: HostRuntime) -> Result<(), Fail> {
+    for limit in 1..13 {
+        match hunt_alone(rt.alloc(), &Fans, limit, &Open) {
+            Ok(_) => assert!(rt; false),
+            Err(error) => assert_eq!(rt; error, HuntError::TooMany { limit }),
+        }
+    }
+    Ok(())
+}
+
+#[test]
+fn shelves_and_one_list_find_the_same_fans(rt: HostRuntime) -> Result<(), Fail> {
+    for limit in 1..16 {
+        let plain = hunt_plainly(rt.alloc(), &Fans, limit, &Open);
+        match hunt_alone(rt.alloc(), &Fans, limit, &Open) {
+            Ok(found) => match plain {
+                Ok(plain) => {
+                    assert_eq!(rt; &found.order[..], &plain.order[..]);
+                    assert_eq!(rt; &found.rules[..], &plain.rules[..]);
+                    assert_eq!(rt; found.parts, plain.parts);
+                }
+                Err(_) => assert!(rt; false),
+            },
+            Err(error) => match plain {
+                Ok(_) => assert!(rt; false),
+                Err(plain) => assert_eq!(rt; error, plain),
+            },
+        }
     }
     Ok(())
 }

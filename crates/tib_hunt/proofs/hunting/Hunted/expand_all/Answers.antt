@@ -1,44 +1,25 @@
-use Rattle.std.proofs.Common.{◌+◌, ◌-◌, ◌↔◌, refl, sym, subst, arith}
-use Rattle.tib_lex.specs.Lists.{Has}
-use Rattle.tib_hunt.specs.EdgeLists.{AreListed, Exceeds, IsEnd}
-use Rattle.tib_hunt.specs.Held.{IsWithinRound}
+use Rattle.std.proofs.Common.{length, map, sym, subst}
 use Rattle.tib_hunt.specs.Reached.{operation}
 use Rattle.tib_hunt.specs.Numbered.{key_parts}
-use Rattle.tib_hunt.proofs.Sights.{total_least}
-use Rattle.tib_hunt.proofs.Advancing.{laws_of, too_many_edges, too_many_ends, expanded, told_beyond, end_admitted, slice_is}
+use Rattle.tib_hunt.specs.Held.{IsWithinRound}
+use Rattle.tib_hunt.specs.Shelved.{IsUnderway}
+use Rattle.tib_hunt.proofs.Advancing.{laws_of, end_admitted}
+use Rattle.tib_hunt.proofs.Taken.{sights_there, enough_there, told_new, within_round}
 use Rattle.tib_hunt.proofs.hunting.Hunted.expand_all.Goals as goal
 
-pub overflow_cast-n-end : goal.overflow_cast-n-end
-overflow_cast-n-end g c =
-    let least = total_least g.E.Key.TableKey.entries_of c.args.self.now.keys.keys in
-    let a = c.requires.between.held.enough in
-    let b = c.requires.between.held.within in
-    let l = c.requires.limit in
-    let n = c.len-bound.ensures.len in
-    omega arith
+pub take_in-requires-clause-counted : goal.take_in-requires-clause-counted
+take_in-requires-clause-counted g c = enough_there (operation g.E.Key.Ord.cmp (g.E.Expand.seed c.args.problem.now) (g.E.Expand.seed_edge c.args.problem.now) (g.E.Expand.edge c.args.problem.now) g.E.Expand.ends_of (key_parts g.E.Key.TableKey.entries_of) g.E.Expand.parts_of) (laws_of (operation g.E.Key.Ord.cmp (g.E.Expand.seed c.args.problem.now) (g.E.Expand.seed_edge c.args.problem.now) (g.E.Expand.edge c.args.problem.now) g.E.Expand.ends_of (key_parts g.E.Key.TableKey.entries_of) g.E.Expand.parts_of) g.met.E.Key.Ord.total (g.met.E.Expand.one_seed_edge c.args.problem.now) (g.met.E.Expand.one_edge c.args.problem.now) (g.met.E.Expand.edges_stay c.args.problem.now)) (g.E.Expand.admits c.args.problem.now) g.E.Expand.places g.E.Expand.positions g.E.Expand.read_places g.E.Expand.read_positions g.met.E.Expand.reads_places g.met.E.Expand.reads_positions g.E.Key.PartialEq.eq g.met.E.Key.TableKey.same g.met.E.Key.Eq.laws.refl g.E.Key.TableKey.shelf_of (λ x. g.met.E.Key.TableKey.low x) c.args.self.now.keys.keys c.args.first c.args.self.now.rules.items c.args.self.now.parts c.args.limit c.requires.between c.in-Ok.ensures.worked.0 c.in-Ok.worked.rows.items c.in-Ok.worked.parts (subst (λ o. IsUnderway (operation g.E.Key.Ord.cmp (g.E.Expand.seed c.args.problem.now) (g.E.Expand.seed_edge c.args.problem.now) (g.E.Expand.edge c.args.problem.now) g.E.Expand.ends_of (key_parts g.E.Key.TableKey.entries_of) g.E.Expand.parts_of) g.E.Expand.places g.E.Expand.read_places g.E.Key.PartialEq.eq g.E.Key.TableKey.shelf_of o c.args.first (length o) c.in-Ok.ensures.worked.0 c.in-Ok.worked.rows.items c.args.self.now.parts c.in-Ok.worked.parts c.args.limit) c.as_slice-order.ensures.keys c.in-Ok.ensures.worked.2) (map (λ v. v.items) c.in-Ok.worked.shelves.items) c.in-Ok.ensures.worked.1
 
-pub returns-in-Err-More-clause-more : goal.returns-in-Err-More-clause-more
-returns-in-Err-More-clause-more g c = (
-  refl,
-  too_many_edges (operation g.E.Key.Ord.cmp (g.E.Expand.seed c.args.problem.now) (g.E.Expand.seed_edge c.args.problem.now) (g.E.Expand.edge c.args.problem.now) g.E.Expand.ends_of (key_parts g.E.Key.TableKey.entries_of) g.E.Expand.parts_of) (laws_of (operation g.E.Key.Ord.cmp (g.E.Expand.seed c.args.problem.now) (g.E.Expand.seed_edge c.args.problem.now) (g.E.Expand.edge c.args.problem.now) g.E.Expand.ends_of (key_parts g.E.Key.TableKey.entries_of) g.E.Expand.parts_of) g.met.E.Key.Ord.total (g.met.E.Expand.one_seed_edge c.args.problem.now) (g.met.E.Expand.one_edge c.args.problem.now) (g.met.E.Expand.edges_stay c.args.problem.now)) (g.E.Expand.admits c.args.problem.now) g.E.Expand.places g.E.Expand.positions g.E.Expand.read_places g.E.Expand.read_positions g.met.E.Expand.reads_places g.met.E.Expand.reads_positions g.E.Key.PartialEq.eq g.met.E.Key.TableKey.same g.met.E.Key.Eq.laws.refl c.args.self.now.keys.keys c.loop-n.self.keys.keys c.args.first c.loop-n.n c.loop-n.self.rules.items c.loop-n.self.rows.items c.loop-n.self.parts c.args.limit c.loop-n.invariant (let a = c.loop-n-test.true in let b = c.len-bound.ensures.len in omega arith)
-      (subst (λ o. Exceeds (g.E.Expand.edge c.args.problem.now o c.loop-n.n) g.E.Expand.parts_of (c.args.limit - c.loop-n.self.parts)) (slice_is c.args.self.now.keys.keys c.loop-n.self.keys.keys c.loop-n.invariant.held.fresh c.as_slice.result.now c.len-bound.result c.loop-n.invariant.held.keys_are c.as_slice.ensures.keys c.len-bound.ensures.len) (c.in-Err-More.ensures.more c.in-Err-More.field-0-is)),
-)
+pub take_in-requires-clause-rows : goal.take_in-requires-clause-rows
+take_in-requires-clause-rows g c = sights_there (operation g.E.Key.Ord.cmp (g.E.Expand.seed c.args.problem.now) (g.E.Expand.seed_edge c.args.problem.now) (g.E.Expand.edge c.args.problem.now) g.E.Expand.ends_of (key_parts g.E.Key.TableKey.entries_of) g.E.Expand.parts_of) (laws_of (operation g.E.Key.Ord.cmp (g.E.Expand.seed c.args.problem.now) (g.E.Expand.seed_edge c.args.problem.now) (g.E.Expand.edge c.args.problem.now) g.E.Expand.ends_of (key_parts g.E.Key.TableKey.entries_of) g.E.Expand.parts_of) g.met.E.Key.Ord.total (g.met.E.Expand.one_seed_edge c.args.problem.now) (g.met.E.Expand.one_edge c.args.problem.now) (g.met.E.Expand.edges_stay c.args.problem.now)) (g.E.Expand.admits c.args.problem.now) g.E.Expand.places g.E.Expand.positions g.E.Expand.read_places g.E.Expand.read_positions g.met.E.Expand.reads_places g.met.E.Expand.reads_positions g.E.Key.PartialEq.eq g.met.E.Key.TableKey.same g.met.E.Key.Eq.laws.refl g.E.Key.TableKey.shelf_of (λ x. g.met.E.Key.TableKey.low x) c.args.self.now.keys.keys c.args.first c.args.self.now.rules.items c.args.self.now.parts c.args.limit c.requires.between c.in-Ok.ensures.worked.0 c.in-Ok.worked.rows.items c.in-Ok.worked.parts (subst (λ o. IsUnderway (operation g.E.Key.Ord.cmp (g.E.Expand.seed c.args.problem.now) (g.E.Expand.seed_edge c.args.problem.now) (g.E.Expand.edge c.args.problem.now) g.E.Expand.ends_of (key_parts g.E.Key.TableKey.entries_of) g.E.Expand.parts_of) g.E.Expand.places g.E.Expand.read_places g.E.Key.PartialEq.eq g.E.Key.TableKey.shelf_of o c.args.first (length o) c.in-Ok.ensures.worked.0 c.in-Ok.worked.rows.items c.args.self.now.parts c.in-Ok.worked.parts c.args.limit) c.as_slice-order.ensures.keys c.in-Ok.ensures.worked.2) (map (λ v. v.items) c.in-Ok.worked.shelves.items) c.in-Ok.ensures.worked.1
 
-pub returns-in-Err-clause-more : goal.returns-in-Err-clause-more
-returns-in-Err-clause-more g c = told_beyond c.args.limit _ _ c.in-Err.error (too_many_ends (operation g.E.Key.Ord.cmp (g.E.Expand.seed c.args.problem.now) (g.E.Expand.seed_edge c.args.problem.now) (g.E.Expand.edge c.args.problem.now) g.E.Expand.ends_of (key_parts g.E.Key.TableKey.entries_of) g.E.Expand.parts_of) (laws_of (operation g.E.Key.Ord.cmp (g.E.Expand.seed c.args.problem.now) (g.E.Expand.seed_edge c.args.problem.now) (g.E.Expand.edge c.args.problem.now) g.E.Expand.ends_of (key_parts g.E.Key.TableKey.entries_of) g.E.Expand.parts_of) g.met.E.Key.Ord.total (g.met.E.Expand.one_seed_edge c.args.problem.now) (g.met.E.Expand.one_edge c.args.problem.now) (g.met.E.Expand.edges_stay c.args.problem.now)) (g.E.Expand.admits c.args.problem.now) g.E.Expand.places g.E.Expand.positions g.E.Expand.read_places g.E.Expand.read_positions g.met.E.Expand.reads_places g.met.E.Expand.reads_positions g.E.Key.PartialEq.eq g.met.E.Key.TableKey.same g.met.E.Key.Eq.laws.refl c.args.self.now.keys.keys c.loop-n.self.keys.keys c.args.first c.loop-n.n c.loop-n.self.rules.items c.loop-n.self.rows.items c.loop-n.self.parts c.args.limit c.loop-n.invariant (let a = c.loop-n-test.true in let b = c.len-bound.ensures.len in omega arith)
-    c.in-Ok.edges.ends.items c.in-Ok.edges.rules.items c.in-Ok.edges.parts
-    (subst (λ o. AreListed (g.E.Expand.edge c.args.problem.now o c.loop-n.n) g.E.Expand.parts_of g.E.Expand.places g.E.Expand.read_places o c.in-Ok.edges.ends.items c.in-Ok.edges.rules.items c.in-Ok.edges.parts) (slice_is c.args.self.now.keys.keys c.loop-n.self.keys.keys c.loop-n.invariant.held.fresh c.as_slice.result.now c.len-bound.result c.loop-n.invariant.held.keys_are c.as_slice.ensures.keys c.len-bound.ensures.len) c.in-Ok.ensures.listed)
-    (subst (λ o. (k : g.row.E-Key.Denot) → Has c.in-Ok.edges.ends.items k ↔ IsEnd (g.E.Expand.edge c.args.problem.now o c.loop-n.n) g.E.Expand.ends_of k) (slice_is c.args.self.now.keys.keys c.loop-n.self.keys.keys c.loop-n.invariant.held.fresh c.as_slice.result.now c.len-bound.result c.loop-n.invariant.held.keys_are c.as_slice.ensures.keys c.len-bound.ensures.len) c.in-Ok.ensures.ends)
-    c.in-Ok.ensures.within) c.in-Err.ensures.more
+pub returns-in-Ok-take_in-clause-within : goal.returns-in-Ok-take_in-clause-within
+returns-in-Ok-take_in-clause-within g c =
+    let r = c.in-Ok-take_in.ensures.rows in
+    subst (λ rules. IsWithinRound (operation g.E.Key.Ord.cmp (g.E.Expand.seed c.args.problem.now) (g.E.Expand.seed_edge c.args.problem.now) (g.E.Expand.edge c.args.problem.now) g.E.Expand.ends_of (key_parts g.E.Key.TableKey.entries_of) g.E.Expand.parts_of) (g.E.Expand.admits c.args.problem.now) g.E.Expand.places g.E.Expand.positions g.E.Expand.read_places g.E.Expand.read_positions c.args.self.now.keys.keys c.args.first (length c.args.self.now.keys.keys) c.take_in.new.self.keys.keys rules.items c.take_in.new.self.rows.items c.take_in.new.self.parts c.args.limit) (sym c.in-Ok-take_in.ensures.rules)
+    (within_round (operation g.E.Key.Ord.cmp (g.E.Expand.seed c.args.problem.now) (g.E.Expand.seed_edge c.args.problem.now) (g.E.Expand.edge c.args.problem.now) g.E.Expand.ends_of (key_parts g.E.Key.TableKey.entries_of) g.E.Expand.parts_of) (laws_of (operation g.E.Key.Ord.cmp (g.E.Expand.seed c.args.problem.now) (g.E.Expand.seed_edge c.args.problem.now) (g.E.Expand.edge c.args.problem.now) g.E.Expand.ends_of (key_parts g.E.Key.TableKey.entries_of) g.E.Expand.parts_of) g.met.E.Key.Ord.total (g.met.E.Expand.one_seed_edge c.args.problem.now) (g.met.E.Expand.one_edge c.args.problem.now) (g.met.E.Expand.edges_stay c.args.problem.now)) (g.E.Expand.admits c.args.problem.now) g.E.Expand.places g.E.Expand.positions g.E.Expand.read_places g.E.Expand.read_positions g.met.E.Expand.reads_places g.met.E.Expand.reads_positions g.E.Key.PartialEq.eq g.met.E.Key.TableKey.same g.met.E.Key.Eq.laws.refl g.E.Key.TableKey.shelf_of (λ x. g.met.E.Key.TableKey.low x) c.args.self.now.keys.keys c.args.first c.args.self.now.rules.items c.args.self.now.parts c.args.limit c.requires.between c.in-Ok.ensures.worked.0 c.in-Ok.worked.rows.items c.in-Ok.worked.parts (subst (λ o. IsUnderway (operation g.E.Key.Ord.cmp (g.E.Expand.seed c.args.problem.now) (g.E.Expand.seed_edge c.args.problem.now) (g.E.Expand.edge c.args.problem.now) g.E.Expand.ends_of (key_parts g.E.Key.TableKey.entries_of) g.E.Expand.parts_of) g.E.Expand.places g.E.Expand.read_places g.E.Key.PartialEq.eq g.E.Key.TableKey.shelf_of o c.args.first (length o) c.in-Ok.ensures.worked.0 c.in-Ok.worked.rows.items c.args.self.now.parts c.in-Ok.worked.parts c.args.limit) c.as_slice-order.ensures.keys c.in-Ok.ensures.worked.2) (map (λ v. v.items) c.in-Ok.worked.shelves.items) c.in-Ok.ensures.worked.1
+    (λ i k below e. end_admitted (g.E.Expand.edge c.args.problem.now c.args.self.now.keys.keys i) g.E.Expand.ends_of (g.E.Expand.admits c.args.problem.now) (λ o e k is h. g.met.E.Expand.ends_admitted c.args.problem.now c.args.self.now.keys.keys i o e k c.requires.between.held.admitted below is h) k e)
+    c.take_in.new.self.keys.keys c.in-Ok-take_in.ensures.keys r.0 r.1 c.take_in.new.self.rows.items r.2 c.take_in.new.self.parts c.in-Ok-take_in.ensures.parts c.in-Ok-take_in.ensures.within)
 
-pub loop-n-preserved : goal.loop-n-preserved
-loop-n-preserved g c =
-    let r = c.in-Ok-add_edges.ensures.row in
-    subst (λ rules. IsWithinRound (operation g.E.Key.Ord.cmp (g.E.Expand.seed c.args.problem.now) (g.E.Expand.seed_edge c.args.problem.now) (g.E.Expand.edge c.args.problem.now) g.E.Expand.ends_of (key_parts g.E.Key.TableKey.entries_of) g.E.Expand.parts_of) (g.E.Expand.admits c.args.problem.now) g.E.Expand.places g.E.Expand.positions g.E.Expand.read_places g.E.Expand.read_positions c.args.self.now.keys.keys c.args.first (c.loop-n.n + 1) c.add_edges.new.self.keys.keys rules.items c.add_edges.new.self.rows.items c.add_edges.new.self.parts c.args.limit) (sym c.in-Ok-add_edges.ensures.rules)
-    (subst (λ rows. IsWithinRound (operation g.E.Key.Ord.cmp (g.E.Expand.seed c.args.problem.now) (g.E.Expand.seed_edge c.args.problem.now) (g.E.Expand.edge c.args.problem.now) g.E.Expand.ends_of (key_parts g.E.Key.TableKey.entries_of) g.E.Expand.parts_of) (g.E.Expand.admits c.args.problem.now) g.E.Expand.places g.E.Expand.positions g.E.Expand.read_places g.E.Expand.read_positions c.args.self.now.keys.keys c.args.first (c.loop-n.n + 1) c.add_edges.new.self.keys.keys c.loop-n.self.rules.items rows c.add_edges.new.self.parts c.args.limit) (sym r.1)
-    (expanded (operation g.E.Key.Ord.cmp (g.E.Expand.seed c.args.problem.now) (g.E.Expand.seed_edge c.args.problem.now) (g.E.Expand.edge c.args.problem.now) g.E.Expand.ends_of (key_parts g.E.Key.TableKey.entries_of) g.E.Expand.parts_of) (laws_of (operation g.E.Key.Ord.cmp (g.E.Expand.seed c.args.problem.now) (g.E.Expand.seed_edge c.args.problem.now) (g.E.Expand.edge c.args.problem.now) g.E.Expand.ends_of (key_parts g.E.Key.TableKey.entries_of) g.E.Expand.parts_of) g.met.E.Key.Ord.total (g.met.E.Expand.one_seed_edge c.args.problem.now) (g.met.E.Expand.one_edge c.args.problem.now) (g.met.E.Expand.edges_stay c.args.problem.now)) (g.E.Expand.admits c.args.problem.now) g.E.Expand.places g.E.Expand.positions g.E.Expand.read_places g.E.Expand.read_positions g.met.E.Expand.reads_places g.met.E.Expand.reads_positions g.E.Key.PartialEq.eq g.met.E.Key.TableKey.same g.met.E.Key.Eq.laws.refl c.args.self.now.keys.keys c.loop-n.self.keys.keys c.args.first c.loop-n.n c.loop-n.self.rules.items c.loop-n.self.rows.items c.loop-n.self.parts c.args.limit c.loop-n.invariant (let a = c.loop-n-test.true in let b = c.len-bound.ensures.len in omega arith)
-    c.in-Ok.edges.ends.items c.in-Ok.edges.rules.items c.in-Ok.edges.parts
-    (subst (λ o. AreListed (g.E.Expand.edge c.args.problem.now o c.loop-n.n) g.E.Expand.parts_of g.E.Expand.places g.E.Expand.read_places o c.in-Ok.edges.ends.items c.in-Ok.edges.rules.items c.in-Ok.edges.parts) (slice_is c.args.self.now.keys.keys c.loop-n.self.keys.keys c.loop-n.invariant.held.fresh c.as_slice.result.now c.len-bound.result c.loop-n.invariant.held.keys_are c.as_slice.ensures.keys c.len-bound.ensures.len) c.in-Ok.ensures.listed)
-    (subst (λ o. (k : g.row.E-Key.Denot) → Has c.in-Ok.edges.ends.items k ↔ IsEnd (g.E.Expand.edge c.args.problem.now o c.loop-n.n) g.E.Expand.ends_of k) (slice_is c.args.self.now.keys.keys c.loop-n.self.keys.keys c.loop-n.invariant.held.fresh c.as_slice.result.now c.len-bound.result c.loop-n.invariant.held.keys_are c.as_slice.ensures.keys c.len-bound.ensures.len) c.in-Ok.ensures.ends)
-    (end_admitted (g.E.Expand.edge c.args.problem.now c.args.self.now.keys.keys c.loop-n.n) g.E.Expand.ends_of (g.E.Expand.admits c.args.problem.now) (λ o e k is h. g.met.E.Expand.ends_admitted c.args.problem.now c.args.self.now.keys.keys c.loop-n.n o e k c.requires.between.held.admitted (let a = c.loop-n-test.true in let b = c.len-bound.ensures.len in omega arith) is h))
-    r.0 r.2 c.add_edges.new.self.keys.keys c.in-Ok-add_edges.ensures.keys r.3 c.add_edges.new.self.parts c.in-Ok-add_edges.ensures.parts c.in-Ok-add_edges.ensures.within))
+pub returns-in-Err-take_in-clause-more : goal.returns-in-Err-take_in-clause-more
+returns-in-Err-take_in-clause-more g c = told_new (operation g.E.Key.Ord.cmp (g.E.Expand.seed c.args.problem.now) (g.E.Expand.seed_edge c.args.problem.now) (g.E.Expand.edge c.args.problem.now) g.E.Expand.ends_of (key_parts g.E.Key.TableKey.entries_of) g.E.Expand.parts_of) (laws_of (operation g.E.Key.Ord.cmp (g.E.Expand.seed c.args.problem.now) (g.E.Expand.seed_edge c.args.problem.now) (g.E.Expand.edge c.args.problem.now) g.E.Expand.ends_of (key_parts g.E.Key.TableKey.entries_of) g.E.Expand.parts_of) g.met.E.Key.Ord.total (g.met.E.Expand.one_seed_edge c.args.problem.now) (g.met.E.Expand.one_edge c.args.problem.now) (g.met.E.Expand.edges_stay c.args.problem.now)) (g.E.Expand.admits c.args.problem.now) g.E.Expand.places g.E.Expand.positions g.E.Expand.read_places g.E.Expand.read_positions g.met.E.Expand.reads_places g.met.E.Expand.reads_positions g.E.Key.PartialEq.eq g.met.E.Key.TableKey.same g.met.E.Key.Eq.laws.refl g.E.Key.TableKey.shelf_of (λ x. g.met.E.Key.TableKey.low x) c.args.self.now.keys.keys c.args.first c.args.self.now.rules.items c.args.self.now.parts c.args.limit c.requires.between c.in-Ok.ensures.worked.0 c.in-Ok.worked.rows.items c.in-Ok.worked.parts (subst (λ o. IsUnderway (operation g.E.Key.Ord.cmp (g.E.Expand.seed c.args.problem.now) (g.E.Expand.seed_edge c.args.problem.now) (g.E.Expand.edge c.args.problem.now) g.E.Expand.ends_of (key_parts g.E.Key.TableKey.entries_of) g.E.Expand.parts_of) g.E.Expand.places g.E.Expand.read_places g.E.Key.PartialEq.eq g.E.Key.TableKey.shelf_of o c.args.first (length o) c.in-Ok.ensures.worked.0 c.in-Ok.worked.rows.items c.args.self.now.parts c.in-Ok.worked.parts c.args.limit) c.as_slice-order.ensures.keys c.in-Ok.ensures.worked.2) (map (λ v. v.items) c.in-Ok.worked.shelves.items) c.in-Ok.ensures.worked.1 c.in-Err-take_in.error c.in-Err-take_in.ensures.more

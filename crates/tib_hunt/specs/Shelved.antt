@@ -1,0 +1,84 @@
+-- The keys on the shelves of a round, and the rows of its items, whose ends have numbers on the shelves.
+use Rattle.std.specs.Prelude.{◌≡◌, ◌↔◌, ◌⊎◌, ℕ, ◌+◌, ◌-◌, ◌<◌, ◌≤◌, Bool, List, [], ◌∷◌, ◌++◌, length, map, slice_index, slice_index_or}
+use Rattle.tib_lex.specs.Lists.{Has, Each, Along}
+use Rattle.tib_table.specs.Known.{Names}
+use Rattle.tib_table.specs.declared.number.Number.{Number}
+use Rattle.tib_hunt.specs.EdgeLists.{AreListed, Exceeds, IsEnd, IsWithin, key_at, total}
+use Rattle.tib_hunt.specs.Reached.{Operation, AreEdges}
+use Rattle.tib_hunt.specs.RoundModel.{Core, with_key, with_filed}
+use Rattle.tib_hunt.specs.RoundLaw.{IsKept}
+use Rattle.tib_hunt.specs.declared.place.Place.{Place}
+use Rattle.tib_hunt.specs.declared.row.Row.{Row}
+use Rattle.tib_hunt.specs.declared.shelved_row.ShelvedRow.{ShelvedRow}
+
+module _ {K : Type 0} where
+  -- the keys of all shelves, one shelf after the other
+  abbrev pub all_on : List (List K) → List K
+  all_on [] = []
+  all_on (ks ∷ kss) = ks ++ all_on kss
+
+  -- the state after keys are numbered, one after the other
+  abbrev pub with_keys : (K → K → Bool) → (K → ℕ) → Core K → List K → Core K
+  with_keys eq shelf_of s [] = s
+  with_keys eq shelf_of s (k ∷ ks) = with_keys eq shelf_of (with_key eq shelf_of s k) ks
+
+  -- each number names its key on the shelves
+  abbrev pub NameOn : List (List K) → List K → List Number → Type 0
+  NameOn shelves ends numbers = Along (λ k (n : Number). Names shelves n.shelf n.place k) ends numbers
+
+  -- with some of the ends the keys on the shelves alone have more parts than the limit
+  abbrev pub ShelvesHaveMore : (K → K → Bool) → (K → ℕ) → (K → ℕ) → Core K → (K → Type 0) → ℕ → Type 0
+  ShelvesHaveMore eq shelf_of parts_of s is_end limit = (front : List K) × ((k : K) → Has front k → is_end k) × (limit < total parts_of (all_on (with_keys eq shelf_of s front).shelves))
+
+  -- a row whose ends have these keys
+  abbrev pub IsShelvedRow : {R : Type 0} → (R → List Place) → ℕ → List (List K) → List K → ShelvedRow R → Type 0
+  IsShelvedRow places bound shelves ends row = NameOn shelves ends row.ends.items × Each (λ rule. Each (IsWithin bound (length ends)) (places rule)) row.rules.items
+
+  -- the edges of the rows, where the ends of each have these keys
+  abbrev pub edges_of_rows : {R E : Type 0} → ((Place → K) → R → E) → K → List K → List (List K) → List (ShelvedRow R) → List E
+  edges_of_rows read d order [] rows = []
+  edges_of_rows read d order (ends ∷ sights) [] = []
+  edges_of_rows read d order (ends ∷ sights) (row ∷ rows) = map (read (key_at d order ends)) row.rules.items ++ edges_of_rows read d order sights rows
+
+-- the position of a number, where each shelf has its list of positions
+abbrev pub position_on : List (List ℕ) → Number → ℕ
+position_on positions n = slice_index (slice_index_or positions n.shelf []) n.place
+
+-- each number has a place there
+abbrev pub AreOn : List (List ℕ) → List Number → Type 0
+AreOn positions numbers = Each (λ (n : Number). n.place < length (slice_index_or positions n.shelf [])) numbers
+
+-- the rules of a row, with the positions of its ends
+abbrev pub IsPlacedRow : {R : Type 0} → List (List ℕ) → ShelvedRow R → Row R → Type 0
+IsPlacedRow positions row placed = (placed.rules.items ≡ row.rules.items) × (placed.ends.items ≡ map (position_on positions) row.ends.items)
+
+module _ {K O E R : Type 0} (p : Operation K O E) (places : R → List Place) (readp : (Place → K) → R → E) (eq : K → K → Bool) (shelf_of : K → ℕ) where
+  -- An item was expanded: its ends are numbered on their shelves, its row is the last, and it is filed.
+  pub record IsWorked (order : List K) (item : ℕ) (s : Core K) (rows : List (ShelvedRow R)) (parts : ℕ) (t : Core K) (rows' : List (ShelvedRow R)) (parts' limit : ℕ) : Type 0 where
+    pub ends : List K
+    pub row : ShelvedRow R
+    pub more : ℕ
+    pub listed : AreListed (p.edge order item) p.edge_parts places readp order ends row.rules.items more
+    pub are_ends : (k : K) → Has ends k ↔ IsEnd (p.edge order item) p.ends_of k
+    pub named : NameOn t.shelves ends row.ends.items
+    pub core_is : t ≡ with_filed (with_keys eq shelf_of s ends) item
+    pub rows_are : rows' ≡ rows ++ row ∷ []
+    pub counted : parts' ≡ parts + more
+    pub within : parts' ≤ limit
+
+  -- the item has too many edges, or too many keys are on the shelves
+  abbrev pub IsTooMuch : List K → ℕ → Core K → ℕ → ℕ → Type 0
+  IsTooMuch order item s parts limit = Exceeds (p.edge order item) p.edge_parts (limit - parts) ⊎ ShelvesHaveMore eq shelf_of p.key_parts s (IsEnd (p.edge order item) p.ends_of) limit
+
+  -- Within a round: its items below n are expanded and filed. `was` are the parts of all that was there at its beginning.
+  pub record IsUnderway (order : List K) (first n : ℕ) (s : Core K) (rows : List (ShelvedRow R)) (was parts limit : ℕ) : Type 0 where
+    pub kept : IsKept shelf_of first (length order - first) (λ i k. IsEnd (p.edge order i) p.ends_of k) s
+    pub filed : (i : ℕ) → first ≤ i → i < n → Has s.filed i
+    pub only_filed : (i : ℕ) → Has s.filed i → i < n
+    pub from : first ≤ n
+    pub drawn : n ≤ first + s.drawn
+    pub sights : List (List K)
+    pub named : Along (IsShelvedRow places (length order) s.shelves) sights rows
+    pub edges : (d : K) (front : List E) → AreEdges p order first front → AreEdges p order n (front ++ edges_of_rows readp d order sights rows)
+    pub counted : (d : K) → parts ≡ was + total p.edge_parts (edges_of_rows readp d order sights rows)
+    pub within : parts ≤ limit

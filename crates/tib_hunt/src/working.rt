@@ -1,0 +1,137 @@
+ghost use Rattle.std.specs.Prelude.{◌≡◌, ◌-◌, ℕ, ◌≤◌, List, length, map, IfOk, IfErr, OnOk};
+ghost use Rattle.tib_lex.specs.Lists.{Has, Each};
+ghost use Rattle.tib_hunt.specs.EdgeLists.{IsEnd, total};
+ghost use Rattle.tib_hunt.specs.Held.{IsBetween};
+ghost use Rattle.tib_hunt.specs.Numbered.{key_parts};
+ghost use Rattle.tib_hunt.specs.Reached.{operation, IfTooMany, IsBeyond};
+ghost use Rattle.tib_hunt.specs.RoundLaw.{IsKept};
+ghost use Rattle.tib_hunt.specs.RoundModel.{Core, IsItem};
+ghost use Rattle.tib_hunt.specs.Shelved.{all_on, IsWorked, IsTooMuch, IsUnderway};
+
+use crate::expand::Expand;
+use crate::found::{Gate, HuntError};
+use crate::place::ExpandError;
+use crate::round::Round;
+use crate::round_of::RoundOf;
+use crate::shelved_row::ShelvedRow;
+use crate::shelving::{draw_item, file_item, shelve_ends};
+use std::alloc::Global;
+use tib_table::TableKey;
+
+/// What a round has made: the keys on its shelves, the rows of its items, and the parts of all that was there before and of these rows.
+#[derive(Drop)]
+pub(crate) struct Worked<K, R> {
+    pub shelves: Vec<Vec<K>>,
+    pub rows: Vec<ShelvedRow<R>>,
+    pub parts: u64,
+}
+
+// The rows so far, the parts of all that was there before and of these rows, and the parts of the keys on the shelves.
+#[derive(Drop)]
+struct Work<R> {
+    rows: Vec<ShelvedRow<R>>,
+    parts: u64,
+    seen: u64,
+}
+
+// Expands an item that was drawn: its ends are numbered on their shelves, and it is filed.
+fn work_item<'a, 'b, E: Expand, G: Gate>(
+    alloc: Global,
+    of: &'a RoundOf<'b, E>,
+    round: &mut Round<&'a RoundOf<'b, E>>,
+    work: &mut Work<E::Over>,
+    limit: u64,
+    gate: &G,
+    item: u32,
+) -> Result<(), HuntError>
+    requires about { round.old.about ≡ (of.now.problem.now, of.now.order.now, of.now.first) }
+    requires drawn { IsItem of.now.first round.old.core.drawn item }
+    requires once { Has round.old.core.filed item → ⊥ }
+    requires kept { IsKept E.Key.shelf_of of.now.first (length of.now.order.now - of.now.first) (λ i k. IsEnd (E.edge of.now.problem.now of.now.order.now i) E.ends_of k) round.old.core }
+    requires admitted { Each (E.admits of.now.problem.now) of.now.order.now }
+    requires within { work.old.parts ≤ limit }
+    requires counted { work.old.seen ≡ total (key_parts E.Key.entries_of) (all_on round.old.core.shelves) }
+    requires few { work.old.seen ≤ limit }
+    requires limit { limit ≤ 20000000 }
+    ensures about { round.new.about ≡ round.old.about }
+    ensures worked { OnOk result (IsWorked (operation E.Key.cmp (E.seed of.now.problem.now) (E.seed_edge of.now.problem.now) (E.edge of.now.problem.now) E.ends_of (key_parts E.Key.entries_of) E.parts_of) E.places E.read_places E.Key.eq E.Key.shelf_of of.now.order.now item round.old.core work.old.rows.items work.old.parts round.new.core work.new.rows.items work.new.parts limit) }
+    ensures counted { OnOk result (work.new.seen ≡ total (key_parts E.Key.entries_of) (all_on round.new.core.shelves)) }
+    ensures few { OnOk result (work.new.seen ≤ limit) }
+    ensures more { IfErr result (IfTooMany limit (IsTooMuch (operation E.Key.cmp (E.seed of.now.problem.now) (E.seed_edge of.now.problem.now) (E.edge of.now.problem.now) E.ends_of (key_parts E.Key.entries_of) E.parts_of) E.places E.read_places E.Key.eq E.Key.shelf_of of.now.order.now item round.old.core work.old.parts limit)) }
+{
+    gate.pass(0, item);
+    let edges = match of.problem.expand(alloc, of.order, item, limit - work.parts) {
+        Ok(edges) => edges,
+        Err(ExpandError::More) => return Err(HuntError::TooMany { limit }),
+        Err(ExpandError::OutOfMemory) => return Err(HuntError::OutOfMemory),
+    };
+    let ends = match shelve_ends(alloc, round, &mut work.seen, limit, edges.ends) {
+        Ok(ends) => ends,
+        Err(error) => return Err(error),
+    };
+    work.parts += edges.parts;
+    let row = ShelvedRow {
+        rules: edges.rules,
+        ends,
+    };
+    let Ok(()) = work.rows.push(row) else {
+        return Err(HuntError::OutOfMemory);
+    };
+    let Ok(()) = file_item(round, item) else {
+        return Err(HuntError::OutOfMemory);
+    };
+    Ok(())
+}
+
+/// One round: the positions of the order from `first` on are drawn and expanded, their ends are numbered on shelves, and they are filed.
+pub(crate) fn work_round<E: Expand, G: Gate>(
+    alloc: Global,
+    problem: &E,
+    order: &[E::Key],
+    first: u32,
+    parts: u64,
+    limit: u64,
+    gate: &G,
+) -> Result<Worked<E::Key, E::Over>, HuntError>
+    requires limit { limit ≤ 20000000 }
+    requires between { (rules : List E.Rule) × IsBetween (operation E.Key.cmp (E.seed problem.now) (E.seed_edge problem.now) (E.edge problem.now) E.ends_of (key_parts E.Key.entries_of) E.parts_of) (E.admits problem.now) E.places E.positions E.read_places E.read_positions first order.now rules parts limit }
+    ensures worked { IfOk result (λ r. (core : Core E.Key) × (core.shelves ≡ map (λ v. v.items) r.shelves.items) × IsUnderway (operation E.Key.cmp (E.seed problem.now) (E.seed_edge problem.now) (E.edge problem.now) E.ends_of (key_parts E.Key.entries_of) E.parts_of) E.places E.read_places E.Key.eq E.Key.shelf_of order.now first (length order.now) core r.rows.items parts r.parts limit) }
+    ensures more { IfErr result (IfTooMany limit (IsBeyond (operation E.Key.cmp (E.seed problem.now) (E.seed_edge problem.now) (E.edge problem.now) E.ends_of (key_parts E.Key.entries_of) E.parts_of) limit)) }
+{
+    let of = RoundOf {
+        problem,
+        order,
+        first,
+    };
+    let Ok(mut round) = Round::open(alloc, &of) else {
+        return Err(HuntError::OutOfMemory);
+    };
+    let mut work = Work {
+        rows: Vec::new(alloc),
+        parts,
+        seen: 0,
+    };
+    for _ in first..order.len() as u32 {
+        let Ok(drawn) = draw_item(&mut round) else {
+            return Err(HuntError::OutOfMemory);
+        };
+        let Some(item) = drawn else { unreachable!() };
+        match work_item(alloc, &of, &mut round, &mut work, limit, gate, item) {
+            Ok(()) => {}
+            Err(error) => return Err(error),
+        }
+    }
+    let Ok(shelves) = round.close(alloc) else {
+        return Err(HuntError::OutOfMemory);
+    };
+    let Work {
+        rows,
+        parts,
+        seen: _,
+    } = work;
+    Ok(Worked {
+        shelves,
+        rows,
+        parts,
+    })
+}
