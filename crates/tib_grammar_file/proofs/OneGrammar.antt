@@ -24,16 +24,16 @@ use Rattle.tib_grammar_file.proofs.Meanings.{meant_side, meant_count}
 use Rattle.tib_grammar_file.proofs.WholeWeights.{cost_forth}
 use Rattle.tib_grammar_file.proofs.TextRead.{first_words, FirstIsWord, all_names}
 
-some_same : {A : Type 0} (x y : A) → Some x ≡ Some y → x ≡ y
+pub some_same : {A : Type 0} (x y : A) → Some x ≡ Some y → x ≡ y
 some_same x y e = cc
 
-cons_same : {A : Type 0} (x y : A) (xs ys : List A) → x ∷ xs ≡ y ∷ ys → (x ≡ y) × (xs ≡ ys)
+pub cons_same : {A : Type 0} (x y : A) (xs ys : List A) → x ∷ xs ≡ y ∷ ys → (x ≡ y) × (xs ≡ ys)
 cons_same x y xs ys e = (cc, cc)
 
 pub words_same : (line : List ℕ) (ws vs : List Word) → HasWords ws line → HasWords vs line → ws ≡ vs
 words_same line ws vs h k = some_same ws vs (sym (words_read ws line h) ∙ words_read vs line k)
 
-tokens_same : (lines : List (List ℕ)) (rows others : List (List Word)) → HaveTokens lines rows → HaveTokens lines others → rows ≡ others
+pub tokens_same : (lines : List (List ℕ)) (rows others : List (List Word)) → HaveTokens lines rows → HaveTokens lines others → rows ≡ others
 tokens_same [] rows others t u = t ∙ sym u
 tokens_same (line ∷ lines) rows others (inl (h, t)) (inl (k, u)) = tokens_same lines rows others t u
 tokens_same (line ∷ lines) rows others (inl (h, t)) (inr (w, ws, more, k, e, u)) = let bad : [] ≡ w ∷ ws = words_same line [] (w ∷ ws) h k in cc
@@ -49,7 +49,7 @@ adds_same before text now other (inl (held, e)) (inr (new, f)) = absurd (new hel
 adds_same before text now other (inr (new, e)) (inl (held, f)) = absurd (new held)
 adds_same before text now other (inr (new, e)) (inr (also, f)) = e ∙ sym f
 
-all_same : (before texts now other : List (List ℕ)) → AddsAll before texts now → AddsAll before texts other → now ≡ other
+pub all_same : (before texts now other : List (List ℕ)) → AddsAll before texts now → AddsAll before texts other → now ≡ other
 all_same before [] now other e f = e ∙ sym f
 all_same before (text ∷ texts) now other (middle, a, more) (center, b, rest) =
     all_same middle texts now other more (subst (λ (m : List (List ℕ)). AddsAll m texts other) (sym (adds_same before text middle center a b)) rest)
@@ -61,7 +61,7 @@ place_same (x ∷ xs) zero (suc m) t d h k e f = absurd (d.0 (subst (λ (y : Lis
 place_same (x ∷ xs) (suc n) zero t d h k e f = absurd (d.0 (subst (λ (y : List ℕ). Has xs y) (e ∙ sym f) (has_at xs n t (omega arith))))
 place_same (x ∷ xs) (suc n) (suc m) t d h k e f = ap suc (place_same xs n m t d.1 (omega arith) (omega arith) e f)
 
-number_same : (xs : List (List ℕ)) (n m : ℕ) (t : List ℕ) → Distinct xs → slice_get xs n ≡ Some t → slice_get xs m ≡ Some t → n ≡ m
+pub number_same : (xs : List (List ℕ)) (n m : ℕ) (t : List ℕ) → Distinct xs → slice_get xs n ≡ Some t → slice_get xs m ≡ Some t → n ≡ m
 number_same xs n m t d e f = place_same xs n m t d (slice_get_within xs n t e) (slice_get_within xs m t f) (get_or_from_slice_get xs n t t e) (get_or_from_slice_get xs m t t f)
 
 symbol_same : (names labels : List (List ℕ)) → Distinct names → Distinct labels → (r s : Symbol ℕ ℕ) (i : Item) → IsSymbol names labels r i → IsSymbol names labels s i → r ≡ s
@@ -90,10 +90,10 @@ tree_same s t e =
     let b : s.kids ≡ t.kids = cc in
     ap (λ (l : Symbol ℕ ℕ). record { label = l; kids = s.kids }) a ∙ ap (λ (k : Trees (Symbol ℕ ℕ)). record { label = t.label; kids = k }) b
 
-parts_as : (weighted : Bool) (names labels : List (List ℕ)) (words : List Word) (r : Rule ℕ) → (s : SpellsRuleOf weighted names labels words r) → parts_of words ≡ Some (parts s.left (items s.right) s.weight)
+pub parts_as : (weighted : Bool) (names labels : List (List ℕ)) (words : List Word) (r : Rule ℕ) → (s : SpellsRuleOf weighted names labels words r) → parts_of words ≡ Some (parts s.left (items s.right) s.weight)
 parts_as weighted names labels words r s = rule_forth words (parts s.left (items s.right) s.weight) (record { plain = s.plain; tree = s.right; one = sym (meant_count names labels (only r.right) s.right s.right_is); nodes = refl; spelled = s.words_are })
 
-ok_same : (m n : ℕ) → (let r : Result ℕ FaultKind = Ok m in r ≡ Ok n) → m ≡ n
+pub ok_same : (m n : ℕ) → (let r : Result ℕ FaultKind = Ok m in r ≡ Ok n) → m ≡ n
 ok_same m n e = cc
 
 pub rule_same : (weighted : Bool) (names labels : List (List ℕ)) → Distinct names → Distinct labels → (words : List Word) (q r : Rule ℕ) → SpellsRuleOf weighted names labels words q → SpellsRuleOf weighted names labels words r → q ≡ r
@@ -128,14 +128,14 @@ firsts_are_names weighted names labels [] rules a f = tt
 firsts_are_names weighted names labels (w ∷ rows) [] a f = absurd a
 firsts_are_names weighted names labels (w ∷ rows) (r ∷ rules) a f = (first_is_name weighted names labels w r a.0 f.0, firsts_are_names weighted names labels rows rules a.1 f.1)
 
-names_distinct : (weighted : Bool) (labels : List (List ℕ)) (bytes : List ℕ) (g : GrammarOf) → GrammarText weighted labels bytes g → Distinct g.names
+pub names_distinct : (weighted : Bool) (labels : List (List ℕ)) (bytes : List ℕ) (g : GrammarOf) → GrammarText weighted labels bytes g → Distinct g.names
 names_distinct weighted labels bytes g t =
     let f = first_words t.lines ((name t.start ∷ []) ∷ t.rows) t.tokens in
     let all : AreStateNames g.names = all_names [] (t.start ∷ map first_text t.rows) g.names t.states (record { each = tt; distinct = tt })
     (record { is_name = f.0; no_stop = t.plain }, firsts_are_names weighted g.names labels t.rows g.rules t.rules f.1) in
     all.distinct
 
-start_same : (s t : List ℕ) → name s ∷ [] ≡ name t ∷ [] → s ≡ t
+pub start_same : (s t : List ℕ) → name s ∷ [] ≡ name t ∷ [] → s ≡ t
 start_same s t e = cc
 
 -- two grammars with one text over distinct labels are the same

@@ -11,9 +11,11 @@ use Rattle.tib_grammar.specs.Run.{rule_at}
 use Rattle.tib_grammar.specs.StateName.{IsStateName}
 use Rattle.tib_grammar.specs.declared.Rule.{Rule}
 use Rattle.tib_grammar_file.specs.ByName.{HasText, PrintsBack}
-use Rattle.tib_grammar_file.specs.GrammarText.{SpellsRuleOf, GrammarText, AreSmallRules, first_text}
+use Rattle.tib_grammar_file.specs.GrammarText.{SpellsRuleOf, GrammarText, AreSmallRules, AddsAll, first_text}
+use Rattle.tib_grammar_file.specs.Printable.{IsPrintable}
 use Rattle.tib_grammar_file.specs.Printed.{grammar_text}
 use Rattle.tib_grammar_file.specs.Read.{ReadsAs}
+use Rattle.tib_grammar_file.proofs.Plain.{labels_below}
 use Rattle.tib_grammar_file.proofs.PrintedTrees.{Fits, FitsSymbol, fits_of, first_word, no_words, name_at_is}
 use Rattle.tib_grammar_file.proofs.PrintedRules.{FitsRule, Renames, rule_spelled}
 use Rattle.tib_grammar_file.proofs.PrintedLines.{names_free, lines_in, rows_in, grammar_lines, rules_tokens}
@@ -21,15 +23,15 @@ use Rattle.tib_grammar_file.proofs.PrintedStates.{contains_has, has_contains, ga
 use Rattle.tib_grammar_file.proofs.TextRead.{no_text}
 
 -- what holds at each place holds of each
-each_rule : (P : Rule ℕ → Type 0) (rules : List (Rule ℕ)) → ((n : ℕ) → n < length rules → P (rule_at rules n)) → Each P rules
+pub each_rule : (P : Rule ℕ → Type 0) (rules : List (Rule ℕ)) → ((n : ℕ) → n < length rules → P (rule_at rules n)) → Each P rules
 each_rule P [] f = tt
 each_rule P (r ∷ rules) f = (f 0 (omega arith), each_rule P rules (λ n h. f (suc n) (omega arith)))
 
 rules_fit : (weighted : Bool) (labels : List (List ℕ)) (g : GrammarOf) → HasText weighted labels g → Each (FitsRule weighted (length g.names) (length labels)) g.rules
 rules_fit weighted labels g t = each_rule (FitsRule weighted (length g.names) (length labels)) g.rules (λ n h. record {
   left = (t.range n h).0;
-  right = fits_of (length g.names) (length labels) (only (rule_at g.rules n).right) (t.leaves n h) (t.labelled n h) (t.range n h).1;
-  cost = t.costs n h;
+  right = fits_of (length g.names) (length labels) (only (rule_at g.rules n).right) (t.leaves n h) (labels_below labels (only (rule_at g.rules n).right) (t.printable n h).right) (t.range n h).1;
+  cost = (t.printable n h).cost;
 })
 
 -- the same rules, by the names of their states
@@ -89,29 +91,42 @@ small_same number (r ∷ rules) s = (omega (arith, count_same (symbol_map number
 start_read : (text : List ℕ) → IsStateName text → HasWords (name text ∷ []) text
 start_read text is = subst (λ (l : List ℕ). HasWords (name text ∷ []) l) (append-nil text) (first_word (name text) [] [] is.is_name refl no_words)
 
+-- the rows of what is printed of a grammar
+abbrev pub rows_of : Bool → List (List ℕ) → GrammarOf → List (List Word)
+rows_of weighted labels g = rows_in weighted g.names labels g.rules
+
+abbrev pub start_of : GrammarOf → List ℕ
+start_of g = get_or g.names 0 []
+
+-- what is printed is a text of the grammar with other numbers for its states, if they are those of first sight
+pub prints_as :
+    (weighted : Bool) (labels : List (List ℕ)) (g : GrammarOf) (names : List (List ℕ)) (number : ℕ → ℕ) → HasText weighted labels g → AddsAll [] (start_of g ∷ map first_text (rows_of weighted labels g)) names →
+    Renames g.names names number → GrammarText weighted labels (grammar_text weighted labels g) (record { names = names; rules = map (named_rule number) g.rules })
+prints_as weighted labels g names number t added ren =
+    let fit = rules_fit weighted labels g t in
+    let start : List ℕ = start_of g in
+    let is_start : IsStateName start = name_at_is g.names 0 t.names.each t.start in
+    record {
+      lines = start ∷ lines_in weighted g.names labels g.rules;
+      start = start;
+      rows = rows_of weighted labels g;
+      lines_are = grammar_lines weighted labels g (names_free g.names t.names.each) (each_rule (IsPrintable weighted labels) g.rules t.printable);
+      tokens = inr (name start, [], rows_of weighted labels g, start_read start is_start, refl, rules_tokens weighted g.names labels g.rules t.names.each fit);
+      plain = is_start.no_stop;
+      states = added;
+      rules = rules_spelled weighted g.names names labels number g.rules t.names.each ren fit;
+    }
+
 pub prints_back : PrintsBack
 prints_back weighted labels g t =
-    let fit = rules_fit weighted labels g t in
-    let rows : List (List Word) = rows_in weighted g.names labels g.rules in
-    let start : List ℕ = get_or g.names 0 [] in
-    let made = gathered [] (start ∷ map first_text rows) in
+    let made = gathered [] (start_of g ∷ map first_text (rows_of weighted labels g)) in
     let names : List (List ℕ) = made.0 in
     let lefts : Each (λ (r : Rule ℕ). r.left < length g.names) g.rules = each_rule (λ (r : Rule ℕ). r.left < length g.names) g.rules (λ n h. (t.range n h).0) in
     let same : SameNames g.names names = same_names weighted labels g names t.start lefts t.lefts made.1 in
     let number : ℕ → ℕ = number_by g.names names in
     let ren : Renames g.names names number = renames g.names names same in
-    let is_start : IsStateName start = name_at_is g.names 0 t.names.each t.start in
     let h : GrammarOf = record { names = names; rules = map (named_rule number) g.rules } in
-    let text : GrammarText weighted labels (grammar_text weighted labels g) h = record {
-      lines = start ∷ lines_in weighted g.names labels g.rules;
-      start = start;
-      rows = rows;
-      lines_are = grammar_lines weighted labels g (names_free g.names t.names.each) t.free fit;
-      tokens = inr (name start, [], rows, start_read start is_start, refl, rules_tokens weighted g.names labels g.rules t.names.each fit);
-      plain = is_start.no_stop;
-      states = made.1;
-      rules = rules_spelled weighted g.names names labels number g.rules t.names.each ren fit;
-    } in
+    let text : GrammarText weighted labels (grammar_text weighted labels g) h = prints_as weighted labels g names number t made.1 ren in
     let read : AreSmallRules g.rules → ReadsAs weighted labels (grammar_text weighted labels g) h = λ small. record { text = text; small = small_same number g.rules small } in (
       h,
       record {
@@ -119,7 +134,7 @@ prints_back weighted labels g t =
         same = record {
           start = same.start;
           names = λ x. (λ c. has_contains names x (same.to x (contains_has g.names x c)), λ c. has_contains g.names x (same.back x (contains_has names x c)));
-          rules = rules_same weighted g.names names number (length labels) g.rules ren fit;
+          rules = rules_same weighted g.names names number (length labels) g.rules ren (rules_fit weighted labels g t);
         };
         read = read;
         no_fault = λ small fault first. no_text weighted (grammar_text weighted labels g) fault first labels h (read small);

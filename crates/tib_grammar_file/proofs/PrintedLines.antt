@@ -14,8 +14,8 @@ use Rattle.tib_grammar.specs.Sides.{Symbol, label as symbol_label, hole}
 use Rattle.tib_grammar.specs.GrammarOf.{GrammarOf}
 use Rattle.tib_grammar.specs.StateName.{IsStateName}
 use Rattle.tib_grammar.specs.declared.Rule.{Rule}
-use Rattle.tib_grammar_file.specs.ByName.{IsPlainCost}
 use Rattle.tib_grammar_file.specs.GrammarText.{HaveTokens}
+use Rattle.tib_grammar_file.specs.Printable.{IsPlainCost, HavePlainLabels, IsPrintable}
 use Rattle.tib_grammar_file.specs.Printed.{is_held, label_text, symbol_text, space, opening, closing, trees_text, cost_text, rule_text, rules_text, grammar_text}
 use Rattle.tib_grammar_file.specs.Weight.{is_digit}
 use Rattle.tib_grammar_file.proofs.PrintedRules.{all_changes, digits_are, line_of, row_of, words_behind, line_read, FitsRule}
@@ -63,10 +63,6 @@ pub names_free : (names : List (List ℕ)) → Each IsStateName names → Each H
 names_free [] e = tt
 names_free (x ∷ xs) e = (free_from is_name_byte refl x e.0.is_name.bytes, names_free xs e.1)
 
-free_symbol : (names labels : List (List ℕ)) (s : Symbol ℕ ℕ) → Each HasNoFeed names → Each HasNoFeed labels → HasNoFeed (symbol_text names labels s)
-free_symbol names labels (symbol_label f) n l = free_label names (get_or labels f []) (free_at labels f l)
-free_symbol names labels (hole q) n l = free_at names q n
-
 free_space : (k : ℕ) → HasNoFeed (space k)
 free_space zero = refl
 free_space (suc k) = refl
@@ -79,24 +75,31 @@ free_closing : (k : ℕ) → HasNoFeed (closing k)
 free_closing zero = refl
 free_closing (suc k) = refl
 
-free_trees : (names labels : List (List ℕ)) (ts : Trees (Symbol ℕ ℕ)) (k : ℕ) → Each HasNoFeed names → Each HasNoFeed labels → HasNoFeed (trees_text names labels ts k)
-free_trees names labels none k n l = refl
-free_trees names labels (tree s kids rest) k n l =
-    let below : HasNoFeed (trees_text names labels kids 0) = free_trees names labels kids 0 n l in
-    let behind : HasNoFeed (trees_text names labels rest (suc k)) = free_trees names labels rest (suc k) n l in
+-- a tree with what stands below it and behind it
+free_tree :
+    (names labels : List (List ℕ)) (s : Symbol ℕ ℕ) (kids rest : Trees (Symbol ℕ ℕ)) (k : ℕ) → HasNoFeed (symbol_text names labels s) → HasNoFeed (trees_text names labels kids 0) →
+    HasNoFeed (trees_text names labels rest (suc k)) → HasNoFeed (trees_text names labels (tree s kids rest) k)
+free_tree names labels s kids rest k symbol below behind =
     let closed : HasNoFeed (closing (count kids) ++ trees_text names labels rest (suc k)) = free_append (closing (count kids)) (trees_text names labels rest (suc k)) (free_closing (count kids)) behind in
     let inside : HasNoFeed (trees_text names labels kids 0 ++ (closing (count kids) ++ trees_text names labels rest (suc k))) = free_append (trees_text names labels kids 0) (closing (count kids) ++ trees_text names labels rest (suc k)) below closed in
     let opened = free_append (opening (count kids)) (trees_text names labels kids 0 ++ (closing (count kids) ++ trees_text names labels rest (suc k))) (free_opening (count kids)) inside in
-    let named = free_append (symbol_text names labels s) (opening (count kids) ++ (trees_text names labels kids 0 ++ (closing (count kids) ++ trees_text names labels rest (suc k)))) (free_symbol names labels s n l) opened in
+    let named = free_append (symbol_text names labels s) (opening (count kids) ++ (trees_text names labels kids 0 ++ (closing (count kids) ++ trees_text names labels rest (suc k)))) symbol opened in
     free_append (space k) (symbol_text names labels s ++ (opening (count kids) ++ (trees_text names labels kids 0 ++ (closing (count kids) ++ trees_text names labels rest (suc k))))) (free_space k) named
+
+free_trees : (names labels : List (List ℕ)) (ts : Trees (Symbol ℕ ℕ)) (k : ℕ) → Each HasNoFeed names → HavePlainLabels labels ts → HasNoFeed (trees_text names labels ts k)
+free_trees names labels none k n l = refl
+free_trees names labels (tree (symbol_label f) kids rest) k n l =
+    free_tree names labels (symbol_label f) kids rest k (free_label names (get_or labels f []) l.1) (free_trees names labels kids 0 n l.2) (free_trees names labels rest (suc k) n l.3)
+free_trees names labels (tree (hole q) kids rest) k n l = free_tree names labels (hole q) kids rest k (free_at names q n) (free_trees names labels kids 0 n l.0) (free_trees names labels rest (suc k) n l.1)
 
 free_cost : (weighted : Bool) (cost : ℕ) → IsPlainCost weighted cost → HasNoFeed (cost_text weighted cost)
 free_cost false cost h = refl
 free_cost true cost h = free_from is_digit refl (printed cost) (digits_are cost h)
 
-free_line : (weighted : Bool) (names labels : List (List ℕ)) (r : Rule ℕ) → Each HasNoFeed names → Each HasNoFeed labels → IsPlainCost weighted r.cost → HasNoFeed (line_of weighted names labels r)
-free_line weighted names labels r n l c =
-    let right : HasNoFeed (trees_text names labels (only r.right) 0 ++ cost_text weighted r.cost) = free_append (trees_text names labels (only r.right) 0) (cost_text weighted r.cost) (free_trees names labels (only r.right) 0 n l) (free_cost weighted r.cost c) in
+free_line : (weighted : Bool) (names labels : List (List ℕ)) (r : Rule ℕ) → Each HasNoFeed names → IsPrintable weighted labels r → HasNoFeed (line_of weighted names labels r)
+free_line weighted names labels r n p =
+    let right : HasNoFeed (trees_text names labels (only r.right) 0 ++ cost_text weighted r.cost) =
+    free_append (trees_text names labels (only r.right) 0) (cost_text weighted r.cost) (free_trees names labels (only r.right) 0 n p.right) (free_cost weighted r.cost p.cost) in
     free_append (get_or names r.left []) (32 ∷ (45 ∷ (62 ∷ (32 ∷ (trees_text names labels (only r.right) 0 ++ cost_text weighted r.cost))))) (free_at names r.left n) right
 
 -- the lines and their tokens
@@ -117,15 +120,15 @@ line_ends weighted names labels r more =
     ∙ ap (λ (l : List ℕ). left ++ (32 ∷ (45 ∷ (62 ∷ (32 ∷ l))))) (append_assoc right (cost ++ 10 ∷ []) more ∙ ap (λ (l : List ℕ). right ++ l) (append_assoc cost (10 ∷ []) more) ∙ sym (append_assoc right cost (10 ∷ more)))
     ∙ sym (append_assoc left (32 ∷ (45 ∷ (62 ∷ (32 ∷ (right ++ cost))))) (10 ∷ more))
 
-rules_lines : (weighted : Bool) (names labels : List (List ℕ)) (rules : List (Rule ℕ)) → Each HasNoFeed names → Each HasNoFeed labels → Each (FitsRule weighted (length names) (length labels)) rules → HasLines (lines_in weighted names labels rules) (rules_text weighted names labels rules)
-rules_lines weighted names labels [] n l f = refl
-rules_lines weighted names labels (r ∷ rules) n l f =
-    (free_line weighted names labels r n l f.0.cost, inr (rules_text weighted names labels rules, line_ends weighted names labels r (rules_text weighted names labels rules), rules_lines weighted names labels rules n l f.1))
+rules_lines : (weighted : Bool) (names labels : List (List ℕ)) (rules : List (Rule ℕ)) → Each HasNoFeed names → Each (IsPrintable weighted labels) rules → HasLines (lines_in weighted names labels rules) (rules_text weighted names labels rules)
+rules_lines weighted names labels [] n p = refl
+rules_lines weighted names labels (r ∷ rules) n p =
+    (free_line weighted names labels r n p.0, inr (rules_text weighted names labels rules, line_ends weighted names labels r (rules_text weighted names labels rules), rules_lines weighted names labels rules n p.1))
 
-pub grammar_lines : (weighted : Bool) (labels : List (List ℕ)) (g : GrammarOf) → Each HasNoFeed g.names → Each HasNoFeed labels → Each (FitsRule weighted (length g.names) (length labels)) g.rules → HasLines (get_or g.names 0 [] ∷ lines_in weighted g.names labels g.rules) (grammar_text weighted labels g)
-grammar_lines weighted labels g n l f = (
+pub grammar_lines : (weighted : Bool) (labels : List (List ℕ)) (g : GrammarOf) → Each HasNoFeed g.names → Each (IsPrintable weighted labels) g.rules → HasLines (get_or g.names 0 [] ∷ lines_in weighted g.names labels g.rules) (grammar_text weighted labels g)
+grammar_lines weighted labels g n p = (
   free_at g.names 0 n,
-  inr (rules_text weighted g.names labels g.rules, append_assoc (get_or g.names 0 []) (10 ∷ []) (rules_text weighted g.names labels g.rules), rules_lines weighted g.names labels g.rules n l f),
+  inr (rules_text weighted g.names labels g.rules, append_assoc (get_or g.names 0 []) (10 ∷ []) (rules_text weighted g.names labels g.rules), rules_lines weighted g.names labels g.rules n p),
 )
 
 pub rules_tokens : (weighted : Bool) (names labels : List (List ℕ)) (rules : List (Rule ℕ)) → Each IsStateName names → Each (FitsRule weighted (length names) (length labels)) rules → HaveTokens (lines_in weighted names labels rules) (rows_in weighted names labels rules)

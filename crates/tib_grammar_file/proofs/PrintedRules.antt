@@ -20,8 +20,8 @@ use Rattle.tib_grammar.specs.Sides.{Symbol, label as symbol_label, hole, symbol_
 use Rattle.tib_grammar.specs.GrammarOf.{named_rule}
 use Rattle.tib_grammar.specs.StateName.{IsStateName}
 use Rattle.tib_grammar.specs.declared.Rule.{Rule}
-use Rattle.tib_grammar_file.specs.ByName.{IsPlainCost}
 use Rattle.tib_grammar_file.specs.GrammarText.{IsLeaf, IsHead, Means, SpellsRuleOf}
+use Rattle.tib_grammar_file.specs.Printable.{IsPlainCost}
 use Rattle.tib_grammar_file.specs.Printed.{is_held, trees_text, cost_text}
 use Rattle.tib_grammar_file.specs.Rule.{weight_words}
 use Rattle.tib_grammar_file.specs.Weight.{most, is_digit, decimal_from, IsWhole, IsCostOf}

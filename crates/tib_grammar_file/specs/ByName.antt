@@ -1,8 +1,6 @@
 -- Grammars by the names of their states, and what is printed of them.
-use Rattle.std.specs.Prelude.{◌≡◌, ◌<◌, ◌≤◌, ℕ, Bool, true, false, List, [], map, length, Contains}
+use Rattle.std.specs.Prelude.{◌≡◌, ◌<◌, ℕ, Bool, List, [], map, length, Contains}
 use Rattle.std.proofs.Common.{get_or}
-use Rattle.tib_lex.specs.Lines.{HasNoFeed}
-use Rattle.tib_lex.specs.Lists.{Each}
 use Rattle.tib_lex.specs.declared.fault.FileFault.{FileFault}
 use Rattle.tib_grammar.specs.GrammarOf.{GrammarOf, named_rule}
 use Rattle.tib_grammar.specs.Range.{AreInRange, SidesEndInHoles}
@@ -10,9 +8,9 @@ use Rattle.tib_grammar.specs.Run.{rule_at}
 use Rattle.tib_grammar.specs.StateName.{AreStateNames}
 use Rattle.tib_grammar.specs.declared.Rule.{Rule}
 use Rattle.tib_grammar_file.specs.GrammarText.{GrammarText, AreSmallRules}
-use Rattle.tib_grammar_file.specs.Printed.{AreLabelled, grammar_text}
+use Rattle.tib_grammar_file.specs.Printable.{ArePrintable}
+use Rattle.tib_grammar_file.specs.Printed.{grammar_text}
 use Rattle.tib_grammar_file.specs.Read.{ReadsAs, IsFirstFault}
-use Rattle.tib_grammar_file.specs.Weight.{most}
 
 -- the rules with the name of each state in its place
 abbrev pub named_rules : GrammarOf → List (Rule (List ℕ))
@@ -24,26 +22,19 @@ pub record IsSameByName (g h : GrammarOf) : Type 0 where
   pub names : (text : List ℕ) → (Contains g.names text → Contains h.names text) × (Contains h.names text → Contains g.names text)
   pub rules : named_rules g ≡ named_rules h
 
--- a cost that can be written: a weight within the limit, or none where nothing is weighed
-abbrev pub IsPlainCost : Bool → ℕ → Type 0
-IsPlainCost true cost = cost ≤ most
-IsPlainCost false cost = cost ≡ 0
-
 -- each state but the start has a rule
 abbrev pub HaveRules : GrammarOf → Type 0
 HaveRules g = (q : ℕ) → 0 < q → q < length g.names → (n : ℕ) × (n < length g.rules) × ((rule_at g.rules n).left ≡ q)
 
--- A grammar that has a text over a table of labels: it is sound, its labels are in the table and none has a line feed,
--- each state but the start has a rule, and its costs can be written.
+-- A grammar that has a text over a table of labels: it is sound, its labels and its costs can be written, and each state
+-- but the start has a rule.
 pub record HasText (weighted : Bool) (labels : List (List ℕ)) (g : GrammarOf) : Type 0 where
   pub start : 0 < length g.names
   pub names : AreStateNames g.names
   pub range : AreInRange (length g.names) g.rules
   pub leaves : SidesEndInHoles g.rules
-  pub labelled : AreLabelled (length labels) g.rules
-  pub free : Each HasNoFeed labels
   pub lefts : HaveRules g
-  pub costs : (n : ℕ) → n < length g.rules → IsPlainCost weighted (rule_at g.rules n).cost
+  pub printable : ArePrintable weighted labels g.rules
 
 -- Bytes are the text of the same grammar, states by their names. The reader takes it where no right side has more than 10,000 nodes.
 pub record ReadsBack (weighted : Bool) (labels : List (List ℕ)) (bytes : List ℕ) (g h : GrammarOf) : Type 0 where

@@ -1,10 +1,19 @@
 // What holds of the text of grammars.
-ghost use Rattle.std.specs.Prelude.{◌≡◌, ℕ, List, Bool};
-ghost use Rattle.tib_lex.specs.Lists.{Distinct};
+ghost use Rattle.std.specs.Prelude.{◌≡◌, ◌≤◌, ℕ, List, Bool, Option, length};
+ghost use Rattle.tib_lex.specs.Lists.{Along, Ascends, Distinct};
 ghost use Rattle.tib_lex.specs.declared.fault.FileFault.{FileFault};
+ghost use Rattle.tib_tree.specs.Grows.{Grows};
 ghost use Rattle.tib_grammar.specs.GrammarOf.{GrammarOf};
-ghost use Rattle.tib_grammar_file.specs.ByName.{PrintsBack};
+ghost use Rattle.tib_grammar.specs.declared.Rule.{Rule};
+ghost use Rattle.tib_grammar_file.specs.ByName.{HasText, PrintsBack};
+ghost use Rattle.tib_tree.specs.Printed.{tree_text};
+ghost use Rattle.tib_tree.specs.Trees.{Tree};
+ghost use Rattle.tib_tree.specs.TreesText.{TreesText};
+ghost use Rattle.tib_grammar.specs.Series.{IsSeries};
+ghost use Rattle.tib_grammar_file.specs.ByText.{AgreeByText, AreOneTree};
 ghost use Rattle.tib_grammar_file.specs.GrammarText.{GrammarText};
+ghost use Rattle.tib_grammar_file.specs.Printable.{ArePrintable};
+ghost use Rattle.tib_grammar_file.specs.Printed.{AreLabelled, grammar_text};
 ghost use Rattle.tib_grammar_file.specs.Read.{ReadsAs, IsFirstFault};
 ghost use Rattle.tib_grammar_file.specs.Rule.{ReadsRules};
 
@@ -23,9 +32,48 @@ pub fn text_has_one_grammar()
     ensures { (weighted : Bool) (labels : List (List ℕ)) (bytes : List ℕ) (g h : GrammarOf) → Distinct labels → GrammarText weighted labels bytes g → GrammarText weighted labels bytes h → g ≡ h }
 {}
 
+/// The rules of a grammar that was read can be printed over the same table.
+pub fn read_grammars_are_printable()
+    ensures { (weighted : Bool) (labels : List (List ℕ)) (bytes : List ℕ) (g : GrammarOf) → GrammarText weighted labels bytes g → ArePrintable weighted labels g.rules }
+{}
+
+/// The labels of rules that can be printed are in the table.
+pub fn printable_is_labelled()
+    ensures { (weighted : Bool) (labels : List (List ℕ)) (rules : List (Rule ℕ)) → ArePrintable weighted labels rules → AreLabelled (length labels) rules }
+{}
+
+/// Rules that can be printed over a table can be printed over one that has grown.
+pub fn printable_stays()
+    ensures { (weighted : Bool) (early labels : List (List ℕ)) (rules : List (Rule ℕ)) → ArePrintable weighted early rules → Grows early labels → ArePrintable weighted labels rules }
+{}
+
+/// Bytes that are the text of two grammars, each over a table of labels of its own, are that of one grammar by the texts of
+/// its labels.
+pub fn one_grammar_by_text()
+    ensures { (weighted : Bool) (labels others : List (List ℕ)) (bytes : List ℕ) (g h : GrammarOf) → GrammarText weighted labels bytes g → GrammarText weighted others bytes h → AgreeByText labels others g h }
+{}
+
+/// Bytes that are the text of trees over two tables of labels are that of the same trees by the texts of their labels, and
+/// trees that agree so are printed alike.
+pub fn trees_are_one_by_text()
+    ensures trees { (labels others : List (List ℕ)) (bytes : List ℕ) (ts us : List (Tree ℕ)) → TreesText labels bytes ts → TreesText others bytes us → Along (AreOneTree labels others) ts us }
+    ensures printed { (labels others : List (List ℕ)) (t u : Tree ℕ) → AreOneTree labels others t u → tree_text labels t ≡ tree_text others u }
+{}
+
+/// Grammars that agree by the texts of their labels have one series: trees that agree by these texts have the same value.
+pub fn one_series_by_text()
+    ensures { (product : ℕ → ℕ → ℕ) (labels others : List (List ℕ)) (g h : GrammarOf) (t u : Tree ℕ) (v : Option ℕ) → Distinct labels → Distinct others → AgreeByText labels others g h → AreOneTree labels others t u → IsSeries product g.rules t v → IsSeries product h.rules u v }
+{}
+
 /// What is printed of a grammar is the text of the same grammar, states by their names, and reads back where no right side
-/// has more than 10,000 nodes. No label may have a line feed, each state but the start needs a rule, and where nothing is
-/// weighed all costs are 0.
+/// has more than 10,000 nodes. No label of a rule may have a line feed, each state but the start needs a rule, and where
+/// nothing is weighed all costs are 0.
 pub fn printed_grammars_are_read()
     ensures { PrintsBack }
+{}
+
+/// What is printed of a grammar whose rules ascend by their left states is the text of this very grammar: its states keep
+/// their numbers.
+pub fn sorted_grammars_are_read()
+    ensures { (weighted : Bool) (labels : List (List ℕ)) (g : GrammarOf) → HasText weighted labels g → Ascends (λ r s. r.left ≤ s.left) g.rules → GrammarText weighted labels (grammar_text weighted labels g) g }
 {}
