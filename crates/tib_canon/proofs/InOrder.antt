@@ -43,14 +43,14 @@ Ascends-from R (x ∷ xs) d h = (
 )
 
 -- what stands in a list under a function
-has_mapped : {A B : Type 0} (f : A → B) (xs : List A) (y : B) → Has (map f xs) y → (x : A) × Has xs x × (f x ≡ y)
+pub has_mapped : {A B : Type 0} (f : A → B) (xs : List A) (y : B) → Has (map f xs) y → (x : A) × Has xs x × (f x ≡ y)
 has_mapped f [] y h = absurd h
 has_mapped f (x ∷ xs) y h = elim h [
   | inl e ↦ (x, inl refl, e)
   | inr k ↦ let r = has_mapped f xs y k in (r.0, inr r.1, r.2)
 ]
 
-mapped_has : {A B : Type 0} (f : A → B) (xs : List A) (x : A) → Has xs x → Has (map f xs) (f x)
+pub mapped_has : {A B : Type 0} (f : A → B) (xs : List A) (x : A) → Has xs x → Has (map f xs) (f x)
 mapped_has f [] x h = absurd h
 mapped_has f (y ∷ xs) x h = elim h [ inl e ↦ inl (ap f e) | inr k ↦ inr (mapped_has f xs x k) ]
 

@@ -11,5 +11,15 @@ pub mod One
 pub mod Trimmed
 pub mod TrimmedOnce
 pub mod NormalForms
+pub mod SameRules
 pub mod KeyOrder
 pub mod OverKeys
+pub mod KeySeries
+pub mod KeysOnce
+pub mod PrintableRules
+pub mod Inhabited
+pub mod CanonicalTexts
+pub mod InsidesByText
+pub mod NormalByText
+pub mod TrimmedByText
+pub mod CanonicalByText

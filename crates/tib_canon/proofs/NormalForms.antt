@@ -46,7 +46,7 @@ module _ (product : ℕ → ℕ → ℕ) (states : ℕ) (rules : List (Rule ℕ)
     | inr i ↦ all_leaves states rules r i
   ]
 
-  form_leaves : (n : ℕ) (xs : List (Rule ℕ)) → IsNormalForm product states rules n xs → SidesEndInHoles xs
+  pub form_leaves : (n : ℕ) (xs : List (Rule ℕ)) → IsNormalForm product states rules n xs → SidesEndInHoles xs
   form_leaves n xs form m h = cost_leaves (rule_at xs m) (form.least (rule_at xs m) (has_at xs m no_rule h)).attained.0
 
   -- a rule of one normal form stands in another
@@ -60,7 +60,7 @@ module _ (product : ℕ → ℕ → ℕ) (states : ℕ) (rules : List (Rule ℕ)
       let same : w.0 ≡ r.cost = omega (arith, low, high) in
       subst (λ c. Has ys (record { left = r.left; right = r.right; cost = c })) same w.1
 
-  forms_alike : (m n : ℕ) (xs ys : List (Rule ℕ)) → IsNormalForm product states rules m xs → IsNormalForm product states rules n ys → AreAlike xs ys
+  pub forms_alike : (m n : ℕ) (xs ys : List (Rule ℕ)) → IsNormalForm product states rules m xs → IsNormalForm product states rules n ys → AreAlike xs ys
   forms_alike m n xs ys one two = record { to = form_stands m n xs ys one two; from = form_stands n m ys xs two one }
 
   pub one_of_forms :

@@ -44,7 +44,7 @@ module _ {A : Type 0} (R : A → A → Type 0) (one_way : (x y : A) → R x y �
 rule_total : (weighted : Bool) (names labels : List (List ℕ)) → IsTotalOrder (rule_cmp weighted names labels)
 rule_total weighted names labels = then_total (on_total (λ (r : Rule ℕ). r.left) nat_cmp_total) (on_total (line_of weighted names labels) nat_list_cmp_total)
 
-one_less : (o : Ordering) → o ≡ Less → Less ≡ ordering_reverse o → ⊥
+pub one_less : (o : Ordering) → o ≡ Less → Less ≡ ordering_reverse o → ⊥
 one_less o e f = let bad : Less ≡ Greater = f ∙ ap ordering_reverse e in absurd (cc)
 
 rules_one_way : (weighted : Bool) (names labels : List (List ℕ)) (r s : Rule ℕ) → rule_cmp weighted names labels r s ≡ Less → rule_cmp weighted names labels s r ≡ Less → ⊥

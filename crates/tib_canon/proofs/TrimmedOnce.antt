@@ -19,7 +19,7 @@ below_way : (x y : ℕ) → x < y → y < x → ⊥
 below_way x y h k = omega arith
 
 -- ascending numbers are told by their places
-place_told : (xs : List ℕ) (i j : ℕ) → Ascends ◌<◌ xs → i < length xs → j < length xs → get_or xs i 0 ≡ get_or xs j 0 → i ≡ j
+pub place_told : (xs : List ℕ) (i j : ℕ) → Ascends ◌<◌ xs → i < length xs → j < length xs → get_or xs i 0 ≡ get_or xs j 0 → i ≡ j
 place_told [] i j a h k e = absurd (omega arith)
 place_told (x ∷ xs) zero zero a h k e = refl
 place_told (x ∷ xs) zero (suc j) a h k e = let more : x < get_or xs j 0 = each_has (λ y. x < y) xs (get_or xs j 0) a.0 (has_at xs j 0 (omega arith)) in omega (arith, more, e)
@@ -35,31 +35,31 @@ below_back n [] qs h = h
 below_back n (p ∷ ps) qs h = below_back n ps qs h.1
 
 -- trees over states below n, and nothing below a state
-abbrev Fit : ℕ → Trees (Symbol ℕ ℕ) → Type 0
+abbrev pub Fit : ℕ → Trees (Symbol ℕ ℕ) → Type 0
 Fit n none = Unit {0}
 Fit n (tree (label f) kids rest) = Fit n kids × Fit n rest
 Fit n (tree (hole q) none rest) = (q < n) × Fit n rest
 Fit n (tree (hole q) (tree s kids more) rest) = ⊥
 
-fit_from : (n : ℕ) (ts : Trees (Symbol ℕ ℕ)) → AllBelow n (holes ts) → HolesAreLeaves ts → Fit n ts
+pub fit_from : (n : ℕ) (ts : Trees (Symbol ℕ ℕ)) → AllBelow n (holes ts) → HolesAreLeaves ts → Fit n ts
 fit_from n none b h = tt
 fit_from n (tree (label f) kids rest) b h = (fit_from n kids (below_front n (holes kids) (holes rest) b) h.0, fit_from n rest (below_back n (holes kids) (holes rest) b) h.1)
 fit_from n (tree (hole q) none rest) b h = (b.0, fit_from n rest b.1 h)
 fit_from n (tree (hole q) (tree s kids more) rest) b h = absurd h
 
-leaves_back : (f : ℕ → ℕ) (ts : Trees (Symbol ℕ ℕ)) → HolesAreLeaves (relabel (symbol_map f) ts) → HolesAreLeaves ts
+pub leaves_back : (f : ℕ → ℕ) (ts : Trees (Symbol ℕ ℕ)) → HolesAreLeaves (relabel (symbol_map f) ts) → HolesAreLeaves ts
 leaves_back f none h = tt
 leaves_back f (tree (label g) kids rest) h = (leaves_back f kids h.0, leaves_back f rest h.1)
 leaves_back f (tree (hole q) none rest) h = leaves_back f rest h
 leaves_back f (tree (hole q) (tree s kids more) rest) h = absurd h
 
-label_is : {g h : ℕ} {us bs cs ds : Trees (Symbol ℕ ℕ)} → tree (label g) us bs ≡ tree (label h) cs ds → (g ≡ h) × (us ≡ cs) × (bs ≡ ds)
+label_is : {Q : Type 0} {g h : ℕ} {us bs cs ds : Trees (Symbol ℕ Q)} → tree (label g) us bs ≡ tree (label h) cs ds → (g ≡ h) × (us ≡ cs) × (bs ≡ ds)
 label_is e = (cc, cc, cc)
 
-hole_is : {p q : ℕ} {us bs cs ds : Trees (Symbol ℕ ℕ)} → tree (hole p) us bs ≡ tree (hole q) cs ds → (p ≡ q) × (bs ≡ ds)
+hole_is : {Q : Type 0} {p q : Q} {us bs cs ds : Trees (Symbol ℕ Q)} → tree (hole p) us bs ≡ tree (hole q) cs ds → (p ≡ q) × (bs ≡ ds)
 hole_is e = (cc, cc)
 
-module _ (n : ℕ) (f : ℕ → ℕ) (tells : (i j : ℕ) → i < n → j < n → f i ≡ f j → i ≡ j) where
+module _ {Q : Type 0} (n : ℕ) (f : ℕ → Q) (tells : (i j : ℕ) → i < n → j < n → f i ≡ f j → i ≡ j) where
   trees_told : (ts us : Trees (Symbol ℕ ℕ)) → Fit n ts → Fit n us → relabel (symbol_map f) ts ≡ relabel (symbol_map f) us → ts ≡ us
   trees_told none none h k e = refl
   trees_told none (tree s kids rest) h k e = absurd (cc)
@@ -86,13 +86,13 @@ module _ (n : ℕ) (f : ℕ → ℕ) (tells : (i j : ℕ) → i < n → j < n �
       let b : s.kids ≡ t.kids = cc o in
       ap (λ (l : Symbol ℕ ℕ). record { label = l; kids = s.kids }) a ∙ ap (λ (x : Trees (Symbol ℕ ℕ)). record { label = t.label; kids = x }) b
 
-  rule_told : (r s : Rule ℕ) → r.left < n → s.left < n → Fit n (only r.right) → Fit n (only s.right) → named_rule f r ≡ named_rule f s → r ≡ s
+  pub rule_told : (r s : Rule ℕ) → r.left < n → s.left < n → Fit n (only r.right) → Fit n (only s.right) → named_rule f r ≡ named_rule f s → r ≡ s
   rule_told r s a b h k e =
-      ap (λ (x : ℕ). record { left = x; right = r.right; cost = r.cost }) (tells r.left s.left a b (ap (λ (x : Rule ℕ). x.left) e))
-      ∙ ap (λ (x : Side ℕ ℕ). record { left = s.left; right = x; cost = r.cost }) (side_told r.right s.right h k (ap (λ (x : Rule ℕ). x.right) e))
-      ∙ ap (λ (x : ℕ). record { left = s.left; right = s.right; cost = x }) (ap (λ (x : Rule ℕ). x.cost) e)
+      ap (λ (x : ℕ). record { left = x; right = r.right; cost = r.cost }) (tells r.left s.left a b (ap (λ (x : Rule Q). x.left) e))
+      ∙ ap (λ (x : Side ℕ ℕ). record { left = s.left; right = x; cost = r.cost }) (side_told r.right s.right h k (ap (λ (x : Rule Q). x.right) e))
+      ∙ ap (λ (x : ℕ). record { left = s.left; right = s.right; cost = x }) (ap (λ (x : Rule Q). x.cost) e)
 
-abbrev place_in : List ℕ → ℕ → ℕ
+abbrev pub place_in : List ℕ → ℕ → ℕ
 place_in states i = get_or states i 0
 
 -- a rule that is kept, under new numbers, is the one at its position
@@ -165,8 +165,18 @@ module _ (product : ℕ → ℕ → ℕ) (g k h i : GrammarOf) (alike : AreAlike
       subst (Has i.rules) m.2 (kept_has leaves others states m.0 m.1)
 
 -- as many names as states
-names_long : (product : ℕ → ℕ → ℕ) (g h : GrammarOf) (t : IsTrimmed product g h) → length h.names ≡ length t.states
+pub names_long : (product : ℕ → ℕ → ℕ) (g h : GrammarOf) (t : IsTrimmed product g h) → length h.names ≡ length t.states
 names_long product g h t = ap length t.names ∙ length-map t.states (λ q. get_or g.names q [])
+
+-- of grammars with the same rules the same states and rules are kept
+pub trimmed_alike :
+    (product : ℕ → ℕ → ℕ) (g k h i : GrammarOf) → SidesEndInHoles g.rules → SidesEndInHoles k.rules → AreAlike g.rules k.rules → (a : IsTrimmed product g h) (b : IsTrimmed product k i) →
+    (a.states ≡ b.states) × AreAlike h.rules i.rules
+trimmed_alike product g k h i leaves others alike a b =
+    let back : AreAlike k.rules g.rules = alike_back g.rules k.rules alike in
+    let states : a.states ≡ b.states =
+    ascending_same ◌<◌ below_way a.states b.states a.states_ascend b.states_ascend (state_kept product g k h i alike a b) (state_kept product k g i h back b a) in
+    (states, record { to = rule_kept product g k h i alike a b leaves others states; from = rule_kept product k g i h back b a others leaves (sym states) })
 
 -- grammars with the same rules have one canonical form, whatever the names of their states and the order of their rules
 pub one_canonical_of :
@@ -175,15 +185,9 @@ pub one_canonical_of :
 one_canonical_of product weighted labels g k h i leaves others alike c d =
     let a : IsTrimmed product g c.trimmed = c.is_trimmed in
     let b : IsTrimmed product k d.trimmed = d.is_trimmed in
-    let back : AreAlike k.rules g.rules = alike_back g.rules k.rules alike in
-    let states : a.states ≡ b.states =
-    ascending_same ◌<◌ below_way a.states b.states a.states_ascend b.states_ascend (state_kept product g k c.trimmed d.trimmed alike a b) (state_kept product k g d.trimmed c.trimmed back b a) in
-    let long : length c.trimmed.names ≡ length d.trimmed.names = omega (arith, names_long product g c.trimmed a, ap length states, names_long product k d.trimmed b) in
-    let rules : AreAlike c.trimmed.rules d.trimmed.rules = record {
-      to = rule_kept product g k c.trimmed d.trimmed alike a b leaves others states;
-      from = rule_kept product k g d.trimmed c.trimmed back b a others leaves (sym states);
-    } in
-    one_order_of weighted labels c.trimmed d.trimmed h i long rules c.in_order d.in_order
+    let same = trimmed_alike product g k c.trimmed d.trimmed leaves others alike a b in
+    let long : length c.trimmed.names ≡ length d.trimmed.names = omega (arith, names_long product g c.trimmed a, ap length same.0, names_long product k d.trimmed b) in
+    one_order_of weighted labels c.trimmed d.trimmed h i long same.1 c.in_order d.in_order
 
 pub one_canonical : (product : ℕ → ℕ → ℕ) (weighted : Bool) (labels : List (List ℕ)) (g h i : GrammarOf) → SidesEndInHoles g.rules → IsCanonical product weighted labels g h → IsCanonical product weighted labels g i → h ≡ i
 one_canonical product weighted labels g h i leaves a b = one_canonical_of product weighted labels g g h i leaves leaves (alike_self g.rules) a b

@@ -28,7 +28,7 @@ use Rattle.tib_canon.proofs.Telling.{IsSafe}
 use Rattle.tib_canon.proofs.InOrder.{AreSorted, cheapest_permuted, kept}
 
 -- no text of a table stands twice
-distinct_texts : (texts : List (List ℕ)) → AreDistinct texts → Distinct texts
+pub distinct_texts : (texts : List (List ℕ)) → AreDistinct texts → Distinct texts
 distinct_texts texts d =
     distinct_from texts [] (λ i j h k e. d.once i j (get_or texts i []) (slice_get-get_or texts i [] h) (slice_get-get_or texts j [] k ∙ ap (λ (t : List ℕ). Some t) (sym e)))
 

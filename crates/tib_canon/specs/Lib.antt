@@ -2,3 +2,4 @@ pub mod Canonical
 pub mod Merging
 pub mod Lines
 pub mod Keys
+pub mod TrimmedForms

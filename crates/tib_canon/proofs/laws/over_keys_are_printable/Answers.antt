@@ -1,0 +1,5 @@
+use Rattle.tib_canon.proofs.PrintableRules.{over_printable}
+use Rattle.tib_canon.proofs.laws.over_keys_are_printable.Goals as goal
+
+pub returns : goal.returns
+returns g c weighted labels = over_printable weighted labels g.K.Ord.cmp
