@@ -36,7 +36,7 @@ label-relabel g (hole p) f e = absurd (cc)
 pub IsLabel-is : (s : Symbol ℕ ℕ) (f : ℕ) → s ≡ label f → IsLabel s
 IsLabel-is s f e = subst IsLabel (sym e) tt
 
-firsts-zip : (qs rs : List ℕ) → length qs ≡ length rs → map (λ x. x.0) (zip qs rs) ≡ qs
+pub firsts-zip : (qs rs : List ℕ) → length qs ≡ length rs → map (λ x. x.0) (zip qs rs) ≡ qs
 firsts-zip [] [] e = refl
 firsts-zip [] (r ∷ rs) e = absurd (omega arith)
 firsts-zip (q ∷ qs) [] e = absurd (omega arith)

@@ -9,3 +9,7 @@ pub mod Matches
 pub mod Below
 pub mod Settled
 pub mod Whole
+pub mod PairOrders
+pub mod EdgesOver
+pub mod ReachedGrammar
+pub mod OrderFree

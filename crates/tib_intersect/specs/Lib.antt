@@ -5,3 +5,4 @@ pub mod PairLaws
 pub mod Matching
 pub mod IsIndex
 pub mod Listing
+pub mod Intersection

@@ -1,6 +1,6 @@
 //! The intersection of two grammars in normal form: pairs of states, reached along pairs of rules that agree in label
-//! and rank. `Pairs` is this as an operation for `tib_hunt`. It stands on `tib_cost`, `tib_grammar`, `tib_normal`,
-//! `tib_table` and `tib_hunt`.
+//! and rank. `Pairs` is this as an operation for `tib_hunt`, and `intersect` answers the pairs that are reached, with
+//! their rules. It stands on `tib_cost`, `tib_grammar`, `tib_normal`, `tib_table` and `tib_hunt`.
 #![tactic(auto)]
 
 mod expand;
@@ -10,9 +10,11 @@ mod listing;
 mod pair;
 mod pair_rule;
 mod pairs;
+mod reached;
 #[cfg(test)]
 mod tests;
 
 pub use pair::Pair;
 pub use pair_rule::PairRule;
 pub use pairs::Pairs;
+pub use reached::intersect;

@@ -1,12 +1,12 @@
-// The edges of pairs of states of two small grammars, as text.
+// The edges of pairs of states of two small grammars, and their reached set, as text.
 ghost use Rattle.std.specs.Prelude.{◌≤◌};
 
-use crate::{Pair, PairRule, Pairs};
+use crate::{Pair, PairRule, Pairs, intersect};
 use std::alloc::{AllocError, Global};
 use std::test::Fail;
 use tib_cost::{Bottleneck, Cost, MOST, MinPlus, Semiring};
 use tib_grammar::{Grammar, Item, Names, Rule, Side};
-use tib_hunt::{Edges, Expand, ExpandError};
+use tib_hunt::{Edges, Expand, ExpandError, Found, Gate, HuntError};
 use tib_normal::Normal;
 use tib_table::TableKey;
 use tib_tree::Label;
@@ -180,4 +180,80 @@ fn a_key_has_two_entries_and_a_shelf(rt: HostRuntime) {
     assert_eq!(rt; key.entries(), 2);
     assert_eq!(rt; key.shelf(), 11);
     assert!(rt; Pair::new(3, 9) < Pair::new(4, 0));
+}
+
+// A gate that lets all pass.
+struct Open;
+
+impl Gate for Open {
+    fn pass(&self, worker: u32, item: u32) {
+        let _told = (worker, item);
+    }
+}
+
+fn write_pair(text: &mut String, pair: Pair) -> Result<(), AllocError> {
+    write_number(text, pair.first() as u64)?;
+    text.push_str(".")?;
+    write_number(text, pair.second() as u64)?;
+    text.push_str(" ")
+}
+
+fn write_items(text: &mut String, items: &[Item<u32>]) -> Result<(), AllocError> {
+    for item in items {
+        match item {
+            Item::Label { label, .. } => write_number(text, *label as u64)?,
+            Item::Hole(position) => write_number(text, *position as u64)?,
+        }
+        text.push_str(" ")?;
+    }
+    Ok(())
+}
+
+fn write_rule(text: &mut String, rule: &Rule<u32>) -> Result<(), AllocError> {
+    write_number(text, rule.left as u64)?;
+    text.push_str(" -> ")?;
+    write_items(text, rule.right.items())?;
+    text.push_str("# ")?;
+    write_number(text, rule.cost.get())?;
+    text.push_str("; ")
+}
+
+// The order, the rules over its positions and the parts.
+fn write_found(text: &mut String, found: &Found<Pair, Rule<u32>>) -> Result<(), AllocError> {
+    for pair in &found.order {
+        write_pair(text, *pair)?;
+    }
+    for rule in &found.rules {
+        write_rule(text, rule)?;
+    }
+    write_number(text, found.parts)
+}
+
+// The reached set of the two grammars above within a limit, or that it has more parts.
+fn reached_between(alloc: Global, limit: u64) -> Result<String, Fail>
+    requires some { 1 ≤ limit }
+    requires limit { limit ≤ 20000000 }
+{
+    let left: Normal<MinPlus> = normal(alloc, &LEFT)?;
+    let right = normal(alloc, &RIGHT)?;
+    let mut text = String::new(alloc);
+    match intersect(alloc, &left, &right, limit, &Open) {
+        Ok(found) => write_found(&mut text, &found)?,
+        Err(HuntError::TooMany { limit }) => {
+            text.push_str("more than ")?;
+            write_number(&mut text, limit)?;
+        }
+        Err(HuntError::OutOfMemory) => return Err("no memory".into()),
+    }
+    Ok(text)
+}
+
+#[test]
+fn three_pairs_are_reached_by_four_rules(rt: HostRuntime) -> Result<(), Fail> {
+    let all = "0.0 0.1 1.0 0 -> 7 1 2 # 5; 0 -> 8 # 7; 1 -> 8 # 8; 2 -> 8 # 8; 19";
+    for (limit, want) in [(20_000_000, all), (19, all), (18, "more than 18")] {
+        let text = reached_between(rt.alloc(), limit)?;
+        assert_eq!(rt; text.as_str(), want);
+    }
+    Ok(())
 }

@@ -1,0 +1,51 @@
+-- The intersection of two grammars, as what is hunted.
+use Rattle.std.specs.Prelude.{◌≡◌, ℕ, ◌<◌, List, length}
+use Rattle.std.specs.Ordering.{nat_cmp, ordering_then}
+use Rattle.std.specs.declared.cmp.Ordering.{Ordering}
+use Rattle.tib_grammar.specs.Sides.{label, holes, over}
+use Rattle.tib_grammar.specs.Run.{rule_at}
+use Rattle.tib_grammar.specs.declared.Rule.{Rule}
+use Rattle.tib_lex.specs.Lists.{Has, Distinct}
+use Rattle.tib_hunt.specs.Reached.{Operation, operation, IsReachedSet}
+use Rattle.tib_hunt.specs.Numbered.{key_parts}
+use Rattle.tib_intersect.specs.PairEdges.{pair_at, IsPairEdge, ends_of, edge_parts}
+
+-- by the first state, then the second
+abbrev pub pair_cmp : ℕ × ℕ → ℕ × ℕ → Ordering
+pair_cmp x y = ordering_then (nat_cmp x.0 y.0) (nat_cmp x.1 y.1)
+
+-- From the pair of the starts each pair leads on along each two rules that agree in label and rank. A pair has three
+-- parts, and an edge one and the nodes of its right side.
+abbrev pub intersection : (ℕ → ℕ → ℕ) → List (Rule ℕ) → List (Rule ℕ) → Operation (ℕ × ℕ) (ℕ × ℕ) (Rule (ℕ × ℕ))
+intersection product one two =
+    operation pair_cmp (λ k. k ≡ (0, 0)) (λ o e. ⊥) (λ order n o e. IsPairEdge product one two (pair_at order n) o e) (λ e. ends_of e)
+    (key_parts (λ k. 2)) (λ e. edge_parts e)
+
+-- the right side of the rule is the label of a rule of the list over as many states as there
+pub record HasRootOf (rules : List (Rule ℕ)) (r : Rule ℕ) : Type 0 where
+  pub position : ℕ
+  pub below : position < length rules
+  pub root : ℕ
+  pub is_root : (rule_at rules position).right.label ≡ label root
+  pub states : List ℕ
+  pub rank : length states ≡ length (holes (rule_at rules position).right.kids)
+  pub right : r.right ≡ over root states
+
+-- two lists of rules differ in their order alone, and none stands twice
+pub record DifferInOrder (xs ys : List (Rule ℕ)) : Type 0 where
+  pub to : (r : Rule ℕ) → Has xs r → Has ys r
+  pub from : (r : Rule ℕ) → Has ys r → Has xs r
+  pub once_first : Distinct xs
+  pub once_second : Distinct ys
+
+-- the reached set is the same for lists of rules that differ in their order alone
+abbrev pub OrderIsFree : (ℕ → ℕ → ℕ) → Type 0
+OrderIsFree product =
+    (one two three four : List (Rule ℕ)) → DifferInOrder one three → DifferInOrder two four → (order : List (ℕ × ℕ)) (edges : List (Rule (ℕ × ℕ))) →
+    IsReachedSet (intersection product one two) order edges → IsReachedSet (intersection product three four) order edges
+
+-- two grammars have one reached set, whose edges stand in any order
+abbrev pub IsOneSet : (ℕ → ℕ → ℕ) → Type 0
+IsOneSet product =
+    (one two : List (Rule ℕ)) (order other : List (ℕ × ℕ)) (edges more : List (Rule (ℕ × ℕ))) → IsReachedSet (intersection product one two) order edges →
+    IsReachedSet (intersection product one two) other more → (order ≡ other) × ((e : Rule (ℕ × ℕ)) → Has edges e → Has more e)
