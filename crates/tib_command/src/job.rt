@@ -25,6 +25,8 @@ pub enum Operation {
     Inside,
     /// The canonical form of a grammar's normal form.
     Normal,
+    /// The canonical grammar of the trees that two grammars have, at the products of their costs.
+    Intersect,
 }
 
 /// What the words ask for.

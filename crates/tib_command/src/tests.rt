@@ -20,7 +20,7 @@ type Accepted = (
     &'static [&'static str],
 );
 
-static ACCEPTED: [Accepted; 22] = [
+static ACCEPTED: [Accepted; 23] = [
     (
         &["-k5", "weigh", "g", "t"],
         Mode::MinPlus,
@@ -219,9 +219,18 @@ static ACCEPTED: [Accepted; 22] = [
         3,
         &["-g"],
     ),
+    (
+        &["-w3", "intersect", "g", "--limit", "14", "h"],
+        Mode::MinPlus,
+        Operation::Intersect,
+        1,
+        3,
+        14,
+        &["g", "h"],
+    ),
 ];
 
-static REFUSED: [&[&str]; 59] = [
+static REFUSED: [&[&str]; 62] = [
     &[],
     &["--"],
     &["weigh"],
@@ -236,6 +245,9 @@ static REFUSED: [&[&str]; 59] = [
     &["inside"],
     &["inside", "g", "h"],
     &["Inside", "g"],
+    &["intersect"],
+    &["intersect", "g"],
+    &["intersect", "g", "h", "i"],
     &["-k==5", "weigh", "g", "t"],
     &["-k=", "weigh", "g", "t"],
     &["-k", "-5", "weigh", "g", "t"],

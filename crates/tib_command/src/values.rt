@@ -28,6 +28,7 @@ fn operation_in(text: &str) -> Option<Operation>
         "weigh" => Some(Operation::Weigh),
         "inside" => Some(Operation::Inside),
         "normal" => Some(Operation::Normal),
+        "intersect" => Some(Operation::Intersect),
         _ => None,
     }
 }
@@ -105,6 +106,7 @@ fn word_count(operation: Operation) -> usize
         Operation::Weigh => 2,
         Operation::Inside => 1,
         Operation::Normal => 1,
+        Operation::Intersect => 2,
     }
 }
 

@@ -12,6 +12,7 @@ use Rattle.tib_command.specs.declared.job.Operation.TheVariants as operations
 use Rattle.tiburon.specs.declared.status.Status.{Status}
 use Rattle.tiburon.specs.declared.status.Status.TheVariants as statuses
 use Rattle.tiburon.specs.Kinds.{Kind, of_grammar, of_trees, kind_at, file_at, bytes_at, OfName, OfFile, Told, IsShort, IsGrammarFile, IsTreeFile, HasFault}
+use Rattle.tiburon.specs.Intersections.{HasLargeIntersection, HasSmallIntersection}
 use Rattle.tiburon.specs.Causes.{HasCause, HasLargeForm, MakesTooMuch, HasTooMany, is_weighted, product_of}
 use Rattle.tiburon.specs.Answers.{HasSmallForm, StaysWithin, IsAnswerable, IsCalm, IsComplete}
 
@@ -75,10 +76,28 @@ module _ (asked : Asked) (held : List ℕ → Option (List ℕ)) (given : IsAnsw
           let f = b a.labels a.g a.text in
           omega (arith, h.0, f.within, a.more f.states_in_all f.normal_rules f.form)
 
-      go : (o : Operation) → MakesTooMuch o (is_weighted asked.mode) (product_of asked.mode) limit (bytes_at held (file_at (Some asked) 1)) → StaysWithin o (is_weighted asked.mode) (product_of asked.mode) asked.limit (bytes_at held (file_at (Some asked) 1)) → ⊥
+      pairs :
+          (first second : Option (List ℕ)) → IfSome first (λ one. IfSome second (HasLargeIntersection (is_weighted asked.mode) (product_of asked.mode) limit one)) →
+          OfName first (λ one. OfName second (HasSmallIntersection (is_weighted asked.mode) (product_of asked.mode) asked.limit one)) → ⊥
+      pairs None second a b = b
+      pairs (Some one) None a b = b
+      pairs (Some one) (Some two) a b =
+          let w = b a.early a.labels a.f a.g a.distinct a.grows a.one a.two in
+          elim a.more [
+            | inl m ↦ omega (arith, h.0, w.first_form.within, m w.first_form.states_in_all w.first_form.normal_rules w.first_form.form)
+            | inr r ↦ elim r [
+              | inl m ↦ omega (arith, h.0, w.second_form.within, m w.second_form.states_in_all w.second_form.normal_rules w.second_form.form)
+              | inr p ↦ omega (arith, h.0, w.within, p w.one w.two w.first w.second w.order w.edges w.reached)
+            ]
+          ]
+
+      go :
+          (o : Operation) → MakesTooMuch o (is_weighted asked.mode) (product_of asked.mode) limit (bytes_at held (file_at (Some asked) 1)) (bytes_at held (file_at (Some asked) 2)) →
+          StaysWithin o (is_weighted asked.mode) (product_of asked.mode) asked.limit (bytes_at held (file_at (Some asked) 1)) (bytes_at held (file_at (Some asked) 2)) → ⊥
       go operations.Weigh a b = form (bytes_at held (file_at (Some asked) 1)) a b
       go operations.Inside a b = a
       go operations.Normal a b = form (bytes_at held (file_at (Some asked) 1)) a b
+      go operations.Intersect a b = pairs (bytes_at held (file_at (Some asked) 1)) (bytes_at held (file_at (Some asked) 2)) a b
 
   pub answered :
       (before now : List ℕ → ℕ) (out_before out_now : ℕ) (s : Status) → IsCalm asked before now out_before out_now → HasCause (Some asked) held before now out_before out_now s →

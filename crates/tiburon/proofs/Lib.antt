@@ -2,3 +2,8 @@ pub mod Reached
 pub mod Lines
 pub mod Complete
 pub mod Labelled
+pub mod Pairs
+pub mod OneText
+pub mod OneAnswer
+pub mod PairsByText
+pub mod PairsOnce

@@ -5,6 +5,7 @@ use Rattle.std.proofs.Common.{subst, sym, ◌∙◌, arith, ap, zero, suc, inl, 
 use Rattle.tib_io.specs.Causes.{Rose}
 use Rattle.tib_lex.specs.declared.fault.FileFault.{FileFault}
 use Rattle.tib_tree.specs.Trees.{Tree}
+use Rattle.tib_tree.specs.Grows.{Grows, AreDistinct}
 use Rattle.tib_grammar.specs.GrammarOf.{GrammarOf}
 use Rattle.tib_grammar.specs.Series.{IsSeries}
 use Rattle.tib_grammar.specs.declared.Rule.{Rule}
@@ -17,7 +18,8 @@ use Rattle.tiburon.specs.declared.status.Status.{Status}
 use Rattle.tiburon.specs.declared.status.Status.TheVariants as statuses
 use Rattle.tiburon.specs.Kinds.{Kind, of_grammar, of_trees, kind_at, kinds_of, file_at, bytes_at, OfName, OfFile, Told, IsShort, IsRead, ListsTrees, IsOfKind, HasFault}
 use Rattle.tiburon.specs.Answers.{IsWeighed, HasInsides, HasNormalText, IsAnswer, IsAnswerOf}
-use Rattle.tiburon.specs.Causes.{HasLargeForm, HasCause, AreBefore, HasEarlier, IsAbout, IsEarly, IsFormFault, MakesTooMuch, file_count, is_weighted, product_of, weighted_by}
+use Rattle.tiburon.specs.Intersections.{HasIntersection, HasLargeIntersection, IntersectsTooMuch}
+use Rattle.tiburon.specs.Causes.{HasLargeForm, HasCause, AreBefore, HasEarlier, IsAbout, IsEarly, IsFormFault, IsIntersectionFault, MakesTooMuch, file_count, is_weighted, product_of, weighted_by}
 
 -- the name of a file by its place among the job's files
 pub name_at : {A : Type 0} (f : A → List ℕ) (xs : List A) (i : ℕ) (x : A) → i < length xs → x ≡ get_or xs i x → slice_get (map f xs) i ≡ Some (f x)
@@ -141,14 +143,14 @@ form_earlier job held product g limit statuses.OutOfMemory h b = tt
 -- the job makes the normal form of its first file
 abbrev pub MakesForm : Asked → Type 0
 MakesForm asked =
-    (n : ℕ) (first : Option (List ℕ)) → IfSome first (HasLargeForm (is_weighted asked.mode) (product_of asked.mode) n) →
-    MakesTooMuch asked.task.operation (is_weighted asked.mode) (product_of asked.mode) n first
+    (n : ℕ) (first second : Option (List ℕ)) → IfSome first (HasLargeForm (is_weighted asked.mode) (product_of asked.mode) n) →
+    MakesTooMuch asked.task.operation (is_weighted asked.mode) (product_of asked.mode) n first second
 
 pub weigh_makes : (asked : Asked) → asked.task.operation ≡ operations.Weigh → MakesForm asked
-weigh_makes asked e n first h = subst (λ o. MakesTooMuch o (is_weighted asked.mode) (product_of asked.mode) n first) (sym e) h
+weigh_makes asked e n first second h = subst (λ o. MakesTooMuch o (is_weighted asked.mode) (product_of asked.mode) n first second) (sym e) h
 
 pub normal_makes : (asked : Asked) → asked.task.operation ≡ operations.Normal → MakesForm asked
-normal_makes asked e n first h = subst (λ o. MakesTooMuch o (is_weighted asked.mode) (product_of asked.mode) n first) (sym e) h
+normal_makes asked e n first second h = subst (λ o. MakesTooMuch o (is_weighted asked.mode) (product_of asked.mode) n first second) (sym e) h
 
 -- too many parts of the normal form of the grammar of the first file are a cause
 pub form_cause :
@@ -163,13 +165,66 @@ form_cause asked held before now a b weighted product labels g (statuses.TooMany
     subst (HasMoreParts (product_of asked.mode) (length g.names) g.rules) (sym h.0) (subst (λ p. HasMoreParts p (length g.names) g.rules asked.limit) pe h.1)
     in (
       sym h.0,
-      op n (bytes_at held (file_at (Some asked) 1))
+      op n (bytes_at held (file_at (Some asked) 1)) (bytes_at held (file_at (Some asked) 2))
           (if_some (bytes_at held (file_at (Some asked) 1)) (λ bytes r. record { labels = labels; g = g; text = subst (λ w. ReadsAs w labels bytes g) we r.1; more = more }) text),
     )
 form_cause asked held before now a b weighted product labels g (statuses.ReadFault m) op we pe text h = absurd h
 form_cause asked held before now a b weighted product labels g statuses.WriteFault op we pe text h = absurd h
 form_cause asked held before now a b weighted product labels g (statuses.TooLong m) op we pe text h = absurd h
 form_cause asked held before now a b weighted product labels g statuses.OutOfMemory op we pe text h = tt
+
+pub intersection_early : (product : ℕ → ℕ → ℕ) (f g : GrammarOf) (limit : ℕ) (s : Status) → IsIntersectionFault product f g limit s → IsEarly s
+intersection_early product f g limit statuses.Done h = absurd h
+intersection_early product f g limit statuses.Usage h = absurd h
+intersection_early product f g limit (statuses.BadInput n fault) h = tt
+intersection_early product f g limit (statuses.TooMany n) h = tt
+intersection_early product f g limit (statuses.ReadFault n) h = tt
+intersection_early product f g limit statuses.WriteFault h = absurd h
+intersection_early product f g limit (statuses.TooLong n) h = tt
+intersection_early product f g limit statuses.OutOfMemory h = tt
+
+pub intersection_earlier :
+    (job : Option Asked) (held : List ℕ → Option (List ℕ)) (product : ℕ → ℕ → ℕ) (f g : GrammarOf) (limit : ℕ) (s : Status) → IsIntersectionFault product f g limit s →
+    AreBefore job held (file_count job + 1) → HasEarlier job held s
+intersection_earlier job held product f g limit statuses.Done h b = tt
+intersection_earlier job held product f g limit statuses.Usage h b = tt
+intersection_earlier job held product f g limit (statuses.BadInput n fault) h b = absurd h
+intersection_earlier job held product f g limit (statuses.TooMany n) h b = b
+intersection_earlier job held product f g limit (statuses.ReadFault n) h b = absurd h
+intersection_earlier job held product f g limit statuses.WriteFault h b = tt
+intersection_earlier job held product f g limit (statuses.TooLong n) h b = absurd h
+intersection_earlier job held product f g limit statuses.OutOfMemory h b = tt
+
+-- too many parts of what the grammars of the two files intersect in are a cause
+pub intersection_cause :
+    (asked : Asked) (held : List ℕ → Option (List ℕ)) (before now : List ℕ → ℕ) (a b : ℕ) (weighted : Bool) (product : ℕ → ℕ → ℕ) (early labels : List (List ℕ)) (f g : GrammarOf) (s : Status) →
+    asked.task.operation ≡ operations.Intersect → weighted ≡ is_weighted asked.mode → product ≡ product_of asked.mode → AreDistinct labels → Grows early labels →
+    IfSome (bytes_at held (file_at (Some asked) 1)) (IsRead weighted early f) → IfSome (bytes_at held (file_at (Some asked) 2)) (IsRead weighted labels g) →
+    IsIntersectionFault product f g asked.limit s → HasCause (Some asked) held before now a b s
+intersection_cause asked held before now a b weighted product early labels f g statuses.Done op we pe d k one two h = absurd h
+intersection_cause asked held before now a b weighted product early labels f g statuses.Usage op we pe d k one two h = absurd h
+intersection_cause asked held before now a b weighted product early labels f g (statuses.BadInput m fault) op we pe d k one two h = absurd h
+intersection_cause asked held before now a b weighted product early labels f g (statuses.TooMany n) op we pe d k one two h =
+    let first : Option (List ℕ) = bytes_at held (file_at (Some asked) 1) in
+    let second : Option (List ℕ) = bytes_at held (file_at (Some asked) 2) in
+    let more : IntersectsTooMuch (product_of asked.mode) n f g = subst (λ l. IntersectsTooMuch (product_of asked.mode) l f g) (sym h.0) (subst (λ p. IntersectsTooMuch p asked.limit f g) pe h.1) in
+    let large : IfSome first (λ x. IfSome second (HasLargeIntersection (is_weighted asked.mode) (product_of asked.mode) n x)) =
+    if_some first (λ x r. if_some second (λ y q. record {
+      early = early;
+      labels = labels;
+      f = f;
+      g = g;
+      distinct = d;
+      grows = k;
+      one = subst (λ w. ReadsAs w early x f) we r.1;
+      two = subst (λ w. ReadsAs w labels y g) we q.1;
+      more = more;
+    }) two) one
+    in (sym h.0, subst (λ o. MakesTooMuch o (is_weighted asked.mode) (product_of asked.mode) n first second) (sym op) large)
+intersection_cause asked held before now a b weighted product early labels f g (statuses.ReadFault m) op we pe d k one two h = absurd h
+intersection_cause asked held before now a b weighted product early labels f g statuses.WriteFault op we pe d k one two h = absurd h
+intersection_cause asked held before now a b weighted product early labels f g (statuses.TooLong m) op we pe d k one two h = absurd h
+intersection_cause asked held before now a b weighted product early labels f g statuses.OutOfMemory op we pe d k one two h = tt
 
 -- the files of the operations
 
@@ -190,6 +245,15 @@ first_of_normal asked e = subst (λ o. slice_get (kinds_of o) 0 ≡ Some of_gram
 
 pub all_of_normal : (asked : Asked) (held : List ℕ → Option (List ℕ)) → asked.task.operation ≡ operations.Normal → AreBefore (Some asked) held 2 → AreBefore (Some asked) held (file_count (Some asked) + 1)
 all_of_normal asked held e h = subst (λ o. AreBefore (Some asked) held (length (kinds_of o) + 1)) (sym e) h
+
+pub first_of_intersect : (asked : Asked) → asked.task.operation ≡ operations.Intersect → kind_at (Some asked) 1 ≡ Some of_grammar
+first_of_intersect asked e = subst (λ o. slice_get (kinds_of o) 0 ≡ Some of_grammar) (sym e) refl
+
+pub second_of_intersect : (asked : Asked) → asked.task.operation ≡ operations.Intersect → kind_at (Some asked) 2 ≡ Some of_grammar
+second_of_intersect asked e = subst (λ o. slice_get (kinds_of o) 1 ≡ Some of_grammar) (sym e) refl
+
+pub all_of_intersect : (asked : Asked) (held : List ℕ → Option (List ℕ)) → asked.task.operation ≡ operations.Intersect → AreBefore (Some asked) held 3 → AreBefore (Some asked) held (file_count (Some asked) + 1)
+all_of_intersect asked held e h = subst (λ o. AreBefore (Some asked) held (length (kinds_of o) + 1)) (sym e) h
 
 -- a grammar that was read is of its kind
 pub grammar_is :
@@ -232,6 +296,15 @@ answer_normal asked held weighted product text op we pe h =
     let second : Option (List ℕ) = bytes_at held (file_at (Some asked) 2) in
     subst (λ o. IsAnswerOf o (is_weighted asked.mode) (product_of asked.mode) asked.limit first second text) (sym op)
     (subst (λ p. HasNormalText (is_weighted asked.mode) p asked.limit first text) pe (subst (λ w. HasNormalText w product asked.limit first text) we h))
+
+pub answer_intersect :
+    (asked : Asked) (held : List ℕ → Option (List ℕ)) (weighted : Bool) (product : ℕ → ℕ → ℕ) (text : List ℕ) → asked.task.operation ≡ operations.Intersect → weighted ≡ is_weighted asked.mode →
+    product ≡ product_of asked.mode → HasIntersection weighted product asked.limit (bytes_at held (file_at (Some asked) 1)) (bytes_at held (file_at (Some asked) 2)) text → IsAnswer asked held text
+answer_intersect asked held weighted product text op we pe h =
+    let first : Option (List ℕ) = bytes_at held (file_at (Some asked) 1) in
+    let second : Option (List ℕ) = bytes_at held (file_at (Some asked) 2) in
+    subst (λ o. IsAnswerOf o (is_weighted asked.mode) (product_of asked.mode) asked.limit first second text) (sym op)
+    (subst (λ p. HasIntersection (is_weighted asked.mode) p asked.limit first second text) pe (subst (λ w. HasIntersection w product asked.limit first second text) we h))
 
 -- weights by rules that keep the series are weights by the rules that they were made of
 pub weights_kept :

@@ -1,5 +1,5 @@
 -- What a run that is done has written.
-use Rattle.std.specs.Prelude.{◌≡◌, ◌⊎◌, ◌<◌, ◌≤◌, ℕ, Bool, List, length, Option, Some, None, IfSome}
+use Rattle.std.specs.Prelude.{◌≡◌, ◌⊎◌, ◌<◌, ◌≤◌, ℕ, Bool, List, length, Option, Some, None, IfSome, IsSome}
 use Rattle.std.specs.List.{AllZip}
 use Rattle.tib_io.specs.Causes.{Rose, last_count}
 use Rattle.tib_io.specs.Writes.{Appends, AppendsFront}
@@ -8,6 +8,7 @@ use Rattle.tib_tree.specs.Grows.{Grows, AreDistinct}
 use Rattle.tib_grammar.specs.GrammarOf.{GrammarOf}
 use Rattle.tib_grammar.specs.Series.{IsSeries}
 use Rattle.tib_grammar_file.specs.Read.{ReadsAs}
+use Rattle.tib_grammar_file.specs.GrammarText.{GrammarText}
 use Rattle.tib_grammar_file.specs.Printed.{grammar_text}
 use Rattle.tib_normal.specs.NormalForm.{IsNormalForm, normal_parts}
 use Rattle.tib_normal.specs.Rows.{HasFormWithin}
@@ -21,6 +22,7 @@ use Rattle.tiburon.specs.declared.status.Status.{Status}
 use Rattle.tiburon.specs.declared.status.Status.TheVariants as statuses
 use Rattle.tiburon.specs.Kinds.{Kind, kind_at, file_at, bytes_at, OfName, IsShort, IsRead, ListsTrees, IsOfKind}
 use Rattle.tiburon.specs.Causes.{is_weighted, product_of}
+use Rattle.tiburon.specs.Intersections.{HasIntersection, HasSmallIntersection}
 use Rattle.tiburon.specs.Text.{weighed_lines, inside_lines}
 
 -- The text has a line for each tree of the second file, in order, with its weight by the grammar of the first file: the
@@ -58,6 +60,7 @@ pub record IsCanonicalNormal (weighted : Bool) (product : ℕ → ℕ → ℕ) (
   pub canonical : IsCanonical product weighted labels normal h
 
 -- The text is that of the canonical form of a normal form of the grammar of the file, which has the series of the grammar.
+-- It reads back as this form alone.
 pub record HasNormalText (weighted : Bool) (product : ℕ → ℕ → ℕ) (limit : ℕ) (first : Option (List ℕ)) (text : List ℕ) : Type 0 where
   pub labels : List (List ℕ)
   pub g : GrammarOf
@@ -67,17 +70,23 @@ pub record HasNormalText (weighted : Bool) (product : ℕ → ℕ → ℕ) (limi
   pub canonical : IsCanonicalNormal weighted product limit labels g h
   pub series : HasSameSeries product g h
   pub are : text ≡ grammar_text weighted labels h
+  pub read : GrammarText weighted labels text h
 
 -- the text answers the operation on files with these bytes
 abbrev pub IsAnswerOf : Operation → Bool → (ℕ → ℕ → ℕ) → ℕ → Option (List ℕ) → Option (List ℕ) → List ℕ → Type 0
 IsAnswerOf operations.Weigh weighted product limit first second text = IsWeighed weighted product limit first second text
 IsAnswerOf operations.Inside weighted product limit first second text = HasInsides weighted product first text
 IsAnswerOf operations.Normal weighted product limit first second text = HasNormalText weighted product limit first text
+IsAnswerOf operations.Intersect weighted product limit first second text = HasIntersection weighted product limit first second text
 
 -- the text answers the job
 abbrev pub IsAnswer : Asked → (List ℕ → Option (List ℕ)) → List ℕ → Type 0
 IsAnswer asked held text =
     IsAnswerOf asked.task.operation (is_weighted asked.mode) (product_of asked.mode) asked.limit (bytes_at held (file_at (Some asked) 1)) (bytes_at held (file_at (Some asked) 2)) text
+
+-- the bytes of each file of the job are told
+abbrev pub AreTold : Asked → (List ℕ → Option (List ℕ)) → Type 0
+AreTold asked held = (n : ℕ) (kind : Kind) → kind_at (Some asked) n ≡ Some kind → IsSome (bytes_at held (file_at (Some asked) n))
 
 -- such a text was written
 pub record HasWritten (IsText : List ℕ → Type 0) (old new : Option (List ℕ)) : Type 0 where
@@ -105,17 +114,19 @@ HasFrontOfAnswer (Some asked) held old new = HasFront (IsAnswer asked held) old 
 abbrev pub HasSmallForm : Bool → (ℕ → ℕ → ℕ) → ℕ → List ℕ → Type 0
 HasSmallForm weighted product limit bytes = (labels : List (List ℕ)) (g : GrammarOf) → ReadsAs weighted labels bytes g → HasFormWithin product (length g.names) g.rules limit
 
--- what an operation makes of a told first file is within the limit: the normal form, where it makes one
-abbrev pub StaysWithin : Operation → Bool → (ℕ → ℕ → ℕ) → ℕ → Option (List ℕ) → Type 0
-StaysWithin operations.Weigh weighted product limit first = OfName first (HasSmallForm weighted product limit)
-StaysWithin operations.Inside weighted product limit first = Unit {0}
-StaysWithin operations.Normal weighted product limit first = OfName first (HasSmallForm weighted product limit)
+-- what an operation makes of its files, which are told, is within the limit: the normal forms, where it makes them, and
+-- the reached set of an intersection
+abbrev pub StaysWithin : Operation → Bool → (ℕ → ℕ → ℕ) → ℕ → Option (List ℕ) → Option (List ℕ) → Type 0
+StaysWithin operations.Weigh weighted product limit first second = OfName first (HasSmallForm weighted product limit)
+StaysWithin operations.Inside weighted product limit first second = Unit {0}
+StaysWithin operations.Normal weighted product limit first second = OfName first (HasSmallForm weighted product limit)
+StaysWithin operations.Intersect weighted product limit first second = OfName first (λ one. OfName second (HasSmallIntersection weighted product limit one))
 
 -- each file of a job is told, not too long and of its kind, and what the job makes is within the limit
 pub record IsAnswerable (asked : Asked) (held : List ℕ → Option (List ℕ)) : Type 0 where
   pub short : (n : ℕ) (name : List ℕ) → file_at (Some asked) n ≡ Some name → OfName (held name) IsShort
   pub kinds : (n : ℕ) (kind : Kind) → kind_at (Some asked) n ≡ Some kind → OfName (bytes_at held (file_at (Some asked) n)) (IsOfKind (is_weighted asked.mode) kind)
-  pub within : StaysWithin asked.task.operation (is_weighted asked.mode) (product_of asked.mode) asked.limit (bytes_at held (file_at (Some asked) 1))
+  pub within : StaysWithin asked.task.operation (is_weighted asked.mode) (product_of asked.mode) asked.limit (bytes_at held (file_at (Some asked) 1)) (bytes_at held (file_at (Some asked) 2))
 
 -- no count of a file of the job rose, nor that of the output
 pub record IsCalm (asked : Asked) (before now : List ℕ → ℕ) (out_before out_now : ℕ) : Type 0 where

@@ -10,6 +10,7 @@ use Rattle.tib_command.specs.declared.job.Mode.TheVariants as modes
 use Rattle.tib_command.specs.declared.job.Operation.{Operation}
 use Rattle.tib_command.specs.declared.job.Operation.TheVariants as operations
 use Rattle.tiburon.specs.Kinds.{kind_at, kinds_of, file_at, bytes_at, OfFile, Told, IsShort, IsOfKind, HasFault, Kind}
+use Rattle.tiburon.specs.Intersections.{HasLargeIntersection, IntersectsTooMuch}
 use Rattle.tiburon.specs.declared.status.Status.{Status}
 use Rattle.tiburon.specs.declared.status.Status.TheVariants as statuses
 
@@ -36,20 +37,22 @@ pub record HasLargeForm (weighted : Bool) (product : ℕ → ℕ → ℕ) (limit
   pub text : ReadsAs weighted labels bytes g
   pub more : HasMoreParts product (length g.names) g.rules limit
 
--- what an operation makes of its first file has more parts than the limit: the normal form, where it makes one
-abbrev pub MakesTooMuch : Operation → Bool → (ℕ → ℕ → ℕ) → ℕ → Option (List ℕ) → Type 0
-MakesTooMuch operations.Weigh weighted product limit first = IfSome first (HasLargeForm weighted product limit)
-MakesTooMuch operations.Inside weighted product limit first = ⊥
-MakesTooMuch operations.Normal weighted product limit first = IfSome first (HasLargeForm weighted product limit)
+-- what an operation makes of its files has more parts than the limit: a normal form, where it makes one, or the reached
+-- set of an intersection
+abbrev pub MakesTooMuch : Operation → Bool → (ℕ → ℕ → ℕ) → ℕ → Option (List ℕ) → Option (List ℕ) → Type 0
+MakesTooMuch operations.Weigh weighted product limit first second = IfSome first (HasLargeForm weighted product limit)
+MakesTooMuch operations.Inside weighted product limit first second = ⊥
+MakesTooMuch operations.Normal weighted product limit first second = IfSome first (HasLargeForm weighted product limit)
+MakesTooMuch operations.Intersect weighted product limit first second = IfSome first (λ one. IfSome second (HasLargeIntersection weighted product limit one))
 
 abbrev pub HasTooMany : Option Asked → (List ℕ → Option (List ℕ)) → ℕ → Type 0
 HasTooMany None held limit = ⊥
 HasTooMany (Some asked) held limit =
-    (asked.limit ≡ limit) × MakesTooMuch asked.task.operation (is_weighted asked.mode) (product_of asked.mode) limit (bytes_at held (file_at (Some asked) 1))
+    (asked.limit ≡ limit) × MakesTooMuch asked.task.operation (is_weighted asked.mode) (product_of asked.mode) limit (bytes_at held (file_at (Some asked) 1)) (bytes_at held (file_at (Some asked) 2))
 
 -- Each answer comes only with its cause: words that are no command, a count of faults that rose in this run, a file that
--- is too long, the first fault of a file that is not, or a normal form with more parts than the limit of the job. Want of
--- memory may stand at any place.
+-- is too long, the first fault of a file that is not, or a normal form or a reached set with more parts than the limit of
+-- the job. Want of memory may stand at any place.
 abbrev pub HasCause : Option Asked → (List ℕ → Option (List ℕ)) → (List ℕ → ℕ) → (List ℕ → ℕ) → ℕ → ℕ → Status → Type 0
 HasCause job held before now out_before out_now statuses.Done = IsSome job
 HasCause job held before now out_before out_now statuses.Usage = job ≡ None
@@ -103,3 +106,9 @@ abbrev pub IsFormFault : (ℕ → ℕ → ℕ) → GrammarOf → ℕ → Status 
 IsFormFault product g limit (statuses.TooMany n) = (n ≡ limit) × HasMoreParts product (length g.names) g.rules limit
 IsFormFault product g limit statuses.OutOfMemory = Unit {0}
 IsFormFault product g limit status = ⊥
+
+-- what two grammars intersect in has more parts than the limit, or memory was refused
+abbrev pub IsIntersectionFault : (ℕ → ℕ → ℕ) → GrammarOf → GrammarOf → ℕ → Status → Type 0
+IsIntersectionFault product f g limit (statuses.TooMany n) = (n ≡ limit) × IntersectsTooMuch product limit f g
+IsIntersectionFault product f g limit statuses.OutOfMemory = Unit {0}
+IsIntersectionFault product f g limit status = ⊥

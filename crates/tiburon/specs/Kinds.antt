@@ -22,6 +22,7 @@ abbrev pub kinds_of : Operation → List Kind
 kinds_of operations.Weigh = of_grammar ∷ of_trees ∷ []
 kinds_of operations.Inside = of_grammar ∷ []
 kinds_of operations.Normal = of_grammar ∷ []
+kinds_of operations.Intersect = of_grammar ∷ of_grammar ∷ []
 
 -- what the n-th file of a job holds, from 1 on
 abbrev pub kind_at : Option Asked → ℕ → Option Kind

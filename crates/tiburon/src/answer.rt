@@ -6,6 +6,7 @@ ghost use Rattle.tiburon.specs.Answers.{HasAnswer, HasFrontOfAnswer, IsAnswer, S
 ghost use Rattle.tiburon.specs.Causes.{HasCause, HasEarlier, IsEarly, LeavesAlone, is_weighted, product_of};
 
 use crate::inside::inside_of_file;
+use crate::intersect::intersect_files;
 use crate::normal::normal_of_file;
 use crate::status::Status;
 use crate::weigh::weigh_files;
@@ -13,14 +14,16 @@ use std::alloc::Global;
 use std::thread::Threads;
 use tib_command::{Job, Operation};
 use tib_cost::Semiring;
+use tib_hunt::Gate;
 use tib_io::{Failed, Files, GrowingSink, Sink, write_and_finish};
 
 // The whole text, before any of it is written, or the status with which the run ends.
-fn text_of<S: Semiring + Sync + Drop, R: Threads + Sync, F: Files>(
+fn text_of<S: Semiring + Sync + Drop, R: Threads + Sync, F: Files, G: Gate>(
     rt: &R,
     alloc: Global,
     job: &Job,
     files: &mut F,
+    gate: &G,
 ) -> Result<GrowingSink, Status>
     requires files { length job.now.files.items ≡ word_count job.now.operation }
     requires limit { (1 ≤ job.now.limit) × (job.now.limit ≤ 20000000) }
@@ -38,16 +41,18 @@ fn text_of<S: Semiring + Sync + Drop, R: Threads + Sync, F: Files>(
         Operation::Weigh => weigh_files::<S, R, F>(rt, alloc, job, files),
         Operation::Inside => inside_of_file::<S, F>(alloc, job, files),
         Operation::Normal => normal_of_file::<S, F>(alloc, job, files),
+        Operation::Intersect => intersect_files::<S, F, G>(alloc, job, files, gate),
     }
 }
 
 /// Writes the answer of the job.
-pub(crate) fn answer_job<S: Semiring + Sync + Drop, R: Threads + Sync, F: Files, O: Sink>(
+pub(crate) fn answer_job<S: Semiring + Sync + Drop, R: Threads + Sync, F: Files, O: Sink, G: Gate>(
     rt: &R,
     alloc: Global,
     job: &Job,
     files: &mut F,
     out: &mut O,
+    gate: &G,
 ) -> Status
     requires files { length job.now.files.items ≡ word_count job.now.operation }
     requires limit { (1 ≤ job.now.limit) × (job.now.limit ≤ 20000000) }
@@ -65,7 +70,7 @@ pub(crate) fn answer_job<S: Semiring + Sync + Drop, R: Threads + Sync, F: Files,
     ensures later { O.faults out.old ≤ O.faults out.new }
     ensures still { StandsStill (Some (meaning job.now)) (F.held files.old) (O.free out.old) (O.faults out.old) (O.faults out.new) }
 {
-    let text = match text_of::<S, R, F>(rt, alloc, job, files) {
+    let text = match text_of::<S, R, F, G>(rt, alloc, job, files, gate) {
         Ok(text) => text,
         Err(status) => return status,
     };

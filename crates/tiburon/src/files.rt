@@ -5,6 +5,7 @@ ghost use Rattle.tib_command.specs.Jobs.{meaning};
 ghost use Rattle.tiburon.specs.Causes.{HasCause, IsAbout, is_weighted};
 ghost use Rattle.tiburon.specs.Kinds.{file_at, kind_at, OfFile, Told, IsShort, IsRead, ListsTrees, of_grammar, of_trees};
 ghost use Rattle.tib_grammar_file.specs.Printed.{AreLabelled};
+ghost use Rattle.tib_grammar_file.specs.Printable.{ArePrintable};
 ghost use Rattle.tib_tree.specs.Grows.{AreDistinct, Grows};
 ghost use Rattle.tib_lex.specs.Lists.{Each};
 ghost use Rattle.tib_tree.specs.Growth.{HasLabels};
@@ -62,6 +63,8 @@ pub(crate) fn grammar_in<S: Semiring, F: Files>(
     requires mode { S.WEIGHTED ≡ is_weighted job.now.mode }
     ensures text { IfOk result (λ g. OfFile (Some (meaning job.now)) file (Told (F.held files.old) (IsRead S.WEIGHTED labels.new g))) }
     ensures labelled { IfOk result (λ g. AreLabelled (length labels.new) g.rules) }
+    ensures printable { IfOk result (λ g. ArePrintable S.WEIGHTED labels.new g.rules) }
+    ensures grows { Grows labels.old labels.new }
     ensures cause { IfErr result (HasCause (Some (meaning job.now)) (F.held files.old) (F.faults files.old) (F.faults files.new) 0 0) }
     ensures about { IfErr result (IsAbout file) }
     ensures held { F.held files.new ≡ F.held files.old }

@@ -6,6 +6,8 @@
 mod answer;
 mod files;
 mod inside;
+mod intersect;
+mod laws;
 mod log;
 mod normal;
 mod run;
@@ -16,12 +18,13 @@ mod text;
 mod weigh;
 
 use log::tell;
-use run::{Gate, run};
+use run::run;
 use status::Status;
 use std::io::BufWriter;
 use std::process::ExitCode;
 use std::thread::Threads;
 use std::{env, io};
+use tib_hunt::Gate;
 use tib_io::{HostFiles, HostSink};
 
 // A gate that holds no worker.

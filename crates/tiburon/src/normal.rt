@@ -2,6 +2,8 @@
 ghost use Rattle.std.specs.Prelude.{◌≡◌, ◌≤◌, Some, length, IfErr, IfOk};
 ghost use Rattle.tib_io.specs.Causes.{GoesOn};
 ghost use Rattle.tib_command.specs.Jobs.{meaning};
+ghost use Rattle.tib_grammar_file.specs.GrammarText.{GrammarText};
+ghost use Rattle.tib_grammar_file.specs.Printable.{ArePrintable};
 ghost use Rattle.tib_grammar_file.specs.Printed.{AreLabelled, grammar_text};
 ghost use Rattle.tib_inside.specs.Trimmed.{HasSameSeries};
 ghost use Rattle.tiburon.specs.Answers.{IsAnswer, IsCanonicalNormal};
@@ -27,9 +29,11 @@ fn canonical_normal<S: Semiring + Drop>(
     limit: u64,
 ) -> Result<Grammar<S>, Status>
     requires labelled { AreLabelled (length labels.now) grammar.now.rules }
+    requires printable { ArePrintable S.WEIGHTED labels.now grammar.now.rules }
     requires limit { (1 ≤ limit) × (limit ≤ 20000000) }
     ensures canonical { IfOk result (λ h. IsCanonicalNormal S.WEIGHTED S.product limit labels.now grammar.now h) }
     ensures series { IfOk result (λ h. HasSameSeries S.product grammar.now h) }
+    ensures read { IfOk result (λ h. GrammarText S.WEIGHTED labels.now (grammar_text S.WEIGHTED labels.now h) h) }
     ensures labelled { IfOk result (λ h. AreLabelled (length labels.now) h.rules) }
     ensures err { IfErr result (IsFormFault S.product grammar.now limit) }
 {
@@ -39,14 +43,16 @@ fn canonical_normal<S: Semiring + Drop>(
         Err(NormalError::TooMany { .. }) => return Err(Status::TooMany { limit }),
         Err(NormalError::OutOfMemory) => return Err(Status::OutOfMemory),
     };
-    match canonical::<S>(alloc, normal.grammar(), labels) {
+    let form = normal.grammar();
+    form.is_sound();
+    match canonical::<S>(alloc, form, labels) {
         Ok(canonical) => Ok(canonical),
         Err(_) => Err(Status::OutOfMemory),
     }
 }
 
-// The text of a grammar. It fails only for want of memory.
-fn grammar_lines<S: Semiring>(
+/// The text of a grammar. It fails only for want of memory.
+pub(crate) fn grammar_lines<S: Semiring>(
     alloc: Global,
     grammar: &Grammar<S>,
     labels: &Labels,

@@ -14,20 +14,17 @@ use std::alloc::Global;
 use std::thread::Threads;
 use tib_command::{CommandError, Job, Mode, read_words};
 use tib_cost::{Boolean, Bottleneck, MinPlus};
+use tib_hunt::Gate;
 use tib_io::{Files, Sink};
 
-/// What a worker passes before it expands an item, with its number from 0 and the item's position.
-pub trait Gate {
-    fn pass(&self, worker: u32, item: u32);
-}
-
 // Does a job.
-fn perform_job<R: Threads + Sync, F: Files, O: Sink>(
+fn perform_job<R: Threads + Sync, F: Files, O: Sink, G: Gate>(
     rt: &R,
     alloc: Global,
     job: &Job,
     files: &mut F,
     out: &mut O,
+    gate: &G,
 ) -> Status
     requires files { length job.now.files.items ≡ word_count job.now.operation }
     requires limit { (1 ≤ job.now.limit) × (job.now.limit ≤ 20000000) }
@@ -44,19 +41,20 @@ fn perform_job<R: Threads + Sync, F: Files, O: Sink>(
     ensures still { StandsStill (Some (meaning job.now)) (F.held files.old) (O.free out.old) (O.faults out.old) (O.faults out.new) }
 {
     match job.mode {
-        Mode::MinPlus => answer_job::<MinPlus, R, F, O>(rt, alloc, job, files, out),
-        Mode::Bottleneck => answer_job::<Bottleneck, R, F, O>(rt, alloc, job, files, out),
-        Mode::Boolean => answer_job::<Boolean, R, F, O>(rt, alloc, job, files, out),
+        Mode::MinPlus => answer_job::<MinPlus, R, F, O, G>(rt, alloc, job, files, out, gate),
+        Mode::Bottleneck => answer_job::<Bottleneck, R, F, O, G>(rt, alloc, job, files, out, gate),
+        Mode::Boolean => answer_job::<Boolean, R, F, O, G>(rt, alloc, job, files, out, gate),
     }
 }
 
 // Everything but the line on the log.
-fn perform<R: Threads + Sync, F: Files, O: Sink>(
+fn perform<R: Threads + Sync, F: Files, O: Sink, G: Gate>(
     rt: &R,
     alloc: Global,
     words: &[String],
     files: &mut F,
     out: &mut O,
+    gate: &G,
 ) -> Status
     ensures cause { HasCause (job_of (map (λ s. string_bytes s) words.now)) (F.held files.old) (F.faults files.old) (F.faults files.new) (O.faults out.old) (O.faults out.new) result }
     ensures earlier { HasEarlier (job_of (map (λ s. string_bytes s) words.now)) (F.held files.old) result }
@@ -71,7 +69,7 @@ fn perform<R: Threads + Sync, F: Files, O: Sink>(
     ensures still { StandsStill (job_of (map (λ s. string_bytes s) words.now)) (F.held files.old) (O.free out.old) (O.faults out.old) (O.faults out.new) }
 {
     match read_words(alloc, words) {
-        Ok(job) => perform_job::<R, F, O>(rt, alloc, &job, files, out),
+        Ok(job) => perform_job::<R, F, O, G>(rt, alloc, &job, files, out, gate),
         Err(CommandError::Usage) => Status::Usage,
         Err(CommandError::OutOfMemory) => Status::OutOfMemory,
     }
@@ -86,7 +84,7 @@ pub fn run_alone<R: Threads + Sync, F: Files, O: Sink, E: Sink, G: Gate + Sync>(
     files: &mut F,
     out: &mut O,
     log: &mut E,
-    _gate: &G,
+    gate: &G,
 ) -> Status
     ensures cause { HasCause (job_of (map (λ s. string_bytes s) words.now)) (F.held files.old) (F.faults files.old) (F.faults files.new) (O.faults out.old) (O.faults out.new) result }
     ensures earlier { HasEarlier (job_of (map (λ s. string_bytes s) words.now)) (F.held files.old) result }
@@ -103,7 +101,7 @@ pub fn run_alone<R: Threads + Sync, F: Files, O: Sink, E: Sink, G: Gate + Sync>(
     ensures log { TakesFront (E.written log.old) (E.written log.new) (E.free log.old) (E.free log.new) (line_of result) }
     ensures log_whole { E.faults log.old < last_count → E.faults log.new ≡ E.faults log.old → Takes (E.written log.old) (E.written log.new) (E.free log.old) (E.free log.new) (line_of result) }
 {
-    let status = perform::<R, F, O>(rt, alloc, words, files, out);
+    let status = perform::<R, F, O, G>(rt, alloc, words, files, out, gate);
     let _ = tell(log, &status);
     status
 }

@@ -1,324 +1,26 @@
 // The run over memory: words and files, and what is answered, written and told.
-use crate::run::{Gate, run};
+use crate::run::run;
 use crate::status::Status;
 use std::alloc::{AllocError, Global};
 use std::test::Fail;
 use std::thread::Threads;
+use tib_hunt::Gate;
 use tib_io::{MemoryFiles, MemorySink};
 use tib_lex::{FaultKind, FileFault};
 
+mod hunted;
 mod one_file;
 mod outside;
 mod piecewise;
+mod rows;
+
+use rows::{BINARY, RIGHT, ROWS, Row};
 
 struct Open;
 
 impl Gate for Open {
     fn pass(&self, _worker: u32, _item: u32) {}
 }
-
-// Words in front of the two files, the files, and what the run answers, writes and tells.
-type Row = (
-    &'static [&'static str],
-    &'static str,
-    &'static str,
-    Status,
-    &'static str,
-    &'static str,
-);
-
-const BINARY: &str = "q\nq -> S(q q) # 1\nq -> a # 2\n";
-
-const FOREST: &str =
-    "% I saw the man with the telescope\nqS\nqS -> S(qI qVP) # 1\nqI -> NP(PRP(I)) # 2\nqVP -> VP(V(saw) qNP qPP) # 5\nqVP -> VP(V(saw) qNX) # 3\nqNX -> NP(qNP qPP) # 4\nqNP -> NP(DT(the) NN(man)) # 2\nqPP -> PP(P(with) NP(DT(the) NN(telescope))) # 3.000\n";
-
-const READINGS: &str =
-    "S(NP(PRP(I)) VP(V(saw) NP(DT(the) NN(man)) PP(P(with) NP(DT(the) NN(telescope)))))\nS(NP(PRP(I)) VP(V(saw) NP(NP(DT(the) NN(man)) PP(P(with) NP(DT(the) NN(telescope))))))\n";
-
-const READINGS_WEIGHED: &str =
-    "S(NP(PRP(I)) VP(V(saw) NP(DT(the) NN(man)) PP(P(with) NP(DT(the) NN(telescope))))) # 13\nS(NP(PRP(I)) VP(V(saw) NP(NP(DT(the) NN(man)) PP(P(with) NP(DT(the) NN(telescope)))))) # 15\n";
-
-// The worked rows.
-static ROWS: [Row; 27] = [
-    // the cost of a tree
-    (
-        &["weigh"],
-        BINARY,
-        "S(a a)\n",
-        Status::Done,
-        "S(a a) # 5\n",
-        "",
-    ),
-    // an unknown label is no fault
-    (
-        &["weigh"],
-        BINARY,
-        "S(b a)\na\n",
-        Status::Done,
-        "S(b a) # none\na # 2\n",
-        "",
-    ),
-    // the same in bottleneck
-    (
-        &["-m", "bottleneck", "weigh"],
-        BINARY,
-        "S(a a)\nS(b a)\n",
-        Status::Done,
-        "S(a a) # 2\nS(b a) # none\n",
-        "",
-    ),
-    // the same in Boolean, where no cost is printed
-    (
-        &["weigh", "-mboolean"],
-        BINARY,
-        "S(a a)\nS(b a)\n",
-        Status::Done,
-        "S(a a)\nS(b a) # none\n",
-        "",
-    ),
-    // a file without tokens is no grammar
-    (
-        &["weigh"],
-        "",
-        "a\n",
-        Status::BadInput {
-            file: 1,
-            fault: FileFault {
-                line: 1,
-                kind: FaultKind::NoStart,
-            },
-        },
-        "",
-        "tiburon: file 1: line 1: no start\n",
-    ),
-    // a chain cycle of cost 0
-    (
-        &["weigh"],
-        "q\nq -> r # 0\nr -> q # 0\nr -> a # 4\n",
-        "a\n",
-        Status::Done,
-        "a # 4\n",
-        "",
-    ),
-    // a cost above the greatest one counts as none
-    (
-        &["weigh"],
-        "q\nq -> f(p) # 1000000000000000\np -> a # 1\n",
-        "f(a)\n",
-        Status::Done,
-        "f(a) # none\n",
-        "",
-    ),
-    // a weight above the greatest one
-    (
-        &["weigh"],
-        "q\nq -> f(p) # 1000000000000001\np -> a # 1\n",
-        "f(a)\n",
-        Status::BadInput {
-            file: 1,
-            fault: FileFault {
-                line: 2,
-                kind: FaultKind::WeightTooLarge,
-            },
-        },
-        "",
-        "tiburon: file 1: line 2: weight too large\n",
-    ),
-    // zeros behind the point
-    (
-        &["weigh"],
-        "q\nq -> S(q q) # 1\nq -> a # 2.000\n",
-        "a\n",
-        Status::Done,
-        "a # 2\n",
-        "",
-    ),
-    // a weight that is not whole
-    (
-        &["weigh"],
-        "q\nq -> S(q q) # 1\nq -> a # 0.5\n",
-        "a\n",
-        Status::BadInput {
-            file: 1,
-            fault: FileFault {
-                line: 3,
-                kind: FaultKind::NotWhole,
-            },
-        },
-        "",
-        "tiburon: file 1: line 3: weight is not a whole number\n",
-    ),
-    // in Boolean any name is a weight
-    (
-        &["-m", "boolean", "weigh"],
-        "q\nq -> S(q q) # 1\nq -> a # 0.5\n",
-        "a\n",
-        Status::Done,
-        "a\n",
-        "",
-    ),
-    // a right side that is no tree
-    (
-        &["weigh"],
-        "q\nq -> S(q",
-        "a\n",
-        Status::BadInput {
-            file: 1,
-            fault: FileFault {
-                line: 2,
-                kind: FaultKind::BadRule,
-            },
-        },
-        "",
-        "tiburon: file 1: line 2: bad rule\n",
-    ),
-    // a quoted token that is not closed
-    (
-        &["weigh"],
-        "q\nq -> \"a",
-        "a\n",
-        Status::BadInput {
-            file: 1,
-            fault: FileFault {
-                line: 2,
-                kind: FaultKind::BadToken,
-            },
-        },
-        "",
-        "tiburon: file 1: line 2: bad token\n",
-    ),
-    // a nested right side
-    (
-        &["weigh"],
-        "q\nq -> f(a)\n",
-        "f(a)\n",
-        Status::Done,
-        "f(a) # 0\n",
-        "",
-    ),
-    // a chain rule
-    (
-        &["weigh"],
-        "q\nq -> r\nr -> a\n",
-        "a\n",
-        Status::Done,
-        "a # 0\n",
-        "",
-    ),
-    // an empty tree file
-    (&["weigh"], BINARY, "", Status::Done, "", ""),
-    // the normal form has as many parts as the limit
-    (
-        &["weigh", "--limit", "7"],
-        BINARY,
-        "a\n",
-        Status::Done,
-        "a # 2\n",
-        "",
-    ),
-    // the normal form has more parts than the limit
-    (
-        &["weigh", "--limit=6"],
-        BINARY,
-        "a\n",
-        Status::TooMany { limit: 6 },
-        "",
-        "tiburon: more than 6 parts\n",
-    ),
-    // quoted leaves are labels
-    (
-        &["weigh"],
-        "q\nq -> f(\"q\" \"q0\")\n",
-        "f(q \"q0\")\n",
-        Status::Done,
-        "f(q q0) # 0\n",
-        "",
-    ),
-    // labels that need quotes
-    (
-        &["weigh"],
-        "q\nq -> \"a b\"(\"->\" \"\\\"\")\n",
-        "\"a b\"(\"->\" \"\\\"\")\n",
-        Status::Done,
-        "\"a b\"(\"->\" \"\\\"\") # 0\n",
-        "",
-    ),
-    // nested sides and chain rules
-    (
-        &["weigh"],
-        "q\nq -> f(g(a) q) # 3\nq -> r # 1\nr -> b # 2\n",
-        "f(g(a) b)\nb\n",
-        Status::Done,
-        "f(g(a) b) # 6\nb # 3\n",
-        "",
-    ),
-    // a parse forest
-    (
-        &["weigh"],
-        FOREST,
-        READINGS,
-        Status::Done,
-        READINGS_WEIGHED,
-        "",
-    ),
-    // a faulty tree file is the second file
-    (
-        &["weigh"],
-        BINARY,
-        "a\n\n(a)\n",
-        Status::BadInput {
-            file: 2,
-            fault: FileFault {
-                line: 3,
-                kind: FaultKind::BadTree,
-            },
-        },
-        "",
-        "tiburon: file 2: line 3: bad tree\n",
-    ),
-    // the first file's fault comes first
-    (
-        &["weigh"],
-        "q\nq ->\n",
-        "(\n",
-        Status::BadInput {
-            file: 1,
-            fault: FileFault {
-                line: 2,
-                kind: FaultKind::BadRule,
-            },
-        },
-        "",
-        "tiburon: file 1: line 2: bad rule\n",
-    ),
-    // options behind the operation, workers accepted
-    (
-        &["-w", "4", "weigh", "-k", "3"],
-        BINARY,
-        "a\n",
-        Status::Done,
-        "a # 2\n",
-        "",
-    ),
-    // an option twice
-    (
-        &["-k1", "-k2", "weigh"],
-        BINARY,
-        "a\n",
-        Status::Usage,
-        "",
-        "tiburon: usage: tiburon [-m MODE] [-k N] [-w N] [--limit N] OPERATION FILE...\n",
-    ),
-    // a file too many
-    (
-        &["weigh", "x"],
-        BINARY,
-        "a\n",
-        Status::Usage,
-        "",
-        "tiburon: usage: tiburon [-m MODE] [-k N] [-w N] [--limit N] OPERATION FILE...\n",
-    ),
-];
 
 fn texts(alloc: Global, words: &[&str]) -> Result<Vec<String>, AllocError> {
     let mut all = Vec::new(alloc);
@@ -366,6 +68,27 @@ fn the_worked_rows_run(rt: HostRuntime) -> Result<(), Fail> {
         assert_eq!(rt; status, row.3, "the status of row {number}");
         assert_eq!(rt; out.bytes(), row.4.as_bytes(), "the text of row {number}");
         assert_eq!(rt; log.bytes(), row.5.as_bytes(), "the log of row {number}");
+    }
+    Ok(())
+}
+
+#[test]
+fn an_intersection_is_refused_below_its_parts(rt: HostRuntime) -> Result<(), Fail> {
+    let alloc = rt.alloc();
+    for limit in 1..=14 {
+        let option = format!(in alloc; "--limit={limit}")?;
+        let words = texts(alloc, &[option.as_str(), "intersect"])?;
+        let (left, right) = (BINARY.as_bytes(), RIGHT.as_bytes());
+        let mut files = two_files(alloc, left.to_vec(alloc)?, right.to_vec(alloc)?, &[])?;
+        let mut out = MemorySink::new(alloc, Vec::new(alloc), 1000)?;
+        let mut log = MemorySink::new(alloc, Vec::new(alloc), 1000)?;
+        let status = run(&rt, alloc, &words, &mut files, &mut out, &mut log, &Open);
+        let told = if limit < 14 {
+            Status::TooMany { limit }
+        } else {
+            Status::Done
+        };
+        assert_eq!(rt; status, told, "the limit {limit}");
     }
     Ok(())
 }

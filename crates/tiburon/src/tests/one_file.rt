@@ -205,21 +205,19 @@ static ROWS: [Row; 22] = [
     ),
 ];
 
-// What a run of a row answers, writes and tells.
-fn run_row<R: Threads + Sync>(
+// What a run over the file `G` answers, writes and tells.
+fn run_on<R: Threads + Sync>(
     rt: &R,
     alloc: Global,
-    row: &Row,
+    asked: &[&str],
+    file: Vec<u8>,
 ) -> Result<(Status, MemorySink, MemorySink), AllocError> {
     let mut words = Vec::new(alloc);
-    for word in row.0 {
+    for word in asked {
         words.push(String::from_str(alloc, word)?)?;
     }
     let mut held = Vec::new(alloc);
-    held.push((
-        String::from_str(alloc, "G")?,
-        row.1.as_bytes().to_vec(alloc)?,
-    ))?;
+    held.push((String::from_str(alloc, "G")?, file))?;
     let mut files = MemoryFiles::new(held, Vec::new(alloc));
     let mut out = MemorySink::new(alloc, Vec::new(alloc), 1000)?;
     let mut log = MemorySink::new(alloc, Vec::new(alloc), 1000)?;
@@ -230,10 +228,33 @@ fn run_row<R: Threads + Sync>(
 #[test]
 fn the_rows_on_one_file_run(rt: HostRuntime) -> Result<(), Fail> {
     for (number, row) in ROWS.iter().enumerate() {
-        let (status, out, log) = run_row(&rt, rt.alloc(), row)?;
+        let file = row.1.as_bytes().to_vec(rt.alloc())?;
+        let (status, out, log) = run_on(&rt, rt.alloc(), row.0, file)?;
         assert_eq!(rt; status, row.2, "the status of row {number}");
         assert_eq!(rt; out.bytes(), row.3.as_bytes(), "the text of row {number}");
         assert_eq!(rt; log.bytes(), row.4.as_bytes(), "the log of row {number}");
+    }
+    Ok(())
+}
+
+#[test]
+fn a_file_is_as_long_as_it_may_be(rt: HostRuntime) -> Result<(), Fail> {
+    let empty = Status::BadInput {
+        file: 1,
+        fault: FileFault {
+            line: 1,
+            kind: FaultKind::NoStart,
+        },
+    };
+    for (operation, length, told) in [
+        ("inside", 8_388_609, Status::TooLong { file: 1 }),
+        ("normal", 8_388_609, Status::TooLong { file: 1 }),
+        ("normal", 8_388_608, empty),
+    ] {
+        let file = vec![in rt.alloc(); b'%'; length]?;
+        let (status, out, _) = run_on(&rt, rt.alloc(), &[operation, "G"], file)?;
+        assert_eq!(rt; status, told, "{operation} of {length} bytes");
+        assert!(rt; out.bytes().is_empty());
     }
     Ok(())
 }

@@ -1,6 +1,7 @@
 // The worked rows over files and outputs that fail, that are full, or of which little goes over at a time.
 use super::piecewise::Piecewise;
-use super::{Open, ROWS, Row, texts, two_files};
+use super::rows::{ROWS, Row};
+use super::{Open, texts, two_files};
 use crate::run::run;
 use crate::status::Status;
 use std::alloc::{AllocError, Global};

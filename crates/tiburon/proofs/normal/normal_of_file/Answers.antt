@@ -1,4 +1,5 @@
-use Rattle.std.proofs.Common.{ℕ, List}
+use Rattle.std.proofs.Common.{ℕ, List, subst, sym}
+use Rattle.tib_grammar_file.specs.GrammarText.{GrammarText}
 use Rattle.std.specs.Prelude.{Option, Some}
 use Rattle.tib_command.specs.Jobs.{meaning, Asked}
 use Rattle.tiburon.specs.Kinds.{file_at, of_grammar, IsRead}
@@ -33,4 +34,5 @@ returns-in-Ok-grammar_lines-clause-text g c =
       canonical = c.in-Ok-canonical_normal.ensures.canonical;
       series = c.in-Ok-canonical_normal.ensures.series;
       are = c.in-Ok-grammar_lines.ensures;
+      read = subst (λ (text : List ℕ). GrammarText g.S.Semiring.WEIGHTED c.grammar_in.new.labels text c.in-Ok-canonical_normal.canonical) (sym c.in-Ok-grammar_lines.ensures) c.in-Ok-canonical_normal.ensures.read;
     })

@@ -1,0 +1,500 @@
+// The worked rows on two files: weighing trees, and intersecting two grammars.
+use crate::status::Status;
+use tib_lex::{FaultKind, FileFault};
+
+// Words in front of the two files, the files, and what the run answers, writes and tells.
+pub type Row = (
+    &'static [&'static str],
+    &'static str,
+    &'static str,
+    Status,
+    &'static str,
+    &'static str,
+);
+
+pub const BINARY: &str = "q\nq -> S(q q) # 1\nq -> a # 2\n";
+
+pub const RIGHT: &str = "p\np -> S(p r) # 2\np -> a # 1\nr -> a # 0\n";
+
+const FOREST: &str =
+    "% I saw the man with the telescope\nqS\nqS -> S(qI qVP) # 1\nqI -> NP(PRP(I)) # 2\nqVP -> VP(V(saw) qNP qPP) # 5\nqVP -> VP(V(saw) qNX) # 3\nqNX -> NP(qNP qPP) # 4\nqNP -> NP(DT(the) NN(man)) # 2\nqPP -> PP(P(with) NP(DT(the) NN(telescope))) # 3.000\n";
+
+const READINGS: &str =
+    "S(NP(PRP(I)) VP(V(saw) NP(DT(the) NN(man)) PP(P(with) NP(DT(the) NN(telescope)))))\nS(NP(PRP(I)) VP(V(saw) NP(NP(DT(the) NN(man)) PP(P(with) NP(DT(the) NN(telescope))))))\n";
+
+const READINGS_WEIGHED: &str =
+    "S(NP(PRP(I)) VP(V(saw) NP(DT(the) NN(man)) PP(P(with) NP(DT(the) NN(telescope))))) # 13\nS(NP(PRP(I)) VP(V(saw) NP(NP(DT(the) NN(man)) PP(P(with) NP(DT(the) NN(telescope)))))) # 15\n";
+
+// The worked rows.
+pub static ROWS: [Row; 47] = [
+    // the cost of a tree
+    (
+        &["weigh"],
+        BINARY,
+        "S(a a)\n",
+        Status::Done,
+        "S(a a) # 5\n",
+        "",
+    ),
+    // an unknown label is no fault
+    (
+        &["weigh"],
+        BINARY,
+        "S(b a)\na\n",
+        Status::Done,
+        "S(b a) # none\na # 2\n",
+        "",
+    ),
+    // the same in bottleneck
+    (
+        &["-m", "bottleneck", "weigh"],
+        BINARY,
+        "S(a a)\nS(b a)\n",
+        Status::Done,
+        "S(a a) # 2\nS(b a) # none\n",
+        "",
+    ),
+    // the same in Boolean, where no cost is printed
+    (
+        &["weigh", "-mboolean"],
+        BINARY,
+        "S(a a)\nS(b a)\n",
+        Status::Done,
+        "S(a a)\nS(b a) # none\n",
+        "",
+    ),
+    // a file without tokens is no grammar
+    (
+        &["weigh"],
+        "",
+        "a\n",
+        Status::BadInput {
+            file: 1,
+            fault: FileFault {
+                line: 1,
+                kind: FaultKind::NoStart,
+            },
+        },
+        "",
+        "tiburon: file 1: line 1: no start\n",
+    ),
+    // a chain cycle of cost 0
+    (
+        &["weigh"],
+        "q\nq -> r # 0\nr -> q # 0\nr -> a # 4\n",
+        "a\n",
+        Status::Done,
+        "a # 4\n",
+        "",
+    ),
+    // a cost above the greatest one counts as none
+    (
+        &["weigh"],
+        "q\nq -> f(p) # 1000000000000000\np -> a # 1\n",
+        "f(a)\n",
+        Status::Done,
+        "f(a) # none\n",
+        "",
+    ),
+    // a weight above the greatest one
+    (
+        &["weigh"],
+        "q\nq -> f(p) # 1000000000000001\np -> a # 1\n",
+        "f(a)\n",
+        Status::BadInput {
+            file: 1,
+            fault: FileFault {
+                line: 2,
+                kind: FaultKind::WeightTooLarge,
+            },
+        },
+        "",
+        "tiburon: file 1: line 2: weight too large\n",
+    ),
+    // zeros behind the point
+    (
+        &["weigh"],
+        "q\nq -> S(q q) # 1\nq -> a # 2.000\n",
+        "a\n",
+        Status::Done,
+        "a # 2\n",
+        "",
+    ),
+    // a weight that is not whole
+    (
+        &["weigh"],
+        "q\nq -> S(q q) # 1\nq -> a # 0.5\n",
+        "a\n",
+        Status::BadInput {
+            file: 1,
+            fault: FileFault {
+                line: 3,
+                kind: FaultKind::NotWhole,
+            },
+        },
+        "",
+        "tiburon: file 1: line 3: weight is not a whole number\n",
+    ),
+    // in Boolean any name is a weight
+    (
+        &["-m", "boolean", "weigh"],
+        "q\nq -> S(q q) # 1\nq -> a # 0.5\n",
+        "a\n",
+        Status::Done,
+        "a\n",
+        "",
+    ),
+    // a right side that is no tree
+    (
+        &["weigh"],
+        "q\nq -> S(q",
+        "a\n",
+        Status::BadInput {
+            file: 1,
+            fault: FileFault {
+                line: 2,
+                kind: FaultKind::BadRule,
+            },
+        },
+        "",
+        "tiburon: file 1: line 2: bad rule\n",
+    ),
+    // a quoted token that is not closed
+    (
+        &["weigh"],
+        "q\nq -> \"a",
+        "a\n",
+        Status::BadInput {
+            file: 1,
+            fault: FileFault {
+                line: 2,
+                kind: FaultKind::BadToken,
+            },
+        },
+        "",
+        "tiburon: file 1: line 2: bad token\n",
+    ),
+    // a nested right side
+    (
+        &["weigh"],
+        "q\nq -> f(a)\n",
+        "f(a)\n",
+        Status::Done,
+        "f(a) # 0\n",
+        "",
+    ),
+    // a chain rule
+    (
+        &["weigh"],
+        "q\nq -> r\nr -> a\n",
+        "a\n",
+        Status::Done,
+        "a # 0\n",
+        "",
+    ),
+    // an empty tree file
+    (&["weigh"], BINARY, "", Status::Done, "", ""),
+    // the normal form has as many parts as the limit
+    (
+        &["weigh", "--limit", "7"],
+        BINARY,
+        "a\n",
+        Status::Done,
+        "a # 2\n",
+        "",
+    ),
+    // the normal form has more parts than the limit
+    (
+        &["weigh", "--limit=6"],
+        BINARY,
+        "a\n",
+        Status::TooMany { limit: 6 },
+        "",
+        "tiburon: more than 6 parts\n",
+    ),
+    // quoted leaves are labels
+    (
+        &["weigh"],
+        "q\nq -> f(\"q\" \"q0\")\n",
+        "f(q \"q0\")\n",
+        Status::Done,
+        "f(q q0) # 0\n",
+        "",
+    ),
+    // labels that need quotes
+    (
+        &["weigh"],
+        "q\nq -> \"a b\"(\"->\" \"\\\"\")\n",
+        "\"a b\"(\"->\" \"\\\"\")\n",
+        Status::Done,
+        "\"a b\"(\"->\" \"\\\"\") # 0\n",
+        "",
+    ),
+    // nested sides and chain rules
+    (
+        &["weigh"],
+        "q\nq -> f(g(a) q) # 3\nq -> r # 1\nr -> b # 2\n",
+        "f(g(a) b)\nb\n",
+        Status::Done,
+        "f(g(a) b) # 6\nb # 3\n",
+        "",
+    ),
+    // a parse forest
+    (
+        &["weigh"],
+        FOREST,
+        READINGS,
+        Status::Done,
+        READINGS_WEIGHED,
+        "",
+    ),
+    // a faulty tree file is the second file
+    (
+        &["weigh"],
+        BINARY,
+        "a\n\n(a)\n",
+        Status::BadInput {
+            file: 2,
+            fault: FileFault {
+                line: 3,
+                kind: FaultKind::BadTree,
+            },
+        },
+        "",
+        "tiburon: file 2: line 3: bad tree\n",
+    ),
+    // the first file's fault comes first
+    (
+        &["weigh"],
+        "q\nq ->\n",
+        "(\n",
+        Status::BadInput {
+            file: 1,
+            fault: FileFault {
+                line: 2,
+                kind: FaultKind::BadRule,
+            },
+        },
+        "",
+        "tiburon: file 1: line 2: bad rule\n",
+    ),
+    // options behind the operation, workers accepted
+    (
+        &["-w", "4", "weigh", "-k", "3"],
+        BINARY,
+        "a\n",
+        Status::Done,
+        "a # 2\n",
+        "",
+    ),
+    // an option twice
+    (
+        &["-k1", "-k2", "weigh"],
+        BINARY,
+        "a\n",
+        Status::Usage,
+        "",
+        "tiburon: usage: tiburon [-m MODE] [-k N] [-w N] [--limit N] OPERATION FILE...\n",
+    ),
+    // a file too many
+    (
+        &["weigh", "x"],
+        BINARY,
+        "a\n",
+        Status::Usage,
+        "",
+        "tiburon: usage: tiburon [-m MODE] [-k N] [-w N] [--limit N] OPERATION FILE...\n",
+    ),
+    // no tree is in both
+    (
+        &["intersect"],
+        "q\nq -> a\n",
+        "p\np -> b\n",
+        Status::Done,
+        "q0\n",
+        "",
+    ),
+    // the product of the costs, from the pair of the starts
+    (
+        &["intersect"],
+        BINARY,
+        RIGHT,
+        Status::Done,
+        "q0\nq0 -> S(q0 q1) # 3\nq0 -> a # 3\nq1 -> a # 2\n",
+        "",
+    ),
+    // the same in bottleneck
+    (
+        &["-mbottleneck", "intersect"],
+        BINARY,
+        RIGHT,
+        Status::Done,
+        "q0\nq0 -> S(q0 q1) # 2\nq0 -> a # 2\nq1 -> a # 2\n",
+        "",
+    ),
+    // the same in Boolean, where no cost is printed
+    (
+        &["intersect", "-m=boolean"],
+        BINARY,
+        RIGHT,
+        Status::Done,
+        "q0\nq0 -> S(q0 q1)\nq0 -> a\nq1 -> a\n",
+        "",
+    ),
+    // the reached set has as many parts as the limit
+    (
+        &["--limit", "14", "intersect"],
+        BINARY,
+        RIGHT,
+        Status::Done,
+        "q0\nq0 -> S(q0 q1) # 3\nq0 -> a # 3\nq1 -> a # 2\n",
+        "",
+    ),
+    // it has one more
+    (
+        &["--limit", "13", "intersect"],
+        BINARY,
+        RIGHT,
+        Status::TooMany { limit: 13 },
+        "",
+        "tiburon: more than 13 parts\n",
+    ),
+    // the second normal form has one more
+    (
+        &["--limit", "9", "intersect"],
+        BINARY,
+        RIGHT,
+        Status::TooMany { limit: 9 },
+        "",
+        "tiburon: more than 9 parts\n",
+    ),
+    // the first has
+    (
+        &["--limit", "6", "intersect"],
+        BINARY,
+        RIGHT,
+        Status::TooMany { limit: 6 },
+        "",
+        "tiburon: more than 6 parts\n",
+    ),
+    // a label over one state is not that label alone
+    (
+        &["intersect"],
+        "q\nq -> f(q) # 1\nq -> f # 2\n",
+        "p\np -> f # 3\n",
+        Status::Done,
+        "q0\nq0 -> f # 5\n",
+        "",
+    ),
+    // a product above the greatest cost is none
+    (
+        &["intersect"],
+        "q\nq -> a # 1000000000000000\nq -> b # 1\n",
+        "p\np -> a # 1\np -> b # 2\n",
+        Status::Done,
+        "q0\nq0 -> b # 3\n",
+        "",
+    ),
+    // in bottleneck the product is the greater one
+    (
+        &["-m", "bottleneck", "intersect"],
+        "q\nq -> a # 1000000000000000\n",
+        "p\np -> a # 1\n",
+        Status::Done,
+        "q0\nq0 -> a # 1000000000000000\n",
+        "",
+    ),
+    // a pair that is reached, but from which no tree is in both
+    (
+        &["intersect"],
+        "q\nq -> f(r) # 1\nq -> c # 1\nr -> a # 1\n",
+        "p\np -> f(s) # 1\np -> c # 1\ns -> b # 1\n",
+        Status::Done,
+        "q0\nq0 -> c # 2\n",
+        "",
+    ),
+    // nested sides and chain rules
+    (
+        &["intersect"],
+        "q\nq -> f(g(a))\n",
+        "p\np -> r # 1\nr -> f(x)\nx -> g(y)\ny -> a # 2\n",
+        Status::Done,
+        "q0\nq0 -> f(q1) # 1\nq1 -> g(q2) # 0\nq2 -> a # 2\n",
+        "",
+    ),
+    // states are named by their keys, not by the order of sight
+    (
+        &["intersect"],
+        "q\nq -> f(s r)\nr -> a\ns -> b\n",
+        "p\np -> f(x y)\nx -> b\ny -> a\n",
+        Status::Done,
+        "q0\nq0 -> f(q2 q1) # 0\nq1 -> a # 0\nq2 -> b # 0\n",
+        "",
+    ),
+    // a label that is the name of a state
+    (
+        &["intersect"],
+        "q\nq -> g(q) # 1\nq -> \"q0\"\n",
+        "p\np -> q0 # 7\n",
+        Status::Done,
+        "q0\nq0 -> \"q0\" # 7\n",
+        "",
+    ),
+    // a grammar with itself
+    (
+        &["intersect"],
+        BINARY,
+        BINARY,
+        Status::Done,
+        "q0\nq0 -> S(q0 q0) # 2\nq0 -> a # 4\n",
+        "",
+    ),
+    // of equal rules the cheapest stays
+    (
+        &["intersect"],
+        "q\nq -> a # 5\nq -> a # 2\n",
+        "p\np -> a # 1\n",
+        Status::Done,
+        "q0\nq0 -> a # 3\n",
+        "",
+    ),
+    // a second file without tokens
+    (
+        &["intersect"],
+        BINARY,
+        "% none\n",
+        Status::BadInput {
+            file: 2,
+            fault: FileFault {
+                line: 1,
+                kind: FaultKind::NoStart,
+            },
+        },
+        "",
+        "tiburon: file 2: line 1: no start\n",
+    ),
+    // the first file's fault comes first
+    (
+        &["intersect"],
+        "q\nq -> S(q",
+        "",
+        Status::BadInput {
+            file: 1,
+            fault: FileFault {
+                line: 2,
+                kind: FaultKind::BadRule,
+            },
+        },
+        "",
+        "tiburon: file 1: line 2: bad rule\n",
+    ),
+    // a file too many
+    (
+        &["intersect", "x"],
+        BINARY,
+        RIGHT,
+        Status::Usage,
+        "",
+        "tiburon: usage: tiburon [-m MODE] [-k N] [-w N] [--limit N] OPERATION FILE...\n",
+    ),
+];
