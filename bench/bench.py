@@ -145,6 +145,18 @@ def trie(rules):
     return lines
 
 
+def monadic(states, seed):
+    """A grammar of words: each state has three rules of one letter of five over a state, the start one for each letter, and
+    one state in eight has an end."""
+    random.seed(seed)
+    lines = ["s0"] + ["s0 -> %s(s%d) # %d" % (letter, random.randrange(states), random.randrange(10)) for letter in "abcde"]
+    for state in range(1, states):
+        lines += ["s%d -> %s(s%d) # %d" % (state, random.choice("abcde"), random.randrange(states), random.randrange(10)) for _ in range(3)]
+        if state % 8 == 1:
+            lines.append("s%d -> e # 1" % state)
+    return lines
+
+
 def deep_trees(depth, number):
     random.seed(4)
     return ["".join(random.choice("ab") + "(" for _ in range(depth)) + "e" + ")" * depth for _ in range(number)]
@@ -195,11 +207,17 @@ def main(program):
     row("inside of 18,000 rules over 700 states", measure(program, "inside", path("weigh.grammar")), 18000 / 1e6, "million rules/s")
     row("normal of 18,000 rules over 700 states", measure(program, "normal", path("weigh.grammar")), 18000 / 1e6, "million rules/s")
 
+    two = [write("monadic%d.grammar" % seed, monadic(800, seed)) for seed in (11, 12)]
+    pairs = subprocess.run([program, "intersect", *two], capture_output=True, check=False).stdout.splitlines()
+    states = len(set(line.split(b" ", 1)[0] for line in pairs))
+    row("intersect two of 800 states: %d states, %d rules" % (states, len(pairs) - 1), measure(program, "intersect", *two), (len(pairs) - 1) / 1e6, "million rules/s")
+
     print("\nhow time grows over three doublings (the exponent is about 1 where it grows as the input)")
     for name, sizes, words in (
         ("grammar read and brought into normal form", (1, 2, 4, 8), lambda n: ("weigh", write("grow%d.grammar" % n, flat_grammar(n * (MEGABYTE - 4096))), one)),
         ("trees read, weighed and printed", (1, 2, 4, 8), lambda n: ("weigh", tiny, write("grow%d.trees" % n, some_trees(n * (MEGABYTE - 4096))))),
         ("inside of a trie", (1, 2, 4, 8), lambda n: ("inside", write("trie%d.grammar" % n, trie(n * 31250)))),
+        ("intersect, by the pairs of states", (1, 2, 4, 8), lambda n: ("intersect", *[write("monadic%d-%d.grammar" % (n, seed), monadic(round(800 * math.sqrt(n / 8)), seed)) for seed in (11, 12)])),
         ("normal of a trie", (1, 2, 4, 8), lambda n: ("normal", write("trie%d.grammar" % n, trie(n * 31250)))),
     ):
         seconds = [measure(program, *words(n))[0] for n in sizes]
