@@ -44,7 +44,7 @@ OrderIsFree product =
     (one two three four : List (Rule ℕ)) → DifferInOrder one three → DifferInOrder two four → (order : List (ℕ × ℕ)) (edges : List (Rule (ℕ × ℕ))) →
     IsReachedSet (intersection product one two) order edges → IsReachedSet (intersection product three four) order edges
 
--- two grammars have one reached set, whose edges stand in any order
+-- two grammars reach the same pairs in the same order, and the same edges
 abbrev pub IsOneSet : (ℕ → ℕ → ℕ) → Type 0
 IsOneSet product =
     (one two : List (Rule ℕ)) (order other : List (ℕ × ℕ)) (edges more : List (Rule (ℕ × ℕ))) → IsReachedSet (intersection product one two) order edges →

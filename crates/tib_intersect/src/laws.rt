@@ -14,7 +14,7 @@ pub fn order_is_free<S: Semiring>()
     ensures { OrderIsFree S.product }
 {}
 
-/// Two grammars have one reached set, whose edges stand in any order.
+/// Two grammars reach the same pairs in the same order, and the same edges.
 pub fn reached_set_is_one<S: Semiring>()
     ensures { IsOneSet S.product }
 {}
