@@ -5,6 +5,7 @@ ghost use Rattle.tib_grammar.specs.Sides.{Side as SideFor, HolesAreLeaves, over 
 ghost use Rattle.tib_grammar.specs.Items.{pairs_of, pair_of, items_over};
 
 use crate::{Item, Side};
+use smallvec::SmallVec;
 use std::alloc::{AllocError, Global};
 use tib_tree::{Label, ShapeError};
 
@@ -38,11 +39,15 @@ fn is_one_side<P>(items: &[Item<P>]) -> bool
 }
 
 // The preorder of one label over some states.
-fn items_over(alloc: Global, label: Label, states: &[u32]) -> Result<Vec<Item<u32>>, AllocError>
+fn items_over(
+    alloc: Global,
+    label: Label,
+    states: &[u32],
+) -> Result<SmallVec<Item<u32>, 3>, AllocError>
     requires { length states.now < 2 ^ 32 }
     ensures { IfOk result (λ v. v.items ≡ items_over label states.now) }
 {
-    let mut items = Vec::with_capacity(alloc, states.len() + 1)?;
+    let mut items = SmallVec::with_capacity(alloc, states.len() + 1)?;
     items.push(Item::Label {
         label,
         rank: states.len() as u32,
@@ -63,7 +68,9 @@ impl<P: Drop> Side<P> {
         ensures no_memory { result ≢ Err ShapeError.OutOfMemory }
     {
         if is_one_side(&items) {
-            Ok(Side { items })
+            Ok(Side {
+                items: SmallVec::from_vec(items),
+            })
         } else {
             Err(ShapeError::NotATree)
         }
@@ -87,6 +94,6 @@ impl<P> Side<P> {
         ensures items { pairs_of result.now ≡ preorder_of self.now }
         ensures leaves { HolesAreLeaves (only self.now) }
     {
-        &self.items
+        self.items.as_slice()
     }
 }

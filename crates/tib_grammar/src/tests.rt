@@ -163,3 +163,54 @@ fn the_first_fault_is_named(rt: HostRuntime) -> Result<(), Fail> {
     assert!(rt; grammar(alloc, &["q"], &[(0, (Some(0), &[1]))])?.is_none());
     Ok(())
 }
+
+// The rules of a grammar under new numbers of states.
+fn renamed(grammar: Grammar<MinPlus>, numbers: &[u32]) -> Result<Vec<Rule<u32>>, Fail> {
+    grammar.is_sound();
+    if numbers.len() != grammar.states() as usize {
+        return Err("not a number for each state".into());
+    }
+    let (_, mut rules) = grammar.into_parts();
+    rename_rules(&mut rules, numbers);
+    Ok(rules)
+}
+
+// q -> f(q p r p), p -> f(r q), r -> p, where q gets the number 2, p 0 and r 1
+#[test]
+fn states_get_new_numbers(rt: HostRuntime) -> Result<(), Fail> {
+    let alloc = rt.alloc();
+    let Some(grammar) = grammar(
+        alloc,
+        &["q", "p", "r"],
+        &[
+            (0, (Some(0), &[0, 1, 2, 1])),
+            (1, (Some(0), &[2, 0])),
+            (2, (None, &[1])),
+        ],
+    )?
+    else {
+        return Err("no grammar".into());
+    };
+    let rules = renamed(grammar, &[2, 0, 1])?;
+    let label = |rank| Item::Label { label: 0, rank };
+    let [first, second, third] = &rules[..] else {
+        return Err("not three rules".into());
+    };
+    assert_eq!(rt; (first.left, second.left, third.left), (2, 0, 1));
+    assert_eq!(rt;
+        first.right.items(),
+        &[
+            label(4),
+            Item::Hole(2),
+            Item::Hole(0),
+            Item::Hole(1),
+            Item::Hole(0)
+        ][..]
+    );
+    assert_eq!(rt;
+        second.right.items(),
+        &[label(2), Item::Hole(1), Item::Hole(2)][..]
+    );
+    assert_eq!(rt; third.right.items(), &[Item::Hole(0)][..]);
+    Ok(())
+}
