@@ -134,6 +134,15 @@ impl<S> Normal<S> {
         &self.grammar
     }
 
+    /// The grammar, for one that is made from it. It takes no memory.
+    pub fn into_grammar(self) -> Grammar<S>
+        ensures same { result ≡ self }
+        ensures normal { IsNormal self.rules }
+    {
+        let Normal { grammar, .. } = self;
+        grammar
+    }
+
     /// The rules of a state, in order.
     pub fn rules_of(&self, state: u32) -> &[Rule<u32>]
         requires { state < length self.now.names }
