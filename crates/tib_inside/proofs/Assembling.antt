@@ -1,12 +1,12 @@
 -- The trimmed grammar, put together.
-use Rattle.std.specs.Prelude.{◌≡◌, ℕ, ◌<◌, ◌&&◌, List, [], ◌∷◌, length, map, Bool, true, false, Option, refl}
+use Rattle.std.specs.Prelude.{◌≡◌, ℕ, ◌<◌, ◌≤◌, ◌&&◌, List, [], ◌∷◌, length, map, Bool, true, false, Option, refl}
 use Rattle.std.proofs.Common.{suc, arith, ap, sym, ◌∙◌, subst, inl, inr, get_or}
 use Rattle.std.proofs.lemmas.List.{get_or-map, length-map}
 use Rattle.tib_lex.specs.Lists.{Has, Each, Distinct, Ascends}
 use Rattle.tib_tree.specs.Trees.{only}
-use Rattle.tib_grammar.specs.Sides.{holes_of}
+use Rattle.tib_grammar.specs.Sides.{holes_of, HolesAreLeaves}
 use Rattle.tib_grammar.specs.Run.{rule_at, no_rule}
-use Rattle.tib_grammar.specs.Range.{AllBelow, IsInRange, AreInRange, SidesEndInHoles}
+use Rattle.tib_grammar.specs.Range.{AllBelow, IsInRange, AreInRange}
 use Rattle.tib_grammar.specs.StateName.{IsStateName, AreStateNames}
 use Rattle.tib_grammar.specs.GrammarOf.{GrammarOf, named_rule}
 use Rattle.tib_grammar.specs.declared.Rule.{Rule}
@@ -17,12 +17,14 @@ use Rattle.tib_inside.specs.Inside.{IsInside, AreInsides}
 use Rattle.tib_inside.specs.Settling.{costs_in}
 use Rattle.tib_inside.specs.Links.{AreBelow}
 use Rattle.tib_inside.specs.Useful.{IsLive, IsUseful, below}
-use Rattle.tib_inside.specs.Trimmed.{IsTrimmed}
-use Rattle.tib_inside.specs.Reaching.{lives, IsMarked, IsReached, AreReached, both_marked, chosen, AreKept}
+use Rattle.tib_inside.specs.Trimmed.{IsTrimmed, AreTrimmed, AreSomeStates, HaveSameSeries, HaveSeriesOfEach}
+use Rattle.tib_inside.specs.Reaching.{lives, IsMarked, IsReached, AreReached, both_marked, chosen, AreKept, AreMoved}
 use Rattle.tib_inside.specs.Reaching as reached
-use Rattle.tib_inside.specs.Renaming.{number_in, AreNumbersOf, AscendsByPlace}
+use Rattle.tib_grammar.specs.Renaming.{number_in}
+use Rattle.tib_inside.specs.Renaming.{AreNumbersOf, AscendsByPlace}
 use Rattle.tib_inside.proofs.Chosen.{chosen_has, chosen_of, chosen_ascends, chosen_below, chosen_by_place, chosen_most, has_map, distinct_at}
-use Rattle.tib_inside.proofs.Renamed.{rule_back}
+use Rattle.tib_grammar.proofs.Renamed.{rule_back}
+use Rattle.tib_inside.proofs.Keeping.{kept as kept_series, kept_at}
 use Rattle.tib_inside.proofs.Living.{insides_all, in_marks, live_marked, marked_live, useful_left, reached_useful, useful_reached}
 
 both_true : (a b : Bool) → (a && b) ≡ true → (a ≡ true) × (b ≡ true)
@@ -141,16 +143,8 @@ module _ (product : ℕ → ℕ → ℕ) (old : GrammarOf) (count : ℕ) (states
       ap (λ rs. rule_at rs m) e ∙ get_or-map (λ n. named_rule (number_in numbers) (rule_at old.rules n)) positions m 0 no_rule (omega arith) in
       subst (IsInRange (length states)) (sym at) (in_range_one (get_or positions m 0) (has_at positions m 0 (omega arith)))
 
-  pub new_ready :
-      (names : List (List ℕ)) (new : List (Rule ℕ)) → names ≡ map (λ q. get_or old.names q []) states → new ≡ map (λ n. named_rule (number_in numbers) (rule_at old.rules n)) positions →
-      (0 < length names) × AreInRange (length names) new
-  new_ready names new names_are rules_are =
-      let long : length names ≡ length states = ap length names_are ∙ length-map states (λ q. get_or old.names q []) in
-      let first = at_has states 0 0 ((kept.are_states 0).1 (inl refl)) in
-      (omega (arith, first.1), subst (λ k. AreInRange k new) (sym long) (new_in_range new rules_are))
-
   pub trimmed :
-      (new : GrammarOf) → SidesEndInHoles old.rules → new.names ≡ map (λ q. get_or old.names q []) states → new.rules ≡ map (λ n. named_rule (number_in numbers) (rule_at old.rules n)) positions →
+      (new : GrammarOf) → ((n : ℕ) → Has positions n → HolesAreLeaves (only (rule_at old.rules n).right)) → new.names ≡ map (λ q. get_or old.names q []) states → new.rules ≡ map (λ n. named_rule (number_in numbers) (rule_at old.rules n)) positions →
       IsTrimmed product old new
   trimmed new leaves names_are rules_are = record {
     states = states;
@@ -165,26 +159,66 @@ module _ (product : ℕ → ℕ → ℕ) (old : GrammarOf) (count : ℕ) (states
         ∙ map_back (named_rule (λ i. get_or states i 0)) (λ n. named_rule (number_in numbers) (rule_at old.rules n)) (rule_at old.rules) positions (λ n h.
         let s = rule_states n h in
         rule_back (number_in numbers) (λ i. get_or states i 0) (rule_at old.rules n) (numbered states numbers (rule_at old.rules n).left numbers_are s.0).back
-        (λ q k. (numbered states numbers q numbers_are (s.1 q k)).back) (leaves n ((kept.are_rules n).0 h).0.below));
+        (λ q k. (numbered states numbers q numbers_are (s.1 q k)).back) (leaves n h));
   }
 
--- what the trimmed grammar is made of
-pub record IsReady (product : ℕ → ℕ → ℕ) (old : GrammarOf) (count : ℕ) (states positions numbers : List ℕ) (names : List (List ℕ)) (new : List (Rule ℕ)) : Type 0 where
-  pub kept : AreKept product old.rules count states positions
-  pub numbers_are : AreNumbersOf states numbers
-  pub names_are : names ≡ map (λ q. get_or old.names q []) states
-  pub rules_are : new ≡ map (λ n. named_rule (number_in numbers) (rule_at old.rules n)) positions
+-- what is made of the rules
+pub record IsMade (product : ℕ → ℕ → ℕ) (old : List (Rule ℕ)) (count : ℕ) (states : List ℕ) (new : List (Rule ℕ)) : Type 0 where
+  pub trimmed : AreTrimmed product old states new
+  pub series : HaveSameSeries product old new
+  pub each : HaveSeriesOfEach product old states new
+  pub some_states : AreSomeStates count states
+  pub range : AreInRange (length states) new
+  pub few : length new ≤ length old
 
-pub ready :
-    (product : ℕ → ℕ → ℕ) (old : GrammarOf) (costs costs' : List (Option ℕ)) (states positions numbers states1 states2 positions1 numbers1 : List ℕ) (rules' : List (Rule ℕ)) (names0 names : List (List ℕ)) (new : List (Rule ℕ)) →
-    AreKept product rules' (length costs') states positions → rules' ≡ old.rules → costs' ≡ costs → AreNumbersOf states1 numbers → states1 ≡ states →
-    names ≡ map (λ q. get_or names0 q []) states2 → names0 ≡ old.names → states2 ≡ states →
-    new ≡ map (λ n. named_rule (number_in numbers1) (rule_at rules' n)) positions1 → numbers1 ≡ numbers → positions1 ≡ positions →
-    IsReady product old (length costs) states positions numbers names new
-ready product old costs costs' states positions numbers states1 states2 positions1 numbers1 rules' names0 names new kept r k n s m e t w u p = record {
-  kept = subst (λ rs. AreKept product rs (length costs) states positions) r (subst (λ cs. AreKept product rules' (length cs) states positions) k kept);
-  numbers_are = subst (λ xs. AreNumbersOf xs numbers) s n;
-  names_are = m ∙ ap (λ ns. map (λ q. get_or ns q []) states2) e ∙ ap (map (λ q. get_or old.names q [])) t;
-  rules_are = w ∙ ap (λ xs. map (λ n. named_rule (number_in xs) (rule_at rules' n)) positions1) u ∙ ap (λ rs. map (λ n. named_rule (number_in numbers) (rule_at rs n)) positions1) r
-      ∙ ap (map (λ n. named_rule (number_in numbers) (rule_at old.rules n))) p;
+pub made :
+    {levelled weighted : Bool} {product : ℕ → ℕ → ℕ} (laws : ProductLaws levelled weighted product) (old : List (Rule ℕ)) (costs : List (Option ℕ)) (states : List ℕ) (marks : List Bool) (numbers : List ℕ) (new : List (Rule ℕ)) →
+    AreInRange (length costs) old → AreInsides product old costs → AreKept product old (length costs) states (chosen (λ i. get_or marks i false) (length old)) → AreNumbersOf states numbers →
+    AreMoved old marks numbers (length old) new → IsMade product old (length costs) states new
+made {levelled} {weighted} {product} laws old costs states marks numbers new range insides kept numbers_are moved = record {
+  trimmed = are;
+  series = kept_series laws (record { names = []; rules = old }) (record { names = map (λ q. get_or [] q []) states; rules = new }) (costs_in costs) all (are []);
+  each = λ names trimmed i h t v. kept_at laws (record { names = names; rules = old }) (record { names = map (λ q. get_or names q []) states; rules = new }) (costs_in costs) all trimmed i h t v;
+  some_states = record {
+    some = let first = at_has states 0 0 ((kept.are_states 0).1 (inl refl)) in omega (arith, first.1);
+    few = kept.states_few;
+    below = kept.states_below;
+    ascend = kept.states_by_place;
+  };
+  range = new_in_range product (record { names = []; rules = old }) (length costs) states positions numbers kept numbers_are new moved.are;
+  few = omega (arith, ap length moved.are, length-map positions (λ n. named_rule (number_in numbers) (rule_at old n)), kept.rules_few);
 }
+  where
+    positions : List ℕ
+    positions = chosen (λ i. get_or marks i false) (length old)
+
+    all : (q : ℕ) → IsInside product old q (costs_in costs q)
+    all = insides_all product old costs range insides
+
+    are : AreTrimmed product old states new
+    are names = trimmed product (record { names = names; rules = old }) (length costs) states positions numbers kept numbers_are (record { names = map (λ q. get_or names q []) states; rules = new })
+        (λ n h. let c = chosen_has (λ i. get_or marks i false) (length old) n h in moved.leaves n c.below c.holds) refl moved.are
+
+-- the same, from what each step says
+pub made_of :
+    {levelled weighted : Bool} {product : ℕ → ℕ → ℕ} (laws : ProductLaws levelled weighted product) (old old1 old2 : List (Rule ℕ)) (costs costs2 : List (Option ℕ)) (count : ℕ) (states states1 : List ℕ) (marks marks1 : List Bool)
+    (numbers numbers1 : List ℕ) (new : List (Rule ℕ)) →
+    AreInRange count old → length costs ≡ count → AreInsides product old1 costs → old1 ≡ old → AreKept product old2 (length costs2) states (chosen (λ i. get_or marks i false) (length old2)) → old2 ≡ old → costs2 ≡ costs →
+    AreNumbersOf states1 numbers → states1 ≡ states → AreMoved old marks1 numbers1 (length old) new → marks1 ≡ marks → numbers1 ≡ numbers → IsMade product old count states new
+made_of {levelled} {weighted} {product} laws old old1 old2 costs costs2 count states states1 marks marks1 numbers numbers1 new range long insides o1 kept o2 c2 numbers_are s1 moved m1 n1 =
+    subst (λ n. IsMade product old n states new) long
+    (made laws old costs states marks numbers new
+    (subst (λ n. AreInRange n old) (sym long) range)
+    (subst (λ rs. AreInsides product rs costs) o1 insides)
+    (subst (λ cs. AreKept product old (length cs) states (chosen (λ i. get_or marks i false) (length old))) c2
+    (subst (λ rs. AreKept product rs (length costs2) states (chosen (λ i. get_or marks i false) (length rs))) o2 kept))
+    (subst (λ xs. AreNumbersOf xs numbers) s1 numbers_are)
+    (subst (λ xs. AreMoved old marks xs (length old) new) n1 (subst (λ xs. AreMoved old xs numbers1 (length old) new) m1 moved)))
+
+-- what holds of rules under some names holds of the grammar of these names and rules
+pub carried :
+    (P : GrammarOf → GrammarOf → Type 0) (old new : GrammarOf) (names names' : List (List ℕ)) (rules rules' : List (Rule ℕ)) → P (record { names = names; rules = rules }) (record { names = names'; rules = rules' }) →
+    names ≡ old.names → rules ≡ old.rules → new.names ≡ names' → new.rules ≡ rules' → P old new
+carried P old new names names' rules rules' h n r n' r' =
+    subst (λ x. P x new) (ap (λ z. record { names = z; rules = rules }) n ∙ ap (λ z. record { names = old.names; rules = z }) r)
+    (subst (λ y. P (record { names = names; rules = rules }) y) (sym (ap (λ z. record { names = z; rules = new.rules }) n' ∙ ap (λ z. record { names = names'; rules = z }) r')) h)

@@ -1,11 +1,12 @@
 pub mod Waiting
+pub mod Occurring
 pub mod Totals
-pub mod Segments
 pub mod Knuth
 pub mod Moving
 pub mod Following
 pub mod Chosen
 pub mod Renamed
+pub mod MarkedRules
 pub mod Living
 pub mod Keeping
 pub mod Assembling

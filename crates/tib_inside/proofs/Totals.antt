@@ -12,6 +12,9 @@ use Rattle.tib_cost.specs.Least.{times, IsCut}
 use Rattle.tib_cost.proofs.Least.{cut-cases}
 use Rattle.tib_cost.proofs.Times.{times_regroups, times_neutral, times_commutes}
 use Rattle.tib_inside.specs.Inside.{total}
+use Rattle.tib_inside.specs.Holes.{occurrences}
+use Rattle.tib_inside.specs.Settling.{unset, missing_among, or_one, scaled}
+use Rattle.tib_inside.proofs.Occurring.{same_cases, one_alike, one_apart}
 
 times_cut : (product : ℕ → ℕ → ℕ) (v w : Option ℕ) → IsCut (times product v w)
 times_cut product None w = tt
@@ -37,7 +40,7 @@ below_rest n [] ys h = (tt, h)
 below_rest n (x ∷ xs) ys h = let r = below_rest n xs ys h.1 in ((h.0, r.0), r.1)
 
 -- where a product of two is a cost, both are
-both_some : (product : ℕ → ℕ → ℕ) (v w : Option ℕ) (c : ℕ) → times product v w ≡ Some c → ((a : ℕ) × (v ≡ Some a)) × ((b : ℕ) × (w ≡ Some b))
+pub both_some : (product : ℕ → ℕ → ℕ) (v w : Option ℕ) (c : ℕ) → times product v w ≡ Some c → ((a : ℕ) × (v ≡ Some a)) × ((b : ℕ) × (w ≡ Some b))
 both_some product None w c e = absurd (cc)
 both_some product (Some a) None c e = absurd (cc)
 both_some product (Some a) (Some b) c e = ((a, refl), (b, refl))
@@ -126,3 +129,83 @@ pub below_from : (n : ℕ) (items : List (Item ℕ)) (i : ℕ) → AllBelow n (h
 below_from n items zero a = a
 below_from n [] (suc i) a = a
 below_from n (x ∷ items) (suc i) a = below_from n items i (below_rest n (holes_in (x ∷ [])) (holes_in items) (subst (AllBelow n) (holes_first x items) a)).1
+
+-- where a product with the costs of some states is a cost, none of them is missing
+pub none_missing : (product : ℕ → ℕ → ℕ) (costs : ℕ → Option ℕ) (v : Option ℕ) (qs : List ℕ) (c : ℕ) → times product v (total product costs qs) ≡ Some c → missing_among costs qs ≡ 0
+none_missing product costs v [] c e = refl
+none_missing product costs v (q ∷ qs) c e =
+    let all = second_some product v (times product (costs q) (total product costs qs)) c e in
+    let first = (both_some product (costs q) (total product costs qs) all.0 all.1).0 in
+    omega (arith, ap unset first.1, none_missing product costs (costs q) qs all.0 all.1)
+
+-- and where none is missing, the known costs are all
+pub total_known : (product : ℕ → ℕ → ℕ) (costs : ℕ → Option ℕ) (qs : List ℕ) → missing_among costs qs ≡ 0 → total product (λ q. or_one (costs q)) qs ≡ total product costs qs
+total_known product costs [] e = refl
+total_known product costs (q ∷ qs) e =
+    ap (λ v. times product v (total product (λ p. or_one (costs p)) qs)) (set (costs q) (omega (arith, e))) ∙ ap (times product (costs q)) (total_known product costs qs (omega (arith, e)))
+  where
+    set : (v : Option ℕ) → unset v ≡ 0 → or_one v ≡ v
+    set None e = absurd (omega (arith, e))
+    set (Some d) e = refl
+
+-- where no state has a cost, all are missing
+pub total_missing : (costs : ℕ → Option ℕ) → ((q : ℕ) → costs q ≡ None) → (qs : List ℕ) → missing_among costs qs ≡ length qs
+total_missing costs unknown [] = refl
+total_missing costs unknown (q ∷ qs) = omega (arith, ap unset (unknown q), total_missing costs unknown qs)
+
+-- a state that gets its cost is no longer missing
+pub missing_less :
+    (costs after : ℕ → Option ℕ) (q c : ℕ) → costs q ≡ None → after q ≡ Some c → ((p : ℕ) → (p ≡ q → ⊥) → after p ≡ costs p) →
+    (qs : List ℕ) → missing_among costs qs ≡ missing_among after qs + occurrences q qs
+missing_less costs after q c unknown here others [] = refl
+missing_less costs after q c unknown here others (p ∷ qs) = elim (same_cases q p) [
+  | inl k ↦
+      let before : unset (costs p) ≡ 1 = ap (λ x. unset (costs x)) (sym k.0) ∙ ap unset unknown in
+      let now : unset (after p) ≡ 0 = ap (λ x. unset (after x)) (sym k.0) ∙ ap unset here in
+      omega (arith, before, now, one_alike q p k.1, missing_less costs after q c unknown here others qs)
+  | inr k ↦ omega (arith, ap unset (others p (λ e. k.0 (sym e))), one_apart q p k.1, missing_less costs after q c unknown here others qs)
+]
+
+module _ {levelled weighted : Bool} {product : ℕ → ℕ → ℕ} (laws : ProductLaws levelled weighted product) where
+  pub none_known : (costs : ℕ → Option ℕ) → ((q : ℕ) → costs q ≡ None) → (qs : List ℕ) → total product (λ q. or_one (costs q)) qs ≡ Some 0
+  none_known costs unknown [] = refl
+  none_known costs unknown (q ∷ qs) =
+      ap (λ v. times product (or_one v) (total product (λ p. or_one (costs p)) qs)) (unknown q) ∙ ap (times product (Some 0)) (none_known costs unknown qs) ∙ times_neutral laws (Some 0) (omega arith)
+
+  -- the last two factors may change places
+  times_swaps : (u v w : Option ℕ) → times product (times product u v) w ≡ times product (times product u w) v
+  times_swaps u v w = times_regroups laws u v w ∙ ap (times product u) (times_commutes laws v w) ∙ sym (times_regroups laws u w v)
+
+  -- the cost of a state, as often as it stands among some, takes the place of its missing ones
+  pub scaled_total :
+      (costs after : ℕ → Option ℕ) (q c : ℕ) → costs q ≡ None → after q ≡ Some c → ((p : ℕ) → (p ≡ q → ⊥) → after p ≡ costs p) → (v : Option ℕ) (qs : List ℕ) →
+      scaled product c (times product v (total product (λ p. or_one (costs p)) qs)) (occurrences q qs) ≡ times product v (total product (λ p. or_one (after p)) qs)
+  scaled_total costs after q c unknown here others v [] = refl
+  scaled_total costs after q c unknown here others v (p ∷ qs) = elim (same_cases q p) [
+    | inl k ↦
+        let one : occurrences q (p ∷ qs) ≡ suc (occurrences q qs) = omega (arith, one_alike q p k.1) in
+        let old : times product (or_one (costs p)) known ≡ known =
+        ap (λ x. times product (or_one (costs x)) known) (sym k.0) ∙ ap (λ u. times product (or_one u) known) unknown ∙ times_neutral laws known (total_cut product (λ x. or_one (costs x)) qs)
+        in
+        let new : or_one (after p) ≡ Some c = ap (λ x. or_one (after x)) (sym k.0) ∙ ap or_one here in
+        ap (scaled product c (times product v (times product (or_one (costs p)) known))) one
+        ∙ ap (λ u. scaled product c (times product (times product v u) (Some c)) (occurrences q qs)) old
+        ∙ ap (λ u. scaled product c u (occurrences q qs)) (times_swaps v known (Some c))
+        ∙ scaled_total costs after q c unknown here others (times product v (Some c)) qs
+        ∙ times_regroups laws v (Some c) later
+        ∙ ap (λ u. times product v (times product u later)) (sym new)
+    | inr k ↦
+        let none_more : occurrences q (p ∷ qs) ≡ occurrences q qs = omega (arith, one_apart q p k.1) in
+        let same : or_one (costs p) ≡ or_one (after p) = ap or_one (sym (others p (λ e. k.0 (sym e)))) in
+        ap (scaled product c (times product v (times product (or_one (costs p)) known))) none_more
+        ∙ ap (λ u. scaled product c u (occurrences q qs)) (sym (times_regroups laws v (or_one (costs p)) known))
+        ∙ scaled_total costs after q c unknown here others (times product v (or_one (costs p))) qs
+        ∙ times_regroups laws v (or_one (costs p)) later
+        ∙ ap (λ u. times product v (times product u later)) same
+  ]
+    where
+      known : Option ℕ
+      known = total product (λ x. or_one (costs x)) qs
+
+      later : Option ℕ
+      later = total product (λ x. or_one (after x)) qs

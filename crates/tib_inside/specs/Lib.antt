@@ -5,6 +5,7 @@ pub mod Entries
 pub mod Agenda
 pub mod Links
 pub mod Holes
+pub mod Uses
 pub mod Settling
 pub mod Renaming
 pub mod Reaching

@@ -3,7 +3,10 @@ use Rattle.std.specs.Prelude.{◌≡◌, ℕ, ◌+◌, ◌<◌, ◌≤◌, ◌�
 use Rattle.std.specs.Option.{is_some}
 use Rattle.std.proofs.Common.{zero, suc, get_or}
 use Rattle.tib_lex.specs.Lists.{Has, Ascends}
-use Rattle.tib_grammar.specs.Sides.{holes_of}
+use Rattle.tib_tree.specs.Trees.{only}
+use Rattle.tib_grammar.specs.Sides.{holes_of, HolesAreLeaves}
+use Rattle.tib_grammar.specs.GrammarOf.{named_rule}
+use Rattle.tib_grammar.specs.Renaming.{number_in}
 use Rattle.tib_grammar.specs.Run.{rule_at}
 use Rattle.tib_grammar.specs.declared.Rule.{Rule}
 use Rattle.tib_inside.specs.Settling.{rule_total}
@@ -89,3 +92,8 @@ pub record AreKept (product : ℕ → ℕ → ℕ) (rules : List (Rule ℕ)) (co
   pub rules_below : AreBelow (length rules) positions
   pub rules_few : length positions ≤ length rules
   pub are_rules : (n : ℕ) → Has positions n ↔ (IsLive product rules n × IsUseful product rules (rule_at rules n).left)
+
+-- the marked ones of the first rules are moved, under new numbers, and in none of them stands anything below a hole
+pub record AreMoved (rules : List (Rule ℕ)) (marks : List Bool) (numbers : List ℕ) (count : ℕ) (moved : List (Rule ℕ)) : Type 0 where
+  pub are : moved ≡ map (λ n. named_rule (number_in numbers) (rule_at rules n)) (chosen (λ i. get_or marks i false) count)
+  pub leaves : (n : ℕ) → n < count → IsMarked marks n → HolesAreLeaves (only (rule_at rules n).right)

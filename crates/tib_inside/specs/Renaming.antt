@@ -1,17 +1,6 @@
--- Items and rules under new numbers of states.
+-- Numbers of the states that are kept.
 use Rattle.std.specs.Prelude.{◌≡◌, ℕ, ◌<◌, List, length}
 use Rattle.std.proofs.Common.{get_or}
-use Rattle.tib_grammar.specs.declared.Item.{Item}
-use Rattle.tib_grammar.specs.declared.Item.TheVariants.{Label, Hole}
-
--- the number of a state in a list
-abbrev pub number_in : List ℕ → ℕ → ℕ
-number_in numbers q = get_or numbers q 0
-
--- an item under new numbers
-abbrev pub item_map : (ℕ → ℕ) → Item ℕ → Item ℕ
-item_map f (Label g rank) = Label g rank
-item_map f (Hole q) = Hole (f q)
 
 -- each state of the list has its place as its number
 abbrev pub AreNumbersOf : List ℕ → List ℕ → Type 0

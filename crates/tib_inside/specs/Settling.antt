@@ -1,6 +1,6 @@
 -- What is kept while the states are settled one by one, the least cost first (Knuth 1977).
 use Rattle.std.specs.Prelude.{◌≡◌, ℕ, ◌+◌, ◌<◌, ◌≤◌, ◌⊎◌, List, [], ◌∷◌, length, Option, None, Some, Contains, sum_by, ◌*◌}
-use Rattle.std.proofs.Common.{get_or}
+use Rattle.std.proofs.Common.{zero, suc, get_or}
 use Rattle.tib_grammar.specs.Sides.{holes_of}
 use Rattle.tib_grammar.specs.Run.{rule_at}
 use Rattle.tib_grammar.specs.declared.Rule.{Rule}
@@ -8,7 +8,8 @@ use Rattle.tib_cost.specs.Semiring.{most}
 use Rattle.tib_cost.specs.Least.{times}
 use Rattle.tib_inside.specs.Inside.{IsRunCost, IsInside, total}
 use Rattle.tib_inside.specs.Entries.{TakesLeast}
-use Rattle.tib_inside.specs.declared.holes.Holes.{Holes}
+use Rattle.tib_inside.specs.Holes.{occurrences}
+use Rattle.tib_inside.specs.declared.pending.Pending.{Pending}
 
 -- the costs of states, by number
 abbrev pub costs_in : List (Option ℕ) → ℕ → Option ℕ
@@ -34,71 +35,78 @@ pub record AreSound (product : ℕ → ℕ → ℕ) (rules : List (Rule ℕ)) (c
   pub runs : (e : ℕ × ℕ) → Contains entries e → IsRunCost product rules (e.1 ∷ []) e.0
   pub within : (e : ℕ × ℕ) → Contains entries e → e.0 ≤ most
 
--- the place of the first state without a cost, from the one place on and before the other, and the latter where all have one
-pub record IsFirstOpen (costs : ℕ → Option ℕ) (states : List ℕ) (from to place : ℕ) : Type 0 where
-  pub from_on : from ≤ place
-  pub within : place ≤ to
-  pub settled : (k : ℕ) → from ≤ k → k < place → costs (get_or states k 0) ≡ None → ⊥
-  pub is_open : place < to → costs (get_or states place 0) ≡ None
-
--- A rule has come to a place: the states before it have costs. The state at it has none, unless the rule may stay there
--- for now. Where all have costs, so has the left state, or the cost of the rule waits for it.
-pub record HasCome
-    (product : ℕ → ℕ → ℕ) (costs : ℕ → Option ℕ) (states : List ℕ) (entries : List (ℕ × ℕ)) (MayStay : ℕ → Type 0) (r : Rule ℕ) (from to place : ℕ) : Type 0 where
-  pub from_on : from ≤ place
-  pub within : place ≤ to
-  pub settled : (k : ℕ) → from ≤ k → k < place → costs (get_or states k 0) ≡ None → ⊥
-  pub is_open : place < to → (costs (get_or states place 0) ≡ None) ⊎ MayStay place
-  pub offered : place ≡ to → (c : ℕ) → rule_total product costs r ≡ Some c → HasOrWaits costs entries r.left c
-
--- Each rule has come to its place.
-pub record IsSettling
-    (product : ℕ → ℕ → ℕ) (rules : List (Rule ℕ)) (holes : Holes) (costs : ℕ → Option ℕ) (progress : List ℕ) (entries : List (ℕ × ℕ)) (MayStay : ℕ → Type 0) : Type 0 where
-  pub sound : AreSound product rules costs entries
-  pub long : length progress ≡ length holes.starts.items
-  pub come :
-      (n : ℕ) → n < length rules →
-      HasCome product costs holes.states.items entries MayStay (rule_at rules n) (get_or holes.starts.items n 0) (get_or holes.starts.items (n + 1) 0) (get_or progress n 0)
-
--- no rule may stay
-abbrev pub Nowhere : ℕ → Type 0
-Nowhere place = ⊥
-
--- the state q stands there, not before i
-pub record StandsFrom (states : List ℕ) (q i place : ℕ) : Type 0 where
-  pub is : get_or states place 0 ≡ q
-  pub from_on : i ≤ place
-
--- rule n moves on, and its cost waits where all states in its right side have costs
-pub record Advances
-    (product : ℕ → ℕ → ℕ) (rules : List (Rule ℕ)) (holes : Holes) (costs : ℕ → Option ℕ) (n : ℕ) (old new : List ℕ) (before after : List (ℕ × ℕ)) : Type 0 where
-  pub long : length new ≡ length old
-  pub others : (m : ℕ) → (m ≡ n → ⊥) → get_or new m 0 ≡ get_or old m 0
-  pub first_open : IsFirstOpen costs holes.states.items (get_or old n 0) (get_or holes.starts.items (n + 1) 0) (get_or new n 0)
-  pub kept : (e : ℕ × ℕ) → Contains before e → Contains after e
-  pub offered : get_or new n 0 ≡ get_or holes.starts.items (n + 1) 0 → (c : ℕ) → rule_total product costs (rule_at rules n) ≡ Some c → Contains after (c, (rule_at rules n).left)
-  pub only : (e : ℕ × ℕ) → Contains after e → Contains before e ⊎ ((rule_total product costs (rule_at rules n) ≡ Some e.0) × ((rule_at rules n).left ≡ e.1))
-  pub more : length after ≤ length before + 1
-
--- the owner of the place i moves on, where it has come to i
-abbrev pub Touches :
-    (ℕ → ℕ → ℕ) → List (Rule ℕ) → Holes → (ℕ → Option ℕ) → ℕ → List ℕ → List ℕ → List (ℕ × ℕ) → List (ℕ × ℕ) → Type 0
-Touches product rules holes costs i old new before after =
-    ((get_or old (get_or holes.owners.items i 0) 0 ≡ i → ⊥) × (new ≡ old) × (after ≡ before))
-    ⊎ ((get_or old (get_or holes.owners.items i 0) 0 ≡ i) × Advances product rules holes costs (get_or holes.owners.items i 0) old new before after)
-
--- the least entry e is taken from what waits
-pub record IsTaken
-    (product : ℕ → ℕ → ℕ) (rules : List (Rule ℕ)) (holes : Holes) (costs : ℕ → Option ℕ) (progress : List ℕ) (e : ℕ × ℕ) (rest : List (ℕ × ℕ)) : Type 0 where
-  pub entries : List (ℕ × ℕ)
-  pub takes : TakesLeast entries e rest
-  pub settling : IsSettling product rules holes costs progress entries Nowhere
+-- what is needed of no rule
+abbrev pub no_pending : Pending
+no_pending = record { product = None; missing = 0; left = 0 }
 
 -- one for a state without a cost
 abbrev pub unset : Option ℕ → ℕ
 unset None = 1
 unset (Some d) = 0
 
--- what is left to be done at most: entries to take, and for each state without a cost one for each place
-abbrev pub left_over : Holes → List (Option ℕ) → List (ℕ × ℕ) → ℕ
-left_over holes costs entries = length entries + sum_by unset costs * (length holes.states.items + 1)
+-- how many of some states have no cost
+abbrev pub missing_among : (ℕ → Option ℕ) → List ℕ → ℕ
+missing_among costs [] = 0
+missing_among costs (q ∷ qs) = unset (costs q) + missing_among costs qs
+
+-- a cost, and in place of none the one that changes no product
+abbrev pub or_one : Option ℕ → Option ℕ
+or_one None = Some 0
+or_one (Some d) = Some d
+
+-- the cost of a rule and of those states in its right side that have one
+abbrev pub known_total : (ℕ → ℕ → ℕ) → (ℕ → Option ℕ) → Rule ℕ → Option ℕ
+known_total product costs r = times product (Some r.cost) (total product (λ q. or_one (costs q)) (holes_of r.right))
+
+-- the product with a cost, so many times
+abbrev pub scaled : (ℕ → ℕ → ℕ) → ℕ → Option ℕ → ℕ → Option ℕ
+scaled product c v zero = v
+scaled product c v (suc k) = scaled product c (times product v (Some c)) k
+
+-- what is kept of the rule r, once so many places whose state has the cost c are counted in
+pub record IsPending (product : ℕ → ℕ → ℕ) (costs : ℕ → Option ℕ) (c more : ℕ) (r : Rule ℕ) (p : Pending) : Type 0 where
+  pub left : p.left ≡ r.left
+  pub missing : p.missing ≡ missing_among costs (holes_of r.right) + more
+  pub known : scaled product c p.product more ≡ known_total product costs r
+
+-- The first n rules are kept, where each is still to be told of the cost c as often as it is listed. Where no state of a
+-- rule is missing, its left state has its cost, or the cost of the rule waits for it.
+pub record IsSettlingUpTo
+    (product : ℕ → ℕ → ℕ) (rules : List (Rule ℕ)) (n : ℕ) (costs : ℕ → Option ℕ) (c : ℕ) (listed : List ℕ) (pending : List Pending) (entries : List (ℕ × ℕ)) : Type 0 where
+  pub sound : AreSound product rules costs entries
+  pub long : length pending ≡ n
+  pub each : (m : ℕ) → m < n → IsPending product costs c (occurrences m listed) (rule_at rules m) (get_or pending m no_pending)
+  pub offered :
+      (m d : ℕ) → m < n → (get_or pending m no_pending).missing ≡ 0 → (get_or pending m no_pending).product ≡ Some d →
+      HasOrWaits costs entries (get_or pending m no_pending).left d
+
+-- so are all rules
+abbrev pub IsSettling : (ℕ → ℕ → ℕ) → List (Rule ℕ) → (ℕ → Option ℕ) → ℕ → List ℕ → List Pending → List (ℕ × ℕ) → Type 0
+IsSettling product rules costs c listed pending entries = IsSettlingUpTo product rules (length rules) costs c listed pending entries
+
+-- where no state of a rule is missing, its left state has a cost, or the rule's cost waits for it now
+pub record Offers (costs : ℕ → Option ℕ) (p : Pending) (before after : List (ℕ × ℕ)) : Type 0 where
+  pub kept : (e : ℕ × ℕ) → Contains before e → Contains after e
+  pub offered : p.missing ≡ 0 → (d : ℕ) → p.product ≡ Some d → HasOrWaits costs after p.left d
+  pub only : (e : ℕ × ℕ) → Contains after e → Contains before e ⊎ ((p.missing ≡ 0) × (p.product ≡ Some e.0) × (p.left ≡ e.1))
+  pub more : length after ≤ length before + 1
+
+-- rule n is told of the cost c of a state in its right side
+pub record Touches
+    (product : ℕ → ℕ → ℕ) (costs : ℕ → Option ℕ) (c n : ℕ) (old new : List Pending) (before after : List (ℕ × ℕ)) : Type 0 where
+  pub long : length new ≡ length old
+  pub others : (m : ℕ) → (m ≡ n → ⊥) → get_or new m no_pending ≡ get_or old m no_pending
+  pub left : (get_or new n no_pending).left ≡ (get_or old n no_pending).left
+  pub missing : (get_or new n no_pending).missing + 1 ≡ (get_or old n no_pending).missing
+  pub known : (get_or new n no_pending).product ≡ times product (get_or old n no_pending).product (Some c)
+  pub offers : Offers costs (get_or new n no_pending) before after
+
+-- the least entry e is taken from what waits
+pub record IsTaken (product : ℕ → ℕ → ℕ) (rules : List (Rule ℕ)) (costs : ℕ → Option ℕ) (pending : List Pending) (e : ℕ × ℕ) (rest : List (ℕ × ℕ)) : Type 0 where
+  pub entries : List (ℕ × ℕ)
+  pub takes : TakesLeast entries e rest
+  pub settling : IsSettling product rules costs 0 [] pending entries
+
+-- what is left to be done at most: entries to take, and for each state without a cost as many as there are places
+abbrev pub left_over : ℕ → List (Option ℕ) → List (ℕ × ℕ) → ℕ
+left_over places costs entries = length entries + sum_by unset costs * (places + 1)

@@ -1,5 +1,5 @@
 -- A grammar without the states and rules that no run within the greatest cost uses.
-use Rattle.std.specs.Prelude.{◌≡◌, ℕ, ◌<◌, ◌⊎◌, ◌↔◌, List, [], length, map, Option}
+use Rattle.std.specs.Prelude.{◌≡◌, ℕ, ◌<◌, ◌≤◌, ◌⊎◌, ◌↔◌, List, [], length, map, Option}
 use Rattle.std.proofs.Common.{get_or}
 use Rattle.tib_lex.specs.Lists.{Has, Ascends}
 use Rattle.tib_tree.specs.Trees.{Tree}
@@ -7,6 +7,9 @@ use Rattle.tib_grammar.specs.GrammarOf.{GrammarOf, named_rule}
 use Rattle.tib_grammar.specs.Run.{rule_at}
 use Rattle.tib_grammar.specs.Range.{AreInRange}
 use Rattle.tib_grammar.specs.Series.{IsSeries, IsSeriesAt}
+use Rattle.tib_grammar.specs.declared.Rule.{Rule}
+use Rattle.tib_inside.specs.Links.{AreBelow}
+use Rattle.tib_inside.specs.Renaming.{AscendsByPlace}
 use Rattle.tib_inside.specs.Useful.{IsLive, IsUseful}
 
 -- The start and the useful states, and the live rules of useful states, each in its order; a state's number is its place
@@ -23,6 +26,18 @@ pub record IsTrimmed (product : ℕ → ℕ → ℕ) (old new : GrammarOf) : Typ
   pub names : new.names ≡ map (λ q. get_or old.names q []) states
   pub named : map (named_rule (λ i. get_or states i 0)) new.rules ≡ map (rule_at old.rules) rules
 
+-- the new rules over the places of the states are what trimming keeps of the old rules, whatever the names of the states
+abbrev pub AreTrimmed : (ℕ → ℕ → ℕ) → List (Rule ℕ) → List ℕ → List (Rule ℕ) → Type 0
+AreTrimmed product old states new =
+    (names : List (List ℕ)) → IsTrimmed product (record { names = names; rules = old }) (record { names = map (λ q. get_or names q []) states; rules = new })
+
+-- some of so many states, ascending, at least one
+pub record AreSomeStates (count : ℕ) (states : List ℕ) : Type 0 where
+  pub some : 0 < length states
+  pub few : length states ≤ count
+  pub below : AreBelow count states
+  pub ascend : AscendsByPlace states
+
 -- the one grammar has the series of the other
 abbrev pub HasSameSeries : (ℕ → ℕ → ℕ) → GrammarOf → GrammarOf → Type 0
 HasSameSeries product old new = (t : Tree ℕ) (v : Option ℕ) → IsSeries product old.rules t v ↔ IsSeries product new.rules t v
@@ -32,3 +47,12 @@ abbrev pub HasSeriesOfEach : (ℕ → ℕ → ℕ) → GrammarOf → GrammarOf �
 HasSeriesOfEach product old new =
     (trimmed : IsTrimmed product old new) (i : ℕ) → i < length trimmed.states → (t : Tree ℕ) (v : Option ℕ) →
     IsSeriesAt product old.rules (get_or trimmed.states i 0) t v ↔ IsSeriesAt product new.rules i t v
+
+-- the one rules have the series of the others
+abbrev pub HaveSameSeries : (ℕ → ℕ → ℕ) → List (Rule ℕ) → List (Rule ℕ) → Type 0
+HaveSameSeries product old new = (t : Tree ℕ) (v : Option ℕ) → IsSeries product old t v ↔ IsSeries product new t v
+
+-- each state that is kept has its series under its new number, whatever the names of the states
+abbrev pub HaveSeriesOfEach : (ℕ → ℕ → ℕ) → List (Rule ℕ) → List ℕ → List (Rule ℕ) → Type 0
+HaveSeriesOfEach product old states new =
+    (names : List (List ℕ)) → HasSeriesOfEach product (record { names = names; rules = old }) (record { names = map (λ q. get_or names q []) states; rules = new })

@@ -7,13 +7,12 @@ ghost use Rattle.tib_inside.specs.Holes.{AreHolesOf};
 use std::alloc::{AllocError, Global};
 use tib_grammar::{Item, Rule};
 
-/// The states in the right sides of some rules, rule by rule, the rule of each, and where each rule's begin; last stands
-/// where all end.
+/// The states in the right sides of some rules, rule by rule, the rule of each, and how many each rule has.
 #[derive(Drop)]
 pub struct Holes {
     pub states: Vec<u32>,
     pub owners: Vec<u32>,
-    pub starts: Vec<usize>,
+    pub counts: Vec<usize>,
 }
 
 /// Appends the state of an item that has one.
@@ -52,16 +51,16 @@ impl Holes {
     {
         let mut states = Vec::new(alloc);
         let mut owners = Vec::new(alloc);
-        let mut starts = vec![in alloc; 0; 1]?;
+        let mut counts = Vec::with_capacity(alloc, rules.len())?;
         for (n, rule) in rules.iter().enumerate() {
             add_side(rule, &mut states)?;
+            counts.push(states.len() - owners.len())?;
             owners.resize(states.len(), n as u32)?;
-            starts.push(states.len())?;
         }
         Ok(Holes {
             states,
             owners,
-            starts,
+            counts,
         })
     }
 }

@@ -1,17 +1,17 @@
 // Names and rules of the states that are kept.
-ghost use Rattle.std.specs.Prelude.{◌≡◌, ℕ, ◌+◌, ◌<◌, ◌≤◌, ◌^◌, List, [], ◌∷◌, length, map, OnOk, IfOk};
+ghost use Rattle.std.specs.Prelude.{◌≡◌, ℕ, ◌<◌, ◌^◌, List, [], length, map, IfOk};
 ghost use Rattle.std.proofs.Common.{get_or};
-ghost use Rattle.tib_grammar.specs.Items.{holes_in};
-ghost use Rattle.tib_grammar.specs.Sides.{holes_of, side_map};
+ghost use Rattle.tib_tree.specs.Trees.{only};
+ghost use Rattle.tib_grammar.specs.Sides.{holes_of, HolesAreLeaves};
 ghost use Rattle.tib_grammar.specs.GrammarOf.{named_rule};
 ghost use Rattle.tib_grammar.specs.Range.{AllBelow, AreInRange};
-ghost use Rattle.tib_grammar.specs.Run.{rule_at};
+ghost use Rattle.tib_grammar.specs.Renaming.{number_in};
 ghost use Rattle.tib_inside.specs.Links.{AreBelow};
-ghost use Rattle.tib_inside.specs.Renaming.{number_in, item_map, AreNumbersOf, AscendsByPlace};
+ghost use Rattle.tib_inside.specs.Reaching.{AreMoved};
+ghost use Rattle.tib_inside.specs.Renaming.{AreNumbersOf, AscendsByPlace};
 
 use std::alloc::{AllocError, Global};
-use tib_grammar::{Item, Names, Rule, Side};
-use tib_tree::ShapeError;
+use tib_grammar::{Names, Rule};
 
 /// For each of so many states that is listed, its place in the list.
 pub fn numbers_of(alloc: Global, states: &[u32], count: usize) -> Result<Vec<u32>, AllocError>
@@ -55,79 +55,36 @@ pub fn kept_names(alloc: Global, names: &Names, states: &[u32]) -> Result<Names,
     }
 }
 
-/// An item under new numbers.
-fn renamed_item(item: &Item<u32>, numbers: &[u32]) -> Item<u32>
-    requires { AllBelow (length numbers.now) (holes_in (item.now ∷ [])) }
-    ensures { result ≡ item_map (number_in numbers.now) item.now }
+/// A rule under new numbers. It takes no memory.
+fn moved_rule(mut rule: Rule<u32>, numbers: &[u32]) -> Rule<u32>
+    requires left { rule.left < length numbers.now }
+    requires holes { AllBelow (length numbers.now) (holes_of rule.right) }
+    ensures rule { result ≡ named_rule (number_in numbers.now) rule }
+    ensures leaves { HolesAreLeaves (only rule.right) }
 {
-    match item {
-        Item::Label { label, rank } => Item::Label {
-            label: *label,
-            rank: *rank,
-        },
-        Item::Hole(state) => Item::Hole(numbers[*state as usize]),
-    }
+    let _ = rule.right.items();
+    rule.rename(numbers);
+    rule
 }
 
-/// Some items under new numbers.
-fn renamed_items(
+/// The rules that are marked, in order, under new numbers. The rules are moved.
+pub fn marked_rules(
     alloc: Global,
-    items: &[Item<u32>],
-    numbers: &[u32],
-) -> Result<Vec<Item<u32>>, AllocError>
-    requires { AllBelow (length numbers.now) (holes_in items.now) }
-    ensures { IfOk result (λ v. v.items ≡ map (item_map (number_in numbers.now)) items.now) }
-{
-    let mut renamed = Vec::with_capacity(alloc, items.len())?;
-    for item in items {
-        renamed.push(renamed_item(item, numbers))?;
-    }
-    Ok(renamed)
-}
-
-/// A side under new numbers. A side of 2^32 items or more, which no file holds, counts as want of memory.
-fn renamed_side(alloc: Global, side: &Side<u32>, numbers: &[u32]) -> Result<Side<u32>, AllocError>
-    requires { AllBelow (length numbers.now) (holes_of side.now) }
-    ensures { IfOk result (λ s. s ≡ side_map (number_in numbers.now) side.now) }
-{
-    let items = renamed_items(alloc, side.items(), numbers)?;
-    if items.len() > u32::MAX as usize {
-        return Err(AllocError);
-    }
-    match Side::from_preorder(items) {
-        Ok(renamed) => Ok(renamed),
-        Err(ShapeError::OutOfMemory) => Err(AllocError),
-        Err(ShapeError::NotATree) => unreachable!(),
-    }
-}
-
-/// A rule under new numbers.
-fn renamed_rule(alloc: Global, rule: &Rule<u32>, numbers: &[u32]) -> Result<Rule<u32>, AllocError>
-    requires left { rule.now.left < length numbers.now }
-    requires holes { AllBelow (length numbers.now) (holes_of rule.now.right) }
-    ensures { IfOk result (λ r. r ≡ named_rule (number_in numbers.now) rule.now) }
-{
-    Ok(Rule {
-        left: numbers[rule.left as usize],
-        right: renamed_side(alloc, &rule.right, numbers)?,
-        cost: rule.cost,
-    })
-}
-
-/// The rules at some positions, under new numbers.
-pub fn renamed_rules(
-    alloc: Global,
-    rules: &[Rule<u32>],
-    positions: &[u32],
+    rules: Vec<Rule<u32>>,
+    marks: &[bool],
     numbers: &[u32],
 ) -> Result<Vec<Rule<u32>>, AllocError>
-    requires below { AreBelow (length rules.now) positions.now }
-    requires range { AreInRange (length numbers.now) rules.now }
-    ensures { IfOk result (λ v. v.items ≡ map (λ n. named_rule (number_in numbers.now) (rule_at rules.now n)) positions.now) }
+    requires long { length marks.now ≡ length rules.items }
+    requires range { AreInRange (length numbers.now) rules.items }
+    ensures { IfOk result (λ v. AreMoved rules.items marks.now numbers.now (length rules.items) v.items) }
 {
-    let mut renamed = Vec::with_capacity(alloc, positions.len())?;
-    for position in positions {
-        renamed.push(renamed_rule(alloc, &rules[*position as usize], numbers)?)?;
+    let mut moved = Vec::with_capacity(alloc, rules.len())?;
+    let mut place = 0;
+    for rule in rules {
+        if marks[place] {
+            moved.push(moved_rule(rule, numbers))?;
+        }
+        place += 1;
     }
-    Ok(renamed)
+    Ok(moved)
 }

@@ -1,5 +1,5 @@
 // Inside costs and trimmed grammars of small grammars, as text.
-use crate::{inside, trim, trim_normal};
+use crate::{inside, trim, trim_normal, trim_rules};
 use std::alloc::{AllocError, Global};
 use tib_cost::{Boolean, Bottleneck, Cost, MinPlus, Semiring};
 use tib_grammar::{Grammar, Item, Names, Rule, Side};
@@ -117,9 +117,29 @@ fn inside_text<S: Semiring + Drop>(
 /// The trimmed grammar of some rules over so many states.
 fn trim_text(alloc: Global, states: u8, rows: &[Row]) -> Result<String, AllocError> {
     match make_grammar::<MinPlus>(alloc, states, rows)? {
-        Some(grammar) => text_of(alloc, &trim::<MinPlus>(alloc, &grammar)?),
+        Some(grammar) => text_of(alloc, &trim::<MinPlus>(alloc, grammar)?),
         None => String::from_str(alloc, "no grammar"),
     }
+}
+
+/// The states that are kept, and the rules.
+fn trim_rules_text(alloc: Global, states: u8, rows: &[Row]) -> Result<String, AllocError> {
+    let Some(grammar) = make_grammar::<MinPlus>(alloc, states, rows)? else {
+        return String::from_str(alloc, "no grammar");
+    };
+    grammar.is_sound();
+    let count = grammar.states();
+    let (_, rules) = grammar.into_parts();
+    let trimmed = trim_rules::<MinPlus>(alloc, rules, count)?;
+    let mut text = String::new(alloc);
+    for state in &trimmed.states {
+        write_number(&mut text, *state as u64)?;
+        text.push_str(" ")?;
+    }
+    for rule in &trimmed.rules {
+        write_rule(&mut text, rule)?;
+    }
+    Ok(text)
 }
 
 const LABEL_F2: (u32, Option<u32>) = (0, Some(2));
@@ -184,6 +204,8 @@ fn what_no_run_uses_is_left_out(rt: HostRuntime) -> Result<(), AllocError> {
     ];
     let text = trim_text(alloc, 4, &rows)?;
     assert!(rt; text.as_str() == "1 4 1 -> f3 # 1; 0 -> f1 1 # 2; ");
+    let text = trim_rules_text(alloc, 4, &rows)?;
+    assert!(rt; text.as_str() == "0 3 1 -> f3 # 1; 0 -> f1 1 # 2; ");
     // the start stays without a run
     let rows: [Row; 2] = [(0, &[LABEL_G1, (0, None)], 0), (1, &[LABEL_A0], 0)];
     assert!(rt; trim_text(alloc, 2, &rows)?.as_str() == "1 ");
@@ -195,7 +217,7 @@ fn normal_forms_are_trimmed(rt: HostRuntime) -> Result<(), AllocError> {
     let alloc = rt.alloc();
     if let Some(grammar) = make_grammar::<MinPlus>(alloc, 4, &WORKED)? {
         if let Some(normal) = Normal::new(alloc, grammar)? {
-            let trimmed = trim_normal::<MinPlus>(alloc, &normal)?;
+            let trimmed = trim_normal::<MinPlus>(alloc, normal)?;
             let text = text_of(alloc, trimmed.grammar())?;
             assert!(rt;
                 text.as_str() == "1 2 3 0 -> f0 1 2 # 0; 1 -> f2 # 1; 2 -> f2 # 4; 2 -> f3 # 2; "
