@@ -5,7 +5,7 @@ ghost use Rattle.indexmap.specs.IndexSet.{insert_key};
 use crate::key::TableKey;
 use crate::problem::{Entry, Problem};
 use indexmap::IndexSet;
-use std::alloc::Global;
+use std::alloc::{AllocError, Global};
 use std::marker::Model;
 use tib_turn::Grows;
 
@@ -83,5 +83,13 @@ impl<P: Problem> Shelf<P> {
         ensures taken { MatchOption result ((self.old.keys ≡ []) × (self.new.keys ≡ [])) (λ k. self.old.keys ≡ self.new.keys ++ k ∷ []) }
     {
         self.keys.pop()
+    }
+
+    /// All keys, in the order of first sight. It fails only for want of memory.
+    pub fn into_keys(self, alloc: Global) -> Result<Vec<P::Key>, AllocError>
+        ensures { IfOk result (λ r. r.items ≡ self.keys) }
+    {
+        let Shelf { problem: _, keys } = self;
+        Vec::from_iter(alloc, keys)
     }
 }
