@@ -44,6 +44,22 @@ module _ {K O E R T : Type 0} (p : Operation K O E) (laws : Laws p) (admits : K 
         below = subst (λ (c : ℕ). (b : ℕ) → c ≤ b → Each (λ n. n < b) moved → AreBelow positions b rules → AreBelow positions b rules') is below;
       }))
 
+  -- the fresh keys stand in order behind the others, and the rows are settled
+  abbrev AreSettled : List K → List K → List T → List (Row R) → List K → List T → Type 0
+  AreSettled old fresh rules rows keys' rules' =
+      (moved : List ℕ) × IsInOrder p.cmp old fresh keys' moved
+      × ((f : ℕ → K) → map (readn f) rules' ≡ map (readn f) rules ++ read_rows readp (λ n. f (moved_to (length old) moved n)) rows)
+      × ((b : ℕ) → length old ≤ b → Each (λ n. n < b) moved → AreBelow positions b rules → AreBelow positions b rules')
+
+  pub fresh_round_ends : (order fresh : List K) (first : ℕ) (rules : List T) (rows : List (Row R)) (parts limit : ℕ) → IsWithinRound order first (length order) (order ++ fresh) rules rows parts limit
+      → (old keys' : List K) (rules' : List T) (parts' : ℕ) → old ≡ order → parts' ≡ parts → AreSettled old fresh rules rows keys' rules' → IsBetween (length order) keys' rules' parts' limit
+  fresh_round_ends order fresh first rules rows parts limit w old keys' rules' parts' is same_parts settled =
+      let (moved, sorts, read, below) = subst (λ (o : List K). AreSettled o fresh rules rows keys' rules') is settled in
+      let u : fresh ≡ w.held.fresh = sym (drop_front order fresh (length order) refl) ∙ ap (drop (length order)) w.held.keys_are ∙ drop_front order w.held.fresh (length order) refl in
+      subst (λ (n : ℕ). IsBetween (length order) keys' rules' n limit) (sym same_parts)
+      (round_ends p laws admits places positions readp readn reads readsn eq same self order (order ++ fresh) first rules rows parts limit w keys' moved
+      (subst (λ (l : List K). IsInOrder p.cmp order l keys' moved) u sorts) rules' (record { read = read; below = below }))
+
   pub no_keys : (keys : List K) → length keys ≡ 0 → keys ≡ []
   no_keys [] e = refl
   no_keys (k ∷ ks) e = absurd (omega arith)

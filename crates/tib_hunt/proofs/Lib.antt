@@ -16,3 +16,4 @@ mod OnShelves
 mod Placed
 mod Underway
 mod Taken
+mod FreshKeys

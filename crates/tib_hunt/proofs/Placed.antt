@@ -16,7 +16,7 @@ pub all_both : {K : Type 0} (xss yss : List (List K)) → all_on (xss ++ yss) �
 all_both [] yss = refl
 all_both (xs ∷ xss) yss = ap (λ (l : List _). xs ++ l) (all_both xss yss) ∙ sym (append_assoc xs (all_on xss) (all_on yss))
 
-map_append : {A B : Type 0} (f : A → B) (xs ys : List A) → map f (xs ++ ys) ≡ map f xs ++ map f ys
+pub map_append : {A B : Type 0} (f : A → B) (xs ys : List A) → map f (xs ++ ys) ≡ map f xs ++ map f ys
 map_append f [] ys = refl
 map_append f (x ∷ xs) ys = ap (λ (l : List _). f x ∷ l) (map_append f xs ys)
 

@@ -21,7 +21,7 @@ use Rattle.tib_hunt.proofs.Members.{each_of, has_either, total_append}
 use Rattle.tib_hunt.proofs.Reaching.{Laws, beyond}
 use Rattle.tib_hunt.proofs.Settling.{each_weaker, each_append}
 use Rattle.tib_hunt.proofs.Holding.{Inserted, inserted, same_place, named_below, as_many, rules_same, leads_on}
-use Rattle.tib_hunt.proofs.Underway.{on_all, all_somewhere, stands_whole}
+use Rattle.tib_hunt.proofs.Underway.{on_all, all_somewhere, distinct_all, stands_whole}
 
 module _ {K : Type 0} (keys : List K) where
   named_at : (ends : List K) (ns : List ℕ) → Name keys ends ns → (i : ℕ) (k : K) → slice_get ends i ≡ Some k → slice_get keys (slice_index ns i) ≡ Some k
@@ -115,6 +115,10 @@ module _ {K O E R T : Type 0} (p : Operation K O E) (laws : Laws p) (admits : K 
 
   pub sights_there : (bound : ℕ) × (sights : List (List K)) × Along (IsShelvedRow places bound kss) sights rows
   sights_there = (length order, u.sights, sights_named)
+
+  -- each key stands once on the shelves
+  pub once_there : Distinct (all_on kss)
+  once_there = subst (λ (l : List (List K)). Distinct (all_on l)) shelves (distinct_all shelf_of s.shelves 0 u.kept.once (λ i k h. let o = (u.kept.only i k h).0 in omega arith))
 
   pub enough_there : total p.key_parts order ≤ parts
   enough_there = go order refl

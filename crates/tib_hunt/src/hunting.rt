@@ -3,7 +3,7 @@ ghost use Rattle.indexmap.specs.IndexSet.{insert_all};
 ghost use Rattle.tib_lex.specs.Lists.{Along, Each, Distinct};
 ghost use Rattle.tib_hunt.specs.EdgeLists.{total};
 ghost use Rattle.tib_hunt.specs.Reached.{operation, IfTooMany, IsBeyond};
-ghost use Rattle.tib_hunt.specs.Numbered.{key_parts, Name, HaveMore, IsInOrder, moved_to};
+ghost use Rattle.tib_hunt.specs.Numbered.{key_parts, Name, HaveMore, IsInOrder, moved_to, placed, keys_of};
 ghost use Rattle.tib_hunt.specs.Held.{IsBetween, IsWithinRound};
 ghost use Rattle.tib_hunt.specs.Rows.{read_rows, IsRowBelow, AreBelow};
 ghost use Rattle.tib_hunt.specs.Shelved.{all_on, IsShelvedRow, IsPlacedRow};
@@ -11,9 +11,10 @@ ghost use Rattle.tib_hunt.specs.declared.row.Row.{Row};
 
 use crate::expand::Expand;
 use crate::found::{Gate, HuntError};
+use crate::fresh::{find_shelves, put_fresh};
 use crate::numbering::{number_ends, sort_new};
 use crate::place::{Edges, ExpandError};
-use crate::placing::{number_shelves, place_rows};
+use crate::placing::place_rows;
 use crate::row::{Row, settle_rows};
 use crate::working::{Worked, work_round};
 use indexmap::IndexSet;
@@ -62,21 +63,25 @@ impl<E: Expand> Hunted<E> {
         Ok(())
     }
 
-    /// Takes in what a round has made: its new keys go behind the others, and the ends of its rows get their numbers among these.
+    /// Takes in the rows that a round has made. The keys of its shelves that are not in the order are answered, each with its place among them;
+    /// the ends of the rows have numbers, in which these keys stand behind the others.
     pub fn take_in(
         &mut self,
         alloc: Global,
         limit: u64,
         worked: Worked<E::Key, E::Over>,
-    ) -> Result<(), HuntError>
+    ) -> Result<Vec<(E::Key, u32)>, HuntError>
+        requires once { Distinct (all_on (map (λ v. v.items) worked.shelves.items)) }
         requires counted { total (key_parts E.Key.entries_of) self.old.keys.keys ≤ worked.parts }
         requires within { worked.parts ≤ limit }
         requires limit { limit ≤ 20000000 }
         requires rows { (bound : ℕ) × (sights : List (List E.Key)) × Along (IsShelvedRow E.places bound (map (λ v. v.items) worked.shelves.items)) sights worked.rows.items }
-        ensures keys { OnOk result (self.new.keys.keys ≡ insert_all E.Key.eq self.old.keys.keys (all_on (map (λ v. v.items) worked.shelves.items))) }
+        ensures order { OnOk result (self.new.keys.keys ≡ self.old.keys.keys) }
+        ensures keys { IfOk result (λ r. self.old.keys.keys ++ keys_of r.items ≡ insert_all E.Key.eq self.old.keys.keys (all_on (map (λ v. v.items) worked.shelves.items))) }
+        ensures placed { IfOk result (λ r. r.items ≡ placed 0 (keys_of r.items)) }
         ensures rules { OnOk result (self.new.rules ≡ self.old.rules) }
-        ensures rows { OnOk result ((positions : List (List ℕ)) × Along (Name self.new.keys.keys) (map (λ v. v.items) worked.shelves.items) positions × Along (IsPlacedRow positions) worked.rows.items self.new.rows.items) }
-        ensures parts { OnOk result (self.new.parts + total (key_parts E.Key.entries_of) self.old.keys.keys ≡ worked.parts + total (key_parts E.Key.entries_of) self.new.keys.keys) }
+        ensures rows { IfOk result (λ r. (positions : List (List ℕ)) × Along (Name (self.old.keys.keys ++ keys_of r.items)) (map (λ v. v.items) worked.shelves.items) positions × Along (IsPlacedRow positions) worked.rows.items self.new.rows.items) }
+        ensures parts { IfOk result (λ r. self.new.parts + total (key_parts E.Key.entries_of) self.old.keys.keys ≡ worked.parts + total (key_parts E.Key.entries_of) (self.old.keys.keys ++ keys_of r.items)) }
         ensures within { OnOk result (self.new.parts ≤ limit) }
         ensures more { IfErr result (IfTooMany limit (HaveMore E.Key.eq (key_parts E.Key.entries_of) self.old.keys.keys (all_on (map (λ v. v.items) worked.shelves.items)) worked.parts limit)) }
     {
@@ -86,9 +91,11 @@ impl<E: Expand> Hunted<E> {
             parts,
         } = worked;
         self.parts = parts;
-        let positions = match number_shelves(
+        let mut fresh = Vec::new(alloc);
+        let positions = match find_shelves(
             alloc,
-            &mut self.keys,
+            &self.keys,
+            &mut fresh,
             &mut self.parts,
             limit,
             shelves,
@@ -100,6 +107,30 @@ impl<E: Expand> Hunted<E> {
             return Err(HuntError::OutOfMemory);
         };
         self.rows = rows;
+        Ok(fresh)
+    }
+
+    /// Puts fresh keys, each with its place among them, behind the others in ascending order, and settles the rows.
+    pub fn settle_fresh(
+        &mut self,
+        alloc: Global,
+        problem: &E,
+        fresh: Vec<(E::Key, u32)>,
+    ) -> Result<(), AllocError>
+        requires placed { fresh.items ≡ placed 0 (keys_of fresh.items) }
+        requires few { length (self.old.keys.keys ++ keys_of fresh.items) < 2 ^ 32 }
+        requires distinct { Distinct (self.old.keys.keys ++ keys_of fresh.items) }
+        requires below { Each (IsRowBelow E.places (length self.old.keys.keys) (length (self.old.keys.keys ++ keys_of fresh.items))) self.old.rows.items }
+        ensures rows { OnOk result (self.new.rows.items ≡ []) }
+        ensures parts { OnOk result (self.new.parts ≡ self.old.parts) }
+        ensures settled { OnOk result ((moved : List ℕ) × IsInOrder E.Key.cmp self.old.keys.keys (keys_of fresh.items) self.new.keys.keys moved
+            × ((at : ℕ → E.Key) → map (E.read_positions at) self.new.rules.items ≡ map (E.read_positions at) self.old.rules.items ++ read_rows E.read_places (λ n. at (moved_to (length self.old.keys.keys) moved n)) self.old.rows.items)
+            × ((bound : ℕ) → length self.old.keys.keys ≤ bound → Each (λ n. n < bound) moved → AreBelow E.positions bound self.old.rules.items → AreBelow E.positions bound self.new.rules.items)) }
+    {
+        let first = self.keys.len() as u32;
+        let moved = put_fresh(alloc, &mut self.keys, fresh)?;
+        settle_rows(alloc, problem, &self.rows, first, &moved, &mut self.rules)?;
+        self.rows = Vec::new(alloc);
         Ok(())
     }
 
@@ -129,17 +160,12 @@ pub(crate) fn list_keys<K: TableKey + Drop>(
 ) -> Result<Vec<K>, AllocError>
     ensures { IfOk result (λ r. r.items ≡ keys.keys) }
 {
-    let mut keys = keys;
-    let mut order = Vec::new(alloc);
-    while let Some(key) = keys.pop() {
-        order.push(key)?;
-    }
-    order.reverse();
-    Ok(order)
+    Vec::from_iter(alloc, keys)
 }
 
 impl<E: Expand> Hunted<E> {
-    /// Expands the positions of the order from `first` on, as long as the reached set may be within the limit.
+    /// Expands the positions of the order from `first` on, as long as the reached set may be within the limit. Answers the fresh keys, each
+    /// with its place among them.
     pub fn expand_all<G: Gate>(
         &mut self,
         alloc: Global,
@@ -147,11 +173,13 @@ impl<E: Expand> Hunted<E> {
         limit: u64,
         gate: &G,
         first: u32,
-    ) -> Result<(), HuntError>
+    ) -> Result<Vec<(E::Key, u32)>, HuntError>
         requires limit { limit ≤ 20000000 }
         requires between { IsBetween (operation E.Key.cmp (E.seed problem.now) (E.seed_edge problem.now) (E.edge problem.now) E.ends_of (key_parts E.Key.entries_of) E.parts_of) (E.admits problem.now) E.places E.positions E.read_places E.read_positions first self.old.keys.keys self.old.rules.items self.old.parts limit }
         requires rows { self.old.rows.items ≡ [] }
-        ensures within { OnOk result (IsWithinRound (operation E.Key.cmp (E.seed problem.now) (E.seed_edge problem.now) (E.edge problem.now) E.ends_of (key_parts E.Key.entries_of) E.parts_of) (E.admits problem.now) E.places E.positions E.read_places E.read_positions self.old.keys.keys first (length self.old.keys.keys) self.new.keys.keys self.new.rules.items self.new.rows.items self.new.parts limit) }
+        ensures order { OnOk result (self.new.keys.keys ≡ self.old.keys.keys) }
+        ensures placed { IfOk result (λ r. r.items ≡ placed 0 (keys_of r.items)) }
+        ensures within { IfOk result (λ r. IsWithinRound (operation E.Key.cmp (E.seed problem.now) (E.seed_edge problem.now) (E.edge problem.now) E.ends_of (key_parts E.Key.entries_of) E.parts_of) (E.admits problem.now) E.places E.positions E.read_places E.read_positions self.old.keys.keys first (length self.old.keys.keys) (self.old.keys.keys ++ keys_of r.items) self.new.rules.items self.new.rows.items self.new.parts limit) }
         ensures more { IfErr result (IfTooMany limit (IsBeyond (operation E.Key.cmp (E.seed problem.now) (E.seed_edge problem.now) (E.edge problem.now) E.ends_of (key_parts E.Key.entries_of) E.parts_of) limit)) }
     {
         let order = self.keys.as_slice();
@@ -160,7 +188,7 @@ impl<E: Expand> Hunted<E> {
             Err(error) => return Err(error),
         };
         match self.take_in(alloc, limit, worked) {
-            Ok(()) => Ok(()),
+            Ok(fresh) => Ok(fresh),
             Err(error) => Err(error),
         }
     }
@@ -210,12 +238,11 @@ impl<E: Expand> Hunted<E> {
         ensures rows { OnOk result (self.new.rows.items ≡ []) }
         ensures more { IfErr result (IfTooMany limit (IsBeyond (operation E.Key.cmp (E.seed problem.now) (E.seed_edge problem.now) (E.edge problem.now) E.ends_of (key_parts E.Key.entries_of) E.parts_of) limit)) }
     {
-        let order = self.keys.len() as u32;
-        match self.expand_all(alloc, problem, limit, gate, first) {
-            Ok(()) => {}
+        let fresh = match self.expand_all(alloc, problem, limit, gate, first) {
+            Ok(fresh) => fresh,
             Err(error) => return Err(error),
-        }
-        let Ok(()) = self.settle(alloc, problem, order) else {
+        };
+        let Ok(()) = self.settle_fresh(alloc, problem, fresh) else {
             return Err(HuntError::OutOfMemory);
         };
         Ok(())

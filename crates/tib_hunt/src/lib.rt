@@ -7,6 +7,7 @@ mod claim;
 mod event;
 mod expand;
 mod found;
+mod fresh;
 mod hunting;
 mod itemized;
 mod items;

@@ -56,7 +56,9 @@ pub(crate) fn number_ends<K: TableKey + Drop>(
     ensures within { OnOk result (parts.new ≤ limit) }
     ensures more { IfErr result (IfTooMany limit (HaveMore K.eq (key_parts K.entries_of) keys.old.keys ends.items parts.old limit)) }
 {
-    let mut numbers = Vec::new(alloc);
+    let Ok(mut numbers) = Vec::with_capacity(alloc, ends.len()) else {
+        return Err(HuntError::OutOfMemory);
+    };
     for key in ends {
         let number = match number_key(keys, parts, limit, key) {
             Ok(number) => number,
@@ -80,7 +82,7 @@ fn take_new<K: TableKey + Drop>(
     ensures taken { IfOk result (λ r. r.items ≡ reverse (placed 0 (drop first keys.old.keys))) }
     ensures front { OnOk result (keys.new.keys ≡ take first keys.old.keys) }
 {
-    let mut new = Vec::new(alloc);
+    let mut new = Vec::with_capacity(alloc, keys.len() - first)?;
     while keys.len() > first {
         let Some(key) = keys.pop() else {
             return Ok(new);
@@ -90,8 +92,8 @@ fn take_new<K: TableKey + Drop>(
     Ok(new)
 }
 
-// Puts keys behind the others. Answers where the key of each place went.
-fn put_new<K: TableKey + Drop>(
+/// Puts keys behind the others. Answers where the key of each place went.
+pub(crate) fn put_new<K: TableKey + Drop>(
     alloc: Global,
     keys: &mut IndexSet<K>,
     new: Vec<(K, u32)>,

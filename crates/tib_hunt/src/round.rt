@@ -59,19 +59,6 @@ fn open_shelves<P: Itemized + Copy>(alloc: Global, problem: P) -> Result<Vec<She
     Ok(shelves)
 }
 
-// The keys of a shelf.
-fn list_shelf<P: Itemized>(alloc: Global, shelf: Shelf<P>) -> Result<Vec<P::Key>, AllocError>
-    ensures { IfOk result (λ r. r.items ≡ shelf.keys) }
-{
-    let mut shelf = shelf;
-    let mut keys = Vec::new(alloc);
-    while let Some(key) = shelf.take_last() {
-        keys.push(key)?;
-    }
-    keys.reverse();
-    Ok(keys)
-}
-
 // The keys of shelves.
 fn list_shelves<P: Itemized>(
     alloc: Global,
@@ -79,9 +66,9 @@ fn list_shelves<P: Itemized>(
 ) -> Result<Vec<Vec<P::Key>>, AllocError>
     ensures { IfOk result (λ r. map (λ v. v.items) r.items ≡ map keys_of shelves.items) }
 {
-    let mut lists = Vec::new(alloc);
+    let mut lists = Vec::with_capacity(alloc, shelves.len())?;
     for shelf in shelves {
-        let keys = list_shelf(alloc, shelf)?;
+        let keys = shelf.into_keys(alloc)?;
         lists.push(keys)?;
     }
     Ok(lists)

@@ -15,16 +15,21 @@ pub struct Row<R> {
     pub ends: Vec<u32>,
 }
 
-// The numbers after those from `first` on were moved.
-fn move_ends(alloc: Global, ends: &[u32], first: u32, moved: &[u32]) -> Result<Vec<u32>, AllocError>
+// Puts the numbers in place of what stood there, after those from `first` on were moved.
+fn move_ends(
+    ends: &[u32],
+    first: u32,
+    moved: &[u32],
+    numbers: &mut Vec<u32>,
+) -> Result<(), AllocError>
     requires { Each (λ n. n < first + length moved.now) ends.now }
-    ensures { IfOk result (λ r. r.items ≡ map (moved_to first moved.now) ends.now) }
+    ensures { OnOk result (numbers.new.items ≡ map (moved_to first moved.now) ends.now) }
 {
-    let mut numbers = Vec::new(alloc);
+    numbers.clear();
     for &number in ends {
         numbers.push(move_end(number, first, moved))?;
     }
-    Ok(numbers)
+    Ok(())
 }
 
 fn move_end(number: u32, first: u32, moved: &[u32]) -> u32
@@ -38,22 +43,23 @@ fn move_end(number: u32, first: u32, moved: &[u32]) -> u32
     }
 }
 
-// Settles the rules of a row, and puts them behind the others.
+// Settles the rules of a row, and puts them behind the others. The ends are moved in a list that serves every row.
 fn settle_row<E: Expand>(
     alloc: Global,
     problem: &E,
     row: &Row<E::Over>,
     first: u32,
     moved: &[u32],
+    ends: &mut Vec<u32>,
     rules: &mut Vec<E::Rule>,
 ) -> Result<(), AllocError>
     requires below { IsRowBelow E.places first (first + length moved.now) row.now }
     ensures read { OnOk result ((at : ℕ → E.Key) → map (E.read_positions at) rules.new.items ≡ map (E.read_positions at) rules.old.items ++ read_row E.read_places (λ n. at (moved_to first moved.now n)) row.now) }
     ensures below { OnOk result ((bound : ℕ) → first ≤ bound → Each (λ n. n < bound) moved.now → AreBelow E.positions bound rules.old.items → AreBelow E.positions bound rules.new.items) }
 {
-    let ends = move_ends(alloc, &row.ends, first, moved)?;
+    move_ends(&row.ends, first, moved, ends)?;
     for rule in &row.rules {
-        let settled = problem.settle(alloc, rule, &ends)?;
+        let settled = problem.settle(alloc, rule, ends)?;
         let Ok(()) = rules.push(settled) else {
             return Err(AllocError);
         };
@@ -74,8 +80,9 @@ pub(crate) fn settle_rows<E: Expand>(
     ensures read { OnOk result ((at : ℕ → E.Key) → map (E.read_positions at) rules.new.items ≡ map (E.read_positions at) rules.old.items ++ read_rows E.read_places (λ n. at (moved_to first moved.now n)) rows.now) }
     ensures below { OnOk result ((bound : ℕ) → first ≤ bound → Each (λ n. n < bound) moved.now → AreBelow E.positions bound rules.old.items → AreBelow E.positions bound rules.new.items) }
 {
+    let mut ends = Vec::new(alloc);
     for row in rows {
-        settle_row(alloc, problem, row, first, moved, rules)?;
+        settle_row(alloc, problem, row, first, moved, &mut ends, rules)?;
     }
     Ok(())
 }

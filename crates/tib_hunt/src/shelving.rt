@@ -107,7 +107,9 @@ pub(crate) fn shelve_ends<P: Itemized>(
     ensures within { OnOk result (seen.new ≤ limit) }
     ensures more { IfErr result (IfTooMany limit (ShelvesHaveMore P.Key.eq P.Key.shelf_of (key_parts P.Key.entries_of) round.old.core (Has ends.items) limit)) }
 {
-    let mut numbers = Vec::new(alloc);
+    let Ok(mut numbers) = Vec::with_capacity(alloc, ends.len()) else {
+        return Err(HuntError::OutOfMemory);
+    };
     for key in ends {
         let number = match shelve_key(round, seen, limit, key) {
             Ok(number) => number,

@@ -16,7 +16,7 @@ returns-in-Err-clause-more g c = told g.P.Key.PartialEq.eq g.met.P.Key.TableKey.
 
 pub loop-key-preserved : goal.loop-key-preserved
 loop-key-preserved g c = (
-  c.in-Ok.ensures.about ∙ c.loop-key.invariant.0,
+  c.in-Ok-shelve_key.ensures.about ∙ c.loop-key.invariant.0,
   subst (λ l. ShelvedSoFar g.P.Key.PartialEq.eq g.met.P.Key.TableKey.same g.met.P.Key.Eq.laws.refl g.P.Key.TableKey.shelf_of (λ x. g.met.P.Key.TableKey.low x) (key_parts g.P.Key.TableKey.entries_of) c.args.round.now.core c.args.ends.items (c.loop-key.yielded ++ c.in-Some.key ∷ []) (into_iter_items c.next.new.self) c.args.limit c.shelve_key.new.round.core l c.shelve_key.new.seen) (sym c.in-Ok-push.ensures.items)
-      (shelved g.P.Key.PartialEq.eq g.met.P.Key.TableKey.same g.met.P.Key.Eq.laws.refl g.P.Key.TableKey.shelf_of (λ x. g.met.P.Key.TableKey.low x) (key_parts g.P.Key.TableKey.entries_of) c.args.round.now.core c.args.ends.items c.loop-key.yielded (into_iter_items c.loop-key.key-iterator) c.args.limit c.loop-key.round.core c.loop-key.numbers.items c.loop-key.seen c.loop-key.invariant.1 c.in-Some.key (into_iter_items c.next.new.self) c.in-Some.ensures.steps.0 c.shelve_key.new.round.core c.in-Ok.number c.shelve_key.new.seen c.in-Ok.ensures.core c.in-Ok.ensures.named c.in-Ok.ensures.counted c.in-Ok.ensures.within),
+      (shelved g.P.Key.PartialEq.eq g.met.P.Key.TableKey.same g.met.P.Key.Eq.laws.refl g.P.Key.TableKey.shelf_of (λ x. g.met.P.Key.TableKey.low x) (key_parts g.P.Key.TableKey.entries_of) c.args.round.now.core c.args.ends.items c.loop-key.yielded (into_iter_items c.loop-key.key-iterator) c.args.limit c.loop-key.round.core c.loop-key.numbers.items c.loop-key.seen c.loop-key.invariant.1 c.in-Some.key (into_iter_items c.next.new.self) c.in-Some.ensures.steps.0 c.shelve_key.new.round.core c.in-Ok-shelve_key.number c.shelve_key.new.seen c.in-Ok-shelve_key.ensures.core c.in-Ok-shelve_key.ensures.named c.in-Ok-shelve_key.ensures.counted c.in-Ok-shelve_key.ensures.within),
 )

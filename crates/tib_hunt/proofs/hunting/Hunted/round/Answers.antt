@@ -1,28 +1,27 @@
-use Rattle.std.proofs.Common.{arith}
+use Rattle.std.proofs.Common.{◌++◌, ◌<◌, length, sym, subst, arith}
+use Rattle.tib_lex.specs.Lists.{Each, Distinct}
 use Rattle.tib_hunt.specs.Reached.{operation}
-use Rattle.tib_hunt.specs.Numbered.{key_parts}
+use Rattle.tib_hunt.specs.Numbered.{key_parts, keys_of}
+use Rattle.tib_hunt.specs.Rows.{IsRowBelow}
 use Rattle.tib_hunt.proofs.Sights.{total_least}
 use Rattle.tib_hunt.proofs.Advancing.{laws_of}
-use Rattle.tib_hunt.proofs.Finding.{round_ends_at}
+use Rattle.tib_hunt.proofs.Finding.{fresh_round_ends}
 use Rattle.tib_hunt.proofs.hunting.Hunted.round.Goals as goal
 
-pub overflow_cast-order : goal.overflow_cast-order
-overflow_cast-order g c =
-    let least = total_least g.E.Key.TableKey.entries_of c.args.self.now.keys.keys in
-    let a = c.requires.between.held.enough in
-    let b = c.requires.between.held.within in
-    let l = c.requires.limit in
-    let n = c.len-order.ensures.len in
-    omega arith
-
-pub settle-requires-clause-few : goal.settle-requires-clause-few
-settle-requires-clause-few g c =
-    let least = total_least g.E.Key.TableKey.entries_of c.expand_all.new.self.keys.keys in
+pub settle_fresh-requires-clause-few : goal.settle_fresh-requires-clause-few
+settle_fresh-requires-clause-few g c =
+    let least = total_least g.E.Key.TableKey.entries_of (c.args.self.now.keys.keys ++ keys_of c.in-Ok.fresh.items) in
     let a = c.in-Ok.ensures.within.held.enough in
     let b = c.in-Ok.ensures.within.held.within in
     let l = c.requires.limit in
-    omega arith
+    subst (λ o. length (o ++ keys_of c.in-Ok.fresh.items) < 4294967296) (sym c.in-Ok.ensures.order) (omega arith)
+
+pub settle_fresh-requires-clause-distinct : goal.settle_fresh-requires-clause-distinct
+settle_fresh-requires-clause-distinct g c = subst (λ o. Distinct (o ++ keys_of c.in-Ok.fresh.items)) (sym c.in-Ok.ensures.order) c.in-Ok.ensures.within.held.once
+
+pub settle_fresh-requires-clause-below : goal.settle_fresh-requires-clause-below
+settle_fresh-requires-clause-below g c = subst (λ o. Each (IsRowBelow g.E.Expand.places (length o) (length (o ++ keys_of c.in-Ok.fresh.items))) c.expand_all.new.self.rows.items) (sym c.in-Ok.ensures.order) c.in-Ok.ensures.within.held.rows_below
 
 pub returns-clause-between : goal.returns-clause-between
-returns-clause-between g c = round_ends_at (operation g.E.Key.Ord.cmp (g.E.Expand.seed c.args.problem.now) (g.E.Expand.seed_edge c.args.problem.now) (g.E.Expand.edge c.args.problem.now) g.E.Expand.ends_of (key_parts g.E.Key.TableKey.entries_of) g.E.Expand.parts_of) (laws_of (operation g.E.Key.Ord.cmp (g.E.Expand.seed c.args.problem.now) (g.E.Expand.seed_edge c.args.problem.now) (g.E.Expand.edge c.args.problem.now) g.E.Expand.ends_of (key_parts g.E.Key.TableKey.entries_of) g.E.Expand.parts_of) g.met.E.Key.Ord.total (g.met.E.Expand.one_seed_edge c.args.problem.now) (g.met.E.Expand.one_edge c.args.problem.now) (g.met.E.Expand.edges_stay c.args.problem.now)) (g.E.Expand.admits c.args.problem.now) g.E.Expand.places g.E.Expand.positions g.E.Expand.read_places g.E.Expand.read_positions g.met.E.Expand.reads_places g.met.E.Expand.reads_positions g.E.Key.PartialEq.eq g.met.E.Key.TableKey.same g.met.E.Key.Eq.laws.refl c.args.self.now.keys.keys c.expand_all.new.self.keys.keys c.args.first c.expand_all.new.self.rules.items c.expand_all.new.self.rows.items c.expand_all.new.self.parts c.args.limit c.in-Ok.ensures.within
-    c.settle.new.self.keys.keys c.settle.new.self.rules.items c.settle.new.self.parts c.len-order.result c.len-order.ensures.len c.in-Ok-settle.ensures.parts c.in-Ok-settle.ensures.settled
+returns-clause-between g c = fresh_round_ends (operation g.E.Key.Ord.cmp (g.E.Expand.seed c.args.problem.now) (g.E.Expand.seed_edge c.args.problem.now) (g.E.Expand.edge c.args.problem.now) g.E.Expand.ends_of (key_parts g.E.Key.TableKey.entries_of) g.E.Expand.parts_of) (laws_of (operation g.E.Key.Ord.cmp (g.E.Expand.seed c.args.problem.now) (g.E.Expand.seed_edge c.args.problem.now) (g.E.Expand.edge c.args.problem.now) g.E.Expand.ends_of (key_parts g.E.Key.TableKey.entries_of) g.E.Expand.parts_of) g.met.E.Key.Ord.total (g.met.E.Expand.one_seed_edge c.args.problem.now) (g.met.E.Expand.one_edge c.args.problem.now) (g.met.E.Expand.edges_stay c.args.problem.now)) (g.E.Expand.admits c.args.problem.now) g.E.Expand.places g.E.Expand.positions g.E.Expand.read_places g.E.Expand.read_positions g.met.E.Expand.reads_places g.met.E.Expand.reads_positions g.E.Key.PartialEq.eq g.met.E.Key.TableKey.same g.met.E.Key.Eq.laws.refl c.args.self.now.keys.keys (keys_of c.in-Ok.fresh.items) c.args.first c.expand_all.new.self.rules.items c.expand_all.new.self.rows.items c.expand_all.new.self.parts c.args.limit c.in-Ok.ensures.within
+    c.expand_all.new.self.keys.keys c.settle_fresh.new.self.keys.keys c.settle_fresh.new.self.rules.items c.settle_fresh.new.self.parts c.in-Ok.ensures.order c.in-Ok-settle_fresh.ensures.parts c.in-Ok-settle_fresh.ensures.settled

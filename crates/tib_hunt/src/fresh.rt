@@ -1,0 +1,171 @@
+ghost use Rattle.std.specs.Prelude.{◌≡◌, ℕ, ◌+◌, ◌≤◌, ◌<◌, ◌^◌, ◌++◌, [], ◌∷◌, Some, length, map, slice_get, IfOk, IfErr, IfSome, IfNone, OnOk};
+ghost use Rattle.indexmap.specs.IndexSet.{insert_key, insert_all};
+ghost use Rattle.tib_lex.specs.Lists.{Has, Distinct, Along};
+ghost use Rattle.tib_hunt.specs.EdgeLists.{total};
+ghost use Rattle.tib_hunt.specs.Reached.{IfTooMany};
+ghost use Rattle.tib_hunt.specs.Numbered.{key_parts, Name, HaveMore, placed, keys_of, IsInOrder};
+ghost use Rattle.tib_hunt.specs.Shelved.{all_on};
+
+use crate::found::HuntError;
+use crate::numbering::put_new;
+use indexmap::IndexSet;
+use std::alloc::{AllocError, Global};
+use tib_table::TableKey;
+
+// The position of a key, or None where it is not in the order.
+fn position_of<K: TableKey + Drop>(keys: &IndexSet<K>, key: &K) -> Option<usize>
+    ensures some { IfSome result (λ n. slice_get keys.now.keys n ≡ Some key.now) }
+    ensures none { IfNone result (Has keys.now.keys key.now → ⊥) }
+{
+    keys.get_index_of(key)
+}
+
+// Puts a key behind the fresh ones. It adds its parts, which the limit must leave.
+fn push_fresh<K: TableKey + Drop>(
+    fresh: &mut Vec<(K, u32)>,
+    parts: &mut u64,
+    limit: u64,
+    key: K,
+) -> Result<(), HuntError>
+    requires within { parts.old ≤ limit }
+    requires limit { limit ≤ 20000000 }
+    requires few { length fresh.old.items < 2 ^ 32 }
+    requires placed { fresh.old.items ≡ placed 0 (keys_of fresh.old.items) }
+    ensures keys { OnOk result (keys_of fresh.new.items ≡ keys_of fresh.old.items ++ key ∷ []) }
+    ensures placed { OnOk result (fresh.new.items ≡ placed 0 (keys_of fresh.new.items)) }
+    ensures parts { OnOk result (parts.new ≡ parts.old + key_parts K.entries_of key) }
+    ensures within { OnOk result (parts.new ≤ limit) }
+    ensures more { IfErr result (IfTooMany limit (limit < parts.old + key_parts K.entries_of key)) }
+{
+    let size = key.entries();
+    if size >= limit - *parts {
+        return Err(HuntError::TooMany { limit });
+    }
+    *parts += size + 1;
+    let place = fresh.len() as u32;
+    let Ok(()) = fresh.push((key, place)) else {
+        return Err(HuntError::OutOfMemory);
+    };
+    Ok(())
+}
+
+// The number of a key that is not among the fresh ones, which stand behind the order. A key that is not in the order is the last fresh one.
+fn find_key<K: TableKey + Drop>(
+    keys: &IndexSet<K>,
+    fresh: &mut Vec<(K, u32)>,
+    parts: &mut u64,
+    limit: u64,
+    key: K,
+) -> Result<u32, HuntError>
+    requires apart { Has (keys_of fresh.old.items) key → ⊥ }
+    requires placed { fresh.old.items ≡ placed 0 (keys_of fresh.old.items) }
+    requires counted { total (key_parts K.entries_of) (keys.now.keys ++ keys_of fresh.old.items) ≤ parts.old }
+    requires within { parts.old ≤ limit }
+    requires limit { limit ≤ 20000000 }
+    ensures keys { OnOk result (keys.now.keys ++ keys_of fresh.new.items ≡ insert_key K.eq (keys.now.keys ++ keys_of fresh.old.items) key) }
+    ensures placed { OnOk result (fresh.new.items ≡ placed 0 (keys_of fresh.new.items)) }
+    ensures named { IfOk result (λ n. slice_get (keys.now.keys ++ keys_of fresh.new.items) n ≡ Some key) }
+    ensures parts { OnOk result (parts.new + total (key_parts K.entries_of) (keys.now.keys ++ keys_of fresh.old.items) ≡ parts.old + total (key_parts K.entries_of) (keys.now.keys ++ keys_of fresh.new.items)) }
+    ensures within { OnOk result (parts.new ≤ limit) }
+    ensures more { IfErr result (IfTooMany limit (limit + total (key_parts K.entries_of) (keys.now.keys ++ keys_of fresh.old.items) < parts.old + total (key_parts K.entries_of) (insert_key K.eq (keys.now.keys ++ keys_of fresh.old.items) key))) }
+{
+    if let Some(position) = position_of(keys, &key) {
+        return Ok(position as u32);
+    }
+    let number = (keys.len() + fresh.len()) as u32;
+    match push_fresh(fresh, parts, limit, key) {
+        Ok(()) => Ok(number),
+        Err(error) => Err(error),
+    }
+}
+
+// The numbers of keys that are not among the fresh ones, which stand behind the order. Those that are not in the order go behind the
+// fresh ones.
+fn find_ends<K: TableKey + Drop>(
+    alloc: Global,
+    keys: &IndexSet<K>,
+    fresh: &mut Vec<(K, u32)>,
+    parts: &mut u64,
+    limit: u64,
+    ends: Vec<K>,
+) -> Result<Vec<u32>, HuntError>
+    requires once { Distinct ends.items }
+    requires apart { (k : K) → Has ends.items k → Has (keys_of fresh.old.items) k → ⊥ }
+    requires placed { fresh.old.items ≡ placed 0 (keys_of fresh.old.items) }
+    requires counted { total (key_parts K.entries_of) (keys.now.keys ++ keys_of fresh.old.items) ≤ parts.old }
+    requires within { parts.old ≤ limit }
+    requires limit { limit ≤ 20000000 }
+    ensures keys { OnOk result (keys.now.keys ++ keys_of fresh.new.items ≡ insert_all K.eq (keys.now.keys ++ keys_of fresh.old.items) ends.items) }
+    ensures placed { OnOk result (fresh.new.items ≡ placed 0 (keys_of fresh.new.items)) }
+    ensures named { IfOk result (λ r. Name (keys.now.keys ++ keys_of fresh.new.items) ends.items r.items) }
+    ensures parts { OnOk result (parts.new + total (key_parts K.entries_of) (keys.now.keys ++ keys_of fresh.old.items) ≡ parts.old + total (key_parts K.entries_of) (keys.now.keys ++ keys_of fresh.new.items)) }
+    ensures within { OnOk result (parts.new ≤ limit) }
+    ensures more { IfErr result (IfTooMany limit (HaveMore K.eq (key_parts K.entries_of) (keys.now.keys ++ keys_of fresh.old.items) ends.items parts.old limit)) }
+{
+    let Ok(mut numbers) = Vec::with_capacity(alloc, ends.len()) else {
+        return Err(HuntError::OutOfMemory);
+    };
+    for key in ends {
+        let number = match find_key(keys, fresh, parts, limit, key) {
+            Ok(number) => number,
+            Err(error) => return Err(error),
+        };
+        let Ok(()) = numbers.push(number) else {
+            return Err(HuntError::OutOfMemory);
+        };
+    }
+    Ok(numbers)
+}
+
+/// The numbers of the keys of shelves, of which those that are not in the order stand behind it, as fresh ones. These add their parts, which
+/// the limit must leave.
+pub(crate) fn find_shelves<K: TableKey + Drop>(
+    alloc: Global,
+    keys: &IndexSet<K>,
+    fresh: &mut Vec<(K, u32)>,
+    parts: &mut u64,
+    limit: u64,
+    shelves: Vec<Vec<K>>,
+) -> Result<Vec<Vec<u32>>, HuntError>
+    requires none { fresh.old.items ≡ [] }
+    requires once { Distinct (all_on (map (λ v. v.items) shelves.items)) }
+    requires counted { total (key_parts K.entries_of) keys.now.keys ≤ parts.old }
+    requires within { parts.old ≤ limit }
+    requires limit { limit ≤ 20000000 }
+    ensures keys { OnOk result (keys.now.keys ++ keys_of fresh.new.items ≡ insert_all K.eq keys.now.keys (all_on (map (λ v. v.items) shelves.items))) }
+    ensures placed { OnOk result (fresh.new.items ≡ placed 0 (keys_of fresh.new.items)) }
+    ensures named { IfOk result (λ r. Along (Name (keys.now.keys ++ keys_of fresh.new.items)) (map (λ v. v.items) shelves.items) (map (λ v. v.items) r.items)) }
+    ensures parts { OnOk result (parts.new + total (key_parts K.entries_of) keys.now.keys ≡ parts.old + total (key_parts K.entries_of) (keys.now.keys ++ keys_of fresh.new.items)) }
+    ensures within { OnOk result (parts.new ≤ limit) }
+    ensures more { IfErr result (IfTooMany limit (HaveMore K.eq (key_parts K.entries_of) keys.now.keys (all_on (map (λ v. v.items) shelves.items)) parts.old limit)) }
+{
+    let Ok(mut positions) = Vec::with_capacity(alloc, shelves.len()) else {
+        return Err(HuntError::OutOfMemory);
+    };
+    for shelf in shelves {
+        let numbers = match find_ends(alloc, keys, fresh, parts, limit, shelf) {
+            Ok(numbers) => numbers,
+            Err(error) => return Err(error),
+        };
+        let Ok(()) = positions.push(numbers) else {
+            return Err(HuntError::OutOfMemory);
+        };
+    }
+    Ok(positions)
+}
+
+/// Puts fresh keys, each with its place among them, behind the others in ascending order. Answers where each of them went.
+pub(crate) fn put_fresh<K: TableKey + Drop>(
+    alloc: Global,
+    keys: &mut IndexSet<K>,
+    fresh: Vec<(K, u32)>,
+) -> Result<Vec<u32>, AllocError>
+    requires placed { fresh.items ≡ placed 0 (keys_of fresh.items) }
+    requires few { length (keys.old.keys ++ keys_of fresh.items) < 2 ^ 32 }
+    requires distinct { Distinct (keys.old.keys ++ keys_of fresh.items) }
+    ensures { IfOk result (λ r. IsInOrder K.cmp keys.old.keys (keys_of fresh.items) keys.new.keys r.items) }
+{
+    let mut fresh = fresh;
+    fresh.sort()?;
+    put_new(alloc, keys, fresh)
+}
