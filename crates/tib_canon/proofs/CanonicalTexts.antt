@@ -54,7 +54,7 @@ lefts_ascend weighted names labels rules =
     ascends_as (λ r s. rule_cmp weighted names labels r s ≡ Less) (λ r s. r.left ≤ s.left) (λ r s e. not_above r.left s.left (ranks (nat_cmp r.left s.left) _ e)) rules
 
 -- nothing stands below a state in trimmed rules
-trimmed_leaves : (product : ℕ → ℕ → ℕ) (g h : GrammarOf) → IsTrimmed product g h → SidesEndInHoles g.rules → SidesEndInHoles h.rules
+pub trimmed_leaves : (product : ℕ → ℕ → ℕ) (g h : GrammarOf) → IsTrimmed product g h → SidesEndInHoles g.rules → SidesEndInHoles h.rules
 trimmed_leaves product g h t leaves m k =
     let position : ℕ = get_or t.rules m 0 in
     let live = (t.are_rules position).0 (has_at t.rules m 0 (omega (arith, as_many product g h t))) in

@@ -110,14 +110,14 @@ module _ (weighted : Bool) (labels : List (List ℕ)) (g : GrammarOf) (now : Lis
         agrees = subst (λ x. AgreeInSides (rule_of l.0) x) m.2 (subst (λ p. AgreeInSides (rule_at g.rules p) (rule_at g.rules m.0)) (sym l.2) w.agrees);
       }
 
-  less_from : (x y : Line) → Has now x → Has now y → (x.position ≡ y.position → ⊥) → (text_cmp x y ≡ Less) ⊎ ((x.left ≡ y.left) × (x.text.items ≡ y.text.items)) → rule_cmp weighted names labels (rule_of x) (rule_of y) ≡ Less
+  less_from : (x y : Line) → Has now x → Has now y → (x.position ≡ y.position → ⊥) → (text_cmp x y ≡ Less) ⊎ ((x.left ≡ y.left) × (x.text.now ≡ y.text.now)) → rule_cmp weighted names labels (rule_of x) (rule_of y) ≡ Less
   less_from x y h k apart (inl e) =
       let a = line_known x h in
       let b = line_known y k in
       ap (λ n. ordering_then (nat_cmp n (rule_of y).left) (slice_cmp nat_cmp (line_of weighted names labels (rule_of x)) (line_of weighted names labels (rule_of y)))) (sym a.left)
       ∙ ap (λ n. ordering_then (nat_cmp x.left n) (slice_cmp nat_cmp (line_of weighted names labels (rule_of x)) (line_of weighted names labels (rule_of y)))) (sym b.left)
       ∙ ap (λ (t : List ℕ). ordering_then (nat_cmp x.left y.left) (slice_cmp nat_cmp t (line_of weighted names labels (rule_of y)))) (sym a.text)
-      ∙ ap (λ (t : List ℕ). ordering_then (nat_cmp x.left y.left) (slice_cmp nat_cmp x.text.items t)) (sym b.text)
+      ∙ ap (λ (t : List ℕ). ordering_then (nat_cmp x.left y.left) (slice_cmp nat_cmp x.text.now t)) (sym b.text)
       ∙ e
   less_from x y h k apart (inr e) =
       let a = line_known x h in

@@ -21,7 +21,7 @@ use Rattle.tib_inside.specs.Useful as useful
 use Rattle.tib_inside.proofs.Chosen.{ascends_at}
 use Rattle.tib_inside.proofs.Keeping.{as_many, named_at}
 use Rattle.tib_inside.proofs.Living.{insides_all, live_by_runs}
-use Rattle.tib_inside.proofs.Segments.{below_has}
+use Rattle.tib_inside.proofs.Occurring.{below_has}
 use Rattle.tib_canon.proofs.TrimmedOnce.{place_told}
 
 -- That a set of costs has no least value, and is not empty of costs either, cannot be.
@@ -54,7 +54,7 @@ module _ (product : ℕ → ℕ → ℕ) (rules : List (Rule ℕ)) where
   ]
 
   -- that the inside costs of the states below a number are none that there are cannot be
-  insides_are : (count : ℕ) → ((costs : List (Option ℕ)) → length costs ≡ count → AreInsides product rules costs → ⊥) → ⊥
+  pub insides_are : (count : ℕ) → ((costs : List (Option ℕ)) → length costs ≡ count → AreInsides product rules costs → ⊥) → ⊥
   insides_are zero k = k [] refl (λ q h. absurd (omega arith))
   insides_are (suc n) k =
       insides_are n (λ costs long are.

@@ -3,9 +3,11 @@ pub mod Choosing
 pub mod StateNames
 pub mod Telling
 pub mod Permuting
+pub mod Pieces
 pub mod Sorting
 pub mod InOrder
 pub mod Within
+pub mod Places
 pub mod Alike
 pub mod One
 pub mod Trimmed
@@ -16,10 +18,13 @@ pub mod KeyOrder
 pub mod OverKeys
 pub mod KeySeries
 pub mod KeysOnce
+pub mod KeysCanonical
 pub mod PrintableRules
 pub mod Inhabited
 pub mod CanonicalTexts
+pub mod OfRules
 pub mod InsidesByText
 pub mod NormalByText
 pub mod TrimmedByText
 pub mod CanonicalByText
+pub mod LinesText

@@ -98,3 +98,7 @@ series_on product g h i a b t v = (λ s. (b t v).0 ((a t v).0 s), λ s. (a t v).
 pub if_ok : {T E : Type 0} (P Q : T → Type 0) (r : Result T E) → ((x : T) → P x → Q x) → IfOk r P → IfOk r Q
 if_ok P Q (Ok x) f h = f x h
 if_ok P Q (Err e) f h = tt
+
+pub if_both : {T E : Type 0} (P Q R : T → Type 0) (r : Result T E) → ((x : T) → P x → Q x → R x) → IfOk r P → IfOk r Q → IfOk r R
+if_both P Q R (Ok x) f h k = f x h k
+if_both P Q R (Err e) f h k = tt

@@ -1,6 +1,7 @@
 -- The grammar over the keys, put together.
-use Rattle.std.proofs.Common.{◌≡◌, ℕ, ◌<◌, List, [], ◌∷◌, length, map, get_or, refl, ap, sym, ◌∙◌, subst, arith, suc, inl, inr}
+use Rattle.std.proofs.Common.{◌≡◌, ℕ, ◌<◌, List, [], ◌∷◌, ◌++◌, length, map, take, drop, get_or, append-nil, refl, ap, sym, ◌∙◌, subst, arith, suc, inl, inr}
 use Rattle.std.proofs.lemmas.List.{get_or-map, length-map}
+use Rattle.std.proofs.Math.Seq.{take-length, drop-length}
 use Rattle.std.specs.declared.cmp.Ordering.{Ordering}
 use Rattle.tib_lex.specs.Lists.{Has}
 use Rattle.tib_tree.specs.Trees.{Trees, none, tree, only, relabel}
@@ -13,13 +14,13 @@ use Rattle.tib_grammar.proofs.Sides.{holes-relabel}
 use Rattle.tib_grammar.proofs.Members.{has_at, at_has}
 use Rattle.tib_grammar_file.specs.Printed.{LabelsBelow, AreLabelled}
 use Rattle.tib_inside.specs.Links.{AreBelow}
-use Rattle.tib_inside.specs.Renaming.{number_in, AreNumbersOf}
-use Rattle.tib_inside.proofs.Renamed.{rule_back}
+use Rattle.tib_grammar.specs.Renaming.{number_in}
+use Rattle.tib_inside.specs.Renaming.{AreNumbersOf}
+use Rattle.tib_grammar.proofs.Renamed.{rule_back}
 use Rattle.tib_canon.specs.Canonical.{names_of}
 use Rattle.tib_canon.specs.Keys.{AreByKeys, IsOverKeys, IsBegun}
 use Rattle.tib_canon.specs.declared.begin.Begin.{Begin}
 use Rattle.tib_canon.specs.declared.begin.Begin.TheVariants.{At, Empty}
-use Rattle.tib_canon.proofs.StateNames.{length-names_of}
 use Rattle.tib_canon.proofs.Permuting.{distinct_at}
 
 all_mapped : (n k : ℕ) (f : ℕ → ℕ) (qs : List ℕ) → ((q : ℕ) → q < k → f q < n) → AllBelow k qs → AllBelow n (map f qs)
@@ -84,13 +85,6 @@ module _ {K : Type 0} (cmp : K → K → Ordering) (order : List K) (start : ℕ
             rule_back (number_in numbers) (λ i. get_or states i 0) (rule_at rules m) (number_back (rule_at rules m).left (range m h).0) (λ q k. number_back q (below_has (length order) (holes_of (rule_at rules m).right) q (range m h).1 k)) (leaves m h));
       }
 
-  -- the names and rules that are made meet what a grammar asks
-  pub new_ready :
-      (names : List (List ℕ)) (new : List (Rule ℕ)) → names ≡ names_of (length states) → start < length order → AreInRange (length order) new → (0 < length names) × AreInRange (length names) new
-  new_ready names new named within range =
-      let long : length names ≡ length order = ap length named ∙ length-names_of (length states) ∙ by.many in
-      (omega arith, subst (λ k. AreInRange k new) (sym long) range)
-
 labels_from : (n : ℕ) (f : ℕ → ℕ) (ts : Trees (Symbol ℕ ℕ)) → LabelsBelow n (relabel (symbol_map f) ts) → LabelsBelow n ts
 labels_from n f none h = tt
 labels_from n f (tree (label g) kids rest) h = (h.0, labels_from n f kids h.1, labels_from n f rest h.2)
@@ -105,17 +99,21 @@ labelled_begun cmp order rules (At start) g n over labelled m h =
     labels_from n f (only (rule_at g.rules m).right) (subst (λ (r : Rule ℕ). LabelsBelow n (only r.right)) (sym at) (labelled m (omega arith)))
 labelled_begun cmp order rules Empty g n e labelled m h = let long : length g.rules ≡ 0 = ap (λ (x : GrammarOf). length x.rules) e in absurd (omega arith)
 
--- what the grammar over the keys is made of
-pub record IsMade (states numbers : List ℕ) (rules : List (Rule ℕ)) (names : List (List ℕ)) (new : List (Rule ℕ)) : Type 0 where
-  pub numbers_are : AreNumbersOf states numbers
-  pub named : names ≡ names_of (length states)
-  pub ruled : new ≡ map (named_rule (number_in numbers)) rules
+-- the grammar over the keys has as many rules
+pub as_many_over : {K : Type 0} (cmp : K → K → Ordering) (order : List K) (rules : List (Rule ℕ)) (start : ℕ) (g : GrammarOf) → IsOverKeys cmp order rules start g → length g.rules ≡ length rules
+as_many_over cmp order rules start g o = sym (length-map g.rules (named_rule (λ i. get_or o.states i 0))) ∙ ap length o.named
 
-pub is_made :
-    (states states1 numbers numbers1 : List ℕ) (rules rules1 : List (Rule ℕ)) (count : ℕ) (names : List (List ℕ)) (new : List (Rule ℕ)) → states1 ≡ states → AreNumbersOf states1 numbers → numbers1 ≡ numbers → rules1 ≡ rules → count ≡ length states →
-    names ≡ names_of count → new ≡ map (named_rule (number_in numbers1)) rules1 → IsMade states numbers rules names new
-is_made states states1 numbers numbers1 rules rules1 count names new s n k r l a e = record {
-  numbers_are = subst (λ (xs : List ℕ). AreNumbersOf xs numbers) s n;
-  named = a ∙ ap names_of l;
-  ruled = e ∙ ap (λ (xs : List ℕ). map (named_rule (number_in xs)) rules1) k ∙ ap (map (named_rule (number_in numbers))) r;
-}
+-- what as many values fill is these values
+refilled : {X : Type 0} (xs ws : List X) (n : ℕ) → n ≡ length xs → length ws ≡ length xs → take n (ws ++ drop (length ws) xs) ≡ ws
+refilled xs ws n many e =
+    ap (λ k. take n (ws ++ drop k xs)) e ∙ ap (λ l. take n (ws ++ l)) (drop-length xs) ∙ ap (take n) (append-nil ws) ∙ ap (λ k. take k ws) (many ∙ sym e) ∙ take-length ws
+
+-- the rules under the numbers of the keys, where they stand
+pub rules_over :
+    {K : Type 0} (cmp : K → K → Ordering) (order : List K) (start : ℕ) (states : List ℕ) (by : AreByKeys cmp order start states) (part numbers few : List ℕ) (rules lent new : List (Rule ℕ)) (n : ℕ) → part ≡ states → AreNumbersOf part numbers → few ≡ numbers →
+    AreInRange (length order) rules → SidesEndInHoles rules → lent ≡ rules → new ≡ map (named_rule (number_in few)) lent → n ≡ length rules →
+    IsOverKeys cmp order rules start (record { names = names_of (length order); rules = take n (new ++ drop (length new) rules) })
+rules_over cmp order start states by part numbers few rules lent new n s are f range leaves l e many =
+    let is : new ≡ map (named_rule (number_in numbers)) rules = e ∙ ap (map (named_rule (number_in few))) l ∙ ap (λ (xs : List ℕ). map (named_rule (number_in xs)) rules) f in
+    over_keys cmp order start states by numbers (subst (λ (xs : List ℕ). AreNumbersOf xs numbers) s are) rules range leaves (record { names = names_of (length order); rules = take n (new ++ drop (length new) rules) }) (ap names_of (sym by.many))
+    (refilled rules new n many (ap length is ∙ length-map rules (named_rule (number_in numbers))) ∙ is)

@@ -12,18 +12,18 @@ use Rattle.tib_canon.specs.declared.lines.Line.{Line}
 
 -- lines by their left states and texts
 abbrev pub text_cmp : Line → Line → Ordering
-text_cmp x y = ordering_then (nat_cmp x.left y.left) (slice_cmp nat_cmp x.text.items y.text.items)
+text_cmp x y = ordering_then (nat_cmp x.left y.left) (slice_cmp nat_cmp x.text.now y.text.now)
 
 -- and last by their positions
 abbrev pub line_cmp : Line → Line → Ordering
-line_cmp x y = ordering_then (nat_cmp x.left y.left) (ordering_then (slice_cmp nat_cmp x.text.items y.text.items) (nat_cmp x.position y.position))
+line_cmp x y = ordering_then (nat_cmp x.left y.left) (ordering_then (slice_cmp nat_cmp x.text.now y.text.now) (nat_cmp x.position y.position))
 
 text_total : IsTotalOrder text_cmp
-text_total = then_total (on_total (λ (x : Line). x.left) nat_cmp_total) (on_total (λ (x : Line). x.text.items) nat_list_cmp_total)
+text_total = then_total (on_total (λ (x : Line). x.left) nat_cmp_total) (on_total (λ (x : Line). x.text.now) nat_list_cmp_total)
 
 line_total : IsTotalOrder line_cmp
 line_total =
-    then_total (on_total (λ (x : Line). x.left) nat_cmp_total) (then_total (on_total (λ (x : Line). x.text.items) nat_list_cmp_total) (on_total (λ (x : Line). x.position) nat_cmp_total))
+    then_total (on_total (λ (x : Line). x.left) nat_cmp_total) (then_total (on_total (λ (x : Line). x.text.now) nat_list_cmp_total) (on_total (λ (x : Line). x.position) nat_cmp_total))
 
 any : (o : Ordering) → (o ≡ Less) ⊎ ((o ≡ Equal) ⊎ (o ≡ Greater))
 any Less = inl refl
@@ -59,18 +59,18 @@ less_goes_on Equal Greater c e = absurd (cc)
 less_goes_on Greater b c e = absurd (cc)
 
 -- of two lines in order the first is less, or they are the same
-in_turn : (x y : Line) → is_lt (line_cmp y x) ≡ false → (text_cmp x y ≡ Less) ⊎ ((x.left ≡ y.left) × (x.text.items ≡ y.text.items))
+in_turn : (x y : Line) → is_lt (line_cmp y x) ≡ false → (text_cmp x y ≡ Less) ⊎ ((x.left ≡ y.left) × (x.text.now ≡ y.text.now))
 in_turn x y h = elim (any (text_cmp x y)) [
   | inl e ↦ inl e
   | inr k ↦ elim k [
-    | inl e ↦ let t = both_equal (nat_cmp x.left y.left) (slice_cmp nat_cmp x.text.items y.text.items) e in inr (number_same x.left y.left t.0, text_same x.text.items y.text.items t.1)
+    | inl e ↦ let t = both_equal (nat_cmp x.left y.left) (slice_cmp nat_cmp x.text.now y.text.now) e in inr (number_same x.left y.left t.0, text_same x.text.now y.text.now t.1)
     | inr e ↦
         let back : text_cmp y x ≡ Less = turned (text_cmp y x) (sym e ∙ text_total.antisymm x y) in
-        let bad : true ≡ false = sym (less_goes_on (nat_cmp y.left x.left) (slice_cmp nat_cmp y.text.items x.text.items) (nat_cmp y.position x.position) back) ∙ h in
+        let bad : true ≡ false = sym (less_goes_on (nat_cmp y.left x.left) (slice_cmp nat_cmp y.text.now x.text.now) (nat_cmp y.position x.position) back) ∙ h in
         absurd (cc)
   ]
 ]
 
-pub sorted_apart : (lines : List Line) (i j : ℕ) (d : Line) → IsSorted line_cmp lines → i ≤ j → j < length lines → let x = get_or lines i d in let y = get_or lines j d in (text_cmp x y ≡ Less) ⊎ ((x.left ≡ y.left) × (x.text.items ≡ y.text.items))
+pub sorted_apart : (lines : List Line) (i j : ℕ) (d : Line) → IsSorted line_cmp lines → i ≤ j → j < length lines → let x = get_or lines i d in let y = get_or lines j d in (text_cmp x y ≡ Less) ⊎ ((x.left ≡ y.left) × (x.text.now ≡ y.text.now))
 sorted_apart lines i j d s h k =
     in_turn (get_or lines i d) (get_or lines j d) (sorted_far (λ x y. is_lt (line_cmp x y)) (ranks_by line_total (λ x. x)) lines s i j d h k)

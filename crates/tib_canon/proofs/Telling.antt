@@ -75,6 +75,11 @@ line_is : (weighted : Bool) (names labels : List (List ℕ)) (r : Rule ℕ) → 
 line_is weighted names labels r =
     take_front (rule_text weighted names labels r) (line_in weighted names labels r) (sym (append-nil (rule_text weighted names labels r)) ∙ line_ends weighted names labels r [])
 
+-- a rule is printed as its line and a line feed
+pub line_fed : (weighted : Bool) (names labels : List (List ℕ)) (r : Rule ℕ) → rule_text weighted names labels r ≡ line_of weighted names labels r ++ 10 ∷ []
+line_fed weighted names labels r =
+    sym (append-nil (rule_text weighted names labels r)) ∙ line_ends weighted names labels r [] ∙ ap (λ (xs : List ℕ). xs ++ 10 ∷ []) (sym (line_is weighted names labels r))
+
 -- rules with the same line have the same right side
 pub told_by_line :
     (weighted : Bool) (names labels : List (List ℕ)) (r s : Rule ℕ) → AreStateNames names → Distinct labels → IsSafe names labels r → IsSafe names labels s → line_of weighted names labels r ≡ line_of weighted names labels s →

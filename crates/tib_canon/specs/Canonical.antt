@@ -19,6 +19,10 @@ abbrev pub names_of : ℕ → List (List ℕ)
 names_of zero = []
 names_of (suc n) = names_of n ++ name_of n ∷ []
 
+-- this holds of the grammar of some rules over so many states, whatever the names of the states
+abbrev pub OverStates : ℕ → List (Rule ℕ) → (GrammarOf → Type 0) → Type 0
+OverStates states rules P = (names : List (List ℕ)) → length names ≡ states → P (record { names = names; rules = rules })
+
 -- the line of a rule as it is printed, without the line feed
 abbrev pub line_of : Bool → List (List ℕ) → List (List ℕ) → Rule ℕ → List ℕ
 line_of weighted names labels r = take (length (rule_text weighted names labels r) - 1) (rule_text weighted names labels r)

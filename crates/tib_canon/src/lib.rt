@@ -2,7 +2,6 @@
 #![tactic(auto)]
 
 mod begin;
-mod copying;
 mod form;
 mod laws;
 mod lines;
@@ -10,9 +9,10 @@ mod merging;
 mod names;
 mod numbering;
 mod ordering;
-mod renaming;
+mod taking;
 #[cfg(test)]
 mod tests;
+mod texts;
 
 pub use begin::{Begin, to_grammar};
 pub use form::canonical;
@@ -23,3 +23,4 @@ pub use laws::{
     order_is_one, order_keeps_the_series, over_keys_are_printable, over_keys_texts_are_read,
     trimmed_forms_have_the_same_rules, trimmed_is_printable,
 };
+pub use ordering::Printed;

@@ -1,12 +1,10 @@
 // The lines of rules.
-ghost use Rattle.std.specs.Prelude.{◌≡◌, ◌≤◌, ◌<◌, ◌^◌, ℕ, length, map, IfOk, OnOk};
+ghost use Rattle.std.specs.Prelude.{◌≡◌, ◌++◌, ◌-◌, ◌<◌, ◌≤◌, ℕ, List, Bool, length, map, take, drop, IfOk};
 ghost use Rattle.std.proofs.Common.{get_or};
 ghost use Rattle.tib_lex.specs.Lists.{Each};
-ghost use Rattle.tib_cost.specs.Semiring.{most};
 ghost use Rattle.tib_grammar.specs.Run.{rule_at};
-ghost use Rattle.tib_grammar_file.specs.Printed.{IsRuleWithin};
-ghost use Rattle.tib_canon.specs.Canonical.{line_of as line_in};
-ghost use Rattle.tib_canon.specs.Lines.{IsLineAt};
+ghost use Rattle.tib_grammar_file.specs.Printed.{IsRuleWithin, rule_text};
+ghost use Rattle.tib_canon.specs.Lines.{IsLineAt, AreTexts};
 
 use std::alloc::{AllocError, Global};
 use tib_cost::Semiring;
@@ -17,57 +15,95 @@ use tib_tree::Labels;
 
 /// What the rule at a position is ordered by: its left state, its line, and the position itself.
 #[derive(PartialEq, Eq, PartialOrd, Ord, Drop)]
-pub(crate) struct Line {
+pub(crate) struct Line<'a> {
     /// The left state.
     pub left: u32,
     /// The line of the rule, without the line feed.
-    pub text: Vec<u8>,
+    pub text: &'a [u8],
     /// Where the rule stands.
     pub position: u32,
 }
 
-// The line of a rule, without the line feed.
-fn line_of<S: Semiring>(
-    alloc: Global,
+/// The lines of some rules, one behind another.
+#[derive(Drop)]
+pub(crate) struct Texts {
+    /// All lines.
+    pub sink: GrowingSink,
+    /// Where each ends.
+    pub ends: Vec<usize>,
+}
+
+// Appends the line of a rule.
+fn add_line<S: Semiring>(
+    sink: &mut GrowingSink,
     rule: &Rule<u32>,
     names: &Names,
     labels: &Labels,
-) -> Result<Vec<u8>, AllocError>
+) -> Result<(), AllocError>
     requires { IsRuleWithin names.now labels.now rule.now }
-    ensures line { IfOk result (λ v. v.items ≡ line_in S.WEIGHTED names.now labels.now rule.now) }
+    ensures { IfOk result (λ _. sink.new.bytes ≡ sink.old.bytes ++ rule_text S.WEIGHTED names.now labels.now rule.now) }
 {
-    let mut sink = GrowingSink::new(alloc);
-    match print_rule::<S, GrowingSink>(rule, names, labels, &mut sink) {
-        Ok(()) => {
-            let bytes = sink.bytes();
-            bytes[..bytes.len() - 1].to_vec(alloc)
-        }
+    match print_rule::<S, GrowingSink>(rule, names, labels, sink) {
+        Ok(()) => Ok(()),
         Err(Failed) => Err(AllocError),
     }
 }
 
-/// The lines of the rules at some positions.
-pub(crate) fn lines_at<S: Semiring>(
+/// The texts of the rules at some positions.
+pub(crate) fn texts_at<S: Semiring>(
     alloc: Global,
     rules: &[Rule<u32>],
     positions: &[u32],
     names: &Names,
     labels: &Labels,
-) -> Result<Vec<Line>, AllocError>
+) -> Result<Texts, AllocError>
     requires below { (i : ℕ) → i < length positions.now → get_or positions.now i 0 < length rules.now }
     requires within { (n : ℕ) → n < length rules.now → IsRuleWithin names.now labels.now (rule_at rules.now n) }
-    ensures lines { IfOk result (λ lines. Each (IsLineAt S.WEIGHTED names.now labels.now rules.now) lines.items) }
+    ensures { IfOk result (λ texts. AreTexts S.WEIGHTED names.now labels.now (map (rule_at rules.now) positions.now) texts.sink.bytes texts.ends.items) }
+{
+    let mut sink = GrowingSink::new(alloc);
+    let mut ends = Vec::with_capacity(alloc, positions.len())?;
+    for position in positions {
+        add_line::<S>(&mut sink, &rules[*position as usize], names, labels)?;
+        ends.push(sink.bytes().len())?;
+    }
+    Ok(Texts { sink, ends })
+}
+
+// The line from one end to another, without the line feed.
+fn line_between<'a>(text: &'a [u8], begin: usize, end: usize) -> &'a [u8]
+    requires some { begin < end }
+    requires within { end ≤ length text.now }
+    ensures { result.now ≡ take (end - 1 - begin) (drop begin text.now) }
+{
+    &text[begin..end - 1]
+}
+
+/// The lines of the rules at some positions, in their texts.
+pub(crate) fn lines_at<'a>(
+    alloc: Global,
+    rules: &[Rule<u32>],
+    positions: &[u32],
+    texts: &'a Texts,
+) -> Result<Vec<Line<'a>>, AllocError>
+    requires below { (i : ℕ) → i < length positions.now → get_or positions.now i 0 < length rules.now }
+    requires texts { (weighted : Bool) × (names : List (List ℕ)) × (labels : List (List ℕ)) × AreTexts weighted names labels (map (rule_at rules.now) positions.now) texts.now.sink.bytes texts.now.ends.items }
+    ensures lines { IfOk result (λ lines. (weighted : Bool) (names labels : List (List ℕ)) → AreTexts weighted names labels (map (rule_at rules.now) positions.now) texts.now.sink.bytes texts.now.ends.items → Each (IsLineAt weighted names labels rules.now) lines.items) }
     ensures positions { IfOk result (λ lines. map (λ line. line.position) lines.items ≡ positions.now) }
 {
+    let text = texts.sink.bytes();
     let mut lines = Vec::with_capacity(alloc, positions.len())?;
-    for position in positions {
-        let rule = &rules[*position as usize];
+    let mut begin = 0;
+    for n in 0..positions.len() {
+        let rule = &rules[positions[n] as usize];
         let _ = rule.cost.get();
+        let end = texts.ends[n];
         lines.push(Line {
             left: rule.left,
-            text: line_of::<S>(alloc, rule, names, labels)?,
-            position: *position,
+            text: line_between(text, begin, end),
+            position: positions[n],
         })?;
+        begin = end;
     }
     Ok(lines)
 }

@@ -36,8 +36,8 @@ pub(crate) fn cheapest(alloc: Global, rules: &[Rule<u32>]) -> Result<Vec<u32>, A
     requires { length rules.now < 2 ^ 32 }
     ensures { IfOk result (λ best. AreCheapest rules.now best.items) }
 {
-    let mut sides: IndexSet<(u32, &[Item<u32>])> = IndexSet::new(alloc);
-    let mut best: Vec<u32> = Vec::new(alloc);
+    let mut sides: IndexSet<(u32, &[Item<u32>])> = IndexSet::with_capacity(alloc, rules.len())?;
+    let mut best: Vec<u32> = Vec::with_capacity(alloc, rules.len())?;
     for n in 0..rules.len() {
         let rule = &rules[n];
         match note(&mut sides, rule.left, rule.right.items())? {

@@ -76,8 +76,9 @@ fn answer_over_keys(alloc: Global, text: &[u8], begin: Begin) -> Result<Vec<u8>,
     };
     let form = to_grammar::<Boolean, Number>(alloc, found, begin, &labels)?;
     let mut sink = GrowingSink::new(alloc);
-    match print_grammar(&form, &labels, &mut sink) {
-        Ok(()) => Ok(sink.bytes().to_vec(alloc)?),
+    match print_grammar(&form.grammar, &labels, &mut sink) {
+        Ok(()) if sink.bytes() == form.text.bytes() => Ok(sink.bytes().to_vec(alloc)?),
+        Ok(()) => Err("the grammar prints as another text".into()),
         Err(Failed) => Err("no memory".into()),
     }
 }
@@ -92,10 +93,11 @@ fn answer<S: Semiring + Drop>(alloc: Global, text: &[u8]) -> Result<Vec<u8>, Fai
         Ok(grammar) => grammar,
         Err(_) => return Err("the text was refused".into()),
     };
-    let form = canonical(alloc, &grammar, &labels)?;
+    let form = canonical(alloc, grammar, &labels)?;
     let mut sink = GrowingSink::new(alloc);
-    match print_grammar(&form, &labels, &mut sink) {
-        Ok(()) => Ok(sink.bytes().to_vec(alloc)?),
+    match print_grammar(&form.grammar, &labels, &mut sink) {
+        Ok(()) if sink.bytes() == form.text.bytes() => Ok(sink.bytes().to_vec(alloc)?),
+        Ok(()) => Err("the grammar prints as another text".into()),
         Err(Failed) => Err("no memory".into()),
     }
 }

@@ -1,10 +1,12 @@
-use Rattle.std.proofs.Common.{◌≡◌, take, map}
+use Rattle.std.proofs.Common.{◌≡◌, ℕ, List, Bool, take, map, get_or, ◌∷◌}
 use Rattle.tib_lex.specs.Lists.{Each}
-use Rattle.tib_canon.specs.Lines.{IsLineAt}
+use Rattle.tib_grammar.specs.Run.{rule_at}
+use Rattle.tib_canon.specs.Lines.{IsLineAt, AreTexts}
 use Rattle.tib_canon.proofs.lines.lines_at.Given as goal
 
-abbrev pub invariant-loop-position : goal.invariant-loop-position
-invariant-loop-position g l = record {
-  lines : Each (IsLineAt g.S.Semiring.WEIGHTED l.names l.labels l.rules) l.lines.items;
-  positions : map (λ line. line.position) l.lines.items ≡ take l.position-index l.positions;
+abbrev pub invariant-loop-n : goal.invariant-loop-n
+invariant-loop-n l = record {
+  lines : (weighted : Bool) (names labels : List (List ℕ)) → AreTexts weighted names labels (map (rule_at l.rules) l.positions) l.texts.sink.bytes l.texts.ends.items → Each (IsLineAt weighted names labels l.rules) l.lines.items;
+  positions : map (λ line. line.position) l.lines.items ≡ take l.n l.positions;
+  begin : l.begin ≡ get_or (0 ∷ l.texts.ends.items) l.n 0;
 }

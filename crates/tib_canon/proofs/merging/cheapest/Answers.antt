@@ -16,10 +16,10 @@ pub loop-n-preserved : goal.loop-n-preserved
 loop-n-preserved c =
     let here : c.index-rules-n.result ≡ rule_at c.args.rules.now c.loop-n.n = get_or_read c.args.rules.now c.loop-n.n c.index-rules-n.result (omega arith) c.index-rules-n.is no_rule in
     let own : AreSidesOf (c.index-rules-n.result.left, c.items.result.now) (rule_at c.args.rules.now c.loop-n.n) = (ap (λ r. r.left) here, c.items.ensures.items ∙ ap (λ r. preorder_of r.right) here) in
-    let step = step_before c.args.rules.now c.loop-n.n (map (λ k. (k.0, k.1.now)) c.loop-n.sides.keys) (map (λ k. (k.0, k.1.now)) c.note.new.sides.keys) c.loop-n.best.items c.match-branch-2.best.items (c.index-rules-n.result.left, c.items.result.now) c.in_ok-note.field-0 in
-    elim c.match-branch-2.branch [
+    let step = step_before c.args.rules.now c.loop-n.n (map (λ k. (k.0, k.1.now)) c.loop-n.sides.keys) (map (λ k. (k.0, k.1.now)) c.note.new.sides.keys) c.loop-n.best.items c.match-branch-4.best.items (c.index-rules-n.result.left, c.items.result.now) c.in_ok-note.field-0 in
+    elim c.match-branch-4.branch [
       | in-None+in_ok-push-in-None w ↦
-          step_new c.args.rules.now c.loop-n.n (map (λ k. (k.0, k.1.now)) c.loop-n.sides.keys) (map (λ k. (k.0, k.1.now)) c.note.new.sides.keys) c.loop-n.best.items c.match-branch-2.best.items
+          step_new c.args.rules.now c.loop-n.n (map (λ k. (k.0, k.1.now)) c.loop-n.sides.keys) (map (λ k. (k.0, k.1.now)) c.note.new.sides.keys) c.loop-n.best.items c.match-branch-4.best.items
           (c.index-rules-n.result.left, c.items.result.now) c.in_ok-note.field-0 c.loop-n.invariant own c.in_ok-note.ensures w.in-None.is (ap (λ v. v.items) w.best-is ∙ w.in_ok-push-in-None.ensures.items)
       | in-Some w ↦
           let noted = subst (λ o. IsNoted (map (λ k. (k.0, k.1.now)) c.loop-n.sides.keys) (c.index-rules-n.result.left, c.items.result.now) o (map (λ k. (k.0, k.1.now)) c.note.new.sides.keys)) w.in-Some.is c.in_ok-note.ensures in
