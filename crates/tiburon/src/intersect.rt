@@ -15,17 +15,16 @@ ghost use Rattle.tiburon.specs.Causes.{HasCause, HasEarlier, IsEarly, IsFormFaul
 ghost use Rattle.tiburon.specs.Intersections.{HasProductSeries, IsCanonicalOfPairs, IsCanonicalIntersection};
 
 use crate::files::grammar_in;
-use crate::normal::grammar_lines;
 use crate::status::Status;
 use std::alloc::Global;
-use tib_canon::{Begin, to_grammar};
+use tib_canon::{Begin, Printed, to_grammar};
 use tib_command::{Job, Operation};
 use tib_cost::Semiring;
 use tib_grammar::Grammar;
 use tib_hunt::{Gate, HuntError};
 use tib_inside::trim_normal;
 use tib_intersect::{Pair, intersect};
-use tib_io::{Failed, Files, GrowingSink};
+use tib_io::{Files, GrowingSink};
 use tib_normal::{Normal, NormalError, normalize};
 use tib_tree::Labels;
 
@@ -49,7 +48,7 @@ fn trimmed_form<S: Semiring + Drop>(
         Err(NormalError::TooMany { .. }) => return Err(Status::TooMany { limit }),
         Err(NormalError::OutOfMemory) => return Err(Status::OutOfMemory),
     };
-    match trim_normal::<S>(alloc, &normal) {
+    match trim_normal::<S>(alloc, normal) {
         Ok(trimmed) => Ok(trimmed),
         Err(_) => Err(Status::OutOfMemory),
     }
@@ -63,15 +62,15 @@ fn canonical_of_pairs<S: Semiring + Drop, G: Gate>(
     labels: &Labels,
     limit: u64,
     gate: &G,
-) -> Result<Grammar<S>, HuntError>
+) -> Result<Printed<S>, HuntError>
     requires labelled { AreLabelled (length labels.now) one.now.rules }
     requires one { ArePrintable S.WEIGHTED labels.now one.now.rules }
     requires two { ArePrintable S.WEIGHTED labels.now two.now.rules }
     requires limit { (1 ≤ limit) × (limit ≤ 20000000) }
-    ensures canonical { IfOk result (λ h. IsCanonicalOfPairs S.WEIGHTED S.product limit labels.now one.now two.now h) }
-    ensures series { IfOk result (λ h. HasProductSeries S.product one.now.rules two.now.rules h.rules) }
-    ensures read { IfOk result (λ h. GrammarText S.WEIGHTED labels.now (grammar_text S.WEIGHTED labels.now h) h) }
-    ensures labelled { IfOk result (λ h. AreLabelled (length labels.now) h.rules) }
+    ensures canonical { IfOk result (λ h. IsCanonicalOfPairs S.WEIGHTED S.product limit labels.now one.now two.now h.grammar) }
+    ensures series { IfOk result (λ h. HasProductSeries S.product one.now.rules two.now.rules h.grammar.rules) }
+    ensures read { IfOk result (λ h. GrammarText S.WEIGHTED labels.now h.text.bytes h.grammar) }
+    ensures text { IfOk result (λ h. h.text.bytes ≡ grammar_text S.WEIGHTED labels.now h.grammar) }
     ensures err { IfErr result (IfTooMany limit (IsBeyond (intersection S.product one.now.rules two.now.rules) limit)) }
 {
     one.grammar();
@@ -81,7 +80,7 @@ fn canonical_of_pairs<S: Semiring + Drop, G: Gate>(
         Err(error) => return Err(error),
     };
     match to_grammar::<S, Pair>(alloc, found, Begin::At(0), labels) {
-        Ok(grammar) => Ok(grammar),
+        Ok(canonical) => Ok(canonical),
         Err(_) => Err(HuntError::OutOfMemory),
     }
 }
@@ -94,15 +93,15 @@ fn intersection_of<S: Semiring + Drop, G: Gate>(
     labels: &Labels,
     limit: u64,
     gate: &G,
-) -> Result<Grammar<S>, Status>
+) -> Result<Printed<S>, Status>
     requires labelled { AreLabelled (length labels.now) first.now.rules }
     requires first { ArePrintable S.WEIGHTED labels.now first.now.rules }
     requires second { ArePrintable S.WEIGHTED labels.now second.now.rules }
     requires limit { (1 ≤ limit) × (limit ≤ 20000000) }
-    ensures canonical { IfOk result (λ h. IsCanonicalIntersection S.WEIGHTED S.product limit labels.now first.now second.now h) }
-    ensures series { IfOk result (λ h. HasProductSeries S.product first.now.rules second.now.rules h.rules) }
-    ensures read { IfOk result (λ h. GrammarText S.WEIGHTED labels.now (grammar_text S.WEIGHTED labels.now h) h) }
-    ensures labelled { IfOk result (λ h. AreLabelled (length labels.now) h.rules) }
+    ensures canonical { IfOk result (λ h. IsCanonicalIntersection S.WEIGHTED S.product limit labels.now first.now second.now h.grammar) }
+    ensures series { IfOk result (λ h. HasProductSeries S.product first.now.rules second.now.rules h.grammar.rules) }
+    ensures read { IfOk result (λ h. GrammarText S.WEIGHTED labels.now h.text.bytes h.grammar) }
+    ensures text { IfOk result (λ h. h.text.bytes ≡ grammar_text S.WEIGHTED labels.now h.grammar) }
     ensures err { IfErr result (IsIntersectionFault S.product first.now second.now limit) }
 {
     let one = match trimmed_form::<S>(alloc, first, limit) {
@@ -114,7 +113,7 @@ fn intersection_of<S: Semiring + Drop, G: Gate>(
         Err(status) => return Err(status),
     };
     match canonical_of_pairs::<S, G>(alloc, &one, &two, labels, limit, gate) {
-        Ok(grammar) => Ok(grammar),
+        Ok(canonical) => Ok(canonical),
         Err(HuntError::TooMany { .. }) => Err(Status::TooMany { limit }),
         Err(HuntError::OutOfMemory) => Err(Status::OutOfMemory),
     }
@@ -155,8 +154,5 @@ pub(crate) fn intersect_files<S: Semiring + Drop, F: Files, G: Gate>(
         Ok(canonical) => canonical,
         Err(status) => return Err(status),
     };
-    match grammar_lines::<S>(alloc, &canonical, &labels) {
-        Ok(text) => Ok(text),
-        Err(Failed) => Err(Status::OutOfMemory),
-    }
+    Ok(canonical.text)
 }

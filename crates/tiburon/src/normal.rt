@@ -12,12 +12,11 @@ ghost use Rattle.tiburon.specs.Causes.{HasCause, HasEarlier, IsEarly, IsFormFaul
 use crate::files::grammar_in;
 use crate::status::Status;
 use std::alloc::Global;
-use tib_canon::canonical;
+use tib_canon::{Printed, canonical};
 use tib_command::{Job, Operation};
 use tib_cost::Semiring;
 use tib_grammar::Grammar;
-use tib_grammar_file::print_grammar;
-use tib_io::{Failed, Files, GrowingSink};
+use tib_io::{Files, GrowingSink};
 use tib_normal::{NormalError, normalize};
 use tib_tree::Labels;
 
@@ -27,14 +26,14 @@ fn canonical_normal<S: Semiring + Drop>(
     grammar: &Grammar<S>,
     labels: &Labels,
     limit: u64,
-) -> Result<Grammar<S>, Status>
+) -> Result<Printed<S>, Status>
     requires labelled { AreLabelled (length labels.now) grammar.now.rules }
     requires printable { ArePrintable S.WEIGHTED labels.now grammar.now.rules }
     requires limit { (1 ≤ limit) × (limit ≤ 20000000) }
-    ensures canonical { IfOk result (λ h. IsCanonicalNormal S.WEIGHTED S.product limit labels.now grammar.now h) }
-    ensures series { IfOk result (λ h. HasSameSeries S.product grammar.now h) }
-    ensures read { IfOk result (λ h. GrammarText S.WEIGHTED labels.now (grammar_text S.WEIGHTED labels.now h) h) }
-    ensures labelled { IfOk result (λ h. AreLabelled (length labels.now) h.rules) }
+    ensures canonical { IfOk result (λ h. IsCanonicalNormal S.WEIGHTED S.product limit labels.now grammar.now h.grammar) }
+    ensures series { IfOk result (λ h. HasSameSeries S.product grammar.now h.grammar) }
+    ensures read { IfOk result (λ h. GrammarText S.WEIGHTED labels.now h.text.bytes h.grammar) }
+    ensures text { IfOk result (λ h. h.text.bytes ≡ grammar_text S.WEIGHTED labels.now h.grammar) }
     ensures err { IfErr result (IsFormFault S.product grammar.now limit) }
 {
     grammar.is_sound();
@@ -43,27 +42,11 @@ fn canonical_normal<S: Semiring + Drop>(
         Err(NormalError::TooMany { .. }) => return Err(Status::TooMany { limit }),
         Err(NormalError::OutOfMemory) => return Err(Status::OutOfMemory),
     };
-    let form = normal.grammar();
+    let form = normal.into_grammar();
     form.is_sound();
     match canonical::<S>(alloc, form, labels) {
         Ok(canonical) => Ok(canonical),
         Err(_) => Err(Status::OutOfMemory),
-    }
-}
-
-/// The text of a grammar. It fails only for want of memory.
-pub(crate) fn grammar_lines<S: Semiring>(
-    alloc: Global,
-    grammar: &Grammar<S>,
-    labels: &Labels,
-) -> Result<GrowingSink, Failed>
-    requires { AreLabelled (length labels.now) grammar.now.rules }
-    ensures { IfOk result (λ text. text.bytes ≡ grammar_text S.WEIGHTED labels.now grammar.now) }
-{
-    let mut text = GrowingSink::new(alloc);
-    match print_grammar::<S, GrowingSink>(grammar, labels, &mut text) {
-        Ok(()) => Ok(text),
-        Err(Failed) => Err(Failed),
     }
 }
 
@@ -96,8 +79,5 @@ pub(crate) fn normal_of_file<S: Semiring + Drop, F: Files>(
         Ok(canonical) => canonical,
         Err(status) => return Err(status),
     };
-    match grammar_lines::<S>(alloc, &canonical, &labels) {
-        Ok(text) => Ok(text),
-        Err(Failed) => Err(Status::OutOfMemory),
-    }
+    Ok(canonical.text)
 }

@@ -2,9 +2,6 @@ use Rattle.std.proofs.Common.{ℕ, List, subst}
 use Rattle.std.specs.Prelude.{Option, Some}
 use Rattle.tib_command.specs.Jobs.{meaning, Asked}
 use Rattle.tib_grammar_file.proofs.Plain.{stays}
-use Rattle.tib_grammar_file.specs.GrammarText.{GrammarText}
-use Rattle.tib_grammar_file.specs.Printed.{grammar_text}
-use Rattle.std.proofs.Common.{sym}
 use Rattle.tiburon.specs.Kinds.{file_at, of_grammar, OfFile, Told, IsRead}
 use Rattle.tiburon.proofs.Pairs.{labelled_grown}
 use Rattle.tiburon.proofs.Reached.{told_some, intersection_cause, intersection_earlier, before_first, before_more, first_of_intersect, second_of_intersect, all_of_intersect, grammar_is, answer_intersect}
@@ -43,25 +40,25 @@ returns-in-Err-intersection_of-clause-earlier g c =
     (second_of_intersect (meaning c.args.job.now) c.requires.operation)
     (grammar_is job held 2 g.S.Semiring.WEIGHTED c.grammar_in-2.new.labels c.in-Ok-grammar_in.second c.requires.mode second)))
 
-pub returns-in-Ok-grammar_lines-clause-text : goal.returns-in-Ok-grammar_lines-clause-text
-returns-in-Ok-grammar_lines-clause-text g c =
+pub returns-clause-text : goal.returns-clause-text
+returns-clause-text g c =
     let job : Option Asked = Some (meaning c.args.job.now) in
     let held : List ℕ → Option (List ℕ) = g.F.Files.held c.args.files.now in
     let second : OfFile job 2 (Told held (IsRead g.S.Semiring.WEIGHTED c.grammar_in-2.new.labels c.in-Ok-grammar_in.second)) =
     subst (λ (h : List ℕ → Option (List ℕ)). OfFile job 2 (Told h (IsRead g.S.Semiring.WEIGHTED c.grammar_in-2.new.labels c.in-Ok-grammar_in.second))) c.in-Ok.ensures.held c.in-Ok-grammar_in.ensures.text
     in
-    answer_intersect (meaning c.args.job.now) held g.S.Semiring.WEIGHTED g.S.Semiring.product c.in-Ok-grammar_lines.text.bytes c.requires.operation c.requires.mode c.requires.product (record {
+    answer_intersect (meaning c.args.job.now) held g.S.Semiring.WEIGHTED g.S.Semiring.product c.in-Ok-intersection_of.canonical.text.bytes c.requires.operation c.requires.mode c.requires.product (record {
       early = c.grammar_in.new.labels;
       labels = c.grammar_in-2.new.labels;
       f = c.in-Ok.first;
       g = c.in-Ok-grammar_in.second;
-      h = c.in-Ok-intersection_of.canonical;
+      h = c.in-Ok-intersection_of.canonical.grammar;
       distinct = c.len.ensures.distinct;
       grows = c.in-Ok-grammar_in.ensures.grows;
       one = told_some held (file_at job 1) (IsRead g.S.Semiring.WEIGHTED c.grammar_in.new.labels c.in-Ok.first) c.in-Ok.ensures.text;
       two = told_some held (file_at job 2) (IsRead g.S.Semiring.WEIGHTED c.grammar_in-2.new.labels c.in-Ok-grammar_in.second) second;
       canonical = c.in-Ok-intersection_of.ensures.canonical;
       series = c.in-Ok-intersection_of.ensures.series;
-      are = c.in-Ok-grammar_lines.ensures;
-      read = subst (λ (text : List ℕ). GrammarText g.S.Semiring.WEIGHTED c.grammar_in-2.new.labels text c.in-Ok-intersection_of.canonical) (sym c.in-Ok-grammar_lines.ensures) c.in-Ok-intersection_of.ensures.read;
+      are = c.in-Ok-intersection_of.ensures.text;
+      read = c.in-Ok-intersection_of.ensures.read;
     })

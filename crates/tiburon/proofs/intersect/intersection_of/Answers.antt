@@ -14,7 +14,7 @@ canonical_of_pairs-requires-clause-two g c = c.in-Ok-trimmed_form.ensures.printa
 
 pub returns-in-Ok-canonical_of_pairs-clause-series : goal.returns-in-Ok-canonical_of_pairs-clause-series
 returns-in-Ok-canonical_of_pairs-clause-series g c =
-    product_of_forms g.S.Semiring.product c.args.first.now c.args.second.now c.in-Ok.one c.in-Ok-trimmed_form.two c.in-Ok-canonical_of_pairs.grammar.rules c.in-Ok.ensures.series c.in-Ok-trimmed_form.ensures.series
+    product_of_forms g.S.Semiring.product c.args.first.now c.args.second.now c.in-Ok.one c.in-Ok-trimmed_form.two c.in-Ok-canonical_of_pairs.canonical.grammar.rules c.in-Ok.ensures.series c.in-Ok-trimmed_form.ensures.series
     c.in-Ok-canonical_of_pairs.ensures.series
 
 pub returns-in-Err-TooMany-clause-err : goal.returns-in-Err-TooMany-clause-err

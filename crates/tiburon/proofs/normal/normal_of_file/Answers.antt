@@ -1,5 +1,4 @@
-use Rattle.std.proofs.Common.{ℕ, List, subst, sym}
-use Rattle.tib_grammar_file.specs.GrammarText.{GrammarText}
+use Rattle.std.proofs.Common.{ℕ, List}
 use Rattle.std.specs.Prelude.{Option, Some}
 use Rattle.tib_command.specs.Jobs.{meaning, Asked}
 use Rattle.tiburon.specs.Kinds.{file_at, of_grammar, IsRead}
@@ -22,17 +21,17 @@ returns-in-Err-canonical_normal-clause-earlier g c =
     (before_more job held 1 of_grammar (before_first job held) (first_of_normal (meaning c.args.job.now) c.requires.operation)
     (grammar_is job held 1 g.S.Semiring.WEIGHTED c.grammar_in.new.labels c.in-Ok.grammar c.requires.mode c.in-Ok.ensures.text)))
 
-pub returns-in-Ok-grammar_lines-clause-text : goal.returns-in-Ok-grammar_lines-clause-text
-returns-in-Ok-grammar_lines-clause-text g c =
+pub returns-clause-text : goal.returns-clause-text
+returns-clause-text g c =
     let held : List ℕ → Option (List ℕ) = g.F.Files.held c.args.files.now in
-    answer_normal (meaning c.args.job.now) held g.S.Semiring.WEIGHTED g.S.Semiring.product c.in-Ok-grammar_lines.text.bytes c.requires.operation c.requires.mode c.requires.product (record {
+    answer_normal (meaning c.args.job.now) held g.S.Semiring.WEIGHTED g.S.Semiring.product c.in-Ok-canonical_normal.canonical.text.bytes c.requires.operation c.requires.mode c.requires.product (record {
       labels = c.grammar_in.new.labels;
       g = c.in-Ok.grammar;
-      h = c.in-Ok-canonical_normal.canonical;
+      h = c.in-Ok-canonical_normal.canonical.grammar;
       distinct = c.len.ensures.distinct;
       grammar = told_some held (file_at (Some (meaning c.args.job.now)) 1) (IsRead g.S.Semiring.WEIGHTED c.grammar_in.new.labels c.in-Ok.grammar) c.in-Ok.ensures.text;
       canonical = c.in-Ok-canonical_normal.ensures.canonical;
       series = c.in-Ok-canonical_normal.ensures.series;
-      are = c.in-Ok-grammar_lines.ensures;
-      read = subst (λ (text : List ℕ). GrammarText g.S.Semiring.WEIGHTED c.grammar_in.new.labels text c.in-Ok-canonical_normal.canonical) (sym c.in-Ok-grammar_lines.ensures) c.in-Ok-canonical_normal.ensures.read;
+      are = c.in-Ok-canonical_normal.ensures.text;
+      read = c.in-Ok-canonical_normal.ensures.read;
     })
