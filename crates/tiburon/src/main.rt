@@ -1,31 +1,14 @@
-//! The program `tiburon`: weighs trees by weighted regular tree grammars over exact whole numbers. `run` is the one call
-//! that it makes: from words, files, an output and a log to a status, each of which comes only with its cause. It stands on
-//! all other crates of the repository.
+//! The program `tiburon`: weighs trees by weighted regular tree grammars over exact whole numbers. It fetches the words of its
+//! command line, lends the system's files and streams to the one call `tib_run::run`, and ends with the code of its status.
 #![tactic(auto)]
 
-mod answer;
-mod files;
-mod inside;
-mod intersect;
-mod laws;
-mod log;
-mod normal;
-mod run;
-mod status;
-#[cfg(test)]
-mod tests;
-mod text;
-mod weigh;
-
-use log::tell;
-use run::run;
-use status::Status;
 use std::io::BufWriter;
 use std::process::ExitCode;
 use std::thread::Threads;
 use std::{env, io};
 use tib_hunt::Gate;
 use tib_io::{HostFiles, HostSink};
+use tib_run::{Status, run, tell};
 
 // A gate that holds no worker.
 struct Open;

@@ -1,0 +1,150 @@
+-- What a run that is done has written.
+use Rattle.std.specs.Prelude.{◌≡◌, ◌⊎◌, ◌<◌, ◌≤◌, ℕ, Bool, List, length, Option, Some, None, IfSome, IsSome}
+use Rattle.std.specs.List.{AllZip}
+use Rattle.tib_io.specs.Causes.{Rose, last_count}
+use Rattle.tib_io.specs.Writes.{Appends, AppendsFront}
+use Rattle.tib_tree.specs.Trees.{Tree}
+use Rattle.tib_tree.specs.Grows.{Grows, AreDistinct}
+use Rattle.tib_grammar.specs.GrammarOf.{GrammarOf}
+use Rattle.tib_grammar.specs.Series.{IsSeries}
+use Rattle.tib_grammar_file.specs.Read.{ReadsAs}
+use Rattle.tib_grammar_file.specs.GrammarText.{GrammarText}
+use Rattle.tib_grammar_file.specs.Printed.{grammar_text}
+use Rattle.tib_normal.specs.NormalForm.{IsNormalForm, normal_parts}
+use Rattle.tib_normal.specs.Rows.{HasFormWithin}
+use Rattle.tib_inside.specs.Trimmed.{HasSameSeries}
+use Rattle.tib_canon.specs.Canonical.{IsCanonical}
+use Rattle.tib_inside.specs.Inside.{AreInsides}
+use Rattle.tib_command.specs.Jobs.{Asked}
+use Rattle.tib_command.specs.declared.job.Operation.{Operation}
+use Rattle.tib_command.specs.declared.job.Operation.TheVariants as operations
+use Rattle.tib_run.specs.declared.status.Status.{Status}
+use Rattle.tib_run.specs.declared.status.Status.TheVariants as statuses
+use Rattle.tib_run.specs.Kinds.{Kind, kind_at, file_at, bytes_at, OfName, IsShort, IsRead, ListsTrees, IsOfKind}
+use Rattle.tib_run.specs.Causes.{is_weighted, product_of}
+use Rattle.tib_run.specs.Intersections.{HasIntersection, HasSmallIntersection}
+use Rattle.tib_run.specs.Text.{weighed_lines, inside_lines}
+
+-- The text has a line for each tree of the second file, in order, with its weight by the grammar of the first file: the
+-- series of the grammar at the tree. The normal form of the grammar is within the limit. `early` has the labels of the
+-- grammar, and `labels` those of both files. Nothing is said of a file whose bytes are not told.
+pub record IsWeighed (weighted : Bool) (product : ℕ → ℕ → ℕ) (limit : ℕ) (first second : Option (List ℕ)) (text : List ℕ) : Type 0 where
+  pub early : List (List ℕ)
+  pub labels : List (List ℕ)
+  pub g : GrammarOf
+  pub trees : List (Tree ℕ)
+  pub costs : List (Option ℕ)
+  pub distinct : AreDistinct labels
+  pub grows : Grows early labels
+  pub grammar : IfSome first (IsRead weighted early g)
+  pub listed : IfSome second (ListsTrees labels trees)
+  pub within : HasFormWithin product (length g.names) g.rules limit
+  pub weights : AllZip (λ t v. IsSeries product g.rules t v) trees costs
+  pub are : text ≡ weighed_lines weighted labels trees costs
+
+-- The text has a line for each state of the grammar of the file, in order: its name with its inside cost.
+pub record HasInsides (weighted : Bool) (product : ℕ → ℕ → ℕ) (first : Option (List ℕ)) (text : List ℕ) : Type 0 where
+  pub labels : List (List ℕ)
+  pub g : GrammarOf
+  pub costs : List (Option ℕ)
+  pub grammar : IfSome first (IsRead weighted labels g)
+  pub counted : length costs ≡ length g.names
+  pub insides : AreInsides product g.rules costs
+  pub are : text ≡ inside_lines weighted g.names costs
+
+-- the canonical form of a normal form of a grammar, which is within the limit
+pub record IsCanonicalNormal (weighted : Bool) (product : ℕ → ℕ → ℕ) (limit : ℕ) (labels : List (List ℕ)) (g h : GrammarOf) : Type 0 where
+  pub normal : GrammarOf
+  pub form : IsNormalForm product (length g.names) g.rules (length normal.names) normal.rules
+  pub within : normal_parts (length normal.names) normal.rules ≤ limit
+  pub canonical : IsCanonical product weighted labels normal h
+
+-- The text is that of the canonical form of a normal form of the grammar of the file, which has the series of the grammar.
+-- It reads back as this form alone.
+pub record HasNormalText (weighted : Bool) (product : ℕ → ℕ → ℕ) (limit : ℕ) (first : Option (List ℕ)) (text : List ℕ) : Type 0 where
+  pub labels : List (List ℕ)
+  pub g : GrammarOf
+  pub h : GrammarOf
+  pub distinct : AreDistinct labels
+  pub grammar : IfSome first (IsRead weighted labels g)
+  pub canonical : IsCanonicalNormal weighted product limit labels g h
+  pub series : HasSameSeries product g h
+  pub are : text ≡ grammar_text weighted labels h
+  pub read : GrammarText weighted labels text h
+
+-- the text answers the operation on files with these bytes
+abbrev pub IsAnswerOf : Operation → Bool → (ℕ → ℕ → ℕ) → ℕ → Option (List ℕ) → Option (List ℕ) → List ℕ → Type 0
+IsAnswerOf operations.Weigh weighted product limit first second text = IsWeighed weighted product limit first second text
+IsAnswerOf operations.Inside weighted product limit first second text = HasInsides weighted product first text
+IsAnswerOf operations.Normal weighted product limit first second text = HasNormalText weighted product limit first text
+IsAnswerOf operations.Intersect weighted product limit first second text = HasIntersection weighted product limit first second text
+
+-- the text answers the job
+abbrev pub IsAnswer : Asked → (List ℕ → Option (List ℕ)) → List ℕ → Type 0
+IsAnswer asked held text =
+    IsAnswerOf asked.task.operation (is_weighted asked.mode) (product_of asked.mode) asked.limit (bytes_at held (file_at (Some asked) 1)) (bytes_at held (file_at (Some asked) 2)) text
+
+-- the bytes of each file of the job are told
+abbrev pub AreTold : Asked → (List ℕ → Option (List ℕ)) → Type 0
+AreTold asked held = (n : ℕ) (kind : Kind) → kind_at (Some asked) n ≡ Some kind → IsSome (bytes_at held (file_at (Some asked) n))
+
+-- such a text was written
+pub record HasWritten (IsText : List ℕ → Type 0) (old new : Option (List ℕ)) : Type 0 where
+  pub text : List ℕ
+  pub written : Appends old new text
+  pub answers : IsText text
+
+-- a front of such a text was written
+pub record HasFront (IsText : List ℕ → Type 0) (old new : Option (List ℕ)) : Type 0 where
+  pub text : List ℕ
+  pub front : AppendsFront old new text
+  pub answers : IsText text
+
+-- the answer of the job was written, whole
+abbrev pub HasAnswer : Option Asked → (List ℕ → Option (List ℕ)) → Option (List ℕ) → Option (List ℕ) → Type 0
+HasAnswer None held old new = ⊥
+HasAnswer (Some asked) held old new = HasWritten (IsAnswer asked held) old new
+
+-- a front of the answer was written
+abbrev pub HasFrontOfAnswer : Option Asked → (List ℕ → Option (List ℕ)) → Option (List ℕ) → Option (List ℕ) → Type 0
+HasFrontOfAnswer None held old new = ⊥
+HasFrontOfAnswer (Some asked) held old new = HasFront (IsAnswer asked held) old new
+
+-- the grammar of the bytes, over whatever table of labels, has a normal form within the limit
+abbrev pub HasSmallForm : Bool → (ℕ → ℕ → ℕ) → ℕ → List ℕ → Type 0
+HasSmallForm weighted product limit bytes = (labels : List (List ℕ)) (g : GrammarOf) → ReadsAs weighted labels bytes g → HasFormWithin product (length g.names) g.rules limit
+
+-- what an operation makes of its files, which are told, is within the limit: the normal forms, where it makes them, and
+-- the reached set of an intersection
+abbrev pub StaysWithin : Operation → Bool → (ℕ → ℕ → ℕ) → ℕ → Option (List ℕ) → Option (List ℕ) → Type 0
+StaysWithin operations.Weigh weighted product limit first second = OfName first (HasSmallForm weighted product limit)
+StaysWithin operations.Inside weighted product limit first second = Unit {0}
+StaysWithin operations.Normal weighted product limit first second = OfName first (HasSmallForm weighted product limit)
+StaysWithin operations.Intersect weighted product limit first second = OfName first (λ one. OfName second (HasSmallIntersection weighted product limit one))
+
+-- each file of a job is told, not too long and of its kind, and what the job makes is within the limit
+pub record IsAnswerable (asked : Asked) (held : List ℕ → Option (List ℕ)) : Type 0 where
+  pub short : (n : ℕ) (name : List ℕ) → file_at (Some asked) n ≡ Some name → OfName (held name) IsShort
+  pub kinds : (n : ℕ) (kind : Kind) → kind_at (Some asked) n ≡ Some kind → OfName (bytes_at held (file_at (Some asked) n)) (IsOfKind (is_weighted asked.mode) kind)
+  pub within : StaysWithin asked.task.operation (is_weighted asked.mode) (product_of asked.mode) asked.limit (bytes_at held (file_at (Some asked) 1)) (bytes_at held (file_at (Some asked) 2))
+
+-- no count of a file of the job rose, nor that of the output
+pub record IsCalm (asked : Asked) (before now : List ℕ → ℕ) (out_before out_now : ℕ) : Type 0 where
+  pub files : (n : ℕ) → OfName (file_at (Some asked) n) (λ name. Rose (before name) (now name)) → ⊥
+  pub out : Rose out_before out_now → ⊥
+
+-- a job that can be answered, in a run in which no count rose, was answered but for want of memory
+abbrev pub IsComplete : Option Asked → (List ℕ → Option (List ℕ)) → (List ℕ → ℕ) → (List ℕ → ℕ) → ℕ → ℕ → Status → Type 0
+IsComplete None held before now out_before out_now status = Unit {0}
+IsComplete (Some asked) held before now out_before out_now status =
+    IsAnswerable asked held → IsCalm asked before now out_before out_now → (status ≡ statuses.Done) ⊎ (status ≡ statuses.OutOfMemory)
+
+-- the output has told room for this many bytes
+abbrev pub HasRoom : Option ℕ → ℕ → Type 0
+HasRoom None needed = ⊥
+HasRoom (Some free) needed = needed ≤ free
+
+-- the count of the output stands still where it is below its last value and there is room for each text that answers the job
+abbrev pub StandsStill : Option Asked → (List ℕ → Option (List ℕ)) → Option ℕ → ℕ → ℕ → Type 0
+StandsStill None held free before now = now ≡ before
+StandsStill (Some asked) held free before now = before < last_count → ((text : List ℕ) → IsAnswer asked held text → HasRoom free (length text)) → now ≡ before

@@ -1,0 +1,114 @@
+-- What each answer of a run says of the words, the files and the output.
+use Rattle.std.specs.Prelude.{◌≡◌, ℕ, ◌+◌, max, ◌<◌, Bool, true, false, List, length, Option, Some, None, IfSome, IsSome}
+use Rattle.tib_io.specs.Causes.{Rose}
+use Rattle.tib_grammar.specs.GrammarOf.{GrammarOf}
+use Rattle.tib_grammar_file.specs.Read.{ReadsAs}
+use Rattle.tib_normal.specs.Rows.{HasMoreParts}
+use Rattle.tib_command.specs.Jobs.{Asked}
+use Rattle.tib_command.specs.declared.job.Mode.{Mode}
+use Rattle.tib_command.specs.declared.job.Mode.TheVariants as modes
+use Rattle.tib_command.specs.declared.job.Operation.{Operation}
+use Rattle.tib_command.specs.declared.job.Operation.TheVariants as operations
+use Rattle.tib_run.specs.Kinds.{kind_at, kinds_of, file_at, bytes_at, OfFile, Told, IsShort, IsOfKind, HasFault, Kind}
+use Rattle.tib_run.specs.Intersections.{HasLargeIntersection, IntersectsTooMuch}
+use Rattle.tib_run.specs.declared.status.Status.{Status}
+use Rattle.tib_run.specs.declared.status.Status.TheVariants as statuses
+
+-- in Boolean no weight is kept
+abbrev pub is_weighted : Mode → Bool
+is_weighted modes.MinPlus = true
+is_weighted modes.Bottleneck = true
+is_weighted modes.Boolean = false
+
+abbrev pub weighted_by : Option Asked → Bool
+weighted_by None = true
+weighted_by (Some asked) = is_weighted asked.mode
+
+-- the product of a mode
+abbrev pub product_of : Mode → ℕ → ℕ → ℕ
+product_of modes.MinPlus = ◌+◌
+product_of modes.Bottleneck = max
+product_of modes.Boolean = max
+
+-- the bytes are the text of a grammar whose normal form has more parts than the limit
+pub record HasLargeForm (weighted : Bool) (product : ℕ → ℕ → ℕ) (limit : ℕ) (bytes : List ℕ) : Type 0 where
+  pub labels : List (List ℕ)
+  pub g : GrammarOf
+  pub text : ReadsAs weighted labels bytes g
+  pub more : HasMoreParts product (length g.names) g.rules limit
+
+-- what an operation makes of its files has more parts than the limit: a normal form, where it makes one, or the reached
+-- set of an intersection
+abbrev pub MakesTooMuch : Operation → Bool → (ℕ → ℕ → ℕ) → ℕ → Option (List ℕ) → Option (List ℕ) → Type 0
+MakesTooMuch operations.Weigh weighted product limit first second = IfSome first (HasLargeForm weighted product limit)
+MakesTooMuch operations.Inside weighted product limit first second = ⊥
+MakesTooMuch operations.Normal weighted product limit first second = IfSome first (HasLargeForm weighted product limit)
+MakesTooMuch operations.Intersect weighted product limit first second = IfSome first (λ one. IfSome second (HasLargeIntersection weighted product limit one))
+
+abbrev pub HasTooMany : Option Asked → (List ℕ → Option (List ℕ)) → ℕ → Type 0
+HasTooMany None held limit = ⊥
+HasTooMany (Some asked) held limit =
+    (asked.limit ≡ limit) × MakesTooMuch asked.task.operation (is_weighted asked.mode) (product_of asked.mode) limit (bytes_at held (file_at (Some asked) 1)) (bytes_at held (file_at (Some asked) 2))
+
+-- Each answer comes only with its cause: words that are no command, a count of faults that rose in this run, a file that
+-- is too long, the first fault of a file that is not, or a normal form or a reached set with more parts than the limit of
+-- the job. Want of memory may stand at any place.
+abbrev pub HasCause : Option Asked → (List ℕ → Option (List ℕ)) → (List ℕ → ℕ) → (List ℕ → ℕ) → ℕ → ℕ → Status → Type 0
+HasCause job held before now out_before out_now statuses.Done = IsSome job
+HasCause job held before now out_before out_now statuses.Usage = job ≡ None
+HasCause job held before now out_before out_now (statuses.BadInput file fault) =
+    OfFile job file (Told held (λ bytes. IsShort bytes × HasFault (weighted_by job) (kind_at job file) bytes fault))
+HasCause job held before now out_before out_now (statuses.TooMany limit) = HasTooMany job held limit
+HasCause job held before now out_before out_now (statuses.ReadFault file) = OfFile job file (λ name. Rose (before name) (now name))
+HasCause job held before now out_before out_now statuses.WriteFault = IsSome job × Rose out_before out_now
+HasCause job held before now out_before out_now (statuses.TooLong file) = OfFile job file (Told held (λ bytes. 8388608 < length bytes))
+HasCause job held before now out_before out_now statuses.OutOfMemory = Unit {0}
+
+-- the files of a job before the n-th are of their kinds, where they are told
+abbrev pub AreBefore : Option Asked → (List ℕ → Option (List ℕ)) → ℕ → Type 0
+AreBefore job held n = (m : ℕ) (kind : Kind) → m < n → kind_at job m ≡ Some kind → IfSome (bytes_at held (file_at job m)) (IsOfKind (weighted_by job) kind)
+
+abbrev pub file_count : Option Asked → ℕ
+file_count None = 0
+file_count (Some asked) = length (kinds_of asked.task.operation)
+
+-- an answer about a file comes only where the files before it are of their kinds, and one about the parts where all are
+abbrev pub HasEarlier : Option Asked → (List ℕ → Option (List ℕ)) → Status → Type 0
+HasEarlier job held (statuses.BadInput file fault) = AreBefore job held file
+HasEarlier job held (statuses.ReadFault file) = AreBefore job held file
+HasEarlier job held (statuses.TooLong file) = AreBefore job held file
+HasEarlier job held (statuses.TooMany limit) = AreBefore job held (file_count job + 1)
+HasEarlier job held status = Unit {0}
+
+-- after every status but Done and WriteFault nothing was written
+abbrev pub LeavesAlone : Status → Option (List ℕ) → Option (List ℕ) → Type 0
+LeavesAlone statuses.Done old new = Unit {0}
+LeavesAlone statuses.WriteFault old new = Unit {0}
+LeavesAlone result old new = new ≡ old
+
+-- an answer about one file, or want of memory
+abbrev pub IsAbout : ℕ → Status → Type 0
+IsAbout file (statuses.BadInput n fault) = n ≡ file
+IsAbout file (statuses.ReadFault n) = n ≡ file
+IsAbout file (statuses.TooLong n) = n ≡ file
+IsAbout file statuses.OutOfMemory = Unit {0}
+IsAbout file status = ⊥
+
+-- an answer that comes before anything is written
+abbrev pub IsEarly : Status → Type 0
+IsEarly statuses.Done = ⊥
+IsEarly statuses.Usage = ⊥
+IsEarly statuses.WriteFault = ⊥
+IsEarly status = Unit {0}
+
+-- the normal form of these rules has more parts than the limit, or memory was refused
+abbrev pub IsFormFault : (ℕ → ℕ → ℕ) → GrammarOf → ℕ → Status → Type 0
+IsFormFault product g limit (statuses.TooMany n) = (n ≡ limit) × HasMoreParts product (length g.names) g.rules limit
+IsFormFault product g limit statuses.OutOfMemory = Unit {0}
+IsFormFault product g limit status = ⊥
+
+-- what two grammars intersect in has more parts than the limit, or memory was refused
+abbrev pub IsIntersectionFault : (ℕ → ℕ → ℕ) → GrammarOf → GrammarOf → ℕ → Status → Type 0
+IsIntersectionFault product f g limit (statuses.TooMany n) = (n ≡ limit) × IntersectsTooMuch product limit f g
+IsIntersectionFault product f g limit statuses.OutOfMemory = Unit {0}
+IsIntersectionFault product f g limit status = ⊥

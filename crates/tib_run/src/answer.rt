@@ -1,0 +1,81 @@
+// The answer of a job: its whole text, and the writing of it.
+ghost use Rattle.std.specs.Prelude.{◌≡◌, ◌≤◌, Some, length, true, IfErr, IfOk};
+ghost use Rattle.tib_io.specs.Causes.{GoesOn};
+ghost use Rattle.tib_command.specs.Jobs.{meaning, word_count};
+ghost use Rattle.tib_run.specs.Answers.{HasAnswer, HasFrontOfAnswer, IsAnswer, StandsStill};
+ghost use Rattle.tib_run.specs.Causes.{HasCause, HasEarlier, IsEarly, LeavesAlone, is_weighted, product_of};
+
+use crate::inside::inside_of_file;
+use crate::intersect::intersect_files;
+use crate::normal::normal_of_file;
+use crate::status::Status;
+use crate::weigh::weigh_files;
+use std::alloc::Global;
+use std::thread::Threads;
+use tib_command::{Job, Operation};
+use tib_cost::Semiring;
+use tib_hunt::Gate;
+use tib_io::{Failed, Files, GrowingSink, Sink, write_and_finish};
+
+// The whole text, before any of it is written, or the status with which the run ends.
+fn text_of<S: Semiring + Sync + Drop, R: Threads + Sync, F: Files, G: Gate>(
+    rt: &R,
+    alloc: Global,
+    job: &Job,
+    files: &mut F,
+    gate: &G,
+) -> Result<GrowingSink, Status>
+    requires files { length job.now.files.items ≡ word_count job.now.operation }
+    requires limit { (1 ≤ job.now.limit) × (job.now.limit ≤ 20000000) }
+    requires mode { S.WEIGHTED ≡ is_weighted job.now.mode }
+    requires product { S.product ≡ product_of job.now.mode }
+    ensures text { IfOk result (λ text. IsAnswer (meaning job.now) (F.held files.old) text.bytes) }
+    ensures cause { IfErr result (HasCause (Some (meaning job.now)) (F.held files.old) (F.faults files.old) (F.faults files.new) 0 0) }
+    ensures earlier { IfErr result (HasEarlier (Some (meaning job.now)) (F.held files.old)) }
+    ensures early { IfErr result IsEarly }
+    ensures held { F.held files.new ≡ F.held files.old }
+    ensures sure { F.sure files.new ≡ F.sure files.old }
+    ensures counts { GoesOn (F.sure files.old) (F.faults files.old) (F.faults files.new) }
+{
+    match job.operation {
+        Operation::Weigh => weigh_files::<S, R, F>(rt, alloc, job, files),
+        Operation::Inside => inside_of_file::<S, F>(alloc, job, files),
+        Operation::Normal => normal_of_file::<S, F>(alloc, job, files),
+        Operation::Intersect => intersect_files::<S, F, G>(alloc, job, files, gate),
+    }
+}
+
+/// Writes the answer of the job.
+pub(crate) fn answer_job<S: Semiring + Sync + Drop, R: Threads + Sync, F: Files, O: Sink, G: Gate>(
+    rt: &R,
+    alloc: Global,
+    job: &Job,
+    files: &mut F,
+    out: &mut O,
+    gate: &G,
+) -> Status
+    requires files { length job.now.files.items ≡ word_count job.now.operation }
+    requires limit { (1 ≤ job.now.limit) × (job.now.limit ≤ 20000000) }
+    requires mode { S.WEIGHTED ≡ is_weighted job.now.mode }
+    requires product { S.product ≡ product_of job.now.mode }
+    ensures cause { HasCause (Some (meaning job.now)) (F.held files.old) (F.faults files.old) (F.faults files.new) (O.faults out.old) (O.faults out.new) result }
+    ensures earlier { HasEarlier (Some (meaning job.now)) (F.held files.old) result }
+    ensures alone { LeavesAlone result (O.written out.old) (O.written out.new) }
+    ensures text { result ≡ Status.Done → HasAnswer (Some (meaning job.now)) (F.held files.old) (O.written out.old) (O.written out.new) }
+    ensures front { result ≡ Status.WriteFault → HasFrontOfAnswer (Some (meaning job.now)) (F.held files.old) (O.written out.old) (O.written out.new) }
+    ensures finished { result ≡ Status.Done → O.finished out.new ≡ true }
+    ensures held { F.held files.new ≡ F.held files.old }
+    ensures sure { F.sure files.new ≡ F.sure files.old }
+    ensures counts { GoesOn (F.sure files.old) (F.faults files.old) (F.faults files.new) }
+    ensures later { O.faults out.old ≤ O.faults out.new }
+    ensures still { StandsStill (Some (meaning job.now)) (F.held files.old) (O.free out.old) (O.faults out.old) (O.faults out.new) }
+{
+    let text = match text_of::<S, R, F, G>(rt, alloc, job, files, gate) {
+        Ok(text) => text,
+        Err(status) => return status,
+    };
+    match write_and_finish(out, text.bytes()) {
+        Ok(()) => Status::Done,
+        Err(Failed) => Status::WriteFault,
+    }
+}

@@ -1,0 +1,118 @@
+// The values of a command's files.
+ghost use Rattle.std.specs.Prelude.{◌≡◌, ◌≤◌, ◌<◌, ◌+◌, ℕ, List, length, Some, IfOk, IfErr};
+ghost use Rattle.tib_io.specs.Causes.{GoesOn};
+ghost use Rattle.tib_command.specs.Jobs.{meaning};
+ghost use Rattle.tib_run.specs.Causes.{HasCause, IsAbout, is_weighted};
+ghost use Rattle.tib_run.specs.Kinds.{file_at, kind_at, OfFile, Told, IsShort, IsRead, ListsTrees, of_grammar, of_trees};
+ghost use Rattle.tib_grammar_file.specs.Printed.{AreLabelled};
+ghost use Rattle.tib_grammar_file.specs.Printable.{ArePrintable};
+ghost use Rattle.tib_tree.specs.Grows.{AreDistinct, Grows};
+ghost use Rattle.tib_lex.specs.Lists.{Each};
+ghost use Rattle.tib_tree.specs.Growth.{HasLabels};
+
+use crate::status::Status;
+use std::alloc::Global;
+use tib_command::Job;
+use tib_cost::Semiring;
+use tib_grammar::Grammar;
+use tib_grammar_file::read_grammar;
+use tib_io::{FileError, Files, read_file};
+use tib_lex::ReadError;
+use tib_tree::{Labels, Tree, read_trees};
+
+// The name of a file of the job, which counts from 1.
+fn name_of(job: &Job, file: u32) -> &str
+    requires from { 1 ≤ file }
+    requires to { file ≤ length job.now.files.items }
+    ensures { file_at (Some (meaning job.now)) file ≡ Some result.now }
+{
+    job.files[file as usize - 1].as_str()
+}
+
+// The bytes of a file of the job, or the status with which the run ends.
+fn bytes_of<F: Files>(alloc: Global, job: &Job, file: u32, files: &mut F) -> Result<Vec<u8>, Status>
+    requires from { 1 ≤ file }
+    requires to { file ≤ length job.now.files.items }
+    ensures bytes { IfOk result (λ v. OfFile (Some (meaning job.now)) file (Told (F.held files.old) (λ bytes. (v.items ≡ bytes) × IsShort bytes))) }
+    ensures short { IfOk result (λ v. IsShort v.items) }
+    ensures cause { IfErr result (HasCause (Some (meaning job.now)) (F.held files.old) (F.faults files.old) (F.faults files.new) 0 0) }
+    ensures about { IfErr result (IsAbout file) }
+    ensures held { F.held files.new ≡ F.held files.old }
+    ensures sure { F.sure files.new ≡ F.sure files.old }
+    ensures counts { GoesOn (F.sure files.old) (F.faults files.old) (F.faults files.new) }
+{
+    match read_file(alloc, files, name_of(job, file)) {
+        Ok(bytes) => Ok(bytes),
+        Err(FileError::ReadFault) => Err(Status::ReadFault { file }),
+        Err(FileError::TooLong) => Err(Status::TooLong { file }),
+        Err(FileError::OutOfMemory) => Err(Status::OutOfMemory),
+    }
+}
+
+/// The grammar of a file of the job, or the status with which the run ends.
+pub(crate) fn grammar_in<S: Semiring, F: Files>(
+    alloc: Global,
+    job: &Job,
+    file: u32,
+    files: &mut F,
+    labels: &mut Labels,
+) -> Result<Grammar<S>, Status>
+    requires from { 1 ≤ file }
+    requires to { file ≤ length job.now.files.items }
+    requires kind { kind_at (Some (meaning job.now)) file ≡ Some of_grammar }
+    requires mode { S.WEIGHTED ≡ is_weighted job.now.mode }
+    ensures text { IfOk result (λ g. OfFile (Some (meaning job.now)) file (Told (F.held files.old) (IsRead S.WEIGHTED labels.new g))) }
+    ensures labelled { IfOk result (λ g. AreLabelled (length labels.new) g.rules) }
+    ensures printable { IfOk result (λ g. ArePrintable S.WEIGHTED labels.new g.rules) }
+    ensures grows { Grows labels.old labels.new }
+    ensures cause { IfErr result (HasCause (Some (meaning job.now)) (F.held files.old) (F.faults files.old) (F.faults files.new) 0 0) }
+    ensures about { IfErr result (IsAbout file) }
+    ensures held { F.held files.new ≡ F.held files.old }
+    ensures sure { F.sure files.new ≡ F.sure files.old }
+    ensures counts { GoesOn (F.sure files.old) (F.faults files.old) (F.faults files.new) }
+{
+    let bytes = match bytes_of(alloc, job, file, files) {
+        Ok(bytes) => bytes,
+        Err(status) => return Err(status),
+    };
+    match read_grammar::<S>(alloc, &bytes, labels) {
+        Ok(grammar) => Ok(grammar),
+        Err(ReadError::Fault(fault)) => Err(Status::BadInput { file, fault }),
+        Err(ReadError::OutOfMemory) => Err(Status::OutOfMemory),
+    }
+}
+
+/// The trees of a file of the job, or the status with which the run ends.
+pub(crate) fn trees_in<F: Files>(
+    alloc: Global,
+    job: &Job,
+    file: u32,
+    files: &mut F,
+    labels: &mut Labels,
+) -> Result<Vec<Tree>, Status>
+    requires from { 1 ≤ file }
+    requires to { file ≤ length job.now.files.items }
+    requires kind { kind_at (Some (meaning job.now)) file ≡ Some of_trees }
+    ensures text { IfOk result (λ ts. OfFile (Some (meaning job.now)) file (Told (F.held files.old) (ListsTrees labels.new ts.items))) }
+    ensures distinct { IfOk result (λ ts. AreDistinct labels.new) }
+    ensures grows { Grows labels.old labels.new }
+    ensures labels { IfOk result (λ ts. Each (HasLabels labels.new) ts.items) }
+    ensures cause { IfErr result (HasCause (Some (meaning job.now)) (F.held files.old) (F.faults files.old) (F.faults files.new) 0 0) }
+    ensures about { IfErr result (IsAbout file) }
+    ensures held { F.held files.new ≡ F.held files.old }
+    ensures sure { F.sure files.new ≡ F.sure files.old }
+    ensures counts { GoesOn (F.sure files.old) (F.faults files.old) (F.faults files.new) }
+{
+    let bytes = match bytes_of(alloc, job, file, files) {
+        Ok(bytes) => bytes,
+        Err(status) => return Err(status),
+    };
+    match read_trees(alloc, &bytes, labels) {
+        Ok(trees) => {
+            labels.len();
+            Ok(trees)
+        }
+        Err(ReadError::Fault(fault)) => Err(Status::BadInput { file, fault }),
+        Err(ReadError::OutOfMemory) => Err(Status::OutOfMemory),
+    }
+}

@@ -1,0 +1,158 @@
+// `intersect`: the canonical grammar of the trees that two grammars have, at the products of their costs.
+ghost use Rattle.std.specs.Prelude.{◌≡◌, ◌≤◌, ℕ, List, Some, length, IfErr, IfOk};
+ghost use Rattle.tib_io.specs.Causes.{GoesOn};
+ghost use Rattle.tib_command.specs.Jobs.{meaning};
+ghost use Rattle.tib_grammar_file.specs.GrammarText.{GrammarText};
+ghost use Rattle.tib_grammar_file.specs.Printable.{ArePrintable};
+ghost use Rattle.tib_grammar_file.specs.Printed.{AreLabelled, grammar_text};
+ghost use Rattle.tib_hunt.specs.Reached.{IfTooMany, IsBeyond};
+ghost use Rattle.tib_inside.specs.Trimmed.{HasSameSeries};
+ghost use Rattle.tib_normal.specs.Rows.{HasFormWithin};
+ghost use Rattle.tib_canon.specs.TrimmedForms.{IsTrimmedForm};
+ghost use Rattle.tib_intersect.specs.Intersection.{intersection};
+ghost use Rattle.tib_run.specs.Answers.{IsAnswer};
+ghost use Rattle.tib_run.specs.Causes.{HasCause, HasEarlier, IsEarly, IsFormFault, IsIntersectionFault, is_weighted, product_of};
+ghost use Rattle.tib_run.specs.Intersections.{HasProductSeries, IsCanonicalOfPairs, IsCanonicalIntersection};
+
+use crate::files::grammar_in;
+use crate::status::Status;
+use std::alloc::Global;
+use tib_canon::{Begin, Printed, to_grammar};
+use tib_command::{Job, Operation};
+use tib_cost::Semiring;
+use tib_grammar::Grammar;
+use tib_hunt::{Gate, HuntError};
+use tib_inside::trim_normal;
+use tib_intersect::{Pair, intersect};
+use tib_io::{Files, GrowingSink};
+use tib_normal::{Normal, NormalError, normalize};
+use tib_tree::Labels;
+
+// The trimmed normal form of a grammar.
+fn trimmed_form<S: Semiring + Drop>(
+    alloc: Global,
+    grammar: &Grammar<S>,
+    limit: u64,
+) -> Result<Normal<S>, Status>
+    requires limit { (1 ≤ limit) × (limit ≤ 20000000) }
+    ensures form { IfOk result (λ m. IsTrimmedForm S.product grammar.now m) }
+    ensures within { IfOk result (λ m. HasFormWithin S.product (length grammar.now.names) grammar.now.rules limit) }
+    ensures series { IfOk result (λ m. HasSameSeries S.product grammar.now m) }
+    ensures labelled { IfOk result (λ m. (n : ℕ) → AreLabelled n grammar.now.rules → AreLabelled n m.rules) }
+    ensures printable { IfOk result (λ m. (labels : List (List ℕ)) → ArePrintable S.WEIGHTED labels grammar.now.rules → ArePrintable S.WEIGHTED labels m.rules) }
+    ensures err { IfErr result (IsFormFault S.product grammar.now limit) }
+{
+    grammar.is_sound();
+    let normal = match normalize::<S>(alloc, grammar, limit) {
+        Ok(normal) => normal,
+        Err(NormalError::TooMany { .. }) => return Err(Status::TooMany { limit }),
+        Err(NormalError::OutOfMemory) => return Err(Status::OutOfMemory),
+    };
+    match trim_normal::<S>(alloc, normal) {
+        Ok(trimmed) => Ok(trimmed),
+        Err(_) => Err(Status::OutOfMemory),
+    }
+}
+
+// The canonical form of the pairs of two grammars.
+fn canonical_of_pairs<S: Semiring + Drop, G: Gate>(
+    alloc: Global,
+    one: &Normal<S>,
+    two: &Normal<S>,
+    labels: &Labels,
+    limit: u64,
+    gate: &G,
+) -> Result<Printed<S>, HuntError>
+    requires labelled { AreLabelled (length labels.now) one.now.rules }
+    requires one { ArePrintable S.WEIGHTED labels.now one.now.rules }
+    requires two { ArePrintable S.WEIGHTED labels.now two.now.rules }
+    requires limit { (1 ≤ limit) × (limit ≤ 20000000) }
+    ensures canonical { IfOk result (λ h. IsCanonicalOfPairs S.WEIGHTED S.product limit labels.now one.now two.now h.grammar) }
+    ensures series { IfOk result (λ h. HasProductSeries S.product one.now.rules two.now.rules h.grammar.rules) }
+    ensures read { IfOk result (λ h. GrammarText S.WEIGHTED labels.now h.text.bytes h.grammar) }
+    ensures text { IfOk result (λ h. h.text.bytes ≡ grammar_text S.WEIGHTED labels.now h.grammar) }
+    ensures err { IfErr result (IfTooMany limit (IsBeyond (intersection S.product one.now.rules two.now.rules) limit)) }
+{
+    one.grammar();
+    two.grammar();
+    let found = match intersect::<S, G>(alloc, one, two, limit, gate) {
+        Ok(found) => found,
+        Err(error) => return Err(error),
+    };
+    match to_grammar::<S, Pair>(alloc, found, Begin::At(0), labels) {
+        Ok(canonical) => Ok(canonical),
+        Err(_) => Err(HuntError::OutOfMemory),
+    }
+}
+
+// The canonical intersection of two grammars.
+fn intersection_of<S: Semiring + Drop, G: Gate>(
+    alloc: Global,
+    first: &Grammar<S>,
+    second: &Grammar<S>,
+    labels: &Labels,
+    limit: u64,
+    gate: &G,
+) -> Result<Printed<S>, Status>
+    requires labelled { AreLabelled (length labels.now) first.now.rules }
+    requires first { ArePrintable S.WEIGHTED labels.now first.now.rules }
+    requires second { ArePrintable S.WEIGHTED labels.now second.now.rules }
+    requires limit { (1 ≤ limit) × (limit ≤ 20000000) }
+    ensures canonical { IfOk result (λ h. IsCanonicalIntersection S.WEIGHTED S.product limit labels.now first.now second.now h.grammar) }
+    ensures series { IfOk result (λ h. HasProductSeries S.product first.now.rules second.now.rules h.grammar.rules) }
+    ensures read { IfOk result (λ h. GrammarText S.WEIGHTED labels.now h.text.bytes h.grammar) }
+    ensures text { IfOk result (λ h. h.text.bytes ≡ grammar_text S.WEIGHTED labels.now h.grammar) }
+    ensures err { IfErr result (IsIntersectionFault S.product first.now second.now limit) }
+{
+    let one = match trimmed_form::<S>(alloc, first, limit) {
+        Ok(one) => one,
+        Err(status) => return Err(status),
+    };
+    let two = match trimmed_form::<S>(alloc, second, limit) {
+        Ok(two) => two,
+        Err(status) => return Err(status),
+    };
+    match canonical_of_pairs::<S, G>(alloc, &one, &two, labels, limit, gate) {
+        Ok(canonical) => Ok(canonical),
+        Err(HuntError::TooMany { .. }) => Err(Status::TooMany { limit }),
+        Err(HuntError::OutOfMemory) => Err(Status::OutOfMemory),
+    }
+}
+
+/// The whole text of a job that asks for an intersection, or the status with which the run ends.
+pub(crate) fn intersect_files<S: Semiring + Drop, F: Files, G: Gate>(
+    alloc: Global,
+    job: &Job,
+    files: &mut F,
+    gate: &G,
+) -> Result<GrowingSink, Status>
+    requires operation { job.now.operation ≡ Operation.Intersect }
+    requires files { length job.now.files.items ≡ 2 }
+    requires limit { (1 ≤ job.now.limit) × (job.now.limit ≤ 20000000) }
+    requires mode { S.WEIGHTED ≡ is_weighted job.now.mode }
+    requires product { S.product ≡ product_of job.now.mode }
+    ensures text { IfOk result (λ text. IsAnswer (meaning job.now) (F.held files.old) text.bytes) }
+    ensures cause { IfErr result (HasCause (Some (meaning job.now)) (F.held files.old) (F.faults files.old) (F.faults files.new) 0 0) }
+    ensures earlier { IfErr result (HasEarlier (Some (meaning job.now)) (F.held files.old)) }
+    ensures early { IfErr result IsEarly }
+    ensures held { F.held files.new ≡ F.held files.old }
+    ensures sure { F.sure files.new ≡ F.sure files.old }
+    ensures counts { GoesOn (F.sure files.old) (F.faults files.old) (F.faults files.new) }
+{
+    let mut labels = Labels::new(alloc);
+    let first = match grammar_in::<S, F>(alloc, job, 1, files, &mut labels) {
+        Ok(first) => first,
+        Err(status) => return Err(status),
+    };
+    let second = match grammar_in::<S, F>(alloc, job, 2, files, &mut labels) {
+        Ok(second) => second,
+        Err(status) => return Err(status),
+    };
+    labels.len();
+    let limit = job.limit;
+    let canonical = match intersection_of::<S, G>(alloc, &first, &second, &labels, limit, gate) {
+        Ok(canonical) => canonical,
+        Err(status) => return Err(status),
+    };
+    Ok(canonical.text)
+}

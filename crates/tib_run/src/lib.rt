@@ -1,0 +1,23 @@
+//! What the program `tiburon` does: weighs trees by weighted regular tree grammars over exact whole numbers, and more. `run` is
+//! the one call that it makes: from words, files, an output and a log to a status, each of which comes only with its cause.
+//! It stands on all crates below it.
+#![tactic(auto)]
+
+mod answer;
+mod command;
+mod files;
+mod inside;
+mod intersect;
+mod laws;
+mod log;
+mod normal;
+mod status;
+#[cfg(test)]
+mod tests;
+mod text;
+mod weigh;
+
+pub use command::{run, run_alone};
+pub use laws::{answers_are_one, texts_are_one};
+pub use log::tell;
+pub use status::Status;

@@ -1,0 +1,83 @@
+// `normal`: the canonical form of a grammar's normal form.
+ghost use Rattle.std.specs.Prelude.{◌≡◌, ◌≤◌, Some, length, IfErr, IfOk};
+ghost use Rattle.tib_io.specs.Causes.{GoesOn};
+ghost use Rattle.tib_command.specs.Jobs.{meaning};
+ghost use Rattle.tib_grammar_file.specs.GrammarText.{GrammarText};
+ghost use Rattle.tib_grammar_file.specs.Printable.{ArePrintable};
+ghost use Rattle.tib_grammar_file.specs.Printed.{AreLabelled, grammar_text};
+ghost use Rattle.tib_inside.specs.Trimmed.{HasSameSeries};
+ghost use Rattle.tib_run.specs.Answers.{IsAnswer, IsCanonicalNormal};
+ghost use Rattle.tib_run.specs.Causes.{HasCause, HasEarlier, IsEarly, IsFormFault, is_weighted, product_of};
+
+use crate::files::grammar_in;
+use crate::status::Status;
+use std::alloc::Global;
+use tib_canon::{Printed, canonical};
+use tib_command::{Job, Operation};
+use tib_cost::Semiring;
+use tib_grammar::Grammar;
+use tib_io::{Files, GrowingSink};
+use tib_normal::{NormalError, normalize};
+use tib_tree::Labels;
+
+// The canonical form of the grammar's normal form.
+fn canonical_normal<S: Semiring + Drop>(
+    alloc: Global,
+    grammar: &Grammar<S>,
+    labels: &Labels,
+    limit: u64,
+) -> Result<Printed<S>, Status>
+    requires labelled { AreLabelled (length labels.now) grammar.now.rules }
+    requires printable { ArePrintable S.WEIGHTED labels.now grammar.now.rules }
+    requires limit { (1 ≤ limit) × (limit ≤ 20000000) }
+    ensures canonical { IfOk result (λ h. IsCanonicalNormal S.WEIGHTED S.product limit labels.now grammar.now h.grammar) }
+    ensures series { IfOk result (λ h. HasSameSeries S.product grammar.now h.grammar) }
+    ensures read { IfOk result (λ h. GrammarText S.WEIGHTED labels.now h.text.bytes h.grammar) }
+    ensures text { IfOk result (λ h. h.text.bytes ≡ grammar_text S.WEIGHTED labels.now h.grammar) }
+    ensures err { IfErr result (IsFormFault S.product grammar.now limit) }
+{
+    grammar.is_sound();
+    let normal = match normalize::<S>(alloc, grammar, limit) {
+        Ok(normal) => normal,
+        Err(NormalError::TooMany { .. }) => return Err(Status::TooMany { limit }),
+        Err(NormalError::OutOfMemory) => return Err(Status::OutOfMemory),
+    };
+    let form = normal.into_grammar();
+    form.is_sound();
+    match canonical::<S>(alloc, form, labels) {
+        Ok(canonical) => Ok(canonical),
+        Err(_) => Err(Status::OutOfMemory),
+    }
+}
+
+/// The whole text of a job that asks for a normal form, or the status with which the run ends.
+pub(crate) fn normal_of_file<S: Semiring + Drop, F: Files>(
+    alloc: Global,
+    job: &Job,
+    files: &mut F,
+) -> Result<GrowingSink, Status>
+    requires operation { job.now.operation ≡ Operation.Normal }
+    requires files { length job.now.files.items ≡ 1 }
+    requires limit { (1 ≤ job.now.limit) × (job.now.limit ≤ 20000000) }
+    requires mode { S.WEIGHTED ≡ is_weighted job.now.mode }
+    requires product { S.product ≡ product_of job.now.mode }
+    ensures text { IfOk result (λ text. IsAnswer (meaning job.now) (F.held files.old) text.bytes) }
+    ensures cause { IfErr result (HasCause (Some (meaning job.now)) (F.held files.old) (F.faults files.old) (F.faults files.new) 0 0) }
+    ensures earlier { IfErr result (HasEarlier (Some (meaning job.now)) (F.held files.old)) }
+    ensures early { IfErr result IsEarly }
+    ensures held { F.held files.new ≡ F.held files.old }
+    ensures sure { F.sure files.new ≡ F.sure files.old }
+    ensures counts { GoesOn (F.sure files.old) (F.faults files.old) (F.faults files.new) }
+{
+    let mut labels = Labels::new(alloc);
+    let grammar = match grammar_in::<S, F>(alloc, job, 1, files, &mut labels) {
+        Ok(grammar) => grammar,
+        Err(status) => return Err(status),
+    };
+    labels.len();
+    let canonical = match canonical_normal::<S>(alloc, &grammar, &labels, job.limit) {
+        Ok(canonical) => canonical,
+        Err(status) => return Err(status),
+    };
+    Ok(canonical.text)
+}
