@@ -1,15 +1,21 @@
 # What people type. `make` proves what the program needs and leaves bin/tiburon.
-.PHONY: build run test bench clean
+.PHONY: build run try test bench clean
 
 build:
 	@tools/build
 
-# The main job on the examples: each tree with the least cost of a run of the grammar that yields it.
+# Every operation on the examples.
 run: build
-	@for name in toy forest; do \
-		echo "\$$ bin/tiburon weigh examples/$$name.grammar examples/$$name.trees"; \
-		bin/tiburon weigh examples/$$name.grammar examples/$$name.trees || exit 1; \
-	done
+	@tools/show bin/tiburon
+
+# The program without any proof, for a first look: make try weigh examples/toy.grammar examples/toy.trees
+ifeq (try,$(firstword $(MAKECMDGOALS)))
+WORDS := $(wordlist 2,$(words $(MAKECMDGOALS)),$(MAKECMDGOALS))
+.PHONY: $(WORDS)
+$(eval $(WORDS):;@:)
+endif
+try:
+	@tools/try $(WORDS)
 
 test:
 	@.ci/run
