@@ -1,5 +1,6 @@
 // What holds of costs in every semiring.
 ghost use Rattle.std.specs.Prelude.{◌≡◌, ℕ, ◌<◌, ◌≤◌, max, true, false, Option, None, Some, IfSome};
+ghost use Rattle.tib_cost.specs.Scale.{cost_in, weight_in};
 ghost use Rattle.tib_cost.specs.Semiring.{most, IsResidual, HasResidual};
 ghost use Rattle.tib_cost.specs.Least.{times, lesser, IsNoGreater, IsBelow, IsCut};
 
@@ -61,4 +62,11 @@ pub fn residual_exists<S: Semiring>()
 pub fn residual_is_least<S: Semiring>()
     ensures gives { (a m r : ℕ) → a ≤ most → IsResidual S.product a m r → times S.product (Some m) (Some r) ≡ Some a }
     ensures least { (a m r s : ℕ) → IsResidual S.product a m r → times S.product (Some m) (Some s) ≡ Some a → r ≤ s }
+{}
+
+/// Of a weight and its cost each gives the other, and both are at most `MOST`.
+pub fn weights_are_costs<S: Semiring>()
+    ensures weight { (w : ℕ) → w ≤ most → weight_in S.SCALE (cost_in S.SCALE w) ≡ w }
+    ensures cost { (c : ℕ) → c ≤ most → cost_in S.SCALE (weight_in S.SCALE c) ≡ c }
+    ensures within { (w : ℕ) → w ≤ most → cost_in S.SCALE w ≤ most }
 {}
