@@ -85,7 +85,7 @@ fn answer_over_keys(alloc: Global, text: &[u8], begin: Begin) -> Result<Vec<u8>,
 
 // The canonical form of the grammar of a text, as it is printed.
 fn answer<S: Semiring + Drop>(alloc: Global, text: &[u8]) -> Result<Vec<u8>, Fail> {
-    if text.len() > 100_000 {
+    if text.len() > 8_000_000 {
         return Err("too long".into());
     }
     let mut labels = Labels::new(alloc);
@@ -160,5 +160,27 @@ fn states_are_named_by_their_keys(rt: HostRuntime) -> Result<(), Fail> {
     );
     let none = answer_over_keys(rt.alloc(), text, Begin::Empty)?;
     assert_eq!(rt; none.as_slice(), b"q0\n".as_slice());
+    Ok(())
+}
+
+// The text of a grammar of one state with so many rules, each of a label of its own.
+fn wide_text(alloc: Global, count: u32) -> Result<Vec<u8>, AllocError> {
+    let mut text = b"q\n".to_vec(alloc)?;
+    for number in 0..count {
+        text.extend_from_slice(b"q -> w")?;
+        text.extend_from_slice(number.to_string(alloc)?.as_bytes())?;
+        text.push(b'\n')?;
+    }
+    Ok(text)
+}
+
+#[test]
+fn more_rules_than_16_bits_count_are_kept(rt: HostRuntime) -> Result<(), Fail> {
+    let text = wide_text(rt.alloc(), 70_000)?;
+    let printed = answer::<Boolean>(rt.alloc(), &text)?;
+    assert_eq!(rt;
+        printed.iter().filter(|byte| **byte == b'\n').count(),
+        70_001
+    );
     Ok(())
 }

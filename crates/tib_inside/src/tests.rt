@@ -228,3 +228,38 @@ fn normal_forms_are_trimmed(rt: HostRuntime) -> Result<(), AllocError> {
     assert!(rt; false);
     Ok(())
 }
+
+/// A grammar of one state with so many rules, each of a label of its own.
+fn wide_grammar(alloc: Global, count: u32) -> Result<Option<Grammar<MinPlus>>, AllocError> {
+    let mut rules = Vec::new(alloc);
+    for label in 0..count {
+        rules.push(Rule {
+            left: 0,
+            right: Side::over(alloc, label, &[])?,
+            cost: MinPlus::one(),
+        })?;
+    }
+    let mut texts = Vec::new(alloc);
+    texts.push(vec![in alloc; b'q'; 1]?)?;
+    if rules.len() > 100_000 || texts.len() > 300 {
+        return Ok(None);
+    }
+    match Names::from_list(alloc, texts)? {
+        Some(names) => Ok(Grammar::new(names, rules)),
+        None => Ok(None),
+    }
+}
+
+#[test]
+fn more_rules_than_16_bits_count_are_kept(rt: HostRuntime) -> Result<(), AllocError> {
+    let alloc = rt.alloc();
+    let Some(grammar) = wide_grammar(alloc, 70_000)? else {
+        assert!(rt; false);
+        return Ok(());
+    };
+    let costs = inside::<MinPlus>(alloc, &grammar)?;
+    assert!(rt; costs.as_slice() == [Some(MinPlus::one())].as_slice());
+    let trimmed = trim::<MinPlus>(alloc, grammar)?;
+    assert!(rt; trimmed.rules() == 70_000);
+    Ok(())
+}
