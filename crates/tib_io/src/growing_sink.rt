@@ -1,5 +1,7 @@
 // A sink in memory that grows.
-ghost use Rattle.std.specs.Prelude.{◌≡◌, Some, None, [], false};
+ghost use Rattle.std.specs.Prelude.{◌≡◌, ◌≤◌, Some, None, [], true, false, IsOk, OnErr, OnOk, MatchResult};
+ghost use Rattle.tib_io.specs.Causes.{Rose};
+ghost use Rattle.tib_io.specs.Writes.{Takes, Calm};
 
 use crate::{Failed, Sink};
 use std::alloc::Global;
@@ -61,7 +63,17 @@ impl Sink for GrowingSink {
         }
     }
 
-    fn finish(&mut self) -> Result<(), Failed> {
+    fn finish(&mut self) -> Result<(), Failed>
+        ensures taken { Takes (Some self.old.bytes) (Some self.new.bytes) None None [] }
+        ensures finished { MatchResult result (λ _. self.new.finished ≡ true) (λ _. self.new.finished ≡ false) }
+        ensures later { self.old.faults ≤ self.new.faults }
+        ensures calm { Calm None 0 self.old.faults self.new.faults }
+        ensures cause { OnErr result (Rose self.old.faults self.new.faults) }
+        ensures steady { OnOk result (self.new.faults ≡ self.old.faults) }
+
+        // It succeeds.
+        ensures ok { IsOk result }
+    {
         self.finished = true;
         Ok(())
     }
