@@ -8,3 +8,4 @@ pub mod Lines
 pub mod NextLine
 pub mod FaultOf
 pub mod Lists
+pub mod FirstFault

@@ -3,34 +3,62 @@ ghost use Rattle.std.specs.Prelude.{◌≡◌};
 ghost use Rattle.tib_lex.specs.FaultOf.{file_error_of};
 
 use std::alloc::AllocError;
+use thiserror::Error;
 
 /// What is wrong with a line of a file.
-#[derive(Clone, Copy, Debug, PartialEq, Eq)]
+#[derive(Clone, Copy, Debug, PartialEq, Eq, Error)]
 pub enum FaultKind {
+    /// No line of the file has a token, so it has no start.
+    #[error("no start")]
     NoStart,
+    /// At a place of the line no token begins.
+    #[error("bad token")]
     BadToken,
+    /// The tokens are no start in the start's place, or no rule in a rule's place.
+    #[error("bad rule")]
     BadRule,
+    /// The tokens are not one tree.
+    #[error("bad tree")]
     BadTree,
+    /// A left side is a variable alone.
+    #[error("lone variable on the left")]
     LoneVariable,
+    /// A variable stands twice on a left side.
+    #[error("variable twice on the left")]
     VariableTwice,
+    /// A variable has children.
+    #[error("labelled variable")]
     LabelledVariable,
+    /// A right side has a variable that its left side has not.
+    #[error("unknown variable")]
     UnknownVariable,
+    /// A weight is no whole number.
+    #[error("weight is not a whole number")]
     NotWhole,
+    /// A weight is above the greatest one.
+    #[error("weight too large")]
     WeightTooLarge,
+    /// A tree has too many nodes.
+    #[error("too many nodes")]
     TooManyNodes,
 }
 
 /// The first fault of a file. Lines are numbered from 1.
-#[derive(Clone, Copy, Debug, PartialEq, Eq)]
+#[derive(Clone, Copy, Debug, PartialEq, Eq, Error)]
+#[error("line {line}: {kind}")]
 pub struct FileFault {
     pub line: u32,
     pub kind: FaultKind,
 }
 
 /// Why a file gave no value.
-#[derive(Clone, Copy, Debug, PartialEq, Eq)]
+#[derive(Clone, Copy, Debug, PartialEq, Eq, Error)]
 pub enum ReadError {
+    /// The file has a fault, and this is its first.
+    #[error("{0}")]
     Fault(FileFault),
+    /// Memory was refused.
+    #[error("out of memory")]
     OutOfMemory,
 }
 
@@ -46,9 +74,13 @@ impl From<AllocError> for ReadError {
 }
 
 /// Why a line gave no value.
-#[derive(Clone, Copy, Debug, PartialEq, Eq)]
+#[derive(Clone, Copy, Debug, PartialEq, Eq, Error)]
 pub enum LineError {
+    /// The line has a fault.
+    #[error("{0}")]
     Fault(FaultKind),
+    /// Memory was refused.
+    #[error("out of memory")]
     OutOfMemory,
 }
 
