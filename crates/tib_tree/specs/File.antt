@@ -1,5 +1,5 @@
 -- What a tree file holds.
-use Rattle.std.specs.Prelude.{◌≡◌, ℕ, ◌⊎◌, List, [], ◌∷◌, ◌++◌, Option, Some, None, Result, Ok, Err}
+use Rattle.std.specs.Prelude.{◌≡◌, ℕ, ◌⊎◌, List, [], ◌∷◌, ◌++◌, Option, Some, None, Result, Ok, Err, map}
 use Rattle.std.specs.Global.{Vec}
 use Rattle.tib_lex.specs.Lines.{lines_of, each_line}
 use Rattle.tib_tree.specs.Written.{Item}
@@ -20,6 +20,16 @@ trees_from n lines = each_line tree_line n lines
 -- the trees of a file by their nodes, or its first fault
 unfoldable pub trees_of : List ℕ → Result (List (List Item)) FileFault
 trees_of bytes = trees_from 1 (lines_of bytes)
+
+-- the texts of the trees' nodes, each tree in preorder
+abbrev pub item_texts : List (List Item) → List (List ℕ)
+item_texts [] = []
+item_texts (is ∷ iss) = map (λ i. i.text) is ++ item_texts iss
+
+-- those of the trees of a file
+abbrev pub texts_in_file : Result (List (List Item)) FileFault → List (List ℕ)
+texts_in_file (Ok iss) = item_texts iss
+texts_in_file (Err fault) = []
 
 abbrev pub AreTrees : List (List ℕ) → List (Tree ℕ) → List (List Item) → Type 0
 AreTrees labels [] [] = Unit {0}

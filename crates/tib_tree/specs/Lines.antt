@@ -1,5 +1,5 @@
 -- What a line of a tree file holds.
-use Rattle.std.specs.Prelude.{◌≡◌, ℕ, List, [], ◌∷◌, Option, Some, None, Result, Ok, Err, length, nat_lt, if◌then◌else◌}
+use Rattle.std.specs.Prelude.{◌≡◌, ℕ, List, [], ◌∷◌, Option, Some, None, Result, Ok, Err, length, nat_lt, if◌then◌else◌, map}
 use Rattle.tib_lex.specs.Grammar.{Word}
 use Rattle.tib_lex.specs.Line.{words_of}
 use Rattle.tib_tree.specs.Written.{Item}
@@ -23,6 +23,11 @@ tree_in (Some (word ∷ words)) = small_tree (nodes_of (word ∷ words))
 -- no tokens, or a tree's nodes, or the fault of the line
 unfoldable pub tree_line : List ℕ → Result (Option (List Item)) FaultKind
 tree_line line = tree_in (words_of line)
+
+-- the texts of the nodes, in preorder
+abbrev pub texts_in : Result (Option (List Item)) FaultKind → List (List ℕ)
+texts_in (Ok (Some is)) = map (λ i. i.text) is
+texts_in other = []
 
 -- what was read of a line, over a table of labels
 abbrev pub IsLine : List (List ℕ) → Result (Option (Tree ℕ)) LineError → Result (Option (List Item)) FaultKind → Type 0

@@ -1,8 +1,9 @@
 -- The text of trees, and what is wrong with bytes that are none.
-use Rattle.std.specs.Prelude.{◌≡◌, ℕ, ◌<◌, ◌≤◌, ◌⊎◌, List, [], ◌∷◌, length, Option, Some, None, Result, Ok, Err, suc}
+use Rattle.std.specs.Prelude.{◌≡◌, ℕ, ◌<◌, ◌≤◌, ◌⊎◌, List, [], ◌∷◌, length, Option, Some, None, Result, Ok, Err}
 use Rattle.std.specs.Global.{Vec}
 use Rattle.tib_lex.specs.Grammar.{Word, HasWords, HasBadToken}
 use Rattle.tib_lex.specs.Lines.{lines_of}
+use Rattle.tib_lex.specs.FirstFault.{IsFirstFault as FirstFaultOf}
 use Rattle.tib_lex.specs.Lists.{Each}
 use Rattle.tib_lex.specs.declared.fault.FaultKind.{FaultKind}
 use Rattle.tib_lex.specs.declared.fault.FaultKind.TheVariants.{BadToken, BadTree, TooManyNodes}
@@ -61,14 +62,13 @@ LineHolds line (Ok None) = HasWords [] line
 LineHolds line (Ok (Some nodes)) = HasNodes line nodes × (length nodes ≤ 10000)
 LineHolds line (Err kind) = HasFault line kind
 
--- the first line with a fault, by its number, and its fault
-abbrev pub FirstFault : ℕ → List (List ℕ) → FileFault → Type 0
-FirstFault n [] fault = ⊥
-FirstFault n (line ∷ lines) fault =
-    ((fault.line ≡ n) × HasFault line fault.kind) ⊎ ((holds : Option (List Item)) × LineHolds line (Ok holds) × FirstFault (suc n) lines fault)
+-- a line without a fault
+abbrev pub IsGood : List ℕ → Type 0
+IsGood line = (holds : Option (List Item)) × LineHolds line (Ok holds)
 
+-- the first line with a fault, by its number, and its fault
 abbrev pub IsFirstFault : List ℕ → FileFault → Type 0
-IsFirstFault bytes fault = FirstFault 1 (lines_of bytes) fault
+IsFirstFault bytes fault = FirstFaultOf IsGood HasFault bytes fault
 
 -- A reader gives the trees of the text where none is too large, or else its first fault.
 abbrev pub ReadsTrees : List (List ℕ) → List ℕ → Result (Vec (Tree ℕ)) ReadError → Type 0

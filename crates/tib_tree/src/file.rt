@@ -1,10 +1,11 @@
-ghost use Rattle.std.specs.Prelude.{◌≡◌, ◌<◌, ◌+◌, take, drop, ◌≤◌, ℕ, length, not, ◌==◌, IfOk, List, [], ◌∷◌, ◌++◌};
+ghost use Rattle.std.specs.Prelude.{◌≡◌, ◌<◌, ◌+◌, ◌-◌, ◌^◌, OnOk, take, drop, ◌≤◌, ℕ, length, not, ◌==◌, IfOk, List, [], ◌∷◌, ◌++◌};
 ghost use Rattle.std.specs.List.{prefix_len};
-ghost use Rattle.tib_tree.specs.File.{trees_of, AddsLine, IsFile, Pushes};
-ghost use Rattle.tib_tree.specs.Grows.{Grows};
-ghost use Rattle.tib_tree.specs.Lines.{tree_line};
+ghost use Rattle.tib_tree.specs.File.{trees_of, texts_in_file, AddsLine, IsFile, Pushes};
+ghost use Rattle.tib_tree.specs.Grows.{Grows, AddsAll};
+ghost use Rattle.tib_tree.specs.Lines.{tree_line, texts_in};
 ghost use Rattle.tib_tree.specs.TreesText.{ReadsTrees};
-ghost use Rattle.tib_tree.specs.Growth.{HasLabels};
+ghost use Rattle.tib_tree.specs.Growth.{HasLabels, label_texts};
+ghost use Rattle.tib_lex.specs.Lines.{HasNoFeed};
 ghost use Rattle.tib_lex.specs.Lists.{Each};
 
 use crate::labels::Labels;
@@ -21,8 +22,12 @@ fn add_line(
     labels: &mut Labels,
     trees: &mut Vec<Tree>,
 ) -> Result<(), LineError>
-    requires { length line.now ≤ 8388608 }
+    requires short { length line.now ≤ 8388608 }
+    requires plain { HasNoFeed line.now }
+    requires room { length labels.old + length line.now < 2 ^ 32 - 1 }
     ensures line { AddsLine labels.new trees.old.items trees.new.items result (tree_line line.now) }
+    ensures added { OnOk result (AddsAll labels.old (texts_in (tree_line line.now)) labels.new) }
+    ensures few { length labels.new ≤ length labels.old + length line.now }
     ensures grows { Grows labels.old labels.new }
 {
     match reader.read(alloc, line, labels) {
@@ -48,8 +53,11 @@ fn push(trees: &mut Vec<Tree>, tree: Tree) -> Result<(), AllocError>
 
 // The trees of a file, by the function that says what it holds.
 fn read_lines(alloc: Global, bytes: &[u8], labels: &mut Labels) -> Result<Vec<Tree>, ReadError>
-    requires { length bytes.now ≤ 8388608 }
+    requires short { length bytes.now ≤ 8388608 }
+    requires room { length labels.old + length bytes.now < 2 ^ 32 - 1 }
     ensures trees { IsFile labels.new result (trees_of bytes.now) }
+    ensures added { IfOk result (λ _. AddsAll labels.old (texts_in_file (trees_of bytes.now)) labels.new) }
+    ensures few { length labels.new ≤ length labels.old + length bytes.now }
     ensures grows { Grows labels.old labels.new }
 {
     let mut reader = LineReader::new(alloc);
@@ -73,14 +81,18 @@ fn read_lines(alloc: Global, bytes: &[u8], labels: &mut Labels) -> Result<Vec<Tr
     Ok(trees)
 }
 
-/// The trees of a file, one a line, over a table that grows by their labels. Lines without tokens are skipped. The fault
-/// is the first line's that has one: `BadToken`, or else `BadTree`, or else `TooManyNodes` where its tree has more than
-/// 10,000 nodes. After any error the table may hold further texts, and those that it held keep their numbers.
+/// The trees of a file, one a line, over a table that grows by just their labels, in the order of first sight. Lines
+/// without tokens are skipped. The fault is the first line's that has one: `BadToken`, or else `BadTree`, or else
+/// `TooManyNodes` where its tree has more than 10,000 nodes. After any error the table may hold further texts, and those
+/// that it held keep their numbers.
 pub fn read_trees(alloc: Global, bytes: &[u8], labels: &mut Labels) -> Result<Vec<Tree>, ReadError>
-    requires { length bytes.now ≤ 8388608 }
+    requires short { length bytes.now ≤ 8388608 }
+    requires room { length labels.old + length bytes.now < 2 ^ 32 - 1 }
     ensures trees { ReadsTrees labels.new bytes.now result }
     ensures file { IsFile labels.new result (trees_of bytes.now) }
     ensures labels { IfOk result (λ trees. Each (HasLabels labels.new) trees.items) }
+    ensures added { IfOk result (λ trees. AddsAll labels.old (label_texts labels.new trees.items) labels.new) }
+    ensures few { length labels.new ≤ length labels.old + length bytes.now }
     ensures grows { Grows labels.old labels.new }
 {
     read_lines(alloc, bytes, labels)

@@ -1,12 +1,14 @@
 // The table of labels.
 ghost use Rattle.std.specs.Prelude.{◌≡◌, ℕ, ◌+◌, ◌-◌, ◌^◌, ◌<◌, ◌≤◌, List, [], ◌∷◌, ◌++◌, length, IfOk, OnOk, OnErr, slice_get, Some, Contains, IfSome, None};
+ghost use Rattle.tib_lex.specs.Lines.{HasNoFeed};
+ghost use Rattle.tib_lex.specs.Lists.{Each};
 ghost use Rattle.tib_tree.specs.Grows.{Grows, Adds, AreDistinct};
 
 use indexmap::IndexSet;
 use std::alloc::{AllocError, Global};
 use std::marker::Model;
 
-/// Distinct texts in the order of first sight. A text's number is its place.
+/// Distinct texts without a line feed, in the order of first sight. A text's number is its place.
 #[derive(Drop)]
 pub struct Labels {
     texts: IndexSet<Vec<u8>>,
@@ -36,11 +38,12 @@ impl Labels {
         }
     }
 
-    /// How many texts, which are distinct. Takes no memory.
+    /// How many texts, which are distinct and have no line feed. Takes no memory.
     pub fn len(&self) -> usize
         ensures value { result ≡ length self.now }
         ensures few { length self.now < 2 ^ 32 }
         ensures distinct { AreDistinct self.now }
+        ensures plain { Each HasNoFeed self.now }
     {
         self.texts.len()
     }
@@ -56,8 +59,11 @@ impl Labels {
         }
     }
 
-    /// The number of a text, which goes last where it is new. After an error the table is as before.
+    /// The number of a text, which goes last where it is new. Only want of memory is an error, and after it the table is
+    /// as before.
     pub fn intern(&mut self, text: &[u8]) -> Result<u32, AllocError>
+        requires plain { HasNoFeed text.now }
+        requires room { length self.old < 2 ^ 32 - 1 }
         ensures named { IfOk result (λ n. slice_get self.new n ≡ Some text.now) }
         ensures err { OnErr result (self.new ≡ self.old) }
         ensures grows { Grows self.old self.new }
@@ -65,9 +71,6 @@ impl Labels {
     {
         if let Some(i) = self.texts.get_index_of(text) {
             return Ok(i as u32);
-        }
-        if self.texts.len() >= 4294967295 {
-            return Err(AllocError);
         }
         let owned = text.to_vec(self.alloc)?;
         let (i, _) = self.texts.insert_full(owned)?;

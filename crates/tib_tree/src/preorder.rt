@@ -6,6 +6,7 @@ ghost use Rattle.tib_tree.specs.Filled.{nodes_of_tree, sized_back};
 
 use std::alloc::{AllocError, Global};
 use std::marker::Model;
+use thiserror::Error;
 
 /// The number of a label's text.
 pub type Label = u32;
@@ -42,9 +43,13 @@ impl Model for Tree {
 }
 
 /// Why some nodes gave no tree.
-#[derive(Debug, Drop)]
+#[derive(Debug, Drop, Error)]
 pub enum ShapeError {
+    /// The nodes are the preorder of no tree.
+    #[error("the nodes are not those of one tree")]
     NotATree,
+    /// Memory was refused.
+    #[error("out of memory")]
     OutOfMemory,
 }
 

@@ -1,7 +1,8 @@
-ghost use Rattle.std.specs.Prelude.{◌≡◌, ◌≤◌, ◌<◌, ℕ, length, IfOk, Some, slice_get, All};
+ghost use Rattle.std.specs.Prelude.{◌≡◌, ◌≤◌, ◌<◌, ◌+◌, ◌-◌, ◌^◌, ℕ, length, IfOk, OnErr, Some, slice_get, All, map};
 ghost use Rattle.tib_lex.specs.Line.{word_at, text_of, Lies};
-ghost use Rattle.tib_tree.specs.Grows.{Grows};
-ghost use Rattle.tib_tree.specs.Lines.{tree_line, IsLine};
+ghost use Rattle.tib_lex.specs.Lines.{HasNoFeed};
+ghost use Rattle.tib_tree.specs.Grows.{Grows, Adds, AddsAll};
+ghost use Rattle.tib_tree.specs.Lines.{tree_line, texts_in, IsLine};
 ghost use Rattle.tib_tree.specs.Nodes.{IsNode, AreNodes};
 ghost use Rattle.tib_tree.specs.Shape.{item_at, items_back, PlaceLies};
 
@@ -18,8 +19,12 @@ fn intern(
     labels: &mut Labels,
     text: &mut Vec<u8>,
 ) -> Result<u32, AllocError>
-    requires { Lies (length line.now) token }
+    requires lies { Lies (length line.now) token }
+    requires plain { HasNoFeed line.now }
+    requires room { length labels.old < 2 ^ 32 - 1 }
     ensures named { IfOk result (λ n. slice_get labels.new n ≡ Some (text_of (word_at line.now token))) }
+    ensures added { IfOk result (λ _. Adds labels.old (text_of (word_at line.now token)) labels.new) }
+    ensures err { OnErr result (labels.new ≡ labels.old) }
     ensures grows { Grows labels.old labels.new }
 {
     read_text(line, token, text)?;
@@ -32,8 +37,12 @@ fn read_node(
     labels: &mut Labels,
     text: &mut Vec<u8>,
 ) -> Result<(Label, u32), AllocError>
-    requires { PlaceLies (length line.now) place }
+    requires lies { PlaceLies (length line.now) place }
+    requires plain { HasNoFeed line.now }
+    requires room { length labels.old < 2 ^ 32 - 1 }
     ensures node { IfOk result (λ n. IsNode labels.new n (item_at line.now place)) }
+    ensures added { IfOk result (λ _. Adds labels.old (item_at line.now place).text labels.new) }
+    ensures err { OnErr result (labels.new ≡ labels.old) }
     ensures grows { Grows labels.old labels.new }
 {
     let label = intern(line, place.token, labels, text)?;
@@ -49,9 +58,13 @@ fn read_nodes(
     text: &mut Vec<u8>,
     nodes: &mut Vec<(Label, u32)>,
 ) -> Result<(), AllocError>
-    requires { All (PlaceLies (length line.now)) places.now }
+    requires lie { All (PlaceLies (length line.now)) places.now }
+    requires plain { HasNoFeed line.now }
+    requires room { length labels.old + length places.now < 2 ^ 32 - 1 }
     ensures nodes { IfOk result (λ _. AreNodes labels.new nodes.new.items (items_back line.now places.now)) }
-    ensures few { IfOk result (λ _. length nodes.new.items ≡ length places.now) }
+    ensures many { IfOk result (λ _. length nodes.new.items ≡ length places.now) }
+    ensures added { IfOk result (λ _. AddsAll labels.old (map (λ i. i.text) (items_back line.now places.now)) labels.new) }
+    ensures few { length labels.new ≤ length labels.old + length places.now }
     ensures grows { Grows labels.old labels.new }
 {
     nodes.clear();
@@ -85,15 +98,20 @@ impl LineReader {
         }
     }
 
-    /// The tree of a line, if it has tokens.
+    /// The tree of a line, if it has tokens. The table grows by the tree's labels that are new. After an error it may hold
+    /// further texts of the line's labels.
     pub fn read(
         &mut self,
         alloc: Global,
         line: &[u8],
         labels: &mut Labels,
     ) -> Result<Option<Tree>, LineError>
-        requires { length line.now ≤ 8388608 }
+        requires short { length line.now ≤ 8388608 }
+        requires plain { HasNoFeed line.now }
+        requires room { length labels.old + length line.now < 2 ^ 32 - 1 }
         ensures line { IsLine labels.new result (tree_line line.now) }
+        ensures added { IfOk result (λ _. AddsAll labels.old (texts_in (tree_line line.now)) labels.new) }
+        ensures few { length labels.new ≤ length labels.old + length line.now }
         ensures grows { Grows labels.old labels.new }
     {
         if !read_tokens(line, &mut self.tokens)? {
