@@ -15,3 +15,4 @@ pub mod Runs
 pub mod Printing
 pub mod TreesText
 pub mod ReadBack
+pub mod Adding

@@ -32,7 +32,7 @@ tree_of_words line (t ∷ ts) o e h n = rw (e, n) refl
 pub no_tree_line : (line : List ℕ) (ts : List Token) → words_of line ≡ Some (words_at line ts) → 0 < length ts → nodes_of (words_at line ts) ≡ None → tree_line line ≡ Err kinds.BadTree
 no_tree_line line ts e h n = tree_of_words line ts None e h n
 
-back_long : (line : List ℕ) (places : List Place) → length (items_back line places) ≡ length places
+pub back_long : (line : List ℕ) (places : List Place) → length (items_back line places) ≡ length places
 back_long line places = length-reverse (map (item_at line) places) ∙ length-map places (item_at line)
 
 chosen : {A : Type 0} (n m : ℕ) (x y : A) → n ≡ m → (m ≤ 10000 → cond (nat_lt 10000 n) x y ≡ y) × (10000 < m → cond (nat_lt 10000 n) x y ≡ x)

@@ -24,7 +24,9 @@ use Rattle.std.specs.Prelude.{IfOk}
 use Rattle.std.proofs.lemmas.Option.{slice_get_within}
 use Rattle.tib_tree.specs.Growth.{LabelsBelow, HasLabels}
 use Rattle.tib_tree.specs.Grows.{AreDistinct}
-use Rattle.tib_tree.specs.TreesText.{HasTrees, TreesText, IsSmall, NoTree, HasNodes, HasFault, LineHolds, FirstFault, IsFirstFault, ReadsTrees}
+use Rattle.tib_lex.specs.FirstFault.{FirstFault}
+use Rattle.tib_lex.proofs.FirstFaults.{Fits, fault_found as found_first, fault_is as first_found}
+use Rattle.tib_tree.specs.TreesText.{HasTrees, TreesText, IsSmall, NoTree, HasNodes, HasFault, LineHolds, IsGood, IsFirstFault, ReadsTrees}
 use Rattle.tib_tree.proofs.Read.{tree_back, tree_forth}
 use Rattle.tib_tree.proofs.Values.{count_said, said}
 
@@ -105,27 +107,15 @@ front_err : {X F : Type 0} (done : List X) (r : Result (List X) F) (fault : F) �
 front_err done (Ok more) fault e = let bad : Ok (done ++ more) ≡ Err fault = e in absurd (cc)
 front_err done (Err f) fault e = e
 
-fault_at : (n : ℕ) (line : List ℕ) (lines : List (List ℕ)) (fault : FileFault) (r : Result (Option (List Item)) FaultKind) (more : Result (List (List Item)) FileFault) → LineHolds line r → (more ≡ Err fault → FirstFault (suc n) lines fault) → with_line n r more ≡ Err fault → FirstFault n (line ∷ lines) fault
-fault_at n line lines fault (Ok None) more h ih e = inr (None, h, ih e)
-fault_at n line lines fault (Ok (Some is)) more h ih e = inr (Some is, h, ih (front_err (is ∷ []) more fault e))
-fault_at n line lines fault (Err kind) more h ih e =
-    let same : record { line = n; kind = kind } ≡ fault = cc in
-    let k : kind ≡ fault.kind = ap (λ (f : FileFault). f.kind) same in
-    let l : fault.line ≡ n = sym (ap (λ (f : FileFault). f.line) same) in
-    inl (l, subst (λ (x : FaultKind). HasFault line x) k h)
+fits : (line : List ℕ) (r : Result (Option (List Item)) FaultKind) → LineHolds line r → Fits IsGood HasFault line r
+fits line (Ok holds) h = (holds, h)
+fits line (Err kind) h = h
 
-pub fault_found : (n : ℕ) (lines : List (List ℕ)) (fault : FileFault) → each_line tree_line n lines ≡ Err fault → FirstFault n lines fault
-fault_found n [] fault e = let bad : Ok [] ≡ Err fault = e in absurd (cc)
-fault_found n (line ∷ lines) fault e = fault_at n line lines fault (tree_line line) (each_line tree_line (suc n) lines) (line_holds line) (fault_found (suc n) lines fault) e
+pub fault_found : (n : ℕ) (lines : List (List ℕ)) (fault : FileFault) → each_line tree_line n lines ≡ Err fault → FirstFault IsGood HasFault n lines fault
+fault_found n lines fault = found_first tree_line IsGood HasFault (λ line. fits line (tree_line line) (line_holds line)) n lines fault
 
-pub fault_is : (n : ℕ) (lines : List (List ℕ)) (fault : FileFault) → FirstFault n lines fault → each_line tree_line n lines ≡ Err fault
-fault_is n [] fault h = absurd h
-fault_is n (line ∷ lines) fault (inl (l, h)) =
-    ap (λ r. with_line n r (each_line tree_line (suc n) lines)) (line_is line (Err fault.kind) h) ∙ ap (λ (k : ℕ). Err (record { line = k; kind = fault.kind })) (sym l)
-fault_is n (line ∷ lines) fault (inr (None, h, more)) =
-    ap (λ r. with_line n r (each_line tree_line (suc n) lines)) (line_is line (Ok None) h) ∙ fault_is (suc n) lines fault more
-fault_is n (line ∷ lines) fault (inr (Some is, h, more)) =
-    ap (λ r. with_line n r (each_line tree_line (suc n) lines)) (line_is line (Ok (Some is)) h) ∙ ap (front (is ∷ [])) (fault_is (suc n) lines fault more)
+pub fault_is : (n : ℕ) (lines : List (List ℕ)) (fault : FileFault) → FirstFault IsGood HasFault n lines fault → each_line tree_line n lines ≡ Err fault
+fault_is n lines fault = first_found tree_line IsGood HasFault (λ line h. (h.0, line_is line (Ok h.0) h.1)) (λ line kind h. line_is line (Err kind) h) n lines fault
 
 -- trees
 length-preorder : (ts : Trees ℕ) → length (preorder ts) ≡ sizes ts

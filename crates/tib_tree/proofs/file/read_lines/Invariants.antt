@@ -7,7 +7,8 @@ abbrev pub invariant-loop-line : goal.invariant-loop-line
 invariant-loop-line l = record {
   within : l.at ≤ length l.bytes;
   number : l.number ≤ l.at + 1;
-  so_far : SoFar l.labels l.trees.items l.number (drop l.at l.bytes) l.bytes;
+  so_far : SoFar l.fn.labels l.labels l.trees.items l.number (drop l.at l.bytes) l.bytes;
+  few : length l.labels ≤ length l.fn.labels + l.at;
   grows : Grows l.fn.labels l.labels;
 }
 

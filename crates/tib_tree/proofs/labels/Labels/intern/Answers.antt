@@ -4,6 +4,7 @@ use Rattle.std.specs.Prelude.{nat_eq}
 use Rattle.std.proofs.lemmas.List.{length-map, length-append}
 use Rattle.std.specs.Cmp.Lexicographic.{pointwise}
 use Rattle.tib_tree.proofs.Growing.{insert_grows, insert_adds, distinct_added}
+use Rattle.tib_tree.proofs.Adding.{plain_added}
 use Rattle.tib_tree.proofs.Texts.{found_at, not_held, text_of_key}
 use Rattle.tib_tree.proofs.labels.Labels.intern.Goals as goal
 
@@ -23,7 +24,8 @@ invariant_of-self-2 c =
     let before : List (List ℕ) = map (λ k. k.items) c.self.inside.texts.keys in
     let added : map (λ k. k.items) c.insert_full.new.self.keys ≡ before ++ c.args.text.now ∷ [] = insert_adds before c.args.text.now c.self.inside.texts.keys _ c.in_ok-owned.owned refl same c.in_default.ensures.found c.in_ok-i.ensures.keys in
     record {
-      few = omega (arith, ap length added, length-map c.insert_full.new.self.keys (λ k. k.items), length-map c.self.inside.texts.keys (λ k. k.items), length-append before (c.args.text.now ∷ []), c.if-len-ge4294967295.false, c.len.ensures.len);
+      few = omega (arith, ap length added, length-map c.insert_full.new.self.keys (λ k. k.items), length-map c.self.inside.texts.keys (λ k. k.items), length-append before (c.args.text.now ∷ []), c.requires.room, ap length c.self.view_is);
+      plain = plain_added before _ c.args.text.now c.self.invariant.plain c.requires.plain added;
       distinct = distinct_added before _ c.args.text.now c.self.invariant.distinct (not_held c.args.text.now c.self.inside.texts.keys c.in_default.ensures.found) added;
     }
 
