@@ -9,11 +9,11 @@ use Rattle.tib_lex.specs.declared.fault.FaultKind.{FaultKind}
 use Rattle.tib_lex.specs.declared.fault.FaultKind.TheVariants as kinds
 use Rattle.tib_lex.specs.declared.fault.LineError.{LineError}
 use Rattle.tib_lex.specs.declared.fault.LineError.TheVariants as errors
-use Rattle.tib_tree.specs.Trees.{Tree, preorder_of}
+use Rattle.tib_tree.specs.Trees.{Tree, preorder_of, most_nodes}
 
 abbrev pub small_tree : Option (List Item) → Result (Option (List Item)) FaultKind
 small_tree None = Err kinds.BadTree
-small_tree (Some is) = if nat_lt 10000 (length is) then Err kinds.TooManyNodes else Ok (Some is)
+small_tree (Some is) = if nat_lt most_nodes (length is) then Err kinds.TooManyNodes else Ok (Some is)
 
 abbrev pub tree_in : Option (List Word) → Result (Option (List Item)) FaultKind
 tree_in None = Err kinds.BadToken

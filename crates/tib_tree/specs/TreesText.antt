@@ -10,7 +10,7 @@ use Rattle.tib_lex.specs.declared.fault.FaultKind.TheVariants.{BadToken, BadTree
 use Rattle.tib_lex.specs.declared.fault.FileFault.{FileFault}
 use Rattle.tib_lex.specs.declared.fault.ReadError.{ReadError}
 use Rattle.tib_lex.specs.declared.fault.ReadError.TheVariants as errors
-use Rattle.tib_tree.specs.Trees.{Tree, size}
+use Rattle.tib_tree.specs.Trees.{Tree, size, most_nodes}
 use Rattle.tib_tree.specs.Written.{Item}
 use Rattle.tib_tree.specs.Machine.{IsTree}
 use Rattle.tib_tree.specs.Meaning.{IsTreeLine}
@@ -28,7 +28,7 @@ TreesText labels bytes ts = HasTrees labels (lines_of bytes) ts
 
 -- a tree that a reader takes
 abbrev pub IsSmall : Tree ℕ → Type 0
-IsSmall t = size t ≤ 10000
+IsSmall t = size t ≤ most_nodes
 
 -- tokens that are no tree
 pub record NoTree (line : List ℕ) : Type 0 where
@@ -47,7 +47,7 @@ pub record HasNodes (line : List ℕ) (nodes : List Item) : Type 0 where
 pub record LargeTree (line : List ℕ) : Type 0 where
   pub nodes : List Item
   pub tree : HasNodes line nodes
-  pub many : 10000 < length nodes
+  pub many : most_nodes < length nodes
 
 -- what is wrong with a line
 abbrev pub HasFault : List ℕ → FaultKind → Type 0
@@ -59,7 +59,7 @@ HasFault line kind = ⊥
 -- what a line holds: no tokens, a tree that is not too large, or a fault
 abbrev pub LineHolds : List ℕ → Result (Option (List Item)) FaultKind → Type 0
 LineHolds line (Ok None) = HasWords [] line
-LineHolds line (Ok (Some nodes)) = HasNodes line nodes × (length nodes ≤ 10000)
+LineHolds line (Ok (Some nodes)) = HasNodes line nodes × (length nodes ≤ most_nodes)
 LineHolds line (Err kind) = HasFault line kind
 
 -- a line without a fault

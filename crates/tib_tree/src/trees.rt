@@ -4,6 +4,7 @@ ghost use Rattle.tib_lex.specs.Lines.{HasNoFeed};
 ghost use Rattle.tib_tree.specs.Grows.{Grows, Adds, AddsAll};
 ghost use Rattle.tib_tree.specs.Lines.{tree_line, texts_in, IsLine};
 ghost use Rattle.tib_tree.specs.Nodes.{IsNode, AreNodes};
+ghost use Rattle.tib_tree.specs.Trees.{most_nodes};
 ghost use Rattle.tib_tree.specs.Shape.{item_at, items_back, PlaceLies};
 
 use crate::labels::Labels;
@@ -11,6 +12,14 @@ use crate::preorder::{Label, Room, Tree, tree_from};
 use crate::shape::{Place, Reader};
 use std::alloc::{AllocError, Global};
 use tib_lex::{FaultKind, LineError, Token, read_text, read_tokens};
+
+/// The most nodes that a tree in a file may have.
+pub const MOST_NODES: usize = 10_000;
+
+/// The limit that clauses cite is this constant.
+pub fn trees_have_a_limit()
+    ensures { MOST_NODES ≡ most_nodes }
+{}
 
 // The number of a token's label.
 fn intern(
@@ -123,7 +132,7 @@ impl LineReader {
         if !self.reader.read(&self.tokens)? {
             return Err(LineError::Fault(FaultKind::BadTree));
         }
-        if self.reader.places.len() > 10000 {
+        if self.reader.places.len() > MOST_NODES {
             return Err(LineError::Fault(FaultKind::TooManyNodes));
         }
         read_nodes(

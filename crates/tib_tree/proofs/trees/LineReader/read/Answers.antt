@@ -35,14 +35,14 @@ returns-then-not-branch-2-clause-line c =
     no_tree_line c.args.line.now ts.items (accepted c.in_ok-read_tokens.field-0 _ _ c.if-not-branch.false c.in_ok-read_tokens.ensures.words) n
     (same_tokens _ _ _ _ c.deref.ensures.value (refused c.in_ok-read.field-0 _ _ c.if-not-branch-2.true (c.in_ok-read.ensures.nodes c.args.line.now)))
 
-pub returns-then-len-gt10000-clause-line : goal.returns-then-len-gt10000-clause-line
-returns-then-len-gt10000-clause-line c =
+pub returns-then-len-gt-MOST_NODES-clause-line : goal.returns-then-len-gt-MOST_NODES-clause-line
+returns-then-len-gt-MOST_NODES-clause-line c =
     let ts = c.read_tokens.new.tokens in
     let e = c.if-is_empty.ensures in
     let n : 0 < length ts.items = grind (arith, nat_tests, ts.ok.0) in
     large_line c.args.line.now ts.items c.read.new.self.places.items (accepted c.in_ok-read_tokens.field-0 _ _ c.if-not-branch.false c.in_ok-read_tokens.ensures.words) n
     (same_tokens _ _ _ _ c.deref.ensures.value (accepted c.in_ok-read.field-0 _ _ c.if-not-branch-2.false (c.in_ok-read.ensures.nodes c.args.line.now)))
-    (omega (arith, c.read.new.self.places.ok.0, c.if-len-gt10000.true))
+    (omega (arith, c.read.new.self.places.ok.0, c.if-len-gt-MOST_NODES.true))
 
 -- a line has as many bytes as its tree has nodes
 few : (line : List ℕ) (ts : List Token) (places slice : List Place) → nodes_of (words_at line ts) ≡ Some (items_back line places) → length ts ≤ length line → slice ≡ places → length slice ≤ length line
@@ -89,7 +89,7 @@ returns-clause-added c =
     let n : 0 < length ts.items = grind (arith, nat_tests, ts.ok.0) in
     let good = good_line c.args.line.now ts.items c.read.new.self.places.items (accepted c.in_ok-read_tokens.field-0 _ _ c.if-not-branch.false c.in_ok-read_tokens.ensures.words) n
     (same_tokens _ _ _ _ c.deref.ensures.value (accepted c.in_ok-read.field-0 _ _ c.if-not-branch-2.false (c.in_ok-read.ensures.nodes c.args.line.now)))
-    (omega (arith, c.read.new.self.places.ok.0, c.if-len-gt10000.false)) in
+    (omega (arith, c.read.new.self.places.ok.0, c.if-len-gt-MOST_NODES.false)) in
     line_added c.args.line.now c.read.new.self.places.items _ c.args.labels.now c.read_nodes.new.labels good c.deref-2.ensures.value c.in_ok-read_nodes.ensures.added
 
 pub read_nodes-requires-clause-lie : goal.read_nodes-requires-clause-lie
@@ -113,6 +113,6 @@ returns-clause-line c =
       items_back c.args.line.now c.read.new.self.places.items,
       good_line c.args.line.now ts.items c.read.new.self.places.items (accepted c.in_ok-read_tokens.field-0 _ _ c.if-not-branch.false c.in_ok-read_tokens.ensures.words) n
           (same_tokens _ _ _ _ c.deref.ensures.value (accepted c.in_ok-read.field-0 _ _ c.if-not-branch-2.false (c.in_ok-read.ensures.nodes c.args.line.now)))
-          (omega (arith, c.read.new.self.places.ok.0, c.if-len-gt10000.false)),
+          (omega (arith, c.read.new.self.places.ok.0, c.if-len-gt-MOST_NODES.false)),
       tree_nodes c.read_nodes.new.labels c.args.line.now c.in_ok-tree.tree _ _ _ _ c.in_ok-tree.ensures c.deref-3.ensures.value c.deref-2.ensures.value c.in_ok-read_nodes.ensures.nodes,
     )
