@@ -1,5 +1,5 @@
 -- A transducer whose rules cover those of another has no greater series.
-use Rattle.std.specs.Prelude.{◌≡◌, ◌↔◌, ℕ, ◌≤◌, List, [], ◌∷◌, Bool, Option, refl}
+use Rattle.std.specs.Prelude.{◌≡◌, ℕ, ◌≤◌, List, [], ◌∷◌, Bool, Option, refl}
 use Rattle.std.proofs.Common.{arith, ap, sym, ◌∙◌, subst, le_refl, inl, inr}
 use Rattle.tib_lex.specs.Lists.{Has}
 use Rattle.tib_tree.specs.Trees.{Tree, Trees, none, tree, join, only}

@@ -1,3 +1,3 @@
 pub mod Shapes
 pub mod Covering
-pub mod Examples
+pub mod FirstParts

@@ -1,0 +1,133 @@
+-- Counting the places at which a number stands.
+use Rattle.std.proofs.Common.{◌≡◌, ℕ, ◌+◌, ◌-◌, ◌<◌, ◌≤◌, ◌⊎◌, List, [], ◌∷◌, length, get_or, set, refl, sym, ap, subst, arith, true, false, nat_eq, inl, inr, suc, zero, get_or-set_same, get_or-set_other, ◌≢◌, ◌∙◌}
+use Rattle.std.proofs.lemmas.Bool.Decides.{nat_tests}
+use Rattle.tib_lex.specs.Lists.{Has, Each, Distinct}
+use Rattle.tib_grammar.specs.Items.{holes_in}
+use Rattle.tib_grammar.specs.declared.Item.{Item}
+use Rattle.tib_grammar.specs.declared.Item.TheVariants.{Label, Hole}
+use Rattle.tib_transducer.specs.Range.{AreNumbered}
+use Rattle.tib_transducer.specs.declared.Variable.{Variable}
+use Rattle.tib_classes.specs.Counting.{occurrences}
+
+nat_eq_cases : (n m : ℕ) → ((n ≡ m) × (nat_eq n m ≡ true)) ⊎ ((n ≡ m → ⊥) × (nat_eq n m ≡ false))
+nat_eq_cases n m = grind (arith, nat_tests)
+
+-- one number more
+pub one_same : (n m : ℕ) (ms : List ℕ) → n ≡ m → occurrences n (m ∷ ms) ≡ suc (occurrences n ms)
+one_same n m ms e = elim (nat_eq_cases n m) [
+  | inl k ↦ rw k.1 (omega arith)
+  | inr k ↦ absurd (k.0 e)
+]
+
+pub one_other : (n m : ℕ) (ms : List ℕ) → (n ≡ m → ⊥) → occurrences n (m ∷ ms) ≡ occurrences n ms
+one_other n m ms e = elim (nat_eq_cases n m) [
+  | inl k ↦ absurd (e k.0)
+  | inr k ↦ rw k.1 (omega arith)
+]
+
+-- what stands in a list occurs, and the other way round
+pub has_occurs : (n : ℕ) (ms : List ℕ) → Has ms n → 1 ≤ occurrences n ms
+has_occurs n [] h = absurd h
+has_occurs n (m ∷ ms) h = elim (nat_eq_cases n m) [
+  | inl k ↦ omega (arith, one_same n m ms k.0)
+  | inr k ↦ elim h [
+    | inl e ↦ absurd (k.0 (sym e))
+    | inr later ↦ omega (arith, one_other n m ms k.0, has_occurs n ms later)
+  ]
+]
+
+pub occurs_has : (n : ℕ) (ms : List ℕ) → 1 ≤ occurrences n ms → Has ms n
+occurs_has n [] h = absurd (omega arith)
+occurs_has n (m ∷ ms) h = elim (nat_eq_cases n m) [
+  | inl k ↦ inl (sym k.0)
+  | inr k ↦ inr (occurs_has n ms (omega (arith, one_other n m ms k.0)))
+]
+
+-- no number stands twice where none occurs twice
+pub distinct_from : (ms : List ℕ) → ((n : ℕ) → occurrences n ms ≤ 1) → Distinct ms
+distinct_from [] h = tt
+distinct_from (m ∷ ms) h = (
+  λ stands. absurd (omega (arith, h m, one_same m m ms refl, has_occurs m ms stands)),
+  distinct_from ms (λ n. elim (nat_eq_cases n m) [
+    | inl k ↦ omega (arith, h n, one_same n m ms k.0)
+    | inr k ↦ omega (arith, h n, one_other n m ms k.0)
+  ]),
+)
+
+pub distinct_once : (ms : List ℕ) → Distinct ms → (n : ℕ) → occurrences n ms ≤ 1
+distinct_once [] d n = omega arith
+distinct_once (m ∷ ms) d n = elim (nat_eq_cases n m) [
+  | inl k ↦ elim (zero_or (occurrences n ms)) [
+    | inl e ↦ omega (arith, one_same n m ms k.0, e)
+    | inr e ↦ absurd (d.0 (subst (Has ms) k.0 (occurs_has n ms e)))
+  ]
+  | inr k ↦ omega (arith, one_other n m ms k.0, distinct_once ms d.1 n)
+]
+  where
+    zero_or : (n : ℕ) → (n ≡ 0) ⊎ (1 ≤ n)
+    zero_or zero = inl refl
+    zero_or (suc n) = inr (omega arith)
+
+-- a number above all others does not occur
+pub none_above : (n m : ℕ) (ms : List ℕ) → Each (λ i. i < m) ms → m ≤ n → occurrences n ms ≡ 0
+none_above n m [] a h = refl
+none_above n m (x ∷ ms) a h =
+    let apart : n ≡ x → ⊥ = λ e. omega (arith, a.0, e) in
+    omega (arith, one_other n x ms apart, none_above n m ms a.1 h)
+
+-- each of a window of counts is of its number, with what still follows
+abbrev pub AreCounted : ℕ → List ℕ → List ℕ → List ℕ → Type 0
+AreCounted first uses rest all = (k : ℕ) → k < 64 → get_or uses k 0 + occurrences (first + k) rest ≡ occurrences (first + k) all
+
+-- one number more within the window, and outside of it
+pub counted_in :
+    (first variable : ℕ) (uses rest all : List ℕ) → length uses ≡ 64 → first ≤ variable → variable - first < 64 → AreCounted first uses (variable ∷ rest) all →
+    AreCounted first (set uses (variable - first) (get_or uses (variable - first) 0 + 1)) rest all
+counted_in first variable uses rest all long low near h k below = elim (nat_eq_cases (first + k) variable) [
+  | inl same ↦
+      let e : variable - first ≡ k = omega (arith, same.0) in
+      let lt : k < length uses = omega arith in
+      let now : get_or (set uses k (get_or uses k 0 + 1)) k 0 ≡ get_or uses k 0 + 1 = get_or-set_same in
+      subst (λ j. get_or (set uses j (get_or uses j 0 + 1)) k 0 + occurrences (first + k) rest ≡ occurrences (first + k) all) (sym e)
+      (omega (arith, now, h k below, one_same (first + k) variable rest same.0))
+  | inr other ↦
+      let ne : k ≢ variable - first = λ e. other.0 (omega (arith, e)) in
+      let still : get_or (set uses (variable - first) (get_or uses (variable - first) 0 + 1)) k 0 ≡ get_or uses k 0 = get_or-set_other in
+      omega (arith, still, h k below, one_other (first + k) variable rest other.0)
+]
+
+pub counted_out :
+    (first variable : ℕ) (uses rest all : List ℕ) → (first ≤ variable → variable - first < 64 → ⊥) → AreCounted first uses (variable ∷ rest) all → AreCounted first uses rest all
+counted_out first variable uses rest all far h k below =
+    let apart : first + k ≡ variable → ⊥ = λ e. far (omega (arith, e)) (omega (arith, e)) in
+    omega (arith, h k below, one_other (first + k) variable rest apart)
+
+-- no count is above that of the items that were seen
+pub low_in :
+    (i place : ℕ) (uses : List ℕ) → length uses ≡ 64 → place < 64 → ((k : ℕ) → k < 64 → get_or uses k 0 ≤ i) →
+    (k : ℕ) → k < 64 → get_or (set uses place (get_or uses place 0 + 1)) k 0 ≤ i + 1
+low_in i place uses long near h k below = elim (nat_eq_cases k place) [
+  | inl same ↦
+      let lt : place < length uses = omega arith in
+      let now : get_or (set uses place (get_or uses place 0 + 1)) place 0 ≡ get_or uses place 0 + 1 = get_or-set_same in
+      subst (λ j. get_or (set uses place (get_or uses place 0 + 1)) j 0 ≤ i + 1) (sym same.0) (omega (arith, now, h place near))
+  | inr other ↦
+      let ne : k ≢ place = other.0 in
+      let still : get_or (set uses place (get_or uses place 0 + 1)) k 0 ≡ get_or uses k 0 = get_or-set_other in
+      omega (arith, still, h k below)
+]
+
+-- what stands of variables that are numbered from n on
+pub each_numbered : (vs : List ℕ) (n : ℕ) (xs : List Variable) → AreNumbered n xs → ((i : ℕ) → n ≤ i → i < n + length xs → Has vs i) → Each (λ x. Has vs x.number) xs
+each_numbered vs n [] a h = tt
+each_numbered vs n (x ∷ xs) a h = (
+  subst (Has vs) (sym a.0) (h n (omega arith) (omega arith)),
+  each_numbered vs (suc n) xs a.1 (λ i low high. h i (omega arith) (omega arith)),
+)
+
+pub numbered_each : (vs : List ℕ) (n : ℕ) (xs : List Variable) → AreNumbered n xs → Each (λ x. Has vs x.number) xs → (i : ℕ) → n ≤ i → i < n + length xs → Has vs i
+numbered_each vs n [] a h i low high = absurd (omega arith)
+numbered_each vs n (x ∷ xs) a h i low high = elim (nat_eq_cases n i) [
+  | inl k ↦ subst (Has vs) (a.0 ∙ k.0) h.0
+  | inr k ↦ numbered_each vs (suc n) xs a.1 h.1 i (omega (arith, k.0)) (omega arith)
+]
