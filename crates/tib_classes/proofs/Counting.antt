@@ -1,10 +1,8 @@
 -- Counting the places at which a number stands.
-use Rattle.std.proofs.Common.{◌≡◌, ℕ, ◌+◌, ◌-◌, ◌<◌, ◌≤◌, ◌⊎◌, List, [], ◌∷◌, length, get_or, set, refl, sym, ap, subst, arith, true, false, nat_eq, inl, inr, suc, zero, get_or-set_same, get_or-set_other, ◌≢◌, ◌∙◌}
+use Rattle.std.proofs.Common.{◌≡◌, ℕ, ◌+◌, ◌-◌, ◌<◌, ◌≤◌, ◌⊎◌, List, [], ◌∷◌, length, get_or, set, take, refl, sym, ap, subst, arith, true, false, nat_eq, inl, inr, suc, zero, get_or-set_same, get_or-set_other, ◌≢◌, ◌∙◌}
 use Rattle.std.proofs.lemmas.Bool.Decides.{nat_tests}
+use Rattle.std.proofs.lemmas.List.{get_or-take, length-take}
 use Rattle.tib_lex.specs.Lists.{Has, Each, Distinct}
-use Rattle.tib_grammar.specs.Items.{holes_in}
-use Rattle.tib_grammar.specs.declared.Item.{Item}
-use Rattle.tib_grammar.specs.declared.Item.TheVariants.{Label, Hole}
 use Rattle.tib_transducer.specs.Range.{AreNumbered}
 use Rattle.tib_transducer.specs.declared.Variable.{Variable}
 use Rattle.tib_classes.specs.Counting.{occurrences}
@@ -87,12 +85,12 @@ counted_in first variable uses rest all long low near h k below = elim (nat_eq_c
   | inl same ↦
       let e : variable - first ≡ k = omega (arith, same.0) in
       let lt : k < length uses = omega arith in
-      let now : get_or (set uses k (get_or uses k 0 + 1)) k 0 ≡ get_or uses k 0 + 1 = get_or-set_same in
+      let now : get_or (set uses k (get_or uses k 0 + 1)) k 0 ≡ get_or uses k 0 + 1 = get_or-set_same uses k (get_or uses k 0 + 1) 0 lt in
       subst (λ j. get_or (set uses j (get_or uses j 0 + 1)) k 0 + occurrences (first + k) rest ≡ occurrences (first + k) all) (sym e)
       (omega (arith, now, h k below, one_same (first + k) variable rest same.0))
   | inr other ↦
       let ne : k ≢ variable - first = λ e. other.0 (omega (arith, e)) in
-      let still : get_or (set uses (variable - first) (get_or uses (variable - first) 0 + 1)) k 0 ≡ get_or uses k 0 = get_or-set_other in
+      let still : get_or (set uses (variable - first) (get_or uses (variable - first) 0 + 1)) k 0 ≡ get_or uses k 0 = get_or-set_other uses (variable - first) k (get_or uses (variable - first) 0 + 1) 0 ne in
       omega (arith, still, h k below, one_other (first + k) variable rest other.0)
 ]
 
@@ -109,11 +107,11 @@ pub low_in :
 low_in i place uses long near h k below = elim (nat_eq_cases k place) [
   | inl same ↦
       let lt : place < length uses = omega arith in
-      let now : get_or (set uses place (get_or uses place 0 + 1)) place 0 ≡ get_or uses place 0 + 1 = get_or-set_same in
+      let now : get_or (set uses place (get_or uses place 0 + 1)) place 0 ≡ get_or uses place 0 + 1 = get_or-set_same uses place (get_or uses place 0 + 1) 0 lt in
       subst (λ j. get_or (set uses place (get_or uses place 0 + 1)) j 0 ≤ i + 1) (sym same.0) (omega (arith, now, h place near))
   | inr other ↦
       let ne : k ≢ place = other.0 in
-      let still : get_or (set uses place (get_or uses place 0 + 1)) k 0 ≡ get_or uses k 0 = get_or-set_other in
+      let still : get_or (set uses place (get_or uses place 0 + 1)) k 0 ≡ get_or uses k 0 = get_or-set_other uses place k (get_or uses place 0 + 1) 0 ne in
       omega (arith, still, h k below)
 ]
 
@@ -131,3 +129,36 @@ numbered_each vs n (x ∷ xs) a h i low high = elim (nat_eq_cases n i) [
   | inl k ↦ subst (Has vs) (a.0 ∙ k.0) h.0
   | inr k ↦ numbered_each vs (suc n) xs a.1 h.1 i (omega (arith, k.0)) (omega arith)
 ]
+
+-- The last of some variables were looked at, and then the window before them: what holds of each count in the window, by the
+-- test P, holds of each variable from its first one on.
+pub window_more :
+    (P : ℕ → Type 0) (vs uses : List ℕ) (all rest many : ℕ) → many ≤ 64 → many ≤ rest →
+    ((k : ℕ) → k < 64 → get_or uses k 0 ≡ occurrences ((rest - many) + k) vs) → ((k : ℕ) → k < many → P (get_or uses k 0)) →
+    ((n : ℕ) → rest ≤ n → n < all → P (occurrences n vs)) → (n : ℕ) → rest - many ≤ n → n < all → P (occurrences n vs)
+window_more P vs uses all rest many few fit counted window later n low high = elim (either n rest) [
+  | inl above ↦ later n above high
+  | inr below ↦
+      let k : ℕ = n - (rest - many) in
+      let inside : k < many = omega arith in
+      let near : k < 64 = omega arith in
+      let is : (rest - many) + k ≡ n = omega arith in
+      subst P (counted k near ∙ ap (λ m. occurrences m vs) is) (window k inside)
+]
+  where
+    either : (n rest : ℕ) → (rest ≤ n) ⊎ (n < rest)
+    either n rest = grind arith
+
+-- the counts in the front of a window
+pub window_from :
+    (P : ℕ → Type 0) (uses : List ℕ) (many : ℕ) → length uses ≡ 64 → many ≤ 64 → ((k : ℕ) → k < length (take many uses) → P (get_or (take many uses) k 0)) →
+    (k : ℕ) → k < many → P (get_or uses k 0)
+window_from P uses many long few h k below =
+    let inside : k < length (take many uses) = omega (arith, length-take many uses) in
+    subst P (get_or-take many uses k 0 below) (h k inside)
+
+pub window_to :
+    (P : ℕ → Type 0) (uses : List ℕ) (many : ℕ) → ((k : ℕ) → k < many → P (get_or uses k 0)) → (k : ℕ) → k < length (take many uses) → P (get_or (take many uses) k 0)
+window_to P uses many h k inside =
+    let below : k < many = omega (arith, length-take many uses) in
+    subst P (sym (get_or-take many uses k 0 below)) (h k below)

@@ -1,3 +1,3 @@
 mod Counting
 mod Labels
-mod First
+mod Standing

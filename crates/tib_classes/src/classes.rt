@@ -3,8 +3,8 @@ ghost use Rattle.std.specs.Prelude.{◌≡◌, IfSome, None, true, false};
 ghost use Rattle.tib_transducer.specs.Classes.{IsLinear, AreLinear, IsNondeleting, AreNondeleting, IsExtended, OneIsExtended, IsLabelled, OneIsLabelled};
 ghost use Rattle.tib_classes.specs.Outside.{IsFirst, IsFirstOutside, AllMeet};
 
-use crate::rules::fault_of;
 use crate::ClassFault;
+use crate::rules::fault_of;
 use tib_transducer::Transducer;
 
 /// The number of the first rule that is outside one of the demanded classes, and the first class that it is outside of, in the

@@ -6,8 +6,8 @@ ghost use Rattle.tib_transducer.specs.Classes.{IsLinear, IsNondeleting, IsExtend
 ghost use Rattle.tib_classes.specs.Counting.{HaveLabel};
 ghost use Rattle.tib_classes.specs.Outside.{IsAnswer};
 
-use crate::uses::{are_above_zero, are_at_most_one, count_uses};
 use crate::ClassFault;
+use crate::uses::{are_above_zero, are_at_most_one, count_uses};
 use tib_grammar::Item;
 use tib_transducer::{TransducerRule, Variable};
 
@@ -32,13 +32,14 @@ fn is_linear(rule: &TransducerRule<u32>) -> bool
 {
     let variables = count_variables(rule.left.items());
     let right = rule.right.items();
-    let mut first: usize = 0;
-    while first < variables {
-        let uses = count_uses(right, first);
-        if !are_at_most_one(&uses) {
+    let mut rest = variables;
+    while rest > 0 {
+        let many = rest.min(64);
+        rest -= many;
+        let uses = count_uses(right, rest);
+        if !are_at_most_one(&uses[..many]) {
             return false;
         }
-        first += 64;
     }
     true
 }
@@ -51,14 +52,14 @@ fn is_nondeleting(rule: &TransducerRule<u32>) -> bool
 {
     let variables = count_variables(rule.left.items());
     let right = rule.right.items();
-    let mut first: usize = 0;
-    while first < variables {
-        let uses = count_uses(right, first);
-        let many = (variables - first).min(64);
+    let mut rest = variables;
+    while rest > 0 {
+        let many = rest.min(64);
+        rest -= many;
+        let uses = count_uses(right, rest);
         if !are_above_zero(&uses[..many]) {
             return false;
         }
-        first += 64;
     }
     true
 }

@@ -1,9 +1,12 @@
-use Rattle.std.proofs.Common.{ℕ, ◌<◌, ◌≤◌, ◌-◌}
+use Rattle.std.proofs.Common.{ℕ, ◌<◌, ◌≤◌}
 use Rattle.tib_classes.specs.Counting.{occurrences, numbers_in}
 use Rattle.tib_classes.proofs.rules.is_linear.Given as goal
 
-abbrev pub decreases-loop-first : goal.decreases-loop-first
-decreases-loop-first l = l.variables - l.first
+abbrev pub decreases-loop-rest : goal.decreases-loop-rest
+decreases-loop-rest l = l.rest
 
-abbrev pub invariant-loop-first : goal.invariant-loop-first
-invariant-loop-first l = (n : ℕ) → n < l.first → occurrences n (numbers_in l.right) ≤ 1
+abbrev pub invariant-loop-rest : goal.invariant-loop-rest
+invariant-loop-rest l = record {
+  within : l.rest ≤ l.variables;
+  once : (n : ℕ) → l.rest ≤ n → n < l.variables → occurrences n (numbers_in l.right) ≤ 1;
+}
