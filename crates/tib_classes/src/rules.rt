@@ -107,25 +107,17 @@ pub fn fault_of(
     requires { IsShaped rule.now }
     ensures { IsAnswer (record { linear = linear; nondeleting = nondeleting; one_label = one_label; unlabelled = unlabelled }) rule.now result }
 {
-    if linear {
-        if !is_linear(rule) {
-            return Some(ClassFault::NotLinear);
-        }
+    if linear && !is_linear(rule) {
+        return Some(ClassFault::NotLinear);
     }
-    if nondeleting {
-        if !is_nondeleting(rule) {
-            return Some(ClassFault::NotNondeleting);
-        }
+    if nondeleting && !is_nondeleting(rule) {
+        return Some(ClassFault::NotNondeleting);
     }
-    if one_label {
-        if is_extended(rule) {
-            return Some(ClassFault::Extended);
-        }
+    if one_label && is_extended(rule) {
+        return Some(ClassFault::Extended);
     }
-    if unlabelled {
-        if is_labelled(rule) {
-            return Some(ClassFault::Labelled);
-        }
+    if unlabelled && is_labelled(rule) {
+        return Some(ClassFault::Labelled);
     }
     None
 }

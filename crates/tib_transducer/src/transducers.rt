@@ -48,10 +48,7 @@ fn are_pairs_within(items: &[Item<Pair<u32>>], states: u32, variables: usize) ->
 {
     for item in items {
         if let Item::Hole(pair) = item {
-            if pair.state >= states {
-                return false;
-            }
-            if pair.variable as usize >= variables {
+            if pair.state >= states || pair.variable as usize >= variables {
                 return false;
             }
         }
@@ -68,15 +65,11 @@ fn is_rule(rule: &TransducerRule<u32>, n: u32) -> bool
 {
     let left = rule.left.items();
     let right = rule.right.items();
-    if rule.state >= n {
+    if rule.state >= n || !begins_with_label(left) {
         return false;
     }
-    if !begins_with_label(left) {
+    let Some(variables) = count_variables(left) else {
         return false;
-    }
-    let variables = match count_variables(left) {
-        Some(count) => count,
-        None => return false,
     };
     are_pairs_within(right, n, variables)
 }
@@ -109,10 +102,7 @@ impl<S> Transducer<S> {
     {
         names.is_sound();
         let states = names.len();
-        if states == 0 {
-            return None;
-        }
-        if !are_rules(&rules, states) {
+        if states == 0 || !are_rules(&rules, states) {
             return None;
         }
         Some(Transducer {
