@@ -71,6 +71,33 @@ fn a_tree_of_10001_nodes_is_too_large(rt: HostRuntime) -> Result<(), Fail> {
     Ok(())
 }
 
+// A file of this many trees, each one label of its own, with the least number in four bytes.
+fn many_trees(alloc: Global, count: u32) -> Result<Vec<u8>, AllocError> {
+    let mut bytes = Vec::new(alloc);
+    for number in 0..count {
+        for place in 0..4 {
+            bytes.push(b'0' + (number >> (5 * place)) as u8 % 32)?;
+        }
+        bytes.push(b'\n')?;
+    }
+    Ok(bytes)
+}
+
+#[test]
+fn a_long_file_is_read_whole(rt: HostRuntime) -> Result<(), Fail> {
+    let alloc = rt.alloc();
+    let bytes = many_trees(alloc, 70_000)?;
+    assert!(rt; bytes.len() <= 8388608);
+    let mut labels = Labels::new(alloc);
+    match read_trees(alloc, &bytes, &mut labels) {
+        Ok(trees) => assert_eq!(rt; trees.len(), 70_000),
+        Err(_) => assert!(rt; false),
+    }
+    assert_eq!(rt; labels.len(), 70_000);
+    assert_eq!(rt; labels.find(b"1000"), Some(1));
+    Ok(())
+}
+
 #[test]
 fn nodes_have_sizes_and_depths(rt: HostRuntime) -> Result<(), Fail> {
     let alloc = rt.alloc();
