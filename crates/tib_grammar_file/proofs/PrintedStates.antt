@@ -22,7 +22,7 @@ pub has_contains : (xs : List (List ℕ)) (x : List ℕ) → Has xs x → Contai
 has_contains xs x h = at_has xs x x h
 
 -- a text stands in a table or it does not
-decided : (xs : List (List ℕ)) (t : List ℕ) → Has xs t ⊎ (Has xs t → ⊥)
+pub decided : (xs : List (List ℕ)) (t : List ℕ) → Has xs t ⊎ (Has xs t → ⊥)
 decided [] t = inr (λ h. h)
 decided (x ∷ xs) t = by (bytes_eq x t) (bytes_eq-Decides x t) (decided xs t)
   where

@@ -22,7 +22,8 @@ use Rattle.tib_grammar_file.specs.Reading.{grammar_of}
 use Rattle.tib_grammar_file.specs.GrammarText.{HaveTokens, AddsAll, SpellsRuleOf, first_text, GrammarText, IsSmallRule, AreSmallRules, Means}
 use Rattle.tib_grammar_file.specs.Value.{IsNode, IsRule, IsGrammarOf, left_of}
 use Rattle.tib_grammar_file.specs.Built.{IsSource}
-use Rattle.tib_grammar_file.specs.Read.{ReadsAs, IsFirstFault}
+use Rattle.tib_grammar_file.specs.Faults.{IsFirstFault}
+use Rattle.tib_grammar_file.specs.Read.{ReadsAs}
 use Rattle.tib_grammar_file.specs.Printed.{LabelsBelow, AreLabelled}
 use Rattle.tib_lex.specs.declared.fault.FileFault.{FileFault}
 use Rattle.tib_grammar_file.specs.RawGrammar.{IsRawGrammar}
@@ -30,6 +31,7 @@ use Rattle.tib_grammar_file.specs.Resolve.{IsSmallTree}
 use Rattle.tib_grammar_file.specs.declared.raw.RawRules.{RawRules}
 use Rattle.tib_grammar_file.proofs.Alongs.{along_long}
 use Rattle.tib_grammar_file.proofs.Meanings.{side_means, meant_side, meant_count, preorder_whole}
+use Rattle.tib_grammar_file.proofs.FirstFaults.{faults_exact}
 use Rattle.tib_grammar_file.proofs.RowsRead.{IsRow, IsFew, begun_back, begun_forth}
 use Rattle.tib_grammar_file.proofs.WholeWeights.{cost_back, cost_forth}
 
@@ -256,7 +258,7 @@ adds_long : (before texts now : List (List ℕ)) → AddsAll before texts now �
 adds_long before [] now same = omega (arith, ap length same)
 adds_long before (text ∷ texts) now (middle, adds, more) = omega (arith, one_longer before text middle adds, adds_long middle texts now more)
 
-all_small : (weighted : Bool) (rows : List (List Word)) (lines : List RuleLine) → Along (IsRow weighted) rows lines → Each IsFew lines → Each IsSmallTree lines
+pub all_small : (weighted : Bool) (rows : List (List Word)) (lines : List RuleLine) → Along (IsRow weighted) rows lines → Each IsFew lines → Each IsSmallTree lines
 all_small weighted [] [] a f = tt
 all_small weighted [] (l ∷ lines) a f = absurd a
 all_small weighted (w ∷ rows) [] a f = absurd a
@@ -351,6 +353,6 @@ ok_or_err : (p : List ℕ × List RuleLine) (f : FileFault) → (let r : Result 
 ok_or_err p f e = cc
 
 pub no_text : (weighted : Bool) (bytes : List ℕ) (fault : FileFault) → IsFirstFault weighted bytes fault → (labels : List (List ℕ)) (g : GrammarOf) → ReadsAs weighted labels bytes g → ⊥
-no_text weighted bytes fault e labels g r =
+no_text weighted bytes fault h labels g r =
     let t = text_forth weighted labels bytes g r.text r.small in
-    ok_or_err (t.start, t.lines) fault (sym e ∙ t.read)
+    ok_or_err (t.start, t.lines) fault (sym ((faults_exact weighted bytes fault).1 h) ∙ t.read)

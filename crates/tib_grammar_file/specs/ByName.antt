@@ -10,7 +10,8 @@ use Rattle.tib_grammar.specs.declared.Rule.{Rule}
 use Rattle.tib_grammar_file.specs.GrammarText.{GrammarText, AreSmallRules}
 use Rattle.tib_grammar_file.specs.Printable.{ArePrintable}
 use Rattle.tib_grammar_file.specs.Printed.{grammar_text}
-use Rattle.tib_grammar_file.specs.Read.{ReadsAs, IsFirstFault}
+use Rattle.tib_grammar_file.specs.Faults.{IsFirstFault}
+use Rattle.tib_grammar_file.specs.Read.{ReadsAs}
 
 -- the rules with the name of each state in its place
 abbrev pub named_rules : GrammarOf → List (Rule (List ℕ))

@@ -5,7 +5,8 @@ ghost use Rattle.tib_grammar.specs.StateName.{AreStateNames};
 ghost use Rattle.tib_grammar.specs.Range.{AreInRange};
 ghost use Rattle.tib_grammar_file.specs.Built.{IsSource};
 ghost use Rattle.tib_grammar_file.specs.Printed.{AreLabelled};
-ghost use Rattle.tib_grammar_file.specs.Read.{ReadsAs, IsCause};
+ghost use Rattle.tib_grammar_file.specs.Faults.{IsCause};
+ghost use Rattle.tib_grammar_file.specs.Read.{ReadsAs};
 ghost use Rattle.tib_grammar_file.specs.Rule.{RuleLine};
 ghost use Rattle.tib_grammar_file.specs.Value.{IsGrammarOf};
 

@@ -1,7 +1,6 @@
 // What holds of the text of grammars.
 ghost use Rattle.std.specs.Prelude.{◌≡◌, ◌≤◌, ℕ, List, Bool, Option, length};
 ghost use Rattle.tib_lex.specs.Lists.{Along, Ascends, Distinct};
-ghost use Rattle.tib_lex.specs.declared.fault.FileFault.{FileFault};
 ghost use Rattle.tib_tree.specs.Grows.{Grows};
 ghost use Rattle.tib_grammar.specs.GrammarOf.{GrammarOf};
 ghost use Rattle.tib_grammar.specs.declared.Rule.{Rule};
@@ -11,10 +10,10 @@ ghost use Rattle.tib_tree.specs.Trees.{Tree};
 ghost use Rattle.tib_tree.specs.TreesText.{TreesText};
 ghost use Rattle.tib_grammar.specs.Series.{IsSeries};
 ghost use Rattle.tib_grammar_file.specs.ByText.{AgreeByText, AreOneTree};
+ghost use Rattle.tib_grammar_file.specs.FaultLaws.{GivesFaults, HasOneFault, TextsHaveNone, TextOrFault};
 ghost use Rattle.tib_grammar_file.specs.GrammarText.{GrammarText};
 ghost use Rattle.tib_grammar_file.specs.Printable.{ArePrintable};
 ghost use Rattle.tib_grammar_file.specs.Printed.{AreLabelled, grammar_text};
-ghost use Rattle.tib_grammar_file.specs.Read.{ReadsAs, IsFirstFault};
 ghost use Rattle.tib_grammar_file.specs.Rule.{ReadsRules};
 
 /// The parts that are read of tokens are those of the rule that is spelled so.
@@ -22,9 +21,24 @@ pub fn rules_are_read()
     ensures { ReadsRules }
 {}
 
+/// The function that says what a file holds gives a fault exactly where this is the first of the file.
+pub fn faults_are_read()
+    ensures { GivesFaults }
+{}
+
+/// A file has at most one first fault.
+pub fn first_fault_is_one()
+    ensures { HasOneFault }
+{}
+
 /// A file with a fault is no grammar's text within the limit on nodes, over no table of labels.
 pub fn faults_have_no_text()
-    ensures { (weighted : Bool) (bytes : List ℕ) (fault : FileFault) → IsFirstFault weighted bytes fault → (labels : List (List ℕ)) (g : GrammarOf) → ReadsAs weighted labels bytes g → ⊥ }
+    ensures { TextsHaveNone }
+{}
+
+/// Each file is the text of a grammar within the limit on nodes, over some table of labels, or it has a first fault.
+pub fn files_are_texts_or_faulty()
+    ensures { TextOrFault }
 {}
 
 /// Bytes are the text of at most one grammar over one table of distinct labels.
