@@ -6,6 +6,7 @@ use Rattle.tib_lex.specs.Grammar.{Word, open_, close, hash, arrow, name, label, 
 use Rattle.tib_lex.specs.Line.{words_of}
 use Rattle.tib_lex.specs.declared.fault.FaultKind.{FaultKind}
 use Rattle.tib_lex.specs.declared.fault.FaultKind.TheVariants as kinds
+use Rattle.tib_lex.proofs.FirstFaults.{Fits}
 use Rattle.tib_lex.proofs.HasWords.{words_read, words_had, bad_read, bad_had}
 use Rattle.tib_tree.specs.Written.{spell, Item}
 use Rattle.tib_grammar_file.specs.Rule.{has_dot, weight_words, Parts, SpellsRule, parts_of, RuleLine, rule_line_of, few_nodes, with_cost, good_parts, rule_in, rule_line}
@@ -63,8 +64,7 @@ weight_read false weight kind h = absurd h
 
 -- what is read of a line in a rule's place says what it holds
 abbrev pub RuleSays : Bool → List ℕ → Result (Option RuleLine) FaultKind → Type 0
-RuleSays weighted line (Ok o) = HoldsRule weighted line
-RuleSays weighted line (Err kind) = HasRuleFault weighted line kind
+RuleSays weighted line r = Fits (HoldsRule weighted) (HasRuleFault weighted) line r
 
 few_say : (weighted : Bool) (line : List ℕ) (p : Parts) (x : RuleLine) (b : Bool) → nat_lt 10000 (length p.nodes) ≡ b → HasGoodWeight weighted line p → RuleSays weighted line (cond b (Err kinds.TooManyNodes) (Ok (Some x)))
 few_say weighted line p x true e h = let many : 10000 < length p.nodes = grind (arith, nat_tests) in (p, h, many)

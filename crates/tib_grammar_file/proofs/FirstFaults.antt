@@ -1,7 +1,9 @@
 -- The function that says what a grammar file holds, and its first fault.
-use Rattle.std.proofs.Common.{◌≡◌, ℕ, inl, inr, Bool, List, [], ◌∷◌, ◌++◌, ap, sym, ◌∙◌, subst, Option, suc}
+use Rattle.std.proofs.Common.{◌≡◌, ℕ, inl, inr, Bool, List, [], ◌∷◌, ap, sym, ◌∙◌, subst, Option, suc}
 use Rattle.std.specs.Prelude.{Some, None, Result, Ok, Err}
-use Rattle.tib_lex.specs.Lines.{lines_of, front, with_line}
+use Rattle.tib_lex.proofs.FirstFaults.{fault_found, fault_is}
+use Rattle.tib_lex.specs.FirstFault.{FirstFault}
+use Rattle.tib_lex.specs.Lines.{lines_of}
 use Rattle.tib_lex.specs.declared.fault.FaultKind.{FaultKind}
 use Rattle.tib_lex.specs.declared.fault.FaultKind.TheVariants as kinds
 use Rattle.tib_lex.specs.declared.fault.FileFault.{FileFault}
@@ -10,42 +12,19 @@ use Rattle.tib_lex.specs.declared.fault.ReadError.TheVariants as errors
 use Rattle.tib_grammar_file.specs.Rule.{RuleLine, rule_line}
 use Rattle.tib_grammar_file.specs.RawGrammar.{ReadsRaw}
 use Rattle.tib_grammar_file.specs.Reading.{fault_at, start_line, started, with_start, rules_from, grammar_from, grammar_of}
-use Rattle.tib_grammar_file.specs.Faults.{FirstFault, HasStartFault, FirstFaultFromStart, HasRuleFault, HoldsRule, IsFirstFault, IsCause}
-use Rattle.tib_grammar_file.proofs.FaultyLines.{RuleSays, rule_says, fault_read, held_read, StartSays, start_says, start_fault_read}
+use Rattle.tib_grammar_file.specs.Faults.{HasStartFault, FirstFaultFromStart, HasRuleFault, HoldsRule, IsFirstFault, IsCause}
+use Rattle.tib_grammar_file.proofs.FaultyLines.{rule_says, fault_read, held_read, StartSays, start_says, start_fault_read}
 use Rattle.tib_grammar_file.proofs.RowsRead.{start_forth, no_start_forth}
 
--- lines that are read one by one
-front_err : {X F : Type 0} (done : List X) (r : Result (List X) F) (fault : F) → front done r ≡ Err fault → r ≡ Err fault
-front_err done (Ok more) fault e = let bad : Ok (done ++ more) ≡ Err fault = e in absurd (cc)
-front_err done (Err f) fault e = e
+-- the rules
+rules_found : (weighted : Bool) (n : ℕ) (lines : List (List ℕ)) (fault : FileFault) → rules_from weighted n lines ≡ Err fault → FirstFault (HoldsRule weighted) (HasRuleFault weighted) n lines fault
+rules_found weighted n lines fault e = fault_found (rule_line weighted) (HoldsRule weighted) (HasRuleFault weighted) (rule_says weighted) n lines fault e
+
+rules_are : (weighted : Bool) (n : ℕ) (lines : List (List ℕ)) (fault : FileFault) → FirstFault (HoldsRule weighted) (HasRuleFault weighted) n lines fault → rules_from weighted n lines ≡ Err fault
+rules_are weighted n lines fault h = fault_is (rule_line weighted) (HoldsRule weighted) (HasRuleFault weighted) (held_read weighted) (fault_read weighted) n lines fault h
 
 same_fault : (n : ℕ) (kind : FaultKind) (fault : FileFault) → fault_at n kind ≡ fault → (fault.line ≡ n) × (kind ≡ fault.kind)
 same_fault n kind fault e = (sym (ap (λ (f : FileFault). f.line) e), ap (λ (f : FileFault). f.kind) e)
-
-rules_fault : (weighted : Bool) (n : ℕ) (line : List ℕ) (lines : List (List ℕ)) (fault : FileFault) (r : Result (Option RuleLine) FaultKind) (more : Result (List RuleLine) FileFault) →
-    RuleSays weighted line r → (more ≡ Err fault → FirstFault (HoldsRule weighted) (HasRuleFault weighted) (suc n) lines fault) → with_line n r more ≡ Err fault → FirstFault (HoldsRule weighted) (HasRuleFault weighted) n (line ∷ lines) fault
-rules_fault weighted n line lines fault (Ok None) more h ih e = inr (h, ih e)
-rules_fault weighted n line lines fault (Ok (Some x)) more h ih e = inr (h, ih (front_err (x ∷ []) more fault e))
-rules_fault weighted n line lines fault (Err kind) more h ih e =
-    let s = same_fault n kind fault (cc) in
-    inl (s.0, subst (λ (k : FaultKind). HasRuleFault weighted line k) s.1 h)
-
-rules_found : (weighted : Bool) (n : ℕ) (lines : List (List ℕ)) (fault : FileFault) → rules_from weighted n lines ≡ Err fault → FirstFault (HoldsRule weighted) (HasRuleFault weighted) n lines fault
-rules_found weighted n [] fault e = let bad : Ok [] ≡ Err fault = e in absurd (cc)
-rules_found weighted n (line ∷ lines) fault e =
-    rules_fault weighted n line lines fault (rule_line weighted line) (rules_from weighted (suc n) lines) (rule_says weighted line) (rules_found weighted (suc n) lines fault) e
-
-goes_on : {X : Type 0} (n : ℕ) (o : Option X) (more : Result (List X) FileFault) (fault : FileFault) → more ≡ Err fault → with_line n (Ok o) more ≡ Err fault
-goes_on n None more fault e = e
-goes_on n (Some x) more fault e = ap (front (x ∷ [])) e
-
-rules_are : (weighted : Bool) (n : ℕ) (lines : List (List ℕ)) (fault : FileFault) → FirstFault (HoldsRule weighted) (HasRuleFault weighted) n lines fault → rules_from weighted n lines ≡ Err fault
-rules_are weighted n [] fault h = absurd h
-rules_are weighted n (line ∷ lines) fault (inl (l, h)) =
-    ap (λ r. with_line n r (rules_from weighted (suc n) lines)) (fault_read weighted line fault.kind h) ∙ ap (λ (k : ℕ). Err (fault_at k fault.kind)) (sym l)
-rules_are weighted n (line ∷ lines) fault (inr (h, more)) =
-    let o = held_read weighted line h in
-    ap (λ r. with_line n r (rules_from weighted (suc n) lines)) o.1 ∙ goes_on n o.0 (rules_from weighted (suc n) lines) fault (rules_are weighted (suc n) lines fault more)
 
 -- the whole file
 abbrev Whole : Type 0

@@ -1,6 +1,7 @@
 -- Bytes that are the text of two grammars, each over a table of its own, are that of one by the texts of labels.
 use Rattle.std.proofs.Common.{◌≡◌, ℕ, List, [], ◌∷◌, ap, sym, ◌∙◌, subst, Bool, map}
 use Rattle.std.specs.Prelude.{Some}
+use Rattle.tib_tree.specs.Grows.{AddsAll}
 use Rattle.tib_lex.specs.Grammar.{Word, name}
 use Rattle.tib_lex.specs.Lists.{Along, Distinct}
 use Rattle.tib_lex.proofs.HasLines.{lines_read}
@@ -11,7 +12,7 @@ use Rattle.tib_grammar.specs.GrammarOf.{GrammarOf}
 use Rattle.tib_grammar.specs.declared.Rule.{Rule}
 use Rattle.tib_grammar_file.specs.Rule.{Parts, parts}
 use Rattle.tib_grammar_file.specs.Weight.{cost_of}
-use Rattle.tib_grammar_file.specs.GrammarText.{HaveTokens, AddsAll, SpellsRuleOf, first_text, GrammarText}
+use Rattle.tib_grammar_file.specs.GrammarText.{HaveTokens, SpellsRuleOf, first_text, GrammarText}
 use Rattle.tib_grammar_file.specs.Value.{IsSymbol, IsNode}
 use Rattle.tib_grammar_file.specs.ByText.{AgreeInSymbol, AreOneRule, AgreeByText}
 use Rattle.tib_grammar_file.proofs.Meanings.{meant_side}

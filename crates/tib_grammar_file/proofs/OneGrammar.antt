@@ -7,7 +7,7 @@ use Rattle.tib_lex.specs.Lists.{Along, Each, Has, Distinct}
 use Rattle.tib_lex.specs.declared.fault.FaultKind.{FaultKind}
 use Rattle.tib_lex.proofs.HasLines.{lines_read}
 use Rattle.tib_lex.proofs.HasWords.{words_read}
-use Rattle.tib_tree.specs.Grows.{Adds}
+use Rattle.tib_tree.specs.Grows.{Adds, AddsAll}
 use Rattle.tib_tree.specs.Trees.{Tree, Trees, none, tree, only, parse, parse_of, preorder_of}
 use Rattle.tib_tree.specs.Written.{Item, items}
 use Rattle.tib_grammar.specs.Sides.{Symbol, label, hole}
@@ -17,7 +17,7 @@ use Rattle.tib_grammar.specs.declared.Rule.{Rule}
 use Rattle.tib_grammar.proofs.Members.{has_at}
 use Rattle.tib_grammar_file.specs.Rule.{Parts, parts, parts_of}
 use Rattle.tib_grammar_file.specs.Weight.{cost_of}
-use Rattle.tib_grammar_file.specs.GrammarText.{HaveTokens, AddsAll, SpellsRuleOf, first_text, GrammarText}
+use Rattle.tib_grammar_file.specs.GrammarText.{HaveTokens, SpellsRuleOf, first_text, GrammarText}
 use Rattle.tib_grammar_file.specs.Value.{IsSymbol, IsNode}
 use Rattle.tib_grammar_file.proofs.RulesRead.{rule_forth}
 use Rattle.tib_grammar_file.proofs.Meanings.{meant_side, meant_count}

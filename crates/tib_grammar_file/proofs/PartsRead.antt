@@ -2,17 +2,17 @@
 use Rattle.std.proofs.Common.{◌≡◌, ℕ, ◌-◌, ◌<◌, ◌≤◌, List, [], ◌∷◌, length, take, drop, refl, ap, sym, ◌∙◌, subst, arith, Option, Bool, true, false}
 use Rattle.std.specs.Prelude.{Some, None, Ok, Err, map, nat_lt, cond}
 use Rattle.std.specs.List.{All}
-use Rattle.std.proofs.lemmas.List.{length-map, take-map, length-reverse}
+use Rattle.std.proofs.lemmas.List.{length-map, take-map, length-reverse, length-append}
 use Rattle.std.proofs.lemmas.List.Elements.{All-drop, All-take}
 use Rattle.std.proofs.lemmas.Bool.Decides.{nat_tests}
-use Rattle.tib_lex.specs.Grammar.{Word}
-use Rattle.tib_lex.specs.Line.{word_at, words_at, words_of, Lies}
+use Rattle.tib_lex.specs.Grammar.{Word, close}
+use Rattle.tib_lex.specs.Line.{word_at, words_at, words_of, text_of, Lies}
 use Rattle.tib_lex.specs.declared.token.Token.{Token}
-use Rattle.tib_tree.specs.Written.{Item}
+use Rattle.tib_tree.specs.Written.{Written, end, leaf, head, spell, Item, items}
 use Rattle.tib_tree.specs.Machine.{nodes_of}
 use Rattle.tib_tree.specs.Shape.{items_back, item_at}
 use Rattle.tib_tree.specs.declared.shape.Place.{Place}
-use Rattle.tib_grammar_file.specs.Rule.{has_dot, Parts, parts, weight_in, weight_size, front_of, with_nodes, right_parts, plain_parts, head_of, parts_with, parts_of, rule_line, good_parts, with_cost, rule_line_of}
+use Rattle.tib_grammar_file.specs.Rule.{has_dot, weight_words, Parts, parts, weight_in, weight_size, front_of, with_nodes, right_parts, plain_parts, head_of, parts_with, parts_of, rule_line, good_parts, with_cost, rule_line_of}
 use Rattle.tib_grammar_file.specs.Found.{text_at, found_parts, FoundIn, FoundLies, IsCost}
 use Rattle.tib_grammar_file.specs.Raw.{AddsLine}
 use Rattle.tib_grammar_file.specs.declared.raw.RawRules.{RawRules}
@@ -21,6 +21,7 @@ use Rattle.tib_lex.specs.declared.fault.LineError.{LineError}
 use Rattle.tib_lex.specs.declared.fault.LineError.TheVariants as errors
 use Rattle.tib_grammar_file.specs.Weight.{cost_of}
 use Rattle.tib_lex.specs.declared.fault.FaultKind.{FaultKind}
+use Rattle.tib_grammar_file.proofs.RulesRead.{rule_back}
 use Rattle.tib_lex.specs.declared.fault.FaultKind.TheVariants as kinds
 
 pub no_head : (words : List Word) → head_of words ≡ None → parts_of words ≡ None
@@ -96,6 +97,21 @@ bad_cost_line weighted line ts us p kind s e = line_parts weighted line ts us (S
 
 pub back_long : (line : List ℕ) (places : List Place) → length (items_back line places) ≡ length places
 back_long line places = length-reverse (map (item_at line) places) ∙ length-map places (item_at line)
+
+-- a tree has no more nodes than tokens, and so a rule's line
+nodes_few : (f : Written) → length (items f) ≤ length (spell f)
+nodes_few end = omega arith
+nodes_few (leaf q t rest) = omega (arith, nodes_few rest)
+nodes_few (head q t kids rest) = omega (arith, nodes_few kids, nodes_few rest, length-append (items kids) (items rest), length-append (spell kids) (close ∷ spell rest))
+
+places_few : (line : List ℕ) (ts us : List Token) (left : List ℕ) (places : List Place) (w : Option (List ℕ)) → us ≡ ts → parts_of (words_at line us) ≡ Some (parts left (items_back line places) w) → length places ≤ length ts
+places_few line ts us left places w same e =
+    let r = rule_back (words_at line us) (parts left (items_back line places) w) e in
+    omega (arith, back_long line places, ap length r.nodes, ap length r.spelled, nodes_few r.tree, length-append (spell r.tree) (weight_words w), length-map us (word_at line), ap length same)
+
+pub line_few : (line : List ℕ) (ts us : List Token) (places these : List Place) (o : Option Found) (f : Found) → us ≡ ts → parts_of (words_at line us) ≡ found_parts line places o → o ≡ Some f → these ≡ places → length ts ≤ length line → length these ≤ length line
+line_few line ts us places these o f same e is t few =
+    omega (arith, places_few line ts us (text_of (word_at line f.left)) places (text_at line f.weight) same (e ∙ ap (found_parts line places) is), ap length t, few)
 
 chosen : {A : Type 0} (n m : ℕ) (x y : A) → n ≡ m → (m ≤ 10000 → cond (nat_lt 10000 n) x y ≡ y) × (10000 < m → cond (nat_lt 10000 n) x y ≡ x)
 chosen n m x y e = (λ h. grind (arith, nat_tests), λ h. grind (arith, nat_tests))

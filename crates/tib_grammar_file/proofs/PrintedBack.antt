@@ -2,6 +2,7 @@
 use Rattle.std.proofs.Common.{◌≡◌, ℕ, ◌<◌, inr, Bool, List, [], ◌∷◌, length, get_or, length-append, append-nil, refl, ap, sym, ◌∙◌, subst, arith, suc}
 use Rattle.std.specs.Prelude.{map}
 use Rattle.std.proofs.lemmas.Option.{get_or_from_slice_get}
+use Rattle.tib_tree.specs.Grows.{AddsAll}
 use Rattle.tib_lex.specs.Grammar.{Word, name, HasWords}
 use Rattle.tib_lex.specs.Lists.{Along, Each}
 use Rattle.tib_tree.specs.Trees.{Trees, none, tree, only, preorder, relabel}
@@ -11,7 +12,7 @@ use Rattle.tib_grammar.specs.Run.{rule_at}
 use Rattle.tib_grammar.specs.StateName.{IsStateName}
 use Rattle.tib_grammar.specs.declared.Rule.{Rule}
 use Rattle.tib_grammar_file.specs.ByName.{HasText, PrintsBack}
-use Rattle.tib_grammar_file.specs.GrammarText.{SpellsRuleOf, GrammarText, AreSmallRules, AddsAll, first_text}
+use Rattle.tib_grammar_file.specs.GrammarText.{SpellsRuleOf, GrammarText, AreSmallRules, first_text}
 use Rattle.tib_grammar_file.specs.Printable.{IsPrintable}
 use Rattle.tib_grammar_file.specs.Printed.{grammar_text}
 use Rattle.tib_grammar_file.specs.Read.{ReadsAs}

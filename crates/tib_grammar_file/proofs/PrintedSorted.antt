@@ -3,6 +3,7 @@ use Rattle.std.proofs.Common.{◌≡◌, ◌⊎◌, ℕ, ◌+◌, ◌<◌, ◌�
 use Rattle.std.specs.Prelude.{map, Contains}
 use Rattle.std.proofs.lemmas.Option.{slice_get-get_or}
 use Rattle.std.proofs.lemmas.List.{take_more, take_all, length-take, get_or-take}
+use Rattle.tib_tree.specs.Grows.{AddsAll}
 use Rattle.tib_lex.specs.Lists.{Has, Each, Ascends, Distinct}
 use Rattle.tib_tree.specs.Trees.{Trees, none, tree, relabel}
 use Rattle.tib_grammar.specs.Sides.{Symbol, label, hole, symbol_map}
@@ -11,7 +12,7 @@ use Rattle.tib_grammar.specs.Run.{rule_at, no_rule}
 use Rattle.tib_grammar.specs.declared.Rule.{Rule}
 use Rattle.tib_grammar.proofs.Members.{has_at, at_has, each_has, each_of}
 use Rattle.tib_grammar_file.specs.ByName.{HasText}
-use Rattle.tib_grammar_file.specs.GrammarText.{GrammarText, AddsAll, first_text}
+use Rattle.tib_grammar_file.specs.GrammarText.{GrammarText, first_text}
 use Rattle.tib_grammar_file.specs.Printed.{grammar_text}
 use Rattle.tib_grammar_file.proofs.PrintedBack.{each_rule, prints_as}
 use Rattle.tib_grammar_file.proofs.PrintedLines.{rows_in}

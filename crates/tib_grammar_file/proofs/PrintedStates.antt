@@ -5,13 +5,13 @@ use Rattle.std.specs.Str.{bytes_eq}
 use Rattle.std.specs.Bool.{Decides}
 use Rattle.std.proofs.lemmas.Slice.Eq.{bytes_eq-Decides}
 use Rattle.tib_lex.specs.Lists.{Has, Each}
-use Rattle.tib_tree.specs.Grows.{Adds}
+use Rattle.tib_tree.specs.Grows.{Adds, AddsAll}
 use Rattle.tib_grammar.specs.GrammarOf.{GrammarOf}
 use Rattle.tib_grammar.specs.Run.{rule_at}
 use Rattle.tib_grammar.specs.declared.Rule.{Rule}
 use Rattle.tib_grammar.proofs.Members.{has_at, at_has, has_left, has_right, has_either}
 use Rattle.tib_grammar_file.specs.ByName.{HaveRules}
-use Rattle.tib_grammar_file.specs.GrammarText.{AddsAll, first_text}
+use Rattle.tib_grammar_file.specs.GrammarText.{first_text}
 use Rattle.tib_grammar_file.proofs.PrintedRules.{Renames}
 use Rattle.tib_grammar_file.proofs.PrintedLines.{rows_in}
 

@@ -1,8 +1,8 @@
 -- How the rules of a file are read.
 use Rattle.std.proofs.Common.{◌≡◌, ℕ, ◌+◌, ◌-◌, ◌<◌, ◌≤◌, inl, inr, List, [], ◌∷◌, ◌++◌, length, get_or, drop, refl, ap, sym, ◌∙◌, subst, arith, append_assoc, append-nil, Option}
 use Rattle.std.specs.Prelude.{slice_range, Some, None, Result, Ok, Err, map}
-use Rattle.std.proofs.lemmas.List.{drop_all, map-append}
-use Rattle.tib_lex.specs.Lines.{lines_of, front, with_line, each_line}
+use Rattle.std.proofs.lemmas.List.{drop_all, map-append, length-append, length-take, length-drop}
+use Rattle.tib_lex.specs.Lines.{HasNoFeed, lines_of, front, with_line, each_line}
 use Rattle.tib_lex.specs.NextLine.{IsNextLine}
 use Rattle.tib_lex.specs.FaultOf.{file_error_of}
 use Rattle.tib_lex.specs.Lists.{Along}
@@ -12,8 +12,9 @@ use Rattle.tib_lex.specs.declared.fault.FileFault.{FileFault}
 use Rattle.tib_lex.specs.declared.fault.ReadError.{ReadError}
 use Rattle.tib_lex.specs.declared.fault.LineError.{LineError}
 use Rattle.tib_lex.specs.declared.fault.LineError.TheVariants as line_errors
+use Rattle.tib_lex.proofs.NoFeeds.{line_plain}
 use Rattle.tib_lex.proofs.LinesRead.{front_none, front_more, line_read, none_left}
-use Rattle.tib_tree.specs.Grows.{Grows, Adds}
+use Rattle.tib_tree.specs.Grows.{Grows, Adds, AddsAll}
 use Rattle.tib_tree.specs.Written.{Item}
 use Rattle.tib_tree.specs.Shape.{item_at, items_back}
 use Rattle.tib_tree.specs.declared.shape.Place.{Place}
@@ -21,15 +22,18 @@ use Rattle.tib_tree.proofs.NodesRead.{back_more}
 use Rattle.tib_grammar_file.specs.Rule.{RuleLine}
 use Rattle.tib_grammar_file.specs.Raw.{IsRaw, IsRawRule, AreRawRules, AddsNodes, AddsRule, AddsLine, all_nodes}
 use Rattle.tib_grammar_file.specs.RawFile.{IsRawFile}
-use Rattle.tib_grammar_file.specs.GrammarText.{AddsAll}
 use Rattle.tib_grammar_file.specs.Value.{left_of}
 use Rattle.tib_grammar_file.specs.declared.raw.RawItem.{RawItem}
 use Rattle.tib_grammar_file.specs.declared.raw.RawRule.{RawRule}
 use Rattle.tib_grammar_file.specs.declared.raw.RawRules.{RawRules}
-use Rattle.tib_grammar_file.proofs.Alongs.{along_changes, along_more, along_append}
+use Rattle.tib_grammar_file.proofs.Alongs.{along_changes, along_more, along_append, along_long}
 
 pub item_grows : (a b : List (List ℕ)) → Grows a b → (s : RawItem) (i : Item) → IsRaw a s i → IsRaw b s i
 item_grows a b g s i h = (g.kept s.text i.text h.0, h.1, h.2)
+
+-- how much longer nodes are
+pub nodes_long : (texts : List (List ℕ)) (before now : List RawItem) (is : List Item) → AddsNodes texts before now is → length now ≡ length before + length is
+nodes_long texts before now is h = omega (arith, ap length h.last, length-append before h.more, along_long (IsRaw texts) h.more is h.are)
 
 -- nothing was added yet
 pub no_nodes : (texts : List (List ℕ)) (before now : List RawItem) (line : List ℕ) (places : List Place) (n : ℕ) → n ≡ length places → now ≡ before → AddsNodes texts before now (items_back line (drop n places))
@@ -124,3 +128,15 @@ failed one z a b t u old now n at line text bytes wanted error r next is e h so 
 pub ended : (one : List ℕ → Result (Option RuleLine) FaultKind) (z a t : List (List ℕ)) (raw : RawRules) (n at : ℕ) (bytes : List ℕ) (wanted : Result (List RuleLine) FileFault) → at ≡ length bytes → SoFar z a t raw (each_line one n (lines_of (drop at bytes))) wanted → (lines : List RuleLine) × (wanted ≡ Ok lines) × AreRawRules a t raw.rules.items raw.nodes.items lines × AddsAll z (map left_of lines) a
 ended one z a t raw n at bytes wanted h so =
     (so.done, sym so.same ∙ ap (front so.done) (none_left one bytes n at h) ∙ ap Ok (append-nil so.done), so.rules_are, so.added)
+
+-- the bytes of a line lie before the next one, and have no line feed
+pub text_within : (bytes : List ℕ) (n at : ℕ) (line : Line) (text : List ℕ) → IsNextLine bytes n at line → text ≡ slice_range bytes line.start line.end → at + length text ≤ line.next
+text_within bytes n at line text is e =
+    let l : length text ≡ line.end - line.start = omega (arith, ap length e, length-take (line.end - line.start) (drop line.start bytes), length-drop line.start bytes, is.order, is.within) in
+    elim is.behind [
+      | inl h ↦ omega (arith, l, is.starts, is.order, h.1)
+      | inr h ↦ omega (arith, l, is.starts, is.order, h.1)
+    ]
+
+pub text_no_feed : (bytes : List ℕ) (n at : ℕ) (line : Line) (text : List ℕ) → IsNextLine bytes n at line → text ≡ slice_range bytes line.start line.end → HasNoFeed text
+text_no_feed bytes n at line text is e = subst (λ (t : List ℕ). HasNoFeed t) (sym e) (line_plain bytes n at line is)

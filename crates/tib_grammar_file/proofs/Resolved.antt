@@ -2,7 +2,7 @@
 use Rattle.std.proofs.Common.{◌≡◌, ℕ, ◌+◌, ◌<◌, ◌≤◌, List, [], ◌∷◌, ◌++◌, length, get_or, take, drop, refl, ap, sym, ◌∙◌, subst, arith, append-nil, zero, suc}
 use Rattle.std.specs.Prelude.{slice_get, Some, None, Contains}
 use Rattle.std.specs.List.{All}
-use Rattle.std.proofs.lemmas.List.{map-append, length-append, length-drop, drop-drop, take_all}
+use Rattle.std.proofs.lemmas.List.{map-append, length-append, length-drop, length-take, drop-drop, take_all}
 use Rattle.std.proofs.lemmas.Option.{slice_get_within}
 use Rattle.tib_lex.specs.Lists.{Along, Each}
 use Rattle.tib_tree.specs.Grows.{Grows}
@@ -90,6 +90,10 @@ is_a_tree names labels texts raw side r all other =
     let g = grown names labels r.tree.tree (pairs_of side) nodes in
     let o = one_tree g.trees (g.many ∙ r.tree.one) in
     other o.0 (o.2 ∙ g.order)
+
+-- so many nodes from a place on, or fewer
+pub part_few : (at count : ℕ) (nodes these : List RawItem) → these ≡ take count (drop at nodes) → length these ≤ count
+part_few at count nodes these e = omega (arith, ap length e, length-take count (drop at nodes))
 
 -- one rule and its line
 pub record Here (names : List (List ℕ)) (lines : List RuleLine) (k : ℕ) (rule : RawRule) : Type 0 where

@@ -5,7 +5,7 @@ use Rattle.std.proofs.lemmas.Option.{slice_get-get_or}
 use Rattle.tib_lex.specs.Lines.{lines_of}
 use Rattle.tib_lex.specs.Lists.{Along, Each, Has, Distinct}
 use Rattle.tib_lex.specs.declared.fault.FileFault.{FileFault}
-use Rattle.tib_tree.specs.Grows.{Adds}
+use Rattle.tib_tree.specs.Grows.{Adds, AddsAll}
 use Rattle.tib_tree.specs.Nodes.{rank_of}
 use Rattle.tib_tree.specs.Trees.{preorder_of}
 use Rattle.tib_tree.specs.Written.{Item, items}
@@ -15,7 +15,6 @@ use Rattle.tib_grammar.specs.declared.Rule.{Rule}
 use Rattle.tib_grammar.proofs.Members.{at_has, has_left, has_right, distinct_more}
 use Rattle.tib_grammar_file.specs.Faults.{IsFirstFault}
 use Rattle.tib_grammar_file.specs.FaultLaws.{IsSomeText}
-use Rattle.tib_grammar_file.specs.GrammarText.{AddsAll}
 use Rattle.tib_grammar_file.specs.Reading.{grammar_of}
 use Rattle.tib_grammar_file.specs.Resolve.{IsOneTree, IsSmallTree}
 use Rattle.tib_grammar_file.specs.Rule.{RuleLine}

@@ -8,7 +8,7 @@ use Rattle.tib_lex.specs.Grammar.{Word, name, IsWord}
 use Rattle.tib_lex.specs.Lines.{lines_of, push_byte}
 use Rattle.tib_lex.specs.Lists.{Along, Each, Has}
 use Rattle.tib_lex.proofs.HasLines.{lines_read, lines_split}
-use Rattle.tib_tree.specs.Grows.{Adds}
+use Rattle.tib_tree.specs.Grows.{Adds, AddsAll}
 use Rattle.tib_tree.specs.Trees.{Trees, none, tree, only, preorder, preorder_of}
 use Rattle.tib_tree.specs.Written.{Item, items, Written, end, leaf, head}
 use Rattle.tib_grammar.specs.Sides.{Symbol, label as symbol_label, hole, holes}
@@ -19,7 +19,7 @@ use Rattle.tib_grammar.specs.declared.Rule.{Rule}
 use Rattle.tib_grammar.proofs.Members.{at_has, each_more, distinct_more}
 use Rattle.tib_grammar_file.specs.Rule.{RuleLine, rule_line_of}
 use Rattle.tib_grammar_file.specs.Reading.{grammar_of}
-use Rattle.tib_grammar_file.specs.GrammarText.{HaveTokens, AddsAll, SpellsRuleOf, first_text, GrammarText, IsSmallRule, AreSmallRules, Means}
+use Rattle.tib_grammar_file.specs.GrammarText.{HaveTokens, SpellsRuleOf, first_text, GrammarText, IsSmallRule, AreSmallRules, Means}
 use Rattle.tib_grammar_file.specs.Value.{IsNode, IsRule, IsGrammarOf, left_of}
 use Rattle.tib_grammar_file.specs.Built.{IsSource}
 use Rattle.tib_grammar_file.specs.Faults.{IsFirstFault}
@@ -29,6 +29,7 @@ use Rattle.tib_lex.specs.declared.fault.FileFault.{FileFault}
 use Rattle.tib_grammar_file.specs.RawGrammar.{IsRawGrammar}
 use Rattle.tib_grammar_file.specs.Resolve.{IsSmallTree}
 use Rattle.tib_grammar_file.specs.declared.raw.RawRules.{RawRules}
+use Rattle.tib_grammar_file.proofs.AddedLabels.{one_longer}
 use Rattle.tib_grammar_file.proofs.Alongs.{along_long}
 use Rattle.tib_grammar_file.proofs.Meanings.{side_means, meant_side, meant_count, preorder_whole}
 use Rattle.tib_grammar_file.proofs.FirstFaults.{faults_exact}
@@ -249,10 +250,6 @@ rows_long : (lines : List (List ℕ)) (rows : List (List Word)) → HaveTokens l
 rows_long [] rows t = omega (arith, ap length t)
 rows_long (line ∷ lines) rows (inl (blank, t)) = omega (arith, rows_long lines rows t)
 rows_long (line ∷ lines) rows (inr (word, words, more, has, e, t)) = omega (arith, rows_long lines more t, ap length e)
-
-one_longer : (before : List (List ℕ)) (text : List ℕ) (now : List (List ℕ)) → Adds before text now → length now ≤ length before + 1
-one_longer before text now (inl (held, same)) = omega (arith, ap length same)
-one_longer before text now (inr (new, same)) = omega (arith, length-append before (text ∷ []), ap length same)
 
 adds_long : (before texts now : List (List ℕ)) → AddsAll before texts now → length now ≤ length before + length texts
 adds_long before [] now same = omega (arith, ap length same)

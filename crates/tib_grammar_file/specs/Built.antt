@@ -1,8 +1,8 @@
 -- A grammar that is made of what was read.
 use Rattle.std.specs.Prelude.{◌≤◌, ℕ, List, [], ◌∷◌, map, length}
+use Rattle.tib_tree.specs.Grows.{AddsAll}
 use Rattle.tib_grammar.specs.StateName.{AreStateNames}
 use Rattle.tib_grammar_file.specs.Rule.{RuleLine}
-use Rattle.tib_grammar_file.specs.GrammarText.{AddsAll}
 use Rattle.tib_grammar_file.specs.Value.{left_of}
 use Rattle.tib_grammar_file.specs.Resolve.{IsRawGrammarOf}
 use Rattle.tib_grammar_file.specs.declared.raw.RawRules.{RawRules}

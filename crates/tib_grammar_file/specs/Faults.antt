@@ -1,19 +1,16 @@
 -- What is wrong with bytes that are no grammar's text, in the words of the format.
 use Rattle.std.specs.Prelude.{◌≡◌, ◌<◌, ◌≤◌, ◌⊎◌, ℕ, Bool, true, false, List, [], ◌∷◌, length, Option, Some, suc}
 use Rattle.tib_lex.specs.Grammar.{Word, name, HasWords, HasBadToken}
+use Rattle.tib_lex.specs.FirstFault.{FirstFault}
 use Rattle.tib_lex.specs.Lines.{lines_of}
 use Rattle.tib_lex.specs.declared.fault.FaultKind.{FaultKind}
 use Rattle.tib_lex.specs.declared.fault.FaultKind.TheVariants.{NoStart, BadToken, BadRule, NotWhole, WeightTooLarge, TooManyNodes}
 use Rattle.tib_lex.specs.declared.fault.FileFault.{FileFault}
 use Rattle.tib_lex.specs.declared.fault.ReadError.{ReadError}
 use Rattle.tib_lex.specs.declared.fault.ReadError.TheVariants as errors
+use Rattle.tib_tree.specs.Trees.{most_nodes}
 use Rattle.tib_grammar_file.specs.Rule.{has_dot, Parts, SpellsRule}
 use Rattle.tib_grammar_file.specs.Weight.{IsWhole, IsCostOf, most}
-
--- The first line with a fault, by its number, and its fault. The lines before it hold what they may.
-abbrev pub FirstFault : (List ℕ → Type 0) → (List ℕ → FaultKind → Type 0) → ℕ → List (List ℕ) → FileFault → Type 0
-FirstFault Holds HasFault n [] fault = ⊥
-FirstFault Holds HasFault n (line ∷ lines) fault = ((fault.line ≡ n) × HasFault line fault.kind) ⊎ (Holds line × FirstFault Holds HasFault (suc n) lines fault)
 
 -- the tokens of a line are a start: one name without a full stop
 pub record HasStart (line : List ℕ) : Type 0 where
@@ -79,12 +76,12 @@ HasRuleFault weighted line BadToken = HasBadToken line
 HasRuleFault weighted line BadRule = HasNoRule line
 HasRuleFault weighted line NotWhole = HasBadWeight weighted line NotWhole
 HasRuleFault weighted line WeightTooLarge = HasBadWeight weighted line WeightTooLarge
-HasRuleFault weighted line TooManyNodes = (rule : Parts) × HasGoodWeight weighted line rule × (10000 < length rule.nodes)
+HasRuleFault weighted line TooManyNodes = (rule : Parts) × HasGoodWeight weighted line rule × (most_nodes < length rule.nodes)
 HasRuleFault weighted line kind = ⊥
 
 -- what a line in a rule's place may hold: no tokens, or a rule within the limits
 abbrev pub HoldsRule : Bool → List ℕ → Type 0
-HoldsRule weighted line = HasWords [] line ⊎ ((rule : Parts) × HasGoodWeight weighted line rule × (length rule.nodes ≤ 10000))
+HoldsRule weighted line = HasWords [] line ⊎ ((rule : Parts) × HasGoodWeight weighted line rule × (length rule.nodes ≤ most_nodes))
 
 -- the first fault of the file
 abbrev pub IsFirstFault : Bool → List ℕ → FileFault → Type 0

@@ -4,8 +4,8 @@ use Rattle.tib_lex.specs.Grammar.{Word, name, arrow, HasWords}
 use Rattle.tib_lex.specs.Line.{text_of}
 use Rattle.tib_lex.specs.Lines.{HasLines}
 use Rattle.tib_lex.specs.Lists.{Along, Each}
-use Rattle.tib_tree.specs.Grows.{Adds}
-use Rattle.tib_tree.specs.Trees.{Trees, none, tree, only, preorder_of}
+use Rattle.tib_tree.specs.Grows.{AddsAll}
+use Rattle.tib_tree.specs.Trees.{Trees, none, tree, only, preorder_of, most_nodes}
 use Rattle.tib_tree.specs.Written.{Written, end, leaf, head, spell}
 use Rattle.tib_grammar.specs.Sides.{Symbol, label, hole}
 use Rattle.tib_grammar.specs.GrammarOf.{GrammarOf}
@@ -19,11 +19,6 @@ HaveTokens [] rows = rows ≡ []
 HaveTokens (line ∷ lines) rows =
     (HasWords [] line × HaveTokens lines rows)
     ⊎ ((word : Word) × (words : List Word) × (more : List (List Word)) × HasWords (word ∷ words) line × (rows ≡ (word ∷ words) ∷ more) × HaveTokens lines more)
-
--- these texts behind some others, each that was not there yet, in the order of first sight
-abbrev pub AddsAll : List (List ℕ) → List (List ℕ) → List (List ℕ) → Type 0
-AddsAll before [] now = now ≡ before
-AddsAll before (text ∷ texts) now = (middle : List (List ℕ)) × Adds before text middle × AddsAll middle texts now
 
 -- a leaf without quotes is a state if it is the name of one, and every other leaf is a label
 abbrev pub IsLeaf : List (List ℕ) → List (List ℕ) → Symbol ℕ ℕ → Bool → List ℕ → Type 0
@@ -74,7 +69,7 @@ pub record GrammarText (weighted : Bool) (labels : List (List ℕ)) (bytes : Lis
 
 -- each right side has 10,000 nodes at most
 abbrev pub IsSmallRule : Rule ℕ → Type 0
-IsSmallRule rule = length (preorder_of rule.right) ≤ 10000
+IsSmallRule rule = length (preorder_of rule.right) ≤ most_nodes
 
 abbrev pub AreSmallRules : List (Rule ℕ) → Type 0
 AreSmallRules rules = Each IsSmallRule rules

@@ -5,10 +5,9 @@ use Rattle.tib_lex.specs.declared.fault.FileFault.{FileFault}
 use Rattle.tib_lex.specs.declared.fault.ReadError.{ReadError}
 use Rattle.tib_lex.specs.declared.fault.ReadError.TheVariants as errors
 use Rattle.tib_lex.specs.Lines.{lines_of}
-use Rattle.tib_tree.specs.Grows.{Adds}
+use Rattle.tib_tree.specs.Grows.{Adds, AddsAll}
 use Rattle.tib_grammar_file.specs.Rule.{RuleLine}
 use Rattle.tib_grammar_file.specs.Raw.{AreRawRules}
-use Rattle.tib_grammar_file.specs.GrammarText.{AddsAll}
 use Rattle.tib_grammar_file.specs.Value.{left_of}
 use Rattle.tib_grammar_file.specs.Reading.{grammar_from, started, rules_from}
 use Rattle.tib_lex.specs.declared.fault.LineError.{LineError}

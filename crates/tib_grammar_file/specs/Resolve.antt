@@ -2,6 +2,7 @@
 use Rattle.std.specs.Prelude.{◌≡◌, ℕ, ◌≤◌, false, List, Option, None, Some, slice_get, Contains, length}
 use Rattle.tib_lex.specs.Lists.{Along, Each}
 use Rattle.tib_tree.specs.Written.{Written, Item, items, count}
+use Rattle.tib_tree.specs.Trees.{most_nodes}
 use Rattle.tib_grammar_file.specs.Rule.{RuleLine}
 use Rattle.tib_grammar_file.specs.Raw.{IsRaw, AreRawRules}
 use Rattle.tib_grammar_file.specs.declared.raw.RawItem.{RawItem}
@@ -31,7 +32,7 @@ pub record IsRawTree (texts : List (List ℕ)) (raw : List RawItem) : Type 0 whe
 -- a rule's nodes are one tree, of 10,000 nodes at most
 pub record IsSmallTree (line : RuleLine) : Type 0 where
   pub tree : IsOneTree line.nodes
-  pub few : length line.nodes ≤ 10000
+  pub few : length line.nodes ≤ most_nodes
 
 -- rules over the tables of names and texts, each with one tree
 pub record IsRawGrammarOf (names texts : List (List ℕ)) (raw : RawRules) (lines : List RuleLine) : Type 0 where

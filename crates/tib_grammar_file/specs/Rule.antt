@@ -8,6 +8,7 @@ use Rattle.tib_tree.specs.Machine.{nodes_of}
 use Rattle.tib_grammar_file.specs.Weight.{cost_of}
 use Rattle.tib_lex.specs.declared.fault.FaultKind.{FaultKind}
 use Rattle.tib_lex.specs.declared.fault.FaultKind.TheVariants as kinds
+use Rattle.tib_tree.specs.Trees.{most_nodes}
 
 abbrev pub has_dot : List ℕ → Bool
 has_dot text = list_any (nat_eq 46) text
@@ -84,7 +85,7 @@ abbrev pub rule_line_of : List ℕ → List Item → ℕ → RuleLine
 rule_line_of left nodes cost = record { left = left; nodes = nodes; cost = cost }
 
 abbrev pub few_nodes : List ℕ → List Item → ℕ → Result (Option RuleLine) FaultKind
-few_nodes left nodes cost = if nat_lt 10000 (length nodes) then Err kinds.TooManyNodes else Ok (Some (rule_line_of left nodes cost))
+few_nodes left nodes cost = if nat_lt most_nodes (length nodes) then Err kinds.TooManyNodes else Ok (Some (rule_line_of left nodes cost))
 
 abbrev pub with_cost : List ℕ → List Item → Result ℕ FaultKind → Result (Option RuleLine) FaultKind
 with_cost left nodes (Err kind) = Err kind

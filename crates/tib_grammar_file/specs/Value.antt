@@ -1,5 +1,6 @@
 -- What the nodes of a rule stand for, over the tables of states and labels.
 use Rattle.std.specs.Prelude.{◌≡◌, ℕ, false, List, [], ◌∷◌, map, Some, None, slice_get, Contains}
+use Rattle.tib_tree.specs.Grows.{AddsAll}
 use Rattle.tib_lex.specs.Lists.{Along}
 use Rattle.tib_tree.specs.Written.{Item}
 use Rattle.tib_tree.specs.Nodes.{rank_of}
@@ -8,7 +9,6 @@ use Rattle.tib_grammar.specs.Sides.{Symbol, label, hole}
 use Rattle.tib_grammar.specs.declared.Rule.{Rule}
 use Rattle.tib_grammar.specs.GrammarOf.{GrammarOf}
 use Rattle.tib_grammar_file.specs.Rule.{RuleLine}
-use Rattle.tib_grammar_file.specs.GrammarText.{AddsAll}
 
 -- an unquoted leaf that is the name of a state
 pub record IsStateLeaf (names : List (List ℕ)) (i : Item) : Type 0 where

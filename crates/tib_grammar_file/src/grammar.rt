@@ -1,8 +1,9 @@
 // Reads grammar files.
-ghost use Rattle.std.specs.Prelude.{◌≡◌, ◌≤◌, ◌<◌, ◌^◌, ℕ, List, length, map, IfOk, IfErr};
-ghost use Rattle.tib_tree.specs.Grows.{Grows};
+ghost use Rattle.std.specs.Prelude.{◌≡◌, ◌≤◌, ◌<◌, ◌+◌, ◌-◌, ◌^◌, ℕ, List, length, map, IfOk, IfErr};
+ghost use Rattle.tib_tree.specs.Grows.{Grows, AddsAll};
 ghost use Rattle.tib_grammar.specs.StateName.{AreStateNames};
 ghost use Rattle.tib_grammar.specs.Range.{AreInRange};
+ghost use Rattle.tib_grammar_file.specs.Added.{AddsRules, rule_texts};
 ghost use Rattle.tib_grammar_file.specs.Built.{IsSource};
 ghost use Rattle.tib_grammar_file.specs.Printed.{AreLabelled};
 ghost use Rattle.tib_grammar_file.specs.Faults.{IsCause};
@@ -68,18 +69,22 @@ fn build<S: Semiring>(
     texts: &Labels,
     labels: &mut Labels,
 ) -> Result<Grammar<S>, AllocError>
-    requires { (start : List ℕ) × (lines : List RuleLine) × IsSource names.now texts.now raw.now start lines }
+    requires source { (start : List ℕ) × (lines : List RuleLine) × IsSource names.now texts.now raw.now start lines }
+    requires room { length labels.old + length raw.now.nodes.items < 2 ^ 32 - 1 }
     ensures grammar { IfOk result (λ g. (start : List ℕ) (lines : List RuleLine) → IsSource names.now texts.now raw.now start lines → IsGrammarOf labels.new g start lines) }
+    ensures added { IfOk result (λ g. AddsRules labels.old g.rules labels.new) }
+    ensures few { length labels.new ≤ length labels.old + length raw.now.nodes.items }
     ensures grows { Grows labels.old labels.new }
 {
+    texts.len();
     let rules = resolve_rules(alloc, raw, names, texts, labels)?;
     let states = state_names(alloc, names)?;
     Ok(grammar_over(states, rules))
 }
 
 /// Reads a grammar file. The states are the start and the left states, numbered in the order of first sight; the texts
-/// of all other leaves and of all heads go into the table of labels, which only grows. Where nothing is weighed, any
-/// name is taken as a weight, and each rule costs 0.
+/// of all other leaves and of all heads go into the table of labels, which grows by just those that are new, in the order
+/// of the file. Where nothing is weighed, any name is taken as a weight, and each rule costs 0.
 ///
 /// A fault names the first line that has one and what is wrong there first: no start (line 1), a bad token, a bad rule,
 /// a weight that isn't whole or is too large, a right side with more than 10,000 nodes. `OutOfMemory` says nothing of
@@ -89,11 +94,14 @@ pub fn read_grammar<S: Semiring>(
     bytes: &[u8],
     labels: &mut Labels,
 ) -> Result<Grammar<S>, ReadError>
-    requires { length bytes.now ≤ 8388608 }
+    requires short { length bytes.now ≤ 8388608 }
+    requires room { length labels.old + length bytes.now < 2 ^ 32 - 1 }
     ensures text { IfOk result (λ g. ReadsAs S.WEIGHTED labels.new bytes.now g) }
     ensures labelled { IfOk result (λ g. AreLabelled (length labels.new) g.rules) }
     ensures fault { IfErr result (λ e. IsCause S.WEIGHTED bytes.now e) }
     ensures labels { Grows labels.old labels.new }
+    ensures added { IfOk result (λ g. AddsAll labels.old (rule_texts labels.new g.rules) labels.new) }
+    ensures few { length labels.new ≤ length labels.old + length bytes.now }
 {
     let mut names = Labels::new(alloc);
     let mut texts = Labels::new(alloc);

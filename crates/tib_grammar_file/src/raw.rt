@@ -1,7 +1,7 @@
 // Rules whose leaves are not told apart: which of them are states shows at the end of the file.
-ghost use Rattle.std.specs.Prelude.{◌≡◌, ◌≤◌, ◌<◌, ◌-◌, ◌+◌, ◌^◌, ℕ, List, [], ◌∷◌, ◌++◌, length, drop, IfOk, IfSome, Some, None, slice_get, All};
+ghost use Rattle.std.specs.Prelude.{◌≡◌, ◌≤◌, ◌<◌, ◌-◌, ◌+◌, ◌^◌, ℕ, List, [], ◌∷◌, ◌++◌, length, drop, IfOk, OnOk, IfSome, Some, None, slice_get, All};
 ghost use Rattle.tib_lex.specs.Line.{word_at, text_of, Lies};
-ghost use Rattle.tib_lex.specs.Lines.{lines_of};
+ghost use Rattle.tib_lex.specs.Lines.{lines_of, HasNoFeed};
 ghost use Rattle.tib_tree.specs.Grows.{Grows, Adds};
 ghost use Rattle.tib_tree.specs.Shape.{item_at, items_back, PlaceLies};
 ghost use Rattle.tib_grammar_file.specs.Reading.{rules_from};
@@ -16,7 +16,7 @@ use tib_lex::{
     FaultKind, Kind, LineError, ReadError, Token, file_error, line_bytes, next_line, read_text,
     read_tokens,
 };
-use tib_tree::{Labels, Place, Reader};
+use tib_tree::{Labels, MOST_NODES, Place, Reader};
 
 /// A node whose text may be a state's.
 #[derive(Clone, Copy, Debug)]
@@ -56,10 +56,13 @@ fn read_name(
     names: &mut Labels,
     text: &mut Vec<u8>,
 ) -> Result<u32, AllocError>
-    requires { Lies (length line.now) token }
+    requires lies { Lies (length line.now) token }
+    requires plain { HasNoFeed line.now }
+    requires room { length names.old < 2 ^ 32 - 1 }
     ensures named { IfOk result (λ n. slice_get names.new n ≡ Some (text_of (word_at line.now token))) }
     ensures grows { Grows names.old names.new }
     ensures adds { IfOk result (λ n. Adds names.old (text_of (word_at line.now token)) names.new) }
+    ensures few { length names.new ≤ length names.old + 1 }
 {
     read_text(line, token, text)?;
     names.intern(text)
@@ -71,9 +74,12 @@ fn read_item(
     texts: &mut Labels,
     text: &mut Vec<u8>,
 ) -> Result<RawItem, AllocError>
-    requires { PlaceLies (length line.now) place }
+    requires lies { PlaceLies (length line.now) place }
+    requires plain { HasNoFeed line.now }
+    requires room { length texts.old < 2 ^ 32 - 1 }
     ensures item { IfOk result (λ i. IsRaw texts.new i (item_at line.now place)) }
     ensures grows { Grows texts.old texts.new }
+    ensures few { length texts.new ≤ length texts.old + 1 }
 {
     let number = read_name(line, place.token, texts, text)?;
     let quoted = is_quoted(place);
@@ -92,9 +98,12 @@ fn read_side(
     text: &mut Vec<u8>,
     nodes: &mut Vec<RawItem>,
 ) -> Result<(), AllocError>
-    requires { All (PlaceLies (length line.now)) places.now }
+    requires lie { All (PlaceLies (length line.now)) places.now }
+    requires plain { HasNoFeed line.now }
+    requires room { length texts.old + length places.now < 2 ^ 32 - 1 }
     ensures nodes { IfOk result (λ _. AddsNodes texts.new nodes.old.items nodes.new.items (items_back line.now places.now)) }
     ensures grows { Grows texts.old texts.new }
+    ensures few { length texts.new ≤ length texts.old + length places.now }
 {
     let mut i = places.len();
     while i > 0 {
@@ -131,10 +140,16 @@ impl RawReader {
         texts: &mut Labels,
         raw: &mut RawRules,
     ) -> Result<(), LineError>
-        requires { length line.now ≤ 8388608 }
+        requires short { length line.now ≤ 8388608 }
+        requires plain { HasNoFeed line.now }
+        requires names { length names.old < 2 ^ 32 - 1 }
+        requires texts { length texts.old + length line.now < 2 ^ 32 - 1 }
         ensures line { AddsLine names.old names.new texts.new raw.old raw.new result (rule_line weighted line.now) }
         ensures names { Grows names.old names.new }
         ensures texts { Grows texts.old texts.new }
+        ensures few_names { length names.new ≤ length names.old + 1 }
+        ensures few_texts { length texts.new ≤ length texts.old + length line.now }
+        ensures few_nodes { OnOk result (length raw.new.nodes.items ≤ length raw.old.nodes.items + length line.now) }
     {
         if !read_tokens(line, &mut self.tokens)? {
             return Err(LineError::Fault(FaultKind::BadToken));
@@ -151,7 +166,7 @@ impl RawReader {
             Err(error) => return Err(error),
         };
         let count = self.reader.places.len();
-        if count > 10000 {
+        if count > MOST_NODES {
             return Err(LineError::Fault(FaultKind::TooManyNodes));
         }
         let left = read_name(line, found.left, names, &mut self.text)?;
@@ -183,7 +198,10 @@ pub(crate) fn read_rules(
     requires short { length bytes.now ≤ 8388608 }
     requires place { start ≤ length bytes.now }
     requires number { first ≤ start + 1 }
+    requires names { length names.old + length bytes.now < 2 ^ 32 - 1 }
+    requires texts { length texts.old + length bytes.now < 2 ^ 32 - 1 }
     ensures rules { IsRawFile names.old names.new texts.new result (rules_from weighted first (lines_of (drop start bytes.now))) }
+    ensures few { IfOk result (λ raw. length raw.nodes.items ≤ length bytes.now) }
 {
     let mut reader = RawReader::new(alloc);
     let mut raw = RawRules {

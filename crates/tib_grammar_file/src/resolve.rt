@@ -1,10 +1,12 @@
 // Which leaves are states.
-ghost use Rattle.std.specs.Prelude.{◌≡◌, ◌≤◌, ◌<◌, ◌+◌, ◌^◌, ℕ, List, length, take, drop, IfOk, IfSome, Some, None, slice_get, All};
-ghost use Rattle.tib_lex.specs.Lists.{Along};
+ghost use Rattle.std.specs.Prelude.{◌≡◌, ◌≤◌, ◌<◌, ◌+◌, ◌-◌, ◌^◌, ℕ, List, length, take, drop, IfOk, IfSome, Some, None, slice_get, All};
+ghost use Rattle.tib_lex.specs.Lines.{HasNoFeed};
+ghost use Rattle.tib_lex.specs.Lists.{Along, Each};
 ghost use Rattle.tib_tree.specs.Grows.{Grows};
 ghost use Rattle.tib_tree.specs.Written.{Item as ItemOf};
 ghost use Rattle.tib_grammar.specs.Items.{pair_of, pairs_of};
-ghost use Rattle.tib_tree.specs.Trees.{preorder_of};
+ghost use Rattle.tib_tree.specs.Trees.{preorder_of, most_nodes};
+ghost use Rattle.tib_grammar_file.specs.Added.{AddsSymbol, AddsSymbols, AddsRules};
 ghost use Rattle.tib_grammar_file.specs.Raw.{IsRaw, IsRawRule};
 ghost use Rattle.tib_grammar_file.specs.Resolve.{IsFoundRaw, IsRawTree, IsRawGrammarOf};
 ghost use Rattle.tib_grammar_file.specs.Rule.{RuleLine};
@@ -34,8 +36,12 @@ fn resolve_item(
     texts: &Labels,
     labels: &mut Labels,
 ) -> Result<Item<u32>, AllocError>
-    requires { item.text < length texts.now }
+    requires text { item.text < length texts.now }
+    requires plain { Each HasNoFeed texts.now }
+    requires room { length labels.old < 2 ^ 32 - 1 }
     ensures item { IfOk result (λ s. (i : ItemOf) → IsRaw texts.now item i → IsNode names.now labels.new (pair_of s) i) }
+    ensures added { IfOk result (λ s. AddsSymbol labels.old (pair_of s).0 labels.new) }
+    ensures few { length labels.new ≤ length labels.old + 1 }
     ensures grows { Grows labels.old labels.new }
 {
     let text = texts.text(item.text);
@@ -54,9 +60,13 @@ fn resolve_items(
     texts: &Labels,
     labels: &mut Labels,
 ) -> Result<Vec<Item<u32>>, AllocError>
-    requires { All (λ r. r.text < length texts.now) items.now }
+    requires texts { All (λ r. r.text < length texts.now) items.now }
+    requires plain { Each HasNoFeed texts.now }
+    requires room { length labels.old + length items.now < 2 ^ 32 - 1 }
     ensures items { IfOk result (λ ss. (is : List ItemOf) → Along (IsRaw texts.now) items.now is → Along (IsNode names.now labels.new) (pairs_of ss.items) is) }
     ensures long { IfOk result (λ ss. length ss.items ≡ length items.now) }
+    ensures added { IfOk result (λ ss. AddsSymbols labels.old (pairs_of ss.items) labels.new) }
+    ensures few { length labels.new ≤ length labels.old + length items.now }
     ensures grows { Grows labels.old labels.new }
 {
     let mut side = Vec::with_capacity(alloc, items.len())?;
@@ -76,8 +86,12 @@ fn resolve_side(
     labels: &mut Labels,
 ) -> Result<Side<u32>, AllocError>
     requires tree { IsRawTree texts.now items.now }
-    requires few { length items.now ≤ 10000 }
+    requires few { length items.now ≤ most_nodes }
+    requires plain { Each HasNoFeed texts.now }
+    requires room { length labels.old + length items.now < 2 ^ 32 - 1 }
     ensures side { IfOk result (λ s. (is : List ItemOf) → Along (IsRaw texts.now) items.now is → Along (IsNode names.now labels.new) (preorder_of s) is) }
+    ensures added { IfOk result (λ s. AddsSymbols labels.old (preorder_of s) labels.new) }
+    ensures few { length labels.new ≤ length labels.old + length items.now }
     ensures grows { Grows labels.old labels.new }
 {
     let resolved = resolve_items(alloc, items, names, texts, labels)?;
@@ -97,8 +111,12 @@ fn resolve_rule(
     labels: &mut Labels,
 ) -> Result<Rule<u32>, AllocError>
     requires tree { IsRawTree texts.now items.now }
-    requires few { length items.now ≤ 10000 }
+    requires few { length items.now ≤ most_nodes }
+    requires plain { Each HasNoFeed texts.now }
+    requires room { length labels.old + length items.now < 2 ^ 32 - 1 }
     ensures rule { IfOk result (λ r. (line : RuleLine) → IsRawRule names.now rule line → Along (IsRaw texts.now) items.now line.nodes → IsRule names.now labels.new r line) }
+    ensures added { IfOk result (λ r. AddsSymbols labels.old (preorder_of r.right) labels.new) }
+    ensures few { length labels.new ≤ length labels.old + length items.now }
     ensures grows { Grows labels.old labels.new }
 {
     let right = resolve_side(alloc, items, names, texts, labels)?;
@@ -126,8 +144,12 @@ pub(crate) fn resolve_rules(
     texts: &Labels,
     labels: &mut Labels,
 ) -> Result<Vec<Rule<u32>>, AllocError>
-    requires { (lines : List RuleLine) × IsRawGrammarOf names.now texts.now raw.now lines }
+    requires raw { (lines : List RuleLine) × IsRawGrammarOf names.now texts.now raw.now lines }
+    requires plain { Each HasNoFeed texts.now }
+    requires room { length labels.old + length raw.now.nodes.items < 2 ^ 32 - 1 }
     ensures rules { IfOk result (λ rs. (lines : List RuleLine) → IsRawGrammarOf names.now texts.now raw.now lines → Along (IsRule names.now labels.new) rs.items lines) }
+    ensures added { IfOk result (λ rs. AddsRules labels.old rs.items labels.new) }
+    ensures few { length labels.new ≤ length labels.old + length raw.now.nodes.items }
     ensures grows { Grows labels.old labels.new }
 {
     let mut rules = Vec::with_capacity(alloc, raw.rules.len())?;

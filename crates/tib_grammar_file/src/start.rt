@@ -1,6 +1,7 @@
 // The start of a grammar file, and what follows it.
-ghost use Rattle.std.specs.Prelude.{◌≡◌, ◌≤◌, ℕ, List, length, All};
+ghost use Rattle.std.specs.Prelude.{◌≡◌, ◌≤◌, ◌<◌, ◌-◌, ◌^◌, ℕ, List, [], length, All, IfOk};
 ghost use Rattle.tib_lex.specs.Line.{words_at, Lies};
+ghost use Rattle.tib_lex.specs.Lines.{HasNoFeed};
 ghost use Rattle.tib_grammar_file.specs.Found.{text_at, WeightLies};
 ghost use Rattle.tib_grammar_file.specs.Reading.{start_of, start_line, grammar_of};
 ghost use Rattle.tib_grammar_file.specs.RawGrammar.{IsStartLine, IsBegun, ReadsRaw};
@@ -36,7 +37,9 @@ fn read_start(
     text: &mut Vec<u8>,
     names: &mut Labels,
 ) -> Result<bool, LineError>
-    requires { length line.now ≤ 8388608 }
+    requires short { length line.now ≤ 8388608 }
+    requires plain { HasNoFeed line.now }
+    requires room { length names.old < 2 ^ 32 - 1 }
     ensures { IsStartLine names.old names.new result (start_line line.now) }
 {
     if !read_tokens(line, tokens)? {
@@ -65,7 +68,8 @@ pub(crate) struct Begun {
 }
 
 fn find_start(alloc: Global, bytes: &[u8], names: &mut Labels) -> Result<Begun, ReadError>
-    requires { length bytes.now ≤ 8388608 }
+    requires short { length bytes.now ≤ 8388608 }
+    requires room { length names.old < 2 ^ 32 - 1 }
     ensures { IsBegun bytes.now names.old names.new result }
 {
     let mut tokens = Vec::new(alloc);
@@ -89,7 +93,8 @@ fn find_start(alloc: Global, bytes: &[u8], names: &mut Labels) -> Result<Begun, 
     }))
 }
 
-/// The rules of a grammar file. The names of its states go into one table, and the texts in its trees into another.
+/// The rules of a grammar file. The names of its states go into one table, and the texts in its trees into another; both
+/// are empty before.
 pub(crate) fn read_raw(
     alloc: Global,
     weighted: bool,
@@ -97,8 +102,11 @@ pub(crate) fn read_raw(
     names: &mut Labels,
     texts: &mut Labels,
 ) -> Result<RawRules, ReadError>
-    requires { length bytes.now ≤ 8388608 }
-    ensures { ReadsRaw names.old names.new texts.new result (grammar_of weighted bytes.now) }
+    requires short { length bytes.now ≤ 8388608 }
+    requires names { names.old ≡ [] }
+    requires texts { texts.old ≡ [] }
+    ensures raw { ReadsRaw names.old names.new texts.new result (grammar_of weighted bytes.now) }
+    ensures few { IfOk result (λ raw. length raw.nodes.items ≤ length bytes.now) }
 {
     let begun = match find_start(alloc, bytes, names) {
         Ok(begun) => begun,

@@ -12,13 +12,13 @@ fn answer<S: Semiring + Drop>(
     alloc: Global,
     text: &[u8],
 ) -> Result<Result<Vec<u8>, FileFault>, Fail> {
-    if text.len() > 100_000 {
+    if text.len() > 1_000_000 {
         return Err("too long".into());
     }
     let mut labels = Labels::new(alloc);
     match read_grammar::<S>(alloc, text, &mut labels) {
         Ok(grammar) => {
-            let mut sink = MemorySink::new(alloc, Vec::new(alloc), 100_000)?;
+            let mut sink = MemorySink::new(alloc, Vec::new(alloc), 1_000_000)?;
             match print_grammar(&grammar, &labels, &mut sink) {
                 Ok(()) => Ok(Ok(sink.bytes().to_vec(alloc)?)),
                 Err(Failed) => Err("the sink failed".into()),
@@ -91,21 +91,27 @@ fn any_name_is_a_weight_where_nothing_is_weighed(rt: HostRuntime) -> Result<(), 
     Ok(())
 }
 
-// A right side with so many leaves below one label.
-fn wide(alloc: Global, leaves: u32) -> Result<Vec<u8>, Fail> {
-    let mut text = Vec::from_slice(alloc, b"q\nq -> f(")?;
-    for _ in 0..leaves {
-        text.extend_from_slice(b"a ")?;
+// A front, so many pieces, and a back.
+fn repeated(
+    alloc: Global,
+    front: &[u8],
+    piece: &[u8],
+    count: u32,
+    back: &[u8],
+) -> Result<Vec<u8>, Fail> {
+    let mut text = Vec::from_slice(alloc, front)?;
+    for _ in 0..count {
+        text.extend_from_slice(piece)?;
     }
-    text.extend_from_slice(b")")?;
+    text.extend_from_slice(back)?;
     Ok(text)
 }
 
 #[test]
 fn ten_thousand_nodes_are_read_and_no_more(rt: HostRuntime) -> Result<(), Fail> {
-    let few = wide(rt.alloc(), 9_999)?;
+    let few = repeated(rt.alloc(), b"q\nq -> f(", b"a ", 9_999, b")")?;
     assert!(rt; answer::<MinPlus>(rt.alloc(), &few)?.is_ok());
-    let many = wide(rt.alloc(), 10_000)?;
+    let many = repeated(rt.alloc(), b"q\nq -> f(", b"a ", 10_000, b")")?;
     match answer::<MinPlus>(rt.alloc(), &many)? {
         Ok(_) => return Err("too many nodes were read".into()),
         Err(fault) => assert_eq!(rt;
@@ -115,6 +121,16 @@ fn ten_thousand_nodes_are_read_and_no_more(rt: HostRuntime) -> Result<(), Fail> 
                 kind: FaultKind::TooManyNodes
             }
         ),
+    }
+    Ok(())
+}
+
+#[test]
+fn seventy_thousand_rules_are_read(rt: HostRuntime) -> Result<(), Fail> {
+    let text = repeated(rt.alloc(), b"q\n", b"q -> a\n", 70_000, b"")?;
+    match answer::<Boolean>(rt.alloc(), &text)? {
+        Ok(printed) => assert!(rt; printed == text),
+        Err(_) => return Err("a grammar was refused".into()),
     }
     Ok(())
 }

@@ -1,15 +1,15 @@
 use Rattle.tib_grammar_file.proofs.TextRead.{built_over, built}
 use Rattle.tib_grammar_file.proofs.grammar.build.Goals as goal
 
-pub resolve_rules-requires : goal.resolve_rules-requires
-resolve_rules-requires g c = (c.requires.1, c.requires.2.raw_is)
+pub resolve_rules-requires-clause-raw : goal.resolve_rules-requires-clause-raw
+resolve_rules-requires-clause-raw g c = (c.requires.source.1, c.requires.source.2.raw_is)
 
 pub state_names-requires : goal.state_names-requires
-state_names-requires g c = record { sound = c.requires.2.sound; few = c.requires.2.few_names }
+state_names-requires g c = record { sound = c.requires.source.2.sound; few = c.requires.source.2.few_names }
 
 pub grammar_over-requires : goal.grammar_over-requires
 grammar_over-requires g c =
-    let b = built_over c.args.names.now c.args.texts.now c.resolve_rules.new.labels c.in_ok-states.states c.args.raw.now c.requires.0 c.requires.1 c.in_ok-rules.rules.items c.requires.2 c.in_ok-states.ensures (c.in_ok-rules.ensures.rules c.requires.1 c.requires.2.raw_is) in
+    let b = built_over c.args.names.now c.args.texts.now c.resolve_rules.new.labels c.in_ok-states.states c.args.raw.now c.requires.source.0 c.requires.source.1 c.in_ok-rules.rules.items c.requires.source.2 c.in_ok-states.ensures (c.in_ok-rules.ensures.rules c.requires.source.1 c.requires.source.2.raw_is) in
     record { start = b.0; range = b.1; few = b.2 }
 
 pub returns-clause-grammar : goal.returns-clause-grammar

@@ -8,6 +8,10 @@ abbrev pub invariant-loop-line : goal.invariant-loop-line
 invariant-loop-line l = record {
   within : l.at ≤ length l.bytes;
   number : l.number ≤ l.at + 1;
+  names : length l.names ≤ length l.fn.names + (l.at - l.start);
+  texts : length l.texts ≤ length l.fn.texts + (l.at - l.start);
+  nodes : length l.raw.nodes.items ≤ l.at - l.start;
+  from : l.start ≤ l.at;
   so_far : SoFar l.fn.names l.names l.texts l.raw (rules_from l.weighted l.number (lines_of (drop l.at l.bytes))) (rules_from l.weighted l.first (lines_of (drop l.start l.bytes)));
 }
 

@@ -1,4 +1,4 @@
-use Rattle.std.proofs.Common.{◌≤◌, length, drop}
+use Rattle.std.proofs.Common.{◌≤◌, ◌+◌, ◌-◌, length, drop}
 use Rattle.tib_tree.specs.Grows.{Grows}
 use Rattle.tib_tree.specs.Shape.{items_back}
 use Rattle.tib_grammar_file.specs.Raw.{AddsNodes}
@@ -9,6 +9,7 @@ invariant-loop-i l = record {
   within : l.i ≤ length l.places;
   nodes : AddsNodes l.texts l.fn.nodes.items l.nodes.items (items_back l.line (drop l.i l.places));
   grows : Grows l.fn.texts l.texts;
+  few : length l.texts ≤ length l.fn.texts + (length l.places - l.i);
 }
 
 abbrev pub decreases-loop-i : goal.decreases-loop-i

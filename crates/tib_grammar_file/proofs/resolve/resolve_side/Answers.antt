@@ -3,8 +3,8 @@ use Rattle.std.specs.Prelude.{Err}
 use Rattle.tib_grammar_file.proofs.Resolved.{all_texts, is_a_tree}
 use Rattle.tib_grammar_file.proofs.resolve.resolve_side.Goals as goal
 
-pub resolve_items-requires : goal.resolve_items-requires
-resolve_items-requires c = all_texts c.args.texts.now c.args.items.now c.requires.tree.is c.requires.tree.are
+pub resolve_items-requires-clause-texts : goal.resolve_items-requires-clause-texts
+resolve_items-requires-clause-texts c = all_texts c.args.texts.now c.args.items.now c.requires.tree.is c.requires.tree.are
 
 pub unreachable-requires : goal.unreachable-requires
 unreachable-requires c =

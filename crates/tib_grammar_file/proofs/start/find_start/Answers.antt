@@ -1,5 +1,6 @@
-use Rattle.std.proofs.Common.{arith, refl}
+use Rattle.std.proofs.Common.{arith, refl, ap, length}
 use Rattle.tib_grammar_file.proofs.Begins.{waits_on, begins, start_failed}
+use Rattle.tib_grammar_file.proofs.RawRead.{text_no_feed}
 use Rattle.tib_grammar_file.proofs.start.find_start.Goals as goal
 
 pub loop-line-init : goal.loop-line-init
@@ -30,3 +31,9 @@ loop-line-preserved c =
       waits = waits_on c.args.names.now c.loop-line.names c.read_start.new.names c.args.bytes.now c.loop-line.at c.loop-line.number c.in-Some.line c.line_bytes.result.now _
           next c.line_bytes.ensures c.if-found.false c.in-Ok.ensures i.waits;
     }
+
+pub read_start-requires-clause-plain : goal.read_start-requires-clause-plain
+read_start-requires-clause-plain c = text_no_feed c.args.bytes.now c.loop-line.number c.loop-line.at c.in-Some.line c.line_bytes.result.now c.in-Some.ensures.line c.line_bytes.ensures
+
+pub read_start-requires-clause-room : goal.read_start-requires-clause-room
+read_start-requires-clause-room c = omega (arith, c.requires.room, ap length c.loop-line.invariant.waits.same)

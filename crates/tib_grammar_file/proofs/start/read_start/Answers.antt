@@ -3,6 +3,8 @@ use Rattle.std.proofs.lemmas.Bool.Decides.{nat_tests}
 use Rattle.std.specs.Prelude.{Some}
 use Rattle.std.proofs.Common.{subst}
 use Rattle.tib_lex.specs.Line.{text_of, word_at}
+use Rattle.tib_lex.specs.Lines.{HasNoFeed}
+use Rattle.tib_lex.proofs.NoFeeds.{text_plain}
 use Rattle.tib_tree.specs.Grows.{Adds}
 use Rattle.tib_tree.proofs.Steps.{accepted, refused}
 use Rattle.tib_grammar_file.specs.Rule.{has_dot}
@@ -45,3 +47,7 @@ returns c =
           ∙ plainly text (sym (ap has_dot (c.deref-2.ensures.value ∙ c.in_ok-read_text.ensures)) ∙ sym c.if-has_dot.ensures),
       subst (λ (t : List ℕ). Adds c.args.names.now t c.intern.new.self) (c.deref-3.ensures.value ∙ c.in_ok-read_text.ensures) c.in_ok-intern.ensures.adds,
     )
+
+pub intern-requires-clause-plain : goal.intern-requires-clause-plain
+intern-requires-clause-plain c =
+    subst (λ (t : List ℕ). HasNoFeed t) (sym (c.deref-3.ensures.value ∙ c.in_ok-read_text.ensures)) (text_plain c.args.line.now c.in-Some.token c.requires.plain)

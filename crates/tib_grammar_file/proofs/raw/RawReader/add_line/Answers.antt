@@ -6,7 +6,8 @@ use Rattle.tib_tree.specs.Shape.{items_back}
 use Rattle.tib_tree.proofs.Steps.{accepted, refused}
 use Rattle.tib_grammar_file.specs.Rule.{RuleLine, rule_line_of}
 use Rattle.tib_grammar_file.specs.Raw.{AddsNodes}
-use Rattle.tib_grammar_file.proofs.PartsRead.{some_found, bad_rule_line, blank_rule_line, no_rule_line, cost_failed, large_rule_line, good_rule_line, back_long}
+use Rattle.tib_grammar_file.proofs.PartsRead.{some_found, bad_rule_line, blank_rule_line, no_rule_line, cost_failed, large_rule_line, good_rule_line, back_long, line_few}
+use Rattle.tib_grammar_file.proofs.RawRead.{nodes_long}
 use Rattle.tib_grammar_file.proofs.raw.RawReader.add_line.Goals as goal
 
 pub returns-then-not-branch-clause-line : goal.returns-then-not-branch-clause-line
@@ -36,13 +37,13 @@ returns-in-Err-clause-line c =
     let s = some_found c.args.line.now ts.items c.deref.result.now c.read_parts.new.reader.places.items c.in_ok-found.field-0 _ (accepted c.in_ok-read_tokens.field-0 _ _ c.if-not-branch.false c.in_ok-read_tokens.ensures.words) n c.deref.ensures.value c.in_ok-found.ensures.parts c.in-Some.is in
     cost_failed c.args.weighted c.args.names.now c.args.names.now c.args.texts.now c.args.raw.now c.args.raw.now c.args.line.now ts.items c.deref.result.now c.read_parts.new.reader.places.items c.in-Some.found c.in-Err.error s c.in-Err.ensures
 
-pub returns-then-count-gt10000-clause-line : goal.returns-then-count-gt10000-clause-line
-returns-then-count-gt10000-clause-line c =
+pub returns-then-count-gt-MOST_NODES-clause-line : goal.returns-then-count-gt-MOST_NODES-clause-line
+returns-then-count-gt-MOST_NODES-clause-line c =
     let ts = c.read_tokens.new.tokens in
     let e = c.if-is_empty.ensures in
     let n : 0 < length ts.items = grind (arith, nat_tests, ts.ok.0) in
     let s = some_found c.args.line.now ts.items c.deref.result.now c.read_parts.new.reader.places.items c.in_ok-found.field-0 _ (accepted c.in_ok-read_tokens.field-0 _ _ c.if-not-branch.false c.in_ok-read_tokens.ensures.words) n c.deref.ensures.value c.in_ok-found.ensures.parts c.in-Some.is in
-    large_rule_line c.args.weighted c.args.line.now ts.items c.deref.result.now _ c.read_parts.new.reader.places.items _ c.in-Ok.cost s c.in-Ok.ensures (omega (arith, c.read_parts.new.reader.places.ok.0, c.if-count-gt10000.true))
+    large_rule_line c.args.weighted c.args.line.now ts.items c.deref.result.now _ c.read_parts.new.reader.places.items _ c.in-Ok.cost s c.in-Ok.ensures (omega (arith, c.read_parts.new.reader.places.ok.0, c.if-count-gt-MOST_NODES.true))
 
 pub returns-in-Ok-push-clause-line : goal.returns-in-Ok-push-clause-line
 returns-in-Ok-push-clause-line c =
@@ -53,7 +54,7 @@ returns-in-Ok-push-clause-line c =
     let line : RuleLine = rule_line_of (text_of (word_at c.args.line.now c.in-Some.found.left)) (items_back c.args.line.now c.read_parts.new.reader.places.items) c.in-Ok.cost in
     inr (
       line,
-      good_rule_line c.args.weighted c.args.line.now ts.items c.deref.result.now _ c.read_parts.new.reader.places.items _ c.in-Ok.cost s c.in-Ok.ensures (omega (arith, c.read_parts.new.reader.places.ok.0, c.if-count-gt10000.false)),
+      good_rule_line c.args.weighted c.args.line.now ts.items c.deref.result.now _ c.read_parts.new.reader.places.items _ c.in-Ok.cost s c.in-Ok.ensures (omega (arith, c.read_parts.new.reader.places.ok.0, c.if-count-gt-MOST_NODES.false)),
       record {
         raw = record { left = c.in_ok-left.left; nodes = c.len-count.result; cost = c.in-Ok.cost };
         is = record {
@@ -65,4 +66,29 @@ returns-in-Ok-push-clause-line c =
         head = c.in-Ok-push.ensures.items;
         body = subst (λ (ps : List Place). AddsNodes c.read_side.new.texts c.args.raw.now.nodes.items c.read_side.new.nodes.items (items_back c.args.line.now ps)) c.deref-2.ensures.value c.in_ok-read_side.ensures.nodes;
       },
+    )
+
+pub read_side-requires-clause-room : goal.read_side-requires-clause-room
+read_side-requires-clause-room c =
+    omega (arith, c.requires.texts, line_few c.args.line.now c.read_tokens.new.tokens.items c.deref.result.now c.read_parts.new.reader.places.items c.deref-2.result.now c.in_ok-found.field-0 c.in-Some.found c.deref.ensures.value c.in_ok-found.ensures.parts c.in-Some.is c.deref-2.ensures.value c.in_ok-read_tokens.ensures.few)
+
+pub returns-in_err-read_side-clause-few_texts : goal.returns-in_err-read_side-clause-few_texts
+returns-in_err-read_side-clause-few_texts c =
+    omega (arith, c.read_side.ensures.few, line_few c.args.line.now c.read_tokens.new.tokens.items c.deref.result.now c.read_parts.new.reader.places.items c.deref-2.result.now c.in_ok-found.field-0 c.in-Some.found c.deref.ensures.value c.in_ok-found.ensures.parts c.in-Some.is c.deref-2.ensures.value c.in_ok-read_tokens.ensures.few)
+
+pub returns-in-Ok-push-clause-few_texts : goal.returns-in-Ok-push-clause-few_texts
+returns-in-Ok-push-clause-few_texts c =
+    omega (arith, c.read_side.ensures.few, line_few c.args.line.now c.read_tokens.new.tokens.items c.deref.result.now c.read_parts.new.reader.places.items c.deref-2.result.now c.in_ok-found.field-0 c.in-Some.found c.deref.ensures.value c.in_ok-found.ensures.parts c.in-Some.is c.deref-2.ensures.value c.in_ok-read_tokens.ensures.few)
+
+pub returns-in-Err-push-clause-few_texts : goal.returns-in-Err-push-clause-few_texts
+returns-in-Err-push-clause-few_texts c =
+    omega (arith, c.read_side.ensures.few, line_few c.args.line.now c.read_tokens.new.tokens.items c.deref.result.now c.read_parts.new.reader.places.items c.deref-2.result.now c.in_ok-found.field-0 c.in-Some.found c.deref.ensures.value c.in_ok-found.ensures.parts c.in-Some.is c.deref-2.ensures.value c.in_ok-read_tokens.ensures.few)
+
+pub returns-in-Ok-push-clause-few_nodes : goal.returns-in-Ok-push-clause-few_nodes
+returns-in-Ok-push-clause-few_nodes c =
+    omega (
+      arith,
+      nodes_long c.read_side.new.texts c.args.raw.now.nodes.items c.read_side.new.nodes.items _ c.in_ok-read_side.ensures.nodes,
+      back_long c.args.line.now c.deref-2.result.now,
+      line_few c.args.line.now c.read_tokens.new.tokens.items c.deref.result.now c.read_parts.new.reader.places.items c.deref-2.result.now c.in_ok-found.field-0 c.in-Some.found c.deref.ensures.value c.in_ok-found.ensures.parts c.in-Some.is c.deref-2.ensures.value c.in_ok-read_tokens.ensures.few,
     )
