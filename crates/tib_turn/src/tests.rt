@@ -1,4 +1,4 @@
-ghost use Rattle.std.specs.Prelude.{◌≡◌, false};
+ghost use Rattle.std.specs.Prelude.{◌≡◌, ◌≤◌, false};
 ghost use Rattle.tib_turn.specs.Prefixes.{IsPrefix};
 
 use crate::{Grows, Pass, TurnLock};
@@ -58,20 +58,30 @@ fn two_passes_push_in_turn(rt: HostRuntime) -> Result<(), Fail> {
     Ok(())
 }
 
+/// How many turns each of two threads takes.
+const TURNS: u64 = 1000;
+
 #[derive(Drop)]
 struct Held {
     pass: Pass<Numbers>,
     appended: Result<(), AllocError>,
 }
 
-fn append_in_thread<R: Wait>(rt: &R, lock: &TurnLock<Numbers>, pass: Pass<Numbers>, n: u64) -> Held
+// Appends the numbers from the first one on, each in a turn of its own.
+fn append_all<R: Wait>(rt: &R, lock: &TurnLock<Numbers>, pass: Pass<Numbers>, first: u64) -> Held
     requires lock { pass.lock ≡ lock.now }
     requires outside { pass.inside ≡ false }
+    requires first { first ≤ 1000 }
     ensures lock { result.pass.lock ≡ lock.now }
     ensures outside { result.pass.inside ≡ false }
 {
     let mut pass = pass;
-    let appended = append_in_turn(rt, lock, &mut pass, n);
+    let mut appended = Ok(());
+    for n in first..first + TURNS {
+        if append_in_turn(rt, lock, &mut pass, n).is_err() {
+            appended = Err(AllocError);
+        }
+    }
     Held { pass, appended }
 }
 
@@ -91,19 +101,28 @@ fn append_in_two_threads<R: Threads + Wait + Sync>(
         move || -> Held
             requires { (first.lock ≡ lock.now) × (first.inside ≡ false) }
             ensures { (result.pass.lock ≡ lock.entry.now) × (result.pass.inside ≡ false) }
-        { append_in_thread(rt, lock, first, 8) },
+        { append_all(rt, lock, first, 0) },
         move || -> Held
             requires { (second.lock ≡ lock.now) × (second.inside ≡ false) }
             ensures { (result.pass.lock ≡ lock.entry.now) × (result.pass.inside ≡ false) }
-        { append_in_thread(rt, lock, second, 9) },
+        { append_all(rt, lock, second, TURNS) },
     )
 }
 
+// How many numbers stand there, and their sum.
+fn count_and_sum(numbers: &[u64]) -> (usize, u64) {
+    let mut sum = 0u64;
+    for &n in numbers {
+        sum = sum.wrapping_add(n);
+    }
+    (numbers.len(), sum)
+}
+
 #[test]
-fn two_threads_push_in_turn(rt: HostRuntime) -> Result<(), Fail> {
+fn two_threads_take_a_thousand_turns_each(rt: HostRuntime) -> Result<(), Fail> {
     let alloc = rt.alloc();
     let numbers = Numbers {
-        list: Vec::from_array(alloc, [7])?,
+        list: Vec::new(alloc),
     };
     let (lock, mut first) = TurnLock::open(alloc, numbers).map_err(|_| AllocError)?;
     let second = lock.split(&mut first);
@@ -113,8 +132,6 @@ fn two_threads_push_in_turn(rt: HostRuntime) -> Result<(), Fail> {
     first.appended?;
     appended?;
     let numbers = lock.close(&rt, first.pass);
-    let eight_first = numbers.list.as_slice() == [7, 8, 9].as_slice();
-    let nine_first = numbers.list.as_slice() == [7, 9, 8].as_slice();
-    assert!(rt; eight_first || nine_first);
+    assert_eq!(rt; count_and_sum(&numbers.list), (2000, 1_999_000));
     Ok(())
 }
