@@ -26,7 +26,7 @@ module _ {K O E : Type 0} (eq : K → K → Bool) (shelf_of : K → ℕ) (first 
   abbrev pub IsEndOf : ℕ → K → Type 0
   IsEndOf i k = (o : O) × (e : E) × edge i o e × Has (ends e) k
 
-  -- the edge stands among those that were filed
+  -- the edge stands among those that were filed: by definition it is an edge of a filed item
   abbrev pub IsFiled : Core K → ℕ → O → E → Type 0
   IsFiled t i o e = Has t.filed i × edge i o e
 

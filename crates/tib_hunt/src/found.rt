@@ -1,3 +1,5 @@
+use thiserror::Error;
+
 /// The reached set of an operation.
 #[derive(Drop)]
 pub struct Found<K, R> {
@@ -10,11 +12,13 @@ pub struct Found<K, R> {
 }
 
 /// Why nothing is found.
-#[derive(Debug, Drop, PartialEq, Eq)]
+#[derive(Debug, Drop, PartialEq, Eq, Error)]
 pub enum HuntError {
     /// The reached set has more parts than the limit.
+    #[error("more than {limit} parts")]
     TooMany { limit: u64 },
     /// There is no memory.
+    #[error("out of memory")]
     OutOfMemory,
 }
 
@@ -22,4 +26,11 @@ pub enum HuntError {
 pub trait Gate {
     /// A worker passes with an item.
     fn pass(&self, worker: u32, item: u32);
+}
+
+/// A gate that holds no worker.
+pub struct Open;
+
+impl Gate for Open {
+    fn pass(&self, _worker: u32, _item: u32) {}
 }

@@ -6,6 +6,7 @@
 mod claim;
 mod event;
 mod expand;
+mod few;
 mod found;
 mod fresh;
 mod hunting;
@@ -29,10 +30,11 @@ mod working;
 
 pub use event::{Answer, Event};
 pub use expand::Expand;
-pub use found::{Found, Gate, HuntError};
+pub use found::{Found, Gate, HuntError, Open};
 pub use itemized::Itemized;
 pub use items::{Items, Seat};
 pub use place::{Edges, ExpandError, Place};
 pub use reach::{hunt, hunt_alone};
 pub use round::Round;
 pub use round_of::RoundOf;
+pub use tib_table::TableKey;

@@ -1,3 +1,5 @@
+use thiserror::Error;
+
 /// Where a rule over keys points: at a position of the order, or at one of the ends of its own list.
 #[derive(Clone, Copy, Debug, Drop, PartialEq, Eq)]
 pub enum Place {
@@ -19,10 +21,12 @@ pub struct Edges<K, R> {
 }
 
 /// Why edges are not listed.
-#[derive(Debug, Drop, PartialEq, Eq)]
+#[derive(Debug, Drop, PartialEq, Eq, Error)]
 pub enum ExpandError {
     /// Their rules have more parts than the budget.
+    #[error("more parts than the budget")]
     More,
     /// There is no memory.
+    #[error("out of memory")]
     OutOfMemory,
 }

@@ -3,9 +3,10 @@ ghost use Rattle.tib_hunt.specs.EdgeLists.{IsWithin, position_of};
 ghost use Rattle.tib_hunt.specs.declared.place.Place.{Place};
 ghost use Rattle.std.proofs.Common.{◌∙◌, sym};
 
-use crate::plain::hunt_plainly;
+mod strands;
+
 use crate::{
-    Answer, Edges, Event, Expand, ExpandError, Gate, HuntError, Itemized, Items, Place, Round,
+    Answer, Edges, Event, Expand, ExpandError, HuntError, Itemized, Items, Open, Place, Round,
     RoundOf, Seat, hunt_alone,
 };
 use std::alloc::{AllocError, Global};
@@ -247,15 +248,6 @@ fn a_round_of_the_one_seed(rt: HostRuntime) -> Result<(), Fail> {
     Ok(())
 }
 
-// A gate that lets all pass.
-struct Open;
-
-impl Gate for Open {
-    fn pass(&self, worker: u32, item: u32) {
-        let _told = (worker, item);
-    }
-}
-
 #[test]
 fn sevens_are_found_within_seven_parts(rt: HostRuntime) -> Result<(), Fail> {
     match hunt_alone(rt.alloc(), &Sevens, 7, &Open) {
@@ -440,28 +432,6 @@ fn fans_have_more_than_twelve_parts(rt: HostRuntime) -> Result<(), Fail> {
         match hunt_alone(rt.alloc(), &Fans, limit, &Open) {
             Ok(_) => assert!(rt; false),
             Err(error) => assert_eq!(rt; error, HuntError::TooMany { limit }),
-        }
-    }
-    Ok(())
-}
-
-#[test]
-fn shelves_and_one_list_find_the_same_fans(rt: HostRuntime) -> Result<(), Fail> {
-    for limit in 1..16 {
-        let plain = hunt_plainly(rt.alloc(), &Fans, limit, &Open);
-        match hunt_alone(rt.alloc(), &Fans, limit, &Open) {
-            Ok(found) => match plain {
-                Ok(plain) => {
-                    assert_eq!(rt; &found.order[..], &plain.order[..]);
-                    assert_eq!(rt; &found.rules[..], &plain.rules[..]);
-                    assert_eq!(rt; found.parts, plain.parts);
-                }
-                Err(_) => assert!(rt; false),
-            },
-            Err(error) => match plain {
-                Ok(_) => assert!(rt; false),
-                Err(plain) => assert_eq!(rt; error, plain),
-            },
         }
     }
     Ok(())

@@ -6,9 +6,8 @@ use std::alloc::{AllocError, Global};
 use std::test::Fail;
 use tib_cost::{Bottleneck, Cost, MOST, MinPlus, Semiring};
 use tib_grammar::{Grammar, Item, Names, Rule, Side};
-use tib_hunt::{Edges, Expand, ExpandError, Found, Gate, HuntError};
+use tib_hunt::{Edges, Expand, ExpandError, Found, HuntError, Open, TableKey};
 use tib_normal::Normal;
-use tib_table::TableKey;
 use tib_tree::Label;
 
 // A rule: its left state, its label, the states below it and its cost.
@@ -182,15 +181,6 @@ fn a_key_has_two_entries_and_a_shelf(rt: HostRuntime) {
     assert!(rt; Pair::new(3, 9) < Pair::new(4, 0));
 }
 
-// A gate that lets all pass.
-struct Open;
-
-impl Gate for Open {
-    fn pass(&self, worker: u32, item: u32) {
-        let _told = (worker, item);
-    }
-}
-
 fn write_pair(text: &mut String, pair: Pair) -> Result<(), AllocError> {
     write_number(text, pair.first() as u64)?;
     text.push_str(".")?;
@@ -254,6 +244,49 @@ fn three_pairs_are_reached_by_four_rules(rt: HostRuntime) -> Result<(), Fail> {
     for (limit, want) in [(20_000_000, all), (19, all), (18, "more than 18")] {
         let text = reached_between(rt.alloc(), limit)?;
         assert_eq!(rt; text.as_str(), want);
+    }
+    Ok(())
+}
+
+// The grammar of one tree: so many labels 7, each below the one before, and a label 8 below the last.
+fn chain(alloc: Global, length: u32) -> Result<Normal<MinPlus>, Fail>
+    requires { length < 1000000 }
+{
+    let mut texts = Vec::new(alloc);
+    let mut rules = Vec::new(alloc);
+    for state in 0..length {
+        texts.push(state.to_string(alloc)?.as_bytes().to_vec(alloc)?)?;
+        rules.push(Rule {
+            left: state,
+            right: Side::over(alloc, 7, &[state + 1])?,
+            cost: MinPlus::one(),
+        })?;
+    }
+    texts.push(length.to_string(alloc)?.as_bytes().to_vec(alloc)?)?;
+    rules.push(Rule {
+        left: length,
+        right: Side::over(alloc, 8, &[])?,
+        cost: MinPlus::one(),
+    })?;
+    if texts.len() > 1_000_000 || rules.len() > 1_000_000 {
+        return Err("too many".into());
+    }
+    let names = Names::from_list(alloc, texts)?.ok_or("names")?;
+    let grammar = Grammar::new(names, rules).ok_or("grammar")?;
+    Ok(Normal::new(alloc, grammar)?.ok_or("normal form")?)
+}
+
+#[test]
+fn more_pairs_than_65536_are_reached(rt: HostRuntime) -> Result<(), Fail> {
+    let left = chain(rt.alloc(), 70_000)?;
+    let right = chain(rt.alloc(), 70_000)?;
+    match intersect(rt.alloc(), &left, &right, 20_000_000, &Open) {
+        Ok(found) => {
+            assert_eq!(rt; found.order.len(), 70_001);
+            assert_eq!(rt; found.rules.len(), 70_001);
+            assert_eq!(rt; found.parts, 420_005);
+        }
+        Err(_) => assert!(rt; false),
     }
     Ok(())
 }

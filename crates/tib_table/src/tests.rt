@@ -94,28 +94,32 @@ fn a_key_has_one_number(rt: HostRuntime) -> Result<(), Fail> {
 /// How many keys each of two threads numbers.
 const KEYS: u64 = 1000;
 
+/// More keys than numbers of 16 bits.
+const MANY: u64 = 70_000;
+
 #[derive(Drop)]
 struct Numbered {
     seats: Seats<AtMost>,
     numbers: Vec<Number>,
 }
 
-// Numbers the pairs from the first to the last, or the other way round.
+// Numbers so many pairs from the first to the last, or the other way round.
 fn number_all<R: Wait>(
     rt: &R,
     alloc: Global,
     table: &Table<AtMost>,
     seats: Seats<AtMost>,
+    keys: u64,
     backwards: bool,
 ) -> Result<Numbered, AllocError>
     requires table { seats.table ≡ table.now }
-    requires most { 1000 ≤ table.now.about }
+    requires most { keys ≤ table.now.about }
     ensures { IfOk result (λ n. n.seats.table ≡ table.now) }
 {
     let mut seats = seats;
     let mut numbers = Vec::new(alloc);
-    for at in 0..KEYS {
-        let left = if backwards { KEYS - 1 - at } else { at };
+    for at in 0..keys {
+        let left = if backwards { keys - 1 - at } else { at };
         match table.number(rt, &mut seats, pair_of(left)) {
             Ok(number) => numbers.push(number)?,
             Err(_) => return Err(AllocError),
@@ -142,11 +146,11 @@ fn number_in_two_threads<R: Threads + Wait + Sync>(
         move || -> Result<Numbered, AllocError>
             requires { (first.table ≡ table.now) × (1000 ≤ table.now.about) }
             ensures { IfOk result (λ n. n.seats.table ≡ table.entry.now) }
-        { number_all(rt, alloc, table, first, false) },
+        { number_all(rt, alloc, table, first, KEYS, false) },
         move || -> Result<Numbered, AllocError>
             requires { (second.table ≡ table.now) × (1000 ≤ table.now.about) }
             ensures { IfOk result (λ n. n.seats.table ≡ table.entry.now) }
-        { number_all(rt, alloc, table, second, true) },
+        { number_all(rt, alloc, table, second, KEYS, true) },
     )
 }
 
@@ -165,11 +169,11 @@ fn are_named(shelves: &Shelves<AtMost>, numbers: &[Number], backwards: bool) -> 
     true
 }
 
-// How many keys the shelves hold together, of at most 2,000 on each.
-fn count_keys(shelves: &mut Shelves<AtMost>) -> u64 {
+// How many keys the shelves hold together, of at most so many on each.
+fn count_keys(shelves: &mut Shelves<AtMost>, most: u64) -> u64 {
     let mut count = 0u64;
     for shelf in 0..16 {
-        for _ in 0..2 * KEYS {
+        for _ in 0..most {
             if shelves.take_last(shelf).is_some() {
                 count = count.wrapping_add(1);
             }
@@ -190,6 +194,17 @@ fn two_threads_give_each_key_one_number(rt: HostRuntime) -> Result<(), Fail> {
     let mut shelves = table.close(&rt, seats);
     assert!(rt; are_named(&shelves, numbers.as_slice(), false));
     assert!(rt; are_named(&shelves, second.numbers.as_slice(), true));
-    assert_eq!(rt; count_keys(&mut shelves), KEYS);
+    assert_eq!(rt; count_keys(&mut shelves, 2 * KEYS), KEYS);
+    Ok(())
+}
+
+#[test]
+fn a_table_numbers_more_keys_than_65536(rt: HostRuntime) -> Result<(), Fail> {
+    let alloc = rt.alloc();
+    let (table, seats) = Table::open(alloc, AtMost { most: MANY })?;
+    let Numbered { seats, numbers } = number_all(&rt, alloc, &table, seats, MANY, false)?;
+    let mut shelves = table.close(&rt, seats);
+    assert!(rt; are_named(&shelves, numbers.as_slice(), false));
+    assert_eq!(rt; count_keys(&mut shelves, MANY), MANY);
     Ok(())
 }

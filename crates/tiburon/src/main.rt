@@ -6,16 +6,9 @@ use std::io::BufWriter;
 use std::process::ExitCode;
 use std::thread::Threads;
 use std::{env, io};
-use tib_hunt::Gate;
+use tib_hunt::Open;
 use tib_io::{HostFiles, HostSink};
 use tib_run::{Status, run, tell};
-
-// A gate that holds no worker.
-struct Open;
-
-impl Gate for Open {
-    fn pass(&self, _worker: u32, _item: u32) {}
-}
 
 // The words of the command line without the program's name.
 fn words_of(rt: &HostRuntime) -> Result<Vec<String>, Status> {

@@ -6,7 +6,7 @@ use Rattle.tib_hunt.specs.Reached.{operation}
 use Rattle.tib_hunt.specs.Numbered.{key_parts}
 use Rattle.tib_hunt.proofs.Sights.{total_least}
 use Rattle.tib_hunt.proofs.Advancing.{laws_of, too_many_edges, too_many_ends, expanded, told_beyond, end_admitted, slice_is}
-use Rattle.tib_hunt.proofs.plain.expand_plainly.Goals as goal
+use Rattle.tib_hunt.proofs.few.expand_few.Goals as goal
 
 pub overflow_cast-n-end : goal.overflow_cast-n-end
 overflow_cast-n-end g c =

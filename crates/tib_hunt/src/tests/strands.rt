@@ -1,0 +1,206 @@
+//! Hunts of more keys than 65,536, in many rounds of two items and in a few of many, with the passes of their gate.
+ghost use Rattle.std.specs.Prelude.{◌≡◌, ◌<◌, ◌≤◌, ◌+◌, ◌*◌, [], ◌∷◌, IfOk, IfErr};
+ghost use Rattle.tib_hunt.specs.declared.place.Place.{Place};
+ghost use Rattle.std.proofs.Common.{◌∙◌, sym};
+
+use super::{Node, position_at};
+use crate::plain::hunt_plainly;
+use crate::{Edges, Expand, ExpandError, Gate, Open, Place, hunt_alone};
+use std::alloc::{AllocError, Global};
+use std::sync::atomic::{AtomicU64, Ordering};
+use std::test::Fail;
+
+/// An operation whose seed is the node 0, and of which each position n below the length has one edge, to the nodes that stand 1 and 2 behind so many
+/// times n. So the order is that of all numbers; once n, each round but the first has two items, and at twice n it has twice as many as the one before.
+#[derive(Drop)]
+struct Strands {
+    times: u32,
+    length: u32,
+    ghost few: { (times ≤ 2) × (length ≤ 100000) },
+}
+
+impl Expand for Strands {
+    ghost use Rattle.std.specs.Prelude.{◌≡◌, ◌<◌, ◌+◌, ◌*◌, [], ◌∷◌};
+
+    type Key = Node;
+
+    type Over = (Place, Place);
+
+    type Rule = (u32, u32);
+
+    type Origin = u32;
+
+    type Edge = (Node, Node);
+
+    ghost seed = { λ _ k. k ≡ record { number = 0 } };
+
+    ghost seed_edge = { λ _ _ _. ⊥ };
+
+    ghost edge = { λ p _ n o e. (n < p.length) × (o ≡ 0) × (e ≡ (record { number = p.times * n + 1 }, record { number = p.times * n + 2 })) };
+
+    ghost ends_of = { λ e. e.0 ∷ e.1 ∷ [] };
+
+    ghost parts_of = { λ _. 1 };
+
+    ghost admits = { λ _ _. Unit {0} };
+
+    ghost places = { λ r. r.0 ∷ r.1 ∷ [] };
+
+    ghost positions = { λ r. r.0 ∷ r.1 ∷ [] };
+
+    ghost read_places = { λ f r. (f r.0, f r.1) };
+
+    ghost read_positions = { λ f r. (f r.0, f r.1) };
+
+    fn seeds(
+        &self,
+        alloc: Global,
+        budget: u64,
+    ) -> Result<Edges<Node, (Place, Place)>, ExpandError> {
+        let _budget = budget;
+        let Ok(ends) = Vec::from_array(alloc, [Node { number: 0 }]) else {
+            return Err(ExpandError::OutOfMemory);
+        };
+        Ok(Edges {
+            ends,
+            rules: Vec::new(alloc),
+            parts: 0,
+        })
+    }
+
+    fn expand(
+        &self,
+        alloc: Global,
+        order: &[Node],
+        n: u32,
+        budget: u64,
+    ) -> Result<Edges<Node, (Place, Place)>, ExpandError> {
+        let _position = &order[n as usize];
+        if n >= self.length {
+            return Ok(Edges {
+                ends: Vec::new(alloc),
+                rules: Vec::new(alloc),
+                parts: 0,
+            });
+        }
+        if budget == 0 {
+            return Err(ExpandError::More);
+        }
+        match strand(alloc, self.times * n) {
+            Ok(edges) => Ok(edges),
+            Err(error) => Err(error),
+        }
+    }
+
+    fn settle(
+        &self,
+        alloc: Global,
+        rule: &(Place, Place),
+        ends: &[u32],
+    ) -> Result<(u32, u32), AllocError> {
+        let _alloc = alloc;
+        Ok((position_at(rule.0, ends), position_at(rule.1, ends)))
+    }
+
+    ghost reads_places = { λ rule f g same. λ i. (same.0 i, same.1.0 i) };
+
+    ghost reads_positions = { λ rule f g same. λ i. (same.0 i, same.1.0 i) };
+
+    ghost one_edge = { λ p order n o e f a b. a.2 ∙ sym b.2 };
+
+    ghost one_seed_edge = { λ p o e f a b. absurd a };
+
+    ghost seeds_admitted = { λ p k s. tt };
+
+    ghost ends_admitted = { λ p order n o e k all low is has. tt };
+
+    ghost seeds_end = { λ p o e k is has. absurd is };
+
+    ghost edges_stay = { λ p xs ys n o e a b same is. is };
+}
+
+// The edge to the two nodes behind a number.
+fn strand(alloc: Global, number: u32) -> Result<Edges<Node, (Place, Place)>, ExpandError>
+    requires { number ≤ 200000 }
+    ensures ends { IfOk result (λ r. r.ends.items ≡ record { number = number + 1 } ∷ record { number = number + 2 } ∷ []) }
+    ensures rules { IfOk result (λ r. r.rules.items ≡ (Place.End 0, Place.End 1) ∷ []) }
+    ensures parts { IfOk result (λ r. r.parts ≡ 1) }
+    ensures error { IfErr result (λ e. e ≡ ExpandError.OutOfMemory) }
+{
+    let nodes = [Node { number: number + 1 }, Node { number: number + 2 }];
+    let Ok(ends) = Vec::from_array(alloc, nodes) else {
+        return Err(ExpandError::OutOfMemory);
+    };
+    let Ok(rules) = Vec::from_array(alloc, [(Place::End(0), Place::End(1))]) else {
+        return Err(ExpandError::OutOfMemory);
+    };
+    Ok(Edges {
+        ends,
+        rules,
+        parts: 1,
+    })
+}
+
+// A gate that counts what passes, and adds up the items.
+#[derive(Drop)]
+struct Counting {
+    passes: AtomicU64,
+    sum: AtomicU64,
+}
+
+impl Gate for Counting {
+    fn pass(&self, worker: u32, item: u32) {
+        let _worker = worker;
+        self.passes.fetch_add(1, Ordering::SeqCst);
+        self.sum.fetch_add(item as u64, Ordering::SeqCst);
+    }
+}
+
+#[test]
+fn many_strands_are_found_and_each_item_passes_once(rt: HostRuntime) -> Result<(), Fail> {
+    for (times, length, keys, parts, sum) in [
+        (1, 70_000, 70_002, 210_004, 2_450_105_001),
+        (2, 35_000, 70_001, 175_001, 2_450_035_000),
+    ] {
+        let gate = Counting {
+            passes: AtomicU64::new(0),
+            sum: AtomicU64::new(0),
+        };
+        match hunt_alone(rt.alloc(), &Strands { times, length }, 20_000_000, &gate) {
+            Ok(found) => {
+                assert_eq!(rt; found.order.len(), keys);
+                assert_eq!(rt; found.parts, parts);
+            }
+            Err(_) => assert!(rt; false),
+        }
+        assert_eq!(rt; gate.passes.load(Ordering::SeqCst), keys as u64);
+        assert_eq!(rt; gate.sum.load(Ordering::SeqCst), sum);
+    }
+    Ok(())
+}
+
+#[test]
+fn shelves_and_one_list_find_the_same_strands(rt: HostRuntime) -> Result<(), Fail> {
+    let strands = Strands {
+        times: 2,
+        length: 40,
+    };
+    for limit in 1..210 {
+        let plain = hunt_plainly(rt.alloc(), &strands, limit, &Open);
+        match hunt_alone(rt.alloc(), &strands, limit, &Open) {
+            Ok(found) => match plain {
+                Ok(plain) => {
+                    assert_eq!(rt; &found.order[..], &plain.order[..]);
+                    assert_eq!(rt; &found.rules[..], &plain.rules[..]);
+                    assert_eq!(rt; found.parts, plain.parts);
+                }
+                Err(_) => assert!(rt; false),
+            },
+            Err(error) => match plain {
+                Ok(_) => assert!(rt; false),
+                Err(plain) => assert_eq!(rt; error, plain),
+            },
+        }
+    }
+    Ok(())
+}
