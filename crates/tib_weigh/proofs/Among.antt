@@ -1,9 +1,9 @@
 -- Runs that begin with one of some rules.
 use Rattle.std.specs.Prelude.{◌≡◌, ℕ, ◌+◌, ◌<◌, ◌≤◌, Bool, true, false, ◌&&◌, nat_eq, List, [], ◌∷◌, ◌++◌, length, ◌⊎◌, Option, None, Some, refl, if◌then◌else◌}
-use Rattle.std.proofs.Common.{zero, suc, ap, sym, ◌∙◌, arith, inl, inr, subst}
+use Rattle.std.proofs.Common.{zero, suc, ap, sym, ◌∙◌, arith, inl, inr, subst, get_or, append_assoc}
 use Rattle.std.proofs.lemmas.Bool.Decides.{nat_tests}
 use Rattle.tib_lex.specs.Lists.{Has}
-use Rattle.tib_tree.specs.Trees.{Trees, none, tree, count, first_trees, count-first}
+use Rattle.tib_tree.specs.Trees.{Trees, none, tree, count, first_trees, count-first, append_nil}
 use Rattle.tib_cost.specs.Semiring.{ProductLaws}
 use Rattle.tib_cost.specs.Least.{IsLeast, times, lesser}
 use Rattle.tib_cost.proofs.Least.{IsLeast-same, IsLeast-none, IsLeast-either, IsLeast-either_none, IsLeast-scaled}
@@ -12,32 +12,32 @@ use Rattle.tib_grammar.specs.Forms.{AreNormal}
 use Rattle.tib_grammar.specs.Run.{IsCost, rule_at, yields}
 use Rattle.tib_grammar.specs.declared.Rule.{Rule}
 use Rattle.tib_grammar.proofs.NormalRuns.{Begins, BeginsBelow, count-yields, IsLeast-no_states, IsLeast-one_more, IsLeast-all_rules}
-use Rattle.tib_normal.specs.Rules.{is_label, is_over, positions_with}
+use Rattle.tib_normal.specs.Rules.{positions_with}
 use Rattle.tib_weigh.specs.declared.vector.Entry.{Entry}
 use Rattle.tib_weigh.specs.Entries.{cost_in, IsAscending}
 use Rattle.tib_weigh.specs.Vectors.{times_all, Weighed}
 use Rattle.tib_weigh.proofs.EntryLemmas.{nat_eq_cases}
-use Rattle.tib_weigh.proofs.Places.{has_place, places_below, IsRulePlace}
+use Rattle.tib_weigh.specs.Serving.{IsRulePlace, IsUnserved, Serves}
+use Rattle.tib_weigh.proofs.Places.{places_below, place_has, has_rule_place}
 use Rattle.tib_weigh.proofs.Sides.{length-holes}
+use Rattle.tib_weigh.proofs.Stacks.{times-none}
+use Rattle.tib_weigh.proofs.Members.{has_at, has_first, has_last, has_either, has_parts, has_right}
 
 -- c is the cost of a run from q that begins with one of the rules at these positions and yields f over kids
 abbrev pub BeginsAmong : (ℕ → ℕ → ℕ) → List (Rule ℕ) → ℕ → ℕ → Trees ℕ → List ℕ → ℕ → Type 0
 BeginsAmong product rules q f kids ps c = (n : ℕ) × Has ps n × Begins product rules q f kids n c
 
-has_first : (ps : List ℕ) (m n : ℕ) → Has ps n → Has (ps ++ m ∷ []) n
-has_first [] m n h = absurd h
-has_first (p ∷ ps) m n (inl e) = inl e
-has_first (p ∷ ps) m n (inr h) = inr (has_first ps m n h)
+keeps_value : (b : Bool) (v w : Option ℕ) → w ≡ None → v ≡ (if b then lesser v w else v)
+keeps_value true None w e = rw e refl
+keeps_value true (Some a) w e = rw e refl
+keeps_value false v w e = refl
 
-has_last : (ps : List ℕ) (m : ℕ) → Has (ps ++ m ∷ []) m
-has_last [] m = inl refl
-has_last (p ∷ ps) m = inr (has_last ps m)
-
-has_either : (ps : List ℕ) (m n : ℕ) → Has (ps ++ m ∷ []) n → Has ps n ⊎ (m ≡ n)
-has_either [] m n (inl e) = inr e
-has_either [] m n (inr h) = absurd h
-has_either (p ∷ ps) m n (inl e) = inl (inl e)
-has_either (p ∷ ps) m n (inr h) = elim (has_either ps m n h) [ inl x ↦ inl (inr x) | inr e ↦ inr e ]
+-- a product is none where one of its costs is
+times_all-none_at : (product : ℕ → ℕ → ℕ) (qs : List ℕ) (vs : List (List Entry)) (j : ℕ) → j < length qs → cost_in (get_or vs j []) (get_or qs j 0) ≡ None → times_all product qs vs ≡ None
+times_all-none_at product [] vs j h e = absurd (omega arith)
+times_all-none_at product (q ∷ qs) [] j h e = refl
+times_all-none_at product (q ∷ qs) (v ∷ vs) zero h e = rw e refl
+times_all-none_at product (q ∷ qs) (v ∷ vs) (suc j) h e = rw (times_all-none_at product qs vs j (omega arith) e) (times-none product (cost_in v q))
 
 module _ {levelled weighted : Bool} {product : ℕ → ℕ → ℕ} (laws : ProductLaws levelled weighted product) (rules : List (Rule ℕ)) where
   pub among_none : (q f : ℕ) (kids : Trees ℕ) → IsLeast (BeginsAmong product rules q f kids []) None
@@ -69,15 +69,6 @@ module _ {levelled weighted : Bool} {product : ℕ → ℕ → ℕ} (laws : Prod
   among_other q f kids ps m other h =
       IsLeast-same (one_more q f kids ps m) (one_less q f kids ps m) (IsLeast-either_none (λ c b. other b.left) h)
 
-  is_label-same : (s : Symbol ℕ ℕ) (f : ℕ) → s ≡ label f → is_label f s ≡ true
-  is_label-same (label g) f e = let same : g ≡ f = cc in grind (arith, nat_tests)
-  is_label-same (hole p) f e = absurd (cc)
-
-  is_over-same : (r : Rule ℕ) (f k : ℕ) → r.right.label ≡ label f → count r.right.kids ≡ k → is_over f k r ≡ true
-  is_over-same r f k root many =
-      let same : nat_eq (count r.right.kids) k ≡ true = grind (arith, nat_tests) in
-      rw (is_label-same r.right.label f root, same) refl
-
   -- a run that yields f over k trees begins with a rule of the label f and the rank k
   pub among_all :
       AreNormal rules → (q f k : ℕ) (kids : Trees ℕ) → count kids ≡ k → {v : Option ℕ} →
@@ -100,7 +91,7 @@ module _ {levelled weighted : Bool} {product : ℕ → ℕ → ℕ} (laws : Prod
           )
 
       stands : (c n : ℕ) → n < length rules → Begins product rules q f kids n c → Has (positions_with f k rules) n
-      stands c n l b = let z : 0 + n ≡ n = omega arith in subst (Has (positions_with f k rules)) z (has_place rules 0 f k n l (is_over-same (rule_at rules n) f k b.root (arity c n l b)))
+      stands c n l b = place_has rules f k n (record { below = l; root = b.root; many = arity c n l b })
 
   -- the product over the states is the least cost of runs from them
   pub times_all-is_least :
@@ -132,6 +123,51 @@ module _ {levelled weighted : Bool} {product : ℕ → ℕ → ℕ} (laws : Prod
           (λ j. IsLeast (IsCost product rules (holes (rule_at rules m).right.kids) (first_trees j ts)) (times_all product (holes (rule_at rules m).right.kids) vs))
           holes_long
           (times_all-is_least (holes (rule_at rules m).right.kids) ts vs (omega (arith, holes_long, enough)) w)
+
+  -- a rule more that the vectors don't serve
+  unserved_step :
+      AreNormal rules → (ts : Trees ℕ) (vs : List (List Entry)) (f k : ℕ) (ps : List ℕ) (m q : ℕ) (v : Option ℕ) → IsRulePlace rules f k m → k ≤ count ts → Weighed product rules ts vs →
+      IsUnserved rules k vs m → IsLeast (BeginsAmong product rules q f (first_trees k ts) ps) v → IsLeast (BeginsAmong product rules q f (first_trees k ts) (ps ++ m ∷ [])) v
+  unserved_step normal ts vs f k ps m q v place enough w un h =
+      let qs : List ℕ = holes (rule_at rules m).right.kids in
+      let long : length qs ≡ k = length-holes (rule_at rules m).right.kids (normal m place.below).are_holes ∙ place.many in
+      let none : times_all product qs vs ≡ None = times_all-none_at product qs vs un.place (omega (arith, long, un.within)) un.costless in
+      let costless : times product (Some (rule_at rules m).cost) (times_all product qs vs) ≡ None = rw none refl in
+      among_step normal ts vs f k ps m q v v place enough w h (keeps_value (nat_eq (rule_at rules m).left q) v _ costless)
+
+  -- rules more, of which each is there or is not served
+  among_more :
+      AreNormal rules → (ts : Trees ℕ) (vs : List (List Entry)) (f k : ℕ) (us ps : List ℕ) (q : ℕ) (v : Option ℕ) → k ≤ count ts → Weighed product rules ts vs →
+      ((p : ℕ) → Has us p → IsRulePlace rules f k p × (Has ps p ⊎ IsUnserved rules k vs p)) → IsLeast (BeginsAmong product rules q f (first_trees k ts) ps) v →
+      IsLeast (BeginsAmong product rules q f (first_trees k ts) (ps ++ us)) v
+  among_more normal ts vs f k [] ps q v enough w each h =
+      subst (λ (xs : List ℕ). IsLeast (BeginsAmong product rules q f (first_trees k ts) xs) v) (sym (append_nil ps)) h
+  among_more normal ts vs f k (u ∷ us) ps q v enough w each h =
+      subst (λ (xs : List ℕ). IsLeast (BeginsAmong product rules q f (first_trees k ts) xs) v) (append_assoc ps (u ∷ []) us)
+      (among_more normal ts vs f k us (ps ++ u ∷ []) q v enough w (λ p a. later p (each p (inr a))) (next (each u (inl refl))))
+    where
+      later : (p : ℕ) → IsRulePlace rules f k p × (Has ps p ⊎ IsUnserved rules k vs p) → IsRulePlace rules f k p × (Has (ps ++ u ∷ []) p ⊎ IsUnserved rules k vs p)
+      later p (place, inl had) = (place, inl (has_first ps u p had))
+      later p (place, inr un) = (place, inr un)
+
+      next : IsRulePlace rules f k u × (Has ps u ⊎ IsUnserved rules k vs u) → IsLeast (BeginsAmong product rules q f (first_trees k ts) (ps ++ u ∷ [])) v
+      next (place, inl had) =
+          IsLeast-same (λ c b. (b.0, has_first ps u b.0 b.1, b.2))
+          (λ c b. (b.0, elim (has_either ps u b.0 b.1) [ inl x ↦ x | inr e ↦ subst (Has ps) e had ], b.2)) h
+      next (place, inr un) = unserved_step normal ts vs f k ps u q v place enough w un h
+
+  -- the rules that are served give the least cost of all
+  pub among_served :
+      AreNormal rules → (ts : Trees ℕ) (vs : List (List Entry)) (f k : ℕ) (ps : List ℕ) (q : ℕ) (v : Option ℕ) → k ≤ count ts → Weighed product rules ts vs → Serves rules f k vs ps →
+      IsLeast (BeginsAmong product rules q f (first_trees k ts) ps) v → IsLeast (IsCost product rules (q ∷ []) (tree f (first_trees k ts) none)) v
+  among_served normal ts vs f k ps q v enough w serves h =
+      among_all normal q f k (first_trees k ts) (count-first k ts enough)
+      (IsLeast-same (λ c b. (b.0, listed b.0 (has_parts ps (positions_with f k rules) b.0 b.1), b.2)) (λ c b. (b.0, has_right ps (positions_with f k rules) b.0 b.1, b.2))
+      (among_more normal ts vs f k (positions_with f k rules) ps q v enough w (λ p a. let place = has_rule_place rules f k p a in (place, serves.all p place)) h))
+    where
+      listed : (n : ℕ) → Has ps n ⊎ Has (positions_with f k rules) n → Has (positions_with f k rules) n
+      listed n (inl a) = let at = has_at ps n 0 a in place_has rules f k n (subst (IsRulePlace rules f k) at.2 (serves.each at.0 at.1))
+      listed n (inr a) = a
 
 pub count-Weighed : (product : ℕ → ℕ → ℕ) (rules : List (Rule ℕ)) (ts : Trees ℕ) (vs : List (List Entry)) → Weighed product rules ts vs → count ts ≡ length vs
 count-Weighed product rules none [] w = refl

@@ -10,6 +10,9 @@ use Rattle.tib_tree.specs.Trees.{count}
 use Rattle.tib_grammar.specs.Sides.{Symbol, label, hole}
 use Rattle.tib_normal.specs.Rules.{is_label, is_over, positions_from, positions_with}
 use Rattle.tib_normal.proofs.Pairwise.{Ascends-at}
+use Rattle.tib_weigh.specs.declared.vector.Entry.{Entry}
+use Rattle.tib_weigh.specs.Serving.{IsRulePlace, Serves, IsUnserved}
+use Rattle.tib_weigh.proofs.Members.{has_at, at_has}
 
 -- p, counted from k, is the position of a rule of the label f and the rank n
 pub record IsPlace (rules : List (Rule ℕ)) (k f n p : ℕ) : Type 0 where
@@ -87,12 +90,6 @@ lefts_ascend rules f n i j a h l =
     let b : get_or (positions_with f n rules) j 0 < length rules = omega (arith, at.below) in
     Ascends-at (λ r s. r.left ≤ s.left) rules no_rule a (get_or (positions_with f n rules) i 0) (get_or (positions_with f n rules) j 0) (places_ascend rules 0 f n i j h l) b
 
--- the rule at p has the label f and the rank n
-pub record IsRulePlace (rules : List (Rule ℕ)) (f n p : ℕ) : Type 0 where
-  pub below : p < length rules
-  pub root : (rule_at rules p).right.label ≡ label f
-  pub many : count (rule_at rules p).right.kids ≡ n
-
 and-true : (a b : Bool) → (a && b) ≡ true → (a ≡ true) × (b ≡ true)
 and-true true b e = (refl, e)
 and-true false b e = absurd (cc)
@@ -131,3 +128,54 @@ pub later_left :
     (rules : List (Rule ℕ)) (ps : List ℕ) (f n i j : ℕ) → ps ≡ positions_with f n rules → Ascends (λ r s. r.left ≤ s.left) rules → i < j → j < length ps →
     (rule_at rules (get_or ps i 0)).left ≤ (rule_at rules (get_or ps j 0)).left
 later_left rules ps f n i j e a h l = rw e (lefts_ascend rules f n i j a h (subst (λ (xs : List ℕ). j < length xs) e l))
+
+is_label-same : (s : Symbol ℕ ℕ) (f : ℕ) → s ≡ label f → is_label f s ≡ true
+is_label-same (label g) f e = let same : g ≡ f = cc in grind (arith, nat_tests)
+is_label-same (hole p) f e = absurd (cc)
+
+is_over-same : (r : Rule ℕ) (f k : ℕ) → r.right.label ≡ label f → count r.right.kids ≡ k → is_over f k r ≡ true
+is_over-same r f k root many =
+    let same : nat_eq (count r.right.kids) k ≡ true = grind (arith, nat_tests) in
+    rw (is_label-same r.right.label f root, same) refl
+
+-- a rule of the label and the rank is among those that are listed, and the other way round
+pub place_has : (rules : List (Rule ℕ)) (f n p : ℕ) → IsRulePlace rules f n p → Has (positions_with f n rules) p
+place_has rules f n p at =
+    let z : 0 + p ≡ p = omega arith in
+    subst (Has (positions_with f n rules)) z (has_place rules 0 f n p at.below (is_over-same (rule_at rules p) f n at.root at.many))
+
+pub has_rule_place : (rules : List (Rule ℕ)) (f n p : ℕ) → Has (positions_with f n rules) p → IsRulePlace rules f n p
+has_rule_place rules f n p h =
+    let at = has_at (positions_with f n rules) p 0 h in
+    subst (IsRulePlace rules f n) at.2 (rule_place rules (positions_with f n rules) f n at.0 refl at.1)
+
+-- all rules of the label and the rank
+pub all_serve : (rules : List (Rule ℕ)) (f n : ℕ) (vs : List (List Entry)) (ps : List ℕ) → ps ≡ positions_with f n rules → Ascends (λ r s. r.left ≤ s.left) rules → Serves rules f n vs ps
+all_serve rules f n vs ps e a = record {
+  each = λ i h. rule_place rules ps f n i e h;
+  ascend = λ i j h l. later_left rules ps f n i j e a h l;
+  all = λ p at. inl (rw e (place_has rules f n p at));
+}
+
+same_or_less : (m n : ℕ) → m ≤ n → (m ≡ n) ⊎ (m < n)
+same_or_less m n h = grind arith
+
+-- ascending positions of rules of the label and the rank, with all that are served
+pub some_serve :
+    (rules : List (Rule ℕ)) (f n : ℕ) (vs : List (List Entry)) (ps : List ℕ) → Ascends (λ r s. r.left ≤ s.left) rules →
+    ((i j : ℕ) → i < j → j < length ps → get_or ps i 0 ≤ get_or ps j 0) → ((p : ℕ) → Has ps p → Has (positions_with f n rules) p) →
+    ((p : ℕ) → Has (positions_with f n rules) p → Has ps p ⊎ IsUnserved rules n vs p) → Serves rules f n vs ps
+some_serve rules f n vs ps a sorted only all = record {
+  each = each;
+  ascend = λ i j h l. lefts (get_or ps i 0) (get_or ps j 0) (each j l).below (sorted i j h l);
+  all = λ p at. all p (place_has rules f n p at);
+}
+  where
+    each : (i : ℕ) → i < length ps → IsRulePlace rules f n (get_or ps i 0)
+    each i h = has_rule_place rules f n (get_or ps i 0) (only (get_or ps i 0) (at_has ps i 0 h))
+
+    lefts : (p q : ℕ) → q < length rules → p ≤ q → (rule_at rules p).left ≤ (rule_at rules q).left
+    lefts p q l h = elim (same_or_less p q h) [
+      | inl e ↦ let same : (rule_at rules p).left ≡ (rule_at rules q).left = ap (λ i. (rule_at rules i).left) e in omega arith
+      | inr lt ↦ Ascends-at (λ r s. r.left ≤ s.left) rules no_rule a p q lt l
+    ]

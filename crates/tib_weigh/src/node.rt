@@ -5,10 +5,11 @@ ghost use Rattle.tib_lex.specs.Lists.{Ascends, Each};
 ghost use Rattle.tib_tree.specs.Trees.{Trees, count, first_trees};
 ghost use Rattle.tib_grammar.specs.Forms.{AreNormal, IsNormalSide};
 ghost use Rattle.tib_grammar.specs.Sides.{holes as holes_of};
-ghost use Rattle.tib_normal.specs.Rules.{positions_with};
+ghost use Rattle.tib_weigh.specs.Serving.{Serves};
 ghost use Rattle.tib_weigh.specs.Entries.{cost_in, EndsBy, IsAscending};
 ghost use Rattle.tib_weigh.specs.Vectors.{state_in, times_all, vectors, IsVectorOf, Weighed};
 
+use crate::below::{holes, state_of};
 use crate::vector::{Entry, add_cost, cost_at};
 use std::alloc::{AllocError, Global};
 use tib_cost::{Cost, Semiring};
@@ -22,16 +23,6 @@ fn times<S: Semiring>(a: Option<Cost>, b: Option<Cost>) -> Option<Cost>
     match (a, b) {
         (Some(x), Some(y)) => S::times(x, y),
         _ => None,
-    }
-}
-
-// The state that an item carries.
-fn state_of(item: &Item<u32>) -> u32
-    ensures { result ≡ state_in item.now }
-{
-    match item {
-        Item::Label { .. } => 0,
-        Item::Hole(state) => *state,
     }
 }
 
@@ -55,15 +46,6 @@ fn product_of<S: Semiring>(holes: &[Item<u32>], stack: &[Vec<Entry>]) -> Option<
         product = more;
     }
     Some(product)
-}
-
-// The holes of a rule in normal form.
-fn holes(rule: &Rule<u32>) -> &[Item<u32>]
-    requires { IsNormalSide rule.now.right }
-    ensures states { map state_in result.now ≡ holes_of rule.now.right.kids }
-    ensures many { length result.now ≡ count rule.now.right.kids }
-{
-    &rule.right.items()[1..]
 }
 
 // Adds the costs of runs that begin with a rule.
@@ -90,7 +72,7 @@ fn add_rule<S: Semiring>(
 }
 
 /// The vector of a node of a label and a rank over the trees on top of the stack. The positions are those of the rules
-/// of this label and rank; no other rule is looked at.
+/// of this label and rank that the vectors of the children can serve; no other rule is looked at.
 pub(crate) fn node_vector<S: Semiring>(
     alloc: Global,
     rules: &[Rule<u32>],
@@ -100,8 +82,7 @@ pub(crate) fn node_vector<S: Semiring>(
     stack: &[Vec<Entry>],
 ) -> Result<Vec<Entry>, AllocError>
     requires normal { AreNormal rules.now }
-    requires ascending { Ascends (λ r s. r.left ≤ s.left) rules.now }
-    requires positions { positions.now ≡ positions_with label rank rules.now }
+    requires positions { Serves rules.now label rank (vectors stack.now) positions.now }
     requires enough { rank ≤ length stack.now }
     requires ascend { Each IsAscending (vectors stack.now) }
     ensures { IfOk result (λ v. (ts : Trees ℕ) → Weighed S.product rules.now ts (vectors stack.now) → IsVectorOf S.product rules.now label (first_trees rank ts) v.items) }

@@ -1,21 +1,92 @@
 // The cost of a tree, and of many.
-ghost use Rattle.std.specs.Prelude.{◌≡◌, ℕ, ◌+◌, ◌-◌, ◌<◌, ◌≤◌, length, IfOk};
+ghost use Rattle.std.specs.Prelude.{◌≡◌, ℕ, ◌+◌, ◌-◌, ◌<◌, ◌≤◌, ◌^◌, length, take, IfOk, vec_len};
 ghost use Rattle.tib_grammar.specs.Series.{IsSeries};
 ghost use Rattle.std.specs.List.{AllZip};
-ghost use Rattle.std.specs.Prelude.{Ok};
+ghost use Rattle.std.specs.Thread.{IsSync};
+ghost use Rattle.tib_lex.specs.Lists.{Each};
+ghost use Rattle.tib_tree.specs.Trees.{Trees, first_trees};
+ghost use Rattle.tib_weigh.specs.Entries.{IsAscending};
+ghost use Rattle.tib_weigh.specs.Shapes.{IsIndex};
+ghost use Rattle.tib_weigh.specs.Vectors.{vectors, IsVectorOf, Weighed};
 
+use crate::index::Index;
 use crate::node::node_vector;
 use crate::vector::{Entry, cost_at};
-use rayon::prelude::*;
 use std::alloc::{AllocError, Global};
-use std::thread::Threads;
+use std::thread::{Threads, available_parallelism, join};
 use tib_cost::{Cost, Semiring};
 use tib_normal::Normal;
-use tib_tree::Tree;
+use tib_tree::{Label, Tree};
+
+// The vector of a node over the trees on top of the stack, from what the index has for its label and rank, else from all
+// rules of these.
+fn vector_at<S: Semiring>(
+    alloc: Global,
+    normal: &Normal<S>,
+    index: &Index,
+    label: Label,
+    rank: u32,
+    stack: &[Vec<Entry>],
+) -> Result<Vec<Entry>, AllocError>
+    requires index { IsIndex S.product normal.now.rules index.now }
+    requires enough { rank ≤ length stack.now }
+    requires ascend { Each IsAscending (vectors stack.now) }
+    ensures { IfOk result (λ v. (ts : Trees ℕ) → Weighed S.product normal.now.rules ts (vectors stack.now) → IsVectorOf S.product normal.now.rules label (first_trees rank ts) v.items) }
+{
+    let rules = normal.grammar().rule_list();
+    if let Some(shape) = index.find(label, rank) {
+        if rank == 0 {
+            return Vec::from_slice(alloc, shape.leaf());
+        }
+        if let Some(positions) = shape.served(alloc, stack)? {
+            return node_vector::<S>(alloc, rules, &positions, label, rank, stack);
+        }
+    }
+    let positions = normal.rules_with(label, rank);
+    node_vector::<S>(alloc, rules, positions, label, rank, stack)
+}
+
+// The cost of a tree, with an index of the rules, which may lack some or all of them. In a bottom-up pass the vector of a
+// node holds the least cost from each state.
+fn weigh_by<S: Semiring>(
+    alloc: Global,
+    normal: &Normal<S>,
+    index: &Index,
+    tree: &Tree,
+) -> Result<Option<Cost>, AllocError>
+    requires { IsIndex S.product normal.now.rules index.now }
+    ensures { IfOk result (λ v. IsSeries S.product normal.now.rules tree.now v) }
+{
+    let nodes = tree.nodes();
+    let mut stack: Vec<Vec<Entry>> = Vec::new(alloc);
+    let mut i = nodes.len();
+    while i > 0 {
+        i -= 1;
+        let node = nodes[i];
+        let vector = vector_at::<S>(alloc, normal, index, node.label, node.rank, &stack)?;
+        stack.truncate(stack.len() - node.rank as usize);
+        stack.push(vector)?;
+    }
+    Ok(cost_at(&stack[0], 0))
+}
+
+// The index of the rules, or where the nodes are too few to be worth it the index of none.
+fn index_for<S: Semiring>(
+    alloc: Global,
+    normal: &Normal<S>,
+    nodes: usize,
+) -> Result<Index, AllocError>
+    ensures { IfOk result (IsIndex S.product normal.now.rules) }
+{
+    if nodes < normal.grammar().rule_list().len() {
+        return Ok(Index::empty(alloc));
+    }
+    Index::new::<S>(alloc, normal)
+}
 
 /// The least cost at most 10^15 of a run of the grammar from its start that yields the tree, and None exactly where there
-/// is none. In a bottom-up pass the vector of a node holds the least cost from each state (inside costs of weighted tree
-/// automata; Knuth 1977, Goodman 1999).
+/// is none (inside costs of weighted tree automata; Knuth 1977, Goodman 1999). For many trees `weigh_all` is cheaper: it
+/// indexes the rules once.
 pub fn weigh<S: Semiring>(
     alloc: Global,
     normal: &Normal<S>,
@@ -23,55 +94,93 @@ pub fn weigh<S: Semiring>(
 ) -> Result<Option<Cost>, AllocError>
     ensures { IfOk result (λ v. IsSeries S.product normal.now.rules tree.now v) }
 {
-    let rules = normal.grammar().rule_list();
-    let nodes = tree.nodes();
-    let mut stack: Vec<Vec<Entry>> = Vec::new(alloc);
-    let mut i = nodes.len();
-    while i > 0 {
-        i -= 1;
-        let node = nodes[i];
-        let positions = normal.rules_with(node.label, node.rank);
-        let vector = node_vector::<S>(alloc, rules, positions, node.label, node.rank, &stack)?;
-        stack.truncate(stack.len() - node.rank as usize);
-        stack.push(vector)?;
-    }
-    Ok(cost_at(&stack[0], 0))
+    let index = index_for::<S>(alloc, normal, tree.nodes().len())?;
+    weigh_by::<S>(alloc, normal, &index, tree)
 }
 
-// The costs of the trees, from as many threads as there are processors, each unless memory was refused.
-fn weigh_each<S: Semiring + Sync, R: Threads + Sync>(
+// The costs of the trees, in order, in this thread.
+fn weigh_each<S: Semiring>(
+    alloc: Global,
+    normal: &Normal<S>,
+    index: &Index,
+    trees: &[Tree],
+) -> Result<Vec<Option<Cost>>, AllocError>
+    requires { IsIndex S.product normal.now.rules index.now }
+    ensures { IfOk result (λ vs. AllZip (λ t v. IsSeries S.product normal.now.rules t v) trees.now vs.items) }
+{
+    let mut costs = Vec::with_capacity(alloc, trees.len())?;
+    for tree in trees {
+        costs.push(weigh_by::<S>(alloc, normal, index, tree)?)?;
+    }
+    Ok(costs)
+}
+
+// How many nodes the trees have, counted up to the greatest number.
+fn nodes_of(trees: &[Tree]) -> usize {
+    let mut nodes: usize = 0;
+    for tree in trees {
+        nodes = nodes.saturating_add(tree.nodes().len());
+    }
+    nodes
+}
+
+// How many of the first trees have about so many nodes together: at least one, and not all.
+fn first_with(trees: &[Tree], nodes: usize) -> usize
+    requires { 2 ≤ length trees.now }
+    ensures { (1 ≤ result) × (result < length trees.now) }
+{
+    let mut so_far = trees[0].nodes().len();
+    let mut n = 1;
+    while n < trees.len() - 1 && so_far < nodes {
+        so_far = so_far.saturating_add(trees[n].nodes().len());
+        n += 1;
+    }
+    n
+}
+
+// How few nodes are worth a thread of their own.
+const LEAST_PIECE: usize = 1024;
+
+// The costs of the trees, in order. The work is halved by nodes so many times, and each half has a thread of its own.
+#[cycle(halves)]
+fn weigh_halves<S: Semiring + Sync, R: Threads + Sync>(
     rt: &R,
     alloc: Global,
     normal: &Normal<S>,
+    index: &Index,
     trees: &[Tree],
-) -> Result<Vec<Result<Option<Cost>, AllocError>>, AllocError>
-    ensures { IfOk result (λ vs. AllZip (λ t r. IfOk r (λ v. IsSeries S.product normal.now.rules t v)) trees.now vs.items) }
+    times: u32,
+) -> Result<Vec<Option<Cost>>, AllocError>
+    requires { IsIndex S.product normal.now.rules index.now }
+    ensures { IfOk result (λ vs. AllZip (λ t v. IsSeries S.product normal.now.rules t v) trees.now vs.items) }
 {
-    trees
-        .par_iter()
-        .map(
-            |tree: &Tree| -> Result<Option<Cost>, AllocError>
-                ensures { IfOk result (λ v. IsSeries S.product normal.entry.now.rules tree.now v) }
-            { weigh::<S>(alloc, normal, tree) },
-        )
-        .collect(rt, alloc)
+    let half = nodes_of(trees) / 2;
+    if times == 0 || trees.len() < 2 || half < LEAST_PIECE {
+        return weigh_each::<S>(alloc, normal, index, trees);
+    }
+    let (front, back) = trees.split_at(first_with(trees, half));
+    let of_front = move || -> Result<Vec<Option<Cost>>, AllocError>
+        requires { IsSync R.row × IsSync S.row × (0 < times) × IsIndex S.product normal.now.rules index.now }
+        ensures { IfOk result (λ vs. AllZip (λ t v. IsSeries S.product normal.entry.now.rules t v) front.entry.now vs.items) }
+    { weigh_halves::<S, R>(rt, alloc, normal, index, front, times - 1) };
+    let of_back = move || -> Result<Vec<Option<Cost>>, AllocError>
+        requires { IsSync R.row × IsSync S.row × (0 < times) × IsIndex S.product normal.now.rules index.now }
+        ensures { IfOk result (λ vs. AllZip (λ t v. IsSeries S.product normal.entry.now.rules t v) back.entry.now vs.items) }
+    { weigh_halves::<S, R>(rt, alloc, normal, index, back, times - 1) };
+    let (first, second) = join(rt, of_front, of_back);
+    let mut costs = first?;
+    let rest = second?;
+    costs.extend_from_slice(&rest)?;
+    Ok(costs)
 }
 
-// The answers, where each is there.
-fn all_there(
-    alloc: Global,
-    answers: &[Result<Option<Cost>, AllocError>],
-) -> Result<Vec<Option<Cost>>, AllocError>
-    ensures { IfOk result (λ vs. AllZip (λ r v. r ≡ Ok v) answers.now vs.items) }
-{
-    let mut costs = Vec::with_capacity(alloc, answers.len())?;
-    for answer in answers {
-        match answer {
-            Ok(cost) => costs.push(*cost)?,
-            Err(_) => return Err(AllocError),
-        }
-    }
-    Ok(costs)
+// How many times the work is halved: two pieces for each processor, up to 32 of these, since pieces differ in length.
+fn halvings<R: Threads>(rt: &R) -> u32 {
+    let processors = match available_parallelism(rt) {
+        Ok(count) => count.get(),
+        Err(_) => 1,
+    };
+    processors.min(32).saturating_mul(2).ilog2()
 }
 
 /// The costs of the trees, in order, found in several threads: each is what `weigh` gives.
@@ -83,6 +192,6 @@ pub fn weigh_all<S: Semiring + Sync, R: Threads + Sync>(
 ) -> Result<Vec<Option<Cost>>, AllocError>
     ensures { IfOk result (λ vs. AllZip (λ t v. IsSeries S.product normal.now.rules t v) trees.now vs.items) }
 {
-    let answers = weigh_each::<S, R>(rt, alloc, normal, trees)?;
-    all_there(alloc, &answers)
+    let index = index_for::<S>(alloc, normal, nodes_of(trees))?;
+    weigh_halves::<S, R>(rt, alloc, normal, &index, trees, halvings(rt))
 }

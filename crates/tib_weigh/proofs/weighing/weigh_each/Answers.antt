@@ -1,14 +1,15 @@
-use Rattle.std.proofs.Common.{◌≡◌, ap, ◌∙◌, ℕ, IfOk, subst}
-use Rattle.std.specs.List.{AllZip}
-use Rattle.rayon.proofs.ListFacts.{IfOk-then}
-use Rattle.rayon.proofs.ToStd.{slice-AllZip}
+use Rattle.std.proofs.Common.{◌≡◌, ℕ, List, take, subst, get_or}
+use Rattle.std.proofs.lemmas.List.{take_more}
+use Rattle.tib_tree.specs.Trees.{Tree}
 use Rattle.tib_grammar.specs.Series.{IsSeries}
+use Rattle.tib_weigh.proofs.Zipped.{zip_more}
 use Rattle.tib_weigh.proofs.weighing.weigh_each.Goals as goal
 
-pub returns : goal.returns
-returns g c =
-    let slice = ap (λ it. it.slice.now) c.map.ensures.base ∙ c.par_iter.ensures in
-    IfOk-then c.collect.result _ _ c.collect.ensures (λ v h.
-    let chain = h.1 in
-    rw h.2 (subst (λ normal. AllZip (λ t r. IfOk r (λ v. IsSeries g.S.Semiring.product normal.now.rules t v)) c.args.trees.now h.0) (ap (λ f. f.1) c.map.ensures.f)
-    (slice-AllZip chain.0 c.args.trees.now (chain.1 ∙ slice) (λ t r. IfOk r (λ v. IsSeries g.S.Semiring.product c.map.result.f.1.now.rules t v)) h.0 chain.2)))
+pub loop-tree-preserved : goal.loop-tree-preserved
+loop-tree-preserved g c =
+    let i = c.loop-tree.tree-index in
+    let tree : IsSeries g.S.Semiring.product c.args.normal.now.rules (get_or c.args.trees.now i c.tree-item.result) c.in_ok-weigh_by.field-0 =
+    subst (λ (t : Tree ℕ). IsSeries g.S.Semiring.product c.args.normal.now.rules t c.in_ok-weigh_by.field-0) c.tree-item.is c.in_ok-weigh_by.ensures
+    in
+    rw (take_more c.args.trees.now i c.tree-item.result c.loop-tree-test.true, c.in_ok-push.ensures.items)
+    (zip_more (λ t v. IsSeries g.S.Semiring.product c.args.normal.now.rules t v) (take i c.args.trees.now) c.loop-tree.costs.items (get_or c.args.trees.now i c.tree-item.result) c.in_ok-weigh_by.field-0 c.loop-tree.invariant tree)

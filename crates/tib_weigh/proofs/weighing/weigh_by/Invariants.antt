@@ -2,12 +2,12 @@ use Rattle.std.proofs.Common.{◌≡◌, ◌≤◌, length, ℕ, drop}
 use Rattle.tib_tree.specs.Trees.{Trees, parse}
 use Rattle.tib_tree.specs.Pairs.{pairs_of}
 use Rattle.tib_weigh.specs.Vectors.{vectors, Weighed}
-use Rattle.tib_weigh.proofs.weighing.weigh.Given as goal
+use Rattle.tib_weigh.proofs.weighing.weigh_by.Given as goal
 
 abbrev pub invariant-loop-i : goal.invariant-loop-i
 invariant-loop-i g l = record {
   within : l.i ≤ length l.nodes;
-  weighed : Weighed g.S.Semiring.product l.rules (parse (drop l.i (pairs_of l.nodes))) (vectors l.stack.items);
+  weighed : Weighed g.S.Semiring.product l.normal.rules (parse (drop l.i (pairs_of l.nodes))) (vectors l.stack.items);
 }
 
 abbrev pub decreases-loop-i : goal.decreases-loop-i

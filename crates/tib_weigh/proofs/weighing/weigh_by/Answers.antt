@@ -8,18 +8,18 @@ use Rattle.tib_grammar.specs.declared.Rule.{Rule}
 use Rattle.tib_weigh.specs.Entries.{IsAscending}
 use Rattle.tib_weigh.specs.Vectors.{vectors}
 use Rattle.tib_weigh.proofs.Walk.{on_stack, step_left, last_vector, ascending-Weighed}
-use Rattle.tib_weigh.proofs.weighing.weigh.Goals as goal
+use Rattle.tib_weigh.proofs.weighing.weigh_by.Goals as goal
 
-pub node_vector-requires-clause-enough : goal.node_vector-requires-clause-enough
-node_vector-requires-clause-enough g c =
+pub vector_at-requires-clause-enough : goal.vector_at-requires-clause-enough
+vector_at-requires-clause-enough g c =
     rw c.deref.ensures.value
-    (on_stack g.S.Semiring.product c.rule_list-rules.result.now c.nodes-nodes.result.now c.args.tree.now c.nodes-nodes.ensures.pairs c.loop-i.i
+    (on_stack g.S.Semiring.product c.args.normal.now.rules c.nodes-nodes.result.now c.args.tree.now c.nodes-nodes.ensures.pairs c.loop-i.i
     c.loop-i.stack.items c.loop-i-test.true c.loop-i.invariant.within c.loop-i.invariant.weighed)
 
-pub node_vector-requires-clause-ascend : goal.node_vector-requires-clause-ascend
-node_vector-requires-clause-ascend g c =
+pub vector_at-requires-clause-ascend : goal.vector_at-requires-clause-ascend
+vector_at-requires-clause-ascend g c =
     rw c.deref.ensures.value
-    (ascending-Weighed g.S.Semiring.product c.rule_list-rules.result.now (parse (drop c.loop-i.i (pairs_of c.nodes-nodes.result.now)))
+    (ascending-Weighed g.S.Semiring.product c.args.normal.now.rules (parse (drop c.loop-i.i (pairs_of c.nodes-nodes.result.now)))
     (vectors c.loop-i.stack.items) c.loop-i.invariant.weighed)
 
 pub overflow_sub-len : goal.overflow_sub-len
@@ -28,7 +28,7 @@ overflow_sub-len g c =
       arith,
       c.len.ensures,
       c.loop-i.stack.ok.0,
-      on_stack g.S.Semiring.product c.rule_list-rules.result.now c.nodes-nodes.result.now c.args.tree.now c.nodes-nodes.ensures.pairs c.loop-i.i
+      on_stack g.S.Semiring.product c.args.normal.now.rules c.nodes-nodes.result.now c.args.tree.now c.nodes-nodes.ensures.pairs c.loop-i.i
           c.loop-i.stack.items c.loop-i-test.true c.loop-i.invariant.within c.loop-i.invariant.weighed,
     )
 
@@ -36,7 +36,7 @@ pub loop-i-preserved : goal.loop-i-preserved
 loop-i-preserved g c = record {
   within = omega arith;
   weighed = rw (c.in_ok-push.ensures.items, c.truncate.ensures.items, c.len.ensures, c.loop-i.stack.ok.0) (
-      step_left g.S.Semiring.product c.rule_list-rules.result.now c.nodes-nodes.result.now c.args.tree.now c.nodes-nodes.ensures.pairs c.loop-i.i
+      step_left g.S.Semiring.product c.args.normal.now.rules c.nodes-nodes.result.now c.args.tree.now c.nodes-nodes.ensures.pairs c.loop-i.i
       c.loop-i.stack.items c.in_ok-vector.vector c.loop-i-test.true c.loop-i.invariant.within c.loop-i.invariant.weighed
       (c.in_ok-vector.ensures (parse (drop c.loop-i.i (pairs_of c.nodes-nodes.result.now))) (rw c.deref.ensures.value c.loop-i.invariant.weighed))
       );
@@ -44,16 +44,14 @@ loop-i-preserved g c = record {
 
 pub cost_at-requires : goal.cost_at-requires
 cost_at-requires g c =
-    let last = last_vector g.S.Semiring.product c.rule_list-rules.result.now c.nodes-nodes.result.now c.args.tree.now c.nodes-nodes.ensures.pairs
+    let last = last_vector g.S.Semiring.product c.args.normal.now.rules c.nodes-nodes.result.now c.args.tree.now c.nodes-nodes.ensures.pairs
     c.loop-i.i c.loop-i.stack.items c.index.result.now (omega arith) c.loop-i.invariant.weighed c.index.ensures
     in
     subst IsAscending (sym c.deref-2.ensures.value) last.1.ascends
 
 pub returns : goal.returns
 returns g c =
-    let last = last_vector g.S.Semiring.product c.rule_list-rules.result.now c.nodes-nodes.result.now c.args.tree.now c.nodes-nodes.ensures.pairs
+    let last = last_vector g.S.Semiring.product c.args.normal.now.rules c.nodes-nodes.result.now c.args.tree.now c.nodes-nodes.ensures.pairs
     c.loop-i.i c.loop-i.stack.items c.index.result.now (omega arith) c.loop-i.invariant.weighed c.index.ensures
     in
-    let same : c.rule_list-rules.result.now ≡ c.args.normal.now.rules = c.rule_list-rules.ensures ∙ ap (λ (x : GrammarOf). x.rules) c.grammar.ensures.same in
-    subst (λ (rules : List (Rule ℕ)). IsLeast (IsCost g.S.Semiring.product rules (0 ∷ []) (only c.args.tree.now)) c.cost_at.result) same
-    (rw (c.cost_at.ensures, c.deref-2.ensures.value) (last.1.least 0))
+    rw (c.cost_at.ensures, c.deref-2.ensures.value) (last.1.least 0)

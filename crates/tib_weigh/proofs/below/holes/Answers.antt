@@ -4,7 +4,7 @@ use Rattle.std.proofs.Math.ListN.{length-map}
 use Rattle.tib_grammar.specs.Sides.{holes as holes_of}
 use Rattle.tib_weigh.specs.Vectors.{state_in}
 use Rattle.tib_weigh.proofs.Sides.{states_below_root, length-holes}
-use Rattle.tib_weigh.proofs.node.holes.Goals as goal
+use Rattle.tib_weigh.proofs.below.holes.Goals as goal
 
 pub returns-clause-states : goal.returns-clause-states
 returns-clause-states c =
