@@ -36,7 +36,7 @@ each_append : {A : Type 0} (P : A → Type 0) (xs ys : List A) → Each P xs →
 each_append P [] ys a b = b
 each_append P (x ∷ xs) ys a b = (a.0, each_append P xs ys a.1 b)
 
-joined : {A : Type 0} (R : A → A → Type 0) (xs ys : List A) → Ascends R xs → Ascends R ys → ((x y : A) → Has xs x → Has ys y → R x y) → Ascends R (xs ++ ys)
+pub joined : {A : Type 0} (R : A → A → Type 0) (xs ys : List A) → Ascends R xs → Ascends R ys → ((x y : A) → Has xs x → Has ys y → R x y) → Ascends R (xs ++ ys)
 joined R [] ys a b h = b
 joined R (x ∷ xs) ys a b h = (
   each_append (R x) xs ys a.0 (each_of (R x) ys (λ y n. h x y (inl refl) n)),

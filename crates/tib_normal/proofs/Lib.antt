@@ -15,3 +15,4 @@ pub mod Numbering
 pub mod Counting
 pub mod Lengths
 pub mod PlaceNames
+pub mod Existing

@@ -76,3 +76,16 @@ abbrev pub AreOneSize : (ℕ → ℕ → ℕ) → Type 0
 AreOneSize product =
     (states : ℕ) (rules : List (Rule ℕ)) (m : ℕ) (xs : List (Rule ℕ)) (n : ℕ) (ys : List (Rule ℕ)) → IsNormalForm product states rules m xs → IsNormalForm product states rules n ys →
     normal_parts m xs ≡ normal_parts n ys
+
+-- it can't be that there is no normal form
+abbrev pub HaveForms : (ℕ → ℕ → ℕ) → Type 0
+HaveForms product = (states : ℕ) (rules : List (Rule ℕ)) → ((more : ℕ) (new : List (Rule ℕ)) → IsNormalForm product states rules more new → ⊥) → ⊥
+
+-- no grammar has both: a normal form within the limit, and more parts than the limit in each normal form
+abbrev pub HaveNotBoth : (ℕ → ℕ → ℕ) → Type 0
+HaveNotBoth product = (states : ℕ) (rules : List (Rule ℕ)) (limit : ℕ) → HasFormWithin product states rules limit → HasMoreParts product states rules limit → ⊥
+
+-- it can't be that neither holds
+abbrev pub HaveOne : (ℕ → ℕ → ℕ) → Type 0
+HaveOne product =
+    (states : ℕ) (rules : List (Rule ℕ)) (limit : ℕ) → (HasFormWithin product states rules limit → ⊥) → (HasMoreParts product states rules limit → ⊥) → ⊥

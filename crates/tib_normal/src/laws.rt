@@ -1,6 +1,6 @@
 // What holds of every normal form, in every semiring.
 ghost use Rattle.tib_normal.specs.NormalForm.{IsNormalized};
-ghost use Rattle.tib_normal.specs.Rows.{AreOneSize};
+ghost use Rattle.tib_normal.specs.Rows.{AreOneSize, HaveForms, HaveNotBoth, HaveOne};
 
 use tib_cost::Semiring;
 
@@ -12,4 +12,13 @@ pub fn normalized<S: Semiring>()
 /// All normal forms of one grammar have as many parts.
 pub fn parts_are_one<S: Semiring>()
     ensures { AreOneSize S.product }
+{}
+
+/// Each grammar has a normal form, for it can't be that there is none: so what is said of all its normal forms is
+/// said of one. Of "one has at most as many parts as the limit" and "each has more parts than the limit" not both
+/// hold, and it can't be that neither does.
+pub fn normal_forms_exist<S: Semiring>()
+    ensures exist { HaveForms S.product }
+    ensures not_both { HaveNotBoth S.product }
+    ensures not_neither { HaveOne S.product }
 {}
