@@ -1,4 +1,5 @@
 -- The text of the canonical form does not hang on the numbers of labels.
+use Rattle.tib_cost.specs.declared.Scale.{Scale}
 use Rattle.std.proofs.Common.{◌≡◌, ℕ, ◌+◌, ◌<◌, Bool, List, [], ◌∷◌, length, get_or, refl, ap, sym, ◌∙◌, subst, arith, suc, inl, inr}
 use Rattle.std.proofs.lemmas.List.{length-map, get_or-map}
 use Rattle.std.proofs.lemmas.Option.{get_or_from_slice_get}
@@ -77,8 +78,8 @@ module _ (P : ℕ → Type 0) where
       let there : EachLabel P (only (rule_at g.rules position).right) = b (rule_at g.rules position) (has_at g.rules position no_rule live.0.below) in
       subst (λ (x : Rule ℕ). EachLabel P (only x.right)) m.2 (labels_back p (only (rule_at h.rules m.0).right) (subst (λ (x : Rule ℕ). EachLabel P (only x.right)) (sym is) there))
 
-  pub canonical_labels : (product : ℕ → ℕ → ℕ) (weighted : Bool) (labels : List (List ℕ)) (g h : GrammarOf) → IsCanonical product weighted labels g h → EachLabelIn P g.rules → EachLabelIn P h.rules
-  canonical_labels product weighted labels g h c b r k = trimmed_labels product g c.trimmed c.is_trimmed b r (c.in_order.kept r k)
+  pub canonical_labels : (product : ℕ → ℕ → ℕ) (scale : Scale) (labels : List (List ℕ)) (g h : GrammarOf) → IsCanonical product scale labels g h → EachLabelIn P g.rules → EachLabelIn P h.rules
+  canonical_labels product scale labels g h c b r k = trimmed_labels product g c.trimmed c.is_trimmed b r (c.in_order.kept r k)
 
 -- labels of rules that agree by text keep their texts
 module _ (labels others : List (List ℕ)) (f : ℕ → ℕ) (n : Renumbers labels others f) where
@@ -102,29 +103,29 @@ module _ (labels others : List (List ℕ)) (f : ℕ → ℕ) (n : Renumbers labe
       subst (λ (x : Rule ℕ). EachLabel (KeepsText labels others f) (only x.right)) m.2 (side_kept (only (rule_at g.rules m.0).right) (only (rule_at h.rules m.0).right) one.right)
 
   pub canonical_with :
-      (product : ℕ → ℕ → ℕ) (weighted : Bool) (g h : GrammarOf) → EachLabelIn (KeepsText labels others f) h.rules → IsCanonical product weighted labels g h →
-      IsCanonical product weighted others (grammar_with f g) (grammar_with f h)
-  canonical_with product weighted g h e c = record {
+      (product : ℕ → ℕ → ℕ) (scale : Scale) (g h : GrammarOf) → EachLabelIn (KeepsText labels others f) h.rules → IsCanonical product scale labels g h →
+      IsCanonical product scale others (grammar_with f g) (grammar_with f h)
+  canonical_with product scale g h e c = record {
     trimmed = grammar_with f c.trimmed;
     is_trimmed = trimmed_with product f g c.trimmed c.is_trimmed;
-    in_order = order_with labels others f n.apart weighted c.trimmed h c.in_order e;
+    in_order = order_with labels others f n.apart scale c.trimmed h c.in_order e;
   }
 
 pub one_canonical_text :
-    (product : ℕ → ℕ → ℕ) (weighted : Bool) (labels others : List (List ℕ)) (g h m n i j : GrammarOf) → Distinct labels → Distinct others → AgreeByText labels others g h →
+    (product : ℕ → ℕ → ℕ) (scale : Scale) (labels others : List (List ℕ)) (g h m n i j : GrammarOf) → Distinct labels → Distinct others → AgreeByText labels others g h →
     IsNormalForm product (length g.names) g.rules (length m.names) m.rules → IsNormalForm product (length h.names) h.rules (length n.names) n.rules →
-    IsCanonical product weighted labels m i → IsCanonical product weighted others n j → grammar_text weighted labels i ≡ grammar_text weighted others j
-one_canonical_text product weighted labels others g h m n i j apart different a one two c d =
+    IsCanonical product scale labels m i → IsCanonical product scale others n j → grammar_text scale labels i ≡ grammar_text scale others j
+one_canonical_text product scale labels others g h m n i j apart different a one two c d =
     let s = renumbering labels others apart different in
     let f : ℕ → ℕ = s.0 in
     let rules : rules_with f g.rules ≡ h.rules = rules_given labels others f s.1 g.rules h.rules a.rules in
     let named : length g.names ≡ length h.names = ap length a.names in
     let e : EachLabelIn (KeepsText labels others f) i.rules =
-    canonical_labels (KeepsText labels others f) product weighted labels m i c
+    canonical_labels (KeepsText labels others f) product scale labels m i c
     (form_labels (KeepsText labels others f) product (length g.names) g.rules (length m.names) m.rules one (grammar_kept labels others f s.1 g h a)) in
     let form : IsNormalForm product (length h.names) h.rules (length m.names) (rules_with f m.rules) =
     subst (λ (rs : List (Rule ℕ)). IsNormalForm product (length h.names) rs (length m.names) (rules_with f m.rules)) rules
     (subst (λ (k : ℕ). IsNormalForm product k (rules_with f g.rules) (length m.names) (rules_with f m.rules)) named (form_with product f s.1.apart (length g.names) g.rules (length m.names) m.rules one)) in
     let same : grammar_with f i ≡ j =
-    one_of_forms product (length h.names) h.rules weighted others (grammar_with f m) n (grammar_with f i) j form two (canonical_with labels others f s.1 product weighted m i e c) d in
-    grammar_printed labels others f weighted i e ∙ ap (grammar_text weighted others) same
+    one_of_forms product (length h.names) h.rules scale others (grammar_with f m) n (grammar_with f i) j form two (canonical_with labels others f s.1 product scale m i e c) d in
+    grammar_printed labels others f scale i e ∙ ap (grammar_text scale others) same

@@ -1,4 +1,5 @@
 -- The text of a canonical grammar reads back as this grammar.
+use Rattle.tib_cost.specs.declared.Scale.{Scale}
 use Rattle.std.proofs.Common.{◌≡◌, ◌⊎◌, ℕ, ◌<◌, ◌≤◌, Bool, List, [], ◌∷◌, length, get_or, ap, sym, ◌∙◌, subst, arith, inl, inr, refl}
 use Rattle.std.specs.Ordering.{nat_cmp, ordering_then}
 use Rattle.std.specs.declared.cmp.Ordering.{Ordering}
@@ -49,9 +50,9 @@ ascends_as : {A : Type 0} (R T : A → A → Type 0) → ((x y : A) → R x y �
 ascends_as R T f [] a = tt
 ascends_as R T f (x ∷ xs) a = (each_of (T x) xs (λ y h. f x y (each_has (R x) xs y a.0 h)), ascends_as R T f xs a.1)
 
-lefts_ascend : (weighted : Bool) (names labels : List (List ℕ)) (rules : List (Rule ℕ)) → Ascends (λ r s. rule_cmp weighted names labels r s ≡ Less) rules → Ascends (λ r s. r.left ≤ s.left) rules
-lefts_ascend weighted names labels rules =
-    ascends_as (λ r s. rule_cmp weighted names labels r s ≡ Less) (λ r s. r.left ≤ s.left) (λ r s e. not_above r.left s.left (ranks (nat_cmp r.left s.left) _ e)) rules
+lefts_ascend : (scale : Scale) (names labels : List (List ℕ)) (rules : List (Rule ℕ)) → Ascends (λ r s. rule_cmp scale names labels r s ≡ Less) rules → Ascends (λ r s. r.left ≤ s.left) rules
+lefts_ascend scale names labels rules =
+    ascends_as (λ r s. rule_cmp scale names labels r s ≡ Less) (λ r s. r.left ≤ s.left) (λ r s e. not_above r.left s.left (ranks (nat_cmp r.left s.left) _ e)) rules
 
 -- nothing stands below a state in trimmed rules
 pub trimmed_leaves : (product : ℕ → ℕ → ℕ) (g h : GrammarOf) → IsTrimmed product g h → SidesEndInHoles g.rules → SidesEndInHoles h.rules
@@ -68,8 +69,8 @@ of_members P rules others kept f m h =
     subst P at.2 (f at.0 at.1)
 
 module _
-    {levelled weighed : Bool} {product : ℕ → ℕ → ℕ} (laws : ProductLaws levelled weighed product) (weighted : Bool) (labels : List (List ℕ)) (g h : GrammarOf)
-    (c : IsCanonical product weighted labels g h) (some : 0 < length g.names) (range : AreInRange (length g.names) g.rules) where
+    {levelled weighed : Bool} {product : ℕ → ℕ → ℕ} (laws : ProductLaws levelled weighed product) (scale : Scale) (labels : List (List ℕ)) (g h : GrammarOf)
+    (c : IsCanonical product scale labels g h) (some : 0 < length g.names) (range : AreInRange (length g.names) g.rules) where
   as_long : length h.names ≡ length c.is_trimmed.states
   as_long = ap length c.in_order.names ∙ length-names_of (length c.trimmed.names) ∙ names_long product g c.trimmed c.is_trimmed
 
@@ -80,7 +81,7 @@ module _
       let at = at_has h.rules sides.rule no_rule sides.stands in
       (at.0, at.1, ap (λ (r : Rule ℕ). r.left) at.2 ∙ sides.agrees.left ∙ own.2)
 
-  pub canonical_has_text : length g.names ≤ 4294967296 → SidesEndInHoles g.rules → ArePrintable weighted labels g.rules → HasText weighted labels h
+  pub canonical_has_text : length g.names ≤ 4294967296 → SidesEndInHoles g.rules → ArePrintable scale labels g.rules → HasText scale labels h
   canonical_has_text few leaves printable =
       let t : IsTrimmed product g c.trimmed = c.is_trimmed in
       let count : length c.trimmed.names ≤ 4294967296 = omega (arith, few_states laws g c.trimmed t (length g.names) some range, names_long product g c.trimmed t) in
@@ -90,11 +91,11 @@ module _
         range = of_members (IsInRange (length h.names)) c.trimmed.rules h.rules c.in_order.kept (subst (λ n. AreInRange n c.trimmed.rules) (sym as_long) t.in_range);
         leaves = of_members (λ r. HolesAreLeaves (only r.right)) c.trimmed.rules h.rules c.in_order.kept (trimmed_leaves product g c.trimmed t leaves);
         lefts = canonical_rules;
-        printable = canonical_printable weighted labels product g h c printable;
+        printable = canonical_printable scale labels product g h c printable;
       }
 
-  pub canonical_text : length g.names ≤ 4294967296 → SidesEndInHoles g.rules → ArePrintable weighted labels g.rules → GrammarText weighted labels (grammar_text weighted labels h) h
-  canonical_text few leaves printable = reads_sorted weighted labels h (canonical_has_text few leaves printable) (lefts_ascend weighted h.names labels h.rules c.in_order.ascends)
+  pub canonical_text : length g.names ≤ 4294967296 → SidesEndInHoles g.rules → ArePrintable scale labels g.rules → GrammarText scale labels (grammar_text scale labels h) h
+  canonical_text few leaves printable = reads_sorted scale labels h (canonical_has_text few leaves printable) (lefts_ascend scale h.names labels h.rules c.in_order.ascends)
 
 -- the same of a normal form of a grammar
 
@@ -110,28 +111,28 @@ are_lone : (rules : List (Rule ℕ)) → SidesEndInHoles rules → AreLone rules
 are_lone rules leaves n q h e = hole_alone (rule_at rules n).right q (leaves n h) e
 
 pub normal_text :
-    {levelled weighed : Bool} {product : ℕ → ℕ → ℕ} → ProductLaws levelled weighed product → (weighted : Bool) (labels : List (List ℕ)) (g m h : GrammarOf) → 0 < length g.names → length m.names ≤ 4294967296 → AreInRange (length g.names) g.rules →
-    SidesEndInHoles g.rules → ArePrintable weighted labels g.rules → IsNormalForm product (length g.names) g.rules (length m.names) m.rules → IsCanonical product weighted labels m h → GrammarText weighted labels (grammar_text weighted labels h) h
-normal_text {product = product} laws weighted labels g m h some few range leaves printable form c =
-    canonical_text laws weighted labels m h c (omega (arith, form.counted, some))
+    {levelled weighed : Bool} {product : ℕ → ℕ → ℕ} → ProductLaws levelled weighed product → (scale : Scale) (labels : List (List ℕ)) (g m h : GrammarOf) → 0 < length g.names → length m.names ≤ 4294967296 → AreInRange (length g.names) g.rules →
+    SidesEndInHoles g.rules → ArePrintable scale labels g.rules → IsNormalForm product (length g.names) g.rules (length m.names) m.rules → IsCanonical product scale labels m h → GrammarText scale labels (grammar_text scale labels h) h
+normal_text {product = product} laws scale labels g m h some few range leaves printable form c =
+    canonical_text laws scale labels m h c (omega (arith, form.counted, some))
     (form_range product (length g.names) g.rules (length m.names) m.rules form range (are_lone g.rules leaves)) few
     (form_leaves product (length g.names) g.rules (length m.names) m.rules form)
-    (form_printable product (laws.neutral 0) weighted labels (length g.names) g.rules printable (length m.names) m.rules form)
+    (form_printable product (laws.neutral 0) scale labels (length g.names) g.rules printable (length m.names) m.rules form)
 
 -- and of a grammar over keys
 
 pub keys_text :
-    {levelled weighed : Bool} {product : ℕ → ℕ → ℕ} → ProductLaws levelled weighed product → {K : Type 0} (cmp : K → K → Ordering) (weighted : Bool) (labels : List (List ℕ)) (order : List K) (rules : List (Rule ℕ)) (begin : Begin) (h : GrammarOf) →
-    length order ≤ 4294967296 → SidesEndInHoles rules → ArePrintable weighted labels rules → IsCanonicalOverKeys product weighted labels cmp order rules begin h → GrammarText weighted labels (grammar_text weighted labels h) h
-keys_text {product = product} laws cmp weighted labels order rules begin h few leaves printable c = by begin c.over c.begun c.canonical
+    {levelled weighed : Bool} {product : ℕ → ℕ → ℕ} → ProductLaws levelled weighed product → {K : Type 0} (cmp : K → K → Ordering) (scale : Scale) (labels : List (List ℕ)) (order : List K) (rules : List (Rule ℕ)) (begin : Begin) (h : GrammarOf) →
+    length order ≤ 4294967296 → SidesEndInHoles rules → ArePrintable scale labels rules → IsCanonicalOverKeys product scale labels cmp order rules begin h → GrammarText scale labels (grammar_text scale labels h) h
+keys_text {product = product} laws cmp scale labels order rules begin h few leaves printable c = by begin c.over c.begun c.canonical
   where
-    by : (begin : Begin) (g : GrammarOf) → IsBegun cmp order rules begin g → IsCanonical product weighted labels g h → GrammarText weighted labels (grammar_text weighted labels h) h
+    by : (begin : Begin) (g : GrammarOf) → IsBegun cmp order rules begin g → IsCanonical product scale labels g h → GrammarText scale labels (grammar_text scale labels h) h
     by (At start) g over canonical =
         let long : length g.names ≡ length order = ap length over.names ∙ length-names_of (length order) in
         let stands : Has over.states start = subst (λ (qs : List ℕ). Has qs start) (sym over.by_keys.first) (inl refl) in
         let within : start < length order = (over.by_keys.all start).0 stands in
-        canonical_text laws weighted labels g h canonical (omega (arith, long, within)) (subst (λ n. AreInRange n g.rules) (sym long) over.in_range) (omega (arith, long, few))
-        (leaves_over cmp order start rules g over leaves) (over_printable weighted labels cmp order rules start g over printable)
+        canonical_text laws scale labels g h canonical (omega (arith, long, within)) (subst (λ n. AreInRange n g.rules) (sym long) over.in_range) (omega (arith, long, few))
+        (leaves_over cmp order start rules g over leaves) (over_printable scale labels cmp order rules start g over printable)
     by Empty g e canonical =
-        canonical_text laws weighted labels without_rules h (subst (λ (k : GrammarOf). IsCanonical product weighted labels k h) e canonical) (omega (arith, length-names_of 1)) (λ m b. absurd (omega arith)) (omega (arith, length-names_of 1))
+        canonical_text laws scale labels without_rules h (subst (λ (k : GrammarOf). IsCanonical product scale labels k h) e canonical) (omega (arith, length-names_of 1)) (λ m b. absurd (omega arith)) (omega (arith, length-names_of 1))
         (λ m b. absurd (omega arith)) (λ m b. absurd (omega arith))

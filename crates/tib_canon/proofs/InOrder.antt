@@ -1,4 +1,5 @@
 -- Sorted lines give a grammar in canonical order.
+use Rattle.tib_cost.specs.declared.Scale.{Scale}
 use Rattle.std.proofs.Common.{◌≡◌, ℕ, ◌<◌, ◌≤◌, Bool, List, [], ◌∷◌, length, map, get_or, refl, ap, sym, ◌∙◌, subst, arith, suc, inl, inr, ◌⊎◌}
 use Rattle.std.specs.Prelude.{IsPermutation, IsSorted}
 use Rattle.std.specs.Ordering.{nat_cmp, ordering_then}
@@ -61,15 +62,15 @@ agree_on : (r s t : Rule ℕ) → AgreeInSides r s → AgreeInSides s t → Agre
 agree_on r s t a b = record { left = a.left ∙ b.left; right = a.right ∙ b.right }
 
 -- what is known when the lines are sorted
-pub record AreSorted (weighted : Bool) (labels : List (List ℕ)) (g : GrammarOf) (now : List Line) : Type 0 where
+pub record AreSorted (scale : Scale) (labels : List (List ℕ)) (g : GrammarOf) (now : List Line) : Type 0 where
   pub cheapest : AreCheapest g.rules (map (λ (l : Line). l.position) now)
-  pub lines : Each (IsLineAt weighted (names_of (length g.names)) labels g.rules) now
+  pub lines : Each (IsLineAt scale (names_of (length g.names)) labels g.rules) now
   pub sorted : IsSorted line_cmp now
   pub names : AreStateNames (names_of (length g.names))
   pub labels_apart : Distinct labels
   pub safe : (m : ℕ) → m < length g.rules → (rule_at g.rules m).cost ≤ 1000000000000000 → IsSafe (names_of (length g.names)) labels (rule_at g.rules m)
 
-module _ (weighted : Bool) (labels : List (List ℕ)) (g : GrammarOf) (now : List Line) (s : AreSorted weighted labels g now) where
+module _ (scale : Scale) (labels : List (List ℕ)) (g : GrammarOf) (now : List Line) (s : AreSorted scale labels g now) where
   abbrev pub names : List (List ℕ)
   names = names_of (length g.names)
 
@@ -79,8 +80,8 @@ module _ (weighted : Bool) (labels : List (List ℕ)) (g : GrammarOf) (now : Lis
   abbrev pub positions : List ℕ
   positions = map (λ (l : Line). l.position) now
 
-  line_known : (l : Line) → Has now l → IsLineAt weighted names labels g.rules l
-  line_known l h = each_has (IsLineAt weighted names labels g.rules) now l s.lines h
+  line_known : (l : Line) → Has now l → IsLineAt scale names labels g.rules l
+  line_known l h = each_has (IsLineAt scale names labels g.rules) now l s.lines h
 
   pub kept : (r : Rule ℕ) → Has (map rule_of now) r → Has g.rules r
   kept r h =
@@ -110,46 +111,46 @@ module _ (weighted : Bool) (labels : List (List ℕ)) (g : GrammarOf) (now : Lis
         agrees = subst (λ x. AgreeInSides (rule_of l.0) x) m.2 (subst (λ p. AgreeInSides (rule_at g.rules p) (rule_at g.rules m.0)) (sym l.2) w.agrees);
       }
 
-  less_from : (x y : Line) → Has now x → Has now y → (x.position ≡ y.position → ⊥) → (text_cmp x y ≡ Less) ⊎ ((x.left ≡ y.left) × (x.text.now ≡ y.text.now)) → rule_cmp weighted names labels (rule_of x) (rule_of y) ≡ Less
+  less_from : (x y : Line) → Has now x → Has now y → (x.position ≡ y.position → ⊥) → (text_cmp x y ≡ Less) ⊎ ((x.left ≡ y.left) × (x.text.now ≡ y.text.now)) → rule_cmp scale names labels (rule_of x) (rule_of y) ≡ Less
   less_from x y h k apart (inl e) =
       let a = line_known x h in
       let b = line_known y k in
-      ap (λ n. ordering_then (nat_cmp n (rule_of y).left) (slice_cmp nat_cmp (line_of weighted names labels (rule_of x)) (line_of weighted names labels (rule_of y)))) (sym a.left)
-      ∙ ap (λ n. ordering_then (nat_cmp x.left n) (slice_cmp nat_cmp (line_of weighted names labels (rule_of x)) (line_of weighted names labels (rule_of y)))) (sym b.left)
-      ∙ ap (λ (t : List ℕ). ordering_then (nat_cmp x.left y.left) (slice_cmp nat_cmp t (line_of weighted names labels (rule_of y)))) (sym a.text)
+      ap (λ n. ordering_then (nat_cmp n (rule_of y).left) (slice_cmp nat_cmp (line_of scale names labels (rule_of x)) (line_of scale names labels (rule_of y)))) (sym a.left)
+      ∙ ap (λ n. ordering_then (nat_cmp x.left n) (slice_cmp nat_cmp (line_of scale names labels (rule_of x)) (line_of scale names labels (rule_of y)))) (sym b.left)
+      ∙ ap (λ (t : List ℕ). ordering_then (nat_cmp x.left y.left) (slice_cmp nat_cmp t (line_of scale names labels (rule_of y)))) (sym a.text)
       ∙ ap (λ (t : List ℕ). ordering_then (nat_cmp x.left y.left) (slice_cmp nat_cmp x.text.now t)) (sym b.text)
       ∙ e
   less_from x y h k apart (inr e) =
       let a = line_known x h in
       let b = line_known y k in
-      let line : line_of weighted names labels (rule_of x) ≡ line_of weighted names labels (rule_of y) = sym a.text ∙ e.1 ∙ b.text in
-      let right : (rule_of x).right ≡ (rule_of y).right = told_by_line weighted names labels (rule_of x) (rule_of y) s.names s.labels_apart (s.safe x.position a.below a.within) (s.safe y.position b.below b.within) line in
+      let line : line_of scale names labels (rule_of x) ≡ line_of scale names labels (rule_of y) = sym a.text ∙ e.1 ∙ b.text in
+      let right : (rule_of x).right ≡ (rule_of y).right = told_by_line scale names labels (rule_of x) (rule_of y) s.names s.labels_apart (s.safe x.position a.below a.within) (s.safe y.position b.below b.within) line in
       absurd (apart (s.cheapest.apart x.position y.position (mapped_has (λ (l : Line). l.position) now x h) (mapped_has (λ (l : Line). l.position) now y k) (record { left = sym a.left ∙ e.0 ∙ b.left; right = right })))
 
-  pair_ascends : (d : Line) (i j : ℕ) → i < j → j < length now → rule_cmp weighted names labels (rule_of (get_or now i d)) (rule_of (get_or now j d)) ≡ Less
+  pair_ascends : (d : Line) (i j : ℕ) → i < j → j < length now → rule_cmp scale names labels (rule_of (get_or now i d)) (rule_of (get_or now j d)) ≡ Less
   pair_ascends d i j h k =
       less_from (get_or now i d) (get_or now j d) (has_at now i d (omega arith)) (has_at now j d k)
       (λ e. distinct_at positions 0 i j s.cheapest.distinct h (omega (arith, length-map now (λ (l : Line). l.position)))
       (get_or-map (λ (l : Line). l.position) now i d 0 (omega arith) ∙ e ∙ sym (get_or-map (λ (l : Line). l.position) now j d 0 k)))
       (sorted_apart now i j d s.sorted (omega arith) k)
 
-  mapped_ascends : (d : Line) → Ascends (λ r t. rule_cmp weighted names labels r t ≡ Less) (map rule_of now)
+  mapped_ascends : (d : Line) → Ascends (λ r t. rule_cmp scale names labels r t ≡ Less) (map rule_of now)
   mapped_ascends d =
-      Ascends-from (λ r t. rule_cmp weighted names labels r t ≡ Less) (map rule_of now) (rule_of d) (λ i j h k.
+      Ascends-from (λ r t. rule_cmp scale names labels r t ≡ Less) (map rule_of now) (rule_of d) (λ i j h k.
       let long : j < length now = omega (arith, k, length-map now rule_of) in
       let one : get_or (map rule_of now) i (rule_of d) ≡ rule_of (get_or now i d) = get_or-map rule_of now i d (rule_of d) (omega arith) in
       let two : get_or (map rule_of now) j (rule_of d) ≡ rule_of (get_or now j d) = get_or-map rule_of now j d (rule_of d) long in
-      subst (λ r. rule_cmp weighted names labels r (get_or (map rule_of now) j (rule_of d)) ≡ Less) (sym one)
-      (subst (λ t. rule_cmp weighted names labels (rule_of (get_or now i d)) t ≡ Less) (sym two) (pair_ascends d i j h long)))
+      subst (λ r. rule_cmp scale names labels r (get_or (map rule_of now) j (rule_of d)) ≡ Less) (sym one)
+      (subst (λ t. rule_cmp scale names labels (rule_of (get_or now i d)) t ≡ Less) (sym two) (pair_ascends d i j h long)))
 
-  rules_ascend : (lines : List Line) → lines ≡ now → Ascends (λ r t. rule_cmp weighted names labels r t ≡ Less) (map rule_of lines)
+  rules_ascend : (lines : List Line) → lines ≡ now → Ascends (λ r t. rule_cmp scale names labels r t ≡ Less) (map rule_of lines)
   rules_ascend [] e = tt
-  rules_ascend (d ∷ lines) e = subst (λ (ls : List Line). Ascends (λ r t. rule_cmp weighted names labels r t ≡ Less) (map rule_of ls)) (sym e) (mapped_ascends d)
+  rules_ascend (d ∷ lines) e = subst (λ (ls : List Line). Ascends (λ r t. rule_cmp scale names labels r t ≡ Less) (map rule_of ls)) (sym e) (mapped_ascends d)
 
-  pub in_order : (h : GrammarOf) → h.names ≡ names → h.rules ≡ map rule_of now → IsInOrder weighted labels g h
+  pub in_order : (h : GrammarOf) → h.names ≡ names → h.rules ≡ map rule_of now → IsInOrder scale labels g h
   in_order h named ruled =
-      let goal : IsInOrder weighted labels g (record { names = names; rules = map rule_of now }) =
+      let goal : IsInOrder scale labels g (record { names = names; rules = map rule_of now }) =
       record { names = refl; kept = kept; least = least; whole = whole; ascends = rules_ascend now refl } in
       let same : h ≡ record { names = names; rules = map rule_of now } =
       ap (λ (ns : List (List ℕ)). record { names = ns; rules = h.rules }) named ∙ ap (λ (rs : List (Rule ℕ)). record { names = names; rules = rs }) ruled in
-      subst (IsInOrder weighted labels g) (sym same) goal
+      subst (IsInOrder scale labels g) (sym same) goal

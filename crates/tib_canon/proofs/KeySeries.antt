@@ -1,4 +1,5 @@
 -- A grammar over keys has the series of the rules over their positions.
+use Rattle.tib_cost.specs.declared.Scale.{Scale}
 use Rattle.std.specs.Prelude.{◌≡◌, ℕ, ◌<◌, ◌↔◌, Bool, List, [], ◌∷◌, length, map, refl, Option}
 use Rattle.std.specs.declared.cmp.Ordering.{Ordering}
 use Rattle.std.proofs.Common.{zero, suc, arith, ap, sym, ◌∙◌, subst, get_or}
@@ -120,8 +121,8 @@ over_series cmp product order rules start g o t v =
     )
 
 pub canonical_series :
-    {K : Type 0} (cmp : K → K → Ordering) (product : ℕ → ℕ → ℕ) (weighted : Bool) (labels : List (List ℕ)) (order : List K) (rules : List (Rule ℕ)) (start : ℕ) (h : GrammarOf) →
-    IsCanonicalOverKeys product weighted labels cmp order rules (At start) h → (t : Tree ℕ) (v : Option ℕ) → IsSeriesAt product rules start t v ↔ IsSeries product h.rules t v
-canonical_series cmp product weighted labels order rules start h c t v =
+    {K : Type 0} (cmp : K → K → Ordering) (product : ℕ → ℕ → ℕ) (scale : Scale) (labels : List (List ℕ)) (order : List K) (rules : List (Rule ℕ)) (start : ℕ) (h : GrammarOf) →
+    IsCanonicalOverKeys product scale labels cmp order rules (At start) h → (t : Tree ℕ) (v : Option ℕ) → IsSeriesAt product rules start t v ↔ IsSeries product h.rules t v
+canonical_series cmp product scale labels order rules start h c t v =
     let a = over_series cmp product order rules start c.over c.begun t v in
     let b = c.series t v in (λ x. b.0 (a.0 x), λ x. a.1 (b.1 x))

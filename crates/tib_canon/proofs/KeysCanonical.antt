@@ -1,4 +1,5 @@
 -- The canonical form over keys, from that of the rules over them.
+use Rattle.tib_cost.specs.declared.Scale.{Scale}
 use Rattle.std.proofs.Common.{◌≡◌, ℕ, Bool, List, [], length, sym, ap, ◌∙◌, refl}
 use Rattle.std.specs.declared.cmp.Ordering.{Ordering}
 use Rattle.tib_grammar.specs.declared.Rule.{Rule}
@@ -9,15 +10,15 @@ use Rattle.tib_canon.specs.declared.begin.Begin.TheVariants.{At, Empty}
 use Rattle.tib_grammar.specs.GrammarOf.{GrammarOf}
 use Rattle.tib_canon.proofs.StateNames.{length-names_of}
 
-module _ {K : Type 0} (product : ℕ → ℕ → ℕ) (weighted : Bool) (labels : List (List ℕ)) (cmp : K → K → Ordering) (order : List K) (rules : List (Rule ℕ)) (h : GrammarOf) where
+module _ {K : Type 0} (product : ℕ → ℕ → ℕ) (scale : Scale) (labels : List (List ℕ)) (cmp : K → K → Ordering) (order : List K) (rules : List (Rule ℕ)) (h : GrammarOf) where
   pub at_key :
-      (start count : ℕ) (new : List (Rule ℕ)) → IsOverKeys cmp order rules start (record { names = names_of (length order); rules = new }) → count ≡ length order → OverStates count new (λ g. IsCanonical product weighted labels g h) →
-      OverStates count new (λ g. HasSameSeries product g h) → IsCanonicalOverKeys product weighted labels cmp order rules (At start) h
+      (start count : ℕ) (new : List (Rule ℕ)) → IsOverKeys cmp order rules start (record { names = names_of (length order); rules = new }) → count ≡ length order → OverStates count new (λ g. IsCanonical product scale labels g h) →
+      OverStates count new (λ g. HasSameSeries product g h) → IsCanonicalOverKeys product scale labels cmp order rules (At start) h
   at_key start count new o counted c s =
       let long : length (names_of (length order)) ≡ count = length-names_of (length order) ∙ sym counted in
       record { over = record { names = names_of (length order); rules = new }; begun = o; canonical = c (names_of (length order)) long; series = s (names_of (length order)) long }
 
-  pub at_none : (none : List (Rule ℕ)) → none ≡ [] → OverStates 1 none (λ g. IsCanonical product weighted labels g h) → OverStates 1 none (λ g. HasSameSeries product g h) → IsCanonicalOverKeys product weighted labels cmp order rules Empty h
+  pub at_none : (none : List (Rule ℕ)) → none ≡ [] → OverStates 1 none (λ g. IsCanonical product scale labels g h) → OverStates 1 none (λ g. HasSameSeries product g h) → IsCanonicalOverKeys product scale labels cmp order rules Empty h
   at_none none e c s = record {
     over = record { names = names_of 1; rules = none };
     begun = ap (λ (rs : List (Rule ℕ)). record { names = names_of 1; rules = rs }) e;

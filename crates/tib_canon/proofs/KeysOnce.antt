@@ -1,4 +1,5 @@
 -- Rules over the keys of an order have one canonical form, whatever their order.
+use Rattle.tib_cost.specs.declared.Scale.{Scale}
 use Rattle.std.proofs.Common.{◌≡◌, ℕ, ◌<◌, Bool, List, [], ◌∷◌, length, map, get_or, slice_get, refl, ap, sym, ◌∙◌, subst, arith, inl, inr}
 use Rattle.std.proofs.lemmas.Option.{slice_get-get_or}
 use Rattle.std.specs.Prelude.{Some}
@@ -117,19 +118,19 @@ no_leaves : SidesEndInHoles []
 no_leaves m h = absurd (omega arith)
 
 pub keys_once :
-    {K : Type 0} (cmp : K → K → Ordering) → IsTotalOrder cmp → (product : ℕ → ℕ → ℕ) (weighted : Bool) (labels : List (List ℕ)) (order : List K) (xs ys : List (Rule ℕ)) (begin : Begin) (h i : GrammarOf) →
+    {K : Type 0} (cmp : K → K → Ordering) → IsTotalOrder cmp → (product : ℕ → ℕ → ℕ) (scale : Scale) (labels : List (List ℕ)) (order : List K) (xs ys : List (Rule ℕ)) (begin : Begin) (h i : GrammarOf) →
     ((r : Rule ℕ) → Has xs r → Has ys r) → ((r : Rule ℕ) → Has ys r → Has xs r) → SidesEndInHoles xs → SidesEndInHoles ys →
-    IsCanonicalOverKeys product weighted labels cmp order xs begin h → IsCanonicalOverKeys product weighted labels cmp order ys begin i → h ≡ i
-keys_once cmp total product weighted labels order xs ys begin h i to from leaves others a b = by begin a.begun b.begun
+    IsCanonicalOverKeys product scale labels cmp order xs begin h → IsCanonicalOverKeys product scale labels cmp order ys begin i → h ≡ i
+keys_once cmp total product scale labels order xs ys begin h i to from leaves others a b = by begin a.begun b.begun
   where
     by : (begin : Begin) → IsBegun cmp order xs begin a.over → IsBegun cmp order ys begin b.over → h ≡ i
     by (At start) c d =
         let same = by_keys_once cmp total order start c.states d.states c.by_keys d.by_keys in
-        one_canonical_of product weighted labels a.over b.over h i (leaves_over cmp order start xs a.over c leaves) (leaves_over cmp order start ys b.over d others)
+        one_canonical_of product scale labels a.over b.over h i (leaves_over cmp order start xs a.over c leaves) (leaves_over cmp order start ys b.over d others)
         (record {
           to = stands_over cmp order start xs ys a.over b.over c d same leaves others to;
           from = stands_over cmp order start ys xs b.over a.over d c (sym same) others leaves from;
         }) a.canonical b.canonical
     by Empty c d =
-        one_canonical_of product weighted labels without_rules without_rules h i no_leaves no_leaves (alike_self [])
-        (subst (λ (g : GrammarOf). IsCanonical product weighted labels g h) c a.canonical) (subst (λ (g : GrammarOf). IsCanonical product weighted labels g i) d b.canonical)
+        one_canonical_of product scale labels without_rules without_rules h i no_leaves no_leaves (alike_self [])
+        (subst (λ (g : GrammarOf). IsCanonical product scale labels g h) c a.canonical) (subst (λ (g : GrammarOf). IsCanonical product scale labels g i) d b.canonical)

@@ -1,4 +1,5 @@
 -- The text of sorted lines.
+use Rattle.tib_cost.specs.declared.Scale.{Scale}
 use Rattle.std.proofs.Common.{◌≡◌, ℕ, ◌+◌, ◌<◌, Bool, List, [], ◌∷◌, ◌++◌, length, take, map, get_or, refl, ap, sym, ◌∙◌, append-nil, append_assoc}
 use Rattle.std.proofs.lemmas.List.{take_more}
 use Rattle.tib_lex.specs.Lists.{Each}
@@ -28,20 +29,20 @@ lines_more lines i d front old new h is e =
 
 -- lines of rules are the text of these rules
 lines_rules :
-    (weighted : Bool) (names labels : List (List ℕ)) (rules : List (Rule ℕ)) (lines : List Line) → Each (IsLineAt weighted names labels rules) lines →
-    lines_text lines ≡ rules_text weighted names labels (map (λ (l : Line). rule_at rules l.position) lines)
-lines_rules weighted names labels rules [] e = refl
-lines_rules weighted names labels rules (l ∷ lines) e =
+    (scale : Scale) (names labels : List (List ℕ)) (rules : List (Rule ℕ)) (lines : List Line) → Each (IsLineAt scale names labels rules) lines →
+    lines_text lines ≡ rules_text scale names labels (map (λ (l : Line). rule_at rules l.position) lines)
+lines_rules scale names labels rules [] e = refl
+lines_rules scale names labels rules (l ∷ lines) e =
     ap (λ (t : List ℕ). (t ++ 10 ∷ []) ++ lines_text lines) e.0.text
-    ∙ ap (λ (t : List ℕ). t ++ lines_text lines) (sym (line_fed weighted names labels (rule_at rules l.position)))
-    ∙ ap (λ (t : List ℕ). rule_text weighted names labels (rule_at rules l.position) ++ t) (lines_rules weighted names labels rules lines e.1)
+    ∙ ap (λ (t : List ℕ). t ++ lines_text lines) (sym (line_fed scale names labels (rule_at rules l.position)))
+    ∙ ap (λ (t : List ℕ). rule_text scale names labels (rule_at rules l.position) ++ t) (lines_rules scale names labels rules lines e.1)
 
 -- the name of the start and the lines of its rules are the text of a grammar
 pub lines_grammar :
-    (weighted : Bool) (names labels : List (List ℕ)) (rules kept : List (Rule ℕ)) (start text : List ℕ) (lines : List Line) (h : GrammarOf) → Each (IsLineAt weighted names labels rules) lines →
+    (scale : Scale) (names labels : List (List ℕ)) (rules kept : List (Rule ℕ)) (start text : List ℕ) (lines : List Line) (h : GrammarOf) → Each (IsLineAt scale names labels rules) lines →
     kept ≡ map (λ (l : Line). rule_at rules l.position) lines → h.names ≡ names → h.rules ≡ kept → start ≡ get_or names 0 [] →
-    text ≡ (start ++ 10 ∷ []) ++ lines_text lines → text ≡ grammar_text weighted labels h
-lines_grammar weighted names labels rules kept start text lines h each from named ruled first is =
+    text ≡ (start ++ 10 ∷ []) ++ lines_text lines → text ≡ grammar_text scale labels h
+lines_grammar scale names labels rules kept start text lines h each from named ruled first is =
     is ∙ ap (λ (s : List ℕ). (s ++ 10 ∷ []) ++ lines_text lines) first
-    ∙ ap (λ (t : List ℕ). (get_or names 0 [] ++ 10 ∷ []) ++ t) (lines_rules weighted names labels rules lines each ∙ ap (rules_text weighted names labels) (sym (ruled ∙ from)))
-    ∙ ap (λ (ns : List (List ℕ)). (get_or ns 0 [] ++ 10 ∷ []) ++ rules_text weighted ns labels h.rules) (sym named)
+    ∙ ap (λ (t : List ℕ). (get_or names 0 [] ++ 10 ∷ []) ++ t) (lines_rules scale names labels rules lines each ∙ ap (rules_text scale names labels) (sym (ruled ∙ from)))
+    ∙ ap (λ (ns : List (List ℕ)). (get_or ns 0 [] ++ 10 ∷ []) ++ rules_text scale ns labels h.rules) (sym named)

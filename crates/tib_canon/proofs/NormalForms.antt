@@ -1,4 +1,5 @@
 -- The normal forms of a grammar have the same rules.
+use Rattle.tib_cost.specs.declared.Scale.{Scale}
 use Rattle.std.proofs.Common.{◌≡◌, ℕ, ◌+◌, ◌≤◌, Bool, List, [], ◌∷◌, length, sym, subst, arith, suc, inl, inr}
 use Rattle.tib_lex.specs.Lists.{Has}
 use Rattle.tib_tree.specs.Trees.{Trees, none, tree, only}
@@ -64,8 +65,8 @@ module _ (product : ℕ → ℕ → ℕ) (states : ℕ) (rules : List (Rule ℕ)
   forms_alike m n xs ys one two = record { to = form_stands m n xs ys one two; from = form_stands n m ys xs two one }
 
   pub one_of_forms :
-      (weighted : Bool) (labels : List (List ℕ)) (m n h i : GrammarOf) → IsNormalForm product states rules (length m.names) m.rules →
-      IsNormalForm product states rules (length n.names) n.rules → IsCanonical product weighted labels m h → IsCanonical product weighted labels n i → h ≡ i
-  one_of_forms weighted labels m n h i one two a b =
-      one_canonical_of product weighted labels m n h i (form_leaves (length m.names) m.rules one) (form_leaves (length n.names) n.rules two)
+      (scale : Scale) (labels : List (List ℕ)) (m n h i : GrammarOf) → IsNormalForm product states rules (length m.names) m.rules →
+      IsNormalForm product states rules (length n.names) n.rules → IsCanonical product scale labels m h → IsCanonical product scale labels n i → h ≡ i
+  one_of_forms scale labels m n h i one two a b =
+      one_canonical_of product scale labels m n h i (form_leaves (length m.names) m.rules one) (form_leaves (length n.names) n.rules two)
       (forms_alike (length m.names) (length n.names) m.rules n.rules one two) a b

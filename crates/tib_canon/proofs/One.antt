@@ -1,4 +1,5 @@
 -- At most one grammar is in canonical order, and its series is kept.
+use Rattle.tib_cost.specs.declared.Scale.{Scale}
 use Rattle.std.proofs.Common.{◌≡◌, ℕ, ◌≤◌, Bool, List, [], ◌∷◌, length, refl, ap, sym, ◌∙◌, subst, arith, inl, inr}
 use Rattle.std.specs.Prelude.{Result, Ok, Err, IfOk}
 use Rattle.std.specs.Cmp.{IsTotalOrder}
@@ -41,14 +42,14 @@ module _ {A : Type 0} (R : A → A → Type 0) (one_way : (x y : A) → R x y �
       let rest : xs ≡ ys = ascending_same xs ys a.1 b.1 (λ z h. behind x y z xs ys same a.0 h (to z (inr h))) (λ z h. behind y x z ys xs (sym same) b.0 h (from z (inr h))) in
       ap (λ z. z ∷ xs) same ∙ ap (λ zs. y ∷ zs) rest
 
-rule_total : (weighted : Bool) (names labels : List (List ℕ)) → IsTotalOrder (rule_cmp weighted names labels)
-rule_total weighted names labels = then_total (on_total (λ (r : Rule ℕ). r.left) nat_cmp_total) (on_total (line_of weighted names labels) nat_list_cmp_total)
+rule_total : (scale : Scale) (names labels : List (List ℕ)) → IsTotalOrder (rule_cmp scale names labels)
+rule_total scale names labels = then_total (on_total (λ (r : Rule ℕ). r.left) nat_cmp_total) (on_total (line_of scale names labels) nat_list_cmp_total)
 
 pub one_less : (o : Ordering) → o ≡ Less → Less ≡ ordering_reverse o → ⊥
 one_less o e f = let bad : Less ≡ Greater = f ∙ ap ordering_reverse e in absurd (cc)
 
-rules_one_way : (weighted : Bool) (names labels : List (List ℕ)) (r s : Rule ℕ) → rule_cmp weighted names labels r s ≡ Less → rule_cmp weighted names labels s r ≡ Less → ⊥
-rules_one_way weighted names labels r s e f = one_less (rule_cmp weighted names labels s r) f (sym e ∙ (rule_total weighted names labels).antisymm r s)
+rules_one_way : (scale : Scale) (names labels : List (List ℕ)) (r s : Rule ℕ) → rule_cmp scale names labels r s ≡ Less → rule_cmp scale names labels s r ≡ Less → ⊥
+rules_one_way scale names labels r s e f = one_less (rule_cmp scale names labels s r) f (sym e ∙ (rule_total scale names labels).antisymm r s)
 
 rule_same : (r s : Rule ℕ) → AgreeInSides r s → r.cost ≡ s.cost → r ≡ s
 rule_same r s a e =
@@ -58,9 +59,9 @@ rule_same r s a e =
 
 -- a rule of the one form is one of the other
 same_members :
-    (weighted : Bool) (labels : List (List ℕ)) (g k h i : GrammarOf) → AreAlike g.rules k.rules → IsInOrder weighted labels g h → IsInOrder weighted labels k i →
+    (scale : Scale) (labels : List (List ℕ)) (g k h i : GrammarOf) → AreAlike g.rules k.rules → IsInOrder scale labels g h → IsInOrder scale labels k i →
     (r : Rule ℕ) → Has h.rules r → Has i.rules r
-same_members weighted labels g k h i alike a b r m =
+same_members scale labels g k h i alike a b r m =
     let w = b.whole r (alike.to r (a.kept r m)) in
     let low : w.rule.cost ≤ r.cost = b.least w.rule r w.stands (alike.to r (a.kept r m)) w.agrees in
     let high : r.cost ≤ w.rule.cost = a.least r w.rule m (alike.from w.rule (b.kept w.rule w.stands)) (record { left = sym w.agrees.left; right = sym w.agrees.right }) in
@@ -68,27 +69,27 @@ same_members weighted labels g k h i alike a b r m =
 
 -- grammars of as many states whose rules are the same have one form in canonical order
 pub one_order_of :
-    (weighted : Bool) (labels : List (List ℕ)) (g k h i : GrammarOf) → length g.names ≡ length k.names → AreAlike g.rules k.rules →
-    IsInOrder weighted labels g h → IsInOrder weighted labels k i → h ≡ i
-one_order_of weighted labels g k h i long alike a b =
+    (scale : Scale) (labels : List (List ℕ)) (g k h i : GrammarOf) → length g.names ≡ length k.names → AreAlike g.rules k.rules →
+    IsInOrder scale labels g h → IsInOrder scale labels k i → h ≡ i
+one_order_of scale labels g k h i long alike a b =
     let names : h.names ≡ i.names = a.names ∙ ap names_of long ∙ sym b.names in
-    let mine : Ascends (λ r s. rule_cmp weighted i.names labels r s ≡ Less) h.rules = subst (λ (ns : List (List ℕ)). Ascends (λ r s. rule_cmp weighted ns labels r s ≡ Less) h.rules) names a.ascends in
+    let mine : Ascends (λ r s. rule_cmp scale i.names labels r s ≡ Less) h.rules = subst (λ (ns : List (List ℕ)). Ascends (λ r s. rule_cmp scale ns labels r s ≡ Less) h.rules) names a.ascends in
     let rules : h.rules ≡ i.rules =
-    ascending_same (λ r s. rule_cmp weighted i.names labels r s ≡ Less) (rules_one_way weighted i.names labels) h.rules i.rules mine b.ascends
-    (same_members weighted labels g k h i alike a b) (same_members weighted labels k g i h (alike_back g.rules k.rules alike) b a) in
+    ascending_same (λ r s. rule_cmp scale i.names labels r s ≡ Less) (rules_one_way scale i.names labels) h.rules i.rules mine b.ascends
+    (same_members scale labels g k h i alike a b) (same_members scale labels k g i h (alike_back g.rules k.rules alike) b a) in
     ap (λ (ns : List (List ℕ)). record { names = ns; rules = h.rules }) names ∙ ap (λ (rs : List (Rule ℕ)). record { names = i.names; rules = rs }) rules
 
-pub one_order : (weighted : Bool) (labels : List (List ℕ)) (g h i : GrammarOf) → IsInOrder weighted labels g h → IsInOrder weighted labels g i → h ≡ i
-one_order weighted labels g h i a b = one_order_of weighted labels g g h i refl (alike_self g.rules) a b
+pub one_order : (scale : Scale) (labels : List (List ℕ)) (g h i : GrammarOf) → IsInOrder scale labels g h → IsInOrder scale labels g i → h ≡ i
+one_order scale labels g h i a b = one_order_of scale labels g g h i refl (alike_self g.rules) a b
 
-covered : (weighted : Bool) (labels : List (List ℕ)) (g h : GrammarOf) → IsInOrder weighted labels g h → Covers h.rules g.rules
-covered weighted labels g h a r k =
+covered : (scale : Scale) (labels : List (List ℕ)) (g h : GrammarOf) → IsInOrder scale labels g h → Covers h.rules g.rules
+covered scale labels g h a r k =
     let w = a.whole r k in
     record { rule = w.rule; stands = w.stands; left = w.agrees.left; right = w.agrees.right; costs = a.least w.rule r w.stands k w.agrees }
 
-pub series_kept : {levelled weighed : Bool} {product : ℕ → ℕ → ℕ} → ProductLaws levelled weighed product → (weighted : Bool) (labels : List (List ℕ)) (g h : GrammarOf) → IsInOrder weighted labels g h → HasSameSeries product g h
-series_kept laws weighted labels g h a t v =
-    let to = covered weighted labels g h a in
+pub series_kept : {levelled weighed : Bool} {product : ℕ → ℕ → ℕ} → ProductLaws levelled weighed product → (scale : Scale) (labels : List (List ℕ)) (g h : GrammarOf) → IsInOrder scale labels g h → HasSameSeries product g h
+series_kept laws scale labels g h a t v =
+    let to = covered scale labels g h a in
     let from = covers_members h.rules g.rules a.kept in
     (same_series laws g.rules h.rules to from 0 t v, same_series laws h.rules g.rules from to 0 t v)
 

@@ -1,4 +1,6 @@
 -- Rules are told by their lines.
+use Rattle.tib_cost.specs.declared.Scale.{Scale}
+use Rattle.tib_cost.specs.declared.Scale.TheVariants as scales
 use Rattle.std.proofs.Common.{◌≡◌, ℕ, ◌<◌, ◌≤◌, Bool, true, false, List, [], ◌∷◌, ◌++◌, length, take, refl, ap, sym, ◌∙◌, subst, append-nil, arith, length-append}
 use Rattle.std.specs.Prelude.{◌-◌}
 use Rattle.std.proofs.lemmas.Option.{slice_get-get_or}
@@ -25,21 +27,25 @@ pub record IsSafe (names labels : List (List ℕ)) (r : Rule ℕ) : Type 0 where
   pub within : r.cost ≤ most
 
 -- where nothing is weighed, the cost does not show
-abbrev plain : Bool → Rule ℕ → Rule ℕ
-plain true r = r
-plain false r = record { left = r.left; right = r.right; cost = 0 }
+abbrev plain : Scale → Rule ℕ → Rule ℕ
+plain scales.Plain r = r
+plain scales.Reversed r = r
+plain scales.Unweighted r = record { left = r.left; right = r.right; cost = 0 }
 
-plain_right : (weighted : Bool) (r : Rule ℕ) → (plain weighted r).right ≡ r.right
-plain_right true r = refl
-plain_right false r = refl
+plain_right : (scale : Scale) (r : Rule ℕ) → (plain scale r).right ≡ r.right
+plain_right scales.Plain r = refl
+plain_right scales.Reversed r = refl
+plain_right scales.Unweighted r = refl
 
-plain_line : (weighted : Bool) (names labels : List (List ℕ)) (r : Rule ℕ) → line_in weighted names labels (plain weighted r) ≡ line_in weighted names labels r
-plain_line true names labels r = refl
-plain_line false names labels r = refl
+plain_line : (scale : Scale) (names labels : List (List ℕ)) (r : Rule ℕ) → line_in scale names labels (plain scale r) ≡ line_in scale names labels r
+plain_line scales.Plain names labels r = refl
+plain_line scales.Reversed names labels r = refl
+plain_line scales.Unweighted names labels r = refl
 
-plain_fits : (weighted : Bool) (names labels : List (List ℕ)) (r : Rule ℕ) → IsSafe names labels r → FitsRule weighted (length names) (length labels) (plain weighted r)
-plain_fits true names labels r s = record { left = s.left; right = s.right; cost = s.within }
-plain_fits false names labels r s = record { left = s.left; right = s.right; cost = refl }
+plain_fits : (scale : Scale) (names labels : List (List ℕ)) (r : Rule ℕ) → IsSafe names labels r → FitsRule scale (length names) (length labels) (plain scale r)
+plain_fits scales.Plain names labels r s = record { left = s.left; right = s.right; cost = s.within }
+plain_fits scales.Reversed names labels r s = record { left = s.left; right = s.right; cost = s.within }
+plain_fits scales.Unweighted names labels r s = record { left = s.left; right = s.right; cost = refl }
 
 itself : (names : List (List ℕ)) → Renames names names (λ q. q)
 itself names = record { to = λ q h. slice_get-get_or names q [] h; back = λ text h. h }
@@ -71,32 +77,32 @@ take_front text xs e =
     ap (λ n. take n text) long ∙ ap (take (length xs)) e ∙ take_all xs (10 ∷ [])
 
 -- the line of the definition is that of the lemmas on printed rules
-line_is : (weighted : Bool) (names labels : List (List ℕ)) (r : Rule ℕ) → line_of weighted names labels r ≡ line_in weighted names labels r
-line_is weighted names labels r =
-    take_front (rule_text weighted names labels r) (line_in weighted names labels r) (sym (append-nil (rule_text weighted names labels r)) ∙ line_ends weighted names labels r [])
+line_is : (scale : Scale) (names labels : List (List ℕ)) (r : Rule ℕ) → line_of scale names labels r ≡ line_in scale names labels r
+line_is scale names labels r =
+    take_front (rule_text scale names labels r) (line_in scale names labels r) (sym (append-nil (rule_text scale names labels r)) ∙ line_ends scale names labels r [])
 
 -- a rule is printed as its line and a line feed
-pub line_fed : (weighted : Bool) (names labels : List (List ℕ)) (r : Rule ℕ) → rule_text weighted names labels r ≡ line_of weighted names labels r ++ 10 ∷ []
-line_fed weighted names labels r =
-    sym (append-nil (rule_text weighted names labels r)) ∙ line_ends weighted names labels r [] ∙ ap (λ (xs : List ℕ). xs ++ 10 ∷ []) (sym (line_is weighted names labels r))
+pub line_fed : (scale : Scale) (names labels : List (List ℕ)) (r : Rule ℕ) → rule_text scale names labels r ≡ line_of scale names labels r ++ 10 ∷ []
+line_fed scale names labels r =
+    sym (append-nil (rule_text scale names labels r)) ∙ line_ends scale names labels r [] ∙ ap (λ (xs : List ℕ). xs ++ 10 ∷ []) (sym (line_is scale names labels r))
 
 -- rules with the same line have the same right side
 pub told_by_line :
-    (weighted : Bool) (names labels : List (List ℕ)) (r s : Rule ℕ) → AreStateNames names → Distinct labels → IsSafe names labels r → IsSafe names labels s → line_of weighted names labels r ≡ line_of weighted names labels s →
+    (scale : Scale) (names labels : List (List ℕ)) (r s : Rule ℕ) → AreStateNames names → Distinct labels → IsSafe names labels r → IsSafe names labels s → line_of scale names labels r ≡ line_of scale names labels s →
     r.right ≡ s.right
-told_by_line weighted names labels r s are apart first second same =
-    let q : Rule ℕ = plain weighted r in
-    let p : Rule ℕ = plain weighted s in
-    let fit = plain_fits weighted names labels r first in
-    let fits = plain_fits weighted names labels s second in
-    let lines : line_in weighted names labels q ≡ line_in weighted names labels p =
-    plain_line weighted names labels r ∙ sym (line_is weighted names labels r) ∙ same ∙ line_is weighted names labels s ∙ sym (plain_line weighted names labels s) in
-    let mine : HasWords (row_of weighted names labels q) (line_in weighted names labels p) = subst (HasWords (row_of weighted names labels q)) lines (line_read weighted names labels q are.each fit) in
-    let words : row_of weighted names labels q ≡ row_of weighted names labels p =
-    words_same (line_in weighted names labels p) (row_of weighted names labels q) (row_of weighted names labels p) mine (line_read weighted names labels p are.each fits) in
-    let one : SpellsRuleOf weighted names labels (row_of weighted names labels p) (named_rule (λ (x : ℕ). x) q) =
-    subst (λ (ws : List Word). SpellsRuleOf weighted names labels ws (named_rule (λ (x : ℕ). x) q)) words (rule_spelled weighted names names labels (λ x. x) q are.each (itself names) fit) in
-    let two = rule_spelled weighted names names labels (λ x. x) p are.each (itself names) fits in
+told_by_line scale names labels r s are apart first second same =
+    let q : Rule ℕ = plain scale r in
+    let p : Rule ℕ = plain scale s in
+    let fit = plain_fits scale names labels r first in
+    let fits = plain_fits scale names labels s second in
+    let lines : line_in scale names labels q ≡ line_in scale names labels p =
+    plain_line scale names labels r ∙ sym (line_is scale names labels r) ∙ same ∙ line_is scale names labels s ∙ sym (plain_line scale names labels s) in
+    let mine : HasWords (row_of scale names labels q) (line_in scale names labels p) = subst (HasWords (row_of scale names labels q)) lines (line_read scale names labels q are.each fit) in
+    let words : row_of scale names labels q ≡ row_of scale names labels p =
+    words_same (line_in scale names labels p) (row_of scale names labels q) (row_of scale names labels p) mine (line_read scale names labels p are.each fits) in
+    let one : SpellsRuleOf scale names labels (row_of scale names labels p) (named_rule (λ (x : ℕ). x) q) =
+    subst (λ (ws : List Word). SpellsRuleOf scale names labels ws (named_rule (λ (x : ℕ). x) q)) words (rule_spelled scale names names labels (λ x. x) q are.each (itself names) fit) in
+    let two = rule_spelled scale names names labels (λ x. x) p are.each (itself names) fits in
     let rules : named_rule (λ (x : ℕ). x) q ≡ named_rule (λ (x : ℕ). x) p =
-    rule_same weighted names labels are.distinct apart (row_of weighted names labels p) (named_rule (λ x. x) q) (named_rule (λ x. x) p) one two in
-    sym (plain_right weighted r) ∙ sym (side_itself q.right) ∙ ap (λ (x : Rule ℕ). x.right) rules ∙ side_itself p.right ∙ plain_right weighted s
+    rule_same scale names labels are.distinct apart (row_of scale names labels p) (named_rule (λ x. x) q) (named_rule (λ x. x) p) one two in
+    sym (plain_right scale r) ∙ sym (side_itself q.right) ∙ ap (λ (x : Rule ℕ). x.right) rules ∙ side_itself p.right ∙ plain_right scale s

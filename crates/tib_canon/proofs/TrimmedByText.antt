@@ -1,4 +1,5 @@
 -- Trimming and canonical order under other numbers of labels.
+use Rattle.tib_cost.specs.declared.Scale.{Scale}
 use Rattle.std.proofs.Common.{◌≡◌, ℕ, ◌<◌, ◌≤◌, Bool, List, [], ◌∷◌, ◌++◌, length, map, get_or, refl, ap, sym, ◌∙◌, subst, arith, suc, inl, inr, take}
 use Rattle.std.specs.Prelude.{◌-◌}
 use Rattle.std.specs.Ordering.{nat_cmp, ordering_then}
@@ -142,29 +143,29 @@ module _ (labels others : List (List ℕ)) (f : ℕ → ℕ) where
   trees_printed names (tree (hole q) kids rest) k e =
       node_same k (get_or names q []) (count_with f kids) (trees_printed names kids 0 e.0) (trees_printed names rest (suc k) e.1)
 
-  rule_printed : (weighted : Bool) (names : List (List ℕ)) (r : Rule ℕ) → EachLabel KeepsText (only r.right) → rule_text weighted names labels r ≡ rule_text weighted names others (rule_with f r)
-  rule_printed weighted names r e =
-      ap (λ (x : List ℕ). get_or names r.left [] ++ (32 ∷ (45 ∷ (62 ∷ (32 ∷ []))) ++ (x ++ (cost_text weighted r.cost ++ 10 ∷ [])))) (trees_printed names (only r.right) 0 e)
+  rule_printed : (scale : Scale) (names : List (List ℕ)) (r : Rule ℕ) → EachLabel KeepsText (only r.right) → rule_text scale names labels r ≡ rule_text scale names others (rule_with f r)
+  rule_printed scale names r e =
+      ap (λ (x : List ℕ). get_or names r.left [] ++ (32 ∷ (45 ∷ (62 ∷ (32 ∷ []))) ++ (x ++ (cost_text scale r.cost ++ 10 ∷ [])))) (trees_printed names (only r.right) 0 e)
 
-  rules_printed : (weighted : Bool) (names : List (List ℕ)) (rules : List (Rule ℕ)) → EachLabelIn KeepsText rules → rules_text weighted names labels rules ≡ rules_text weighted names others (rules_with f rules)
-  rules_printed weighted names [] e = refl
-  rules_printed weighted names (r ∷ rules) e =
-      ap (λ (x : List ℕ). x ++ rules_text weighted names labels rules) (rule_printed weighted names r (e r (inl refl)))
-      ∙ ap (λ (x : List ℕ). rule_text weighted names others (rule_with f r) ++ x) (rules_printed weighted names rules (λ s h. e s (inr h)))
+  rules_printed : (scale : Scale) (names : List (List ℕ)) (rules : List (Rule ℕ)) → EachLabelIn KeepsText rules → rules_text scale names labels rules ≡ rules_text scale names others (rules_with f rules)
+  rules_printed scale names [] e = refl
+  rules_printed scale names (r ∷ rules) e =
+      ap (λ (x : List ℕ). x ++ rules_text scale names labels rules) (rule_printed scale names r (e r (inl refl)))
+      ∙ ap (λ (x : List ℕ). rule_text scale names others (rule_with f r) ++ x) (rules_printed scale names rules (λ s h. e s (inr h)))
 
-  pub grammar_printed : (weighted : Bool) (g : GrammarOf) → EachLabelIn KeepsText g.rules → grammar_text weighted labels g ≡ grammar_text weighted others (grammar_with f g)
-  grammar_printed weighted g e = ap (λ (x : List ℕ). (get_or g.names 0 [] ++ 10 ∷ []) ++ x) (rules_printed weighted g.names g.rules e)
+  pub grammar_printed : (scale : Scale) (g : GrammarOf) → EachLabelIn KeepsText g.rules → grammar_text scale labels g ≡ grammar_text scale others (grammar_with f g)
+  grammar_printed scale g e = ap (λ (x : List ℕ). (get_or g.names 0 [] ++ 10 ∷ []) ++ x) (rules_printed scale g.names g.rules e)
 
-  line_printed : (weighted : Bool) (names : List (List ℕ)) (r : Rule ℕ) → EachLabel KeepsText (only r.right) → line_of weighted names labels r ≡ line_of weighted names others (rule_with f r)
-  line_printed weighted names r e = ap (λ (x : List ℕ). take (length x - 1) x) (rule_printed weighted names r e)
+  line_printed : (scale : Scale) (names : List (List ℕ)) (r : Rule ℕ) → EachLabel KeepsText (only r.right) → line_of scale names labels r ≡ line_of scale names others (rule_with f r)
+  line_printed scale names r e = ap (λ (x : List ℕ). take (length x - 1) x) (rule_printed scale names r e)
 
-  less_with : (weighted : Bool) (names : List (List ℕ)) (r s : Rule ℕ) → EachLabel KeepsText (only r.right) → EachLabel KeepsText (only s.right) → rule_cmp weighted names labels r s ≡ Less → rule_cmp weighted names others (rule_with f r) (rule_with f s) ≡ Less
-  less_with weighted names r s a b e =
-      sym (ap (λ (x : List ℕ). ordering_then (nat_cmp r.left s.left) (slice_cmp nat_cmp x (line_of weighted names labels s))) (line_printed weighted names r a)
-      ∙ ap (λ (x : List ℕ). ordering_then (nat_cmp r.left s.left) (slice_cmp nat_cmp (line_of weighted names others (rule_with f r)) x)) (line_printed weighted names s b))
+  less_with : (scale : Scale) (names : List (List ℕ)) (r s : Rule ℕ) → EachLabel KeepsText (only r.right) → EachLabel KeepsText (only s.right) → rule_cmp scale names labels r s ≡ Less → rule_cmp scale names others (rule_with f r) (rule_with f s) ≡ Less
+  less_with scale names r s a b e =
+      sym (ap (λ (x : List ℕ). ordering_then (nat_cmp r.left s.left) (slice_cmp nat_cmp x (line_of scale names labels s))) (line_printed scale names r a)
+      ∙ ap (λ (x : List ℕ). ordering_then (nat_cmp r.left s.left) (slice_cmp nat_cmp (line_of scale names others (rule_with f r)) x)) (line_printed scale names s b))
       ∙ e
 
-  module _ (apart : (i j : ℕ) → f i ≡ f j → i ≡ j) (weighted : Bool) (g h : GrammarOf) (o : IsInOrder weighted labels g h) where
+  module _ (apart : (i j : ℕ) → f i ≡ f j → i ≡ j) (scale : Scale) (g h : GrammarOf) (o : IsInOrder scale labels g h) where
     kept_with : (r : Rule ℕ) → Has (rules_with f h.rules) r → Has (rules_with f g.rules) r
     kept_with r k =
         let m = has_mapped (rule_with f) h.rules r k in
@@ -192,13 +193,13 @@ module _ (labels others : List (List ℕ)) (f : ℕ → ℕ) where
           agrees = subst (λ (x : Rule ℕ). AgreeInSides (rule_with f w.rule) x) m.2 agrees;
         }
 
-    pub order_with : EachLabelIn KeepsText h.rules → IsInOrder weighted others (grammar_with f g) (grammar_with f h)
+    pub order_with : EachLabelIn KeepsText h.rules → IsInOrder scale others (grammar_with f g) (grammar_with f h)
     order_with e = record {
       names = o.names;
       kept = kept_with;
       least = least_with;
       whole = whole_with;
       ascends =
-          ascends_mapped (λ r s. rule_cmp weighted h.names labels r s ≡ Less) (λ r s. rule_cmp weighted h.names others r s ≡ Less) (rule_with f) h.rules
-          (λ r s k l less. less_with weighted h.names r s (e r k) (e s l) less) o.ascends;
+          ascends_mapped (λ r s. rule_cmp scale h.names labels r s ≡ Less) (λ r s. rule_cmp scale h.names others r s ≡ Less) (rule_with f) h.rules
+          (λ r s k l less. less_with scale h.names r s (e r k) (e s l) less) o.ascends;
     }

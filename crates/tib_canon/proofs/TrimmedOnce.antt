@@ -1,4 +1,5 @@
 -- Grammars with the same rules have one canonical form.
+use Rattle.tib_cost.specs.declared.Scale.{Scale}
 use Rattle.std.proofs.Common.{◌≡◌, ℕ, ◌<◌, Bool, List, [], ◌∷◌, ◌++◌, length, get_or, refl, ap, sym, ◌∙◌, subst, arith, zero, suc, inl, inr}
 use Rattle.std.proofs.lemmas.List.{length-map, get_or-map}
 use Rattle.tib_lex.specs.Lists.{Has, Ascends}
@@ -180,14 +181,14 @@ trimmed_alike product g k h i leaves others alike a b =
 
 -- grammars with the same rules have one canonical form, whatever the names of their states and the order of their rules
 pub one_canonical_of :
-    (product : ℕ → ℕ → ℕ) (weighted : Bool) (labels : List (List ℕ)) (g k h i : GrammarOf) → SidesEndInHoles g.rules → SidesEndInHoles k.rules → AreAlike g.rules k.rules →
-    IsCanonical product weighted labels g h → IsCanonical product weighted labels k i → h ≡ i
-one_canonical_of product weighted labels g k h i leaves others alike c d =
+    (product : ℕ → ℕ → ℕ) (scale : Scale) (labels : List (List ℕ)) (g k h i : GrammarOf) → SidesEndInHoles g.rules → SidesEndInHoles k.rules → AreAlike g.rules k.rules →
+    IsCanonical product scale labels g h → IsCanonical product scale labels k i → h ≡ i
+one_canonical_of product scale labels g k h i leaves others alike c d =
     let a : IsTrimmed product g c.trimmed = c.is_trimmed in
     let b : IsTrimmed product k d.trimmed = d.is_trimmed in
     let same = trimmed_alike product g k c.trimmed d.trimmed leaves others alike a b in
     let long : length c.trimmed.names ≡ length d.trimmed.names = omega (arith, names_long product g c.trimmed a, ap length same.0, names_long product k d.trimmed b) in
-    one_order_of weighted labels c.trimmed d.trimmed h i long same.1 c.in_order d.in_order
+    one_order_of scale labels c.trimmed d.trimmed h i long same.1 c.in_order d.in_order
 
-pub one_canonical : (product : ℕ → ℕ → ℕ) (weighted : Bool) (labels : List (List ℕ)) (g h i : GrammarOf) → SidesEndInHoles g.rules → IsCanonical product weighted labels g h → IsCanonical product weighted labels g i → h ≡ i
-one_canonical product weighted labels g h i leaves a b = one_canonical_of product weighted labels g g h i leaves leaves (alike_self g.rules) a b
+pub one_canonical : (product : ℕ → ℕ → ℕ) (scale : Scale) (labels : List (List ℕ)) (g h i : GrammarOf) → SidesEndInHoles g.rules → IsCanonical product scale labels g h → IsCanonical product scale labels g i → h ≡ i
+one_canonical product scale labels g h i leaves a b = one_canonical_of product scale labels g g h i leaves leaves (alike_self g.rules) a b

@@ -1,4 +1,5 @@
 -- Sorted lines, by what the calls before them say.
+use Rattle.tib_cost.specs.declared.Scale.{Scale}
 use Rattle.std.proofs.Common.{◌≡◌, ℕ, ◌<◌, ◌≤◌, Bool, List, [], ◌∷◌, ◌++◌, length, map, get_or, ap, sym, ◌∙◌, subst, arith}
 use Rattle.std.specs.Prelude.{IsPermutation, IsSorted, Some, slice_get}
 use Rattle.std.proofs.lemmas.Option.{slice_get-get_or, get_or_from_slice_get}
@@ -65,53 +66,53 @@ positions_below rules first part positions others a b c e i h =
 
 -- texts of rules are those of the same rules
 pub same_texts :
-    (weighted : Bool) (names labels : List (List ℕ)) (rules some others : List (Rule ℕ)) (positions p q text ends : List ℕ) → some ≡ rules → others ≡ rules → p ≡ positions → q ≡ positions →
-    AreTexts weighted names labels (map (rule_at some) p) text ends → AreTexts weighted names labels (map (rule_at others) q) text ends
-same_texts weighted names labels rules some others positions p q text ends a b c d t =
+    (scale : Scale) (names labels : List (List ℕ)) (rules some others : List (Rule ℕ)) (positions p q text ends : List ℕ) → some ≡ rules → others ≡ rules → p ≡ positions → q ≡ positions →
+    AreTexts scale names labels (map (rule_at some) p) text ends → AreTexts scale names labels (map (rule_at others) q) text ends
+same_texts scale names labels rules some others positions p q text ends a b c d t =
     let rules_same : some ≡ others = a ∙ sym b in
     let positions_same : p ≡ q = c ∙ sym d in
-    subst (λ (xs : List ℕ). AreTexts weighted names labels (map (rule_at others) xs) text ends) positions_same (subst (λ (rs : List (Rule ℕ)). AreTexts weighted names labels (map (rule_at rs) p) text ends) rules_same t)
+    subst (λ (xs : List ℕ). AreTexts scale names labels (map (rule_at others) xs) text ends) positions_same (subst (λ (rs : List (Rule ℕ)). AreTexts scale names labels (map (rule_at rs) p) text ends) rules_same t)
 
 -- what the calls before the sorted lines say
-pub record AreReady (weighted : Bool) (labels : List (List ℕ)) (count : ℕ) (rules : List (Rule ℕ)) (names : List (List ℕ)) (positions : List ℕ) (lines : List Line) : Type 0 where
+pub record AreReady (scale : Scale) (labels : List (List ℕ)) (count : ℕ) (rules : List (Rule ℕ)) (names : List (List ℕ)) (positions : List ℕ) (lines : List Line) : Type 0 where
   pub named : names ≡ names_of count
   pub cheapest : AreCheapest rules positions
-  pub are_lines : Each (IsLineAt weighted names labels rules) lines
+  pub are_lines : Each (IsLineAt scale names labels rules) lines
   pub placed : map (λ (l : Line). l.position) lines ≡ positions
 
 pub are_ready :
-    (weighted : Bool) (labels : List (List ℕ)) (count : ℕ) (rules : List (Rule ℕ)) (names : List (List ℕ)) (positions : List ℕ) (lines : List Line) (first second third : List (Rule ℕ)) (p q text ends : List ℕ) →
-    first ≡ rules → second ≡ rules → third ≡ rules → p ≡ positions → q ≡ positions → names ≡ names_of count → AreCheapest first positions → AreTexts weighted names labels (map (rule_at second) p) text ends →
+    (scale : Scale) (labels : List (List ℕ)) (count : ℕ) (rules : List (Rule ℕ)) (names : List (List ℕ)) (positions : List ℕ) (lines : List Line) (first second third : List (Rule ℕ)) (p q text ends : List ℕ) →
+    first ≡ rules → second ≡ rules → third ≡ rules → p ≡ positions → q ≡ positions → names ≡ names_of count → AreCheapest first positions → AreTexts scale names labels (map (rule_at second) p) text ends →
     ((w : Bool) (ns ls : List (List ℕ)) → AreTexts w ns ls (map (rule_at third) q) text ends → Each (IsLineAt w ns ls third) lines) → map (λ (l : Line). l.position) lines ≡ q →
-    AreReady weighted labels count rules names positions lines
-are_ready weighted labels count rules names positions lines first second third p q text ends a b c d e named cheap texts each placed = record {
+    AreReady scale labels count rules names positions lines
+are_ready scale labels count rules names positions lines first second third p q text ends a b c d e named cheap texts each placed = record {
   named = named;
   cheapest = subst (λ (rs : List (Rule ℕ)). AreCheapest rs positions) a cheap;
-  are_lines = subst (λ (rs : List (Rule ℕ)). Each (IsLineAt weighted names labels rs) lines) c (each weighted names labels (same_texts weighted names labels rules second third positions p q text ends b c d e texts));
+  are_lines = subst (λ (rs : List (Rule ℕ)). Each (IsLineAt scale names labels rs) lines) c (each scale names labels (same_texts scale names labels rules second third positions p q text ends b c d e texts));
   placed = placed ∙ e;
 }
 
 pub sorted_known :
-    (weighted : Bool) (labels : List (List ℕ)) (count : ℕ) (rules : List (Rule ℕ)) (names : List (List ℕ)) (positions : List ℕ) (lines now : List Line) → AreReady weighted labels count rules names positions lines →
+    (scale : Scale) (labels : List (List ℕ)) (count : ℕ) (rules : List (Rule ℕ)) (names : List (List ℕ)) (positions : List ℕ) (lines now : List Line) → AreReady scale labels count rules names positions lines →
     IsPermutation lines now → IsSorted line_cmp now → AreStateNames names → AreDistinct labels →
-    AreInRange count rules → SidesEndInHoles rules → AreLabelled (length labels) rules → AreSorted weighted labels (over count rules) now
-sorted_known weighted labels count rules names positions lines now ready permuted sorted state apart range leaves labelled =
+    AreInRange count rules → SidesEndInHoles rules → AreLabelled (length labels) rules → AreSorted scale labels (over count rules) now
+sorted_known scale labels count rules names positions lines now ready permuted sorted state apart range leaves labelled =
     let many : ℕ = length (names_of count) in
     let canonical : names ≡ names_of (length (names_of count)) = ready.named ∙ ap names_of (sym (length-names_of count)) in
     let places : AreCheapest rules (map (λ (l : Line). l.position) lines) = subst (AreCheapest rules) (sym ready.placed) ready.cheapest in
-    let known : Each (IsLineAt weighted (names_of many) labels rules) lines = subst (λ (ns : List (List ℕ)). Each (IsLineAt weighted ns labels rules) lines) canonical ready.are_lines in
+    let known : Each (IsLineAt scale (names_of many) labels rules) lines = subst (λ (ns : List (List ℕ)). Each (IsLineAt scale ns labels rules) lines) canonical ready.are_lines in
     record {
       cheapest = cheapest_permuted rules (map (λ (l : Line). l.position) lines) (map (λ (l : Line). l.position) now) (IsPermutation-map (λ (l : Line). l.position) lines now permuted) places;
-      lines = each_of (IsLineAt weighted (names_of many) labels rules) now (λ l h. each_has (IsLineAt weighted (names_of many) labels rules) lines l known (has_permuted now lines l (IsPermutation-sym lines now permuted) h));
+      lines = each_of (IsLineAt scale (names_of many) labels rules) now (λ l h. each_has (IsLineAt scale (names_of many) labels rules) lines l known (has_permuted now lines l (IsPermutation-sym lines now permuted) h));
       sorted = sorted;
       names = subst AreStateNames canonical state;
       labels_apart = distinct_texts labels apart;
       safe = rules_safe many labels rules (over_range count rules range) leaves labelled;
     }
 
-module _ (weighted : Bool) (labels : List (List ℕ)) (count : ℕ) (rules : List (Rule ℕ)) (now part : List Line) (s : AreSorted weighted labels (over count rules) now) (same : part ≡ now) where
+module _ (scale : Scale) (labels : List (List ℕ)) (count : ℕ) (rules : List (Rule ℕ)) (now part : List Line) (s : AreSorted scale labels (over count rules) now) (same : part ≡ now) where
   pub lines_below : Each (λ (l : Line). l.position < length rules) part
-  lines_below = each_of (λ (l : Line). l.position < length rules) part (λ l h. (each_has (IsLineAt weighted (names_of (length (names_of count))) labels rules) now l s.lines (subst (λ (ls : List Line). Has ls l) same h)).below)
+  lines_below = each_of (λ (l : Line). l.position < length rules) part (λ l h. (each_has (IsLineAt scale (names_of (length (names_of count))) labels rules) now l s.lines (subst (λ (ls : List Line). Has ls l) same h)).below)
 
   pub lines_apart : Distinct (map (λ (l : Line). l.position) part)
   lines_apart = subst (λ (ls : List Line). Distinct (map (λ (l : Line). l.position) ls)) (sym same) s.cheapest.distinct
@@ -127,25 +128,25 @@ module _ (weighted : Bool) (labels : List (List ℕ)) (count : ℕ) (rules : Lis
     pub kept_in_range : (names : List (List ℕ)) → names ≡ names_of count → AreInRange count rules → AreInRange (length names) sorted
     kept_in_range names named range m h =
         let long : length names ≡ count = ap length named ∙ length-names_of count in
-        let stands : Has rules (rule_at sorted m) = kept weighted labels (over count rules) now s (rule_at sorted m) (subst (λ (rs : List (Rule ℕ)). Has rs (rule_at sorted m)) same_rules (has_at sorted m no_rule h)) in
+        let stands : Has rules (rule_at sorted m) = kept scale labels (over count rules) now s (rule_at sorted m) (subst (λ (rs : List (Rule ℕ)). Has rs (rule_at sorted m)) same_rules (has_at sorted m no_rule h)) in
         let a = at_has rules (rule_at sorted m) no_rule stands in
         subst (λ k. IsInRange k (rule_at sorted m)) (sym long) (subst (IsInRange count) a.2 (range a.0 a.1))
 
     -- the grammar is in order, whatever the names of the states were
-    pub over_states : (names : List (List ℕ)) (h : GrammarOf) → names ≡ names_of count → h.names ≡ names → h.rules ≡ sorted → OverStates count rules (λ g. IsInOrder weighted labels g h)
+    pub over_states : (names : List (List ℕ)) (h : GrammarOf) → names ≡ names_of count → h.names ≡ names → h.rules ≡ sorted → OverStates count rules (λ g. IsInOrder scale labels g h)
     over_states names h named has_names has_rules others long =
-        let o : IsInOrder weighted labels (over count rules) h = in_order weighted labels (over count rules) now s h (has_names ∙ named ∙ ap names_of (sym (length-names_of count))) (has_rules ∙ same_rules) in
+        let o : IsInOrder scale labels (over count rules) h = in_order scale labels (over count rules) now s h (has_names ∙ named ∙ ap names_of (sym (length-names_of count))) (has_rules ∙ same_rules) in
         record { names = has_names ∙ named ∙ ap names_of (sym long); kept = o.kept; least = o.least; whole = o.whole; ascends = o.ascends }
 
     -- the name of the start and the sorted lines are the text of the grammar
     pub printed_text :
         (names : List (List ℕ)) (h : GrammarOf) → names ≡ names_of count → h.names ≡ names → h.rules ≡ sorted → (start : List ℕ) (lines : List Line) → lines ≡ now → slice_get names 0 ≡ Some start →
-        (text : List ℕ) → text ≡ (start ++ 10 ∷ []) ++ lines_text lines → text ≡ grammar_text weighted labels h
+        (text : List ℕ) → text ≡ (start ++ 10 ∷ []) ++ lines_text lines → text ≡ grammar_text scale labels h
     printed_text names h named has_names has_rules start lines these first text is =
         let canonical : names_of (length (names_of count)) ≡ names = ap names_of (length-names_of count) ∙ sym named in
-        let each : Each (IsLineAt weighted names labels rules) lines =
-        subst (λ (ns : List (List ℕ)). Each (IsLineAt weighted ns labels rules) lines) canonical (subst (Each (IsLineAt weighted (names_of (length (names_of count))) labels rules)) (sym these) s.lines) in
-        lines_grammar weighted names labels rules sorted start text lines h each (same_rules ∙ ap (λ (ls : List Line). map (λ (l : Line). rule_at rules l.position) ls) (sym these)) has_names has_rules
+        let each : Each (IsLineAt scale names labels rules) lines =
+        subst (λ (ns : List (List ℕ)). Each (IsLineAt scale ns labels rules) lines) canonical (subst (Each (IsLineAt scale (names_of (length (names_of count))) labels rules)) (sym these) s.lines) in
+        lines_grammar scale names labels rules sorted start text lines h each (same_rules ∙ ap (λ (ls : List Line). map (λ (l : Line). rule_at rules l.position) ls) (sym these)) has_names has_rules
         (sym (get_or_from_slice_get names 0 start [] first)) is
 
 pub some_names : (names : List (List ℕ)) (count : ℕ) → names ≡ names_of count → 0 < count → 0 < length names

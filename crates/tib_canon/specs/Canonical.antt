@@ -1,4 +1,5 @@
 -- The canonical form of a grammar.
+use Rattle.tib_cost.specs.declared.Scale.{Scale}
 use Rattle.std.specs.Prelude.{◌≡◌, ℕ, ◌-◌, ◌≤◌, Bool, List, [], ◌∷◌, ◌++◌, length, take, decimal, zero, suc}
 use Rattle.std.specs.declared.cmp.Ordering.{Ordering}
 use Rattle.std.specs.declared.cmp.Ordering.TheVariants.{Less}
@@ -24,13 +25,13 @@ abbrev pub OverStates : ℕ → List (Rule ℕ) → (GrammarOf → Type 0) → T
 OverStates states rules P = (names : List (List ℕ)) → length names ≡ states → P (record { names = names; rules = rules })
 
 -- the line of a rule as it is printed, without the line feed
-abbrev pub line_of : Bool → List (List ℕ) → List (List ℕ) → Rule ℕ → List ℕ
-line_of weighted names labels r = take (length (rule_text weighted names labels r) - 1) (rule_text weighted names labels r)
+abbrev pub line_of : Scale → List (List ℕ) → List (List ℕ) → Rule ℕ → List ℕ
+line_of scale names labels r = take (length (rule_text scale names labels r) - 1) (rule_text scale names labels r)
 
 -- rules stand in the order of their left states, and those of one state in the order of their lines
-abbrev pub rule_cmp : Bool → List (List ℕ) → List (List ℕ) → Rule ℕ → Rule ℕ → Ordering
-rule_cmp weighted names labels r s =
-    ordering_then (nat_cmp r.left s.left) (slice_cmp nat_cmp (line_of weighted names labels r) (line_of weighted names labels s))
+abbrev pub rule_cmp : Scale → List (List ℕ) → List (List ℕ) → Rule ℕ → Rule ℕ → Ordering
+rule_cmp scale names labels r s =
+    ordering_then (nat_cmp r.left s.left) (slice_cmp nat_cmp (line_of scale names labels r) (line_of scale names labels s))
 
 -- the rules have the same left state and the same right side
 pub record AgreeInSides (r s : Rule ℕ) : Type 0 where
@@ -46,16 +47,16 @@ pub record HasSides (rules : List (Rule ℕ)) (r : Rule ℕ) : Type 0 where
 -- A grammar as it stands with canonical names and in canonical order, over a table of labels: its states are named q0, q1
 -- and so on by their numbers; its rules are rules of the grammar, each at the least cost of those with its sides, and all
 -- sides are there; and they ascend by their left states and then by their lines.
-pub record IsInOrder (weighted : Bool) (labels : List (List ℕ)) (g h : GrammarOf) : Type 0 where
+pub record IsInOrder (scale : Scale) (labels : List (List ℕ)) (g h : GrammarOf) : Type 0 where
   pub names : h.names ≡ names_of (length g.names)
   pub kept : (r : Rule ℕ) → Has h.rules r → Has g.rules r
   pub least : (r s : Rule ℕ) → Has h.rules r → Has g.rules s → AgreeInSides r s → r.cost ≤ s.cost
   pub whole : (r : Rule ℕ) → Has g.rules r → HasSides h.rules r
-  pub ascends : Ascends (λ r s. rule_cmp weighted h.names labels r s ≡ Less) h.rules
+  pub ascends : Ascends (λ r s. rule_cmp scale h.names labels r s ≡ Less) h.rules
 
 -- The canonical form of a grammar: without the states and rules that no run within the greatest cost uses, and then with
 -- canonical names and in canonical order.
-pub record IsCanonical (product : ℕ → ℕ → ℕ) (weighted : Bool) (labels : List (List ℕ)) (g h : GrammarOf) : Type 0 where
+pub record IsCanonical (product : ℕ → ℕ → ℕ) (scale : Scale) (labels : List (List ℕ)) (g h : GrammarOf) : Type 0 where
   pub trimmed : GrammarOf
   pub is_trimmed : IsTrimmed product g trimmed
-  pub in_order : IsInOrder weighted labels trimmed h
+  pub in_order : IsInOrder scale labels trimmed h

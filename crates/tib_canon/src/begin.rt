@@ -60,9 +60,9 @@ pub fn to_grammar<S: Semiring, K: TableKey + Drop>(
     requires range { AreInRange (length found.order.items) found.rules.items }
     requires leaves { SidesEndInHoles found.rules.items }
     requires labelled { AreLabelled (length labels.now) found.rules.items }
-    ensures canonical { IfOk result (λ h. IsCanonicalOverKeys S.product S.WEIGHTED labels.now K.cmp found.order.items found.rules.items begin h.grammar) }
+    ensures canonical { IfOk result (λ h. IsCanonicalOverKeys S.product S.SCALE labels.now K.cmp found.order.items found.rules.items begin h.grammar) }
     ensures labelled { IfOk result (λ h. AreLabelled (length labels.now) h.grammar.rules) }
-    ensures text { IfOk result (λ h. h.text.bytes ≡ grammar_text S.WEIGHTED labels.now h.grammar) }
+    ensures text { IfOk result (λ h. h.text.bytes ≡ grammar_text S.SCALE labels.now h.grammar) }
 {
     let Found { order, rules, .. } = found;
     match begin {

@@ -1,4 +1,5 @@
 // The lines of rules.
+ghost use Rattle.tib_cost.specs.declared.Scale.{Scale};
 ghost use Rattle.std.specs.Prelude.{◌≡◌, ◌++◌, ◌-◌, ◌<◌, ◌≤◌, ℕ, List, Bool, length, map, take, drop, IfOk};
 ghost use Rattle.std.proofs.Common.{get_or};
 ghost use Rattle.tib_lex.specs.Lists.{Each};
@@ -41,7 +42,7 @@ fn add_line<S: Semiring>(
     labels: &Labels,
 ) -> Result<(), AllocError>
     requires { IsRuleWithin names.now labels.now rule.now }
-    ensures { IfOk result (λ _. sink.new.bytes ≡ sink.old.bytes ++ rule_text S.WEIGHTED names.now labels.now rule.now) }
+    ensures { IfOk result (λ _. sink.new.bytes ≡ sink.old.bytes ++ rule_text S.SCALE names.now labels.now rule.now) }
 {
     match print_rule::<S, GrowingSink>(rule, names, labels, sink) {
         Ok(()) => Ok(()),
@@ -59,7 +60,7 @@ pub(crate) fn texts_at<S: Semiring>(
 ) -> Result<Texts, AllocError>
     requires below { (i : ℕ) → i < length positions.now → get_or positions.now i 0 < length rules.now }
     requires within { (n : ℕ) → n < length rules.now → IsRuleWithin names.now labels.now (rule_at rules.now n) }
-    ensures { IfOk result (λ texts. AreTexts S.WEIGHTED names.now labels.now (map (rule_at rules.now) positions.now) texts.sink.bytes texts.ends.items) }
+    ensures { IfOk result (λ texts. AreTexts S.SCALE names.now labels.now (map (rule_at rules.now) positions.now) texts.sink.bytes texts.ends.items) }
 {
     let mut sink = GrowingSink::new(alloc);
     let mut ends = Vec::with_capacity(alloc, positions.len())?;
@@ -87,8 +88,8 @@ pub(crate) fn lines_at<'a>(
     texts: &'a Texts,
 ) -> Result<Vec<Line<'a>>, AllocError>
     requires below { (i : ℕ) → i < length positions.now → get_or positions.now i 0 < length rules.now }
-    requires texts { (weighted : Bool) × (names : List (List ℕ)) × (labels : List (List ℕ)) × AreTexts weighted names labels (map (rule_at rules.now) positions.now) texts.now.sink.bytes texts.now.ends.items }
-    ensures lines { IfOk result (λ lines. (weighted : Bool) (names labels : List (List ℕ)) → AreTexts weighted names labels (map (rule_at rules.now) positions.now) texts.now.sink.bytes texts.now.ends.items → Each (IsLineAt weighted names labels rules.now) lines.items) }
+    requires texts { (scale : Scale) × (names : List (List ℕ)) × (labels : List (List ℕ)) × AreTexts scale names labels (map (rule_at rules.now) positions.now) texts.now.sink.bytes texts.now.ends.items }
+    ensures lines { IfOk result (λ lines. (scale : Scale) (names labels : List (List ℕ)) → AreTexts scale names labels (map (rule_at rules.now) positions.now) texts.now.sink.bytes texts.now.ends.items → Each (IsLineAt scale names labels rules.now) lines.items) }
     ensures positions { IfOk result (λ lines. map (λ line. line.position) lines.items ≡ positions.now) }
 {
     let text = texts.sink.bytes();

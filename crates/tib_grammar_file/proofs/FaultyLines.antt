@@ -1,4 +1,7 @@
 -- What a line holds, and what is read of it.
+use Rattle.tib_cost.specs.Scale.{is_weighted, cost_in}
+use Rattle.tib_cost.specs.declared.Scale.TheVariants as scales
+use Rattle.tib_cost.specs.declared.Scale.{Scale}
 use Rattle.std.proofs.Common.{◌≡◌, ℕ, ◌<◌, ◌≤◌, inl, inr, Bool, true, false, List, [], ◌∷◌, length, refl, ap, sym, ◌∙◌, subst, arith, Option, ◌++◌}
 use Rattle.std.specs.Prelude.{Some, None, Result, Ok, Err, nat_lt, cond}
 use Rattle.std.proofs.lemmas.Bool.Decides.{nat_tests}
@@ -11,70 +14,80 @@ use Rattle.tib_lex.proofs.HasWords.{words_read, words_had, bad_read, bad_had}
 use Rattle.tib_tree.specs.Written.{spell, Item}
 use Rattle.tib_grammar_file.specs.Rule.{has_dot, weight_words, Parts, SpellsRule, parts_of, RuleLine, rule_line_of, few_nodes, with_cost, good_parts, rule_in, rule_line}
 use Rattle.tib_grammar_file.specs.Reading.{start_of, plain_start, start_in, start_line}
-use Rattle.tib_grammar_file.specs.Weight.{most, IsWhole, IsCostOf, whole, small, cost_of}
-use Rattle.tib_grammar_file.specs.Faults.{HasStart, HasOtherStart, HasStartFault, HasRule, HasNoRule, IsWeightFault, HasBadWeight, HasGoodWeight, HasRuleFault, HoldsRule}
+use Rattle.tib_grammar_file.specs.Weight.{most, IsWhole, IsCostIf, IsCostOf, whole, small, cost_of}
+use Rattle.tib_grammar_file.specs.Faults.{HasStart, HasOtherStart, HasStartFault, HasRule, HasNoRule, IsFaultIf, IsWeightFault, HasBadWeight, HasGoodWeight, HasRuleFault, HoldsRule}
 use Rattle.tib_grammar_file.proofs.RulesRead.{rule_back, rule_forth}
 use Rattle.tib_grammar_file.proofs.WholeWeights.{whole_back, whole_forth, cost_forth}
 
 -- weights
-abbrev pub WeightSays : Bool → Option (List ℕ) → Result ℕ FaultKind → Type 0
-WeightSays weighted weight (Ok cost) = IsCostOf weighted weight cost
-WeightSays weighted weight (Err kind) = IsWeightFault weighted weight kind
+abbrev pub WeightSays : Scale → Option (List ℕ) → Result ℕ FaultKind → Type 0
+WeightSays scale weight (Ok cost) = IsCostOf scale weight cost
+WeightSays scale weight (Err kind) = IsWeightFault scale weight kind
+
+abbrev SaysIf : Bool → Scale → Option (List ℕ) → Result ℕ FaultKind → Type 0
+SaysIf weighted scale None (Ok cost) = cost ≡ 0
+SaysIf weighted scale (Some text) (Ok cost) = IsCostIf weighted scale text cost
+SaysIf weighted scale weight (Err kind) = IsFaultIf weighted weight kind
 
 not_whole : (text : List ℕ) → whole text ≡ None → (n : ℕ) → IsWhole text n → ⊥
 not_whole text e n w = let bad : None ≡ Some n = sym e ∙ whole_forth text n w in cc
 
-small_says : (text : List ℕ) (n : ℕ) (b : Bool) → nat_lt most n ≡ b → IsWhole text n → WeightSays true (Some text) (cond b (Err kinds.WeightTooLarge) (Ok n))
-small_says text n true e w = let large : most < n = grind (arith, nat_tests) in (n, w, large)
-small_says text n false e w = let few : n ≤ most = grind (arith, nat_tests) in (w, few)
+small_says : (scale : Scale) (text : List ℕ) (n : ℕ) (b : Bool) → nat_lt most n ≡ b → IsWhole text n → SaysIf true scale (Some text) (cond b (Err kinds.WeightTooLarge) (Ok (cost_in scale n)))
+small_says scale text n true e w = let large : most < n = grind (arith, nat_tests) in (n, w, large)
+small_says scale text n false e w = let few : n ≤ most = grind (arith, nat_tests) in record { weight = n; whole = w; within = few; cost_is = refl }
 
-whole_says : (text : List ℕ) (o : Option ℕ) → whole text ≡ o → WeightSays true (Some text) (small o)
-whole_says text None e = not_whole text e
-whole_says text (Some n) e = small_says text n (nat_lt most n) refl (whole_back text n e)
+whole_says : (scale : Scale) (text : List ℕ) (o : Option ℕ) → whole text ≡ o → SaysIf true scale (Some text) (small scale o)
+whole_says scale text None e = not_whole text e
+whole_says scale text (Some n) e = small_says scale text n (nat_lt most n) refl (whole_back text n e)
 
-pub weight_says : (weighted : Bool) (weight : Option (List ℕ)) → WeightSays weighted weight (cost_of weighted weight)
+pub weight_says : (scale : Scale) (weight : Option (List ℕ)) → WeightSays scale weight (cost_of scale weight)
 unfolding cost_of
-weight_says true None = refl
-weight_says false None = refl
-weight_says true (Some text) = whole_says text (whole text) refl
-weight_says false (Some text) = refl
+weight_says scale None = refl
+weight_says scales.Unweighted (Some text) = refl
+weight_says scales.Plain (Some text) = whole_says scales.Plain text (whole text) refl
+weight_says scales.Reversed (Some text) = whole_says scales.Reversed text (whole text) refl
 
-none_whole : (text : List ℕ) (o : Option ℕ) → whole text ≡ o → ((n : ℕ) → IsWhole text n → ⊥) → small o ≡ Err kinds.NotWhole
-none_whole text None e h = refl
-none_whole text (Some n) e h = absurd (h n (whole_back text n e))
+none_whole : (scale : Scale) (text : List ℕ) (o : Option ℕ) → whole text ≡ o → ((n : ℕ) → IsWhole text n → ⊥) → small scale o ≡ Err kinds.NotWhole
+none_whole scale text None e h = refl
+none_whole scale text (Some n) e h = absurd (h n (whole_back text n e))
 
-large_small : (n : ℕ) → most < n → small (Some n) ≡ Err kinds.WeightTooLarge
-large_small n h = let t : nat_lt most n ≡ true = grind (arith, nat_tests) in rw t refl
+large_small : (scale : Scale) (n : ℕ) → most < n → small scale (Some n) ≡ Err kinds.WeightTooLarge
+large_small scale n h = let t : nat_lt most n ≡ true = grind (arith, nat_tests) in rw t refl
 
-pub weight_read : (weighted : Bool) (weight : Option (List ℕ)) (kind : FaultKind) → IsWeightFault weighted weight kind → cost_of weighted weight ≡ Err kind
+kind_read : (scale : Scale) (text : List ℕ) (kind : FaultKind) → IsFaultIf true (Some text) kind → small scale (whole text) ≡ Err kind
+kind_read scale text kinds.NotWhole h = none_whole scale text (whole text) refl h
+kind_read scale text kinds.WeightTooLarge h = ap (small scale) (whole_forth text h.0 h.1) ∙ large_small scale h.0 h.2
+kind_read scale text kinds.NoStart h = absurd h
+kind_read scale text kinds.BadToken h = absurd h
+kind_read scale text kinds.BadRule h = absurd h
+kind_read scale text kinds.BadTree h = absurd h
+kind_read scale text kinds.LoneVariable h = absurd h
+kind_read scale text kinds.VariableTwice h = absurd h
+kind_read scale text kinds.LabelledVariable h = absurd h
+kind_read scale text kinds.UnknownVariable h = absurd h
+kind_read scale text kinds.TooManyNodes h = absurd h
+
+pub weight_read : (scale : Scale) (weight : Option (List ℕ)) (kind : FaultKind) → IsWeightFault scale weight kind → cost_of scale weight ≡ Err kind
 unfolding cost_of
-weight_read true (Some text) kinds.NotWhole h = none_whole text (whole text) refl h
-weight_read true (Some text) kinds.WeightTooLarge h = ap small (whole_forth text h.0 h.1) ∙ large_small h.0 h.2
-weight_read true (Some text) kinds.NoStart h = absurd h
-weight_read true (Some text) kinds.BadToken h = absurd h
-weight_read true (Some text) kinds.BadRule h = absurd h
-weight_read true (Some text) kinds.BadTree h = absurd h
-weight_read true (Some text) kinds.LoneVariable h = absurd h
-weight_read true (Some text) kinds.VariableTwice h = absurd h
-weight_read true (Some text) kinds.LabelledVariable h = absurd h
-weight_read true (Some text) kinds.UnknownVariable h = absurd h
-weight_read true (Some text) kinds.TooManyNodes h = absurd h
-weight_read true None kind h = absurd h
-weight_read false weight kind h = absurd h
+weight_read scales.Unweighted weight kind h = absurd h
+weight_read scales.Plain None kind h = absurd h
+weight_read scales.Plain (Some text) kind h = kind_read scales.Plain text kind h
+weight_read scales.Reversed None kind h = absurd h
+weight_read scales.Reversed (Some text) kind h = kind_read scales.Reversed text kind h
 
 -- what is read of a line in a rule's place says what it holds
-abbrev pub RuleSays : Bool → List ℕ → Result (Option RuleLine) FaultKind → Type 0
-RuleSays weighted line r = Fits (HoldsRule weighted) (HasRuleFault weighted) line r
+abbrev pub RuleSays : Scale → List ℕ → Result (Option RuleLine) FaultKind → Type 0
+RuleSays scale line r = Fits (HoldsRule scale) (HasRuleFault scale) line r
 
-few_say : (weighted : Bool) (line : List ℕ) (p : Parts) (x : RuleLine) (b : Bool) → nat_lt 10000 (length p.nodes) ≡ b → HasGoodWeight weighted line p → RuleSays weighted line (cond b (Err kinds.TooManyNodes) (Ok (Some x)))
-few_say weighted line p x true e h = let many : 10000 < length p.nodes = grind (arith, nat_tests) in (p, h, many)
-few_say weighted line p x false e h = let few : length p.nodes ≤ 10000 = grind (arith, nat_tests) in inr (p, h, few)
+few_say : (scale : Scale) (line : List ℕ) (p : Parts) (x : RuleLine) (b : Bool) → nat_lt 10000 (length p.nodes) ≡ b → HasGoodWeight scale line p → RuleSays scale line (cond b (Err kinds.TooManyNodes) (Ok (Some x)))
+few_say scale line p x true e h = let many : 10000 < length p.nodes = grind (arith, nat_tests) in (p, h, many)
+few_say scale line p x false e h = let few : length p.nodes ≤ 10000 = grind (arith, nat_tests) in inr (p, h, few)
 
-cost_says : (weighted : Bool) (line : List ℕ) (p : Parts) (r : Result ℕ FaultKind) → HasRule line p → WeightSays weighted p.weight r → RuleSays weighted line (with_cost p.left p.nodes r)
-cost_says weighted line p (Ok cost) h w = few_say weighted line p (rule_line_of p.left p.nodes cost) (nat_lt 10000 (length p.nodes)) refl (record { is = h; cost = cost; cost_is = w })
-cost_says weighted line p (Err kind) h w = by weighted p.weight kind w (λ v. record { rule = p; is = h; fault = v })
+cost_says : (scale : Scale) (line : List ℕ) (p : Parts) (r : Result ℕ FaultKind) → HasRule line p → WeightSays scale p.weight r → RuleSays scale line (with_cost p.left p.nodes r)
+cost_says scale line p (Ok cost) h w = few_say scale line p (rule_line_of p.left p.nodes cost) (nat_lt 10000 (length p.nodes)) refl (record { is = h; cost = cost; cost_is = w })
+cost_says scale line p (Err kind) h w = by (is_weighted scale) p.weight kind w (λ v. record { rule = p; is = h; fault = v })
   where
-    by : (v : Bool) (o : Option (List ℕ)) (kind : FaultKind) → IsWeightFault v o kind → (IsWeightFault v o kind → HasBadWeight weighted line kind) → HasRuleFault weighted line kind
+    by : (v : Bool) (o : Option (List ℕ)) (kind : FaultKind) → IsFaultIf v o kind → (IsFaultIf v o kind → HasBadWeight scale line kind) → HasRuleFault scale line kind
     by true (Some text) kinds.NotWhole w make = make w
     by true (Some text) kinds.WeightTooLarge w make = make w
     by true (Some text) kinds.NoStart w make = absurd w
@@ -92,51 +105,51 @@ cost_says weighted line p (Err kind) h w = by weighted p.weight kind w (λ v. re
 no_rule : (words : List Word) → parts_of words ≡ None → (rule : Parts) → SpellsRule words rule → ⊥
 no_rule words e rule s = let bad : None ≡ Some rule = sym e ∙ rule_forth words rule s in cc
 
-parts_say : (weighted : Bool) (line : List ℕ) (word : Word) (words : List Word) (o : Option Parts) → HasWords (word ∷ words) line → parts_of (word ∷ words) ≡ o → RuleSays weighted line (good_parts weighted o)
-parts_say weighted line word words None h e = record { word = word; words = words; has = h; none = no_rule (word ∷ words) e }
-parts_say weighted line word words (Some p) h e =
-    cost_says weighted line p (cost_of weighted p.weight) (record { words = word ∷ words; has = h; spells = rule_back (word ∷ words) p e }) (weight_says weighted p.weight)
+parts_say : (scale : Scale) (line : List ℕ) (word : Word) (words : List Word) (o : Option Parts) → HasWords (word ∷ words) line → parts_of (word ∷ words) ≡ o → RuleSays scale line (good_parts scale o)
+parts_say scale line word words None h e = record { word = word; words = words; has = h; none = no_rule (word ∷ words) e }
+parts_say scale line word words (Some p) h e =
+    cost_says scale line p (cost_of scale p.weight) (record { words = word ∷ words; has = h; spells = rule_back (word ∷ words) p e }) (weight_says scale p.weight)
 
-words_say : (weighted : Bool) (line : List ℕ) (o : Option (List Word)) → words_of line ≡ o → RuleSays weighted line (rule_in weighted o)
-words_say weighted line None e = bad_had line e
-words_say weighted line (Some []) e = inl (words_had [] line e)
-words_say weighted line (Some (word ∷ words)) e = parts_say weighted line word words (parts_of (word ∷ words)) (words_had (word ∷ words) line e) refl
+words_say : (scale : Scale) (line : List ℕ) (o : Option (List Word)) → words_of line ≡ o → RuleSays scale line (rule_in scale o)
+words_say scale line None e = bad_had line e
+words_say scale line (Some []) e = inl (words_had [] line e)
+words_say scale line (Some (word ∷ words)) e = parts_say scale line word words (parts_of (word ∷ words)) (words_had (word ∷ words) line e) refl
 
-pub rule_says : (weighted : Bool) (line : List ℕ) → RuleSays weighted line (rule_line weighted line)
+pub rule_says : (scale : Scale) (line : List ℕ) → RuleSays scale line (rule_line scale line)
 unfolding rule_line
-rule_says weighted line = words_say weighted line (words_of line) refl
+rule_says scale line = words_say scale line (words_of line) refl
 
 -- and what it holds is read
-bad_line : (weighted : Bool) (line : List ℕ) → HasBadToken line → rule_line weighted line ≡ Err kinds.BadToken
+bad_line : (scale : Scale) (line : List ℕ) → HasBadToken line → rule_line scale line ≡ Err kinds.BadToken
 unfolding rule_line
-bad_line weighted line h = rw (bad_read h.0 line h.1) refl
+bad_line scale line h = rw (bad_read h.0 line h.1) refl
 
 none_parts : (words : List Word) (o : Option Parts) → parts_of words ≡ o → ((rule : Parts) → SpellsRule words rule → ⊥) → parts_of words ≡ None
 none_parts words None e h = e
 none_parts words (Some p) e h = absurd (h p (rule_back words p e))
 
-no_rule_line : (weighted : Bool) (line : List ℕ) → HasNoRule line → rule_line weighted line ≡ Err kinds.BadRule
+no_rule_line : (scale : Scale) (line : List ℕ) → HasNoRule line → rule_line scale line ≡ Err kinds.BadRule
 unfolding rule_line
-no_rule_line weighted line h =
-    ap (rule_in weighted) (words_read (h.word ∷ h.words) line h.has)
-    ∙ ap (good_parts weighted) (none_parts (h.word ∷ h.words) (parts_of (h.word ∷ h.words)) refl h.none)
+no_rule_line scale line h =
+    ap (rule_in scale) (words_read (h.word ∷ h.words) line h.has)
+    ∙ ap (good_parts scale) (none_parts (h.word ∷ h.words) (parts_of (h.word ∷ h.words)) refl h.none)
 
-a_rule_line : (weighted : Bool) (line : List ℕ) (rule : Parts) → HasRule line rule → rule_line weighted line ≡ with_cost rule.left rule.nodes (cost_of weighted rule.weight)
+a_rule_line : (scale : Scale) (line : List ℕ) (rule : Parts) → HasRule line rule → rule_line scale line ≡ with_cost rule.left rule.nodes (cost_of scale rule.weight)
 unfolding rule_line
-a_rule_line weighted line rule h =
+a_rule_line scale line rule h =
     let words : List Word = arrow ∷ (spell h.spells.tree ++ weight_words rule.weight) in
     let has : HasWords (name rule.left ∷ words) line = subst (λ (ws : List Word). HasWords ws line) (sym h.spells.spelled) h.has in
     let spells : SpellsRule (name rule.left ∷ words) rule = subst (λ (ws : List Word). SpellsRule ws rule) (sym h.spells.spelled) h.spells in
-    ap (rule_in weighted) (words_read (name rule.left ∷ words) line has)
-    ∙ ap (good_parts weighted) (rule_forth (name rule.left ∷ words) rule spells)
+    ap (rule_in scale) (words_read (name rule.left ∷ words) line has)
+    ∙ ap (good_parts scale) (rule_forth (name rule.left ∷ words) rule spells)
 
-bad_weight : (weighted : Bool) (line : List ℕ) (kind : FaultKind) → HasBadWeight weighted line kind → rule_line weighted line ≡ Err kind
-bad_weight weighted line kind h =
-    a_rule_line weighted line h.rule h.is ∙ ap (with_cost h.rule.left h.rule.nodes) (weight_read weighted h.rule.weight kind h.fault)
+bad_weight : (scale : Scale) (line : List ℕ) (kind : FaultKind) → HasBadWeight scale line kind → rule_line scale line ≡ Err kind
+bad_weight scale line kind h =
+    a_rule_line scale line h.rule h.is ∙ ap (with_cost h.rule.left h.rule.nodes) (weight_read scale h.rule.weight kind h.fault)
 
-good_weight : (weighted : Bool) (line : List ℕ) (rule : Parts) (h : HasGoodWeight weighted line rule) → rule_line weighted line ≡ few_nodes rule.left rule.nodes h.cost
-good_weight weighted line rule h =
-    a_rule_line weighted line rule h.is ∙ ap (with_cost rule.left rule.nodes) (cost_forth weighted rule.weight h.cost h.cost_is)
+good_weight : (scale : Scale) (line : List ℕ) (rule : Parts) (h : HasGoodWeight scale line rule) → rule_line scale line ≡ few_nodes rule.left rule.nodes h.cost
+good_weight scale line rule h =
+    a_rule_line scale line rule h.is ∙ ap (with_cost rule.left rule.nodes) (cost_forth scale rule.weight h.cost h.cost_is)
 
 many : (left : List ℕ) (nodes : List Item) (cost : ℕ) → 10000 < length nodes → few_nodes left nodes cost ≡ Err kinds.TooManyNodes
 many left nodes cost h = let t : nat_lt 10000 (length nodes) ≡ true = grind (arith, nat_tests) in rw t refl
@@ -144,27 +157,27 @@ many left nodes cost h = let t : nat_lt 10000 (length nodes) ≡ true = grind (a
 few : (left : List ℕ) (nodes : List Item) (cost : ℕ) → length nodes ≤ 10000 → few_nodes left nodes cost ≡ Ok (Some (rule_line_of left nodes cost))
 few left nodes cost h = let t : nat_lt 10000 (length nodes) ≡ false = grind (arith, nat_tests) in rw t refl
 
-pub fault_read : (weighted : Bool) (line : List ℕ) (kind : FaultKind) → HasRuleFault weighted line kind → rule_line weighted line ≡ Err kind
-fault_read weighted line kinds.BadToken h = bad_line weighted line h
-fault_read weighted line kinds.BadRule h = no_rule_line weighted line h
-fault_read weighted line kinds.NotWhole h = bad_weight weighted line kinds.NotWhole h
-fault_read weighted line kinds.WeightTooLarge h = bad_weight weighted line kinds.WeightTooLarge h
-fault_read weighted line kinds.TooManyNodes h = good_weight weighted line h.0 h.1 ∙ many h.0.left h.0.nodes h.1.cost h.2
-fault_read weighted line kinds.NoStart h = absurd h
-fault_read weighted line kinds.BadTree h = absurd h
-fault_read weighted line kinds.LoneVariable h = absurd h
-fault_read weighted line kinds.VariableTwice h = absurd h
-fault_read weighted line kinds.LabelledVariable h = absurd h
-fault_read weighted line kinds.UnknownVariable h = absurd h
+pub fault_read : (scale : Scale) (line : List ℕ) (kind : FaultKind) → HasRuleFault scale line kind → rule_line scale line ≡ Err kind
+fault_read scale line kinds.BadToken h = bad_line scale line h
+fault_read scale line kinds.BadRule h = no_rule_line scale line h
+fault_read scale line kinds.NotWhole h = bad_weight scale line kinds.NotWhole h
+fault_read scale line kinds.WeightTooLarge h = bad_weight scale line kinds.WeightTooLarge h
+fault_read scale line kinds.TooManyNodes h = good_weight scale line h.0 h.1 ∙ many h.0.left h.0.nodes h.1.cost h.2
+fault_read scale line kinds.NoStart h = absurd h
+fault_read scale line kinds.BadTree h = absurd h
+fault_read scale line kinds.LoneVariable h = absurd h
+fault_read scale line kinds.VariableTwice h = absurd h
+fault_read scale line kinds.LabelledVariable h = absurd h
+fault_read scale line kinds.UnknownVariable h = absurd h
 
-blank_line : (weighted : Bool) (line : List ℕ) → HasWords [] line → rule_line weighted line ≡ Ok None
+blank_line : (scale : Scale) (line : List ℕ) → HasWords [] line → rule_line scale line ≡ Ok None
 unfolding rule_line
-blank_line weighted line h = ap (rule_in weighted) (words_read [] line h)
+blank_line scale line h = ap (rule_in scale) (words_read [] line h)
 
-pub held_read : (weighted : Bool) (line : List ℕ) → HoldsRule weighted line → (o : Option RuleLine) × (rule_line weighted line ≡ Ok o)
-held_read weighted line (inl blank) = (None, blank_line weighted line blank)
-held_read weighted line (inr (rule, h, small)) =
-    (Some (rule_line_of rule.left rule.nodes h.cost), good_weight weighted line rule h ∙ few rule.left rule.nodes h.cost small)
+pub held_read : (scale : Scale) (line : List ℕ) → HoldsRule scale line → (o : Option RuleLine) × (rule_line scale line ≡ Ok o)
+held_read scale line (inl blank) = (None, blank_line scale line blank)
+held_read scale line (inr (rule, h, small)) =
+    (Some (rule_line_of rule.left rule.nodes h.cost), good_weight scale line rule h ∙ few rule.left rule.nodes h.cost small)
 
 -- a line in the start's place
 abbrev pub StartSays : List ℕ → Result (Option (List ℕ)) FaultKind → Type 0

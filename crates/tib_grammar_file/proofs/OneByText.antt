@@ -1,4 +1,5 @@
 -- Bytes that are the text of two grammars, each over a table of its own, are that of one by the texts of labels.
+use Rattle.tib_cost.specs.declared.Scale.{Scale}
 use Rattle.std.proofs.Common.{◌≡◌, ℕ, List, [], ◌∷◌, ap, sym, ◌∙◌, subst, Bool, map}
 use Rattle.std.specs.Prelude.{Some}
 use Rattle.tib_tree.specs.Grows.{AddsAll}
@@ -20,7 +21,7 @@ use Rattle.tib_grammar_file.proofs.OneGrammar.{some_same, cons_same, tokens_same
 use Rattle.tib_grammar_file.proofs.Shapes.{AgreeAtNode, shape_of}
 use Rattle.tib_grammar_file.proofs.WholeWeights.{cost_forth}
 
-module _ (weighted : Bool) (names labels others : List (List ℕ)) (apart : Distinct names) where
+module _ (scale : Scale) (names labels others : List (List ℕ)) (apart : Distinct names) where
   symbol_agrees : (r s : Symbol ℕ ℕ) (i : Item) → IsSymbol names labels r i → IsSymbol names others s i → AgreeInSymbol labels others r s
   symbol_agrees (hole p) (hole q) i h k = number_same names p q i.text apart h.1 k.1
   symbol_agrees (hole p) (label g) i h k = absurd (k.0 h.0)
@@ -37,9 +38,9 @@ module _ (weighted : Bool) (names labels others : List (List ℕ)) (apart : Dist
   nodes_agree (p ∷ ps) [] (i ∷ is) h k = absurd k
   nodes_agree (p ∷ ps) (q ∷ qs) (i ∷ is) h k = ((symbol_agrees p.0 q.0 i h.0.0 k.0.0, h.0.1 ∙ sym k.0.1), nodes_agree ps qs is h.1 k.1)
 
-  rule_agrees : (words : List Word) (q r : Rule ℕ) → SpellsRuleOf weighted names labels words q → SpellsRuleOf weighted names others words r → AreOneRule labels others q r
+  rule_agrees : (words : List Word) (q r : Rule ℕ) → SpellsRuleOf scale names labels words q → SpellsRuleOf scale names others words r → AreOneRule labels others q r
   rule_agrees words q r s t =
-      let p : parts s.left (items s.right) s.weight ≡ parts t.left (items t.right) t.weight = some_same _ _ (sym (parts_as weighted names labels words q s) ∙ parts_as weighted names others words r t) in
+      let p : parts s.left (items s.right) s.weight ≡ parts t.left (items t.right) t.weight = some_same _ _ (sym (parts_as scale names labels words q s) ∙ parts_as scale names others words r t) in
       let left : s.left ≡ t.left = ap (λ (x : Parts). x.left) p in
       let nodes : items s.right ≡ items t.right = ap (λ (x : Parts). x.nodes) p in
       let weight : s.weight ≡ t.weight = ap (λ (x : Parts). x.weight) p in
@@ -48,11 +49,11 @@ module _ (weighted : Bool) (names labels others : List (List ℕ)) (apart : Dist
       record {
         left = number_same names q.left r.left t.left apart (s.left_is ∙ ap Some left) t.left_is;
         right = shape_of (AgreeInSymbol labels others) q.right r.right (nodes_agree (preorder_of q.right) (preorder_of r.right) (items t.right) mine (meant_side names others t.right r.right t.right_is));
-        cost = ok_same q.cost r.cost (sym (cost_forth weighted s.weight q.cost s.cost_is) ∙ ap (cost_of weighted) weight ∙ cost_forth weighted t.weight r.cost t.cost_is);
+        cost = ok_same q.cost r.cost (sym (cost_forth scale s.weight q.cost s.cost_is) ∙ ap (cost_of scale) weight ∙ cost_forth scale t.weight r.cost t.cost_is);
       }
 
   rules_agree :
-      (rows : List (List Word)) (qs rs : List (Rule ℕ)) → Along (SpellsRuleOf weighted names labels) rows qs → Along (SpellsRuleOf weighted names others) rows rs →
+      (rows : List (List Word)) (qs rs : List (Rule ℕ)) → Along (SpellsRuleOf scale names labels) rows qs → Along (SpellsRuleOf scale names others) rows rs →
       Along (AreOneRule labels others) qs rs
   rules_agree [] [] [] h k = tt
   rules_agree [] [] (r ∷ rs) h k = absurd k
@@ -62,13 +63,13 @@ module _ (weighted : Bool) (names labels others : List (List ℕ)) (apart : Dist
   rules_agree (w ∷ rows) (q ∷ qs) (r ∷ rs) h k = (rule_agrees w q r h.0 k.0, rules_agree rows qs rs h.1 k.1)
 
 pub one_by_text :
-    (weighted : Bool) (labels others : List (List ℕ)) (bytes : List ℕ) (g h : GrammarOf) → GrammarText weighted labels bytes g → GrammarText weighted others bytes h →
+    (scale : Scale) (labels others : List (List ℕ)) (bytes : List ℕ) (g h : GrammarOf) → GrammarText scale labels bytes g → GrammarText scale others bytes h →
     AgreeByText labels others g h
-one_by_text weighted labels others bytes g h t u =
+one_by_text scale labels others bytes g h t u =
     let lines : t.lines ≡ u.lines = sym (lines_read t.lines bytes t.lines_are) ∙ lines_read u.lines bytes u.lines_are in
     let all = tokens_same t.lines ((name t.start ∷ []) ∷ t.rows) ((name u.start ∷ []) ∷ u.rows) t.tokens (subst (λ (ls : List (List ℕ)). HaveTokens ls ((name u.start ∷ []) ∷ u.rows)) (sym lines) u.tokens) in
     let both = cons_same (name t.start ∷ []) (name u.start ∷ []) t.rows u.rows all in
     let start : t.start ≡ u.start = start_same t.start u.start both.0 in
     let names : g.names ≡ h.names = all_same [] (u.start ∷ map first_text u.rows) g.names h.names (subst (λ (s : List ℕ). AddsAll [] (s ∷ map first_text u.rows) g.names) start (subst (λ (rs : List (List Word)). AddsAll [] (t.start ∷ map first_text rs) g.names) both.1 t.states)) u.states in
-    let mine : Along (SpellsRuleOf weighted h.names labels) u.rows g.rules = subst (λ (ns : List (List ℕ)). Along (SpellsRuleOf weighted ns labels) u.rows g.rules) names (subst (λ (rs : List (List Word)). Along (SpellsRuleOf weighted g.names labels) rs g.rules) both.1 t.rules) in
-    record { names = names; rules = rules_agree weighted h.names labels others (names_distinct weighted others bytes h u) u.rows g.rules h.rules mine u.rules }
+    let mine : Along (SpellsRuleOf scale h.names labels) u.rows g.rules = subst (λ (ns : List (List ℕ)). Along (SpellsRuleOf scale ns labels) u.rows g.rules) names (subst (λ (rs : List (List Word)). Along (SpellsRuleOf scale g.names labels) rs g.rules) both.1 t.rules) in
+    record { names = names; rules = rules_agree scale h.names labels others (names_distinct scale others bytes h u) u.rows g.rules h.rules mine u.rules }

@@ -1,4 +1,5 @@
 -- Bytes are the text of at most one grammar.
+use Rattle.tib_cost.specs.declared.Scale.{Scale}
 use Rattle.std.proofs.Common.{◌≡◌, ℕ, ◌<◌, inl, inr, List, [], ◌∷◌, length, get_or, refl, ap, sym, ◌∙◌, subst, arith, Bool, zero, suc, map}
 use Rattle.std.specs.Prelude.{slice_get, Some, Result, Ok}
 use Rattle.std.proofs.lemmas.Option.{slice_get_within, get_or_from_slice_get}
@@ -90,63 +91,63 @@ tree_same s t e =
     let b : s.kids ≡ t.kids = cc in
     ap (λ (l : Symbol ℕ ℕ). record { label = l; kids = s.kids }) a ∙ ap (λ (k : Trees (Symbol ℕ ℕ)). record { label = t.label; kids = k }) b
 
-pub parts_as : (weighted : Bool) (names labels : List (List ℕ)) (words : List Word) (r : Rule ℕ) → (s : SpellsRuleOf weighted names labels words r) → parts_of words ≡ Some (parts s.left (items s.right) s.weight)
-parts_as weighted names labels words r s = rule_forth words (parts s.left (items s.right) s.weight) (record { plain = s.plain; tree = s.right; one = sym (meant_count names labels (only r.right) s.right s.right_is); nodes = refl; spelled = s.words_are })
+pub parts_as : (scale : Scale) (names labels : List (List ℕ)) (words : List Word) (r : Rule ℕ) → (s : SpellsRuleOf scale names labels words r) → parts_of words ≡ Some (parts s.left (items s.right) s.weight)
+parts_as scale names labels words r s = rule_forth words (parts s.left (items s.right) s.weight) (record { plain = s.plain; tree = s.right; one = sym (meant_count names labels (only r.right) s.right s.right_is); nodes = refl; spelled = s.words_are })
 
 pub ok_same : (m n : ℕ) → (let r : Result ℕ FaultKind = Ok m in r ≡ Ok n) → m ≡ n
 ok_same m n e = cc
 
-pub rule_same : (weighted : Bool) (names labels : List (List ℕ)) → Distinct names → Distinct labels → (words : List Word) (q r : Rule ℕ) → SpellsRuleOf weighted names labels words q → SpellsRuleOf weighted names labels words r → q ≡ r
-rule_same weighted names labels d c words q r s t =
-    let p : parts s.left (items s.right) s.weight ≡ parts t.left (items t.right) t.weight = some_same _ _ (sym (parts_as weighted names labels words q s) ∙ parts_as weighted names labels words r t) in
+pub rule_same : (scale : Scale) (names labels : List (List ℕ)) → Distinct names → Distinct labels → (words : List Word) (q r : Rule ℕ) → SpellsRuleOf scale names labels words q → SpellsRuleOf scale names labels words r → q ≡ r
+rule_same scale names labels d c words q r s t =
+    let p : parts s.left (items s.right) s.weight ≡ parts t.left (items t.right) t.weight = some_same _ _ (sym (parts_as scale names labels words q s) ∙ parts_as scale names labels words r t) in
     let left : s.left ≡ t.left = ap (λ (x : Parts). x.left) p in
     let nodes : items s.right ≡ items t.right = ap (λ (x : Parts). x.nodes) p in
     let weight : s.weight ≡ t.weight = ap (λ (x : Parts). x.weight) p in
     let a : q.left ≡ r.left = number_same names q.left r.left t.left d (s.left_is ∙ ap Some left) t.left_is in
     let b : q.right ≡ r.right = tree_same q.right r.right (nodes_same names labels d c (preorder_of q.right) (preorder_of r.right) (items t.right) (subst (λ (is : List Item). Along (IsNode names labels) (preorder_of q.right) is) nodes (meant_side names labels s.right q.right s.right_is)) (meant_side names labels t.right r.right t.right_is)) in
-    let k : q.cost ≡ r.cost = ok_same q.cost r.cost (sym (cost_forth weighted s.weight q.cost s.cost_is) ∙ ap (cost_of weighted) weight ∙ cost_forth weighted t.weight r.cost t.cost_is) in
+    let k : q.cost ≡ r.cost = ok_same q.cost r.cost (sym (cost_forth scale s.weight q.cost s.cost_is) ∙ ap (cost_of scale) weight ∙ cost_forth scale t.weight r.cost t.cost_is) in
     ap (λ (x : ℕ). record { left = x; right = q.right; cost = q.cost }) a
     ∙ ap (λ (x : Tree (Symbol ℕ ℕ)). record { left = r.left; right = x; cost = q.cost }) b
     ∙ ap (λ (x : ℕ). record { left = r.left; right = r.right; cost = x }) k
 
-rules_same : (weighted : Bool) (names labels : List (List ℕ)) → Distinct names → Distinct labels → (rows : List (List Word)) (qs rs : List (Rule ℕ)) → Along (SpellsRuleOf weighted names labels) rows qs → Along (SpellsRuleOf weighted names labels) rows rs → qs ≡ rs
-rules_same weighted names labels d c [] [] [] h k = refl
-rules_same weighted names labels d c [] [] (r ∷ rs) h k = absurd k
-rules_same weighted names labels d c [] (q ∷ qs) rs h k = absurd h
-rules_same weighted names labels d c (w ∷ rows) [] rs h k = absurd h
-rules_same weighted names labels d c (w ∷ rows) (q ∷ qs) [] h k = absurd k
-rules_same weighted names labels d c (w ∷ rows) (q ∷ qs) (r ∷ rs) h k =
-    ap (λ (x : Rule ℕ). x ∷ qs) (rule_same weighted names labels d c w q r h.0 k.0) ∙ ap (λ (xs : List (Rule ℕ)). r ∷ xs) (rules_same weighted names labels d c rows qs rs h.1 k.1)
+rules_same : (scale : Scale) (names labels : List (List ℕ)) → Distinct names → Distinct labels → (rows : List (List Word)) (qs rs : List (Rule ℕ)) → Along (SpellsRuleOf scale names labels) rows qs → Along (SpellsRuleOf scale names labels) rows rs → qs ≡ rs
+rules_same scale names labels d c [] [] [] h k = refl
+rules_same scale names labels d c [] [] (r ∷ rs) h k = absurd k
+rules_same scale names labels d c [] (q ∷ qs) rs h k = absurd h
+rules_same scale names labels d c (w ∷ rows) [] rs h k = absurd h
+rules_same scale names labels d c (w ∷ rows) (q ∷ qs) [] h k = absurd k
+rules_same scale names labels d c (w ∷ rows) (q ∷ qs) (r ∷ rs) h k =
+    ap (λ (x : Rule ℕ). x ∷ qs) (rule_same scale names labels d c w q r h.0 k.0) ∙ ap (λ (xs : List (Rule ℕ)). r ∷ xs) (rules_same scale names labels d c rows qs rs h.1 k.1)
 
-first_is_name : (weighted : Bool) (names labels : List (List ℕ)) (words : List Word) (r : Rule ℕ) → SpellsRuleOf weighted names labels words r → FirstIsWord words → IsStateName (first_text words)
-first_is_name weighted names labels words r s f =
+first_is_name : (scale : Scale) (names labels : List (List ℕ)) (words : List Word) (r : Rule ℕ) → SpellsRuleOf scale names labels words r → FirstIsWord words → IsStateName (first_text words)
+first_is_name scale names labels words r s f =
     subst (λ (t : List ℕ). IsStateName t) (ap first_text s.words_are)
     (record { is_name = subst (λ (ws : List Word). FirstIsWord ws) (sym s.words_are) f; no_stop = s.plain })
 
-firsts_are_names : (weighted : Bool) (names labels : List (List ℕ)) (rows : List (List Word)) (rules : List (Rule ℕ)) → Along (SpellsRuleOf weighted names labels) rows rules → Each FirstIsWord rows → Each IsStateName (map first_text rows)
-firsts_are_names weighted names labels [] rules a f = tt
-firsts_are_names weighted names labels (w ∷ rows) [] a f = absurd a
-firsts_are_names weighted names labels (w ∷ rows) (r ∷ rules) a f = (first_is_name weighted names labels w r a.0 f.0, firsts_are_names weighted names labels rows rules a.1 f.1)
+firsts_are_names : (scale : Scale) (names labels : List (List ℕ)) (rows : List (List Word)) (rules : List (Rule ℕ)) → Along (SpellsRuleOf scale names labels) rows rules → Each FirstIsWord rows → Each IsStateName (map first_text rows)
+firsts_are_names scale names labels [] rules a f = tt
+firsts_are_names scale names labels (w ∷ rows) [] a f = absurd a
+firsts_are_names scale names labels (w ∷ rows) (r ∷ rules) a f = (first_is_name scale names labels w r a.0 f.0, firsts_are_names scale names labels rows rules a.1 f.1)
 
-pub names_distinct : (weighted : Bool) (labels : List (List ℕ)) (bytes : List ℕ) (g : GrammarOf) → GrammarText weighted labels bytes g → Distinct g.names
-names_distinct weighted labels bytes g t =
+pub names_distinct : (scale : Scale) (labels : List (List ℕ)) (bytes : List ℕ) (g : GrammarOf) → GrammarText scale labels bytes g → Distinct g.names
+names_distinct scale labels bytes g t =
     let f = first_words t.lines ((name t.start ∷ []) ∷ t.rows) t.tokens in
     let all : AreStateNames g.names = all_names [] (t.start ∷ map first_text t.rows) g.names t.states (record { each = tt; distinct = tt })
-    (record { is_name = f.0; no_stop = t.plain }, firsts_are_names weighted g.names labels t.rows g.rules t.rules f.1) in
+    (record { is_name = f.0; no_stop = t.plain }, firsts_are_names scale g.names labels t.rows g.rules t.rules f.1) in
     all.distinct
 
 pub start_same : (s t : List ℕ) → name s ∷ [] ≡ name t ∷ [] → s ≡ t
 start_same s t e = cc
 
 -- two grammars with one text over distinct labels are the same
-pub one_grammar : (weighted : Bool) (labels : List (List ℕ)) (bytes : List ℕ) (g h : GrammarOf) → Distinct labels → GrammarText weighted labels bytes g → GrammarText weighted labels bytes h → g ≡ h
-one_grammar weighted labels bytes g h c t u =
+pub one_grammar : (scale : Scale) (labels : List (List ℕ)) (bytes : List ℕ) (g h : GrammarOf) → Distinct labels → GrammarText scale labels bytes g → GrammarText scale labels bytes h → g ≡ h
+one_grammar scale labels bytes g h c t u =
     let lines : t.lines ≡ u.lines = sym (lines_read t.lines bytes t.lines_are) ∙ lines_read u.lines bytes u.lines_are in
     let all = tokens_same t.lines ((name t.start ∷ []) ∷ t.rows) ((name u.start ∷ []) ∷ u.rows) t.tokens (subst (λ (ls : List (List ℕ)). HaveTokens ls ((name u.start ∷ []) ∷ u.rows)) (sym lines) u.tokens) in
     let both = cons_same (name t.start ∷ []) (name u.start ∷ []) t.rows u.rows all in
     let rows : t.rows ≡ u.rows = both.1 in
     let start : t.start ≡ u.start = start_same t.start u.start both.0 in
     let names : g.names ≡ h.names = all_same [] (u.start ∷ map first_text u.rows) g.names h.names (subst (λ (s : List ℕ). AddsAll [] (s ∷ map first_text u.rows) g.names) start (subst (λ (rs : List (List Word)). AddsAll [] (t.start ∷ map first_text rs) g.names) rows t.states)) u.states in
-    let mine : Along (SpellsRuleOf weighted h.names labels) u.rows g.rules = subst (λ (ns : List (List ℕ)). Along (SpellsRuleOf weighted ns labels) u.rows g.rules) names (subst (λ (rs : List (List Word)). Along (SpellsRuleOf weighted g.names labels) rs g.rules) rows t.rules) in
-    let rules : g.rules ≡ h.rules = rules_same weighted h.names labels (names_distinct weighted labels bytes h u) c u.rows g.rules h.rules mine u.rules in
+    let mine : Along (SpellsRuleOf scale h.names labels) u.rows g.rules = subst (λ (ns : List (List ℕ)). Along (SpellsRuleOf scale ns labels) u.rows g.rules) names (subst (λ (rs : List (List Word)). Along (SpellsRuleOf scale g.names labels) rs g.rules) rows t.rules) in
+    let rules : g.rules ≡ h.rules = rules_same scale h.names labels (names_distinct scale labels bytes h u) c u.rows g.rules h.rules mine u.rules in
     ap (λ (ns : List (List ℕ)). record { names = ns; rules = g.rules }) names ∙ ap (λ (rs : List (Rule ℕ)). record { names = h.names; rules = rs }) rules

@@ -1,4 +1,5 @@
 -- What a rule line holds, by what was found in it.
+use Rattle.tib_cost.specs.declared.Scale.{Scale}
 use Rattle.std.proofs.Common.{◌≡◌, ℕ, ◌-◌, ◌<◌, ◌≤◌, List, [], ◌∷◌, length, take, drop, refl, ap, sym, ◌∙◌, subst, arith, Option, Bool, true, false}
 use Rattle.std.specs.Prelude.{Some, None, Ok, Err, map, nat_lt, cond}
 use Rattle.std.specs.List.{All}
@@ -65,14 +66,14 @@ pub all_front : (long : ℕ) (weight : Option Token) (rest tree : List Token) �
 all_front long weight rest tree e h = subst (λ (ts : List Token). All (Lies long) ts) (sym e) (All-take (Lies long) (length rest - weight_size weight) rest h)
 
 -- lines
-pub bad_rule_line : (weighted : Bool) (line : List ℕ) → words_of line ≡ None → rule_line weighted line ≡ Err kinds.BadToken
+pub bad_rule_line : (scale : Scale) (line : List ℕ) → words_of line ≡ None → rule_line scale line ≡ Err kinds.BadToken
 unfolding rule_line
-bad_rule_line weighted line e = rw e refl
+bad_rule_line scale line e = rw e refl
 
-pub blank_rule_line : (weighted : Bool) (line : List ℕ) (ts : List Token) → words_of line ≡ Some (words_at line ts) → length ts ≡ 0 → rule_line weighted line ≡ Ok None
+pub blank_rule_line : (scale : Scale) (line : List ℕ) (ts : List Token) → words_of line ≡ Some (words_at line ts) → length ts ≡ 0 → rule_line scale line ≡ Ok None
 unfolding rule_line
-blank_rule_line weighted line [] e h = rw e refl
-blank_rule_line weighted line (t ∷ ts) e h = absurd (omega arith)
+blank_rule_line scale line [] e h = rw e refl
+blank_rule_line scale line (t ∷ ts) e h = absurd (omega arith)
 
 -- a line with tokens, by its parts
 pub record SomeLine (line : List ℕ) (ts us : List Token) (o : Option Parts) : Type 0 where
@@ -81,19 +82,19 @@ pub record SomeLine (line : List ℕ) (ts us : List Token) (o : Option Parts) : 
   pub same : us ≡ ts
   pub read : parts_of (words_at line us) ≡ o
 
-some_line : (weighted : Bool) (line : List ℕ) (ts : List Token) (o : Option Parts) → words_of line ≡ Some (words_at line ts) → 0 < length ts → parts_of (words_at line ts) ≡ o → rule_line weighted line ≡ good_parts weighted o
+some_line : (scale : Scale) (line : List ℕ) (ts : List Token) (o : Option Parts) → words_of line ≡ Some (words_at line ts) → 0 < length ts → parts_of (words_at line ts) ≡ o → rule_line scale line ≡ good_parts scale o
 unfolding rule_line
-some_line weighted line [] o e h p = absurd (omega arith)
-some_line weighted line (t ∷ ts) o e h p = rw (e, p) refl
+some_line scale line [] o e h p = absurd (omega arith)
+some_line scale line (t ∷ ts) o e h p = rw (e, p) refl
 
-line_parts : (weighted : Bool) (line : List ℕ) (ts us : List Token) (o : Option Parts) → SomeLine line ts us o → rule_line weighted line ≡ good_parts weighted o
-line_parts weighted line ts us o s = some_line weighted line ts o s.words s.some (ap (λ (xs : List Token). parts_of (words_at line xs)) (sym s.same) ∙ s.read)
+line_parts : (scale : Scale) (line : List ℕ) (ts us : List Token) (o : Option Parts) → SomeLine line ts us o → rule_line scale line ≡ good_parts scale o
+line_parts scale line ts us o s = some_line scale line ts o s.words s.some (ap (λ (xs : List Token). parts_of (words_at line xs)) (sym s.same) ∙ s.read)
 
-pub no_rule_line : (weighted : Bool) (line : List ℕ) (ts us : List Token) → SomeLine line ts us None → rule_line weighted line ≡ Err kinds.BadRule
-no_rule_line weighted line ts us s = line_parts weighted line ts us None s
+pub no_rule_line : (scale : Scale) (line : List ℕ) (ts us : List Token) → SomeLine line ts us None → rule_line scale line ≡ Err kinds.BadRule
+no_rule_line scale line ts us s = line_parts scale line ts us None s
 
-pub bad_cost_line : (weighted : Bool) (line : List ℕ) (ts us : List Token) (p : Parts) (kind : FaultKind) → SomeLine line ts us (Some p) → cost_of weighted p.weight ≡ Err kind → rule_line weighted line ≡ Err kind
-bad_cost_line weighted line ts us p kind s e = line_parts weighted line ts us (Some p) s ∙ ap (with_cost p.left p.nodes) e
+pub bad_cost_line : (scale : Scale) (line : List ℕ) (ts us : List Token) (p : Parts) (kind : FaultKind) → SomeLine line ts us (Some p) → cost_of scale p.weight ≡ Err kind → rule_line scale line ≡ Err kind
+bad_cost_line scale line ts us p kind s e = line_parts scale line ts us (Some p) s ∙ ap (with_cost p.left p.nodes) e
 
 pub back_long : (line : List ℕ) (places : List Place) → length (items_back line places) ≡ length places
 back_long line places = length-reverse (map (item_at line) places) ∙ length-map places (item_at line)
@@ -116,13 +117,13 @@ line_few line ts us places these o f same e is t few =
 chosen : {A : Type 0} (n m : ℕ) (x y : A) → n ≡ m → (m ≤ 10000 → cond (nat_lt 10000 n) x y ≡ y) × (10000 < m → cond (nat_lt 10000 n) x y ≡ x)
 chosen n m x y e = (λ h. grind (arith, nat_tests), λ h. grind (arith, nat_tests))
 
-pub large_rule_line : (weighted : Bool) (line : List ℕ) (ts us : List Token) (left : List ℕ) (places : List Place) (w : Option (List ℕ)) (cost : ℕ) → SomeLine line ts us (Some (parts left (items_back line places) w)) → cost_of weighted w ≡ Ok cost → 10000 < length places → rule_line weighted line ≡ Err kinds.TooManyNodes
-large_rule_line weighted line ts us left places w cost s e h =
-    line_parts weighted line ts us _ s ∙ ap (with_cost left (items_back line places)) e ∙ (chosen (length (items_back line places)) (length places) _ _ (back_long line places)).1 h
+pub large_rule_line : (scale : Scale) (line : List ℕ) (ts us : List Token) (left : List ℕ) (places : List Place) (w : Option (List ℕ)) (cost : ℕ) → SomeLine line ts us (Some (parts left (items_back line places) w)) → cost_of scale w ≡ Ok cost → 10000 < length places → rule_line scale line ≡ Err kinds.TooManyNodes
+large_rule_line scale line ts us left places w cost s e h =
+    line_parts scale line ts us _ s ∙ ap (with_cost left (items_back line places)) e ∙ (chosen (length (items_back line places)) (length places) _ _ (back_long line places)).1 h
 
-pub good_rule_line : (weighted : Bool) (line : List ℕ) (ts us : List Token) (left : List ℕ) (places : List Place) (w : Option (List ℕ)) (cost : ℕ) → SomeLine line ts us (Some (parts left (items_back line places) w)) → cost_of weighted w ≡ Ok cost → length places ≤ 10000 → rule_line weighted line ≡ Ok (Some (rule_line_of left (items_back line places) cost))
-good_rule_line weighted line ts us left places w cost s e h =
-    line_parts weighted line ts us _ s ∙ ap (with_cost left (items_back line places)) e ∙ (chosen (length (items_back line places)) (length places) _ _ (back_long line places)).0 h
+pub good_rule_line : (scale : Scale) (line : List ℕ) (ts us : List Token) (left : List ℕ) (places : List Place) (w : Option (List ℕ)) (cost : ℕ) → SomeLine line ts us (Some (parts left (items_back line places) w)) → cost_of scale w ≡ Ok cost → length places ≤ 10000 → rule_line scale line ≡ Ok (Some (rule_line_of left (items_back line places) cost))
+good_rule_line scale line ts us left places w cost s e h =
+    line_parts scale line ts us _ s ∙ ap (with_cost left (items_back line places)) e ∙ (chosen (length (items_back line places)) (length places) _ _ (back_long line places)).0 h
 
 pub some_found : (line : List ℕ) (ts us : List Token) (places : List Place) (o p : Option Found) → words_of line ≡ Some (words_at line ts) → 0 < length ts → us ≡ ts → parts_of (words_at line us) ≡ found_parts line places o → o ≡ p → SomeLine line ts us (found_parts line places p)
 some_found line ts us places o p w n e r s = record { words = w; some = n; same = e; read = r ∙ ap (found_parts line places) s }
@@ -130,6 +131,6 @@ some_found line ts us places o p w n e r s = record { words = w; some = n; same 
 pub found_lies : (long : ℕ) (places : List Place) (o : Option Found) (f : Found) → FoundLies long places o → o ≡ Some f → FoundIn long places f
 found_lies long places o f h e = subst (λ (p : Option Found). FoundLies long places p) e h
 
-pub cost_failed : (weighted : Bool) (before names texts : List (List ℕ)) (old now : RawRules) (line : List ℕ) (ts us : List Token) (places : List Place) (f : Found) (error : LineError) → SomeLine line ts us (found_parts line places (Some f)) → IsCost (Err error) (cost_of weighted (text_at line f.weight)) → AddsLine before names texts old now (Err error) (rule_line weighted line)
-cost_failed weighted before names texts old now line ts us places f (errors.Fault kind) s h = bad_cost_line weighted line ts us _ kind s h
-cost_failed weighted before names texts old now line ts us places f errors.OutOfMemory s h = tt
+pub cost_failed : (scale : Scale) (before names texts : List (List ℕ)) (old now : RawRules) (line : List ℕ) (ts us : List Token) (places : List Place) (f : Found) (error : LineError) → SomeLine line ts us (found_parts line places (Some f)) → IsCost (Err error) (cost_of scale (text_at line f.weight)) → AddsLine before names texts old now (Err error) (rule_line scale line)
+cost_failed scale before names texts old now line ts us places f (errors.Fault kind) s h = bad_cost_line scale line ts us _ kind s h
+cost_failed scale before names texts old now line ts us places f errors.OutOfMemory s h = tt

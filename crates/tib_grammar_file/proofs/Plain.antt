@@ -1,5 +1,8 @@
 -- Rules that were read can be printed.
-use Rattle.std.proofs.Common.{◌≡◌, ℕ, ◌<◌, inl, inr, Bool, true, false, Option, List, [], ◌∷◌, ◌++◌, length, get_or, refl, sym, ◌∙◌, subst, arith}
+use Rattle.tib_cost.specs.Scale.{cost_within}
+use Rattle.tib_cost.specs.declared.Scale.TheVariants as scales
+use Rattle.tib_cost.specs.declared.Scale.{Scale}
+use Rattle.std.proofs.Common.{◌≤◌, ◌≡◌, ℕ, ◌<◌, inl, inr, Bool, true, false, Option, List, [], ◌∷◌, ◌++◌, length, get_or, refl, sym, ◌∙◌, subst, arith}
 use Rattle.std.specs.Prelude.{Some, None, slice_get, cond, ◌==◌, ◌||◌}
 use Rattle.std.specs.List.{list_all}
 use Rattle.std.proofs.lemmas.List.Folds.{list_all-append}
@@ -21,15 +24,15 @@ use Rattle.tib_grammar_file.specs.GrammarText.{HaveTokens, Means, SpellsRuleOf, 
 use Rattle.tib_grammar_file.specs.Printable.{IsPlainCost, HavePlainLabels, IsPrintable, ArePrintable}
 use Rattle.tib_grammar_file.specs.Printed.{LabelsBelow, AreLabelled}
 use Rattle.tib_grammar_file.specs.Rule.{weight_words}
-use Rattle.tib_grammar_file.specs.Weight.{IsCostOf}
+use Rattle.tib_grammar_file.specs.Weight.{IsWeighed, IsCostOf, most}
 
 pub labels_below : (labels : List (List ℕ)) (ts : Trees (Symbol ℕ ℕ)) → HavePlainLabels labels ts → LabelsBelow (length labels) ts
 labels_below labels none h = tt
 labels_below labels (tree (symbol_label f) kids rest) h = (h.0, labels_below labels kids h.2, labels_below labels rest h.3)
 labels_below labels (tree (hole q) kids rest) h = labels_below labels rest h.1
 
-pub are_labelled : (weighted : Bool) (labels : List (List ℕ)) (rules : List (Rule ℕ)) → ArePrintable weighted labels rules → AreLabelled (length labels) rules
-are_labelled weighted labels rules p m h = labels_below labels (only (rule_at rules m).right) (p m h).right
+pub are_labelled : (scale : Scale) (labels : List (List ℕ)) (rules : List (Rule ℕ)) → ArePrintable scale labels rules → AreLabelled (length labels) rules
+are_labelled scale labels rules p m h = labels_below labels (only (rule_at rules m).right) (p m h).right
 
 -- a label with its text in the table
 label_plain : (labels : List (List ℕ)) (f : ℕ) (text : List ℕ) → slice_get labels f ≡ Some text → HasNoFeed text → (f < length labels) × HasNoFeed (get_or labels f [])
@@ -44,8 +47,8 @@ labels_stay early labels (tree (symbol_label f) kids rest) g h =
     (own.0, own.1, labels_stay early labels kids g h.2, labels_stay early labels rest g h.3)
 labels_stay early labels (tree (hole q) kids rest) g h = (labels_stay early labels kids g h.0, labels_stay early labels rest g h.1)
 
-pub stays : (weighted : Bool) (early labels : List (List ℕ)) (rules : List (Rule ℕ)) → ArePrintable weighted early rules → Grows early labels → ArePrintable weighted labels rules
-stays weighted early labels rules p g m h = record { right = labels_stay early labels (only (rule_at rules m).right) g (p m h).right; cost = (p m h).cost }
+pub stays : (scale : Scale) (early labels : List (List ℕ)) (rules : List (Rule ℕ)) → ArePrintable scale early rules → Grows early labels → ArePrintable scale labels rules
+stays scale early labels rules p g m h = record { right = labels_stay early labels (only (rule_at rules m).right) g (p m h).right; cost = (p m h).cost }
 
 -- no token of a line has a line feed
 
@@ -112,28 +115,33 @@ trees_plain names labels (tree (symbol_label f) kids rest) (head quoted text bel
     (own.0, own.1, trees_plain names labels kids below m.1 parts.0, trees_plain names labels rest more m.2 parts.1.1)
 trees_plain names labels (tree (hole q) kids rest) (head quoted text below more) m e = absurd m.0
 
-plain_cost : (weighted : Bool) (weight : Option (List ℕ)) (cost : ℕ) → IsCostOf weighted weight cost → IsPlainCost weighted cost
-plain_cost true None cost h = omega arith
-plain_cost false None cost h = h
-plain_cost true (Some text) cost h = h.1
-plain_cost false (Some text) cost h = h
+weighed_within : (scale : Scale) (text : List ℕ) (cost : ℕ) → IsWeighed scale text cost → cost ≤ most
+weighed_within scale text cost h = subst (λ (c : ℕ). c ≤ most) (sym h.cost_is) (cost_within scale h.weight h.within)
 
-rule_plain : (weighted : Bool) (names labels : List (List ℕ)) (words : List Word) (r : Rule ℕ) → SpellsRuleOf weighted names labels words r → Each IsFree words → IsPrintable weighted labels r
-rule_plain weighted names labels words r s e =
+plain_cost : (scale : Scale) (weight : Option (List ℕ)) (cost : ℕ) → IsCostOf scale weight cost → IsPlainCost scale cost
+plain_cost scales.Unweighted None cost h = h
+plain_cost scales.Plain None cost h = omega arith
+plain_cost scales.Reversed None cost h = omega arith
+plain_cost scales.Unweighted (Some text) cost h = h
+plain_cost scales.Plain (Some text) cost h = weighed_within scales.Plain text cost h
+plain_cost scales.Reversed (Some text) cost h = weighed_within scales.Reversed text cost h
+
+rule_plain : (scale : Scale) (names labels : List (List ℕ)) (words : List Word) (r : Rule ℕ) → SpellsRuleOf scale names labels words r → Each IsFree words → IsPrintable scale labels r
+rule_plain scale names labels words r s e =
     let own : Each IsFree (name s.left ∷ (arrow ∷ (spell s.right ++ weight_words s.weight))) = subst (λ (ws : List Word). Each IsFree ws) (sym s.words_are) e in
     record {
       right = trees_plain names labels (only r.right) s.right s.right_is (each_parts IsFree (spell s.right) (weight_words s.weight) own.1.1).0;
-      cost = plain_cost weighted s.weight r.cost s.cost_is;
+      cost = plain_cost scale s.weight r.cost s.cost_is;
     }
 
 rules_plain :
-    (weighted : Bool) (names labels : List (List ℕ)) (rows : List (List Word)) (rules : List (Rule ℕ)) → Along (SpellsRuleOf weighted names labels) rows rules → Each (Each IsFree) rows → Each (IsPrintable weighted labels) rules
-rules_plain weighted names labels [] [] a e = tt
-rules_plain weighted names labels [] (r ∷ rules) a e = absurd a
-rules_plain weighted names labels (row ∷ rows) [] a e = absurd a
-rules_plain weighted names labels (row ∷ rows) (r ∷ rules) a e = (rule_plain weighted names labels row r a.0 e.0, rules_plain weighted names labels rows rules a.1 e.1)
+    (scale : Scale) (names labels : List (List ℕ)) (rows : List (List Word)) (rules : List (Rule ℕ)) → Along (SpellsRuleOf scale names labels) rows rules → Each (Each IsFree) rows → Each (IsPrintable scale labels) rules
+rules_plain scale names labels [] [] a e = tt
+rules_plain scale names labels [] (r ∷ rules) a e = absurd a
+rules_plain scale names labels (row ∷ rows) [] a e = absurd a
+rules_plain scale names labels (row ∷ rows) (r ∷ rules) a e = (rule_plain scale names labels row r a.0 e.0, rules_plain scale names labels rows rules a.1 e.1)
 
-pub read_plain : (weighted : Bool) (labels : List (List ℕ)) (bytes : List ℕ) (g : GrammarOf) → GrammarText weighted labels bytes g → ArePrintable weighted labels g.rules
-read_plain weighted labels bytes g t m h =
+pub read_plain : (scale : Scale) (labels : List (List ℕ)) (bytes : List ℕ) (g : GrammarOf) → GrammarText scale labels bytes g → ArePrintable scale labels g.rules
+read_plain scale labels bytes g t m h =
     let free = rows_free t.lines ((name t.start ∷ []) ∷ t.rows) t.tokens (lines_free t.lines bytes t.lines_are) in
-    each_has (IsPrintable weighted labels) g.rules (rule_at g.rules m) (rules_plain weighted g.names labels t.rows g.rules t.rules free.1) (has_at g.rules m no_rule h)
+    each_has (IsPrintable scale labels) g.rules (rule_at g.rules m) (rules_plain scale g.names labels t.rows g.rules t.rules free.1) (has_at g.rules m no_rule h)

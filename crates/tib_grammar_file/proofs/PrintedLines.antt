@@ -1,4 +1,7 @@
 -- The lines of what is printed of a grammar.
+use Rattle.tib_cost.specs.Scale.{weight_in, weight_within}
+use Rattle.tib_cost.specs.declared.Scale.TheVariants as scales
+use Rattle.tib_cost.specs.declared.Scale.{Scale}
 use Rattle.std.proofs.Common.{◌≡◌, ℕ, inl, inr, Bool, true, false, List, [], ◌∷◌, ◌++◌, length, get_or, refl, ap, sym, ◌∙◌, subst, append_assoc, zero, suc}
 use Rattle.std.specs.Prelude.{not, cond, ◌==◌, ◌||◌, ◌&&◌}
 use Rattle.std.specs.List.{list_all}
@@ -92,53 +95,54 @@ free_trees names labels (tree (symbol_label f) kids rest) k n l =
     free_tree names labels (symbol_label f) kids rest k (free_label names (get_or labels f []) l.1) (free_trees names labels kids 0 n l.2) (free_trees names labels rest (suc k) n l.3)
 free_trees names labels (tree (hole q) kids rest) k n l = free_tree names labels (hole q) kids rest k (free_at names q n) (free_trees names labels kids 0 n l.0) (free_trees names labels rest (suc k) n l.1)
 
-free_cost : (weighted : Bool) (cost : ℕ) → IsPlainCost weighted cost → HasNoFeed (cost_text weighted cost)
-free_cost false cost h = refl
-free_cost true cost h = free_from is_digit refl (printed cost) (digits_are cost h)
+free_cost : (scale : Scale) (cost : ℕ) → IsPlainCost scale cost → HasNoFeed (cost_text scale cost)
+free_cost scales.Unweighted cost h = refl
+free_cost scales.Plain cost h = free_from is_digit refl (printed cost) (digits_are cost h)
+free_cost scales.Reversed cost h = free_from is_digit refl (printed (weight_in scales.Reversed cost)) (digits_are (weight_in scales.Reversed cost) (weight_within scales.Reversed cost h))
 
-free_line : (weighted : Bool) (names labels : List (List ℕ)) (r : Rule ℕ) → Each HasNoFeed names → IsPrintable weighted labels r → HasNoFeed (line_of weighted names labels r)
-free_line weighted names labels r n p =
-    let right : HasNoFeed (trees_text names labels (only r.right) 0 ++ cost_text weighted r.cost) =
-    free_append (trees_text names labels (only r.right) 0) (cost_text weighted r.cost) (free_trees names labels (only r.right) 0 n p.right) (free_cost weighted r.cost p.cost) in
-    free_append (get_or names r.left []) (32 ∷ (45 ∷ (62 ∷ (32 ∷ (trees_text names labels (only r.right) 0 ++ cost_text weighted r.cost))))) (free_at names r.left n) right
+free_line : (scale : Scale) (names labels : List (List ℕ)) (r : Rule ℕ) → Each HasNoFeed names → IsPrintable scale labels r → HasNoFeed (line_of scale names labels r)
+free_line scale names labels r n p =
+    let right : HasNoFeed (trees_text names labels (only r.right) 0 ++ cost_text scale r.cost) =
+    free_append (trees_text names labels (only r.right) 0) (cost_text scale r.cost) (free_trees names labels (only r.right) 0 n p.right) (free_cost scale r.cost p.cost) in
+    free_append (get_or names r.left []) (32 ∷ (45 ∷ (62 ∷ (32 ∷ (trees_text names labels (only r.right) 0 ++ cost_text scale r.cost))))) (free_at names r.left n) right
 
 -- the lines and their tokens
-abbrev pub lines_in : Bool → List (List ℕ) → List (List ℕ) → List (Rule ℕ) → List (List ℕ)
-lines_in weighted names labels [] = []
-lines_in weighted names labels (r ∷ rules) = line_of weighted names labels r ∷ lines_in weighted names labels rules
+abbrev pub lines_in : Scale → List (List ℕ) → List (List ℕ) → List (Rule ℕ) → List (List ℕ)
+lines_in scale names labels [] = []
+lines_in scale names labels (r ∷ rules) = line_of scale names labels r ∷ lines_in scale names labels rules
 
-abbrev pub rows_in : Bool → List (List ℕ) → List (List ℕ) → List (Rule ℕ) → List (List Word)
-rows_in weighted names labels [] = []
-rows_in weighted names labels (r ∷ rules) = row_of weighted names labels r ∷ rows_in weighted names labels rules
+abbrev pub rows_in : Scale → List (List ℕ) → List (List ℕ) → List (Rule ℕ) → List (List Word)
+rows_in scale names labels [] = []
+rows_in scale names labels (r ∷ rules) = row_of scale names labels r ∷ rows_in scale names labels rules
 
-pub line_ends : (weighted : Bool) (names labels : List (List ℕ)) (r : Rule ℕ) (more : List ℕ) → rule_text weighted names labels r ++ more ≡ line_of weighted names labels r ++ (10 ∷ more)
-line_ends weighted names labels r more =
+pub line_ends : (scale : Scale) (names labels : List (List ℕ)) (r : Rule ℕ) (more : List ℕ) → rule_text scale names labels r ++ more ≡ line_of scale names labels r ++ (10 ∷ more)
+line_ends scale names labels r more =
     let left : List ℕ = get_or names r.left [] in
     let right : List ℕ = trees_text names labels (only r.right) 0 in
-    let cost : List ℕ = cost_text weighted r.cost in
+    let cost : List ℕ = cost_text scale r.cost in
     append_assoc left (32 ∷ (45 ∷ (62 ∷ (32 ∷ (right ++ (cost ++ 10 ∷ [])))))) more
     ∙ ap (λ (l : List ℕ). left ++ (32 ∷ (45 ∷ (62 ∷ (32 ∷ l))))) (append_assoc right (cost ++ 10 ∷ []) more ∙ ap (λ (l : List ℕ). right ++ l) (append_assoc cost (10 ∷ []) more) ∙ sym (append_assoc right cost (10 ∷ more)))
     ∙ sym (append_assoc left (32 ∷ (45 ∷ (62 ∷ (32 ∷ (right ++ cost))))) (10 ∷ more))
 
-rules_lines : (weighted : Bool) (names labels : List (List ℕ)) (rules : List (Rule ℕ)) → Each HasNoFeed names → Each (IsPrintable weighted labels) rules → HasLines (lines_in weighted names labels rules) (rules_text weighted names labels rules)
-rules_lines weighted names labels [] n p = refl
-rules_lines weighted names labels (r ∷ rules) n p =
-    (free_line weighted names labels r n p.0, inr (rules_text weighted names labels rules, line_ends weighted names labels r (rules_text weighted names labels rules), rules_lines weighted names labels rules n p.1))
+rules_lines : (scale : Scale) (names labels : List (List ℕ)) (rules : List (Rule ℕ)) → Each HasNoFeed names → Each (IsPrintable scale labels) rules → HasLines (lines_in scale names labels rules) (rules_text scale names labels rules)
+rules_lines scale names labels [] n p = refl
+rules_lines scale names labels (r ∷ rules) n p =
+    (free_line scale names labels r n p.0, inr (rules_text scale names labels rules, line_ends scale names labels r (rules_text scale names labels rules), rules_lines scale names labels rules n p.1))
 
-pub grammar_lines : (weighted : Bool) (labels : List (List ℕ)) (g : GrammarOf) → Each HasNoFeed g.names → Each (IsPrintable weighted labels) g.rules → HasLines (get_or g.names 0 [] ∷ lines_in weighted g.names labels g.rules) (grammar_text weighted labels g)
-grammar_lines weighted labels g n p = (
+pub grammar_lines : (scale : Scale) (labels : List (List ℕ)) (g : GrammarOf) → Each HasNoFeed g.names → Each (IsPrintable scale labels) g.rules → HasLines (get_or g.names 0 [] ∷ lines_in scale g.names labels g.rules) (grammar_text scale labels g)
+grammar_lines scale labels g n p = (
   free_at g.names 0 n,
-  inr (rules_text weighted g.names labels g.rules, append_assoc (get_or g.names 0 []) (10 ∷ []) (rules_text weighted g.names labels g.rules), rules_lines weighted g.names labels g.rules n p),
+  inr (rules_text scale g.names labels g.rules, append_assoc (get_or g.names 0 []) (10 ∷ []) (rules_text scale g.names labels g.rules), rules_lines scale g.names labels g.rules n p),
 )
 
-pub rules_tokens : (weighted : Bool) (names labels : List (List ℕ)) (rules : List (Rule ℕ)) → Each IsStateName names → Each (FitsRule weighted (length names) (length labels)) rules → HaveTokens (lines_in weighted names labels rules) (rows_in weighted names labels rules)
-rules_tokens weighted names labels [] e f = refl
-rules_tokens weighted names labels (r ∷ rules) e f =
+pub rules_tokens : (scale : Scale) (names labels : List (List ℕ)) (rules : List (Rule ℕ)) → Each IsStateName names → Each (FitsRule scale (length names) (length labels)) rules → HaveTokens (lines_in scale names labels rules) (rows_in scale names labels rules)
+rules_tokens scale names labels [] e f = refl
+rules_tokens scale names labels (r ∷ rules) e f =
     inr (
       _,
-      words_behind weighted names labels r,
-      rows_in weighted names labels rules,
-      line_read weighted names labels r e f.0,
+      words_behind scale names labels r,
+      rows_in scale names labels rules,
+      line_read scale names labels r e f.0,
       refl,
-      rules_tokens weighted names labels rules e f.1,
+      rules_tokens scale names labels rules e f.1,
     )

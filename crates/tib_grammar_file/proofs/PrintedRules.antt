@@ -1,4 +1,7 @@
 -- What is printed of a rule spells it.
+use Rattle.tib_cost.specs.Scale.{is_weighted, weight_in, weight_within, cost_of_weight}
+use Rattle.tib_cost.specs.declared.Scale.TheVariants as scales
+use Rattle.tib_cost.specs.declared.Scale.{Scale}
 use Rattle.std.proofs.Common.{◌≡◌, ℕ, ◌<◌, ◌≤◌, Bool, true, false, Option, List, [], ◌∷◌, ◌++◌, length, get_or, refl, ap, sym, ◌∙◌, subst, append-nil, arith}
 use Rattle.std.specs.Prelude.{Some, None, slice_get, Contains, not, ◌&&◌, nat_lt, decimal as printed}
 use Rattle.std.specs.List.{list_all}
@@ -21,10 +24,10 @@ use Rattle.tib_grammar.specs.GrammarOf.{named_rule}
 use Rattle.tib_grammar.specs.StateName.{IsStateName}
 use Rattle.tib_grammar.specs.declared.Rule.{Rule}
 use Rattle.tib_grammar_file.specs.GrammarText.{IsLeaf, IsHead, Means, SpellsRuleOf}
-use Rattle.tib_grammar_file.specs.Printable.{IsPlainCost}
-use Rattle.tib_grammar_file.specs.Printed.{is_held, trees_text, cost_text}
+use Rattle.tib_grammar_file.specs.Printable.{IsPlainIf, IsPlainCost}
+use Rattle.tib_grammar_file.specs.Printed.{is_held, trees_text, weight_text, cost_text}
 use Rattle.tib_grammar_file.specs.Rule.{weight_words}
-use Rattle.tib_grammar_file.specs.Weight.{most, is_digit, decimal_from, IsWhole, IsCostOf}
+use Rattle.tib_grammar_file.specs.Weight.{most, is_digit, decimal_from, IsWhole, IsWeighed, IsCostOf}
 use Rattle.tib_grammar_file.proofs.PrintedTrees.{Fits, FitsSymbol, text_of, quotes, written, first_word, after_space, no_words, name_at_is, trees_read}
 use Rattle.tib_grammar_file.proofs.Printing.{held_at}
 
@@ -84,48 +87,71 @@ cost_is_whole n h = record {
 }
 
 -- the weight of a rule as it is printed
-abbrev pub weight_of : Bool → ℕ → Option (List ℕ)
-weight_of true cost = Some (printed cost)
-weight_of false cost = None
+abbrev pub weight_if : Bool → ℕ → Option (List ℕ)
+weight_if true weight = Some (printed weight)
+weight_if false weight = None
 
-weight_read : (weighted : Bool) (cost : ℕ) → IsPlainCost weighted cost → HasWords (weight_words (weight_of weighted cost)) (cost_text weighted cost)
-weight_read false cost h = no_words
-weight_read true cost h =
+abbrev pub weight_of : Scale → ℕ → Option (List ℕ)
+weight_of scale cost = weight_if (is_weighted scale) (weight_in scale cost)
+
+words_if : (w : Bool) (cost : ℕ) → (w ≡ true → cost ≤ most) → HasWords (weight_words (weight_if w cost)) (weight_text w cost)
+words_if false cost h = no_words
+words_if true cost within =
+    let h : cost ≤ most = within refl in
     let digits : HasWords (name (printed cost) ∷ []) (printed cost ++ []) = first_word (name (printed cost)) [] [] (cost_is_name cost h) refl no_words in
     let alone : HasWords (name (printed cost) ∷ []) (printed cost) = subst (λ (l : List ℕ). HasWords (name (printed cost) ∷ []) l) (append-nil (printed cost)) digits in
     let behind : HasWords (name (printed cost) ∷ []) (32 ∷ printed cost) = after_space (name (printed cost) ∷ []) (printed cost) alone in
     after_space (hash ∷ (name (printed cost) ∷ [])) (35 ∷ (32 ∷ printed cost)) (first_word hash (name (printed cost) ∷ []) (32 ∷ printed cost) tt tt behind)
 
-weight_begins : (weighted : Bool) (cost : ℕ) → begins_name (cost_text weighted cost) ≡ false
-weight_begins false cost = refl
-weight_begins true cost = refl
+plain_within : (w : Bool) (cost : ℕ) → IsPlainIf w cost → w ≡ true → cost ≤ most
+plain_within true cost h e = h
+plain_within false cost h e = absurd (cc)
 
-weight_is : (weighted : Bool) (cost : ℕ) → IsPlainCost weighted cost → IsCostOf weighted (weight_of weighted cost) cost
-weight_is false cost h = h
-weight_is true cost h = (cost_is_whole cost h, h)
+weight_read : (scale : Scale) (cost : ℕ) → IsPlainCost scale cost → HasWords (weight_words (weight_of scale cost)) (cost_text scale cost)
+weight_read scale cost h = words_if (is_weighted scale) (weight_in scale cost) (λ e. weight_within scale cost (plain_within (is_weighted scale) cost h e))
+
+begins_if : (w : Bool) (cost : ℕ) → begins_name (weight_text w cost) ≡ false
+begins_if false cost = refl
+begins_if true cost = refl
+
+weight_begins : (scale : Scale) (cost : ℕ) → begins_name (cost_text scale cost) ≡ false
+weight_begins scale cost = begins_if (is_weighted scale) (weight_in scale cost)
+
+cost_read : (scale : Scale) (cost : ℕ) → cost ≤ most → IsWeighed scale (printed (weight_in scale cost)) cost
+cost_read scale cost h = record {
+  weight = weight_in scale cost;
+  whole = cost_is_whole (weight_in scale cost) (weight_within scale cost h);
+  within = weight_within scale cost h;
+  cost_is = sym (cost_of_weight scale cost h);
+}
+
+weight_is : (scale : Scale) (cost : ℕ) → IsPlainCost scale cost → IsCostOf scale (weight_of scale cost) cost
+weight_is scales.Unweighted cost h = h
+weight_is scales.Plain cost h = cost_read scales.Plain cost h
+weight_is scales.Reversed cost h = cost_read scales.Reversed cost h
 
 -- the line of a rule without its line feed, and its tokens
-abbrev pub line_of : Bool → List (List ℕ) → List (List ℕ) → Rule ℕ → List ℕ
-line_of weighted names labels r =
-    get_or names r.left [] ++ (32 ∷ (45 ∷ (62 ∷ (32 ∷ (trees_text names labels (only r.right) 0 ++ cost_text weighted r.cost)))))
+abbrev pub line_of : Scale → List (List ℕ) → List (List ℕ) → Rule ℕ → List ℕ
+line_of scale names labels r =
+    get_or names r.left [] ++ (32 ∷ (45 ∷ (62 ∷ (32 ∷ (trees_text names labels (only r.right) 0 ++ cost_text scale r.cost)))))
 
-abbrev pub words_behind : Bool → List (List ℕ) → List (List ℕ) → Rule ℕ → List Word
-words_behind weighted names labels r = arrow ∷ (spell (written names labels (only r.right)) ++ weight_words (weight_of weighted r.cost))
+abbrev pub words_behind : Scale → List (List ℕ) → List (List ℕ) → Rule ℕ → List Word
+words_behind scale names labels r = arrow ∷ (spell (written names labels (only r.right)) ++ weight_words (weight_of scale r.cost))
 
-abbrev pub row_of : Bool → List (List ℕ) → List (List ℕ) → Rule ℕ → List Word
-row_of weighted names labels r = name (get_or names r.left []) ∷ words_behind weighted names labels r
+abbrev pub row_of : Scale → List (List ℕ) → List (List ℕ) → Rule ℕ → List Word
+row_of scale names labels r = name (get_or names r.left []) ∷ words_behind scale names labels r
 
 -- a rule that can be printed
-pub record FitsRule (weighted : Bool) (n m : ℕ) (r : Rule ℕ) : Type 0 where
+pub record FitsRule (scale : Scale) (n m : ℕ) (r : Rule ℕ) : Type 0 where
   pub left : r.left < n
   pub right : Fits n m (only r.right)
-  pub cost : IsPlainCost weighted r.cost
+  pub cost : IsPlainCost scale r.cost
 
-pub line_read : (weighted : Bool) (names labels : List (List ℕ)) (r : Rule ℕ) → Each IsStateName names → FitsRule weighted (length names) (length labels) r → HasWords (row_of weighted names labels r) (line_of weighted names labels r)
-line_read weighted names labels r e f =
-    let words : List Word = spell (written names labels (only r.right)) ++ weight_words (weight_of weighted r.cost) in
-    let bytes : List ℕ = trees_text names labels (only r.right) 0 ++ cost_text weighted r.cost in
-    let right : HasWords words bytes = trees_read names labels (only r.right) e f.right 0 (weight_words (weight_of weighted r.cost)) (cost_text weighted r.cost) (weight_begins weighted r.cost) (weight_read weighted r.cost f.cost) in
+pub line_read : (scale : Scale) (names labels : List (List ℕ)) (r : Rule ℕ) → Each IsStateName names → FitsRule scale (length names) (length labels) r → HasWords (row_of scale names labels r) (line_of scale names labels r)
+line_read scale names labels r e f =
+    let words : List Word = spell (written names labels (only r.right)) ++ weight_words (weight_of scale r.cost) in
+    let bytes : List ℕ = trees_text names labels (only r.right) 0 ++ cost_text scale r.cost in
+    let right : HasWords words bytes = trees_read names labels (only r.right) e f.right 0 (weight_words (weight_of scale r.cost)) (cost_text scale r.cost) (weight_begins scale r.cost) (weight_read scale r.cost f.cost) in
     let behind : HasWords (arrow ∷ words) (45 ∷ (62 ∷ (32 ∷ bytes))) = first_word arrow words (32 ∷ bytes) tt refl (after_space words bytes right) in
     first_word (name (get_or names r.left [])) (arrow ∷ words) (32 ∷ (45 ∷ (62 ∷ (32 ∷ bytes)))) (name_at_is names r.left e f.left).is_name refl (after_space (arrow ∷ words) (45 ∷ (62 ∷ (32 ∷ bytes))) behind)
 
@@ -163,14 +189,14 @@ trees_mean names others labels number (tree s (tree g inner next) rest) r f = (
   trees_mean names others labels number rest r f.2,
 )
 
-pub rule_spelled : (weighted : Bool) (names others labels : List (List ℕ)) (number : ℕ → ℕ) (r : Rule ℕ) → Each IsStateName names → Renames names others number → FitsRule weighted (length names) (length labels) r → SpellsRuleOf weighted others labels (row_of weighted names labels r) (named_rule number r)
-rule_spelled weighted names others labels number r e n f = record {
+pub rule_spelled : (scale : Scale) (names others labels : List (List ℕ)) (number : ℕ → ℕ) (r : Rule ℕ) → Each IsStateName names → Renames names others number → FitsRule scale (length names) (length labels) r → SpellsRuleOf scale others labels (row_of scale names labels r) (named_rule number r)
+rule_spelled scale names others labels number r e n f = record {
   left = get_or names r.left [];
   right = written names labels (only r.right);
-  weight = weight_of weighted r.cost;
+  weight = weight_of scale r.cost;
   words_are = refl;
   plain = (name_at_is names r.left e f.left).no_stop;
   left_is = n.to r.left f.left;
   right_is = trees_mean names others labels number (only r.right) n f.right;
-  cost_is = weight_is weighted r.cost f.cost;
+  cost_is = weight_is scale r.cost f.cost;
 }

@@ -1,4 +1,5 @@
 -- A grammar whose rules ascend by their left states is read as it stands.
+use Rattle.tib_cost.specs.declared.Scale.{Scale}
 use Rattle.std.proofs.Common.{◌≡◌, ◌⊎◌, ℕ, ◌+◌, ◌<◌, ◌≤◌, inl, inr, Bool, List, [], ◌∷◌, ◌++◌, length, get_or, take, refl, ap, sym, ◌∙◌, subst, arith, zero, suc}
 use Rattle.std.specs.Prelude.{map, Contains}
 use Rattle.std.proofs.lemmas.Option.{slice_get-get_or}
@@ -103,8 +104,8 @@ module _ (names : List (List ℕ)) (apart : Distinct names) where
       full : (k n : ℕ) → (k < n → ⊥) → n ≤ k
       full k n h = grind arith
 
-  module _ (weighted : Bool) (labels : List (List ℕ)) where
-    added : (rules : List (Rule ℕ)) (k : ℕ) → IsSeen names rules k → AddsAll (take k names) (map first_text (rows_in weighted names labels rules)) names
+  module _ (scale : Scale) (labels : List (List ℕ)) where
+    added : (rules : List (Rule ℕ)) (k : ℕ) → IsSeen names rules k → AddsAll (take k names) (map first_text (rows_in scale names labels rules)) names
     added [] k s = all_seen k s
     added (r ∷ rules) k s = elim (seen_or_next r.left k s.late.0) [
       | inl low ↦ (take k names, inl (held r.left k low s.few, refl), added rules k (seen_again r rules k s low))
@@ -115,7 +116,7 @@ module _ (names : List (List ℕ)) (apart : Distinct names) where
           (take (k + 1) names, inr (λ c. is_new k within (subst (λ (q : ℕ). Contains (take k names) (name_at q)) e c), grown), added rules (k + 1) (seen_more r rules k s e))
     ]
 
-    all_added : (rules : List (Rule ℕ)) → 0 < length names → IsSeen names rules 1 → AddsAll [] (name_at 0 ∷ map first_text (rows_in weighted names labels rules)) names
+    all_added : (rules : List (Rule ℕ)) → 0 < length names → IsSeen names rules 1 → AddsAll [] (name_at 0 ∷ map first_text (rows_in scale names labels rules)) names
     all_added rules some s = (take 1 names, inr (λ c. omega (arith, c.1), take_more names 0 [] some), added rules 1 s)
 
 -- each state by its own number
@@ -139,8 +140,8 @@ rules_own (r ∷ rules) = ap (λ (x : Rule ℕ). x ∷ map (named_rule (λ (q : 
 names_own : (names : List (List ℕ)) → Renames names names (λ q. q)
 names_own names = record { to = λ q h. slice_get-get_or names q [] h; back = λ text c. c }
 
-pub reads_sorted : (weighted : Bool) (labels : List (List ℕ)) (g : GrammarOf) → HasText weighted labels g → Ascends (λ r s. r.left ≤ s.left) g.rules → GrammarText weighted labels (grammar_text weighted labels g) g
-reads_sorted weighted labels g t up =
+pub reads_sorted : (scale : Scale) (labels : List (List ℕ)) (g : GrammarOf) → HasText scale labels g → Ascends (λ r s. r.left ≤ s.left) g.rules → GrammarText scale labels (grammar_text scale labels g) g
+reads_sorted scale labels g t up =
     let seen : IsSeen g.names g.rules 1 = record {
       few = omega (arith, t.start);
       ascend = up;
@@ -148,5 +149,5 @@ reads_sorted weighted labels g t up =
       range = each_rule (λ (r : Rule ℕ). r.left < length g.names) g.rules (λ n h. (t.range n h).0);
       all = λ q h b. t.lefts q (omega arith) b;
     } in
-    subst (λ (rs : List (Rule ℕ)). GrammarText weighted labels (grammar_text weighted labels g) (record { names = g.names; rules = rs })) (rules_own g.rules)
-    (prints_as weighted labels g g.names (λ q. q) t (all_added g.names t.names.distinct weighted labels g.rules t.start seen) (names_own g.names))
+    subst (λ (rs : List (Rule ℕ)). GrammarText scale labels (grammar_text scale labels g) (record { names = g.names; rules = rs })) (rules_own g.rules)
+    (prints_as scale labels g g.names (λ q. q) t (all_added g.names t.names.distinct scale labels g.rules t.start seen) (names_own g.names))

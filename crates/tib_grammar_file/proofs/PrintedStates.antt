@@ -1,4 +1,5 @@
 -- The states of what is printed of a grammar.
+use Rattle.tib_cost.specs.declared.Scale.{Scale}
 use Rattle.std.proofs.Common.{◌≡◌, ◌⊎◌, ℕ, ◌<◌, inl, inr, Bool, true, false, List, [], ◌∷◌, ◌++◌, length, get_or, refl, ap, sym, subst, arith, zero, suc}
 use Rattle.std.specs.Prelude.{Some, slice_get, Contains, cond, map}
 use Rattle.std.specs.Str.{bytes_eq}
@@ -102,19 +103,19 @@ placed (x ∷ xs) t h = by (bytes_eq x t) (bytes_eq-Decides x t) (λ k. placed x
     by false d more = elim h [ inl e ↦ (let bad : false ≡ true = d.1 e in cc) | inr k ↦ more k ]
 
 -- the left states of rules, by their names
-abbrev lefts : Bool → List (List ℕ) → List (List ℕ) → List (Rule ℕ) → List (List ℕ)
-lefts weighted names labels rules = map first_text (rows_in weighted names labels rules)
+abbrev lefts : Scale → List (List ℕ) → List (List ℕ) → List (Rule ℕ) → List (List ℕ)
+lefts scale names labels rules = map first_text (rows_in scale names labels rules)
 
-has_left_of : (weighted : Bool) (names labels : List (List ℕ)) (rules : List (Rule ℕ)) (n : ℕ) → n < length rules → Has (lefts weighted names labels rules) (get_or names (rule_at rules n).left [])
-has_left_of weighted names labels [] n h = absurd (omega arith)
-has_left_of weighted names labels (r ∷ rules) zero h = inl refl
-has_left_of weighted names labels (r ∷ rules) (suc n) h = inr (has_left_of weighted names labels rules n (omega arith))
+has_left_of : (scale : Scale) (names labels : List (List ℕ)) (rules : List (Rule ℕ)) (n : ℕ) → n < length rules → Has (lefts scale names labels rules) (get_or names (rule_at rules n).left [])
+has_left_of scale names labels [] n h = absurd (omega arith)
+has_left_of scale names labels (r ∷ rules) zero h = inl refl
+has_left_of scale names labels (r ∷ rules) (suc n) h = inr (has_left_of scale names labels rules n (omega arith))
 
-lefts_from : (weighted : Bool) (names labels : List (List ℕ)) (rules : List (Rule ℕ)) (t : List ℕ) → Each (λ (r : Rule ℕ). r.left < length names) rules → Has (lefts weighted names labels rules) t → Has names t
-lefts_from weighted names labels [] t e h = absurd h
-lefts_from weighted names labels (r ∷ rules) t e h = elim h [
+lefts_from : (scale : Scale) (names labels : List (List ℕ)) (rules : List (Rule ℕ)) (t : List ℕ) → Each (λ (r : Rule ℕ). r.left < length names) rules → Has (lefts scale names labels rules) t → Has names t
+lefts_from scale names labels [] t e h = absurd h
+lefts_from scale names labels (r ∷ rules) t e h = elim h [
   | inl same ↦ subst (λ (x : List ℕ). Has names x) same (has_at names r.left [] e.0)
-  | inr k ↦ lefts_from weighted names labels rules t e.1 k
+  | inr k ↦ lefts_from scale names labels rules t e.1 k
 ]
 
 -- the names that the text has are those of the grammar
@@ -123,24 +124,24 @@ pub record SameNames (names others : List (List ℕ)) : Type 0 where
   pub back : (t : List ℕ) → Has others t → Has names t
   pub start : get_or names 0 [] ≡ get_or others 0 []
 
-held_name : (weighted : Bool) (labels : List (List ℕ)) (g : GrammarOf) (others : List (List ℕ)) → HaveRules g → AddsAll [] (get_or g.names 0 [] ∷ lefts weighted g.names labels g.rules) others → (q : ℕ) → q < length g.names → Has others (get_or g.names q [])
-held_name weighted labels g others have adds zero h = all_added [] (get_or g.names 0 [] ∷ lefts weighted g.names labels g.rules) others adds (get_or g.names 0 []) (inl refl)
-held_name weighted labels g others have adds (suc q) h =
+held_name : (scale : Scale) (labels : List (List ℕ)) (g : GrammarOf) (others : List (List ℕ)) → HaveRules g → AddsAll [] (get_or g.names 0 [] ∷ lefts scale g.names labels g.rules) others → (q : ℕ) → q < length g.names → Has others (get_or g.names q [])
+held_name scale labels g others have adds zero h = all_added [] (get_or g.names 0 [] ∷ lefts scale g.names labels g.rules) others adds (get_or g.names 0 []) (inl refl)
+held_name scale labels g others have adds (suc q) h =
     let r = have (suc q) (omega arith) h in
-    let stands : Has (lefts weighted g.names labels g.rules) (get_or g.names (suc q) []) = subst (λ (p : ℕ). Has (lefts weighted g.names labels g.rules) (get_or g.names p [])) r.2 (has_left_of weighted g.names labels g.rules r.0 r.1) in
-    all_added [] (get_or g.names 0 [] ∷ lefts weighted g.names labels g.rules) others adds (get_or g.names (suc q) []) (inr stands)
+    let stands : Has (lefts scale g.names labels g.rules) (get_or g.names (suc q) []) = subst (λ (p : ℕ). Has (lefts scale g.names labels g.rules) (get_or g.names p [])) r.2 (has_left_of scale g.names labels g.rules r.0 r.1) in
+    all_added [] (get_or g.names 0 [] ∷ lefts scale g.names labels g.rules) others adds (get_or g.names (suc q) []) (inr stands)
 
-pub same_names : (weighted : Bool) (labels : List (List ℕ)) (g : GrammarOf) (others : List (List ℕ)) → 0 < length g.names → Each (λ (r : Rule ℕ). r.left < length g.names) g.rules → HaveRules g → AddsAll [] (get_or g.names 0 [] ∷ lefts weighted g.names labels g.rules) others → SameNames g.names others
-same_names weighted labels g others some range have adds = record {
-  to = λ t h. let at = at_has g.names t [] h in subst (λ (x : List ℕ). Has others x) at.2 (held_name weighted labels g others have adds at.0 at.1);
-  back = λ t h. elim (all_from [] (get_or g.names 0 [] ∷ lefts weighted g.names labels g.rules) others adds t h) [
+pub same_names : (scale : Scale) (labels : List (List ℕ)) (g : GrammarOf) (others : List (List ℕ)) → 0 < length g.names → Each (λ (r : Rule ℕ). r.left < length g.names) g.rules → HaveRules g → AddsAll [] (get_or g.names 0 [] ∷ lefts scale g.names labels g.rules) others → SameNames g.names others
+same_names scale labels g others some range have adds = record {
+  to = λ t h. let at = at_has g.names t [] h in subst (λ (x : List ℕ). Has others x) at.2 (held_name scale labels g others have adds at.0 at.1);
+  back = λ t h. elim (all_from [] (get_or g.names 0 [] ∷ lefts scale g.names labels g.rules) others adds t h) [
     | inl bad ↦ absurd bad
     | inr k ↦ elim k [
       | inl same ↦ subst (λ (x : List ℕ). Has g.names x) same (has_at g.names 0 [] some)
-      | inr l ↦ lefts_from weighted g.names labels g.rules t range l
+      | inr l ↦ lefts_from scale g.names labels g.rules t range l
     ]
   ];
-  start = sym (starts_with (get_or g.names 0 []) (lefts weighted g.names labels g.rules) others adds);
+  start = sym (starts_with (get_or g.names 0 []) (lefts scale g.names labels g.rules) others adds);
 }
 
 -- each state takes the number of its name

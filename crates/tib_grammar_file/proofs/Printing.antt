@@ -1,4 +1,5 @@
 -- One text printed after another.
+use Rattle.tib_cost.specs.declared.Scale.{Scale}
 use Rattle.std.proofs.Common.{◌≡◌, ℕ, ◌+◌, ◌-◌, ◌<◌, ◌≤◌, List, [], ◌∷◌, ◌++◌, length, get_or, take, drop, refl, ap, sym, ◌∙◌, subst, arith, append-nil, append_assoc, Option}
 use Rattle.std.specs.Prelude.{Some, None, Result, Ok, Err, Bool, true, false, cond, ◌==◌, ◌||◌}
 use Rattle.std.proofs.lemmas.List.{length-append, take_more, take-append-drop, take_all}
@@ -395,39 +396,39 @@ pub fails_as : {X : Type 0} (T U E : Type 0) (w : X → Option (List ℕ)) (f : 
 fails_as T U E w f n a c xs e p = cut T U E w f n a c xs [] xs e (append-nil xs) p
 
 -- some rules were printed, and others are left
-pub record HalfRules {X : Type 0} (w : X → Option (List ℕ)) (f : X → Option ℕ) (n : X → ℕ) (old now : X) (weighted : Bool) (names labels : List (List ℕ)) (rules : List (Rule ℕ)) (k : ℕ) : Type 0 where
+pub record HalfRules {X : Type 0} (w : X → Option (List ℕ)) (f : X → Option ℕ) (n : X → ℕ) (old now : X) (scale : Scale) (names labels : List (List ℕ)) (rules : List (Rule ℕ)) (k : ℕ) : Type 0 where
   pub done : List ℕ
-  pub text : done ++ rules_text weighted names labels (drop k rules) ≡ rules_text weighted names labels rules
+  pub text : done ++ rules_text scale names labels (drop k rules) ≡ rules_text scale names labels rules
   pub prints : let r : Result (Unit {0}) Failed = Ok tt in Prints (w old) (w now) (f old) (f now) (n old) (n now) done r
 
-module _ {X : Type 0} (w : X → Option (List ℕ)) (f : X → Option ℕ) (n : X → ℕ) (old now : X) (weighted : Bool) (names labels : List (List ℕ)) (rules : List (Rule ℕ)) (k : ℕ) where
-  rules_go : (half : HalfRules w f n old now weighted names labels rules k) (rule : Rule ℕ) → k < length rules → rule ≡ get_or rules k rule → (half.done ++ rule_text weighted names labels rule) ++ rules_text weighted names labels (drop (k + 1) rules) ≡ rules_text weighted names labels rules
+module _ {X : Type 0} (w : X → Option (List ℕ)) (f : X → Option ℕ) (n : X → ℕ) (old now : X) (scale : Scale) (names labels : List (List ℕ)) (rules : List (Rule ℕ)) (k : ℕ) where
+  rules_go : (half : HalfRules w f n old now scale names labels rules k) (rule : Rule ℕ) → k < length rules → rule ≡ get_or rules k rule → (half.done ++ rule_text scale names labels rule) ++ rules_text scale names labels (drop (k + 1) rules) ≡ rules_text scale names labels rules
   rules_go half rule h is =
       let m : suc k ≡ k + 1 = omega arith in
       let cons : drop k rules ≡ rule ∷ drop (k + 1) rules = drop-cons rules k rule h ∙ ap (λ (r : Rule ℕ). r ∷ drop (suc k) rules) (sym is) ∙ ap (λ (i : ℕ). rule ∷ drop i rules) m in
-      append_assoc half.done (rule_text weighted names labels rule) (rules_text weighted names labels (drop (k + 1) rules))
-      ∙ ap (λ (rs : List (Rule ℕ)). half.done ++ rules_text weighted names labels rs) (sym cons)
+      append_assoc half.done (rule_text scale names labels rule) (rules_text scale names labels (drop (k + 1) rules))
+      ∙ ap (λ (rs : List (Rule ℕ)). half.done ++ rules_text scale names labels rs) (sym cons)
       ∙ half.text
 
-  pub rule_failed : (x : X) (half : HalfRules w f n old now weighted names labels rules k) (rule : Rule ℕ) (e : Failed) → k < length rules → rule ≡ get_or rules k rule → (let r : Result (Unit {0}) Failed = Err e in Prints (w now) (w x) (f now) (f x) (n now) (n x) (rule_text weighted names labels rule) r) → (let r : Result (Unit {0}) Failed = Err e in Prints (w old) (w x) (f old) (f x) (n old) (n x) (rules_text weighted names labels rules) r)
+  pub rule_failed : (x : X) (half : HalfRules w f n old now scale names labels rules k) (rule : Rule ℕ) (e : Failed) → k < length rules → rule ≡ get_or rules k rule → (let r : Result (Unit {0}) Failed = Err e in Prints (w now) (w x) (f now) (f x) (n now) (n x) (rule_text scale names labels rule) r) → (let r : Result (Unit {0}) Failed = Err e in Prints (w old) (w x) (f old) (f x) (n old) (n x) (rules_text scale names labels rules) r)
   rule_failed x half rule e h is p =
-      cut (Unit {0}) (Unit {0}) Failed w f n old x (half.done ++ rule_text weighted names labels rule) (rules_text weighted names labels (drop (k + 1) rules)) (rules_text weighted names labels rules) e (rules_go half rule h is)
-      (seq (Unit {0}) (Unit {0}) Failed w f n old now x half.done (rule_text weighted names labels rule) (half.done ++ rule_text weighted names labels rule) tt (Err e) refl half.prints p)
+      cut (Unit {0}) (Unit {0}) Failed w f n old x (half.done ++ rule_text scale names labels rule) (rules_text scale names labels (drop (k + 1) rules)) (rules_text scale names labels rules) e (rules_go half rule h is)
+      (seq (Unit {0}) (Unit {0}) Failed w f n old now x half.done (rule_text scale names labels rule) (half.done ++ rule_text scale names labels rule) tt (Err e) refl half.prints p)
 
-  pub rule_more : (x : X) (half : HalfRules w f n old now weighted names labels rules k) (rule : Rule ℕ) → k < length rules → rule ≡ get_or rules k rule → (let r : Result (Unit {0}) Failed = Ok tt in Prints (w now) (w x) (f now) (f x) (n now) (n x) (rule_text weighted names labels rule) r) → HalfRules w f n old x weighted names labels rules (k + 1)
+  pub rule_more : (x : X) (half : HalfRules w f n old now scale names labels rules k) (rule : Rule ℕ) → k < length rules → rule ≡ get_or rules k rule → (let r : Result (Unit {0}) Failed = Ok tt in Prints (w now) (w x) (f now) (f x) (n now) (n x) (rule_text scale names labels rule) r) → HalfRules w f n old x scale names labels rules (k + 1)
   rule_more x half rule h is p = record {
-    done = half.done ++ rule_text weighted names labels rule;
+    done = half.done ++ rule_text scale names labels rule;
     text = rules_go half rule h is;
-    prints = seq (Unit {0}) (Unit {0}) Failed w f n old now x half.done (rule_text weighted names labels rule) (half.done ++ rule_text weighted names labels rule) tt (Ok tt) refl half.prints p;
+    prints = seq (Unit {0}) (Unit {0}) Failed w f n old now x half.done (rule_text scale names labels rule) (half.done ++ rule_text scale names labels rule) tt (Ok tt) refl half.prints p;
   }
 
-  pub rules_done : (half : HalfRules w f n old now weighted names labels rules k) → length rules ≤ k → (let r : Result (Unit {0}) Failed = Ok tt in Prints (w old) (w now) (f old) (f now) (n old) (n now) (rules_text weighted names labels rules) r)
+  pub rules_done : (half : HalfRules w f n old now scale names labels rules k) → length rules ≤ k → (let r : Result (Unit {0}) Failed = Ok tt in Prints (w old) (w now) (f old) (f now) (n old) (n now) (rules_text scale names labels rules) r)
   rules_done half h =
-      let all : half.done ≡ rules_text weighted names labels rules = sym (append-nil half.done) ∙ ap (λ (rs : List (Rule ℕ)). half.done ++ rules_text weighted names labels rs) (sym (drop_all k rules h)) ∙ half.text in
-      prints_as (Unit {0}) (Unit {0}) Failed (w old) (w now) (f old) (f now) (n old) (n now) half.done (rules_text weighted names labels rules) tt tt all half.prints
+      let all : half.done ≡ rules_text scale names labels rules = sym (append-nil half.done) ∙ ap (λ (rs : List (Rule ℕ)). half.done ++ rules_text scale names labels rs) (sym (drop_all k rules h)) ∙ half.text in
+      prints_as (Unit {0}) (Unit {0}) Failed (w old) (w now) (f old) (f now) (n old) (n now) half.done (rules_text scale names labels rules) tt tt all half.prints
 
-pub no_rules : {X : Type 0} (w : X → Option (List ℕ)) (f : X → Option ℕ) (n : X → ℕ) (a : X) (weighted : Bool) (names labels : List (List ℕ)) (rules : List (Rule ℕ)) → HalfRules w f n a a weighted names labels rules 0
-no_rules w f n a weighted names labels rules = record { done = []; text = refl; prints = prints_nothing (Unit {0}) Failed (w a) (f a) (n a) tt }
+pub no_rules : {X : Type 0} (w : X → Option (List ℕ)) (f : X → Option ℕ) (n : X → ℕ) (a : X) (scale : Scale) (names labels : List (List ℕ)) (rules : List (Rule ℕ)) → HalfRules w f n a a scale names labels rules 0
+no_rules w f n a scale names labels rules = record { done = []; text = refl; prints = prints_nothing (Unit {0}) Failed (w a) (f a) (n a) tt }
 
 each_append : {A : Type 0} (P : A → Type 0) (xs ys : List A) → Each P xs → Each P ys → Each P (xs ++ ys)
 each_append P [] ys a b = b
@@ -465,9 +466,9 @@ pub grammar_within : (names labels others : List (List ℕ)) (rules all : List (
 grammar_within names labels others rules all same are r l b =
     subst (λ (ns : List (List ℕ)). All (IsRuleWithin ns labels) rules) (sym same) (subst (λ (rs : List (Rule ℕ)). All (IsRuleWithin others labels) rs) (sym are) (rules_within others labels all r l b))
 
-pub grammar_same : {T E : Type 0} {w y : Option (List ℕ)} {f h : Option ℕ} {a c : ℕ} {r : Result T E} (v u : Bool) (labels names : List (List ℕ)) (rules : List (Rule ℕ)) (g : GrammarOf) → v ≡ u → names ≡ g.names → rules ≡ g.rules → Prints w y f h a c ((get_or names 0 [] ++ 10 ∷ []) ++ rules_text v names labels rules) r → Prints w y f h a c (grammar_text u labels g) r
+pub grammar_same : {T E : Type 0} {w y : Option (List ℕ)} {f h : Option ℕ} {a c : ℕ} {r : Result T E} (v u : Scale) (labels names : List (List ℕ)) (rules : List (Rule ℕ)) (g : GrammarOf) → v ≡ u → names ≡ g.names → rules ≡ g.rules → Prints w y f h a c ((get_or names 0 [] ++ 10 ∷ []) ++ rules_text v names labels rules) r → Prints w y f h a c (grammar_text u labels g) r
 grammar_same {T} {E} {w} {y} {f} {h} {a} {c} {r} v u labels names rules g e same are p =
     prints_same T E w y f h a c ((get_or names 0 [] ++ 10 ∷ []) ++ rules_text v names labels rules) (grammar_text u labels g) r
-    (ap (λ (b : Bool). (get_or names 0 [] ++ 10 ∷ []) ++ rules_text b names labels rules) e
+    (ap (λ (b : Scale). (get_or names 0 [] ++ 10 ∷ []) ++ rules_text b names labels rules) e
     ∙ ap (λ (ns : List (List ℕ)). (get_or ns 0 [] ++ 10 ∷ []) ++ rules_text u ns labels rules) same
     ∙ ap (λ (rs : List (Rule ℕ)). (get_or g.names 0 [] ++ 10 ∷ []) ++ rules_text u g.names labels rs) are) p

@@ -1,4 +1,5 @@
 -- What is read of a file without a fault is the text of some grammar.
+use Rattle.tib_cost.specs.declared.Scale.{Scale}
 use Rattle.std.proofs.Common.{◌≡◌, ℕ, ◌⊎◌, inl, inr, Bool, true, false, List, [], ◌∷◌, ◌++◌, map, refl, ap, sym, ◌∙◌, subst, Option}
 use Rattle.std.specs.Prelude.{Some, None, Result, Ok, Err, slice_get}
 use Rattle.std.proofs.lemmas.Option.{slice_get-get_or}
@@ -106,22 +107,22 @@ all_distinct : (before texts now : List (List ℕ)) → AddsAll before texts now
 all_distinct before [] now same d = subst (λ (ts : List (List ℕ)). Distinct ts) (sym same) d
 all_distinct before (text ∷ texts) now (middle, adds, more) d = all_distinct middle texts now more (one_distinct before text middle adds d)
 
-some_text : (weighted : Bool) (bytes start : List ℕ) (lines : List RuleLine) → grammar_of weighted bytes ≡ Ok (start, lines) → IsSomeText weighted bytes
+some_text : (scale : Scale) (bytes start : List ℕ) (lines : List RuleLine) → grammar_of scale bytes ≡ Ok (start, lines) → IsSomeText scale bytes
 unfolding grammar_of
-some_text weighted bytes start lines e =
-    let b = begun_back weighted 1 (lines_of bytes) start lines e in
+some_text scale bytes start lines e =
+    let b = begun_back scale 1 (lines_of bytes) start lines e in
     let n = gathered [] (start ∷ map left_of lines) in
     let l = gathered [] (texts_of lines) in
-    let rs = some_rules n.0 l.0 lines (all_small weighted b.rows lines b.are b.few)
+    let rs = some_rules n.0 l.0 lines (all_small scale b.rows lines b.are b.few)
     (each_left n.0 lines (λ t h. all_added [] (start ∷ map left_of lines) n.0 n.1 t (inr h)))
     (each_line l.0 lines (all_added [] (texts_of lines) l.0 l.1)) in
     let g : GrammarOf = record { names = n.0; rules = rs.0 } in
     let is : IsGrammarOf l.0 g start lines = record { names = n.1; rules = rs.1 } in
-    (l.0, g, all_distinct [] (texts_of lines) l.0 l.1 tt, record { text = text_back weighted l.0 bytes g start lines e is; small = small_back weighted l.0 bytes g start lines e is })
+    (l.0, g, all_distinct [] (texts_of lines) l.0 l.1 tt, record { text = text_back scale l.0 bytes g start lines e is; small = small_back scale l.0 bytes g start lines e is })
 
-pub text_or_fault : (weighted : Bool) (bytes : List ℕ) → IsSomeText weighted bytes ⊎ ((fault : FileFault) × IsFirstFault weighted bytes fault)
-text_or_fault weighted bytes = by (grammar_of weighted bytes) refl
+pub text_or_fault : (scale : Scale) (bytes : List ℕ) → IsSomeText scale bytes ⊎ ((fault : FileFault) × IsFirstFault scale bytes fault)
+text_or_fault scale bytes = by (grammar_of scale bytes) refl
   where
-    by : (r : Result (List ℕ × List RuleLine) FileFault) → grammar_of weighted bytes ≡ r → IsSomeText weighted bytes ⊎ ((fault : FileFault) × IsFirstFault weighted bytes fault)
-    by (Ok p) e = inl (some_text weighted bytes p.0 p.1 e)
-    by (Err fault) e = inr (fault, (faults_exact weighted bytes fault).0 e)
+    by : (r : Result (List ℕ × List RuleLine) FileFault) → grammar_of scale bytes ≡ r → IsSomeText scale bytes ⊎ ((fault : FileFault) × IsFirstFault scale bytes fault)
+    by (Ok p) e = inl (some_text scale bytes p.0 p.1 e)
+    by (Err fault) e = inr (fault, (faults_exact scale bytes fault).0 e)

@@ -1,4 +1,5 @@
 -- The grammar that is read is the one whose text the bytes are.
+use Rattle.tib_cost.specs.declared.Scale.{Scale}
 use Rattle.std.proofs.Common.{◌≡◌, ℕ, ◌+◌, ◌<◌, ◌≤◌, inl, inr, List, [], ◌∷◌, ◌++◌, length, length-append, take, refl, ap, sym, ◌∙◌, subst, arith, Bool, true, false, zero, suc}
 use Rattle.std.specs.Prelude.{Result, Err, slice_get, Some, Ok, map, Contains, cond, ◌==◌}
 use Rattle.std.proofs.lemmas.List.{length-map, map-append, take_more, take_all}
@@ -37,8 +38,8 @@ use Rattle.tib_grammar_file.proofs.RowsRead.{IsRow, IsFew, begun_back, begun_for
 use Rattle.tib_grammar_file.proofs.WholeWeights.{cost_back, cost_forth}
 
 -- a rule that stands for a line is spelled by its tokens
-rule_spelled : (weighted : Bool) (names labels : List (List ℕ)) (words : List Word) (line : RuleLine) (rule : Rule ℕ) → IsRow weighted words line → IsRule names labels rule line → SpellsRuleOf weighted names labels words rule
-rule_spelled weighted names labels words line rule row is = record {
+rule_spelled : (scale : Scale) (names labels : List (List ℕ)) (words : List Word) (line : RuleLine) (rule : Rule ℕ) → IsRow scale words line → IsRule names labels rule line → SpellsRuleOf scale names labels words rule
+rule_spelled scale names labels words line rule row is = record {
   left = line.left;
   right = row.spelled.tree;
   weight = row.weight;
@@ -46,31 +47,31 @@ rule_spelled weighted names labels words line rule row is = record {
   plain = row.spelled.plain;
   left_is = is.left;
   right_is = side_means names labels row.spelled.tree rule.right (subst (λ (is : List Item). Along (IsNode names labels) (preorder_of rule.right) is) (sym row.spelled.nodes) is.right);
-  cost_is = cost_back weighted row.weight rule.cost (row.cost ∙ ap (λ k. Ok k) (sym is.cost));
+  cost_is = cost_back scale row.weight rule.cost (row.cost ∙ ap (λ k. Ok k) (sym is.cost));
 }
 
-rules_spelled : (weighted : Bool) (names labels : List (List ℕ)) (rows : List (List Word)) (lines : List RuleLine) (rules : List (Rule ℕ)) → Along (IsRow weighted) rows lines → Along (IsRule names labels) rules lines → Along (SpellsRuleOf weighted names labels) rows rules
-rules_spelled weighted names labels [] [] [] a b = tt
-rules_spelled weighted names labels [] [] (r ∷ rules) a b = absurd b
-rules_spelled weighted names labels [] (l ∷ lines) rules a b = absurd a
-rules_spelled weighted names labels (w ∷ rows) [] rules a b = absurd a
-rules_spelled weighted names labels (w ∷ rows) (l ∷ lines) [] a b = absurd b
-rules_spelled weighted names labels (w ∷ rows) (l ∷ lines) (r ∷ rules) a b =
-    (rule_spelled weighted names labels w l r a.0 b.0, rules_spelled weighted names labels rows lines rules a.1 b.1)
+rules_spelled : (scale : Scale) (names labels : List (List ℕ)) (rows : List (List Word)) (lines : List RuleLine) (rules : List (Rule ℕ)) → Along (IsRow scale) rows lines → Along (IsRule names labels) rules lines → Along (SpellsRuleOf scale names labels) rows rules
+rules_spelled scale names labels [] [] [] a b = tt
+rules_spelled scale names labels [] [] (r ∷ rules) a b = absurd b
+rules_spelled scale names labels [] (l ∷ lines) rules a b = absurd a
+rules_spelled scale names labels (w ∷ rows) [] rules a b = absurd a
+rules_spelled scale names labels (w ∷ rows) (l ∷ lines) [] a b = absurd b
+rules_spelled scale names labels (w ∷ rows) (l ∷ lines) (r ∷ rules) a b =
+    (rule_spelled scale names labels w l r a.0 b.0, rules_spelled scale names labels rows lines rules a.1 b.1)
 
-lefts_same : (weighted : Bool) (rows : List (List Word)) (lines : List RuleLine) → Along (IsRow weighted) rows lines → map left_of lines ≡ map first_text rows
-lefts_same weighted [] [] a = refl
-lefts_same weighted [] (l ∷ lines) a = absurd a
-lefts_same weighted (w ∷ rows) [] a = absurd a
-lefts_same weighted (w ∷ rows) (l ∷ lines) a =
+lefts_same : (scale : Scale) (rows : List (List Word)) (lines : List RuleLine) → Along (IsRow scale) rows lines → map left_of lines ≡ map first_text rows
+lefts_same scale [] [] a = refl
+lefts_same scale [] (l ∷ lines) a = absurd a
+lefts_same scale (w ∷ rows) [] a = absurd a
+lefts_same scale (w ∷ rows) (l ∷ lines) a =
     ap (λ (t : List ℕ). t ∷ map left_of lines) (ap first_text a.0.spelled.spelled)
-    ∙ ap (λ (ts : List (List ℕ)). first_text w ∷ ts) (lefts_same weighted rows lines a.1)
+    ∙ ap (λ (ts : List (List ℕ)). first_text w ∷ ts) (lefts_same scale rows lines a.1)
 
 -- what is read is the text of the grammar that stands for it
-pub text_back : (weighted : Bool) (labels : List (List ℕ)) (bytes : List ℕ) (g : GrammarOf) (start : List ℕ) (lines : List RuleLine) → grammar_of weighted bytes ≡ Ok (start, lines) → IsGrammarOf labels g start lines → GrammarText weighted labels bytes g
+pub text_back : (scale : Scale) (labels : List (List ℕ)) (bytes : List ℕ) (g : GrammarOf) (start : List ℕ) (lines : List RuleLine) → grammar_of scale bytes ≡ Ok (start, lines) → IsGrammarOf labels g start lines → GrammarText scale labels bytes g
 unfolding grammar_of
-text_back weighted labels bytes g start lines e is =
-    let b = begun_back weighted 1 (lines_of bytes) start lines e in
+text_back scale labels bytes g start lines e is =
+    let b = begun_back scale 1 (lines_of bytes) start lines e in
     record {
       lines = lines_of bytes;
       start = start;
@@ -78,8 +79,8 @@ text_back weighted labels bytes g start lines e is =
       lines_are = (lines_split (lines_of bytes) bytes).1 refl;
       tokens = b.tokens;
       plain = b.plain;
-      states = subst (λ (ts : List (List ℕ)). AddsAll [] (start ∷ ts) g.names) (lefts_same weighted b.rows lines b.are) is.names;
-      rules = rules_spelled weighted g.names labels b.rows lines g.rules b.are is.rules;
+      states = subst (λ (ts : List (List ℕ)). AddsAll [] (start ∷ ts) g.names) (lefts_same scale b.rows lines b.are) is.names;
+      rules = rules_spelled scale g.names labels b.rows lines g.rules b.are is.rules;
     }
 
 few_small : (names labels : List (List ℕ)) (rules : List (Rule ℕ)) (lines : List RuleLine) → Along (IsRule names labels) rules lines → Each IsFew lines → AreSmallRules rules
@@ -89,58 +90,58 @@ few_small names labels (r ∷ rules) [] a f = absurd a
 few_small names labels (r ∷ rules) (l ∷ lines) a f =
     (omega (arith, along_long (IsNode names labels) (preorder_of r.right) l.nodes a.0.right, f.0), few_small names labels rules lines a.1 f.1)
 
-pub small_back : (weighted : Bool) (labels : List (List ℕ)) (bytes : List ℕ) (g : GrammarOf) (start : List ℕ) (lines : List RuleLine) → grammar_of weighted bytes ≡ Ok (start, lines) → IsGrammarOf labels g start lines → AreSmallRules g.rules
+pub small_back : (scale : Scale) (labels : List (List ℕ)) (bytes : List ℕ) (g : GrammarOf) (start : List ℕ) (lines : List RuleLine) → grammar_of scale bytes ≡ Ok (start, lines) → IsGrammarOf labels g start lines → AreSmallRules g.rules
 unfolding grammar_of
-small_back weighted labels bytes g start lines e is =
-    few_small g.names labels g.rules lines is.rules (begun_back weighted 1 (lines_of bytes) start lines e).few
+small_back scale labels bytes g start lines e is =
+    few_small g.names labels g.rules lines is.rules (begun_back scale 1 (lines_of bytes) start lines e).few
 
 -- the lines that rules stand for
-record Lines (weighted : Bool) (names labels : List (List ℕ)) (rows : List (List Word)) (rules : List (Rule ℕ)) : Type 0 where
+record Lines (scale : Scale) (names labels : List (List ℕ)) (rows : List (List Word)) (rules : List (Rule ℕ)) : Type 0 where
   pub lines : List RuleLine
-  pub are : Along (IsRow weighted) rows lines
+  pub are : Along (IsRow scale) rows lines
   pub rules_are : Along (IsRule names labels) rules lines
   pub few : Each IsFew lines
 
-one_line : (weighted : Bool) (names labels : List (List ℕ)) (words : List Word) (rule : Rule ℕ) → SpellsRuleOf weighted names labels words rule → IsSmallRule rule → (line : RuleLine) × IsRow weighted words line × IsRule names labels rule line × IsFew line
-one_line weighted names labels words rule s small =
+one_line : (scale : Scale) (names labels : List (List ℕ)) (words : List Word) (rule : Rule ℕ) → SpellsRuleOf scale names labels words rule → IsSmallRule rule → (line : RuleLine) × IsRow scale words line × IsRule names labels rule line × IsFew line
+one_line scale names labels words rule s small =
     let nodes : Along (IsNode names labels) (preorder_of rule.right) (items s.right) = meant_side names labels s.right rule.right s.right_is in (
       rule_line_of s.left (items s.right) rule.cost,
       record {
         weight = s.weight;
         spelled = record { plain = s.plain; tree = s.right; one = sym (meant_count names labels (only rule.right) s.right s.right_is); nodes = refl; spelled = s.words_are };
-        cost = cost_forth weighted s.weight rule.cost s.cost_is;
+        cost = cost_forth scale s.weight rule.cost s.cost_is;
       },
       record { left = s.left_is; right = nodes; cost = refl },
       omega (arith, along_long (IsNode names labels) (preorder_of rule.right) (items s.right) nodes, small),
     )
 
-all_lines : (weighted : Bool) (names labels : List (List ℕ)) (rows : List (List Word)) (rules : List (Rule ℕ)) → Along (SpellsRuleOf weighted names labels) rows rules → AreSmallRules rules → Lines weighted names labels rows rules
-all_lines weighted names labels [] [] a s = record { lines = []; are = tt; rules_are = tt; few = tt }
-all_lines weighted names labels [] (r ∷ rules) a s = absurd a
-all_lines weighted names labels (w ∷ rows) [] a s = absurd a
-all_lines weighted names labels (w ∷ rows) (r ∷ rules) a s =
-    let one = one_line weighted names labels w r a.0 s.0 in
-    let more = all_lines weighted names labels rows rules a.1 s.1 in
+all_lines : (scale : Scale) (names labels : List (List ℕ)) (rows : List (List Word)) (rules : List (Rule ℕ)) → Along (SpellsRuleOf scale names labels) rows rules → AreSmallRules rules → Lines scale names labels rows rules
+all_lines scale names labels [] [] a s = record { lines = []; are = tt; rules_are = tt; few = tt }
+all_lines scale names labels [] (r ∷ rules) a s = absurd a
+all_lines scale names labels (w ∷ rows) [] a s = absurd a
+all_lines scale names labels (w ∷ rows) (r ∷ rules) a s =
+    let one = one_line scale names labels w r a.0 s.0 in
+    let more = all_lines scale names labels rows rules a.1 s.1 in
     record { lines = one.0 ∷ more.lines; are = (one.1, more.are); rules_are = (one.2, more.rules_are); few = (one.3, more.few) }
 
 -- a grammar within the limit is read of its text
-pub record IsReadAs (weighted : Bool) (labels : List (List ℕ)) (bytes : List ℕ) (g : GrammarOf) : Type 0 where
+pub record IsReadAs (scale : Scale) (labels : List (List ℕ)) (bytes : List ℕ) (g : GrammarOf) : Type 0 where
   pub start : List ℕ
   pub lines : List RuleLine
-  pub read : grammar_of weighted bytes ≡ Ok (start, lines)
+  pub read : grammar_of scale bytes ≡ Ok (start, lines)
   pub is : IsGrammarOf labels g start lines
 
-pub text_forth : (weighted : Bool) (labels : List (List ℕ)) (bytes : List ℕ) (g : GrammarOf) → GrammarText weighted labels bytes g → AreSmallRules g.rules → IsReadAs weighted labels bytes g
+pub text_forth : (scale : Scale) (labels : List (List ℕ)) (bytes : List ℕ) (g : GrammarOf) → GrammarText scale labels bytes g → AreSmallRules g.rules → IsReadAs scale labels bytes g
 unfolding grammar_of
-text_forth weighted labels bytes g t s =
-    let l = all_lines weighted g.names labels t.rows g.rules t.rules s in
+text_forth scale labels bytes g t s =
+    let l = all_lines scale g.names labels t.rows g.rules t.rules s in
     let same : lines_of bytes ≡ t.lines = lines_read t.lines bytes t.lines_are in
     record {
       start = t.start;
       lines = l.lines;
-      read = begun_forth weighted 1 (lines_of bytes) t.start t.rows l.lines (subst (λ (ls : List (List ℕ)). HaveTokens ls ((name t.start ∷ []) ∷ t.rows)) (sym same) t.tokens) t.plain l.are l.few;
+      read = begun_forth scale 1 (lines_of bytes) t.start t.rows l.lines (subst (λ (ls : List (List ℕ)). HaveTokens ls ((name t.start ∷ []) ∷ t.rows)) (sym same) t.tokens) t.plain l.are l.few;
       is = record {
-        names = subst (λ (ts : List (List ℕ)). AddsAll [] (t.start ∷ ts) g.names) (sym (lefts_same weighted t.rows l.lines l.are)) t.states;
+        names = subst (λ (ts : List (List ℕ)). AddsAll [] (t.start ∷ ts) g.names) (sym (lefts_same scale t.rows l.lines l.are)) t.states;
         rules = l.rules_are;
       };
     }
@@ -156,15 +157,15 @@ first_words (line ∷ lines) rows (inl (blank, t)) = first_words lines rows t
 first_words (line ∷ lines) rows (inr (word, words, more, has, e, t)) =
     subst (λ (rs : List (List Word)). Each FirstIsWord rs) (sym e) (has.are.1.is_word, first_words lines more t)
 
-left_is_name : (weighted : Bool) (words : List Word) (line : RuleLine) → IsRow weighted words line → FirstIsWord words → IsStateName line.left
-left_is_name weighted words line row f =
+left_is_name : (scale : Scale) (words : List Word) (line : RuleLine) → IsRow scale words line → FirstIsWord words → IsStateName line.left
+left_is_name scale words line row f =
     record { is_name = subst (λ (ws : List Word). FirstIsWord ws) (sym row.spelled.spelled) f; no_stop = row.spelled.plain }
 
-lefts_are_names : (weighted : Bool) (rows : List (List Word)) (lines : List RuleLine) → Along (IsRow weighted) rows lines → Each FirstIsWord rows → Each IsStateName (map left_of lines)
-lefts_are_names weighted [] [] a f = tt
-lefts_are_names weighted [] (l ∷ lines) a f = absurd a
-lefts_are_names weighted (w ∷ rows) [] a f = absurd a
-lefts_are_names weighted (w ∷ rows) (l ∷ lines) a f = (left_is_name weighted w l a.0 f.0, lefts_are_names weighted rows lines a.1 f.1)
+lefts_are_names : (scale : Scale) (rows : List (List Word)) (lines : List RuleLine) → Along (IsRow scale) rows lines → Each FirstIsWord rows → Each IsStateName (map left_of lines)
+lefts_are_names scale [] [] a f = tt
+lefts_are_names scale [] (l ∷ lines) a f = absurd a
+lefts_are_names scale (w ∷ rows) [] a f = absurd a
+lefts_are_names scale (w ∷ rows) (l ∷ lines) a f = (left_is_name scale w l a.0 f.0, lefts_are_names scale rows lines a.1 f.1)
 
 has_contains : (xs : List (List ℕ)) (x : List ℕ) → Has xs x → Contains xs x
 has_contains xs x h = at_has xs x x h
@@ -180,13 +181,13 @@ all_names before [] now same a e = subst (λ (ts : List (List ℕ)). AreStateNam
 all_names before (text ∷ texts) now (middle, adds, more) a e = all_names middle texts now more (one_name before text middle adds a e.0) e.1
 
 -- the names that were read are state names
-pub names_are : (weighted : Bool) (bytes : List ℕ) (start : List ℕ) (lines : List RuleLine) (names : List (List ℕ)) → grammar_of weighted bytes ≡ Ok (start, lines) → AddsAll [] (start ∷ map left_of lines) names → AreStateNames names
+pub names_are : (scale : Scale) (bytes : List ℕ) (start : List ℕ) (lines : List RuleLine) (names : List (List ℕ)) → grammar_of scale bytes ≡ Ok (start, lines) → AddsAll [] (start ∷ map left_of lines) names → AreStateNames names
 unfolding grammar_of
-names_are weighted bytes start lines names e added =
-    let b = begun_back weighted 1 (lines_of bytes) start lines e in
+names_are scale bytes start lines names e added =
+    let b = begun_back scale 1 (lines_of bytes) start lines e in
     let f = first_words (lines_of bytes) ((name start ∷ []) ∷ b.rows) b.tokens in
     all_names [] (start ∷ map left_of lines) names added (record { each = tt; distinct = tt })
-    (record { is_name = f.0; no_stop = b.plain }, lefts_are_names weighted b.rows lines b.are f.1)
+    (record { is_name = f.0; no_stop = b.plain }, lefts_are_names scale b.rows lines b.are f.1)
 
 some_more : (before : List (List ℕ)) (text : List ℕ) (now : List (List ℕ)) → Adds before text now → (0 < length now) × (length before ≤ length now)
 some_more before text now (inl (held, same)) = (omega (arith, held.1, ap length same), omega (arith, ap length same))
@@ -255,32 +256,32 @@ adds_long : (before texts now : List (List ℕ)) → AddsAll before texts now �
 adds_long before [] now same = omega (arith, ap length same)
 adds_long before (text ∷ texts) now (middle, adds, more) = omega (arith, one_longer before text middle adds, adds_long middle texts now more)
 
-pub all_small : (weighted : Bool) (rows : List (List Word)) (lines : List RuleLine) → Along (IsRow weighted) rows lines → Each IsFew lines → Each IsSmallTree lines
-all_small weighted [] [] a f = tt
-all_small weighted [] (l ∷ lines) a f = absurd a
-all_small weighted (w ∷ rows) [] a f = absurd a
-all_small weighted (w ∷ rows) (l ∷ lines) a f =
-    (record { tree = record { tree = a.0.spelled.tree; one = a.0.spelled.one; nodes = a.0.spelled.nodes }; few = f.0 }, all_small weighted rows lines a.1 f.1)
+pub all_small : (scale : Scale) (rows : List (List Word)) (lines : List RuleLine) → Along (IsRow scale) rows lines → Each IsFew lines → Each IsSmallTree lines
+all_small scale [] [] a f = tt
+all_small scale [] (l ∷ lines) a f = absurd a
+all_small scale (w ∷ rows) [] a f = absurd a
+all_small scale (w ∷ rows) (l ∷ lines) a f =
+    (record { tree = record { tree = a.0.spelled.tree; one = a.0.spelled.one; nodes = a.0.spelled.nodes }; few = f.0 }, all_small scale rows lines a.1 f.1)
 
 -- what was read makes a grammar
-pub is_source : (weighted : Bool) (bytes : List ℕ) (names texts : List (List ℕ)) (raw : RawRules) → length bytes ≤ 8388608 → (r : IsRawGrammar [] names texts raw (grammar_of weighted bytes)) → IsSource names texts raw r.start r.lines
+pub is_source : (scale : Scale) (bytes : List ℕ) (names texts : List (List ℕ)) (raw : RawRules) → length bytes ≤ 8388608 → (r : IsRawGrammar [] names texts raw (grammar_of scale bytes)) → IsSource names texts raw r.start r.lines
 unfolding grammar_of
-is_source weighted bytes names texts raw short r =
-    let b = begun_back weighted 1 (lines_of bytes) r.start r.lines r.read in
+is_source scale bytes names texts raw short r =
+    let b = begun_back scale 1 (lines_of bytes) r.start r.lines r.read in
     let few : suc (length b.rows) ≤ length (lines_of bytes) = rows_long (lines_of bytes) ((name r.start ∷ []) ∷ b.rows) b.tokens in
-    let long : length b.rows ≡ length r.lines = along_long (IsRow weighted) b.rows r.lines b.are in
+    let long : length b.rows ≡ length r.lines = along_long (IsRow scale) b.rows r.lines b.are in
     record {
       added = r.added;
-      sound = names_are weighted bytes r.start r.lines names r.read r.added;
-      raw_is = record { rules = r.rules_are; trees = all_small weighted b.rows r.lines b.are b.few };
+      sound = names_are scale bytes r.start r.lines names r.read r.added;
+      raw_is = record { rules = r.rules_are; trees = all_small scale b.rows r.lines b.are b.few };
       few_names = omega (arith, adds_long [] (r.start ∷ map left_of r.lines) names r.added, length-map r.lines left_of, few, long, lines_long bytes);
       few_rules = omega (arith, few, long, lines_long bytes);
     }
 
-pub reads_as : (weighted : Bool) (labels : List (List ℕ)) (bytes : List ℕ) (names texts : List (List ℕ)) (raw : RawRules) (g : GrammarOf) → length bytes ≤ 8388608 → IsRawGrammar [] names texts raw (grammar_of weighted bytes) → ((start : List ℕ) (lines : List RuleLine) → IsSource names texts raw start lines → IsGrammarOf labels g start lines) → ReadsAs weighted labels bytes g
-reads_as weighted labels bytes names texts raw g short r all =
-    let is = all r.start r.lines (is_source weighted bytes names texts raw short r) in
-    record { text = text_back weighted labels bytes g r.start r.lines r.read is; small = small_back weighted labels bytes g r.start r.lines r.read is }
+pub reads_as : (scale : Scale) (labels : List (List ℕ)) (bytes : List ℕ) (names texts : List (List ℕ)) (raw : RawRules) (g : GrammarOf) → length bytes ≤ 8388608 → IsRawGrammar [] names texts raw (grammar_of scale bytes) → ((start : List ℕ) (lines : List RuleLine) → IsSource names texts raw start lines → IsGrammarOf labels g start lines) → ReadsAs scale labels bytes g
+reads_as scale labels bytes names texts raw g short r all =
+    let is = all r.start r.lines (is_source scale bytes names texts raw short r) in
+    record { text = text_back scale labels bytes g r.start r.lines r.read is; small = small_back scale labels bytes g r.start r.lines r.read is }
 
 -- the texts of a table, one after another
 pub texts_start : (names : List (List ℕ)) (texts : List (Vec ℕ)) → texts ≡ [] → map (λ t. t.items) texts ≡ take 0 names
@@ -313,17 +314,17 @@ built names texts labels states raw start lines rules g s same n r are =
       rules = subst (λ (rs : List (Rule ℕ)). Along (IsRule g.names labels) rs lines) (sym r) (subst (λ (ts : List (List ℕ)). Along (IsRule ts labels) rules lines) (sym e) are);
     }
 
-pub raw_from : (weighted : Bool) (bytes : List ℕ) (before names texts : List (List ℕ)) (raw : RawRules) → before ≡ [] → IsRawGrammar before names texts raw (grammar_of weighted bytes) → IsRawGrammar [] names texts raw (grammar_of weighted bytes)
-raw_from weighted bytes before names texts raw e r = subst (λ (b : List (List ℕ)). IsRawGrammar b names texts raw (grammar_of weighted bytes)) e r
+pub raw_from : (scale : Scale) (bytes : List ℕ) (before names texts : List (List ℕ)) (raw : RawRules) → before ≡ [] → IsRawGrammar before names texts raw (grammar_of scale bytes) → IsRawGrammar [] names texts raw (grammar_of scale bytes)
+raw_from scale bytes before names texts raw e r = subst (λ (b : List (List ℕ)). IsRawGrammar b names texts raw (grammar_of scale bytes)) e r
 
-pub source_of : (weighted : Bool) (bytes : List ℕ) (before names texts : List (List ℕ)) (raw : RawRules) → length bytes ≤ 8388608 → before ≡ [] → IsRawGrammar before names texts raw (grammar_of weighted bytes) → (start : List ℕ) × (lines : List RuleLine) × IsSource names texts raw start lines
-source_of weighted bytes before names texts raw short e r =
-    let f = raw_from weighted bytes before names texts raw e r in
-    (f.start, f.lines, is_source weighted bytes names texts raw short f)
+pub source_of : (scale : Scale) (bytes : List ℕ) (before names texts : List (List ℕ)) (raw : RawRules) → length bytes ≤ 8388608 → before ≡ [] → IsRawGrammar before names texts raw (grammar_of scale bytes) → (start : List ℕ) × (lines : List RuleLine) × IsSource names texts raw start lines
+source_of scale bytes before names texts raw short e r =
+    let f = raw_from scale bytes before names texts raw e r in
+    (f.start, f.lines, is_source scale bytes names texts raw short f)
 
-pub read_as : (w v : Bool) (labels : List (List ℕ)) (bytes : List ℕ) (before names texts : List (List ℕ)) (raw : RawRules) (g : GrammarOf) → v ≡ w → before ≡ [] → length bytes ≤ 8388608 → IsRawGrammar before names texts raw (grammar_of v bytes) → ((start : List ℕ) (lines : List RuleLine) → IsSource names texts raw start lines → IsGrammarOf labels g start lines) → ReadsAs w labels bytes g
+pub read_as : (w v : Scale) (labels : List (List ℕ)) (bytes : List ℕ) (before names texts : List (List ℕ)) (raw : RawRules) (g : GrammarOf) → v ≡ w → before ≡ [] → length bytes ≤ 8388608 → IsRawGrammar before names texts raw (grammar_of v bytes) → ((start : List ℕ) (lines : List RuleLine) → IsSource names texts raw start lines → IsGrammarOf labels g start lines) → ReadsAs w labels bytes g
 read_as w v labels bytes before names texts raw g same empty short r all =
-    reads_as w labels bytes names texts raw g short (raw_from w bytes before names texts raw empty (subst (λ (x : Bool). IsRawGrammar before names texts raw (grammar_of x bytes)) same r)) all
+    reads_as w labels bytes names texts raw g short (raw_from w bytes before names texts raw empty (subst (λ (x : Scale). IsRawGrammar before names texts raw (grammar_of x bytes)) same r)) all
 
 -- the labels of what is meant are in the table
 means_below : (names labels : List (List ℕ)) (ts : Trees (Symbol ℕ ℕ)) (f : Written) → Means names labels ts f → LabelsBelow (length labels) ts
@@ -336,20 +337,20 @@ means_below names labels (tree (symbol_label g) kids rest) (head quoted text bel
     (slice_get_within labels g text h.0, means_below names labels kids below h.1, means_below names labels rest more h.2)
 means_below names labels (tree (hole q) kids rest) (head quoted text below more) h = absurd h.0
 
-rules_labelled : (weighted : Bool) (names labels : List (List ℕ)) (rows : List (List Word)) (rules : List (Rule ℕ)) → Along (SpellsRuleOf weighted names labels) rows rules → AreLabelled (length labels) rules
-rules_labelled weighted names labels rows [] a m h = absurd (omega arith)
-rules_labelled weighted names labels [] (r ∷ rules) a m h = absurd a
-rules_labelled weighted names labels (w ∷ rows) (r ∷ rules) a zero h = means_below names labels (only r.right) a.0.right a.0.right_is
-rules_labelled weighted names labels (w ∷ rows) (r ∷ rules) a (suc m) h = rules_labelled weighted names labels rows rules a.1 m (omega arith)
+rules_labelled : (scale : Scale) (names labels : List (List ℕ)) (rows : List (List Word)) (rules : List (Rule ℕ)) → Along (SpellsRuleOf scale names labels) rows rules → AreLabelled (length labels) rules
+rules_labelled scale names labels rows [] a m h = absurd (omega arith)
+rules_labelled scale names labels [] (r ∷ rules) a m h = absurd a
+rules_labelled scale names labels (w ∷ rows) (r ∷ rules) a zero h = means_below names labels (only r.right) a.0.right a.0.right_is
+rules_labelled scale names labels (w ∷ rows) (r ∷ rules) a (suc m) h = rules_labelled scale names labels rows rules a.1 m (omega arith)
 
-pub text_labelled : (weighted : Bool) (labels : List (List ℕ)) (bytes : List ℕ) (g : GrammarOf) → ReadsAs weighted labels bytes g → AreLabelled (length labels) g.rules
-text_labelled weighted labels bytes g r = rules_labelled weighted g.names labels r.text.rows g.rules r.text.rules
+pub text_labelled : (scale : Scale) (labels : List (List ℕ)) (bytes : List ℕ) (g : GrammarOf) → ReadsAs scale labels bytes g → AreLabelled (length labels) g.rules
+text_labelled scale labels bytes g r = rules_labelled scale g.names labels r.text.rows g.rules r.text.rules
 
 -- a file with a fault is no grammar's text
 ok_or_err : (p : List ℕ × List RuleLine) (f : FileFault) → (let r : Result (List ℕ × List RuleLine) FileFault = Err f in r ≡ Ok p) → ⊥
 ok_or_err p f e = cc
 
-pub no_text : (weighted : Bool) (bytes : List ℕ) (fault : FileFault) → IsFirstFault weighted bytes fault → (labels : List (List ℕ)) (g : GrammarOf) → ReadsAs weighted labels bytes g → ⊥
-no_text weighted bytes fault h labels g r =
-    let t = text_forth weighted labels bytes g r.text r.small in
-    ok_or_err (t.start, t.lines) fault (sym ((faults_exact weighted bytes fault).1 h) ∙ t.read)
+pub no_text : (scale : Scale) (bytes : List ℕ) (fault : FileFault) → IsFirstFault scale bytes fault → (labels : List (List ℕ)) (g : GrammarOf) → ReadsAs scale labels bytes g → ⊥
+no_text scale bytes fault h labels g r =
+    let t = text_forth scale labels bytes g r.text r.small in
+    ok_or_err (t.start, t.lines) fault (sym ((faults_exact scale bytes fault).1 h) ∙ t.read)

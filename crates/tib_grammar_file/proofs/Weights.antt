@@ -5,6 +5,8 @@ use Rattle.std.specs.List.{list_all}
 use Rattle.std.proofs.lemmas.List.{drop_all}
 use Rattle.std.proofs.lemmas.Bool.Decides.{nat_tests}
 use Rattle.tib_cost.specs.Semiring.{cut}
+use Rattle.tib_cost.specs.Scale.{is_weighted, cost_in}
+use Rattle.tib_cost.specs.declared.Scale.{Scale}
 use Rattle.tib_grammar_file.specs.Weight.{is_digit, is_zero_digit, whole_from, whole, small, cost_of}
 use Rattle.tib_lex.specs.declared.fault.FaultKind.{FaultKind}
 use Rattle.tib_lex.specs.declared.fault.FaultKind.TheVariants as kinds
@@ -42,17 +44,17 @@ pub not_whole : (text : List ℕ) → 0 < length text → is_digit (get_or text 
 not_whole [] h e = refl
 not_whole (b ∷ rest) h e = rw e refl
 
-pub cost_free : (w : Bool) (text : List ℕ) → w ≡ false → Ok 0 ≡ cost_of w (Some text)
+pub cost_free : (w : Scale) (text : List ℕ) → is_weighted w ≡ false → Ok 0 ≡ cost_of w (Some text)
 unfolding cost_of
 cost_free w text e = rw e refl
 
-weighed : (w : Bool) (text : List ℕ) (r : Result ℕ FaultKind) → w ≡ true → r ≡ small (whole text) → r ≡ cost_of w (Some text)
+weighed : (w : Scale) (text : List ℕ) (r : Result ℕ FaultKind) → is_weighted w ≡ true → r ≡ small w (whole text) → r ≡ cost_of w (Some text)
 unfolding cost_of
 weighed w text r e h = rw e h
 
-none_small : (o : Option ℕ) → None ≡ option_map (λ n. min n 1000000000000001) o → Err kinds.NotWhole ≡ small o
-none_small None e = refl
-none_small (Some m) e = let bad : None ≡ Some (min m 1000000000000001) = e in cc
+none_small : (w : Scale) (o : Option ℕ) → None ≡ option_map (λ n. min n 1000000000000001) o → Err kinds.NotWhole ≡ small w o
+none_small w None e = refl
+none_small w (Some m) e = let bad : None ≡ Some (min m 1000000000000001) = e in cc
 
 below : (n m : ℕ) → n ≡ min m 1000000000000001 → n < 1000000000000001 → nat_lt 1000000000000000 m ≡ false
 below n m e h = grind (arith, nat_tests)
@@ -60,26 +62,26 @@ below n m e h = grind (arith, nat_tests)
 above : (n m : ℕ) → n ≡ min m 1000000000000001 → 1000000000000001 ≤ n → nat_lt 1000000000000000 m ≡ true
 above n m e h = grind (arith, nat_tests)
 
-some_small : (n : ℕ) (o : Option ℕ) → Some n ≡ option_map (λ n. min n 1000000000000001) o → n < 1000000000000001 → Ok n ≡ small o
-some_small n None e h = let bad : Some n ≡ None = e in cc
-some_small n (Some m) e h =
+some_small : (w : Scale) (n : ℕ) (o : Option ℕ) → Some n ≡ option_map (λ n. min n 1000000000000001) o → n < 1000000000000001 → Ok (cost_in w n) ≡ small w o
+some_small w n None e h = let bad : Some n ≡ None = e in cc
+some_small w n (Some m) e h =
     let s : n ≡ min m 1000000000000001 = cc in
-    rw (below n m s h) (ap (λ k. Ok k) (omega (arith, s)))
+    rw (below n m s h) (ap (λ k. Ok (cost_in w k)) (omega (arith, s)))
 
-some_large : (n : ℕ) (o : Option ℕ) → Some n ≡ option_map (λ n. min n 1000000000000001) o → 1000000000000001 ≤ n → Err kinds.WeightTooLarge ≡ small o
-some_large n None e h = let bad : Some n ≡ None = e in cc
-some_large n (Some m) e h =
+some_large : (w : Scale) (n : ℕ) (o : Option ℕ) → Some n ≡ option_map (λ n. min n 1000000000000001) o → 1000000000000001 ≤ n → Err kinds.WeightTooLarge ≡ small w o
+some_large w n None e h = let bad : Some n ≡ None = e in cc
+some_large w n (Some m) e h =
     let s : n ≡ min m 1000000000000001 = cc in
     rw (above n m s h) refl
 
-pub cost_none : (w : Bool) (text : List ℕ) → w ≡ true → None ≡ option_map (λ n. min n 1000000000000001) (whole text) → Err kinds.NotWhole ≡ cost_of w (Some text)
-cost_none w text e h = weighed w text _ e (none_small (whole text) h)
+pub cost_none : (w : Scale) (text : List ℕ) → is_weighted w ≡ true → None ≡ option_map (λ n. min n 1000000000000001) (whole text) → Err kinds.NotWhole ≡ cost_of w (Some text)
+cost_none w text e h = weighed w text _ e (none_small w (whole text) h)
 
-cost_some : (w : Bool) (text : List ℕ) (n : ℕ) → w ≡ true → Some n ≡ option_map (λ n. min n 1000000000000001) (whole text) → n < 1000000000000001 → Ok n ≡ cost_of w (Some text)
-cost_some w text n e h k = weighed w text _ e (some_small n (whole text) h k)
+cost_some : (w : Scale) (text : List ℕ) (n : ℕ) → is_weighted w ≡ true → Some n ≡ option_map (λ n. min n 1000000000000001) (whole text) → n < 1000000000000001 → Ok (cost_in w n) ≡ cost_of w (Some text)
+cost_some w text n e h k = weighed w text _ e (some_small w n (whole text) h k)
 
-cost_large : (w : Bool) (text : List ℕ) (n : ℕ) → w ≡ true → Some n ≡ option_map (λ n. min n 1000000000000001) (whole text) → 1000000000000001 ≤ n → Err kinds.WeightTooLarge ≡ cost_of w (Some text)
-cost_large w text n e h k = weighed w text _ e (some_large n (whole text) h k)
+cost_large : (w : Scale) (text : List ℕ) (n : ℕ) → is_weighted w ≡ true → Some n ≡ option_map (λ n. min n 1000000000000001) (whole text) → 1000000000000001 ≤ n → Err kinds.WeightTooLarge ≡ cost_of w (Some text)
+cost_large w text n e h k = weighed w text _ e (some_large w n (whole text) h k)
 
 cut_some : (b : Bool) (n c : ℕ) → cond b (Some n) None ≡ Some c → (b ≡ true) × (n ≡ c)
 cut_some true n c e = (refl, cc)
@@ -89,15 +91,15 @@ cut_none : (b : Bool) (n : ℕ) → cond b (Some n) None ≡ None → b ≡ fals
 cut_none true n e = let bad : Some n ≡ None = e in cc
 cut_none false n e = refl
 
-pub cost_made : (w : Bool) (text : List ℕ) (n c : ℕ) (r : Option ℕ) → w ≡ true → Some n ≡ option_map (λ n. min n 1000000000000001) (whole text) → r ≡ cut n → r ≡ Some c → Ok c ≡ cost_of w (Some text)
+pub cost_made : (w : Scale) (text : List ℕ) (n c : ℕ) (r : Option ℕ) → is_weighted w ≡ true → Some n ≡ option_map (λ n. min n 1000000000000001) (whole text) → r ≡ cut n → r ≡ Some c → Ok (cost_in w c) ≡ cost_of w (Some text)
 cost_made w text n c r e h k is =
     let b = cut_some (nat_le n 1000000000000000) n c (sym k ∙ is) in
     let t : nat_le n 1000000000000000 ≡ true = b.0 in
     let same : n ≡ c = b.1 in
     let m : n < 1000000000000001 = grind (arith, nat_tests) in
-    ap (λ (x : ℕ). Ok x) (sym same) ∙ cost_some w text n e h m
+    ap (λ (x : ℕ). Ok (cost_in w x)) (sym same) ∙ cost_some w text n e h m
 
-pub cost_over : (w : Bool) (text : List ℕ) (n : ℕ) (r : Option ℕ) → w ≡ true → Some n ≡ option_map (λ n. min n 1000000000000001) (whole text) → r ≡ cut n → r ≡ None → Err kinds.WeightTooLarge ≡ cost_of w (Some text)
+pub cost_over : (w : Scale) (text : List ℕ) (n : ℕ) (r : Option ℕ) → is_weighted w ≡ true → Some n ≡ option_map (λ n. min n 1000000000000001) (whole text) → r ≡ cut n → r ≡ None → Err kinds.WeightTooLarge ≡ cost_of w (Some text)
 cost_over w text n r e h k is =
     let t : nat_le n 1000000000000000 ≡ false = cut_none (nat_le n 1000000000000000) n (sym k ∙ is) in
     let m : 1000000000000001 ≤ n = grind (arith, nat_tests) in

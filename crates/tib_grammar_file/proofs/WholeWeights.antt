@@ -1,11 +1,14 @@
 -- A weight that is read is a whole weight of the format.
+use Rattle.tib_cost.specs.Scale.{cost_in}
+use Rattle.tib_cost.specs.declared.Scale.TheVariants as scales
+use Rattle.tib_cost.specs.declared.Scale.{Scale}
 use Rattle.std.proofs.Common.{◌≡◌, ℕ, ◌+◌, ◌-◌, ◌*◌, ◌<◌, ◌≤◌, ◌⊎◌, inl, inr, List, [], ◌∷◌, ◌++◌, length, refl, ap, sym, ◌∙◌, subst, arith, Option, Bool, true, false, cond}
 use Rattle.std.specs.Prelude.{Some, None, Result, Ok, Err, nat_lt, ◌==◌, ◌&&◌}
 use Rattle.std.specs.List.{list_all}
 use Rattle.std.proofs.lemmas.Bool.Decides.{nat_tests, eqb_tells}
 use Rattle.tib_lex.specs.declared.fault.FaultKind.{FaultKind}
 use Rattle.tib_lex.specs.declared.fault.FaultKind.TheVariants as kinds
-use Rattle.tib_grammar_file.specs.Weight.{is_digit, is_zero_digit, decimal_from, decimal, behind_digits, AreZeros, IsWhole, IsCostOf, whole_from, whole, small, cost_of, most}
+use Rattle.tib_grammar_file.specs.Weight.{is_digit, is_zero_digit, decimal_from, decimal, behind_digits, AreZeros, IsWhole, IsWeighed, IsCostOf, whole_from, whole, small, cost_of, most}
 
 both : (b : Bool) → (b ≡ true) ⊎ (b ≡ false)
 both true = inl refl
@@ -85,34 +88,39 @@ whole_back (b ∷ rest) n e = by (is_digit b) refl e
           value = s.is ∙ ap (λ (m : ℕ). decimal_from m s.digits) (sym (first_digit b));
         }
 
-small_back : (o : Option ℕ) (c : ℕ) → small o ≡ Ok c → (o ≡ Some c) × (c ≤ most)
-small_back None c e = let bad : Err kinds.NotWhole ≡ Ok c = e in cc
-small_back (Some n) c e = by (nat_lt most n) refl e
+small_back : (scale : Scale) (text : List ℕ) (o : Option ℕ) (c : ℕ) → whole text ≡ o → small scale o ≡ Ok c → IsWeighed scale text c
+small_back scale text None c w e = let bad : Err kinds.NotWhole ≡ Ok c = e in cc
+small_back scale text (Some n) c w e = by (nat_lt most n) refl e
   where
-    by : (b : Bool) → nat_lt most n ≡ b → cond b (Err kinds.WeightTooLarge) (Ok n) ≡ Ok c → (Some n ≡ Some c) × (c ≤ most)
+    by : (b : Bool) → nat_lt most n ≡ b → cond b (Err kinds.WeightTooLarge) (Ok (cost_in scale n)) ≡ Ok c → IsWeighed scale text c
     by true h e = let bad : Err kinds.WeightTooLarge ≡ Ok c = e in cc
     by false h e =
-        let same : n ≡ c = cc in
+        let same : cost_in scale n ≡ c = cc in
         let within : n ≤ most = grind (arith, nat_tests) in
-        (ap Some same, subst (λ (k : ℕ). k ≤ most) same within)
+        record { weight = n; whole = whole_back text n w; within = within; cost_is = sym same }
 
-small_forth : (n : ℕ) → n ≤ most → small (Some n) ≡ Ok n
-small_forth n h = let t : nat_lt most n ≡ false = grind (arith, nat_tests) in rw t refl
+small_forth : (scale : Scale) (n : ℕ) → n ≤ most → small scale (Some n) ≡ Ok (cost_in scale n)
+small_forth scale n h = let t : nat_lt most n ≡ false = grind (arith, nat_tests) in rw t refl
 
 ok_same : (m n : ℕ) → (let r : Result ℕ FaultKind = Ok m in r ≡ Ok n) → n ≡ m
 ok_same m n e = cc
 
-pub cost_back : (weighted : Bool) (weight : Option (List ℕ)) (c : ℕ) → cost_of weighted weight ≡ Ok c → IsCostOf weighted weight c
+pub cost_back : (scale : Scale) (weight : Option (List ℕ)) (c : ℕ) → cost_of scale weight ≡ Ok c → IsCostOf scale weight c
 unfolding cost_of
-cost_back weighted None c e = ok_same 0 c e
-cost_back true (Some text) c e = let s = small_back (whole text) c e in (whole_back text c s.0, s.1)
-cost_back false (Some text) c e = ok_same 0 c e
+cost_back scale None c e = ok_same 0 c e
+cost_back scales.Unweighted (Some text) c e = ok_same 0 c e
+cost_back scales.Plain (Some text) c e = small_back scales.Plain text (whole text) c refl e
+cost_back scales.Reversed (Some text) c e = small_back scales.Reversed text (whole text) c refl e
 
 ok_ap : (m n : ℕ) → m ≡ n → (let r : Result ℕ FaultKind = Ok m in r ≡ Ok n)
 ok_ap m n e = ap (λ k. Ok k) e
 
-pub cost_forth : (weighted : Bool) (weight : Option (List ℕ)) (c : ℕ) → IsCostOf weighted weight c → cost_of weighted weight ≡ Ok c
+weighed_forth : (scale : Scale) (text : List ℕ) (c : ℕ) → IsWeighed scale text c → small scale (whole text) ≡ Ok c
+weighed_forth scale text c h = ap (small scale) (whole_forth text h.weight h.whole) ∙ small_forth scale h.weight h.within ∙ ap (λ k. Ok k) (sym h.cost_is)
+
+pub cost_forth : (scale : Scale) (weight : Option (List ℕ)) (c : ℕ) → IsCostOf scale weight c → cost_of scale weight ≡ Ok c
 unfolding cost_of
-cost_forth weighted None c e = ok_ap 0 c (sym e)
-cost_forth true (Some text) c h = ap small (whole_forth text c h.0) ∙ small_forth c h.1
-cost_forth false (Some text) c e = ok_ap 0 c (sym e)
+cost_forth scale None c e = ok_ap 0 c (sym e)
+cost_forth scales.Unweighted (Some text) c e = ok_ap 0 c (sym e)
+cost_forth scales.Plain (Some text) c h = weighed_forth scales.Plain text c h
+cost_forth scales.Reversed (Some text) c h = weighed_forth scales.Reversed text c h

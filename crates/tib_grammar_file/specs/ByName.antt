@@ -1,4 +1,5 @@
 -- Grammars by the names of their states, and what is printed of them.
+use Rattle.tib_cost.specs.declared.Scale.{Scale}
 use Rattle.std.specs.Prelude.{◌≡◌, ◌<◌, ℕ, Bool, List, [], map, length, Contains}
 use Rattle.std.proofs.Common.{get_or}
 use Rattle.tib_lex.specs.declared.fault.FileFault.{FileFault}
@@ -29,21 +30,21 @@ HaveRules g = (q : ℕ) → 0 < q → q < length g.names → (n : ℕ) × (n < l
 
 -- A grammar that has a text over a table of labels: it is sound, its labels and its costs can be written, and each state
 -- but the start has a rule.
-pub record HasText (weighted : Bool) (labels : List (List ℕ)) (g : GrammarOf) : Type 0 where
+pub record HasText (scale : Scale) (labels : List (List ℕ)) (g : GrammarOf) : Type 0 where
   pub start : 0 < length g.names
   pub names : AreStateNames g.names
   pub range : AreInRange (length g.names) g.rules
   pub leaves : SidesEndInHoles g.rules
   pub lefts : HaveRules g
-  pub printable : ArePrintable weighted labels g.rules
+  pub printable : ArePrintable scale labels g.rules
 
 -- Bytes are the text of the same grammar, states by their names. The reader takes it where no right side has more than 10,000 nodes.
-pub record ReadsBack (weighted : Bool) (labels : List (List ℕ)) (bytes : List ℕ) (g h : GrammarOf) : Type 0 where
-  pub text : GrammarText weighted labels bytes h
+pub record ReadsBack (scale : Scale) (labels : List (List ℕ)) (bytes : List ℕ) (g h : GrammarOf) : Type 0 where
+  pub text : GrammarText scale labels bytes h
   pub same : IsSameByName g h
-  pub read : AreSmallRules g.rules → ReadsAs weighted labels bytes h
-  pub no_fault : AreSmallRules g.rules → (fault : FileFault) → IsFirstFault weighted bytes fault → ⊥
+  pub read : AreSmallRules g.rules → ReadsAs scale labels bytes h
+  pub no_fault : AreSmallRules g.rules → (fault : FileFault) → IsFirstFault scale bytes fault → ⊥
 
 -- what is printed of a grammar that has a text reads back
 abbrev pub PrintsBack : Type 0
-PrintsBack = (weighted : Bool) (labels : List (List ℕ)) (g : GrammarOf) → HasText weighted labels g → (h : GrammarOf) × ReadsBack weighted labels (grammar_text weighted labels g) g h
+PrintsBack = (scale : Scale) (labels : List (List ℕ)) (g : GrammarOf) → HasText scale labels g → (h : GrammarOf) × ReadsBack scale labels (grammar_text scale labels g) g h

@@ -1,4 +1,6 @@
 -- What is wrong with bytes that are no grammar's text, in the words of the format.
+use Rattle.tib_cost.specs.Scale.{is_weighted}
+use Rattle.tib_cost.specs.declared.Scale.{Scale}
 use Rattle.std.specs.Prelude.{◌≡◌, ◌<◌, ◌≤◌, ◌⊎◌, ℕ, Bool, true, false, List, [], ◌∷◌, length, Option, Some, suc}
 use Rattle.tib_lex.specs.Grammar.{Word, name, HasWords, HasBadToken}
 use Rattle.tib_lex.specs.FirstFault.{FirstFault}
@@ -53,41 +55,44 @@ pub record HasNoRule (line : List ℕ) : Type 0 where
   pub none : (rule : Parts) → SpellsRule (word ∷ words) rule → ⊥
 
 -- what is wrong with a weight, where weights are kept
-abbrev pub IsWeightFault : Bool → Option (List ℕ) → FaultKind → Type 0
-IsWeightFault true (Some text) NotWhole = (n : ℕ) → IsWhole text n → ⊥
-IsWeightFault true (Some text) WeightTooLarge = (n : ℕ) × IsWhole text n × (most < n)
-IsWeightFault weighted weight kind = ⊥
+abbrev pub IsFaultIf : Bool → Option (List ℕ) → FaultKind → Type 0
+IsFaultIf true (Some text) NotWhole = (n : ℕ) → IsWhole text n → ⊥
+IsFaultIf true (Some text) WeightTooLarge = (n : ℕ) × IsWhole text n × (most < n)
+IsFaultIf weighted weight kind = ⊥
+
+abbrev pub IsWeightFault : Scale → Option (List ℕ) → FaultKind → Type 0
+IsWeightFault scale weight kind = IsFaultIf (is_weighted scale) weight kind
 
 -- a rule but for its weight
-pub record HasBadWeight (weighted : Bool) (line : List ℕ) (kind : FaultKind) : Type 0 where
+pub record HasBadWeight (scale : Scale) (line : List ℕ) (kind : FaultKind) : Type 0 where
   pub rule : Parts
   pub is : HasRule line rule
-  pub fault : IsWeightFault weighted rule.weight kind
+  pub fault : IsWeightFault scale rule.weight kind
 
 -- a rule with a good weight
-pub record HasGoodWeight (weighted : Bool) (line : List ℕ) (rule : Parts) : Type 0 where
+pub record HasGoodWeight (scale : Scale) (line : List ℕ) (rule : Parts) : Type 0 where
   pub is : HasRule line rule
   pub cost : ℕ
-  pub cost_is : IsCostOf weighted rule.weight cost
+  pub cost_is : IsCostOf scale rule.weight cost
 
 -- what is wrong with a line in a rule's place
-abbrev pub HasRuleFault : Bool → List ℕ → FaultKind → Type 0
-HasRuleFault weighted line BadToken = HasBadToken line
-HasRuleFault weighted line BadRule = HasNoRule line
-HasRuleFault weighted line NotWhole = HasBadWeight weighted line NotWhole
-HasRuleFault weighted line WeightTooLarge = HasBadWeight weighted line WeightTooLarge
-HasRuleFault weighted line TooManyNodes = (rule : Parts) × HasGoodWeight weighted line rule × (most_nodes < length rule.nodes)
-HasRuleFault weighted line kind = ⊥
+abbrev pub HasRuleFault : Scale → List ℕ → FaultKind → Type 0
+HasRuleFault scale line BadToken = HasBadToken line
+HasRuleFault scale line BadRule = HasNoRule line
+HasRuleFault scale line NotWhole = HasBadWeight scale line NotWhole
+HasRuleFault scale line WeightTooLarge = HasBadWeight scale line WeightTooLarge
+HasRuleFault scale line TooManyNodes = (rule : Parts) × HasGoodWeight scale line rule × (most_nodes < length rule.nodes)
+HasRuleFault scale line kind = ⊥
 
 -- what a line in a rule's place may hold: no tokens, or a rule within the limits
-abbrev pub HoldsRule : Bool → List ℕ → Type 0
-HoldsRule weighted line = HasWords [] line ⊎ ((rule : Parts) × HasGoodWeight weighted line rule × (length rule.nodes ≤ most_nodes))
+abbrev pub HoldsRule : Scale → List ℕ → Type 0
+HoldsRule scale line = HasWords [] line ⊎ ((rule : Parts) × HasGoodWeight scale line rule × (length rule.nodes ≤ most_nodes))
 
 -- the first fault of the file
-abbrev pub IsFirstFault : Bool → List ℕ → FileFault → Type 0
-IsFirstFault weighted bytes fault = FirstFaultFromStart (HoldsRule weighted) (HasRuleFault weighted) 1 (lines_of bytes) fault
+abbrev pub IsFirstFault : Scale → List ℕ → FileFault → Type 0
+IsFirstFault scale bytes fault = FirstFaultFromStart (HoldsRule scale) (HasRuleFault scale) 1 (lines_of bytes) fault
 
 -- a fault is the first of the file
-abbrev pub IsCause : Bool → List ℕ → ReadError → Type 0
-IsCause weighted bytes (errors.Fault fault) = IsFirstFault weighted bytes fault
-IsCause weighted bytes errors.OutOfMemory = Unit {0}
+abbrev pub IsCause : Scale → List ℕ → ReadError → Type 0
+IsCause scale bytes (errors.Fault fault) = IsFirstFault scale bytes fault
+IsCause scale bytes errors.OutOfMemory = Unit {0}

@@ -1,4 +1,5 @@
 -- The text of a grammar file, in the words of the format.
+use Rattle.tib_cost.specs.declared.Scale.{Scale}
 use Rattle.std.specs.Prelude.{◌≡◌, ◌≤◌, ℕ, ◌⊎◌, Bool, false, List, [], ◌∷◌, ◌++◌, map, length, Option, Some, slice_get, Contains}
 use Rattle.tib_lex.specs.Grammar.{Word, name, arrow, HasWords}
 use Rattle.tib_lex.specs.Line.{text_of}
@@ -40,7 +41,7 @@ Means names labels (tree s kids rest) (leaf quoted text more) = IsLeaf names lab
 Means names labels (tree s kids rest) (head quoted text below more) = IsHead labels s text × Means names labels kids below × Means names labels rest more
 
 -- A rule line: a name without a full stop, an arrow, one tree, and maybe a hash and a weight. It means a rule.
-pub record SpellsRuleOf (weighted : Bool) (names labels : List (List ℕ)) (words : List Word) (rule : Rule ℕ) : Type 0 where
+pub record SpellsRuleOf (scale : Scale) (names labels : List (List ℕ)) (words : List Word) (rule : Rule ℕ) : Type 0 where
   pub left : List ℕ
   pub right : Written
   pub weight : Option (List ℕ)
@@ -48,7 +49,7 @@ pub record SpellsRuleOf (weighted : Bool) (names labels : List (List ℕ)) (word
   pub plain : has_dot left ≡ false
   pub left_is : slice_get names rule.left ≡ Some left
   pub right_is : Means names labels (only rule.right) right
-  pub cost_is : IsCostOf weighted weight rule.cost
+  pub cost_is : IsCostOf scale weight rule.cost
 
 -- the text of the first token
 abbrev pub first_text : List Word → List ℕ
@@ -57,7 +58,7 @@ first_text (word ∷ words) = text_of word
 
 -- The bytes are the text of a grammar: the lines with tokens are the start line, a name without a full stop, and a line
 -- for each rule. The states are the start and the left states, each once in the order of first sight.
-pub record GrammarText (weighted : Bool) (labels : List (List ℕ)) (bytes : List ℕ) (g : GrammarOf) : Type 0 where
+pub record GrammarText (scale : Scale) (labels : List (List ℕ)) (bytes : List ℕ) (g : GrammarOf) : Type 0 where
   pub lines : List (List ℕ)
   pub start : List ℕ
   pub rows : List (List Word)
@@ -65,7 +66,7 @@ pub record GrammarText (weighted : Bool) (labels : List (List ℕ)) (bytes : Lis
   pub tokens : HaveTokens lines ((name start ∷ []) ∷ rows)
   pub plain : has_dot start ≡ false
   pub states : AddsAll [] (start ∷ map first_text rows) g.names
-  pub rules : Along (SpellsRuleOf weighted g.names labels) rows g.rules
+  pub rules : Along (SpellsRuleOf scale g.names labels) rows g.rules
 
 -- each right side has 10,000 nodes at most
 abbrev pub IsSmallRule : Rule ℕ → Type 0

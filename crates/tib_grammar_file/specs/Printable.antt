@@ -1,4 +1,6 @@
 -- Rules that can be printed.
+use Rattle.tib_cost.specs.Scale.{is_weighted}
+use Rattle.tib_cost.specs.declared.Scale.{Scale}
 use Rattle.std.specs.Prelude.{◌≡◌, ◌<◌, ◌≤◌, ℕ, Bool, true, false, List, [], length}
 use Rattle.std.proofs.Common.{get_or}
 use Rattle.tib_lex.specs.Lines.{HasNoFeed}
@@ -9,9 +11,12 @@ use Rattle.tib_grammar.specs.declared.Rule.{Rule}
 use Rattle.tib_grammar_file.specs.Weight.{most}
 
 -- a cost that can be written: a weight within the limit, or none where nothing is weighed
-abbrev pub IsPlainCost : Bool → ℕ → Type 0
-IsPlainCost true cost = cost ≤ most
-IsPlainCost false cost = cost ≡ 0
+abbrev pub IsPlainIf : Bool → ℕ → Type 0
+IsPlainIf true cost = cost ≤ most
+IsPlainIf false cost = cost ≡ 0
+
+abbrev pub IsPlainCost : Scale → ℕ → Type 0
+IsPlainCost scale cost = IsPlainIf (is_weighted scale) cost
 
 -- all labels of trees stand in the table, and none of them has a line feed
 abbrev pub HavePlainLabels : List (List ℕ) → Trees (Symbol ℕ ℕ) → Type 0
@@ -20,10 +25,10 @@ HavePlainLabels labels (tree (label f) kids rest) = (f < length labels) × HasNo
 HavePlainLabels labels (tree (hole q) kids rest) = HavePlainLabels labels kids × HavePlainLabels labels rest
 
 -- A rule whose labels and whose cost can be written over a table of labels.
-pub record IsPrintable (weighted : Bool) (labels : List (List ℕ)) (r : Rule ℕ) : Type 0 where
+pub record IsPrintable (scale : Scale) (labels : List (List ℕ)) (r : Rule ℕ) : Type 0 where
   pub right : HavePlainLabels labels (only r.right)
-  pub cost : IsPlainCost weighted r.cost
+  pub cost : IsPlainCost scale r.cost
 
 -- each of the rules is one
-abbrev pub ArePrintable : Bool → List (List ℕ) → List (Rule ℕ) → Type 0
-ArePrintable weighted labels rules = (m : ℕ) → m < length rules → IsPrintable weighted labels (rule_at rules m)
+abbrev pub ArePrintable : Scale → List (List ℕ) → List (Rule ℕ) → Type 0
+ArePrintable scale labels rules = (m : ℕ) → m < length rules → IsPrintable scale labels (rule_at rules m)

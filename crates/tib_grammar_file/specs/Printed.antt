@@ -1,4 +1,6 @@
 -- A grammar as it is printed.
+use Rattle.tib_cost.specs.Scale.{is_weighted, weight_in}
+use Rattle.tib_cost.specs.declared.Scale.{Scale}
 use Rattle.std.specs.Prelude.{ℕ, ◌<◌, Bool, true, false, ◌&&◌, not, List, [], ◌∷◌, ◌++◌, length, decimal, if◌then◌else◌, zero, suc}
 use Rattle.std.specs.List.{list_any}
 use Rattle.std.specs.Str.{bytes_eq}
@@ -73,20 +75,23 @@ trees_text names labels none k = []
 trees_text names labels (tree s kids rest) k =
     space k ++ (symbol_text names labels s ++ (opening (count kids) ++ (trees_text names labels kids 0 ++ (closing (count kids) ++ trees_text names labels rest (suc k)))))
 
--- the cost of a rule, where costs are printed
-abbrev pub cost_text : Bool → ℕ → List ℕ
-cost_text false cost = []
-cost_text true cost = 32 ∷ (35 ∷ (32 ∷ decimal cost))
+-- the weight that stands for the cost of a rule, where weights are printed
+abbrev pub weight_text : Bool → ℕ → List ℕ
+weight_text false weight = []
+weight_text true weight = 32 ∷ (35 ∷ (32 ∷ decimal weight))
+
+abbrev pub cost_text : Scale → ℕ → List ℕ
+cost_text scale cost = weight_text (is_weighted scale) (weight_in scale cost)
 
 -- the line of a rule
-abbrev pub rule_text : Bool → List (List ℕ) → List (List ℕ) → Rule ℕ → List ℕ
-rule_text weighted names labels r =
-    get_or names r.left [] ++ (32 ∷ (45 ∷ (62 ∷ (32 ∷ []))) ++ (trees_text names labels (only r.right) 0 ++ (cost_text weighted r.cost ++ 10 ∷ [])))
+abbrev pub rule_text : Scale → List (List ℕ) → List (List ℕ) → Rule ℕ → List ℕ
+rule_text scale names labels r =
+    get_or names r.left [] ++ (32 ∷ (45 ∷ (62 ∷ (32 ∷ []))) ++ (trees_text names labels (only r.right) 0 ++ (cost_text scale r.cost ++ 10 ∷ [])))
 
-abbrev pub rules_text : Bool → List (List ℕ) → List (List ℕ) → List (Rule ℕ) → List ℕ
-rules_text weighted names labels [] = []
-rules_text weighted names labels (r ∷ rules) = rule_text weighted names labels r ++ rules_text weighted names labels rules
+abbrev pub rules_text : Scale → List (List ℕ) → List (List ℕ) → List (Rule ℕ) → List ℕ
+rules_text scale names labels [] = []
+rules_text scale names labels (r ∷ rules) = rule_text scale names labels r ++ rules_text scale names labels rules
 
 -- the start's line, and then a line for each rule
-abbrev pub grammar_text : Bool → List (List ℕ) → GrammarOf → List ℕ
-grammar_text weighted labels g = (get_or g.names 0 [] ++ 10 ∷ []) ++ rules_text weighted g.names labels g.rules
+abbrev pub grammar_text : Scale → List (List ℕ) → GrammarOf → List ℕ
+grammar_text scale labels g = (get_or g.names 0 [] ++ 10 ∷ []) ++ rules_text scale g.names labels g.rules

@@ -1,4 +1,5 @@
 -- What was read of a grammar file before its leaves are told apart.
+use Rattle.tib_cost.specs.declared.Scale.{Scale}
 use Rattle.std.specs.Prelude.{◌≡◌, ℕ, ◌+◌, ◌≤◌, Bool, true, false, List, ◌∷◌, map, Option, None, Some, Result, Ok, Err, length, drop}
 use Rattle.tib_lex.specs.declared.fault.FaultKind.{FaultKind}
 use Rattle.tib_lex.specs.declared.fault.FileFault.{FileFault}
@@ -24,14 +25,14 @@ IsStartLine before names (Err line_errors.OutOfMemory) wanted = Unit {0}
 -- the start was found, and the rules begin at a place
 pub record Began (bytes : List ℕ) (before names : List (List ℕ)) (b : Begun) : Type 0 where
   pub start : List ℕ
-  pub read : (weighted : Bool) → grammar_from weighted 1 (lines_of bytes) ≡ started start (rules_from weighted b.number (lines_of (drop b.at bytes)))
+  pub read : (scale : Scale) → grammar_from scale 1 (lines_of bytes) ≡ started start (rules_from scale b.number (lines_of (drop b.at bytes)))
   pub adds : Adds before start names
   pub place : b.at ≤ length bytes
   pub few : b.number ≤ b.at + 1
 
 abbrev pub IsBegun : List ℕ → List (List ℕ) → List (List ℕ) → Result Begun ReadError → Type 0
 IsBegun bytes before names (Ok b) = Began bytes before names b
-IsBegun bytes before names (Err (errors.Fault fault)) = (weighted : Bool) → grammar_from weighted 1 (lines_of bytes) ≡ Err fault
+IsBegun bytes before names (Err (errors.Fault fault)) = (scale : Scale) → grammar_from scale 1 (lines_of bytes) ≡ Err fault
 IsBegun bytes before names (Err errors.OutOfMemory) = Unit {0}
 
 -- the rules that were read, over the tables of names and texts

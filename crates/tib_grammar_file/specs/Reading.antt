@@ -1,4 +1,5 @@
 -- What is read of a file: its start and its rules, or its first fault.
+use Rattle.tib_cost.specs.declared.Scale.{Scale}
 use Rattle.std.specs.Prelude.{ℕ, Bool, List, [], ◌∷◌, Option, None, Some, Result, Ok, Err, if◌then◌else◌, suc}
 use Rattle.tib_lex.specs.Grammar.{Word, name}
 use Rattle.tib_lex.specs.Line.{words_of}
@@ -12,8 +13,8 @@ abbrev pub fault_at : ℕ → FaultKind → FileFault
 fault_at n kind = record { line = n; kind = kind }
 
 -- the rules of the lines from a number on
-abbrev pub rules_from : Bool → ℕ → List (List ℕ) → Result (List RuleLine) FileFault
-rules_from weighted n lines = each_line (rule_line weighted) n lines
+abbrev pub rules_from : Scale → ℕ → List (List ℕ) → Result (List RuleLine) FileFault
+rules_from scale n lines = each_line (rule_line scale) n lines
 
 abbrev pub start_of : List Word → Option (List ℕ)
 start_of (name text ∷ []) = Some text
@@ -41,10 +42,10 @@ with_start n (Err kind) rules more = Err (fault_at n kind)
 with_start n (Ok None) rules more = more
 with_start n (Ok (Some start)) rules more = started start rules
 
-abbrev pub grammar_from : Bool → ℕ → List (List ℕ) → Result (List ℕ × List RuleLine) FileFault
-grammar_from weighted n [] = Err (fault_at 1 kinds.NoStart)
-grammar_from weighted n (line ∷ lines) = with_start n (start_line line) (rules_from weighted (suc n) lines) (grammar_from weighted (suc n) lines)
+abbrev pub grammar_from : Scale → ℕ → List (List ℕ) → Result (List ℕ × List RuleLine) FileFault
+grammar_from scale n [] = Err (fault_at 1 kinds.NoStart)
+grammar_from scale n (line ∷ lines) = with_start n (start_line line) (rules_from scale (suc n) lines) (grammar_from scale (suc n) lines)
 
 -- the start and the rules of a file, or its first fault
-unfoldable pub grammar_of : Bool → List ℕ → Result (List ℕ × List RuleLine) FileFault
-grammar_of weighted bytes = grammar_from weighted 1 (lines_of bytes)
+unfoldable pub grammar_of : Scale → List ℕ → Result (List ℕ × List RuleLine) FileFault
+grammar_of scale bytes = grammar_from scale 1 (lines_of bytes)

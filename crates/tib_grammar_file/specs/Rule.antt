@@ -1,4 +1,5 @@
 -- A rule line of a grammar file.
+use Rattle.tib_cost.specs.declared.Scale.{Scale}
 use Rattle.std.specs.Prelude.{◌≡◌, ℕ, ◌-◌, Bool, true, false, nat_lt, nat_eq, List, [], ◌∷◌, ◌++◌, length, take, drop, Option, Some, None, Result, Ok, Err, if◌then◌else◌}
 use Rattle.std.specs.List.{list_any}
 use Rattle.tib_lex.specs.Grammar.{Word, hash, arrow, name}
@@ -91,15 +92,15 @@ abbrev pub with_cost : List ℕ → List Item → Result ℕ FaultKind → Resul
 with_cost left nodes (Err kind) = Err kind
 with_cost left nodes (Ok cost) = few_nodes left nodes cost
 
-abbrev pub good_parts : Bool → Option Parts → Result (Option RuleLine) FaultKind
-good_parts weighted None = Err kinds.BadRule
-good_parts weighted (Some p) = with_cost p.left p.nodes (cost_of weighted p.weight)
+abbrev pub good_parts : Scale → Option Parts → Result (Option RuleLine) FaultKind
+good_parts scale None = Err kinds.BadRule
+good_parts scale (Some p) = with_cost p.left p.nodes (cost_of scale p.weight)
 
-abbrev pub rule_in : Bool → Option (List Word) → Result (Option RuleLine) FaultKind
-rule_in weighted None = Err kinds.BadToken
-rule_in weighted (Some []) = Ok None
-rule_in weighted (Some (word ∷ words)) = good_parts weighted (parts_of (word ∷ words))
+abbrev pub rule_in : Scale → Option (List Word) → Result (Option RuleLine) FaultKind
+rule_in scale None = Err kinds.BadToken
+rule_in scale (Some []) = Ok None
+rule_in scale (Some (word ∷ words)) = good_parts scale (parts_of (word ∷ words))
 
 -- no tokens, or a rule, or the first fault of the line
-unfoldable pub rule_line : Bool → List ℕ → Result (Option RuleLine) FaultKind
-rule_line weighted line = rule_in weighted (words_of line)
+unfoldable pub rule_line : Scale → List ℕ → Result (Option RuleLine) FaultKind
+rule_line scale line = rule_in scale (words_of line)

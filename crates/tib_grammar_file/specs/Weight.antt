@@ -1,4 +1,6 @@
 -- Weights as they are written.
+use Rattle.tib_cost.specs.Scale.{is_weighted, cost_in}
+use Rattle.tib_cost.specs.declared.Scale.{Scale}
 use Rattle.std.specs.Prelude.{◌≡◌, ◌<◌, ◌≤◌, ◌++◌, length, ℕ, ◌+◌, ◌*◌, ◌-◌, Bool, true, false, ◌&&◌, ◌==◌, nat_lt, List, [], ◌∷◌, Option, Some, None, Result, Ok, Err, if◌then◌else◌}
 use Rattle.std.specs.List.{list_all}
 use Rattle.tib_lex.specs.declared.fault.FaultKind.{FaultKind}
@@ -40,11 +42,22 @@ pub record IsWhole (text : List ℕ) (n : ℕ) : Type 0 where
   pub spelled : text ≡ digits ++ behind_digits zeros
   pub value : n ≡ decimal digits
 
--- The cost of a weight. A missing one is the semiring's one, which is 0, and where nothing is weighed each cost is.
-abbrev pub IsCostOf : Bool → Option (List ℕ) → ℕ → Type 0
-IsCostOf weighted None cost = cost ≡ 0
-IsCostOf true (Some text) cost = IsWhole text cost × (cost ≤ most)
-IsCostOf false (Some text) cost = cost ≡ 0
+-- the weight is whole and within the limit, and it stands for this cost
+pub record IsWeighed (scale : Scale) (text : List ℕ) (cost : ℕ) : Type 0 where
+  pub weight : ℕ
+  pub whole : IsWhole text weight
+  pub within : weight ≤ most
+  pub cost_is : cost ≡ cost_in scale weight
+
+-- what a weight says of the cost: nothing where none are kept, since each cost is 0 there
+abbrev pub IsCostIf : Bool → Scale → List ℕ → ℕ → Type 0
+IsCostIf true scale text cost = IsWeighed scale text cost
+IsCostIf false scale text cost = cost ≡ 0
+
+-- The cost of a weight. A missing weight is the one that stands for the cost 0.
+abbrev pub IsCostOf : Scale → Option (List ℕ) → ℕ → Type 0
+IsCostOf scale None cost = cost ≡ 0
+IsCostOf scale (Some text) cost = IsCostIf (is_weighted scale) scale text cost
 
 -- The reading: the value of the digits up to a point, behind which zeros alone may stand.
 abbrev pub whole_from : ℕ → List ℕ → Option ℕ
@@ -58,11 +71,11 @@ abbrev pub whole : List ℕ → Option ℕ
 whole [] = None
 whole (b ∷ rest) = if is_digit b then whole_from (b - 48) rest else None
 
-abbrev pub small : Option ℕ → Result ℕ FaultKind
-small None = Err kinds.NotWhole
-small (Some n) = if nat_lt most n then Err kinds.WeightTooLarge else Ok n
+abbrev pub small : Scale → Option ℕ → Result ℕ FaultKind
+small scale None = Err kinds.NotWhole
+small scale (Some n) = if nat_lt most n then Err kinds.WeightTooLarge else Ok (cost_in scale n)
 
 -- the cost of a rule with a weight or without one
-unfoldable pub cost_of : Bool → Option (List ℕ) → Result ℕ FaultKind
-cost_of weighted None = Ok 0
-cost_of weighted (Some text) = if weighted then small (whole text) else Ok 0
+unfoldable pub cost_of : Scale → Option (List ℕ) → Result ℕ FaultKind
+cost_of scale None = Ok 0
+cost_of scale (Some text) = if is_weighted scale then small scale (whole text) else Ok 0

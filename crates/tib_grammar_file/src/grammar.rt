@@ -96,16 +96,16 @@ pub fn read_grammar<S: Semiring>(
 ) -> Result<Grammar<S>, ReadError>
     requires short { length bytes.now ≤ 8388608 }
     requires room { length labels.old + length bytes.now < 2 ^ 32 - 1 }
-    ensures text { IfOk result (λ g. ReadsAs S.WEIGHTED labels.new bytes.now g) }
+    ensures text { IfOk result (λ g. ReadsAs S.SCALE labels.new bytes.now g) }
     ensures labelled { IfOk result (λ g. AreLabelled (length labels.new) g.rules) }
-    ensures fault { IfErr result (λ e. IsCause S.WEIGHTED bytes.now e) }
+    ensures fault { IfErr result (λ e. IsCause S.SCALE bytes.now e) }
     ensures labels { Grows labels.old labels.new }
     ensures added { IfOk result (λ g. AddsAll labels.old (rule_texts labels.new g.rules) labels.new) }
     ensures few { length labels.new ≤ length labels.old + length bytes.now }
 {
     let mut names = Labels::new(alloc);
     let mut texts = Labels::new(alloc);
-    match read_raw(alloc, S::WEIGHTED, bytes, &mut names, &mut texts) {
+    match read_raw(alloc, S::SCALE, bytes, &mut names, &mut texts) {
         Ok(raw) => match build(alloc, &raw, &names, &texts, labels) {
             Ok(grammar) => Ok(grammar),
             Err(AllocError) => Err(ReadError::OutOfMemory),

@@ -1,4 +1,5 @@
 // What holds of the text of grammars.
+ghost use Rattle.tib_cost.specs.declared.Scale.{Scale};
 ghost use Rattle.std.specs.Prelude.{◌≡◌, ◌≤◌, ℕ, List, Bool, Option, length};
 ghost use Rattle.tib_lex.specs.Lists.{Along, Ascends, Distinct};
 ghost use Rattle.tib_tree.specs.Grows.{Grows};
@@ -43,28 +44,28 @@ pub fn files_are_texts_or_faulty()
 
 /// Bytes are the text of at most one grammar over one table of distinct labels.
 pub fn text_has_one_grammar()
-    ensures { (weighted : Bool) (labels : List (List ℕ)) (bytes : List ℕ) (g h : GrammarOf) → Distinct labels → GrammarText weighted labels bytes g → GrammarText weighted labels bytes h → g ≡ h }
+    ensures { (scale : Scale) (labels : List (List ℕ)) (bytes : List ℕ) (g h : GrammarOf) → Distinct labels → GrammarText scale labels bytes g → GrammarText scale labels bytes h → g ≡ h }
 {}
 
 /// The rules of a grammar that was read can be printed over the same table.
 pub fn read_grammars_are_printable()
-    ensures { (weighted : Bool) (labels : List (List ℕ)) (bytes : List ℕ) (g : GrammarOf) → GrammarText weighted labels bytes g → ArePrintable weighted labels g.rules }
+    ensures { (scale : Scale) (labels : List (List ℕ)) (bytes : List ℕ) (g : GrammarOf) → GrammarText scale labels bytes g → ArePrintable scale labels g.rules }
 {}
 
 /// The labels of rules that can be printed are in the table.
 pub fn printable_is_labelled()
-    ensures { (weighted : Bool) (labels : List (List ℕ)) (rules : List (Rule ℕ)) → ArePrintable weighted labels rules → AreLabelled (length labels) rules }
+    ensures { (scale : Scale) (labels : List (List ℕ)) (rules : List (Rule ℕ)) → ArePrintable scale labels rules → AreLabelled (length labels) rules }
 {}
 
 /// Rules that can be printed over a table can be printed over one that has grown.
 pub fn printable_stays()
-    ensures { (weighted : Bool) (early labels : List (List ℕ)) (rules : List (Rule ℕ)) → ArePrintable weighted early rules → Grows early labels → ArePrintable weighted labels rules }
+    ensures { (scale : Scale) (early labels : List (List ℕ)) (rules : List (Rule ℕ)) → ArePrintable scale early rules → Grows early labels → ArePrintable scale labels rules }
 {}
 
 /// Bytes that are the text of two grammars, each over a table of labels of its own, are that of one grammar by the texts of
 /// its labels.
 pub fn one_grammar_by_text()
-    ensures { (weighted : Bool) (labels others : List (List ℕ)) (bytes : List ℕ) (g h : GrammarOf) → GrammarText weighted labels bytes g → GrammarText weighted others bytes h → AgreeByText labels others g h }
+    ensures { (scale : Scale) (labels others : List (List ℕ)) (bytes : List ℕ) (g h : GrammarOf) → GrammarText scale labels bytes g → GrammarText scale others bytes h → AgreeByText labels others g h }
 {}
 
 /// Bytes that are the text of trees over two tables of labels are that of the same trees by the texts of their labels, and
@@ -89,5 +90,5 @@ pub fn printed_grammars_are_read()
 /// What is printed of a grammar whose rules ascend by their left states is the text of this very grammar: its states keep
 /// their numbers.
 pub fn sorted_grammars_are_read()
-    ensures { (weighted : Bool) (labels : List (List ℕ)) (g : GrammarOf) → HasText weighted labels g → Ascends (λ r s. r.left ≤ s.left) g.rules → GrammarText weighted labels (grammar_text weighted labels g) g }
+    ensures { (scale : Scale) (labels : List (List ℕ)) (g : GrammarOf) → HasText scale labels g → Ascends (λ r s. r.left ≤ s.left) g.rules → GrammarText scale labels (grammar_text scale labels g) g }
 {}

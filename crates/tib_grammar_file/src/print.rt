@@ -7,11 +7,11 @@ ghost use Rattle.tib_tree.specs.Trees.{Trees, preorder, only, count as count_of}
 ghost use Rattle.tib_grammar.specs.Items.{pairs_of};
 ghost use Rattle.tib_grammar.specs.Sides.{Symbol};
 ghost use Rattle.tib_grammar_file.specs.Prints.{Prints};
-ghost use Rattle.tib_grammar_file.specs.Printed.{IsWithin, IsSideWithin, IsRuleWithin, trees_text, cost_text, rule_text, rules_text, grammar_text, AreLabelled};
+ghost use Rattle.tib_grammar_file.specs.Printed.{IsWithin, IsSideWithin, IsRuleWithin, trees_text, weight_text, cost_text, rule_text, rules_text, grammar_text, AreLabelled};
 
 use crate::put::{put, put_closing, put_head, rank_of};
 use itoa::Buffer;
-use tib_cost::{Cost, Semiring};
+use tib_cost::{Cost, Scale, Semiring};
 use tib_grammar::{Grammar, Item, Names, Rule, Side};
 use tib_io::{Failed, Sink};
 use tib_tree::Labels;
@@ -75,7 +75,7 @@ fn put_number<W: Sink>(out: &mut W, cost: Cost) -> Result<(), Failed>
 }
 
 fn put_weight<W: Sink>(out: &mut W, cost: Cost) -> Result<(), Failed>
-    ensures { Prints (W.written out.old) (W.written out.new) (W.free out.old) (W.free out.new) (W.faults out.old) (W.faults out.new) (cost_text true cost) result }
+    ensures { Prints (W.written out.old) (W.written out.new) (W.free out.old) (W.free out.new) (W.faults out.old) (W.faults out.new) (weight_text true cost) result }
 {
     match put(out, b" # ") {
         Ok(()) => put_number(out, cost),
@@ -83,21 +83,21 @@ fn put_weight<W: Sink>(out: &mut W, cost: Cost) -> Result<(), Failed>
     }
 }
 
-fn put_cost<W: Sink>(out: &mut W, weighted: bool, cost: Cost) -> Result<(), Failed>
-    ensures { Prints (W.written out.old) (W.written out.new) (W.free out.old) (W.free out.new) (W.faults out.old) (W.faults out.new) (cost_text weighted cost) result }
+fn put_cost<W: Sink>(out: &mut W, scale: Scale, cost: Cost) -> Result<(), Failed>
+    ensures { Prints (W.written out.old) (W.written out.new) (W.free out.old) (W.free out.new) (W.faults out.old) (W.faults out.new) (cost_text scale cost) result }
 {
-    if weighted {
-        put_weight(out, cost)
+    if scale.is_weighted() {
+        put_weight(out, scale.weight(cost))
     } else {
         put(out, b"")
     }
 }
 
 // The cost of a rule and the end of its line.
-fn put_end<W: Sink>(out: &mut W, weighted: bool, cost: Cost) -> Result<(), Failed>
-    ensures { Prints (W.written out.old) (W.written out.new) (W.free out.old) (W.free out.new) (W.faults out.old) (W.faults out.new) (cost_text weighted cost ++ 10 ∷ []) result }
+fn put_end<W: Sink>(out: &mut W, scale: Scale, cost: Cost) -> Result<(), Failed>
+    ensures { Prints (W.written out.old) (W.written out.new) (W.free out.old) (W.free out.new) (W.faults out.old) (W.faults out.new) (cost_text scale cost ++ 10 ∷ []) result }
 {
-    match put_cost(out, weighted, cost) {
+    match put_cost(out, scale, cost) {
         Ok(()) => put(out, b"\n"),
         Err(Failed) => Err(Failed),
     }
@@ -105,32 +105,32 @@ fn put_end<W: Sink>(out: &mut W, weighted: bool, cost: Cost) -> Result<(), Faile
 
 fn put_right<W: Sink>(
     out: &mut W,
-    weighted: bool,
+    scale: Scale,
     rule: &Rule<u32>,
     names: &Names,
     labels: &Labels,
 ) -> Result<(), Failed>
     requires { IsSideWithin names.now labels.now rule.now.right }
-    ensures { Prints (W.written out.old) (W.written out.new) (W.free out.old) (W.free out.new) (W.faults out.old) (W.faults out.new) (trees_text names.now labels.now (only rule.now.right) 0 ++ (cost_text weighted rule.now.cost ++ 10 ∷ [])) result }
+    ensures { Prints (W.written out.old) (W.written out.new) (W.free out.old) (W.free out.new) (W.faults out.old) (W.faults out.new) (trees_text names.now labels.now (only rule.now.right) 0 ++ (cost_text scale rule.now.cost ++ 10 ∷ [])) result }
 {
     match put_side(out, &rule.right, names, labels) {
-        Ok(()) => put_end(out, weighted, rule.cost),
+        Ok(()) => put_end(out, scale, rule.cost),
         Err(Failed) => Err(Failed),
     }
 }
 
 fn put_arrow<W: Sink>(
     out: &mut W,
-    weighted: bool,
+    scale: Scale,
     rule: &Rule<u32>,
     names: &Names,
     labels: &Labels,
 ) -> Result<(), Failed>
     requires { IsSideWithin names.now labels.now rule.now.right }
-    ensures { Prints (W.written out.old) (W.written out.new) (W.free out.old) (W.free out.new) (W.faults out.old) (W.faults out.new) (32 ∷ (45 ∷ (62 ∷ (32 ∷ []))) ++ (trees_text names.now labels.now (only rule.now.right) 0 ++ (cost_text weighted rule.now.cost ++ 10 ∷ []))) result }
+    ensures { Prints (W.written out.old) (W.written out.new) (W.free out.old) (W.free out.new) (W.faults out.old) (W.faults out.new) (32 ∷ (45 ∷ (62 ∷ (32 ∷ []))) ++ (trees_text names.now labels.now (only rule.now.right) 0 ++ (cost_text scale rule.now.cost ++ 10 ∷ []))) result }
 {
     match put(out, b" -> ") {
-        Ok(()) => put_right(out, weighted, rule, names, labels),
+        Ok(()) => put_right(out, scale, rule, names, labels),
         Err(Failed) => Err(Failed),
     }
 }
@@ -138,32 +138,32 @@ fn put_arrow<W: Sink>(
 // The line of a rule.
 fn put_rule<W: Sink>(
     out: &mut W,
-    weighted: bool,
+    scale: Scale,
     rule: &Rule<u32>,
     names: &Names,
     labels: &Labels,
 ) -> Result<(), Failed>
     requires { IsRuleWithin names.now labels.now rule.now }
-    ensures { Prints (W.written out.old) (W.written out.new) (W.free out.old) (W.free out.new) (W.faults out.old) (W.faults out.new) (rule_text weighted names.now labels.now rule.now) result }
+    ensures { Prints (W.written out.old) (W.written out.new) (W.free out.old) (W.free out.new) (W.faults out.old) (W.faults out.new) (rule_text scale names.now labels.now rule.now) result }
 {
     match put(out, names.text(rule.left)) {
-        Ok(()) => put_arrow(out, weighted, rule, names, labels),
+        Ok(()) => put_arrow(out, scale, rule, names, labels),
         Err(Failed) => Err(Failed),
     }
 }
 
 fn put_rules<W: Sink>(
     out: &mut W,
-    weighted: bool,
+    scale: Scale,
     rules: &[Rule<u32>],
     names: &Names,
     labels: &Labels,
 ) -> Result<(), Failed>
     requires { All (IsRuleWithin names.now labels.now) rules.now }
-    ensures { Prints (W.written out.old) (W.written out.new) (W.free out.old) (W.free out.new) (W.faults out.old) (W.faults out.new) (rules_text weighted names.now labels.now rules.now) result }
+    ensures { Prints (W.written out.old) (W.written out.new) (W.free out.old) (W.free out.new) (W.faults out.old) (W.faults out.new) (rules_text scale names.now labels.now rules.now) result }
 {
     for rule in rules {
-        match put_rule(out, weighted, rule, names, labels) {
+        match put_rule(out, scale, rule, names, labels) {
             Ok(()) => {}
             Err(Failed) => return Err(Failed),
         }
@@ -183,17 +183,17 @@ fn put_start<W: Sink>(out: &mut W, names: &Names) -> Result<(), Failed>
 
 fn put_grammar<W: Sink>(
     out: &mut W,
-    weighted: bool,
+    scale: Scale,
     rules: &[Rule<u32>],
     names: &Names,
     labels: &Labels,
 ) -> Result<(), Failed>
     requires start { 0 < length names.now }
     requires within { All (IsRuleWithin names.now labels.now) rules.now }
-    ensures { Prints (W.written out.old) (W.written out.new) (W.free out.old) (W.free out.new) (W.faults out.old) (W.faults out.new) ((get_or names.now 0 [] ++ 10 ∷ []) ++ rules_text weighted names.now labels.now rules.now) result }
+    ensures { Prints (W.written out.old) (W.written out.new) (W.free out.old) (W.free out.new) (W.faults out.old) (W.faults out.new) ((get_or names.now 0 [] ++ 10 ∷ []) ++ rules_text scale names.now labels.now rules.now) result }
 {
     match put_start(out, names) {
-        Ok(()) => put_rules(out, weighted, rules, names, labels),
+        Ok(()) => put_rules(out, scale, rules, names, labels),
         Err(Failed) => Err(Failed),
     }
 }
@@ -208,21 +208,15 @@ pub fn print_grammar<S: Semiring, W: Sink>(
     out: &mut W,
 ) -> Result<(), Failed>
     requires { AreLabelled (length labels.now) grammar.now.rules }
-    ensures ok { OnOk result (Takes (W.written out.old) (W.written out.new) (W.free out.old) (W.free out.new) (grammar_text S.WEIGHTED labels.now grammar.now)) }
-    ensures err { OnErr result (TakesFront (W.written out.old) (W.written out.new) (W.free out.old) (W.free out.new) (grammar_text S.WEIGHTED labels.now grammar.now)) }
+    ensures ok { OnOk result (Takes (W.written out.old) (W.written out.new) (W.free out.old) (W.free out.new) (grammar_text S.SCALE labels.now grammar.now)) }
+    ensures err { OnErr result (TakesFront (W.written out.old) (W.written out.new) (W.free out.old) (W.free out.new) (grammar_text S.SCALE labels.now grammar.now)) }
     ensures cause { OnErr result (Rose (W.faults out.old) (W.faults out.new)) }
     ensures later { W.faults out.old ≤ W.faults out.new }
-    ensures calm { Calm (W.free out.old) (length (grammar_text S.WEIGHTED labels.now grammar.now)) (W.faults out.old) (W.faults out.new) }
-    ensures succeeds { Succeeds (W.free out.old) (length (grammar_text S.WEIGHTED labels.now grammar.now)) (W.faults out.old) result }
+    ensures calm { Calm (W.free out.old) (length (grammar_text S.SCALE labels.now grammar.now)) (W.faults out.old) (W.faults out.new) }
+    ensures succeeds { Succeeds (W.free out.old) (length (grammar_text S.SCALE labels.now grammar.now)) (W.faults out.old) result }
 {
     grammar.is_sound();
-    put_grammar(
-        out,
-        S::WEIGHTED,
-        grammar.rule_list(),
-        grammar.names(),
-        labels,
-    )
+    put_grammar(out, S::SCALE, grammar.rule_list(), grammar.names(), labels)
 }
 
 /// Prints the line of a rule, whose states and labels have texts, as `print_grammar` does. It takes no memory; its calls
@@ -234,7 +228,7 @@ pub fn print_rule<S: Semiring, W: Sink>(
     out: &mut W,
 ) -> Result<(), Failed>
     requires { IsRuleWithin names.now labels.now rule.now }
-    ensures { Prints (W.written out.old) (W.written out.new) (W.free out.old) (W.free out.new) (W.faults out.old) (W.faults out.new) (rule_text S.WEIGHTED names.now labels.now rule.now) result }
+    ensures { Prints (W.written out.old) (W.written out.new) (W.free out.old) (W.free out.new) (W.faults out.old) (W.faults out.new) (rule_text S.SCALE names.now labels.now rule.now) result }
 {
-    put_rule(out, S::WEIGHTED, rule, names, labels)
+    put_rule(out, S::SCALE, rule, names, labels)
 }

@@ -11,7 +11,7 @@ ghost use Rattle.tib_grammar_file.specs.Rule.{rule_line};
 
 use crate::rule::{read_cost, read_parts};
 use std::alloc::{AllocError, Global};
-use tib_cost::Cost;
+use tib_cost::{Cost, Scale};
 use tib_lex::{
     FaultKind, Kind, LineError, ReadError, Token, file_error, line_bytes, next_line, read_text,
     read_tokens,
@@ -134,7 +134,7 @@ impl RawReader {
     /// Adds the rule of a line, if it has tokens. Its left state goes into the table of names.
     fn add_line(
         &mut self,
-        weighted: bool,
+        scale: Scale,
         line: &[u8],
         names: &mut Labels,
         texts: &mut Labels,
@@ -144,7 +144,7 @@ impl RawReader {
         requires plain { HasNoFeed line.now }
         requires names { length names.old < 2 ^ 32 - 1 }
         requires texts { length texts.old + length line.now < 2 ^ 32 - 1 }
-        ensures line { AddsLine names.old names.new texts.new raw.old raw.new result (rule_line weighted line.now) }
+        ensures line { AddsLine names.old names.new texts.new raw.old raw.new result (rule_line scale line.now) }
         ensures names { Grows names.old names.new }
         ensures texts { Grows texts.old texts.new }
         ensures few_names { length names.new ≤ length names.old + 1 }
@@ -161,7 +161,7 @@ impl RawReader {
             Some(found) => found,
             None => return Err(LineError::Fault(FaultKind::BadRule)),
         };
-        let cost = match read_cost(weighted, line, found.weight, &mut self.text) {
+        let cost = match read_cost(scale, line, found.weight, &mut self.text) {
             Ok(cost) => cost,
             Err(error) => return Err(error),
         };
@@ -188,7 +188,7 @@ impl RawReader {
 /// The rules from a place of a file on, where a line of this number begins.
 pub(crate) fn read_rules(
     alloc: Global,
-    weighted: bool,
+    scale: Scale,
     bytes: &[u8],
     start: u32,
     first: u32,
@@ -200,7 +200,7 @@ pub(crate) fn read_rules(
     requires number { first ≤ start + 1 }
     requires names { length names.old + length bytes.now < 2 ^ 32 - 1 }
     requires texts { length texts.old + length bytes.now < 2 ^ 32 - 1 }
-    ensures rules { IsRawFile names.old names.new texts.new result (rules_from weighted first (lines_of (drop start bytes.now))) }
+    ensures rules { IsRawFile names.old names.new texts.new result (rules_from scale first (lines_of (drop start bytes.now))) }
     ensures few { IfOk result (λ raw. length raw.nodes.items ≤ length bytes.now) }
 {
     let mut reader = RawReader::new(alloc);
@@ -211,7 +211,7 @@ pub(crate) fn read_rules(
     let mut at = start;
     let mut number = first;
     while let Some(line) = next_line(bytes, number, at) {
-        match reader.add_line(weighted, line_bytes(bytes, line), names, texts, &mut raw) {
+        match reader.add_line(scale, line_bytes(bytes, line), names, texts, &mut raw) {
             Ok(()) => {}
             Err(error) => return Err(file_error(line.number, error)),
         }

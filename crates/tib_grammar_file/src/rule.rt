@@ -9,7 +9,7 @@ ghost use Rattle.tib_grammar_file.specs.Weight.{cost_of};
 
 use crate::weight::{one, read_weight};
 use std::alloc::AllocError;
-use tib_cost::Cost;
+use tib_cost::{Cost, Scale};
 use tib_lex::{Kind, LineError, Token, read_text};
 use tib_tree::Reader;
 
@@ -124,19 +124,19 @@ pub(crate) fn read_parts(
 
 #[tactic(auto, unfolding(crate::specs::Weight::cost_of))]
 pub(crate) fn read_cost(
-    weighted: bool,
+    scale: Scale,
     line: &[u8],
     weight: Option<Token>,
     text: &mut Vec<u8>,
 ) -> Result<Cost, LineError>
     requires { WeightLies (length line.now) weight }
-    ensures { IsCost result (cost_of weighted (text_at line.now weight)) }
+    ensures { IsCost result (cost_of scale (text_at line.now weight)) }
 {
     match weight {
         None => Ok(one()),
         Some(token) => {
             read_text(line, token, text)?;
-            match read_weight(weighted, text) {
+            match read_weight(scale, text) {
                 Ok(cost) => Ok(cost),
                 Err(kind) => Err(LineError::Fault(kind)),
             }

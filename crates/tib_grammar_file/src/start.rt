@@ -9,6 +9,7 @@ ghost use Rattle.tib_grammar_file.specs.RawGrammar.{IsStartLine, IsBegun, ReadsR
 use crate::raw::{RawRules, read_rules};
 use crate::rule::has_dot;
 use std::alloc::Global;
+use tib_cost::Scale;
 use tib_lex::{
     FaultKind, FileFault, Kind, LineError, ReadError, Token, file_error, line_bytes, next_line,
     read_text, read_tokens,
@@ -97,7 +98,7 @@ fn find_start(alloc: Global, bytes: &[u8], names: &mut Labels) -> Result<Begun, 
 /// are empty before.
 pub(crate) fn read_raw(
     alloc: Global,
-    weighted: bool,
+    scale: Scale,
     bytes: &[u8],
     names: &mut Labels,
     texts: &mut Labels,
@@ -105,12 +106,12 @@ pub(crate) fn read_raw(
     requires short { length bytes.now ≤ 8388608 }
     requires names { names.old ≡ [] }
     requires texts { texts.old ≡ [] }
-    ensures raw { ReadsRaw names.old names.new texts.new result (grammar_of weighted bytes.now) }
+    ensures raw { ReadsRaw names.old names.new texts.new result (grammar_of scale bytes.now) }
     ensures few { IfOk result (λ raw. length raw.nodes.items ≤ length bytes.now) }
 {
     let begun = match find_start(alloc, bytes, names) {
         Ok(begun) => begun,
         Err(error) => return Err(error),
     };
-    read_rules(alloc, weighted, bytes, begun.at, begun.number, names, texts)
+    read_rules(alloc, scale, bytes, begun.at, begun.number, names, texts)
 }

@@ -4,7 +4,7 @@ ghost use Rattle.std.specs.List.{list_all};
 ghost use Rattle.std.specs.Option.{option_map};
 ghost use Rattle.tib_grammar_file.specs.Weight.{is_digit as spec_is_digit, is_zero_digit, whole, cost_of};
 
-use tib_cost::{Boolean, Cost, Semiring};
+use tib_cost::{Boolean, Cost, Scale, Semiring};
 use tib_lex::FaultKind;
 
 const TOO_LARGE: u64 = 1_000_000_000_000_001;
@@ -61,16 +61,16 @@ fn read_whole(text: &[u8]) -> Option<u64>
 }
 
 /// The cost of a weight.
-pub(crate) fn read_weight(weighted: bool, text: &[u8]) -> Result<Cost, FaultKind>
-    ensures { result ≡ cost_of weighted (Some text.now) }
+pub(crate) fn read_weight(scale: Scale, text: &[u8]) -> Result<Cost, FaultKind>
+    ensures { result ≡ cost_of scale (Some text.now) }
 {
-    if !weighted {
+    if !scale.is_weighted() {
         return Ok(one());
     }
     match read_whole(text) {
         None => Err(FaultKind::NotWhole),
         Some(n) => match Cost::new(n) {
-            Some(cost) => Ok(cost),
+            Some(weight) => Ok(scale.cost(weight)),
             None => Err(FaultKind::WeightTooLarge),
         },
     }

@@ -20,18 +20,18 @@ canonical_of_rules-requires-clause-labelled g c =
 
 pub returns-in_ok-rules-in-At-clause-canonical : goal.returns-in_ok-rules-in-At-clause-canonical
 returns-in_ok-rules-in-At-clause-canonical g c =
-    subst (λ b. IfOk c.canonical_of_rules.result (λ h. IsCanonicalOverKeys g.S.Semiring.product g.S.Semiring.WEIGHTED c.args.labels.now g.K.Ord.cmp c.args.found.order.items c.args.found.rules.items b h.grammar)) (sym c.in-At.is)
-    (if_both (λ h. OverStates c.len-states.result c.in_ok-rules-in-At.rules.items (λ k. IsCanonical g.S.Semiring.product g.S.Semiring.WEIGHTED c.args.labels.now k h.grammar))
+    subst (λ b. IfOk c.canonical_of_rules.result (λ h. IsCanonicalOverKeys g.S.Semiring.product g.S.Semiring.SCALE c.args.labels.now g.K.Ord.cmp c.args.found.order.items c.args.found.rules.items b h.grammar)) (sym c.in-At.is)
+    (if_both (λ h. OverStates c.len-states.result c.in_ok-rules-in-At.rules.items (λ k. IsCanonical g.S.Semiring.product g.S.Semiring.SCALE c.args.labels.now k h.grammar))
     (λ h. OverStates c.len-states.result c.in_ok-rules-in-At.rules.items (λ k. HasSameSeries g.S.Semiring.product k h.grammar))
-    (λ h. IsCanonicalOverKeys g.S.Semiring.product g.S.Semiring.WEIGHTED c.args.labels.now g.K.Ord.cmp c.args.found.order.items c.args.found.rules.items (At c.in-At.start) h.grammar) c.canonical_of_rules.result
+    (λ h. IsCanonicalOverKeys g.S.Semiring.product g.S.Semiring.SCALE c.args.labels.now g.K.Ord.cmp c.args.found.order.items c.args.found.rules.items (At c.in-At.start) h.grammar) c.canonical_of_rules.result
     (λ h o s.
-    at_key g.S.Semiring.product g.S.Semiring.WEIGHTED c.args.labels.now g.K.Ord.cmp c.args.found.order.items c.args.found.rules.items h.grammar c.in-At.start c.len-states.result c.in_ok-rules-in-At.rules.items c.in_ok-rules-in-At.ensures
+    at_key g.S.Semiring.product g.S.Semiring.SCALE c.args.labels.now g.K.Ord.cmp c.args.found.order.items c.args.found.rules.items h.grammar c.in-At.start c.len-states.result c.in_ok-rules-in-At.rules.items c.in_ok-rules-in-At.ensures
     (c.len-states.ensures ∙ c.args.found.order.ok.0) o s) c.canonical_of_rules.ensures.canonical c.canonical_of_rules.ensures.series)
 
 pub returns-in-Empty-clause-canonical : goal.returns-in-Empty-clause-canonical
 returns-in-Empty-clause-canonical g c =
-    subst (λ b. IfOk c.canonical_of_rules-in-Empty.result (λ h. IsCanonicalOverKeys g.S.Semiring.product g.S.Semiring.WEIGHTED c.args.labels.now g.K.Ord.cmp c.args.found.order.items c.args.found.rules.items b h.grammar)) (sym c.in-Empty.is)
-    (if_both (λ h. OverStates 1 c.new.result.items (λ k. IsCanonical g.S.Semiring.product g.S.Semiring.WEIGHTED c.args.labels.now k h.grammar)) (λ h. OverStates 1 c.new.result.items (λ k. HasSameSeries g.S.Semiring.product k h.grammar))
-    (λ h. IsCanonicalOverKeys g.S.Semiring.product g.S.Semiring.WEIGHTED c.args.labels.now g.K.Ord.cmp c.args.found.order.items c.args.found.rules.items Empty h.grammar) c.canonical_of_rules-in-Empty.result
-    (λ h o s. at_none g.S.Semiring.product g.S.Semiring.WEIGHTED c.args.labels.now g.K.Ord.cmp c.args.found.order.items c.args.found.rules.items h.grammar c.new.result.items c.new.ensures.items o s) c.canonical_of_rules-in-Empty.ensures.canonical
+    subst (λ b. IfOk c.canonical_of_rules-in-Empty.result (λ h. IsCanonicalOverKeys g.S.Semiring.product g.S.Semiring.SCALE c.args.labels.now g.K.Ord.cmp c.args.found.order.items c.args.found.rules.items b h.grammar)) (sym c.in-Empty.is)
+    (if_both (λ h. OverStates 1 c.new.result.items (λ k. IsCanonical g.S.Semiring.product g.S.Semiring.SCALE c.args.labels.now k h.grammar)) (λ h. OverStates 1 c.new.result.items (λ k. HasSameSeries g.S.Semiring.product k h.grammar))
+    (λ h. IsCanonicalOverKeys g.S.Semiring.product g.S.Semiring.SCALE c.args.labels.now g.K.Ord.cmp c.args.found.order.items c.args.found.rules.items Empty h.grammar) c.canonical_of_rules-in-Empty.result
+    (λ h o s. at_none g.S.Semiring.product g.S.Semiring.SCALE c.args.labels.now g.K.Ord.cmp c.args.found.order.items c.args.found.rules.items h.grammar c.new.result.items c.new.ensures.items o s) c.canonical_of_rules-in-Empty.ensures.canonical
     c.canonical_of_rules-in-Empty.ensures.series)

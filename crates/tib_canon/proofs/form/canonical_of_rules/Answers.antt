@@ -27,15 +27,15 @@ in_order-requires-clause-labelled g c = labels_kept g.S.Semiring.product c.args.
 
 pub returns-clause-canonical : goal.returns-clause-canonical
 returns-clause-canonical g c =
-    if_ok _ (λ h. OverStates c.args.states c.args.rules.items (λ k. IsCanonical g.S.Semiring.product g.S.Semiring.WEIGHTED c.args.labels.now k h.grammar)) c.in_order.result
-    (λ h o. is_canonical g.S.Semiring.product c.args.states c.args.rules.items c.in_ok-trimmed.trimmed.states.items c.in_ok-trimmed.trimmed.rules.items c.in_ok-trimmed.ensures.trimmed g.S.Semiring.WEIGHTED c.args.labels.now c.len.result (c.len.ensures ∙ c.in_ok-trimmed.trimmed.states.ok.0) h.grammar o) c.in_order.ensures.in_order
+    if_ok _ (λ h. OverStates c.args.states c.args.rules.items (λ k. IsCanonical g.S.Semiring.product g.S.Semiring.SCALE c.args.labels.now k h.grammar)) c.in_order.result
+    (λ h o. is_canonical g.S.Semiring.product c.args.states c.args.rules.items c.in_ok-trimmed.trimmed.states.items c.in_ok-trimmed.trimmed.rules.items c.in_ok-trimmed.ensures.trimmed g.S.Semiring.SCALE c.args.labels.now c.len.result (c.len.ensures ∙ c.in_ok-trimmed.trimmed.states.ok.0) h.grammar o) c.in_order.ensures.in_order
 
 pub returns-clause-series : goal.returns-clause-series
 returns-clause-series g c =
     if_ok _ (λ h. OverStates c.args.states c.args.rules.items (λ k. HasSameSeries g.S.Semiring.product k h.grammar)) c.in_order.result
-    (λ h o. has_series g.S.Semiring.product c.args.states c.args.rules.items c.in_ok-trimmed.trimmed.states.items c.in_ok-trimmed.trimmed.rules.items c.in_ok-trimmed.ensures.trimmed g.S.Semiring.WEIGHTED c.args.labels.now c.len.result (c.len.ensures ∙ c.in_ok-trimmed.trimmed.states.ok.0) h.grammar o g.met.S.Semiring.laws c.in_ok-trimmed.ensures.series) c.in_order.ensures.in_order
+    (λ h o. has_series g.S.Semiring.product c.args.states c.args.rules.items c.in_ok-trimmed.trimmed.states.items c.in_ok-trimmed.trimmed.rules.items c.in_ok-trimmed.ensures.trimmed g.S.Semiring.SCALE c.args.labels.now c.len.result (c.len.ensures ∙ c.in_ok-trimmed.trimmed.states.ok.0) h.grammar o g.met.S.Semiring.laws c.in_ok-trimmed.ensures.series) c.in_order.ensures.in_order
 
 pub returns-clause-labelled : goal.returns-clause-labelled
 returns-clause-labelled g c =
     if_ok _ (λ h. AreLabelled (length c.args.labels.now) h.grammar.rules) c.in_order.result
-    (λ h o. labels_still g.S.Semiring.product c.args.states c.args.rules.items c.in_ok-trimmed.trimmed.states.items c.in_ok-trimmed.trimmed.rules.items c.in_ok-trimmed.ensures.trimmed g.S.Semiring.WEIGHTED c.args.labels.now c.len.result (c.len.ensures ∙ c.in_ok-trimmed.trimmed.states.ok.0) h.grammar o (length c.args.labels.now) c.requires.labelled) c.in_order.ensures.in_order
+    (λ h o. labels_still g.S.Semiring.product c.args.states c.args.rules.items c.in_ok-trimmed.trimmed.states.items c.in_ok-trimmed.trimmed.rules.items c.in_ok-trimmed.ensures.trimmed g.S.Semiring.SCALE c.args.labels.now c.len.result (c.len.ensures ∙ c.in_ok-trimmed.trimmed.states.ok.0) h.grammar o (length c.args.labels.now) c.requires.labelled) c.in_order.ensures.in_order

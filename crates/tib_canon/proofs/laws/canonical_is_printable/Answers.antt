@@ -2,4 +2,4 @@ use Rattle.tib_canon.proofs.PrintableRules.{canonical_printable}
 use Rattle.tib_canon.proofs.laws.canonical_is_printable.Goals as goal
 
 pub returns : goal.returns
-returns c product weighted labels = canonical_printable weighted labels product
+returns c product scale labels = canonical_printable scale labels product

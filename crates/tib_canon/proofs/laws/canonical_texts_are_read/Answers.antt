@@ -3,4 +3,4 @@ use Rattle.tib_canon.proofs.CanonicalTexts.{canonical_text}
 use Rattle.tib_canon.proofs.laws.canonical_texts_are_read.Goals as goal
 
 pub returns : goal.returns
-returns g c weighted labels m h some few range leaves printable canonical = canonical_text g.met.S.Semiring.laws weighted labels m h canonical some range (omega arith) leaves printable
+returns g c scale labels m h some few range leaves printable canonical = canonical_text g.met.S.Semiring.laws scale labels m h canonical some range (omega arith) leaves printable

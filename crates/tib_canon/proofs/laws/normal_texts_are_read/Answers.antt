@@ -3,4 +3,4 @@ use Rattle.tib_canon.proofs.CanonicalTexts.{normal_text}
 use Rattle.tib_canon.proofs.laws.normal_texts_are_read.Goals as goal
 
 pub returns : goal.returns
-returns g c weighted labels f m h some few = normal_text g.met.S.Semiring.laws weighted labels f m h some (omega arith)
+returns g c scale labels f m h some few = normal_text g.met.S.Semiring.laws scale labels f m h some (omega arith)

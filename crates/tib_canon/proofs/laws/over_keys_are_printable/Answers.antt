@@ -2,4 +2,4 @@ use Rattle.tib_canon.proofs.PrintableRules.{over_printable}
 use Rattle.tib_canon.proofs.laws.over_keys_are_printable.Goals as goal
 
 pub returns : goal.returns
-returns g c weighted labels = over_printable weighted labels g.K.Ord.cmp
+returns g c scale labels = over_printable scale labels g.K.Ord.cmp

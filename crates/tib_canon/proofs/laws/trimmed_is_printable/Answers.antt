@@ -2,4 +2,4 @@ use Rattle.tib_canon.proofs.PrintableRules.{trimmed_printable}
 use Rattle.tib_canon.proofs.laws.trimmed_is_printable.Goals as goal
 
 pub returns : goal.returns
-returns c product weighted labels = trimmed_printable weighted labels product
+returns c product scale labels = trimmed_printable scale labels product

@@ -9,15 +9,15 @@ build-requires-clause-source g c = source_of _ c.args.bytes.now c.new-names.resu
 
 pub returns-in-Ok-build-clause-text : goal.returns-in-Ok-build-clause-text
 returns-in-Ok-build-clause-text g c =
-    read_as g.S.Semiring.WEIGHTED _ c.build.new.labels c.args.bytes.now c.new-names.result c.read_raw.new.names c.read_raw.new.texts c.in-Ok.raw c.in-Ok-build.grammar c.WEIGHTED.ensures c.new-names.ensures c.requires.short c.in-Ok.ensures.raw c.in-Ok-build.ensures.grammar
+    read_as g.S.Semiring.SCALE _ c.build.new.labels c.args.bytes.now c.new-names.result c.read_raw.new.names c.read_raw.new.texts c.in-Ok.raw c.in-Ok-build.grammar c.SCALE.ensures c.new-names.ensures c.requires.short c.in-Ok.ensures.raw c.in-Ok-build.ensures.grammar
 
 pub returns-in-Ok-build-clause-labelled : goal.returns-in-Ok-build-clause-labelled
 returns-in-Ok-build-clause-labelled g c =
-    text_labelled g.S.Semiring.WEIGHTED c.build.new.labels c.args.bytes.now c.in-Ok-build.grammar
-    (read_as g.S.Semiring.WEIGHTED _ c.build.new.labels c.args.bytes.now c.new-names.result c.read_raw.new.names c.read_raw.new.texts c.in-Ok.raw c.in-Ok-build.grammar c.WEIGHTED.ensures c.new-names.ensures c.requires.short c.in-Ok.ensures.raw c.in-Ok-build.ensures.grammar)
+    text_labelled g.S.Semiring.SCALE c.build.new.labels c.args.bytes.now c.in-Ok-build.grammar
+    (read_as g.S.Semiring.SCALE _ c.build.new.labels c.args.bytes.now c.new-names.result c.read_raw.new.names c.read_raw.new.texts c.in-Ok.raw c.in-Ok-build.grammar c.SCALE.ensures c.new-names.ensures c.requires.short c.in-Ok.ensures.raw c.in-Ok-build.ensures.grammar)
 
 pub returns-clause-fault : goal.returns-clause-fault
-returns-clause-fault g c = cause_of g.S.Semiring.WEIGHTED _ c.new-names.result c.read_raw.new.names c.read_raw.new.texts c.args.bytes.now c.in-Err.error c.WEIGHTED.ensures c.in-Err.ensures.raw
+returns-clause-fault g c = cause_of g.S.Semiring.SCALE _ c.new-names.result c.read_raw.new.names c.read_raw.new.texts c.args.bytes.now c.in-Err.error c.SCALE.ensures c.in-Err.ensures.raw
 
 pub build-requires-clause-room : goal.build-requires-clause-room
 build-requires-clause-room g c = omega (arith, c.in-Ok.ensures.few, c.requires.room)

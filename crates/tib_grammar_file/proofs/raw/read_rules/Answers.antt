@@ -18,7 +18,7 @@ loop-line-init c = record {
 
 pub returns-in-Err-clause-rules : goal.returns-in-Err-clause-rules
 returns-in-Err-clause-rules c =
-    failed (rule_line c.args.weighted) c.args.names.now c.loop-line.names c.add_line.new.names c.loop-line.texts c.add_line.new.texts c.loop-line.raw c.add_line.new.raw c.loop-line.number c.loop-line.at c.in-Some.line c.line_bytes.result.now c.args.bytes.now _ c.in-Err.error _
+    failed (rule_line c.args.scale) c.args.names.now c.loop-line.names c.add_line.new.names c.loop-line.texts c.add_line.new.texts c.loop-line.raw c.add_line.new.raw c.loop-line.number c.loop-line.at c.in-Some.line c.line_bytes.result.now c.args.bytes.now _ c.in-Err.error _
     c.in-Some.ensures.line c.line_bytes.ensures c.file_error.ensures c.in-Err.ensures.line c.loop-line.invariant.so_far
 
 pub loop-line-preserved : goal.loop-line-preserved
@@ -32,9 +32,9 @@ loop-line-preserved c =
       texts = omega (arith, i.texts, i.from, text_within c.args.bytes.now c.loop-line.number c.loop-line.at c.in-Some.line c.line_bytes.result.now next c.line_bytes.ensures, c.add_line.ensures.few_texts);
       nodes = omega (arith, i.nodes, i.from, text_within c.args.bytes.now c.loop-line.number c.loop-line.at c.in-Some.line c.line_bytes.result.now next c.line_bytes.ensures, c.in-Ok.ensures.few_nodes);
       from = omega (arith, i.from, next.goes_on);
-      so_far = goes (rule_line c.args.weighted) c.args.names.now c.loop-line.names c.add_line.new.names c.loop-line.texts c.add_line.new.texts c.loop-line.raw c.add_line.new.raw c.loop-line.number c.loop-line.at c.in-Some.line c.args.bytes.now _
+      so_far = goes (rule_line c.args.scale) c.args.names.now c.loop-line.names c.add_line.new.names c.loop-line.texts c.add_line.new.texts c.loop-line.raw c.add_line.new.raw c.loop-line.number c.loop-line.at c.in-Some.line c.args.bytes.now _
           next c.add_line.ensures.names c.add_line.ensures.texts
-          (subst (λ (text : List ℕ). AddsLine c.loop-line.names c.add_line.new.names c.add_line.new.texts c.loop-line.raw c.add_line.new.raw (Ok tt) (rule_line c.args.weighted text)) c.line_bytes.ensures c.in-Ok.ensures.line) i.so_far;
+          (subst (λ (text : List ℕ). AddsLine c.loop-line.names c.add_line.new.names c.add_line.new.texts c.loop-line.raw c.add_line.new.raw (Ok tt) (rule_line c.args.scale text)) c.line_bytes.ensures c.in-Ok.ensures.line) i.so_far;
     }
 
 pub add_line-requires-clause-plain : goal.add_line-requires-clause-plain

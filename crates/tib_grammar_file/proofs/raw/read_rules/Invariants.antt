@@ -12,7 +12,7 @@ invariant-loop-line l = record {
   texts : length l.texts ≤ length l.fn.texts + (l.at - l.start);
   nodes : length l.raw.nodes.items ≤ l.at - l.start;
   from : l.start ≤ l.at;
-  so_far : SoFar l.fn.names l.names l.texts l.raw (rules_from l.weighted l.number (lines_of (drop l.at l.bytes))) (rules_from l.weighted l.first (lines_of (drop l.start l.bytes)));
+  so_far : SoFar l.fn.names l.names l.texts l.raw (rules_from l.scale l.number (lines_of (drop l.at l.bytes))) (rules_from l.scale l.first (lines_of (drop l.start l.bytes)));
 }
 
 abbrev pub decreases-loop-line : goal.decreases-loop-line

@@ -14,7 +14,7 @@ pub read_rules-requires-clause-texts : goal.read_rules-requires-clause-texts
 read_rules-requires-clause-texts c = omega (arith, ap length c.requires.texts, c.requires.short)
 
 pub returns-in-Err-clause-raw : goal.returns-in-Err-clause-raw
-returns-in-Err-clause-raw c = whole_failed c.args.weighted c.args.names.now c.find_start.new.names c.args.texts.now c.args.bytes.now c.in-Err.error c.in-Err.ensures
+returns-in-Err-clause-raw c = whole_failed c.args.scale c.args.names.now c.find_start.new.names c.args.texts.now c.args.bytes.now c.in-Err.error c.in-Err.ensures
 
 pub returns-clause-raw : goal.returns-clause-raw
-returns-clause-raw c = whole_read c.args.weighted c.args.names.now c.find_start.new.names c.read_rules.new.names c.read_rules.new.texts c.args.bytes.now c.in-Ok.begun c.read_rules.result c.in-Ok.ensures c.read_rules.ensures.rules
+returns-clause-raw c = whole_read c.args.scale c.args.names.now c.find_start.new.names c.read_rules.new.names c.read_rules.new.texts c.args.bytes.now c.in-Ok.begun c.read_rules.result c.in-Ok.ensures c.read_rules.ensures.rules

@@ -12,14 +12,14 @@ use Rattle.tib_grammar_file.proofs.raw.RawReader.add_line.Goals as goal
 
 pub returns-then-not-branch-clause-line : goal.returns-then-not-branch-clause-line
 returns-then-not-branch-clause-line c =
-    bad_rule_line c.args.weighted c.args.line.now (refused c.in_ok-read_tokens.field-0 _ _ c.if-not-branch.true c.in_ok-read_tokens.ensures.words)
+    bad_rule_line c.args.scale c.args.line.now (refused c.in_ok-read_tokens.field-0 _ _ c.if-not-branch.true c.in_ok-read_tokens.ensures.words)
 
 pub returns-then-is_empty-clause-line : goal.returns-then-is_empty-clause-line
 returns-then-is_empty-clause-line c =
     let ts = c.read_tokens.new.tokens in
     let e = c.if-is_empty.ensures in
     let n : length ts.items ≡ 0 = grind (arith, nat_tests, ts.ok.0) in
-    inl (blank_rule_line c.args.weighted c.args.line.now ts.items (accepted c.in_ok-read_tokens.field-0 _ _ c.if-not-branch.false c.in_ok-read_tokens.ensures.words) n, refl, refl)
+    inl (blank_rule_line c.args.scale c.args.line.now ts.items (accepted c.in_ok-read_tokens.field-0 _ _ c.if-not-branch.false c.in_ok-read_tokens.ensures.words) n, refl, refl)
 
 pub returns-in-None-clause-line : goal.returns-in-None-clause-line
 returns-in-None-clause-line c =
@@ -27,7 +27,7 @@ returns-in-None-clause-line c =
     let e = c.if-is_empty.ensures in
     let n : 0 < length ts.items = grind (arith, nat_tests, ts.ok.0) in
     let s = some_found c.args.line.now ts.items c.deref.result.now c.read_parts.new.reader.places.items c.in_ok-found.field-0 _ (accepted c.in_ok-read_tokens.field-0 _ _ c.if-not-branch.false c.in_ok-read_tokens.ensures.words) n c.deref.ensures.value c.in_ok-found.ensures.parts c.in-None.is in
-    no_rule_line c.args.weighted c.args.line.now ts.items c.deref.result.now s
+    no_rule_line c.args.scale c.args.line.now ts.items c.deref.result.now s
 
 pub returns-in-Err-clause-line : goal.returns-in-Err-clause-line
 returns-in-Err-clause-line c =
@@ -35,7 +35,7 @@ returns-in-Err-clause-line c =
     let e = c.if-is_empty.ensures in
     let n : 0 < length ts.items = grind (arith, nat_tests, ts.ok.0) in
     let s = some_found c.args.line.now ts.items c.deref.result.now c.read_parts.new.reader.places.items c.in_ok-found.field-0 _ (accepted c.in_ok-read_tokens.field-0 _ _ c.if-not-branch.false c.in_ok-read_tokens.ensures.words) n c.deref.ensures.value c.in_ok-found.ensures.parts c.in-Some.is in
-    cost_failed c.args.weighted c.args.names.now c.args.names.now c.args.texts.now c.args.raw.now c.args.raw.now c.args.line.now ts.items c.deref.result.now c.read_parts.new.reader.places.items c.in-Some.found c.in-Err.error s c.in-Err.ensures
+    cost_failed c.args.scale c.args.names.now c.args.names.now c.args.texts.now c.args.raw.now c.args.raw.now c.args.line.now ts.items c.deref.result.now c.read_parts.new.reader.places.items c.in-Some.found c.in-Err.error s c.in-Err.ensures
 
 pub returns-then-count-gt-MOST_NODES-clause-line : goal.returns-then-count-gt-MOST_NODES-clause-line
 returns-then-count-gt-MOST_NODES-clause-line c =
@@ -43,7 +43,7 @@ returns-then-count-gt-MOST_NODES-clause-line c =
     let e = c.if-is_empty.ensures in
     let n : 0 < length ts.items = grind (arith, nat_tests, ts.ok.0) in
     let s = some_found c.args.line.now ts.items c.deref.result.now c.read_parts.new.reader.places.items c.in_ok-found.field-0 _ (accepted c.in_ok-read_tokens.field-0 _ _ c.if-not-branch.false c.in_ok-read_tokens.ensures.words) n c.deref.ensures.value c.in_ok-found.ensures.parts c.in-Some.is in
-    large_rule_line c.args.weighted c.args.line.now ts.items c.deref.result.now _ c.read_parts.new.reader.places.items _ c.in-Ok.cost s c.in-Ok.ensures (omega (arith, c.read_parts.new.reader.places.ok.0, c.if-count-gt-MOST_NODES.true))
+    large_rule_line c.args.scale c.args.line.now ts.items c.deref.result.now _ c.read_parts.new.reader.places.items _ c.in-Ok.cost s c.in-Ok.ensures (omega (arith, c.read_parts.new.reader.places.ok.0, c.if-count-gt-MOST_NODES.true))
 
 pub returns-in-Ok-push-clause-line : goal.returns-in-Ok-push-clause-line
 returns-in-Ok-push-clause-line c =
@@ -54,7 +54,7 @@ returns-in-Ok-push-clause-line c =
     let line : RuleLine = rule_line_of (text_of (word_at c.args.line.now c.in-Some.found.left)) (items_back c.args.line.now c.read_parts.new.reader.places.items) c.in-Ok.cost in
     inr (
       line,
-      good_rule_line c.args.weighted c.args.line.now ts.items c.deref.result.now _ c.read_parts.new.reader.places.items _ c.in-Ok.cost s c.in-Ok.ensures (omega (arith, c.read_parts.new.reader.places.ok.0, c.if-count-gt-MOST_NODES.false)),
+      good_rule_line c.args.scale c.args.line.now ts.items c.deref.result.now _ c.read_parts.new.reader.places.items _ c.in-Ok.cost s c.in-Ok.ensures (omega (arith, c.read_parts.new.reader.places.ok.0, c.if-count-gt-MOST_NODES.false)),
       record {
         raw = record { left = c.in_ok-left.left; nodes = c.len-count.result; cost = c.in-Ok.cost };
         is = record {
