@@ -17,7 +17,8 @@ use Rattle.tib_command.specs.Words.{Text, Item, reads, values_of, mode, depth, w
 abbrev pub mode_in : Text → Option Mode
 mode_in text = if bytes_eq text (codes "minplus") then Some m.MinPlus
     else (if bytes_eq text (codes "bottleneck") then Some m.Bottleneck
-    else (if bytes_eq text (codes "boolean") then Some m.Boolean else None))
+    else (if bytes_eq text (codes "widest") then Some m.Widest
+    else (if bytes_eq text (codes "boolean") then Some m.Boolean else None)))
 
 -- one to twelve decimal digits
 abbrev pub is_numeral : Text → Bool

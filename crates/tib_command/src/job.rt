@@ -12,6 +12,8 @@ pub enum Mode {
     MinPlus,
     /// The least greatest weight.
     Bottleneck,
+    /// The greatest least weight: of two weights the lesser counts, and the greater is better.
+    Widest,
     /// Whether there is a run; any name is a weight, and none is kept.
     Boolean,
 }

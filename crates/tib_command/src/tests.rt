@@ -193,6 +193,15 @@ static ACCEPTED: [Accepted; 23] = [
         &["a", "a"],
     ),
     (
+        &["-mwidest", "weigh", "a", "a"],
+        Mode::Widest,
+        Operation::Weigh,
+        1,
+        1,
+        20000000,
+        &["a", "a"],
+    ),
+    (
         &["weigh", "weigh", "weigh"],
         Mode::MinPlus,
         Operation::Weigh,

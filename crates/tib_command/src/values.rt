@@ -15,6 +15,7 @@ fn mode_in(text: &str) -> Option<Mode>
     match text {
         "minplus" => Some(Mode::MinPlus),
         "bottleneck" => Some(Mode::Bottleneck),
+        "widest" => Some(Mode::Widest),
         "boolean" => Some(Mode::Boolean),
         _ => None,
     }
