@@ -71,13 +71,17 @@ fn a_tree_of_10001_nodes_is_too_large(rt: HostRuntime) -> Result<(), Fail> {
     Ok(())
 }
 
-// A file of this many trees, each one label of its own, with the least number in four bytes.
+// The last digit of a number to the base 32, from the byte of `@` on.
+fn digit(number: u32) -> u8 {
+    b'@' + (number % 32) as u8
+}
+
+// A file of this many trees, each one label of its own.
 fn many_trees(alloc: Global, count: u32) -> Result<Vec<u8>, AllocError> {
     let mut bytes = Vec::new(alloc);
-    for number in 0..count {
-        for place in 0..4 {
-            bytes.push(b'0' + (number >> (5 * place)) as u8 % 32)?;
-        }
+    for n in 0..count {
+        let name = [digit(n), digit(n / 32), digit(n / 1024), digit(n / 32_768)];
+        bytes.extend_from_slice(&name)?;
         bytes.push(b'\n')?;
     }
     Ok(bytes)
@@ -94,7 +98,7 @@ fn a_long_file_is_read_whole(rt: HostRuntime) -> Result<(), Fail> {
         Err(_) => assert!(rt; false),
     }
     assert_eq!(rt; labels.len(), 70_000);
-    assert_eq!(rt; labels.find(b"1000"), Some(1));
+    assert_eq!(rt; labels.find(b"A@@@"), Some(1));
     Ok(())
 }
 
