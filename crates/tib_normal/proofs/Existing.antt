@@ -187,7 +187,7 @@ module _ (product : ℕ → ℕ → ℕ) (states : ℕ) (rules : List (Rule ℕ)
   forms_exist k =
       part_states states (λ own part.
       k (states + length (all_inner states rules)) (own ++ all_inner states rules)
-          (form_of product states rules (states + length (all_inner states rules)) own (owned own part) refl))
+      (form_of product states rules (states + length (all_inner states rules)) own (owned own part) refl))
     where
       -- no rule has the state itself
       owned : (own : List (Rule ℕ)) → ArePart states 0 own → AreOwn product states rules states own

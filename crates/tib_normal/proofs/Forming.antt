@@ -70,7 +70,7 @@ still (y ∷ ys) x z (inr m) (inl k) n = inl k
 still (y ∷ ys) x z (inr m) (inr k) n = inr (still ys x z m k n)
 
 -- of different values each of which stands in the other list, the total is at most that of the other list
-total_fewer : {A : Type 0} (f : A → ℕ) (R : A → A → Type 0) (xs ys : List A) → ((x : A) → R x x → ⊥) → Ascends R xs → ((x : A) → Has xs x → Has ys x) → total f xs ≤ total f ys
+pub total_fewer : {A : Type 0} (f : A → ℕ) (R : A → A → Type 0) (xs ys : List A) → ((x : A) → R x x → ⊥) → Ascends R xs → ((x : A) → Has xs x → Has ys x) → total f xs ≤ total f ys
 total_fewer f R [] ys n a h = omega arith
 total_fewer f R (x ∷ xs) ys n a h =
     let m = h x (inl refl) in
@@ -79,7 +79,7 @@ total_fewer f R (x ∷ xs) ys n a h =
     in
     omega (arith, rest, total_without f ys x m)
 
-total_append : {A : Type 0} (f : A → ℕ) (xs ys : List A) → total f (xs ++ ys) ≡ total f xs + total f ys
+pub total_append : {A : Type 0} (f : A → ℕ) (xs ys : List A) → total f (xs ++ ys) ≡ total f xs + total f ys
 total_append f [] ys = omega arith
 total_append f (x ∷ xs) ys = omega (arith, total_append f xs ys)
 

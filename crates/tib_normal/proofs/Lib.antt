@@ -5,8 +5,10 @@ pub mod Keys
 pub mod Waiting
 pub mod LoneSides
 pub mod Closing
-pub mod Bettering
+pub mod Gathering
+pub mod Ending
 pub mod Rowing
+pub mod Arranging
 pub mod Placing
 pub mod Costs
 pub mod Normalizing

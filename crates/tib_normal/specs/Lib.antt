@@ -10,7 +10,9 @@ pub mod Agenda
 pub mod Closure
 pub mod Offers
 pub mod Rows
-pub mod Offered
+pub mod Ways
+pub mod Gathered
+pub mod Arranging
 pub mod Places
 pub mod Numbering
 pub mod PlaceNames

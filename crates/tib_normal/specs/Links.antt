@@ -1,20 +1,22 @@
--- The rules of each state, one after another.
+-- The places of each key in a list of keys, one after another.
 use Rattle.std.specs.Prelude.{◌≡◌, ℕ, ◌+◌, ◌<◌, ◌≤◌, List, length}
 use Rattle.std.proofs.Common.{get_or}
-use Rattle.tib_grammar.specs.declared.Rule.{Rule}
-use Rattle.tib_grammar.specs.Run.{rule_at}
 use Rattle.tib_normal.specs.declared.links.Links.{Links}
 
--- p is the first position from i on of a rule of the state q, and the number of rules where there is none
-pub record IsNext (rules : List (Rule ℕ)) (q i p : ℕ) : Type 0 where
-  pub from : i ≤ p
-  pub within : p ≤ length rules
-  pub own : p < length rules → (rule_at rules p).left ≡ q
-  pub none_between : (n : ℕ) → i ≤ n → n < p → (rule_at rules n).left ≡ q → ⊥
+-- stands where there is no key
+abbrev pub no_key : ℕ
+no_key = 4294967295
 
--- each state's first rule, and the next rule of each rule's state
-pub record AreLinks (rules : List (Rule ℕ)) (states : ℕ) (links : Links) : Type 0 where
-  pub states_long : length links.first.items ≡ states
-  pub rules_long : length links.next.items ≡ length rules
-  pub first : (q : ℕ) → q < states → IsNext rules q 0 (get_or links.first.items q 0)
-  pub next : (n : ℕ) → n < length rules → IsNext rules (rule_at rules n).left (n + 1) (get_or links.next.items n 0)
+-- p is the first place from i on of the key k, and the number of keys where there is none
+pub record IsNext (keys : List ℕ) (k i p : ℕ) : Type 0 where
+  pub from : i ≤ p
+  pub within : p ≤ length keys
+  pub own : p < length keys → get_or keys p no_key ≡ k
+  pub none_between : (n : ℕ) → i ≤ n → n < p → get_or keys n no_key ≡ k → ⊥
+
+-- the first place of each key below a number, and the next place of each such key
+pub record AreLinks (keys : List ℕ) (count : ℕ) (links : Links) : Type 0 where
+  pub keys_long : length links.first.items ≡ count
+  pub places_long : length links.next.items ≡ length keys
+  pub first : (k : ℕ) → k < count → IsNext keys k 0 (get_or links.first.items k 0)
+  pub next : (n : ℕ) → n < length keys → get_or keys n no_key < count → IsNext keys (get_or keys n no_key) (n + 1) (get_or links.next.items n 0)

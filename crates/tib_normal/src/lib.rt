@@ -2,7 +2,6 @@
 #![tactic(auto)]
 
 mod agenda;
-mod chains;
 mod error;
 mod index;
 pub mod laws;
@@ -10,10 +9,13 @@ mod links;
 mod normal;
 mod normal_form;
 mod place_names;
+mod row;
 mod rows;
 mod sides;
+mod spread;
 #[cfg(test)]
 mod tests;
+mod ways;
 
 pub use error::NormalError;
 pub use normal::Normal;

@@ -1,17 +1,19 @@
 // The normal form of a grammar.
 ghost use Rattle.std.specs.Prelude.{◌≡◌, ℕ, ◌+◌, ◌<◌, ◌≤◌, ◌^◌, List, [], ◌∷◌, length, OnOk, IfErr, IfOk, None, Some, Option, IfSome, IfNone, sum_by, reverse, ◌++◌};
-ghost use Rattle.tib_normal.specs.NormalForm.{labels_in, all_inner, IsNormalForm, KeepsSeries, normal_parts};
-ghost use Rattle.tib_normal.specs.Rows.{IfTooMany, HasMoreParts};
+ghost use Rattle.tib_normal.specs.NormalForm.{labels_in, all_inner, IsNormalForm, KeepsSeries, rule_parts, total, normal_parts};
+ghost use Rattle.tib_normal.specs.Index.{lists_of};
+ghost use Rattle.tib_normal.specs.Rows.{AreSides, AreOwn, AreTooMany, IfTooMany, HasMoreParts};
 ghost use Rattle.tib_normal.specs.Rules.{IsNormal};
 ghost use Rattle.tib_grammar.specs.Range.{AreInRange};
 ghost use Rattle.tib_normal.specs.Places.{below_root, parts_below, rule_labels};
 
 use crate::error::NormalError;
-use crate::links::Links;
 use crate::normal::Normal;
 use crate::place_names::all_names;
-use crate::rows::{Made, make_rules};
+use crate::rows::{Made, arrange};
 use crate::sides::Sides;
+use crate::spread::gather;
+use crate::ways::Ways;
 use std::alloc::{AllocError, Global};
 use tib_cost::Semiring;
 use tib_grammar::{Grammar, Item, Names, Rule};
@@ -77,11 +79,15 @@ fn count_places(rules: &[Rule<u32>], states: u32, limit: u64) -> Option<Places>
 }
 
 /// The normal form of a grammar: its states, and one for each place below a root where a right side has a label.
-/// Each state gets, at the least cost, the right sides of the states to which its chain rules lead (the least
-/// costs of chains by Dijkstra, 1959).
+/// Each state gets, at the least cost, the right sides of the states to which its chain rules lead: each side
+/// spreads against the chain rules, from all rules with this side together (least costs by Dijkstra, 1959).
 ///
 /// The limit is from 1 to 20,000,000. It answers `TooMany` where the normal form has more parts than that, and
 /// takes no memory for more.
+///
+/// It takes one pass over the grammar, and then for each rule of the normal form the chain rules to its left state,
+/// times the logarithm of what waits. The worst case is as many sides as rules, each with a cost at each state: the
+/// number of rules times that of chain rules, but no more than the limit times that of chain rules.
 pub fn normalize<S: Semiring + Drop>(
     alloc: Global,
     grammar: &Grammar<S>,
@@ -132,23 +138,54 @@ fn list_rules<S: Semiring>(
         Some(places) => places,
         None => return Err(NormalError::TooMany { limit }),
     };
-    let links = Links::new(alloc, rules, states as usize)?;
     let sides = Sides::new(alloc, rules, states, states + places.states, S::one())?;
-    let mut made = Made {
-        rules: Vec::new(alloc),
-        parts: places.parts,
-        limit,
-    };
-    match make_rules::<S>(alloc, rules, &links, &sides, states, &mut made) {
-        Ok(()) => {}
+    let own = match list_own::<S>(alloc, rules, &sides, states, places.parts, limit) {
+        Ok(own) => own,
         Err(fault) => return Err(fault),
-    }
-    let Made { rules: own, .. } = made;
+    };
     let rules = with_places(own, sides)?;
     Ok(Listed {
         rules,
         places: places.states,
     })
+}
+
+/// The rules of the grammar's own states in the normal form, where so many parts stand beside them.
+fn list_own<S: Semiring>(
+    alloc: Global,
+    rules: &[Rule<u32>],
+    sides: &Sides,
+    states: u32,
+    parts: u64,
+    limit: u64,
+) -> Result<Vec<Rule<u32>>, NormalError>
+    requires limit { limit ≤ 20000000 }
+    requires parts { parts ≤ limit }
+    requires few { length rules.now < 2 ^ 32 }
+    requires range { AreInRange states rules.now }
+    requires long { length sides.now.numbers.items ≡ length rules.now }
+    requires sides { AreSides states rules.now (lists_of sides.now.table.keys) sides.now.numbers.items }
+    ensures own { IfOk result (λ own. AreOwn S.product states rules.now states own.items) }
+    ensures within { IfOk result (λ own. parts + total rule_parts own.items ≤ limit) }
+    ensures many { IfErr result (λ e. IfTooMany e limit (AreTooMany S.product states rules.now parts limit)) }
+{
+    let ways = Ways::new(
+        alloc,
+        rules,
+        &sides.numbers,
+        sides.table.len(),
+        states as usize,
+    )?;
+    let mut made = Made {
+        rows: Vec::new(alloc),
+        parts,
+        limit,
+    };
+    match gather::<S>(alloc, rules, &ways, sides, states, &mut made) {
+        Ok(()) => {}
+        Err(error) => return Err(error),
+    }
+    Ok(arrange(alloc, &made.rows, sides, states)?)
 }
 
 /// The rules of the states and those of the places behind them.

@@ -127,6 +127,7 @@ impl Sides {
         requires zero { zero ≡ 0 }
         requires few { length rules.now < 2 ^ 32 }
         ensures inner { IfOk result (λ sides. reverse sides.inner.items ≡ all_inner states rules.now) }
+        ensures long { IfOk result (λ sides. length sides.numbers.items ≡ length rules.now) }
         ensures sides { IfOk result (λ sides. AreSides states rules.now (lists_of sides.table.keys) sides.numbers.items) }
     {
         let mut sides = Sides {
