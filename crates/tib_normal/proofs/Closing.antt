@@ -1,9 +1,8 @@
 -- How one side spreads against the chain rules to its least costs.
-use Rattle.std.specs.Prelude.{◌≡◌, ℕ, ◌+◌, ◌<◌, ◌≤◌, ◌⊎◌, List, [], ◌∷◌, ◌++◌, length, Option, None, Some, Contains, Bool, refl, slice_set, sum_by, ◌*◌}
+use Rattle.std.specs.Prelude.{◌≡◌, ℕ, ◌+◌, ◌<◌, ◌≤◌, ◌⊎◌, List, [], ◌∷◌, ◌++◌, length, Option, None, Some, Contains, Bool, refl, slice_set, ◌*◌}
 use Rattle.std.proofs.Common.{zero, suc, get_or, arith, ap, sym, ◌∙◌, subst, inl, inr, add-one}
 use Rattle.std.proofs.lemmas.List.Elements.{Contains-push, Contains-append_left}
-use Rattle.std.proofs.lemmas.List.{get_or-set_same, get_or-set_other, length-set}
-use Rattle.std.proofs.lemmas.List.Sums.{sum_by-set}
+use Rattle.std.proofs.lemmas.List.{get_or-set_other}
 use Rattle.std.proofs.Math.Nat.{suc-mul}
 use Rattle.tib_grammar.specs.Sides.{Lone}
 use Rattle.tib_grammar.specs.Range.{AreInRange}
@@ -12,9 +11,9 @@ use Rattle.tib_grammar.specs.declared.Rule.{Rule}
 use Rattle.tib_cost.specs.Semiring.{ProductLaws, most, cut}
 use Rattle.tib_cost.specs.Least.{IsLeast}
 use Rattle.tib_cost.proofs.Least.{cut-cases}
-use Rattle.tib_normal.specs.NormalForm.{IsChain, chain_cost, IsChainCost}
+use Rattle.tib_normal.specs.NormalForm.{IsChain, chain_cost}
 use Rattle.tib_normal.specs.Offers.{IsOffer, no_side}
-use Rattle.tib_normal.specs.Closure.{LeadsTo, Waits, IsToldOf, IsClosing, Spreads, IsStep, AreListed, AreBelow}
+use Rattle.tib_normal.specs.Closure.{LeadsTo, Waits, HasOrWaits, IsClosing, Spreads, IsStep, AreListed, AreBelow}
 use Rattle.tib_normal.specs.Entries.{AddsEntry, TakesLeast}
 use Rattle.tib_normal.specs.Links.{IsNext, no_key}
 use Rattle.tib_normal.specs.Ways.{AreEnds}
@@ -58,7 +57,7 @@ module _ {levelled weighted : Bool} {product : ℕ → ℕ → ℕ} (laws : Prod
     nothing : (r d : ℕ) → costs r ≡ None → costs r ≡ Some d → ⊥
     nothing r d e h = let k : None ≡ Some d = sym e ∙ h in cc k
 
-    waiting : (r c m : ℕ) → costs r ≡ None → IsToldOf costs entries r c → c ≤ m → (e : ℕ × ℕ) × Contains entries e × (e.0 ≤ m)
+    waiting : (r c m : ℕ) → costs r ≡ None → HasOrWaits costs entries r c → c ≤ m → (e : ℕ × ℕ) × Contains entries e × (e.0 ≤ m)
     waiting r c m unknown (inl k) b = absurd (nothing r k.0 unknown k.1)
     waiting r c m unknown (inr w) b = ((w.cost, r), w.held, omega (arith, w.small, b))
 
@@ -136,11 +135,11 @@ module _ {levelled weighted : Bool} {product : ℕ → ℕ → ℕ} (laws : Prod
       start = λ n h k b. told (rule_at rules n).left (rule_at rules n).cost (closing.start n h k b);
     }
       where
-        has : (r c : ℕ) → (r ≡ e.1) ⊎ Waits rest r c → IsToldOf costs rest r c
+        has : (r c : ℕ) → (r ≡ e.1) ⊎ Waits rest r c → HasOrWaits costs rest r c
         has r c (inl k) = inl (d, ap costs k ∙ at)
         has r c (inr w) = inr w
 
-        told : (r c : ℕ) → IsToldOf costs entries r c → IsToldOf costs rest r c
+        told : (r c : ℕ) → HasOrWaits costs entries r c → HasOrWaits costs rest r c
         told r c (inl k) = inl k
         told r c (inr w) = has r c (waits_on e rest t r c w)
 
@@ -175,17 +174,17 @@ module _ {levelled weighted : Bool} {product : ℕ → ℕ → ℕ} (laws : Prod
             subst (λ z. IsLeast (IsOffer product rules numbers z s) (Some d)) (sym k) (subst (λ o. IsLeast (IsOffer product rules numbers e.1 s) o) v (popped e rest t unknown))
         exact r d h (inr k) = closing.exact r d (sym (others r k) ∙ h)
 
-        has : (r c : ℕ) → (r ≡ e.1) ⊎ Waits rest r c → IsToldOf after new r c
+        has : (r c : ℕ) → (r ≡ e.1) ⊎ Waits rest r c → HasOrWaits after new r c
         has r c (inl k) = inl (e.0, ap after k ∙ here)
         has r c (inr w) = inr (record { cost = w.cost; held = spreads.kept (w.cost, r) w.held; small = w.small })
 
-        told : (r c : ℕ) → IsToldOf costs entries r c → IsToldOf after new r c
+        told : (r c : ℕ) → HasOrWaits costs entries r c → HasOrWaits after new r c
         told r c (inl k) = inl (k.0, kept r k.0 k.1)
         told r c (inr w) = has r c (waits_on e rest t r c w)
 
         covered :
             (p d n r : ℕ) → after r ≡ Some d → LeadsTo rules p n r → product d (rule_at rules n).cost ≤ most → (r ≡ e.1) ⊎ (r ≡ e.1 → ⊥) →
-            IsToldOf after new p (product d (rule_at rules n).cost)
+            HasOrWaits after new p (product d (rule_at rules n).cost)
         covered p d n r at l b (inl k) =
             let v : Some d ≡ Some e.0 = sym at ∙ ap after k ∙ here in
             let same : d ≡ e.0 = cc v in

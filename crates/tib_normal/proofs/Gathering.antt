@@ -1,17 +1,15 @@
 -- How the rows of one side are gathered while it spreads.
 use Rattle.std.specs.Prelude.{◌≡◌, ℕ, ◌+◌, ◌<◌, ◌≤◌, ◌⊎◌, List, [], ◌∷◌, ◌++◌, length, Option, None, Some, Contains, Bool, refl, slice_set, sum_by, ◌*◌}
-use Rattle.std.proofs.Common.{zero, suc, get_or, arith, ap, sym, ◌∙◌, subst, inl, inr}
+use Rattle.std.proofs.Common.{get_or, arith, ap, sym, ◌∙◌, subst, inl, inr}
 use Rattle.std.proofs.lemmas.List.{get_or-set_same, get_or-set_other, length-set}
 use Rattle.std.proofs.lemmas.List.Sums.{sum_by-set}
-use Rattle.tib_lex.specs.Lists.{Has, Each, Ascends}
+use Rattle.tib_lex.specs.Lists.{Has}
 use Rattle.tib_grammar.specs.Range.{AreInRange}
-use Rattle.tib_grammar.specs.Run.{rule_at}
 use Rattle.tib_grammar.specs.declared.Rule.{Rule}
-use Rattle.tib_grammar.proofs.Members.{each_of, has_left, has_right, has_either}
+use Rattle.tib_grammar.proofs.Members.{has_left, has_right, has_either}
 use Rattle.tib_cost.specs.Semiring.{ProductLaws, most}
 use Rattle.tib_cost.specs.Least.{IsLeast, AtMost}
 use Rattle.tib_normal.specs.NormalForm.{rule_parts, total}
-use Rattle.tib_normal.specs.Rows.{side_at}
 use Rattle.tib_normal.specs.Offers.{IsOffer}
 use Rattle.tib_normal.specs.Closure.{IsClosing, Skips, Settles, AreListed, AreBelow}
 use Rattle.tib_normal.specs.Entries.{TakesLeast}

@@ -1,23 +1,20 @@
 -- How rows become the rules of the grammar's own states in its normal form.
-use Rattle.std.specs.Prelude.{◌≡◌, ℕ, ◌+◌, ◌<◌, ◌≤◌, ◌⊎◌, List, [], ◌∷◌, length, slice_get, None, Some, refl}
+use Rattle.std.specs.Prelude.{◌≡◌, ℕ, ◌+◌, ◌<◌, ◌≤◌, List, [], ◌∷◌, length, slice_get, None, Some, refl}
 use Rattle.std.specs.Global.{Vec}
 use Rattle.std.proofs.Common.{zero, suc, get_or, arith, ap, sym, ◌∙◌, subst, inl, inr}
 use Rattle.std.proofs.lemmas.List.{length-map}
 use Rattle.tib_tree.specs.Trees.{sizes}
 use Rattle.tib_lex.specs.Lists.{Has, Ascends}
-use Rattle.tib_cost.specs.Semiring.{most}
 use Rattle.tib_cost.specs.Least.{IsLeast}
 use Rattle.tib_cost.proofs.Least.{IsLeast-same}
 use Rattle.tib_grammar.specs.declared.Rule.{Rule}
 use Rattle.tib_grammar.specs.Run.{rule_at}
 use Rattle.tib_grammar.specs.Sides.{Symbol, label, hole, leaves, Side as SideFor}
 use Rattle.tib_grammar.proofs.Members.{each_of, each_has}
-use Rattle.tib_normal.specs.declared.error.NormalError.{NormalError}
-use Rattle.tib_normal.specs.declared.error.NormalError.TheVariants.{TooMany, OutOfMemory}
 use Rattle.tib_normal.specs.declared.row.Row.{Row}
 use Rattle.tib_normal.specs.Index.{lists_of}
 use Rattle.tib_normal.specs.NormalForm.{chain_cost, Reaches, rule_parts, total}
-use Rattle.tib_normal.specs.Rows.{side_of, side_at, HasSide, AreSides, AreRows, AreOwn, AreTooMany, IfTooMany}
+use Rattle.tib_normal.specs.Rows.{side_of, side_at, HasSide, AreSides, AreRows, AreOwn, AreTooMany}
 use Rattle.tib_normal.specs.Offers.{IsOffer, no_side}
 use Rattle.tib_normal.specs.Gathered.{AreFull, rule_of, row_parts, AreOther, AreLeastRows, AreGathered, HaveMoreParts}
 use Rattle.tib_normal.specs.Arranging.{HaveOneNumber, AreArranged}

@@ -1,5 +1,5 @@
 -- The rules of rows as they are arranged, state by state.
-use Rattle.std.specs.Prelude.{◌≡◌, ℕ, ◌<◌, ◌≤◌, ◌⊎◌, List, length, map}
+use Rattle.std.specs.Prelude.{◌≡◌, ℕ, ◌<◌, ◌≤◌, List, length, map}
 use Rattle.std.proofs.Common.{get_or}
 use Rattle.tib_lex.specs.Lists.{Has, Ascends}
 use Rattle.tib_grammar.specs.declared.Rule.{Rule}

@@ -24,8 +24,8 @@ pub record Waits (entries : List (ℕ × ℕ)) (r c : ℕ) : Type 0 where
   pub small : cost ≤ c
 
 -- r has its cost, or waits for one of at most c
-abbrev pub IsToldOf : (ℕ → Option ℕ) → List (ℕ × ℕ) → ℕ → ℕ → Type 0
-IsToldOf costs entries r c = ((e : ℕ) × (costs r ≡ Some e)) ⊎ Waits entries r c
+abbrev pub HasOrWaits : (ℕ → Option ℕ) → List (ℕ × ℕ) → ℕ → ℕ → Type 0
+HasOrWaits costs entries r c = ((e : ℕ) × (costs r ≡ Some e)) ⊎ Waits entries r c
 
 -- Some states have their least costs of the side s. Where a chain rule leads to one of them, its left state has one
 -- too or waits; and so has each rule with the side.
@@ -34,10 +34,10 @@ pub record IsClosing (product : ℕ → ℕ → ℕ) (rules : List (Rule ℕ)) (
   pub offers : (e : ℕ × ℕ) → Contains entries e → IsOffer product rules numbers e.1 s e.0 × (e.0 ≤ most)
   pub covered :
       (p d n r : ℕ) → costs r ≡ Some d → LeadsTo rules p n r → product d (rule_at rules n).cost ≤ most →
-      IsToldOf costs entries p (product d (rule_at rules n).cost)
+      HasOrWaits costs entries p (product d (rule_at rules n).cost)
   pub start :
       (n : ℕ) → n < length rules → get_or numbers n no_side ≡ s → (rule_at rules n).cost ≤ most →
-      IsToldOf costs entries (rule_at rules n).left (rule_at rules n).cost
+      HasOrWaits costs entries (rule_at rules n).left (rule_at rules n).cost
 
 -- The entries grow by the left state of one rule, at the product of d and the rule's cost.
 pub record IsStep (product : ℕ → ℕ → ℕ) (r : Rule ℕ) (d : ℕ) (old new : List (ℕ × ℕ)) : Type 0 where

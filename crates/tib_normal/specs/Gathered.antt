@@ -1,5 +1,5 @@
 -- The rows that are gathered side by side, and the rules that they stand for.
-use Rattle.std.specs.Prelude.{◌≡◌, ℕ, ◌+◌, ◌^◌, ◌<◌, ◌≤◌, List, length, [], ◌∷◌, Some}
+use Rattle.std.specs.Prelude.{◌≡◌, ℕ, ◌+◌, ◌^◌, ◌<◌, ◌≤◌, List, length, [], Some}
 use Rattle.std.proofs.Common.{get_or}
 use Rattle.tib_lex.specs.Lists.{Has, Ascends}
 use Rattle.tib_cost.specs.Semiring.{most}

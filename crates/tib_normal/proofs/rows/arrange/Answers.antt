@@ -1,8 +1,5 @@
-use Rattle.std.proofs.Common.{arith, sym, subst, ap, ◌≡◌, length, List, ℕ}
-use Rattle.tib_normal.specs.Arranging.{states_of, IsArranging}
 use Rattle.tib_normal.specs.Index.{lists_of}
-use Rattle.tib_normal.specs.Links.{AreLinks}
-use Rattle.tib_normal.proofs.Arranging.{states_long, arranging-none, arranging-next, arranged}
+use Rattle.tib_normal.proofs.Arranging.{arranging-none, arranging-next, arranged}
 use Rattle.tib_normal.proofs.rows.arrange.Goals as goal
 
 pub loop-state-init : goal.loop-state-init

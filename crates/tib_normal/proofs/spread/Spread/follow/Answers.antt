@@ -1,9 +1,9 @@
-use Rattle.std.proofs.Common.{ℕ, List, arith, ap, sym, subst, ◌≡◌, ◌∙◌, refl, get_or, length, ◌+◌, ◌<◌, ◌≤◌}
+use Rattle.std.proofs.Common.{arith, sym, subst, ◌∙◌, refl, get_or, length, ◌+◌, ◌<◌}
 use Rattle.std.specs.Prelude.{None}
 use Rattle.tib_normal.specs.Closure.{IsClosing, Spreads, AreBelow}
-use Rattle.tib_normal.specs.Gathered.{HaveMoreParts, row_parts}
+use Rattle.tib_normal.specs.Gathered.{HaveMoreParts}
 use Rattle.tib_normal.specs.Index.{lists_of}
-use Rattle.tib_normal.specs.Links.{AreLinks, no_key}
+use Rattle.tib_normal.specs.Links.{AreLinks}
 use Rattle.tib_normal.specs.Rows.{IfTooMany}
 use Rattle.tib_normal.proofs.Forming.{if_many}
 use Rattle.tib_normal.proofs.Closing.{begun}
