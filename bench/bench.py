@@ -116,6 +116,48 @@ class Weighing:
         return [text for text, _ in made], sum(count for _, count in made)
 
 
+class Schema:
+    """A grammar as document schemas give it, and documents that it yields. A state stands for a place in the content of an
+    element, and a node of an element has what stands in it on the left and what follows it on the right. So the rules of an
+    element share their first state and differ in the second; 300 of 700 places may be the last, and one element, which is
+    mostly empty, may come at 500 of them."""
+
+    def __init__(self, states=700, elements=60, each=300, most=500, ends=300):
+        random.seed(6)
+        self.begins = [random.randrange(states) for _ in range(elements)]
+        self.ends = set(random.sample(range(states), ends)) | {0, self.begins[0]}
+        self.moves = [{} for _ in range(states)]
+        for element in range(elements):
+            for state in random.sample(range(states), each if element else most):
+                self.moves[state][element] = min(state - state % 12 + random.randrange(12), states - 1)
+        self.lines = ["s0"] + ["s%d -> end" % state for state in sorted(self.ends)]
+        for state, moves in enumerate(self.moves):
+            self.lines += ["s%d -> e%d(s%d s%d) # 1" % (state, e, self.begins[e], after) for e, after in sorted(moves.items())]
+
+    def tree(self, nodes):
+        """A document of about so many nodes: lists of some thirty elements, four levels deep at most."""
+        out, stack, count = [], [(0, 0)], 0
+        while stack:
+            top = stack.pop()
+            if isinstance(top, str):
+                out.append(top)
+                continue
+            state, depth = top
+            count += 1
+            inner = [e for e in self.moves[state] if depth < 3 and count < nodes] or [e for e in self.moves[state] if self.begins[e] in self.ends]
+            if state in self.ends and (not inner or count >= nodes or random.random() < 0.06 * depth):
+                out.append("end")
+                continue
+            element = 0 if 0 in self.moves[state] and random.random() < 0.6 else random.choice(inner)
+            out.append("e%d(" % element)
+            stack += [")", (self.moves[state][element], depth), " ", (self.begins[element], depth + 1)]
+        return "".join(out), count
+
+    def trees(self, number, nodes):
+        made = [self.tree(nodes) for _ in range(number)]
+        return [text for text, _ in made], sum(count for _, count in made)
+
+
 def chain_family(size):
     """The grammar of sets of positions: p0 loops, and a chain of states leads to it."""
     lines = ["p%d" % size, "p0 -> e", "p0 -> a(p0)", "p0 -> b(p0)", "p1 -> a(p0) # 1"]
@@ -191,6 +233,11 @@ def main(program):
     trees = write("weigh.trees", texts)
     for mode in ("minplus", "bottleneck", "boolean"):
         row("weigh %d nodes in 800 trees, 700 states, 18,000 rules, %s" % (nodes, mode), measure(program, "-m", mode, "weigh", grammar, trees), nodes / 1e6, "million nodes/s")
+
+    schema = Schema()
+    texts, nodes = schema.trees(480, 2600)
+    grammar, trees = write("schema.grammar", schema.lines), write("schema.trees", texts)
+    row("weigh %d nodes in 480 documents, %d rules of a schema" % (nodes, len(schema.lines) - 1), measure(program, "weigh", grammar, trees), nodes / 1e6, "million nodes/s")
 
     print("\nthe sets of positions, 200 trees of depth 4,000")
     for size in (4, 8, 12, 16):

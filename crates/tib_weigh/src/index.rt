@@ -20,6 +20,9 @@ use tib_grammar::{Item, Rule};
 use tib_normal::Normal;
 use tib_tree::Label;
 
+// How few rules of a label and rank are tried all: looking for the best place would cost as much.
+const FEW: usize = 32;
+
 /// The rules of one label and rank: how many they are, a table for each child place, and the vector of a leaf.
 #[derive(Drop)]
 pub(crate) struct Shape {
@@ -104,11 +107,14 @@ impl Shape {
         &self.leaf
     }
 
-    // The child place whose states leave the fewest rules, where these are fewer than all.
+    // The child place whose states leave the fewest rules, where these are fewer than all and all are not few.
     fn best_place(&self, stack: &[Vec<Entry>]) -> Option<usize>
         requires { length self.now.tables.items ≤ length stack.now }
         ensures { IfSome result (λ j. j < length self.now.tables.items) }
     {
+        if self.many < FEW {
+            return None;
+        }
         let mut best = None;
         let mut least = self.many;
         for place in 0..self.tables.len() {

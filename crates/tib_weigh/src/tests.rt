@@ -106,3 +106,36 @@ fn each_semiring_takes_its_own_least(rt: HostRuntime) -> Result<(), Fail> {
     assert_eq!(rt; any.as_slice(), [Some(2), None, Some(2)].as_slice());
     Ok(())
 }
+
+// The costs of so many trees, of which each seventh is S(a a) and the others are a.
+fn costs_of_many<R: Threads + Sync>(
+    rt: &R,
+    alloc: Global,
+    many: u32,
+) -> Result<Vec<Option<Cost>>, Fail> {
+    let mut trees = Vec::new(alloc);
+    for n in 0..many {
+        let nodes: &[(Label, u32)] = if n % 7 == 0 {
+            &[(0, 2), (1, 0), (1, 0)]
+        } else {
+            &[(1, 0)]
+        };
+        trees.push(Tree::from_preorder(alloc, nodes)?)?;
+    }
+    let binary = normal::<MinPlus>(alloc, &BINARY)?;
+    Ok(weigh_all(rt, alloc, &binary, &trees)?)
+}
+
+// In several threads, from an index of the rules.
+#[test]
+fn many_trees_are_weighed_in_order(rt: HostRuntime) -> Result<(), Fail> {
+    let costs = costs_of_many(&rt, rt.alloc(), 70_000)?;
+    let mut wrong = 0u64;
+    for (n, cost) in costs.iter().enumerate() {
+        if number(*cost) != Some(if n % 7 == 0 { 5 } else { 2 }) {
+            wrong |= 1;
+        }
+    }
+    assert_eq!(rt; (costs.len(), wrong), (70_000, 0));
+    Ok(())
+}
