@@ -22,42 +22,50 @@ pub record Demands : Type 0 where
   pub one_label : Bool
   pub unlabelled : Bool
 
+abbrev pub demands : Bool → Bool → Bool → Bool → Demands
+demands linear nondeleting one_label unlabelled = record {
+  linear = linear;
+  nondeleting = nondeleting;
+  one_label = one_label;
+  unlabelled = unlabelled;
+}
+
 -- a rule is of each class that is demanded
-pub record Meets (demands : Demands) (r : TransducerRule ℕ) : Type 0 where
-  pub linear : IsTrue demands.linear → IsLinear r
-  pub nondeleting : IsTrue demands.nondeleting → IsNondeleting r
-  pub one_label : IsTrue demands.one_label → IsExtended r → ⊥
-  pub unlabelled : IsTrue demands.unlabelled → IsLabelled r → ⊥
+pub record Meets (d : Demands) (r : TransducerRule ℕ) : Type 0 where
+  pub linear : IsTrue d.linear → IsLinear r
+  pub nondeleting : IsTrue d.nondeleting → IsNondeleting r
+  pub one_label : IsTrue d.one_label → IsExtended r → ⊥
+  pub unlabelled : IsTrue d.unlabelled → IsLabelled r → ⊥
 
 -- each rule is
 abbrev pub AllMeet : Demands → List (TransducerRule ℕ) → Type 0
-AllMeet demands rules = (n : ℕ) → n < length rules → Meets demands (transducer_rule rules n)
+AllMeet d rules = (n : ℕ) → n < length rules → Meets d (transducer_rule rules n)
 
 -- The fault names the first class, in the order linear, nondeleting, not extended, not labelled, that is demanded and that
 -- the rule is outside of.
 abbrev pub IsFaultOf : Demands → TransducerRule ℕ → ClassFault → Type 0
-IsFaultOf demands r NotLinear = IsTrue demands.linear × (IsLinear r → ⊥)
-IsFaultOf demands r NotNondeleting =
-    (IsTrue demands.linear → IsLinear r)
-    × IsTrue demands.nondeleting
+IsFaultOf d r NotLinear = IsTrue d.linear × (IsLinear r → ⊥)
+IsFaultOf d r NotNondeleting =
+    (IsTrue d.linear → IsLinear r)
+    × IsTrue d.nondeleting
     × (IsNondeleting r → ⊥)
-IsFaultOf demands r Extended =
-    (IsTrue demands.linear → IsLinear r)
-    × (IsTrue demands.nondeleting → IsNondeleting r)
-    × IsTrue demands.one_label
+IsFaultOf d r Extended =
+    (IsTrue d.linear → IsLinear r)
+    × (IsTrue d.nondeleting → IsNondeleting r)
+    × IsTrue d.one_label
     × IsExtended r
-IsFaultOf demands r Labelled =
-    (IsTrue demands.linear → IsLinear r)
-    × (IsTrue demands.nondeleting → IsNondeleting r)
-    × (IsTrue demands.one_label → IsExtended r → ⊥)
-    × IsTrue demands.unlabelled
+IsFaultOf d r Labelled =
+    (IsTrue d.linear → IsLinear r)
+    × (IsTrue d.nondeleting → IsNondeleting r)
+    × (IsTrue d.one_label → IsExtended r → ⊥)
+    × IsTrue d.unlabelled
     × IsLabelled r
 
 -- the number is that of the first rule outside the demanded classes, with its fault
 abbrev pub IsFirstOutside : Demands → List (TransducerRule ℕ) → ℕ × ClassFault → Type 0
-IsFirstOutside demands rules found = IsFirst (λ r. IsFaultOf demands r found.1) (Meets demands) rules found.0
+IsFirstOutside d rules found = IsFirst (λ r. IsFaultOf d r found.1) (Meets d) rules found.0
 
 -- what is answered of one rule: its fault, or that it has none
 abbrev pub IsAnswer : Demands → TransducerRule ℕ → Option ClassFault → Type 0
-IsAnswer demands r None = Meets demands r
-IsAnswer demands r (Some fault) = IsFaultOf demands r fault
+IsAnswer d r None = Meets d r
+IsAnswer d r (Some fault) = IsFaultOf d r fault

@@ -1,7 +1,7 @@
 // The classes of a transducer.
 ghost use Rattle.std.specs.Prelude.{◌≡◌, IfSome, None, true, false};
 ghost use Rattle.tib_transducer.specs.Classes.{IsLinear, AreLinear, IsNondeleting, AreNondeleting, IsExtended, OneIsExtended, IsLabelled, OneIsLabelled};
-ghost use Rattle.tib_classes.specs.Outside.{IsFirst, IsFirstOutside, AllMeet};
+ghost use Rattle.tib_classes.specs.Outside.{demands, IsFirst, IsFirstOutside, AllMeet};
 
 use crate::ClassFault;
 use crate::rules::fault_of;
@@ -18,8 +18,8 @@ pub fn first_outside<S>(
     one_label: bool,
     unlabelled: bool,
 ) -> Option<(u32, ClassFault)>
-    ensures some { IfSome result (IsFirstOutside (record { linear = linear; nondeleting = nondeleting; one_label = one_label; unlabelled = unlabelled }) t.now.rules) }
-    ensures none { result ≡ None → AllMeet (record { linear = linear; nondeleting = nondeleting; one_label = one_label; unlabelled = unlabelled }) t.now.rules }
+    ensures some { IfSome result (IsFirstOutside (demands linear nondeleting one_label unlabelled) t.now.rules) }
+    ensures none { result ≡ None → AllMeet (demands linear nondeleting one_label unlabelled) t.now.rules }
 {
     t.is_sound();
     let mut number: u32 = 0;

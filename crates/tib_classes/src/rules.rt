@@ -4,7 +4,7 @@ ghost use Rattle.tib_grammar.specs.Items.{holes_in};
 ghost use Rattle.tib_transducer.specs.Range.{IsShaped};
 ghost use Rattle.tib_transducer.specs.Classes.{IsLinear, IsNondeleting, IsExtended, IsLabelled};
 ghost use Rattle.tib_classes.specs.Counting.{HaveLabel};
-ghost use Rattle.tib_classes.specs.Outside.{IsAnswer};
+ghost use Rattle.tib_classes.specs.Outside.{demands, IsAnswer};
 
 use crate::ClassFault;
 use crate::uses::{are_above_zero, are_at_most_one, count_uses};
@@ -105,7 +105,7 @@ pub fn fault_of(
     unlabelled: bool,
 ) -> Option<ClassFault>
     requires { IsShaped rule.now }
-    ensures { IsAnswer (record { linear = linear; nondeleting = nondeleting; one_label = one_label; unlabelled = unlabelled }) rule.now result }
+    ensures { IsAnswer (demands linear nondeleting one_label unlabelled) rule.now result }
 {
     if linear && !is_linear(rule) {
         return Some(ClassFault::NotLinear);

@@ -1,3 +1,6 @@
 pub mod Shapes
 pub mod Covering
 pub mod FirstParts
+pub mod Products
+pub mod Selecting
+pub mod Itemizing

@@ -23,6 +23,12 @@ IsTransducerSeriesAt product rules p t u v = IsLeast (IsTransducerCost product r
 abbrev pub IsTransducerSeries : (ℕ → ℕ → ℕ) → List (TransducerRule ℕ) → Tree ℕ → Tree ℕ → Option ℕ → Type 0
 IsTransducerSeries product rules t u v = IsTransducerSeriesAt product rules 0 t u v
 
+-- two trees have at most one value of the series, at each state
+abbrev pub HasOneSeries : (ℕ → ℕ → ℕ) → List (TransducerRule ℕ) → Type 0
+HasOneSeries product rules =
+    (p : ℕ) (t u : Tree ℕ) (v w : Option ℕ) →
+    IsTransducerSeriesAt product rules p t u v → IsTransducerSeriesAt product rules p t u w → v ≡ w
+
 -- some rule agrees with r in its state and both sides, and costs no more
 pub record HasCheaper (rules : List (TransducerRule ℕ)) (r : TransducerRule ℕ) : Type 0 where
   pub rule : TransducerRule ℕ

@@ -1,15 +1,14 @@
 // What holds of the runs of every transducer, in every semiring.
-ghost use Rattle.std.specs.Prelude.{◌≡◌, ◌↔◌, ℕ, List, ◌∷◌, Option};
+ghost use Rattle.std.specs.Prelude.{◌↔◌, ℕ, List, ◌∷◌};
 ghost use Rattle.tib_lex.specs.Lists.{Has};
-ghost use Rattle.tib_tree.specs.Trees.{Tree};
-ghost use Rattle.tib_transducer.specs.Series.{IsTransducerSeriesAt, HasCheaper, Covers, HaveSameSeries};
+ghost use Rattle.tib_transducer.specs.Series.{HasOneSeries, HasCheaper, Covers, HaveSameSeries};
 ghost use Rattle.tib_transducer.specs.declared.TransducerRule.{TransducerRule};
 
 use tib_cost::Semiring;
 
 /// A transducer gives two trees at most one cost, from each state.
 pub fn one_cost<S: Semiring>()
-    ensures { (rules : List (TransducerRule ℕ)) (p : ℕ) (t u : Tree ℕ) (v w : Option ℕ) → IsTransducerSeriesAt S.product rules p t u v → IsTransducerSeriesAt S.product rules p t u w → v ≡ w }
+    ensures { (rules : List (TransducerRule ℕ)) → HasOneSeries S.product rules }
 {}
 
 /// Two transducers have the same series where each has a rule as cheap for every rule of the other.
