@@ -146,7 +146,9 @@ fn each_of_many_variables_counts(rt: HostRuntime) -> Result<(), Fail> {
     each.push(64)?;
     let twice = transducer(alloc, &[(&leaves, &each)])?;
     assert_eq!(rt; deciding(&twice), [Some(1), None, None, None]);
-    each[129] = 128;
+    if let Some(last) = each.get_mut(129) {
+        *last = 128;
+    }
     let out = transducer(alloc, &[(&leaves, &each)])?;
     assert_eq!(rt; deciding(&out), [Some(1), Some(1), None, None]);
     Ok(())
