@@ -102,7 +102,7 @@ module _ (product : ℕ → ℕ → ℕ) (one two : List (Rule ℕ)) (order : Li
 
 -- the parts of an intersection under the numbers of the other table
 module _ (product : ℕ → ℕ → ℕ) (labels others : List (List ℕ)) (f : ℕ → ℕ) (n : Renumbers labels others f) where
-  trimmed_given : (g h m : GrammarOf) → AgreeByText labels others g h → IsTrimmedForm product g m → IsTrimmedForm product h (grammar_with f m)
+  pub trimmed_given : (g h m : GrammarOf) → AgreeByText labels others g h → IsTrimmedForm product g m → IsTrimmedForm product h (grammar_with f m)
   trimmed_given g h m a t =
       let moved = form_with product f n.apart (length g.names) g.rules (length t.normal.names) t.normal.rules t.form in
       record {

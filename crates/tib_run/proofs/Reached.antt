@@ -37,7 +37,7 @@ file_named asked (suc m) name h e =
 pub of_file : (job : Option Asked) (n : ℕ) (name : List ℕ) (P : List ℕ → Type 0) → file_at job n ≡ Some name → P name → OfFile job n P
 of_file job n name P at h = subst (λ (o : Option (List ℕ)). OfName o P) (sym at) h
 
-if_some : {P Q : List ℕ → Type 0} (o : Option (List ℕ)) → ((x : List ℕ) → P x → Q x) → IfSome o P → IfSome o Q
+pub if_some : {P Q : List ℕ → Type 0} (o : Option (List ℕ)) → ((x : List ℕ) → P x → Q x) → IfSome o P → IfSome o Q
 if_some None f h = tt
 if_some (Some x) f h = f x h
 
@@ -81,7 +81,7 @@ before_first None held m kind h e = absurd (cc e)
 before_first (Some asked) held zero kind h e = absurd (cc e)
 before_first (Some asked) held (suc m) kind h e = absurd (omega (arith, h))
 
-some_kind : (a b : Kind) → (let o : Option Kind = Some a in o ≡ Some b) → a ≡ b
+pub some_kind : (a b : Kind) → (let o : Option Kind = Some a in o ≡ Some b) → a ≡ b
 some_kind a b e = cc e
 
 -- and one file more is of its kind
@@ -155,23 +155,21 @@ normal_makes asked e n first second h = subst (λ o. MakesTooMuch o (is_weighted
 -- too many parts of the normal form of the grammar of the first file are a cause
 pub form_cause :
     (asked : Asked) (held : List ℕ → Option (List ℕ)) (before now : List ℕ → ℕ) (a b : ℕ) (weighted : Bool) (product : ℕ → ℕ → ℕ) (labels : List (List ℕ)) (g : GrammarOf) (s : Status) →
-    MakesForm asked → weighted ≡ is_weighted asked.mode → product ≡ product_of asked.mode → IfSome (bytes_at held (file_at (Some asked) 1)) (IsRead weighted labels g) →
+    MakesForm asked → weighted ≡ is_weighted asked.mode → product ≡ product_of asked.mode → AreDistinct labels → IfSome (bytes_at held (file_at (Some asked) 1)) (IsRead weighted labels g) →
     IsFormFault product g asked.limit s → HasCause (Some asked) held before now a b s
-form_cause asked held before now a b weighted product labels g statuses.Done op we pe text h = absurd h
-form_cause asked held before now a b weighted product labels g statuses.Usage op we pe text h = absurd h
-form_cause asked held before now a b weighted product labels g (statuses.BadInput m fault) op we pe text h = absurd h
-form_cause asked held before now a b weighted product labels g (statuses.TooMany n) op we pe text h =
-    let more : HasMoreParts (product_of asked.mode) (length g.names) g.rules n =
-    subst (HasMoreParts (product_of asked.mode) (length g.names) g.rules) (sym h.0) (subst (λ p. HasMoreParts p (length g.names) g.rules asked.limit) pe h.1)
-    in (
+form_cause asked held before now a b weighted product labels g statuses.Done op we pe d text h = absurd h
+form_cause asked held before now a b weighted product labels g statuses.Usage op we pe d text h = absurd h
+form_cause asked held before now a b weighted product labels g (statuses.BadInput m fault) op we pe d text h = absurd h
+form_cause asked held before now a b weighted product labels g (statuses.TooMany n) op we pe d text h =
+    let more : HasMoreParts (product_of asked.mode) (length g.names) g.rules asked.limit = subst (λ p. HasMoreParts p (length g.names) g.rules asked.limit) pe h.1 in (
       sym h.0,
-      op n (bytes_at held (file_at (Some asked) 1)) (bytes_at held (file_at (Some asked) 2))
-          (if_some (bytes_at held (file_at (Some asked) 1)) (λ bytes r. record { labels = labels; g = g; text = subst (λ w. ReadsAs w labels bytes g) we r.1; more = more }) text),
+      op asked.limit (bytes_at held (file_at (Some asked) 1)) (bytes_at held (file_at (Some asked) 2))
+          (if_some (bytes_at held (file_at (Some asked) 1)) (λ bytes r. record { labels = labels; g = g; distinct = d; text = subst (λ w. ReadsAs w labels bytes g) we r.1; more = more }) text),
     )
-form_cause asked held before now a b weighted product labels g (statuses.ReadFault m) op we pe text h = absurd h
-form_cause asked held before now a b weighted product labels g statuses.WriteFault op we pe text h = absurd h
-form_cause asked held before now a b weighted product labels g (statuses.TooLong m) op we pe text h = absurd h
-form_cause asked held before now a b weighted product labels g statuses.OutOfMemory op we pe text h = tt
+form_cause asked held before now a b weighted product labels g (statuses.ReadFault m) op we pe d text h = absurd h
+form_cause asked held before now a b weighted product labels g statuses.WriteFault op we pe d text h = absurd h
+form_cause asked held before now a b weighted product labels g (statuses.TooLong m) op we pe d text h = absurd h
+form_cause asked held before now a b weighted product labels g statuses.OutOfMemory op we pe d text h = tt
 
 pub intersection_early : (product : ℕ → ℕ → ℕ) (f g : GrammarOf) (limit : ℕ) (s : Status) → IsIntersectionFault product f g limit s → IsEarly s
 intersection_early product f g limit statuses.Done h = absurd h
@@ -207,8 +205,8 @@ intersection_cause asked held before now a b weighted product early labels f g (
 intersection_cause asked held before now a b weighted product early labels f g (statuses.TooMany n) op we pe d k one two h =
     let first : Option (List ℕ) = bytes_at held (file_at (Some asked) 1) in
     let second : Option (List ℕ) = bytes_at held (file_at (Some asked) 2) in
-    let more : IntersectsTooMuch (product_of asked.mode) n f g = subst (λ l. IntersectsTooMuch (product_of asked.mode) l f g) (sym h.0) (subst (λ p. IntersectsTooMuch p asked.limit f g) pe h.1) in
-    let large : IfSome first (λ x. IfSome second (HasLargeIntersection (is_weighted asked.mode) (product_of asked.mode) n x)) =
+    let more : IntersectsTooMuch (product_of asked.mode) asked.limit f g = subst (λ p. IntersectsTooMuch p asked.limit f g) pe h.1 in
+    let large : IfSome first (λ x. IfSome second (HasLargeIntersection (is_weighted asked.mode) (product_of asked.mode) asked.limit x)) =
     if_some first (λ x r. if_some second (λ y q. record {
       early = early;
       labels = labels;
@@ -220,7 +218,7 @@ intersection_cause asked held before now a b weighted product early labels f g (
       two = subst (λ w. ReadsAs w labels y g) we q.1;
       more = more;
     }) two) one
-    in (sym h.0, subst (λ o. MakesTooMuch o (is_weighted asked.mode) (product_of asked.mode) n first second) (sym op) large)
+    in (sym h.0, subst (λ o. MakesTooMuch o (is_weighted asked.mode) (product_of asked.mode) asked.limit first second) (sym op) large)
 intersection_cause asked held before now a b weighted product early labels f g (statuses.ReadFault m) op we pe d k one two h = absurd h
 intersection_cause asked held before now a b weighted product early labels f g statuses.WriteFault op we pe d k one two h = absurd h
 intersection_cause asked held before now a b weighted product early labels f g (statuses.TooLong m) op we pe d k one two h = absurd h

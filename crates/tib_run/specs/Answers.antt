@@ -21,7 +21,7 @@ use Rattle.tib_command.specs.declared.job.Operation.TheVariants as operations
 use Rattle.tib_run.specs.declared.status.Status.{Status}
 use Rattle.tib_run.specs.declared.status.Status.TheVariants as statuses
 use Rattle.tib_run.specs.Kinds.{Kind, kind_at, file_at, bytes_at, OfName, IsShort, IsRead, ListsTrees, IsOfKind}
-use Rattle.tib_run.specs.Causes.{is_weighted, product_of}
+use Rattle.tib_run.specs.Causes.{is_weighted, product_of, HasCause, HasEarlier}
 use Rattle.tib_run.specs.Intersections.{HasIntersection, HasSmallIntersection}
 use Rattle.tib_run.specs.Text.{weighed_lines, inside_lines}
 
@@ -110,9 +110,10 @@ abbrev pub HasFrontOfAnswer : Option Asked → (List ℕ → Option (List ℕ)) 
 HasFrontOfAnswer None held old new = ⊥
 HasFrontOfAnswer (Some asked) held old new = HasFront (IsAnswer asked held) old new
 
--- the grammar of the bytes, over whatever table of labels, has a normal form within the limit
+-- the grammar of the bytes, over whatever table that has each label once, has a normal form within the limit
 abbrev pub HasSmallForm : Bool → (ℕ → ℕ → ℕ) → ℕ → List ℕ → Type 0
-HasSmallForm weighted product limit bytes = (labels : List (List ℕ)) (g : GrammarOf) → ReadsAs weighted labels bytes g → HasFormWithin product (length g.names) g.rules limit
+HasSmallForm weighted product limit bytes =
+    (labels : List (List ℕ)) (g : GrammarOf) → AreDistinct labels → ReadsAs weighted labels bytes g → HasFormWithin product (length g.names) g.rules limit
 
 -- what an operation makes of its files, which are told, is within the limit: the normal forms, where it makes them, and
 -- the reached set of an intersection
@@ -122,16 +123,41 @@ StaysWithin operations.Inside weighted product limit first second = Unit {0}
 StaysWithin operations.Normal weighted product limit first second = OfName first (HasSmallForm weighted product limit)
 StaysWithin operations.Intersect weighted product limit first second = OfName first (λ one. OfName second (HasSmallIntersection weighted product limit one))
 
+-- what the job makes of its files is within its limit
+abbrev pub IsWithin : Asked → (List ℕ → Option (List ℕ)) → Type 0
+IsWithin asked held =
+    StaysWithin asked.task.operation (is_weighted asked.mode) (product_of asked.mode) asked.limit (bytes_at held (file_at (Some asked) 1)) (bytes_at held (file_at (Some asked) 2))
+
+-- each file of the job is told, and is of its kind, and so not too long
+abbrev pub AreOfTheirKinds : Asked → (List ℕ → Option (List ℕ)) → Type 0
+AreOfTheirKinds asked held =
+    (n : ℕ) (kind : Kind) → kind_at (Some asked) n ≡ Some kind → OfName (bytes_at held (file_at (Some asked) n)) (IsOfKind (is_weighted asked.mode) kind)
+
 -- each file of a job is told, not too long and of its kind, and what the job makes is within the limit
 pub record IsAnswerable (asked : Asked) (held : List ℕ → Option (List ℕ)) : Type 0 where
   pub short : (n : ℕ) (name : List ℕ) → file_at (Some asked) n ≡ Some name → OfName (held name) IsShort
-  pub kinds : (n : ℕ) (kind : Kind) → kind_at (Some asked) n ≡ Some kind → OfName (bytes_at held (file_at (Some asked) n)) (IsOfKind (is_weighted asked.mode) kind)
-  pub within : StaysWithin asked.task.operation (is_weighted asked.mode) (product_of asked.mode) asked.limit (bytes_at held (file_at (Some asked) 1)) (bytes_at held (file_at (Some asked) 2))
+  pub kinds : AreOfTheirKinds asked held
+  pub within : IsWithin asked held
 
 -- no count of a file of the job rose, nor that of the output
 pub record IsCalm (asked : Asked) (before now : List ℕ → ℕ) (out_before out_now : ℕ) : Type 0 where
   pub files : (n : ℕ) → OfName (file_at (Some asked) n) (λ name. Rose (before name) (now name)) → ⊥
   pub out : Rose out_before out_now → ⊥
+
+-- a status of the job that meets the clauses of a run in which no count rose
+pub record EndsCalmly (asked : Asked) (held : List ℕ → Option (List ℕ)) (status : Status) : Type 0 where
+  pub before : List ℕ → ℕ
+  pub now : List ℕ → ℕ
+  pub out_before : ℕ
+  pub out_now : ℕ
+  pub calm : IsCalm asked before now out_before out_now
+  pub cause : HasCause (Some asked) held before now out_before out_now status
+  pub earlier : HasEarlier (Some asked) held status
+  pub text : status ≡ statuses.Done → (text : List ℕ) × IsAnswer asked held text
+
+-- the two are one, or memory was refused in one of the runs
+abbrev pub AreOneStatus : Status → Status → Type 0
+AreOneStatus s t = (s ≡ t) ⊎ ((s ≡ statuses.OutOfMemory) ⊎ (t ≡ statuses.OutOfMemory))
 
 -- a job that can be answered, in a run in which no count rose, was answered but for want of memory
 abbrev pub IsComplete : Option Asked → (List ℕ → Option (List ℕ)) → (List ℕ → ℕ) → (List ℕ → ℕ) → ℕ → ℕ → Status → Type 0

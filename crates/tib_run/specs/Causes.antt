@@ -1,6 +1,7 @@
 -- What each answer of a run says of the words, the files and the output.
 use Rattle.std.specs.Prelude.{◌≡◌, ℕ, ◌+◌, max, ◌<◌, Bool, true, false, List, length, Option, Some, None, IfSome, IsSome}
 use Rattle.tib_io.specs.Causes.{Rose}
+use Rattle.tib_tree.specs.Grows.{AreDistinct}
 use Rattle.tib_grammar.specs.GrammarOf.{GrammarOf}
 use Rattle.tib_grammar_file.specs.Read.{ReadsAs}
 use Rattle.tib_normal.specs.Rows.{HasMoreParts}
@@ -30,10 +31,12 @@ product_of modes.MinPlus = ◌+◌
 product_of modes.Bottleneck = max
 product_of modes.Boolean = max
 
--- the bytes are the text of a grammar whose normal form has more parts than the limit
+-- The bytes are the text of a grammar whose normal form has more parts than the limit. Its table has each label once: over
+-- a table with a label twice, two rules that are written alike would be two.
 pub record HasLargeForm (weighted : Bool) (product : ℕ → ℕ → ℕ) (limit : ℕ) (bytes : List ℕ) : Type 0 where
   pub labels : List (List ℕ)
   pub g : GrammarOf
+  pub distinct : AreDistinct labels
   pub text : ReadsAs weighted labels bytes g
   pub more : HasMoreParts product (length g.names) g.rules limit
 
@@ -45,10 +48,14 @@ MakesTooMuch operations.Inside weighted product limit first second = ⊥
 MakesTooMuch operations.Normal weighted product limit first second = IfSome first (HasLargeForm weighted product limit)
 MakesTooMuch operations.Intersect weighted product limit first second = IfSome first (λ one. IfSome second (HasLargeIntersection weighted product limit one))
 
+-- what the job makes of its files has more parts than its limit
+abbrev pub IsTooMuch : Asked → (List ℕ → Option (List ℕ)) → Type 0
+IsTooMuch asked held =
+    MakesTooMuch asked.task.operation (is_weighted asked.mode) (product_of asked.mode) asked.limit (bytes_at held (file_at (Some asked) 1)) (bytes_at held (file_at (Some asked) 2))
+
 abbrev pub HasTooMany : Option Asked → (List ℕ → Option (List ℕ)) → ℕ → Type 0
 HasTooMany None held limit = ⊥
-HasTooMany (Some asked) held limit =
-    (asked.limit ≡ limit) × MakesTooMuch asked.task.operation (is_weighted asked.mode) (product_of asked.mode) limit (bytes_at held (file_at (Some asked) 1)) (bytes_at held (file_at (Some asked) 2))
+HasTooMany (Some asked) held limit = (asked.limit ≡ limit) × IsTooMuch asked held
 
 -- Each answer comes only with its cause: words that are no command, a count of faults that rose in this run, a file that
 -- is too long, the first fault of a file that is not, or a normal form or a reached set with more parts than the limit of

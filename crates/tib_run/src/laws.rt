@@ -1,8 +1,11 @@
 // What holds of the answers of jobs.
 ghost use Rattle.std.specs.Prelude.{◌≡◌, ℕ, Bool, List, Option, Some};
-ghost use Rattle.tib_command.specs.Jobs.{Asked};
+ghost use Rattle.tib_command.specs.Jobs.{Asked, job_of};
+ghost use Rattle.tib_run.specs.Causes.{IsTooMuch};
 ghost use Rattle.tib_run.specs.Intersections.{HasIntersection};
-ghost use Rattle.tib_run.specs.Answers.{IsWeighed, HasInsides, HasNormalText, IsAnswer, AreTold};
+ghost use Rattle.tib_run.specs.Kinds.{IsGrammarFile, IsTreeFile};
+ghost use Rattle.tib_run.specs.Answers.{IsWeighed, HasInsides, HasNormalText, HasSmallForm, IsAnswer, IsWithin, AreTold, AreOfTheirKinds, EndsCalmly, AreOneStatus};
+ghost use Rattle.tib_run.specs.declared.status.Status.{Status};
 
 /// Over told files the text of each operation is one, whatever the tables of labels and the normal forms by which it is told.
 pub fn texts_are_one()
@@ -15,4 +18,30 @@ pub fn texts_are_one()
 /// Where the bytes of each file of a job are told, one text answers it.
 pub fn answers_are_one()
     ensures { (asked : Asked) (held : List ℕ → Option (List ℕ)) (text other : List ℕ) → AreTold asked held → IsAnswer asked held text → IsAnswer asked held other → text ≡ other }
+{}
+
+/// Where the bytes of each file of a job are told, an answer is within the limit of the job: a text that answers it and too
+/// many parts exclude each other.
+pub fn answers_exclude_too_many()
+    ensures within { (asked : Asked) (held : List ℕ → Option (List ℕ)) (text : List ℕ) → AreTold asked held → IsAnswer asked held text → IsWithin asked held }
+    ensures apart { (asked : Asked) (held : List ℕ → Option (List ℕ)) (text : List ℕ) → AreTold asked held → IsAnswer asked held text → IsTooMuch asked held → ⊥ }
+{}
+
+/// What a job makes of files of their kinds is within its limit or has more parts than it: not both, and it cannot be that
+/// neither holds.
+pub fn within_or_too_many()
+    ensures apart { (asked : Asked) (held : List ℕ → Option (List ℕ)) → IsWithin asked held → IsTooMuch asked held → ⊥ }
+    ensures either { (asked : Asked) (held : List ℕ → Option (List ℕ)) → AreOfTheirKinds asked held → (IsWithin asked held → ⊥) → (IsTooMuch asked held → ⊥) → ⊥ }
+{}
+
+/// Where the files of `weigh` and of `inside` are of their kinds, and the normal form that `weigh` makes is within the limit,
+/// it cannot be that no text answers.
+pub fn answers_exist()
+    ensures weighed { (weighted : Bool) (product : ℕ → ℕ → ℕ) (limit : ℕ) (first second : List ℕ) → IsGrammarFile weighted first → IsTreeFile second → HasSmallForm weighted product limit first → ((text : List ℕ) → IsWeighed weighted product limit (Some first) (Some second) text → ⊥) → ⊥ }
+    ensures insides { (weighted : Bool) (product : ℕ → ℕ → ℕ) (first : List ℕ) → IsGrammarFile weighted first → ((text : List ℕ) → HasInsides weighted product (Some first) text → ⊥) → ⊥ }
+{}
+
+/// A job whose files are told ends with one status in all runs in which no count rises and no memory is refused.
+pub fn statuses_are_one()
+    ensures { (words : List (List ℕ)) (asked : Asked) (held : List ℕ → Option (List ℕ)) (one other : Status) → job_of words ≡ Some asked → AreTold asked held → EndsCalmly asked held one → EndsCalmly asked held other → AreOneStatus one other }
 {}

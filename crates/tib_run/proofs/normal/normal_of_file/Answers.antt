@@ -9,7 +9,7 @@ pub returns-in-Err-canonical_normal-clause-cause : goal.returns-in-Err-canonical
 returns-in-Err-canonical_normal-clause-cause g c =
     let held : List ℕ → Option (List ℕ) = g.F.Files.held c.args.files.now in
     form_cause (meaning c.args.job.now) held (g.F.Files.faults c.args.files.now) (g.F.Files.faults c.grammar_in.new.files) 0 0 g.S.Semiring.WEIGHTED g.S.Semiring.product c.grammar_in.new.labels c.in-Ok.grammar
-    c.in-Err-canonical_normal.status (normal_makes (meaning c.args.job.now) c.requires.operation) c.requires.mode c.requires.product
+    c.in-Err-canonical_normal.status (normal_makes (meaning c.args.job.now) c.requires.operation) c.requires.mode c.requires.product c.len.ensures.distinct
     (told_some held (file_at (Some (meaning c.args.job.now)) 1) (IsRead g.S.Semiring.WEIGHTED c.grammar_in.new.labels c.in-Ok.grammar) c.in-Ok.ensures.text) c.in-Err-canonical_normal.ensures.err
 
 pub returns-in-Err-canonical_normal-clause-earlier : goal.returns-in-Err-canonical_normal-clause-earlier

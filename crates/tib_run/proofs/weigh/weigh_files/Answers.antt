@@ -3,13 +3,16 @@ use Rattle.std.specs.Prelude.{Option, Some}
 use Rattle.tib_command.specs.Jobs.{meaning, Asked}
 use Rattle.tib_run.specs.Kinds.{file_at, of_grammar, of_trees, OfFile, Told, IsRead, ListsTrees}
 use Rattle.tib_run.proofs.Reached.{told_some, form_cause, form_earlier, weigh_makes, before_first, before_more, first_of_weigh, second_of_weigh, all_of_weigh, grammar_is, trees_are, answer_weigh}
+use Rattle.tib_run.proofs.Tables.{early_distinct}
 use Rattle.tib_run.proofs.weigh.weigh_files.Goals as goal
 
 pub returns-in-Err-costs_of-clause-cause : goal.returns-in-Err-costs_of-clause-cause
 returns-in-Err-costs_of-clause-cause g c =
     let held : List ℕ → Option (List ℕ) = g.F.Files.held c.args.files.now in
     form_cause (meaning c.args.job.now) held (g.F.Files.faults c.args.files.now) (g.F.Files.faults c.trees_in.new.files) 0 0 g.S.Semiring.WEIGHTED g.S.Semiring.product c.grammar_in.new.labels c.in-Ok.grammar c.in-Err-costs_of.status
-    (weigh_makes (meaning c.args.job.now) c.requires.operation) c.requires.mode c.requires.product (told_some held (file_at (Some (meaning c.args.job.now)) 1) (IsRead g.S.Semiring.WEIGHTED c.grammar_in.new.labels c.in-Ok.grammar) c.in-Ok.ensures.text) c.in-Err-costs_of.ensures.err
+    (weigh_makes (meaning c.args.job.now) c.requires.operation) c.requires.mode c.requires.product
+    (early_distinct c.grammar_in.new.labels c.trees_in.new.labels c.in-Ok-trees_in.ensures.grows c.in-Ok-trees_in.ensures.distinct)
+    (told_some held (file_at (Some (meaning c.args.job.now)) 1) (IsRead g.S.Semiring.WEIGHTED c.grammar_in.new.labels c.in-Ok.grammar) c.in-Ok.ensures.text) c.in-Err-costs_of.ensures.err
 
 pub returns-in-Err-costs_of-clause-earlier : goal.returns-in-Err-costs_of-clause-earlier
 returns-in-Err-costs_of-clause-earlier g c =

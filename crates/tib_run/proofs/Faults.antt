@@ -1,0 +1,40 @@
+-- Faults of files: a file of its kind has none, and each file has one at most.
+use Rattle.std.specs.Prelude.{◌≡◌, ℕ, Bool, List, Option, Some, None, Result, Ok, Err, IfSome}
+use Rattle.std.proofs.Common.{sym, ◌∙◌}
+use Rattle.tib_lex.specs.declared.fault.FileFault.{FileFault}
+use Rattle.tib_tree.specs.Written.{Item}
+use Rattle.tib_tree.specs.File.{trees_of}
+use Rattle.tib_tree.proofs.TreesText.{texts_exact}
+use Rattle.tib_grammar_file.proofs.TextRead.{no_text}
+use Rattle.tib_run.specs.Kinds.{Kind, of_grammar, of_trees, bytes_at, OfName, Told, IsOfKind, HasFault}
+
+-- what holds of the bytes of a file where they are told, and that they are told
+pub told_both : (held : List ℕ → Option (List ℕ)) (o : Option (List ℕ)) (P Q : List ℕ → Type 0) → OfName o (Told held P) → OfName (bytes_at held o) Q → (x : List ℕ) × P x × Q x
+told_both held None P Q a b = absurd a
+told_both held (Some name) P Q a b = both (held name) a b
+  where
+    both : (o : Option (List ℕ)) → IfSome o P → OfName o Q → (x : List ℕ) × P x × Q x
+    both None a b = absurd b
+    both (Some x) a b = (x, a, b)
+
+ok_or_err : (r : Result (List (List Item)) FileFault) (x : List (List Item)) (e : FileFault) → r ≡ Ok x → r ≡ Err e → ⊥
+ok_or_err r x e a b =
+    let same : (let o : Result (List (List Item)) FileFault = Ok x in o ≡ Err e) = sym a ∙ b in
+    absurd (cc same)
+
+err_same : {T : Type 0} (r : Result T FileFault) (a b : FileFault) → r ≡ Err a → r ≡ Err b → a ≡ b
+err_same {T} r a b e f =
+    let same : (let o : Result T FileFault = Err a in o ≡ Err b) = sym e ∙ f in
+    cc same
+
+-- bytes of a kind have no fault as such
+pub faulty_kind : (weighted : Bool) (kind : Kind) (bytes : List ℕ) (fault : FileFault) → HasFault weighted (Some kind) bytes fault → IsOfKind weighted kind bytes → ⊥
+faulty_kind weighted of_grammar bytes fault h is = no_text weighted bytes fault h is.0 is.1 is.2.1
+faulty_kind weighted of_trees bytes fault h is =
+    let read = (texts_exact is.0 bytes is.1).1 (is.2.1, is.2.2) in
+    ok_or_err (trees_of bytes) read.0 fault read.1 h
+
+-- and no two faults
+pub one_fault : (weighted : Bool) (kind : Kind) (bytes : List ℕ) (a b : FileFault) → HasFault weighted (Some kind) bytes a → HasFault weighted (Some kind) bytes b → a ≡ b
+one_fault weighted of_grammar bytes a b e f = err_same _ a b e f
+one_fault weighted of_trees bytes a b e f = err_same (trees_of bytes) a b e f

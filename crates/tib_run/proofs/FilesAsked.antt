@@ -1,0 +1,57 @@
+-- A job that words ask for has as many files as its operation takes.
+use Rattle.std.specs.Prelude.{◌≡◌, ℕ, ◌==◌, ◌&&◌, Bool, true, false, not, List, [], ◌∷◌, length, Option, Some, None, option_map, option_and_then, if◌then◌else◌, refl}
+use Rattle.std.specs.List.{list_any}
+use Rattle.std.proofs.Common.{ap, ◌∙◌, subst, arith}
+use Rattle.tib_command.specs.Words.{Text, reads, values_of, mode, depth, workers, limit, place}
+use Rattle.tib_command.specs.Jobs.{Asked, Task, job_of, asked_by, once, mode_in, number_in, task_in, files_in, are_files, operation_in, word_count}
+use Rattle.tib_command.specs.declared.job.Mode.TheVariants.{MinPlus}
+use Rattle.tib_command.specs.declared.job.Operation.{Operation}
+use Rattle.tib_command.specs.declared.job.Operation.TheVariants as operations
+use Rattle.tib_run.specs.Kinds.{kinds_of}
+
+then_some : {A B : Type 0} (f : A → Option B) (o : Option A) (y : B) → option_and_then f o ≡ Some y → (x : A) × (f x ≡ Some y)
+then_some f None y e = absurd (cc e)
+then_some f (Some x) y e = (x, e)
+
+map_some : {A B : Type 0} (f : A → B) (o : Option A) (y : B) → option_map f o ≡ Some y → (x : A) × (o ≡ Some x) × (f x ≡ y)
+map_some f None y e = absurd (cc e)
+map_some f (Some x) y e = (x, refl, cc e)
+
+some_task : (a b : Task) → (let o : Option Task = Some a in o ≡ Some b) → a ≡ b
+some_task a b e = cc e
+
+-- as many files as the words
+abbrev HasItsFiles : Task → Type 0
+HasItsFiles task = length task.files ≡ length (kinds_of task.operation)
+
+as_many_kinds : (o : Operation) → word_count o ≡ length (kinds_of o)
+as_many_kinds operations.Weigh = refl
+as_many_kinds operations.Inside = refl
+as_many_kinds operations.Normal = refl
+as_many_kinds operations.Intersect = refl
+
+first_test : (m n : ℕ) (b : Bool) → (m == n) && b ≡ true → m ≡ n
+first_test m n b e = grind arith
+
+files_many : (o : Operation) (files : List Text) (task : Task) → files_in o files ≡ Some task → HasItsFiles task
+files_many o files task e = by (are_files o files) refl e
+  where
+    by : (b : Bool) → are_files o files ≡ b → (if b then Some (record { operation = o; files = files }) else None) ≡ Some task → HasItsFiles task
+    by false t e = absurd (cc e)
+    by true t e =
+        subst HasItsFiles (some_task (record { operation = o; files = files }) task e)
+        (first_test (length files) (word_count o) (not (list_any (λ f. length f == 0) files)) t ∙ as_many_kinds o)
+
+task_many : (texts : List Text) (task : Task) → task_in texts ≡ Some task → HasItsFiles task
+task_many [] task e = absurd (cc e)
+task_many (name ∷ rest) task e = let o = then_some (λ op. files_in op rest) (operation_in name) task e in files_many o.0 rest task o.1
+
+pub files_asked : (words : List Text) (asked : Asked) → job_of words ≡ Some asked → length asked.task.files ≡ length (kinds_of asked.task.operation)
+files_asked words asked e =
+    let items = then_some asked_by (reads words None) asked e in
+    let md = then_some _ (once MinPlus mode_in (values_of mode items.0)) asked items.1 in
+    let k = then_some _ (once 1 (number_in 1 10000) (values_of depth items.0)) asked md.1 in
+    let w = then_some _ (once 1 (number_in 1 16) (values_of workers items.0)) asked k.1 in
+    let l = then_some _ (once 20000000 (number_in 1 20000000) (values_of limit items.0)) asked w.1 in
+    let t = map_some _ (task_in (values_of place items.0)) asked l.1 in
+    subst HasItsFiles (ap (λ (a : Asked). a.task) t.2) (task_many (values_of place items.0) t.0 t.1)

@@ -1,0 +1,218 @@
+-- A job whose files are told ends with one status in runs in which no count rises, but for want of memory.
+use Rattle.std.specs.Prelude.{◌≡◌, ℕ, ◌+◌, ◌<◌, ◌⊎◌, Bool, List, [], ◌∷◌, length, Option, Some, None, IfSome, IsSome, slice_get, refl}
+use Rattle.std.proofs.Common.{arith, ap, sym, ◌∙◌, subst, zero, suc, inl, inr}
+use Rattle.tib_lex.specs.declared.fault.FileFault.{FileFault}
+use Rattle.tib_grammar_file.proofs.OneGrammar.{some_same}
+use Rattle.tib_command.specs.Jobs.{Asked}
+use Rattle.tib_command.specs.declared.job.Operation.{Operation}
+use Rattle.tib_command.specs.declared.job.Operation.TheVariants as operations
+use Rattle.tib_run.specs.declared.status.Status.{Status}
+use Rattle.tib_run.specs.declared.status.Status.TheVariants as statuses
+use Rattle.tib_run.specs.Kinds.{Kind, of_grammar, of_trees, kinds_of, kind_at, file_at, bytes_at, OfName, OfFile, Told, IsShort, IsOfKind, HasFault}
+use Rattle.tib_run.specs.Causes.{IsTooMuch, is_weighted, product_of}
+use Rattle.tib_run.specs.Answers.{IsAnswerOf, IsAnswer, AreTold, EndsCalmly, AreOneStatus}
+use Rattle.tib_run.proofs.Faults.{faulty_kind, one_fault}
+use Rattle.tib_run.proofs.Limits.{answer_apart}
+use Rattle.tib_run.proofs.Reached.{if_some, some_kind, told_some}
+
+-- places in a list
+
+slice_below : {A : Type 0} (xs : List A) (n : ℕ) (x : A) → slice_get xs n ≡ Some x → n < length xs
+slice_below [] n x e = absurd (cc e)
+slice_below (y ∷ xs) zero x e = omega arith
+slice_below (y ∷ xs) (suc n) x e = let b : n < length xs = slice_below xs n x e in omega (arith, b)
+
+slice_some : {A : Type 0} (xs : List A) (n : ℕ) → n < length xs → (x : A) × (slice_get xs n ≡ Some x)
+slice_some [] n h = absurd (omega arith)
+slice_some (x ∷ xs) zero h = (x, refl)
+slice_some (x ∷ xs) (suc n) h = slice_some xs n (omega arith)
+
+-- the files of an answer are of their kinds
+
+kind_given : (weighted : Bool) (o : Option (List ℕ)) (k kind : Kind) → (let x : Option Kind = Some k in x ≡ Some kind) → IfSome o (IsOfKind weighted k) → IfSome o (IsOfKind weighted kind)
+kind_given weighted o k kind e h = subst (λ z. IfSome o (IsOfKind weighted z)) (some_kind k kind e) h
+
+first_sound :
+    (o : Operation) (weighted : Bool) (product : ℕ → ℕ → ℕ) (limit : ℕ) (first second : Option (List ℕ)) (text : List ℕ) → IsAnswerOf o weighted product limit first second text → (kind : Kind) →
+    slice_get (kinds_of o) 0 ≡ Some kind → IfSome first (IsOfKind weighted kind)
+first_sound operations.Weigh weighted product limit first second text a kind e = kind_given weighted first of_grammar kind e (if_some first (λ x r. (a.early, a.g, r)) a.grammar)
+first_sound operations.Inside weighted product limit first second text a kind e = kind_given weighted first of_grammar kind e (if_some first (λ x r. (a.labels, a.g, r)) a.grammar)
+first_sound operations.Normal weighted product limit first second text a kind e = kind_given weighted first of_grammar kind e (if_some first (λ x r. (a.labels, a.g, r)) a.grammar)
+first_sound operations.Intersect weighted product limit first second text a kind e = kind_given weighted first of_grammar kind e (if_some first (λ x r. (a.early, a.f, r)) a.one)
+
+second_sound :
+    (o : Operation) (weighted : Bool) (product : ℕ → ℕ → ℕ) (limit : ℕ) (first second : Option (List ℕ)) (text : List ℕ) → IsAnswerOf o weighted product limit first second text → (kind : Kind) →
+    slice_get (kinds_of o) 1 ≡ Some kind → IfSome second (IsOfKind weighted kind)
+second_sound operations.Weigh weighted product limit first second text a kind e = kind_given weighted second of_trees kind e (if_some second (λ x r. (a.labels, a.trees, r)) a.listed)
+second_sound operations.Inside weighted product limit first second text a kind e = absurd (cc e)
+second_sound operations.Normal weighted product limit first second text a kind e = absurd (cc e)
+second_sound operations.Intersect weighted product limit first second text a kind e = kind_given weighted second of_grammar kind e (if_some second (λ x r. (a.labels, a.g, r)) a.two)
+
+no_third : (o : Operation) (n : ℕ) (kind : Kind) → slice_get (kinds_of o) (suc (suc n)) ≡ Some kind → ⊥
+no_third operations.Weigh n kind e = absurd (cc e)
+no_third operations.Inside n kind e = absurd (cc e)
+no_third operations.Normal n kind e = absurd (cc e)
+no_third operations.Intersect n kind e = absurd (cc e)
+
+kind_short : (weighted : Bool) (kind : Kind) (x : List ℕ) → IsOfKind weighted kind x → IsShort x
+kind_short weighted of_grammar x is = is.2.0
+kind_short weighted of_trees x is = is.2.0
+
+holds : (o : Option (List ℕ)) (x : List ℕ) (P : List ℕ → Type 0) → o ≡ Some x → IfSome o P → P x
+holds o x P e h = let there : IfSome (Some x) P = subst (λ z. IfSome z P) e h in there
+
+some_of : (o : Option (List ℕ)) (P : List ℕ → Type 0) → IsSome o → IfSome o P → (x : List ℕ) × (o ≡ Some x) × P x
+some_of None P s h = absurd (cc s)
+some_of (Some x) P s h = (x, refl, h)
+
+named : (o : Option (List ℕ)) (P : List ℕ → Type 0) → OfName o P → (name : List ℕ) × (o ≡ Some name)
+named None P h = absurd h
+named (Some name) P h = (name, refl)
+
+in_order : (m n : ℕ) → (m < n) ⊎ ((n < m) ⊎ (m ≡ n))
+in_order m n = grind arith
+
+module _ (asked : Asked) (held : List ℕ → Option (List ℕ)) where
+  abbrev weighted : Bool
+  weighted = is_weighted asked.mode
+
+  abbrev bytes : ℕ → Option (List ℕ)
+  bytes n = bytes_at held (file_at (Some asked) n)
+
+  abbrev IsSound : ℕ → Type 0
+  IsSound n = (kind : Kind) → kind_at (Some asked) n ≡ Some kind → IfSome (bytes n) (IsOfKind weighted kind)
+
+  -- the n-th file is not of its kind, and those before it are
+  record Stops (n : ℕ) : Type 0 where
+    before : (m : ℕ) → m < n → IsSound m
+    kind : Kind
+    is : kind_at (Some asked) n ≡ Some kind
+    text : List ℕ
+    has : bytes n ≡ Some text
+    bad : IsOfKind weighted kind text → ⊥
+
+  -- what a status says in a run in which no count rises
+  abbrev Says : Status → Type 0
+  Says statuses.Done = ((n : ℕ) → IsSound n) × ((text : List ℕ) × IsAnswer asked held text)
+  Says statuses.Usage = ⊥
+  Says (statuses.BadInput n fault) = (s : Stops n) × IsShort s.text × HasFault weighted (Some s.kind) s.text fault
+  Says (statuses.TooMany limit) = ((n : ℕ) → IsSound n) × (asked.limit ≡ limit) × IsTooMuch asked held
+  Says (statuses.ReadFault n) = ⊥
+  Says statuses.WriteFault = ⊥
+  Says (statuses.TooLong n) = (s : Stops n) × (8388608 < length s.text)
+  Says statuses.OutOfMemory = Unit {0}
+
+  never_stops : ((n : ℕ) → IsSound n) → (n : ℕ) → Stops n → ⊥
+  never_stops sound n s = s.bad (holds (bytes n) s.text (IsOfKind weighted s.kind) s.has (sound n s.kind s.is))
+
+  before_stop : (m n : ℕ) → Stops m → Stops n → m < n → ⊥
+  before_stop m n s t h = s.bad (holds (bytes m) s.text (IsOfKind weighted s.kind) s.has (t.before m h s.kind s.is))
+
+  one_stop : (m n : ℕ) → Stops m → Stops n → m ≡ n
+  one_stop m n s t = elim (in_order m n) [
+    | inl h ↦ absurd (before_stop m n s t h)
+    | inr r ↦ elim r [ inl h ↦ absurd (before_stop n m t s h) | inr e ↦ e ]
+  ]
+
+  one_text : (m n : ℕ) (s : Stops m) (t : Stops n) → s.text ≡ t.text
+  one_text m n s t = some_same s.text t.text (sym s.has ∙ ap bytes (one_stop m n s t) ∙ t.has)
+
+  same_fault : (m n : ℕ) (a b : FileFault) (s : Stops m) (t : Stops n) → HasFault weighted (Some s.kind) s.text a → HasFault weighted (Some t.kind) t.text b → a ≡ b
+  same_fault m n a b s t h k =
+      let kind : s.kind ≡ t.kind = some_kind s.kind t.kind (sym s.is ∙ ap (kind_at (Some asked)) (one_stop m n s t) ∙ t.is) in
+      one_fault weighted t.kind t.text a b (subst (λ z. HasFault weighted (Some z) t.text a) kind (subst (λ z. HasFault weighted (Some s.kind) z a) (one_text m n s t) h)) k
+
+  short_and_long : (m n : ℕ) (s : Stops m) (t : Stops n) → IsShort s.text → 8388608 < length t.text → ⊥
+  short_and_long m n s t h k = omega (arith, h, k, ap length (one_text m n s t))
+
+  module _ (told : AreTold asked held) where
+    one_of : (s t : Status) → Says s → Says t → AreOneStatus s t
+    one_of statuses.Done statuses.Done a b = inl refl
+    one_of statuses.Done statuses.Usage a b = absurd b
+    one_of statuses.Done (statuses.BadInput n f) a b = absurd (never_stops a.0 n b.0)
+    one_of statuses.Done (statuses.TooMany l) a b = absurd (answer_apart asked held a.1.0 told a.1.1 b.2)
+    one_of statuses.Done (statuses.ReadFault n) a b = absurd b
+    one_of statuses.Done statuses.WriteFault a b = absurd b
+    one_of statuses.Done (statuses.TooLong n) a b = absurd (never_stops a.0 n b.0)
+    one_of statuses.Done statuses.OutOfMemory a b = inr (inr refl)
+    one_of statuses.Usage t a b = absurd a
+    one_of (statuses.BadInput m e) statuses.Done a b = absurd (never_stops b.0 m a.0)
+    one_of (statuses.BadInput m e) statuses.Usage a b = absurd b
+    one_of (statuses.BadInput m e) (statuses.BadInput n f) a b = inl (λ i. statuses.BadInput (one_stop m n a.0 b.0 i) (same_fault m n e f a.0 b.0 a.2 b.2 i))
+    one_of (statuses.BadInput m e) (statuses.TooMany l) a b = absurd (never_stops b.0 m a.0)
+    one_of (statuses.BadInput m e) (statuses.ReadFault n) a b = absurd b
+    one_of (statuses.BadInput m e) statuses.WriteFault a b = absurd b
+    one_of (statuses.BadInput m e) (statuses.TooLong n) a b = absurd (short_and_long m n a.0 b.0 a.1 b.1)
+    one_of (statuses.BadInput m e) statuses.OutOfMemory a b = inr (inr refl)
+    one_of (statuses.TooMany k) statuses.Done a b = absurd (answer_apart asked held b.1.0 told b.1.1 a.2)
+    one_of (statuses.TooMany k) statuses.Usage a b = absurd b
+    one_of (statuses.TooMany k) (statuses.BadInput n f) a b = absurd (never_stops a.0 n b.0)
+    one_of (statuses.TooMany k) (statuses.TooMany l) a b = inl (ap (λ (z : ℕ). statuses.TooMany z) (sym a.1 ∙ b.1))
+    one_of (statuses.TooMany k) (statuses.ReadFault n) a b = absurd b
+    one_of (statuses.TooMany k) statuses.WriteFault a b = absurd b
+    one_of (statuses.TooMany k) (statuses.TooLong n) a b = absurd (never_stops a.0 n b.0)
+    one_of (statuses.TooMany k) statuses.OutOfMemory a b = inr (inr refl)
+    one_of (statuses.ReadFault m) t a b = absurd a
+    one_of statuses.WriteFault t a b = absurd a
+    one_of (statuses.TooLong m) statuses.Done a b = absurd (never_stops b.0 m a.0)
+    one_of (statuses.TooLong m) statuses.Usage a b = absurd b
+    one_of (statuses.TooLong m) (statuses.BadInput n f) a b = absurd (short_and_long n m b.0 a.0 b.1 a.1)
+    one_of (statuses.TooLong m) (statuses.TooMany l) a b = absurd (never_stops b.0 m a.0)
+    one_of (statuses.TooLong m) (statuses.ReadFault n) a b = absurd b
+    one_of (statuses.TooLong m) statuses.WriteFault a b = absurd b
+    one_of (statuses.TooLong m) (statuses.TooLong n) a b = inl (ap (λ (z : ℕ). statuses.TooLong z) (one_stop m n a.0 b.0))
+    one_of (statuses.TooLong m) statuses.OutOfMemory a b = inr (inr refl)
+    one_of statuses.OutOfMemory t a b = inr (inl refl)
+
+    -- the bytes of a file, with its kind
+    module _ (as_many : length asked.task.files ≡ length (kinds_of asked.task.operation)) where
+      has_kind : (n : ℕ) (name : List ℕ) → file_at (Some asked) n ≡ Some name → (kind : Kind) × (kind_at (Some asked) n ≡ Some kind)
+      has_kind zero name e = absurd (cc e)
+      has_kind (suc n) name e = slice_some (kinds_of asked.task.operation) n (omega (arith, as_many, slice_below asked.task.files n name e))
+
+      record HasBytes (n : ℕ) (P : List ℕ → Type 0) : Type 0 where
+        kind : Kind
+        is : kind_at (Some asked) n ≡ Some kind
+        text : List ℕ
+        has : bytes n ≡ Some text
+        given : P text
+
+      bytes_of : (n : ℕ) (P : List ℕ → Type 0) → OfFile (Some asked) n (Told held P) → HasBytes n P
+      bytes_of n P h =
+          let name = named (file_at (Some asked) n) (Told held P) h in
+          let k = has_kind n name.0 name.1 in
+          let b = some_of (bytes n) P (told n k.0 k.1) (told_some held (file_at (Some asked) n) P h) in
+          record { kind = k.0; is = k.1; text = b.0; has = b.1; given = b.2 }
+
+      all_before : (n : ℕ) (kind : Kind) → kind_at (Some asked) n ≡ Some kind → n < length (kinds_of asked.task.operation) + 1
+      all_before zero kind e = absurd (cc e)
+      all_before (suc n) kind e = let b = slice_below (kinds_of asked.task.operation) n kind e in omega (arith, b)
+
+      all_sound : (text : List ℕ) → IsAnswer asked held text → (n : ℕ) → IsSound n
+      all_sound text a zero kind e = absurd (cc e)
+      all_sound text a (suc zero) kind e = first_sound asked.task.operation weighted (product_of asked.mode) asked.limit (bytes 1) (bytes 2) text a kind e
+      all_sound text a (suc (suc zero)) kind e = second_sound asked.task.operation weighted (product_of asked.mode) asked.limit (bytes 1) (bytes 2) text a kind e
+      all_sound text a (suc (suc (suc n))) kind e = absurd (no_third asked.task.operation n kind e)
+
+      says : (s : Status) → EndsCalmly asked held s → Says s
+      says statuses.Done e = let t = e.text refl in (all_sound t.0 t.1, t)
+      says statuses.Usage e = let never : (let o : Option Asked = Some asked in o ≡ None) = e.cause in absurd (cc never)
+      says (statuses.BadInput n fault) e =
+          let b = bytes_of n (λ x. IsShort x × HasFault weighted (kind_at (Some asked) n) x fault) e.cause in
+          let f : HasFault weighted (Some b.kind) b.text fault = subst (λ k. HasFault weighted k b.text fault) b.is b.given.1 in (
+            record { before = λ m h kind is. e.earlier m kind h is; kind = b.kind; is = b.is; text = b.text; has = b.has; bad = λ k. faulty_kind weighted b.kind b.text fault f k },
+            b.given.0,
+            f,
+          )
+      says (statuses.TooMany limit) e = (λ n kind is. e.earlier n kind (all_before n kind is) is, e.cause.0, e.cause.1)
+      says (statuses.ReadFault n) e = e.calm.files n e.cause
+      says statuses.WriteFault e = e.calm.out e.cause.1
+      says (statuses.TooLong n) e =
+          let b = bytes_of n (λ x. 8388608 < length x) e.cause in (
+            record { before = λ m h kind is. e.earlier m kind h is; kind = b.kind; is = b.is; text = b.text; has = b.has; bad = λ k. omega (arith, b.given, kind_short weighted b.kind b.text k) },
+            b.given,
+          )
+      says statuses.OutOfMemory e = tt
+
+      pub one_status : (s t : Status) → EndsCalmly asked held s → EndsCalmly asked held t → AreOneStatus s t
+      one_status s t a b = one_of s t (says s a) (says t b)

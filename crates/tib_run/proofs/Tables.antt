@@ -1,0 +1,190 @@
+-- A file that was read over one table of labels is read over each other one that has its labels.
+use Rattle.std.proofs.Common.{◌≡◌, ℕ, ◌⊎◌, Bool, true, false, List, [], ◌∷◌, ◌++◌, length, refl, ap, ◌∙◌, subst, arith, suc, zero, inl, inr, Option, Contains}
+use Rattle.std.specs.Prelude.{Some, None, slice_get}
+use Rattle.std.specs.Bool.{Decides}
+use Rattle.std.specs.Str.{bytes_eq}
+use Rattle.std.proofs.lemmas.Option.{slice_get-get_or}
+use Rattle.std.proofs.lemmas.List.{length-append}
+use Rattle.std.proofs.lemmas.Slice.Eq.{bytes_eq-Decides}
+use Rattle.tib_lex.specs.Grammar.{Word}
+use Rattle.tib_lex.specs.Lists.{Along}
+use Rattle.tib_tree.specs.Grows.{Grows, AreDistinct}
+use Rattle.tib_tree.specs.Trees.{Trees, none, tree, only, count, preorder}
+use Rattle.tib_tree.specs.Written.{Written, end, leaf, head}
+use Rattle.tib_tree.proofs.Growing.{grows_not, grows_twice, grows_more, distinct_added}
+use Rattle.tib_grammar.specs.Sides.{Symbol, label, hole}
+use Rattle.tib_grammar.specs.GrammarOf.{GrammarOf}
+use Rattle.tib_grammar.specs.declared.Rule.{Rule}
+use Rattle.tib_grammar_file.specs.GrammarText.{Means, SpellsRuleOf, AreSmallRules}
+use Rattle.tib_grammar_file.specs.Read.{ReadsAs}
+use Rattle.tib_grammar_file.proofs.OneGrammar.{some_same}
+use Rattle.tib_grammar_file.proofs.Relabelled.{trees_with, rules_with}
+use Rattle.tib_canon.proofs.TrimmedByText.{grammar_with}
+
+-- a table has no text twice where one that it grew to has none
+pub early_distinct : (early labels : List (List ℕ)) → Grows early labels → AreDistinct labels → AreDistinct early
+early_distinct early labels grows d = record { once = λ m n text e f. d.once m n text (grows.kept m text e) (grows.kept n text f) }
+
+pub none_distinct : AreDistinct []
+none_distinct = record { once = λ m n text e f. absurd (cc) }
+
+-- a text that has a number in a table
+abbrev pub IsThere : List (List ℕ) → List ℕ → Type 0
+IsThere table text = (k : ℕ) × (slice_get table k ≡ Some text)
+
+there_or_not : (table : List (List ℕ)) (text : List ℕ) → IsThere table text ⊎ (IsThere table text → ⊥)
+there_or_not [] text = inr (λ t. absurd (cc))
+there_or_not (x ∷ table) text = by (bytes_eq x text) (bytes_eq-Decides x text) (there_or_not table text)
+  where
+    by : (b : Bool) → Decides b (x ≡ text) → IsThere table text ⊎ (IsThere table text → ⊥) → IsThere (x ∷ table) text ⊎ (IsThere (x ∷ table) text → ⊥)
+    by true d more = inl (0, ap (λ (y : List ℕ). Some y) (d.0 refl))
+    by false d (inl t) = inl (suc t.0, t.1)
+    by false d (inr no_more) = inr (λ t. at t.0 t.1)
+      where
+        at : (k : ℕ) → slice_get (x ∷ table) k ≡ Some text → ⊥
+        at zero e = (let bad : false ≡ true = d.1 (some_same x text e) in absurd (cc))
+        at (suc k) e = no_more (k, e)
+
+last_there : (table : List (List ℕ)) (text : List ℕ) → slice_get (table ++ text ∷ []) (length table) ≡ Some text
+last_there [] text = refl
+last_there (x ∷ table) text = last_there table text
+
+-- a table to which another has grown, that has some texts
+pub record HasGrown (early texts now : List (List ℕ)) : Type 0 where
+  pub grows : Grows early now
+  pub distinct : AreDistinct early → AreDistinct now
+  pub has : (i : ℕ) (text : List ℕ) → slice_get texts i ≡ Some text → IsThere now text
+
+contained : (table : List (List ℕ)) (text : List ℕ) → Contains table text → IsThere table text
+contained table text c = (c.0, slice_get-get_or table c.0 text c.1 ∙ ap (λ (y : List ℕ). Some y) c.2)
+
+one_more : (early : List (List ℕ)) (text : List ℕ) → (now : List (List ℕ)) × HasGrown early (text ∷ []) now
+one_more early text = by (there_or_not early text)
+  where
+    only_one : (now : List (List ℕ)) → IsThere now text → (i : ℕ) (t : List ℕ) → slice_get (text ∷ []) i ≡ Some t → IsThere now t
+    only_one now there zero t e = subst (IsThere now) (some_same text t e) there
+    only_one now there (suc i) t e = absurd (cc)
+
+    by : IsThere early text ⊎ (IsThere early text → ⊥) → (now : List (List ℕ)) × HasGrown early (text ∷ []) now
+    by (inl t) = (early, record { grows = grows_not early early refl; distinct = λ d. d; has = only_one early t })
+    by (inr no_text) = (
+      early ++ text ∷ [],
+      record {
+        grows = grows_more early (early ++ text ∷ []) (text ∷ []) refl;
+        distinct = λ d. distinct_added early (early ++ text ∷ []) text d (λ c. no_text (contained early text c)) refl;
+        has = only_one (early ++ text ∷ []) (length early, last_there early text);
+      },
+    )
+
+pub all_more : (early texts : List (List ℕ)) → (now : List (List ℕ)) × HasGrown early texts now
+all_more early [] = (early, record { grows = grows_not early early refl; distinct = λ d. d; has = λ i text e. absurd (cc) })
+all_more early (x ∷ texts) =
+    let m = one_more early x in
+    let o = all_more m.0 texts in (
+      o.0,
+      record {
+        grows = grows_twice early m.0 o.0 m.1.grows o.1.grows;
+        distinct = λ d. o.1.distinct (m.1.distinct d);
+        has = λ i text e. at m.0 o.0 o.1 (m.1.has 0 x refl) i text e;
+      },
+    )
+  where
+    at : (middle now : List (List ℕ)) → HasGrown middle texts now → IsThere middle x → (i : ℕ) (text : List ℕ) → slice_get (x ∷ texts) i ≡ Some text → IsThere now text
+    at middle now h there zero text e = subst (IsThere now) (some_same x text e) (there.0, h.grows.kept there.0 x there.1)
+    at middle now h there (suc i) text e = h.has i text e
+
+-- a number for each label, by its text
+module _ (texts now : List (List ℕ)) (has : (i : ℕ) (text : List ℕ) → slice_get texts i ≡ Some text → IsThere now text) where
+  pub number : (i : ℕ) (o : Option (List ℕ)) → slice_get texts i ≡ o → ℕ
+  number i None e = 0
+  number i (Some text) e = (has i text e).0
+
+  abbrev pub moved : ℕ → ℕ
+  moved i = number i (slice_get texts i) refl
+
+  number_is : (i : ℕ) (o : Option (List ℕ)) (e : slice_get texts i ≡ o) (text : List ℕ) → o ≡ Some text → slice_get now (number i o e) ≡ Some text
+  unfolding number
+  number_is i None e text s = absurd (cc)
+  number_is i (Some t) e text s = (has i t e).1 ∙ s
+
+  pub moves : (i : ℕ) (text : List ℕ) → slice_get texts i ≡ Some text → slice_get now (moved i) ≡ Some text
+  moves i text e = number_is i (slice_get texts i) refl text e
+
+-- a text over the other numbers
+module _ (labels others : List (List ℕ)) (f : ℕ → ℕ) (moves : (i : ℕ) (text : List ℕ) → slice_get labels i ≡ Some text → slice_get others (f i) ≡ Some text) where
+  means_with : (names : List (List ℕ)) (ts : Trees (Symbol ℕ ℕ)) (w : Written) → Means names labels ts w → Means names others (trees_with f ts) w
+  means_with names none end m = tt
+  means_with names none (leaf quoted text more) m = absurd m
+  means_with names none (head quoted text below more) m = absurd m
+  means_with names (tree s kids rest) end m = absurd m
+  means_with names (tree (label i) kids rest) (leaf quoted text more) m = ((m.0.0, moves i text m.0.1), ap (trees_with f) m.1, means_with names rest more m.2)
+  means_with names (tree (hole q) kids rest) (leaf quoted text more) m = (m.0, ap (trees_with f) m.1, means_with names rest more m.2)
+  means_with names (tree (label i) kids rest) (head quoted text below more) m = (moves i text m.0, means_with names kids below m.1, means_with names rest more m.2)
+  means_with names (tree (hole q) kids rest) (head quoted text below more) m = absurd m.0
+
+  rows_with :
+      (weighted : Bool) (names : List (List ℕ)) (rows : List (List Word)) (rules : List (Rule ℕ)) → Along (SpellsRuleOf weighted names labels) rows rules →
+      Along (SpellsRuleOf weighted names others) rows (rules_with f rules)
+  rows_with weighted names [] [] a = tt
+  rows_with weighted names [] (r ∷ rules) a = absurd a
+  rows_with weighted names (row ∷ rows) [] a = absurd a
+  rows_with weighted names (row ∷ rows) (r ∷ rules) a = (
+    record {
+      left = a.0.left;
+      right = a.0.right;
+      weight = a.0.weight;
+      words_are = a.0.words_are;
+      plain = a.0.plain;
+      left_is = a.0.left_is;
+      right_is = means_with names (only r.right) a.0.right a.0.right_is;
+      cost_is = a.0.cost_is;
+    },
+    rows_with weighted names rows rules a.1,
+  )
+
+  reads_with : (weighted : Bool) (bytes : List ℕ) (g : GrammarOf) → ReadsAs weighted labels bytes g → ReadsAs weighted others bytes (grammar_with f g)
+  reads_with weighted bytes g r = record {
+    text = record {
+      lines = r.text.lines;
+      start = r.text.start;
+      rows = r.text.rows;
+      lines_are = r.text.lines_are;
+      tokens = r.text.tokens;
+      plain = r.text.plain;
+      states = r.text.states;
+      rules = rows_with weighted g.names r.text.rows g.rules r.text.rules;
+    };
+    small = small_with g.rules r.small;
+  }
+    where
+      count_with : (ts : Trees (Symbol ℕ ℕ)) → count (trees_with f ts) ≡ count ts
+      count_with none = refl
+      count_with (tree s kids rest) = ap suc (count_with rest)
+
+      as_long : (ts : Trees (Symbol ℕ ℕ)) → length (preorder (trees_with f ts)) ≡ length (preorder ts)
+      as_long none = refl
+      as_long (tree s kids rest) =
+          omega (arith, length-append (preorder (trees_with f kids)) (preorder (trees_with f rest)), length-append (preorder kids) (preorder rest), as_long kids, as_long rest)
+
+      small_with : (rules : List (Rule ℕ)) → AreSmallRules rules → AreSmallRules (rules_with f rules)
+      small_with [] s = tt
+      small_with (x ∷ rules) s = (omega (arith, s.0, as_long x.right.kids), small_with rules s.1)
+
+-- a grammar of the bytes over a table to which another has grown
+pub record IsReadOver (weighted : Bool) (early : List (List ℕ)) (bytes : List ℕ) : Type 0 where
+  pub labels : List (List ℕ)
+  pub g : GrammarOf
+  pub grows : Grows early labels
+  pub distinct : AreDistinct early → AreDistinct labels
+  pub reads : ReadsAs weighted labels bytes g
+
+pub read_over : (weighted : Bool) (early labels : List (List ℕ)) (bytes : List ℕ) (g : GrammarOf) → ReadsAs weighted labels bytes g → IsReadOver weighted early bytes
+read_over weighted early labels bytes g r =
+    let o = all_more early labels in
+    record {
+      labels = o.0;
+      g = grammar_with (moved labels o.0 o.1.has) g;
+      grows = o.1.grows;
+      distinct = o.1.distinct;
+      reads = reads_with labels o.0 (moved labels o.0 o.1.has) (moves labels o.0 o.1.has) weighted bytes g r;
+    }
