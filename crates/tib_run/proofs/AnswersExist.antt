@@ -1,4 +1,5 @@
 -- Where the files of `weigh` or `inside` are of their kinds and within the limit, it cannot be that no text answers.
+use Rattle.tib_cost.specs.declared.Scale.{Scale}
 use Rattle.std.proofs.Common.{◌≡◌, ℕ, ◌+◌, ◌<◌, ◌≤◌, ◌⊎◌, Bool, List, [], ◌∷◌, length, map, get_or, refl, ap, subst, arith, zero, suc, inl, inr, Option}
 use Rattle.std.specs.Prelude.{Some, None, slice_get}
 use Rattle.std.specs.List.{AllZip}
@@ -108,15 +109,15 @@ module _ (product : ℕ → ℕ → ℕ) (rules : List (Rule ℕ)) where
   all_insides n never =
       all_from n 0 (λ costs long are. never costs long (λ q h. let same : 0 + q ≡ q = omega arith in subst (λ k. IsInside product rules k (get_or costs q None)) same (are q h)))
 
-module _ (weighted : Bool) (product : ℕ → ℕ → ℕ) (limit : ℕ) where
+module _ (scale : Scale) (product : ℕ → ℕ → ℕ) (limit : ℕ) where
   pub weighed_there :
-      (first second : List ℕ) → IsGrammarFile weighted first → IsTreeFile second → HasSmallForm weighted product limit first →
-      ((text : List ℕ) → IsWeighed weighted product limit (Some first) (Some second) text → ⊥) → ⊥
+      (first second : List ℕ) → IsGrammarFile scale first → IsTreeFile second → HasSmallForm scale product limit first →
+      ((text : List ℕ) → IsWeighed scale product limit (Some first) (Some second) text → ⊥) → ⊥
   weighed_there first second is are small never =
-      let o = read_over weighted [] is.0 first is.1 is.2.1 in
+      let o = read_over scale [] is.0 first is.1 is.2.1 in
       let early = o.distinct none_distinct in
       let u = lists_over o.labels are.0 second are.1 are.2 in
-      all_weights product o.g.rules u.trees (λ vs a. never (weighed_lines weighted u.labels u.trees vs) (record {
+      all_weights product o.g.rules u.trees (λ vs a. never (weighed_lines scale u.labels u.trees vs) (record {
         early = o.labels;
         labels = u.labels;
         g = o.g;
@@ -131,7 +132,7 @@ module _ (weighted : Bool) (product : ℕ → ℕ → ℕ) (limit : ℕ) where
         are = refl;
       }))
 
-  pub insides_there : (first : List ℕ) → IsGrammarFile weighted first → ((text : List ℕ) → HasInsides weighted product (Some first) text → ⊥) → ⊥
+  pub insides_there : (first : List ℕ) → IsGrammarFile scale first → ((text : List ℕ) → HasInsides scale product (Some first) text → ⊥) → ⊥
   insides_there first is never =
       all_insides product is.1.rules (length is.1.names) (λ costs long insides.
-      never (inside_lines weighted is.1.names costs) (record { labels = is.0; g = is.1; costs = costs; grammar = is.2; counted = long; insides = insides; are = refl }))
+      never (inside_lines scale is.1.names costs) (record { labels = is.0; g = is.1; costs = costs; grammar = is.2; counted = long; insides = insides; are = refl }))

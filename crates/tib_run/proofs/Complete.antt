@@ -6,7 +6,7 @@ use Rattle.tib_command.specs.Jobs.{Asked}
 use Rattle.tib_run.specs.declared.status.Status.{Status}
 use Rattle.tib_run.specs.declared.status.Status.TheVariants as statuses
 use Rattle.tib_run.specs.Kinds.{Kind, kind_at, file_at, OfName, OfFile, Told, IsShort, IsOfKind, HasFault}
-use Rattle.tib_run.specs.Causes.{HasCause, HasTooMany, is_weighted}
+use Rattle.tib_run.specs.Causes.{HasCause, HasTooMany, scale_of}
 use Rattle.tib_run.specs.Answers.{IsAnswerable, IsCalm, IsComplete}
 use Rattle.tib_run.proofs.Limits.{within_apart}
 use Rattle.tib_run.proofs.Faults.{faulty_kind, told_both}
@@ -27,17 +27,17 @@ module _ (asked : Asked) (held : List ℕ → Option (List ℕ)) (given : IsAnsw
       both (Some x) a b = f x b a
 
   -- no file has a fault
-  faultless : (n : ℕ) (fault : FileFault) → OfFile (Some asked) n (Told held (λ bytes. IsShort bytes × HasFault (is_weighted asked.mode) (kind_at (Some asked) n) bytes fault)) → ⊥
+  faultless : (n : ℕ) (fault : FileFault) → OfFile (Some asked) n (Told held (λ bytes. IsShort bytes × HasFault (scale_of asked.mode) (kind_at (Some asked) n) bytes fault)) → ⊥
   faultless n fault h = go (kind_at (Some asked) n) refl
     where
-      has : (k : Option Kind) → kind_at (Some asked) n ≡ k → OfFile (Some asked) n (Told held (λ bytes. IsShort bytes × HasFault (is_weighted asked.mode) k bytes fault))
-      has k e = subst (λ z. OfFile (Some asked) n (Told held (λ bytes. IsShort bytes × HasFault (is_weighted asked.mode) z bytes fault))) e h
+      has : (k : Option Kind) → kind_at (Some asked) n ≡ k → OfFile (Some asked) n (Told held (λ bytes. IsShort bytes × HasFault (scale_of asked.mode) k bytes fault))
+      has k e = subst (λ z. OfFile (Some asked) n (Told held (λ bytes. IsShort bytes × HasFault (scale_of asked.mode) z bytes fault))) e h
 
       go : (k : Option Kind) → kind_at (Some asked) n ≡ k → ⊥
-      go None e = refuted n (λ bytes. IsShort bytes × HasFault (is_weighted asked.mode) None bytes fault) (λ x s p. p.1) (has None e)
+      go None e = refuted n (λ bytes. IsShort bytes × HasFault (scale_of asked.mode) None bytes fault) (λ x s p. p.1) (has None e)
       go (Some kind) e =
-          let b = told_both held (file_at (Some asked) n) (λ bytes. IsShort bytes × HasFault (is_weighted asked.mode) (Some kind) bytes fault) (IsOfKind (is_weighted asked.mode) kind) (has (Some kind) e) (given.kinds n kind e) in
-          faulty_kind (is_weighted asked.mode) kind b.0 fault b.1.1 b.2
+          let b = told_both held (file_at (Some asked) n) (λ bytes. IsShort bytes × HasFault (scale_of asked.mode) (Some kind) bytes fault) (IsOfKind (scale_of asked.mode) kind) (has (Some kind) e) (given.kinds n kind e) in
+          faulty_kind (scale_of asked.mode) kind b.0 fault b.1.1 b.2
 
   -- none is too long
   not_long : (n : ℕ) → OfFile (Some asked) n (Told held (λ bytes. 8388608 < length bytes)) → ⊥

@@ -1,4 +1,5 @@
 -- Faults of files: a file of its kind has none, and each file has one at most.
+use Rattle.tib_cost.specs.declared.Scale.{Scale}
 use Rattle.std.specs.Prelude.{◌≡◌, ℕ, Bool, List, Option, Some, None, Result, Ok, Err, IfSome}
 use Rattle.std.proofs.Common.{sym, ◌∙◌}
 use Rattle.tib_lex.specs.declared.fault.FileFault.{FileFault}
@@ -28,13 +29,13 @@ err_same {T} r a b e f =
     cc same
 
 -- bytes of a kind have no fault as such
-pub faulty_kind : (weighted : Bool) (kind : Kind) (bytes : List ℕ) (fault : FileFault) → HasFault weighted (Some kind) bytes fault → IsOfKind weighted kind bytes → ⊥
-faulty_kind weighted of_grammar bytes fault h is = no_text weighted bytes fault h is.0 is.1 is.2.1
-faulty_kind weighted of_trees bytes fault h is =
+pub faulty_kind : (scale : Scale) (kind : Kind) (bytes : List ℕ) (fault : FileFault) → HasFault scale (Some kind) bytes fault → IsOfKind scale kind bytes → ⊥
+faulty_kind scale of_grammar bytes fault h is = no_text scale bytes fault h is.0 is.1 is.2.1
+faulty_kind scale of_trees bytes fault h is =
     let read = (texts_exact is.0 bytes is.1).1 (is.2.1, is.2.2) in
     ok_or_err (trees_of bytes) read.0 fault read.1 h
 
 -- and no two faults
-pub one_fault : (weighted : Bool) (kind : Kind) (bytes : List ℕ) (a b : FileFault) → HasFault weighted (Some kind) bytes a → HasFault weighted (Some kind) bytes b → a ≡ b
-one_fault weighted of_grammar bytes a b e f = err_same _ a b e f
-one_fault weighted of_trees bytes a b e f = err_same (trees_of bytes) a b e f
+pub one_fault : (scale : Scale) (kind : Kind) (bytes : List ℕ) (a b : FileFault) → HasFault scale (Some kind) bytes a → HasFault scale (Some kind) bytes b → a ≡ b
+one_fault scale of_grammar bytes a b e f = err_same _ a b e f
+one_fault scale of_trees bytes a b e f = err_same (trees_of bytes) a b e f

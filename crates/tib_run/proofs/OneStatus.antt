@@ -1,4 +1,5 @@
 -- A job whose files are told ends with one status in runs in which no count rises, but for want of memory.
+use Rattle.tib_cost.specs.declared.Scale.{Scale}
 use Rattle.std.specs.Prelude.{◌≡◌, ℕ, ◌+◌, ◌<◌, ◌⊎◌, Bool, List, [], ◌∷◌, length, Option, Some, None, IfSome, IsSome, slice_get, refl}
 use Rattle.std.proofs.Common.{arith, ap, sym, ◌∙◌, subst, zero, suc, inl, inr}
 use Rattle.tib_lex.specs.declared.fault.FileFault.{FileFault}
@@ -9,7 +10,7 @@ use Rattle.tib_command.specs.declared.job.Operation.TheVariants as operations
 use Rattle.tib_run.specs.declared.status.Status.{Status}
 use Rattle.tib_run.specs.declared.status.Status.TheVariants as statuses
 use Rattle.tib_run.specs.Kinds.{Kind, of_grammar, of_trees, kinds_of, kind_at, file_at, bytes_at, OfName, OfFile, Told, IsShort, IsOfKind, HasFault}
-use Rattle.tib_run.specs.Causes.{IsTooMuch, is_weighted, product_of}
+use Rattle.tib_run.specs.Causes.{IsTooMuch, scale_of, product_of}
 use Rattle.tib_run.specs.Answers.{IsAnswerOf, IsAnswer, AreTold, EndsCalmly, AreOneStatus}
 use Rattle.tib_run.proofs.Faults.{faulty_kind, one_fault}
 use Rattle.tib_run.proofs.Limits.{answer_apart}
@@ -29,24 +30,24 @@ slice_some (x ∷ xs) (suc n) h = slice_some xs n (omega arith)
 
 -- the files of an answer are of their kinds
 
-kind_given : (weighted : Bool) (o : Option (List ℕ)) (k kind : Kind) → (let x : Option Kind = Some k in x ≡ Some kind) → IfSome o (IsOfKind weighted k) → IfSome o (IsOfKind weighted kind)
-kind_given weighted o k kind e h = subst (λ z. IfSome o (IsOfKind weighted z)) (some_kind k kind e) h
+kind_given : (scale : Scale) (o : Option (List ℕ)) (k kind : Kind) → (let x : Option Kind = Some k in x ≡ Some kind) → IfSome o (IsOfKind scale k) → IfSome o (IsOfKind scale kind)
+kind_given scale o k kind e h = subst (λ z. IfSome o (IsOfKind scale z)) (some_kind k kind e) h
 
 first_sound :
-    (o : Operation) (weighted : Bool) (product : ℕ → ℕ → ℕ) (limit : ℕ) (first second : Option (List ℕ)) (text : List ℕ) → IsAnswerOf o weighted product limit first second text → (kind : Kind) →
-    slice_get (kinds_of o) 0 ≡ Some kind → IfSome first (IsOfKind weighted kind)
-first_sound operations.Weigh weighted product limit first second text a kind e = kind_given weighted first of_grammar kind e (if_some first (λ x r. (a.early, a.g, r)) a.grammar)
-first_sound operations.Inside weighted product limit first second text a kind e = kind_given weighted first of_grammar kind e (if_some first (λ x r. (a.labels, a.g, r)) a.grammar)
-first_sound operations.Normal weighted product limit first second text a kind e = kind_given weighted first of_grammar kind e (if_some first (λ x r. (a.labels, a.g, r)) a.grammar)
-first_sound operations.Intersect weighted product limit first second text a kind e = kind_given weighted first of_grammar kind e (if_some first (λ x r. (a.early, a.f, r)) a.one)
+    (o : Operation) (scale : Scale) (product : ℕ → ℕ → ℕ) (limit : ℕ) (first second : Option (List ℕ)) (text : List ℕ) → IsAnswerOf o scale product limit first second text → (kind : Kind) →
+    slice_get (kinds_of o) 0 ≡ Some kind → IfSome first (IsOfKind scale kind)
+first_sound operations.Weigh scale product limit first second text a kind e = kind_given scale first of_grammar kind e (if_some first (λ x r. (a.early, a.g, r)) a.grammar)
+first_sound operations.Inside scale product limit first second text a kind e = kind_given scale first of_grammar kind e (if_some first (λ x r. (a.labels, a.g, r)) a.grammar)
+first_sound operations.Normal scale product limit first second text a kind e = kind_given scale first of_grammar kind e (if_some first (λ x r. (a.labels, a.g, r)) a.grammar)
+first_sound operations.Intersect scale product limit first second text a kind e = kind_given scale first of_grammar kind e (if_some first (λ x r. (a.early, a.f, r)) a.one)
 
 second_sound :
-    (o : Operation) (weighted : Bool) (product : ℕ → ℕ → ℕ) (limit : ℕ) (first second : Option (List ℕ)) (text : List ℕ) → IsAnswerOf o weighted product limit first second text → (kind : Kind) →
-    slice_get (kinds_of o) 1 ≡ Some kind → IfSome second (IsOfKind weighted kind)
-second_sound operations.Weigh weighted product limit first second text a kind e = kind_given weighted second of_trees kind e (if_some second (λ x r. (a.labels, a.trees, r)) a.listed)
-second_sound operations.Inside weighted product limit first second text a kind e = absurd (cc e)
-second_sound operations.Normal weighted product limit first second text a kind e = absurd (cc e)
-second_sound operations.Intersect weighted product limit first second text a kind e = kind_given weighted second of_grammar kind e (if_some second (λ x r. (a.labels, a.g, r)) a.two)
+    (o : Operation) (scale : Scale) (product : ℕ → ℕ → ℕ) (limit : ℕ) (first second : Option (List ℕ)) (text : List ℕ) → IsAnswerOf o scale product limit first second text → (kind : Kind) →
+    slice_get (kinds_of o) 1 ≡ Some kind → IfSome second (IsOfKind scale kind)
+second_sound operations.Weigh scale product limit first second text a kind e = kind_given scale second of_trees kind e (if_some second (λ x r. (a.labels, a.trees, r)) a.listed)
+second_sound operations.Inside scale product limit first second text a kind e = absurd (cc e)
+second_sound operations.Normal scale product limit first second text a kind e = absurd (cc e)
+second_sound operations.Intersect scale product limit first second text a kind e = kind_given scale second of_grammar kind e (if_some second (λ x r. (a.labels, a.g, r)) a.two)
 
 no_third : (o : Operation) (n : ℕ) (kind : Kind) → slice_get (kinds_of o) (suc (suc n)) ≡ Some kind → ⊥
 no_third operations.Weigh n kind e = absurd (cc e)
@@ -54,9 +55,9 @@ no_third operations.Inside n kind e = absurd (cc e)
 no_third operations.Normal n kind e = absurd (cc e)
 no_third operations.Intersect n kind e = absurd (cc e)
 
-kind_short : (weighted : Bool) (kind : Kind) (x : List ℕ) → IsOfKind weighted kind x → IsShort x
-kind_short weighted of_grammar x is = is.2.0
-kind_short weighted of_trees x is = is.2.0
+kind_short : (scale : Scale) (kind : Kind) (x : List ℕ) → IsOfKind scale kind x → IsShort x
+kind_short scale of_grammar x is = is.2.0
+kind_short scale of_trees x is = is.2.0
 
 holds : (o : Option (List ℕ)) (x : List ℕ) (P : List ℕ → Type 0) → o ≡ Some x → IfSome o P → P x
 holds o x P e h = let there : IfSome (Some x) P = subst (λ z. IfSome z P) e h in there
@@ -73,14 +74,14 @@ in_order : (m n : ℕ) → (m < n) ⊎ ((n < m) ⊎ (m ≡ n))
 in_order m n = grind arith
 
 module _ (asked : Asked) (held : List ℕ → Option (List ℕ)) where
-  abbrev weighted : Bool
-  weighted = is_weighted asked.mode
+  abbrev scale : Scale
+  scale = scale_of asked.mode
 
   abbrev bytes : ℕ → Option (List ℕ)
   bytes n = bytes_at held (file_at (Some asked) n)
 
   abbrev IsSound : ℕ → Type 0
-  IsSound n = (kind : Kind) → kind_at (Some asked) n ≡ Some kind → IfSome (bytes n) (IsOfKind weighted kind)
+  IsSound n = (kind : Kind) → kind_at (Some asked) n ≡ Some kind → IfSome (bytes n) (IsOfKind scale kind)
 
   -- the n-th file is not of its kind, and those before it are
   record Stops (n : ℕ) : Type 0 where
@@ -89,13 +90,13 @@ module _ (asked : Asked) (held : List ℕ → Option (List ℕ)) where
     is : kind_at (Some asked) n ≡ Some kind
     text : List ℕ
     has : bytes n ≡ Some text
-    bad : IsOfKind weighted kind text → ⊥
+    bad : IsOfKind scale kind text → ⊥
 
   -- what a status says in a run in which no count rises
   abbrev Says : Status → Type 0
   Says statuses.Done = ((n : ℕ) → IsSound n) × ((text : List ℕ) × IsAnswer asked held text)
   Says statuses.Usage = ⊥
-  Says (statuses.BadInput n fault) = (s : Stops n) × IsShort s.text × HasFault weighted (Some s.kind) s.text fault
+  Says (statuses.BadInput n fault) = (s : Stops n) × IsShort s.text × HasFault scale (Some s.kind) s.text fault
   Says (statuses.TooMany limit) = ((n : ℕ) → IsSound n) × (asked.limit ≡ limit) × IsTooMuch asked held
   Says (statuses.ReadFault n) = ⊥
   Says statuses.WriteFault = ⊥
@@ -103,10 +104,10 @@ module _ (asked : Asked) (held : List ℕ → Option (List ℕ)) where
   Says statuses.OutOfMemory = Unit {0}
 
   never_stops : ((n : ℕ) → IsSound n) → (n : ℕ) → Stops n → ⊥
-  never_stops sound n s = s.bad (holds (bytes n) s.text (IsOfKind weighted s.kind) s.has (sound n s.kind s.is))
+  never_stops sound n s = s.bad (holds (bytes n) s.text (IsOfKind scale s.kind) s.has (sound n s.kind s.is))
 
   before_stop : (m n : ℕ) → Stops m → Stops n → m < n → ⊥
-  before_stop m n s t h = s.bad (holds (bytes m) s.text (IsOfKind weighted s.kind) s.has (t.before m h s.kind s.is))
+  before_stop m n s t h = s.bad (holds (bytes m) s.text (IsOfKind scale s.kind) s.has (t.before m h s.kind s.is))
 
   one_stop : (m n : ℕ) → Stops m → Stops n → m ≡ n
   one_stop m n s t = elim (in_order m n) [
@@ -117,10 +118,10 @@ module _ (asked : Asked) (held : List ℕ → Option (List ℕ)) where
   one_text : (m n : ℕ) (s : Stops m) (t : Stops n) → s.text ≡ t.text
   one_text m n s t = some_same s.text t.text (sym s.has ∙ ap bytes (one_stop m n s t) ∙ t.has)
 
-  same_fault : (m n : ℕ) (a b : FileFault) (s : Stops m) (t : Stops n) → HasFault weighted (Some s.kind) s.text a → HasFault weighted (Some t.kind) t.text b → a ≡ b
+  same_fault : (m n : ℕ) (a b : FileFault) (s : Stops m) (t : Stops n) → HasFault scale (Some s.kind) s.text a → HasFault scale (Some t.kind) t.text b → a ≡ b
   same_fault m n a b s t h k =
       let kind : s.kind ≡ t.kind = some_kind s.kind t.kind (sym s.is ∙ ap (kind_at (Some asked)) (one_stop m n s t) ∙ t.is) in
-      one_fault weighted t.kind t.text a b (subst (λ z. HasFault weighted (Some z) t.text a) kind (subst (λ z. HasFault weighted (Some s.kind) z a) (one_text m n s t) h)) k
+      one_fault scale t.kind t.text a b (subst (λ z. HasFault scale (Some z) t.text a) kind (subst (λ z. HasFault scale (Some s.kind) z a) (one_text m n s t) h)) k
 
   short_and_long : (m n : ℕ) (s : Stops m) (t : Stops n) → IsShort s.text → 8388608 < length t.text → ⊥
   short_and_long m n s t h k = omega (arith, h, k, ap length (one_text m n s t))
@@ -190,17 +191,17 @@ module _ (asked : Asked) (held : List ℕ → Option (List ℕ)) where
 
       all_sound : (text : List ℕ) → IsAnswer asked held text → (n : ℕ) → IsSound n
       all_sound text a zero kind e = absurd (cc e)
-      all_sound text a (suc zero) kind e = first_sound asked.task.operation weighted (product_of asked.mode) asked.limit (bytes 1) (bytes 2) text a kind e
-      all_sound text a (suc (suc zero)) kind e = second_sound asked.task.operation weighted (product_of asked.mode) asked.limit (bytes 1) (bytes 2) text a kind e
+      all_sound text a (suc zero) kind e = first_sound asked.task.operation scale (product_of asked.mode) asked.limit (bytes 1) (bytes 2) text a kind e
+      all_sound text a (suc (suc zero)) kind e = second_sound asked.task.operation scale (product_of asked.mode) asked.limit (bytes 1) (bytes 2) text a kind e
       all_sound text a (suc (suc (suc n))) kind e = absurd (no_third asked.task.operation n kind e)
 
       says : (s : Status) → EndsCalmly asked held s → Says s
       says statuses.Done e = let t = e.text refl in (all_sound t.0 t.1, t)
       says statuses.Usage e = let never : (let o : Option Asked = Some asked in o ≡ None) = e.cause in absurd (cc never)
       says (statuses.BadInput n fault) e =
-          let b = bytes_of n (λ x. IsShort x × HasFault weighted (kind_at (Some asked) n) x fault) e.cause in
-          let f : HasFault weighted (Some b.kind) b.text fault = subst (λ k. HasFault weighted k b.text fault) b.is b.given.1 in (
-            record { before = λ m h kind is. e.earlier m kind h is; kind = b.kind; is = b.is; text = b.text; has = b.has; bad = λ k. faulty_kind weighted b.kind b.text fault f k },
+          let b = bytes_of n (λ x. IsShort x × HasFault scale (kind_at (Some asked) n) x fault) e.cause in
+          let f : HasFault scale (Some b.kind) b.text fault = subst (λ k. HasFault scale k b.text fault) b.is b.given.1 in (
+            record { before = λ m h kind is. e.earlier m kind h is; kind = b.kind; is = b.is; text = b.text; has = b.has; bad = λ k. faulty_kind scale b.kind b.text fault f k },
             b.given.0,
             f,
           )
@@ -209,7 +210,7 @@ module _ (asked : Asked) (held : List ℕ → Option (List ℕ)) where
       says statuses.WriteFault e = e.calm.out e.cause.1
       says (statuses.TooLong n) e =
           let b = bytes_of n (λ x. 8388608 < length x) e.cause in (
-            record { before = λ m h kind is. e.earlier m kind h is; kind = b.kind; is = b.is; text = b.text; has = b.has; bad = λ k. omega (arith, b.given, kind_short weighted b.kind b.text k) },
+            record { before = λ m h kind is. e.earlier m kind h is; kind = b.kind; is = b.is; text = b.text; has = b.has; bad = λ k. omega (arith, b.given, kind_short scale b.kind b.text k) },
             b.given,
           )
       says statuses.OutOfMemory e = tt

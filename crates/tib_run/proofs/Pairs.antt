@@ -1,4 +1,5 @@
 -- From the pairs of two grammars to the canonical intersection of two files.
+use Rattle.tib_cost.specs.declared.Scale.{Scale}
 use Rattle.std.specs.Prelude.{◌≡◌, ◌↔◌, ℕ, ◌+◌, ◌<◌, ◌≤◌, ◌⊎◌, Bool, true, false, List, [], ◌∷◌, length, map, Option, Some, slice_get, refl}
 use Rattle.std.proofs.Common.{zero, suc, arith, ap, sym, ◌∙◌, subst, inl, inr, get_or}
 use Rattle.std.proofs.lemmas.List.{length-map, get_or-map}
@@ -63,14 +64,14 @@ along_at R (x ∷ xs) [] n d a h = absurd a
 along_at R (x ∷ xs) (y ∷ ys) zero d a h = (x, a.0)
 along_at R (x ∷ xs) (y ∷ ys) (suc n) d a h = along_at R xs ys n d a.1 (omega arith)
 
-plain_product : (weighted : Bool) (product : ℕ → ℕ → ℕ) (a b c : ℕ) → product 0 0 ≡ 0 → IsPlainCost weighted a → IsPlainCost weighted b → c ≡ product a b → c ≤ most → IsPlainCost weighted c
+plain_product : (scale : Scale) (product : ℕ → ℕ → ℕ) (a b c : ℕ) → product 0 0 ≡ 0 → IsPlainCost scale a → IsPlainCost scale b → c ≡ product a b → c ≤ most → IsPlainCost scale c
 plain_product true product a b c zeros x y e low = low
 plain_product false product a b c zeros x y e low = e ∙ ap (λ z. product z b) x ∙ ap (product 0) y ∙ zeros
 
 pub pairs_printable :
-    (product : ℕ → ℕ → ℕ) → product 0 0 ≡ 0 → (weighted : Bool) (labels : List (List ℕ)) (one two rules : List (Rule ℕ)) (order : List (ℕ × ℕ)) → ArePrintable weighted labels one →
-    ArePrintable weighted labels two → IsPairGrammar product one two order rules → ((m : ℕ) → m < length rules → HasRootOf one (rule_at rules m)) → ArePrintable weighted labels rules
-pairs_printable product zeros weighted labels one two rules order first second pairs roots m h =
+    (product : ℕ → ℕ → ℕ) → product 0 0 ≡ 0 → (scale : Scale) (labels : List (List ℕ)) (one two rules : List (Rule ℕ)) (order : List (ℕ × ℕ)) → ArePrintable scale labels one →
+    ArePrintable scale labels two → IsPairGrammar product one two order rules → ((m : ℕ) → m < length rules → HasRootOf one (rule_at rules m)) → ArePrintable scale labels rules
+pairs_printable product zeros scale labels one two rules order first second pairs roots m h =
     let r = roots m h in
     let above : HavePlainLabels labels (only (rule_at one r.position).right) = (first r.position r.below).right in
     let root = subst (λ (z : Symbol ℕ ℕ). HavePlainLabels labels (tree z (rule_at one r.position).right.kids none)) r.is_root above in
@@ -83,7 +84,7 @@ pairs_printable product zeros weighted labels one two rules order first second p
     record {
       right = subst (λ (s : SideFor ℕ ℕ). HavePlainLabels labels (only s)) (sym r.right) (root.0, root.1, leaves_plain labels r.states, tt);
       cost =
-          plain_product weighted product (rule_at one found.0.1.0).cost (rule_at two found.0.1.1).cost (rule_at rules m).cost zeros (first found.0.1.0 edge.first).cost
+          plain_product scale product (rule_at one found.0.1.0).cost (rule_at two found.0.1.1).cost (rule_at rules m).cost zeros (first found.0.1.0 edge.first).cost
           (second found.0.1.1 edge.second).cost edge.costs edge.within;
     }
 

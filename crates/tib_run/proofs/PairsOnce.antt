@@ -1,4 +1,5 @@
 -- The text of the intersection of two told files is one.
+use Rattle.tib_cost.specs.declared.Scale.{Scale}
 use Rattle.std.proofs.Common.{◌≡◌, ℕ, ◌<◌, Bool, List, [], ◌∷◌, length, map, ap, sym, ◌∙◌, subst, arith}
 use Rattle.std.specs.Prelude.{Some}
 use Rattle.tib_lex.specs.Lists.{Has, Distinct}
@@ -89,12 +90,12 @@ module _ (product : ℕ → ℕ → ℕ) (one two : List (Rule ℕ)) (order : Li
       subst (Has ys) (rule_told (length order) p (λ i j l m e. distinct_at order i j (0, 0) once l m e) s.0 r its.left mine.left its.right mine.right s.2) s.1
 
   pub pairs_once :
-      (weighted : Bool) (labels : List (List ℕ)) (xs ys : List (Rule ℕ)) → IsReachedSet (intersection product one two) order (map (named_rule (pair_at order)) xs) →
+      (scale : Scale) (labels : List (List ℕ)) (xs ys : List (Rule ℕ)) → IsReachedSet (intersection product one two) order (map (named_rule (pair_at order)) xs) →
       IsReachedSet (intersection product one two) order (map (named_rule (pair_at order)) ys) → (g k h i : GrammarOf) → IsOverKeys pair_cmp order xs 0 g → IsOverKeys pair_cmp order ys 0 k →
-      IsCanonical product weighted labels g h → IsCanonical product weighted labels k i → h ≡ i
-  pairs_once weighted labels xs ys a b g k h i o u c d =
+      IsCanonical product scale labels g h → IsCanonical product scale labels k i → h ≡ i
+  pairs_once scale labels xs ys a b g k h i o u c d =
       let same : o.states ≡ u.states = by_keys_once pair_cmp pair_total order 0 o.states u.states o.by_keys u.by_keys in
-      one_canonical_of product weighted labels g k h i (leaves_over pair_cmp order 0 xs g o (ends xs a)) (leaves_over pair_cmp order 0 ys k u (ends ys b))
+      one_canonical_of product scale labels g k h i (leaves_over pair_cmp order 0 xs g o (ends xs a)) (leaves_over pair_cmp order 0 ys k u (ends ys b))
       (record {
         to = stands_over pair_cmp order 0 xs ys g k o u same (ends xs a) (ends ys b) (stands xs ys a b g k o u);
         from = stands_over pair_cmp order 0 ys xs k g u o (sym same) (ends ys b) (ends xs a) (stands ys xs b a k g u o);
@@ -152,32 +153,32 @@ module _ (product : ℕ → ℕ → ℕ) (labels others : List (List ℕ)) (f : 
       (subst (λ (es : List (Rule (ℕ × ℕ))). IsReachedSet (intersection product (rules_with f one) (rules_with f two)) order es) (edges_commute (pair_at order) f rules) moved)
 
   same_intersection :
-      (weighted : Bool) (limit : ℕ) (p q h g k i : GrammarOf) → AgreeByText labels others p g → AgreeByText labels others q k → (a : IsCanonicalIntersection weighted product limit labels p q h) →
-      IsCanonicalIntersection weighted product limit others g k i → EachLabelIn (KeepsText labels others f) h.rules → grammar_with f h ≡ i
-  same_intersection weighted limit p q h g k i left right a b e =
+      (scale : Scale) (limit : ℕ) (p q h g k i : GrammarOf) → AgreeByText labels others p g → AgreeByText labels others q k → (a : IsCanonicalIntersection scale product limit labels p q h) →
+      IsCanonicalIntersection scale product limit others g k i → EachLabelIn (KeepsText labels others f) h.rules → grammar_with f h ≡ i
+  same_intersection scale limit p q h g k i left right a b e =
       let reached = reached_given a.one.rules a.two.rules b.one.rules b.two.rules a.pairs.order a.pairs.rules (differ p g a.one b.one left a.first b.first) (differ q k a.two b.two right a.second b.second) a.pairs.reached in
       let same : a.pairs.order ≡ b.pairs.order =
       (one_set product b.one.rules b.two.rules a.pairs.order b.pairs.order (map (named_rule (pair_at a.pairs.order)) (rules_with f a.pairs.rules)) (map (named_rule (pair_at b.pairs.order)) b.pairs.rules) reached b.pairs.reached).0 in
-      pairs_once product b.one.rules b.two.rules a.pairs.order weighted others (rules_with f a.pairs.rules) b.pairs.rules reached
+      pairs_once product b.one.rules b.two.rules a.pairs.order scale others (rules_with f a.pairs.rules) b.pairs.rules reached
       (subst (λ (o : List (ℕ × ℕ)). IsReachedSet (intersection product b.one.rules b.two.rules) o (map (named_rule (pair_at o)) b.pairs.rules)) (sym same) b.pairs.reached)
       (grammar_with f a.pairs.canonical.over) b.pairs.canonical.over (grammar_with f h) i
       (over_with pair_cmp a.pairs.order a.pairs.rules 0 a.pairs.canonical.over f a.pairs.canonical.begun)
       (subst (λ (o : List (ℕ × ℕ)). IsOverKeys pair_cmp o b.pairs.rules 0 b.pairs.canonical.over) (sym same) b.pairs.canonical.begun)
-      (canonical_with labels others f n product weighted a.pairs.canonical.over h e a.pairs.canonical.canonical) b.pairs.canonical.canonical
+      (canonical_with labels others f n product scale a.pairs.canonical.over h e a.pairs.canonical.canonical) b.pairs.canonical.canonical
 
 pub intersection_once :
-    (weighted : Bool) (product : ℕ → ℕ → ℕ) (limit : ℕ) (first second text other : List ℕ) → HasIntersection weighted product limit (Some first) (Some second) text →
-    HasIntersection weighted product limit (Some first) (Some second) other → text ≡ other
-intersection_once weighted product limit first second text other a b =
-    let early : AgreeByText a.early b.early a.f b.f = one_by_text weighted a.early b.early first a.f b.f a.one.1.text b.one.1.text in
+    (scale : Scale) (product : ℕ → ℕ → ℕ) (limit : ℕ) (first second text other : List ℕ) → HasIntersection scale product limit (Some first) (Some second) text →
+    HasIntersection scale product limit (Some first) (Some second) other → text ≡ other
+intersection_once scale product limit first second text other a b =
+    let early : AgreeByText a.early b.early a.f b.f = one_by_text scale a.early b.early first a.f b.f a.one.1.text b.one.1.text in
     let left : AgreeByText a.labels b.labels a.f b.f = agree_grown a.early a.labels b.early b.labels a.grows b.grows a.f b.f early in
-    let right : AgreeByText a.labels b.labels a.g b.g = one_by_text weighted a.labels b.labels second a.g b.g a.two.1.text b.two.1.text in
+    let right : AgreeByText a.labels b.labels a.g b.g = one_by_text scale a.labels b.labels second a.g b.g a.two.1.text b.two.1.text in
     let s = renumbering a.labels b.labels (distinct_texts a.labels a.distinct) (distinct_texts b.labels b.distinct) in
     let pairs = a.canonical.pairs in
     let e : EachLabelIn (KeepsText a.labels b.labels s.0) a.h.rules =
-    canonical_labels (KeepsText a.labels b.labels s.0) product weighted a.labels pairs.canonical.over a.h pairs.canonical.canonical
+    canonical_labels (KeepsText a.labels b.labels s.0) product scale a.labels pairs.canonical.over a.h pairs.canonical.canonical
     (over_labels product a.labels b.labels s.0 s.1 a.canonical.one.rules a.canonical.two.rules pairs.order pairs.rules pairs.canonical.over (trimmed_kept product a.labels b.labels s.0 s.1 a.f b.f a.canonical.one left a.canonical.first) pairs.reached pairs.canonical.begun) in
     a.are
-    ∙ grammar_printed a.labels b.labels s.0 weighted a.h e
-    ∙ ap (grammar_text weighted b.labels) (same_intersection product a.labels b.labels s.0 s.1 weighted limit a.f a.g a.h b.f b.g b.h left right a.canonical b.canonical e)
+    ∙ grammar_printed a.labels b.labels s.0 scale a.h e
+    ∙ ap (grammar_text scale b.labels) (same_intersection product a.labels b.labels s.0 s.1 scale limit a.f a.g a.h b.f b.g b.h left right a.canonical b.canonical e)
     ∙ sym b.are

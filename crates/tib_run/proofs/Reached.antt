@@ -1,4 +1,5 @@
 -- From a file of a job to the answer of the run.
+use Rattle.tib_cost.specs.declared.Scale.{Scale}
 use Rattle.std.specs.Prelude.{◌≡◌, ℕ, ◌+◌, ◌-◌, ◌≤◌, ◌<◌, ◌⊎◌, Bool, List, length, Option, Some, None, IfSome, slice_get, refl}
 use Rattle.std.specs.List.{AllZip}
 use Rattle.std.proofs.Common.{subst, sym, ◌∙◌, arith, ap, zero, suc, inl, inr, map, get_or, [], ◌∷◌}
@@ -19,7 +20,7 @@ use Rattle.tib_run.specs.declared.status.Status.TheVariants as statuses
 use Rattle.tib_run.specs.Kinds.{Kind, of_grammar, of_trees, kind_at, kinds_of, file_at, bytes_at, OfName, OfFile, Told, IsShort, IsRead, ListsTrees, IsOfKind, HasFault}
 use Rattle.tib_run.specs.Answers.{IsWeighed, HasInsides, HasNormalText, IsAnswer, IsAnswerOf}
 use Rattle.tib_run.specs.Intersections.{HasIntersection, HasLargeIntersection, IntersectsTooMuch}
-use Rattle.tib_run.specs.Causes.{HasLargeForm, HasCause, AreBefore, HasEarlier, IsAbout, IsEarly, IsFormFault, IsIntersectionFault, MakesTooMuch, file_count, is_weighted, product_of, weighted_by}
+use Rattle.tib_run.specs.Causes.{HasLargeForm, HasCause, AreBefore, HasEarlier, IsAbout, IsEarly, IsFormFault, IsIntersectionFault, MakesTooMuch, file_count, scale_of, product_of, scale_by}
 
 -- the name of a file by its place among the job's files
 pub name_at : {A : Type 0} (f : A → List ℕ) (xs : List A) (i : ℕ) (x : A) → i < length xs → x ≡ get_or xs i x → slice_get (map f xs) i ≡ Some (f x)
@@ -54,12 +55,12 @@ told_some held (Some name) P h = h
 
 -- the first fault of the bytes of a file
 pub fault_told :
-    (job : Option Asked) (held : List ℕ → Option (List ℕ)) (n : ℕ) (kind : Kind) (weighted : Bool) (read : List ℕ) (fault : FileFault) → kind_at job n ≡ Some kind → weighted ≡ weighted_by job →
-    HasFault weighted (Some kind) read fault → OfFile job n (Told held (λ bytes. (read ≡ bytes) × IsShort bytes)) →
-    OfFile job n (Told held (λ bytes. IsShort bytes × HasFault (weighted_by job) (kind_at job n) bytes fault))
-fault_told job held n kind weighted read fault at we f h =
-    told_map held (file_at job n) (λ bytes. (read ≡ bytes) × IsShort bytes) (λ bytes. IsShort bytes × HasFault (weighted_by job) (kind_at job n) bytes fault)
-    (λ bytes p. (p.1, subst (λ k. HasFault (weighted_by job) k bytes fault) (sym at) (subst (λ w. HasFault w (Some kind) bytes fault) we (subst (λ b. HasFault weighted (Some kind) b fault) p.0 f)))) h
+    (job : Option Asked) (held : List ℕ → Option (List ℕ)) (n : ℕ) (kind : Kind) (scale : Scale) (read : List ℕ) (fault : FileFault) → kind_at job n ≡ Some kind → scale ≡ scale_by job →
+    HasFault scale (Some kind) read fault → OfFile job n (Told held (λ bytes. (read ≡ bytes) × IsShort bytes)) →
+    OfFile job n (Told held (λ bytes. IsShort bytes × HasFault (scale_by job) (kind_at job n) bytes fault))
+fault_told job held n kind scale read fault at we f h =
+    told_map held (file_at job n) (λ bytes. (read ≡ bytes) × IsShort bytes) (λ bytes. IsShort bytes × HasFault (scale_by job) (kind_at job n) bytes fault)
+    (λ bytes p. (p.1, subst (λ k. HasFault (scale_by job) k bytes fault) (sym at) (subst (λ w. HasFault w (Some kind) bytes fault) we (subst (λ b. HasFault scale (Some kind) b fault) p.0 f)))) h
 
 -- a cause within a later part of a run is one of the run
 pub cause_earlier :
@@ -86,13 +87,13 @@ some_kind a b e = cc e
 
 -- and one file more is of its kind
 pub before_more :
-    (job : Option Asked) (held : List ℕ → Option (List ℕ)) (n : ℕ) (kind : Kind) → AreBefore job held n → kind_at job n ≡ Some kind → IfSome (bytes_at held (file_at job n)) (IsOfKind (weighted_by job) kind) →
+    (job : Option Asked) (held : List ℕ → Option (List ℕ)) (n : ℕ) (kind : Kind) → AreBefore job held n → kind_at job n ≡ Some kind → IfSome (bytes_at held (file_at job n)) (IsOfKind (scale_by job) kind) →
     AreBefore job held (suc n)
 before_more job held n kind before at h m k l e = elim (lower m n (omega (arith, l))) [
   | inl less ↦ before m k less e
   | inr same ↦
       let kinds : kind ≡ k = some_kind kind k (sym at ∙ ap (kind_at job) (sym same) ∙ e) in
-      subst (λ z. IfSome (bytes_at held (file_at job m)) (IsOfKind (weighted_by job) z)) kinds (subst (λ z. IfSome (bytes_at held (file_at job z)) (IsOfKind (weighted_by job) kind)) (sym same) h)
+      subst (λ z. IfSome (bytes_at held (file_at job m)) (IsOfKind (scale_by job) z)) kinds (subst (λ z. IfSome (bytes_at held (file_at job z)) (IsOfKind (scale_by job) kind)) (sym same) h)
 ]
   where
     lower : (m n : ℕ) → m ≤ n → (m < n) ⊎ (m ≡ n)
@@ -143,33 +144,33 @@ form_earlier job held product g limit statuses.OutOfMemory h b = tt
 -- the job makes the normal form of its first file
 abbrev pub MakesForm : Asked → Type 0
 MakesForm asked =
-    (n : ℕ) (first second : Option (List ℕ)) → IfSome first (HasLargeForm (is_weighted asked.mode) (product_of asked.mode) n) →
-    MakesTooMuch asked.task.operation (is_weighted asked.mode) (product_of asked.mode) n first second
+    (n : ℕ) (first second : Option (List ℕ)) → IfSome first (HasLargeForm (scale_of asked.mode) (product_of asked.mode) n) →
+    MakesTooMuch asked.task.operation (scale_of asked.mode) (product_of asked.mode) n first second
 
 pub weigh_makes : (asked : Asked) → asked.task.operation ≡ operations.Weigh → MakesForm asked
-weigh_makes asked e n first second h = subst (λ o. MakesTooMuch o (is_weighted asked.mode) (product_of asked.mode) n first second) (sym e) h
+weigh_makes asked e n first second h = subst (λ o. MakesTooMuch o (scale_of asked.mode) (product_of asked.mode) n first second) (sym e) h
 
 pub normal_makes : (asked : Asked) → asked.task.operation ≡ operations.Normal → MakesForm asked
-normal_makes asked e n first second h = subst (λ o. MakesTooMuch o (is_weighted asked.mode) (product_of asked.mode) n first second) (sym e) h
+normal_makes asked e n first second h = subst (λ o. MakesTooMuch o (scale_of asked.mode) (product_of asked.mode) n first second) (sym e) h
 
 -- too many parts of the normal form of the grammar of the first file are a cause
 pub form_cause :
-    (asked : Asked) (held : List ℕ → Option (List ℕ)) (before now : List ℕ → ℕ) (a b : ℕ) (weighted : Bool) (product : ℕ → ℕ → ℕ) (labels : List (List ℕ)) (g : GrammarOf) (s : Status) →
-    MakesForm asked → weighted ≡ is_weighted asked.mode → product ≡ product_of asked.mode → AreDistinct labels → IfSome (bytes_at held (file_at (Some asked) 1)) (IsRead weighted labels g) →
+    (asked : Asked) (held : List ℕ → Option (List ℕ)) (before now : List ℕ → ℕ) (a b : ℕ) (scale : Scale) (product : ℕ → ℕ → ℕ) (labels : List (List ℕ)) (g : GrammarOf) (s : Status) →
+    MakesForm asked → scale ≡ scale_of asked.mode → product ≡ product_of asked.mode → AreDistinct labels → IfSome (bytes_at held (file_at (Some asked) 1)) (IsRead scale labels g) →
     IsFormFault product g asked.limit s → HasCause (Some asked) held before now a b s
-form_cause asked held before now a b weighted product labels g statuses.Done op we pe d text h = absurd h
-form_cause asked held before now a b weighted product labels g statuses.Usage op we pe d text h = absurd h
-form_cause asked held before now a b weighted product labels g (statuses.BadInput m fault) op we pe d text h = absurd h
-form_cause asked held before now a b weighted product labels g (statuses.TooMany n) op we pe d text h =
+form_cause asked held before now a b scale product labels g statuses.Done op we pe d text h = absurd h
+form_cause asked held before now a b scale product labels g statuses.Usage op we pe d text h = absurd h
+form_cause asked held before now a b scale product labels g (statuses.BadInput m fault) op we pe d text h = absurd h
+form_cause asked held before now a b scale product labels g (statuses.TooMany n) op we pe d text h =
     let more : HasMoreParts (product_of asked.mode) (length g.names) g.rules asked.limit = subst (λ p. HasMoreParts p (length g.names) g.rules asked.limit) pe h.1 in (
       sym h.0,
       op asked.limit (bytes_at held (file_at (Some asked) 1)) (bytes_at held (file_at (Some asked) 2))
           (if_some (bytes_at held (file_at (Some asked) 1)) (λ bytes r. record { labels = labels; g = g; distinct = d; text = subst (λ w. ReadsAs w labels bytes g) we r.1; more = more }) text),
     )
-form_cause asked held before now a b weighted product labels g (statuses.ReadFault m) op we pe d text h = absurd h
-form_cause asked held before now a b weighted product labels g statuses.WriteFault op we pe d text h = absurd h
-form_cause asked held before now a b weighted product labels g (statuses.TooLong m) op we pe d text h = absurd h
-form_cause asked held before now a b weighted product labels g statuses.OutOfMemory op we pe d text h = tt
+form_cause asked held before now a b scale product labels g (statuses.ReadFault m) op we pe d text h = absurd h
+form_cause asked held before now a b scale product labels g statuses.WriteFault op we pe d text h = absurd h
+form_cause asked held before now a b scale product labels g (statuses.TooLong m) op we pe d text h = absurd h
+form_cause asked held before now a b scale product labels g statuses.OutOfMemory op we pe d text h = tt
 
 pub intersection_early : (product : ℕ → ℕ → ℕ) (f g : GrammarOf) (limit : ℕ) (s : Status) → IsIntersectionFault product f g limit s → IsEarly s
 intersection_early product f g limit statuses.Done h = absurd h
@@ -195,18 +196,18 @@ intersection_earlier job held product f g limit statuses.OutOfMemory h b = tt
 
 -- too many parts of what the grammars of the two files intersect in are a cause
 pub intersection_cause :
-    (asked : Asked) (held : List ℕ → Option (List ℕ)) (before now : List ℕ → ℕ) (a b : ℕ) (weighted : Bool) (product : ℕ → ℕ → ℕ) (early labels : List (List ℕ)) (f g : GrammarOf) (s : Status) →
-    asked.task.operation ≡ operations.Intersect → weighted ≡ is_weighted asked.mode → product ≡ product_of asked.mode → AreDistinct labels → Grows early labels →
-    IfSome (bytes_at held (file_at (Some asked) 1)) (IsRead weighted early f) → IfSome (bytes_at held (file_at (Some asked) 2)) (IsRead weighted labels g) →
+    (asked : Asked) (held : List ℕ → Option (List ℕ)) (before now : List ℕ → ℕ) (a b : ℕ) (scale : Scale) (product : ℕ → ℕ → ℕ) (early labels : List (List ℕ)) (f g : GrammarOf) (s : Status) →
+    asked.task.operation ≡ operations.Intersect → scale ≡ scale_of asked.mode → product ≡ product_of asked.mode → AreDistinct labels → Grows early labels →
+    IfSome (bytes_at held (file_at (Some asked) 1)) (IsRead scale early f) → IfSome (bytes_at held (file_at (Some asked) 2)) (IsRead scale labels g) →
     IsIntersectionFault product f g asked.limit s → HasCause (Some asked) held before now a b s
-intersection_cause asked held before now a b weighted product early labels f g statuses.Done op we pe d k one two h = absurd h
-intersection_cause asked held before now a b weighted product early labels f g statuses.Usage op we pe d k one two h = absurd h
-intersection_cause asked held before now a b weighted product early labels f g (statuses.BadInput m fault) op we pe d k one two h = absurd h
-intersection_cause asked held before now a b weighted product early labels f g (statuses.TooMany n) op we pe d k one two h =
+intersection_cause asked held before now a b scale product early labels f g statuses.Done op we pe d k one two h = absurd h
+intersection_cause asked held before now a b scale product early labels f g statuses.Usage op we pe d k one two h = absurd h
+intersection_cause asked held before now a b scale product early labels f g (statuses.BadInput m fault) op we pe d k one two h = absurd h
+intersection_cause asked held before now a b scale product early labels f g (statuses.TooMany n) op we pe d k one two h =
     let first : Option (List ℕ) = bytes_at held (file_at (Some asked) 1) in
     let second : Option (List ℕ) = bytes_at held (file_at (Some asked) 2) in
     let more : IntersectsTooMuch (product_of asked.mode) asked.limit f g = subst (λ p. IntersectsTooMuch p asked.limit f g) pe h.1 in
-    let large : IfSome first (λ x. IfSome second (HasLargeIntersection (is_weighted asked.mode) (product_of asked.mode) asked.limit x)) =
+    let large : IfSome first (λ x. IfSome second (HasLargeIntersection (scale_of asked.mode) (product_of asked.mode) asked.limit x)) =
     if_some first (λ x r. if_some second (λ y q. record {
       early = early;
       labels = labels;
@@ -218,11 +219,11 @@ intersection_cause asked held before now a b weighted product early labels f g (
       two = subst (λ w. ReadsAs w labels y g) we q.1;
       more = more;
     }) two) one
-    in (sym h.0, subst (λ o. MakesTooMuch o (is_weighted asked.mode) (product_of asked.mode) asked.limit first second) (sym op) large)
-intersection_cause asked held before now a b weighted product early labels f g (statuses.ReadFault m) op we pe d k one two h = absurd h
-intersection_cause asked held before now a b weighted product early labels f g statuses.WriteFault op we pe d k one two h = absurd h
-intersection_cause asked held before now a b weighted product early labels f g (statuses.TooLong m) op we pe d k one two h = absurd h
-intersection_cause asked held before now a b weighted product early labels f g statuses.OutOfMemory op we pe d k one two h = tt
+    in (sym h.0, subst (λ o. MakesTooMuch o (scale_of asked.mode) (product_of asked.mode) asked.limit first second) (sym op) large)
+intersection_cause asked held before now a b scale product early labels f g (statuses.ReadFault m) op we pe d k one two h = absurd h
+intersection_cause asked held before now a b scale product early labels f g statuses.WriteFault op we pe d k one two h = absurd h
+intersection_cause asked held before now a b scale product early labels f g (statuses.TooLong m) op we pe d k one two h = absurd h
+intersection_cause asked held before now a b scale product early labels f g statuses.OutOfMemory op we pe d k one two h = tt
 
 -- the files of the operations
 
@@ -255,54 +256,54 @@ all_of_intersect asked held e h = subst (λ o. AreBefore (Some asked) held (leng
 
 -- a grammar that was read is of its kind
 pub grammar_is :
-    (job : Option Asked) (held : List ℕ → Option (List ℕ)) (n : ℕ) (weighted : Bool) (labels : List (List ℕ)) (g : GrammarOf) → weighted ≡ weighted_by job → OfFile job n (Told held (IsRead weighted labels g)) →
-    IfSome (bytes_at held (file_at job n)) (IsOfKind (weighted_by job) of_grammar)
-grammar_is job held n weighted labels g we h =
-    if_some (bytes_at held (file_at job n)) (λ bytes r. (labels, g, subst (λ w. IsRead w labels g bytes) we r)) (told_some held (file_at job n) (IsRead weighted labels g) h)
+    (job : Option Asked) (held : List ℕ → Option (List ℕ)) (n : ℕ) (scale : Scale) (labels : List (List ℕ)) (g : GrammarOf) → scale ≡ scale_by job → OfFile job n (Told held (IsRead scale labels g)) →
+    IfSome (bytes_at held (file_at job n)) (IsOfKind (scale_by job) of_grammar)
+grammar_is job held n scale labels g we h =
+    if_some (bytes_at held (file_at job n)) (λ bytes r. (labels, g, subst (λ w. IsRead w labels g bytes) we r)) (told_some held (file_at job n) (IsRead scale labels g) h)
 
 -- trees that were read are of their kind
 pub trees_are :
     (job : Option Asked) (held : List ℕ → Option (List ℕ)) (n : ℕ) (labels : List (List ℕ)) (trees : List (Tree ℕ)) → OfFile job n (Told held (ListsTrees labels trees)) →
-    IfSome (bytes_at held (file_at job n)) (IsOfKind (weighted_by job) of_trees)
+    IfSome (bytes_at held (file_at job n)) (IsOfKind (scale_by job) of_trees)
 trees_are job held n labels trees h = if_some (bytes_at held (file_at job n)) (λ bytes r. (labels, trees, r)) (told_some held (file_at job n) (ListsTrees labels trees) h)
 
 -- the answers of the operations
 
 pub answer_weigh :
-    (asked : Asked) (held : List ℕ → Option (List ℕ)) (weighted : Bool) (product : ℕ → ℕ → ℕ) (text : List ℕ) → asked.task.operation ≡ operations.Weigh → weighted ≡ is_weighted asked.mode → product ≡ product_of asked.mode →
-    IsWeighed weighted product asked.limit (bytes_at held (file_at (Some asked) 1)) (bytes_at held (file_at (Some asked) 2)) text → IsAnswer asked held text
-answer_weigh asked held weighted product text op we pe h =
+    (asked : Asked) (held : List ℕ → Option (List ℕ)) (scale : Scale) (product : ℕ → ℕ → ℕ) (text : List ℕ) → asked.task.operation ≡ operations.Weigh → scale ≡ scale_of asked.mode → product ≡ product_of asked.mode →
+    IsWeighed scale product asked.limit (bytes_at held (file_at (Some asked) 1)) (bytes_at held (file_at (Some asked) 2)) text → IsAnswer asked held text
+answer_weigh asked held scale product text op we pe h =
     let first : Option (List ℕ) = bytes_at held (file_at (Some asked) 1) in
     let second : Option (List ℕ) = bytes_at held (file_at (Some asked) 2) in
-    subst (λ o. IsAnswerOf o (is_weighted asked.mode) (product_of asked.mode) asked.limit first second text) (sym op)
-    (subst (λ p. IsWeighed (is_weighted asked.mode) p asked.limit first second text) pe (subst (λ w. IsWeighed w product asked.limit first second text) we h))
+    subst (λ o. IsAnswerOf o (scale_of asked.mode) (product_of asked.mode) asked.limit first second text) (sym op)
+    (subst (λ p. IsWeighed (scale_of asked.mode) p asked.limit first second text) pe (subst (λ w. IsWeighed w product asked.limit first second text) we h))
 
 pub answer_inside :
-    (asked : Asked) (held : List ℕ → Option (List ℕ)) (weighted : Bool) (product : ℕ → ℕ → ℕ) (text : List ℕ) → asked.task.operation ≡ operations.Inside → weighted ≡ is_weighted asked.mode → product ≡ product_of asked.mode →
-    HasInsides weighted product (bytes_at held (file_at (Some asked) 1)) text → IsAnswer asked held text
-answer_inside asked held weighted product text op we pe h =
+    (asked : Asked) (held : List ℕ → Option (List ℕ)) (scale : Scale) (product : ℕ → ℕ → ℕ) (text : List ℕ) → asked.task.operation ≡ operations.Inside → scale ≡ scale_of asked.mode → product ≡ product_of asked.mode →
+    HasInsides scale product (bytes_at held (file_at (Some asked) 1)) text → IsAnswer asked held text
+answer_inside asked held scale product text op we pe h =
     let first : Option (List ℕ) = bytes_at held (file_at (Some asked) 1) in
     let second : Option (List ℕ) = bytes_at held (file_at (Some asked) 2) in
-    subst (λ o. IsAnswerOf o (is_weighted asked.mode) (product_of asked.mode) asked.limit first second text) (sym op)
-    (subst (λ p. HasInsides (is_weighted asked.mode) p first text) pe (subst (λ w. HasInsides w product first text) we h))
+    subst (λ o. IsAnswerOf o (scale_of asked.mode) (product_of asked.mode) asked.limit first second text) (sym op)
+    (subst (λ p. HasInsides (scale_of asked.mode) p first text) pe (subst (λ w. HasInsides w product first text) we h))
 
 pub answer_normal :
-    (asked : Asked) (held : List ℕ → Option (List ℕ)) (weighted : Bool) (product : ℕ → ℕ → ℕ) (text : List ℕ) → asked.task.operation ≡ operations.Normal → weighted ≡ is_weighted asked.mode → product ≡ product_of asked.mode →
-    HasNormalText weighted product asked.limit (bytes_at held (file_at (Some asked) 1)) text → IsAnswer asked held text
-answer_normal asked held weighted product text op we pe h =
+    (asked : Asked) (held : List ℕ → Option (List ℕ)) (scale : Scale) (product : ℕ → ℕ → ℕ) (text : List ℕ) → asked.task.operation ≡ operations.Normal → scale ≡ scale_of asked.mode → product ≡ product_of asked.mode →
+    HasNormalText scale product asked.limit (bytes_at held (file_at (Some asked) 1)) text → IsAnswer asked held text
+answer_normal asked held scale product text op we pe h =
     let first : Option (List ℕ) = bytes_at held (file_at (Some asked) 1) in
     let second : Option (List ℕ) = bytes_at held (file_at (Some asked) 2) in
-    subst (λ o. IsAnswerOf o (is_weighted asked.mode) (product_of asked.mode) asked.limit first second text) (sym op)
-    (subst (λ p. HasNormalText (is_weighted asked.mode) p asked.limit first text) pe (subst (λ w. HasNormalText w product asked.limit first text) we h))
+    subst (λ o. IsAnswerOf o (scale_of asked.mode) (product_of asked.mode) asked.limit first second text) (sym op)
+    (subst (λ p. HasNormalText (scale_of asked.mode) p asked.limit first text) pe (subst (λ w. HasNormalText w product asked.limit first text) we h))
 
 pub answer_intersect :
-    (asked : Asked) (held : List ℕ → Option (List ℕ)) (weighted : Bool) (product : ℕ → ℕ → ℕ) (text : List ℕ) → asked.task.operation ≡ operations.Intersect → weighted ≡ is_weighted asked.mode →
-    product ≡ product_of asked.mode → HasIntersection weighted product asked.limit (bytes_at held (file_at (Some asked) 1)) (bytes_at held (file_at (Some asked) 2)) text → IsAnswer asked held text
-answer_intersect asked held weighted product text op we pe h =
+    (asked : Asked) (held : List ℕ → Option (List ℕ)) (scale : Scale) (product : ℕ → ℕ → ℕ) (text : List ℕ) → asked.task.operation ≡ operations.Intersect → scale ≡ scale_of asked.mode →
+    product ≡ product_of asked.mode → HasIntersection scale product asked.limit (bytes_at held (file_at (Some asked) 1)) (bytes_at held (file_at (Some asked) 2)) text → IsAnswer asked held text
+answer_intersect asked held scale product text op we pe h =
     let first : Option (List ℕ) = bytes_at held (file_at (Some asked) 1) in
     let second : Option (List ℕ) = bytes_at held (file_at (Some asked) 2) in
-    subst (λ o. IsAnswerOf o (is_weighted asked.mode) (product_of asked.mode) asked.limit first second text) (sym op)
-    (subst (λ p. HasIntersection (is_weighted asked.mode) p asked.limit first second text) pe (subst (λ w. HasIntersection w product asked.limit first second text) we h))
+    subst (λ o. IsAnswerOf o (scale_of asked.mode) (product_of asked.mode) asked.limit first second text) (sym op)
+    (subst (λ p. HasIntersection (scale_of asked.mode) p asked.limit first second text) pe (subst (λ w. HasIntersection w product asked.limit first second text) we h))
 
 -- weights by rules that keep the series are weights by the rules that they were made of
 pub weights_kept :

@@ -1,4 +1,5 @@
 -- A file that was read over one table of labels is read over each other one that has its labels.
+use Rattle.tib_cost.specs.declared.Scale.{Scale}
 use Rattle.std.proofs.Common.{◌≡◌, ℕ, ◌⊎◌, Bool, true, false, List, [], ◌∷◌, ◌++◌, length, refl, ap, ◌∙◌, subst, arith, suc, zero, inl, inr, Option, Contains}
 use Rattle.std.specs.Prelude.{Some, None, slice_get}
 use Rattle.std.specs.Bool.{Decides}
@@ -123,12 +124,12 @@ module _ (labels others : List (List ℕ)) (f : ℕ → ℕ) (moves : (i : ℕ) 
   means_with names (tree (hole q) kids rest) (head quoted text below more) m = absurd m.0
 
   rows_with :
-      (weighted : Bool) (names : List (List ℕ)) (rows : List (List Word)) (rules : List (Rule ℕ)) → Along (SpellsRuleOf weighted names labels) rows rules →
-      Along (SpellsRuleOf weighted names others) rows (rules_with f rules)
-  rows_with weighted names [] [] a = tt
-  rows_with weighted names [] (r ∷ rules) a = absurd a
-  rows_with weighted names (row ∷ rows) [] a = absurd a
-  rows_with weighted names (row ∷ rows) (r ∷ rules) a = (
+      (scale : Scale) (names : List (List ℕ)) (rows : List (List Word)) (rules : List (Rule ℕ)) → Along (SpellsRuleOf scale names labels) rows rules →
+      Along (SpellsRuleOf scale names others) rows (rules_with f rules)
+  rows_with scale names [] [] a = tt
+  rows_with scale names [] (r ∷ rules) a = absurd a
+  rows_with scale names (row ∷ rows) [] a = absurd a
+  rows_with scale names (row ∷ rows) (r ∷ rules) a = (
     record {
       left = a.0.left;
       right = a.0.right;
@@ -139,11 +140,11 @@ module _ (labels others : List (List ℕ)) (f : ℕ → ℕ) (moves : (i : ℕ) 
       right_is = means_with names (only r.right) a.0.right a.0.right_is;
       cost_is = a.0.cost_is;
     },
-    rows_with weighted names rows rules a.1,
+    rows_with scale names rows rules a.1,
   )
 
-  reads_with : (weighted : Bool) (bytes : List ℕ) (g : GrammarOf) → ReadsAs weighted labels bytes g → ReadsAs weighted others bytes (grammar_with f g)
-  reads_with weighted bytes g r = record {
+  reads_with : (scale : Scale) (bytes : List ℕ) (g : GrammarOf) → ReadsAs scale labels bytes g → ReadsAs scale others bytes (grammar_with f g)
+  reads_with scale bytes g r = record {
     text = record {
       lines = r.text.lines;
       start = r.text.start;
@@ -152,7 +153,7 @@ module _ (labels others : List (List ℕ)) (f : ℕ → ℕ) (moves : (i : ℕ) 
       tokens = r.text.tokens;
       plain = r.text.plain;
       states = r.text.states;
-      rules = rows_with weighted g.names r.text.rows g.rules r.text.rules;
+      rules = rows_with scale g.names r.text.rows g.rules r.text.rules;
     };
     small = small_with g.rules r.small;
   }
@@ -171,20 +172,20 @@ module _ (labels others : List (List ℕ)) (f : ℕ → ℕ) (moves : (i : ℕ) 
       small_with (x ∷ rules) s = (omega (arith, s.0, as_long x.right.kids), small_with rules s.1)
 
 -- a grammar of the bytes over a table to which another has grown
-pub record IsReadOver (weighted : Bool) (early : List (List ℕ)) (bytes : List ℕ) : Type 0 where
+pub record IsReadOver (scale : Scale) (early : List (List ℕ)) (bytes : List ℕ) : Type 0 where
   pub labels : List (List ℕ)
   pub g : GrammarOf
   pub grows : Grows early labels
   pub distinct : AreDistinct early → AreDistinct labels
-  pub reads : ReadsAs weighted labels bytes g
+  pub reads : ReadsAs scale labels bytes g
 
-pub read_over : (weighted : Bool) (early labels : List (List ℕ)) (bytes : List ℕ) (g : GrammarOf) → ReadsAs weighted labels bytes g → IsReadOver weighted early bytes
-read_over weighted early labels bytes g r =
+pub read_over : (scale : Scale) (early labels : List (List ℕ)) (bytes : List ℕ) (g : GrammarOf) → ReadsAs scale labels bytes g → IsReadOver scale early bytes
+read_over scale early labels bytes g r =
     let o = all_more early labels in
     record {
       labels = o.0;
       g = grammar_with (moved labels o.0 o.1.has) g;
       grows = o.1.grows;
       distinct = o.1.distinct;
-      reads = reads_with labels o.0 (moved labels o.0 o.1.has) (moves labels o.0 o.1.has) weighted bytes g r;
+      reads = reads_with labels o.0 (moved labels o.0 o.1.has) (moves labels o.0 o.1.has) scale bytes g r;
     }

@@ -1,4 +1,5 @@
 -- What a run that is done has written.
+use Rattle.tib_cost.specs.declared.Scale.{Scale}
 use Rattle.std.specs.Prelude.{◌≡◌, ◌⊎◌, ◌<◌, ◌≤◌, ℕ, Bool, List, length, Option, Some, None, IfSome, IsSome}
 use Rattle.std.specs.List.{AllZip}
 use Rattle.tib_io.specs.Causes.{Rose, last_count}
@@ -21,14 +22,14 @@ use Rattle.tib_command.specs.declared.job.Operation.TheVariants as operations
 use Rattle.tib_run.specs.declared.status.Status.{Status}
 use Rattle.tib_run.specs.declared.status.Status.TheVariants as statuses
 use Rattle.tib_run.specs.Kinds.{Kind, kind_at, file_at, bytes_at, OfName, IsShort, IsRead, ListsTrees, IsOfKind}
-use Rattle.tib_run.specs.Causes.{is_weighted, product_of, HasCause, HasEarlier}
+use Rattle.tib_run.specs.Causes.{scale_of, product_of, HasCause, HasEarlier}
 use Rattle.tib_run.specs.Intersections.{HasIntersection, HasSmallIntersection}
 use Rattle.tib_run.specs.Text.{weighed_lines, inside_lines}
 
 -- The text has a line for each tree of the second file, in order, with its weight by the grammar of the first file: the
 -- series of the grammar at the tree. The normal form of the grammar is within the limit. `early` has the labels of the
 -- grammar, and `labels` those of both files. Nothing is said of a file whose bytes are not told.
-pub record IsWeighed (weighted : Bool) (product : ℕ → ℕ → ℕ) (limit : ℕ) (first second : Option (List ℕ)) (text : List ℕ) : Type 0 where
+pub record IsWeighed (scale : Scale) (product : ℕ → ℕ → ℕ) (limit : ℕ) (first second : Option (List ℕ)) (text : List ℕ) : Type 0 where
   pub early : List (List ℕ)
   pub labels : List (List ℕ)
   pub g : GrammarOf
@@ -36,53 +37,53 @@ pub record IsWeighed (weighted : Bool) (product : ℕ → ℕ → ℕ) (limit : 
   pub costs : List (Option ℕ)
   pub distinct : AreDistinct labels
   pub grows : Grows early labels
-  pub grammar : IfSome first (IsRead weighted early g)
+  pub grammar : IfSome first (IsRead scale early g)
   pub listed : IfSome second (ListsTrees labels trees)
   pub within : HasFormWithin product (length g.names) g.rules limit
   pub weights : AllZip (λ t v. IsSeries product g.rules t v) trees costs
-  pub are : text ≡ weighed_lines weighted labels trees costs
+  pub are : text ≡ weighed_lines scale labels trees costs
 
 -- The text has a line for each state of the grammar of the file, in order: its name with its inside cost.
-pub record HasInsides (weighted : Bool) (product : ℕ → ℕ → ℕ) (first : Option (List ℕ)) (text : List ℕ) : Type 0 where
+pub record HasInsides (scale : Scale) (product : ℕ → ℕ → ℕ) (first : Option (List ℕ)) (text : List ℕ) : Type 0 where
   pub labels : List (List ℕ)
   pub g : GrammarOf
   pub costs : List (Option ℕ)
-  pub grammar : IfSome first (IsRead weighted labels g)
+  pub grammar : IfSome first (IsRead scale labels g)
   pub counted : length costs ≡ length g.names
   pub insides : AreInsides product g.rules costs
-  pub are : text ≡ inside_lines weighted g.names costs
+  pub are : text ≡ inside_lines scale g.names costs
 
 -- the canonical form of a normal form of a grammar, which is within the limit
-pub record IsCanonicalNormal (weighted : Bool) (product : ℕ → ℕ → ℕ) (limit : ℕ) (labels : List (List ℕ)) (g h : GrammarOf) : Type 0 where
+pub record IsCanonicalNormal (scale : Scale) (product : ℕ → ℕ → ℕ) (limit : ℕ) (labels : List (List ℕ)) (g h : GrammarOf) : Type 0 where
   pub normal : GrammarOf
   pub form : IsNormalForm product (length g.names) g.rules (length normal.names) normal.rules
   pub within : normal_parts (length normal.names) normal.rules ≤ limit
-  pub canonical : IsCanonical product weighted labels normal h
+  pub canonical : IsCanonical product scale labels normal h
 
 -- The text is that of the canonical form of a normal form of the grammar of the file, which has the series of the grammar.
 -- It reads back as this form alone.
-pub record HasNormalText (weighted : Bool) (product : ℕ → ℕ → ℕ) (limit : ℕ) (first : Option (List ℕ)) (text : List ℕ) : Type 0 where
+pub record HasNormalText (scale : Scale) (product : ℕ → ℕ → ℕ) (limit : ℕ) (first : Option (List ℕ)) (text : List ℕ) : Type 0 where
   pub labels : List (List ℕ)
   pub g : GrammarOf
   pub h : GrammarOf
   pub distinct : AreDistinct labels
-  pub grammar : IfSome first (IsRead weighted labels g)
-  pub canonical : IsCanonicalNormal weighted product limit labels g h
+  pub grammar : IfSome first (IsRead scale labels g)
+  pub canonical : IsCanonicalNormal scale product limit labels g h
   pub series : HasSameSeries product g h
-  pub are : text ≡ grammar_text weighted labels h
-  pub read : GrammarText weighted labels text h
+  pub are : text ≡ grammar_text scale labels h
+  pub read : GrammarText scale labels text h
 
 -- the text answers the operation on files with these bytes
-abbrev pub IsAnswerOf : Operation → Bool → (ℕ → ℕ → ℕ) → ℕ → Option (List ℕ) → Option (List ℕ) → List ℕ → Type 0
-IsAnswerOf operations.Weigh weighted product limit first second text = IsWeighed weighted product limit first second text
-IsAnswerOf operations.Inside weighted product limit first second text = HasInsides weighted product first text
-IsAnswerOf operations.Normal weighted product limit first second text = HasNormalText weighted product limit first text
-IsAnswerOf operations.Intersect weighted product limit first second text = HasIntersection weighted product limit first second text
+abbrev pub IsAnswerOf : Operation → Scale → (ℕ → ℕ → ℕ) → ℕ → Option (List ℕ) → Option (List ℕ) → List ℕ → Type 0
+IsAnswerOf operations.Weigh scale product limit first second text = IsWeighed scale product limit first second text
+IsAnswerOf operations.Inside scale product limit first second text = HasInsides scale product first text
+IsAnswerOf operations.Normal scale product limit first second text = HasNormalText scale product limit first text
+IsAnswerOf operations.Intersect scale product limit first second text = HasIntersection scale product limit first second text
 
 -- the text answers the job
 abbrev pub IsAnswer : Asked → (List ℕ → Option (List ℕ)) → List ℕ → Type 0
 IsAnswer asked held text =
-    IsAnswerOf asked.task.operation (is_weighted asked.mode) (product_of asked.mode) asked.limit (bytes_at held (file_at (Some asked) 1)) (bytes_at held (file_at (Some asked) 2)) text
+    IsAnswerOf asked.task.operation (scale_of asked.mode) (product_of asked.mode) asked.limit (bytes_at held (file_at (Some asked) 1)) (bytes_at held (file_at (Some asked) 2)) text
 
 -- the bytes of each file of the job are told
 abbrev pub AreTold : Asked → (List ℕ → Option (List ℕ)) → Type 0
@@ -111,27 +112,27 @@ HasFrontOfAnswer None held old new = ⊥
 HasFrontOfAnswer (Some asked) held old new = HasFront (IsAnswer asked held) old new
 
 -- the grammar of the bytes, over whatever table that has each label once, has a normal form within the limit
-abbrev pub HasSmallForm : Bool → (ℕ → ℕ → ℕ) → ℕ → List ℕ → Type 0
-HasSmallForm weighted product limit bytes =
-    (labels : List (List ℕ)) (g : GrammarOf) → AreDistinct labels → ReadsAs weighted labels bytes g → HasFormWithin product (length g.names) g.rules limit
+abbrev pub HasSmallForm : Scale → (ℕ → ℕ → ℕ) → ℕ → List ℕ → Type 0
+HasSmallForm scale product limit bytes =
+    (labels : List (List ℕ)) (g : GrammarOf) → AreDistinct labels → ReadsAs scale labels bytes g → HasFormWithin product (length g.names) g.rules limit
 
 -- what an operation makes of its files, which are told, is within the limit: the normal forms, where it makes them, and
 -- the reached set of an intersection
-abbrev pub StaysWithin : Operation → Bool → (ℕ → ℕ → ℕ) → ℕ → Option (List ℕ) → Option (List ℕ) → Type 0
-StaysWithin operations.Weigh weighted product limit first second = OfName first (HasSmallForm weighted product limit)
-StaysWithin operations.Inside weighted product limit first second = Unit {0}
-StaysWithin operations.Normal weighted product limit first second = OfName first (HasSmallForm weighted product limit)
-StaysWithin operations.Intersect weighted product limit first second = OfName first (λ one. OfName second (HasSmallIntersection weighted product limit one))
+abbrev pub StaysWithin : Operation → Scale → (ℕ → ℕ → ℕ) → ℕ → Option (List ℕ) → Option (List ℕ) → Type 0
+StaysWithin operations.Weigh scale product limit first second = OfName first (HasSmallForm scale product limit)
+StaysWithin operations.Inside scale product limit first second = Unit {0}
+StaysWithin operations.Normal scale product limit first second = OfName first (HasSmallForm scale product limit)
+StaysWithin operations.Intersect scale product limit first second = OfName first (λ one. OfName second (HasSmallIntersection scale product limit one))
 
 -- what the job makes of its files is within its limit
 abbrev pub IsWithin : Asked → (List ℕ → Option (List ℕ)) → Type 0
 IsWithin asked held =
-    StaysWithin asked.task.operation (is_weighted asked.mode) (product_of asked.mode) asked.limit (bytes_at held (file_at (Some asked) 1)) (bytes_at held (file_at (Some asked) 2))
+    StaysWithin asked.task.operation (scale_of asked.mode) (product_of asked.mode) asked.limit (bytes_at held (file_at (Some asked) 1)) (bytes_at held (file_at (Some asked) 2))
 
 -- each file of the job is told, and is of its kind, and so not too long
 abbrev pub AreOfTheirKinds : Asked → (List ℕ → Option (List ℕ)) → Type 0
 AreOfTheirKinds asked held =
-    (n : ℕ) (kind : Kind) → kind_at (Some asked) n ≡ Some kind → OfName (bytes_at held (file_at (Some asked) n)) (IsOfKind (is_weighted asked.mode) kind)
+    (n : ℕ) (kind : Kind) → kind_at (Some asked) n ≡ Some kind → OfName (bytes_at held (file_at (Some asked) n)) (IsOfKind (scale_of asked.mode) kind)
 
 -- each file of a job is told, not too long and of its kind, and what the job makes is within the limit
 pub record IsAnswerable (asked : Asked) (held : List ℕ → Option (List ℕ)) : Type 0 where

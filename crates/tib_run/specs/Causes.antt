@@ -1,4 +1,6 @@
 -- What each answer of a run says of the words, the files and the output.
+use Rattle.tib_cost.specs.declared.Scale.{Scale}
+use Rattle.tib_cost.specs.declared.Scale.TheVariants as scales
 use Rattle.std.specs.Prelude.{◌≡◌, ℕ, ◌+◌, max, ◌<◌, Bool, true, false, List, length, Option, Some, None, IfSome, IsSome}
 use Rattle.tib_io.specs.Causes.{Rose}
 use Rattle.tib_tree.specs.Grows.{AreDistinct}
@@ -15,43 +17,45 @@ use Rattle.tib_run.specs.Intersections.{HasLargeIntersection, IntersectsTooMuch}
 use Rattle.tib_run.specs.declared.status.Status.{Status}
 use Rattle.tib_run.specs.declared.status.Status.TheVariants as statuses
 
--- in Boolean no weight is kept
-abbrev pub is_weighted : Mode → Bool
-is_weighted modes.MinPlus = true
-is_weighted modes.Bottleneck = true
-is_weighted modes.Boolean = false
+-- how the weights of a mode stand for costs
+abbrev pub scale_of : Mode → Scale
+scale_of modes.MinPlus = scales.Plain
+scale_of modes.Bottleneck = scales.Plain
+scale_of modes.Widest = scales.Reversed
+scale_of modes.Boolean = scales.Unweighted
 
-abbrev pub weighted_by : Option Asked → Bool
-weighted_by None = true
-weighted_by (Some asked) = is_weighted asked.mode
+abbrev pub scale_by : Option Asked → Scale
+scale_by None = scales.Plain
+scale_by (Some asked) = scale_of asked.mode
 
 -- the product of a mode
 abbrev pub product_of : Mode → ℕ → ℕ → ℕ
 product_of modes.MinPlus = ◌+◌
 product_of modes.Bottleneck = max
+product_of modes.Widest = max
 product_of modes.Boolean = max
 
 -- The bytes are the text of a grammar whose normal form has more parts than the limit. Its table has each label once: over
 -- a table with a label twice, two rules that are written alike would be two.
-pub record HasLargeForm (weighted : Bool) (product : ℕ → ℕ → ℕ) (limit : ℕ) (bytes : List ℕ) : Type 0 where
+pub record HasLargeForm (scale : Scale) (product : ℕ → ℕ → ℕ) (limit : ℕ) (bytes : List ℕ) : Type 0 where
   pub labels : List (List ℕ)
   pub g : GrammarOf
   pub distinct : AreDistinct labels
-  pub text : ReadsAs weighted labels bytes g
+  pub text : ReadsAs scale labels bytes g
   pub more : HasMoreParts product (length g.names) g.rules limit
 
 -- what an operation makes of its files has more parts than the limit: a normal form, where it makes one, or the reached
 -- set of an intersection
-abbrev pub MakesTooMuch : Operation → Bool → (ℕ → ℕ → ℕ) → ℕ → Option (List ℕ) → Option (List ℕ) → Type 0
-MakesTooMuch operations.Weigh weighted product limit first second = IfSome first (HasLargeForm weighted product limit)
-MakesTooMuch operations.Inside weighted product limit first second = ⊥
-MakesTooMuch operations.Normal weighted product limit first second = IfSome first (HasLargeForm weighted product limit)
-MakesTooMuch operations.Intersect weighted product limit first second = IfSome first (λ one. IfSome second (HasLargeIntersection weighted product limit one))
+abbrev pub MakesTooMuch : Operation → Scale → (ℕ → ℕ → ℕ) → ℕ → Option (List ℕ) → Option (List ℕ) → Type 0
+MakesTooMuch operations.Weigh scale product limit first second = IfSome first (HasLargeForm scale product limit)
+MakesTooMuch operations.Inside scale product limit first second = ⊥
+MakesTooMuch operations.Normal scale product limit first second = IfSome first (HasLargeForm scale product limit)
+MakesTooMuch operations.Intersect scale product limit first second = IfSome first (λ one. IfSome second (HasLargeIntersection scale product limit one))
 
 -- what the job makes of its files has more parts than its limit
 abbrev pub IsTooMuch : Asked → (List ℕ → Option (List ℕ)) → Type 0
 IsTooMuch asked held =
-    MakesTooMuch asked.task.operation (is_weighted asked.mode) (product_of asked.mode) asked.limit (bytes_at held (file_at (Some asked) 1)) (bytes_at held (file_at (Some asked) 2))
+    MakesTooMuch asked.task.operation (scale_of asked.mode) (product_of asked.mode) asked.limit (bytes_at held (file_at (Some asked) 1)) (bytes_at held (file_at (Some asked) 2))
 
 abbrev pub HasTooMany : Option Asked → (List ℕ → Option (List ℕ)) → ℕ → Type 0
 HasTooMany None held limit = ⊥
@@ -64,7 +68,7 @@ abbrev pub HasCause : Option Asked → (List ℕ → Option (List ℕ)) → (Lis
 HasCause job held before now out_before out_now statuses.Done = IsSome job
 HasCause job held before now out_before out_now statuses.Usage = job ≡ None
 HasCause job held before now out_before out_now (statuses.BadInput file fault) =
-    OfFile job file (Told held (λ bytes. IsShort bytes × HasFault (weighted_by job) (kind_at job file) bytes fault))
+    OfFile job file (Told held (λ bytes. IsShort bytes × HasFault (scale_by job) (kind_at job file) bytes fault))
 HasCause job held before now out_before out_now (statuses.TooMany limit) = HasTooMany job held limit
 HasCause job held before now out_before out_now (statuses.ReadFault file) = OfFile job file (λ name. Rose (before name) (now name))
 HasCause job held before now out_before out_now statuses.WriteFault = IsSome job × Rose out_before out_now
@@ -73,7 +77,7 @@ HasCause job held before now out_before out_now statuses.OutOfMemory = Unit {0}
 
 -- the files of a job before the n-th are of their kinds, where they are told
 abbrev pub AreBefore : Option Asked → (List ℕ → Option (List ℕ)) → ℕ → Type 0
-AreBefore job held n = (m : ℕ) (kind : Kind) → m < n → kind_at job m ≡ Some kind → IfSome (bytes_at held (file_at job m)) (IsOfKind (weighted_by job) kind)
+AreBefore job held n = (m : ℕ) (kind : Kind) → m < n → kind_at job m ≡ Some kind → IfSome (bytes_at held (file_at job m)) (IsOfKind (scale_by job) kind)
 
 abbrev pub file_count : Option Asked → ℕ
 file_count None = 0

@@ -1,4 +1,5 @@
 -- What the intersection of the grammars of two files is.
+use Rattle.tib_cost.specs.declared.Scale.{Scale}
 use Rattle.std.specs.Prelude.{◌≡◌, ℕ, ◌≤◌, ◌⊎◌, ◌↔◌, Bool, List, length, map, Option, IfSome}
 use Rattle.tib_tree.specs.Trees.{Tree}
 use Rattle.tib_tree.specs.Grows.{Grows, AreDistinct}
@@ -25,26 +26,26 @@ HasProductSeries product one two rules =
 
 -- the canonical form of the reached set of pairs of the states of two grammars, from the pair of the starts; it is within
 -- the limit
-pub record IsCanonicalOfPairs (weighted : Bool) (product : ℕ → ℕ → ℕ) (limit : ℕ) (labels : List (List ℕ)) (one two h : GrammarOf) : Type 0 where
+pub record IsCanonicalOfPairs (scale : Scale) (product : ℕ → ℕ → ℕ) (limit : ℕ) (labels : List (List ℕ)) (one two h : GrammarOf) : Type 0 where
   pub order : List (ℕ × ℕ)
   pub rules : List (Rule ℕ)
   pub reached : IsReachedSet (intersection product one.rules two.rules) order (map (named_rule (pair_at order)) rules)
   pub within : parts_of (intersection product one.rules two.rules) order (map (named_rule (pair_at order)) rules) ≤ limit
-  pub canonical : IsCanonicalOverKeys product weighted labels pair_cmp order rules (At 0) h
+  pub canonical : IsCanonicalOverKeys product scale labels pair_cmp order rules (At 0) h
 
 -- the same of the trimmed normal forms of two grammars, whose normal forms are within the limit
-pub record IsCanonicalIntersection (weighted : Bool) (product : ℕ → ℕ → ℕ) (limit : ℕ) (labels : List (List ℕ)) (f g h : GrammarOf) : Type 0 where
+pub record IsCanonicalIntersection (scale : Scale) (product : ℕ → ℕ → ℕ) (limit : ℕ) (labels : List (List ℕ)) (f g h : GrammarOf) : Type 0 where
   pub one : GrammarOf
   pub two : GrammarOf
   pub first : IsTrimmedForm product f one
   pub second : IsTrimmedForm product g two
   pub first_within : HasFormWithin product (length f.names) f.rules limit
   pub second_within : HasFormWithin product (length g.names) g.rules limit
-  pub pairs : IsCanonicalOfPairs weighted product limit labels one two h
+  pub pairs : IsCanonicalOfPairs scale product limit labels one two h
 
 -- The text is that of the canonical intersection of the grammars of two files, which gives each tree the product of its
 -- two costs. It reads back as this grammar alone. `early` has the labels of the first file, and `labels` those of both.
-pub record HasIntersection (weighted : Bool) (product : ℕ → ℕ → ℕ) (limit : ℕ) (first second : Option (List ℕ)) (text : List ℕ) : Type 0 where
+pub record HasIntersection (scale : Scale) (product : ℕ → ℕ → ℕ) (limit : ℕ) (first second : Option (List ℕ)) (text : List ℕ) : Type 0 where
   pub early : List (List ℕ)
   pub labels : List (List ℕ)
   pub f : GrammarOf
@@ -52,12 +53,12 @@ pub record HasIntersection (weighted : Bool) (product : ℕ → ℕ → ℕ) (li
   pub h : GrammarOf
   pub distinct : AreDistinct labels
   pub grows : Grows early labels
-  pub one : IfSome first (IsRead weighted early f)
-  pub two : IfSome second (IsRead weighted labels g)
-  pub canonical : IsCanonicalIntersection weighted product limit labels f g h
+  pub one : IfSome first (IsRead scale early f)
+  pub two : IfSome second (IsRead scale labels g)
+  pub canonical : IsCanonicalIntersection scale product limit labels f g h
   pub series : HasProductSeries product f.rules g.rules h.rules
-  pub are : text ≡ grammar_text weighted labels h
-  pub read : GrammarText weighted labels text h
+  pub are : text ≡ grammar_text scale labels h
+  pub read : GrammarText scale labels text h
 
 -- each reached set of pairs of states of trimmed normal forms of two grammars has more parts than the limit
 abbrev pub HasMorePairs : (ℕ → ℕ → ℕ) → ℕ → GrammarOf → GrammarOf → Type 0
@@ -70,15 +71,15 @@ IntersectsTooMuch product limit f g =
     HasMoreParts product (length f.names) f.rules limit ⊎ (HasMoreParts product (length g.names) g.rules limit ⊎ HasMorePairs product limit f g)
 
 -- the bytes are the texts of two grammars of which this holds
-pub record HasLargeIntersection (weighted : Bool) (product : ℕ → ℕ → ℕ) (limit : ℕ) (first second : List ℕ) : Type 0 where
+pub record HasLargeIntersection (scale : Scale) (product : ℕ → ℕ → ℕ) (limit : ℕ) (first second : List ℕ) : Type 0 where
   pub early : List (List ℕ)
   pub labels : List (List ℕ)
   pub f : GrammarOf
   pub g : GrammarOf
   pub distinct : AreDistinct labels
   pub grows : Grows early labels
-  pub one : ReadsAs weighted early first f
-  pub two : ReadsAs weighted labels second g
+  pub one : ReadsAs scale early first f
+  pub two : ReadsAs scale labels second g
   pub more : IntersectsTooMuch product limit f g
 
 -- the normal forms of two grammars are within the limit, and so is the reached set
@@ -95,7 +96,7 @@ pub record IntersectsWithin (product : ℕ → ℕ → ℕ) (limit : ℕ) (f g :
   pub within : parts_of (intersection product one.rules two.rules) order edges ≤ limit
 
 -- the grammars of the bytes, over whatever tables of labels, intersect within the limit
-abbrev pub HasSmallIntersection : Bool → (ℕ → ℕ → ℕ) → ℕ → List ℕ → List ℕ → Type 0
-HasSmallIntersection weighted product limit first second =
-    (early labels : List (List ℕ)) (f g : GrammarOf) → AreDistinct labels → Grows early labels → ReadsAs weighted early first f → ReadsAs weighted labels second g →
+abbrev pub HasSmallIntersection : Scale → (ℕ → ℕ → ℕ) → ℕ → List ℕ → List ℕ → Type 0
+HasSmallIntersection scale product limit first second =
+    (early labels : List (List ℕ)) (f g : GrammarOf) → AreDistinct labels → Grows early labels → ReadsAs scale early first f → ReadsAs scale labels second g →
     IntersectsWithin product limit f g

@@ -1,4 +1,5 @@
 -- What the files of a job hold.
+use Rattle.tib_cost.specs.declared.Scale.{Scale}
 use Rattle.std.specs.Prelude.{◌≡◌, ℕ, ◌≤◌, Bool, List, [], ◌∷◌, length, Option, Some, None, IfSome, Err, slice_get}
 use Rattle.std.proofs.Common.{zero, suc}
 use Rattle.tib_lex.specs.Lists.{Each}
@@ -58,28 +59,28 @@ abbrev pub IsShort : List ℕ → Type 0
 IsShort bytes = length bytes ≤ 8388608
 
 -- the grammar of the text, with no right side too large
-abbrev pub IsRead : Bool → List (List ℕ) → GrammarOf → List ℕ → Type 0
-IsRead weighted labels g bytes = IsShort bytes × ReadsAs weighted labels bytes g
+abbrev pub IsRead : Scale → List (List ℕ) → GrammarOf → List ℕ → Type 0
+IsRead scale labels g bytes = IsShort bytes × ReadsAs scale labels bytes g
 
 -- the trees of the text, none of them too large
 abbrev pub ListsTrees : List (List ℕ) → List (Tree ℕ) → List ℕ → Type 0
 ListsTrees labels trees bytes = IsShort bytes × TreesText labels bytes trees × Each IsSmall trees
 
 -- the bytes are the text of a grammar, and not too many
-abbrev pub IsGrammarFile : Bool → List ℕ → Type 0
-IsGrammarFile weighted bytes = (labels : List (List ℕ)) × (g : GrammarOf) × IsRead weighted labels g bytes
+abbrev pub IsGrammarFile : Scale → List ℕ → Type 0
+IsGrammarFile scale bytes = (labels : List (List ℕ)) × (g : GrammarOf) × IsRead scale labels g bytes
 
 -- the bytes are the text of trees, and not too many
 abbrev pub IsTreeFile : List ℕ → Type 0
 IsTreeFile bytes = (labels : List (List ℕ)) × (trees : List (Tree ℕ)) × ListsTrees labels trees bytes
 
 -- the bytes are the text of a value of the kind
-abbrev pub IsOfKind : Bool → Kind → List ℕ → Type 0
-IsOfKind weighted of_grammar bytes = IsGrammarFile weighted bytes
-IsOfKind weighted of_trees bytes = IsTreeFile bytes
+abbrev pub IsOfKind : Scale → Kind → List ℕ → Type 0
+IsOfKind scale of_grammar bytes = IsGrammarFile scale bytes
+IsOfKind scale of_trees bytes = IsTreeFile bytes
 
 -- the first fault of the bytes as the text of a value of the kind
-abbrev pub HasFault : Bool → Option Kind → List ℕ → FileFault → Type 0
-HasFault weighted None bytes fault = ⊥
-HasFault weighted (Some of_grammar) bytes fault = grammar_of weighted bytes ≡ Err fault
-HasFault weighted (Some of_trees) bytes fault = trees_of bytes ≡ Err fault
+abbrev pub HasFault : Scale → Option Kind → List ℕ → FileFault → Type 0
+HasFault scale None bytes fault = ⊥
+HasFault scale (Some of_grammar) bytes fault = grammar_of scale bytes ≡ Err fault
+HasFault scale (Some of_trees) bytes fault = trees_of bytes ≡ Err fault

@@ -3,7 +3,7 @@ ghost use Rattle.std.specs.Prelude.{◌≡◌, ◌≤◌, Some, length, true, If
 ghost use Rattle.tib_io.specs.Causes.{GoesOn};
 ghost use Rattle.tib_command.specs.Jobs.{meaning, word_count};
 ghost use Rattle.tib_run.specs.Answers.{HasAnswer, HasFrontOfAnswer, IsAnswer, StandsStill};
-ghost use Rattle.tib_run.specs.Causes.{HasCause, HasEarlier, IsEarly, LeavesAlone, is_weighted, product_of};
+ghost use Rattle.tib_run.specs.Causes.{HasCause, HasEarlier, IsEarly, LeavesAlone, scale_of, product_of};
 
 use crate::inside::inside_of_file;
 use crate::intersect::intersect_files;
@@ -27,7 +27,7 @@ fn text_of<S: Semiring + Sync + Drop, R: Threads + Sync, F: Files, G: Gate>(
 ) -> Result<GrowingSink, Status>
     requires files { length job.now.files.items ≡ word_count job.now.operation }
     requires limit { (1 ≤ job.now.limit) × (job.now.limit ≤ 20000000) }
-    requires mode { S.WEIGHTED ≡ is_weighted job.now.mode }
+    requires mode { S.SCALE ≡ scale_of job.now.mode }
     requires product { S.product ≡ product_of job.now.mode }
     ensures text { IfOk result (λ text. IsAnswer (meaning job.now) (F.held files.old) text.bytes) }
     ensures cause { IfErr result (HasCause (Some (meaning job.now)) (F.held files.old) (F.faults files.old) (F.faults files.new) 0 0) }
@@ -56,7 +56,7 @@ pub(crate) fn answer_job<S: Semiring + Sync + Drop, R: Threads + Sync, F: Files,
 ) -> Status
     requires files { length job.now.files.items ≡ word_count job.now.operation }
     requires limit { (1 ≤ job.now.limit) × (job.now.limit ≤ 20000000) }
-    requires mode { S.WEIGHTED ≡ is_weighted job.now.mode }
+    requires mode { S.SCALE ≡ scale_of job.now.mode }
     requires product { S.product ≡ product_of job.now.mode }
     ensures cause { HasCause (Some (meaning job.now)) (F.held files.old) (F.faults files.old) (F.faults files.new) (O.faults out.old) (O.faults out.new) result }
     ensures earlier { HasEarlier (Some (meaning job.now)) (F.held files.old) result }

@@ -13,7 +13,7 @@ use crate::status::Status;
 use std::alloc::Global;
 use std::thread::Threads;
 use tib_command::{CommandError, Job, Mode, read_words};
-use tib_cost::{Boolean, Bottleneck, MinPlus};
+use tib_cost::{Boolean, Bottleneck, MinPlus, Widest};
 use tib_hunt::Gate;
 use tib_io::{Files, Sink};
 
@@ -43,6 +43,7 @@ fn perform_job<R: Threads + Sync, F: Files, O: Sink, G: Gate>(
     match job.mode {
         Mode::MinPlus => answer_job::<MinPlus, R, F, O, G>(rt, alloc, job, files, out, gate),
         Mode::Bottleneck => answer_job::<Bottleneck, R, F, O, G>(rt, alloc, job, files, out, gate),
+        Mode::Widest => answer_job::<Widest, R, F, O, G>(rt, alloc, job, files, out, gate),
         Mode::Boolean => answer_job::<Boolean, R, F, O, G>(rt, alloc, job, files, out, gate),
     }
 }

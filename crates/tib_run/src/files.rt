@@ -2,7 +2,7 @@
 ghost use Rattle.std.specs.Prelude.{◌≡◌, ◌≤◌, ◌<◌, ◌+◌, ℕ, List, length, Some, IfOk, IfErr};
 ghost use Rattle.tib_io.specs.Causes.{GoesOn};
 ghost use Rattle.tib_command.specs.Jobs.{meaning};
-ghost use Rattle.tib_run.specs.Causes.{HasCause, IsAbout, is_weighted};
+ghost use Rattle.tib_run.specs.Causes.{HasCause, IsAbout, scale_of};
 ghost use Rattle.tib_run.specs.Kinds.{file_at, kind_at, OfFile, Told, IsShort, IsRead, ListsTrees, of_grammar, of_trees};
 ghost use Rattle.tib_grammar_file.specs.Printed.{AreLabelled};
 ghost use Rattle.tib_grammar_file.specs.Printable.{ArePrintable};
@@ -60,10 +60,10 @@ pub(crate) fn grammar_in<S: Semiring, F: Files>(
     requires from { 1 ≤ file }
     requires to { file ≤ length job.now.files.items }
     requires kind { kind_at (Some (meaning job.now)) file ≡ Some of_grammar }
-    requires mode { S.WEIGHTED ≡ is_weighted job.now.mode }
-    ensures text { IfOk result (λ g. OfFile (Some (meaning job.now)) file (Told (F.held files.old) (IsRead S.WEIGHTED labels.new g))) }
+    requires mode { S.SCALE ≡ scale_of job.now.mode }
+    ensures text { IfOk result (λ g. OfFile (Some (meaning job.now)) file (Told (F.held files.old) (IsRead S.SCALE labels.new g))) }
     ensures labelled { IfOk result (λ g. AreLabelled (length labels.new) g.rules) }
-    ensures printable { IfOk result (λ g. ArePrintable S.WEIGHTED labels.new g.rules) }
+    ensures printable { IfOk result (λ g. ArePrintable S.SCALE labels.new g.rules) }
     ensures grows { Grows labels.old labels.new }
     ensures cause { IfErr result (HasCause (Some (meaning job.now)) (F.held files.old) (F.faults files.old) (F.faults files.new) 0 0) }
     ensures about { IfErr result (IsAbout file) }

@@ -4,7 +4,7 @@ ghost use Rattle.tib_io.specs.Causes.{GoesOn};
 ghost use Rattle.tib_io.specs.Writes.{Takes};
 ghost use Rattle.tib_command.specs.Jobs.{meaning};
 ghost use Rattle.tib_run.specs.Answers.{IsAnswer};
-ghost use Rattle.tib_run.specs.Causes.{HasCause, HasEarlier, IsEarly, is_weighted, product_of};
+ghost use Rattle.tib_run.specs.Causes.{HasCause, HasEarlier, IsEarly, scale_of, product_of};
 ghost use Rattle.tib_run.specs.Text.{inside_line, inside_lines};
 
 use crate::files::grammar_in;
@@ -25,7 +25,7 @@ fn print_state<S: Semiring, W: Sink>(
     cost: Option<Cost>,
     out: &mut W,
 ) -> Result<(), Failed>
-    ensures { OnOk result (Takes (W.written out.old) (W.written out.new) (W.free out.old) (W.free out.new) (inside_line S.WEIGHTED name.now cost)) }
+    ensures { OnOk result (Takes (W.written out.old) (W.written out.new) (W.free out.old) (W.free out.new) (inside_line S.SCALE name.now cost)) }
 {
     match write_whole(out, name) {
         Ok(()) => print_cost::<S, W>(cost, out),
@@ -39,7 +39,7 @@ fn add_state<S: Semiring>(
     name: &[u8],
     cost: Option<Cost>,
 ) -> Result<(), Failed>
-    ensures { OnOk result (text.new.bytes ≡ text.old.bytes ++ inside_line S.WEIGHTED name.now cost) }
+    ensures { OnOk result (text.new.bytes ≡ text.old.bytes ++ inside_line S.SCALE name.now cost) }
 {
     print_state::<S, GrowingSink>(name, cost, text)
 }
@@ -51,7 +51,7 @@ fn inside_text<S: Semiring>(
     costs: &[Option<Cost>],
 ) -> Result<GrowingSink, Failed>
     requires { length costs.now ≡ length names.now }
-    ensures { IfOk result (λ text. text.bytes ≡ inside_lines S.WEIGHTED names.now costs.now) }
+    ensures { IfOk result (λ text. text.bytes ≡ inside_lines S.SCALE names.now costs.now) }
 {
     let mut text = GrowingSink::new(alloc);
     for state in 0..names.len() {
@@ -68,7 +68,7 @@ pub(crate) fn inside_of_file<S: Semiring, F: Files>(
 ) -> Result<GrowingSink, Status>
     requires operation { job.now.operation ≡ Operation.Inside }
     requires files { length job.now.files.items ≡ 1 }
-    requires mode { S.WEIGHTED ≡ is_weighted job.now.mode }
+    requires mode { S.SCALE ≡ scale_of job.now.mode }
     requires product { S.product ≡ product_of job.now.mode }
     ensures text { IfOk result (λ text. IsAnswer (meaning job.now) (F.held files.old) text.bytes) }
     ensures cause { IfErr result (HasCause (Some (meaning job.now)) (F.held files.old) (F.faults files.old) (F.faults files.new) 0 0) }

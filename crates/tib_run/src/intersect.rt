@@ -11,7 +11,7 @@ ghost use Rattle.tib_normal.specs.Rows.{HasFormWithin};
 ghost use Rattle.tib_canon.specs.TrimmedForms.{IsTrimmedForm};
 ghost use Rattle.tib_intersect.specs.Intersection.{intersection};
 ghost use Rattle.tib_run.specs.Answers.{IsAnswer};
-ghost use Rattle.tib_run.specs.Causes.{HasCause, HasEarlier, IsEarly, IsFormFault, IsIntersectionFault, is_weighted, product_of};
+ghost use Rattle.tib_run.specs.Causes.{HasCause, HasEarlier, IsEarly, IsFormFault, IsIntersectionFault, scale_of, product_of};
 ghost use Rattle.tib_run.specs.Intersections.{HasProductSeries, IsCanonicalOfPairs, IsCanonicalIntersection};
 
 use crate::files::grammar_in;
@@ -39,7 +39,7 @@ fn trimmed_form<S: Semiring + Drop>(
     ensures within { IfOk result (λ m. HasFormWithin S.product (length grammar.now.names) grammar.now.rules limit) }
     ensures series { IfOk result (λ m. HasSameSeries S.product grammar.now m) }
     ensures labelled { IfOk result (λ m. (n : ℕ) → AreLabelled n grammar.now.rules → AreLabelled n m.rules) }
-    ensures printable { IfOk result (λ m. (labels : List (List ℕ)) → ArePrintable S.WEIGHTED labels grammar.now.rules → ArePrintable S.WEIGHTED labels m.rules) }
+    ensures printable { IfOk result (λ m. (labels : List (List ℕ)) → ArePrintable S.SCALE labels grammar.now.rules → ArePrintable S.SCALE labels m.rules) }
     ensures err { IfErr result (IsFormFault S.product grammar.now limit) }
 {
     grammar.is_sound();
@@ -64,13 +64,13 @@ fn canonical_of_pairs<S: Semiring + Drop, G: Gate>(
     gate: &G,
 ) -> Result<Printed<S>, HuntError>
     requires labelled { AreLabelled (length labels.now) one.now.rules }
-    requires one { ArePrintable S.WEIGHTED labels.now one.now.rules }
-    requires two { ArePrintable S.WEIGHTED labels.now two.now.rules }
+    requires one { ArePrintable S.SCALE labels.now one.now.rules }
+    requires two { ArePrintable S.SCALE labels.now two.now.rules }
     requires limit { (1 ≤ limit) × (limit ≤ 20000000) }
-    ensures canonical { IfOk result (λ h. IsCanonicalOfPairs S.WEIGHTED S.product limit labels.now one.now two.now h.grammar) }
+    ensures canonical { IfOk result (λ h. IsCanonicalOfPairs S.SCALE S.product limit labels.now one.now two.now h.grammar) }
     ensures series { IfOk result (λ h. HasProductSeries S.product one.now.rules two.now.rules h.grammar.rules) }
-    ensures read { IfOk result (λ h. GrammarText S.WEIGHTED labels.now h.text.bytes h.grammar) }
-    ensures text { IfOk result (λ h. h.text.bytes ≡ grammar_text S.WEIGHTED labels.now h.grammar) }
+    ensures read { IfOk result (λ h. GrammarText S.SCALE labels.now h.text.bytes h.grammar) }
+    ensures text { IfOk result (λ h. h.text.bytes ≡ grammar_text S.SCALE labels.now h.grammar) }
     ensures err { IfErr result (IfTooMany limit (IsBeyond (intersection S.product one.now.rules two.now.rules) limit)) }
 {
     one.grammar();
@@ -95,13 +95,13 @@ fn intersection_of<S: Semiring + Drop, G: Gate>(
     gate: &G,
 ) -> Result<Printed<S>, Status>
     requires labelled { AreLabelled (length labels.now) first.now.rules }
-    requires first { ArePrintable S.WEIGHTED labels.now first.now.rules }
-    requires second { ArePrintable S.WEIGHTED labels.now second.now.rules }
+    requires first { ArePrintable S.SCALE labels.now first.now.rules }
+    requires second { ArePrintable S.SCALE labels.now second.now.rules }
     requires limit { (1 ≤ limit) × (limit ≤ 20000000) }
-    ensures canonical { IfOk result (λ h. IsCanonicalIntersection S.WEIGHTED S.product limit labels.now first.now second.now h.grammar) }
+    ensures canonical { IfOk result (λ h. IsCanonicalIntersection S.SCALE S.product limit labels.now first.now second.now h.grammar) }
     ensures series { IfOk result (λ h. HasProductSeries S.product first.now.rules second.now.rules h.grammar.rules) }
-    ensures read { IfOk result (λ h. GrammarText S.WEIGHTED labels.now h.text.bytes h.grammar) }
-    ensures text { IfOk result (λ h. h.text.bytes ≡ grammar_text S.WEIGHTED labels.now h.grammar) }
+    ensures read { IfOk result (λ h. GrammarText S.SCALE labels.now h.text.bytes h.grammar) }
+    ensures text { IfOk result (λ h. h.text.bytes ≡ grammar_text S.SCALE labels.now h.grammar) }
     ensures err { IfErr result (IsIntersectionFault S.product first.now second.now limit) }
 {
     let one = match trimmed_form::<S>(alloc, first, limit) {
@@ -129,7 +129,7 @@ pub(crate) fn intersect_files<S: Semiring + Drop, F: Files, G: Gate>(
     requires operation { job.now.operation ≡ Operation.Intersect }
     requires files { length job.now.files.items ≡ 2 }
     requires limit { (1 ≤ job.now.limit) × (job.now.limit ≤ 20000000) }
-    requires mode { S.WEIGHTED ≡ is_weighted job.now.mode }
+    requires mode { S.SCALE ≡ scale_of job.now.mode }
     requires product { S.product ≡ product_of job.now.mode }
     ensures text { IfOk result (λ text. IsAnswer (meaning job.now) (F.held files.old) text.bytes) }
     ensures cause { IfErr result (HasCause (Some (meaning job.now)) (F.held files.old) (F.faults files.old) (F.faults files.new) 0 0) }

@@ -1,4 +1,5 @@
 // What holds of the answers of jobs.
+ghost use Rattle.tib_cost.specs.declared.Scale.{Scale};
 ghost use Rattle.std.specs.Prelude.{◌≡◌, ℕ, Bool, List, Option, Some};
 ghost use Rattle.tib_command.specs.Jobs.{Asked, job_of};
 ghost use Rattle.tib_run.specs.Causes.{IsTooMuch};
@@ -9,10 +10,10 @@ ghost use Rattle.tib_run.specs.declared.status.Status.{Status};
 
 /// Over told files the text of each operation is one, whatever the tables of labels and the normal forms by which it is told.
 pub fn texts_are_one()
-    ensures weighed { (weighted : Bool) (product : ℕ → ℕ → ℕ) (limit : ℕ) (first second text other : List ℕ) → IsWeighed weighted product limit (Some first) (Some second) text → IsWeighed weighted product limit (Some first) (Some second) other → text ≡ other }
-    ensures insides { (weighted : Bool) (product : ℕ → ℕ → ℕ) (first text other : List ℕ) → HasInsides weighted product (Some first) text → HasInsides weighted product (Some first) other → text ≡ other }
-    ensures normal { (weighted : Bool) (product : ℕ → ℕ → ℕ) (limit : ℕ) (first text other : List ℕ) → HasNormalText weighted product limit (Some first) text → HasNormalText weighted product limit (Some first) other → text ≡ other }
-    ensures intersection { (weighted : Bool) (product : ℕ → ℕ → ℕ) (limit : ℕ) (first second text other : List ℕ) → HasIntersection weighted product limit (Some first) (Some second) text → HasIntersection weighted product limit (Some first) (Some second) other → text ≡ other }
+    ensures weighed { (scale : Scale) (product : ℕ → ℕ → ℕ) (limit : ℕ) (first second text other : List ℕ) → IsWeighed scale product limit (Some first) (Some second) text → IsWeighed scale product limit (Some first) (Some second) other → text ≡ other }
+    ensures insides { (scale : Scale) (product : ℕ → ℕ → ℕ) (first text other : List ℕ) → HasInsides scale product (Some first) text → HasInsides scale product (Some first) other → text ≡ other }
+    ensures normal { (scale : Scale) (product : ℕ → ℕ → ℕ) (limit : ℕ) (first text other : List ℕ) → HasNormalText scale product limit (Some first) text → HasNormalText scale product limit (Some first) other → text ≡ other }
+    ensures intersection { (scale : Scale) (product : ℕ → ℕ → ℕ) (limit : ℕ) (first second text other : List ℕ) → HasIntersection scale product limit (Some first) (Some second) text → HasIntersection scale product limit (Some first) (Some second) other → text ≡ other }
 {}
 
 /// Where the bytes of each file of a job are told, one text answers it.
@@ -37,8 +38,8 @@ pub fn within_or_too_many()
 /// Where the files of `weigh` and of `inside` are of their kinds, and the normal form that `weigh` makes is within the limit,
 /// it cannot be that no text answers.
 pub fn answers_exist()
-    ensures weighed { (weighted : Bool) (product : ℕ → ℕ → ℕ) (limit : ℕ) (first second : List ℕ) → IsGrammarFile weighted first → IsTreeFile second → HasSmallForm weighted product limit first → ((text : List ℕ) → IsWeighed weighted product limit (Some first) (Some second) text → ⊥) → ⊥ }
-    ensures insides { (weighted : Bool) (product : ℕ → ℕ → ℕ) (first : List ℕ) → IsGrammarFile weighted first → ((text : List ℕ) → HasInsides weighted product (Some first) text → ⊥) → ⊥ }
+    ensures weighed { (scale : Scale) (product : ℕ → ℕ → ℕ) (limit : ℕ) (first second : List ℕ) → IsGrammarFile scale first → IsTreeFile second → HasSmallForm scale product limit first → ((text : List ℕ) → IsWeighed scale product limit (Some first) (Some second) text → ⊥) → ⊥ }
+    ensures insides { (scale : Scale) (product : ℕ → ℕ → ℕ) (first : List ℕ) → IsGrammarFile scale first → ((text : List ℕ) → HasInsides scale product (Some first) text → ⊥) → ⊥ }
 {}
 
 /// A job whose files are told ends with one status in all runs in which no count rises and no memory is refused.

@@ -7,7 +7,7 @@ ghost use Rattle.tib_grammar_file.specs.Printable.{ArePrintable};
 ghost use Rattle.tib_grammar_file.specs.Printed.{AreLabelled, grammar_text};
 ghost use Rattle.tib_inside.specs.Trimmed.{HasSameSeries};
 ghost use Rattle.tib_run.specs.Answers.{IsAnswer, IsCanonicalNormal};
-ghost use Rattle.tib_run.specs.Causes.{HasCause, HasEarlier, IsEarly, IsFormFault, is_weighted, product_of};
+ghost use Rattle.tib_run.specs.Causes.{HasCause, HasEarlier, IsEarly, IsFormFault, scale_of, product_of};
 
 use crate::files::grammar_in;
 use crate::status::Status;
@@ -28,12 +28,12 @@ fn canonical_normal<S: Semiring + Drop>(
     limit: u64,
 ) -> Result<Printed<S>, Status>
     requires labelled { AreLabelled (length labels.now) grammar.now.rules }
-    requires printable { ArePrintable S.WEIGHTED labels.now grammar.now.rules }
+    requires printable { ArePrintable S.SCALE labels.now grammar.now.rules }
     requires limit { (1 ≤ limit) × (limit ≤ 20000000) }
-    ensures canonical { IfOk result (λ h. IsCanonicalNormal S.WEIGHTED S.product limit labels.now grammar.now h.grammar) }
+    ensures canonical { IfOk result (λ h. IsCanonicalNormal S.SCALE S.product limit labels.now grammar.now h.grammar) }
     ensures series { IfOk result (λ h. HasSameSeries S.product grammar.now h.grammar) }
-    ensures read { IfOk result (λ h. GrammarText S.WEIGHTED labels.now h.text.bytes h.grammar) }
-    ensures text { IfOk result (λ h. h.text.bytes ≡ grammar_text S.WEIGHTED labels.now h.grammar) }
+    ensures read { IfOk result (λ h. GrammarText S.SCALE labels.now h.text.bytes h.grammar) }
+    ensures text { IfOk result (λ h. h.text.bytes ≡ grammar_text S.SCALE labels.now h.grammar) }
     ensures err { IfErr result (IsFormFault S.product grammar.now limit) }
 {
     grammar.is_sound();
@@ -59,7 +59,7 @@ pub(crate) fn normal_of_file<S: Semiring + Drop, F: Files>(
     requires operation { job.now.operation ≡ Operation.Normal }
     requires files { length job.now.files.items ≡ 1 }
     requires limit { (1 ≤ job.now.limit) × (job.now.limit ≤ 20000000) }
-    requires mode { S.WEIGHTED ≡ is_weighted job.now.mode }
+    requires mode { S.SCALE ≡ scale_of job.now.mode }
     requires product { S.product ≡ product_of job.now.mode }
     ensures text { IfOk result (λ text. IsAnswer (meaning job.now) (F.held files.old) text.bytes) }
     ensures cause { IfErr result (HasCause (Some (meaning job.now)) (F.held files.old) (F.faults files.old) (F.faults files.new) 0 0) }

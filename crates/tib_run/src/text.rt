@@ -16,13 +16,13 @@ pub(crate) fn print_cost<S: Semiring, W: Sink>(
     cost: Option<Cost>,
     out: &mut W,
 ) -> Result<(), Failed>
-    ensures { OnOk result (Takes (W.written out.old) (W.written out.new) (W.free out.old) (W.free out.new) (cost_text S.WEIGHTED cost)) }
+    ensures { OnOk result (Takes (W.written out.old) (W.written out.new) (W.free out.old) (W.free out.new) (cost_text S.SCALE cost)) }
 {
     match cost {
         None => write_whole(out, b" # none\n"),
         Some(cost) => {
-            if S::WEIGHTED {
-                write_about(out, b" # ", cost.get(), b"\n")
+            if S::SCALE.is_weighted() {
+                write_about(out, b" # ", S::weight(cost).get(), b"\n")
             } else {
                 write_whole(out, b"\n")
             }
@@ -39,7 +39,7 @@ fn print_line<S: Semiring, W: Sink>(
     out: &mut W,
 ) -> Result<(), Failed>
     requires { HasLabels labels.now tree.now }
-    ensures { OnOk result (Takes (W.written out.old) (W.written out.new) (W.free out.old) (W.free out.new) (weighed_line S.WEIGHTED labels.now tree.now cost)) }
+    ensures { OnOk result (Takes (W.written out.old) (W.written out.new) (W.free out.old) (W.free out.new) (weighed_line S.SCALE labels.now tree.now cost)) }
 {
     match print_tree(tree, labels, out) {
         Ok(()) => print_cost::<S, W>(cost, out),
@@ -55,7 +55,7 @@ fn add_line<S: Semiring>(
     cost: Option<Cost>,
 ) -> Result<(), Failed>
     requires { HasLabels labels.now tree.now }
-    ensures { OnOk result (text.new.bytes ≡ text.old.bytes ++ weighed_line S.WEIGHTED labels.now tree.now cost) }
+    ensures { OnOk result (text.new.bytes ≡ text.old.bytes ++ weighed_line S.SCALE labels.now tree.now cost) }
 {
     print_line::<S, GrowingSink>(tree, labels, cost, text)
 }
@@ -69,7 +69,7 @@ pub(crate) fn weighed_text<S: Semiring>(
 ) -> Result<GrowingSink, Failed>
     requires labels { Each (HasLabels labels.now) trees.now }
     requires many { length costs.now ≡ length trees.now }
-    ensures { IfOk result (λ text. text.bytes ≡ weighed_lines S.WEIGHTED labels.now trees.now costs.now) }
+    ensures { IfOk result (λ text. text.bytes ≡ weighed_lines S.SCALE labels.now trees.now costs.now) }
 {
     let mut text = GrowingSink::new(alloc);
     for i in 0..trees.len() {

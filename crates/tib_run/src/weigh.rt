@@ -4,7 +4,7 @@ ghost use Rattle.std.specs.List.{AllZip};
 ghost use Rattle.tib_grammar.specs.Series.{IsSeries};
 ghost use Rattle.tib_io.specs.Causes.{GoesOn};
 ghost use Rattle.tib_command.specs.Jobs.{meaning};
-ghost use Rattle.tib_run.specs.Causes.{HasCause, HasEarlier, IsEarly, IsFormFault, is_weighted, product_of};
+ghost use Rattle.tib_run.specs.Causes.{HasCause, HasEarlier, IsEarly, IsFormFault, scale_of, product_of};
 ghost use Rattle.tib_run.specs.Answers.{IsAnswer};
 ghost use Rattle.tib_normal.specs.Rows.{HasFormWithin};
 
@@ -73,7 +73,7 @@ pub(crate) fn weigh_files<S: Semiring + Sync + Drop, R: Threads + Sync, F: Files
     requires operation { job.now.operation ≡ Operation.Weigh }
     requires files { length job.now.files.items ≡ 2 }
     requires limit { (1 ≤ job.now.limit) × (job.now.limit ≤ 20000000) }
-    requires mode { S.WEIGHTED ≡ is_weighted job.now.mode }
+    requires mode { S.SCALE ≡ scale_of job.now.mode }
     requires product { S.product ≡ product_of job.now.mode }
     ensures text { IfOk result (λ text. IsAnswer (meaning job.now) (F.held files.old) text.bytes) }
     ensures cause { IfErr result (HasCause (Some (meaning job.now)) (F.held files.old) (F.faults files.old) (F.faults files.new) 0 0) }

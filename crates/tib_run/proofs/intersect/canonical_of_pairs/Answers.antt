@@ -19,13 +19,13 @@ returns-in-Ok-to_grammar-clause-series g c =
     product_series g.S.Semiring.product c.args.one.now.rules c.args.two.now.rules c.in-Ok.found.rules.items c.in-Ok-to_grammar.canonical.grammar.rules c.in-Ok.found.order.items
     (λ one two n m order rules found t a b v x y. pairs_mean g.met.S.Semiring.laws one two n m order rules found t a b v x y)
     c.grammar.ensures.normal.normal c.grammar-2.ensures.normal.normal c.in-Ok.ensures.grammar
-    (canonical_series pair_cmp g.S.Semiring.product g.S.Semiring.WEIGHTED c.args.labels.now c.in-Ok.found.order.items c.in-Ok.found.rules.items 0 c.in-Ok-to_grammar.canonical.grammar c.in-Ok-to_grammar.ensures.canonical)
+    (canonical_series pair_cmp g.S.Semiring.product g.S.Semiring.SCALE c.args.labels.now c.in-Ok.found.order.items c.in-Ok.found.rules.items 0 c.in-Ok-to_grammar.canonical.grammar c.in-Ok-to_grammar.ensures.canonical)
 
 pub returns-in-Ok-to_grammar-clause-read : goal.returns-in-Ok-to_grammar-clause-read
 returns-in-Ok-to_grammar-clause-read g c =
-    subst (λ (text : List ℕ). GrammarText g.S.Semiring.WEIGHTED c.args.labels.now text c.in-Ok-to_grammar.canonical.grammar) (sym c.in-Ok-to_grammar.ensures.text)
-    (keys_text g.met.S.Semiring.laws pair_cmp g.S.Semiring.WEIGHTED c.args.labels.now c.in-Ok.found.order.items c.in-Ok.found.rules.items (At 0) c.in-Ok-to_grammar.canonical.grammar
+    subst (λ (text : List ℕ). GrammarText g.S.Semiring.SCALE c.args.labels.now text c.in-Ok-to_grammar.canonical.grammar) (sym c.in-Ok-to_grammar.ensures.text)
+    (keys_text g.met.S.Semiring.laws pair_cmp g.S.Semiring.SCALE c.args.labels.now c.in-Ok.found.order.items c.in-Ok.found.rules.items (At 0) c.in-Ok-to_grammar.canonical.grammar
     (omega (arith, c.in-Ok.ensures.few, c.requires.limit)) (pairs_end c.args.one.now.rules c.in-Ok.found.rules.items c.in-Ok.ensures.roots)
-    (pairs_printable g.S.Semiring.product (g.met.S.Semiring.laws.neutral 0) g.S.Semiring.WEIGHTED c.args.labels.now c.args.one.now.rules c.args.two.now.rules c.in-Ok.found.rules.items c.in-Ok.found.order.items
+    (pairs_printable g.S.Semiring.product (g.met.S.Semiring.laws.neutral 0) g.S.Semiring.SCALE c.args.labels.now c.args.one.now.rules c.args.two.now.rules c.in-Ok.found.rules.items c.in-Ok.found.order.items
     c.requires.one c.requires.two c.in-Ok.ensures.grammar c.in-Ok.ensures.roots)
     c.in-Ok-to_grammar.ensures.canonical)

@@ -11,6 +11,6 @@ returns-in-Ok-trim_normal-clause-labelled g c n labelled =
 
 pub returns-in-Ok-trim_normal-clause-printable : goal.returns-in-Ok-trim_normal-clause-printable
 returns-in-Ok-trim_normal-clause-printable g c labels printable =
-    trimmed_printable g.S.Semiring.WEIGHTED labels g.S.Semiring.product c.in-Ok.normal c.in-Ok-trim_normal.trimmed c.in-Ok-trim_normal.ensures.trimmed
-    (form_printable g.S.Semiring.product (g.met.S.Semiring.laws.neutral 0) g.S.Semiring.WEIGHTED labels (length c.args.grammar.now.names) c.args.grammar.now.rules printable (length c.in-Ok.normal.names) c.in-Ok.normal.rules
+    trimmed_printable g.S.Semiring.SCALE labels g.S.Semiring.product c.in-Ok.normal c.in-Ok-trim_normal.trimmed c.in-Ok-trim_normal.ensures.trimmed
+    (form_printable g.S.Semiring.product (g.met.S.Semiring.laws.neutral 0) g.S.Semiring.SCALE labels (length c.args.grammar.now.names) c.args.grammar.now.rules printable (length c.in-Ok.normal.names) c.in-Ok.normal.rules
     c.in-Ok.ensures.form)

@@ -5,4 +5,4 @@ pub returns-clause-weighed : goal.returns-clause-weighed
 returns-clause-weighed c = weighed_there
 
 pub returns-clause-insides : goal.returns-clause-insides
-returns-clause-insides c weighted product = insides_there weighted product 0
+returns-clause-insides c scale product = insides_there scale product 0

@@ -15,7 +15,7 @@ canonical-requires g c =
 
 pub returns-in-Ok-canonical-clause-read : goal.returns-in-Ok-canonical-clause-read
 returns-in-Ok-canonical-clause-read g c =
-    subst (λ (text : List ℕ). GrammarText g.S.Semiring.WEIGHTED c.args.labels.now text c.in-Ok-canonical.canonical.grammar) (sym c.in-Ok-canonical.ensures.text)
-    (normal_text g.met.S.Semiring.laws g.S.Semiring.WEIGHTED c.args.labels.now c.args.grammar.now c.in-Ok.normal c.in-Ok-canonical.canonical.grammar c.is_sound.ensures.start (omega (arith, c.is_sound-2.ensures.few_names, ap (λ (n : GrammarOf). length n.names) c.into_grammar-form.ensures.same)) c.is_sound.ensures.range
+    subst (λ (text : List ℕ). GrammarText g.S.Semiring.SCALE c.args.labels.now text c.in-Ok-canonical.canonical.grammar) (sym c.in-Ok-canonical.ensures.text)
+    (normal_text g.met.S.Semiring.laws g.S.Semiring.SCALE c.args.labels.now c.args.grammar.now c.in-Ok.normal c.in-Ok-canonical.canonical.grammar c.is_sound.ensures.start (omega (arith, c.is_sound-2.ensures.few_names, ap (λ (n : GrammarOf). length n.names) c.into_grammar-form.ensures.same)) c.is_sound.ensures.range
     c.is_sound.ensures.leaves c.requires.printable c.in-Ok.ensures.form
-    (subst (λ (n : GrammarOf). IsCanonical g.S.Semiring.product g.S.Semiring.WEIGHTED c.args.labels.now n c.in-Ok-canonical.canonical.grammar) c.into_grammar-form.ensures.same c.in-Ok-canonical.ensures.canonical))
+    (subst (λ (n : GrammarOf). IsCanonical g.S.Semiring.product g.S.Semiring.SCALE c.args.labels.now n c.in-Ok-canonical.canonical.grammar) c.into_grammar-form.ensures.same c.in-Ok-canonical.ensures.canonical))
