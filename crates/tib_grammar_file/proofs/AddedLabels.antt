@@ -5,6 +5,8 @@ use Rattle.std.proofs.lemmas.List.{map-append}
 use Rattle.std.proofs.lemmas.Option.{get_or_from_slice_get}
 use Rattle.tib_lex.specs.Lines.{HasNoFeed}
 use Rattle.tib_lex.specs.Lists.{Each}
+use Rattle.tib_lex.specs.declared.fault.ReadError.{ReadError}
+use Rattle.tib_lex.specs.declared.fault.ReadError.TheVariants.{Fault, OutOfMemory}
 use Rattle.tib_tree.specs.Grows.{Grows, Adds, AddsAll}
 use Rattle.tib_tree.specs.Trees.{preorder_of}
 use Rattle.tib_tree.proofs.Growing.{grows_twice, grows_not, grows_more}
@@ -12,7 +14,12 @@ use Rattle.tib_grammar.specs.Items.{pair_of, pairs_of}
 use Rattle.tib_grammar.specs.Sides.{Symbol, label, hole}
 use Rattle.tib_grammar.specs.declared.Item.{Item}
 use Rattle.tib_grammar.specs.declared.Rule.{Rule}
-use Rattle.tib_grammar_file.specs.Added.{symbol_texts, node_texts, rule_texts, AddsSymbol, AddsSymbols, AddsRules}
+use Rattle.tib_grammar_file.specs.Added.{symbol_texts, node_texts, rule_texts, AddsSymbol, AddsSymbols, AddsRules, KeptByFault}
+
+-- a table that is as before is kept
+pub kept_as_it_was : (e : ReadError) (labels : List (List ℕ)) → KeptByFault e labels labels
+kept_as_it_was (Fault fault) labels = refl
+kept_as_it_was OutOfMemory labels = tt
 
 -- one text makes a table longer by one at most
 pub one_longer : (before : List (List ℕ)) (text : List ℕ) (now : List (List ℕ)) → Adds before text now → length now ≤ length before + 1

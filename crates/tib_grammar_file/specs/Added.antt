@@ -1,6 +1,8 @@
 -- What a grammar that is read adds to the table of labels.
 use Rattle.std.specs.Prelude.{◌≡◌, ℕ, List, [], ◌∷◌, ◌++◌, Some, slice_get}
 use Rattle.std.proofs.Common.{get_or}
+use Rattle.tib_lex.specs.declared.fault.ReadError.{ReadError}
+use Rattle.tib_lex.specs.declared.fault.ReadError.TheVariants.{Fault, OutOfMemory}
 use Rattle.tib_tree.specs.Grows.{Adds}
 use Rattle.tib_tree.specs.Trees.{preorder_of}
 use Rattle.tib_grammar.specs.Sides.{Symbol, label, hole}
@@ -20,6 +22,11 @@ node_texts labels (p ∷ ps) = symbol_texts labels p.0 ++ node_texts labels ps
 abbrev pub rule_texts : List (List ℕ) → List (Rule ℕ) → List (List ℕ)
 rule_texts labels [] = []
 rule_texts labels (r ∷ rules) = node_texts labels (preorder_of r.right) ++ rule_texts labels rules
+
+-- a fault leaves a table as it was; want of memory may not
+abbrev pub KeptByFault : ReadError → List (List ℕ) → List (List ℕ) → Type 0
+KeptByFault (Fault fault) before now = now ≡ before
+KeptByFault OutOfMemory before now = Unit {0}
 
 -- a label's text goes last if it is new, and a state changes nothing
 abbrev pub AddsSymbol : List (List ℕ) → Symbol ℕ ℕ → List (List ℕ) → Type 0

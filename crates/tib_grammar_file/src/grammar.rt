@@ -3,7 +3,7 @@ ghost use Rattle.std.specs.Prelude.{◌≡◌, ◌≤◌, ◌<◌, ◌+◌, ◌-
 ghost use Rattle.tib_tree.specs.Grows.{Grows, AddsAll};
 ghost use Rattle.tib_grammar.specs.StateName.{AreStateNames};
 ghost use Rattle.tib_grammar.specs.Range.{AreInRange};
-ghost use Rattle.tib_grammar_file.specs.Added.{AddsRules, rule_texts};
+ghost use Rattle.tib_grammar_file.specs.Added.{AddsRules, rule_texts, KeptByFault};
 ghost use Rattle.tib_grammar_file.specs.Built.{IsSource};
 ghost use Rattle.tib_grammar_file.specs.Printed.{AreLabelled};
 ghost use Rattle.tib_grammar_file.specs.Faults.{IsCause};
@@ -87,8 +87,8 @@ fn build<S: Semiring>(
 /// of the file. Where nothing is weighed, any name is taken as a weight, and each rule costs 0.
 ///
 /// A fault names the first line that has one and what is wrong there first: no start (line 1), a bad token, a bad rule,
-/// a weight that isn't whole or is too large, a right side with more than 10,000 nodes. `OutOfMemory` says nothing of
-/// the file.
+/// a weight that isn't whole or is too large, a right side with more than 10,000 nodes. After a fault the
+/// table is as before. `OutOfMemory` says nothing of the file, and the table may have grown by some of its labels.
 pub fn read_grammar<S: Semiring>(
     alloc: Global,
     bytes: &[u8],
@@ -102,6 +102,7 @@ pub fn read_grammar<S: Semiring>(
     ensures labels { Grows labels.old labels.new }
     ensures added { IfOk result (λ g. AddsAll labels.old (rule_texts labels.new g.rules) labels.new) }
     ensures few { length labels.new ≤ length labels.old + length bytes.now }
+    ensures kept { IfErr result (λ e. KeptByFault e labels.old labels.new) }
 {
     let mut names = Labels::new(alloc);
     let mut texts = Labels::new(alloc);

@@ -1,5 +1,5 @@
 use Rattle.std.proofs.Common.{arith}
-use Rattle.tib_grammar_file.proofs.AddedLabels.{rules_added}
+use Rattle.tib_grammar_file.proofs.AddedLabels.{rules_added, kept_as_it_was}
 use Rattle.tib_grammar_file.proofs.FirstFaults.{cause_of}
 use Rattle.tib_grammar_file.proofs.TextRead.{source_of, read_as, text_labelled}
 use Rattle.tib_grammar_file.proofs.grammar.read_grammar.Goals as goal
@@ -24,3 +24,6 @@ build-requires-clause-room g c = omega (arith, c.in-Ok.ensures.few, c.requires.r
 
 pub returns-in-Ok-build-clause-added : goal.returns-in-Ok-build-clause-added
 returns-in-Ok-build-clause-added g c = rules_added c.args.labels.now c.build.new.labels c.in-Ok-build.grammar.rules c.in-Ok-build.ensures.added
+
+pub returns-clause-kept : goal.returns-clause-kept
+returns-clause-kept g c = kept_as_it_was c.in-Err.error c.args.labels.now
