@@ -16,3 +16,4 @@ pub mod Printing
 pub mod TreesText
 pub mod ReadBack
 pub mod Adding
+pub mod PlainTexts

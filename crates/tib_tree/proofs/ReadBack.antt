@@ -4,6 +4,8 @@ use Rattle.std.specs.Prelude.{Some, slice_get, not, cond}
 use Rattle.std.proofs.lemmas.Option.{slice_get-get_or}
 use Rattle.tib_lex.specs.Grammar.{Word, open_, close, name, label, is_name, spelling, IsWord, begins_name, MayPrecede, HasWords}
 use Rattle.tib_lex.specs.Lines.{HasNoFeed, HasLines}
+use Rattle.tib_lex.specs.Lists.{Each}
+use Rattle.tib_tree.proofs.PlainTexts.{tree_plain}
 use Rattle.tib_lex.proofs.Spelled.{both}
 use Rattle.tib_lex.proofs.Names.{name_is}
 use Rattle.tib_lex.proofs.HasLines.{lines_read}
@@ -103,7 +105,7 @@ line_back labels t h = record {
   spells = record { written = written labels (only t); spelled = refl; says = says labels (only t) h };
 }
 
-pub text_back : (labels : List (List ℕ)) (t : Tree ℕ) → LabelsBelow (length labels) (only t) → HasNoFeed (tree_text labels t) → TreesText labels (tree_text labels t ++ 10 ∷ []) (t ∷ [])
-text_back labels t h free =
-    let lines : HasLines (tree_text labels t ∷ []) (tree_text labels t ++ 10 ∷ []) = (free, inr ([], refl, refl)) in
+pub text_back : (labels : List (List ℕ)) (t : Tree ℕ) → LabelsBelow (length labels) (only t) → Each HasNoFeed labels → TreesText labels (tree_text labels t ++ 10 ∷ []) (t ∷ [])
+text_back labels t h plain =
+    let lines : HasLines (tree_text labels t ∷ []) (tree_text labels t ++ 10 ∷ []) = (tree_plain labels t plain, inr ([], refl, refl)) in
     subst (λ (ls : List (List ℕ)). HasTrees labels ls (t ∷ [])) (sym (lines_read (tree_text labels t ∷ []) (tree_text labels t ++ 10 ∷ []) lines)) (inr (t, [], refl, line_back labels t h, refl))

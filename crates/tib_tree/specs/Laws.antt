@@ -38,4 +38,4 @@ PrintsBack = (labels : List (List ℕ)) (t : Tree ℕ) → LabelsBelow (length l
 
 -- and where no label has a line feed, it is the text of this tree with a line feed behind it
 abbrev pub PrintsText : Type 0
-PrintsText = (labels : List (List ℕ)) (t : Tree ℕ) → LabelsBelow (length labels) (only t) → HasNoFeed (tree_text labels t) → TreesText labels (tree_text labels t ++ 10 ∷ []) (t ∷ [])
+PrintsText = (labels : List (List ℕ)) (t : Tree ℕ) → LabelsBelow (length labels) (only t) → Each HasNoFeed labels → TreesText labels (tree_text labels t ++ 10 ∷ []) (t ∷ [])
