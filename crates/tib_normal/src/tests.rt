@@ -191,3 +191,52 @@ fn only_normal_grammars_are_taken(rt: HostRuntime) -> Result<(), AllocError> {
     }
     Ok(())
 }
+
+/// The rules of a chain of states, each of which leads to the next at cost 1; the last one has a rule of cost 0.
+fn chain_rules(alloc: Global, states: u32) -> Result<Vec<Rule<u32>>, AllocError> {
+    let mut rules = Vec::new(alloc);
+    for n in 1..states {
+        if let Some(rule) = make_rule(alloc, (n - 1, &[(n, None)], 1))? {
+            rules.push(rule)?;
+        }
+    }
+    if let Some(rule) = make_rule(alloc, (states - states.min(1), &[LABEL_A0], 0))? {
+        rules.push(rule)?;
+    }
+    Ok(rules)
+}
+
+/// How many rules the normal form of a chain of 70,000 states has, and what the first of them costs.
+fn measure_chain(alloc: Global, limit: u64) -> Result<Option<(usize, u64)>, AllocError> {
+    let mut texts = Vec::new(alloc);
+    for n in 0..70_000u32 {
+        texts.push(n.to_string(alloc)?.into_bytes())?;
+    }
+    let rules = chain_rules(alloc, 70_000)?;
+    if texts.len() > 70_000 || rules.len() > 70_000 || limit < 1 || limit > 20_000_000 {
+        return Ok(None);
+    }
+    let grammar = match Names::from_list(alloc, texts)? {
+        Some(names) => match Grammar::<MinPlus>::new(names, rules) {
+            Some(grammar) => grammar,
+            None => return Ok(None),
+        },
+        None => return Ok(None),
+    };
+    match normalize::<MinPlus>(alloc, &grammar, limit) {
+        Ok(normal) => match normal.grammar().rule_list().first() {
+            Some(rule) => Ok(Some((normal.grammar().rule_list().len(), rule.cost.get()))),
+            None => Ok(None),
+        },
+        Err(_) => Ok(None),
+    }
+}
+
+#[test]
+fn long_chains_are_followed(rt: HostRuntime) -> Result<(), AllocError> {
+    let alloc = rt.alloc();
+    // a part for each state, and two for each rule
+    assert!(rt; measure_chain(alloc, 210_000)? == Some((70_000, 69_999)));
+    assert!(rt; measure_chain(alloc, 209_999)? == None);
+    Ok(())
+}
