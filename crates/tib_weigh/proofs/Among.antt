@@ -1,20 +1,19 @@
 -- Runs that begin with one of some rules.
-use Rattle.std.specs.Prelude.{◌≡◌, ℕ, ◌+◌, ◌<◌, ◌≤◌, Bool, true, false, ◌&&◌, nat_eq, List, [], ◌∷◌, ◌++◌, length, ◌⊎◌, Option, None, Some, refl, if◌then◌else◌}
+use Rattle.std.specs.Prelude.{◌≡◌, ℕ, ◌<◌, ◌≤◌, Bool, true, false, nat_eq, List, [], ◌∷◌, ◌++◌, length, ◌⊎◌, Option, None, Some, refl, if◌then◌else◌}
 use Rattle.std.proofs.Common.{zero, suc, ap, sym, ◌∙◌, arith, inl, inr, subst, get_or, append_assoc}
-use Rattle.std.proofs.lemmas.Bool.Decides.{nat_tests}
 use Rattle.tib_lex.specs.Lists.{Has}
 use Rattle.tib_tree.specs.Trees.{Trees, none, tree, count, first_trees, count-first, append_nil}
 use Rattle.tib_cost.specs.Semiring.{ProductLaws}
 use Rattle.tib_cost.specs.Least.{IsLeast, times, lesser}
 use Rattle.tib_cost.proofs.Least.{IsLeast-same, IsLeast-none, IsLeast-either, IsLeast-either_none, IsLeast-scaled}
-use Rattle.tib_grammar.specs.Sides.{Symbol, label, hole, holes}
+use Rattle.tib_grammar.specs.Sides.{label, holes}
 use Rattle.tib_grammar.specs.Forms.{AreNormal}
 use Rattle.tib_grammar.specs.Run.{IsCost, rule_at, yields}
 use Rattle.tib_grammar.specs.declared.Rule.{Rule}
-use Rattle.tib_grammar.proofs.NormalRuns.{Begins, BeginsBelow, count-yields, IsLeast-no_states, IsLeast-one_more, IsLeast-all_rules}
+use Rattle.tib_grammar.proofs.NormalRuns.{Begins, count-yields, IsLeast-no_states, IsLeast-one_more, IsLeast-all_rules}
 use Rattle.tib_normal.specs.Rules.{positions_with}
 use Rattle.tib_weigh.specs.declared.vector.Entry.{Entry}
-use Rattle.tib_weigh.specs.Entries.{cost_in, IsAscending}
+use Rattle.tib_weigh.specs.Entries.{cost_in}
 use Rattle.tib_weigh.specs.Vectors.{times_all, Weighed}
 use Rattle.tib_weigh.proofs.EntryLemmas.{nat_eq_cases}
 use Rattle.tib_weigh.specs.Serving.{IsRulePlace, IsUnserved, Serves}

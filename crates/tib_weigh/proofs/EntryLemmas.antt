@@ -1,8 +1,8 @@
 -- Lemmas on sparse vectors.
-use Rattle.std.proofs.Common.{◌≡◌, ℕ, ◌+◌, ◌<◌, ◌≤◌, List, [], ◌∷◌, ◌++◌, length, get_or, drop, zero, suc, refl, arith, ap, sym, ◌∙◌, subst, true, false, Bool, inl, inr, add-one, drop-cons}
+use Rattle.std.proofs.Common.{◌≡◌, ℕ, ◌+◌, ◌<◌, ◌≤◌, List, [], ◌∷◌, ◌++◌, length, get_or, drop, zero, suc, refl, arith, ap, ◌∙◌, subst, true, false, inl, inr, add-one}
 use Rattle.std.specs.Prelude.{◌⊎◌, nat_eq, Option, None, Some, if◌then◌else◌, min}
 use Rattle.std.proofs.lemmas.Bool.Decides.{nat_tests}
-use Rattle.tib_lex.specs.Lists.{Ascends, Each}
+use Rattle.tib_lex.specs.Lists.{Each}
 use Rattle.tib_cost.specs.Least.{lesser}
 use Rattle.tib_weigh.specs.Entries.{cost_in, IsAscending, EndsBy}
 use Rattle.tib_weigh.specs.declared.vector.Entry.{Entry}

@@ -1,5 +1,5 @@
 -- Positions of rules that are put into slots, and gathered from them.
-use Rattle.std.specs.Prelude.{◌≡◌, ℕ, ◌+◌, ◌<◌, ◌≤◌, ◌%◌, ◌⊎◌, List, [], ◌∷◌, ◌++◌, length, map, set, Option, None, Some, refl}
+use Rattle.std.specs.Prelude.{◌≡◌, ℕ, ◌+◌, ◌<◌, ◌≤◌, ◌%◌, ◌⊎◌, List, [], ◌∷◌, ◌++◌, length, map, set, None, refl}
 use Rattle.std.specs.Global.{Vec}
 use Rattle.std.proofs.Common.{zero, suc, arith, ap, sym, ◌∙◌, subst, inl, inr, get_or, length-set, take}
 use Rattle.std.proofs.lemmas.List.{get_or-set_same, get_or-set_other, map-set, map-append, length-map, get_or-map, get_or_read}
@@ -15,7 +15,7 @@ use Rattle.tib_weigh.specs.Vectors.{state_in}
 use Rattle.tib_weigh.specs.declared.vector.Entry.{Entry}
 use Rattle.tib_weigh.specs.Entries.{cost_in}
 use Rattle.tib_weigh.specs.Serving.{state_below}
-use Rattle.tib_weigh.specs.Buckets.{lists_of, slot_at, HoldsAll, HoldsOnly}
+use Rattle.tib_weigh.specs.Buckets.{lists_of, HoldsAll, HoldsOnly}
 use Rattle.tib_weigh.proofs.EntryLemmas.{nat_eq_cases}
 use Rattle.tib_weigh.proofs.Members.{has_first, has_last, has_either, at_has, has_left, has_right, has_parts}
 

@@ -1,5 +1,5 @@
 -- Members of lists, by their places and in lists that are put together.
-use Rattle.std.specs.Prelude.{◌≡◌, ℕ, ◌+◌, ◌<◌, ◌⊎◌, List, [], ◌∷◌, ◌++◌, length, refl}
+use Rattle.std.specs.Prelude.{◌≡◌, ℕ, ◌<◌, ◌⊎◌, List, [], ◌∷◌, ◌++◌, length, refl}
 use Rattle.std.proofs.Common.{zero, suc, arith, inl, inr, get_or, Contains}
 use Rattle.tib_lex.specs.Lists.{Has}
 

@@ -1,5 +1,5 @@
 -- Positions of rules in slots, by the state at one child place.
-use Rattle.std.specs.Prelude.{◌≡◌, ℕ, ◌<◌, ◌%◌, List, [], length, map, get_or}
+use Rattle.std.specs.Prelude.{ℕ, ◌%◌, List, [], length, map, get_or}
 use Rattle.std.specs.Global.{Vec}
 use Rattle.tib_lex.specs.Lists.{Has}
 use Rattle.tib_grammar.specs.declared.Rule.{Rule}

@@ -1,5 +1,5 @@
 -- What an index of rules holds for a label and a rank.
-use Rattle.std.specs.Prelude.{◌≡◌, ℕ, ◌<◌, List, [], length, get_or, Some}
+use Rattle.std.specs.Prelude.{◌≡◌, ℕ, ◌<◌, List, length, get_or, Some}
 use Rattle.std.specs.HashMap.{get}
 use Rattle.tib_tree.specs.Trees.{none}
 use Rattle.tib_grammar.specs.declared.Rule.{Rule}

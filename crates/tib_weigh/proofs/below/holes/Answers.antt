@@ -1,7 +1,6 @@
-use Rattle.std.proofs.Common.{◌≡◌, map, length, ℕ, List, sym, ◌∙◌, ap}
+use Rattle.std.proofs.Common.{map, length, sym, ◌∙◌, ap}
 use Rattle.std.proofs.lemmas.List.{take_rest}
 use Rattle.std.proofs.Math.ListN.{length-map}
-use Rattle.tib_grammar.specs.Sides.{holes as holes_of}
 use Rattle.tib_weigh.specs.Vectors.{state_in}
 use Rattle.tib_weigh.proofs.Sides.{states_below_root, length-holes}
 use Rattle.tib_weigh.proofs.below.holes.Goals as goal

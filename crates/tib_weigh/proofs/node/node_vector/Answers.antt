@@ -1,16 +1,16 @@
-use Rattle.std.proofs.Common.{arith, ◌≡◌, ◌<◌, ◌≤◌, ℕ, ◌+◌, List, ◌∷◌, [], ◌++◌, length, get_or, take, sym, ◌∙◌, ap, subst, le_refl}
+use Rattle.std.proofs.Common.{arith, ◌≤◌, ℕ, List, length, get_or, take, sym, subst, le_refl}
 use Rattle.std.proofs.lemmas.List.{take_more, take_all}
-use Rattle.tib_tree.specs.Trees.{Trees, count, count-first, first_trees}
+use Rattle.tib_tree.specs.Trees.{count, first_trees}
 use Rattle.tib_cost.specs.Least.{IsLeast}
 use Rattle.tib_grammar.specs.Run.{rule_at}
 use Rattle.tib_grammar.specs.Forms.{IsNormalSide}
 use Rattle.tib_grammar.specs.declared.Rule.{Rule}
 use Rattle.tib_weigh.specs.Entries.{cost_in, EndsBy}
-use Rattle.tib_weigh.specs.Vectors.{vectors, Weighed}
+use Rattle.tib_weigh.specs.Vectors.{vectors}
 use Rattle.tib_weigh.proofs.EntryLemmas.{EndsBy-more}
 use Rattle.tib_weigh.proofs.Stacks.{length-vectors}
 use Rattle.tib_weigh.proofs.Places.{rule_here}
-use Rattle.tib_weigh.proofs.Among.{BeginsAmong, among_none, among_step, among_served, count-Weighed}
+use Rattle.tib_weigh.proofs.Among.{BeginsAmong, among_step, among_served, count-Weighed}
 use Rattle.tib_weigh.proofs.node.node_vector.Goals as goal
 
 pub bounds-rules-position : goal.bounds-rules-position

@@ -1,4 +1,4 @@
-use Rattle.std.proofs.Common.{◌≡◌, ◌≤◌, ◌<◌, ℕ, length, take, get_or}
+use Rattle.std.proofs.Common.{◌≤◌, ◌<◌, ℕ, length, take, get_or}
 use Rattle.tib_tree.specs.Trees.{Trees, first_trees}
 use Rattle.tib_cost.specs.Least.{IsLeast}
 use Rattle.tib_grammar.specs.Run.{rule_at}

@@ -1,8 +1,7 @@
-use Rattle.std.proofs.Common.{arith, ◌≡◌, ℕ, ◌-◌, ◌≤◌, length, map, drop, sym, ◌∙◌, ap, subst}
-use Rattle.std.specs.Prelude.{Option, None, Some}
+use Rattle.std.proofs.Common.{arith, ℕ, ◌-◌, sym, ◌∙◌, ap, subst}
+use Rattle.std.specs.Prelude.{Option, Some}
 use Rattle.tib_cost.specs.Least.{times}
 use Rattle.tib_weigh.specs.Entries.{IsAscending}
-use Rattle.tib_weigh.specs.Vectors.{state_in, times_all, vectors}
 use Rattle.tib_weigh.proofs.Stacks.{slot, hole_step, hole_none}
 use Rattle.tib_weigh.proofs.node.product_of.Goals as goal
 

@@ -1,4 +1,4 @@
-use Rattle.std.proofs.Common.{arith, ◌≡◌, ℕ, List, length, sym, ◌∙◌, ap, subst, get_or, set}
+use Rattle.std.proofs.Common.{ℕ, List, sym, ◌∙◌, subst, get_or, set}
 use Rattle.std.proofs.lemmas.List.{take_more}
 use Rattle.tib_weigh.specs.Buckets.{lists_of, HoldsAll}
 use Rattle.tib_weigh.proofs.Places.{rule_here}

@@ -1,4 +1,4 @@
-use Rattle.std.proofs.Common.{ap, arith, get_or, sym, ◌∙◌, ◌≡◌}
+use Rattle.std.proofs.Common.{ap, arith, sym, ◌∙◌}
 use Rattle.tib_weigh.specs.declared.vector.Entry.{Entry}
 use Rattle.tib_weigh.proofs.EntryLemmas.{cost_in-rest}
 use Rattle.tib_weigh.proofs.vector.cost_at.Goals as goal

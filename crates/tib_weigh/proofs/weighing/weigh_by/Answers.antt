@@ -1,10 +1,6 @@
-use Rattle.std.proofs.Common.{◌≡◌, ℕ, ◌+◌, ◌-◌, ◌<◌, ◌≤◌, List, [], ◌∷◌, ◌++◌, length, get_or, drop, take, refl, arith, ap, sym, ◌∙◌, subst}
-use Rattle.tib_tree.specs.Trees.{parse, only}
+use Rattle.std.proofs.Common.{drop, arith, sym, subst}
+use Rattle.tib_tree.specs.Trees.{parse}
 use Rattle.tib_tree.specs.Pairs.{pairs_of}
-use Rattle.tib_cost.specs.Least.{IsLeast}
-use Rattle.tib_grammar.specs.GrammarOf.{GrammarOf}
-use Rattle.tib_grammar.specs.Run.{IsCost}
-use Rattle.tib_grammar.specs.declared.Rule.{Rule}
 use Rattle.tib_weigh.specs.Entries.{IsAscending}
 use Rattle.tib_weigh.specs.Vectors.{vectors}
 use Rattle.tib_weigh.proofs.Walk.{on_stack, step_left, last_vector, ascending-Weighed}

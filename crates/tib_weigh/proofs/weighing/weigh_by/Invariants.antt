@@ -1,5 +1,5 @@
-use Rattle.std.proofs.Common.{◌≡◌, ◌≤◌, length, ℕ, drop}
-use Rattle.tib_tree.specs.Trees.{Trees, parse}
+use Rattle.std.proofs.Common.{◌≤◌, length, drop}
+use Rattle.tib_tree.specs.Trees.{parse}
 use Rattle.tib_tree.specs.Pairs.{pairs_of}
 use Rattle.tib_weigh.specs.Vectors.{vectors, Weighed}
 use Rattle.tib_weigh.proofs.weighing.weigh_by.Given as goal

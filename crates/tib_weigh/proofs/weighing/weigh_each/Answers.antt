@@ -1,4 +1,4 @@
-use Rattle.std.proofs.Common.{◌≡◌, ℕ, List, take, subst, get_or}
+use Rattle.std.proofs.Common.{ℕ, take, subst, get_or}
 use Rattle.std.proofs.lemmas.List.{take_more}
 use Rattle.tib_tree.specs.Trees.{Tree}
 use Rattle.tib_grammar.specs.Series.{IsSeries}

@@ -1,4 +1,4 @@
-use Rattle.std.proofs.Common.{◌≡◌, ◌<◌, ℕ, take, get_or, length}
+use Rattle.std.proofs.Common.{◌<◌, ℕ, get_or}
 use Rattle.tib_lex.specs.Lists.{Has}
 use Rattle.tib_weigh.specs.Tables.{bucket}
 use Rattle.tib_weigh.specs.declared.vector.Entry.{Entry}
