@@ -33,7 +33,7 @@ no_form : (product : ℕ → ℕ → ℕ) (limit : ℕ) (g : GrammarOf) → (Has
 no_form product limit g never more new form =
     not_within (normal_parts more new) limit (λ within. never (record { states_in_all = more; normal_rules = new; form = form; within = within }))
 
--- grammars that intersect within the limit do so over each table
+-- what an operation makes of the bytes of its files
 module _ (scale : Scale) (product : ℕ → ℕ → ℕ) (limit : ℕ) where
   -- not both
   form_apart : (first : Option (List ℕ)) → OfName first (HasSmallForm scale product limit) → IfSome first (HasLargeForm scale product limit) → ⊥
