@@ -16,3 +16,4 @@ pub mod Printed
 pub mod TreesText
 pub mod Laws
 pub mod Wrote
+pub mod Writing
