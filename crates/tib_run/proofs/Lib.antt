@@ -1,7 +1,7 @@
 pub mod Reached
 pub mod Lines
 pub mod Complete
-pub mod Labelled
+pub mod Runs
 pub mod Pairs
 pub mod OneText
 pub mod OneAnswer

@@ -5,7 +5,6 @@ use Rattle.std.proofs.Common.{zero, suc, arith, ap, sym, ◌∙◌, subst, inl, 
 use Rattle.std.proofs.lemmas.List.{length-map, get_or-map}
 use Rattle.tib_lex.specs.Lists.{Has, Along}
 use Rattle.tib_tree.specs.Trees.{Tree, Trees, none, tree, only}
-use Rattle.tib_tree.specs.Grows.{Grows}
 use Rattle.tib_cost.specs.Least.{times}
 use Rattle.tib_cost.specs.Semiring.{most}
 use Rattle.tib_grammar.specs.Sides.{Symbol, label, hole, Side as SideFor, HolesAreLeaves, leaves, over, holes}
@@ -15,7 +14,6 @@ use Rattle.tib_grammar.specs.Run.{rule_at, no_rule}
 use Rattle.tib_grammar.specs.Series.{IsSeries}
 use Rattle.tib_grammar.specs.Forms.{AreNormal}
 use Rattle.tib_grammar.specs.declared.Rule.{Rule}
-use Rattle.tib_grammar_file.specs.Printed.{LabelsBelow, AreLabelled}
 use Rattle.tib_grammar_file.specs.Printable.{IsPlainCost, HavePlainLabels, ArePrintable}
 use Rattle.tib_hunt.specs.declared.found.HuntError.{HuntError}
 use Rattle.tib_hunt.specs.declared.found.HuntError.TheVariants.{TooMany}
@@ -30,26 +28,16 @@ use Rattle.tib_run.specs.declared.status.Status.TheVariants as statuses
 use Rattle.tib_run.specs.Causes.{IsFormFault, IsIntersectionFault}
 use Rattle.tib_run.specs.Intersections.{HasProductSeries, HasMorePairs}
 
--- the rules of pairs have nothing below a state, and their labels are labels of the first grammar
+-- the rules of pairs have nothing below a state
 
 leaves_end : (states : List ℕ) → HolesAreLeaves {A = ℕ} (leaves states)
 leaves_end [] = tt
 leaves_end (q ∷ states) = leaves_end states
 
-leaves_below : (n : ℕ) (states : List ℕ) → LabelsBelow n (leaves states)
-leaves_below n [] = tt
-leaves_below n (q ∷ states) = leaves_below n states
-
 pub pairs_end : (one rules : List (Rule ℕ)) → ((m : ℕ) → m < length rules → HasRootOf one (rule_at rules m)) → SidesEndInHoles rules
 pairs_end one rules roots m h =
     let r = roots m h in
     subst (λ (s : SideFor ℕ ℕ). HolesAreLeaves (only s)) (sym r.right) (leaves_end r.states, tt)
-
-pub pairs_labelled : (n : ℕ) (one rules : List (Rule ℕ)) → AreLabelled n one → ((m : ℕ) → m < length rules → HasRootOf one (rule_at rules m)) → AreLabelled n rules
-pairs_labelled n one rules labelled roots m h =
-    let r = roots m h in
-    let root : r.root < n = (subst (λ (z : Symbol ℕ ℕ). LabelsBelow n (tree z (rule_at one r.position).right.kids none)) r.is_root (labelled r.position r.below)).0 in
-    subst (λ (s : SideFor ℕ ℕ). LabelsBelow n (only s)) (sym r.right) (root, leaves_below n r.states, tt)
 
 -- and they can be printed where those of both grammars can
 
@@ -87,29 +75,6 @@ pairs_printable product zeros scale labels one two rules order first second pair
           plain_product scale product (rule_at one found.0.1.0).cost (rule_at two found.0.1.1).cost (rule_at rules m).cost zeros (first found.0.1.0 edge.first).cost
           (second found.0.1.1 edge.second).cost edge.costs edge.within;
     }
-
--- labels stay in a table that grows
-
-slice_below : {A : Type 0} (xs : List A) (n : ℕ) (x : A) → slice_get xs n ≡ Some x → n < length xs
-slice_below [] n x e = absurd (cc e)
-slice_below (y ∷ xs) zero x e = omega arith
-slice_below (y ∷ xs) (suc n) x e = let b : n < length xs = slice_below xs n x e in omega (arith, b)
-
-slice_some : {A : Type 0} (xs : List A) (n : ℕ) → n < length xs → (x : A) × (slice_get xs n ≡ Some x)
-slice_some [] n h = absurd (omega arith)
-slice_some (x ∷ xs) zero h = (x, refl)
-slice_some (x ∷ xs) (suc n) h = slice_some xs n (omega arith)
-
-below_grown : (early labels : List (List ℕ)) (n : ℕ) → Grows early labels → n < length early → n < length labels
-below_grown early labels n g h = let s = slice_some early n h in slice_below labels n s.0 (g.kept n s.0 s.1)
-
-trees_grown : (early labels : List (List ℕ)) (ts : Trees (Symbol ℕ ℕ)) → Grows early labels → LabelsBelow (length early) ts → LabelsBelow (length labels) ts
-trees_grown early labels none g h = tt
-trees_grown early labels (tree (label f) kids rest) g h = (below_grown early labels f g h.0, trees_grown early labels kids g h.1, trees_grown early labels rest g h.2)
-trees_grown early labels (tree (hole q) kids rest) g h = trees_grown early labels rest g h
-
-pub labelled_grown : (early labels : List (List ℕ)) (rules : List (Rule ℕ)) → Grows early labels → AreLabelled (length early) rules → AreLabelled (length labels) rules
-labelled_grown early labels rules g h m k = trees_grown early labels (only (rule_at rules m).right) g (h m k)
 
 -- the series
 

@@ -5,3 +5,4 @@ pub mod Intersections
 pub mod Causes
 pub mod Text
 pub mod Answers
+pub mod Run

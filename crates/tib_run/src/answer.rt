@@ -1,9 +1,10 @@
 // The answer of a job: its whole text, and the writing of it.
-ghost use Rattle.std.specs.Prelude.{◌≡◌, ◌≤◌, Some, length, true, IfErr, IfOk};
+ghost use Rattle.std.specs.Prelude.{◌≡◌, ◌≤◌, Some, length, IfErr, IfOk};
 ghost use Rattle.tib_io.specs.Causes.{GoesOn};
 ghost use Rattle.tib_command.specs.Jobs.{meaning, word_count};
-ghost use Rattle.tib_run.specs.Answers.{HasAnswer, HasFrontOfAnswer, IsAnswer, StandsStill};
-ghost use Rattle.tib_run.specs.Causes.{HasCause, HasEarlier, IsEarly, LeavesAlone, scale_of, product_of};
+ghost use Rattle.tib_run.specs.Answers.{IsAnswer};
+ghost use Rattle.tib_run.specs.Causes.{HasCause, HasEarlier, IsEarly, scale_of, product_of};
+ghost use Rattle.tib_run.specs.Run.{IsRunOf, files_seen, sink_seen};
 
 use crate::inside::inside_of_file;
 use crate::intersect::intersect_files;
@@ -58,17 +59,9 @@ pub(crate) fn answer_job<S: Semiring + Sync + Drop, R: Threads + Sync, F: Files,
     requires limit { (1 ≤ job.now.limit) × (job.now.limit ≤ 20000000) }
     requires mode { S.SCALE ≡ scale_of job.now.mode }
     requires product { S.product ≡ product_of job.now.mode }
-    ensures cause { HasCause (Some (meaning job.now)) (F.held files.old) (F.faults files.old) (F.faults files.new) (O.faults out.old) (O.faults out.new) result }
-    ensures earlier { HasEarlier (Some (meaning job.now)) (F.held files.old) result }
-    ensures alone { LeavesAlone result (O.written out.old) (O.written out.new) }
-    ensures text { result ≡ Status.Done → HasAnswer (Some (meaning job.now)) (F.held files.old) (O.written out.old) (O.written out.new) }
-    ensures front { result ≡ Status.WriteFault → HasFrontOfAnswer (Some (meaning job.now)) (F.held files.old) (O.written out.old) (O.written out.new) }
-    ensures finished { result ≡ Status.Done → O.finished out.new ≡ true }
-    ensures held { F.held files.new ≡ F.held files.old }
-    ensures sure { F.sure files.new ≡ F.sure files.old }
-    ensures counts { GoesOn (F.sure files.old) (F.faults files.old) (F.faults files.new) }
-    ensures later { O.faults out.old ≤ O.faults out.new }
-    ensures still { StandsStill (Some (meaning job.now)) (F.held files.old) (O.free out.old) (O.faults out.old) (O.faults out.new) }
+    ensures { IsRunOf (Some (meaning job.now))
+        (files_seen F.held F.sure F.faults files.old) (files_seen F.held F.sure F.faults files.new)
+        (sink_seen O.written O.free O.faults O.finished out.old) (sink_seen O.written O.free O.faults O.finished out.new) result }
 {
     let text = match text_of::<S, R, F, G>(rt, alloc, job, files, gate) {
         Ok(text) => text,

@@ -4,7 +4,6 @@ ghost use Rattle.tib_io.specs.Causes.{GoesOn};
 ghost use Rattle.tib_command.specs.Jobs.{meaning};
 ghost use Rattle.tib_run.specs.Causes.{HasCause, IsAbout, scale_of};
 ghost use Rattle.tib_run.specs.Kinds.{file_at, kind_at, OfFile, Told, IsShort, IsRead, ListsTrees, of_grammar, of_trees};
-ghost use Rattle.tib_grammar_file.specs.Printed.{AreLabelled};
 ghost use Rattle.tib_grammar_file.specs.Printable.{ArePrintable};
 ghost use Rattle.tib_tree.specs.Grows.{AreDistinct, Grows};
 ghost use Rattle.tib_lex.specs.Lists.{Each};
@@ -15,7 +14,7 @@ use std::alloc::Global;
 use tib_command::Job;
 use tib_cost::Semiring;
 use tib_grammar::Grammar;
-use tib_grammar_file::read_grammar;
+use tib_grammar_file::{read_grammar, read_grammars_are_printable};
 use tib_io::{FileError, Files, read_file};
 use tib_lex::ReadError;
 use tib_tree::{Labels, Tree, read_trees};
@@ -62,7 +61,6 @@ pub(crate) fn grammar_in<S: Semiring, F: Files>(
     requires kind { kind_at (Some (meaning job.now)) file ≡ Some of_grammar }
     requires mode { S.SCALE ≡ scale_of job.now.mode }
     ensures text { IfOk result (λ g. OfFile (Some (meaning job.now)) file (Told (F.held files.old) (IsRead S.SCALE labels.new g))) }
-    ensures labelled { IfOk result (λ g. AreLabelled (length labels.new) g.rules) }
     ensures printable { IfOk result (λ g. ArePrintable S.SCALE labels.new g.rules) }
     ensures grows { Grows labels.old labels.new }
     ensures cause { IfErr result (HasCause (Some (meaning job.now)) (F.held files.old) (F.faults files.old) (F.faults files.new) 0 0) }
@@ -76,7 +74,10 @@ pub(crate) fn grammar_in<S: Semiring, F: Files>(
         Err(status) => return Err(status),
     };
     match read_grammar::<S>(alloc, &bytes, labels) {
-        Ok(grammar) => Ok(grammar),
+        Ok(grammar) => {
+            read_grammars_are_printable();
+            Ok(grammar)
+        }
         Err(ReadError::Fault(fault)) => Err(Status::BadInput { file, fault }),
         Err(ReadError::OutOfMemory) => Err(Status::OutOfMemory),
     }

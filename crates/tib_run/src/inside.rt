@@ -19,7 +19,7 @@ use tib_io::{Failed, Files, GrowingSink, Sink, write_whole};
 use tib_tree::Labels;
 
 // Writes the line of a state with its inside cost.
-#[tactic(auto, using(tib_io::proofs::Pieces::takes_more))]
+#[tactic(auto, using(tib_io::specs::Pieces::takes_more))]
 fn print_state<S: Semiring, W: Sink>(
     name: &[u8],
     cost: Option<Cost>,

@@ -4,7 +4,7 @@ ghost use Rattle.tib_io.specs.Causes.{GoesOn};
 ghost use Rattle.tib_command.specs.Jobs.{meaning};
 ghost use Rattle.tib_grammar_file.specs.GrammarText.{GrammarText};
 ghost use Rattle.tib_grammar_file.specs.Printable.{ArePrintable};
-ghost use Rattle.tib_grammar_file.specs.Printed.{AreLabelled, grammar_text};
+ghost use Rattle.tib_grammar_file.specs.Printed.{grammar_text};
 ghost use Rattle.tib_hunt.specs.Reached.{IfTooMany, IsBeyond};
 ghost use Rattle.tib_inside.specs.Trimmed.{HasSameSeries};
 ghost use Rattle.tib_normal.specs.Rows.{HasFormWithin};
@@ -17,12 +17,17 @@ ghost use Rattle.tib_run.specs.Intersections.{HasProductSeries, IsCanonicalOfPai
 use crate::files::grammar_in;
 use crate::status::Status;
 use std::alloc::Global;
-use tib_canon::{Begin, Printed, to_grammar};
+use tib_canon::{
+    Begin, Printed, keys_keep_the_series, normal_forms_are_printable, over_keys_texts_are_read,
+    to_grammar, trimmed_forms_have_the_same_rules, trimmed_is_printable,
+};
 use tib_command::{Job, Operation};
 use tib_cost::Semiring;
 use tib_grammar::Grammar;
+use tib_grammar_file::{printable_is_labelled, printable_stays};
 use tib_hunt::{Gate, HuntError};
 use tib_inside::trim_normal;
+use tib_intersect::laws::{order_is_free, pairs_mean};
 use tib_intersect::{Pair, intersect};
 use tib_io::{Files, GrowingSink};
 use tib_normal::{Normal, NormalError, normalize};
@@ -38,7 +43,6 @@ fn trimmed_form<S: Semiring + Drop>(
     ensures form { IfOk result (λ m. IsTrimmedForm S.product grammar.now m) }
     ensures within { IfOk result (λ m. HasFormWithin S.product (length grammar.now.names) grammar.now.rules limit) }
     ensures series { IfOk result (λ m. HasSameSeries S.product grammar.now m) }
-    ensures labelled { IfOk result (λ m. (n : ℕ) → AreLabelled n grammar.now.rules → AreLabelled n m.rules) }
     ensures printable { IfOk result (λ m. (labels : List (List ℕ)) → ArePrintable S.SCALE labels grammar.now.rules → ArePrintable S.SCALE labels m.rules) }
     ensures err { IfErr result (IsFormFault S.product grammar.now limit) }
 {
@@ -48,6 +52,8 @@ fn trimmed_form<S: Semiring + Drop>(
         Err(NormalError::TooMany { .. }) => return Err(Status::TooMany { limit }),
         Err(NormalError::OutOfMemory) => return Err(Status::OutOfMemory),
     };
+    normal_forms_are_printable::<S>();
+    trimmed_is_printable();
     match trim_normal::<S>(alloc, normal) {
         Ok(trimmed) => Ok(trimmed),
         Err(_) => Err(Status::OutOfMemory),
@@ -63,7 +69,6 @@ fn canonical_of_pairs<S: Semiring + Drop, G: Gate>(
     limit: u64,
     gate: &G,
 ) -> Result<Printed<S>, HuntError>
-    requires labelled { AreLabelled (length labels.now) one.now.rules }
     requires one { ArePrintable S.SCALE labels.now one.now.rules }
     requires two { ArePrintable S.SCALE labels.now two.now.rules }
     requires limit { (1 ≤ limit) × (limit ≤ 20000000) }
@@ -79,6 +84,10 @@ fn canonical_of_pairs<S: Semiring + Drop, G: Gate>(
         Ok(found) => found,
         Err(error) => return Err(error),
     };
+    pairs_mean::<S>();
+    printable_is_labelled();
+    keys_keep_the_series::<Pair>();
+    over_keys_texts_are_read::<S, Pair>();
     match to_grammar::<S, Pair>(alloc, found, Begin::At(0), labels) {
         Ok(canonical) => Ok(canonical),
         Err(_) => Err(HuntError::OutOfMemory),
@@ -94,7 +103,6 @@ fn intersection_of<S: Semiring + Drop, G: Gate>(
     limit: u64,
     gate: &G,
 ) -> Result<Printed<S>, Status>
-    requires labelled { AreLabelled (length labels.now) first.now.rules }
     requires first { ArePrintable S.SCALE labels.now first.now.rules }
     requires second { ArePrintable S.SCALE labels.now second.now.rules }
     requires limit { (1 ≤ limit) × (limit ≤ 20000000) }
@@ -112,6 +120,8 @@ fn intersection_of<S: Semiring + Drop, G: Gate>(
         Ok(two) => two,
         Err(status) => return Err(status),
     };
+    trimmed_forms_have_the_same_rules();
+    order_is_free::<S>();
     match canonical_of_pairs::<S, G>(alloc, &one, &two, labels, limit, gate) {
         Ok(canonical) => Ok(canonical),
         Err(HuntError::TooMany { .. }) => Err(Status::TooMany { limit }),
@@ -149,6 +159,7 @@ pub(crate) fn intersect_files<S: Semiring + Drop, F: Files, G: Gate>(
         Err(status) => return Err(status),
     };
     labels.len();
+    printable_stays();
     let limit = job.limit;
     let canonical = match intersection_of::<S, G>(alloc, &first, &second, &labels, limit, gate) {
         Ok(canonical) => canonical,

@@ -1,50 +1,45 @@
 // The line on the log.
-ghost use Rattle.std.specs.Prelude.{◌≡◌, ◌≤◌, ◌++◌, decimal, OnOk, OnErr, flat_map};
-ghost use Rattle.tib_io.specs.Causes.{Rose};
-ghost use Rattle.tib_io.specs.Writes.{Takes, TakesFront};
-ghost use Rattle.tib_run.specs.Log.{line_of, plain_line_of, kind_words};
+ghost use Rattle.std.specs.Prelude.{◌≡◌, ◌++◌, decimal};
+ghost use Rattle.tib_tree.specs.Wrote.{Wrote};
+ghost use Rattle.tib_run.specs.Log.{kind_words, line_of, plain_line_of};
 
 use crate::status::Status;
 use itoa::Buffer;
 use tib_io::{Failed, Sink, write_whole};
 use tib_lex::FaultKind;
 
-// Writes two pieces.
-#[tactic(auto, using(tib_io::proofs::Pieces::takes_more, tib_io::proofs::Pieces::front_later, tib_io::proofs::Pieces::front_first))]
-fn write_both<W: Sink>(out: &mut W, first: &[u8], second: &[u8]) -> Result<(), Failed>
-    ensures ok { OnOk result (Takes (W.written out.old) (W.written out.new) (W.free out.old) (W.free out.new) (first.now ++ second.now)) }
-    ensures err { OnErr result (TakesFront (W.written out.old) (W.written out.new) (W.free out.old) (W.free out.new) (first.now ++ second.now)) }
-    ensures cause { OnErr result (Rose (W.faults out.old) (W.faults out.new)) }
-    ensures later { W.faults out.old ≤ W.faults out.new }
+// Writes a piece.
+fn write_piece<W: Sink>(out: &mut W, piece: &[u8]) -> Result<(), Failed>
+    ensures { Wrote (W.written out.old) (W.written out.new) (W.free out.old) (W.free out.new) (W.faults out.old) (W.faults out.new)
+        piece.now result }
 {
-    match write_whole(out, first) {
-        Ok(()) => match write_whole(out, second) {
-            Ok(()) => Ok(()),
-            Err(Failed) => Err(Failed),
-        },
+    write_whole(out, piece)
+}
+
+// Writes two pieces.
+fn write_both<W: Sink>(out: &mut W, first: &[u8], second: &[u8]) -> Result<(), Failed>
+    ensures { Wrote (W.written out.old) (W.written out.new) (W.free out.old) (W.free out.new) (W.faults out.old) (W.faults out.new)
+        (first.now ++ second.now) result }
+{
+    match write_piece(out, first) {
+        Ok(()) => write_piece(out, second),
         Err(Failed) => Err(Failed),
     }
 }
 
 /// Writes a number between two pieces. It takes no memory.
-#[tactic(auto, using(tib_io::proofs::Pieces::takes_more, tib_io::proofs::Pieces::front_later, tib_io::proofs::Pieces::front_first))]
 pub(crate) fn write_about<W: Sink>(
     out: &mut W,
     first: &[u8],
     number: u64,
     last: &[u8],
 ) -> Result<(), Failed>
-    ensures ok { OnOk result (Takes (W.written out.old) (W.written out.new) (W.free out.old) (W.free out.new) (first.now ++ decimal number ++ last.now)) }
-    ensures err { OnErr result (TakesFront (W.written out.old) (W.written out.new) (W.free out.old) (W.free out.new) (first.now ++ decimal number ++ last.now)) }
-    ensures cause { OnErr result (Rose (W.faults out.old) (W.faults out.new)) }
-    ensures later { W.faults out.old ≤ W.faults out.new }
+    ensures { Wrote (W.written out.old) (W.written out.new) (W.free out.old) (W.free out.new) (W.faults out.old) (W.faults out.new)
+        (first.now ++ decimal number ++ last.now) result }
 {
     let mut buffer = Buffer::new();
     match write_both(out, first, buffer.format(number).as_bytes()) {
-        Ok(()) => match write_whole(out, last) {
-            Ok(()) => Ok(()),
-            Err(Failed) => Err(Failed),
-        },
+        Ok(()) => write_piece(out, last),
         Err(Failed) => Err(Failed),
     }
 }
@@ -70,30 +65,23 @@ fn words_of(kind: FaultKind) -> &'static [u8]
 }
 
 // Writes a number and two pieces behind it.
-#[tactic(auto, using(tib_io::proofs::Pieces::takes_more, tib_io::proofs::Pieces::front_later, tib_io::proofs::Pieces::front_first))]
 fn write_behind<W: Sink>(
     out: &mut W,
     number: u32,
     first: &[u8],
     second: &[u8],
 ) -> Result<(), Failed>
-    ensures ok { OnOk result (Takes (W.written out.old) (W.written out.new) (W.free out.old) (W.free out.new) (decimal number ++ first.now ++ second.now)) }
-    ensures err { OnErr result (TakesFront (W.written out.old) (W.written out.new) (W.free out.old) (W.free out.new) (decimal number ++ first.now ++ second.now)) }
-    ensures cause { OnErr result (Rose (W.faults out.old) (W.faults out.new)) }
-    ensures later { W.faults out.old ≤ W.faults out.new }
+    ensures { Wrote (W.written out.old) (W.written out.new) (W.free out.old) (W.free out.new) (W.faults out.old) (W.faults out.new)
+        (decimal number ++ first.now ++ second.now) result }
 {
     let mut buffer = Buffer::new();
     match write_both(out, buffer.format(number).as_bytes(), first) {
-        Ok(()) => match write_whole(out, second) {
-            Ok(()) => Ok(()),
-            Err(Failed) => Err(Failed),
-        },
+        Ok(()) => write_piece(out, second),
         Err(Failed) => Err(Failed),
     }
 }
 
 // Writes two numbers among four pieces.
-#[tactic(auto, using(tib_io::proofs::Pieces::takes_more, tib_io::proofs::Pieces::front_later, tib_io::proofs::Pieces::front_first))]
 fn write_place<W: Sink>(
     out: &mut W,
     a: &[u8],
@@ -103,26 +91,20 @@ fn write_place<W: Sink>(
     c: &[u8],
     d: &[u8],
 ) -> Result<(), Failed>
-    ensures ok { OnOk result (Takes (W.written out.old) (W.written out.new) (W.free out.old) (W.free out.new) ((a.now ++ decimal file ++ b.now) ++ (decimal line ++ c.now ++ d.now))) }
-    ensures err { OnErr result (TakesFront (W.written out.old) (W.written out.new) (W.free out.old) (W.free out.new) ((a.now ++ decimal file ++ b.now) ++ (decimal line ++ c.now ++ d.now))) }
-    ensures cause { OnErr result (Rose (W.faults out.old) (W.faults out.new)) }
-    ensures later { W.faults out.old ≤ W.faults out.new }
+    ensures { Wrote (W.written out.old) (W.written out.new) (W.free out.old) (W.free out.new) (W.faults out.old) (W.faults out.new)
+        ((a.now ++ decimal file ++ b.now) ++ (decimal line ++ c.now ++ d.now)) result }
 {
     match write_about(out, a, u64::from(file), b) {
-        Ok(()) => match write_behind(out, line, c, d) {
-            Ok(()) => Ok(()),
-            Err(Failed) => Err(Failed),
-        },
+        Ok(()) => write_behind(out, line, c, d),
         Err(Failed) => Err(Failed),
     }
 }
 
-/// Writes the line of a status.
+/// Writes the line of a status, and nothing for the one of a run that is done. It takes no memory. After a failure a front of
+/// the line was written.
 pub fn tell<W: Sink>(log: &mut W, status: &Status) -> Result<(), Failed>
-    ensures ok { OnOk result (Takes (W.written log.old) (W.written log.new) (W.free log.old) (W.free log.new) (line_of status.now)) }
-    ensures err { OnErr result (TakesFront (W.written log.old) (W.written log.new) (W.free log.old) (W.free log.new) (line_of status.now)) }
-    ensures cause { OnErr result (Rose (W.faults log.old) (W.faults log.new)) }
-    ensures later { W.faults log.old ≤ W.faults log.new }
+    ensures { Wrote (W.written log.old) (W.written log.new) (W.free log.old) (W.free log.new) (W.faults log.old) (W.faults log.new)
+        (line_of status.now) result }
 {
     match *status {
         Status::BadInput { file, fault } => write_place(
@@ -149,7 +131,7 @@ pub fn tell<W: Sink>(log: &mut W, status: &Status) -> Result<(), Failed>
             u64::from(file),
             b": longer than 8388608 bytes\n",
         ),
-        _ => write_whole(log, plain_line(status)),
+        _ => write_piece(log, plain_line(status)),
     }
 }
 

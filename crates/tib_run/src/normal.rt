@@ -4,7 +4,7 @@ ghost use Rattle.tib_io.specs.Causes.{GoesOn};
 ghost use Rattle.tib_command.specs.Jobs.{meaning};
 ghost use Rattle.tib_grammar_file.specs.GrammarText.{GrammarText};
 ghost use Rattle.tib_grammar_file.specs.Printable.{ArePrintable};
-ghost use Rattle.tib_grammar_file.specs.Printed.{AreLabelled, grammar_text};
+ghost use Rattle.tib_grammar_file.specs.Printed.{grammar_text};
 ghost use Rattle.tib_inside.specs.Trimmed.{HasSameSeries};
 ghost use Rattle.tib_run.specs.Answers.{IsAnswer, IsCanonicalNormal};
 ghost use Rattle.tib_run.specs.Causes.{HasCause, HasEarlier, IsEarly, IsFormFault, scale_of, product_of};
@@ -12,10 +12,11 @@ ghost use Rattle.tib_run.specs.Causes.{HasCause, HasEarlier, IsEarly, IsFormFaul
 use crate::files::grammar_in;
 use crate::status::Status;
 use std::alloc::Global;
-use tib_canon::{Printed, canonical};
+use tib_canon::{Printed, canonical, normal_forms_are_printable, normal_texts_are_read};
 use tib_command::{Job, Operation};
 use tib_cost::Semiring;
 use tib_grammar::Grammar;
+use tib_grammar_file::printable_is_labelled;
 use tib_io::{Files, GrowingSink};
 use tib_normal::{NormalError, normalize};
 use tib_tree::Labels;
@@ -27,7 +28,6 @@ fn canonical_normal<S: Semiring + Drop>(
     labels: &Labels,
     limit: u64,
 ) -> Result<Printed<S>, Status>
-    requires labelled { AreLabelled (length labels.now) grammar.now.rules }
     requires printable { ArePrintable S.SCALE labels.now grammar.now.rules }
     requires limit { (1 ≤ limit) × (limit ≤ 20000000) }
     ensures canonical { IfOk result (λ h. IsCanonicalNormal S.SCALE S.product limit labels.now grammar.now h.grammar) }
@@ -44,6 +44,9 @@ fn canonical_normal<S: Semiring + Drop>(
     };
     let form = normal.into_grammar();
     form.is_sound();
+    normal_forms_are_printable::<S>();
+    printable_is_labelled();
+    normal_texts_are_read::<S>();
     match canonical::<S>(alloc, form, labels) {
         Ok(canonical) => Ok(canonical),
         Err(_) => Err(Status::OutOfMemory),

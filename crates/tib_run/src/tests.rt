@@ -1,73 +1,191 @@
 // The run over memory: words and files, and what is answered, written and told.
-use crate::command::run;
 use crate::status::Status;
 use std::alloc::{AllocError, Global};
 use std::test::Fail;
 use std::thread::Threads;
-use tib_hunt::Gate;
-use tib_io::{MemoryFiles, MemorySink};
 use tib_lex::{FaultKind, FileFault};
 
-mod hunted;
-mod one_file;
-mod outside;
-mod piecewise;
+mod large;
 mod rows;
+mod running;
+mod watched;
 
 use rows::{BINARY, RIGHT, ROWS, Row};
+use running::{Outside, Ran, SOUND, run_words};
 
-struct Open;
-
-impl Gate for Open {
-    fn pass(&self, _worker: u32, _item: u32) {}
+// How a run is to end: its status, how many bytes of the row's text are written, and how often the files are read and
+// the output is written to and finished.
+#[derive(Clone, Copy, Debug, PartialEq, Eq)]
+struct Ending {
+    status: Status,
+    bytes: usize,
+    reads: u64,
+    writes: u64,
+    finishes: u64,
 }
 
-fn texts(alloc: Global, words: &[&str]) -> Result<Vec<String>, AllocError> {
-    let mut all = Vec::new(alloc);
-    for word in words {
-        all.push(String::from_str(alloc, word)?)?;
+// In how many pieces so many bytes go over.
+fn pieces(bytes: usize, most: usize) -> u64 {
+    if most == 0 {
+        return 0;
     }
-    for file in ["G", "T"] {
-        all.push(String::from_str(alloc, file)?)?;
+    (bytes as u64).div_ceil(most as u64)
+}
+
+// How often each file of a row is read: a file to its end, with a read that gives nothing.
+fn reads_of(row: &Row, most: usize) -> (u64, u64) {
+    let first = pieces(row.1.len(), most).saturating_add(1);
+    let second = pieces(row.2.len(), most).saturating_add(1);
+    match row.3 {
+        Status::Usage => (0, 0),
+        Status::BadInput { file: 1, .. } => (first, 0),
+        _ => (first, if row.0.contains(&"T") { second } else { 0 }),
     }
-    Ok(all)
 }
 
-fn two_files(
-    alloc: Global,
-    grammar: Vec<u8>,
-    trees: Vec<u8>,
-    failing: &[u64],
-) -> Result<MemoryFiles, AllocError> {
-    let mut files = Vec::new(alloc);
-    files.push((String::from_str(alloc, "G")?, grammar))?;
-    files.push((String::from_str(alloc, "T")?, trees))?;
-    Ok(MemoryFiles::new(files, failing.to_vec(alloc)?))
+// How a run of a row is to end over this outside.
+fn ending_of(row: &Row, outside: Outside) -> Ending {
+    let (first, second) = reads_of(row, outside.most);
+    let reads = first.saturating_add(second);
+    let bytes = row.4.len();
+    let writes = pieces(bytes, outside.most);
+    let untouched = Ending {
+        status: row.3,
+        bytes: 0,
+        reads,
+        writes: 0,
+        finishes: 0,
+    };
+    let whole = Ending {
+        bytes,
+        writes,
+        finishes: 1,
+        ..untouched
+    };
+    let fault = Status::WriteFault;
+    match (outside.failing_read, outside.failing_call) {
+        (Some(read), _) if read < reads => Ending {
+            status: Status::ReadFault {
+                file: if read < first { 1 } else { 2 },
+            },
+            reads: read.saturating_add(1),
+            ..untouched
+        },
+        _ if row.3 != Status::Done => untouched,
+        (_, Some(call)) if call < writes => Ending {
+            status: fault,
+            bytes: outside.most.saturating_mul(call as usize),
+            writes: call.saturating_add(1),
+            ..untouched
+        },
+        (_, Some(call)) if call == writes => Ending {
+            status: fault,
+            ..whole
+        },
+        _ => whole,
+    }
 }
 
-// What a run of a row answers, writes and tells.
-fn run_row<R: Threads + Sync>(
+// The line that is told of a status, where it is not the row's own.
+fn line_of(status: Status) -> &'static str {
+    match status {
+        Status::ReadFault { file: 1 } => "tiburon: file 1: cannot be read\n",
+        Status::ReadFault { .. } => "tiburon: file 2: cannot be read\n",
+        _ => "tiburon: cannot write\n",
+    }
+}
+
+// Whether a run of a row ended so.
+fn ended(row: &Row, ran: &Ran, ending: Ending) -> bool {
+    let line = if ending.status == row.3 {
+        row.5
+    } else {
+        line_of(ending.status)
+    };
+    let seen = Ending {
+        status: ran.status,
+        bytes: ran.out.bytes().len(),
+        reads: ran.reads,
+        writes: ran.writes,
+        finishes: ran.finishes,
+    };
+    seen == ending
+        && row.4.as_bytes().starts_with(ran.out.bytes())
+        && ran.log.bytes() == line.as_bytes()
+}
+
+// Whether a row runs as it should over this outside.
+fn runs<R: Threads + Sync>(
     rt: &R,
     alloc: Global,
     row: &Row,
-) -> Result<(Status, MemorySink, MemorySink), AllocError> {
-    let words = texts(alloc, row.0)?;
-    let grammar = row.1.as_bytes().to_vec(alloc)?;
-    let trees = row.2.as_bytes().to_vec(alloc)?;
-    let mut files = two_files(alloc, grammar, trees, &[])?;
-    let mut out = MemorySink::new(alloc, Vec::new(alloc), 1000)?;
-    let mut log = MemorySink::new(alloc, Vec::new(alloc), 1000)?;
-    let status = run(rt, alloc, &words, &mut files, &mut out, &mut log, &Open);
-    Ok((status, out, log))
+    outside: Outside,
+) -> Result<bool, AllocError> {
+    let first = row.1.as_bytes().to_vec(alloc)?;
+    let second = row.2.as_bytes().to_vec(alloc)?;
+    let ran = run_words(rt, alloc, row.0, first, second, outside)?;
+    Ok(ended(row, &ran, ending_of(row, outside)))
+}
+
+// Whether a row runs as it should where any one read fails, or any one call of the output, or none.
+fn runs_throughout<R: Threads + Sync>(
+    rt: &R,
+    alloc: Global,
+    row: &Row,
+    most: usize,
+) -> Result<bool, AllocError> {
+    let sound = Outside { most, ..SOUND };
+    let calls = ending_of(row, sound).reads.max(pieces(row.4.len(), most));
+    for call in 0..=calls.saturating_add(1) {
+        let failing = Some(call);
+        let reading = Outside {
+            failing_read: failing,
+            ..sound
+        };
+        let writing = Outside {
+            failing_call: failing,
+            ..sound
+        };
+        if !runs(rt, alloc, row, reading)? || !runs(rt, alloc, row, writing)? {
+            return Ok(false);
+        }
+    }
+    Ok(true)
 }
 
 #[test]
 fn the_worked_rows_run(rt: HostRuntime) -> Result<(), Fail> {
     for (number, row) in ROWS.iter().enumerate() {
-        let (status, out, log) = run_row(&rt, rt.alloc(), row)?;
-        assert_eq!(rt; status, row.3, "the status of row {number}");
-        assert_eq!(rt; out.bytes(), row.4.as_bytes(), "the text of row {number}");
-        assert_eq!(rt; log.bytes(), row.5.as_bytes(), "the log of row {number}");
+        for most in [7, SOUND.most] {
+            let right = runs_throughout(&rt, rt.alloc(), row, most)?;
+            assert!(rt; right, "row {number}, {most} bytes at a time");
+        }
+    }
+    Ok(())
+}
+
+// Whether as much of a row's text is written as there is room for, one byte less than all.
+fn fills<R: Threads + Sync>(rt: &R, alloc: Global, row: &Row) -> Result<bool, AllocError> {
+    let bytes = row.4.len().saturating_sub(1);
+    let Ok(room) = u32::try_from(bytes) else {
+        return Ok(false);
+    };
+    let status = if row.4.is_empty() {
+        row.3
+    } else {
+        Status::WriteFault
+    };
+    let first = row.1.as_bytes().to_vec(alloc)?;
+    let second = row.2.as_bytes().to_vec(alloc)?;
+    let ran = run_words(rt, alloc, row.0, first, second, Outside { room, ..SOUND })?;
+    Ok(ran.status == status && ran.out.bytes().len() == bytes)
+}
+
+#[test]
+fn a_text_needs_room_for_all_its_bytes(rt: HostRuntime) -> Result<(), Fail> {
+    for (number, row) in ROWS.iter().enumerate() {
+        let filled = fills(&rt, rt.alloc(), row)?;
+        assert!(rt; filled, "row {number}");
     }
     Ok(())
 }
@@ -77,71 +195,55 @@ fn an_intersection_is_refused_below_its_parts(rt: HostRuntime) -> Result<(), Fai
     let alloc = rt.alloc();
     for limit in 1..=14 {
         let option = format!(in alloc; "--limit={limit}")?;
-        let words = texts(alloc, &[option.as_str(), "intersect"])?;
-        let (left, right) = (BINARY.as_bytes(), RIGHT.as_bytes());
-        let mut files = two_files(alloc, left.to_vec(alloc)?, right.to_vec(alloc)?, &[])?;
-        let mut out = MemorySink::new(alloc, Vec::new(alloc), 1000)?;
-        let mut log = MemorySink::new(alloc, Vec::new(alloc), 1000)?;
-        let status = run(&rt, alloc, &words, &mut files, &mut out, &mut log, &Open);
+        let words = [option.as_str(), "intersect", "G", "T"];
+        let (left, right) = (
+            BINARY.as_bytes().to_vec(alloc)?,
+            RIGHT.as_bytes().to_vec(alloc)?,
+        );
+        let ran = run_words(&rt, alloc, &words, left, right, SOUND)?;
         let told = if limit < 14 {
             Status::TooMany { limit }
         } else {
             Status::Done
         };
-        assert_eq!(rt; status, told, "the limit {limit}");
+        assert_eq!(rt; ran.status, told, "the limit {limit}");
+        // Each of the two pairs passes the gate once.
+        let passed = (ran.passes, ran.items);
+        assert!(rt; limit < 14 || passed == (2, 1), "the gate: {passed:?}");
     }
     Ok(())
 }
 
-// The status of a run over these files, where the listed reads and writes fail.
-fn status_of<R: Threads + Sync>(
-    rt: &R,
-    alloc: Global,
-    grammar: Vec<u8>,
-    trees: Vec<u8>,
-    reads: &[u64],
-    writes: &[u64],
-) -> Result<Status, AllocError> {
-    let words = texts(alloc, &["weigh"])?;
-    let mut files = two_files(alloc, grammar, trees, reads)?;
-    let mut out = MemorySink::new(alloc, writes.to_vec(alloc)?, 100)?;
-    let mut log = MemorySink::new(alloc, Vec::new(alloc), 1000)?;
-    Ok(run(rt, alloc, &words, &mut files, &mut out, &mut log, &Open))
+const fn fault(file: u32, kind: FaultKind) -> Status {
+    Status::BadInput {
+        file,
+        fault: FileFault { line: 1, kind },
+    }
 }
 
 #[test]
 fn files_are_as_long_as_they_may_be(rt: HostRuntime) -> Result<(), Fail> {
     let alloc = rt.alloc();
-    for (length, status) in [
-        (8_388_609, Status::TooLong { file: 1 }),
-        (
-            8_388_608,
-            Status::BadInput {
-                file: 1,
-                fault: FileFault {
-                    line: 1,
-                    kind: FaultKind::NoStart,
-                },
-            },
-        ),
+    for (operation, length, status) in [
+        ("weigh", 8_388_609, Status::TooLong { file: 1 }),
+        ("weigh", 8_388_608, fault(1, FaultKind::NoStart)),
+        ("inside", 8_388_609, Status::TooLong { file: 1 }),
+        ("normal", 8_388_609, Status::TooLong { file: 1 }),
+        ("normal", 8_388_608, fault(1, FaultKind::NoStart)),
+        ("intersect", 8_388_609, Status::TooLong { file: 1 }),
     ] {
-        let grammar = vec![in alloc; b'%'; length]?;
-        assert_eq!(rt;
-            status_of(&rt, alloc, grammar, b"a".to_vec(alloc)?, &[], &[])?,
-            status
-        );
+        let file = vec![in alloc; b'%'; length]?;
+        let words = [operation, "G", "T"];
+        let words = if operation == "inside" || operation == "normal" {
+            &words[..2]
+        } else {
+            &words[..]
+        };
+        let ran = run_words(&rt, alloc, words, file, b"a".to_vec(alloc)?, SOUND)?;
+        assert_eq!(rt; ran.status, status, "{operation} of {length} bytes");
     }
     for (children, status) in [
-        (
-            10_000,
-            Status::BadInput {
-                file: 2,
-                fault: FileFault {
-                    line: 1,
-                    kind: FaultKind::TooManyNodes,
-                },
-            },
-        ),
+        (10_000, fault(2, FaultKind::TooManyNodes)),
         (9_999, Status::WriteFault),
     ] {
         let mut trees = b"S(".to_vec(alloc)?;
@@ -149,38 +251,9 @@ fn files_are_as_long_as_they_may_be(rt: HostRuntime) -> Result<(), Fail> {
             trees.extend_from_slice(b"a ")?;
         }
         trees.push(b')')?;
-        assert_eq!(rt;
-            status_of(
-                &rt,
-                alloc,
-                BINARY.as_bytes().to_vec(alloc)?,
-                trees,
-                &[],
-                &[]
-            )?,
-            status
-        );
-    }
-    Ok(())
-}
-
-#[test]
-fn a_fault_outside_is_told(rt: HostRuntime) -> Result<(), Fail> {
-    let alloc = rt.alloc();
-    for (reads, writes, status) in [
-        ([0].as_slice(), [].as_slice(), Status::ReadFault { file: 1 }),
-        ([1].as_slice(), [].as_slice(), Status::ReadFault { file: 1 }),
-        ([2].as_slice(), [].as_slice(), Status::ReadFault { file: 2 }),
-        ([3].as_slice(), [].as_slice(), Status::ReadFault { file: 2 }),
-        ([4].as_slice(), [0].as_slice(), Status::WriteFault),
-        ([].as_slice(), [1].as_slice(), Status::WriteFault),
-        ([].as_slice(), [2].as_slice(), Status::Done),
-    ] {
         let grammar = BINARY.as_bytes().to_vec(alloc)?;
-        assert_eq!(rt;
-            status_of(&rt, alloc, grammar, b"a".to_vec(alloc)?, reads, writes)?,
-            status
-        );
+        let ran = run_words(&rt, alloc, &["weigh", "G", "T"], grammar, trees, SOUND)?;
+        assert_eq!(rt; ran.status, status, "{children} children");
     }
     Ok(())
 }

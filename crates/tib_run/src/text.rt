@@ -31,7 +31,7 @@ pub(crate) fn print_cost<S: Semiring, W: Sink>(
 }
 
 // Writes the line of a weighed tree.
-#[tactic(auto, using(tib_io::proofs::Pieces::takes_more))]
+#[tactic(auto, using(tib_io::specs::Pieces::takes_more))]
 fn print_line<S: Semiring, W: Sink>(
     tree: &Tree,
     labels: &Labels,

@@ -1,8 +1,8 @@
-// The worked rows on two files: weighing trees, and intersecting two grammars.
+// The worked rows.
 use crate::status::Status;
 use tib_lex::{FaultKind, FileFault};
 
-// Words in front of the two files, the files, and what the run answers, writes and tells.
+// The words, the files `G` and `T`, and what the run answers, writes and tells.
 pub type Row = (
     &'static [&'static str],
     &'static str,
@@ -25,11 +25,17 @@ const READINGS: &str =
 const READINGS_WEIGHED: &str =
     "S(NP(PRP(I)) VP(V(saw) NP(DT(the) NN(man)) PP(P(with) NP(DT(the) NN(telescope))))) # 13\nS(NP(PRP(I)) VP(V(saw) NP(NP(DT(the) NN(man)) PP(P(with) NP(DT(the) NN(telescope)))))) # 15\n";
 
+const UNUSED: &str = "q\nq -> A(r s) # 0\nr -> b # 1\ns -> c # 4\ns -> d # 2\nu -> B(u)\n";
+
+const NESTED: &str = "q\nq -> f(g(a) q) # 3\nq -> r # 1\nr -> b # 2\n";
+
+const NESTED_NORMAL: &str = "q0\nq0 -> b # 3\nq0 -> f(q1 q0) # 3\nq1 -> g(q2) # 0\nq2 -> a # 0\n";
+
 // The worked rows.
-pub static ROWS: [Row; 47] = [
+pub static ROWS: [Row; 69] = [
     // the cost of a tree
     (
-        &["weigh"],
+        &["weigh", "G", "T"],
         BINARY,
         "S(a a)\n",
         Status::Done,
@@ -38,7 +44,7 @@ pub static ROWS: [Row; 47] = [
     ),
     // an unknown label is no fault
     (
-        &["weigh"],
+        &["weigh", "G", "T"],
         BINARY,
         "S(b a)\na\n",
         Status::Done,
@@ -47,7 +53,7 @@ pub static ROWS: [Row; 47] = [
     ),
     // the same in bottleneck
     (
-        &["-m", "bottleneck", "weigh"],
+        &["-m", "bottleneck", "weigh", "G", "T"],
         BINARY,
         "S(a a)\nS(b a)\n",
         Status::Done,
@@ -56,7 +62,7 @@ pub static ROWS: [Row; 47] = [
     ),
     // the same in Boolean, where no cost is printed
     (
-        &["weigh", "-mboolean"],
+        &["weigh", "-mboolean", "G", "T"],
         BINARY,
         "S(a a)\nS(b a)\n",
         Status::Done,
@@ -65,7 +71,7 @@ pub static ROWS: [Row; 47] = [
     ),
     // a file without tokens is no grammar
     (
-        &["weigh"],
+        &["weigh", "G", "T"],
         "",
         "a\n",
         Status::BadInput {
@@ -80,7 +86,7 @@ pub static ROWS: [Row; 47] = [
     ),
     // a chain cycle of cost 0
     (
-        &["weigh"],
+        &["weigh", "G", "T"],
         "q\nq -> r # 0\nr -> q # 0\nr -> a # 4\n",
         "a\n",
         Status::Done,
@@ -89,7 +95,7 @@ pub static ROWS: [Row; 47] = [
     ),
     // a cost above the greatest one counts as none
     (
-        &["weigh"],
+        &["weigh", "G", "T"],
         "q\nq -> f(p) # 1000000000000000\np -> a # 1\n",
         "f(a)\n",
         Status::Done,
@@ -98,7 +104,7 @@ pub static ROWS: [Row; 47] = [
     ),
     // a weight above the greatest one
     (
-        &["weigh"],
+        &["weigh", "G", "T"],
         "q\nq -> f(p) # 1000000000000001\np -> a # 1\n",
         "f(a)\n",
         Status::BadInput {
@@ -113,7 +119,7 @@ pub static ROWS: [Row; 47] = [
     ),
     // zeros behind the point
     (
-        &["weigh"],
+        &["weigh", "G", "T"],
         "q\nq -> S(q q) # 1\nq -> a # 2.000\n",
         "a\n",
         Status::Done,
@@ -122,7 +128,7 @@ pub static ROWS: [Row; 47] = [
     ),
     // a weight that is not whole
     (
-        &["weigh"],
+        &["weigh", "G", "T"],
         "q\nq -> S(q q) # 1\nq -> a # 0.5\n",
         "a\n",
         Status::BadInput {
@@ -137,7 +143,7 @@ pub static ROWS: [Row; 47] = [
     ),
     // in Boolean any name is a weight
     (
-        &["-m", "boolean", "weigh"],
+        &["-m", "boolean", "weigh", "G", "T"],
         "q\nq -> S(q q) # 1\nq -> a # 0.5\n",
         "a\n",
         Status::Done,
@@ -146,7 +152,7 @@ pub static ROWS: [Row; 47] = [
     ),
     // a right side that is no tree
     (
-        &["weigh"],
+        &["weigh", "G", "T"],
         "q\nq -> S(q",
         "a\n",
         Status::BadInput {
@@ -161,7 +167,7 @@ pub static ROWS: [Row; 47] = [
     ),
     // a quoted token that is not closed
     (
-        &["weigh"],
+        &["weigh", "G", "T"],
         "q\nq -> \"a",
         "a\n",
         Status::BadInput {
@@ -176,7 +182,7 @@ pub static ROWS: [Row; 47] = [
     ),
     // a nested right side
     (
-        &["weigh"],
+        &["weigh", "G", "T"],
         "q\nq -> f(a)\n",
         "f(a)\n",
         Status::Done,
@@ -185,7 +191,7 @@ pub static ROWS: [Row; 47] = [
     ),
     // a chain rule
     (
-        &["weigh"],
+        &["weigh", "G", "T"],
         "q\nq -> r\nr -> a\n",
         "a\n",
         Status::Done,
@@ -193,10 +199,10 @@ pub static ROWS: [Row; 47] = [
         "",
     ),
     // an empty tree file
-    (&["weigh"], BINARY, "", Status::Done, "", ""),
+    (&["weigh", "G", "T"], BINARY, "", Status::Done, "", ""),
     // the normal form has as many parts as the limit
     (
-        &["weigh", "--limit", "7"],
+        &["weigh", "--limit", "7", "G", "T"],
         BINARY,
         "a\n",
         Status::Done,
@@ -205,7 +211,7 @@ pub static ROWS: [Row; 47] = [
     ),
     // the normal form has more parts than the limit
     (
-        &["weigh", "--limit=6"],
+        &["weigh", "--limit=6", "G", "T"],
         BINARY,
         "a\n",
         Status::TooMany { limit: 6 },
@@ -214,7 +220,7 @@ pub static ROWS: [Row; 47] = [
     ),
     // quoted leaves are labels
     (
-        &["weigh"],
+        &["weigh", "G", "T"],
         "q\nq -> f(\"q\" \"q0\")\n",
         "f(q \"q0\")\n",
         Status::Done,
@@ -223,7 +229,7 @@ pub static ROWS: [Row; 47] = [
     ),
     // labels that need quotes
     (
-        &["weigh"],
+        &["weigh", "G", "T"],
         "q\nq -> \"a b\"(\"->\" \"\\\"\")\n",
         "\"a b\"(\"->\" \"\\\"\")\n",
         Status::Done,
@@ -232,7 +238,7 @@ pub static ROWS: [Row; 47] = [
     ),
     // nested sides and chain rules
     (
-        &["weigh"],
+        &["weigh", "G", "T"],
         "q\nq -> f(g(a) q) # 3\nq -> r # 1\nr -> b # 2\n",
         "f(g(a) b)\nb\n",
         Status::Done,
@@ -241,7 +247,7 @@ pub static ROWS: [Row; 47] = [
     ),
     // a parse forest
     (
-        &["weigh"],
+        &["weigh", "G", "T"],
         FOREST,
         READINGS,
         Status::Done,
@@ -250,7 +256,7 @@ pub static ROWS: [Row; 47] = [
     ),
     // a faulty tree file is the second file
     (
-        &["weigh"],
+        &["weigh", "G", "T"],
         BINARY,
         "a\n\n(a)\n",
         Status::BadInput {
@@ -265,7 +271,7 @@ pub static ROWS: [Row; 47] = [
     ),
     // the first file's fault comes first
     (
-        &["weigh"],
+        &["weigh", "G", "T"],
         "q\nq ->\n",
         "(\n",
         Status::BadInput {
@@ -280,7 +286,7 @@ pub static ROWS: [Row; 47] = [
     ),
     // options behind the operation, workers accepted
     (
-        &["-w", "4", "weigh", "-k", "3"],
+        &["-w", "4", "weigh", "-k", "3", "G", "T"],
         BINARY,
         "a\n",
         Status::Done,
@@ -289,7 +295,7 @@ pub static ROWS: [Row; 47] = [
     ),
     // an option twice
     (
-        &["-k1", "-k2", "weigh"],
+        &["-k1", "-k2", "weigh", "G", "T"],
         BINARY,
         "a\n",
         Status::Usage,
@@ -298,7 +304,7 @@ pub static ROWS: [Row; 47] = [
     ),
     // a file too many
     (
-        &["weigh", "x"],
+        &["weigh", "x", "G", "T"],
         BINARY,
         "a\n",
         Status::Usage,
@@ -307,7 +313,7 @@ pub static ROWS: [Row; 47] = [
     ),
     // no tree is in both
     (
-        &["intersect"],
+        &["intersect", "G", "T"],
         "q\nq -> a\n",
         "p\np -> b\n",
         Status::Done,
@@ -316,7 +322,7 @@ pub static ROWS: [Row; 47] = [
     ),
     // the product of the costs, from the pair of the starts
     (
-        &["intersect"],
+        &["intersect", "G", "T"],
         BINARY,
         RIGHT,
         Status::Done,
@@ -325,7 +331,7 @@ pub static ROWS: [Row; 47] = [
     ),
     // the same in bottleneck
     (
-        &["-mbottleneck", "intersect"],
+        &["-mbottleneck", "intersect", "G", "T"],
         BINARY,
         RIGHT,
         Status::Done,
@@ -334,7 +340,7 @@ pub static ROWS: [Row; 47] = [
     ),
     // the same in Boolean, where no cost is printed
     (
-        &["intersect", "-m=boolean"],
+        &["intersect", "-m=boolean", "G", "T"],
         BINARY,
         RIGHT,
         Status::Done,
@@ -343,7 +349,7 @@ pub static ROWS: [Row; 47] = [
     ),
     // the reached set has as many parts as the limit
     (
-        &["--limit", "14", "intersect"],
+        &["--limit", "14", "intersect", "G", "T"],
         BINARY,
         RIGHT,
         Status::Done,
@@ -352,7 +358,7 @@ pub static ROWS: [Row; 47] = [
     ),
     // it has one more
     (
-        &["--limit", "13", "intersect"],
+        &["--limit", "13", "intersect", "G", "T"],
         BINARY,
         RIGHT,
         Status::TooMany { limit: 13 },
@@ -361,7 +367,7 @@ pub static ROWS: [Row; 47] = [
     ),
     // the second normal form has one more
     (
-        &["--limit", "9", "intersect"],
+        &["--limit", "9", "intersect", "G", "T"],
         BINARY,
         RIGHT,
         Status::TooMany { limit: 9 },
@@ -370,7 +376,7 @@ pub static ROWS: [Row; 47] = [
     ),
     // the first has
     (
-        &["--limit", "6", "intersect"],
+        &["--limit", "6", "intersect", "G", "T"],
         BINARY,
         RIGHT,
         Status::TooMany { limit: 6 },
@@ -379,7 +385,7 @@ pub static ROWS: [Row; 47] = [
     ),
     // a label over one state is not that label alone
     (
-        &["intersect"],
+        &["intersect", "G", "T"],
         "q\nq -> f(q) # 1\nq -> f # 2\n",
         "p\np -> f # 3\n",
         Status::Done,
@@ -388,7 +394,7 @@ pub static ROWS: [Row; 47] = [
     ),
     // a product above the greatest cost is none
     (
-        &["intersect"],
+        &["intersect", "G", "T"],
         "q\nq -> a # 1000000000000000\nq -> b # 1\n",
         "p\np -> a # 1\np -> b # 2\n",
         Status::Done,
@@ -397,7 +403,7 @@ pub static ROWS: [Row; 47] = [
     ),
     // in bottleneck the product is the greater one
     (
-        &["-m", "bottleneck", "intersect"],
+        &["-m", "bottleneck", "intersect", "G", "T"],
         "q\nq -> a # 1000000000000000\n",
         "p\np -> a # 1\n",
         Status::Done,
@@ -406,7 +412,7 @@ pub static ROWS: [Row; 47] = [
     ),
     // a pair that is reached, but from which no tree is in both
     (
-        &["intersect"],
+        &["intersect", "G", "T"],
         "q\nq -> f(r) # 1\nq -> c # 1\nr -> a # 1\n",
         "p\np -> f(s) # 1\np -> c # 1\ns -> b # 1\n",
         Status::Done,
@@ -415,7 +421,7 @@ pub static ROWS: [Row; 47] = [
     ),
     // nested sides and chain rules
     (
-        &["intersect"],
+        &["intersect", "G", "T"],
         "q\nq -> f(g(a))\n",
         "p\np -> r # 1\nr -> f(x)\nx -> g(y)\ny -> a # 2\n",
         Status::Done,
@@ -424,7 +430,7 @@ pub static ROWS: [Row; 47] = [
     ),
     // states are named by their keys, not by the order of sight
     (
-        &["intersect"],
+        &["intersect", "G", "T"],
         "q\nq -> f(s r)\nr -> a\ns -> b\n",
         "p\np -> f(x y)\nx -> b\ny -> a\n",
         Status::Done,
@@ -433,7 +439,7 @@ pub static ROWS: [Row; 47] = [
     ),
     // a label that is the name of a state
     (
-        &["intersect"],
+        &["intersect", "G", "T"],
         "q\nq -> g(q) # 1\nq -> \"q0\"\n",
         "p\np -> q0 # 7\n",
         Status::Done,
@@ -442,7 +448,7 @@ pub static ROWS: [Row; 47] = [
     ),
     // a grammar with itself
     (
-        &["intersect"],
+        &["intersect", "G", "T"],
         BINARY,
         BINARY,
         Status::Done,
@@ -451,7 +457,7 @@ pub static ROWS: [Row; 47] = [
     ),
     // of equal rules the cheapest stays
     (
-        &["intersect"],
+        &["intersect", "G", "T"],
         "q\nq -> a # 5\nq -> a # 2\n",
         "p\np -> a # 1\n",
         Status::Done,
@@ -460,7 +466,7 @@ pub static ROWS: [Row; 47] = [
     ),
     // a second file without tokens
     (
-        &["intersect"],
+        &["intersect", "G", "T"],
         BINARY,
         "% none\n",
         Status::BadInput {
@@ -475,7 +481,7 @@ pub static ROWS: [Row; 47] = [
     ),
     // the first file's fault comes first
     (
-        &["intersect"],
+        &["intersect", "G", "T"],
         "q\nq -> S(q",
         "",
         Status::BadInput {
@@ -490,9 +496,222 @@ pub static ROWS: [Row; 47] = [
     ),
     // a file too many
     (
-        &["intersect", "x"],
+        &["intersect", "x", "G", "T"],
         BINARY,
         RIGHT,
+        Status::Usage,
+        "",
+        "tiburon: usage: tiburon [-m MODE] [-k N] [-w N] [--limit N] OPERATION FILE...\n",
+    ),
+    // one grammar alone
+    // each state, one without a run among them
+    (
+        &["inside", "G"],
+        UNUSED,
+        "",
+        Status::Done,
+        "q # 3\nr # 1\ns # 2\nu # none\n",
+        "",
+    ),
+    // the same in bottleneck
+    (
+        &["-mbottleneck", "inside", "G"],
+        UNUSED,
+        "",
+        Status::Done,
+        "q # 2\nr # 1\ns # 2\nu # none\n",
+        "",
+    ),
+    // the same in Boolean, where no cost is printed
+    (
+        &["inside", "-m", "boolean", "G"],
+        UNUSED,
+        "",
+        Status::Done,
+        "q\nr\ns\nu # none\n",
+        "",
+    ),
+    // chains, a cycle of cost 0, and a run that costs too much
+    (
+        &["inside", "G"],
+        "q\nq -> r # 0\nr -> q # 0\nr -> a # 4\ns -> f(s2) # 1000000000000000\ns2 -> a # 1\n",
+        "",
+        Status::Done,
+        "q # 4\nr # 4\ns # none\ns2 # 1\n",
+        "",
+    ),
+    // the start alone
+    (&["inside", "G"], "q\n", "", Status::Done, "q # none\n", ""),
+    // no grammar
+    (
+        &["inside", "G"],
+        "q\nq -> S(a # 1\n",
+        "",
+        Status::BadInput {
+            file: 1,
+            fault: FileFault {
+                line: 2,
+                kind: FaultKind::BadRule,
+            },
+        },
+        "",
+        "tiburon: file 1: line 2: bad rule\n",
+    ),
+    // it takes one file
+    (
+        &["inside", "G", "G"],
+        UNUSED,
+        "",
+        Status::Usage,
+        "",
+        "tiburon: usage: tiburon [-m MODE] [-k N] [-w N] [--limit N] OPERATION FILE...\n",
+    ),
+    // a place has a state of its own, chains are followed, and rules are sorted
+    (
+        &["normal", "G"],
+        NESTED,
+        "",
+        Status::Done,
+        NESTED_NORMAL,
+        "",
+    ),
+    // its normal form has 17 parts
+    (
+        &["normal", "--limit", "17", "G"],
+        NESTED,
+        "",
+        Status::Done,
+        NESTED_NORMAL,
+        "",
+    ),
+    (
+        &["normal", "--limit=16", "G"],
+        NESTED,
+        "",
+        Status::TooMany { limit: 16 },
+        "",
+        "tiburon: more than 16 parts\n",
+    ),
+    // the same in bottleneck, where a chain costs its greatest weight
+    (
+        &["-mbottleneck", "normal", "G"],
+        NESTED,
+        "",
+        Status::Done,
+        "q0\nq0 -> b # 2\nq0 -> f(q1 q0) # 3\nq1 -> g(q2) # 0\nq2 -> a # 0\n",
+        "",
+    ),
+    // the same in Boolean, where no cost is printed
+    (
+        &["-mboolean", "normal", "G"],
+        NESTED,
+        "",
+        Status::Done,
+        "q0\nq0 -> b\nq0 -> f(q1 q0)\nq1 -> g(q2)\nq2 -> a\n",
+        "",
+    ),
+    // labels that are names of states
+    (
+        &["normal", "G"],
+        "q\nq -> f(\"q\" \"q0\")\n",
+        "",
+        Status::Done,
+        "q0\nq0 -> f(q1 q2) # 0\nq1 -> q # 0\nq2 -> \"q0\" # 0\n",
+        "",
+    ),
+    (
+        &["normal", "G"],
+        "q\nq -> f(q q0)\n",
+        "",
+        Status::Done,
+        "q0\n",
+        "",
+    ),
+    // a file without tokens
+    (
+        &["normal", "G"],
+        "",
+        "",
+        Status::BadInput {
+            file: 1,
+            fault: FileFault {
+                line: 1,
+                kind: FaultKind::NoStart,
+            },
+        },
+        "",
+        "tiburon: file 1: line 1: no start\n",
+    ),
+    // a bracket and a quote that are not closed
+    (
+        &["normal", "G"],
+        "q\nq -> S(q",
+        "",
+        Status::BadInput {
+            file: 1,
+            fault: FileFault {
+                line: 2,
+                kind: FaultKind::BadRule,
+            },
+        },
+        "",
+        "tiburon: file 1: line 2: bad rule\n",
+    ),
+    (
+        &["normal", "G"],
+        "q\nq -> \"a",
+        "",
+        Status::BadInput {
+            file: 1,
+            fault: FileFault {
+                line: 2,
+                kind: FaultKind::BadToken,
+            },
+        },
+        "",
+        "tiburon: file 1: line 2: bad token\n",
+    ),
+    // equal rules keep the least cost; a state that no run uses, and a rule that costs too much, are left out
+    (
+        &["normal", "G"],
+        "q\nq -> a # 5\nq -> a # 2\nq -> f(r) # 1000000000000000\nr -> b # 1\nu -> f(u)\n",
+        "",
+        Status::Done,
+        "q0\nq0 -> a # 2\n",
+        "",
+    ),
+    // rules of one state stand by the bytes of their lines
+    (
+        &["normal", "G"],
+        "q\nq -> a(q)\nq -> a # 10\nq -> B\n",
+        "",
+        Status::Done,
+        "q0\nq0 -> B # 0\nq0 -> a # 10\nq0 -> a(q0) # 0\n",
+        "",
+    ),
+    // a cycle of chains of cost 0
+    (
+        &["normal", "G"],
+        "q\nq -> r # 0\nr -> q # 0\nr -> a # 4\n",
+        "",
+        Status::Done,
+        "q0\nq0 -> a # 4\n",
+        "",
+    ),
+    // a grammar with no run keeps its start
+    (
+        &["normal", "G"],
+        "q\nq -> f(q)\n",
+        "",
+        Status::Done,
+        "q0\n",
+        "",
+    ),
+    // it takes one file
+    (
+        &["normal"],
+        NESTED,
+        "",
         Status::Usage,
         "",
         "tiburon: usage: tiburon [-m MODE] [-k N] [-w N] [--limit N] OPERATION FILE...\n",

@@ -1,7 +1,18 @@
-use Rattle.std.proofs.Common.{subst, sym}
-use Rattle.tib_run.specs.Answers.{StandsStill}
+use Rattle.std.proofs.Common.{Option, subst, sym}
+use Rattle.tib_command.specs.Jobs.{Asked}
+use Rattle.tib_run.specs.Run.{IsRunOf, files_seen, sink_seen}
+use Rattle.tib_run.proofs.Runs.{no_command, no_memory}
 use Rattle.tib_run.proofs.command.perform.Goals as goal
 
-pub returns-in-Ok-clause-still : goal.returns-in-Ok-clause-still
-returns-in-Ok-clause-still g c =
-    subst (λ job. StandsStill job (g.F.Files.held c.args.files.now) (g.O.Sink.free c.args.out.now) (g.O.Sink.faults c.args.out.now) (g.O.Sink.faults c.perform_job.new.out)) (sym c.in-Ok.ensures.ok) c.perform_job.ensures.still
+pub returns-in-Ok : goal.returns-in-Ok
+returns-in-Ok g c =
+    subst (λ (job : Option Asked).
+    IsRunOf job (files_seen g.F.Files.held g.F.Files.sure g.F.Files.faults c.args.files.now) (files_seen g.F.Files.held g.F.Files.sure g.F.Files.faults c.perform_job.new.files)
+    (sink_seen g.O.Sink.written g.O.Sink.free g.O.Sink.faults g.O.Sink.finished c.args.out.now) (sink_seen g.O.Sink.written g.O.Sink.free g.O.Sink.faults g.O.Sink.finished c.perform_job.new.out) c.perform_job.result)
+    (sym c.in-Ok.ensures.ok) c.perform_job.ensures
+
+pub returns-in-Err-Usage : goal.returns-in-Err-Usage
+returns-in-Err-Usage g c = no_command _ _ _ (c.in-Err-Usage.ensures.err c.in-Err-Usage.field-0-is)
+
+pub returns-in-Err-OutOfMemory : goal.returns-in-Err-OutOfMemory
+returns-in-Err-OutOfMemory g c = no_memory _ _ _

@@ -1,17 +1,12 @@
 use Rattle.std.proofs.Common.{ℕ, List, subst}
 use Rattle.std.specs.Prelude.{Option, Some}
 use Rattle.tib_command.specs.Jobs.{meaning, Asked}
-use Rattle.tib_grammar_file.proofs.Plain.{stays}
 use Rattle.tib_run.specs.Kinds.{file_at, of_grammar, OfFile, Told, IsRead}
-use Rattle.tib_run.proofs.Pairs.{labelled_grown}
 use Rattle.tib_run.proofs.Reached.{told_some, intersection_cause, intersection_earlier, before_first, before_more, first_of_intersect, second_of_intersect, all_of_intersect, grammar_is, answer_intersect}
 use Rattle.tib_run.proofs.intersect.intersect_files.Goals as goal
 
-pub intersection_of-requires-clause-labelled : goal.intersection_of-requires-clause-labelled
-intersection_of-requires-clause-labelled g c = labelled_grown c.grammar_in.new.labels c.grammar_in-2.new.labels c.in-Ok.first.rules c.in-Ok-grammar_in.ensures.grows c.in-Ok.ensures.labelled
-
 pub intersection_of-requires-clause-first : goal.intersection_of-requires-clause-first
-intersection_of-requires-clause-first g c = stays g.S.Semiring.SCALE c.grammar_in.new.labels c.grammar_in-2.new.labels c.in-Ok.first.rules c.in-Ok.ensures.printable c.in-Ok-grammar_in.ensures.grows
+intersection_of-requires-clause-first g c = c.printable_stays.ensures g.S.Semiring.SCALE c.grammar_in.new.labels c.grammar_in-2.new.labels c.in-Ok.first.rules c.in-Ok.ensures.printable c.in-Ok-grammar_in.ensures.grows
 
 pub returns-in-Err-intersection_of-clause-cause : goal.returns-in-Err-intersection_of-clause-cause
 returns-in-Err-intersection_of-clause-cause g c =

@@ -1,6 +1,4 @@
 use Rattle.std.proofs.Common.{refl, inr}
-use Rattle.tib_canon.proofs.SameRules.{same_rules}
-use Rattle.tib_intersect.proofs.OrderFree.{order_is_free}
 use Rattle.tib_hunt.specs.Reached.{IsBeyond}
 use Rattle.tib_intersect.specs.Intersection.{intersection}
 use Rattle.tib_run.proofs.Pairs.{product_of_forms, more_pairs, told_much}
@@ -24,6 +22,6 @@ returns-in-Err-TooMany-clause-err g c =
     c.in-Err-TooMany.ensures.err
     in (
       refl,
-      inr (inr (more_pairs g.S.Semiring.product c.args.limit c.args.first.now c.args.second.now c.in-Ok.one c.in-Ok-trimmed_form.two (order_is_free g.S.Semiring.product)
-          (λ h m n. same_rules g.S.Semiring.product h m n) c.in-Ok.ensures.form c.in-Ok-trimmed_form.ensures.form beyond)),
+      inr (inr (more_pairs g.S.Semiring.product c.args.limit c.args.first.now c.args.second.now c.in-Ok.one c.in-Ok-trimmed_form.two c.order_is_free.ensures
+          (λ h m n. c.trimmed_forms_have_the_same_rules.ensures g.S.Semiring.product h m n) c.in-Ok.ensures.form c.in-Ok-trimmed_form.ensures.form beyond)),
     )

@@ -1,21 +1,19 @@
 use Rattle.std.proofs.Common.{ℕ, List, length, subst, sym, ap, arith}
 use Rattle.tib_grammar_file.specs.GrammarText.{GrammarText}
 use Rattle.tib_canon.specs.Canonical.{IsCanonical}
-use Rattle.tib_canon.proofs.CanonicalTexts.{normal_text}
 use Rattle.tib_grammar.specs.GrammarOf.{GrammarOf}
 use Rattle.tib_grammar_file.specs.Printed.{AreLabelled}
-use Rattle.tib_run.proofs.Labelled.{form_labelled}
 use Rattle.tib_run.proofs.normal.canonical_normal.Goals as goal
 
 pub canonical-requires : goal.canonical-requires
 canonical-requires g c =
     subst (λ (n : GrammarOf). AreLabelled (length c.args.labels.now) n.rules) (sym c.into_grammar-form.ensures.same)
-    (form_labelled g.S.Semiring.product (length c.args.grammar.now.names) c.args.grammar.now.rules (length c.in-Ok.normal.names) c.in-Ok.normal.rules (length c.args.labels.now) c.in-Ok.ensures.form c.is_sound.ensures.lone
-    c.requires.labelled)
+    (c.printable_is_labelled.ensures g.S.Semiring.SCALE c.args.labels.now c.in-Ok.normal.rules
+    (c.normal_forms_are_printable.ensures g.S.Semiring.SCALE c.args.labels.now c.args.grammar.now c.in-Ok.normal c.in-Ok.ensures.form c.requires.printable))
 
 pub returns-in-Ok-canonical-clause-read : goal.returns-in-Ok-canonical-clause-read
 returns-in-Ok-canonical-clause-read g c =
     subst (λ (text : List ℕ). GrammarText g.S.Semiring.SCALE c.args.labels.now text c.in-Ok-canonical.canonical.grammar) (sym c.in-Ok-canonical.ensures.text)
-    (normal_text g.met.S.Semiring.laws g.S.Semiring.SCALE c.args.labels.now c.args.grammar.now c.in-Ok.normal c.in-Ok-canonical.canonical.grammar c.is_sound.ensures.start (omega (arith, c.is_sound-2.ensures.few_names, ap (λ (n : GrammarOf). length n.names) c.into_grammar-form.ensures.same)) c.is_sound.ensures.range
-    c.is_sound.ensures.leaves c.requires.printable c.in-Ok.ensures.form
+    (c.normal_texts_are_read.ensures g.S.Semiring.SCALE c.args.labels.now c.args.grammar.now c.in-Ok.normal c.in-Ok-canonical.canonical.grammar c.is_sound.ensures.start
+    (omega (arith, c.is_sound-2.ensures.few_names, ap (λ (n : GrammarOf). length n.names) c.into_grammar-form.ensures.same)) c.is_sound.ensures.range c.is_sound.ensures.leaves c.requires.printable c.in-Ok.ensures.form
     (subst (λ (n : GrammarOf). IsCanonical g.S.Semiring.product g.S.Semiring.SCALE c.args.labels.now n c.in-Ok-canonical.canonical.grammar) c.into_grammar-form.ensures.same c.in-Ok-canonical.ensures.canonical))
