@@ -5,7 +5,8 @@ use Rattle.std.proofs.Common.{sym, ◌∙◌}
 use Rattle.tib_lex.specs.declared.fault.FileFault.{FileFault}
 use Rattle.tib_tree.specs.Written.{Item}
 use Rattle.tib_tree.specs.File.{trees_of}
-use Rattle.tib_tree.proofs.TreesText.{texts_exact}
+use Rattle.tib_tree.proofs.TreesText.{texts_exact, faults_exact}
+use Rattle.tib_grammar_file.proofs.FirstFaults.{fault_once}
 use Rattle.tib_grammar_file.proofs.TextRead.{no_text}
 use Rattle.tib_run.specs.Kinds.{Kind, of_grammar, of_trees, bytes_at, OfName, Told, IsOfKind, HasFault}
 
@@ -33,9 +34,9 @@ pub faulty_kind : (scale : Scale) (kind : Kind) (bytes : List ℕ) (fault : File
 faulty_kind scale of_grammar bytes fault h is = no_text scale bytes fault h is.0 is.1 is.2.1
 faulty_kind scale of_trees bytes fault h is =
     let read = (texts_exact is.0 bytes is.1).1 (is.2.1, is.2.2) in
-    ok_or_err (trees_of bytes) read.0 fault read.1 h
+    ok_or_err (trees_of bytes) read.0 fault read.1 ((faults_exact bytes fault).1 h)
 
 -- and no two faults
 pub one_fault : (scale : Scale) (kind : Kind) (bytes : List ℕ) (a b : FileFault) → HasFault scale (Some kind) bytes a → HasFault scale (Some kind) bytes b → a ≡ b
-one_fault scale of_grammar bytes a b e f = err_same _ a b e f
-one_fault scale of_trees bytes a b e f = err_same (trees_of bytes) a b e f
+one_fault scale of_grammar bytes a b e f = fault_once scale bytes a b e f
+one_fault scale of_trees bytes a b e f = err_same (trees_of bytes) a b ((faults_exact bytes a).1 e) ((faults_exact bytes b).1 f)

@@ -5,11 +5,10 @@ use Rattle.std.proofs.Common.{zero, suc}
 use Rattle.tib_lex.specs.Lists.{Each}
 use Rattle.tib_lex.specs.declared.fault.FileFault.{FileFault}
 use Rattle.tib_tree.specs.Trees.{Tree}
-use Rattle.tib_tree.specs.File.{trees_of}
-use Rattle.tib_tree.specs.TreesText.{TreesText, IsSmall}
+use Rattle.tib_tree.specs.TreesText.{TreesText, IsSmall, IsFirstFault as IsFirstTreeFault}
 use Rattle.tib_grammar.specs.GrammarOf.{GrammarOf}
 use Rattle.tib_grammar_file.specs.Read.{ReadsAs}
-use Rattle.tib_grammar_file.specs.Reading.{grammar_of}
+use Rattle.tib_grammar_file.specs.Faults.{IsFirstFault}
 use Rattle.tib_command.specs.Jobs.{Asked}
 use Rattle.tib_command.specs.declared.job.Operation.{Operation}
 use Rattle.tib_command.specs.declared.job.Operation.TheVariants as operations
@@ -82,5 +81,5 @@ IsOfKind scale of_trees bytes = IsTreeFile bytes
 -- the first fault of the bytes as the text of a value of the kind
 abbrev pub HasFault : Scale → Option Kind → List ℕ → FileFault → Type 0
 HasFault scale None bytes fault = ⊥
-HasFault scale (Some of_grammar) bytes fault = grammar_of scale bytes ≡ Err fault
-HasFault scale (Some of_trees) bytes fault = trees_of bytes ≡ Err fault
+HasFault scale (Some of_grammar) bytes fault = IsFirstFault scale bytes fault
+HasFault scale (Some of_trees) bytes fault = IsFirstTreeFault bytes fault
