@@ -250,7 +250,7 @@ fn three_pairs_are_reached_by_four_rules(rt: HostRuntime) -> Result<(), Fail> {
 
 // The grammar of one tree: so many labels 7, each below the one before, and a label 8 below the last.
 fn chain(alloc: Global, length: u32) -> Result<Normal<MinPlus>, Fail>
-    requires { length < 1000000 }
+    requires { length ≤ 1000000 }
 {
     let mut texts = Vec::new(alloc);
     let mut rules = Vec::new(alloc);
