@@ -1,5 +1,5 @@
 -- The promise of a run, for each way in which it ends.
-use Rattle.std.specs.Prelude.{◌≡◌, ℕ, ◌<◌, ◌≤◌, true, List, length, Option, Some, None, Result, Ok, Err, refl}
+use Rattle.std.specs.Prelude.{◌≡◌, ℕ, ◌<◌, ◌≤◌, true, false, List, length, Option, Some, None, Result, Ok, Err, refl}
 use Rattle.std.proofs.Common.{arith, subst}
 use Rattle.tib_io.specs.Causes.{GoesOn, Rose, last_count}
 use Rattle.tib_io.specs.Pieces.{front_whole}
@@ -45,7 +45,9 @@ ended job before after out s early cause earlier held sure counts =
       earlier = earlier;
       text = λ e. absurd (not_done s early e);
       finished = λ e. absurd (not_done s early e);
+      steady = λ e. absurd (not_done s early e);
       front = λ e. absurd (not_fault s early e);
+      unfinished = λ e. absurd (not_fault s early e);
       untouched = as_it_was s out;
       later = omega arith;
       still = stays job before.held out.free out.faults;
@@ -69,7 +71,9 @@ no_command job files out none = record {
   earlier = tt;
   text = λ e. absurd (cc);
   finished = λ e. absurd (cc);
+  steady = λ e. absurd (cc);
   front = λ e. absurd (cc);
+  unfinished = λ e. absurd (cc);
   untouched = refl;
   later = omega arith;
   still = stays job files.held out.free out.faults;
@@ -88,13 +92,15 @@ stands asked held (Some n) a b text answers calm = λ below room. calm (room tex
 module _
     (asked : Asked) (before after : FilesSeen) (old new : SinkSeen) (text : List ℕ) (answers : IsAnswer asked before.held text) (later : old.faults ≤ new.faults)
     (calm : Calm old.free (length text) old.faults new.faults) (held : after.held ≡ before.held) (sure : after.sure ≡ before.sure) (counts : GoesOn before.sure before.faults after.faults) where
-  pub answered : Takes old.written new.written old.free new.free text → new.finished ≡ true → IsRunOf (Some asked) before after old new statuses.Done
-  answered taken finished = record {
+  pub answered : Takes old.written new.written old.free new.free text → new.finished ≡ true → new.faults ≡ old.faults → IsRunOf (Some asked) before after old new statuses.Done
+  answered taken finished steady = record {
     cause = refl;
     earlier = tt;
     text = λ e. record { text = text; answers = answers; taken = taken };
     finished = λ e. finished;
+    steady = λ e. steady;
     front = λ e. absurd (cc);
+    unfinished = λ e. absurd (cc);
     untouched = tt;
     later = later;
     still = stands asked before.held old.free old.faults new.faults text answers calm;
@@ -104,13 +110,15 @@ module _
     complete = complete (Some asked) before.held before.faults after.faults old.faults new.faults statuses.Done refl;
   }
 
-  pub cut_short : TakesFront old.written new.written old.free new.free text → Rose old.faults new.faults → IsRunOf (Some asked) before after old new statuses.WriteFault
-  cut_short front rose = record {
+  pub cut_short : TakesFront old.written new.written old.free new.free text → Rose old.faults new.faults → new.finished ≡ false → IsRunOf (Some asked) before after old new statuses.WriteFault
+  cut_short front rose unfinished = record {
     cause = (refl, rose);
     earlier = tt;
     text = λ e. absurd (cc);
     finished = λ e. absurd (cc);
+    steady = λ e. absurd (cc);
     front = λ e. record { text = text; answers = answers; front = front };
+    unfinished = λ e. unfinished;
     untouched = tt;
     later = later;
     still = stands asked before.held old.free old.faults new.faults text answers calm;

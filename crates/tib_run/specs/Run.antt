@@ -1,5 +1,5 @@
 -- What a run promises of its files, its output and its log.
-use Rattle.std.specs.Prelude.{◌≡◌, ℕ, ◌<◌, ◌≤◌, Bool, true, List, length, Option, Some, None}
+use Rattle.std.specs.Prelude.{◌≡◌, ℕ, ◌<◌, ◌≤◌, Bool, true, false, List, length, Option, Some, None}
 use Rattle.tib_io.specs.Causes.{GoesOn, last_count}
 use Rattle.tib_io.specs.Writes.{Takes, TakesFront, Calm}
 use Rattle.tib_command.specs.Jobs.{Asked}
@@ -67,8 +67,12 @@ pub record IsRunOf (job : Option Asked) (before after : FilesSeen) (old new : Si
   pub text : status ≡ statuses.Done → TakesAnswer job before.held old new
   -- and is finished
   pub finished : status ≡ statuses.Done → new.finished ≡ true
+  -- and did not fail
+  pub steady : status ≡ statuses.Done → new.faults ≡ old.faults
   -- where it is WriteFault, the output took a front of an answer
   pub front : status ≡ statuses.WriteFault → TakesFrontOfAnswer job before.held old new
+  -- and is not finished
+  pub unfinished : status ≡ statuses.WriteFault → new.finished ≡ false
   -- else nothing of the output changed
   pub untouched : IsUntouched status old new
   -- the output's count of faults does not fall

@@ -153,6 +153,9 @@ fn runs_throughout<R: Threads + Sync>(
     Ok(true)
 }
 
+// More calls than a row makes where seven bytes go over at a time.
+const CALLS: u64 = 60;
+
 #[test]
 fn the_worked_rows_run(rt: HostRuntime) -> Result<(), Fail> {
     for (number, row) in ROWS.iter().enumerate() {

@@ -11,10 +11,10 @@ pub returns-in-Ok-write_and_finish : goal.returns-in-Ok-write_and_finish
 returns-in-Ok-write_and_finish g c =
     let answers = subst (λ (text : List ℕ). IsAnswer (meaning c.args.job.now) (g.F.Files.held c.args.files.now) text) (sym c.bytes.ensures) c.in-Ok.ensures.text in
     answered (meaning c.args.job.now) _ _ _ _ c.bytes.result.now answers c.in-Ok-write_and_finish.ensures.later c.in-Ok-write_and_finish.ensures.calm c.in-Ok.ensures.held c.in-Ok.ensures.sure c.in-Ok.ensures.counts
-    c.in-Ok-write_and_finish.ensures.ok c.in-Ok-write_and_finish.ensures.finished
+    c.in-Ok-write_and_finish.ensures.ok c.in-Ok-write_and_finish.ensures.finished c.in-Ok-write_and_finish.ensures.steady
 
 pub returns : goal.returns
 returns g c =
     let answers = subst (λ (text : List ℕ). IsAnswer (meaning c.args.job.now) (g.F.Files.held c.args.files.now) text) (sym c.bytes.ensures) c.in-Ok.ensures.text in
     cut_short (meaning c.args.job.now) _ _ _ _ c.bytes.result.now answers c.in-Err-write_and_finish.ensures.later c.in-Err-write_and_finish.ensures.calm c.in-Ok.ensures.held c.in-Ok.ensures.sure c.in-Ok.ensures.counts
-    c.in-Err-write_and_finish.ensures.err c.in-Err-write_and_finish.ensures.cause
+    c.in-Err-write_and_finish.ensures.err c.in-Err-write_and_finish.ensures.cause c.in-Err-write_and_finish.ensures.broken
