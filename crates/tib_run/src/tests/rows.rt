@@ -32,7 +32,7 @@ const NESTED: &str = "q\nq -> f(g(a) q) # 3\nq -> r # 1\nr -> b # 2\n";
 const NESTED_NORMAL: &str = "q0\nq0 -> b # 3\nq0 -> f(q1 q0) # 3\nq1 -> g(q2) # 0\nq2 -> a # 0\n";
 
 // The worked rows.
-pub static ROWS: [Row; 69] = [
+pub static ROWS: [Row; 77] = [
     // the cost of a tree
     (
         &["weigh", "G", "T"],
@@ -67,6 +67,84 @@ pub static ROWS: [Row; 69] = [
         "S(a a)\nS(b a)\n",
         Status::Done,
         "S(a a)\nS(b a) # none\n",
+        "",
+    ),
+    // in widest the least weight of a run counts
+    (
+        &["-m", "widest", "weigh", "G", "T"],
+        BINARY,
+        "S(a a)\na\nb\n",
+        Status::Done,
+        "S(a a) # 1\na # 2\nb # none\n",
+        "",
+    ),
+    // the least weight is no missing one, and a missing one is the greatest
+    (
+        &["-mwidest", "weigh", "G", "T"],
+        "q\nq -> a # 0\nq -> c\n",
+        "a\nb\nc\n",
+        Status::Done,
+        "a # 0\nb # none\nc # 1000000000000000\n",
+        "",
+    ),
+    // the greatest weight
+    (
+        &["-m", "widest", "weigh", "G", "T"],
+        "q\nq -> a # 1000000000000000\n",
+        "a\n",
+        Status::Done,
+        "a # 1000000000000000\n",
+        "",
+    ),
+    // a weight above it
+    (
+        &["-m", "widest", "weigh", "G", "T"],
+        "q\nq -> a # 1000000000000001\n",
+        "a\n",
+        Status::BadInput {
+            file: 1,
+            fault: FileFault {
+                line: 2,
+                kind: FaultKind::WeightTooLarge,
+            },
+        },
+        "",
+        "tiburon: file 1: line 2: weight too large\n",
+    ),
+    // the greatest weight of a run from each state
+    (
+        &["-m", "widest", "inside", "G"],
+        UNUSED,
+        "",
+        Status::Done,
+        "q # 0\nr # 1\ns # 4\nu # none\n",
+        "",
+    ),
+    // of equal rules the one of the greatest weight stays
+    (
+        &["normal", "-m", "widest", "G"],
+        "q\nq -> a # 3\nq -> a # 7\nq -> b\n",
+        "",
+        Status::Done,
+        "q0\nq0 -> a # 7\nq0 -> b # 1000000000000000\n",
+        "",
+    ),
+    // a chain has its least weight, and a place of the normal form the greatest
+    (
+        &["-mwidest", "normal", "G"],
+        NESTED,
+        "",
+        Status::Done,
+        "q0\nq0 -> b # 1\nq0 -> f(q1 q0) # 3\nq1 -> g(q2) # 1000000000000000\nq2 -> a # 1000000000000000\n",
+        "",
+    ),
+    // of two weights the lesser counts
+    (
+        &["-m", "widest", "intersect", "G", "T"],
+        BINARY,
+        RIGHT,
+        Status::Done,
+        "q0\nq0 -> S(q0 q1) # 1\nq0 -> a # 1\nq1 -> a # 0\n",
         "",
     ),
     // a file without tokens is no grammar
