@@ -47,4 +47,3 @@ front_first w y f h xs ys p =
     let le : n ≤ length xs = p.within in
     let e : length (xs ++ ys) ≡ length xs + length ys = length-append xs ys in
     record { count = n; within = omega arith; front = rw (take-append-le n xs ys le) p.front }
-
