@@ -83,7 +83,7 @@ pub record AreReady (scale : Scale) (labels : List (List ℕ)) (count : ℕ) (ru
 pub are_ready :
     (scale : Scale) (labels : List (List ℕ)) (count : ℕ) (rules : List (Rule ℕ)) (names : List (List ℕ)) (positions : List ℕ) (lines : List Line) (first second third : List (Rule ℕ)) (p q text ends : List ℕ) →
     first ≡ rules → second ≡ rules → third ≡ rules → p ≡ positions → q ≡ positions → names ≡ names_of count → AreCheapest first positions → AreTexts scale names labels (map (rule_at second) p) text ends →
-    ((w : Bool) (ns ls : List (List ℕ)) → AreTexts w ns ls (map (rule_at third) q) text ends → Each (IsLineAt w ns ls third) lines) → map (λ (l : Line). l.position) lines ≡ q →
+    ((w : Scale) (ns ls : List (List ℕ)) → AreTexts w ns ls (map (rule_at third) q) text ends → Each (IsLineAt w ns ls third) lines) → map (λ (l : Line). l.position) lines ≡ q →
     AreReady scale labels count rules names positions lines
 are_ready scale labels count rules names positions lines first second third p q text ends a b c d e named cheap texts each placed = record {
   named = named;
