@@ -8,7 +8,9 @@ use Rattle.tib_tree.specs.File.{trees_of}
 use Rattle.tib_tree.proofs.TreesText.{texts_exact, faults_exact}
 use Rattle.tib_grammar_file.proofs.FirstFaults.{fault_once}
 use Rattle.tib_grammar_file.proofs.TextRead.{no_text}
-use Rattle.tib_run.specs.Kinds.{Kind, of_grammar, of_trees, bytes_at, OfName, Told, IsOfKind, HasFault}
+use Rattle.tib_grammar_file.specs.FaultLaws.{TextsHaveNone}
+use Rattle.tib_tree.specs.Laws.{FaultsAlone}
+use Rattle.tib_run.specs.Kinds.{Kind, of_grammar, of_trees, bytes_at, OfName, Told, IsOfKind, HasFault, KindsHaveNoFault}
 
 -- what holds of the bytes of a file where they are told, and that they are told
 pub told_both : (held : List ℕ → Option (List ℕ)) (o : Option (List ℕ)) (P Q : List ℕ → Type 0) → OfName o (Told held P) → OfName (bytes_at held o) Q → (x : List ℕ) × P x × Q x
@@ -30,7 +32,12 @@ err_same {T} r a b e f =
     cc same
 
 -- bytes of a kind have no fault as such
-pub faulty_kind : (scale : Scale) (kind : Kind) (bytes : List ℕ) (fault : FileFault) → HasFault scale (Some kind) bytes fault → IsOfKind scale kind bytes → ⊥
+pub no_fault : TextsHaveNone → FaultsAlone → KindsHaveNoFault
+no_fault grammars trees scale of_grammar bytes fault h is = grammars scale bytes fault h is.0 is.1 is.2.1
+no_fault grammars trees scale of_trees bytes fault h is = trees is.0 bytes is.1 fault is.2.1 is.2.2 h
+
+-- the same by the lemmas, for the laws
+pub faulty_kind : KindsHaveNoFault
 faulty_kind scale of_grammar bytes fault h is = no_text scale bytes fault h is.0 is.1 is.2.1
 faulty_kind scale of_trees bytes fault h is =
     let read = (texts_exact is.0 bytes is.1).1 (is.2.1, is.2.2) in

@@ -14,3 +14,4 @@ pub mod Faults
 pub mod OneStatus
 pub mod FilesAsked
 pub mod AnswersExist
+mod RunsAlike

@@ -1,5 +1,6 @@
 -- From the pairs of two grammars to the canonical intersection of two files.
 use Rattle.tib_cost.specs.declared.Scale.{Scale}
+use Rattle.tib_cost.specs.declared.Scale.TheVariants as scales
 use Rattle.std.specs.Prelude.{◌≡◌, ◌↔◌, ℕ, ◌+◌, ◌<◌, ◌≤◌, ◌⊎◌, Bool, true, false, List, [], ◌∷◌, length, map, Option, Some, slice_get, refl}
 use Rattle.std.proofs.Common.{zero, suc, arith, ap, sym, ◌∙◌, subst, inl, inr, get_or}
 use Rattle.std.proofs.lemmas.List.{length-map, get_or-map}
@@ -53,8 +54,9 @@ along_at R (x ∷ xs) (y ∷ ys) zero d a h = (x, a.0)
 along_at R (x ∷ xs) (y ∷ ys) (suc n) d a h = along_at R xs ys n d a.1 (omega arith)
 
 plain_product : (scale : Scale) (product : ℕ → ℕ → ℕ) (a b c : ℕ) → product 0 0 ≡ 0 → IsPlainCost scale a → IsPlainCost scale b → c ≡ product a b → c ≤ most → IsPlainCost scale c
-plain_product true product a b c zeros x y e low = low
-plain_product false product a b c zeros x y e low = e ∙ ap (λ z. product z b) x ∙ ap (product 0) y ∙ zeros
+plain_product scales.Plain product a b c zeros x y e low = low
+plain_product scales.Reversed product a b c zeros x y e low = low
+plain_product scales.Unweighted product a b c zeros x y e low = e ∙ ap (λ z. product z b) x ∙ ap (product 0) y ∙ zeros
 
 pub pairs_printable :
     (product : ℕ → ℕ → ℕ) → product 0 0 ≡ 0 → (scale : Scale) (labels : List (List ℕ)) (one two rules : List (Rule ℕ)) (order : List (ℕ × ℕ)) → ArePrintable scale labels one →

@@ -22,7 +22,7 @@ use Rattle.tib_command.specs.declared.job.Operation.TheVariants as operations
 use Rattle.tib_run.specs.declared.status.Status.{Status}
 use Rattle.tib_run.specs.declared.status.Status.TheVariants as statuses
 use Rattle.tib_run.specs.Kinds.{Kind, kind_at, file_at, bytes_at, OfName, IsShort, IsRead, ListsTrees, IsOfKind}
-use Rattle.tib_run.specs.Causes.{scale_of, product_of, HasCause, HasEarlier}
+use Rattle.tib_run.specs.Causes.{scale_of, product_of, HasCause, HasEarlier, IsTooMuch}
 use Rattle.tib_run.specs.Intersections.{HasIntersection, HasSmallIntersection}
 use Rattle.tib_run.specs.Text.{weighed_lines, inside_lines}
 
@@ -89,28 +89,6 @@ IsAnswer asked held text =
 abbrev pub AreTold : Asked → (List ℕ → Option (List ℕ)) → Type 0
 AreTold asked held = (n : ℕ) (kind : Kind) → kind_at (Some asked) n ≡ Some kind → IsSome (bytes_at held (file_at (Some asked) n))
 
--- such a text was written
-pub record HasWritten (IsText : List ℕ → Type 0) (old new : Option (List ℕ)) : Type 0 where
-  pub text : List ℕ
-  pub written : Appends old new text
-  pub answers : IsText text
-
--- a front of such a text was written
-pub record HasFront (IsText : List ℕ → Type 0) (old new : Option (List ℕ)) : Type 0 where
-  pub text : List ℕ
-  pub front : AppendsFront old new text
-  pub answers : IsText text
-
--- the answer of the job was written, whole
-abbrev pub HasAnswer : Option Asked → (List ℕ → Option (List ℕ)) → Option (List ℕ) → Option (List ℕ) → Type 0
-HasAnswer None held old new = ⊥
-HasAnswer (Some asked) held old new = HasWritten (IsAnswer asked held) old new
-
--- a front of the answer was written
-abbrev pub HasFrontOfAnswer : Option Asked → (List ℕ → Option (List ℕ)) → Option (List ℕ) → Option (List ℕ) → Type 0
-HasFrontOfAnswer None held old new = ⊥
-HasFrontOfAnswer (Some asked) held old new = HasFront (IsAnswer asked held) old new
-
 -- the grammar of the bytes, over whatever table that has each label once, has a normal form within the limit
 abbrev pub HasSmallForm : Scale → (ℕ → ℕ → ℕ) → ℕ → List ℕ → Type 0
 HasSmallForm scale product limit bytes =
@@ -128,6 +106,10 @@ StaysWithin operations.Intersect scale product limit first second = OfName first
 abbrev pub IsWithin : Asked → (List ℕ → Option (List ℕ)) → Type 0
 IsWithin asked held =
     StaysWithin asked.task.operation (scale_of asked.mode) (product_of asked.mode) asked.limit (bytes_at held (file_at (Some asked) 1)) (bytes_at held (file_at (Some asked) 2))
+
+-- what is within the limit is not too much
+abbrev pub WithinIsNotTooMuch : Type 0
+WithinIsNotTooMuch = (asked : Asked) (held : List ℕ → Option (List ℕ)) → IsWithin asked held → IsTooMuch asked held → ⊥
 
 -- each file of the job is told, and is of its kind, and so not too long
 abbrev pub AreOfTheirKinds : Asked → (List ℕ → Option (List ℕ)) → Type 0

@@ -91,12 +91,6 @@ HasEarlier job held (statuses.TooLong file) = AreBefore job held file
 HasEarlier job held (statuses.TooMany limit) = AreBefore job held (file_count job + 1)
 HasEarlier job held status = Unit {0}
 
--- after every status but Done and WriteFault nothing was written
-abbrev pub LeavesAlone : Status → Option (List ℕ) → Option (List ℕ) → Type 0
-LeavesAlone statuses.Done old new = Unit {0}
-LeavesAlone statuses.WriteFault old new = Unit {0}
-LeavesAlone result old new = new ≡ old
-
 -- an answer about one file, or want of memory
 abbrev pub IsAbout : ℕ → Status → Type 0
 IsAbout file (statuses.BadInput n fault) = n ≡ file

@@ -83,3 +83,7 @@ abbrev pub HasFault : Scale → Option Kind → List ℕ → FileFault → Type 
 HasFault scale None bytes fault = ⊥
 HasFault scale (Some of_grammar) bytes fault = IsFirstFault scale bytes fault
 HasFault scale (Some of_trees) bytes fault = IsFirstTreeFault bytes fault
+
+-- bytes of a kind have no fault as such
+abbrev pub KindsHaveNoFault : Type 0
+KindsHaveNoFault = (scale : Scale) (kind : Kind) (bytes : List ℕ) (fault : FileFault) → HasFault scale (Some kind) bytes fault → IsOfKind scale kind bytes → ⊥

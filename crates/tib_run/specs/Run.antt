@@ -2,10 +2,10 @@
 use Rattle.std.specs.Prelude.{◌≡◌, ℕ, ◌<◌, ◌≤◌, Bool, true, false, List, length, Option, Some, None}
 use Rattle.tib_io.specs.Causes.{GoesOn, last_count}
 use Rattle.tib_io.specs.Writes.{Takes, TakesFront, Calm}
-use Rattle.tib_command.specs.Jobs.{Asked}
+use Rattle.tib_command.specs.Jobs.{Asked, job_of}
 use Rattle.tib_run.specs.declared.status.Status.{Status}
 use Rattle.tib_run.specs.declared.status.Status.TheVariants as statuses
-use Rattle.tib_run.specs.Answers.{IsAnswer, IsComplete, StandsStill}
+use Rattle.tib_run.specs.Answers.{IsAnswer, IsComplete, StandsStill, AreTold, IsCalm, AreOneStatus}
 use Rattle.tib_run.specs.Causes.{HasCause, HasEarlier}
 
 -- what is known of files: the bytes that are told, the names of which no read fails, and how often reads of a name failed
@@ -98,3 +98,10 @@ pub record IsLogged (line : List ℕ) (old new : SinkSeen) : Type 0 where
   pub later : old.faults ≤ new.faults
   -- and stands still where there is room for the line
   pub still : Calm old.free (length line) old.faults new.faults
+
+-- two runs on the same words, over files that tell the same bytes, in which no count rises, end with one status
+abbrev pub RunsEndAlike : Type 0
+RunsEndAlike =
+    (words : List (List ℕ)) (asked : Asked) (before after others later : FilesSeen) (old new first last : SinkSeen) (one other : Status) → job_of words ≡ Some asked → AreTold asked before.held →
+    others.held ≡ before.held → IsCalm asked before.faults after.faults old.faults new.faults → IsCalm asked others.faults later.faults first.faults last.faults →
+    IsRunOf (Some asked) before after old new one → IsRunOf (Some asked) others later first last other → AreOneStatus one other

@@ -8,6 +8,7 @@ ghost use Rattle.tib_run.specs.Run.{IsRunOf, files_seen, sink_seen};
 
 use crate::inside::inside_of_file;
 use crate::intersect::intersect_files;
+use crate::laws::{files_have_no_fault, within_or_too_many};
 use crate::normal::normal_of_file;
 use crate::status::Status;
 use crate::weigh::weigh_files;
@@ -63,6 +64,8 @@ pub(crate) fn answer_job<S: Semiring + Sync + Drop, R: Threads + Sync, F: Files,
         (files_seen F.held F.sure F.faults files.old) (files_seen F.held F.sure F.faults files.new)
         (sink_seen O.written O.free O.faults O.finished out.old) (sink_seen O.written O.free O.faults O.finished out.new) result }
 {
+    files_have_no_fault();
+    within_or_too_many();
     let text = match text_of::<S, R, F, G>(rt, alloc, job, files, gate) {
         Ok(text) => text,
         Err(status) => return status,

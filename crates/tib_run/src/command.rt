@@ -5,6 +5,7 @@ ghost use Rattle.tib_run.specs.Log.{line_of};
 ghost use Rattle.tib_run.specs.Run.{IsRunOf, IsLogged, files_seen, sink_seen};
 
 use crate::answer::answer_job;
+use crate::laws::{files_have_no_fault, within_or_too_many};
 use crate::log::tell;
 use crate::status::Status;
 use std::alloc::Global;
@@ -50,6 +51,8 @@ fn perform<R: Threads + Sync, F: Files, O: Sink, G: Gate>(
         (files_seen F.held F.sure F.faults files.old) (files_seen F.held F.sure F.faults files.new)
         (sink_seen O.written O.free O.faults O.finished out.old) (sink_seen O.written O.free O.faults O.finished out.new) result }
 {
+    files_have_no_fault();
+    within_or_too_many();
     match read_words(alloc, words) {
         Ok(job) => perform_job::<R, F, O, G>(rt, alloc, &job, files, out, gate),
         Err(CommandError::Usage) => Status::Usage,

@@ -4,9 +4,13 @@ ghost use Rattle.std.specs.Prelude.{◌≡◌, ℕ, Bool, List, Option, Some};
 ghost use Rattle.tib_command.specs.Jobs.{Asked, job_of};
 ghost use Rattle.tib_run.specs.Causes.{IsTooMuch};
 ghost use Rattle.tib_run.specs.Intersections.{HasIntersection};
-ghost use Rattle.tib_run.specs.Kinds.{IsGrammarFile, IsTreeFile};
+ghost use Rattle.tib_run.specs.Kinds.{IsGrammarFile, IsTreeFile, KindsHaveNoFault};
 ghost use Rattle.tib_run.specs.Answers.{IsWeighed, HasInsides, HasNormalText, HasSmallForm, IsAnswer, IsWithin, AreTold, AreOfTheirKinds, EndsCalmly, AreOneStatus};
+ghost use Rattle.tib_run.specs.Run.{RunsEndAlike};
 ghost use Rattle.tib_run.specs.declared.status.Status.{Status};
+
+use tib_grammar_file::faults_have_no_text;
+use tib_tree::texts_mean_one;
 
 /// Over told files the text of each operation is one, whatever the tables of labels and the normal forms by which it is told.
 pub fn texts_are_one()
@@ -28,6 +32,14 @@ pub fn answers_exclude_too_many()
     ensures apart { (asked : Asked) (held : List ℕ → Option (List ℕ)) (text : List ℕ) → AreTold asked held → IsAnswer asked held text → IsTooMuch asked held → ⊥ }
 {}
 
+/// A file of its kind has no fault.
+pub fn files_have_no_fault()
+    ensures { KindsHaveNoFault }
+{
+    faults_have_no_text();
+    texts_mean_one();
+}
+
 /// What a job makes of files of their kinds is within its limit or has more parts than it: not both, and it cannot be that
 /// neither holds.
 pub fn within_or_too_many()
@@ -45,4 +57,10 @@ pub fn answers_exist()
 /// A job whose files are told ends with one status in all runs in which no count rises and no memory is refused.
 pub fn statuses_are_one()
     ensures { (words : List (List ℕ)) (asked : Asked) (held : List ℕ → Option (List ℕ)) (one other : Status) → job_of words ≡ Some asked → AreTold asked held → EndsCalmly asked held one → EndsCalmly asked held other → AreOneStatus one other }
+{}
+
+/// The same of the promise of `run`: two runs of a job whose files are told, over files that tell the same bytes, in which no
+/// count rises, end with one status but for want of memory.
+pub fn runs_end_alike()
+    ensures { RunsEndAlike }
 {}

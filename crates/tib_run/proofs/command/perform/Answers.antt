@@ -12,7 +12,7 @@ returns-in-Ok g c =
     (sym c.in-Ok.ensures.ok) c.perform_job.ensures
 
 pub returns-in-Err-Usage : goal.returns-in-Err-Usage
-returns-in-Err-Usage g c = no_command _ _ _ (c.in-Err-Usage.ensures.err c.in-Err-Usage.field-0-is)
+returns-in-Err-Usage g c = no_command c.files_have_no_fault.ensures c.within_or_too_many.ensures.apart _ _ _ (c.in-Err-Usage.ensures.err c.in-Err-Usage.field-0-is)
 
 pub returns-in-Err-OutOfMemory : goal.returns-in-Err-OutOfMemory
-returns-in-Err-OutOfMemory g c = no_memory _ _ _
+returns-in-Err-OutOfMemory g c = no_memory c.files_have_no_fault.ensures c.within_or_too_many.ensures.apart _ _ _
