@@ -20,7 +20,7 @@ type Accepted = (
     &'static [&'static str],
 );
 
-static ACCEPTED: [Accepted; 23] = [
+static ACCEPTED: [Accepted; 24] = [
     (
         &["-k5", "weigh", "g", "t"],
         Mode::MinPlus,
