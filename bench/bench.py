@@ -166,6 +166,25 @@ def chain_family(size):
     return lines
 
 
+def one_chain(size):
+    """One chain of lone states, and a rule at its end."""
+    return ["s0"] + ["s%d -> s%d # 1" % (i, i + 1) for i in range(size - 1)] + ["s%d -> a" % (size - 1)]
+
+
+def long_words(size):
+    """The grammar of one long word: a round of a hunt finds one key."""
+    return ["s0"] + ["s%d -> f(s%d)" % (i, i + 1) for i in range(size - 1)] + ["s%d -> a" % (size - 1)]
+
+
+def wide_words(size):
+    """The grammar of a full binary trie of so many states: a few rounds of a hunt find all keys."""
+    lines = ["s0"]
+    for i in range(size):
+        below = [(letter, 2 * i + k) for letter, k in (("f", 1), ("g", 2)) if 2 * i + k < size]
+        lines += ["s%d -> %s(s%d)" % (i, letter, child) for letter, child in below] or ["s%d -> a" % i]
+    return lines
+
+
 def trie(rules):
     """A grammar whose states are the nodes of a trie of words: each has a rule for each letter below it."""
     random.seed(5)
@@ -259,12 +278,17 @@ def main(program):
     states = len(set(line.split(b" ", 1)[0] for line in pairs))
     row("intersect two of 800 states: %d states, %d rules" % (states, len(pairs) - 1), measure(program, "intersect", *two), (len(pairs) - 1) / 1e6, "million rules/s")
 
+    for name, made in (("in 200,000 rounds of one", long_words(200000)), ("in 18 rounds", wide_words(200000))):
+        grammar = write("words.grammar", made)
+        row("intersect a grammar of 200,000 states with itself, %s" % name, measure(program, "intersect", grammar, grammar), 0.2, "million pairs/s")
+
     print("\nhow time grows over three doublings (the exponent is about 1 where it grows as the input)")
     for name, sizes, words in (
         ("grammar read and brought into normal form", (1, 2, 4, 8), lambda n: ("weigh", write("grow%d.grammar" % n, flat_grammar(n * (MEGABYTE - 4096))), one)),
         ("trees read, weighed and printed", (1, 2, 4, 8), lambda n: ("weigh", tiny, write("grow%d.trees" % n, some_trees(n * (MEGABYTE - 4096))))),
         ("inside of a trie", (1, 2, 4, 8), lambda n: ("inside", write("trie%d.grammar" % n, trie(n * 31250)))),
         ("intersect, by the pairs of states", (1, 2, 4, 8), lambda n: ("intersect", *[write("monadic%d-%d.grammar" % (n, seed), monadic(round(800 * math.sqrt(n / 8)), seed)) for seed in (11, 12)])),
+        ("normal of one chain of 200,000 states", (1, 2, 4, 8), lambda n: ("normal", write("one_chain%d.grammar" % n, one_chain(n * 25000)))),
         ("normal of a trie", (1, 2, 4, 8), lambda n: ("normal", write("trie%d.grammar" % n, trie(n * 31250)))),
     ):
         seconds = [measure(program, *words(n))[0] for n in sizes]

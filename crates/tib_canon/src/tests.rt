@@ -163,12 +163,18 @@ fn states_are_named_by_their_keys(rt: HostRuntime) -> Result<(), Fail> {
     Ok(())
 }
 
-// The text of a grammar of one state with so many rules, each of a label of its own.
-fn wide_text(alloc: Global, count: u32) -> Result<Vec<u8>, AllocError> {
-    let mut text = b"q\n".to_vec(alloc)?;
+// The text of a grammar of so many states beside the start, each with a rule of a label of its own, or of the start alone with
+// all these rules.
+fn wide_text(alloc: Global, count: u32, one_state: bool) -> Result<Vec<u8>, AllocError> {
+    let mut text = b"s\n".to_vec(alloc)?;
     for number in 0..count {
-        text.extend_from_slice(b"q -> w")?;
-        text.extend_from_slice(number.to_string(alloc)?.as_bytes())?;
+        let digits = number.to_string(alloc)?;
+        text.push(b's')?;
+        if !one_state {
+            text.extend_from_slice(digits.as_bytes())?;
+        }
+        text.extend_from_slice(b" -> w")?;
+        text.extend_from_slice(digits.as_bytes())?;
         text.push(b'\n')?;
     }
     Ok(text)
@@ -176,11 +182,29 @@ fn wide_text(alloc: Global, count: u32) -> Result<Vec<u8>, AllocError> {
 
 #[test]
 fn more_rules_than_16_bits_count_are_kept(rt: HostRuntime) -> Result<(), Fail> {
-    let text = wide_text(rt.alloc(), 70_000)?;
+    let text = wide_text(rt.alloc(), 66_000, true)?;
     let printed = answer::<Boolean>(rt.alloc(), &text)?;
     assert_eq!(rt;
         printed.iter().filter(|byte| **byte == b'\n').count(),
-        70_001
+        66_001
     );
+    Ok(())
+}
+
+#[test]
+fn more_states_than_16_bits_count_are_read(rt: HostRuntime) -> Result<(), Fail> {
+    let alloc = rt.alloc();
+    let text = wide_text(alloc, 66_000, false)?;
+    if text.len() > 8_000_000 {
+        return Err("too long".into());
+    }
+    let mut labels = Labels::new(alloc);
+    match read_grammar::<Boolean>(alloc, &text, &mut labels) {
+        Ok(grammar) => {
+            assert!(rt; grammar.states() == 66_001 && grammar.rules() == 66_000);
+            assert!(rt; grammar.deterministic(alloc).is_ok());
+        }
+        Err(_) => return Err("the text was refused".into()),
+    }
     Ok(())
 }
