@@ -55,10 +55,10 @@ pub mapped_has : {A B : Type 0} (f : A → B) (xs : List A) (x : A) → Has xs x
 mapped_has f [] x h = absurd h
 mapped_has f (y ∷ xs) x h = elim h [ inl e ↦ inl (ap f e) | inr k ↦ inr (mapped_has f xs x k) ]
 
-agree_back : (r s : Rule ℕ) → AgreeInSides r s → AgreeInSides s r
+pub agree_back : (r s : Rule ℕ) → AgreeInSides r s → AgreeInSides s r
 agree_back r s a = record { left = sym a.left; right = sym a.right }
 
-agree_on : (r s t : Rule ℕ) → AgreeInSides r s → AgreeInSides s t → AgreeInSides r t
+pub agree_on : (r s t : Rule ℕ) → AgreeInSides r s → AgreeInSides s t → AgreeInSides r t
 agree_on r s t a b = record { left = a.left ∙ b.left; right = a.right ∙ b.right }
 
 -- what is known when the lines are sorted

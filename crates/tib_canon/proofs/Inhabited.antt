@@ -74,7 +74,7 @@ module _ (product : ℕ → ℕ → ℕ) (rules : List (Rule ℕ)) where
   useful_inside _ (useful.below n q u l s) = inside_along (holes_of (rule_at rules n).right) l.insides q l.are_insides s
 
   -- and it is in range
-  useful_below : (count : ℕ) → 0 < count → AreInRange count rules → (q : ℕ) → IsUseful product rules q → q < count
+  pub useful_below : (count : ℕ) → 0 < count → AreInRange count rules → (q : ℕ) → IsUseful product rules q → q < count
   useful_below count some range _ (useful.start c i) = some
   useful_below count some range _ (useful.below n q u l s) = below_has count (holes_of (rule_at rules n).right) q (range n l.below).1 s
 

@@ -28,3 +28,6 @@ pub mod NormalByText
 pub mod TrimmedByText
 pub mod CanonicalByText
 pub mod LinesText
+pub mod TrimmedExist
+pub mod OrderExists
+pub mod CanonicalExists

@@ -25,25 +25,25 @@ line_total : IsTotalOrder line_cmp
 line_total =
     then_total (on_total (λ (x : Line). x.left) nat_cmp_total) (then_total (on_total (λ (x : Line). x.text.now) nat_list_cmp_total) (on_total (λ (x : Line). x.position) nat_cmp_total))
 
-any : (o : Ordering) → (o ≡ Less) ⊎ ((o ≡ Equal) ⊎ (o ≡ Greater))
+pub any : (o : Ordering) → (o ≡ Less) ⊎ ((o ≡ Equal) ⊎ (o ≡ Greater))
 any Less = inl refl
 any Equal = inr (inl refl)
 any Greater = inr (inr refl)
 
-turned : (o : Ordering) → Greater ≡ ordering_reverse o → o ≡ Less
+pub turned : (o : Ordering) → Greater ≡ ordering_reverse o → o ≡ Less
 turned Less e = refl
 turned Equal e = absurd (cc)
 turned Greater e = absurd (cc)
 
-both_equal : (a b : Ordering) → ordering_then a b ≡ Equal → (a ≡ Equal) × (b ≡ Equal)
+pub both_equal : (a b : Ordering) → ordering_then a b ≡ Equal → (a ≡ Equal) × (b ≡ Equal)
 both_equal Less b e = absurd (cc)
 both_equal Equal b e = (refl, e)
 both_equal Greater b e = absurd (cc)
 
-number_same : (a b : ℕ) → nat_cmp a b ≡ Equal → a ≡ b
+pub number_same : (a b : ℕ) → nat_cmp a b ≡ Equal → a ≡ b
 number_same a b e = ranked a b Equal (sym e)
 
-text_same : (xs ys : List ℕ) → slice_cmp nat_cmp xs ys ≡ Equal → xs ≡ ys
+pub text_same : (xs ys : List ℕ) → slice_cmp nat_cmp xs ys ≡ Equal → xs ≡ ys
 text_same [] [] e = refl
 text_same [] (y ∷ ys) e = absurd (cc)
 text_same (x ∷ xs) [] e = absurd (cc)

@@ -34,7 +34,7 @@ pub distinct_texts : (texts : List (List ℕ)) → AreDistinct texts → Distinc
 distinct_texts texts d =
     distinct_from texts [] (λ i j h k e. d.once i j (get_or texts i []) (slice_get-get_or texts i [] h) (slice_get-get_or texts j [] k ∙ ap (λ (t : List ℕ). Some t) (sym e)))
 
-rules_safe :
+pub rules_safe :
     (n : ℕ) (labels : List (List ℕ)) (rules : List (Rule ℕ)) → AreInRange n rules → SidesEndInHoles rules → AreLabelled (length labels) rules →
     (m : ℕ) → m < length rules → (rule_at rules m).cost ≤ 1000000000000000 → IsSafe (names_of n) labels (rule_at rules m)
 rules_safe n labels rules range leaves labelled m h within =

@@ -106,3 +106,8 @@ pub fn canonical_text_is_one<S: Semiring>()
 pub fn insides_are_one_by_text()
     ensures { (product : ℕ → ℕ → ℕ) (labels others : List (List ℕ)) (g h : GrammarOf) (costs : List (Option ℕ)) → AgreeByText labels others g h → AreInsides product g.rules costs → AreInsides product h.rules costs }
 {}
+
+/// It cannot be that a grammar which can be printed has no canonical form with its series.
+pub fn canonical_forms_exist<S: Semiring>()
+    ensures { (scale : Scale) (labels : List (List ℕ)) (g : GrammarOf) → 0 < length g.names → length g.names < 2 ^ 32 → AreInRange (length g.names) g.rules → SidesEndInHoles g.rules → Distinct labels → ArePrintable scale labels g.rules → ((h : GrammarOf) → IsCanonical S.product scale labels g h → HasSameSeries S.product g h → ⊥) → ⊥ }
+{}
