@@ -107,7 +107,7 @@ hole_alone s q h e = by s.label s.kids h e
     by (hole p) none h e = ap (λ (l : Symbol ℕ ℕ). record { label = l; kids = none }) e
     by (hole p) (tree t kids more) h e = absurd h
 
-are_lone : (rules : List (Rule ℕ)) → SidesEndInHoles rules → AreLone rules
+pub are_lone : (rules : List (Rule ℕ)) → SidesEndInHoles rules → AreLone rules
 are_lone rules leaves n q h e = hole_alone (rule_at rules n).right q (leaves n h) e
 
 pub normal_text :

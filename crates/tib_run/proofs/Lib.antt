@@ -14,4 +14,6 @@ pub mod Faults
 pub mod OneStatus
 pub mod FilesAsked
 pub mod AnswersExist
+pub mod ReadSound
+pub mod NormalExists
 mod RunsAlike

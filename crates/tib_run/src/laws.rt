@@ -1,6 +1,7 @@
 // What holds of the answers of jobs.
 ghost use Rattle.tib_cost.specs.declared.Scale.{Scale};
-ghost use Rattle.std.specs.Prelude.{◌≡◌, ℕ, Bool, List, Option, Some};
+ghost use Rattle.tib_cost.specs.Semiring.{ProductLaws};
+ghost use Rattle.std.specs.Prelude.{◌≡◌, ◌<◌, ◌^◌, ℕ, Bool, List, Option, Some};
 ghost use Rattle.tib_command.specs.Jobs.{Asked, job_of};
 ghost use Rattle.tib_run.specs.Causes.{IsTooMuch};
 ghost use Rattle.tib_run.specs.Intersections.{HasIntersection};
@@ -52,6 +53,12 @@ pub fn within_or_too_many()
 pub fn answers_exist()
     ensures weighed { (scale : Scale) (product : ℕ → ℕ → ℕ) (limit : ℕ) (first second : List ℕ) → IsGrammarFile scale first → IsTreeFile second → HasSmallForm scale product limit first → ((text : List ℕ) → IsWeighed scale product limit (Some first) (Some second) text → ⊥) → ⊥ }
     ensures insides { (scale : Scale) (product : ℕ → ℕ → ℕ) (first : List ℕ) → IsGrammarFile scale first → ((text : List ℕ) → HasInsides scale product (Some first) text → ⊥) → ⊥ }
+{}
+
+/// Where the file of `normal` is of its kind, and the normal form is within the limit, it cannot be that no text answers. The
+/// product meets its laws.
+pub fn normal_answers_exist()
+    ensures { (levelled weighed : Bool) (scale : Scale) (product : ℕ → ℕ → ℕ) (limit : ℕ) (first : List ℕ) → ProductLaws levelled weighed product → limit < 2 ^ 32 → IsGrammarFile scale first → HasSmallForm scale product limit first → ((text : List ℕ) → HasNormalText scale product limit (Some first) text → ⊥) → ⊥ }
 {}
 
 /// A job whose files are told ends with one status in all runs in which no count rises and no memory is refused.
