@@ -42,6 +42,14 @@ safe_of scale labels g range leaves printable r h =
     subst (IsSafe (names_of (length g.names)) labels) at.2
     (rules_safe (length g.names) labels g.rules range leaves (are_labelled scale labels g.rules printable) at.0 at.1 (plain_within scale _ (printable at.0 at.1).cost))
 
+-- trimming keeps the series
+pub trimmed_series :
+    {levelled weighed : Bool} {product : ℕ → ℕ → ℕ} → ProductLaws levelled weighed product → (g t : GrammarOf) → AreInRange (length g.names) g.rules → IsTrimmed product g t →
+    (HasSameSeries product g t → ⊥) → ⊥
+trimmed_series {product = product} laws g t range trimmed k =
+    insides_are product g.rules (length g.names) (λ costs long are.
+    k (kept laws g t (costs_in costs) (insides_all product g.rules costs (subst (λ n. AreInRange n g.rules) (sym long) range) are) trimmed))
+
 module _
     {levelled weighed : Bool} {product : ℕ → ℕ → ℕ} (laws : ProductLaws levelled weighed product) (scale : Scale) (labels : List (List ℕ)) (g : GrammarOf) (some : 0 < length g.names)
     (few : length g.names ≤ 4294967296) (range : AreInRange (length g.names) g.rules) (leaves : SidesEndInHoles g.rules) (apart : Distinct labels) (printable : ArePrintable scale labels g.rules) where
@@ -52,15 +60,9 @@ module _
       order_there scale labels t (are_state_names (length t.names) small) apart
       (safe_of scale labels t (subst (λ n. AreInRange n t.rules) (sym long) trimmed.in_range) (trimmed_leaves product g t trimmed leaves) (trimmed_printable scale labels product g t trimmed printable))
 
-  -- trimming keeps the series
-  trimmed_series : (t : GrammarOf) → IsTrimmed product g t → (HasSameSeries product g t → ⊥) → ⊥
-  trimmed_series t trimmed k =
-      insides_are product g.rules (length g.names) (λ costs long are.
-      k (kept laws g t (costs_in costs) (insides_all product g.rules costs (subst (λ n. AreInRange n g.rules) (sym long) range) are) trimmed))
-
   pub canonical_there : ((h : GrammarOf) → IsCanonical product scale labels g h → HasSameSeries product g h → ⊥) → ⊥
   canonical_there k =
       trimmed_there product g (length g.names) some range leaves (λ t trimmed.
-      trimmed_series t trimmed (λ same.
+      trimmed_series laws g t range trimmed (λ same.
       trimmed_order t trimmed (λ h order.
       k h (record { trimmed = t; is_trimmed = trimmed; in_order = order }) (series_on product g t h same (series_kept laws scale labels t h order)))))

@@ -28,6 +28,8 @@ pub mod NormalByText
 pub mod TrimmedByText
 pub mod CanonicalByText
 pub mod LinesText
+pub mod PlacesIn
 pub mod TrimmedExist
 pub mod OrderExists
 pub mod CanonicalExists
+pub mod OverKeysExist

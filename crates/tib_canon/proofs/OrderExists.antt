@@ -1,6 +1,6 @@
 -- Each grammar that can be printed has a form in canonical order: that it has none cannot be.
 use Rattle.tib_cost.specs.declared.Scale.{Scale}
-use Rattle.std.proofs.Common.{◌≡◌, ◌⊎◌, ℕ, ◌<◌, ◌≤◌, List, [], ◌∷◌, length, refl, ap, sym, ◌∙◌, subst, arith, inl, inr}
+use Rattle.std.proofs.Common.{◌≡◌, ◌⊎◌, ℕ, ◌<◌, ◌≤◌, List, [], ◌∷◌, length, refl, ap, sym, ◌∙◌, subst, arith, suc, inl, inr}
 use Rattle.std.specs.Cmp.{IsTotalOrder}
 use Rattle.std.specs.Cmp.Lexicographic.{slice_cmp}
 use Rattle.std.specs.Ordering.{nat_cmp, ordering_then}
@@ -164,19 +164,20 @@ module _ {A : Type 0} (cmp : A → A → Ordering) (total : IsTotalOrder cmp) wh
   abbrev Unequal : A → A → Type 0
   Unequal x y = cmp x y ≡ Equal → ⊥
 
-  record AreSortedOf (xs ys : List A) : Type 0 where
+  pub record AreSortedOf (xs ys : List A) : Type 0 where
     pub to : (x : A) → Has ys x → Has xs x
     pub from : (x : A) → Has xs x → Has ys x
     pub ascends : Ascends Before ys
+    pub long : length ys ≡ length xs
 
   insert : (r : A) (ys : List A) → Ascends Before ys → Each (Unequal r) ys → (zs : List A) × AreSortedOf (r ∷ ys) zs
-  insert r [] a u = (r ∷ [], record { to = λ x h. h; from = λ x h. h; ascends = (tt, tt) })
+  insert r [] a u = (r ∷ [], record { to = λ x h. h; from = λ x h. h; ascends = (tt, tt); long = refl })
   insert r (y ∷ ys) a u = by (any (cmp r y)) (insert r ys a.1 u.1)
     where
       by : (cmp r y ≡ Less) ⊎ ((cmp r y ≡ Equal) ⊎ (cmp r y ≡ Greater)) → (zs : List A) × AreSortedOf (r ∷ ys) zs → (zs : List A) × AreSortedOf (r ∷ (y ∷ ys)) zs
       by (inl e) more = (
         r ∷ (y ∷ ys),
-        record { to = λ x h. h; from = λ x h. h; ascends = ((e, each_of (Before r) ys (λ x h. total.trans r y x e (each_has (Before y) ys x a.0 h))), a) },
+        record { to = λ x h. h; from = λ x h. h; ascends = ((e, each_of (Before r) ys (λ x h. total.trans r y x e (each_has (Before y) ys x a.0 h))), a); long = refl },
       )
       by (inr (inl e)) more = absurd (u.0 e)
       by (inr (inr e)) more = (
@@ -185,6 +186,7 @@ module _ {A : Type 0} (cmp : A → A → Ordering) (total : IsTotalOrder cmp) wh
           to = λ x h. elim h [ inl d ↦ inr (inl d) | inr k ↦ elim (more.1.to x k) [ inl d ↦ inl d | inr l ↦ inr (inr l) ] ];
           from = λ x h. elim h [ inl d ↦ inr (more.1.from x (inl d)) | inr k ↦ elim k [ inl d ↦ inl d | inr l ↦ inr (more.1.from x (inr l)) ] ];
           ascends = (each_of (Before y) more.0 (λ x h. after x (more.1.to x h)), more.1.ascends);
+          long = ap suc more.1.long;
         },
       )
         where
@@ -195,8 +197,8 @@ module _ {A : Type 0} (cmp : A → A → Ordering) (total : IsTotalOrder cmp) wh
           after x (inl d) = subst (Before y) d first
           after x (inr l) = each_has (Before y) ys x a.0 l
 
-  sorted_there : (xs : List A) → Ascends Unequal xs → (ys : List A) × AreSortedOf xs ys
-  sorted_there [] u = ([], record { to = λ x h. h; from = λ x h. h; ascends = tt })
+  pub sorted_there : (xs : List A) → Ascends Unequal xs → (ys : List A) × AreSortedOf xs ys
+  sorted_there [] u = ([], record { to = λ x h. h; from = λ x h. h; ascends = tt; long = refl })
   sorted_there (x ∷ xs) u =
       let s = sorted_there xs u.1 in
       let t = insert x s.0 s.1.ascends (each_of (Unequal x) s.0 (λ y h. each_has (Unequal x) xs y u.0 (s.1.to y h))) in (
@@ -205,10 +207,11 @@ module _ {A : Type 0} (cmp : A → A → Ordering) (total : IsTotalOrder cmp) wh
           to = λ y h. elim (t.1.to y h) [ inl e ↦ inl e | inr k ↦ inr (s.1.to y k) ];
           from = λ y h. elim h [ inl e ↦ t.1.from y (inl e) | inr k ↦ t.1.from y (inr (s.1.from y k)) ];
           ascends = t.1.ascends;
+          long = t.1.long ∙ ap suc s.1.long;
         },
       )
 
-ascends_within : {A : Type 0} (R T : A → A → Type 0) (xs : List A) → ((x y : A) → Has xs x → Has xs y → R x y → T x y) → Ascends R xs → Ascends T xs
+pub ascends_within : {A : Type 0} (R T : A → A → Type 0) (xs : List A) → ((x y : A) → Has xs x → Has xs y → R x y → T x y) → Ascends R xs → Ascends T xs
 ascends_within R T [] f a = tt
 ascends_within R T (x ∷ xs) f a = (
   each_of (T x) xs (λ y h. f x y (inl refl) (inr h) (each_has (R x) xs y a.0 h)),

@@ -2,19 +2,17 @@
 use Rattle.std.proofs.Common.{◌≡◌, ◌⊎◌, ℕ, ◌<◌, List, [], ◌∷◌, ◌++◌, length, map, get_or, ap, sym, ◌∙◌, subst, arith, zero, suc, inl, inr, refl}
 use Rattle.std.proofs.lemmas.List.{get_or-map, length-map}
 use Rattle.tib_lex.specs.Lists.{Has, Ascends}
-use Rattle.tib_tree.specs.Trees.{only}
 use Rattle.tib_grammar.specs.Sides.{holes_of}
 use Rattle.tib_grammar.specs.GrammarOf.{GrammarOf, named_rule}
-use Rattle.tib_grammar.specs.Range.{AllBelow, IsInRange, AreInRange, SidesEndInHoles}
+use Rattle.tib_grammar.specs.Range.{IsInRange, AreInRange, SidesEndInHoles}
 use Rattle.tib_grammar.specs.Run.{rule_at, no_rule}
 use Rattle.tib_grammar.specs.declared.Rule.{Rule}
 use Rattle.tib_grammar.proofs.Members.{has_at, has_left, has_right, has_either, each_more}
-use Rattle.tib_grammar.proofs.Renamed.{rule_back}
-use Rattle.tib_grammar.proofs.Sides.{holes-relabel}
 use Rattle.tib_inside.specs.Trimmed.{IsTrimmed}
 use Rattle.tib_inside.specs.Useful.{IsLive, IsUseful}
 use Rattle.tib_inside.specs.Useful as useful
 use Rattle.tib_canon.proofs.Inhabited.{useful_below}
+use Rattle.tib_canon.proofs.PlacesIn.{same_or_other, place_in, placed_in_range, placed_back, map_back}
 
 -- what holds where a fact does or does not hold
 pub either_way : (A : Type 0) → (A ⊎ (A → ⊥) → ⊥) → ⊥
@@ -34,7 +32,7 @@ ascends_more : (xs : List ℕ) (n : ℕ) → Ascends ◌<◌ xs → ((q : ℕ) �
 ascends_more [] n a b = (tt, tt)
 ascends_more (x ∷ xs) n a b = (each_more (λ y. x < y) xs n a.0 (b x (inl refl)), ascends_more xs n a.1 (λ q h. b q (inr h)))
 
-with_last : (P : ℕ → Type 0) (n : ℕ) (those : List ℕ) → AreThose P n those → P n → AreThose P (suc n) (those ++ n ∷ [])
+pub with_last : (P : ℕ → Type 0) (n : ℕ) (those : List ℕ) → AreThose P n those → P n → AreThose P (suc n) (those ++ n ∷ [])
 with_last P n those t p = record {
   ascend = ascends_more those n t.ascend t.below;
   below = λ q h. below q (has_either those (n ∷ []) q h);
@@ -56,7 +54,7 @@ with_last P n those t p = record {
     all q x (inl h) = has_left those (n ∷ []) q (t.all q h x)
     all q x (inr e) = has_right those (n ∷ []) q (inl (sym e))
 
-without_last : (P : ℕ → Type 0) (n : ℕ) (those : List ℕ) → AreThose P n those → (P n → ⊥) → AreThose P (suc n) those
+pub without_last : (P : ℕ → Type 0) (n : ℕ) (those : List ℕ) → AreThose P n those → (P n → ⊥) → AreThose P (suc n) those
 without_last P n those t never = record {
   ascend = t.ascend;
   below = λ q h. omega (arith, t.below q h);
@@ -77,42 +75,6 @@ those_there P (suc n) k =
       | inr never ↦ k those (without_last P n those t never)
     ]))
 
--- the place of a number in a list
-
-same_or_other : (p q : ℕ) → (p ≡ q) ⊎ (p ≡ q → ⊥)
-same_or_other p q = grind arith
-
-abbrev place_by : {A B : Type 0} → A ⊎ B → ℕ → ℕ
-place_by (inl e) n = 0
-place_by (inr other) n = suc n
-
-abbrev place_in : List ℕ → ℕ → ℕ
-place_in [] q = 0
-place_in (p ∷ states) q = place_by (same_or_other p q) (place_in states q)
-
--- q stands at this place
-record StandsAt (states : List ℕ) (q i : ℕ) : Type 0 where
-  pub within : i < length states
-  pub is : get_or states i 0 ≡ q
-
-stands_first :
-    (p q : ℕ) (states : List ℕ) (d : (p ≡ q) ⊎ (p ≡ q → ⊥)) (i : ℕ) → (Has states q → StandsAt states q i) → Has (p ∷ states) q → StandsAt (p ∷ states) q (place_by d i)
-stands_first p q states (inl e) i f h = record { within = omega arith; is = e }
-stands_first p q states (inr other) i f (inl e) = absurd (other e)
-stands_first p q states (inr other) i f (inr k) = let s = f k in record { within = omega (arith, s.within); is = s.is }
-
-stands_at : (states : List ℕ) (q : ℕ) → Has states q → StandsAt states q (place_in states q)
-stands_at [] q h = absurd h
-stands_at (p ∷ states) q h = stands_first p q states (same_or_other p q) (place_in states q) (stands_at states q) h
-
-all_mapped : (n : ℕ) (f : ℕ → ℕ) (qs : List ℕ) → ((q : ℕ) → Has qs q → f q < n) → AllBelow n (map f qs)
-all_mapped n f [] h = tt
-all_mapped n f (q ∷ qs) h = (h q (inl refl), all_mapped n f qs (λ p k. h p (inr k)))
-
-map_back : (g : Rule ℕ → Rule ℕ) (f h : ℕ → Rule ℕ) (xs : List ℕ) → ((x : ℕ) → Has xs x → g (f x) ≡ h x) → map g (map f xs) ≡ map h xs
-map_back g f h [] e = refl
-map_back g f h (x ∷ xs) e = ap (λ y. y ∷ map g (map f xs)) (e x (inl refl)) ∙ ap (λ ys. h x ∷ ys) (map_back g f h xs (λ y k. e y (inr k)))
-
 module _ (product : ℕ → ℕ → ℕ) (g : GrammarOf) (count : ℕ) (some : 0 < count) (range : AreInRange count g.rules) (leaves : SidesEndInHoles g.rules) where
   abbrev IsKeptState : ℕ → Type 0
   IsKeptState q = (q ≡ 0) ⊎ IsUseful product g.rules q
@@ -125,26 +87,21 @@ module _ (product : ℕ → ℕ → ℕ) (g : GrammarOf) (count : ℕ) (some : 0
     state_stands q (inl e) = s.all q (omega (arith, e, some)) (inl e)
     state_stands q (inr u) = s.all q (useful_below product g.rules count some range q u) (inr u)
 
-    left_stands : (n : ℕ) → Has positions n → StandsAt states (rule_at g.rules n).left (place_in states (rule_at g.rules n).left)
-    left_stands n h = stands_at states (rule_at g.rules n).left (state_stands (rule_at g.rules n).left (inr (p.hold n h).1))
+    left_stands : (n : ℕ) → Has positions n → Has states (rule_at g.rules n).left
+    left_stands n h = state_stands (rule_at g.rules n).left (inr (p.hold n h).1)
 
-    hole_stands : (n : ℕ) → Has positions n → (q : ℕ) → Has (holes_of (rule_at g.rules n).right) q → StandsAt states q (place_in states q)
-    hole_stands n h q k = let both = p.hold n h in stands_at states q (state_stands q (inr (useful.below n q both.1 both.0 k)))
+    holes_stand : (n : ℕ) → Has positions n → (q : ℕ) → Has (holes_of (rule_at g.rules n).right) q → Has states q
+    holes_stand n h q k = let both = p.hold n h in state_stands q (inr (useful.below n q both.1 both.0 k))
 
     abbrev placed : ℕ → Rule ℕ
-    placed n = named_rule (place_in states) (rule_at g.rules n)
-
-    placed_in_range : (n : ℕ) → Has positions n → IsInRange (length states) (placed n)
-    placed_in_range n h = (
-      (left_stands n h).within,
-      subst (AllBelow (length states)) (sym (holes-relabel (place_in states) (only (rule_at g.rules n).right)))
-          (all_mapped (length states) (place_in states) (holes_of (rule_at g.rules n).right) (λ q k. (hole_stands n h q k).within)),
-    )
+    placed n = named_rule (place_in same_or_other states) (rule_at g.rules n)
 
     all_in_range : AreInRange (length states) (map placed positions)
     all_in_range m h =
         let within : m < length positions = omega (arith, h, length-map positions placed) in
-        subst (IsInRange (length states)) (sym (get_or-map placed positions m 0 no_rule within)) (placed_in_range (get_or positions m 0) (has_at positions m 0 within))
+        subst (IsInRange (length states)) (sym (get_or-map placed positions m 0 no_rule within)) 
+        (let h = has_at positions m 0 within in
+        placed_in_range same_or_other 0 states (rule_at g.rules (get_or positions m 0)) (left_stands (get_or positions m 0) h) (holes_stand (get_or positions m 0) h))
 
     trimmed_of : IsTrimmed product g (record { names = map (λ q. get_or g.names q []) states; rules = map placed positions })
     trimmed_of = record {
@@ -158,7 +115,7 @@ module _ (product : ℕ → ℕ → ℕ) (g : GrammarOf) (count : ℕ) (some : 0
       names = refl;
       named =
           map_back (named_rule (λ i. get_or states i 0)) placed (rule_at g.rules) positions (λ n h.
-          rule_back (place_in states) (λ i. get_or states i 0) (rule_at g.rules n) (left_stands n h).is (λ q k. (hole_stands n h q k).is) (leaves n (p.below n h)));
+          placed_back same_or_other 0 states (rule_at g.rules n) (left_stands n h) (holes_stand n h) (leaves n (p.below n h)));
     }
 
   pub trimmed_there : ((t : GrammarOf) → IsTrimmed product g t → ⊥) → ⊥

@@ -111,3 +111,9 @@ pub fn insides_are_one_by_text()
 pub fn canonical_forms_exist<S: Semiring>()
     ensures { (scale : Scale) (labels : List (List ℕ)) (g : GrammarOf) → 0 < length g.names → length g.names < 2 ^ 32 → AreInRange (length g.names) g.rules → SidesEndInHoles g.rules → Distinct labels → ArePrintable scale labels g.rules → ((h : GrammarOf) → IsCanonical S.product scale labels g h → HasSameSeries S.product g h → ⊥) → ⊥ }
 {}
+
+/// Nor can it be that rules which can be printed, over the positions of an order of distinct keys, have no canonical grammar
+/// over these keys.
+pub fn canonical_over_keys_exists<S: Semiring, K: TableKey>()
+    ensures { (scale : Scale) (labels : List (List ℕ)) (order : List K) (rules : List (Rule ℕ)) (start : ℕ) → length order < 2 ^ 32 → start < length order → Distinct order → AreInRange (length order) rules → SidesEndInHoles rules → Distinct labels → ArePrintable scale labels rules → ((h : GrammarOf) → IsCanonicalOverKeys S.product scale labels K.cmp order rules (At start) h → ⊥) → ⊥ }
+{}
