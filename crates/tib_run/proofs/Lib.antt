@@ -16,4 +16,7 @@ pub mod FilesAsked
 pub mod AnswersExist
 pub mod ReadSound
 pub mod NormalExists
+pub mod PairsExist
+pub mod IntersectExists
+pub mod JobsAnswered
 mod RunsAlike

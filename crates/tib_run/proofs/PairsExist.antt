@@ -1,9 +1,9 @@
 -- The edges of a reached set of pairs are those of rules over the positions of its order.
-use Rattle.std.proofs.Common.{◌≡◌, ◌⊎◌, ℕ, ◌<◌, ◌≤◌, List, [], ◌∷◌, ◌++◌, length, map, zip, refl, ap, sym, ◌∙◌, subst, arith, zero, suc, inl, inr}
+use Rattle.std.proofs.Common.{◌≡◌, ◌⊎◌, ℕ, ◌<◌, ◌≤◌, List, [], ◌∷◌, ◌++◌, length, map, get_or, zip, refl, ap, sym, ◌∙◌, subst, arith, zero, suc, inl, inr}
 use Rattle.std.proofs.lemmas.List.{get_or-map, length-map}
 use Rattle.tib_lex.specs.Lists.{Has, Along, Distinct}
 use Rattle.tib_tree.specs.Trees.{only}
-use Rattle.tib_grammar.specs.Sides.{HolesAreLeaves, leaves, Side as SideFor}
+use Rattle.tib_grammar.specs.Sides.{HolesAreLeaves, holes, leaves, Side as SideFor}
 use Rattle.tib_grammar.specs.GrammarOf.{named_rule}
 use Rattle.tib_grammar.specs.Range.{IsInRange, AreInRange}
 use Rattle.tib_grammar.specs.Run.{rule_at, no_rule}
@@ -93,12 +93,15 @@ module _ (product : ℕ → ℕ → ℕ) (one two : List (Rule ℕ)) where
     right_stands e h k n = let g = given e h in ends_stand order reached.0 g.0.0 g.1.0 g.0.1 e k g.1.1 n
 
     side_ends : (e : Rule (ℕ × ℕ)) → Has edges e → HolesAreLeaves (only e.right)
-    side_ends e h = let g = given e h in subst (λ (s : SideFor ℕ (ℕ × ℕ)). HolesAreLeaves (only s)) (sym g.1.1.right) (leaves_end _, tt)
+    side_ends e h =
+        let g = given e h in
+        let states : List (ℕ × ℕ) = zip (holes (rule_at one g.0.1.0).right.kids) (holes (rule_at two g.0.1.1).right.kids) in
+        subst (λ (s : SideFor ℕ (ℕ × ℕ)). HolesAreLeaves (only s)) (sym g.1.1.right) (leaves_end states, tt)
 
     abbrev placed : Rule (ℕ × ℕ) → Rule ℕ
     placed e = named_rule (place_in same_or_not order) e
 
-    pub read_back : map (named_rule (pair_at order)) (map placed edges) ≡ edges
+    read_back : map (named_rule (pair_at order)) (map placed edges) ≡ edges
     read_back = map_itself (named_rule (pair_at order)) placed edges (λ e h. placed_back same_or_not (0, 0) order e (left_stands e h) (right_stands e h) (side_ends e h))
 
     no_edge : Rule (ℕ × ℕ)
@@ -107,9 +110,10 @@ module _ (product : ℕ → ℕ → ℕ) (one two : List (Rule ℕ)) where
     all_in_range : AreInRange (length order) (map placed edges)
     all_in_range m h =
         let low : m < length edges = omega (arith, h, length-map edges placed) in
-        let stands = has_at edges m no_edge low in
+        let edge : Rule (ℕ × ℕ) = get_or edges m no_edge in
+        let stands : Has edges edge = has_at edges m no_edge low in
         subst (IsInRange (length order)) (sym (get_or-map placed edges m no_edge no_rule low))
-        (placed_in_range same_or_not (0, 0) order _ (left_stands _ stands) (right_stands _ stands))
+        (placed_in_range same_or_not (0, 0) order edge (left_stands edge stands) (right_stands edge stands))
 
     pub pair_grammar_there : (rules : List (Rule ℕ)) × (map (named_rule (pair_at order)) rules ≡ edges) × IsPairGrammar product one two order rules
     pair_grammar_there =

@@ -4,7 +4,7 @@ ghost use Rattle.tib_cost.specs.Semiring.{ProductLaws};
 ghost use Rattle.std.specs.Prelude.{◌≡◌, ◌<◌, ◌^◌, ℕ, Bool, List, Option, Some};
 ghost use Rattle.tib_command.specs.Jobs.{Asked, job_of};
 ghost use Rattle.tib_run.specs.Causes.{IsTooMuch};
-ghost use Rattle.tib_run.specs.Intersections.{HasIntersection};
+ghost use Rattle.tib_run.specs.Intersections.{HasIntersection, HasSmallIntersection};
 ghost use Rattle.tib_run.specs.Kinds.{IsGrammarFile, IsTreeFile, KindsHaveNoFault};
 ghost use Rattle.tib_run.specs.Answers.{IsWeighed, HasInsides, HasNormalText, HasSmallForm, IsAnswer, IsWithin, AreTold, AreOfTheirKinds, EndsCalmly, AreOneStatus};
 ghost use Rattle.tib_run.specs.Run.{RunsEndAlike};
@@ -55,10 +55,16 @@ pub fn answers_exist()
     ensures insides { (scale : Scale) (product : ℕ → ℕ → ℕ) (first : List ℕ) → IsGrammarFile scale first → ((text : List ℕ) → HasInsides scale product (Some first) text → ⊥) → ⊥ }
 {}
 
-/// Where the file of `normal` is of its kind, and the normal form is within the limit, it cannot be that no text answers. The
-/// product meets its laws.
-pub fn normal_answers_exist()
-    ensures { (levelled weighed : Bool) (scale : Scale) (product : ℕ → ℕ → ℕ) (limit : ℕ) (first : List ℕ) → ProductLaws levelled weighed product → limit < 2 ^ 32 → IsGrammarFile scale first → HasSmallForm scale product limit first → ((text : List ℕ) → HasNormalText scale product limit (Some first) text → ⊥) → ⊥ }
+/// The same of `normal` and `intersect`, over a product that meets its laws.
+pub fn grammars_exist()
+    ensures normal { (levelled weighed : Bool) (scale : Scale) (product : ℕ → ℕ → ℕ) (limit : ℕ) (first : List ℕ) → ProductLaws levelled weighed product → limit < 2 ^ 32 → IsGrammarFile scale first → HasSmallForm scale product limit first → ((text : List ℕ) → HasNormalText scale product limit (Some first) text → ⊥) → ⊥ }
+    ensures intersection { (levelled weighed : Bool) (scale : Scale) (product : ℕ → ℕ → ℕ) (limit : ℕ) (first second : List ℕ) → ProductLaws levelled weighed product → limit < 2 ^ 32 → IsGrammarFile scale first → IsGrammarFile scale second → HasSmallIntersection scale product limit first second → ((text : List ℕ) → HasIntersection scale product limit (Some first) (Some second) text → ⊥) → ⊥ }
+{}
+
+/// Where the files of a job are of their kinds, and what it makes of them is within its limit, it cannot be that no text
+/// answers it.
+pub fn jobs_have_answers()
+    ensures { (asked : Asked) (held : List ℕ → Option (List ℕ)) → asked.limit < 2 ^ 32 → AreOfTheirKinds asked held → IsWithin asked held → ((text : List ℕ) → IsAnswer asked held text → ⊥) → ⊥ }
 {}
 
 /// A job whose files are told ends with one status in all runs in which no count rises and no memory is refused.
