@@ -1,17 +1,19 @@
 -- Where the files of a job are of their kinds, and what it makes of them is within its limit, it cannot be that no text answers.
 use Rattle.tib_cost.specs.declared.Scale.{Scale}
-use Rattle.std.proofs.Common.{◌≡◌, ℕ, ◌<◌, Bool, true, false, List, refl, Option}
+use Rattle.std.proofs.Common.{◌≡◌, ℕ, ◌<◌, Bool, true, false, List, refl, Option, arith}
 use Rattle.std.specs.Prelude.{Some, None, slice_get}
 use Rattle.tib_cost.specs.Semiring.{ProductLaws, sum_laws, max_laws, boolean_laws}
-use Rattle.tib_command.specs.Jobs.{Asked}
+use Rattle.tib_command.specs.Jobs.{Asked, job_of}
 use Rattle.tib_command.specs.declared.job.Mode.{Mode}
 use Rattle.tib_command.specs.declared.job.Mode.TheVariants as modes
 use Rattle.tib_command.specs.declared.job.Operation.{Operation}
 use Rattle.tib_command.specs.declared.job.Operation.TheVariants as operations
 use Rattle.tib_run.specs.Answers.{IsAnswer, IsAnswerOf, StaysWithin, IsWithin, AreOfTheirKinds}
-use Rattle.tib_run.specs.Causes.{scale_of, product_of}
+use Rattle.tib_run.specs.Causes.{scale_of, product_of, IsTooMuch}
 use Rattle.tib_run.specs.Kinds.{Kind, of_grammar, of_trees, kinds_of, file_at, bytes_at, OfName, IsOfKind}
 use Rattle.tib_run.proofs.AnswersExist.{weighed_there, insides_there}
+use Rattle.tib_run.proofs.FilesAsked.{limit_asked}
+use Rattle.tib_run.proofs.Limits.{within_or_more}
 use Rattle.tib_run.proofs.IntersectExists.{intersection_there}
 use Rattle.tib_run.proofs.NormalExists.{normal_there}
 
@@ -44,8 +46,14 @@ module _ (scale : Scale) (product : ℕ → ℕ → ℕ) (has : HasLaws product)
   operation_answered operations.Intersect (Some x) (Some y) one two small never = intersection_there has.laws scale limit low x y (one of_grammar refl) (two of_grammar refl) small never
 
 pub job_answered :
-    (asked : Asked) (held : List ℕ → Option (List ℕ)) → asked.limit < 4294967296 → AreOfTheirKinds asked held → IsWithin asked held →
+    (words : List (List ℕ)) (asked : Asked) (held : List ℕ → Option (List ℕ)) → job_of words ≡ Some asked → AreOfTheirKinds asked held → IsWithin asked held →
     ((text : List ℕ) → IsAnswer asked held text → ⊥) → ⊥
-job_answered asked held low kinds within never =
-    operation_answered (scale_of asked.mode) (product_of asked.mode) (laws_of asked.mode) asked.limit low asked.task.operation (bytes_at held (file_at (Some asked) 1)) (bytes_at held (file_at (Some asked) 2))
-    (kinds 1) (kinds 2) within never
+job_answered words asked held of_words kinds within never =
+    operation_answered (scale_of asked.mode) (product_of asked.mode) (laws_of asked.mode) asked.limit (omega (arith, limit_asked words asked of_words)) asked.task.operation
+    (bytes_at held (file_at (Some asked) 1)) (bytes_at held (file_at (Some asked) 2)) (kinds 1) (kinds 2) within never
+
+-- so it has an answer or too many parts: that it has neither cannot be
+pub answered_or_more :
+    (words : List (List ℕ)) (asked : Asked) (held : List ℕ → Option (List ℕ)) → job_of words ≡ Some asked → AreOfTheirKinds asked held →
+    ((text : List ℕ) → IsAnswer asked held text → ⊥) → (IsTooMuch asked held → ⊥) → ⊥
+answered_or_more words asked held of_words kinds never few = within_or_more asked held kinds (λ within. job_answered words asked held of_words kinds within never) few

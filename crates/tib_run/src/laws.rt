@@ -48,23 +48,20 @@ pub fn within_or_too_many()
     ensures either { (asked : Asked) (held : List ℕ → Option (List ℕ)) → AreOfTheirKinds asked held → (IsWithin asked held → ⊥) → (IsTooMuch asked held → ⊥) → ⊥ }
 {}
 
-/// Where the files of `weigh` and of `inside` are of their kinds, and the normal form that `weigh` makes is within the limit,
-/// it cannot be that no text answers.
+/// Where the files of an operation are of their kinds, and what it makes of them is within the limit, it cannot be that no
+/// text answers. For `normal` and `intersect` the product meets its laws.
 pub fn answers_exist()
     ensures weighed { (scale : Scale) (product : ℕ → ℕ → ℕ) (limit : ℕ) (first second : List ℕ) → IsGrammarFile scale first → IsTreeFile second → HasSmallForm scale product limit first → ((text : List ℕ) → IsWeighed scale product limit (Some first) (Some second) text → ⊥) → ⊥ }
     ensures insides { (scale : Scale) (product : ℕ → ℕ → ℕ) (first : List ℕ) → IsGrammarFile scale first → ((text : List ℕ) → HasInsides scale product (Some first) text → ⊥) → ⊥ }
-{}
-
-/// The same of `normal` and `intersect`, over a product that meets its laws.
-pub fn grammars_exist()
     ensures normal { (levelled weighed : Bool) (scale : Scale) (product : ℕ → ℕ → ℕ) (limit : ℕ) (first : List ℕ) → ProductLaws levelled weighed product → limit < 2 ^ 32 → IsGrammarFile scale first → HasSmallForm scale product limit first → ((text : List ℕ) → HasNormalText scale product limit (Some first) text → ⊥) → ⊥ }
     ensures intersection { (levelled weighed : Bool) (scale : Scale) (product : ℕ → ℕ → ℕ) (limit : ℕ) (first second : List ℕ) → ProductLaws levelled weighed product → limit < 2 ^ 32 → IsGrammarFile scale first → IsGrammarFile scale second → HasSmallIntersection scale product limit first second → ((text : List ℕ) → HasIntersection scale product limit (Some first) (Some second) text → ⊥) → ⊥ }
 {}
 
-/// Where the files of a job are of their kinds, and what it makes of them is within its limit, it cannot be that no text
-/// answers it.
+/// Where the files of a job that words ask for are of their kinds, it has an answer or too many parts: what is within its
+/// limit cannot lack an answer, and that neither is there cannot be.
 pub fn jobs_have_answers()
-    ensures { (asked : Asked) (held : List ℕ → Option (List ℕ)) → asked.limit < 2 ^ 32 → AreOfTheirKinds asked held → IsWithin asked held → ((text : List ℕ) → IsAnswer asked held text → ⊥) → ⊥ }
+    ensures within { (words : List (List ℕ)) (asked : Asked) (held : List ℕ → Option (List ℕ)) → job_of words ≡ Some asked → AreOfTheirKinds asked held → IsWithin asked held → ((text : List ℕ) → IsAnswer asked held text → ⊥) → ⊥ }
+    ensures either { (words : List (List ℕ)) (asked : Asked) (held : List ℕ → Option (List ℕ)) → job_of words ≡ Some asked → AreOfTheirKinds asked held → ((text : List ℕ) → IsAnswer asked held text → ⊥) → (IsTooMuch asked held → ⊥) → ⊥ }
 {}
 
 /// A job whose files are told ends with one status in all runs in which no count rises and no memory is refused.

@@ -1,6 +1,8 @@
-use Rattle.std.proofs.Common.{arith}
-use Rattle.tib_run.proofs.JobsAnswered.{job_answered}
+use Rattle.tib_run.proofs.JobsAnswered.{job_answered, answered_or_more}
 use Rattle.tib_run.proofs.laws.jobs_have_answers.Goals as goal
 
-pub returns : goal.returns
-returns c asked held low = job_answered asked held (omega arith)
+pub returns-clause-within : goal.returns-clause-within
+returns-clause-within c = job_answered
+
+pub returns-clause-either : goal.returns-clause-either
+returns-clause-either c = answered_or_more
