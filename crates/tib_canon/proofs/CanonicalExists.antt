@@ -1,7 +1,7 @@
 -- Each grammar that can be printed has a canonical form: that it has none cannot be.
 use Rattle.tib_cost.specs.declared.Scale.{Scale}
 use Rattle.tib_cost.specs.declared.Scale.TheVariants as scales
-use Rattle.std.proofs.Common.{◌≡◌, ℕ, ◌<◌, ◌≤◌, Bool, List, length, sym, subst, arith, ap, Option}
+use Rattle.std.proofs.Common.{◌≡◌, ℕ, ◌<◌, ◌≤◌, Bool, List, length, sym, subst, arith}
 use Rattle.tib_lex.specs.Lists.{Has, Distinct}
 use Rattle.tib_grammar.specs.GrammarOf.{GrammarOf}
 use Rattle.tib_grammar.specs.Range.{AreInRange, SidesEndInHoles}
@@ -12,7 +12,6 @@ use Rattle.tib_grammar_file.specs.Printable.{IsPlainCost, ArePrintable}
 use Rattle.tib_grammar_file.proofs.Plain.{are_labelled}
 use Rattle.tib_cost.specs.Semiring.{ProductLaws}
 use Rattle.tib_inside.specs.Settling.{costs_in}
-use Rattle.tib_inside.specs.Inside.{AreInsides}
 use Rattle.tib_inside.specs.Trimmed.{IsTrimmed, HasSameSeries}
 use Rattle.tib_inside.proofs.Keeping.{kept}
 use Rattle.tib_inside.proofs.Living.{insides_all}

@@ -1,8 +1,8 @@
 -- Places of values in a list, and rules over these places.
-use Rattle.std.proofs.Common.{◌≡◌, ◌⊎◌, ℕ, ◌<◌, List, [], ◌∷◌, ◌++◌, length, map, get_or, refl, ap, sym, ◌∙◌, subst, arith, suc, inl, inr}
+use Rattle.std.proofs.Common.{◌≡◌, ◌⊎◌, ℕ, ◌<◌, List, [], ◌∷◌, length, map, get_or, refl, ap, sym, ◌∙◌, subst, arith, suc, inl, inr}
 use Rattle.tib_lex.specs.Lists.{Has}
 use Rattle.tib_tree.specs.Trees.{Trees, none, tree, only, relabel, first_of}
-use Rattle.tib_grammar.specs.Sides.{Symbol, label, hole, Side as SideFor, holes, holes_of, side_map, symbol_map, HolesAreLeaves}
+use Rattle.tib_grammar.specs.Sides.{Symbol, label, hole, holes, holes_of, side_map, symbol_map, HolesAreLeaves}
 use Rattle.tib_grammar.specs.GrammarOf.{named_rule}
 use Rattle.tib_grammar.specs.Range.{AllBelow, IsInRange}
 use Rattle.tib_grammar.specs.declared.Rule.{Rule}

@@ -1,5 +1,5 @@
 -- Each grammar has a trimmed one: that it has none cannot be.
-use Rattle.std.proofs.Common.{◌≡◌, ◌⊎◌, ℕ, ◌<◌, List, [], ◌∷◌, ◌++◌, length, map, get_or, ap, sym, ◌∙◌, subst, arith, zero, suc, inl, inr, refl}
+use Rattle.std.proofs.Common.{◌≡◌, ◌⊎◌, ℕ, ◌<◌, List, [], ◌∷◌, ◌++◌, length, map, get_or, sym, subst, arith, zero, suc, inl, inr, refl}
 use Rattle.std.proofs.lemmas.List.{get_or-map, length-map}
 use Rattle.tib_lex.specs.Lists.{Has, Ascends}
 use Rattle.tib_grammar.specs.Sides.{holes_of}
@@ -99,7 +99,7 @@ module _ (product : ℕ → ℕ → ℕ) (g : GrammarOf) (count : ℕ) (some : 0
     all_in_range : AreInRange (length states) (map placed positions)
     all_in_range m h =
         let within : m < length positions = omega (arith, h, length-map positions placed) in
-        subst (IsInRange (length states)) (sym (get_or-map placed positions m 0 no_rule within)) 
+        subst (IsInRange (length states)) (sym (get_or-map placed positions m 0 no_rule within))
         (let h = has_at positions m 0 within in
         placed_in_range same_or_other 0 states (rule_at g.rules (get_or positions m 0)) (left_stands (get_or positions m 0) h) (holes_stand (get_or positions m 0) h))
 

@@ -17,10 +17,11 @@ mod texts;
 pub use begin::{Begin, to_grammar};
 pub use form::canonical;
 pub use laws::{
-    canonical_is_one, canonical_is_printable, canonical_text_is_one, canonical_texts_are_read,
-    insides_are_one_by_text, keys_have_one_canonical, keys_keep_the_series,
-    normal_forms_are_printable, normal_forms_have_one_canonical, normal_texts_are_read,
-    order_is_one, order_keeps_the_series, over_keys_are_printable, over_keys_texts_are_read,
-    trimmed_forms_have_the_same_rules, trimmed_is_printable,
+    canonical_forms_exist, canonical_is_one, canonical_is_printable, canonical_over_keys_exists,
+    canonical_text_is_one, canonical_texts_are_read, insides_are_one_by_text,
+    keys_have_one_canonical, keys_keep_the_series, normal_forms_are_printable,
+    normal_forms_have_one_canonical, normal_texts_are_read, order_is_one, order_keeps_the_series,
+    over_keys_are_printable, over_keys_texts_are_read, trimmed_forms_have_the_same_rules,
+    trimmed_is_printable,
 };
 pub use ordering::Printed;

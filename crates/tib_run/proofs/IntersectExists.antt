@@ -1,14 +1,13 @@
 -- Where two files are the texts of grammars that intersect within the limit, it cannot be that no text answers `intersect`.
 use Rattle.tib_cost.specs.declared.Scale.{Scale}
-use Rattle.std.proofs.Common.{◌≡◌, ℕ, ◌<◌, ◌≤◌, Bool, List, [], length, map, refl, ap, ◌∙◌, sym, subst, arith}
-use Rattle.std.specs.Prelude.{Some, ◌↔◌}
-use Rattle.std.specs.Cmp.{IsTotalOrder}
+use Rattle.std.proofs.Common.{◌≡◌, ℕ, ◌<◌, ◌≤◌, Bool, List, [], length, map, refl, sym, subst, arith}
+use Rattle.std.specs.Prelude.{Some}
 use Rattle.std.specs.Ordering.{nat_cmp}
 use Rattle.std.specs.declared.cmp.Ordering.TheVariants.{Equal}
 use Rattle.tib_lex.specs.Lists.{Distinct}
 use Rattle.tib_tree.specs.Grows.{Grows, AreDistinct}
 use Rattle.tib_grammar.specs.Forms.{AreNormal}
-use Rattle.tib_grammar.specs.Range.{AreInRange, SidesEndInHoles}
+use Rattle.tib_grammar.specs.Range.{SidesEndInHoles}
 use Rattle.tib_grammar.specs.GrammarOf.{GrammarOf, named_rule}
 use Rattle.tib_grammar.specs.declared.Rule.{Rule}
 use Rattle.tib_grammar_file.specs.Printable.{ArePrintable}
@@ -21,7 +20,6 @@ use Rattle.tib_hunt.specs.Reached.{IsReachedSet, parts_of}
 use Rattle.tib_normal.proofs.Forming.{form_range, form_normal}
 use Rattle.tib_inside.specs.Trimmed.{HasSameSeries}
 use Rattle.tib_inside.proofs.StillNormal.{still_normal}
-use Rattle.tib_canon.specs.Keys.{IsCanonicalOverKeys}
 use Rattle.tib_canon.specs.TrimmedForms.{IsTrimmedForm}
 use Rattle.tib_canon.specs.declared.begin.Begin.TheVariants.{At}
 use Rattle.tib_canon.proofs.CanonicalExists.{trimmed_series}
@@ -40,7 +38,7 @@ use Rattle.tib_intersect.proofs.Lists.{same_pair}
 use Rattle.tib_intersect.proofs.PairOrders.{pair_total}
 use Rattle.tib_intersect.proofs.ReachedGrammar.{roots, few_pairs}
 use Rattle.tib_run.specs.Kinds.{IsGrammarFile, IsRead}
-use Rattle.tib_run.specs.Intersections.{HasProductSeries, IsCanonicalOfPairs, IsCanonicalIntersection, HasIntersection, IntersectsWithin, HasSmallIntersection}
+use Rattle.tib_run.specs.Intersections.{HasProductSeries, IsCanonicalOfPairs, HasIntersection, IntersectsWithin, HasSmallIntersection}
 use Rattle.tib_run.proofs.NormalExists.{form_series}
 use Rattle.tib_run.proofs.Pairs.{pairs_end, pairs_printable, product_series, product_of_forms}
 use Rattle.tib_run.proofs.PairsExist.{pair_grammar_there}

@@ -1,7 +1,7 @@
 -- The edges of a reached set of pairs are those of rules over the positions of its order.
-use Rattle.std.proofs.Common.{◌≡◌, ◌⊎◌, ℕ, ◌<◌, ◌≤◌, List, [], ◌∷◌, ◌++◌, length, map, get_or, zip, refl, ap, sym, ◌∙◌, subst, arith, zero, suc, inl, inr}
+use Rattle.std.proofs.Common.{◌≡◌, ◌⊎◌, ℕ, ◌<◌, ◌≤◌, List, [], ◌∷◌, length, map, get_or, zip, ap, sym, subst, arith, zero, suc, inl, inr}
 use Rattle.std.proofs.lemmas.List.{get_or-map, length-map}
-use Rattle.tib_lex.specs.Lists.{Has, Along, Distinct}
+use Rattle.tib_lex.specs.Lists.{Has, Along}
 use Rattle.tib_tree.specs.Trees.{only}
 use Rattle.tib_grammar.specs.Sides.{HolesAreLeaves, holes, leaves, Side as SideFor}
 use Rattle.tib_grammar.specs.GrammarOf.{named_rule}

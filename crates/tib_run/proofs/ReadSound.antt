@@ -1,6 +1,6 @@
 -- A grammar that was read has a start, its states are in range, and nothing stands below a state.
 use Rattle.tib_cost.specs.declared.Scale.{Scale}
-use Rattle.std.proofs.Common.{◌≡◌, ℕ, ◌<◌, ◌≤◌, Bool, List, [], ◌∷◌, ◌++◌, length, ap, sym, ◌∙◌, subst, arith, zero, suc, inl, inr, length-append}
+use Rattle.std.proofs.Common.{◌≡◌, ℕ, ◌<◌, ◌≤◌, List, [], ◌∷◌, ◌++◌, length, ap, sym, subst, arith, zero, suc, inl, inr, length-append}
 use Rattle.std.specs.Prelude.{Some, slice_get}
 use Rattle.tib_lex.specs.Grammar.{Word}
 use Rattle.tib_lex.specs.Lists.{Along}
@@ -9,8 +9,7 @@ use Rattle.tib_tree.specs.Trees.{Trees, none, tree, only}
 use Rattle.tib_tree.specs.Written.{Written, end, leaf, head}
 use Rattle.tib_grammar.specs.Sides.{Symbol, label, hole, holes, HolesAreLeaves}
 use Rattle.tib_grammar.specs.GrammarOf.{GrammarOf}
-use Rattle.tib_grammar.specs.Range.{AllBelow, IsInRange, AreInRange, SidesEndInHoles}
-use Rattle.tib_grammar.specs.Run.{rule_at}
+use Rattle.tib_grammar.specs.Range.{AllBelow, AreInRange, SidesEndInHoles}
 use Rattle.tib_grammar.specs.declared.Rule.{Rule}
 use Rattle.tib_grammar_file.specs.GrammarText.{Means, SpellsRuleOf, GrammarText}
 

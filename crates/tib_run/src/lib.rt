@@ -19,8 +19,8 @@ mod weigh;
 
 pub use command::{run, run_alone};
 pub use laws::{
-    answers_are_one, answers_exclude_too_many, answers_exist, files_have_no_fault, runs_end_alike,
-    statuses_are_one, texts_are_one, within_or_too_many,
+    answers_are_one, answers_exclude_too_many, answers_exist, files_have_no_fault,
+    jobs_have_answers, runs_end_alike, statuses_are_one, texts_are_one, within_or_too_many,
 };
 pub use log::tell;
 pub use status::Status;
