@@ -1,7 +1,7 @@
 -- Where the files of a job are of their kinds, and what it makes of them is within its limit, it cannot be that no text answers.
 use Rattle.tib_cost.specs.declared.Scale.{Scale}
 use Rattle.std.proofs.Common.{◌≡◌, ℕ, ◌<◌, Bool, true, false, List, refl, Option, arith}
-use Rattle.std.specs.Prelude.{Some, None, slice_get}
+use Rattle.std.specs.Prelude.{Some, None, IsSome, slice_get}
 use Rattle.tib_cost.specs.Semiring.{ProductLaws, sum_laws, max_laws, boolean_laws}
 use Rattle.tib_command.specs.Jobs.{Asked, job_of}
 use Rattle.tib_command.specs.declared.job.Mode.{Mode}
@@ -13,7 +13,7 @@ use Rattle.tib_run.specs.Causes.{scale_of, product_of, IsTooMuch}
 use Rattle.tib_run.specs.Kinds.{Kind, of_grammar, of_trees, kinds_of, file_at, bytes_at, OfName, IsOfKind}
 use Rattle.tib_run.proofs.AnswersExist.{weighed_there, insides_there}
 use Rattle.tib_run.proofs.FilesAsked.{limit_asked}
-use Rattle.tib_run.proofs.Limits.{within_or_more}
+use Rattle.tib_run.proofs.Limits.{within_or_more, answer_apart}
 use Rattle.tib_run.proofs.IntersectExists.{intersection_there}
 use Rattle.tib_run.proofs.NormalExists.{normal_there}
 
@@ -57,3 +57,12 @@ pub answered_or_more :
     (words : List (List ℕ)) (asked : Asked) (held : List ℕ → Option (List ℕ)) → job_of words ≡ Some asked → AreOfTheirKinds asked held →
     ((text : List ℕ) → IsAnswer asked held text → ⊥) → (IsTooMuch asked held → ⊥) → ⊥
 answered_or_more words asked held of_words kinds never few = within_or_more asked held kinds (λ within. job_answered words asked held of_words kinds within never) few
+
+-- and not both
+is_told : (o : Option (List ℕ)) (P : List ℕ → Type 0) → OfName o P → IsSome o
+is_told None P h = absurd h
+is_told (Some x) P h = refl
+
+pub answered_not_more : (asked : Asked) (held : List ℕ → Option (List ℕ)) (text : List ℕ) → AreOfTheirKinds asked held → IsAnswer asked held text → IsTooMuch asked held → ⊥
+answered_not_more asked held text kinds =
+    answer_apart asked held text (λ n kind e. is_told (bytes_at held (file_at (Some asked) n)) (IsOfKind (scale_of asked.mode) kind) (kinds n kind e))

@@ -57,11 +57,12 @@ pub fn answers_exist()
     ensures intersection { (levelled weighed : Bool) (scale : Scale) (product : ℕ → ℕ → ℕ) (limit : ℕ) (first second : List ℕ) → ProductLaws levelled weighed product → limit < 2 ^ 32 → IsGrammarFile scale first → IsGrammarFile scale second → HasSmallIntersection scale product limit first second → ((text : List ℕ) → HasIntersection scale product limit (Some first) (Some second) text → ⊥) → ⊥ }
 {}
 
-/// Where the files of a job that words ask for are of their kinds, it has an answer or too many parts: what is within its
-/// limit cannot lack an answer, and that neither is there cannot be.
+/// Where the files of a job that words ask for are of their kinds, it has an answer or too many parts, and not both: what is
+/// within its limit cannot lack an answer, and that neither is there cannot be.
 pub fn jobs_have_answers()
     ensures within { (words : List (List ℕ)) (asked : Asked) (held : List ℕ → Option (List ℕ)) → job_of words ≡ Some asked → AreOfTheirKinds asked held → IsWithin asked held → ((text : List ℕ) → IsAnswer asked held text → ⊥) → ⊥ }
     ensures either { (words : List (List ℕ)) (asked : Asked) (held : List ℕ → Option (List ℕ)) → job_of words ≡ Some asked → AreOfTheirKinds asked held → ((text : List ℕ) → IsAnswer asked held text → ⊥) → (IsTooMuch asked held → ⊥) → ⊥ }
+    ensures apart { (asked : Asked) (held : List ℕ → Option (List ℕ)) (text : List ℕ) → AreOfTheirKinds asked held → IsAnswer asked held text → IsTooMuch asked held → ⊥ }
 {}
 
 /// A job whose files are told ends with one status in all runs in which no count rises and no memory is refused.

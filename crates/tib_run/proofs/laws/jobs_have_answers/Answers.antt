@@ -1,4 +1,4 @@
-use Rattle.tib_run.proofs.JobsAnswered.{job_answered, answered_or_more}
+use Rattle.tib_run.proofs.JobsAnswered.{job_answered, answered_or_more, answered_not_more}
 use Rattle.tib_run.proofs.laws.jobs_have_answers.Goals as goal
 
 pub returns-clause-within : goal.returns-clause-within
@@ -6,3 +6,6 @@ returns-clause-within c = job_answered
 
 pub returns-clause-either : goal.returns-clause-either
 returns-clause-either c = answered_or_more
+
+pub returns-clause-apart : goal.returns-clause-apart
+returns-clause-apart c = answered_not_more
