@@ -10,7 +10,7 @@ mod rows;
 mod running;
 mod watched;
 
-use rows::{BINARY, RIGHT, ROWS, Row};
+use rows::{BINARY, INTERSECTED, ONE_FILE, RIGHT, Row, WEIGHED, WIDEST};
 use running::{Outside, Ran, SOUND, run_words};
 
 // How a run is to end: its status, how many bytes of the row's text are written, and how often the files are read and
@@ -153,20 +153,6 @@ fn runs_throughout<R: Threads + Sync>(
     Ok(true)
 }
 
-// More calls than a row makes where seven bytes go over at a time.
-const CALLS: u64 = 60;
-
-#[test]
-fn the_worked_rows_run(rt: HostRuntime) -> Result<(), Fail> {
-    for (number, row) in ROWS.iter().enumerate() {
-        for most in [7, SOUND.most] {
-            let right = runs_throughout(&rt, rt.alloc(), row, most)?;
-            assert!(rt; right, "row {number}, {most} bytes at a time");
-        }
-    }
-    Ok(())
-}
-
 // Whether as much of a row's text is written as there is room for, one byte less than all.
 fn fills<R: Threads + Sync>(rt: &R, alloc: Global, row: &Row) -> Result<bool, AllocError> {
     let bytes = row.4.len().saturating_sub(1);
@@ -184,12 +170,46 @@ fn fills<R: Threads + Sync>(rt: &R, alloc: Global, row: &Row) -> Result<bool, Al
     Ok(ran.status == status && ran.out.bytes().len() == bytes)
 }
 
-#[test]
-fn a_text_needs_room_for_all_its_bytes(rt: HostRuntime) -> Result<(), Fail> {
-    for (number, row) in ROWS.iter().enumerate() {
-        let filled = fills(&rt, rt.alloc(), row)?;
-        assert!(rt; filled, "row {number}");
+// The first row that does not run as it should, whole and seven bytes at a time, and with room for all its text or not.
+fn first_wrong<R: Threads + Sync>(
+    rt: &R,
+    alloc: Global,
+    rows: &[Row],
+) -> Result<Option<usize>, AllocError> {
+    for (number, row) in rows.iter().enumerate() {
+        for most in [7, SOUND.most] {
+            if !runs_throughout(rt, alloc, row, most)? {
+                return Ok(Some(number));
+            }
+        }
+        if !fills(rt, alloc, row)? {
+            return Ok(Some(number));
+        }
     }
+    Ok(None)
+}
+
+#[test]
+fn trees_are_weighed_as_worked_out(rt: HostRuntime) -> Result<(), Fail> {
+    assert_eq!(rt; first_wrong(&rt, rt.alloc(), &WEIGHED)?, None);
+    Ok(())
+}
+
+#[test]
+fn operations_on_one_file_are_as_worked_out(rt: HostRuntime) -> Result<(), Fail> {
+    assert_eq!(rt; first_wrong(&rt, rt.alloc(), &ONE_FILE)?, None);
+    Ok(())
+}
+
+#[test]
+fn intersections_are_as_worked_out(rt: HostRuntime) -> Result<(), Fail> {
+    assert_eq!(rt; first_wrong(&rt, rt.alloc(), &INTERSECTED)?, None);
+    Ok(())
+}
+
+#[test]
+fn the_mode_widest_is_as_worked_out(rt: HostRuntime) -> Result<(), Fail> {
+    assert_eq!(rt; first_wrong(&rt, rt.alloc(), &WIDEST)?, None);
     Ok(())
 }
 
@@ -224,6 +244,23 @@ const fn fault(file: u32, kind: FaultKind) -> Status {
     }
 }
 
+// How an operation ends whose first file is a comment of so many bytes.
+fn status_of<R: Threads + Sync>(
+    rt: &R,
+    alloc: Global,
+    operation: &str,
+    length: usize,
+) -> Result<Status, AllocError> {
+    let file = vec![in alloc; b'%'; length]?;
+    let other = b"a".to_vec(alloc)?;
+    if operation == "inside" || operation == "normal" {
+        let ran = run_words(rt, alloc, &[operation, "G"], file, other, SOUND)?;
+        return Ok(ran.status);
+    }
+    let ran = run_words(rt, alloc, &[operation, "G", "T"], file, other, SOUND)?;
+    Ok(ran.status)
+}
+
 #[test]
 fn files_are_as_long_as_they_may_be(rt: HostRuntime) -> Result<(), Fail> {
     let alloc = rt.alloc();
@@ -235,15 +272,8 @@ fn files_are_as_long_as_they_may_be(rt: HostRuntime) -> Result<(), Fail> {
         ("normal", 8_388_608, fault(1, FaultKind::NoStart)),
         ("intersect", 8_388_609, Status::TooLong { file: 1 }),
     ] {
-        let file = vec![in alloc; b'%'; length]?;
-        let words = [operation, "G", "T"];
-        let words = if operation == "inside" || operation == "normal" {
-            &words[..2]
-        } else {
-            &words[..]
-        };
-        let ran = run_words(&rt, alloc, words, file, b"a".to_vec(alloc)?, SOUND)?;
-        assert_eq!(rt; ran.status, status, "{operation} of {length} bytes");
+        let ended = status_of(&rt, alloc, operation, length)?;
+        assert_eq!(rt; ended, status, "{operation} of {length} bytes");
     }
     for (children, status) in [
         (10_000, fault(2, FaultKind::TooManyNodes)),

@@ -31,8 +31,8 @@ const NESTED: &str = "q\nq -> f(g(a) q) # 3\nq -> r # 1\nr -> b # 2\n";
 
 const NESTED_NORMAL: &str = "q0\nq0 -> b # 3\nq0 -> f(q1 q0) # 3\nq1 -> g(q2) # 0\nq2 -> a # 0\n";
 
-// The worked rows.
-pub static ROWS: [Row; 77] = [
+// The worked rows on `weigh`, and words that are no command.
+pub static WEIGHED: [Row; 27] = [
     // the cost of a tree
     (
         &["weigh", "G", "T"],
@@ -67,84 +67,6 @@ pub static ROWS: [Row; 77] = [
         "S(a a)\nS(b a)\n",
         Status::Done,
         "S(a a)\nS(b a) # none\n",
-        "",
-    ),
-    // in widest the least weight of a run counts
-    (
-        &["-m", "widest", "weigh", "G", "T"],
-        BINARY,
-        "S(a a)\na\nb\n",
-        Status::Done,
-        "S(a a) # 1\na # 2\nb # none\n",
-        "",
-    ),
-    // the least weight is no missing one, and a missing one is the greatest
-    (
-        &["-mwidest", "weigh", "G", "T"],
-        "q\nq -> a # 0\nq -> c\n",
-        "a\nb\nc\n",
-        Status::Done,
-        "a # 0\nb # none\nc # 1000000000000000\n",
-        "",
-    ),
-    // the greatest weight
-    (
-        &["-m", "widest", "weigh", "G", "T"],
-        "q\nq -> a # 1000000000000000\n",
-        "a\n",
-        Status::Done,
-        "a # 1000000000000000\n",
-        "",
-    ),
-    // a weight above it
-    (
-        &["-m", "widest", "weigh", "G", "T"],
-        "q\nq -> a # 1000000000000001\n",
-        "a\n",
-        Status::BadInput {
-            file: 1,
-            fault: FileFault {
-                line: 2,
-                kind: FaultKind::WeightTooLarge,
-            },
-        },
-        "",
-        "tiburon: file 1: line 2: weight too large\n",
-    ),
-    // the greatest weight of a run from each state
-    (
-        &["-m", "widest", "inside", "G"],
-        UNUSED,
-        "",
-        Status::Done,
-        "q # 0\nr # 1\ns # 4\nu # none\n",
-        "",
-    ),
-    // of equal rules the one of the greatest weight stays
-    (
-        &["normal", "-m", "widest", "G"],
-        "q\nq -> a # 3\nq -> a # 7\nq -> b\n",
-        "",
-        Status::Done,
-        "q0\nq0 -> a # 7\nq0 -> b # 1000000000000000\n",
-        "",
-    ),
-    // a chain has its least weight, and a place of the normal form the greatest
-    (
-        &["-mwidest", "normal", "G"],
-        NESTED,
-        "",
-        Status::Done,
-        "q0\nq0 -> b # 1\nq0 -> f(q1 q0) # 3\nq1 -> g(q2) # 1000000000000000\nq2 -> a # 1000000000000000\n",
-        "",
-    ),
-    // of two weights the lesser counts
-    (
-        &["-m", "widest", "intersect", "G", "T"],
-        BINARY,
-        RIGHT,
-        Status::Done,
-        "q0\nq0 -> S(q0 q1) # 1\nq0 -> a # 1\nq1 -> a # 0\n",
         "",
     ),
     // a file without tokens is no grammar
@@ -389,198 +311,10 @@ pub static ROWS: [Row; 77] = [
         "",
         "tiburon: usage: tiburon [-m MODE] [-k N] [-w N] [--limit N] OPERATION FILE...\n",
     ),
-    // no tree is in both
-    (
-        &["intersect", "G", "T"],
-        "q\nq -> a\n",
-        "p\np -> b\n",
-        Status::Done,
-        "q0\n",
-        "",
-    ),
-    // the product of the costs, from the pair of the starts
-    (
-        &["intersect", "G", "T"],
-        BINARY,
-        RIGHT,
-        Status::Done,
-        "q0\nq0 -> S(q0 q1) # 3\nq0 -> a # 3\nq1 -> a # 2\n",
-        "",
-    ),
-    // the same in bottleneck
-    (
-        &["-mbottleneck", "intersect", "G", "T"],
-        BINARY,
-        RIGHT,
-        Status::Done,
-        "q0\nq0 -> S(q0 q1) # 2\nq0 -> a # 2\nq1 -> a # 2\n",
-        "",
-    ),
-    // the same in Boolean, where no cost is printed
-    (
-        &["intersect", "-m=boolean", "G", "T"],
-        BINARY,
-        RIGHT,
-        Status::Done,
-        "q0\nq0 -> S(q0 q1)\nq0 -> a\nq1 -> a\n",
-        "",
-    ),
-    // the reached set has as many parts as the limit
-    (
-        &["--limit", "14", "intersect", "G", "T"],
-        BINARY,
-        RIGHT,
-        Status::Done,
-        "q0\nq0 -> S(q0 q1) # 3\nq0 -> a # 3\nq1 -> a # 2\n",
-        "",
-    ),
-    // it has one more
-    (
-        &["--limit", "13", "intersect", "G", "T"],
-        BINARY,
-        RIGHT,
-        Status::TooMany { limit: 13 },
-        "",
-        "tiburon: more than 13 parts\n",
-    ),
-    // the second normal form has one more
-    (
-        &["--limit", "9", "intersect", "G", "T"],
-        BINARY,
-        RIGHT,
-        Status::TooMany { limit: 9 },
-        "",
-        "tiburon: more than 9 parts\n",
-    ),
-    // the first has
-    (
-        &["--limit", "6", "intersect", "G", "T"],
-        BINARY,
-        RIGHT,
-        Status::TooMany { limit: 6 },
-        "",
-        "tiburon: more than 6 parts\n",
-    ),
-    // a label over one state is not that label alone
-    (
-        &["intersect", "G", "T"],
-        "q\nq -> f(q) # 1\nq -> f # 2\n",
-        "p\np -> f # 3\n",
-        Status::Done,
-        "q0\nq0 -> f # 5\n",
-        "",
-    ),
-    // a product above the greatest cost is none
-    (
-        &["intersect", "G", "T"],
-        "q\nq -> a # 1000000000000000\nq -> b # 1\n",
-        "p\np -> a # 1\np -> b # 2\n",
-        Status::Done,
-        "q0\nq0 -> b # 3\n",
-        "",
-    ),
-    // in bottleneck the product is the greater one
-    (
-        &["-m", "bottleneck", "intersect", "G", "T"],
-        "q\nq -> a # 1000000000000000\n",
-        "p\np -> a # 1\n",
-        Status::Done,
-        "q0\nq0 -> a # 1000000000000000\n",
-        "",
-    ),
-    // a pair that is reached, but from which no tree is in both
-    (
-        &["intersect", "G", "T"],
-        "q\nq -> f(r) # 1\nq -> c # 1\nr -> a # 1\n",
-        "p\np -> f(s) # 1\np -> c # 1\ns -> b # 1\n",
-        Status::Done,
-        "q0\nq0 -> c # 2\n",
-        "",
-    ),
-    // nested sides and chain rules
-    (
-        &["intersect", "G", "T"],
-        "q\nq -> f(g(a))\n",
-        "p\np -> r # 1\nr -> f(x)\nx -> g(y)\ny -> a # 2\n",
-        Status::Done,
-        "q0\nq0 -> f(q1) # 1\nq1 -> g(q2) # 0\nq2 -> a # 2\n",
-        "",
-    ),
-    // states are named by their keys, not by the order of sight
-    (
-        &["intersect", "G", "T"],
-        "q\nq -> f(s r)\nr -> a\ns -> b\n",
-        "p\np -> f(x y)\nx -> b\ny -> a\n",
-        Status::Done,
-        "q0\nq0 -> f(q2 q1) # 0\nq1 -> a # 0\nq2 -> b # 0\n",
-        "",
-    ),
-    // a label that is the name of a state
-    (
-        &["intersect", "G", "T"],
-        "q\nq -> g(q) # 1\nq -> \"q0\"\n",
-        "p\np -> q0 # 7\n",
-        Status::Done,
-        "q0\nq0 -> \"q0\" # 7\n",
-        "",
-    ),
-    // a grammar with itself
-    (
-        &["intersect", "G", "T"],
-        BINARY,
-        BINARY,
-        Status::Done,
-        "q0\nq0 -> S(q0 q0) # 2\nq0 -> a # 4\n",
-        "",
-    ),
-    // of equal rules the cheapest stays
-    (
-        &["intersect", "G", "T"],
-        "q\nq -> a # 5\nq -> a # 2\n",
-        "p\np -> a # 1\n",
-        Status::Done,
-        "q0\nq0 -> a # 3\n",
-        "",
-    ),
-    // a second file without tokens
-    (
-        &["intersect", "G", "T"],
-        BINARY,
-        "% none\n",
-        Status::BadInput {
-            file: 2,
-            fault: FileFault {
-                line: 1,
-                kind: FaultKind::NoStart,
-            },
-        },
-        "",
-        "tiburon: file 2: line 1: no start\n",
-    ),
-    // the first file's fault comes first
-    (
-        &["intersect", "G", "T"],
-        "q\nq -> S(q",
-        "",
-        Status::BadInput {
-            file: 1,
-            fault: FileFault {
-                line: 2,
-                kind: FaultKind::BadRule,
-            },
-        },
-        "",
-        "tiburon: file 1: line 2: bad rule\n",
-    ),
-    // a file too many
-    (
-        &["intersect", "x", "G", "T"],
-        BINARY,
-        RIGHT,
-        Status::Usage,
-        "",
-        "tiburon: usage: tiburon [-m MODE] [-k N] [-w N] [--limit N] OPERATION FILE...\n",
-    ),
+];
+
+// Those on `inside` and `normal`.
+pub static ONE_FILE: [Row; 22] = [
     // one grammar alone
     // each state, one without a run among them
     (
@@ -793,5 +527,283 @@ pub static ROWS: [Row; 77] = [
         Status::Usage,
         "",
         "tiburon: usage: tiburon [-m MODE] [-k N] [-w N] [--limit N] OPERATION FILE...\n",
+    ),
+];
+
+// Those on `intersect`.
+pub static INTERSECTED: [Row; 20] = [
+    // no tree is in both
+    (
+        &["intersect", "G", "T"],
+        "q\nq -> a\n",
+        "p\np -> b\n",
+        Status::Done,
+        "q0\n",
+        "",
+    ),
+    // the product of the costs, from the pair of the starts
+    (
+        &["intersect", "G", "T"],
+        BINARY,
+        RIGHT,
+        Status::Done,
+        "q0\nq0 -> S(q0 q1) # 3\nq0 -> a # 3\nq1 -> a # 2\n",
+        "",
+    ),
+    // the same in bottleneck
+    (
+        &["-mbottleneck", "intersect", "G", "T"],
+        BINARY,
+        RIGHT,
+        Status::Done,
+        "q0\nq0 -> S(q0 q1) # 2\nq0 -> a # 2\nq1 -> a # 2\n",
+        "",
+    ),
+    // the same in Boolean, where no cost is printed
+    (
+        &["intersect", "-m=boolean", "G", "T"],
+        BINARY,
+        RIGHT,
+        Status::Done,
+        "q0\nq0 -> S(q0 q1)\nq0 -> a\nq1 -> a\n",
+        "",
+    ),
+    // the reached set has as many parts as the limit
+    (
+        &["--limit", "14", "intersect", "G", "T"],
+        BINARY,
+        RIGHT,
+        Status::Done,
+        "q0\nq0 -> S(q0 q1) # 3\nq0 -> a # 3\nq1 -> a # 2\n",
+        "",
+    ),
+    // it has one more
+    (
+        &["--limit", "13", "intersect", "G", "T"],
+        BINARY,
+        RIGHT,
+        Status::TooMany { limit: 13 },
+        "",
+        "tiburon: more than 13 parts\n",
+    ),
+    // the second normal form has one more
+    (
+        &["--limit", "9", "intersect", "G", "T"],
+        BINARY,
+        RIGHT,
+        Status::TooMany { limit: 9 },
+        "",
+        "tiburon: more than 9 parts\n",
+    ),
+    // the first has
+    (
+        &["--limit", "6", "intersect", "G", "T"],
+        BINARY,
+        RIGHT,
+        Status::TooMany { limit: 6 },
+        "",
+        "tiburon: more than 6 parts\n",
+    ),
+    // a label over one state is not that label alone
+    (
+        &["intersect", "G", "T"],
+        "q\nq -> f(q) # 1\nq -> f # 2\n",
+        "p\np -> f # 3\n",
+        Status::Done,
+        "q0\nq0 -> f # 5\n",
+        "",
+    ),
+    // a product above the greatest cost is none
+    (
+        &["intersect", "G", "T"],
+        "q\nq -> a # 1000000000000000\nq -> b # 1\n",
+        "p\np -> a # 1\np -> b # 2\n",
+        Status::Done,
+        "q0\nq0 -> b # 3\n",
+        "",
+    ),
+    // in bottleneck the product is the greater one
+    (
+        &["-m", "bottleneck", "intersect", "G", "T"],
+        "q\nq -> a # 1000000000000000\n",
+        "p\np -> a # 1\n",
+        Status::Done,
+        "q0\nq0 -> a # 1000000000000000\n",
+        "",
+    ),
+    // a pair that is reached, but from which no tree is in both
+    (
+        &["intersect", "G", "T"],
+        "q\nq -> f(r) # 1\nq -> c # 1\nr -> a # 1\n",
+        "p\np -> f(s) # 1\np -> c # 1\ns -> b # 1\n",
+        Status::Done,
+        "q0\nq0 -> c # 2\n",
+        "",
+    ),
+    // nested sides and chain rules
+    (
+        &["intersect", "G", "T"],
+        "q\nq -> f(g(a))\n",
+        "p\np -> r # 1\nr -> f(x)\nx -> g(y)\ny -> a # 2\n",
+        Status::Done,
+        "q0\nq0 -> f(q1) # 1\nq1 -> g(q2) # 0\nq2 -> a # 2\n",
+        "",
+    ),
+    // states are named by their keys, not by the order of sight
+    (
+        &["intersect", "G", "T"],
+        "q\nq -> f(s r)\nr -> a\ns -> b\n",
+        "p\np -> f(x y)\nx -> b\ny -> a\n",
+        Status::Done,
+        "q0\nq0 -> f(q2 q1) # 0\nq1 -> a # 0\nq2 -> b # 0\n",
+        "",
+    ),
+    // a label that is the name of a state
+    (
+        &["intersect", "G", "T"],
+        "q\nq -> g(q) # 1\nq -> \"q0\"\n",
+        "p\np -> q0 # 7\n",
+        Status::Done,
+        "q0\nq0 -> \"q0\" # 7\n",
+        "",
+    ),
+    // a grammar with itself
+    (
+        &["intersect", "G", "T"],
+        BINARY,
+        BINARY,
+        Status::Done,
+        "q0\nq0 -> S(q0 q0) # 2\nq0 -> a # 4\n",
+        "",
+    ),
+    // of equal rules the cheapest stays
+    (
+        &["intersect", "G", "T"],
+        "q\nq -> a # 5\nq -> a # 2\n",
+        "p\np -> a # 1\n",
+        Status::Done,
+        "q0\nq0 -> a # 3\n",
+        "",
+    ),
+    // a second file without tokens
+    (
+        &["intersect", "G", "T"],
+        BINARY,
+        "% none\n",
+        Status::BadInput {
+            file: 2,
+            fault: FileFault {
+                line: 1,
+                kind: FaultKind::NoStart,
+            },
+        },
+        "",
+        "tiburon: file 2: line 1: no start\n",
+    ),
+    // the first file's fault comes first
+    (
+        &["intersect", "G", "T"],
+        "q\nq -> S(q",
+        "",
+        Status::BadInput {
+            file: 1,
+            fault: FileFault {
+                line: 2,
+                kind: FaultKind::BadRule,
+            },
+        },
+        "",
+        "tiburon: file 1: line 2: bad rule\n",
+    ),
+    // a file too many
+    (
+        &["intersect", "x", "G", "T"],
+        BINARY,
+        RIGHT,
+        Status::Usage,
+        "",
+        "tiburon: usage: tiburon [-m MODE] [-k N] [-w N] [--limit N] OPERATION FILE...\n",
+    ),
+];
+
+// Those in the mode widest. (One table of all would be too large a term for the prover.)
+pub static WIDEST: [Row; 8] = [
+    // in widest the least weight of a run counts
+    (
+        &["-m", "widest", "weigh", "G", "T"],
+        BINARY,
+        "S(a a)\na\nb\n",
+        Status::Done,
+        "S(a a) # 1\na # 2\nb # none\n",
+        "",
+    ),
+    // the least weight is no missing one, and a missing one is the greatest
+    (
+        &["-mwidest", "weigh", "G", "T"],
+        "q\nq -> a # 0\nq -> c\n",
+        "a\nb\nc\n",
+        Status::Done,
+        "a # 0\nb # none\nc # 1000000000000000\n",
+        "",
+    ),
+    // the greatest weight
+    (
+        &["-m", "widest", "weigh", "G", "T"],
+        "q\nq -> a # 1000000000000000\n",
+        "a\n",
+        Status::Done,
+        "a # 1000000000000000\n",
+        "",
+    ),
+    // a weight above it
+    (
+        &["-m", "widest", "weigh", "G", "T"],
+        "q\nq -> a # 1000000000000001\n",
+        "a\n",
+        Status::BadInput {
+            file: 1,
+            fault: FileFault {
+                line: 2,
+                kind: FaultKind::WeightTooLarge,
+            },
+        },
+        "",
+        "tiburon: file 1: line 2: weight too large\n",
+    ),
+    // the greatest weight of a run from each state
+    (
+        &["-m", "widest", "inside", "G"],
+        UNUSED,
+        "",
+        Status::Done,
+        "q # 0\nr # 1\ns # 4\nu # none\n",
+        "",
+    ),
+    // of equal rules the one of the greatest weight stays
+    (
+        &["normal", "-m", "widest", "G"],
+        "q\nq -> a # 3\nq -> a # 7\nq -> b\n",
+        "",
+        Status::Done,
+        "q0\nq0 -> a # 7\nq0 -> b # 1000000000000000\n",
+        "",
+    ),
+    // a chain has its least weight, and a place of the normal form the greatest
+    (
+        &["-mwidest", "normal", "G"],
+        NESTED,
+        "",
+        Status::Done,
+        "q0\nq0 -> b # 1\nq0 -> f(q1 q0) # 3\nq1 -> g(q2) # 1000000000000000\nq2 -> a # 1000000000000000\n",
+        "",
+    ),
+    // of two weights the lesser counts
+    (
+        &["-m", "widest", "intersect", "G", "T"],
+        BINARY,
+        RIGHT,
+        Status::Done,
+        "q0\nq0 -> S(q0 q1) # 1\nq0 -> a # 1\nq1 -> a # 0\n",
+        "",
     ),
 ];
