@@ -11,8 +11,8 @@ is_weighted scales.Unweighted = false
 is_weighted scales.Plain = true
 is_weighted scales.Reversed = true
 
--- The cost that a weight stands for: the weight itself, or what it lacks to the greatest one. Where nothing is weighed it is
--- not asked for.
+-- The cost that a weight stands for: the weight itself, or what it lacks to the greatest one. Where
+-- nothing is weighed it is not asked for.
 abbrev pub cost_in : Scale → ℕ → ℕ
 cost_in scales.Unweighted weight = weight
 cost_in scales.Plain weight = weight
@@ -25,12 +25,14 @@ weight_in scales.Plain cost = cost
 weight_in scales.Reversed cost = most - cost
 
 -- each undoes the other
-pub weight_of_cost : (scale : Scale) (weight : ℕ) → weight ≤ most → weight_in scale (cost_in scale weight) ≡ weight
+pub weight_of_cost : (scale : Scale) (weight : ℕ) → weight ≤ most →
+    weight_in scale (cost_in scale weight) ≡ weight
 weight_of_cost scales.Unweighted weight h = refl
 weight_of_cost scales.Plain weight h = refl
 weight_of_cost scales.Reversed weight h = omega (arith, h)
 
-pub cost_of_weight : (scale : Scale) (cost : ℕ) → cost ≤ most → cost_in scale (weight_in scale cost) ≡ cost
+pub cost_of_weight : (scale : Scale) (cost : ℕ) → cost ≤ most →
+    cost_in scale (weight_in scale cost) ≡ cost
 cost_of_weight scales.Unweighted cost h = refl
 cost_of_weight scales.Plain cost h = refl
 cost_of_weight scales.Reversed cost h = omega (arith, h)

@@ -11,9 +11,11 @@ pub fn times_commutes<S: Semiring>()
     ensures { (v w : Option ℕ) → times S.product v w ≡ times S.product w v }
 {}
 
-/// Of three factors the first two or the last two may be taken together, even though each product is cut.
+/// Of three factors the first two or the last two may be taken together, even though each product
+/// is cut.
 pub fn times_regroups<S: Semiring>()
-    ensures { (u v w : Option ℕ) → times S.product (times S.product u v) w ≡ times S.product u (times S.product v w) }
+    ensures { (u v w : Option ℕ) → times S.product (times S.product u v) w
+        ≡ times S.product u (times S.product v w) }
 {}
 
 /// A product with none is none.
@@ -29,7 +31,8 @@ pub fn one_is_neutral<S: Semiring>()
 
 /// A greater factor gives no lesser product, and none is greater than every cost.
 pub fn times_grows<S: Semiring>()
-    ensures { (u v w : Option ℕ) → IsNoGreater v w → IsNoGreater (times S.product u v) (times S.product u w) }
+    ensures { (u v w : Option ℕ) → IsNoGreater v w →
+        IsNoGreater (times S.product u v) (times S.product u w) }
 {}
 
 /// A product is at least each of its factors.
@@ -40,17 +43,21 @@ pub fn times_is_at_least<S: Semiring>()
 
 /// In a levelled semiring a product is the greater factor.
 pub fn times_is_greater<S: Semiring>()
-    ensures { S.LEVELLED ≡ true → (a b : ℕ) → a ≤ most → b ≤ most → times S.product (Some a) (Some b) ≡ Some (max a b) }
+    ensures { S.LEVELLED ≡ true → (a b : ℕ) → a ≤ most → b ≤ most →
+        times S.product (Some a) (Some b) ≡ Some (max a b) }
 {}
 
 /// In a weighted semiring that is not levelled a lesser factor gives a lesser product.
 pub fn times_is_strict<S: Semiring>()
-    ensures { S.LEVELLED ≡ false → S.WEIGHTED ≡ true → (a b c : ℕ) → b < c → IfSome (times S.product (Some a) (Some c)) (λ d. IsBelow (times S.product (Some a) (Some b)) d) }
+    ensures { S.LEVELLED ≡ false → S.WEIGHTED ≡ true → (a b c : ℕ) → b < c →
+        IfSome (times S.product (Some a) (Some c))
+        (λ d. IsBelow (times S.product (Some a) (Some b)) d) }
 {}
 
 /// The product with the lesser of two costs is the lesser of the products.
 pub fn times_distributes<S: Semiring>()
-    ensures { (u v w : Option ℕ) → times S.product u (lesser v w) ≡ lesser (times S.product u v) (times S.product u w) }
+    ensures { (u v w : Option ℕ) → times S.product u (lesser v w)
+        ≡ lesser (times S.product u v) (times S.product u w) }
 {}
 
 /// A residual exists wherever it may be asked for.
@@ -60,8 +67,10 @@ pub fn residual_exists<S: Semiring>()
 
 /// The residual of a cost is the least cost whose product with the other one is that cost.
 pub fn residual_is_least<S: Semiring>()
-    ensures gives { (a m r : ℕ) → a ≤ most → IsResidual S.product a m r → times S.product (Some m) (Some r) ≡ Some a }
-    ensures least { (a m r s : ℕ) → IsResidual S.product a m r → times S.product (Some m) (Some s) ≡ Some a → r ≤ s }
+    ensures gives { (a m r : ℕ) → a ≤ most → IsResidual S.product a m r →
+        times S.product (Some m) (Some r) ≡ Some a }
+    ensures least { (a m r s : ℕ) → IsResidual S.product a m r →
+        times S.product (Some m) (Some s) ≡ Some a → r ≤ s }
 {}
 
 /// Of a weight and its cost each gives the other, and both are at most `MOST`.

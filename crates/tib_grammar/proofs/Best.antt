@@ -11,6 +11,8 @@ use Rattle.tib_grammar.specs.declared.Rule.{Rule}
 use Rattle.tib_cost.specs.Semiring.{ProductLaws}
 use Rattle.tib_cost.specs.Least.{IsLeast, times, lesser}
 use Rattle.tib_cost.proofs.Least.{IsLeast-none}
+use Rattle.tib_lex.proofs.Booleans.{and-both, and-first, and-second}
+use Rattle.tib_lex.proofs.Numbers.{nat_eq_cases}
 
 -- whether a symbol is the label f
 abbrev pub is_label : Symbol ℕ ℕ → ℕ → Bool
@@ -38,9 +40,6 @@ module _ (product : ℕ → ℕ → ℕ) (rules : List (Rule ℕ)) where
   best (tree f kids rest) [] = None
   best (tree f kids rest) (q ∷ qs) = times product (best_rule (best kids) q f (length rules)) (best rest qs)
 
-nat_eq_cases : (g f : ℕ) → ((g ≡ f) × (nat_eq g f ≡ true)) ⊎ ((g ≡ f → ⊥) × (nat_eq g f ≡ false))
-nat_eq_cases g f = grind (arith, nat_tests)
-
 pub is_label_cases : (s : Symbol ℕ ℕ) (f : ℕ) → ((s ≡ label f) × (is_label s f ≡ true)) ⊎ ((s ≡ label f → ⊥) × (is_label s f ≡ false))
 is_label_cases (label g) f = elim (nat_eq_cases g f) [ inl h ↦ inl (ap label h.0, h.1) | inr h ↦ inr (λ e. h.0 (cc e), h.1) ]
 is_label_cases (hole p) f = inr (λ e. cc, refl)
@@ -48,20 +47,11 @@ is_label_cases (hole p) f = inr (λ e. cc, refl)
 fits_cases : (r : Rule ℕ) (q f : ℕ) → ((r.left ≡ q) × (r.right.label ≡ label f) × (fits r q f ≡ true)) ⊎ ((r.left ≡ q → r.right.label ≡ label f → ⊥) × (fits r q f ≡ false))
 fits_cases r q f = elim (nat_eq_cases r.left q) [
   | inl h ↦ elim (is_label_cases r.right.label f) [
-    | inl k ↦ inl (h.0, k.0, both h.1 k.1)
-    | inr k ↦ inr (λ _ e. k.0 e, second h.1 k.1)
+    | inl k ↦ inl (h.0, k.0, and-both _ _ h.1 k.1)
+    | inr k ↦ inr (λ _ e. k.0 e, and-second h.1 k.1)
   ]
-  | inr h ↦ inr (λ e _. h.0 e, first _ h.1)
+  | inr h ↦ inr (λ e _. h.0 e, and-first _ h.1)
 ]
-  where
-    both : {a b : Bool} → a ≡ true → b ≡ true → (a && b) ≡ true
-    both e k = rw (e, k)
-
-    second : {a b : Bool} → a ≡ true → b ≡ false → (a && b) ≡ false
-    second e k = rw (e, k)
-
-    first : {a : Bool} (b : Bool) → a ≡ false → (a && b) ≡ false
-    first b e = rw e
 
 module _ {levelled weighted : Bool} {product : ℕ → ℕ → ℕ} (laws : ProductLaws levelled weighted product) (rules : List (Rule ℕ)) (normal : AreNormal rules) where
   best_rule-is_least :

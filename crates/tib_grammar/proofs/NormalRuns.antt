@@ -10,6 +10,7 @@ use Rattle.tib_grammar.proofs.Sides.{count-fill, holes_of-label, fill-normal}
 use Rattle.tib_cost.specs.Semiring.{ProductLaws}
 use Rattle.tib_cost.specs.Least.{IsLeast, Products, times, lesser}
 use Rattle.tib_cost.proofs.Least.{IsLeast-same, IsLeast-products, IsLeast-one, IsLeast-none, IsLeast-scaled, IsLeast-either, IsLeast-either_none}
+use Rattle.tib_lex.proofs.Numbers.{below_cases}
 
 pub label_named : (s : Symbol ℕ ℕ) → IsLabel s → (f : ℕ) × (s ≡ label f)
 label_named (label f) h = (f, refl)
@@ -111,9 +112,6 @@ module _ {levelled weighted : Bool} {product : ℕ → ℕ → ℕ} (laws : Prod
       IsLeast (IsCost product rules (q ∷ qs) (tree f kids rest)) (times product v w)
   IsLeast-one_more q qs f kids rest h k =
       IsLeast-same (merge_all q qs f kids rest) (split_all q qs f kids rest) (IsLeast-products laws h k)
-
-below_cases : (n m : ℕ) → n < m + 1 → (n < m) ⊎ (n ≡ m)
-below_cases n m h = grind arith
 
 -- c is the cost of a run from q that begins with the rule n and yields f over kids
 pub record Begins (product : ℕ → ℕ → ℕ) (rules : List (Rule ℕ)) (q f : ℕ) (kids : Trees ℕ) (n c : ℕ) : Type 0 where

@@ -9,6 +9,8 @@ use Rattle.tib_lex.specs.Lists.{Has}
 use Rattle.tib_grammar.specs.Checked.{IsFirstPlace}
 use Rattle.tib_grammar.specs.declared.Item.{Item}
 use Rattle.tib_grammar.specs.declared.Item.TheVariants.{Label, Hole}
+use Rattle.tib_lex.proofs.Booleans.{and-true, or-either, or-neither}
+use Rattle.tib_lex.proofs.Numbers.{nat_eq-true, nat_eq-itself}
 
 -- a test of items by their fields
 pub record IsItemTest (E : Item ℕ → Item ℕ → Bool) : Type 0 where
@@ -17,45 +19,27 @@ pub record IsItemTest (E : Item ℕ → Item ℕ → Bool) : Type 0 where
   pub hole_label : (p g s : ℕ) → E (Hole p) (Label g s) ≡ false
   pub holes : (p q : ℕ) → E (Hole p) (Hole q) ≡ nat_eq p q
 
-both : (a b : Bool) → (a && b) ≡ true → (a ≡ true) × (b ≡ true)
-both true b e = (refl, e)
-both false b e = absurd (cc)
-
-either : (a b : Bool) → (a || b) ≡ true → (a ≡ true) ⊎ ((a ≡ false) × (b ≡ true))
-either true b e = inl refl
-either false b e = inr (refl, e)
-
-neither : (a b : Bool) → (a || b) ≡ false → (a ≡ false) × (b ≡ false)
-neither true b e = absurd (cc)
-neither false b e = (refl, e)
-
-nat_same : (a b : ℕ) → nat_eq a b ≡ true → a ≡ b
-nat_same a b e = grind (arith, nat_tests)
-
-nat_itself : (a : ℕ) → nat_eq a a ≡ true
-nat_itself a = grind (arith, nat_tests)
-
 module _ (E : Item ℕ → Item ℕ → Bool) (test : IsItemTest E) where
   item_same : (x y : Item ℕ) → E x y ≡ true → x ≡ y
   item_same (Label f r) (Label g s) e =
-      let parts = both (nat_eq f g) (nat_eq r s) (sym (test.labels f r g s) ∙ e) in
-      let labels : f ≡ g = nat_same f g parts.0 in
-      let ranks : r ≡ s = nat_same r s parts.1 in
+      let parts = and-true (nat_eq f g) (nat_eq r s) (sym (test.labels f r g s) ∙ e) in
+      let labels : f ≡ g = nat_eq-true f g parts.0 in
+      let ranks : r ≡ s = nat_eq-true r s parts.1 in
       cc
   item_same (Label f r) (Hole q) e = absurd (true≢false (sym e ∙ test.label_hole f r q))
   item_same (Hole p) (Label g s) e = absurd (true≢false (sym e ∙ test.hole_label p g s))
-  item_same (Hole p) (Hole q) e = ap Hole (nat_same p q (sym (test.holes p q) ∙ e))
+  item_same (Hole p) (Hole q) e = ap Hole (nat_eq-true p q (sym (test.holes p q) ∙ e))
 
   item_itself : (x : Item ℕ) → E x x ≡ true
-  item_itself (Label f r) = test.labels f r f r ∙ rw (nat_itself f, nat_itself r) refl
-  item_itself (Hole p) = test.holes p p ∙ nat_itself p
+  item_itself (Label f r) = test.labels f r f r ∙ rw (nat_eq-itself f, nat_eq-itself r) refl
+  item_itself (Hole p) = test.holes p p ∙ nat_eq-itself p
 
   items_same : (xs ys : List (Item ℕ)) → pointwise E xs ys ≡ true → xs ≡ ys
   items_same [] [] e = refl
   items_same [] (y ∷ ys) e = absurd (cc)
   items_same (x ∷ xs) [] e = absurd (cc)
   items_same (x ∷ xs) (y ∷ ys) e =
-      let parts = both (E x y) (pointwise E xs ys) e in
+      let parts = and-true (E x y) (pointwise E xs ys) e in
       let head : x ≡ y = item_same x y parts.0 in
       let tail : xs ≡ ys = items_same xs ys parts.1 in
       cc
@@ -71,12 +55,12 @@ module _ (E : Item ℕ → Item ℕ → Bool) (test : IsItemTest E) where
     absent : (keys : List K) → list_any (λ k. pointwise E (v x) (v k)) keys ≡ false → Has (map v keys) (v x) → ⊥
     absent [] f h = h
     absent (k ∷ keys) f h =
-        let parts = neither (pointwise E (v x) (v k)) (list_any (λ k. pointwise E (v x) (v k)) keys) f in
+        let parts = or-neither (pointwise E (v x) (v k)) (list_any (λ k. pointwise E (v x) (v k)) keys) f in
         elim h [ inl e ↦ apart k parts.0 e | inr m ↦ absent keys parts.1 m ]
 
     first_place : (keys : List K) → list_any (λ k. pointwise E (v x) (v k)) keys ≡ true → IsFirstPlace (map v keys) (v x) (position_or_len (λ k. pointwise E (v x) (v k)) keys)
     first_place [] e = absurd (cc)
-    first_place (k ∷ keys) e = elim (either (pointwise E (v x) (v k)) (list_any (λ k. pointwise E (v x) (v k)) keys) e) [
+    first_place (k ∷ keys) e = elim (or-either (pointwise E (v x) (v k)) (list_any (λ k. pointwise E (v x) (v k)) keys) e) [
       | inl t ↦ here k keys (pointwise E (v x) (v k)) t (sym (items_same (v x) (v k) t))
       | inr m ↦ there k keys (pointwise E (v x) (v k)) m.0 (apart k m.0) (position_or_len (λ k. pointwise E (v x) (v k)) keys) (first_place keys m.1)
     ]

@@ -3,6 +3,7 @@ use Rattle.std.proofs.Common.{◌≡◌, ℕ, List, [], ◌∷◌, ◌++◌, len
 use Rattle.std.proofs.lemmas.List.{length-map, map-append}
 use Rattle.tib_tree.specs.Trees.{Trees, none, tree, count, first_trees, other_trees, only, relabel, preorder, count-other}
 use Rattle.tib_grammar.specs.Sides.{Symbol, label, hole, Side, holes, holes_of, fill, AreHoles, HolesAreLeaves, leaves, over, Lone, symbol_map}
+use Rattle.tib_lex.proofs.Lists.{append_nil}
 
 pub count-fill : {A P : Type 0} (s : Trees (Symbol A P)) (ts : Trees A) → count ts ≡ length (holes s) → count (fill s ts) ≡ count s
 count-fill none ts h = refl
@@ -17,10 +18,6 @@ fill-AreHoles none (tree f us ts) a h = absurd (omega arith)
 fill-AreHoles (tree (label f) kids rest) ts a h = absurd a
 fill-AreHoles (tree (hole p) kids rest) none a h = absurd (omega arith)
 fill-AreHoles (tree (hole p) kids rest) (tree f us ts) a h = ap (tree f us) (fill-AreHoles rest ts a (omega arith))
-
-pub append_nil : {A : Type 0} (xs : List A) → xs ++ [] ≡ xs
-append_nil [] = refl
-append_nil (x ∷ xs) = ap (λ y. x ∷ y) (append_nil xs)
 
 pub first_all : {A : Type 0} (ts : Trees A) (n : ℕ) → n ≡ count ts → first_trees n ts ≡ ts
 first_all none zero h = refl

@@ -12,17 +12,8 @@ use lib.Pointwise.{bytes_decides}
 use Rattle.tib_lex.specs.Lists.{Has, Distinct}
 use Rattle.tib_grammar.specs.StateName.{IsStateName, AreStateNames}
 use Rattle.tib_grammar.proofs.Members.{has_at, each_more, distinct_more}
-
-prefix_len-map : (p : List ℕ → Bool) (keys : List (Vec ℕ)) → prefix_len (λ k. p k.items) keys ≡ prefix_len p (map (λ k. k.items) keys)
-prefix_len-map p [] = refl
-prefix_len-map p (k ∷ ks) = ap (λ n. cond (p k.items) (1 + n) 0) (prefix_len-map p ks)
-
-position-map : (p : List ℕ → Bool) (keys : List (Vec ℕ)) → position (λ k. p k.items) keys ≡ position p (map (λ k. k.items) keys)
-position-map p keys =
-    let e : prefix_len (λ k. not (p k.items)) keys ≡ prefix_len (λ t. not (p t)) (map (λ k. k.items) keys) = prefix_len-map (λ t. not (p t)) keys in
-    let l : length keys ≡ length (map (λ k. k.items) keys) = sym (length-map keys (λ k. k.items)) in
-    ap (λ n. cond (nat_lt n (length keys)) (Some n) None) e
-    ∙ ap (λ m. cond (nat_lt (prefix_len (λ t. not (p t)) (map (λ k. k.items) keys)) m) (Some (prefix_len (λ t. not (p t)) (map (λ k. k.items) keys))) None) l
+use Rattle.tib_lex.proofs.Booleans.{or-true}
+use Rattle.tib_lex.proofs.Lists.{position-map}
 
 -- a text that was found stands at its place
 pub found_at :
@@ -37,12 +28,8 @@ pub has_held : (text : List ℕ) (keys : List (Vec ℕ)) → Has (map (λ k. k.i
 has_held text [] h = absurd h
 has_held text (k ∷ ks) h = elim h [
   | inl e ↦ let t : pointwise nat_eq text k.items ≡ true = (bytes_decides text k.items).1 (sym e) in rw t
-  | inr m ↦ rw (has_held text ks m) (or_true (pointwise nat_eq text k.items))
+  | inr m ↦ rw (has_held text ks m) (or-true (pointwise nat_eq text k.items))
 ]
-  where
-    or_true : (b : Bool) → (b || true) ≡ true
-    or_true true = refl
-    or_true false = refl
 
 pub held_has : (text : List ℕ) (keys : List (Vec ℕ)) → list_any (λ k. pointwise nat_eq text k.items) keys ≡ true → Has (map (λ k. k.items) keys) text
 held_has text [] e = absurd (cc)

@@ -43,12 +43,13 @@ pub record IsStartChain (rules : List (Rule ℕ)) (r : Rule ℕ) : Type 0 where
 abbrev pub IsShaped : List (Rule ℕ) → Rule ℕ → Type 0
 IsShaped rules r = IsNormalSide r.right ⊎ IsStartChain rules r
 
--- Deterministic form (bottom-up determinism, Comon et al. 2007): each right side is one label over states, or a
--- lone state in a rule of the start while the start stands in no right side; and no two rules have the same right
--- side.
+-- Deterministic form (bottom-up determinism, Comon et al. 2007): each right side is one label over
+-- states, or a lone state in a rule of the start while the start stands in no right side; and no
+-- two rules have the same right side.
 pub record IsDeterministic (rules : List (Rule ℕ)) : Type 0 where
   pub shaped : (n : ℕ) → n < length rules → IsShaped rules (rule_at rules n)
-  pub apart : (m n : ℕ) → m < length rules → n < length rules → (rule_at rules m).right ≡ (rule_at rules n).right → m ≡ n
+  pub apart : (m n : ℕ) → m < length rules → n < length rules →
+      (rule_at rules m).right ≡ (rule_at rules n).right → m ≡ n
 
 -- no rule before n has its right side
 abbrev pub IsNew : List (Rule ℕ) → ℕ → Type 0
@@ -59,7 +60,8 @@ pub record IsNested (r : Rule ℕ) : Type 0 where
   pub not_normal : IsNormalSide r.right → ⊥
   pub not_lone : IsLoneState r.right → ⊥
 
--- a lone state on the right, but not in a rule of the start, or while the start stands in some right side
+-- a lone state on the right, but not in a rule of the start, or while the start stands in some
+-- right side
 pub record IsBrokenChain (rules : List (Rule ℕ)) (r : Rule ℕ) : Type 0 where
   pub lone : IsLoneState r.right
   pub broken : (r.left ≡ 0 → ⊥) ⊎ StandsInSide rules 0

@@ -14,8 +14,8 @@ no_rule = record { left = 0; right = record { label = label 0; kids = none }; co
 abbrev pub rule_at : List (Rule ℕ) → ℕ → Rule ℕ
 rule_at rules n = get_or rules n no_rule
 
--- A run is a tree of positions of rules. For each state of a list there is a run: its root is a rule of the
--- state, and below it stands a run for each hole of the rule's right side, in preorder.
+-- A run is a tree of positions of rules. For each state of a list there is a run: its root is a
+-- rule of the state, and below it stands a run for each hole of the rule's right side, in preorder.
 abbrev pub AreRuns : List (Rule ℕ) → List ℕ → Trees ℕ → Type 0
 AreRuns rules [] none = Unit {0}
 AreRuns rules [] (tree n runs rest) = ⊥
@@ -26,10 +26,12 @@ AreRuns rules (q ∷ qs) (tree n runs rest) =
     × AreRuns rules (holes_of (rule_at rules n).right) runs
     × AreRuns rules qs rest
 
--- each run yields the right side of its rule with what the runs below it yield in place of the holes
+-- each run yields the right side of its rule with what the runs below it yield in place of the
+-- holes
 abbrev pub yields : List (Rule ℕ) → Trees ℕ → Trees ℕ
 yields rules none = none
-yields rules (tree n runs rest) = join (fill (only (rule_at rules n).right) (yields rules runs)) (yields rules rest)
+yields rules (tree n runs rest) =
+    join (fill (only (rule_at rules n).right) (yields rules runs)) (yields rules rest)
 
 -- the product of the costs of the rules of all runs
 abbrev pub cost : (ℕ → ℕ → ℕ) → List (Rule ℕ) → Trees ℕ → ℕ
@@ -38,7 +40,8 @@ cost product rules (tree n runs rest) =
     product (product (rule_at rules n).cost (cost product rules runs)) (cost product rules rest)
 
 -- c is the cost of some runs from the states qs that yield the trees ts
-pub record IsCost (product : ℕ → ℕ → ℕ) (rules : List (Rule ℕ)) (qs : List ℕ) (ts : Trees ℕ) (c : ℕ) : Type 0 where
+pub record IsCost (product : ℕ → ℕ → ℕ) (rules : List (Rule ℕ)) (qs : List ℕ) (ts : Trees ℕ)
+    (c : ℕ) : Type 0 where
   pub runs : Trees ℕ
   pub are_runs : AreRuns rules qs runs
   pub yielded : yields rules runs ≡ ts

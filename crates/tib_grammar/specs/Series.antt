@@ -1,5 +1,5 @@
--- The series of a grammar (a recognizable tree series, Berstel and Reutenauer 1982), and grammars whose rules cover
--- those of another.
+-- The series of a grammar (a recognizable tree series, Berstel and Reutenauer 1982), and grammars
+-- whose rules cover those of another.
 use Rattle.std.specs.Prelude.{◌≡◌, ℕ, ◌≤◌, List, [], ◌∷◌, Option}
 use Rattle.tib_lex.specs.Lists.{Has}
 use Rattle.tib_tree.specs.Trees.{Tree, only}
@@ -7,7 +7,8 @@ use Rattle.tib_grammar.specs.Run.{IsCost}
 use Rattle.tib_grammar.specs.declared.Rule.{Rule}
 use Rattle.tib_cost.specs.Least.{IsLeast}
 
--- v is the series of the grammar at the state q and the tree t: the least cost of a run from q that yields t
+-- v is the series of the grammar at the state q and the tree t: the least cost of a run from q that
+-- yields t
 abbrev pub IsSeriesAt : (ℕ → ℕ → ℕ) → List (Rule ℕ) → ℕ → Tree ℕ → Option ℕ → Type 0
 IsSeriesAt product rules q t v = IsLeast (IsCost product rules (q ∷ []) (only t)) v
 

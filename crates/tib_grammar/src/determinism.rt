@@ -97,7 +97,8 @@ fn start_stands_in(rules: &[Rule<u32>]) -> bool
 
 // The fault of a rule's right side by itself, if it has one.
 fn shape_fault(rule: &Rule<u32>, number: u32, start_is_used: bool) -> Option<DeterminismFault>
-    ensures { (rules : List (Rule ℕ)) → TellsStart rules start_is_used → IsShapeFault rules rule.now number result }
+    ensures { (rules : List (Rule ℕ)) → TellsStart rules start_is_used →
+        IsShapeFault rules rule.now number result }
 {
     if is_normal_rule(rule) {
         return None;
@@ -114,12 +115,14 @@ fn shape_fault(rule: &Rule<u32>, number: u32, start_is_used: bool) -> Option<Det
     None
 }
 
-// Notes the items of a right side behind those noted before. If equal ones are among them, it answers their place.
+// Notes the items of a right side behind those noted before. If equal ones are among them, it
+// answers their place.
 fn note<'a>(
     sides: &mut IndexSet<&'a [Item<u32>]>,
     items: &'a [Item<u32>],
 ) -> Result<Option<usize>, AllocError>
-    ensures { IfOk result (λ r. IsNoted (map (λ k. k.now) sides.old.keys) items.now r (map (λ k. k.now) sides.new.keys)) }
+    ensures { IfOk result (λ r. IsNoted (map (λ k. k.now) sides.old.keys) items.now r (map (λ k.
+        k.now) sides.new.keys)) }
 {
     let (place, is_new) = sides.insert_full(items)?;
     Ok(if is_new { None } else { Some(place) })
@@ -158,9 +161,9 @@ impl<S> Grammar<S> {
         are_normal(&self.rules)
     }
 
-    /// The grammar as one in deterministic form, or the fault of the first rule that is not: its right side is nested,
-    /// else a chain out of place, else one that stood before. Right sides are found again by a hash of their items, so
-    /// the time is that of one pass over the rules.
+    /// The grammar as one in deterministic form, or the fault of the first rule that is not: its
+    /// right side is nested, else a chain out of place, else one that stood before. Right sides are
+    /// found again by a hash of their items, so the time is that of one pass over the rules.
     pub fn deterministic(&self, alloc: Global) -> Result<Deterministic<'_, S>, DeterminismFault>
         ensures same { IfOk result (λ d. d ≡ self.now) }
         ensures form { OnOk result (IsDeterministic self.now.rules) }

@@ -50,14 +50,16 @@ fn are_in_range(rules: &[Rule<u32>], n: u32) -> bool
 }
 
 impl<S> Grammar<S> {
-    /// A grammar of these names and rules. It answers none exactly where there is no name or a rule has a state whose
-    /// number is not below the number of names. It takes no memory.
+    /// A grammar of these names and rules. It answers none exactly where there is no name or a rule
+    /// has a state whose number is not below the number of names. It takes no memory.
     pub fn new(names: Names, rules: Vec<Rule<u32>>) -> Option<Grammar<S>>
         requires { length rules.items < 2 ^ 32 }
         ensures names { IfSome result (λ g. g.names ≡ names) }
         ensures rules { IfSome result (λ g. g.rules ≡ rules.items) }
-        ensures some { IfSome result (λ _. (0 < length names) × AreInRange (length names) rules.items) }
-        ensures none { result ≡ None → 0 < length names → AreInRange (length names) rules.items → ⊥ }
+        ensures some { IfSome result (λ _. (0 < length names)
+            × AreInRange (length names) rules.items) }
+        ensures none { result ≡ None → 0 < length names → AreInRange (length names) rules.items →
+            ⊥ }
     {
         names.is_sound();
         let states = names.len();
@@ -71,9 +73,9 @@ impl<S> Grammar<S> {
         })
     }
 
-    /// What holds of each grammar: there is a start, its names are distinct state names, the states of its rules have
-    /// names, its rules are fewer than 2^32, nothing stands below a hole, so a right side with a state at its root is
-    /// that lone state.
+    /// What holds of each grammar: there is a start, its names are distinct state names, the states
+    /// of its rules have names, its rules are fewer than 2^32, nothing stands below a hole, so a
+    /// right side with a state at its root is that lone state.
     pub fn is_sound(&self)
         ensures start { 0 < length self.now.names }
         ensures names { AreStateNames self.now.names }

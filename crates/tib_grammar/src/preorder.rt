@@ -59,12 +59,13 @@ fn items_over(
 }
 
 impl<P: Drop> Side<P> {
-    /// The side whose preorder the items are. It answers `NotATree` exactly where they are not the preorder of one
-    /// tree, and it takes no memory.
+    /// The side whose preorder the items are. It answers `NotATree` exactly where they are not the
+    /// preorder of one tree, and it takes no memory.
     pub fn from_preorder(items: Vec<Item<P>>) -> Result<Side<P>, ShapeError>
         requires { length items.items < 2 ^ 32 }
         ensures side { IfOk result (λ s. preorder_of s ≡ pairs_of items.items) }
-        ensures not_a_tree { result ≡ Err ShapeError.NotATree → (s : SideFor ℕ P) → preorder_of s ≡ pairs_of items.items → ⊥ }
+        ensures not_a_tree { result ≡ Err ShapeError.NotATree → (s : SideFor ℕ P) →
+            preorder_of s ≡ pairs_of items.items → ⊥ }
         ensures no_memory { result ≢ Err ShapeError.OutOfMemory }
     {
         if is_one_side(&items) {

@@ -27,13 +27,15 @@ fn is_state_name(text: &[u8]) -> bool
 }
 
 impl Names {
-    /// The texts as names, in their order. It answers none exactly where a text is not a state name, which is a
-    /// nonempty run of name bytes without a full stop that is not `->`, or stands twice.
+    /// The texts as names, in their order. It answers none exactly where a text is not a state
+    /// name, which is a nonempty run of name bytes without a full stop that is not `->`, or stands
+    /// twice.
     pub fn from_list(alloc: Global, texts: Vec<Vec<u8>>) -> Result<Option<Names>, AllocError>
         requires { length texts.items < 2 ^ 32 }
         ensures same { IfOk result (λ r. IfSome r (λ n. n ≡ map (λ text. text.items) texts.items)) }
         ensures sound { IfOk result (λ r. IfSome r (λ n. AreStateNames n)) }
-        ensures none { IfOk result (λ r. r ≡ None → AreStateNames (map (λ text. text.items) texts.items) → ⊥) }
+        ensures none { IfOk result (λ r. r ≡ None → AreStateNames (map (λ text.
+            text.items) texts.items) → ⊥) }
     {
         let mut names = IndexSet::with_capacity(alloc, texts.len())?;
         for text in texts {
@@ -74,7 +76,8 @@ impl Names {
         }
     }
 
-    /// What holds of all names: each is a state name, none stands twice, and they are fewer than 2^32.
+    /// What holds of all names: each is a state name, none stands twice, and they are fewer than
+    /// 2^32.
     pub fn is_sound(&self)
         ensures names { AreStateNames self.now }
         ensures few { length self.now < 2 ^ 32 }

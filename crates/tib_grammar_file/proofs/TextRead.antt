@@ -36,6 +36,7 @@ use Rattle.tib_grammar_file.proofs.Meanings.{side_means, meant_side, meant_count
 use Rattle.tib_grammar_file.proofs.FirstFaults.{faults_exact}
 use Rattle.tib_grammar_file.proofs.RowsRead.{IsRow, IsFew, begun_back, begun_forth}
 use Rattle.tib_grammar_file.proofs.WholeWeights.{cost_back, cost_forth}
+use Rattle.tib_io.specs.Reads.{most_bytes}
 
 -- a rule that stands for a line is spelled by its tokens
 rule_spelled : (scale : Scale) (names labels : List (List ℕ)) (words : List Word) (line : RuleLine) (rule : Rule ℕ) → IsRow scale words line → IsRule names labels rule line → SpellsRuleOf scale names labels words rule
@@ -264,7 +265,7 @@ all_small scale (w ∷ rows) (l ∷ lines) a f =
     (record { tree = record { tree = a.0.spelled.tree; one = a.0.spelled.one; nodes = a.0.spelled.nodes }; few = f.0 }, all_small scale rows lines a.1 f.1)
 
 -- what was read makes a grammar
-pub is_source : (scale : Scale) (bytes : List ℕ) (names texts : List (List ℕ)) (raw : RawRules) → length bytes ≤ 8388608 → (r : IsRawGrammar [] names texts raw (grammar_of scale bytes)) → IsSource names texts raw r.start r.lines
+pub is_source : (scale : Scale) (bytes : List ℕ) (names texts : List (List ℕ)) (raw : RawRules) → length bytes ≤ most_bytes → (r : IsRawGrammar [] names texts raw (grammar_of scale bytes)) → IsSource names texts raw r.start r.lines
 unfolding grammar_of
 is_source scale bytes names texts raw short r =
     let b = begun_back scale 1 (lines_of bytes) r.start r.lines r.read in
@@ -278,7 +279,7 @@ is_source scale bytes names texts raw short r =
       few_rules = omega (arith, few, long, lines_long bytes);
     }
 
-pub reads_as : (scale : Scale) (labels : List (List ℕ)) (bytes : List ℕ) (names texts : List (List ℕ)) (raw : RawRules) (g : GrammarOf) → length bytes ≤ 8388608 → IsRawGrammar [] names texts raw (grammar_of scale bytes) → ((start : List ℕ) (lines : List RuleLine) → IsSource names texts raw start lines → IsGrammarOf labels g start lines) → ReadsAs scale labels bytes g
+pub reads_as : (scale : Scale) (labels : List (List ℕ)) (bytes : List ℕ) (names texts : List (List ℕ)) (raw : RawRules) (g : GrammarOf) → length bytes ≤ most_bytes → IsRawGrammar [] names texts raw (grammar_of scale bytes) → ((start : List ℕ) (lines : List RuleLine) → IsSource names texts raw start lines → IsGrammarOf labels g start lines) → ReadsAs scale labels bytes g
 reads_as scale labels bytes names texts raw g short r all =
     let is = all r.start r.lines (is_source scale bytes names texts raw short r) in
     record { text = text_back scale labels bytes g r.start r.lines r.read is; small = small_back scale labels bytes g r.start r.lines r.read is }
@@ -299,7 +300,7 @@ pub texts_end : (names : List (List ℕ)) (n : ℕ) (texts : List (Vec ℕ)) →
 texts_end names n texts h e = e ∙ take_all n names h
 
 -- rules that stand for lines are in range of the names, which have a start
-pub built_over : (names texts labels states : List (List ℕ)) (raw : RawRules) (start : List ℕ) (lines : List RuleLine) (rules : List (Rule ℕ)) → IsSource names texts raw start lines → states ≡ names → Along (IsRule names labels) rules lines → (0 < length states) × AreInRange (length states) rules × (length rules ≤ 8388608)
+pub built_over : (names texts labels states : List (List ℕ)) (raw : RawRules) (start : List ℕ) (lines : List RuleLine) (rules : List (Rule ℕ)) → IsSource names texts raw start lines → states ≡ names → Along (IsRule names labels) rules lines → (0 < length states) × AreInRange (length states) rules × (length rules ≤ most_bytes)
 built_over names texts labels states raw start lines rules s same are = (
   omega (arith, ap length same, some_name start (map left_of lines) names s.added),
   subst (λ (n : ℕ). AreInRange n rules) (sym (ap length same)) (all_in_range names labels rules lines are),
@@ -317,12 +318,12 @@ built names texts labels states raw start lines rules g s same n r are =
 pub raw_from : (scale : Scale) (bytes : List ℕ) (before names texts : List (List ℕ)) (raw : RawRules) → before ≡ [] → IsRawGrammar before names texts raw (grammar_of scale bytes) → IsRawGrammar [] names texts raw (grammar_of scale bytes)
 raw_from scale bytes before names texts raw e r = subst (λ (b : List (List ℕ)). IsRawGrammar b names texts raw (grammar_of scale bytes)) e r
 
-pub source_of : (scale : Scale) (bytes : List ℕ) (before names texts : List (List ℕ)) (raw : RawRules) → length bytes ≤ 8388608 → before ≡ [] → IsRawGrammar before names texts raw (grammar_of scale bytes) → (start : List ℕ) × (lines : List RuleLine) × IsSource names texts raw start lines
+pub source_of : (scale : Scale) (bytes : List ℕ) (before names texts : List (List ℕ)) (raw : RawRules) → length bytes ≤ most_bytes → before ≡ [] → IsRawGrammar before names texts raw (grammar_of scale bytes) → (start : List ℕ) × (lines : List RuleLine) × IsSource names texts raw start lines
 source_of scale bytes before names texts raw short e r =
     let f = raw_from scale bytes before names texts raw e r in
     (f.start, f.lines, is_source scale bytes names texts raw short f)
 
-pub read_as : (w v : Scale) (labels : List (List ℕ)) (bytes : List ℕ) (before names texts : List (List ℕ)) (raw : RawRules) (g : GrammarOf) → v ≡ w → before ≡ [] → length bytes ≤ 8388608 → IsRawGrammar before names texts raw (grammar_of v bytes) → ((start : List ℕ) (lines : List RuleLine) → IsSource names texts raw start lines → IsGrammarOf labels g start lines) → ReadsAs w labels bytes g
+pub read_as : (w v : Scale) (labels : List (List ℕ)) (bytes : List ℕ) (before names texts : List (List ℕ)) (raw : RawRules) (g : GrammarOf) → v ≡ w → before ≡ [] → length bytes ≤ most_bytes → IsRawGrammar before names texts raw (grammar_of v bytes) → ((start : List ℕ) (lines : List RuleLine) → IsSource names texts raw start lines → IsGrammarOf labels g start lines) → ReadsAs w labels bytes g
 read_as w v labels bytes before names texts raw g same empty short r all =
     reads_as w labels bytes names texts raw g short (raw_from w bytes before names texts raw empty (subst (λ (x : Scale). IsRawGrammar before names texts raw (grammar_of x bytes)) same r)) all
 

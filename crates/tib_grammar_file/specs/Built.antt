@@ -6,6 +6,7 @@ use Rattle.tib_grammar_file.specs.Rule.{RuleLine}
 use Rattle.tib_grammar_file.specs.Value.{left_of}
 use Rattle.tib_grammar_file.specs.Resolve.{IsRawGrammarOf}
 use Rattle.tib_grammar_file.specs.declared.raw.RawRules.{RawRules}
+use Rattle.tib_io.specs.Reads.{most_bytes}
 
 -- the rules over the tables of names and texts are those of a start and of lines
 pub record IsSource (names texts : List (List ℕ)) (raw : RawRules) (start : List ℕ) (lines : List RuleLine) : Type 0 where
@@ -13,4 +14,4 @@ pub record IsSource (names texts : List (List ℕ)) (raw : RawRules) (start : Li
   pub sound : AreStateNames names
   pub raw_is : IsRawGrammarOf names texts raw lines
   pub few_names : length names ≤ 8388609
-  pub few_rules : length lines ≤ 8388608
+  pub few_rules : length lines ≤ most_bytes

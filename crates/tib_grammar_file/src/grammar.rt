@@ -10,6 +10,7 @@ ghost use Rattle.tib_grammar_file.specs.Faults.{IsCause};
 ghost use Rattle.tib_grammar_file.specs.Read.{ReadsAs};
 ghost use Rattle.tib_grammar_file.specs.Rule.{RuleLine};
 ghost use Rattle.tib_grammar_file.specs.Value.{IsGrammarOf};
+ghost use Rattle.tib_io.specs.Reads.{most_bytes};
 
 use crate::raw::RawRules;
 use crate::resolve::resolve_rules;
@@ -51,7 +52,7 @@ fn state_names(alloc: Global, names: &Labels) -> Result<Names, AllocError>
 fn grammar_over<S: Semiring>(names: Names, rules: Vec<Rule<u32>>) -> Grammar<S>
     requires start { 0 < length names }
     requires range { AreInRange (length names) rules.items }
-    requires few { length rules.items ≤ 8388608 }
+    requires few { length rules.items ≤ most_bytes }
     ensures names { result.names ≡ names }
     ensures rules { result.rules ≡ rules.items }
 {
@@ -94,7 +95,7 @@ pub fn read_grammar<S: Semiring>(
     bytes: &[u8],
     labels: &mut Labels,
 ) -> Result<Grammar<S>, ReadError>
-    requires short { length bytes.now ≤ 8388608 }
+    requires short { length bytes.now ≤ most_bytes }
     requires room { length labels.old + length bytes.now < 2 ^ 32 - 1 }
     ensures text { IfOk result (λ g. ReadsAs S.SCALE labels.new bytes.now g) }
     ensures labelled { IfOk result (λ g. AreLabelled (length labels.new) g.rules) }

@@ -8,6 +8,7 @@ ghost use Rattle.tib_grammar_file.specs.Reading.{rules_from};
 ghost use Rattle.tib_grammar_file.specs.Raw.{IsRaw, AddsLine, AddsNodes};
 ghost use Rattle.tib_grammar_file.specs.RawFile.{IsRawFile};
 ghost use Rattle.tib_grammar_file.specs.Rule.{rule_line};
+ghost use Rattle.tib_io.specs.Reads.{most_bytes};
 
 use crate::rule::{read_cost, read_parts};
 use std::alloc::{AllocError, Global};
@@ -140,7 +141,7 @@ impl RawReader {
         texts: &mut Labels,
         raw: &mut RawRules,
     ) -> Result<(), LineError>
-        requires short { length line.now ≤ 8388608 }
+        requires short { length line.now ≤ most_bytes }
         requires plain { HasNoFeed line.now }
         requires names { length names.old < 2 ^ 32 - 1 }
         requires texts { length texts.old + length line.now < 2 ^ 32 - 1 }
@@ -195,7 +196,7 @@ pub(crate) fn read_rules(
     names: &mut Labels,
     texts: &mut Labels,
 ) -> Result<RawRules, ReadError>
-    requires short { length bytes.now ≤ 8388608 }
+    requires short { length bytes.now ≤ most_bytes }
     requires place { start ≤ length bytes.now }
     requires number { first ≤ start + 1 }
     requires names { length names.old + length bytes.now < 2 ^ 32 - 1 }

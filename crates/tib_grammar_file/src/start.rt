@@ -5,6 +5,7 @@ ghost use Rattle.tib_lex.specs.Lines.{HasNoFeed};
 ghost use Rattle.tib_grammar_file.specs.Found.{text_at, WeightLies};
 ghost use Rattle.tib_grammar_file.specs.Reading.{start_of, start_line, grammar_of};
 ghost use Rattle.tib_grammar_file.specs.RawGrammar.{IsStartLine, IsBegun, ReadsRaw};
+ghost use Rattle.tib_io.specs.Reads.{most_bytes};
 
 use crate::raw::{RawRules, read_rules};
 use crate::rule::has_dot;
@@ -38,7 +39,7 @@ fn read_start(
     text: &mut Vec<u8>,
     names: &mut Labels,
 ) -> Result<bool, LineError>
-    requires short { length line.now ≤ 8388608 }
+    requires short { length line.now ≤ most_bytes }
     requires plain { HasNoFeed line.now }
     requires room { length names.old < 2 ^ 32 - 1 }
     ensures { IsStartLine names.old names.new result (start_line line.now) }
@@ -69,7 +70,7 @@ pub(crate) struct Begun {
 }
 
 fn find_start(alloc: Global, bytes: &[u8], names: &mut Labels) -> Result<Begun, ReadError>
-    requires short { length bytes.now ≤ 8388608 }
+    requires short { length bytes.now ≤ most_bytes }
     requires room { length names.old < 2 ^ 32 - 1 }
     ensures { IsBegun bytes.now names.old names.new result }
 {
@@ -103,7 +104,7 @@ pub(crate) fn read_raw(
     names: &mut Labels,
     texts: &mut Labels,
 ) -> Result<RawRules, ReadError>
-    requires short { length bytes.now ≤ 8388608 }
+    requires short { length bytes.now ≤ most_bytes }
     requires names { names.old ≡ [] }
     requires texts { texts.old ≡ [] }
     ensures raw { ReadsRaw names.old names.new texts.new result (grammar_of scale bytes.now) }

@@ -5,21 +5,25 @@ use Rattle.std.proofs.Math.Seq.{take-length as take_length, take-append-add}
 use Rattle.std.proofs.lemmas.List.{take-append-le}
 use Rattle.tib_io.specs.Writes.{Appends, Falls, Takes, TakesFront}
 
-appends_more : (a b c : Option (List ℕ)) (xs ys : List ℕ) → Appends a b xs → Appends b c ys → Appends a c (xs ++ ys)
-appends_more None b c xs ys p q = let h : Appends None c ys = subst (λ (o : Option (List ℕ)). Appends o c ys) p q in h
+appends_more : (a b c : Option (List ℕ)) (xs ys : List ℕ) → Appends a b xs → Appends b c ys →
+    Appends a c (xs ++ ys)
+appends_more None b c xs ys p q =
+    let h : Appends None c ys = subst (λ (o : Option (List ℕ)). Appends o c ys) p q in h
 appends_more (Some old) b c xs ys p q =
     let h : Appends (Some (old ++ xs)) c ys = subst (λ (o : Option (List ℕ)). Appends o c ys) p q in
     h ∙ ap (λ (l : List ℕ). Some l) (append_assoc old xs ys)
 
 falls_more : (a b c : Option ℕ) (m n : ℕ) → Falls a b m → Falls b c n → Falls a c (m + n)
-falls_more None b c m n p q = let h : Falls None c n = subst (λ (o : Option ℕ). Falls o c n) p q in h
+falls_more None b c m n p q =
+    let h : Falls None c n = subst (λ (o : Option ℕ). Falls o c n) p q in h
 falls_more (Some old) b c m n p q =
     let h : Falls (Some (old - m)) c n = subst (λ (o : Option ℕ). Falls o c n) p.1 q in
     let e : old - m - n ≡ old - (m + n) = omega arith in
     (omega (arith, p.0, h.0), h.1 ∙ ap (λ (k : ℕ). Some k) e)
 
 -- two pieces that were taken one after the other were taken as one
-pub takes_more : (w x y : Option (List ℕ)) (f g h : Option ℕ) (xs ys : List ℕ) → Takes w x f g xs → Takes x y g h ys → Takes w y f h (xs ++ ys)
+pub takes_more : (w x y : Option (List ℕ)) (f g h : Option ℕ) (xs ys : List ℕ) → Takes w x f g xs →
+    Takes x y g h ys → Takes w y f h (xs ++ ys)
 takes_more w x y f g h xs ys p q = record {
   written = appends_more w x y xs ys p.written q.written;
   free =
@@ -28,11 +32,14 @@ takes_more w x y f g h xs ys p q = record {
 }
 
 -- a whole piece is a front of itself
-pub front_whole : (w y : Option (List ℕ)) (f h : Option ℕ) (xs : List ℕ) → Takes w y f h xs → TakesFront w y f h xs
-front_whole w y f h xs p = record { count = length xs; within = omega arith; front = rw take_length p }
+pub front_whole : (w y : Option (List ℕ)) (f h : Option ℕ) (xs : List ℕ) → Takes w y f h xs →
+    TakesFront w y f h xs
+front_whole w y f h xs p =
+    record { count = length xs; within = omega arith; front = rw take_length p }
 
 -- a whole piece, and then a front of the next
-pub front_later : (w x y : Option (List ℕ)) (f g h : Option ℕ) (xs ys : List ℕ) → Takes w x f g xs → TakesFront x y g h ys → TakesFront w y f h (xs ++ ys)
+pub front_later : (w x y : Option (List ℕ)) (f g h : Option ℕ) (xs ys : List ℕ) → Takes w x f g xs →
+    TakesFront x y g h ys → TakesFront w y f h (xs ++ ys)
 front_later w x y f g h xs ys p q =
     let n : ℕ = q.count in
     let all : Takes w y f h (xs ++ take n ys) = takes_more w x y f g h xs (take n ys) p q.front in
@@ -41,7 +48,8 @@ front_later w x y f g h xs ys p q =
     record { count = length xs + n; within = omega arith; front = rw (take-append-add xs ys n) all }
 
 -- a front of the first piece is a front of all
-pub front_first : (w y : Option (List ℕ)) (f h : Option ℕ) (xs ys : List ℕ) → TakesFront w y f h xs → TakesFront w y f h (xs ++ ys)
+pub front_first : (w y : Option (List ℕ)) (f h : Option ℕ) (xs ys : List ℕ) →
+    TakesFront w y f h xs → TakesFront w y f h (xs ++ ys)
 front_first w y f h xs ys p =
     let n : ℕ = p.count in
     let le : n ≤ length xs = p.within in

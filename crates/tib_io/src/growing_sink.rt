@@ -65,7 +65,8 @@ impl Sink for GrowingSink {
 
     fn finish(&mut self) -> Result<(), Failed>
         ensures taken { Takes (Some self.old.bytes) (Some self.new.bytes) None None [] }
-        ensures finished { MatchResult result (λ _. self.new.finished ≡ true) (λ _. self.new.finished ≡ false) }
+        ensures finished { MatchResult result (λ _. self.new.finished ≡ true) (λ _.
+            self.new.finished ≡ false) }
         ensures later { self.old.faults ≤ self.new.faults }
         ensures calm { Calm None 0 self.old.faults self.new.faults }
         ensures cause { OnErr result (Rose self.old.faults self.new.faults) }

@@ -11,7 +11,8 @@ abbrev pub Fits : {X : Type 0} → (List ℕ → Type 0) → (List ℕ → Fault
 Fits Holds HasFault line (Ok held) = Holds line
 Fits Holds HasFault line (Err kind) = HasFault line kind
 
-front_err : {X F : Type 0} (done : List X) (r : Result (List X) F) (fault : F) → front done r ≡ Err fault → r ≡ Err fault
+-- a fault behind some values is the fault of what is behind them
+pub front_err : {X F : Type 0} (done : List X) (r : Result (List X) F) (fault : F) → front done r ≡ Err fault → r ≡ Err fault
 front_err done (Ok more) fault e = let bad : Ok (done ++ more) ≡ Err fault = e in absurd (cc)
 front_err done (Err f) fault e = e
 

@@ -16,9 +16,12 @@ use Rattle.tib_lex.specs.declared.token.Token.{Token}
 use Rattle.tib_lex.specs.declared.token.Lexed.{Lexed}
 use Rattle.tib_lex.specs.declared.token.Lexed.TheVariants as lexed
 use Rattle.tib_lex.proofs.Quotes.{ne-eqb}
-use Rattle.tib_lex.proofs.Spelled.{both, and_true, or_false, run_of, first_again}
-use Rattle.tib_lex.proofs.Found.{found, which, both_true, is_byte}
+use Rattle.tib_lex.proofs.Spelled.{and_true, or_false, run_of, first_again}
+use Rattle.tib_lex.proofs.Found.{found, which}
 use Rattle.tib_lex.proofs.LineWords.{takes, words_step}
+use Rattle.tib_lex.proofs.Booleans.{bool_cases, and-both}
+use Rattle.tib_lex.proofs.Lists.{some_same}
+use Rattle.tib_lex.proofs.Numbers.{byte_same}
 
 -- no token begins with white space
 above : (b : ℕ) → is_name_byte b ≡ true → 32 < b
@@ -83,13 +86,13 @@ blank_more b bytes e r = record {
   front = b ∷ r.front;
   back = r.back;
   parts = ap (λ (l : List ℕ). b ∷ l) r.parts;
-  white = both_true (is_blank b) (list_all is_blank r.front) e r.white;
+  white = and-both (is_blank b) (list_all is_blank r.front) e r.white;
   black = r.black;
 }
 
 pub split_blanks : (bytes : List ℕ) → Blanks bytes
 split_blanks [] = record { front = []; back = []; parts = refl; white = refl; black = refl }
-split_blanks (b ∷ bytes) = elim (both (is_blank b)) [
+split_blanks (b ∷ bytes) = elim (bool_cases (is_blank b)) [
   | inl e ↦ blank_more b bytes e (split_blanks bytes)
   | inr e ↦ record { front = []; back = b ∷ bytes; parts = refl; white = refl; black = e }
 ]
@@ -101,7 +104,7 @@ unescape_plain b (x ∷ xs) e = rw e refl
 
 pub unescape_escape : (text : List ℕ) → unescape (escape text) ≡ text
 unescape_escape [] = refl
-unescape_escape (b ∷ text) = elim (both (b == 34 || b == 92)) [
+unescape_escape (b ∷ text) = elim (bool_cases (b == 34 || b == 92)) [
   | inl special ↦ rw special (ap (λ (l : List ℕ). b ∷ l) (unescape_escape text))
   | inr plain ↦
       let h = or_false (b == 34) (b == 92) plain in
@@ -191,7 +194,7 @@ quiet_alone [] at e = tt
 quiet_alone (b ∷ bytes) at e = elim (which (is_name_byte b) _ _ _ e) [
   | inl h ↦ quiet_name b bytes at h.1
   | inr h ↦ elim (which (b == 37) _ _ _ h.1) [
-    | inl k ↦ is_byte b 37 k.0
+    | inl k ↦ byte_same b 37 k.0
     | inr k ↦ elim (which (b == 40) _ _ _ k.1) [
       | inl m ↦ quiet_span at b bytes _ m.1
       | inr m ↦ elim (which (b == 41) _ _ _ m.1) [
@@ -338,3 +341,20 @@ reads_split bytes at s =
 -- what is read from a place on
 pub reads : (bytes : List ℕ) (at : ℕ) (r : Lexed) → r ≡ next bytes at → Reads bytes at r
 reads bytes at r e = subst (λ (x : Lexed). Reads bytes at x) (sym e) (reads_split bytes at (split_blanks bytes))
+
+-- a word at the front of a line is its first token
+pub has_first_word : (word : Word) (words : List Word) (rest : List ℕ) → IsWord word → MayPrecede word rest → HasWords words rest → HasWords (word ∷ words) (spelling word ++ rest)
+has_first_word word words rest w p h = record { blanks = []; rest = spelling word ++ rest; parts = refl; white = refl; are = (rest, record { is_word = w; spelled = refl; whole = p }, h) }
+
+-- a blank in front of a line changes no token
+pub after_space : (words : List Word) (bytes : List ℕ) → HasWords words bytes → HasWords words (32 ∷ bytes)
+after_space [] bytes h = record { blanks = 32 ∷ h.blanks; rest = h.rest; parts = ap (λ (l : List ℕ). 32 ∷ l) h.parts; white = h.white; are = h.are }
+after_space (word ∷ words) bytes h = record { blanks = 32 ∷ h.blanks; rest = h.rest; parts = ap (λ (l : List ℕ). 32 ∷ l) h.parts; white = h.white; are = h.are }
+
+-- an empty line has no tokens
+pub no_words : HasWords [] []
+no_words = record { blanks = []; rest = []; parts = refl; white = refl; are = tt }
+
+-- a line has one list of tokens
+pub words_once : (line : List ℕ) (ws vs : List Word) → HasWords ws line → HasWords vs line → ws ≡ vs
+words_once line ws vs h k = some_same ws vs (sym (words_read ws line h) ∙ words_read vs line k)

@@ -6,7 +6,7 @@ use Rattle.std.specs.Str.{bytes_eq}
 use Rattle.tib_lex.specs.Bytes.{is_name_byte}
 use Rattle.tib_lex.specs.Grammar.{IsName, is_name}
 use Rattle.tib_lex.proofs.Spelled.{and_true}
-use Rattle.tib_lex.proofs.Found.{both_true}
+use Rattle.tib_lex.proofs.Booleans.{and-both}
 
 not_true : (b : Bool) → not b ≡ true → b ≡ false
 not_true true e = cc
@@ -20,7 +20,7 @@ name_is (b ∷ text) e =
 
 pub is_named : (text : List ℕ) → IsName text → is_name text ≡ true
 is_named [] w = absurd (omega (arith, w.some))
-is_named (b ∷ text) w = both_true (list_all is_name_byte (b ∷ text)) (not (bytes_eq (b ∷ text) (45 ∷ 62 ∷ []))) w.bytes (ap not w.other)
+is_named (b ∷ text) w = and-both (list_all is_name_byte (b ∷ text)) (not (bytes_eq (b ∷ text) (45 ∷ 62 ∷ []))) w.bytes (ap not w.other)
 
 -- all bytes pass a test exactly where the run of those that do is as long
 pub all_run : (p : ℕ → Bool) (xs : List ℕ) → list_all p xs ≡ true → prefix_len p xs ≡ length xs
@@ -28,7 +28,7 @@ all_run p [] e = refl
 all_run p (x ∷ xs) e = let h = and_true (p x) (list_all p xs) e in rw h.0 (omega (arith, all_run p xs h.1))
 
 run_all_at : (p : ℕ → Bool) (x : ℕ) (xs : List ℕ) (b : Bool) → p x ≡ b → cond b (1 + prefix_len p xs) 0 ≡ suc (length xs) → (prefix_len p xs ≡ length xs → list_all p xs ≡ true) → list_all p (x ∷ xs) ≡ true
-run_all_at p x xs true e n h = both_true (p x) (list_all p xs) e (h (omega arith))
+run_all_at p x xs true e n h = and-both (p x) (list_all p xs) e (h (omega arith))
 run_all_at p x xs false e n h = absurd (omega arith)
 
 pub run_all : (p : ℕ → Bool) (xs : List ℕ) → prefix_len p xs ≡ length xs → list_all p xs ≡ true

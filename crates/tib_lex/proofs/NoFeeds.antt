@@ -1,6 +1,6 @@
 -- No line feed is in a line, nor in the texts of its tokens.
 use Rattle.std.proofs.Common.{◌≡◌, ℕ, ◌+◌, ◌-◌, List, [], ◌∷◌, take, drop, Bool, true, false, refl, arith, zero, suc}
-use Rattle.std.specs.Prelude.{◌&&◌, ◌==◌, cond, slice_range, length}
+use Rattle.std.specs.Prelude.{◌==◌, cond, slice_range, length}
 use Rattle.std.specs.List.{list_all, prefix_len}
 use Rattle.tib_lex.specs.Lines.{not_feed, HasNoFeed}
 use Rattle.tib_lex.specs.NextLine.{IsNextLine}
@@ -9,26 +9,20 @@ use Rattle.tib_lex.specs.declared.lines.Line.{Line}
 use Rattle.tib_lex.specs.declared.token.Kind.{Kind}
 use Rattle.tib_lex.specs.declared.token.Kind.TheVariants as kinds
 use Rattle.tib_lex.specs.declared.token.Token.{Token}
-
-ands : (a b : Bool) → (a && b) ≡ true → (a ≡ true) × (b ≡ true)
-ands true b e = (refl, e)
-ands false b e = absurd (cc)
-
-and_so : (a b : Bool) → a ≡ true → b ≡ true → (a && b) ≡ true
-and_so a b e f = rw (e, f) refl
+use Rattle.tib_lex.proofs.Booleans.{and-true, and-both}
 
 taken : (p : ℕ → Bool) (n : ℕ) (xs : List ℕ) → list_all p xs ≡ true → list_all p (take n xs) ≡ true
 taken p zero xs h = refl
 taken p (suc n) [] h = refl
-taken p (suc n) (x ∷ xs) h = let b = ands (p x) (list_all p xs) h in and_so (p x) (list_all p (take n xs)) b.0 (taken p n xs b.1)
+taken p (suc n) (x ∷ xs) h = let b = and-true (p x) (list_all p xs) h in and-both (p x) (list_all p (take n xs)) b.0 (taken p n xs b.1)
 
 dropped : (p : ℕ → Bool) (n : ℕ) (xs : List ℕ) → list_all p xs ≡ true → list_all p (drop n xs) ≡ true
 dropped p zero xs h = h
 dropped p (suc n) [] h = refl
-dropped p (suc n) (x ∷ xs) h = dropped p n xs (ands (p x) (list_all p xs) h).1
+dropped p (suc n) (x ∷ xs) h = dropped p n xs (and-true (p x) (list_all p xs) h).1
 
 run_step : (p : ℕ → Bool) (x : ℕ) (xs : List ℕ) (b : Bool) (n : ℕ) → p x ≡ b → list_all p (take n xs) ≡ true → list_all p (take (cond b (1 + n) 0) (x ∷ xs)) ≡ true
-run_step p x xs true n e h = let one : 1 + n ≡ suc n = omega arith in rw one (and_so (p x) (list_all p (take n xs)) e h)
+run_step p x xs true n e h = let one : 1 + n ≡ suc n = omega arith in rw one (and-both (p x) (list_all p (take n xs)) e h)
 run_step p x xs false n e h = refl
 
 first_run : (p : ℕ → Bool) (xs : List ℕ) → list_all p (take (prefix_len p xs) xs) ≡ true
@@ -37,16 +31,16 @@ first_run p (x ∷ xs) = run_step p x xs (p x) (prefix_len p xs) refl (first_run
 
 unescape_step : (t : Bool) (b c : ℕ) (rest : List ℕ) → HasNoFeed (b ∷ (c ∷ rest)) → HasNoFeed (unescape rest) → HasNoFeed (unescape (c ∷ rest)) → HasNoFeed (cond t (c ∷ unescape rest) (b ∷ unescape (c ∷ rest)))
 unescape_step true b c rest h e f =
-    let more = (ands (not_feed b) (list_all not_feed (c ∷ rest)) h).1 in
-    and_so (not_feed c) (list_all not_feed (unescape rest)) (ands (not_feed c) (list_all not_feed rest) more).0 e
-unescape_step false b c rest h e f = and_so (not_feed b) (list_all not_feed (unescape (c ∷ rest))) (ands (not_feed b) (list_all not_feed (c ∷ rest)) h).0 f
+    let more = (and-true (not_feed b) (list_all not_feed (c ∷ rest)) h).1 in
+    and-both (not_feed c) (list_all not_feed (unescape rest)) (and-true (not_feed c) (list_all not_feed rest) more).0 e
+unescape_step false b c rest h e f = and-both (not_feed b) (list_all not_feed (unescape (c ∷ rest))) (and-true (not_feed b) (list_all not_feed (c ∷ rest)) h).0 f
 
 unescaped : (xs : List ℕ) → HasNoFeed xs → HasNoFeed (unescape xs)
 unescaped [] h = refl
 unescaped (b ∷ []) h = h
 unescaped (b ∷ (c ∷ rest)) h =
-    let more = (ands (not_feed b) (list_all not_feed (c ∷ rest)) h).1 in
-    unescape_step (b == 92) b c rest h (unescaped rest (ands (not_feed c) (list_all not_feed rest) more).1) (unescaped (c ∷ rest) more)
+    let more = (and-true (not_feed b) (list_all not_feed (c ∷ rest)) h).1 in
+    unescape_step (b == 92) b c rest h (unescaped rest (and-true (not_feed c) (list_all not_feed rest) more).1) (unescaped (c ∷ rest) more)
 
 word_plain : (kind : Kind) (text : List ℕ) → HasNoFeed text → HasNoFeed (text_of (word_of kind text))
 word_plain kinds.Open text h = refl

@@ -17,7 +17,8 @@ pub record EndsFile (line : List ℕ) (lines : List (List ℕ)) (bytes : List �
   pub is : bytes ≡ line
   pub some : 0 < length line
 
--- The bytes of a file have these lines: each ends before a line feed, and the last one may end with the file.
+-- The bytes of a file have these lines: each ends before a line feed, and the last one may end with
+-- the file.
 abbrev pub HasLines : List (List ℕ) → List ℕ → Type 0
 HasLines [] bytes = bytes ≡ []
 HasLines (line ∷ lines) bytes =
@@ -38,12 +39,14 @@ front done (Ok more) = Ok (done ++ more)
 front done (Err fault) = Err fault
 
 -- what the line of a number gives, before what is read behind it
-abbrev pub with_line : {X : Type 0} → ℕ → Result (Option X) FaultKind → Result (List X) FileFault → Result (List X) FileFault
+abbrev pub with_line : {X : Type 0} → ℕ → Result (Option X) FaultKind → Result (List X) FileFault →
+    Result (List X) FileFault
 with_line n (Err kind) more = Err (record { line = n; kind = kind })
 with_line n (Ok None) more = more
 with_line n (Ok (Some x)) more = front (x ∷ []) more
 
 -- each line by one function, up to the first fault
-abbrev pub each_line : {X : Type 0} → (List ℕ → Result (Option X) FaultKind) → ℕ → List (List ℕ) → Result (List X) FileFault
+abbrev pub each_line : {X : Type 0} → (List ℕ → Result (Option X) FaultKind) → ℕ → List (List ℕ) →
+    Result (List X) FileFault
 each_line read n [] = Ok []
 each_line read n (line ∷ lines) = with_line n (read line) (each_line read (suc n) lines)

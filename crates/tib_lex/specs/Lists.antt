@@ -1,5 +1,5 @@
 -- Members of lists, and relations between lists.
-use Rattle.std.specs.Prelude.{◌≡◌, ◌⊎◌, List, [], ◌∷◌}
+use Rattle.std.specs.Prelude.{◌≡◌, ◌⊎◌, ◌+◌, ℕ, nat_eq, if◌then◌else◌, List, [], ◌∷◌}
 
 -- x stands in the list
 abbrev pub Has : {A : Type 0} → List A → A → Type 0
@@ -27,3 +27,15 @@ Along R [] [] = Unit {0}
 Along R [] (y ∷ ys) = ⊥
 Along R (x ∷ xs) [] = ⊥
 Along R (x ∷ xs) (y ∷ ys) = R x y × Along R xs ys
+
+-- two lists have the same members in some order, and no member twice
+pub record IsReordering {A : Type 0} (xs ys : List A) : Type 0 where
+  pub to : (x : A) → Has xs x → Has ys x
+  pub from : (x : A) → Has ys x → Has xs x
+  pub once_first : Distinct xs
+  pub once_second : Distinct ys
+
+-- how often n stands in the list
+abbrev pub occurrences : ℕ → List ℕ → ℕ
+occurrences n [] = 0
+occurrences n (m ∷ ms) = (if nat_eq n m then 1 else 0) + occurrences n ms

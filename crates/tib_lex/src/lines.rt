@@ -3,6 +3,7 @@ ghost use Rattle.std.specs.Prelude.{◌≡◌, ◌≤◌, ◌<◌, ◌+◌, ℕ,
 ghost use Rattle.std.specs.List.{prefix_len};
 ghost use Rattle.tib_lex.specs.Lines.{not_feed};
 ghost use Rattle.tib_lex.specs.NextLine.{IsNextLine};
+ghost use Rattle.tib_io.specs.Reads.{most_bytes};
 
 /// A line of a file: its number, where its bytes begin and end, and where the next line begins.
 #[derive(Clone, Copy, Debug, PartialEq, Eq)]
@@ -33,7 +34,7 @@ fn line_length(bytes: &[u8]) -> usize
 
 fn line_from(bytes: &[u8], number: u32, at: u32) -> Line
     requires place { at < length bytes.now }
-    requires short { length bytes.now ≤ 8388608 }
+    requires short { length bytes.now ≤ most_bytes }
     ensures { IsNextLine bytes.now number at result }
 {
     let end = at + line_length(&bytes[at as usize..]) as u32;
@@ -50,10 +51,11 @@ fn line_from(bytes: &[u8], number: u32, at: u32) -> Line
     }
 }
 
-/// The line at a place where a line begins, under a number that the caller gives. `None` at the end of the file.
+/// The line at a place where a line begins, under a number that the caller gives. `None` at the end
+/// of the file.
 pub fn next_line(bytes: &[u8], number: u32, at: u32) -> Option<Line>
     requires place { at ≤ length bytes.now }
-    requires short { length bytes.now ≤ 8388608 }
+    requires short { length bytes.now ≤ most_bytes }
     ensures line { IfSome result (λ line. IsNextLine bytes.now number at line) }
     ensures more { IfSome result (λ line. at < length bytes.now) }
     ensures none { result ≡ None → at ≡ length bytes.now }

@@ -11,7 +11,6 @@ use Rattle.std.proofs.Math.Seq.{get_or-append_seam, take-length}
 use Rattle.std.proofs.lemmas.List.Sums.{sum_by-cons}
 use Rattle.std.proofs.lemmas.Option.{slice_get_within, get_or_from_slice_get}
 use Rattle.std.proofs.lemmas.Bool.Decides.{nat_tests}
-use Rattle.tib_lex.proofs.Spelled.{both}
 use Rattle.tib_tree.specs.Trees.{Trees, preorder_of}
 use Rattle.tib_grammar.specs.Sides.{Symbol, label, hole, leaves}
 use Rattle.tib_grammar.specs.Items.{pairs_of, pair_of}
@@ -27,6 +26,7 @@ use Rattle.tib_normal.specs.Rows.{side_of, HasSide, AreSides}
 use Rattle.tib_normal.specs.Numbering.{AreApart, GetsNumber, IsNumbered}
 use Rattle.tib_normal.proofs.Placing.{heads-leaves, sum-more, below-kids}
 use Rattle.tib_normal.proofs.LoneSides.{root_of}
+use Rattle.tib_lex.proofs.Booleans.{bool_cases}
 
 -- whether two lists of numbers are the same
 abbrev pub same_list : Vec ℕ → Vec ℕ → Bool
@@ -142,7 +142,7 @@ numbered-none states rules table numbers empty blank = subst (λ t. AreNumberedF
 }))
 
 same_or_behind : (n m : ℕ) → n ≤ m → (m ≡ n) ⊎ (suc n ≤ m)
-same_or_behind n m h = elim (both (nat_lt n m)) [ inl e ↦ inr (grind (arith, nat_tests)) | inr e ↦ inl (grind (arith, nat_tests)) ]
+same_or_behind n m h = elim (bool_cases (nat_lt n m)) [ inl e ↦ inr (grind (arith, nat_tests)) | inr e ↦ inl (grind (arith, nat_tests)) ]
 
 hole_or_label : (s : Symbol ℕ ℕ) → ((q : ℕ) × (s ≡ hole q)) ⊎ ((f : ℕ) × (s ≡ label f))
 hole_or_label (hole q) = inl (q, refl)
@@ -180,7 +180,7 @@ full_more :
     (side : List ℕ) (old new : List (List ℕ)) → (new ≡ old) ⊎ (new ≡ old ++ side ∷ []) → 0 < length side → ((s : ℕ) → s < length old → 0 < length (get_or old s [])) →
     (s : ℕ) → s < length new → 0 < length (get_or new s [])
 full_more side old new (inl e) some full s h = subst (λ t. 0 < length (get_or t s [])) (sym e) (full s (omega (arith, ap length e)))
-full_more side old new (inr e) some full s h = elim (both (nat_lt s (length old))) [
+full_more side old new (inr e) some full s h = elim (bool_cases (nat_lt s (length old))) [
   | inl b ↦
       let low : s < length old = grind (arith, nat_tests) in
       subst (λ t. 0 < length (get_or t s [])) (sym e) (subst (λ l. 0 < length l) (sym (get_or_append_left old (side ∷ []) [] s low)) (full s low))

@@ -1,11 +1,12 @@
 -- The pairs of a tree's nodes are its preorder.
 use Rattle.std.proofs.Common.{◌≡◌, ℕ, List, [], ◌∷◌, ◌++◌, length, refl, ap, sym, ◌∙◌, suc, arith, length-append}
 use Rattle.std.proofs.lemmas.List.{map-append}
-use Rattle.tib_tree.specs.Trees.{Tree, Trees, none, tree, count, sizes, only, preorder, preorder_of, append_nil, parse, parse_of, first_of, IsOneTree, preorder-first}
+use Rattle.tib_tree.specs.Trees.{Tree, Trees, none, tree, count, sizes, only, preorder, preorder_of, parse, parse_of, first_of, IsOneTree, preorder-first}
 use Rattle.tib_tree.specs.Pairs.{pair_of, pairs_of}
 use Rattle.tib_tree.specs.Filled.{nodes_at, nodes_of_tree, sized, sized_back}
 use Rattle.tib_tree.specs.declared.preorder.Node.{Node}
 use Rattle.tib_tree.proofs.Sizing.{sizes-parse}
+use Rattle.tib_lex.proofs.Lists.{append_nil}
 
 pub pairs-nodes_at : (d : ℕ) (ts : Trees ℕ) → pairs_of (nodes_at d ts) ≡ preorder ts
 pairs-nodes_at d none = refl

@@ -2,7 +2,6 @@
 use Rattle.std.proofs.Common.{◌≡◌, ℕ, ◌<◌, ◌≤◌, ◌⊎◌, inl, inr, List, [], ◌∷◌, ◌++◌, length, get_or, refl, ap, sym, ◌∙◌, subst, arith, Bool, true, false, map, Contains, zero, suc}
 use Rattle.std.specs.Prelude.{nat_lt}
 use Rattle.std.proofs.lemmas.Bool.Decides.{nat_tests}
-use Rattle.tib_lex.proofs.Spelled.{both}
 use Rattle.std.specs.Prelude.{slice_get, Some, if◌then◌else◌}
 use Rattle.std.proofs.lemmas.Option.{slice_get_within, get_or_from_slice_get, slice_get-get_or}
 use Rattle.std.proofs.lemmas.List.{get_or_append_left, length-append, map-append}
@@ -12,6 +11,7 @@ use Rattle.std.specs.Cmp.Lexicographic.{pointwise}
 use Rattle.std.specs.List.{list_any}
 use Rattle.indexmap.specs.IndexSet.{insert_key}
 use Rattle.tib_tree.specs.Grows.{Grows, AreDistinct}
+use Rattle.tib_lex.proofs.Booleans.{bool_cases}
 
 pub grows_not : (a b : List (List ℕ)) → b ≡ a → Grows a b
 grows_not a b e = record { kept = λ n text h. subst (λ (l : List (List ℕ)). slice_get l n ≡ Some text) (sym e) h }
@@ -67,7 +67,7 @@ found_last a text t m e h =
     (same, sym (get_or_from_slice_get (a ++ text ∷ []) m t [] e) ∙ last_at a text [] m same)
 
 before_or_last : (a : List (List ℕ)) (m : ℕ) → (m < length a) ⊎ (length a ≤ m)
-before_or_last a m = elim (both (nat_lt m (length a))) [ inl h ↦ inl (grind (arith, nat_tests)) | inr h ↦ inr (grind (arith, nat_tests)) ]
+before_or_last a m = elim (bool_cases (nat_lt m (length a))) [ inl h ↦ inl (grind (arith, nat_tests)) | inr h ↦ inr (grind (arith, nat_tests)) ]
 
 holds_text : (a : List (List ℕ)) (text : List ℕ) (m : ℕ) → slice_get a m ≡ Some text → Contains a text
 holds_text a text m e = (m, slice_get_within a m text e, get_or_from_slice_get a m text text e)

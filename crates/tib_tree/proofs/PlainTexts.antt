@@ -9,24 +9,18 @@ use Rattle.tib_lex.specs.Lists.{Each}
 use Rattle.tib_tree.specs.Trees.{Tree, Trees, none, tree, only}
 use Rattle.tib_tree.specs.Growth.{text_at}
 use Rattle.tib_tree.specs.Printed.{label_text, in_parentheses, behind_space, trees_text, tree_text}
-
-both_true : (a b : Bool) → a ≡ true → b ≡ true → (a && b) ≡ true
-both_true a b e f = rw (e, f) refl
-
-parts : (a b : Bool) → (a && b) ≡ true → (a ≡ true) × (b ≡ true)
-parts true b e = (refl, e)
-parts false b e = absurd (cc)
+use Rattle.tib_lex.proofs.Booleans.{and-both, and-true}
 
 joined : (xs ys : List ℕ) → HasNoFeed xs → HasNoFeed ys → HasNoFeed (xs ++ ys)
-joined xs ys h k = list_all-append not_feed xs ys ∙ both_true (list_all not_feed xs) (list_all not_feed ys) h k
+joined xs ys h k = list_all-append not_feed xs ys ∙ and-both (list_all not_feed xs) (list_all not_feed ys) h k
 
 escaped_byte : (c : Bool) (x : ℕ) (rest : List ℕ) → not_feed x ≡ true → HasNoFeed rest → HasNoFeed (cond c (92 ∷ (x ∷ rest)) (x ∷ rest))
-escaped_byte true x rest h k = both_true (not_feed x) (list_all not_feed rest) h k
-escaped_byte false x rest h k = both_true (not_feed x) (list_all not_feed rest) h k
+escaped_byte true x rest h k = and-both (not_feed x) (list_all not_feed rest) h k
+escaped_byte false x rest h k = and-both (not_feed x) (list_all not_feed rest) h k
 
 escaped : (xs : List ℕ) → HasNoFeed xs → HasNoFeed (escape xs)
 escaped [] h = refl
-escaped (x ∷ xs) h = let t = parts (not_feed x) (list_all not_feed xs) h in escaped_byte (x == 34 || x == 92) x (escape xs) t.0 (escaped xs t.1)
+escaped (x ∷ xs) h = let t = and-true (not_feed x) (list_all not_feed xs) h in escaped_byte (x == 34 || x == 92) x (escape xs) t.0 (escaped xs t.1)
 
 spelled : (c : Bool) (text : List ℕ) → HasNoFeed text → HasNoFeed (spelling (cond c (name text) (label text)))
 spelled true text h = h

@@ -6,7 +6,6 @@ use Rattle.tib_lex.specs.Grammar.{Word, open_, close, name, label, is_name, spel
 use Rattle.tib_lex.specs.Lines.{HasNoFeed, HasLines}
 use Rattle.tib_lex.specs.Lists.{Each}
 use Rattle.tib_tree.proofs.PlainTexts.{tree_plain}
-use Rattle.tib_lex.proofs.Spelled.{both}
 use Rattle.tib_lex.proofs.Names.{name_is}
 use Rattle.tib_lex.proofs.HasLines.{lines_read}
 use Rattle.tib_tree.specs.Trees.{Tree, Trees, none, tree, only}
@@ -15,6 +14,8 @@ use Rattle.tib_tree.specs.Meaning.{Says, IsTreeLine}
 use Rattle.tib_tree.specs.Growth.{text_at, LabelsBelow}
 use Rattle.tib_tree.specs.Printed.{label_word, label_text, in_parentheses, behind_space, trees_text, tree_text}
 use Rattle.tib_tree.specs.TreesText.{HasTrees, TreesText}
+use Rattle.tib_lex.proofs.Booleans.{bool_cases}
+use Rattle.tib_lex.proofs.HasWords.{after_space, has_first_word, no_words}
 
 -- trees as they are printed
 abbrev node : Bool → List ℕ → Trees ℕ → Written → Written → Written
@@ -26,22 +27,14 @@ written labels none = end
 written labels (tree f kids rest) = node (not (is_name (text_at labels f))) (text_at labels f) kids (written labels kids) (written labels rest)
 
 same_word : (text : List ℕ) → word_for (not (is_name text)) text ≡ label_word text
-same_word text = elim (both (is_name text)) [ inl h ↦ rw h refl | inr h ↦ rw h refl ]
+same_word text = elim (bool_cases (is_name text)) [ inl h ↦ rw h refl | inr h ↦ rw h refl ]
 
 label_is : (text : List ℕ) → IsWord (label_word text)
-label_is text = elim (both (is_name text)) [ inl h ↦ rw h (name_is text h) | inr h ↦ rw h tt ]
+label_is text = elim (bool_cases (is_name text)) [ inl h ↦ rw h (name_is text h) | inr h ↦ rw h tt ]
 
 precedes : (b : Bool) (text bytes : List ℕ) → begins_name bytes ≡ false → MayPrecede (cond b (name text) (label text)) bytes
 precedes true text bytes h = h
 precedes false text bytes h = tt
-
--- a word at the front
-first_word : (word : Word) (words : List Word) (rest : List ℕ) → IsWord word → MayPrecede word rest → HasWords words rest → HasWords (word ∷ words) (spelling word ++ rest)
-first_word word words rest w p h = record { blanks = []; rest = spelling word ++ rest; parts = refl; white = refl; are = (rest, record { is_word = w; spelled = refl; whole = p }, h) }
-
-after_space : (words : List Word) (bytes : List ℕ) → HasWords words bytes → HasWords words (32 ∷ bytes)
-after_space [] bytes h = record { blanks = 32 ∷ h.blanks; rest = h.rest; parts = ap (λ (l : List ℕ). 32 ∷ l) h.parts; white = h.white; are = h.are }
-after_space (word ∷ words) bytes h = record { blanks = 32 ∷ h.blanks; rest = h.rest; parts = ap (λ (l : List ℕ). 32 ∷ l) h.parts; white = h.white; are = h.are }
 
 -- trees with these words behind them
 abbrev Reads : List (List ℕ) → Trees ℕ → Type 0
@@ -57,7 +50,7 @@ no_name_beside labels (tree f kids others) rest b = refl
 
 labelled : (text : List ℕ) (words : List Word) (bytes : List ℕ) → begins_name bytes ≡ false → HasWords words bytes → HasWords (word_for (not (is_name text)) text ∷ words) (label_text text ++ bytes)
 labelled text words bytes b h =
-    subst (λ (w : Word). HasWords (w ∷ words) (label_text text ++ bytes)) (sym (same_word text)) (first_word (label_word text) words bytes (label_is text) (precedes (is_name text) text bytes b) h)
+    subst (λ (w : Word). HasWords (w ∷ words) (label_text text ++ bytes)) (sym (same_word text)) (has_first_word (label_word text) words bytes (label_is text) (precedes (is_name text) text bytes b) h)
 
 one_read : (labels : List (List ℕ)) (f : ℕ) (kids others : Trees ℕ) → Reads labels kids → Reads labels others → Reads labels (tree f kids others)
 one_read labels f none others p q = λ more rest b h.
@@ -69,9 +62,9 @@ one_read labels f (tree g inner next) others p q = λ more rest b h.
     let text : List ℕ = text_at labels f in
     let kids : Trees ℕ = tree g inner next in
     let behind : List ℕ = behind_space others (trees_text labels others) in
-    let closed : HasWords (close ∷ (spell (written labels others) ++ more)) (41 ∷ (behind ++ rest)) = first_word close (spell (written labels others) ++ more) (behind ++ rest) tt tt (beside labels others more rest q b h) in
+    let closed : HasWords (close ∷ (spell (written labels others) ++ more)) (41 ∷ (behind ++ rest)) = has_first_word close (spell (written labels others) ++ more) (behind ++ rest) tt tt (beside labels others more rest q b h) in
     let inside : HasWords (spell (written labels kids) ++ (close ∷ (spell (written labels others) ++ more))) (trees_text labels kids ++ (41 ∷ (behind ++ rest))) = p (close ∷ (spell (written labels others) ++ more)) (41 ∷ (behind ++ rest)) refl closed in
-    let opened : HasWords (open_ ∷ (spell (written labels kids) ++ (close ∷ (spell (written labels others) ++ more)))) (40 ∷ (trees_text labels kids ++ (41 ∷ (behind ++ rest)))) = first_word open_ _ _ tt tt inside in
+    let opened : HasWords (open_ ∷ (spell (written labels kids) ++ (close ∷ (spell (written labels others) ++ more)))) (40 ∷ (trees_text labels kids ++ (41 ∷ (behind ++ rest)))) = has_first_word open_ _ _ tt tt inside in
     let whole = labelled text (open_ ∷ (spell (written labels kids) ++ (close ∷ (spell (written labels others) ++ more)))) (40 ∷ (trees_text labels kids ++ (41 ∷ (behind ++ rest)))) refl opened in
     let words : (spell (written labels kids) ++ (close ∷ spell (written labels others))) ++ more ≡ spell (written labels kids) ++ (close ∷ (spell (written labels others) ++ more)) = append_assoc (spell (written labels kids)) (close ∷ spell (written labels others)) more in
     let bytes : label_text text ++ (40 ∷ (trees_text labels kids ++ (41 ∷ (behind ++ rest)))) ≡ (label_text text ++ (in_parentheses kids (trees_text labels kids) ++ behind)) ++ rest =
@@ -84,9 +77,6 @@ one_read labels f (tree g inner next) others p q = λ more rest b h.
 reads : (labels : List (List ℕ)) (ts : Trees ℕ) → Reads labels ts
 reads labels none = λ more rest b h. h
 reads labels (tree f kids others) = one_read labels f kids others (reads labels kids) (reads labels others)
-
-no_words : HasWords [] []
-no_words = record { blanks = []; rest = []; parts = refl; white = refl; are = tt }
 
 -- the labels that the table has
 label_said : (labels : List (List ℕ)) (f : ℕ) → f < length labels → slice_get labels f ≡ Some (text_at labels f)

@@ -4,17 +4,17 @@ use Rattle.std.specs.Prelude.{◌||◌, ◌==◌, replicate, nat_lt, slice_get, 
 use Rattle.std.specs.List.{prefix_len}
 use Rattle.std.proofs.Math.Seq.{take-add}
 use Rattle.tib_lex.specs.Grammar.{escape}
-use Rattle.tib_lex.proofs.Spelled.{both}
 use Rattle.std.proofs.lemmas.Bool.Decides.{nat_tests}
 use Rattle.std.proofs.lemmas.List.{take-append-drop, take_all, length-drop}
 use Rattle.std.proofs.lemmas.Option.{get_or_from_slice_get}
 use Rattle.tib_tree.specs.Growth.{text_at}
 use Rattle.tib_tree.specs.Printed.{is_plain_byte, backslash_for, IsRun, gap_text, label_text}
+use Rattle.tib_lex.proofs.Booleans.{bool_cases}
 
 -- plain bytes stand as they are
 plain_run : (xs : List ℕ) → escape (take (prefix_len is_plain_byte xs) xs) ≡ take (prefix_len is_plain_byte xs) xs
 plain_run [] = refl
-plain_run (x ∷ xs) = elim (both (x == 34 || x == 92)) [
+plain_run (x ∷ xs) = elim (bool_cases (x == 34 || x == 92)) [
   | inl special ↦ rw special refl
   | inr plain ↦
       let s : 1 + prefix_len is_plain_byte xs ≡ suc (prefix_len is_plain_byte xs) = omega arith in
@@ -22,7 +22,7 @@ plain_run (x ∷ xs) = elim (both (x == 34 || x == 92)) [
 ]
 
 special_first : (b : ℕ) (rest : List ℕ) → escape rest ≡ rest → escape (b ∷ rest) ≡ backslash_for (b ∷ rest) ++ (b ∷ rest)
-special_first b rest e = elim (both (b == 34 || b == 92)) [
+special_first b rest e = elim (bool_cases (b == 34 || b == 92)) [
   | inl special ↦ rw special (ap (λ (l : List ℕ). 92 ∷ (b ∷ l)) e)
   | inr plain ↦ rw plain (ap (λ (l : List ℕ). b ∷ l) e)
 ]
@@ -39,7 +39,7 @@ run_is xs n some e = run_of xs n some (e ∙ ap (prefix_len is_plain_byte) (take
 
 pub escape-append : (xs ys : List ℕ) → escape (xs ++ ys) ≡ escape xs ++ escape ys
 escape-append [] ys = refl
-escape-append (x ∷ xs) ys = elim (both (x == 34 || x == 92)) [
+escape-append (x ∷ xs) ys = elim (bool_cases (x == 34 || x == 92)) [
   | inl special ↦ rw special (ap (λ (l : List ℕ). 92 ∷ (x ∷ l)) (escape-append xs ys))
   | inr plain ↦ rw plain (ap (λ (l : List ℕ). x ∷ l) (escape-append xs ys))
 ]

@@ -12,8 +12,8 @@ use Rattle.tib_lex.specs.declared.fault.FaultKind.TheVariants as kinds
 use Rattle.tib_lex.specs.declared.fault.FileFault.{FileFault}
 use Rattle.tib_lex.specs.declared.fault.ReadError.{ReadError}
 use Rattle.tib_lex.specs.declared.fault.ReadError.TheVariants as errors
-use Rattle.tib_lex.proofs.HasWords.{words_read, words_had, bad_read, bad_had}
-use Rattle.tib_tree.specs.Trees.{Tree, Trees, none, tree, only, sizes, size, preorder, preorder_of, parse, parse_of_preorder, append_nil, first_of, count as trees_count}
+use Rattle.tib_lex.proofs.HasWords.{words_read, words_had, bad_read, bad_had, words_once}
+use Rattle.tib_tree.specs.Trees.{Tree, Trees, none, tree, only, sizes, size, preorder, preorder_of, parse, parse_of_preorder, first_of, count as trees_count}
 use Rattle.tib_tree.specs.Written.{Written, end, leaf, head, spell, count, Item, items}
 use Rattle.tib_tree.specs.Machine.{nodes_of, IsTree}
 use Rattle.tib_tree.specs.Nodes.{AreNodes}
@@ -29,6 +29,7 @@ use Rattle.tib_lex.proofs.FirstFaults.{Fits, fault_found as found_first, fault_i
 use Rattle.tib_tree.specs.TreesText.{HasTrees, TreesText, IsSmall, NoTree, HasNodes, HasFault, LineHolds, IsGood, IsFirstFault, ReadsTrees}
 use Rattle.tib_tree.proofs.Read.{tree_back, tree_forth}
 use Rattle.tib_tree.proofs.Values.{count_said, said}
+use Rattle.tib_lex.proofs.Lists.{append_nil, some_same}
 
 -- one line
 held_tree : (line : List ℕ) (is : List Item) (b : Bool) → HasNodes line is → nat_lt 10000 (length is) ≡ b → LineHolds line (cond b (Err kinds.TooManyNodes) (Ok (Some is)))
@@ -101,11 +102,6 @@ line_is line (Err kinds.LabelledVariable) h = absurd h
 line_is line (Err kinds.UnknownVariable) h = absurd h
 line_is line (Err kinds.NotWhole) h = absurd h
 line_is line (Err kinds.WeightTooLarge) h = absurd h
-
--- faults
-front_err : {X F : Type 0} (done : List X) (r : Result (List X) F) (fault : F) → front done r ≡ Err fault → r ≡ Err fault
-front_err done (Ok more) fault e = let bad : Ok (done ++ more) ≡ Err fault = e in absurd (cc)
-front_err done (Err f) fault e = e
 
 fits : (line : List ℕ) (r : Result (Option (List Item)) FaultKind) → LineHolds line r → Fits IsGood HasFault line r
 fits line (Ok holds) h = (holds, h)
@@ -231,12 +227,6 @@ tree_again t u e =
     ap (λ (ns : List (ℕ × ℕ)). (t.label, trees_count t.kids) ∷ ns) (append_nil (preorder t.kids)) ∙ e ∙ sym (ap (λ (ns : List (ℕ × ℕ)). (u.label, trees_count u.kids) ∷ ns) (append_nil (preorder u.kids))) in
     let o : only t ≡ only u = sym (parse_of_preorder (only t)) ∙ ap parse p ∙ parse_of_preorder (only u) in
     ap (first_of 0) o
-
-some_same : {A : Type 0} (x y : A) → Some x ≡ Some y → x ≡ y
-some_same x y e = cc
-
-words_once : (line : List ℕ) (ws vs : List Word) → HasWords ws line → HasWords vs line → ws ≡ vs
-words_once line ws vs h k = some_same ws vs (sym (words_read ws line h) ∙ words_read vs line k)
 
 nodes_same : (words : List Word) (w v : Written) → count w ≡ 1 → count v ≡ 1 → spell w ≡ words → spell v ≡ words → items w ≡ items v
 nodes_same words w v one un e f = some_same (items w) (items v) (sym (tree_forth w one) ∙ ap nodes_of (e ∙ sym f) ∙ tree_forth v un)

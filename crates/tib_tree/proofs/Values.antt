@@ -1,11 +1,12 @@
 -- The value of nodes that were read.
 use Rattle.std.proofs.Common.{◌≡◌, ℕ, List, [], ◌∷◌, ◌++◌, refl, ap, sym, ◌∙◌, subst, suc}
 use Rattle.tib_lex.specs.Grammar.{Word}
-use Rattle.tib_tree.specs.Trees.{Tree, Trees, none, tree, only, preorder, preorder_of, parse, count as trees_count, IsOneTree, HasChildren, HasChildren_of_preorder, parse_of_preorder, append_nil}
+use Rattle.tib_tree.specs.Trees.{Tree, Trees, none, tree, only, preorder, preorder_of, parse, count as trees_count, IsOneTree, HasChildren, HasChildren_of_preorder, parse_of_preorder}
 use Rattle.tib_tree.specs.Written.{Written, end, leaf, head, count, Item, items}
 use Rattle.tib_tree.specs.Machine.{IsTree}
 use Rattle.tib_tree.specs.Nodes.{AreNodes}
 use Rattle.tib_tree.specs.Meaning.{Says, SpellsTree, HaveValue}
+use Rattle.tib_lex.proofs.Lists.{append_nil}
 
 record Parts (labels : List (List ℕ)) (ns : List (ℕ × ℕ)) (xs ys : List Item) : Type 0 where
   left : List (ℕ × ℕ)

@@ -38,19 +38,23 @@ AreTrees labels (t ∷ ts) [] = ⊥
 AreTrees labels (t ∷ ts) (is ∷ iss) = AreNodes labels (preorder_of t) is × AreTrees labels ts iss
 
 -- a line has no tokens, or its tree went last
-abbrev pub Adds : List (List ℕ) → List (Tree ℕ) → List (Tree ℕ) → Result (Option (List Item)) FaultKind → Type 0
+abbrev pub Adds : List (List ℕ) → List (Tree ℕ) → List (Tree ℕ) →
+    Result (Option (List Item)) FaultKind → Type 0
 Adds labels before now wanted =
     ((wanted ≡ Ok None) × (now ≡ before))
     ⊎ ((t : Tree ℕ) × (is : List Item) × (wanted ≡ Ok (Some is)) × AreNodes labels (preorder_of t) is × (now ≡ before ++ t ∷ []))
 
-abbrev pub AddsLine : List (List ℕ) → List (Tree ℕ) → List (Tree ℕ) → Result (Unit {0}) LineError → Result (Option (List Item)) FaultKind → Type 0
+abbrev pub AddsLine : List (List ℕ) → List (Tree ℕ) → List (Tree ℕ) → Result (Unit {0}) LineError →
+    Result (Option (List Item)) FaultKind → Type 0
 AddsLine labels before now (Ok done) wanted = Adds labels before now wanted
 AddsLine labels before now (Err (line_errors.Fault kind)) wanted = wanted ≡ Err kind
 AddsLine labels before now (Err line_errors.OutOfMemory) wanted = Unit {0}
 
 -- what was read of a file
-abbrev pub IsFile : List (List ℕ) → Result (Vec (Tree ℕ)) ReadError → Result (List (List Item)) FileFault → Type 0
-IsFile labels (Ok trees) wanted = (iss : List (List Item)) × (wanted ≡ Ok iss) × AreTrees labels trees.items iss
+abbrev pub IsFile : List (List ℕ) → Result (Vec (Tree ℕ)) ReadError →
+    Result (List (List Item)) FileFault → Type 0
+IsFile labels (Ok trees) wanted =
+    (iss : List (List Item)) × (wanted ≡ Ok iss) × AreTrees labels trees.items iss
 IsFile labels (Err (errors.Fault fault)) wanted = wanted ≡ Err fault
 IsFile labels (Err errors.OutOfMemory) wanted = Unit {0}
 

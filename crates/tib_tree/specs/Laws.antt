@@ -26,16 +26,24 @@ GivesFaults =
 
 -- bytes are the text of at most one list of trees over one table of distinct labels
 abbrev pub MeansOne : Type 0
-MeansOne = (labels : List (List ℕ)) (bytes : List ℕ) (ts us : List (Tree ℕ)) → AreDistinct labels → TreesText labels bytes ts → TreesText labels bytes us → ts ≡ us
+MeansOne =
+    (labels : List (List ℕ)) (bytes : List ℕ) (ts us : List (Tree ℕ)) → AreDistinct labels →
+    TreesText labels bytes ts → TreesText labels bytes us → ts ≡ us
 
 -- a text of small trees has no fault
 abbrev pub FaultsAlone : Type 0
-FaultsAlone = (labels : List (List ℕ)) (bytes : List ℕ) (ts : List (Tree ℕ)) (fault : FileFault) → TreesText labels bytes ts → Each IsSmall ts → IsFirstFault bytes fault → ⊥
+FaultsAlone =
+    (labels : List (List ℕ)) (bytes : List ℕ) (ts : List (Tree ℕ)) (fault : FileFault) →
+    TreesText labels bytes ts → Each IsSmall ts → IsFirstFault bytes fault → ⊥
 
 -- what is printed of a tree is a line that is this tree
 abbrev pub PrintsBack : Type 0
-PrintsBack = (labels : List (List ℕ)) (t : Tree ℕ) → LabelsBelow (length labels) (only t) → IsTreeLine labels (tree_text labels t) t
+PrintsBack =
+    (labels : List (List ℕ)) (t : Tree ℕ) → LabelsBelow (length labels) (only t) →
+    IsTreeLine labels (tree_text labels t) t
 
 -- and where no label has a line feed, it is the text of this tree with a line feed behind it
 abbrev pub PrintsText : Type 0
-PrintsText = (labels : List (List ℕ)) (t : Tree ℕ) → LabelsBelow (length labels) (only t) → Each HasNoFeed labels → TreesText labels (tree_text labels t ++ 10 ∷ []) (t ∷ [])
+PrintsText =
+    (labels : List (List ℕ)) (t : Tree ℕ) → LabelsBelow (length labels) (only t) →
+    Each HasNoFeed labels → TreesText labels (tree_text labels t ++ 10 ∷ []) (t ∷ [])

@@ -13,7 +13,8 @@ use Rattle.tib_tree.specs.Trees.{Tree, preorder_of, most_nodes}
 
 abbrev pub small_tree : Option (List Item) → Result (Option (List Item)) FaultKind
 small_tree None = Err kinds.BadTree
-small_tree (Some is) = if nat_lt most_nodes (length is) then Err kinds.TooManyNodes else Ok (Some is)
+small_tree (Some is) =
+    if nat_lt most_nodes (length is) then Err kinds.TooManyNodes else Ok (Some is)
 
 abbrev pub tree_in : Option (List Word) → Result (Option (List Item)) FaultKind
 tree_in None = Err kinds.BadToken
@@ -30,8 +31,10 @@ texts_in (Ok (Some is)) = map (λ i. i.text) is
 texts_in other = []
 
 -- what was read of a line, over a table of labels
-abbrev pub IsLine : List (List ℕ) → Result (Option (Tree ℕ)) LineError → Result (Option (List Item)) FaultKind → Type 0
+abbrev pub IsLine : List (List ℕ) → Result (Option (Tree ℕ)) LineError →
+    Result (Option (List Item)) FaultKind → Type 0
 IsLine labels (Ok None) wanted = wanted ≡ Ok None
-IsLine labels (Ok (Some tree)) wanted = (is : List Item) × (wanted ≡ Ok (Some is)) × AreNodes labels (preorder_of tree) is
+IsLine labels (Ok (Some tree)) wanted =
+    (is : List Item) × (wanted ≡ Ok (Some is)) × AreNodes labels (preorder_of tree) is
 IsLine labels (Err (errors.Fault kind)) wanted = wanted ≡ Err kind
 IsLine labels (Err errors.OutOfMemory) wanted = Unit {0}

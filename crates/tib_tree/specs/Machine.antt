@@ -3,8 +3,8 @@ use Rattle.std.specs.Prelude.{◌≡◌, ℕ, Bool, true, false, List, [], ◌�
 use Rattle.tib_lex.specs.Grammar.{Word, open_, close, name, label}
 use Rattle.tib_tree.specs.Written.{Written, spell, count, items, Item, item}
 
--- how many trees were read at this level and at each one above it that is still to be opened, how many wait for their
--- head, and the nodes that were read
+-- how many trees were read at this level and at each one above it that is still to be opened, how
+-- many wait for their head, and the nodes that were read
 pub record State : Type 0 where
   pub held : Option ℕ
   pub top : ℕ
@@ -61,4 +61,6 @@ pub record IsTree (words : List Word) (is : List Item) : Type 0 where
 
 -- `nodes_of` reads just the tokens of a tree
 abbrev pub ReadsTrees : Type 0
-ReadsTrees = (words : List Word) (nodes : List Item) → (nodes_of words ≡ Some nodes → IsTree words nodes) × (IsTree words nodes → nodes_of words ≡ Some nodes)
+ReadsTrees =
+    (words : List Word) (nodes : List Item) → (nodes_of words ≡ Some nodes → IsTree words nodes)
+    × (IsTree words nodes → nodes_of words ≡ Some nodes)

@@ -26,12 +26,14 @@ IsRun bytes = escape bytes ≡ backslash_for bytes ++ bytes
 
 -- what stands between the label of a node and that of the next one
 abbrev pub gap_text : ℕ → ℕ → List ℕ
-gap_text above depth = if nat_lt above depth then 40 ∷ [] else replicate (above - depth) 41 ++ 32 ∷ []
+gap_text above depth =
+    if nat_lt above depth then 40 ∷ [] else replicate (above - depth) 41 ++ 32 ∷ []
 
 -- what is printed behind a node at a depth
 abbrev pub text_from : List (List ℕ) → ℕ → List Node → List ℕ
 text_from labels above [] = replicate above 41
-text_from labels above (n ∷ ns) = (gap_text above n.depth ++ label_text (text_at labels n.label)) ++ text_from labels n.depth ns
+text_from labels above (n ∷ ns) =
+    (gap_text above n.depth ++ label_text (text_at labels n.label)) ++ text_from labels n.depth ns
 
 -- the text of children in parentheses, and that of the trees behind a space, where there are any
 abbrev pub in_parentheses : {A : Type 0} → Trees A → List ℕ → List ℕ
@@ -42,7 +44,8 @@ abbrev pub behind_space : {A : Type 0} → Trees A → List ℕ → List ℕ
 behind_space none text = []
 behind_space (tree f kids rest) text = 32 ∷ text
 
--- trees with one space between them: each is its label, and where it has children, these in parentheses
+-- trees with one space between them: each is its label, and where it has children, these in
+-- parentheses
 abbrev pub trees_text : List (List ℕ) → Trees ℕ → List ℕ
 trees_text labels none = []
 trees_text labels (tree f kids rest) =

@@ -7,6 +7,7 @@ ghost use Rattle.tib_tree.specs.TreesText.{ReadsTrees};
 ghost use Rattle.tib_tree.specs.Growth.{HasLabels, label_texts};
 ghost use Rattle.tib_lex.specs.Lines.{HasNoFeed};
 ghost use Rattle.tib_lex.specs.Lists.{Each};
+ghost use Rattle.tib_io.specs.Reads.{most_bytes};
 
 use crate::labels::Labels;
 use crate::preorder::Tree;
@@ -22,7 +23,7 @@ fn add_line(
     labels: &mut Labels,
     trees: &mut Vec<Tree>,
 ) -> Result<(), LineError>
-    requires short { length line.now ≤ 8388608 }
+    requires short { length line.now ≤ most_bytes }
     requires plain { HasNoFeed line.now }
     requires room { length labels.old + length line.now < 2 ^ 32 - 1 }
     ensures line { AddsLine labels.new trees.old.items trees.new.items result (tree_line line.now) }
@@ -53,10 +54,11 @@ fn push(trees: &mut Vec<Tree>, tree: Tree) -> Result<(), AllocError>
 
 // The trees of a file, by the function that says what it holds.
 fn read_lines(alloc: Global, bytes: &[u8], labels: &mut Labels) -> Result<Vec<Tree>, ReadError>
-    requires short { length bytes.now ≤ 8388608 }
+    requires short { length bytes.now ≤ most_bytes }
     requires room { length labels.old + length bytes.now < 2 ^ 32 - 1 }
     ensures trees { IsFile labels.new result (trees_of bytes.now) }
-    ensures added { IfOk result (λ _. AddsAll labels.old (texts_in_file (trees_of bytes.now)) labels.new) }
+    ensures added { IfOk result (λ _. AddsAll labels.old (texts_in_file (trees_of bytes.now))
+        labels.new) }
     ensures few { length labels.new ≤ length labels.old + length bytes.now }
     ensures grows { Grows labels.old labels.new }
 {
@@ -81,17 +83,18 @@ fn read_lines(alloc: Global, bytes: &[u8], labels: &mut Labels) -> Result<Vec<Tr
     Ok(trees)
 }
 
-/// The trees of a file, one a line, over a table that grows by just their labels, in the order of first sight. Lines
-/// without tokens are skipped. The fault is the first line's that has one: `BadToken`, or else `BadTree`, or else
-/// `TooManyNodes` where its tree has more than 10,000 nodes. After any error the table may hold further texts, and those
-/// that it held keep their numbers.
+/// The trees of a file, one a line, over a table that grows by just their labels, in the order of
+/// first sight. Lines without tokens are skipped. The fault is the first line's that has one:
+/// `BadToken`, or else `BadTree`, or else `TooManyNodes` where its tree has more than 10,000 nodes.
+/// After any error the table may hold further texts, and those that it held keep their numbers.
 pub fn read_trees(alloc: Global, bytes: &[u8], labels: &mut Labels) -> Result<Vec<Tree>, ReadError>
-    requires short { length bytes.now ≤ 8388608 }
+    requires short { length bytes.now ≤ most_bytes }
     requires room { length labels.old + length bytes.now < 2 ^ 32 - 1 }
     ensures trees { ReadsTrees labels.new bytes.now result }
     ensures file { IsFile labels.new result (trees_of bytes.now) }
     ensures labels { IfOk result (λ trees. Each (HasLabels labels.new) trees.items) }
-    ensures added { IfOk result (λ trees. AddsAll labels.old (label_texts labels.new trees.items) labels.new) }
+    ensures added { IfOk result (λ trees. AddsAll labels.old (label_texts labels.new trees.items)
+        labels.new) }
     ensures few { length labels.new ≤ length labels.old + length bytes.now }
     ensures grows { Grows labels.old labels.new }
 {

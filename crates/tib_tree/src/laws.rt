@@ -5,14 +5,15 @@ ghost use Rattle.tib_tree.specs.Machine.{ReadsTrees};
 pub fn nodes_are_read()
     ensures { ReadsTrees }
 {}
-/// The function that says what a file holds gives its trees exactly where it is the text of small trees, and else its first
-/// fault.
+/// The function that says what a file holds gives its trees exactly where it is the text of small
+/// trees, and else its first fault.
 pub fn texts_are_read()
     ensures trees { GivesTexts }
     ensures faults { GivesFaults }
 {}
 
-/// A file is the text of at most one list of trees over one table, and has no fault if they are small.
+/// A file is the text of at most one list of trees over one table, and has no fault if they are
+/// small.
 pub fn texts_mean_one()
     ensures one { MeansOne }
     ensures alone { FaultsAlone }

@@ -1,6 +1,7 @@
-//! Trees over numbered labels, and their text. It reads files of one tree a line into trees, kept as nodes in preorder, over a
-//! table of distinct label texts, and prints trees. A file that is read is the text of just these trees, or the fault is its
-//! first; what is printed reads back. It stands on `tib_lex` for lines and tokens and on `tib_io` for sinks.
+//! Trees over numbered labels, and their text. It reads files of one tree a line into trees, kept
+//! as nodes in preorder, over a table of distinct label texts, and prints trees. A file that is
+//! read is the text of just these trees, or the fault is its first; what is printed reads back. It
+//! stands on `tib_lex` for lines and tokens and on `tib_io` for sinks.
 #![tactic(auto)]
 
 mod file;

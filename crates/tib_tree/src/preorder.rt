@@ -11,7 +11,8 @@ use thiserror::Error;
 /// The number of a label's text.
 pub type Label = u32;
 
-/// A node: its label, how many children it has, how many nodes its tree has, and how many nodes stand above it.
+/// A node: its label, how many children it has, how many nodes its tree has, and how many nodes
+/// stand above it.
 #[derive(Clone, Copy, Debug)]
 pub struct Node {
     pub label: Label,
@@ -93,7 +94,8 @@ fn take_starts(starts: &mut Vec<u32>, count: u32) -> u32
     starts[kept - 1]
 }
 
-// The nodes with their sizes, the last one first. The places where trees start are kept in `starts`.
+// The nodes with their sizes, the last one first. The places where trees start are kept in
+// `starts`.
 fn size_nodes(
     items: &[(Label, u32)],
     starts: &mut Vec<u32>,
@@ -147,7 +149,8 @@ fn place_nodes(
     counts: &mut Vec<u32>,
 ) -> Result<Vec<Node>, AllocError>
     requires few { length back.old.items < 2 ^ 32 }
-    ensures { IfOk result (λ nodes. (t : TreeOf ℕ) → back.old.items ≡ sized_back (only t) → nodes.items ≡ nodes_of_tree t) }
+    ensures { IfOk result (λ nodes. (t : TreeOf ℕ) → back.old.items ≡ sized_back (only t) →
+        nodes.items ≡ nodes_of_tree t) }
 {
     let mut nodes = Vec::new(alloc);
     counts.clear();
@@ -188,12 +191,13 @@ pub(crate) fn tree_from(
 }
 
 impl Tree {
-    /// The tree whose preorder the pairs of a label and a number of children are. `NotATree` exactly where they are the
-    /// preorder of no tree.
+    /// The tree whose preorder the pairs of a label and a number of children are. `NotATree`
+    /// exactly where they are the preorder of no tree.
     pub fn from_preorder(alloc: Global, items: &[(Label, u32)]) -> Result<Tree, ShapeError>
         requires { length items.now < 2 ^ 32 }
         ensures tree { IfOk result (λ t. preorder_of t ≡ items.now) }
-        ensures not_a_tree { result ≡ Err ShapeError.NotATree → (t : TreeOf ℕ) → preorder_of t ≡ items.now → ⊥ }
+        ensures not_a_tree { result ≡ Err ShapeError.NotATree → (t : TreeOf ℕ) →
+            preorder_of t ≡ items.now → ⊥ }
     {
         if !is_one_tree(items) {
             return Err(ShapeError::NotATree);

@@ -11,7 +11,8 @@ use crate::preorder::{Node, Tree};
 use tib_io::{Failed, Sink, write_whole};
 use tib_lex::is_name;
 
-/// Whether a label is written in quotes: where it is empty, has a byte that is no name byte, or is `->`. Takes no memory.
+/// Whether a label is written in quotes: where it is empty, has a byte that is no name byte, or is
+/// `->`. Takes no memory.
 pub fn needs_quotes(text: &[u8]) -> bool
     ensures value { result ≡ not (is_name_text text.now) }
     ensures yes { IsTrue result → IsName text.now → ⊥ }
@@ -22,7 +23,8 @@ pub fn needs_quotes(text: &[u8]) -> bool
 
 // Writes a piece.
 fn print_piece<W: Sink>(out: &mut W, piece: &[u8]) -> Result<(), Failed>
-    ensures { Wrote (W.written out.old) (W.written out.new) (W.free out.old) (W.free out.new) (W.faults out.old) (W.faults out.new) piece.now result }
+    ensures { Wrote (W.written out.old) (W.written out.new) (W.free out.old) (W.free out.new)
+        (W.faults out.old) (W.faults out.new) piece.now result }
 {
     write_whole(out, piece)
 }
@@ -57,7 +59,8 @@ fn run_length(bytes: &[u8]) -> usize
 
 fn print_backslash<W: Sink>(out: &mut W, run: &[u8]) -> Result<(), Failed>
     requires { 0 < length run.now }
-    ensures { Wrote (W.written out.old) (W.written out.new) (W.free out.old) (W.free out.new) (W.faults out.old) (W.faults out.new) (backslash_for run.now) result }
+    ensures { Wrote (W.written out.old) (W.written out.new) (W.free out.old) (W.free out.new)
+        (W.faults out.old) (W.faults out.new) (backslash_for run.now) result }
 {
     if is_plain(run[0]) {
         return print_piece(out, &run[..0]);
@@ -69,7 +72,8 @@ fn print_backslash<W: Sink>(out: &mut W, run: &[u8]) -> Result<(), Failed>
 fn print_run<W: Sink>(out: &mut W, run: &[u8]) -> Result<(), Failed>
     requires some { 0 < length run.now }
     requires run { IsRun run.now }
-    ensures { Wrote (W.written out.old) (W.written out.new) (W.free out.old) (W.free out.new) (W.faults out.old) (W.faults out.new) (escape run.now) result }
+    ensures { Wrote (W.written out.old) (W.written out.new) (W.free out.old) (W.free out.new)
+        (W.faults out.old) (W.faults out.new) (escape run.now) result }
 {
     match print_backslash(out, run) {
         Ok(()) => print_piece(out, run),
@@ -79,7 +83,8 @@ fn print_run<W: Sink>(out: &mut W, run: &[u8]) -> Result<(), Failed>
 
 // The bytes of a label as they stand in quotes.
 fn print_escaped<W: Sink>(out: &mut W, text: &[u8]) -> Result<(), Failed>
-    ensures { Wrote (W.written out.old) (W.written out.new) (W.free out.old) (W.free out.new) (W.faults out.old) (W.faults out.new) (escape text.now) result }
+    ensures { Wrote (W.written out.old) (W.written out.new) (W.free out.old) (W.free out.new)
+        (W.faults out.old) (W.faults out.new) (escape text.now) result }
 {
     let mut at = 0;
     while at < text.len() {
@@ -93,7 +98,8 @@ fn print_escaped<W: Sink>(out: &mut W, text: &[u8]) -> Result<(), Failed>
 }
 
 fn print_quoted<W: Sink>(out: &mut W, text: &[u8]) -> Result<(), Failed>
-    ensures { Wrote (W.written out.old) (W.written out.new) (W.free out.old) (W.free out.new) (W.faults out.old) (W.faults out.new) (spelling (label text.now)) result }
+    ensures { Wrote (W.written out.old) (W.written out.new) (W.free out.old) (W.free out.new)
+        (W.faults out.old) (W.faults out.new) (spelling (label text.now)) result }
 {
     match print_piece(out, b"\"") {
         Ok(()) => match print_escaped(out, text) {
@@ -104,9 +110,11 @@ fn print_quoted<W: Sink>(out: &mut W, text: &[u8]) -> Result<(), Failed>
     }
 }
 
-/// Writes a label: its bytes, or in quotes with `\"` and `\\` where it needs quotes. Takes no memory.
+/// Writes a label: its bytes, or in quotes with `\"` and `\\` where it needs quotes. Takes no
+/// memory.
 pub fn print_label<W: Sink>(out: &mut W, text: &[u8]) -> Result<(), Failed>
-    ensures { Wrote (W.written out.old) (W.written out.new) (W.free out.old) (W.free out.new) (W.faults out.old) (W.faults out.new) (label_text text.now) result }
+    ensures { Wrote (W.written out.old) (W.written out.new) (W.free out.old) (W.free out.new)
+        (W.faults out.old) (W.faults out.new) (label_text text.now) result }
 {
     if needs_quotes(text) {
         return print_quoted(out, text);
@@ -115,7 +123,8 @@ pub fn print_label<W: Sink>(out: &mut W, text: &[u8]) -> Result<(), Failed>
 }
 
 fn print_closes<W: Sink>(out: &mut W, count: u32) -> Result<(), Failed>
-    ensures { Wrote (W.written out.old) (W.written out.new) (W.free out.old) (W.free out.new) (W.faults out.old) (W.faults out.new) (replicate count 41) result }
+    ensures { Wrote (W.written out.old) (W.written out.new) (W.free out.old) (W.free out.new)
+        (W.faults out.old) (W.faults out.new) (replicate count 41) result }
 {
     let mut done = 0;
     while done < count {
@@ -129,7 +138,8 @@ fn print_closes<W: Sink>(out: &mut W, count: u32) -> Result<(), Failed>
 
 // What stands between the label of a node and that of the next one.
 fn print_gap<W: Sink>(out: &mut W, above: u32, depth: u32) -> Result<(), Failed>
-    ensures { Wrote (W.written out.old) (W.written out.new) (W.free out.old) (W.free out.new) (W.faults out.old) (W.faults out.new) (gap_text above depth) result }
+    ensures { Wrote (W.written out.old) (W.written out.new) (W.free out.old) (W.free out.new)
+        (W.faults out.old) (W.faults out.new) (gap_text above depth) result }
 {
     if above < depth {
         return print_piece(out, b"(");
@@ -143,7 +153,9 @@ fn print_gap<W: Sink>(out: &mut W, above: u32, depth: u32) -> Result<(), Failed>
 // A node behind one at the depth `above`.
 fn print_node<W: Sink>(out: &mut W, labels: &Labels, above: u32, node: Node) -> Result<(), Failed>
     requires { node.label < length labels.now }
-    ensures { Wrote (W.written out.old) (W.written out.new) (W.free out.old) (W.free out.new) (W.faults out.old) (W.faults out.new) (gap_text above node.depth ++ label_text (text_at labels.now node.label)) result }
+    ensures { Wrote (W.written out.old) (W.written out.new) (W.free out.old) (W.free out.new)
+        (W.faults out.old) (W.faults out.new) (gap_text above node.depth
+        ++ label_text (text_at labels.now node.label)) result }
 {
     match print_gap(out, above, node.depth) {
         Ok(()) => print_label(out, labels.text(node.label)),
@@ -154,7 +166,8 @@ fn print_node<W: Sink>(out: &mut W, labels: &Labels, above: u32, node: Node) -> 
 // The nodes behind the root, whose label was printed.
 fn print_nodes<W: Sink>(out: &mut W, labels: &Labels, nodes: &[Node]) -> Result<(), Failed>
     requires labels { All (λ n. n.label < length labels.now) nodes.now }
-    ensures { Wrote (W.written out.old) (W.written out.new) (W.free out.old) (W.free out.new) (W.faults out.old) (W.faults out.new) (text_from labels.now 0 nodes.now) result }
+    ensures { Wrote (W.written out.old) (W.written out.new) (W.free out.old) (W.free out.new)
+        (W.faults out.old) (W.faults out.new) (text_from labels.now 0 nodes.now) result }
 {
     let mut above = 0;
     let mut i = 0;
@@ -171,12 +184,13 @@ fn print_nodes<W: Sink>(out: &mut W, labels: &Labels, nodes: &[Node]) -> Result<
     print_closes(out, above)
 }
 
-/// Writes a tree: its label, and where it has children, these in parentheses with one space between them. Labels are
-/// written as `print_label` does. It fails only where the sink does, and then a front of the text was written. Takes no
-/// memory.
+/// Writes a tree: its label, and where it has children, these in parentheses with one space between
+/// them. Labels are written as `print_label` does. It fails only where the sink does, and then a
+/// front of the text was written. Takes no memory.
 pub fn print_tree<W: Sink>(tree: &Tree, labels: &Labels, out: &mut W) -> Result<(), Failed>
     requires { HasLabels labels.now tree.now }
-    ensures { Wrote (W.written out.old) (W.written out.new) (W.free out.old) (W.free out.new) (W.faults out.old) (W.faults out.new) (tree_text labels.now tree.now) result }
+    ensures { Wrote (W.written out.old) (W.written out.new) (W.free out.old) (W.free out.new)
+        (W.faults out.old) (W.faults out.new) (tree_text labels.now tree.now) result }
 {
     let nodes = tree.nodes();
     match print_label(out, labels.text(nodes[0].label)) {

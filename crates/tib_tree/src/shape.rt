@@ -51,8 +51,11 @@ impl Reader {
 
     fn put_node(&mut self, token: Token) -> Result<(), AllocError>
         requires { self.old.top < 2 ^ 32 - 1 }
-        ensures places { IfOk result (λ _. (long : ℕ) → Lies long token → All (PlaceLies long) self.old.places.items → All (PlaceLies long) self.new.places.items) }
-        ensures put { IfOk result (λ _. (line : List ℕ) → state_of line self.new ≡ node_put (word_at line token) (state_of line self.old)) }
+        ensures places { IfOk result (λ _. (long : ℕ) → Lies long token →
+            All (PlaceLies long) self.old.places.items →
+            All (PlaceLies long) self.new.places.items) }
+        ensures put { IfOk result (λ _. (line : List ℕ) →
+            state_of line self.new ≡ node_put (word_at line token) (state_of line self.old)) }
     {
         let kids = self.held;
         self.places.push(Place { token, kids })?;
@@ -64,8 +67,12 @@ impl Reader {
     // Reads one more token, if it may stand there.
     fn put(&mut self, token: Token) -> Result<bool, AllocError>
         requires { self.old.top < 2 ^ 32 - 1 }
-        ensures places { IfOk result (λ ok. (long : ℕ) → Lies long token → All (PlaceLies long) self.old.places.items → All (PlaceLies long) self.new.places.items) }
-        ensures put { IfOk result (λ ok. (line : List ℕ) → put (word_at line token) (state_of line self.old) ≡ (if ok then Some (state_of line self.new) else None)) }
+        ensures places { IfOk result (λ ok. (long : ℕ) → Lies long token →
+            All (PlaceLies long) self.old.places.items →
+            All (PlaceLies long) self.new.places.items) }
+        ensures put { IfOk result (λ ok. (line : List ℕ) →
+            put (word_at line token) (state_of line self.old)
+            ≡ (if ok then Some (state_of line self.new) else None)) }
     {
         match token.kind {
             Kind::Name | Kind::Quoted => {
@@ -80,7 +87,8 @@ impl Reader {
 
     fn open(&mut self) -> bool
         ensures places { self.new.places.items ≡ self.old.places.items }
-        ensures put { (line : List ℕ) → put_open_of (state_of line self.old) ≡ (if result then Some (state_of line self.new) else None) }
+        ensures put { (line : List ℕ) → put_open_of (state_of line self.old)
+            ≡ (if result then Some (state_of line self.new) else None) }
     {
         if self.held.is_some() {
             return false;
@@ -95,7 +103,9 @@ impl Reader {
 
     fn close(&mut self) -> Result<bool, AllocError>
         ensures places { self.new.places.items ≡ self.old.places.items }
-        ensures put { IfOk result (λ ok. (line : List ℕ) → put_close_of (state_of line self.old) ≡ (if ok then Some (state_of line self.new) else None)) }
+        ensures put { IfOk result (λ ok. (line : List ℕ) →
+            put_close_of (state_of line self.old)
+            ≡ (if ok then Some (state_of line self.new) else None)) }
     {
         if self.held.is_some() {
             return Ok(false);
@@ -109,8 +119,11 @@ impl Reader {
     /// Reads these tokens as one tree, if they are one.
     pub fn read(&mut self, tokens: &[Token]) -> Result<bool, AllocError>
         requires { length tokens.now < 2 ^ 32 - 1 }
-        ensures places { IfOk result (λ ok. IsTrue ok → (long : ℕ) → All (Lies long) tokens.now → All (PlaceLies long) self.new.places.items) }
-        ensures nodes { IfOk result (λ ok. (line : List ℕ) → nodes_of (words_at line tokens.now) ≡ (if ok then Some (items_back line self.new.places.items) else None)) }
+        ensures places { IfOk result (λ ok. IsTrue ok → (long : ℕ) → All (Lies long) tokens.now →
+            All (PlaceLies long) self.new.places.items) }
+        ensures nodes { IfOk result (λ ok. (line : List ℕ) →
+            nodes_of (words_at line tokens.now)
+            ≡ (if ok then Some (items_back line self.new.places.items) else None)) }
     {
         self.clear();
         let mut i = tokens.len();
@@ -124,7 +137,8 @@ impl Reader {
     }
 
     fn is_one(&self) -> bool
-        ensures { (line : List ℕ) → finish (Some (state_of line self.now)) ≡ (if result then Some (items_back line self.now.places.items) else None) }
+        ensures { (line : List ℕ) → finish (Some (state_of line self.now))
+            ≡ (if result then Some (items_back line self.now.places.items) else None) }
     {
         self.held.is_none() && self.top == 1 && self.above.is_empty()
     }

@@ -6,6 +6,7 @@ ghost use Rattle.tib_tree.specs.Lines.{tree_line, texts_in, IsLine};
 ghost use Rattle.tib_tree.specs.Nodes.{IsNode, AreNodes};
 ghost use Rattle.tib_tree.specs.Trees.{most_nodes};
 ghost use Rattle.tib_tree.specs.Shape.{item_at, items_back, PlaceLies};
+ghost use Rattle.tib_io.specs.Reads.{most_bytes};
 
 use crate::labels::Labels;
 use crate::preorder::{Label, Room, Tree, tree_from};
@@ -31,8 +32,10 @@ fn intern(
     requires lies { Lies (length line.now) token }
     requires plain { HasNoFeed line.now }
     requires room { length labels.old < 2 ^ 32 - 1 }
-    ensures named { IfOk result (λ n. slice_get labels.new n ≡ Some (text_of (word_at line.now token))) }
-    ensures added { IfOk result (λ _. Adds labels.old (text_of (word_at line.now token)) labels.new) }
+    ensures named { IfOk result (λ n. slice_get labels.new n
+        ≡ Some (text_of (word_at line.now token))) }
+    ensures added { IfOk result (λ _. Adds labels.old (text_of (word_at line.now token))
+        labels.new) }
     ensures err { OnErr result (labels.new ≡ labels.old) }
     ensures grows { Grows labels.old labels.new }
 {
@@ -70,9 +73,11 @@ fn read_nodes(
     requires lie { All (PlaceLies (length line.now)) places.now }
     requires plain { HasNoFeed line.now }
     requires room { length labels.old + length places.now < 2 ^ 32 - 1 }
-    ensures nodes { IfOk result (λ _. AreNodes labels.new nodes.new.items (items_back line.now places.now)) }
+    ensures nodes { IfOk result (λ _. AreNodes labels.new nodes.new.items
+        (items_back line.now places.now)) }
     ensures many { IfOk result (λ _. length nodes.new.items ≡ length places.now) }
-    ensures added { IfOk result (λ _. AddsAll labels.old (map (λ i. i.text) (items_back line.now places.now)) labels.new) }
+    ensures added { IfOk result (λ _. AddsAll labels.old (map (λ i.
+        i.text) (items_back line.now places.now)) labels.new) }
     ensures few { length labels.new ≤ length labels.old + length places.now }
     ensures grows { Grows labels.old labels.new }
 {
@@ -107,19 +112,20 @@ impl LineReader {
         }
     }
 
-    /// The tree of a line, if it has tokens. The table grows by the tree's labels that are new. After an error it may hold
-    /// further texts of the line's labels.
+    /// The tree of a line, if it has tokens. The table grows by the tree's labels that are new.
+    /// After an error it may hold further texts of the line's labels.
     pub fn read(
         &mut self,
         alloc: Global,
         line: &[u8],
         labels: &mut Labels,
     ) -> Result<Option<Tree>, LineError>
-        requires short { length line.now ≤ 8388608 }
+        requires short { length line.now ≤ most_bytes }
         requires plain { HasNoFeed line.now }
         requires room { length labels.old + length line.now < 2 ^ 32 - 1 }
         ensures line { IsLine labels.new result (tree_line line.now) }
-        ensures added { IfOk result (λ _. AddsAll labels.old (texts_in (tree_line line.now)) labels.new) }
+        ensures added { IfOk result (λ _. AddsAll labels.old (texts_in (tree_line line.now))
+            labels.new) }
         ensures few { length labels.new ≤ length labels.old + length line.now }
         ensures grows { Grows labels.old labels.new }
     {

@@ -2,7 +2,7 @@
 use Rattle.std.specs.Prelude.{◌≡◌, ℕ, ◌<◌, ◌≤◌, Bool, true, false, nat_eq, List, [], ◌∷◌, ◌++◌, length, ◌⊎◌, Option, None, Some, refl, if◌then◌else◌}
 use Rattle.std.proofs.Common.{zero, suc, ap, sym, ◌∙◌, arith, inl, inr, subst, get_or, append_assoc}
 use Rattle.tib_lex.specs.Lists.{Has}
-use Rattle.tib_tree.specs.Trees.{Trees, none, tree, count, first_trees, count-first, append_nil}
+use Rattle.tib_tree.specs.Trees.{Trees, none, tree, count, first_trees, count-first}
 use Rattle.tib_cost.specs.Semiring.{ProductLaws}
 use Rattle.tib_cost.specs.Least.{IsLeast, times, lesser}
 use Rattle.tib_cost.proofs.Least.{IsLeast-same, IsLeast-none, IsLeast-either, IsLeast-either_none, IsLeast-scaled}
@@ -21,6 +21,7 @@ use Rattle.tib_weigh.proofs.Places.{places_below, place_has, has_rule_place}
 use Rattle.tib_weigh.proofs.Sides.{length-holes}
 use Rattle.tib_weigh.proofs.Stacks.{times-none}
 use Rattle.tib_weigh.proofs.Members.{has_at, has_first, has_last, has_either, has_parts, has_right}
+use Rattle.tib_lex.proofs.Lists.{append_nil}
 
 -- c is the cost of a run from q that begins with one of the rules at these positions and yields f over kids
 abbrev pub BeginsAmong : (ℕ → ℕ → ℕ) → List (Rule ℕ) → ℕ → ℕ → Trees ℕ → List ℕ → ℕ → Type 0

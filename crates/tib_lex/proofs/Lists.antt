@@ -1,0 +1,65 @@
+-- Laws of lists: their parts, their appending, and what holds of each member.
+use Rattle.std.specs.Prelude.{◌≡◌, ◌<◌, ◌+◌, ℕ, Bool, not, cond, List, [], ◌∷◌, ◌++◌, length, map, Some, None, nat_lt, refl}
+use Rattle.std.specs.Global.{Vec}
+use Rattle.std.specs.List.{prefix_len}
+use Rattle.std.proofs.Common.{suc, arith, ap, sym, ◌∙◌, get_or, position, inl, inr}
+use Rattle.std.proofs.lemmas.List.{length-map}
+use Rattle.tib_lex.specs.Lists.{Has, Each, Ascends}
+
+-- lists that are the same have the same first member, and the same members behind it
+pub head_is : {A : Type 0} {x y : A} {xs ys : List A} → x ∷ xs ≡ y ∷ ys → x ≡ y
+head_is e = cc
+
+pub tail_is : {A : Type 0} {x y : A} {xs ys : List A} → x ∷ xs ≡ y ∷ ys → xs ≡ ys
+tail_is e = cc
+
+-- values that are there and the same are the same
+pub some_same : {A : Type 0} (x y : A) → Some x ≡ Some y → x ≡ y
+some_same x y e = cc
+
+-- nothing behind a list is the list
+pub append_nil : {A : Type 0} (xs : List A) → xs ++ [] ≡ xs
+append_nil [] = refl
+append_nil (x ∷ xs) = ap (λ y. x ∷ y) (append_nil xs)
+
+-- what holds of each member of two lists holds of each of both in one
+pub each_append : {A : Type 0} (P : A → Type 0) (xs ys : List A) → Each P xs → Each P ys → Each P (xs ++ ys)
+each_append P [] ys a b = b
+each_append P (x ∷ xs) ys a b = (a.0, each_append P xs ys a.1 b)
+
+-- what holds of each member by P holds by Q, where Q follows from P
+pub each_weaker : {A : Type 0} (P Q : A → Type 0) (xs : List A) → ((x : A) → P x → Q x) → Each P xs → Each Q xs
+each_weaker P Q [] h e = tt
+each_weaker P Q (x ∷ xs) h e = (h x e.0, each_weaker P Q xs h e.1)
+
+-- what holds at each place holds of each member
+pub Each-from : {A : Type 0} (P : A → Type 0) (xs : List A) (d : A) → ((n : ℕ) → n < length xs → P (get_or xs n d)) → Each P xs
+Each-from P [] d h = tt
+Each-from P (x ∷ xs) d h = (h 0 (omega arith), Each-from P xs d (λ n b. h (suc n) (omega arith)))
+
+-- a list ascends where R holds of each two places in their order
+pub Ascends-from :
+    {A : Type 0} (R : A → A → Type 0) (xs : List A) (d : A) →
+    ((m n : ℕ) → m < n → n < length xs → R (get_or xs m d) (get_or xs n d)) → Ascends R xs
+Ascends-from R [] d h = tt
+Ascends-from R (x ∷ xs) d h = (
+  Each-from (R x) xs d (λ n b. h 0 (suc n) (omega arith) (omega arith)),
+  Ascends-from R xs d (λ m n b c. h (suc m) (suc n) (omega arith) (omega arith)),
+)
+
+-- a member of a mapped list comes from a member of the list
+pub has_mapped : {A B : Type 0} (f : A → B) (xs : List A) (y : B) → Has (map f xs) y → (x : A) × Has xs x × (f x ≡ y)
+has_mapped f [] y h = absurd h
+has_mapped f (x ∷ xs) y h = elim h [ inl e ↦ (x, inl refl, e) | inr k ↦ let r = has_mapped f xs y k in (r.0, inr r.1, r.2) ]
+
+-- a test of the texts of some keys finds the place that the same test finds among the texts
+pub prefix_len-map : (p : List ℕ → Bool) (keys : List (Vec ℕ)) → prefix_len (λ k. p k.items) keys ≡ prefix_len p (map (λ k. k.items) keys)
+prefix_len-map p [] = refl
+prefix_len-map p (k ∷ ks) = ap (λ n. cond (p k.items) (1 + n) 0) (prefix_len-map p ks)
+
+pub position-map : (p : List ℕ → Bool) (keys : List (Vec ℕ)) → position (λ k. p k.items) keys ≡ position p (map (λ k. k.items) keys)
+position-map p keys =
+    let e : prefix_len (λ k. not (p k.items)) keys ≡ prefix_len (λ t. not (p t)) (map (λ k. k.items) keys) = prefix_len-map (λ t. not (p t)) keys in
+    let l : length keys ≡ length (map (λ k. k.items) keys) = sym (length-map keys (λ k. k.items)) in
+    ap (λ n. cond (nat_lt n (length keys)) (Some n) None) e
+    ∙ ap (λ m. cond (nat_lt (prefix_len (λ t. not (p t)) (map (λ k. k.items) keys)) m) (Some (prefix_len (λ t. not (p t)) (map (λ k. k.items) keys))) None) l
