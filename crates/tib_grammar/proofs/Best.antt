@@ -1,9 +1,8 @@
 -- The series of a grammar in normal form, by recursion over the trees.
-use Rattle.std.specs.Prelude.{◌≡◌, ℕ, List, [], ◌∷◌, length, Bool, true, false, ◌&&◌, ◌⊎◌, nat_eq, refl, Option, None, Some, if◌then◌else◌}
+use Rattle.std.specs.Prelude.{◌≡◌, ℕ, List, [], ◌∷◌, length, Bool, true, false, ◌&&◌, ◌⊎◌, nat_eq, Option, None, Some, if◌then◌else◌}
 use Rattle.std.proofs.Common.{zero, suc, arith, ap, inl, inr, add-one}
-use Rattle.std.proofs.lemmas.Bool.Decides.{nat_tests}
 use Rattle.tib_tree.specs.Trees.{Trees, none, tree, count}
-use Rattle.tib_grammar.specs.Sides.{Symbol, label, hole, holes}
+use Rattle.tib_grammar.specs.Sides.{label, holes, is_label}
 use Rattle.tib_grammar.specs.Run.{rule_at, IsCost}
 use Rattle.tib_grammar.specs.Forms.{AreNormal}
 use Rattle.tib_grammar.proofs.NormalRuns.{count-yields, BeginsBelow, IsLeast-no_states, IsLeast-one_more, IsLeast-no_rules, IsLeast-rule, IsLeast-no_rule, IsLeast-all_rules}
@@ -13,15 +12,11 @@ use Rattle.tib_cost.specs.Least.{IsLeast, times, lesser}
 use Rattle.tib_cost.proofs.Least.{IsLeast-none}
 use Rattle.tib_lex.proofs.Booleans.{and-both, and-first, and-second}
 use Rattle.tib_lex.proofs.Numbers.{nat_eq_cases}
-
--- whether a symbol is the label f
-abbrev pub is_label : Symbol ℕ ℕ → ℕ → Bool
-is_label (label g) f = nat_eq g f
-is_label (hole p) f = false
+use Rattle.tib_grammar.proofs.Sides.{is_label_cases}
 
 -- whether a rule leads from the state q to the label f
 abbrev pub fits : Rule ℕ → ℕ → ℕ → Bool
-fits r q f = nat_eq r.left q && is_label r.right.label f
+fits r q f = nat_eq r.left q && is_label f r.right.label
 
 module _ (product : ℕ → ℕ → ℕ) (rules : List (Rule ℕ)) where
   -- the least over the first m rules, where `below` gives the costs of the children from a list of states
@@ -39,10 +34,6 @@ module _ (product : ℕ → ℕ → ℕ) (rules : List (Rule ℕ)) where
   best none (q ∷ qs) = None
   best (tree f kids rest) [] = None
   best (tree f kids rest) (q ∷ qs) = times product (best_rule (best kids) q f (length rules)) (best rest qs)
-
-pub is_label_cases : (s : Symbol ℕ ℕ) (f : ℕ) → ((s ≡ label f) × (is_label s f ≡ true)) ⊎ ((s ≡ label f → ⊥) × (is_label s f ≡ false))
-is_label_cases (label g) f = elim (nat_eq_cases g f) [ inl h ↦ inl (ap label h.0, h.1) | inr h ↦ inr (λ e. h.0 (cc e), h.1) ]
-is_label_cases (hole p) f = inr (λ e. cc, refl)
 
 fits_cases : (r : Rule ℕ) (q f : ℕ) → ((r.left ≡ q) × (r.right.label ≡ label f) × (fits r q f ≡ true)) ⊎ ((r.left ≡ q → r.right.label ≡ label f → ⊥) × (fits r q f ≡ false))
 fits_cases r q f = elim (nat_eq_cases r.left q) [

@@ -1,10 +1,9 @@
 -- Lists of items in a table that tests them item by item.
-use Rattle.std.proofs.Common.{◌≡◌, ℕ, ◌+◌, ◌<◌, List, [], ◌∷◌, ◌++◌, map, get_or, Bool, true, false, not, cond, ◌||◌, refl, zero, suc, arith, ap, sym, ◌∙◌, subst, true≢false, inl, inr, ◌⊎◌}
+use Rattle.std.proofs.Common.{◌≡◌, ℕ, ◌+◌, ◌<◌, List, [], ◌∷◌, ◌++◌, map, get_or, Bool, true, false, not, cond, refl, zero, suc, arith, ap, sym, ◌∙◌, subst, true≢false, inl, inr}
 use Rattle.std.specs.Prelude.{nat_eq, ◌&&◌, if◌then◌else◌}
 use Rattle.std.specs.List.{list_any, position_or_len}
 use Rattle.std.specs.Cmp.Lexicographic.{pointwise}
 use Rattle.std.proofs.lemmas.List.{map-append}
-use Rattle.std.proofs.lemmas.Bool.Decides.{nat_tests}
 use Rattle.tib_lex.specs.Lists.{Has}
 use Rattle.tib_grammar.specs.Checked.{IsFirstPlace}
 use Rattle.tib_grammar.specs.declared.Item.{Item}
@@ -20,7 +19,8 @@ pub record IsItemTest (E : Item ℕ → Item ℕ → Bool) : Type 0 where
   pub holes : (p q : ℕ) → E (Hole p) (Hole q) ≡ nat_eq p q
 
 module _ (E : Item ℕ → Item ℕ → Bool) (test : IsItemTest E) where
-  item_same : (x y : Item ℕ) → E x y ≡ true → x ≡ y
+  -- two items that pass the test are the same
+  pub item_same : (x y : Item ℕ) → E x y ≡ true → x ≡ y
   item_same (Label f r) (Label g s) e =
       let parts = and-true (nat_eq f g) (nat_eq r s) (sym (test.labels f r g s) ∙ e) in
       let labels : f ≡ g = nat_eq-true f g parts.0 in
@@ -30,11 +30,13 @@ module _ (E : Item ℕ → Item ℕ → Bool) (test : IsItemTest E) where
   item_same (Hole p) (Label g s) e = absurd (true≢false (sym e ∙ test.hole_label p g s))
   item_same (Hole p) (Hole q) e = ap Hole (nat_eq-true p q (sym (test.holes p q) ∙ e))
 
-  item_itself : (x : Item ℕ) → E x x ≡ true
+  -- an item passes the test with itself
+  pub item_itself : (x : Item ℕ) → E x x ≡ true
   item_itself (Label f r) = test.labels f r f r ∙ rw (nat_eq-itself f, nat_eq-itself r) refl
   item_itself (Hole p) = test.holes p p ∙ nat_eq-itself p
 
-  items_same : (xs ys : List (Item ℕ)) → pointwise E xs ys ≡ true → xs ≡ ys
+  -- two lists whose items pass the test are the same
+  pub items_same : (xs ys : List (Item ℕ)) → pointwise E xs ys ≡ true → xs ≡ ys
   items_same [] [] e = refl
   items_same [] (y ∷ ys) e = absurd (cc)
   items_same (x ∷ xs) [] e = absurd (cc)
@@ -44,7 +46,8 @@ module _ (E : Item ℕ → Item ℕ → Bool) (test : IsItemTest E) where
       let tail : xs ≡ ys = items_same xs ys parts.1 in
       cc
 
-  items_themselves : (xs : List (Item ℕ)) → pointwise E xs xs ≡ true
+  -- a list passes the test with itself
+  pub items_themselves : (xs : List (Item ℕ)) → pointwise E xs xs ≡ true
   items_themselves [] = refl
   items_themselves (x ∷ xs) = rw (item_itself x, items_themselves xs) refl
 
@@ -79,15 +82,17 @@ module _ (E : Item ℕ → Item ℕ → Bool) (test : IsItemTest E) where
             let e : suc i ≡ 1 + i = omega arith in
             subst (IsFirstPlace (v k ∷ map v keys) (v x)) e (record { below = omega (arith, p.below); at = p.at; least = later k keys i n p })
 
-    kept : (b : Bool) (keys : List K) → b ≡ true → (if b then keys else keys ++ x ∷ []) ≡ keys
+    -- where the test finds a key, no key is added
+    pub kept : (b : Bool) (keys : List K) → b ≡ true → (if b then keys else keys ++ x ∷ []) ≡ keys
     kept true keys e = refl
     kept false keys e = absurd (cc)
 
-    grown : (b : Bool) (keys : List K) → b ≡ false → (if b then keys else keys ++ x ∷ []) ≡ keys ++ x ∷ []
+    -- where it finds none, the key is added behind the others
+    pub grown : (b : Bool) (keys : List K) → b ≡ false → (if b then keys else keys ++ x ∷ []) ≡ keys ++ x ∷ []
     grown true keys e = absurd (cc)
     grown false keys e = refl
 
-    -- a list that was not there goes last
+    -- a list that was not there is added behind the others
     pub noted_new :
         (keys now : List K) → list_any (λ k. pointwise E (v x) (v k)) keys ≡ false → now ≡ (if list_any (λ k. pointwise E (v x) (v k)) keys then keys else keys ++ x ∷ []) →
         (Has (map v keys) (v x) → ⊥) × (map v now ≡ map v keys ++ v x ∷ [])

@@ -1,9 +1,11 @@
 -- Filling the holes of sides.
-use Rattle.std.proofs.Common.{◌≡◌, ℕ, List, [], ◌∷◌, ◌++◌, length, map, refl, zero, suc, arith, ap, sym, ◌∙◌, length-append}
+use Rattle.std.specs.Prelude.{◌⊎◌, true, false}
+use Rattle.std.proofs.Common.{inl, inr, ◌≡◌, ℕ, List, [], ◌∷◌, length, map, refl, zero, suc, arith, ap, sym, ◌∙◌, length-append}
 use Rattle.std.proofs.lemmas.List.{length-map, map-append}
 use Rattle.tib_tree.specs.Trees.{Trees, none, tree, count, first_trees, other_trees, only, relabel, preorder, count-other}
-use Rattle.tib_grammar.specs.Sides.{Symbol, label, hole, Side, holes, holes_of, fill, AreHoles, HolesAreLeaves, leaves, over, Lone, symbol_map}
+use Rattle.tib_grammar.specs.Sides.{Symbol, label, hole, Side, holes, holes_of, fill, is_label, AreHoles, HolesAreLeaves, leaves, over, Lone, symbol_map}
 use Rattle.tib_lex.proofs.Lists.{append_nil}
+use Rattle.tib_lex.proofs.Numbers.{nat_eq_cases, nat_eq-true}
 
 pub count-fill : {A P : Type 0} (s : Trees (Symbol A P)) (ts : Trees A) → count ts ≡ length (holes s) → count (fill s ts) ≡ count s
 count-fill none ts h = refl
@@ -120,3 +122,40 @@ HolesAreLeaves-other (suc n) none h = tt
 HolesAreLeaves-other (suc n) (tree (label f) kids rest) h = HolesAreLeaves-other n rest h.1
 HolesAreLeaves-other (suc n) (tree (hole p) none rest) h = HolesAreLeaves-other n rest h
 HolesAreLeaves-other (suc n) (tree (hole p) (tree s kids more) rest) h = absurd h
+
+-- a symbol is the label f and passes the test, or is not and fails it
+pub is_label_cases : (s : Symbol ℕ ℕ) (f : ℕ) → ((s ≡ label f) × (is_label f s ≡ true)) ⊎ ((s ≡ label f → ⊥) × (is_label f s ≡ false))
+is_label_cases (label g) f = elim (nat_eq_cases g f) [ inl h ↦ inl (ap label h.0, h.1) | inr h ↦ inr (λ e. h.0 (cc e), h.1) ]
+is_label_cases (hole p) f = inr (λ e. cc, refl)
+
+-- a symbol that passes the test of a label is that label
+pub is_label-true : {P : Type 0} (f : ℕ) (s : Symbol ℕ P) → is_label f s ≡ true → s ≡ label f
+is_label-true f (label g) e = ap label (nat_eq-true g f e)
+is_label-true f (hole p) e = absurd (cc)
+
+-- a label is no hole
+pub label_is_no_hole : (f p : ℕ) → ◌≡◌ {A = Symbol ℕ ℕ} (label f) (hole p) → ⊥
+label_is_no_hole f p e = absurd (cc)
+
+-- holes, and labels, that are the same carry the same
+pub same_hole : (q p : ℕ) → ◌≡◌ {A = Symbol ℕ ℕ} (hole q) (hole p) → q ≡ p
+same_hole q p e = cc
+
+pub same_label : (f g : ℕ) → ◌≡◌ {A = Symbol ℕ ℕ} (label f) (label g) → f ≡ g
+same_label f g e = cc
+
+-- a symbol is one label at most
+pub one_label : {P : Type 0} (f g : ℕ) (s : Symbol ℕ P) → s ≡ label f → s ≡ label g → f ≡ g
+one_label f g (label h) e k = cc
+one_label f g (hole p) e k = absurd (cc)
+
+-- a symbol whose state is exchanged for itself is the same
+pub symbol_itself : (s : Symbol ℕ ℕ) → symbol_map (λ (q : ℕ). q) s ≡ s
+symbol_itself (label f) = refl
+symbol_itself (hole q) = refl
+
+-- holes carry as many values as they are trees
+pub length-holes : {A P : Type 0} (kids : Trees (Symbol A P)) → AreHoles kids → length (holes kids) ≡ count kids
+length-holes none a = refl
+length-holes (tree (label f) ks rest) a = absurd a
+length-holes (tree (hole p) ks rest) a = ap suc (length-holes rest a)

@@ -37,6 +37,6 @@ IsNoted old x (Some i) new = IsFirstPlace old x i × (new ≡ old)
 
 -- these are the items of the first n right sides
 pub record AreFirstSides (lists : List (List (Item ℕ))) (rules : List (Rule ℕ)) (n : ℕ) : Type 0
-    where
-  pub counted : length lists ≡ n
-  pub are : (k : ℕ) → k < n → pairs_of (get_or lists k []) ≡ preorder_of (rule_at rules k).right
+  where
+    pub counted : length lists ≡ n
+    pub are : (k : ℕ) → k < n → pairs_of (get_or lists k []) ≡ preorder_of (rule_at rules k).right

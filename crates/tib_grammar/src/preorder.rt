@@ -19,7 +19,7 @@ fn rank_of<P>(item: &Item<P>) -> u32
     }
 }
 
-// Whether each item finds its children behind it, and the first item alone is nobody's child.
+// Whether each item has its children after it, and the first item alone is no item's child.
 fn is_one_side<P>(items: &[Item<P>]) -> bool
     requires { length items.now < 2 ^ 32 }
     ensures yes { IsTrue result → IsOneTree (pairs_of items.now) }

@@ -1,3 +1,4 @@
+// Files and sinks in memory, read and written at each of their limits.
 use crate::{
     Failed, FileError, Files, GrowingSink, MemoryFiles, MemorySink, Sink, read_file,
     write_and_finish, write_whole,

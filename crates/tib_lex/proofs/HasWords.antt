@@ -66,7 +66,7 @@ drop_more : (xs ys : List ℕ) (n : ℕ) → drop (length xs + n) (xs ++ ys) ≡
 drop_more [] ys n = ap (λ (m : ℕ). drop m ys) (zero-add n)
 drop_more (x ∷ xs) ys n = let e : suc (length xs) + n ≡ suc (length xs + n) = omega arith in rw e (drop_more xs ys n)
 
--- the next token stands behind the white space
+-- the next token is the first one after the white space
 pub next_at : (bl rest : List ℕ) → list_all is_blank bl ≡ true → begins_blank rest ≡ false → next (bl ++ rest) 0 ≡ first rest (length bl)
 unfolding next
 next_at bl rest white black =

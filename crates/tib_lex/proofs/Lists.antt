@@ -4,7 +4,7 @@ use Rattle.std.specs.Global.{Vec}
 use Rattle.std.specs.List.{prefix_len}
 use Rattle.std.proofs.Common.{suc, arith, ap, sym, ◌∙◌, get_or, position, inl, inr}
 use Rattle.std.proofs.lemmas.List.{length-map}
-use Rattle.tib_lex.specs.Lists.{Has, Each, Ascends}
+use Rattle.tib_lex.specs.Lists.{Has, Each, Ascends, total}
 
 -- lists that are the same have the same first member, and the same members behind it
 pub head_is : {A : Type 0} {x y : A} {xs ys : List A} → x ∷ xs ≡ y ∷ ys → x ≡ y
@@ -63,3 +63,8 @@ position-map p keys =
     let l : length keys ≡ length (map (λ k. k.items) keys) = sym (length-map keys (λ k. k.items)) in
     ap (λ n. cond (nat_lt n (length keys)) (Some n) None) e
     ∙ ap (λ m. cond (nat_lt (prefix_len (λ t. not (p t)) (map (λ k. k.items) keys)) m) (Some (prefix_len (λ t. not (p t)) (map (λ k. k.items) keys))) None) l
+
+-- the total of two lists is that of both in one
+pub total_append : {A : Type 0} (f : A → ℕ) (xs ys : List A) → total f (xs ++ ys) ≡ total f xs + total f ys
+total_append f [] ys = omega arith
+total_append f (x ∷ xs) ys = omega (arith, total_append f xs ys)

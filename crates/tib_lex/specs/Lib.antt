@@ -1,3 +1,4 @@
+-- The definitions of lines, tokens and lists.
 pub mod Bytes
 pub mod Next
 pub mod Grammar

@@ -35,6 +35,11 @@ pub record IsReordering {A : Type 0} (xs ys : List A) : Type 0 where
   pub once_first : Distinct xs
   pub once_second : Distinct ys
 
+-- f of each member, added up (std's `sum_by`, so written that it computes on the first member)
+abbrev pub total : {A : Type 0} → (A → ℕ) → List A → ℕ
+total f [] = 0
+total f (x ∷ xs) = f x + total f xs
+
 -- how often n stands in the list
 abbrev pub occurrences : ℕ → List ℕ → ℕ
 occurrences n [] = 0

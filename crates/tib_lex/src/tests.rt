@@ -1,3 +1,4 @@
+// Lines, tokens and texts of small files.
 use crate::{
     FaultKind, FileFault, Kind, Lexed, Line, ReadError, Token, line_bytes, next_line, next_token,
     read_tokens, token_text,

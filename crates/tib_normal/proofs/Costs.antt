@@ -10,22 +10,6 @@ use Rattle.tib_grammar.proofs.NormalRuns.{BeginsBelow, split_all, merge_all, beg
 use Rattle.tib_grammar.proofs.Best.{no_trees, no_states}
 use Rattle.tib_cost.specs.Semiring.{ProductLaws}
 
-pub same_label : {P : Type 0} (f g : ℕ) (s : Symbol ℕ P) → s ≡ label f → s ≡ label g → f ≡ g
-same_label f g (label h) e k = cc
-same_label f g (hole p) e k = absurd (cc)
-
--- c is the cost of runs that yield the tree f over kids and then the trees rest, with the first rule named
-pub record IsOpened (product : ℕ → ℕ → ℕ) (rules : List (Rule ℕ)) (q : ℕ) (qs : List ℕ) (f : ℕ) (kids rest : Trees ℕ) (c : ℕ) : Type 0 where
-  pub rule : ℕ
-  pub below : rule < length rules
-  pub left : (rule_at rules rule).left ≡ q
-  pub root : (rule_at rules rule).right.label ≡ label f
-  pub inner : ℕ
-  pub outer : ℕ
-  pub kids_cost : IsCost product rules (holes (rule_at rules rule).right.kids) kids inner
-  pub rest_cost : IsCost product rules qs rest outer
-  pub costs : product (product (rule_at rules rule).cost inner) outer ≡ c
-
 -- c is the product of the costs of runs for the first n trees and of runs for the others
 pub record IsCutCost (product : ℕ → ℕ → ℕ) (rules : List (Rule ℕ)) (n : ℕ) (qs : List ℕ) (ts : Trees ℕ) (c : ℕ) : Type 0 where
   pub first : ℕ
@@ -37,27 +21,6 @@ pub record IsCutCost (product : ℕ → ℕ → ℕ) (rules : List (Rule ℕ)) (
 module _
     {levelled weighted : Bool} {product : ℕ → ℕ → ℕ} (laws : ProductLaws levelled weighted product)
     (rules : List (Rule ℕ)) (normal : AreNormal rules) where
-  pub open_cost :
-      (q : ℕ) (qs : List ℕ) (f : ℕ) (kids rest : Trees ℕ) (c : ℕ) → IsCost product rules (q ∷ qs) (tree f kids rest) c →
-      IsOpened product rules q qs f kids rest c
-  open_cost q qs f kids rest c h =
-      let s = split_all laws rules q qs f kids rest c h in
-      let g : BeginsBelow product rules q f kids (length rules) s.0 =
-      subst (BeginsBelow product rules q f kids (length rules)) s.2.costs (begin laws rules normal q f kids s.2.runs s.2.are_runs s.2.yielded)
-      in
-      let b = g.2.below in
-      record {
-        rule = g.0;
-        below = g.1;
-        left = g.2.left;
-        root = g.2.root;
-        inner = b.1;
-        outer = s.1;
-        kids_cost = b.3;
-        rest_cost = s.3;
-        costs = ap (λ x. product x s.1) (ap (λ x. product x b.1) (sym b.2) ∙ b.4) ∙ s.4;
-      }
-
   pub cut_costs :
       (n : ℕ) (qs : List ℕ) (ts : Trees ℕ) (c : ℕ) → n ≤ count ts → IsCost product rules qs ts c →
       IsCutCost product rules n qs ts c

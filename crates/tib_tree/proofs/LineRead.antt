@@ -14,6 +14,7 @@ use Rattle.tib_tree.specs.Nodes.{AreNodes}
 use Rattle.tib_tree.specs.Trees.{Tree, preorder_of}
 use Rattle.tib_tree.specs.declared.shape.Place.{Place}
 use Rattle.tib_lex.specs.declared.fault.FaultKind.TheVariants as kinds
+use Rattle.tib_tree.specs.Trees.{most_nodes}
 
 pub bad_line : (line : List ℕ) → words_of line ≡ None → tree_line line ≡ Err kinds.BadToken
 unfolding tree_line
@@ -35,14 +36,15 @@ no_tree_line line ts e h n = tree_of_words line ts None e h n
 pub back_long : (line : List ℕ) (places : List Place) → length (items_back line places) ≡ length places
 back_long line places = length-reverse (map (item_at line) places) ∙ length-map places (item_at line)
 
-chosen : {A : Type 0} (n m : ℕ) (x y : A) → n ≡ m → (m ≤ 10000 → cond (nat_lt 10000 n) x y ≡ y) × (10000 < m → cond (nat_lt 10000 n) x y ≡ x)
+-- which of two answers is given, by the limit on nodes
+pub chosen : {A : Type 0} (n m : ℕ) (x y : A) → n ≡ m → (m ≤ most_nodes → cond (nat_lt most_nodes n) x y ≡ y) × (most_nodes < m → cond (nat_lt most_nodes n) x y ≡ x)
 chosen n m x y e = (λ h. grind (arith, nat_tests), λ h. grind (arith, nat_tests))
 
-pub large_line : (line : List ℕ) (ts : List Token) (places : List Place) → words_of line ≡ Some (words_at line ts) → 0 < length ts → nodes_of (words_at line ts) ≡ Some (items_back line places) → 10000 < length places → tree_line line ≡ Err kinds.TooManyNodes
+pub large_line : (line : List ℕ) (ts : List Token) (places : List Place) → words_of line ≡ Some (words_at line ts) → 0 < length ts → nodes_of (words_at line ts) ≡ Some (items_back line places) → most_nodes < length places → tree_line line ≡ Err kinds.TooManyNodes
 large_line line ts places e h n large =
     tree_of_words line ts (Some (items_back line places)) e h n ∙ (chosen (length (items_back line places)) (length places) _ _ (back_long line places)).1 large
 
-pub good_line : (line : List ℕ) (ts : List Token) (places : List Place) → words_of line ≡ Some (words_at line ts) → 0 < length ts → nodes_of (words_at line ts) ≡ Some (items_back line places) → length places ≤ 10000 → tree_line line ≡ Ok (Some (items_back line places))
+pub good_line : (line : List ℕ) (ts : List Token) (places : List Place) → words_of line ≡ Some (words_at line ts) → 0 < length ts → nodes_of (words_at line ts) ≡ Some (items_back line places) → length places ≤ most_nodes → tree_line line ≡ Ok (Some (items_back line places))
 good_line line ts places e h n small =
     tree_of_words line ts (Some (items_back line places)) e h n ∙ (chosen (length (items_back line places)) (length places) _ _ (back_long line places)).0 small
 

@@ -2,7 +2,7 @@
 use Rattle.std.proofs.Common.{◌≡◌, ℕ, ◌<◌, inl, inr, Bool, true, false, List, [], ◌∷◌, ◌++◌, length, refl, ap, sym, ◌∙◌, subst, append_assoc, append-nil}
 use Rattle.std.specs.Prelude.{Some, slice_get, not, cond}
 use Rattle.std.proofs.lemmas.Option.{slice_get-get_or}
-use Rattle.tib_lex.specs.Grammar.{Word, open_, close, name, label, is_name, spelling, IsWord, begins_name, MayPrecede, HasWords}
+use Rattle.tib_lex.specs.Grammar.{Word, open_, close, name, label, is_name, IsWord, begins_name, MayPrecede, HasWords}
 use Rattle.tib_lex.specs.Lines.{HasNoFeed, HasLines}
 use Rattle.tib_lex.specs.Lists.{Each}
 use Rattle.tib_tree.proofs.PlainTexts.{tree_plain}

@@ -30,11 +30,12 @@ use Rattle.tib_tree.specs.TreesText.{HasTrees, TreesText, IsSmall, NoTree, HasNo
 use Rattle.tib_tree.proofs.Read.{tree_back, tree_forth}
 use Rattle.tib_tree.proofs.Values.{count_said, said}
 use Rattle.tib_lex.proofs.Lists.{append_nil, some_same}
+use Rattle.tib_tree.specs.Trees.{most_nodes}
 
 -- one line
-held_tree : (line : List ℕ) (is : List Item) (b : Bool) → HasNodes line is → nat_lt 10000 (length is) ≡ b → LineHolds line (cond b (Err kinds.TooManyNodes) (Ok (Some is)))
+held_tree : (line : List ℕ) (is : List Item) (b : Bool) → HasNodes line is → nat_lt most_nodes (length is) ≡ b → LineHolds line (cond b (Err kinds.TooManyNodes) (Ok (Some is)))
 held_tree line is true h e = record { nodes = is; tree = h; many = grind (arith, nat_tests) }
-held_tree line is false h e = let few : length is ≤ 10000 = grind (arith, nat_tests) in (h, few)
+held_tree line is false h e = let few : length is ≤ most_nodes = grind (arith, nat_tests) in (h, few)
 
 held_words : (line : List ℕ) (word : Word) (words : List Word) (o : Option (List Item)) → HasWords (word ∷ words) line → nodes_of (word ∷ words) ≡ o → LineHolds line (small_tree o)
 held_words line word words None h e = record {
@@ -43,7 +44,7 @@ held_words line word words None h e = record {
   has = h;
   none = λ nodes t. let bad : None ≡ Some nodes = sym e ∙ (sym (ap nodes_of t.spelled) ∙ tree_forth t.tree t.one ∙ ap Some t.nodes) in absurd (cc);
 }
-held_words line word words (Some is) h e = held_tree line is (nat_lt 10000 (length is)) (record { words = word ∷ words; has = h; tree = tree_back (word ∷ words) is e }) refl
+held_words line word words (Some is) h e = held_tree line is (nat_lt most_nodes (length is)) (record { words = word ∷ words; has = h; tree = tree_back (word ∷ words) is e }) refl
 
 held : (line : List ℕ) (o : Option (List Word)) → words_of line ≡ o → LineHolds line (tree_in o)
 held line None e = bad_had line e
@@ -54,7 +55,8 @@ pub line_holds : (line : List ℕ) → LineHolds line (tree_line line)
 unfolding tree_line
 line_holds line = held line (words_of line) refl
 
-no_nodes : (is : List Item) → nodes_of [] ≡ Some is → ⊥
+-- no tokens have no nodes
+pub no_nodes : (is : List Item) → nodes_of [] ≡ Some is → ⊥
 unfolding nodes_of
 no_nodes is e = let bad : None ≡ Some is = e in cc
 
@@ -66,11 +68,11 @@ unfolding tree_line
 line_of line [] is o h t e = absurd (no_nodes is (read_of [] is t))
 line_of line (word ∷ words) is o h t e = rw (words_read (word ∷ words) line h, read_of (word ∷ words) is t) e
 
-few_nodes : (is : List Item) → length is ≤ 10000 → small_tree (Some is) ≡ Ok (Some is)
-few_nodes is h = let e : nat_lt 10000 (length is) ≡ false = grind (arith, nat_tests) in rw e refl
+few_nodes : (is : List Item) → length is ≤ most_nodes → small_tree (Some is) ≡ Ok (Some is)
+few_nodes is h = let e : nat_lt most_nodes (length is) ≡ false = grind (arith, nat_tests) in rw e refl
 
-many_nodes : (is : List Item) → 10000 < length is → small_tree (Some is) ≡ Err kinds.TooManyNodes
-many_nodes is h = let e : nat_lt 10000 (length is) ≡ true = grind (arith, nat_tests) in rw e refl
+many_nodes : (is : List Item) → most_nodes < length is → small_tree (Some is) ≡ Err kinds.TooManyNodes
+many_nodes is h = let e : nat_lt most_nodes (length is) ≡ true = grind (arith, nat_tests) in rw e refl
 
 no_tree_of : (words : List Word) (o : Option (List Item)) → ((nodes : List Item) → IsTree words nodes → ⊥) → nodes_of words ≡ o → nodes_of words ≡ None
 no_tree_of words None h e = e
@@ -190,7 +192,7 @@ tree_held labels line t h = record {
   tree = record { tree = h.spells.written; spelled = h.spells.spelled; one = sym (count_said labels h.spells.written (only t) h.spells.says); nodes = refl };
 }
 
-same_size : (labels : List (List ℕ)) (line : List ℕ) (t : Tree ℕ) (h : IsTreeLine labels line t) → IsSmall t → length (items h.spells.written) ≤ 10000
+same_size : (labels : List (List ℕ)) (line : List ℕ) (t : Tree ℕ) (h : IsTreeLine labels line t) → IsSmall t → length (items h.spells.written) ≤ most_nodes
 same_size labels line t h small = omega (arith, size_of labels t (items h.spells.written) (one_tree_nodes labels h.spells.written t h.spells.says), small)
 
 pub text_read : (labels : List (List ℕ)) (n : ℕ) (lines : List (List ℕ)) (ts : List (Tree ℕ)) → HasTrees labels lines ts → Each IsSmall ts → (iss : List (List Item)) × (each_line tree_line n lines ≡ Ok iss) × AreTrees labels ts iss

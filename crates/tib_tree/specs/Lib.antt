@@ -1,3 +1,4 @@
+-- The definitions of trees, of their texts and of tables of labels.
 pub mod Written
 pub mod Machine
 pub mod Shape

@@ -1,3 +1,4 @@
+// The trees of a tree file, line by line.
 ghost use Rattle.std.specs.Prelude.{◌≡◌, ◌<◌, ◌+◌, ◌-◌, ◌^◌, OnOk, take, drop, ◌≤◌, ℕ, length, not, ◌==◌, IfOk, List, [], ◌∷◌, ◌++◌};
 ghost use Rattle.std.specs.List.{prefix_len};
 ghost use Rattle.tib_tree.specs.File.{trees_of, texts_in_file, AddsLine, IsFile, Pushes};

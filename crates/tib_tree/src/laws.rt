@@ -1,3 +1,4 @@
+// What holds of every tree file: its trees, its faults, and its printing.
 ghost use Rattle.tib_tree.specs.Laws.{GivesTexts, GivesFaults, MeansOne, FaultsAlone, PrintsBack, PrintsText};
 ghost use Rattle.tib_tree.specs.Machine.{ReadsTrees};
 

@@ -65,7 +65,7 @@ impl From<AllocError> for ShapeError {
     }
 }
 
-// Whether each node finds its children behind it, and the first node alone is nobody's child.
+// Whether each node has its children after it, and the first node alone is no node's child.
 fn is_one_tree(items: &[(Label, u32)]) -> bool
     ensures yes { IsTrue result → IsOneTree items.now }
     ensures no { result ≡ false → IsOneTree items.now → ⊥ }

@@ -1,3 +1,4 @@
+// Tree files that are read, refused and printed.
 ghost use Rattle.std.specs.Prelude.{◌≤◌, length};
 ghost use Rattle.tib_lex.specs.Lists.{Each};
 ghost use Rattle.tib_tree.specs.Growth.{HasLabels};

@@ -1,3 +1,4 @@
+// A tree from its line, and the limit on its nodes.
 ghost use Rattle.std.specs.Prelude.{◌≡◌, ◌≤◌, ◌<◌, ◌+◌, ◌-◌, ◌^◌, ℕ, length, IfOk, OnErr, Some, slice_get, All, map};
 ghost use Rattle.tib_lex.specs.Line.{word_at, text_of, Lies};
 ghost use Rattle.tib_lex.specs.Lines.{HasNoFeed};
