@@ -214,3 +214,22 @@ fn states_get_new_numbers(rt: HostRuntime) -> Result<(), Fail> {
     assert_eq!(rt; third.right.items(), &[Item::Hole(0)][..]);
     Ok(())
 }
+
+#[test]
+fn a_rule_gives_its_label_and_its_states(rt: HostRuntime) -> Result<(), Fail> {
+    let Some(grammar) = grammar(rt.alloc(), &["q", "r"], &[(0, (Some(7), &[1, 0]))])? else {
+        return Err("no grammar".into());
+    };
+    if grammar.rules() == 0 || !grammar.is_normal() {
+        return Err("not in normal form".into());
+    }
+    let rule = grammar.rule(1);
+    assert_eq!(rt; rule.root(), (7, 2));
+    let states: Vec<u32> = rule
+        .states_below()
+        .iter()
+        .map(Item::state)
+        .collect(rt.alloc())?;
+    assert_eq!(rt; states.as_slice(), [1, 0].as_slice());
+    Ok(())
+}
