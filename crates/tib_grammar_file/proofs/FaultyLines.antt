@@ -1,4 +1,5 @@
 -- What a line holds, and what is read of it.
+use Rattle.tib_tree.specs.Trees.{most_nodes}
 use Rattle.tib_cost.specs.Scale.{is_weighted, cost_in}
 use Rattle.tib_cost.specs.declared.Scale.TheVariants as scales
 use Rattle.tib_cost.specs.declared.Scale.{Scale}
@@ -14,10 +15,12 @@ use Rattle.tib_lex.proofs.HasWords.{words_read, words_had, bad_read, bad_had}
 use Rattle.tib_tree.specs.Written.{spell, Item}
 use Rattle.tib_grammar_file.specs.Rule.{has_dot, weight_words, Parts, SpellsRule, parts_of, RuleLine, rule_line_of, few_nodes, with_cost, good_parts, rule_in, rule_line}
 use Rattle.tib_grammar_file.specs.Reading.{start_of, plain_start, start_in, start_line}
-use Rattle.tib_grammar_file.specs.Weight.{most, IsWhole, IsCostIf, IsCostOf, whole, small, cost_of}
+use Rattle.tib_grammar_file.specs.Weight.{IsWhole, IsCostIf, IsCostOf, whole, small, cost_of}
 use Rattle.tib_grammar_file.specs.Faults.{HasStart, HasOtherStart, HasStartFault, HasRule, HasNoRule, IsFaultIf, IsWeightFault, HasBadWeight, HasGoodWeight, HasRuleFault, HoldsRule}
 use Rattle.tib_grammar_file.proofs.RulesRead.{rule_back, rule_forth}
 use Rattle.tib_grammar_file.proofs.WholeWeights.{whole_back, whole_forth, cost_forth}
+use Rattle.tib_cost.specs.Semiring.{most}
+use Rattle.tib_grammar_file.proofs.Common.{blank_line, Start}
 
 -- weights
 abbrev pub WeightSays : Scale → Option (List ℕ) → Result ℕ FaultKind → Type 0
@@ -79,12 +82,12 @@ weight_read scales.Reversed (Some text) kind h = kind_read scales.Reversed text 
 abbrev pub RuleSays : Scale → List ℕ → Result (Option RuleLine) FaultKind → Type 0
 RuleSays scale line r = Fits (HoldsRule scale) (HasRuleFault scale) line r
 
-few_say : (scale : Scale) (line : List ℕ) (p : Parts) (x : RuleLine) (b : Bool) → nat_lt 10000 (length p.nodes) ≡ b → HasGoodWeight scale line p → RuleSays scale line (cond b (Err kinds.TooManyNodes) (Ok (Some x)))
-few_say scale line p x true e h = let many : 10000 < length p.nodes = grind (arith, nat_tests) in (p, h, many)
-few_say scale line p x false e h = let few : length p.nodes ≤ 10000 = grind (arith, nat_tests) in inr (p, h, few)
+few_say : (scale : Scale) (line : List ℕ) (p : Parts) (x : RuleLine) (b : Bool) → nat_lt most_nodes (length p.nodes) ≡ b → HasGoodWeight scale line p → RuleSays scale line (cond b (Err kinds.TooManyNodes) (Ok (Some x)))
+few_say scale line p x true e h = let many : most_nodes < length p.nodes = grind (arith, nat_tests) in (p, h, many)
+few_say scale line p x false e h = let few : length p.nodes ≤ most_nodes = grind (arith, nat_tests) in inr (p, h, few)
 
 cost_says : (scale : Scale) (line : List ℕ) (p : Parts) (r : Result ℕ FaultKind) → HasRule line p → WeightSays scale p.weight r → RuleSays scale line (with_cost p.left p.nodes r)
-cost_says scale line p (Ok cost) h w = few_say scale line p (rule_line_of p.left p.nodes cost) (nat_lt 10000 (length p.nodes)) refl (record { is = h; cost = cost; cost_is = w })
+cost_says scale line p (Ok cost) h w = few_say scale line p (rule_line_of p.left p.nodes cost) (nat_lt most_nodes (length p.nodes)) refl (record { is = h; cost = cost; cost_is = w })
 cost_says scale line p (Err kind) h w = by (is_weighted scale) p.weight kind w (λ v. record { rule = p; is = h; fault = v })
   where
     by : (v : Bool) (o : Option (List ℕ)) (kind : FaultKind) → IsFaultIf v o kind → (IsFaultIf v o kind → HasBadWeight scale line kind) → HasRuleFault scale line kind
@@ -151,11 +154,11 @@ good_weight : (scale : Scale) (line : List ℕ) (rule : Parts) (h : HasGoodWeigh
 good_weight scale line rule h =
     a_rule_line scale line rule h.is ∙ ap (with_cost rule.left rule.nodes) (cost_forth scale rule.weight h.cost h.cost_is)
 
-many : (left : List ℕ) (nodes : List Item) (cost : ℕ) → 10000 < length nodes → few_nodes left nodes cost ≡ Err kinds.TooManyNodes
-many left nodes cost h = let t : nat_lt 10000 (length nodes) ≡ true = grind (arith, nat_tests) in rw t refl
+many : (left : List ℕ) (nodes : List Item) (cost : ℕ) → most_nodes < length nodes → few_nodes left nodes cost ≡ Err kinds.TooManyNodes
+many left nodes cost h = let t : nat_lt most_nodes (length nodes) ≡ true = grind (arith, nat_tests) in rw t refl
 
-few : (left : List ℕ) (nodes : List Item) (cost : ℕ) → length nodes ≤ 10000 → few_nodes left nodes cost ≡ Ok (Some (rule_line_of left nodes cost))
-few left nodes cost h = let t : nat_lt 10000 (length nodes) ≡ false = grind (arith, nat_tests) in rw t refl
+few : (left : List ℕ) (nodes : List Item) (cost : ℕ) → length nodes ≤ most_nodes → few_nodes left nodes cost ≡ Ok (Some (rule_line_of left nodes cost))
+few left nodes cost h = let t : nat_lt most_nodes (length nodes) ≡ false = grind (arith, nat_tests) in rw t refl
 
 pub fault_read : (scale : Scale) (line : List ℕ) (kind : FaultKind) → HasRuleFault scale line kind → rule_line scale line ≡ Err kind
 fault_read scale line kinds.BadToken h = bad_line scale line h
@@ -170,10 +173,6 @@ fault_read scale line kinds.VariableTwice h = absurd h
 fault_read scale line kinds.LabelledVariable h = absurd h
 fault_read scale line kinds.UnknownVariable h = absurd h
 
-blank_line : (scale : Scale) (line : List ℕ) → HasWords [] line → rule_line scale line ≡ Ok None
-unfolding rule_line
-blank_line scale line h = ap (rule_in scale) (words_read [] line h)
-
 pub held_read : (scale : Scale) (line : List ℕ) → HoldsRule scale line → (o : Option RuleLine) × (rule_line scale line ≡ Ok o)
 held_read scale line (inl blank) = (None, blank_line scale line blank)
 held_read scale line (inr (rule, h, small)) =
@@ -184,9 +183,6 @@ abbrev pub StartSays : List ℕ → Result (Option (List ℕ)) FaultKind → Typ
 StartSays line (Ok None) = HasWords [] line
 StartSays line (Ok (Some start)) = HasStart line
 StartSays line (Err kind) = HasStartFault line kind
-
-abbrev Start : Type 0
-Start = Result (Option (List ℕ)) FaultKind
 
 starts_with : (words : List Word) (o : Option (List ℕ)) → start_of words ≡ o → (start : List ℕ) → words ≡ name start ∷ [] → o ≡ Some start
 starts_with words o e start same = sym e ∙ ap start_of same

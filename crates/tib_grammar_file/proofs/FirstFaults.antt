@@ -1,6 +1,6 @@
 -- The function that says what a grammar file holds, and its first fault.
 use Rattle.tib_cost.specs.declared.Scale.{Scale}
-use Rattle.std.proofs.Common.{◌≡◌, ℕ, inl, inr, Bool, List, [], ◌∷◌, ap, sym, ◌∙◌, subst, Option, suc}
+use Rattle.std.proofs.Common.{◌≡◌, ℕ, inl, inr, List, [], ◌∷◌, ap, sym, ◌∙◌, subst, Option, suc}
 use Rattle.std.specs.Prelude.{Some, None, Result, Ok, Err}
 use Rattle.tib_lex.proofs.FirstFaults.{fault_found, fault_is}
 use Rattle.tib_lex.specs.FirstFault.{FirstFault}
@@ -16,6 +16,7 @@ use Rattle.tib_grammar_file.specs.Reading.{fault_at, start_line, started, with_s
 use Rattle.tib_grammar_file.specs.Faults.{HasStartFault, FirstFaultFromStart, HasRuleFault, HoldsRule, IsFirstFault, IsCause}
 use Rattle.tib_grammar_file.proofs.FaultyLines.{rule_says, fault_read, held_read, StartSays, start_says, start_fault_read}
 use Rattle.tib_grammar_file.proofs.RowsRead.{start_forth, no_start_forth}
+use Rattle.tib_grammar_file.proofs.Common.{Whole}
 
 -- the rules
 rules_found : (scale : Scale) (n : ℕ) (lines : List (List ℕ)) (fault : FileFault) → rules_from scale n lines ≡ Err fault → FirstFault (HoldsRule scale) (HasRuleFault scale) n lines fault
@@ -26,10 +27,6 @@ rules_are scale n lines fault h = fault_is (rule_line scale) (HoldsRule scale) (
 
 same_fault : (n : ℕ) (kind : FaultKind) (fault : FileFault) → fault_at n kind ≡ fault → (fault.line ≡ n) × (kind ≡ fault.kind)
 same_fault n kind fault e = (sym (ap (λ (f : FileFault). f.line) e), ap (λ (f : FileFault). f.kind) e)
-
--- the whole file
-abbrev Whole : Type 0
-Whole = Result (List ℕ × List RuleLine) FileFault
 
 started_err : (start : List ℕ) (rules : Result (List RuleLine) FileFault) (fault : FileFault) → started start rules ≡ Err fault → rules ≡ Err fault
 started_err start (Ok rules) fault e = let bad : Whole = Ok (start, rules) in let f : bad ≡ Err fault = e in absurd (cc)

@@ -1,6 +1,6 @@
 -- Bytes that are the text of two grammars, each over a table of its own, are that of one by the texts of labels.
 use Rattle.tib_cost.specs.declared.Scale.{Scale}
-use Rattle.std.proofs.Common.{◌≡◌, ℕ, List, [], ◌∷◌, ap, sym, ◌∙◌, subst, Bool, map}
+use Rattle.std.proofs.Common.{◌≡◌, ℕ, List, [], ◌∷◌, ap, sym, ◌∙◌, subst, map}
 use Rattle.std.specs.Prelude.{Some}
 use Rattle.tib_tree.specs.Grows.{AddsAll}
 use Rattle.tib_lex.specs.Grammar.{Word, name}
@@ -17,9 +17,11 @@ use Rattle.tib_grammar_file.specs.GrammarText.{HaveTokens, SpellsRuleOf, first_t
 use Rattle.tib_grammar_file.specs.Value.{IsSymbol, IsNode}
 use Rattle.tib_grammar_file.specs.ByText.{AgreeInSymbol, AreOneRule, AgreeByText}
 use Rattle.tib_grammar_file.proofs.Meanings.{meant_side}
-use Rattle.tib_grammar_file.proofs.OneGrammar.{some_same, cons_same, tokens_same, all_same, number_same, parts_as, ok_same, names_distinct, start_same}
+use Rattle.tib_grammar_file.proofs.OneGrammar.{tokens_same, all_same, number_same, parts_as, ok_same, names_distinct, start_same}
 use Rattle.tib_grammar_file.proofs.Shapes.{AgreeAtNode, shape_of}
 use Rattle.tib_grammar_file.proofs.WholeWeights.{cost_forth}
+use Rattle.tib_lex.proofs.Lists.{some_same}
+use Rattle.tib_grammar_file.proofs.Common.{cons_same}
 
 module _ (scale : Scale) (names labels others : List (List ℕ)) (apart : Distinct names) where
   symbol_agrees : (r s : Symbol ℕ ℕ) (i : Item) → IsSymbol names labels r i → IsSymbol names others s i → AgreeInSymbol labels others r s

@@ -1,13 +1,13 @@
 -- Bytes are the text of at most one grammar.
 use Rattle.tib_cost.specs.declared.Scale.{Scale}
-use Rattle.std.proofs.Common.{◌≡◌, ℕ, ◌<◌, inl, inr, List, [], ◌∷◌, length, get_or, refl, ap, sym, ◌∙◌, subst, arith, Bool, zero, suc, map}
+use Rattle.std.proofs.Common.{◌≡◌, ℕ, ◌<◌, inl, inr, List, [], ◌∷◌, length, get_or, refl, ap, sym, ◌∙◌, subst, arith, zero, suc, map}
 use Rattle.std.specs.Prelude.{slice_get, Some, Result, Ok}
 use Rattle.std.proofs.lemmas.Option.{slice_get_within, get_or_from_slice_get}
-use Rattle.tib_lex.specs.Grammar.{Word, name, HasWords}
+use Rattle.tib_lex.specs.Grammar.{Word, name}
 use Rattle.tib_lex.specs.Lists.{Along, Each, Has, Distinct}
 use Rattle.tib_lex.specs.declared.fault.FaultKind.{FaultKind}
 use Rattle.tib_lex.proofs.HasLines.{lines_read}
-use Rattle.tib_lex.proofs.HasWords.{words_read}
+use Rattle.tib_lex.proofs.HasWords.{words_once}
 use Rattle.tib_tree.specs.Grows.{Adds, AddsAll}
 use Rattle.tib_tree.specs.Trees.{Tree, Trees, none, tree, only, parse, parse_of, preorder_of}
 use Rattle.tib_tree.specs.Written.{Item, items}
@@ -24,23 +24,17 @@ use Rattle.tib_grammar_file.proofs.RulesRead.{rule_forth}
 use Rattle.tib_grammar_file.proofs.Meanings.{meant_side, meant_count}
 use Rattle.tib_grammar_file.proofs.WholeWeights.{cost_forth}
 use Rattle.tib_grammar_file.proofs.TextRead.{first_words, FirstIsWord, all_names}
-
-pub some_same : {A : Type 0} (x y : A) → Some x ≡ Some y → x ≡ y
-some_same x y e = cc
-
-pub cons_same : {A : Type 0} (x y : A) (xs ys : List A) → x ∷ xs ≡ y ∷ ys → (x ≡ y) × (xs ≡ ys)
-cons_same x y xs ys e = (cc, cc)
-
-pub words_same : (line : List ℕ) (ws vs : List Word) → HasWords ws line → HasWords vs line → ws ≡ vs
-words_same line ws vs h k = some_same ws vs (sym (words_read ws line h) ∙ words_read vs line k)
+pub use Rattle.tib_lex.proofs.Lists.{some_same}
+pub use Rattle.tib_lex.proofs.HasWords.{words_once as words_same}
+use Rattle.tib_grammar_file.proofs.Common.{cons_same}
 
 pub tokens_same : (lines : List (List ℕ)) (rows others : List (List Word)) → HaveTokens lines rows → HaveTokens lines others → rows ≡ others
 tokens_same [] rows others t u = t ∙ sym u
 tokens_same (line ∷ lines) rows others (inl (h, t)) (inl (k, u)) = tokens_same lines rows others t u
-tokens_same (line ∷ lines) rows others (inl (h, t)) (inr (w, ws, more, k, e, u)) = let bad : [] ≡ w ∷ ws = words_same line [] (w ∷ ws) h k in cc
-tokens_same (line ∷ lines) rows others (inr (w, ws, more, k, e, t)) (inl (h, u)) = let bad : [] ≡ w ∷ ws = words_same line [] (w ∷ ws) h k in cc
+tokens_same (line ∷ lines) rows others (inl (h, t)) (inr (w, ws, more, k, e, u)) = let bad : [] ≡ w ∷ ws = words_once line [] (w ∷ ws) h k in cc
+tokens_same (line ∷ lines) rows others (inr (w, ws, more, k, e, t)) (inl (h, u)) = let bad : [] ≡ w ∷ ws = words_once line [] (w ∷ ws) h k in cc
 tokens_same (line ∷ lines) rows others (inr (w, ws, more, h, e, t)) (inr (v, vs, mores, k, f, u)) =
-    let same : w ∷ ws ≡ v ∷ vs = words_same line (w ∷ ws) (v ∷ vs) h k in
+    let same : w ∷ ws ≡ v ∷ vs = words_once line (w ∷ ws) (v ∷ vs) h k in
     let rest : more ≡ mores = tokens_same lines more mores t u in
     e ∙ ap (λ (x : List Word). x ∷ more) same ∙ ap (λ (xs : List (List Word)). (v ∷ vs) ∷ xs) rest ∙ sym f
 

@@ -1,19 +1,19 @@
 -- What a rule line holds, by what was found in it.
+use Rattle.tib_tree.specs.Trees.{most_nodes}
 use Rattle.tib_cost.specs.declared.Scale.{Scale}
 use Rattle.std.proofs.Common.{◌≡◌, ℕ, ◌-◌, ◌<◌, ◌≤◌, List, [], ◌∷◌, length, take, drop, refl, ap, sym, ◌∙◌, subst, arith, Option, Bool, true, false}
-use Rattle.std.specs.Prelude.{Some, None, Ok, Err, map, nat_lt, cond}
+use Rattle.std.specs.Prelude.{Some, None, Ok, Err}
 use Rattle.std.specs.List.{All}
-use Rattle.std.proofs.lemmas.List.{length-map, take-map, length-reverse, length-append}
+use Rattle.std.proofs.lemmas.List.{length-map, take-map, length-append}
 use Rattle.std.proofs.lemmas.List.Elements.{All-drop, All-take}
-use Rattle.std.proofs.lemmas.Bool.Decides.{nat_tests}
 use Rattle.tib_lex.specs.Grammar.{Word, close}
 use Rattle.tib_lex.specs.Line.{word_at, words_at, words_of, text_of, Lies}
 use Rattle.tib_lex.specs.declared.token.Token.{Token}
 use Rattle.tib_tree.specs.Written.{Written, end, leaf, head, spell, Item, items}
 use Rattle.tib_tree.specs.Machine.{nodes_of}
-use Rattle.tib_tree.specs.Shape.{items_back, item_at}
+use Rattle.tib_tree.specs.Shape.{items_back}
 use Rattle.tib_tree.specs.declared.shape.Place.{Place}
-use Rattle.tib_grammar_file.specs.Rule.{has_dot, weight_words, Parts, parts, weight_in, weight_size, front_of, with_nodes, right_parts, plain_parts, head_of, parts_with, parts_of, rule_line, good_parts, with_cost, rule_line_of}
+use Rattle.tib_grammar_file.specs.Rule.{has_dot, weight_words, Parts, parts, weight_in, weight_size, front_of, with_nodes, plain_parts, head_of, parts_with, parts_of, rule_line, good_parts, with_cost, rule_line_of}
 use Rattle.tib_grammar_file.specs.Found.{text_at, found_parts, FoundIn, FoundLies, IsCost}
 use Rattle.tib_grammar_file.specs.Raw.{AddsLine}
 use Rattle.tib_grammar_file.specs.declared.raw.RawRules.{RawRules}
@@ -24,6 +24,8 @@ use Rattle.tib_grammar_file.specs.Weight.{cost_of}
 use Rattle.tib_lex.specs.declared.fault.FaultKind.{FaultKind}
 use Rattle.tib_grammar_file.proofs.RulesRead.{rule_back}
 use Rattle.tib_lex.specs.declared.fault.FaultKind.TheVariants as kinds
+use Rattle.tib_tree.proofs.LineRead.{back_long, chosen}
+use Rattle.tib_grammar_file.proofs.Common.{plain}
 
 pub no_head : (words : List Word) → head_of words ≡ None → parts_of words ≡ None
 unfolding parts_of
@@ -32,10 +34,6 @@ no_head words e = rw e refl
 dot_parts : (b : Bool) (left : List ℕ) (words : List Word) → b ≡ true → plain_parts b left words ≡ None
 dot_parts true left words e = refl
 dot_parts false left words e = cc
-
-plain : (b : Bool) (left : List ℕ) (words : List Word) → b ≡ false → plain_parts b left words ≡ right_parts left words
-plain true left words e = cc
-plain false left words e = refl
 
 pub dotted : (words rest : List Word) (left : List ℕ) → head_of words ≡ Some (left, rest) → has_dot left ≡ true → parts_of words ≡ None
 unfolding parts_of
@@ -96,9 +94,6 @@ no_rule_line scale line ts us s = line_parts scale line ts us None s
 pub bad_cost_line : (scale : Scale) (line : List ℕ) (ts us : List Token) (p : Parts) (kind : FaultKind) → SomeLine line ts us (Some p) → cost_of scale p.weight ≡ Err kind → rule_line scale line ≡ Err kind
 bad_cost_line scale line ts us p kind s e = line_parts scale line ts us (Some p) s ∙ ap (with_cost p.left p.nodes) e
 
-pub back_long : (line : List ℕ) (places : List Place) → length (items_back line places) ≡ length places
-back_long line places = length-reverse (map (item_at line) places) ∙ length-map places (item_at line)
-
 -- a tree has no more nodes than tokens, and so a rule's line
 nodes_few : (f : Written) → length (items f) ≤ length (spell f)
 nodes_few end = omega arith
@@ -114,14 +109,11 @@ pub line_few : (line : List ℕ) (ts us : List Token) (places these : List Place
 line_few line ts us places these o f same e is t few =
     omega (arith, places_few line ts us (text_of (word_at line f.left)) places (text_at line f.weight) same (e ∙ ap (found_parts line places) is), ap length t, few)
 
-chosen : {A : Type 0} (n m : ℕ) (x y : A) → n ≡ m → (m ≤ 10000 → cond (nat_lt 10000 n) x y ≡ y) × (10000 < m → cond (nat_lt 10000 n) x y ≡ x)
-chosen n m x y e = (λ h. grind (arith, nat_tests), λ h. grind (arith, nat_tests))
-
-pub large_rule_line : (scale : Scale) (line : List ℕ) (ts us : List Token) (left : List ℕ) (places : List Place) (w : Option (List ℕ)) (cost : ℕ) → SomeLine line ts us (Some (parts left (items_back line places) w)) → cost_of scale w ≡ Ok cost → 10000 < length places → rule_line scale line ≡ Err kinds.TooManyNodes
+pub large_rule_line : (scale : Scale) (line : List ℕ) (ts us : List Token) (left : List ℕ) (places : List Place) (w : Option (List ℕ)) (cost : ℕ) → SomeLine line ts us (Some (parts left (items_back line places) w)) → cost_of scale w ≡ Ok cost → most_nodes < length places → rule_line scale line ≡ Err kinds.TooManyNodes
 large_rule_line scale line ts us left places w cost s e h =
     line_parts scale line ts us _ s ∙ ap (with_cost left (items_back line places)) e ∙ (chosen (length (items_back line places)) (length places) _ _ (back_long line places)).1 h
 
-pub good_rule_line : (scale : Scale) (line : List ℕ) (ts us : List Token) (left : List ℕ) (places : List Place) (w : Option (List ℕ)) (cost : ℕ) → SomeLine line ts us (Some (parts left (items_back line places) w)) → cost_of scale w ≡ Ok cost → length places ≤ 10000 → rule_line scale line ≡ Ok (Some (rule_line_of left (items_back line places) cost))
+pub good_rule_line : (scale : Scale) (line : List ℕ) (ts us : List Token) (left : List ℕ) (places : List Place) (w : Option (List ℕ)) (cost : ℕ) → SomeLine line ts us (Some (parts left (items_back line places) w)) → cost_of scale w ≡ Ok cost → length places ≤ most_nodes → rule_line scale line ≡ Ok (Some (rule_line_of left (items_back line places) cost))
 good_rule_line scale line ts us left places w cost s e h =
     line_parts scale line ts us _ s ∙ ap (with_cost left (items_back line places)) e ∙ (chosen (length (items_back line places)) (length places) _ _ (back_long line places)).0 h
 

@@ -24,7 +24,8 @@ use Rattle.tib_grammar_file.specs.GrammarText.{HaveTokens, Means, SpellsRuleOf, 
 use Rattle.tib_grammar_file.specs.Printable.{IsPlainCost, HavePlainLabels, IsPrintable, ArePrintable}
 use Rattle.tib_grammar_file.specs.Printed.{LabelsBelow, AreLabelled}
 use Rattle.tib_grammar_file.specs.Rule.{weight_words}
-use Rattle.tib_grammar_file.specs.Weight.{IsWeighed, IsCostOf, most}
+use Rattle.tib_grammar_file.specs.Weight.{IsWeighed, IsCostOf}
+use Rattle.tib_cost.specs.Semiring.{most}
 
 pub labels_below : (labels : List (List ℕ)) (ts : Trees (Symbol ℕ ℕ)) → HavePlainLabels labels ts → LabelsBelow (length labels) ts
 labels_below labels none h = tt

@@ -1,6 +1,6 @@
 -- What is printed of a grammar is the text of the same grammar, states by their names.
 use Rattle.tib_cost.specs.declared.Scale.{Scale}
-use Rattle.std.proofs.Common.{◌≡◌, ℕ, ◌<◌, inr, Bool, List, [], ◌∷◌, length, get_or, length-append, append-nil, refl, ap, sym, ◌∙◌, subst, arith, suc}
+use Rattle.std.proofs.Common.{◌≡◌, ℕ, ◌<◌, inr, List, [], ◌∷◌, length, get_or, length-append, append-nil, refl, ap, sym, ◌∙◌, subst, arith, suc}
 use Rattle.std.specs.Prelude.{map}
 use Rattle.std.proofs.lemmas.Option.{get_or_from_slice_get}
 use Rattle.tib_tree.specs.Grows.{AddsAll}
@@ -18,11 +18,13 @@ use Rattle.tib_grammar_file.specs.Printable.{IsPrintable}
 use Rattle.tib_grammar_file.specs.Printed.{grammar_text}
 use Rattle.tib_grammar_file.specs.Read.{ReadsAs}
 use Rattle.tib_grammar_file.proofs.Plain.{labels_below}
-use Rattle.tib_grammar_file.proofs.PrintedTrees.{Fits, FitsSymbol, fits_of, first_word, no_words, name_at_is}
+use Rattle.tib_grammar_file.proofs.PrintedTrees.{Fits, FitsSymbol, fits_of, name_at_is}
 use Rattle.tib_grammar_file.proofs.PrintedRules.{FitsRule, Renames, rule_spelled}
 use Rattle.tib_grammar_file.proofs.PrintedLines.{names_free, lines_in, rows_in, grammar_lines, rules_tokens}
-use Rattle.tib_grammar_file.proofs.PrintedStates.{contains_has, has_contains, gathered, SameNames, same_names, number_by, renames}
+use Rattle.tib_grammar_file.proofs.PrintedStates.{contains_has, gathered, SameNames, same_names, number_by, renames}
 use Rattle.tib_grammar_file.proofs.TextRead.{no_text}
+use Rattle.tib_lex.proofs.Members.{has_contains}
+use Rattle.tib_lex.proofs.HasWords.{has_first_word, no_words}
 
 -- what holds at each place holds of each
 pub each_rule : (P : Rule ℕ → Type 0) (rules : List (Rule ℕ)) → ((n : ℕ) → n < length rules → P (rule_at rules n)) → Each P rules
@@ -91,7 +93,7 @@ small_same number [] s = tt
 small_same number (r ∷ rules) s = (omega (arith, count_same (symbol_map number) r.right.kids, s.0), small_same number rules s.1)
 
 start_read : (text : List ℕ) → IsStateName text → HasWords (name text ∷ []) text
-start_read text is = subst (λ (l : List ℕ). HasWords (name text ∷ []) l) (append-nil text) (first_word (name text) [] [] is.is_name refl no_words)
+start_read text is = subst (λ (l : List ℕ). HasWords (name text ∷ []) l) (append-nil text) (has_first_word (name text) [] [] is.is_name refl no_words)
 
 -- the rows of what is printed of a grammar
 abbrev pub rows_of : Scale → List (List ℕ) → GrammarOf → List (List Word)

@@ -27,9 +27,11 @@ use Rattle.tib_grammar_file.specs.GrammarText.{IsLeaf, IsHead, Means, SpellsRule
 use Rattle.tib_grammar_file.specs.Printable.{IsPlainIf, IsPlainCost}
 use Rattle.tib_grammar_file.specs.Printed.{is_held, trees_text, weight_text, cost_text}
 use Rattle.tib_grammar_file.specs.Rule.{weight_words}
-use Rattle.tib_grammar_file.specs.Weight.{most, is_digit, decimal_from, IsWhole, IsWeighed, IsCostOf}
-use Rattle.tib_grammar_file.proofs.PrintedTrees.{Fits, FitsSymbol, text_of, quotes, written, first_word, after_space, no_words, name_at_is, trees_read}
+use Rattle.tib_grammar_file.specs.Weight.{is_digit, decimal_from, IsWhole, IsWeighed, IsCostOf}
+use Rattle.tib_grammar_file.proofs.PrintedTrees.{Fits, FitsSymbol, text_of, quotes, written, name_at_is, trees_read}
 use Rattle.tib_grammar_file.proofs.Printing.{held_at}
+use Rattle.tib_lex.proofs.HasWords.{after_space, has_first_word, no_words}
+use Rattle.tib_cost.specs.Semiring.{most}
 
 -- the digits of a cost are a whole weight
 
@@ -98,10 +100,10 @@ words_if : (w : Bool) (cost : ℕ) → (w ≡ true → cost ≤ most) → HasWor
 words_if false cost h = no_words
 words_if true cost within =
     let h : cost ≤ most = within refl in
-    let digits : HasWords (name (printed cost) ∷ []) (printed cost ++ []) = first_word (name (printed cost)) [] [] (cost_is_name cost h) refl no_words in
+    let digits : HasWords (name (printed cost) ∷ []) (printed cost ++ []) = has_first_word (name (printed cost)) [] [] (cost_is_name cost h) refl no_words in
     let alone : HasWords (name (printed cost) ∷ []) (printed cost) = subst (λ (l : List ℕ). HasWords (name (printed cost) ∷ []) l) (append-nil (printed cost)) digits in
     let behind : HasWords (name (printed cost) ∷ []) (32 ∷ printed cost) = after_space (name (printed cost) ∷ []) (printed cost) alone in
-    after_space (hash ∷ (name (printed cost) ∷ [])) (35 ∷ (32 ∷ printed cost)) (first_word hash (name (printed cost) ∷ []) (32 ∷ printed cost) tt tt behind)
+    after_space (hash ∷ (name (printed cost) ∷ [])) (35 ∷ (32 ∷ printed cost)) (has_first_word hash (name (printed cost) ∷ []) (32 ∷ printed cost) tt tt behind)
 
 plain_within : (w : Bool) (cost : ℕ) → IsPlainIf w cost → w ≡ true → cost ≤ most
 plain_within true cost h e = h
@@ -152,8 +154,8 @@ line_read scale names labels r e f =
     let words : List Word = spell (written names labels (only r.right)) ++ weight_words (weight_of scale r.cost) in
     let bytes : List ℕ = trees_text names labels (only r.right) 0 ++ cost_text scale r.cost in
     let right : HasWords words bytes = trees_read names labels (only r.right) e f.right 0 (weight_words (weight_of scale r.cost)) (cost_text scale r.cost) (weight_begins scale r.cost) (weight_read scale r.cost f.cost) in
-    let behind : HasWords (arrow ∷ words) (45 ∷ (62 ∷ (32 ∷ bytes))) = first_word arrow words (32 ∷ bytes) tt refl (after_space words bytes right) in
-    first_word (name (get_or names r.left [])) (arrow ∷ words) (32 ∷ (45 ∷ (62 ∷ (32 ∷ bytes)))) (name_at_is names r.left e f.left).is_name refl (after_space (arrow ∷ words) (45 ∷ (62 ∷ (32 ∷ bytes))) behind)
+    let behind : HasWords (arrow ∷ words) (45 ∷ (62 ∷ (32 ∷ bytes))) = has_first_word arrow words (32 ∷ bytes) tt refl (after_space words bytes right) in
+    has_first_word (name (get_or names r.left [])) (arrow ∷ words) (32 ∷ (45 ∷ (62 ∷ (32 ∷ bytes)))) (name_at_is names r.left e f.left).is_name refl (after_space (arrow ∷ words) (45 ∷ (62 ∷ (32 ∷ bytes))) behind)
 
 -- other numbers for the same names
 pub record Renames (names others : List (List ℕ)) (number : ℕ → ℕ) : Type 0 where

@@ -1,13 +1,13 @@
 -- A grammar whose rules ascend by their left states is read as it stands.
 use Rattle.tib_cost.specs.declared.Scale.{Scale}
-use Rattle.std.proofs.Common.{◌≡◌, ◌⊎◌, ℕ, ◌+◌, ◌<◌, ◌≤◌, inl, inr, Bool, List, [], ◌∷◌, ◌++◌, length, get_or, take, refl, ap, sym, ◌∙◌, subst, arith, zero, suc}
+use Rattle.std.proofs.Common.{◌≡◌, ◌⊎◌, ℕ, ◌+◌, ◌<◌, ◌≤◌, inl, inr, List, [], ◌∷◌, ◌++◌, length, get_or, take, refl, ap, sym, ◌∙◌, subst, arith, zero, suc}
 use Rattle.std.specs.Prelude.{map, Contains}
 use Rattle.std.proofs.lemmas.Option.{slice_get-get_or}
 use Rattle.std.proofs.lemmas.List.{take_more, take_all, length-take, get_or-take}
 use Rattle.tib_tree.specs.Grows.{AddsAll}
 use Rattle.tib_lex.specs.Lists.{Has, Each, Ascends, Distinct}
 use Rattle.tib_tree.specs.Trees.{Trees, none, tree, relabel}
-use Rattle.tib_grammar.specs.Sides.{Symbol, label, hole, symbol_map}
+use Rattle.tib_grammar.specs.Sides.{Symbol, symbol_map}
 use Rattle.tib_grammar.specs.GrammarOf.{GrammarOf, named_rule}
 use Rattle.tib_grammar.specs.Run.{rule_at, no_rule}
 use Rattle.tib_grammar.specs.declared.Rule.{Rule}
@@ -18,7 +18,10 @@ use Rattle.tib_grammar_file.specs.Printed.{grammar_text}
 use Rattle.tib_grammar_file.proofs.PrintedBack.{each_rule, prints_as}
 use Rattle.tib_grammar_file.proofs.PrintedLines.{rows_in}
 use Rattle.tib_grammar_file.proofs.PrintedRules.{Renames}
-use Rattle.tib_grammar_file.proofs.PrintedStates.{contains_has, has_contains}
+use Rattle.tib_grammar_file.proofs.PrintedStates.{contains_has}
+use Rattle.tib_grammar.specs.Range.{IsLeftIn}
+use Rattle.tib_grammar.proofs.Sides.{symbol_itself}
+use Rattle.tib_lex.proofs.Members.{has_contains}
 
 -- distinct names stand at one place each
 one_place : (xs : List (List ℕ)) (i j : ℕ) → Distinct xs → i < length xs → j < length xs → get_or xs i [] ≡ get_or xs j [] → i ≡ j
@@ -30,10 +33,6 @@ one_place (x ∷ xs) (suc i) (suc j) d h k e = ap suc (one_place xs i j d.1 (ome
 
 abbrev AscendLeft : Rule ℕ → Rule ℕ → Type 0
 AscendLeft r s = r.left ≤ s.left
-
--- the state is the left state of one of the rules
-abbrev IsLeftIn : List (Rule ℕ) → ℕ → Type 0
-IsLeftIn rules q = (n : ℕ) × (n < length rules) × ((rule_at rules n).left ≡ q)
 
 -- The first k names have been seen, and the rules that follow are of the last of these states or of later ones, and of each later one.
 record IsSeen (names : List (List ℕ)) (rules : List (Rule ℕ)) (k : ℕ) : Type 0 where
@@ -119,18 +118,13 @@ module _ (names : List (List ℕ)) (apart : Distinct names) where
     all_added : (rules : List (Rule ℕ)) → 0 < length names → IsSeen names rules 1 → AddsAll [] (name_at 0 ∷ map first_text (rows_in scale names labels rules)) names
     all_added rules some s = (take 1 names, inr (λ c. omega (arith, c.1), take_more names 0 [] some), added rules 1 s)
 
--- each state by its own number
-symbol_own : (s : Symbol ℕ ℕ) → symbol_map (λ (q : ℕ). q) s ≡ s
-symbol_own (label f) = refl
-symbol_own (hole q) = refl
-
 trees_own : (ts : Trees (Symbol ℕ ℕ)) → relabel (symbol_map (λ (q : ℕ). q)) ts ≡ ts
 trees_own none = refl
-trees_own (tree s kids rest) = cc (symbol_own s, trees_own kids, trees_own rest)
+trees_own (tree s kids rest) = cc (symbol_itself s, trees_own kids, trees_own rest)
 
 rule_own : (r : Rule ℕ) → named_rule (λ (q : ℕ). q) r ≡ r
 rule_own r =
-    ap (λ (s : Symbol ℕ ℕ). record { left = r.left; right = record { label = s; kids = relabel (symbol_map (λ (q : ℕ). q)) r.right.kids }; cost = r.cost }) (symbol_own r.right.label)
+    ap (λ (s : Symbol ℕ ℕ). record { left = r.left; right = record { label = s; kids = relabel (symbol_map (λ (q : ℕ). q)) r.right.kids }; cost = r.cost }) (symbol_itself r.right.label)
     ∙ ap (λ (ts : Trees (Symbol ℕ ℕ)). record { left = r.left; right = record { label = r.right.label; kids = ts }; cost = r.cost }) (trees_own r.right.kids)
 
 rules_own : (rules : List (Rule ℕ)) → map (named_rule (λ (q : ℕ). q)) rules ≡ rules

@@ -15,12 +15,10 @@ use Rattle.tib_grammar_file.specs.ByName.{HaveRules}
 use Rattle.tib_grammar_file.specs.GrammarText.{first_text}
 use Rattle.tib_grammar_file.proofs.PrintedRules.{Renames}
 use Rattle.tib_grammar_file.proofs.PrintedLines.{rows_in}
+use Rattle.tib_lex.proofs.Members.{has_contains}
 
 pub contains_has : (xs : List (List ℕ)) (x : List ℕ) → Contains xs x → Has xs x
 contains_has xs x c = subst (λ (y : List ℕ). Has xs y) c.2 (has_at xs c.0 x c.1)
-
-pub has_contains : (xs : List (List ℕ)) (x : List ℕ) → Has xs x → Contains xs x
-has_contains xs x h = at_has xs x x h
 
 -- a text stands in a table or it does not
 pub decided : (xs : List (List ℕ)) (t : List ℕ) → Has xs t ⊎ (Has xs t → ⊥)

@@ -1,7 +1,7 @@
 -- The tokens of what is printed of right sides.
 use Rattle.std.proofs.Common.{◌≡◌, ℕ, ◌<◌, Bool, true, false, List, [], ◌∷◌, ◌++◌, length, get_or, refl, ap, sym, ◌∙◌, subst, append_assoc, arith, zero, suc}
 use Rattle.std.specs.Prelude.{not, cond, ◌&&◌}
-use Rattle.tib_lex.specs.Grammar.{Word, open_, close, name, label, is_name, spelling, IsName, IsWord, begins_name, MayPrecede, HasWords}
+use Rattle.tib_lex.specs.Grammar.{Word, open_, close, name, label, is_name, spelling, IsName, begins_name, HasWords}
 use Rattle.tib_lex.specs.Lists.{Each}
 use Rattle.tib_lex.proofs.Names.{name_is}
 use Rattle.tib_lex.proofs.Spelled.{and_true}
@@ -11,6 +11,8 @@ use Rattle.tib_grammar.specs.Sides.{Symbol, label as symbol_label, hole, holes, 
 use Rattle.tib_grammar.specs.Range.{AllBelow}
 use Rattle.tib_grammar.specs.StateName.{IsStateName}
 use Rattle.tib_grammar_file.specs.Printed.{is_held, symbol_text, space, trees_text, LabelsBelow}
+use Rattle.tib_grammar.proofs.Below.{below_back, below_front}
+use Rattle.tib_lex.proofs.HasWords.{after_space, has_first_word}
 
 -- the symbols of trees are in the tables, and nothing stands below a state
 abbrev pub FitsSymbol : ℕ → ℕ → Symbol ℕ ℕ → Trees (Symbol ℕ ℕ) → Type 0
@@ -21,14 +23,6 @@ FitsSymbol n m (hole q) (tree g inner next) = ⊥
 abbrev pub Fits : ℕ → ℕ → Trees (Symbol ℕ ℕ) → Type 0
 Fits n m none = Unit {0}
 Fits n m (tree s kids rest) = FitsSymbol n m s kids × Fits n m kids × Fits n m rest
-
-below_front : (n : ℕ) (ps qs : List ℕ) → AllBelow n (ps ++ qs) → AllBelow n ps
-below_front n [] qs h = tt
-below_front n (p ∷ ps) qs h = (h.0, below_front n ps qs h.1)
-
-below_back : (n : ℕ) (ps qs : List ℕ) → AllBelow n (ps ++ qs) → AllBelow n qs
-below_back n [] qs h = h
-below_back n (p ∷ ps) qs h = below_back n ps qs h.1
 
 pub fits_of : (n m : ℕ) (ts : Trees (Symbol ℕ ℕ)) → HolesAreLeaves ts → LabelsBelow m ts → AllBelow n (holes ts) → Fits n m ts
 fits_of n m none h l b = tt
@@ -58,17 +52,6 @@ abbrev pub written : List (List ℕ) → List (List ℕ) → Trees (Symbol ℕ �
 written names labels none = end
 written names labels (tree s kids rest) = node (quotes names labels s) (text_of names labels s) kids (written names labels kids) (written names labels rest)
 
--- a word at the front, and white space before words
-pub first_word : (word : Word) (words : List Word) (rest : List ℕ) → IsWord word → MayPrecede word rest → HasWords words rest → HasWords (word ∷ words) (spelling word ++ rest)
-first_word word words rest w p h = record { blanks = []; rest = spelling word ++ rest; parts = refl; white = refl; are = (rest, record { is_word = w; spelled = refl; whole = p }, h) }
-
-pub after_space : (words : List Word) (bytes : List ℕ) → HasWords words bytes → HasWords words (32 ∷ bytes)
-after_space [] bytes h = record { blanks = 32 ∷ h.blanks; rest = h.rest; parts = ap (λ (l : List ℕ). 32 ∷ l) h.parts; white = h.white; are = h.are }
-after_space (word ∷ words) bytes h = record { blanks = 32 ∷ h.blanks; rest = h.rest; parts = ap (λ (l : List ℕ). 32 ∷ l) h.parts; white = h.white; are = h.are }
-
-pub no_words : HasWords [] []
-no_words = record { blanks = []; rest = []; parts = refl; white = refl; are = tt }
-
 after_spaces : (k : ℕ) (words : List Word) (bytes : List ℕ) → HasWords words bytes → HasWords words (space k ++ bytes)
 after_spaces zero words bytes h = h
 after_spaces (suc k) words bytes h = after_space words bytes h
@@ -80,12 +63,12 @@ name_at_is (x ∷ xs) (suc q) e h = name_at_is xs q e.1 (omega arith)
 
 -- a label or a state with words behind it
 label_read : (c : Bool) (text : List ℕ) (words : List Word) (bytes : List ℕ) → (c ≡ true → IsName text) → begins_name bytes ≡ false → HasWords words bytes → HasWords (word_for (not c) text ∷ words) (cond c text (spelling (label text)) ++ bytes)
-label_read true text words bytes is b h = first_word (name text) words bytes (is refl) b h
-label_read false text words bytes is b h = first_word (label text) words bytes tt tt h
+label_read true text words bytes is b h = has_first_word (name text) words bytes (is refl) b h
+label_read false text words bytes is b h = has_first_word (label text) words bytes tt tt h
 
 symbol_read : (names labels : List (List ℕ)) (s : Symbol ℕ ℕ) (kids : Trees (Symbol ℕ ℕ)) (words : List Word) (bytes : List ℕ) → Each IsStateName names → FitsSymbol (length names) (length labels) s kids → begins_name bytes ≡ false → HasWords words bytes → HasWords (word_for (quotes names labels s) (text_of names labels s) ∷ words) (symbol_text names labels s ++ bytes)
 symbol_read names labels (hole q) (tree g inner next) words bytes e f b h = absurd f
-symbol_read names labels (hole q) none words bytes e f b h = first_word (name (get_or names q [])) words bytes (name_at_is names q e f).is_name b h
+symbol_read names labels (hole q) none words bytes e f b h = has_first_word (name (get_or names q [])) words bytes (name_at_is names q e f).is_name b h
 symbol_read names labels (symbol_label l) kids words bytes e f b h =
     let text : List ℕ = get_or labels l [] in
     label_read (is_name text && not (is_held names text)) text words bytes (λ c. name_is text (and_true (is_name text) (not (is_held names text)) c).0) b h
@@ -114,9 +97,9 @@ one_read names labels s (tree g inner next) others e f p q = λ k more rest b h.
     let behind : List ℕ = trees_text names labels others (suc k) in
     let rest_words : List Word = spell (written names labels others) ++ more in
     let kid_words : List Word = spell (written names labels kids) in
-    let closed : HasWords (close ∷ rest_words) (41 ∷ (behind ++ rest)) = first_word close rest_words (behind ++ rest) tt tt (q (suc k) more rest b h) in
+    let closed : HasWords (close ∷ rest_words) (41 ∷ (behind ++ rest)) = has_first_word close rest_words (behind ++ rest) tt tt (q (suc k) more rest b h) in
     let inside : HasWords (kid_words ++ (close ∷ rest_words)) (below ++ (41 ∷ (behind ++ rest))) = p 0 (close ∷ rest_words) (41 ∷ (behind ++ rest)) refl closed in
-    let opened : HasWords (open_ ∷ (kid_words ++ (close ∷ rest_words))) (40 ∷ (below ++ (41 ∷ (behind ++ rest)))) = first_word open_ (kid_words ++ (close ∷ rest_words)) (below ++ (41 ∷ (behind ++ rest))) tt tt inside in
+    let opened : HasWords (open_ ∷ (kid_words ++ (close ∷ rest_words))) (40 ∷ (below ++ (41 ∷ (behind ++ rest)))) = has_first_word open_ (kid_words ++ (close ∷ rest_words)) (below ++ (41 ∷ (behind ++ rest))) tt tt inside in
     let word : Word = word_for (quotes names labels s) (text_of names labels s) in
     let whole : HasWords (word ∷ (open_ ∷ (kid_words ++ (close ∷ rest_words)))) (first ++ (40 ∷ (below ++ (41 ∷ (behind ++ rest))))) = symbol_read names labels s kids (open_ ∷ (kid_words ++ (close ∷ rest_words))) (40 ∷ (below ++ (41 ∷ (behind ++ rest)))) e f refl opened in
     let words : (kid_words ++ (close ∷ spell (written names labels others))) ++ more ≡ kid_words ++ (close ∷ rest_words) = append_assoc kid_words (close ∷ spell (written names labels others)) more in

@@ -28,6 +28,9 @@ use Rattle.tib_io.specs.Causes.{Rose}
 use Rattle.tib_io.specs.Writes.{Appends, Falls, Calm, Succeeds}
 use Rattle.tib_io.proofs.Pieces.{takes_more, front_first, front_later}
 use Rattle.tib_grammar_file.specs.Prints.{Prints}
+use Rattle.tib_lex.proofs.Booleans.{or-true}
+use Rattle.tib_lex.proofs.Lists.{each_append}
+use Rattle.tib_grammar_file.proofs.Common.{cons_same}
 
 nothing_appended : (old : Option (List ℕ)) → Appends old old []
 nothing_appended None = refl
@@ -155,11 +158,6 @@ seq T U E w f n a b c xs ys zs t r e p q = prints_same U E (w a) (w c) (f a) (f 
 pub cut : {X : Type 0} (T U E : Type 0) (w : X → Option (List ℕ)) (f : X → Option ℕ) (n : X → ℕ) (a c : X) (xs ys zs : List ℕ) (e : E) → xs ++ ys ≡ zs → (let r : Result T E = Err e in Prints (w a) (w c) (f a) (f c) (n a) (n c) xs r) → (let r : Result U E = Err e in Prints (w a) (w c) (f a) (f c) (n a) (n c) zs r)
 cut T U E w f n a c xs ys zs e same p = let r : Result U E = Err e in prints_same U E (w a) (w c) (f a) (f c) (n a) (n c) (xs ++ ys) zs r same (prints_front T U E (w a) (w c) (f a) (f c) (n a) (n c) xs ys e p)
 
--- a text among names
-or_true : (b : Bool) → (b || true) ≡ true
-or_true true = refl
-or_true false = refl
-
 or_false : (a b : Bool) → a ≡ false → b ≡ false → (a || b) ≡ false
 or_false true b e f = cc
 or_false false b e f = f
@@ -180,7 +178,7 @@ held_at names n text e = by names n (slice_get_within names n text e) (get_or_fr
     by : (names : List (List ℕ)) (n : ℕ) → n < length names → get_or names n text ≡ text → true ≡ is_held names text
     by [] n h e = absurd (omega arith)
     by (x ∷ xs) zero h e = let s : bytes_eq text x ≡ true = subst (λ (y : List ℕ). bytes_eq text y ≡ true) (sym e) (same_bytes text) in rw s refl
-    by (x ∷ xs) (suc n) h e = let s : is_held xs text ≡ true = sym (by xs n (omega arith) e) in sym (ap (λ (b : Bool). bytes_eq text x || b) s ∙ or_true (bytes_eq text x))
+    by (x ∷ xs) (suc n) h e = let s : is_held xs text ≡ true = sym (by xs n (omega arith) e) in sym (ap (λ (b : Bool). bytes_eq text x || b) s ∙ or-true (bytes_eq text x))
 
 pub not_held : (names : List (List ℕ)) (text : List ℕ) → (Contains names text → ⊥) → false ≡ is_held names text
 not_held [] text no_name = refl
@@ -210,15 +208,12 @@ pub in_items : (items : List (Item ℕ)) (next : ℕ) (left : Trees (Symbol ℕ 
 in_items items next none ys e h = absurd (omega arith)
 in_items items next (tree s kids rest) ys e h = within_by items next 0 _ e (omega arith)
 
-heads_same : {A : Type 0} (x y : A) (xs ys : List A) → x ∷ xs ≡ y ∷ ys → (x ≡ y) × (xs ≡ ys)
-heads_same x y xs ys e = (cc, cc)
-
 pub here : (items : List (Item ℕ)) (next : ℕ) (left : Trees (Symbol ℕ ℕ)) (ys : List (Symbol ℕ ℕ × ℕ)) (item : Item ℕ) → next < length items → item ≡ get_or items next item → pairs_of (drop next items) ≡ preorder left ++ ys → 0 < count left → Here items next left ys item
 here items next none ys item w i e h = absurd (omega arith)
 here items next (tree s kids rest) ys item w i e h =
     let cons : drop next items ≡ get_or items next item ∷ drop (suc next) items = drop-cons items next item w in
     let m : suc next ≡ next + 1 = omega arith in
-    let f = heads_same (pair_of (get_or items next item)) (s, count kids) (pairs_of (drop (suc next) items)) ((preorder kids ++ preorder rest) ++ ys) (sym (ap pairs_of cons) ∙ e) in
+    let f = cons_same (pair_of (get_or items next item)) (s, count kids) (pairs_of (drop (suc next) items)) ((preorder kids ++ preorder rest) ++ ys) (sym (ap pairs_of cons) ∙ e) in
     let b : pairs_of (drop (next + 1) items) ≡ preorder kids ++ (preorder rest ++ ys) = ap (λ (k : ℕ). pairs_of (drop k items)) (sym m) ∙ f.1 ∙ append_assoc (preorder kids) (preorder rest) ys in
     record {
       symbol = s;
@@ -386,8 +381,8 @@ within_item names labels (Hole q) p e h = subst (λ (q : Symbol ℕ ℕ × ℕ).
 pub items_within : (names labels : List (List ℕ)) (items : List (Item ℕ)) (ps : List (Symbol ℕ ℕ × ℕ)) → pairs_of items ≡ ps → Each (λ p. IsSymbolWithin names labels p.0) ps → All (IsWithin names labels) items
 items_within names labels [] ps e h k d lt = absurd (omega arith)
 items_within names labels (i ∷ items) [] e h k d lt = let bad : pairs_of (i ∷ items) ≡ [] = e in absurd (omega (arith, ap length bad))
-items_within names labels (i ∷ items) (p ∷ ps) e h zero d lt = within_item names labels i p (heads_same (pair_of i) p (pairs_of items) ps e).0 h.0
-items_within names labels (i ∷ items) (p ∷ ps) e h (suc k) d lt = items_within names labels items ps (heads_same (pair_of i) p (pairs_of items) ps e).1 h.1 k d (omega arith)
+items_within names labels (i ∷ items) (p ∷ ps) e h zero d lt = within_item names labels i p (cons_same (pair_of i) p (pairs_of items) ps e).0 h.0
+items_within names labels (i ∷ items) (p ∷ ps) e h (suc k) d lt = items_within names labels items ps (cons_same (pair_of i) p (pairs_of items) ps e).1 h.1 k d (omega arith)
 
 pub side_trees : (items : List (Item ℕ)) (s : Tree (Symbol ℕ ℕ)) → pairs_of items ≡ preorder_of s → pairs_of items ≡ preorder (only s) ++ []
 side_trees items s e = e ∙ sym (append-nil (preorder (only s)) ∙ ap (λ (xs : List (Symbol ℕ ℕ × ℕ)). (s.label, count s.kids) ∷ xs) (append-nil (preorder s.kids)))
@@ -429,10 +424,6 @@ module _ {X : Type 0} (w : X → Option (List ℕ)) (f : X → Option ℕ) (n : 
 
 pub no_rules : {X : Type 0} (w : X → Option (List ℕ)) (f : X → Option ℕ) (n : X → ℕ) (a : X) (scale : Scale) (names labels : List (List ℕ)) (rules : List (Rule ℕ)) → HalfRules w f n a a scale names labels rules 0
 no_rules w f n a scale names labels rules = record { done = []; text = refl; prints = prints_nothing (Unit {0}) Failed (w a) (f a) (n a) tt }
-
-each_append : {A : Type 0} (P : A → Type 0) (xs ys : List A) → Each P xs → Each P ys → Each P (xs ++ ys)
-each_append P [] ys a b = b
-each_append P (x ∷ xs) ys a b = (a.0, each_append P xs ys a.1 b)
 
 below_split : (n : ℕ) (ps qs : List ℕ) → AllBelow n (ps ++ qs) → AllBelow n ps × AllBelow n qs
 below_split n [] qs h = (tt, h)

@@ -7,7 +7,8 @@ use Rattle.std.proofs.lemmas.Option.{slice_get_within}
 use Rattle.std.proofs.lemmas.Slice.Eq.{bytes_eq-Decides}
 use Rattle.tib_lex.specs.Lists.{Distinct}
 use Rattle.tib_grammar_file.specs.ByText.{HaveOneText}
-use Rattle.tib_grammar_file.proofs.OneGrammar.{some_same, number_same}
+use Rattle.tib_grammar_file.proofs.OneGrammar.{number_same}
+use Rattle.tib_lex.proofs.Lists.{some_same}
 
 -- each label gets the number of its text in the other table, and no two labels get one number
 pub record Renumbers (labels others : List (List ℕ)) (f : ℕ → ℕ) : Type 0 where

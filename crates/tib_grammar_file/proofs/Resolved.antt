@@ -1,4 +1,5 @@
 -- How leaves are told apart.
+use Rattle.tib_tree.specs.Trees.{most_nodes}
 use Rattle.std.proofs.Common.{◌≡◌, ℕ, ◌+◌, ◌<◌, ◌≤◌, List, [], ◌∷◌, ◌++◌, length, get_or, take, drop, refl, ap, sym, ◌∙◌, subst, arith, append-nil, zero, suc}
 use Rattle.std.specs.Prelude.{slice_get, Some, None, Contains}
 use Rattle.std.specs.List.{All}
@@ -164,7 +165,7 @@ one_more names texts a b nodes lines k at rules more raw rule h g is e r = recor
 pub a_tree : (names texts : List (List ℕ)) (lines : List RuleLine) (k : ℕ) (rule : RawRule) (these : List RawItem) → (h : Here names lines k rule) → Along (IsRaw texts) these h.line.nodes → IsRawTree texts these
 a_tree names texts lines k rule these h are = record { is = h.line.nodes; are = are; tree = h.small.tree }
 
-pub few_nodes : (names texts : List (List ℕ)) (lines : List RuleLine) (k : ℕ) (rule : RawRule) (these : List RawItem) → (h : Here names lines k rule) → Along (IsRaw texts) these h.line.nodes → length these ≤ 10000
+pub few_nodes : (names texts : List (List ℕ)) (lines : List RuleLine) (k : ℕ) (rule : RawRule) (these : List RawItem) → (h : Here names lines k rule) → Along (IsRaw texts) these h.line.nodes → length these ≤ most_nodes
 few_nodes names texts lines k rule these h are = omega (arith, along_long (IsRaw texts) these h.line.nodes are, h.small.few)
 
 pub all_done : (names texts labels : List (List ℕ)) (raw : RawRules) (lines : List RuleLine) (k at : ℕ) (rules : List (Rule ℕ)) (all : List RawRule) → all ≡ raw.rules.items → length all ≤ k → IsRawGrammarOf names texts raw lines → Resolving names texts labels raw.nodes.items lines k at rules → Along (IsRule names labels) rules lines

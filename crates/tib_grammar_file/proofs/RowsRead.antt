@@ -1,4 +1,5 @@
 -- Lines that are read as rules, and the tokens that they have.
+use Rattle.tib_tree.specs.Trees.{most_nodes}
 use Rattle.tib_cost.specs.declared.Scale.{Scale}
 use Rattle.std.proofs.Common.{◌≡◌, ℕ, ◌≤◌, inl, inr, List, [], ◌∷◌, length, refl, ap, sym, ◌∙◌, subst, arith, Option, Bool, true, false, cond, suc}
 use Rattle.std.specs.Prelude.{Some, None, Result, Ok, Err, nat_lt}
@@ -16,6 +17,7 @@ use Rattle.tib_grammar_file.specs.Reading.{fault_at, start_of, plain_start, star
 use Rattle.tib_grammar_file.specs.GrammarText.{HaveTokens}
 use Rattle.tib_grammar_file.specs.Weight.{cost_of}
 use Rattle.tib_grammar_file.proofs.RulesRead.{rule_back, rule_forth}
+use Rattle.tib_grammar_file.proofs.Common.{cons_same, blank_line, Start, Whole}
 
 -- the tokens of a rule line spell this rule
 pub record IsRow (scale : Scale) (words : List Word) (line : RuleLine) : Type 0 where
@@ -24,7 +26,7 @@ pub record IsRow (scale : Scale) (words : List Word) (line : RuleLine) : Type 0 
   pub cost : cost_of scale weight ≡ Ok line.cost
 
 abbrev pub IsFew : RuleLine → Type 0
-IsFew line = length line.nodes ≤ 10000
+IsFew line = length line.nodes ≤ most_nodes
 
 abbrev Line : Type 0
 Line = Result (Option RuleLine) FaultKind
@@ -51,7 +53,7 @@ good_not_none scale (Some p) e = by (cost_of scale p.weight) e
   where
     by : (r : Result ℕ FaultKind) → with_cost p.left p.nodes r ≡ Ok None → ⊥
     by (Err kind) e = err_none kind e
-    by (Ok cost) e = few_not_none (nat_lt 10000 (length p.nodes)) (rule_line_of p.left p.nodes cost) e
+    by (Ok cost) e = few_not_none (nat_lt most_nodes (length p.nodes)) (rule_line_of p.left p.nodes cost) e
 
 pub blank_back : (scale : Scale) (line : List ℕ) → rule_line scale line ≡ Ok None → HasWords [] line
 unfolding rule_line
@@ -62,10 +64,6 @@ blank_back scale line e = by (words_of line) refl e
     by (Some []) w e = words_had [] line w
     by (Some (word ∷ words)) w e = absurd (good_not_none scale (parts_of (word ∷ words)) e)
 
-pub blank_forth : (scale : Scale) (line : List ℕ) → HasWords [] line → rule_line scale line ≡ Ok None
-unfolding rule_line
-blank_forth scale line h = ap (rule_in scale) (words_read [] line h)
-
 -- the parts of a rule that was read
 record Good (scale : Scale) (o : Option Parts) (x : RuleLine) : Type 0 where
   pub p : Parts
@@ -73,9 +71,9 @@ record Good (scale : Scale) (o : Option Parts) (x : RuleLine) : Type 0 where
   pub cost : ℕ
   pub costs : cost_of scale p.weight ≡ Ok cost
   pub same : rule_line_of p.left p.nodes cost ≡ x
-  pub few : length p.nodes ≤ 10000
+  pub few : length p.nodes ≤ most_nodes
 
-few_back : (n : ℕ) (b : Bool) (x y : RuleLine) → nat_lt 10000 n ≡ b → (let r : Line = cond b (Err kinds.TooManyNodes) (Ok (Some x)) in r ≡ Ok (Some y)) → (x ≡ y) × (n ≤ 10000)
+few_back : (n : ℕ) (b : Bool) (x y : RuleLine) → nat_lt most_nodes n ≡ b → (let r : Line = cond b (Err kinds.TooManyNodes) (Ok (Some x)) in r ≡ Ok (Some y)) → (x ≡ y) × (n ≤ most_nodes)
 few_back n true x y h e = absurd (err_some kinds.TooManyNodes y e)
 few_back n false x y h e = (some_same x y e, grind (arith, nat_tests))
 
@@ -86,7 +84,7 @@ good_back scale (Some p) x e = by (cost_of scale p.weight) refl e
     by : (r : Result ℕ FaultKind) → cost_of scale p.weight ≡ r → with_cost p.left p.nodes r ≡ Ok (Some x) → Good scale (Some p) x
     by (Err kind) h e = absurd (err_some kind x e)
     by (Ok cost) h e =
-        let f = few_back (length p.nodes) (nat_lt 10000 (length p.nodes)) (rule_line_of p.left p.nodes cost) x refl e in
+        let f = few_back (length p.nodes) (nat_lt most_nodes (length p.nodes)) (rule_line_of p.left p.nodes cost) x refl e in
         record { p = p; is = refl; cost = cost; costs = h; same = f.0; few = f.1 }
 
 -- a rule line that was read
@@ -113,8 +111,8 @@ row_back scale line x e = by (words_of line) refl e
         let r = row_of scale (word ∷ words) x (good_back scale (parts_of (word ∷ words)) x e) in
         record { word = word; words = words; has = words_had (word ∷ words) line w; is = r.0; few = r.1 }
 
-few_forth : (n : ℕ) (x : RuleLine) → n ≤ 10000 → (let r : Line = cond (nat_lt 10000 n) (Err kinds.TooManyNodes) (Ok (Some x)) in r ≡ Ok (Some x))
-few_forth n x h = let t : nat_lt 10000 n ≡ false = grind (arith, nat_tests) in rw t refl
+few_forth : (n : ℕ) (x : RuleLine) → n ≤ most_nodes → (let r : Line = cond (nat_lt most_nodes n) (Err kinds.TooManyNodes) (Ok (Some x)) in r ≡ Ok (Some x))
+few_forth n x h = let t : nat_lt most_nodes n ≡ false = grind (arith, nat_tests) in rw t refl
 
 pub row_forth : (scale : Scale) (line : List ℕ) (word : Word) (words : List Word) (x : RuleLine) → HasWords (word ∷ words) line → IsRow scale (word ∷ words) x → IsFew x → rule_line scale line ≡ Ok (Some x)
 unfolding rule_line
@@ -167,16 +165,12 @@ rows_forth scale n [] rows rules t a f = none rules (subst (λ (rs : List (List 
     none [] a = refl
     none (x ∷ rules) a = absurd a
 rows_forth scale n (line ∷ lines) rows rules (inl (blank, t)) a f =
-    ap (λ r. with_line n r (rules_from scale (suc n) lines)) (blank_forth scale line blank) ∙ rows_forth scale (suc n) lines rows rules t a f
+    ap (λ r. with_line n r (rules_from scale (suc n) lines)) (blank_line scale line blank) ∙ rows_forth scale (suc n) lines rows rules t a f
 rows_forth scale n (line ∷ lines) rows [] (inr (word, words, more, has, e, t)) a f = absurd (subst (λ (rs : List (List Word)). Along (IsRow scale) rs []) e a)
 rows_forth scale n (line ∷ lines) rows (x ∷ rules) (inr (word, words, more, has, e, t)) a f =
     let b : Along (IsRow scale) ((word ∷ words) ∷ more) (x ∷ rules) = subst (λ (rs : List (List Word)). Along (IsRow scale) rs (x ∷ rules)) e a in
     ap (λ r. with_line n r (rules_from scale (suc n) lines)) (row_forth scale line word words x has b.0 f.0)
     ∙ ap (front (x ∷ [])) (rows_forth scale (suc n) lines more rules t b.1 f.1)
-
--- the start line
-abbrev Start : Type 0
-Start = Result (Option (List ℕ)) FaultKind
 
 start_err : (kind : FaultKind) (o : Option (List ℕ)) → (let r : Start = Err kind in r ≡ Ok o) → ⊥
 start_err kind o e = cc
@@ -252,9 +246,6 @@ pub record Begun (scale : Scale) (lines : List (List ℕ)) (start : List ℕ) (r
   pub are : Along (IsRow scale) rows rules
   pub few : Each IsFew rules
 
-abbrev Whole : Type 0
-Whole = Result (List ℕ × List RuleLine) FileFault
-
 whole_err : (f : FileFault) (p : List ℕ × List RuleLine) → (let r : Whole = Err f in r ≡ Ok p) → ⊥
 whole_err f p e = cc
 
@@ -280,16 +271,13 @@ begun_back scale n (line ∷ lines) start rules e =
     more_begun scale n line lines start rules (start_line line) (rules_from scale (suc n) lines) (grammar_from scale (suc n) lines)
     (λ rs h. rows_back scale (suc n) lines rs h) (λ h. begun_back scale (suc n) lines start rules h) refl e
 
-tail_same : {A : Type 0} (x y : A) (xs ys : List A) → x ∷ xs ≡ y ∷ ys → (x ≡ y) × (xs ≡ ys)
-tail_same x y xs ys e = (cc, cc)
-
 pub begun_forth : (scale : Scale) (n : ℕ) (lines : List (List ℕ)) (start : List ℕ) (rows : List (List Word)) (rules : List RuleLine) → HaveTokens lines ((name start ∷ []) ∷ rows) → has_dot start ≡ false → Along (IsRow scale) rows rules → Each IsFew rules → grammar_from scale n lines ≡ Ok (start, rules)
 begun_forth scale n [] start rows rules t d a f = let bad : (name start ∷ []) ∷ rows ≡ [] = t in cc
 begun_forth scale n (line ∷ lines) start rows rules (inl (blank, t)) d a f =
     ap (λ r. with_start n r (rules_from scale (suc n) lines) (grammar_from scale (suc n) lines)) (no_start_forth line blank)
     ∙ begun_forth scale (suc n) lines start rows rules t d a f
 begun_forth scale n (line ∷ lines) start rows rules (inr (word, words, more, has, e, t)) d a f =
-    let s = tail_same (name start ∷ []) (word ∷ words) rows more e in
+    let s = cons_same (name start ∷ []) (word ∷ words) rows more e in
     let h : HasWords (name start ∷ []) line = subst (λ (ws : List Word). HasWords ws line) (sym s.0) has in
     let u : HaveTokens lines rows = subst (λ (rs : List (List Word)). HaveTokens lines rs) (sym s.1) t in
     ap (λ r. with_start n r (rules_from scale (suc n) lines) (grammar_from scale (suc n) lines)) (start_forth line start h d)

@@ -8,6 +8,7 @@ use Rattle.tib_tree.specs.Written.{Written, end, leaf, head, word_for, spell, co
 use Rattle.tib_tree.specs.Machine.{nodes_of}
 use Rattle.tib_tree.proofs.Read.{tree_back, tree_forth}
 use Rattle.tib_grammar_file.specs.Rule.{has_dot, weight_words, Parts, parts, SpellsRule, last_two, weight_in, front_of, with_nodes, right_parts, plain_parts, head_of, parts_with, parts_of}
+use Rattle.tib_grammar_file.proofs.Common.{plain}
 
 -- trees have no hash
 abbrev HasNoHash : List Word → Type 0
@@ -104,15 +105,11 @@ right_forth left f is w one nodes =
     ∙ ap (λ (ws : List Word). with_nodes left w (nodes_of ws)) (front_read (spell f) w)
     ∙ ap (with_nodes left w) (tree_forth f one ∙ ap Some nodes)
 
-plain_forth : (b : Bool) (left : List ℕ) (words : List Word) → b ≡ false → plain_parts b left words ≡ right_parts left words
-plain_forth true left words e = cc
-plain_forth false left words e = refl
-
 pub rule_forth : (words : List Word) (rule : Parts) → SpellsRule words rule → parts_of words ≡ Some rule
 unfolding parts_of
 rule_forth words rule s =
     sym (ap (λ (ws : List Word). parts_with (head_of ws)) s.spelled)
-    ∙ plain_forth (has_dot rule.left) rule.left (spell s.tree ++ weight_words rule.weight) s.plain
+    ∙ plain (has_dot rule.left) rule.left (spell s.tree ++ weight_words rule.weight) s.plain
     ∙ right_forth rule.left s.tree rule.nodes rule.weight s.one s.nodes
 
 right_back : (left : List ℕ) (words : List Word) (w : Option (List ℕ)) (o : Option (List Item)) (rule : Parts) → has_dot left ≡ false → weight_in words ≡ w → nodes_of (front_of w words) ≡ o → with_nodes left w o ≡ Some rule → SpellsRule (name left ∷ (arrow ∷ words)) rule

@@ -22,10 +22,11 @@ use Rattle.tib_grammar_file.specs.Rule.{RuleLine}
 use Rattle.tib_grammar_file.specs.Value.{IsStateLeaf, IsSymbol, IsNode, IsRule, IsGrammarOf, left_of}
 use Rattle.tib_grammar_file.proofs.FirstFaults.{faults_exact}
 use Rattle.tib_grammar_file.proofs.Meanings.{grown}
-use Rattle.tib_grammar_file.proofs.PrintedStates.{decided, gathered, contains_has, has_contains, all_added}
+use Rattle.tib_grammar_file.proofs.PrintedStates.{decided, gathered, contains_has, all_added}
 use Rattle.tib_grammar_file.proofs.Resolved.{one_tree}
 use Rattle.tib_grammar_file.proofs.RowsRead.{begun_back}
 use Rattle.tib_grammar_file.proofs.TextRead.{all_small, text_back, small_back}
+use Rattle.tib_lex.proofs.Members.{has_contains}
 
 -- a text of a table has a number
 numbered : (xs : List (List ℕ)) (t : List ℕ) → Has xs t → (n : ℕ) × (slice_get xs n ≡ Some t)

@@ -1,13 +1,13 @@
 -- The grammar that is read is the one whose text the bytes are.
 use Rattle.tib_cost.specs.declared.Scale.{Scale}
 use Rattle.std.proofs.Common.{◌≡◌, ℕ, ◌+◌, ◌<◌, ◌≤◌, inl, inr, List, [], ◌∷◌, ◌++◌, length, length-append, take, refl, ap, sym, ◌∙◌, subst, arith, Bool, true, false, zero, suc}
-use Rattle.std.specs.Prelude.{Result, Err, slice_get, Some, Ok, map, Contains, cond, ◌==◌}
+use Rattle.std.specs.Prelude.{Result, Err, slice_get, Some, Ok, map, cond, ◌==◌}
 use Rattle.std.proofs.lemmas.List.{length-map, map-append, take_more, take_all}
 use Rattle.std.specs.Global.{Vec}
 use Rattle.std.proofs.lemmas.Option.{slice_get_within, get_or_from_slice_get}
 use Rattle.tib_lex.specs.Grammar.{Word, name, IsWord}
 use Rattle.tib_lex.specs.Lines.{lines_of, push_byte}
-use Rattle.tib_lex.specs.Lists.{Along, Each, Has}
+use Rattle.tib_lex.specs.Lists.{Along, Each}
 use Rattle.tib_lex.proofs.HasLines.{lines_read, lines_split}
 use Rattle.tib_tree.specs.Grows.{Adds, AddsAll}
 use Rattle.tib_tree.specs.Trees.{Trees, none, tree, only, preorder, preorder_of}
@@ -17,7 +17,7 @@ use Rattle.tib_grammar.specs.Range.{AllBelow, IsInRange, AreInRange}
 use Rattle.tib_grammar.specs.GrammarOf.{GrammarOf}
 use Rattle.tib_grammar.specs.StateName.{IsStateName, AreStateNames}
 use Rattle.tib_grammar.specs.declared.Rule.{Rule}
-use Rattle.tib_grammar.proofs.Members.{at_has, each_more, distinct_more}
+use Rattle.tib_grammar.proofs.Members.{each_more, distinct_more}
 use Rattle.tib_grammar_file.specs.Rule.{RuleLine, rule_line_of}
 use Rattle.tib_grammar_file.specs.Reading.{grammar_of}
 use Rattle.tib_grammar_file.specs.GrammarText.{HaveTokens, SpellsRuleOf, first_text, GrammarText, IsSmallRule, AreSmallRules, Means}
@@ -37,6 +37,8 @@ use Rattle.tib_grammar_file.proofs.FirstFaults.{faults_exact}
 use Rattle.tib_grammar_file.proofs.RowsRead.{IsRow, IsFew, begun_back, begun_forth}
 use Rattle.tib_grammar_file.proofs.WholeWeights.{cost_back, cost_forth}
 use Rattle.tib_io.specs.Reads.{most_bytes}
+use Rattle.tib_grammar.proofs.Below.{below_append}
+use Rattle.tib_lex.proofs.Members.{has_contains}
 
 -- a rule that stands for a line is spelled by its tokens
 rule_spelled : (scale : Scale) (names labels : List (List ℕ)) (words : List Word) (line : RuleLine) (rule : Rule ℕ) → IsRow scale words line → IsRule names labels rule line → SpellsRuleOf scale names labels words rule
@@ -168,9 +170,6 @@ lefts_are_names scale [] (l ∷ lines) a f = absurd a
 lefts_are_names scale (w ∷ rows) [] a f = absurd a
 lefts_are_names scale (w ∷ rows) (l ∷ lines) a f = (left_is_name scale w l a.0 f.0, lefts_are_names scale rows lines a.1 f.1)
 
-has_contains : (xs : List (List ℕ)) (x : List ℕ) → Has xs x → Contains xs x
-has_contains xs x h = at_has xs x x h
-
 one_name : (before : List (List ℕ)) (text : List ℕ) (now : List (List ℕ)) → Adds before text now → AreStateNames before → IsStateName text → AreStateNames now
 one_name before text now (inl (held, same)) a n = subst (λ (ts : List (List ℕ)). AreStateNames ts) (sym same) a
 one_name before text now (inr (new, same)) a n =
@@ -208,10 +207,6 @@ along_split : {X Y : Type 0} (R : X → Y → Type 0) (xs us : List X) (ys : Lis
 along_split R [] us ys h = ([], ys, tt, h)
 along_split R (x ∷ xs) us [] h = absurd h
 along_split R (x ∷ xs) us (y ∷ ys) h = let s = along_split R xs us ys h.1 in (y ∷ s.0, s.1, (h.0, s.2), s.3)
-
-below_append : (n : ℕ) (ps qs : List ℕ) → AllBelow n ps → AllBelow n qs → AllBelow n (ps ++ qs)
-below_append n [] qs a b = b
-below_append n (p ∷ ps) qs a b = (a.0, below_append n ps qs a.1 b)
 
 holes_below : (names labels : List (List ℕ)) (ts : Trees (Symbol ℕ ℕ)) (is : List Item) → Along (IsNode names labels) (preorder ts) is → AllBelow (length names) (holes ts)
 holes_below names labels none is h = tt

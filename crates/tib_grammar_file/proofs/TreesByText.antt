@@ -1,6 +1,5 @@
 -- Bytes that are the text of trees over two tables are that of the same trees by the texts of labels.
 use Rattle.std.proofs.Common.{◌≡◌, ℕ, List, [], ◌∷◌, ◌++◌, refl, ap, sym, ◌∙◌, subst, inl, inr}
-use Rattle.std.specs.Prelude.{Some, None}
 use Rattle.std.proofs.lemmas.Option.{get_or_from_slice_get}
 use Rattle.tib_lex.specs.Grammar.{Word, HasWords}
 use Rattle.tib_lex.specs.Lines.{lines_of}
@@ -14,16 +13,13 @@ use Rattle.tib_tree.specs.Nodes.{AreNodes}
 use Rattle.tib_tree.specs.Printed.{label_text, in_parentheses, behind_space, trees_text, tree_text}
 use Rattle.tib_tree.specs.TreesText.{HasTrees, TreesText}
 use Rattle.tib_tree.proofs.Read.{tree_forth}
-use Rattle.tib_tree.proofs.TreesText.{said_nodes}
+use Rattle.tib_tree.proofs.TreesText.{said_nodes, no_nodes}
 use Rattle.tib_tree.proofs.Values.{count_said}
 use Rattle.tib_grammar_file.specs.ByText.{HaveOneShape, HaveOneText, AreOneTree}
 use Rattle.tib_grammar_file.proofs.Meanings.{preorder_whole}
-use Rattle.tib_grammar_file.proofs.OneGrammar.{some_same, words_same}
 use Rattle.tib_grammar_file.proofs.Shapes.{AgreeAtNode, shape_of}
-
-no_nodes : (is : List Item) → nodes_of [] ≡ Some is → ⊥
-unfolding nodes_of
-no_nodes is e = let bad : None ≡ Some is = e in cc
+use Rattle.tib_lex.proofs.Lists.{some_same}
+use Rattle.tib_lex.proofs.HasWords.{words_once}
 
 items_same : (words : List Word) (w v : Written) → count w ≡ 1 → count v ≡ 1 → spell w ≡ words → spell v ≡ words → items w ≡ items v
 items_same words w v one two e f = some_same (items w) (items v) (sym (tree_forth w one) ∙ ap nodes_of (e ∙ sym f) ∙ tree_forth v two)
@@ -34,7 +30,7 @@ one_said labels w t h = sym (count_said labels w (only t) h)
 not_blank : (labels : List (List ℕ)) (line : List ℕ) (t : Tree ℕ) → HasWords [] line → IsTreeLine labels line t → ⊥
 not_blank labels line t blank h =
     no_nodes (items h.spells.written)
-    (ap nodes_of (words_same line [] h.words blank h.has ∙ sym h.spells.spelled) ∙ tree_forth h.spells.written (one_said labels h.spells.written t h.spells.says))
+    (ap nodes_of (words_once line [] h.words blank h.has ∙ sym h.spells.spelled) ∙ tree_forth h.spells.written (one_said labels h.spells.written t h.spells.says))
 
 side_nodes : (labels : List (List ℕ)) (w : Written) (t : Tree ℕ) → Says labels w (only t) → AreNodes labels (preorder_of t) (items w)
 side_nodes labels w t h = subst (λ (ns : List (ℕ × ℕ)). AreNodes labels ns (items w)) (preorder_whole t) (said_nodes labels w (only t) h)
@@ -53,7 +49,7 @@ module _ (labels others : List (List ℕ)) where
       let w : Written = h.spells.written in
       let v : Written = k.spells.written in
       let same : items w ≡ items v =
-      items_same h.words w v (one_said labels w t h.spells.says) (one_said others v u k.spells.says) h.spells.spelled (k.spells.spelled ∙ words_same line k.words h.words k.has h.has) in
+      items_same h.words w v (one_said labels w t h.spells.says) (one_said others v u k.spells.says) h.spells.spelled (k.spells.spelled ∙ words_once line k.words h.words k.has h.has) in
       let mine : AreNodes labels (preorder_of t) (items v) = subst (λ (is : List Item). AreNodes labels (preorder_of t) is) same (side_nodes labels w t h.spells.says) in
       shape_of (HaveOneText labels others) t u (nodes_agree (preorder_of t) (preorder_of u) (items v) mine (side_nodes others v u k.spells.says))
 

@@ -2,17 +2,15 @@
 use Rattle.tib_cost.specs.Scale.{cost_in}
 use Rattle.tib_cost.specs.declared.Scale.TheVariants as scales
 use Rattle.tib_cost.specs.declared.Scale.{Scale}
-use Rattle.std.proofs.Common.{◌≡◌, ℕ, ◌+◌, ◌-◌, ◌*◌, ◌<◌, ◌≤◌, ◌⊎◌, inl, inr, List, [], ◌∷◌, ◌++◌, length, refl, ap, sym, ◌∙◌, subst, arith, Option, Bool, true, false, cond}
+use Rattle.std.proofs.Common.{◌≡◌, ℕ, ◌+◌, ◌-◌, ◌*◌, ◌<◌, ◌≤◌, List, [], ◌∷◌, ◌++◌, length, refl, ap, sym, ◌∙◌, arith, Option, Bool, true, false, cond}
 use Rattle.std.specs.Prelude.{Some, None, Result, Ok, Err, nat_lt, ◌==◌, ◌&&◌}
 use Rattle.std.specs.List.{list_all}
-use Rattle.std.proofs.lemmas.Bool.Decides.{nat_tests, eqb_tells}
+use Rattle.std.proofs.lemmas.Bool.Decides.{nat_tests}
 use Rattle.tib_lex.specs.declared.fault.FaultKind.{FaultKind}
 use Rattle.tib_lex.specs.declared.fault.FaultKind.TheVariants as kinds
-use Rattle.tib_grammar_file.specs.Weight.{is_digit, is_zero_digit, decimal_from, decimal, behind_digits, AreZeros, IsWhole, IsWeighed, IsCostOf, whole_from, whole, small, cost_of, most}
-
-both : (b : Bool) → (b ≡ true) ⊎ (b ≡ false)
-both true = inl refl
-both false = inr refl
+use Rattle.tib_grammar_file.specs.Weight.{is_digit, is_zero_digit, decimal_from, decimal, behind_digits, AreZeros, IsWhole, IsWeighed, IsCostOf, whole_from, whole, small, cost_of}
+use Rattle.tib_lex.proofs.Numbers.{byte_same}
+use Rattle.tib_cost.specs.Semiring.{most}
 
 and_true : (a b : Bool) → (a && b) ≡ true → (a ≡ true) × (b ≡ true)
 and_true true b e = (refl, e)
@@ -37,9 +35,6 @@ digits_read value (b ∷ digits) zeros d z =
 some_same : (m n : ℕ) → Some m ≡ Some n → n ≡ m
 some_same m n e = cc
 
-is_byte : (a b : ℕ) → (a == b) ≡ true → a ≡ b
-is_byte a b e = elim (eqb_tells a b) [ inl h ↦ h.1 | inr h ↦ cc ]
-
 digits_back : (value : ℕ) (text : List ℕ) (n : ℕ) → whole_from value text ≡ Some n → Split value text n
 digits_back value [] n e = record { digits = []; zeros = None; are_digits = refl; are_zeros = tt; spelled = refl; is = some_same value n e }
 digits_back value (b ∷ rest) n e = by_digit (λ h. digits_back (10 * value + (b - 48)) rest n h) (is_digit b) refl e
@@ -47,7 +42,7 @@ digits_back value (b ∷ rest) n e = by_digit (λ h. digits_back (10 * value + (
     by_point : (c : Bool) → (b == 46 && list_all is_zero_digit rest) ≡ c → cond c (Some value) None ≡ Some n → Split value (b ∷ rest) n
     by_point true h e =
         let p = and_true (b == 46) (list_all is_zero_digit rest) h in
-        record { digits = []; zeros = Some rest; are_digits = refl; are_zeros = p.1; spelled = ap (λ (x : ℕ). x ∷ rest) (is_byte b 46 p.0); is = some_same value n e }
+        record { digits = []; zeros = Some rest; are_digits = refl; are_zeros = p.1; spelled = ap (λ (x : ℕ). x ∷ rest) (byte_same b 46 p.0); is = some_same value n e }
     by_point false h e = let bad : None ≡ Some n = e in cc
 
     by_digit : (whole_from (10 * value + (b - 48)) rest ≡ Some n → Split (10 * value + (b - 48)) rest n) → (c : Bool) → is_digit b ≡ c → cond c (whole_from (10 * value + (b - 48)) rest) (cond (b == 46 && list_all is_zero_digit rest) (Some value) None) ≡ Some n → Split value (b ∷ rest) n

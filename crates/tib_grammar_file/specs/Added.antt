@@ -30,15 +30,19 @@ KeptByFault OutOfMemory before now = Unit {0}
 
 -- a label's text goes last if it is new, and a state changes nothing
 abbrev pub AddsSymbol : List (List ℕ) → Symbol ℕ ℕ → List (List ℕ) → Type 0
-AddsSymbol before (label f) now = (text : List ℕ) × (slice_get now f ≡ Some text) × Adds before text now
+AddsSymbol before (label f) now =
+    (text : List ℕ) × (slice_get now f ≡ Some text) × Adds before text now
 AddsSymbol before (hole q) now = now ≡ before
 
 -- nodes one after another
 abbrev pub AddsSymbols : List (List ℕ) → List (Symbol ℕ ℕ × ℕ) → List (List ℕ) → Type 0
 AddsSymbols before [] now = now ≡ before
-AddsSymbols before (p ∷ ps) now = (middle : List (List ℕ)) × AddsSymbol before p.0 middle × AddsSymbols middle ps now
+AddsSymbols before (p ∷ ps) now =
+    (middle : List (List ℕ)) × AddsSymbol before p.0 middle × AddsSymbols middle ps now
 
 -- rules one after another
 abbrev pub AddsRules : List (List ℕ) → List (Rule ℕ) → List (List ℕ) → Type 0
 AddsRules before [] now = now ≡ before
-AddsRules before (r ∷ rules) now = (middle : List (List ℕ)) × AddsSymbols before (preorder_of r.right) middle × AddsRules middle rules now
+AddsRules before (r ∷ rules) now =
+    (middle : List (List ℕ)) × AddsSymbols before (preorder_of r.right) middle
+    × AddsRules middle rules now

@@ -9,7 +9,8 @@ use Rattle.tib_grammar_file.specs.declared.raw.RawRules.{RawRules}
 use Rattle.tib_io.specs.Reads.{most_bytes}
 
 -- the rules over the tables of names and texts are those of a start and of lines
-pub record IsSource (names texts : List (List ℕ)) (raw : RawRules) (start : List ℕ) (lines : List RuleLine) : Type 0 where
+pub record IsSource (names texts : List (List ℕ)) (raw : RawRules) (start : List ℕ)
+    (lines : List RuleLine) : Type 0 where
   pub added : AddsAll [] (start ∷ map left_of lines) names
   pub sound : AreStateNames names
   pub raw_is : IsRawGrammarOf names texts raw lines

@@ -1,6 +1,6 @@
 -- Grammars by the names of their states, and what is printed of them.
 use Rattle.tib_cost.specs.declared.Scale.{Scale}
-use Rattle.std.specs.Prelude.{◌≡◌, ◌<◌, ℕ, Bool, List, [], map, length, Contains}
+use Rattle.std.specs.Prelude.{◌≡◌, ◌<◌, ℕ, List, [], map, length, Contains}
 use Rattle.std.proofs.Common.{get_or}
 use Rattle.tib_lex.specs.declared.fault.FileFault.{FileFault}
 use Rattle.tib_grammar.specs.GrammarOf.{GrammarOf, named_rule}
@@ -18,18 +18,22 @@ use Rattle.tib_grammar_file.specs.Read.{ReadsAs}
 abbrev pub named_rules : GrammarOf → List (Rule (List ℕ))
 named_rules g = map (named_rule (λ q. get_or g.names q [])) g.rules
 
--- The grammars are the same if states go by their names: the same names, the same start, and the same rules in the same order.
+-- The grammars are the same if states go by their names: the same names, the same start, and the
+-- same rules in the same order.
 pub record IsSameByName (g h : GrammarOf) : Type 0 where
   pub start : get_or g.names 0 [] ≡ get_or h.names 0 []
-  pub names : (text : List ℕ) → (Contains g.names text → Contains h.names text) × (Contains h.names text → Contains g.names text)
+  pub names : (text : List ℕ) → (Contains g.names text → Contains h.names text)
+      × (Contains h.names text → Contains g.names text)
   pub rules : named_rules g ≡ named_rules h
 
 -- each state but the start has a rule
 abbrev pub HaveRules : GrammarOf → Type 0
-HaveRules g = (q : ℕ) → 0 < q → q < length g.names → (n : ℕ) × (n < length g.rules) × ((rule_at g.rules n).left ≡ q)
+HaveRules g =
+    (q : ℕ) → 0 < q → q < length g.names → (n : ℕ) × (n < length g.rules)
+    × ((rule_at g.rules n).left ≡ q)
 
--- A grammar that has a text over a table of labels: it is sound, its labels and its costs can be written, and each state
--- but the start has a rule.
+-- A grammar that has a text over a table of labels: it is sound, its labels and its costs can be
+-- written, and each state but the start has a rule.
 pub record HasText (scale : Scale) (labels : List (List ℕ)) (g : GrammarOf) : Type 0 where
   pub start : 0 < length g.names
   pub names : AreStateNames g.names
@@ -38,8 +42,10 @@ pub record HasText (scale : Scale) (labels : List (List ℕ)) (g : GrammarOf) : 
   pub lefts : HaveRules g
   pub printable : ArePrintable scale labels g.rules
 
--- Bytes are the text of the same grammar, states by their names. The reader takes it where no right side has more than 10,000 nodes.
-pub record ReadsBack (scale : Scale) (labels : List (List ℕ)) (bytes : List ℕ) (g h : GrammarOf) : Type 0 where
+-- Bytes are the text of the same grammar, states by their names. The reader takes it where no right
+-- side has more than 10,000 nodes.
+pub record ReadsBack (scale : Scale) (labels : List (List ℕ)) (bytes : List ℕ)
+    (g h : GrammarOf) : Type 0 where
   pub text : GrammarText scale labels bytes h
   pub same : IsSameByName g h
   pub read : AreSmallRules g.rules → ReadsAs scale labels bytes h
@@ -47,4 +53,6 @@ pub record ReadsBack (scale : Scale) (labels : List (List ℕ)) (bytes : List �
 
 -- what is printed of a grammar that has a text reads back
 abbrev pub PrintsBack : Type 0
-PrintsBack = (scale : Scale) (labels : List (List ℕ)) (g : GrammarOf) → HasText scale labels g → (h : GrammarOf) × ReadsBack scale labels (grammar_text scale labels g) g h
+PrintsBack =
+    (scale : Scale) (labels : List (List ℕ)) (g : GrammarOf) → HasText scale labels g →
+    (h : GrammarOf) × ReadsBack scale labels (grammar_text scale labels g) g h

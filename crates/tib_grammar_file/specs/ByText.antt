@@ -11,7 +11,8 @@ abbrev pub HaveOneShape : {A B : Type 0} → (A → B → Type 0) → Trees A �
 HaveOneShape R none none = Unit {0}
 HaveOneShape R none (tree g below more) = ⊥
 HaveOneShape R (tree f kids rest) none = ⊥
-HaveOneShape R (tree f kids rest) (tree g below more) = R f g × HaveOneShape R kids below × HaveOneShape R rest more
+HaveOneShape R (tree f kids rest) (tree g below more) =
+    R f g × HaveOneShape R kids below × HaveOneShape R rest more
 
 -- two numbers stand for one text, each in its table
 pub record HaveOneText (labels others : List (List ℕ)) (f g : ℕ) : Type 0 where
@@ -30,14 +31,15 @@ AgreeInSymbol labels others (hole p) (hole q) = p ≡ q
 abbrev pub AreOneTree : List (List ℕ) → List (List ℕ) → Tree ℕ → Tree ℕ → Type 0
 AreOneTree labels others t u = HaveOneShape (HaveOneText labels others) (only t) (only u)
 
--- rules with the same state and cost, and right sides of one shape with the same states, whose labels have the same texts
+-- rules with the same state and cost, and right sides of one shape with the same states, whose
+-- labels have the same texts
 pub record AreOneRule (labels others : List (List ℕ)) (r s : Rule ℕ) : Type 0 where
   pub left : r.left ≡ s.left
   pub right : HaveOneShape (AgreeInSymbol labels others) (only r.right) (only s.right)
   pub cost : r.cost ≡ s.cost
 
--- Grammars that differ in the numbers of their labels alone: the same names, and the same rules side by side, each over a
--- table of labels of its own.
+-- Grammars that differ in the numbers of their labels alone: the same names, and the same rules
+-- side by side, each over a table of labels of its own.
 pub record AgreeByText (labels others : List (List ℕ)) (g h : GrammarOf) : Type 0 where
   pub names : g.names ≡ h.names
   pub rules : Along (AreOneRule labels others) g.rules h.rules

@@ -1,6 +1,6 @@
 -- What holds of the first fault of a grammar file.
 use Rattle.tib_cost.specs.declared.Scale.{Scale}
-use Rattle.std.specs.Prelude.{◌≡◌, ◌⊎◌, ℕ, Bool, List, Err}
+use Rattle.std.specs.Prelude.{◌≡◌, ◌⊎◌, ℕ, List, Err}
 use Rattle.tib_lex.specs.Lists.{Distinct}
 use Rattle.tib_lex.specs.declared.fault.FileFault.{FileFault}
 use Rattle.tib_grammar.specs.GrammarOf.{GrammarOf}
@@ -16,7 +16,9 @@ GivesFaults =
 
 -- a file has at most one first fault
 abbrev pub HasOneFault : Type 0
-HasOneFault = (scale : Scale) (bytes : List ℕ) (fault other : FileFault) → IsFirstFault scale bytes fault → IsFirstFault scale bytes other → fault ≡ other
+HasOneFault =
+    (scale : Scale) (bytes : List ℕ) (fault other : FileFault) → IsFirstFault scale bytes fault →
+    IsFirstFault scale bytes other → fault ≡ other
 
 -- a text within the limit on nodes has no fault
 abbrev pub TextsHaveNone : Type 0
@@ -26,8 +28,11 @@ TextsHaveNone =
 
 -- the bytes are the text of a grammar within that limit, over some table of distinct labels
 abbrev pub IsSomeText : Scale → List ℕ → Type 0
-IsSomeText scale bytes = (labels : List (List ℕ)) × (g : GrammarOf) × Distinct labels × ReadsAs scale labels bytes g
+IsSomeText scale bytes =
+    (labels : List (List ℕ)) × (g : GrammarOf) × Distinct labels × ReadsAs scale labels bytes g
 
 -- each file is such a text, or has a first fault
 abbrev pub TextOrFault : Type 0
-TextOrFault = (scale : Scale) (bytes : List ℕ) → IsSomeText scale bytes ⊎ ((fault : FileFault) × IsFirstFault scale bytes fault)
+TextOrFault =
+    (scale : Scale) (bytes : List ℕ) → IsSomeText scale bytes
+    ⊎ ((fault : FileFault) × IsFirstFault scale bytes fault)

@@ -12,7 +12,8 @@ use Rattle.tib_lex.specs.declared.fault.ReadError.{ReadError}
 use Rattle.tib_lex.specs.declared.fault.ReadError.TheVariants as errors
 use Rattle.tib_tree.specs.Trees.{most_nodes}
 use Rattle.tib_grammar_file.specs.Rule.{has_dot, Parts, SpellsRule}
-use Rattle.tib_grammar_file.specs.Weight.{IsWhole, IsCostOf, most}
+use Rattle.tib_grammar_file.specs.Weight.{IsWhole, IsCostOf}
+use Rattle.tib_cost.specs.Semiring.{most}
 
 -- the tokens of a line are a start: one name without a full stop
 pub record HasStart (line : List ℕ) : Type 0 where
@@ -33,8 +34,10 @@ HasStartFault line BadToken = HasBadToken line
 HasStartFault line BadRule = HasOtherStart line
 HasStartFault line kind = ⊥
 
--- The first fault of a file in which a start comes before all else. Where no line has tokens, it is `NoStart` at line 1.
-abbrev pub FirstFaultFromStart : (List ℕ → Type 0) → (List ℕ → FaultKind → Type 0) → ℕ → List (List ℕ) → FileFault → Type 0
+-- The first fault of a file in which a start comes before all else. Where no line has tokens, it is
+-- `NoStart` at line 1.
+abbrev pub FirstFaultFromStart : (List ℕ → Type 0) → (List ℕ → FaultKind → Type 0) → ℕ →
+    List (List ℕ) → FileFault → Type 0
 FirstFaultFromStart Holds HasFault n [] fault = (fault.line ≡ 1) × (fault.kind ≡ NoStart)
 FirstFaultFromStart Holds HasFault n (line ∷ lines) fault =
     (HasWords [] line × FirstFaultFromStart Holds HasFault (suc n) lines fault)
@@ -81,16 +84,20 @@ HasRuleFault scale line BadToken = HasBadToken line
 HasRuleFault scale line BadRule = HasNoRule line
 HasRuleFault scale line NotWhole = HasBadWeight scale line NotWhole
 HasRuleFault scale line WeightTooLarge = HasBadWeight scale line WeightTooLarge
-HasRuleFault scale line TooManyNodes = (rule : Parts) × HasGoodWeight scale line rule × (most_nodes < length rule.nodes)
+HasRuleFault scale line TooManyNodes =
+    (rule : Parts) × HasGoodWeight scale line rule × (most_nodes < length rule.nodes)
 HasRuleFault scale line kind = ⊥
 
 -- what a line in a rule's place may hold: no tokens, or a rule within the limits
 abbrev pub HoldsRule : Scale → List ℕ → Type 0
-HoldsRule scale line = HasWords [] line ⊎ ((rule : Parts) × HasGoodWeight scale line rule × (length rule.nodes ≤ most_nodes))
+HoldsRule scale line =
+    HasWords [] line ⊎ ((rule : Parts) × HasGoodWeight scale line rule
+    × (length rule.nodes ≤ most_nodes))
 
 -- the first fault of the file
 abbrev pub IsFirstFault : Scale → List ℕ → FileFault → Type 0
-IsFirstFault scale bytes fault = FirstFaultFromStart (HoldsRule scale) (HasRuleFault scale) 1 (lines_of bytes) fault
+IsFirstFault scale bytes fault =
+    FirstFaultFromStart (HoldsRule scale) (HasRuleFault scale) 1 (lines_of bytes) fault
 
 -- a fault is the first of the file
 abbrev pub IsCause : Scale → List ℕ → ReadError → Type 0

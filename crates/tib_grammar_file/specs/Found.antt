@@ -21,7 +21,8 @@ WeightLies long (Some t) = Lies long t
 
 abbrev pub found_parts : List ℕ → List Place → Option Found → Option Parts
 found_parts line places None = None
-found_parts line places (Some f) = Some (parts (text_of (word_at line f.left)) (items_back line places) (text_at line f.weight))
+found_parts line places (Some f) =
+    Some (parts (text_of (word_at line f.left)) (items_back line places) (text_at line f.weight))
 
 pub record FoundIn (long : ℕ) (places : List Place) (f : Found) : Type 0 where
   pub left : Lies long f.left

@@ -24,7 +24,8 @@ HaveTokens (line ∷ lines) rows =
 -- a leaf without quotes is a state if it is the name of one, and every other leaf is a label
 abbrev pub IsLeaf : List (List ℕ) → List (List ℕ) → Symbol ℕ ℕ → Bool → List ℕ → Type 0
 IsLeaf names labels (hole q) quoted text = (quoted ≡ false) × (slice_get names q ≡ Some text)
-IsLeaf names labels (label f) quoted text = (quoted ≡ false → Contains names text → ⊥) × (slice_get labels f ≡ Some text)
+IsLeaf names labels (label f) quoted text =
+    (quoted ≡ false → Contains names text → ⊥) × (slice_get labels f ≡ Some text)
 
 -- a head is a label
 abbrev pub IsHead : List (List ℕ) → Symbol ℕ ℕ → List ℕ → Type 0
@@ -37,11 +38,15 @@ Means names labels none end = Unit {0}
 Means names labels none (leaf quoted text more) = ⊥
 Means names labels none (head quoted text below more) = ⊥
 Means names labels (tree s kids rest) end = ⊥
-Means names labels (tree s kids rest) (leaf quoted text more) = IsLeaf names labels s quoted text × (kids ≡ none) × Means names labels rest more
-Means names labels (tree s kids rest) (head quoted text below more) = IsHead labels s text × Means names labels kids below × Means names labels rest more
+Means names labels (tree s kids rest) (leaf quoted text more) =
+    IsLeaf names labels s quoted text × (kids ≡ none) × Means names labels rest more
+Means names labels (tree s kids rest) (head quoted text below more) =
+    IsHead labels s text × Means names labels kids below × Means names labels rest more
 
--- A rule line: a name without a full stop, an arrow, one tree, and maybe a hash and a weight. It means a rule.
-pub record SpellsRuleOf (scale : Scale) (names labels : List (List ℕ)) (words : List Word) (rule : Rule ℕ) : Type 0 where
+-- A rule line: a name without a full stop, an arrow, one tree, and maybe a hash and a weight. It
+-- means a rule.
+pub record SpellsRuleOf (scale : Scale) (names labels : List (List ℕ)) (words : List Word)
+    (rule : Rule ℕ) : Type 0 where
   pub left : List ℕ
   pub right : Written
   pub weight : Option (List ℕ)
@@ -56,9 +61,11 @@ abbrev pub first_text : List Word → List ℕ
 first_text [] = []
 first_text (word ∷ words) = text_of word
 
--- The bytes are the text of a grammar: the lines with tokens are the start line, a name without a full stop, and a line
--- for each rule. The states are the start and the left states, each once in the order of first sight.
-pub record GrammarText (scale : Scale) (labels : List (List ℕ)) (bytes : List ℕ) (g : GrammarOf) : Type 0 where
+-- The bytes are the text of a grammar: the lines with tokens are the start line, a name without a
+-- full stop, and a line for each rule. The states are the start and the left states, each once in
+-- the order of first sight.
+pub record GrammarText (scale : Scale) (labels : List (List ℕ)) (bytes : List ℕ)
+    (g : GrammarOf) : Type 0 where
   pub lines : List (List ℕ)
   pub start : List ℕ
   pub rows : List (List Word)

@@ -8,7 +8,7 @@ use Rattle.tib_tree.specs.Trees.{Trees, none, tree, only}
 use Rattle.tib_grammar.specs.Sides.{Symbol, label, hole}
 use Rattle.tib_grammar.specs.Run.{rule_at}
 use Rattle.tib_grammar.specs.declared.Rule.{Rule}
-use Rattle.tib_grammar_file.specs.Weight.{most}
+use Rattle.tib_cost.specs.Semiring.{most}
 
 -- a cost that can be written: a weight within the limit, or none where nothing is weighed
 abbrev pub IsPlainIf : Bool → ℕ → Type 0
@@ -21,8 +21,11 @@ IsPlainCost scale cost = IsPlainIf (is_weighted scale) cost
 -- all labels of trees stand in the table, and none of them has a line feed
 abbrev pub HavePlainLabels : List (List ℕ) → Trees (Symbol ℕ ℕ) → Type 0
 HavePlainLabels labels none = Unit {0}
-HavePlainLabels labels (tree (label f) kids rest) = (f < length labels) × HasNoFeed (get_or labels f []) × HavePlainLabels labels kids × HavePlainLabels labels rest
-HavePlainLabels labels (tree (hole q) kids rest) = HavePlainLabels labels kids × HavePlainLabels labels rest
+HavePlainLabels labels (tree (label f) kids rest) =
+    (f < length labels) × HasNoFeed (get_or labels f []) × HavePlainLabels labels kids
+    × HavePlainLabels labels rest
+HavePlainLabels labels (tree (hole q) kids rest) =
+    HavePlainLabels labels kids × HavePlainLabels labels rest
 
 -- A rule whose labels and whose cost can be written over a table of labels.
 pub record IsPrintable (scale : Scale) (labels : List (List ℕ)) (r : Rule ℕ) : Type 0 where
@@ -31,4 +34,5 @@ pub record IsPrintable (scale : Scale) (labels : List (List ℕ)) (r : Rule ℕ)
 
 -- each of the rules is one
 abbrev pub ArePrintable : Scale → List (List ℕ) → List (Rule ℕ) → Type 0
-ArePrintable scale labels rules = (m : ℕ) → m < length rules → IsPrintable scale labels (rule_at rules m)
+ArePrintable scale labels rules =
+    (m : ℕ) → m < length rules → IsPrintable scale labels (rule_at rules m)

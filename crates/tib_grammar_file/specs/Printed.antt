@@ -21,7 +21,8 @@ is_held names text = list_any (bytes_eq text) names
 
 -- a label's text, in quotes where it reads as no name or as a state's
 abbrev pub label_text : List (List ℕ) → List ℕ → List ℕ
-label_text names text = if is_name text && not (is_held names text) then text else spelling (label text)
+label_text names text =
+    if is_name text && not (is_held names text) then text else spelling (label text)
 
 abbrev pub symbol_text : List (List ℕ) → List (List ℕ) → Symbol ℕ ℕ → List ℕ
 symbol_text names labels (symbol_label f) = label_text names (get_or labels f [])
@@ -90,8 +91,10 @@ rule_text scale names labels r =
 
 abbrev pub rules_text : Scale → List (List ℕ) → List (List ℕ) → List (Rule ℕ) → List ℕ
 rules_text scale names labels [] = []
-rules_text scale names labels (r ∷ rules) = rule_text scale names labels r ++ rules_text scale names labels rules
+rules_text scale names labels (r ∷ rules) =
+    rule_text scale names labels r ++ rules_text scale names labels rules
 
 -- the start's line, and then a line for each rule
 abbrev pub grammar_text : Scale → List (List ℕ) → GrammarOf → List ℕ
-grammar_text scale labels g = (get_or g.names 0 [] ++ 10 ∷ []) ++ rules_text scale g.names labels g.rules
+grammar_text scale labels g =
+    (get_or g.names 0 [] ++ 10 ∷ []) ++ rules_text scale g.names labels g.rules

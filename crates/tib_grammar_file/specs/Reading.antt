@@ -1,6 +1,6 @@
 -- What is read of a file: its start and its rules, or its first fault.
 use Rattle.tib_cost.specs.declared.Scale.{Scale}
-use Rattle.std.specs.Prelude.{ℕ, Bool, List, [], ◌∷◌, Option, None, Some, Result, Ok, Err, if◌then◌else◌, suc}
+use Rattle.std.specs.Prelude.{ℕ, List, [], ◌∷◌, Option, None, Some, Result, Ok, Err, if◌then◌else◌, suc}
 use Rattle.tib_lex.specs.Grammar.{Word, name}
 use Rattle.tib_lex.specs.Line.{words_of}
 use Rattle.tib_lex.specs.Lines.{lines_of, each_line}
@@ -33,18 +33,22 @@ start_in (Some (word ∷ words)) = plain_start (start_of (word ∷ words))
 unfoldable pub start_line : List ℕ → Result (Option (List ℕ)) FaultKind
 start_line line = start_in (words_of line)
 
-abbrev pub started : List ℕ → Result (List RuleLine) FileFault → Result (List ℕ × List RuleLine) FileFault
+abbrev pub started : List ℕ → Result (List RuleLine) FileFault →
+    Result (List ℕ × List RuleLine) FileFault
 started start (Ok rules) = Ok (start, rules)
 started start (Err fault) = Err fault
 
-abbrev pub with_start : ℕ → Result (Option (List ℕ)) FaultKind → Result (List RuleLine) FileFault → Result (List ℕ × List RuleLine) FileFault → Result (List ℕ × List RuleLine) FileFault
+abbrev pub with_start : ℕ → Result (Option (List ℕ)) FaultKind → Result (List RuleLine) FileFault →
+    Result (List ℕ × List RuleLine) FileFault → Result (List ℕ × List RuleLine) FileFault
 with_start n (Err kind) rules more = Err (fault_at n kind)
 with_start n (Ok None) rules more = more
 with_start n (Ok (Some start)) rules more = started start rules
 
 abbrev pub grammar_from : Scale → ℕ → List (List ℕ) → Result (List ℕ × List RuleLine) FileFault
 grammar_from scale n [] = Err (fault_at 1 kinds.NoStart)
-grammar_from scale n (line ∷ lines) = with_start n (start_line line) (rules_from scale (suc n) lines) (grammar_from scale (suc n) lines)
+grammar_from scale n (line ∷ lines) =
+    with_start n (start_line line) (rules_from scale (suc n) lines)
+    (grammar_from scale (suc n) lines)
 
 -- the start and the rules of a file, or its first fault
 unfoldable pub grammar_of : Scale → List ℕ → Result (List ℕ × List RuleLine) FileFault

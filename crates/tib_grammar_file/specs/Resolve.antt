@@ -35,6 +35,7 @@ pub record IsSmallTree (line : RuleLine) : Type 0 where
   pub few : length line.nodes ≤ most_nodes
 
 -- rules over the tables of names and texts, each with one tree
-pub record IsRawGrammarOf (names texts : List (List ℕ)) (raw : RawRules) (lines : List RuleLine) : Type 0 where
+pub record IsRawGrammarOf (names texts : List (List ℕ)) (raw : RawRules)
+    (lines : List RuleLine) : Type 0 where
   pub rules : AreRawRules names texts raw.rules.items raw.nodes.items lines
   pub trees : Each IsSmallTree lines

@@ -55,7 +55,8 @@ with_nodes left weight None = None
 with_nodes left weight (Some nodes) = Some (parts left nodes weight)
 
 abbrev pub right_parts : List ℕ → List Word → Option Parts
-right_parts left words = with_nodes left (weight_in words) (nodes_of (front_of (weight_in words) words))
+right_parts left words =
+    with_nodes left (weight_in words) (nodes_of (front_of (weight_in words) words))
 
 abbrev pub plain_parts : Bool → List ℕ → List Word → Option Parts
 plain_parts true left words = None
@@ -74,7 +75,9 @@ parts_of words = parts_with (head_of words)
 
 -- `parts_of` reads just the rules
 abbrev pub ReadsRules : Type 0
-ReadsRules = (words : List Word) (rule : Parts) → (parts_of words ≡ Some rule → SpellsRule words rule) × (SpellsRule words rule → parts_of words ≡ Some rule)
+ReadsRules =
+    (words : List Word) (rule : Parts) → (parts_of words ≡ Some rule → SpellsRule words rule)
+    × (SpellsRule words rule → parts_of words ≡ Some rule)
 
 -- a rule as its line says it, with the names unresolved
 pub record RuleLine : Type 0 where
@@ -86,7 +89,9 @@ abbrev pub rule_line_of : List ℕ → List Item → ℕ → RuleLine
 rule_line_of left nodes cost = record { left = left; nodes = nodes; cost = cost }
 
 abbrev pub few_nodes : List ℕ → List Item → ℕ → Result (Option RuleLine) FaultKind
-few_nodes left nodes cost = if nat_lt most_nodes (length nodes) then Err kinds.TooManyNodes else Ok (Some (rule_line_of left nodes cost))
+few_nodes left nodes cost =
+    if nat_lt most_nodes (length nodes) then Err kinds.TooManyNodes
+    else Ok (Some (rule_line_of left nodes cost))
 
 abbrev pub with_cost : List ℕ → List Item → Result ℕ FaultKind → Result (Option RuleLine) FaultKind
 with_cost left nodes (Err kind) = Err kind

@@ -35,6 +35,7 @@ abbrev pub left_of : RuleLine → List ℕ
 left_of line = line.left
 
 -- a grammar stands for a start and the lines of its rules
-pub record IsGrammarOf (labels : List (List ℕ)) (g : GrammarOf) (start : List ℕ) (lines : List RuleLine) : Type 0 where
+pub record IsGrammarOf (labels : List (List ℕ)) (g : GrammarOf) (start : List ℕ)
+    (lines : List RuleLine) : Type 0 where
   pub names : AddsAll [] (start ∷ map left_of lines) g.names
   pub rules : Along (IsRule g.names labels) g.rules lines

@@ -5,13 +5,17 @@ use Rattle.std.specs.Prelude.{◌≡◌, ◌<◌, ◌≤◌, ◌++◌, length, �
 use Rattle.std.specs.List.{list_all}
 use Rattle.tib_lex.specs.declared.fault.FaultKind.{FaultKind}
 use Rattle.tib_lex.specs.declared.fault.FaultKind.TheVariants as kinds
+use Rattle.tib_cost.specs.Semiring.{most}
 
-abbrev pub most : ℕ
-most = 1000000000000000
+-- the least number that is no weight
+abbrev pub too_large : ℕ
+too_large = most + 1
 
+-- a decimal digit
 abbrev pub is_digit : ℕ → Bool
 is_digit b = nat_lt 47 b && nat_lt b 58
 
+-- the digit 0
 abbrev pub is_zero_digit : ℕ → Bool
 is_zero_digit b = b == 48
 
@@ -20,6 +24,7 @@ abbrev pub decimal_from : ℕ → List ℕ → ℕ
 decimal_from value [] = value
 decimal_from value (d ∷ digits) = decimal_from (10 * value + (d - 48)) digits
 
+-- the number that decimal digits write
 abbrev pub decimal : List ℕ → ℕ
 decimal digits = decimal_from 0 digits
 
@@ -28,11 +33,13 @@ abbrev pub behind_digits : Option (List ℕ) → List ℕ
 behind_digits None = []
 behind_digits (Some zeros) = 46 ∷ zeros
 
+-- behind the point, if there is one, stand zeros alone
 abbrev pub AreZeros : Option (List ℕ) → Type 0
 AreZeros None = Unit {0}
 AreZeros (Some zeros) = list_all is_zero_digit zeros ≡ true
 
--- A whole weight: one or more decimal digits, and maybe a point with zeros behind it. Its value is that of the digits.
+-- A whole weight: one or more decimal digits, and maybe a point with zeros behind it. Its value is
+-- that of the digits.
 pub record IsWhole (text : List ℕ) (n : ℕ) : Type 0 where
   pub digits : List ℕ
   pub zeros : Option (List ℕ)
@@ -67,10 +74,12 @@ whole_from value (b ∷ rest) =
     else if b == 46 && list_all is_zero_digit rest then Some value
     else None
 
+-- the number of a whole weight, none where the text is no whole weight
 abbrev pub whole : List ℕ → Option ℕ
 whole [] = None
 whole (b ∷ rest) = if is_digit b then whole_from (b - 48) rest else None
 
+-- the cost of a number, or the fault of none or of one that is too large
 abbrev pub small : Scale → Option ℕ → Result ℕ FaultKind
 small scale None = Err kinds.NotWhole
 small scale (Some n) = if nat_lt most n then Err kinds.WeightTooLarge else Ok (cost_in scale n)

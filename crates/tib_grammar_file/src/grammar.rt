@@ -70,9 +70,11 @@ fn build<S: Semiring>(
     texts: &Labels,
     labels: &mut Labels,
 ) -> Result<Grammar<S>, AllocError>
-    requires source { (start : List ℕ) × (lines : List RuleLine) × IsSource names.now texts.now raw.now start lines }
+    requires source { (start : List ℕ) × (lines : List RuleLine)
+        × IsSource names.now texts.now raw.now start lines }
     requires room { length labels.old + length raw.now.nodes.items < 2 ^ 32 - 1 }
-    ensures grammar { IfOk result (λ g. (start : List ℕ) (lines : List RuleLine) → IsSource names.now texts.now raw.now start lines → IsGrammarOf labels.new g start lines) }
+    ensures grammar { IfOk result (λ g. (start : List ℕ) (lines : List RuleLine) →
+        IsSource names.now texts.now raw.now start lines → IsGrammarOf labels.new g start lines) }
     ensures added { IfOk result (λ g. AddsRules labels.old g.rules labels.new) }
     ensures few { length labels.new ≤ length labels.old + length raw.now.nodes.items }
     ensures grows { Grows labels.old labels.new }
@@ -83,13 +85,15 @@ fn build<S: Semiring>(
     Ok(grammar_over(states, rules))
 }
 
-/// Reads a grammar file. The states are the start and the left states, numbered in the order of first sight; the texts
-/// of all other leaves and of all heads go into the table of labels, which grows by just those that are new, in the order
-/// of the file. Where nothing is weighed, any name is taken as a weight, and each rule costs 0.
+/// Reads a grammar file. The states are the start and the left states, numbered in the order of
+/// first sight; the texts of all other leaves and of all heads go into the table of labels, which
+/// grows by just those that are new, in the order of the file. Where nothing is weighed, any name
+/// is taken as a weight, and each rule costs 0.
 ///
-/// A fault names the first line that has one and what is wrong there first: no start (line 1), a bad token, a bad rule,
-/// a weight that isn't whole or is too large, a right side with more than 10,000 nodes. After a fault the
-/// table is as before. `OutOfMemory` says nothing of the file, and the table may have grown by some of its labels.
+/// A fault names the first line that has one and what is wrong there first: no start (line 1), a
+/// bad token, a bad rule, a weight that isn't whole or is too large, a right side with more than
+/// 10,000 nodes. After a fault the table is as before. `OutOfMemory` says nothing of the file, and
+/// the table may have grown by some of its labels.
 pub fn read_grammar<S: Semiring>(
     alloc: Global,
     bytes: &[u8],
@@ -101,7 +105,8 @@ pub fn read_grammar<S: Semiring>(
     ensures labelled { IfOk result (λ g. AreLabelled (length labels.new) g.rules) }
     ensures fault { IfErr result (λ e. IsCause S.SCALE bytes.now e) }
     ensures labels { Grows labels.old labels.new }
-    ensures added { IfOk result (λ g. AddsAll labels.old (rule_texts labels.new g.rules) labels.new) }
+    ensures added { IfOk result (λ g. AddsAll labels.old (rule_texts labels.new g.rules)
+        labels.new) }
     ensures few { length labels.new ≤ length labels.old + length bytes.now }
     ensures kept { IfErr result (λ e. KeptByFault e labels.old labels.new) }
 {

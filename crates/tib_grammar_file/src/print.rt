@@ -16,7 +16,8 @@ use tib_grammar::{Grammar, Item, Names, Rule, Side};
 use tib_io::{Failed, Sink};
 use tib_tree::Labels;
 
-// So many trees from a place of a preorder on, with a space between them. It answers the place behind them.
+// So many trees from a place of a preorder on, with a space between them. It answers the place
+// behind them.
 fn put_trees<W: Sink>(
     out: &mut W,
     items: &[Item<u32>],
@@ -27,9 +28,15 @@ fn put_trees<W: Sink>(
 ) -> Result<usize, Failed>
     requires place { at ≤ length items.now }
     requires within { All (IsWithin names.now labels.now) items.now }
-    requires trees { (ts : Trees (Symbol ℕ ℕ)) × (ys : List (Symbol ℕ ℕ × ℕ)) × (pairs_of (drop at items.now) ≡ preorder ts ++ ys) × (count_of ts ≡ count) }
-    ensures next { IfOk result (λ n. (ts : Trees (Symbol ℕ ℕ)) (ys : List (Symbol ℕ ℕ × ℕ)) → pairs_of (drop at items.now) ≡ preorder ts ++ ys → count_of ts ≡ count → n ≡ at + length (preorder ts)) }
-    ensures prints { (ts : Trees (Symbol ℕ ℕ)) (ys : List (Symbol ℕ ℕ × ℕ)) → pairs_of (drop at items.now) ≡ preorder ts ++ ys → count_of ts ≡ count → Prints (W.written out.old) (W.written out.new) (W.free out.old) (W.free out.new) (W.faults out.old) (W.faults out.new) (trees_text names.now labels.now ts 0) result }
+    requires trees { (ts : Trees (Symbol ℕ ℕ)) × (ys : List (Symbol ℕ ℕ × ℕ))
+        × (pairs_of (drop at items.now) ≡ preorder ts ++ ys) × (count_of ts ≡ count) }
+    ensures next { IfOk result (λ n. (ts : Trees (Symbol ℕ ℕ)) (ys : List (Symbol ℕ ℕ × ℕ)) →
+        pairs_of (drop at items.now) ≡ preorder ts ++ ys → count_of ts ≡ count →
+        n ≡ at + length (preorder ts)) }
+    ensures prints { (ts : Trees (Symbol ℕ ℕ)) (ys : List (Symbol ℕ ℕ × ℕ)) →
+        pairs_of (drop at items.now) ≡ preorder ts ++ ys → count_of ts ≡ count →
+        Prints (W.written out.old) (W.written out.new) (W.free out.old) (W.free out.new)
+        (W.faults out.old) (W.faults out.new) (trees_text names.now labels.now ts 0) result }
 {
     let mut next = at;
     for k in 0..count {
@@ -59,7 +66,9 @@ fn put_side<W: Sink>(
     labels: &Labels,
 ) -> Result<(), Failed>
     requires { IsSideWithin names.now labels.now side.now }
-    ensures { Prints (W.written out.old) (W.written out.new) (W.free out.old) (W.free out.new) (W.faults out.old) (W.faults out.new) (trees_text names.now labels.now (only side.now) 0) result }
+    ensures { Prints (W.written out.old) (W.written out.new) (W.free out.old) (W.free out.new)
+        (W.faults out.old) (W.faults out.new) (trees_text names.now labels.now (only side.now) 0)
+        result }
 {
     match put_trees(out, side.items(), 0, 1, names, labels) {
         Ok(_) => Ok(()),
@@ -68,14 +77,16 @@ fn put_side<W: Sink>(
 }
 
 fn put_number<W: Sink>(out: &mut W, cost: Cost) -> Result<(), Failed>
-    ensures { Prints (W.written out.old) (W.written out.new) (W.free out.old) (W.free out.new) (W.faults out.old) (W.faults out.new) (decimal cost) result }
+    ensures { Prints (W.written out.old) (W.written out.new) (W.free out.old) (W.free out.new)
+        (W.faults out.old) (W.faults out.new) (decimal cost) result }
 {
     let mut digits = Buffer::new();
     put(out, digits.format(cost.get()).as_bytes())
 }
 
 fn put_weight<W: Sink>(out: &mut W, cost: Cost) -> Result<(), Failed>
-    ensures { Prints (W.written out.old) (W.written out.new) (W.free out.old) (W.free out.new) (W.faults out.old) (W.faults out.new) (weight_text true cost) result }
+    ensures { Prints (W.written out.old) (W.written out.new) (W.free out.old) (W.free out.new)
+        (W.faults out.old) (W.faults out.new) (weight_text true cost) result }
 {
     match put(out, b" # ") {
         Ok(()) => put_number(out, cost),
@@ -84,7 +95,8 @@ fn put_weight<W: Sink>(out: &mut W, cost: Cost) -> Result<(), Failed>
 }
 
 fn put_cost<W: Sink>(out: &mut W, scale: Scale, cost: Cost) -> Result<(), Failed>
-    ensures { Prints (W.written out.old) (W.written out.new) (W.free out.old) (W.free out.new) (W.faults out.old) (W.faults out.new) (cost_text scale cost) result }
+    ensures { Prints (W.written out.old) (W.written out.new) (W.free out.old) (W.free out.new)
+        (W.faults out.old) (W.faults out.new) (cost_text scale cost) result }
 {
     if scale.is_weighted() {
         put_weight(out, scale.weight(cost))
@@ -95,7 +107,8 @@ fn put_cost<W: Sink>(out: &mut W, scale: Scale, cost: Cost) -> Result<(), Failed
 
 // The cost of a rule and the end of its line.
 fn put_end<W: Sink>(out: &mut W, scale: Scale, cost: Cost) -> Result<(), Failed>
-    ensures { Prints (W.written out.old) (W.written out.new) (W.free out.old) (W.free out.new) (W.faults out.old) (W.faults out.new) (cost_text scale cost ++ 10 ∷ []) result }
+    ensures { Prints (W.written out.old) (W.written out.new) (W.free out.old) (W.free out.new)
+        (W.faults out.old) (W.faults out.new) (cost_text scale cost ++ 10 ∷ []) result }
 {
     match put_cost(out, scale, cost) {
         Ok(()) => put(out, b"\n"),
@@ -111,7 +124,10 @@ fn put_right<W: Sink>(
     labels: &Labels,
 ) -> Result<(), Failed>
     requires { IsSideWithin names.now labels.now rule.now.right }
-    ensures { Prints (W.written out.old) (W.written out.new) (W.free out.old) (W.free out.new) (W.faults out.old) (W.faults out.new) (trees_text names.now labels.now (only rule.now.right) 0 ++ (cost_text scale rule.now.cost ++ 10 ∷ [])) result }
+    ensures { Prints (W.written out.old) (W.written out.new) (W.free out.old) (W.free out.new)
+        (W.faults out.old) (W.faults out.new)
+        (trees_text names.now labels.now (only rule.now.right) 0
+        ++ (cost_text scale rule.now.cost ++ 10 ∷ [])) result }
 {
     match put_side(out, &rule.right, names, labels) {
         Ok(()) => put_end(out, scale, rule.cost),
@@ -127,7 +143,10 @@ fn put_arrow<W: Sink>(
     labels: &Labels,
 ) -> Result<(), Failed>
     requires { IsSideWithin names.now labels.now rule.now.right }
-    ensures { Prints (W.written out.old) (W.written out.new) (W.free out.old) (W.free out.new) (W.faults out.old) (W.faults out.new) (32 ∷ (45 ∷ (62 ∷ (32 ∷ []))) ++ (trees_text names.now labels.now (only rule.now.right) 0 ++ (cost_text scale rule.now.cost ++ 10 ∷ []))) result }
+    ensures { Prints (W.written out.old) (W.written out.new) (W.free out.old) (W.free out.new)
+        (W.faults out.old) (W.faults out.new) (32 ∷ (45 ∷ (62 ∷ (32 ∷ [])))
+        ++ (trees_text names.now labels.now (only rule.now.right) 0
+        ++ (cost_text scale rule.now.cost ++ 10 ∷ []))) result }
 {
     match put(out, b" -> ") {
         Ok(()) => put_right(out, scale, rule, names, labels),
@@ -144,7 +163,9 @@ fn put_rule<W: Sink>(
     labels: &Labels,
 ) -> Result<(), Failed>
     requires { IsRuleWithin names.now labels.now rule.now }
-    ensures { Prints (W.written out.old) (W.written out.new) (W.free out.old) (W.free out.new) (W.faults out.old) (W.faults out.new) (rule_text scale names.now labels.now rule.now) result }
+    ensures { Prints (W.written out.old) (W.written out.new) (W.free out.old) (W.free out.new)
+        (W.faults out.old) (W.faults out.new) (rule_text scale names.now labels.now rule.now)
+        result }
 {
     match put(out, names.text(rule.left)) {
         Ok(()) => put_arrow(out, scale, rule, names, labels),
@@ -160,7 +181,9 @@ fn put_rules<W: Sink>(
     labels: &Labels,
 ) -> Result<(), Failed>
     requires { All (IsRuleWithin names.now labels.now) rules.now }
-    ensures { Prints (W.written out.old) (W.written out.new) (W.free out.old) (W.free out.new) (W.faults out.old) (W.faults out.new) (rules_text scale names.now labels.now rules.now) result }
+    ensures { Prints (W.written out.old) (W.written out.new) (W.free out.old) (W.free out.new)
+        (W.faults out.old) (W.faults out.new) (rules_text scale names.now labels.now rules.now)
+        result }
 {
     for rule in rules {
         match put_rule(out, scale, rule, names, labels) {
@@ -173,7 +196,8 @@ fn put_rules<W: Sink>(
 
 fn put_start<W: Sink>(out: &mut W, names: &Names) -> Result<(), Failed>
     requires { 0 < length names.now }
-    ensures { Prints (W.written out.old) (W.written out.new) (W.free out.old) (W.free out.new) (W.faults out.old) (W.faults out.new) (get_or names.now 0 [] ++ 10 ∷ []) result }
+    ensures { Prints (W.written out.old) (W.written out.new) (W.free out.old) (W.free out.new)
+        (W.faults out.old) (W.faults out.new) (get_or names.now 0 [] ++ 10 ∷ []) result }
 {
     match put(out, names.text(0)) {
         Ok(()) => put(out, b"\n"),
@@ -190,7 +214,9 @@ fn put_grammar<W: Sink>(
 ) -> Result<(), Failed>
     requires start { 0 < length names.now }
     requires within { All (IsRuleWithin names.now labels.now) rules.now }
-    ensures { Prints (W.written out.old) (W.written out.new) (W.free out.old) (W.free out.new) (W.faults out.old) (W.faults out.new) ((get_or names.now 0 [] ++ 10 ∷ []) ++ rules_text scale names.now labels.now rules.now) result }
+    ensures { Prints (W.written out.old) (W.written out.new) (W.free out.old) (W.free out.new)
+        (W.faults out.old) (W.faults out.new) ((get_or names.now 0 [] ++ 10 ∷ [])
+        ++ rules_text scale names.now labels.now rules.now) result }
 {
     match put_start(out, names) {
         Ok(()) => put_rules(out, scale, rules, names, labels),
@@ -198,29 +224,33 @@ fn put_grammar<W: Sink>(
     }
 }
 
-/// Prints a grammar whose labels are in range of the table: a line with the start's name, and then a line for each
-/// rule. A label stands in quotes where it would not read as one. Where costs are weighed, each line ends with the
-/// rule's cost. After a failure a front of the text was appended. It takes no memory; its calls nest as deep as the
-/// deepest right side.
+/// Prints a grammar whose labels are in range of the table: a line with the start's name, and then
+/// a line for each rule. A label stands in quotes where it would not read as one. Where costs are
+/// weighed, each line ends with the rule's cost. After a failure a front of the text was appended.
+/// It takes no memory; its calls nest as deep as the deepest right side.
 pub fn print_grammar<S: Semiring, W: Sink>(
     grammar: &Grammar<S>,
     labels: &Labels,
     out: &mut W,
 ) -> Result<(), Failed>
     requires { AreLabelled (length labels.now) grammar.now.rules }
-    ensures ok { OnOk result (Takes (W.written out.old) (W.written out.new) (W.free out.old) (W.free out.new) (grammar_text S.SCALE labels.now grammar.now)) }
-    ensures err { OnErr result (TakesFront (W.written out.old) (W.written out.new) (W.free out.old) (W.free out.new) (grammar_text S.SCALE labels.now grammar.now)) }
+    ensures ok { OnOk result (Takes (W.written out.old) (W.written out.new) (W.free out.old)
+        (W.free out.new) (grammar_text S.SCALE labels.now grammar.now)) }
+    ensures err { OnErr result (TakesFront (W.written out.old) (W.written out.new) (W.free out.old)
+        (W.free out.new) (grammar_text S.SCALE labels.now grammar.now)) }
     ensures cause { OnErr result (Rose (W.faults out.old) (W.faults out.new)) }
     ensures later { W.faults out.old ≤ W.faults out.new }
-    ensures calm { Calm (W.free out.old) (length (grammar_text S.SCALE labels.now grammar.now)) (W.faults out.old) (W.faults out.new) }
-    ensures succeeds { Succeeds (W.free out.old) (length (grammar_text S.SCALE labels.now grammar.now)) (W.faults out.old) result }
+    ensures calm { Calm (W.free out.old) (length (grammar_text S.SCALE labels.now grammar.now))
+        (W.faults out.old) (W.faults out.new) }
+    ensures succeeds { Succeeds (W.free out.old)
+        (length (grammar_text S.SCALE labels.now grammar.now)) (W.faults out.old) result }
 {
     grammar.is_sound();
     put_grammar(out, S::SCALE, grammar.rule_list(), grammar.names(), labels)
 }
 
-/// Prints the line of a rule, whose states and labels have texts, as `print_grammar` does. It takes no memory; its calls
-/// nest as deep as the right side.
+/// Prints the line of a rule, whose states and labels have texts, as `print_grammar` does. It takes
+/// no memory; its calls nest as deep as the right side.
 pub fn print_rule<S: Semiring, W: Sink>(
     rule: &Rule<u32>,
     names: &Names,
@@ -228,7 +258,9 @@ pub fn print_rule<S: Semiring, W: Sink>(
     out: &mut W,
 ) -> Result<(), Failed>
     requires { IsRuleWithin names.now labels.now rule.now }
-    ensures { Prints (W.written out.old) (W.written out.new) (W.free out.old) (W.free out.new) (W.faults out.old) (W.faults out.new) (rule_text S.SCALE names.now labels.now rule.now) result }
+    ensures { Prints (W.written out.old) (W.written out.new) (W.free out.old) (W.free out.new)
+        (W.faults out.old) (W.faults out.new) (rule_text S.SCALE names.now labels.now rule.now)
+        result }
 {
     put_rule(out, S::SCALE, rule, names, labels)
 }

@@ -11,14 +11,16 @@ use tib_lex::is_name;
 use tib_tree::Labels;
 
 pub(crate) fn put<W: Sink>(out: &mut W, piece: &[u8]) -> Result<(), Failed>
-    ensures { Prints (W.written out.old) (W.written out.new) (W.free out.old) (W.free out.new) (W.faults out.old) (W.faults out.new) piece.now result }
+    ensures { Prints (W.written out.old) (W.written out.new) (W.free out.old) (W.free out.new)
+        (W.faults out.old) (W.faults out.new) piece.now result }
 {
     write_whole(out, piece)
 }
 
 // A byte as it stands in quotes.
 fn put_byte<W: Sink>(out: &mut W, byte: u8) -> Result<(), Failed>
-    ensures { Prints (W.written out.old) (W.written out.new) (W.free out.old) (W.free out.new) (W.faults out.old) (W.faults out.new) (escape (byte ∷ [])) result }
+    ensures { Prints (W.written out.old) (W.written out.new) (W.free out.old) (W.free out.new)
+        (W.faults out.old) (W.faults out.new) (escape (byte ∷ [])) result }
 {
     if byte == b'"' || byte == b'\\' {
         put(out, &[b'\\', byte])
@@ -28,7 +30,8 @@ fn put_byte<W: Sink>(out: &mut W, byte: u8) -> Result<(), Failed>
 }
 
 fn put_escaped<W: Sink>(out: &mut W, text: &[u8]) -> Result<(), Failed>
-    ensures { Prints (W.written out.old) (W.written out.new) (W.free out.old) (W.free out.new) (W.faults out.old) (W.faults out.new) (escape text.now) result }
+    ensures { Prints (W.written out.old) (W.written out.new) (W.free out.old) (W.free out.new)
+        (W.faults out.old) (W.faults out.new) (escape text.now) result }
 {
     for byte in text {
         match put_byte(out, *byte) {
@@ -41,7 +44,8 @@ fn put_escaped<W: Sink>(out: &mut W, text: &[u8]) -> Result<(), Failed>
 
 // The bytes of a label and the quote behind it.
 fn close_quote<W: Sink>(out: &mut W, text: &[u8]) -> Result<(), Failed>
-    ensures { Prints (W.written out.old) (W.written out.new) (W.free out.old) (W.free out.new) (W.faults out.old) (W.faults out.new) (escape text.now ++ 34 ∷ []) result }
+    ensures { Prints (W.written out.old) (W.written out.new) (W.free out.old) (W.free out.new)
+        (W.faults out.old) (W.faults out.new) (escape text.now ++ 34 ∷ []) result }
 {
     match put_escaped(out, text) {
         Ok(()) => put(out, b"\""),
@@ -50,7 +54,8 @@ fn close_quote<W: Sink>(out: &mut W, text: &[u8]) -> Result<(), Failed>
 }
 
 fn put_quoted<W: Sink>(out: &mut W, text: &[u8]) -> Result<(), Failed>
-    ensures { Prints (W.written out.old) (W.written out.new) (W.free out.old) (W.free out.new) (W.faults out.old) (W.faults out.new) (spelling (label text.now)) result }
+    ensures { Prints (W.written out.old) (W.written out.new) (W.free out.old) (W.free out.new)
+        (W.faults out.old) (W.faults out.new) (spelling (label text.now)) result }
 {
     match put(out, b"\"") {
         Ok(()) => close_quote(out, text),
@@ -69,7 +74,8 @@ fn is_held(names: &Names, text: &[u8]) -> bool
 }
 
 fn put_label<W: Sink>(out: &mut W, names: &Names, text: &[u8]) -> Result<(), Failed>
-    ensures { Prints (W.written out.old) (W.written out.new) (W.free out.old) (W.free out.new) (W.faults out.old) (W.faults out.new) (label_text names.now text.now) result }
+    ensures { Prints (W.written out.old) (W.written out.new) (W.free out.old) (W.free out.new)
+        (W.faults out.old) (W.faults out.new) (label_text names.now text.now) result }
 {
     if is_name(text) && !is_held(names, text) {
         put(out, text)
@@ -85,7 +91,9 @@ fn put_symbol<W: Sink>(
     labels: &Labels,
 ) -> Result<(), Failed>
     requires { IsWithin names.now labels.now item.now }
-    ensures { Prints (W.written out.old) (W.written out.new) (W.free out.old) (W.free out.new) (W.faults out.old) (W.faults out.new) (symbol_text names.now labels.now (pair_of item.now).0) result }
+    ensures { Prints (W.written out.old) (W.written out.new) (W.free out.old) (W.free out.new)
+        (W.faults out.old) (W.faults out.new)
+        (symbol_text names.now labels.now (pair_of item.now).0) result }
 {
     match item {
         Item::Label { label, .. } => put_label(out, names, labels.text(*label)),
@@ -103,7 +111,8 @@ pub(crate) fn rank_of(item: &Item<u32>) -> u32
 }
 
 fn put_space<W: Sink>(out: &mut W, k: u32) -> Result<(), Failed>
-    ensures { Prints (W.written out.old) (W.written out.new) (W.free out.old) (W.free out.new) (W.faults out.old) (W.faults out.new) (space k) result }
+    ensures { Prints (W.written out.old) (W.written out.new) (W.free out.old) (W.free out.new)
+        (W.faults out.old) (W.faults out.new) (space k) result }
 {
     if k == 0 {
         put(out, b"")
@@ -113,7 +122,8 @@ fn put_space<W: Sink>(out: &mut W, k: u32) -> Result<(), Failed>
 }
 
 fn put_opening<W: Sink>(out: &mut W, rank: u32) -> Result<(), Failed>
-    ensures { Prints (W.written out.old) (W.written out.new) (W.free out.old) (W.free out.new) (W.faults out.old) (W.faults out.new) (opening rank) result }
+    ensures { Prints (W.written out.old) (W.written out.new) (W.free out.old) (W.free out.new)
+        (W.faults out.old) (W.faults out.new) (opening rank) result }
 {
     if rank == 0 {
         put(out, b"")
@@ -123,7 +133,8 @@ fn put_opening<W: Sink>(out: &mut W, rank: u32) -> Result<(), Failed>
 }
 
 pub(crate) fn put_closing<W: Sink>(out: &mut W, rank: u32) -> Result<(), Failed>
-    ensures { Prints (W.written out.old) (W.written out.new) (W.free out.old) (W.free out.new) (W.faults out.old) (W.faults out.new) (closing rank) result }
+    ensures { Prints (W.written out.old) (W.written out.new) (W.free out.old) (W.free out.new)
+        (W.faults out.old) (W.faults out.new) (closing rank) result }
 {
     if rank == 0 {
         put(out, b"")
@@ -140,7 +151,9 @@ fn put_spaced<W: Sink>(
     labels: &Labels,
 ) -> Result<(), Failed>
     requires { IsWithin names.now labels.now item.now }
-    ensures { Prints (W.written out.old) (W.written out.new) (W.free out.old) (W.free out.new) (W.faults out.old) (W.faults out.new) (space k ++ symbol_text names.now labels.now (pair_of item.now).0) result }
+    ensures { Prints (W.written out.old) (W.written out.new) (W.free out.old) (W.free out.new)
+        (W.faults out.old) (W.faults out.new) (space k
+        ++ symbol_text names.now labels.now (pair_of item.now).0) result }
 {
     match put_space(out, k) {
         Ok(()) => put_symbol(out, item, names, labels),
@@ -157,7 +170,10 @@ pub(crate) fn put_head<W: Sink>(
     labels: &Labels,
 ) -> Result<(), Failed>
     requires { IsWithin names.now labels.now item.now }
-    ensures { Prints (W.written out.old) (W.written out.new) (W.free out.old) (W.free out.new) (W.faults out.old) (W.faults out.new) ((space k ++ symbol_text names.now labels.now (pair_of item.now).0) ++ opening (pair_of item.now).1) result }
+    ensures { Prints (W.written out.old) (W.written out.new) (W.free out.old) (W.free out.new)
+        (W.faults out.old) (W.faults out.new) ((space k
+        ++ symbol_text names.now labels.now (pair_of item.now).0)
+        ++ opening (pair_of item.now).1) result }
 {
     match put_spaced(out, k, item, names, labels) {
         Ok(()) => put_opening(out, rank_of(item)),

@@ -60,7 +60,8 @@ fn read_name(
     requires lies { Lies (length line.now) token }
     requires plain { HasNoFeed line.now }
     requires room { length names.old < 2 ^ 32 - 1 }
-    ensures named { IfOk result (λ n. slice_get names.new n ≡ Some (text_of (word_at line.now token))) }
+    ensures named { IfOk result (λ n. slice_get names.new n
+        ≡ Some (text_of (word_at line.now token))) }
     ensures grows { Grows names.old names.new }
     ensures adds { IfOk result (λ n. Adds names.old (text_of (word_at line.now token)) names.new) }
     ensures few { length names.new ≤ length names.old + 1 }
@@ -102,7 +103,8 @@ fn read_side(
     requires lie { All (PlaceLies (length line.now)) places.now }
     requires plain { HasNoFeed line.now }
     requires room { length texts.old + length places.now < 2 ^ 32 - 1 }
-    ensures nodes { IfOk result (λ _. AddsNodes texts.new nodes.old.items nodes.new.items (items_back line.now places.now)) }
+    ensures nodes { IfOk result (λ _. AddsNodes texts.new nodes.old.items nodes.new.items
+        (items_back line.now places.now)) }
     ensures grows { Grows texts.old texts.new }
     ensures few { length texts.new ≤ length texts.old + length places.now }
 {
@@ -145,12 +147,14 @@ impl RawReader {
         requires plain { HasNoFeed line.now }
         requires names { length names.old < 2 ^ 32 - 1 }
         requires texts { length texts.old + length line.now < 2 ^ 32 - 1 }
-        ensures line { AddsLine names.old names.new texts.new raw.old raw.new result (rule_line scale line.now) }
+        ensures line { AddsLine names.old names.new texts.new raw.old raw.new result
+            (rule_line scale line.now) }
         ensures names { Grows names.old names.new }
         ensures texts { Grows texts.old texts.new }
         ensures few_names { length names.new ≤ length names.old + 1 }
         ensures few_texts { length texts.new ≤ length texts.old + length line.now }
-        ensures few_nodes { OnOk result (length raw.new.nodes.items ≤ length raw.old.nodes.items + length line.now) }
+        ensures few_nodes { OnOk result (length raw.new.nodes.items
+            ≤ length raw.old.nodes.items + length line.now) }
     {
         if !read_tokens(line, &mut self.tokens)? {
             return Err(LineError::Fault(FaultKind::BadToken));
@@ -201,7 +205,8 @@ pub(crate) fn read_rules(
     requires number { first ≤ start + 1 }
     requires names { length names.old + length bytes.now < 2 ^ 32 - 1 }
     requires texts { length texts.old + length bytes.now < 2 ^ 32 - 1 }
-    ensures rules { IsRawFile names.old names.new texts.new result (rules_from scale first (lines_of (drop start bytes.now))) }
+    ensures rules { IsRawFile names.old names.new texts.new result
+        (rules_from scale first (lines_of (drop start bytes.now))) }
     ensures few { IfOk result (λ raw. length raw.nodes.items ≤ length bytes.now) }
 {
     let mut reader = RawReader::new(alloc);

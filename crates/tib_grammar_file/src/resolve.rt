@@ -39,7 +39,8 @@ fn resolve_item(
     requires text { item.text < length texts.now }
     requires plain { Each HasNoFeed texts.now }
     requires room { length labels.old < 2 ^ 32 - 1 }
-    ensures item { IfOk result (λ s. (i : ItemOf) → IsRaw texts.now item i → IsNode names.now labels.new (pair_of s) i) }
+    ensures item { IfOk result (λ s. (i : ItemOf) → IsRaw texts.now item i →
+        IsNode names.now labels.new (pair_of s) i) }
     ensures added { IfOk result (λ s. AddsSymbol labels.old (pair_of s).0 labels.new) }
     ensures few { length labels.new ≤ length labels.old + 1 }
     ensures grows { Grows labels.old labels.new }
@@ -63,7 +64,8 @@ fn resolve_items(
     requires texts { All (λ r. r.text < length texts.now) items.now }
     requires plain { Each HasNoFeed texts.now }
     requires room { length labels.old + length items.now < 2 ^ 32 - 1 }
-    ensures items { IfOk result (λ ss. (is : List ItemOf) → Along (IsRaw texts.now) items.now is → Along (IsNode names.now labels.new) (pairs_of ss.items) is) }
+    ensures items { IfOk result (λ ss. (is : List ItemOf) → Along (IsRaw texts.now) items.now is →
+        Along (IsNode names.now labels.new) (pairs_of ss.items) is) }
     ensures long { IfOk result (λ ss. length ss.items ≡ length items.now) }
     ensures added { IfOk result (λ ss. AddsSymbols labels.old (pairs_of ss.items) labels.new) }
     ensures few { length labels.new ≤ length labels.old + length items.now }
@@ -89,7 +91,8 @@ fn resolve_side(
     requires few { length items.now ≤ most_nodes }
     requires plain { Each HasNoFeed texts.now }
     requires room { length labels.old + length items.now < 2 ^ 32 - 1 }
-    ensures side { IfOk result (λ s. (is : List ItemOf) → Along (IsRaw texts.now) items.now is → Along (IsNode names.now labels.new) (preorder_of s) is) }
+    ensures side { IfOk result (λ s. (is : List ItemOf) → Along (IsRaw texts.now) items.now is →
+        Along (IsNode names.now labels.new) (preorder_of s) is) }
     ensures added { IfOk result (λ s. AddsSymbols labels.old (preorder_of s) labels.new) }
     ensures few { length labels.new ≤ length labels.old + length items.now }
     ensures grows { Grows labels.old labels.new }
@@ -114,7 +117,8 @@ fn resolve_rule(
     requires few { length items.now ≤ most_nodes }
     requires plain { Each HasNoFeed texts.now }
     requires room { length labels.old + length items.now < 2 ^ 32 - 1 }
-    ensures rule { IfOk result (λ r. (line : RuleLine) → IsRawRule names.now rule line → Along (IsRaw texts.now) items.now line.nodes → IsRule names.now labels.new r line) }
+    ensures rule { IfOk result (λ r. (line : RuleLine) → IsRawRule names.now rule line →
+        Along (IsRaw texts.now) items.now line.nodes → IsRule names.now labels.new r line) }
     ensures added { IfOk result (λ r. AddsSymbols labels.old (preorder_of r.right) labels.new) }
     ensures few { length labels.new ≤ length labels.old + length items.now }
     ensures grows { Grows labels.old labels.new }
@@ -147,7 +151,9 @@ pub(crate) fn resolve_rules(
     requires raw { (lines : List RuleLine) × IsRawGrammarOf names.now texts.now raw.now lines }
     requires plain { Each HasNoFeed texts.now }
     requires room { length labels.old + length raw.now.nodes.items < 2 ^ 32 - 1 }
-    ensures rules { IfOk result (λ rs. (lines : List RuleLine) → IsRawGrammarOf names.now texts.now raw.now lines → Along (IsRule names.now labels.new) rs.items lines) }
+    ensures rules { IfOk result (λ rs. (lines : List RuleLine) →
+        IsRawGrammarOf names.now texts.now raw.now lines →
+        Along (IsRule names.now labels.new) rs.items lines) }
     ensures added { IfOk result (λ rs. AddsRules labels.old rs.items labels.new) }
     ensures few { length labels.new ≤ length labels.old + length raw.now.nodes.items }
     ensures grows { Grows labels.old labels.new }

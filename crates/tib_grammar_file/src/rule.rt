@@ -21,7 +21,8 @@ pub(crate) struct Found {
 }
 
 fn weight_token(hash: Token, name: Token) -> Option<Token>
-    ensures text { (line : List ℕ) → last_two (word_at line hash ∷ word_at line name ∷ []) ≡ text_at line result }
+    ensures text { (line : List ℕ) → last_two (word_at line hash ∷ word_at line name ∷ [])
+        ≡ text_at line result }
     ensures same { IfSome result (λ t. t ≡ name) }
 {
     match hash.kind {
@@ -58,7 +59,9 @@ fn tree_tokens(rest: &[Token], weight: Option<Token>) -> &[Token]
 }
 
 fn arrow_after(left: Token, arrow: Token) -> Option<Token>
-    ensures text { (line : List ℕ) → (words : List Word) → head_of (word_at line left ∷ word_at line arrow ∷ words) ≡ option_map (λ t. (text_of (word_at line t), words)) result }
+    ensures text { (line : List ℕ) → (words : List Word) →
+        head_of (word_at line left ∷ word_at line arrow ∷ words)
+        ≡ option_map (λ t. (text_of (word_at line t), words)) result }
     ensures same { IfSome result (λ t. t ≡ left) }
 {
     match left.kind {
@@ -72,7 +75,8 @@ fn arrow_after(left: Token, arrow: Token) -> Option<Token>
 
 // The token of the left state, if an arrow follows it.
 fn head_token(tokens: &[Token]) -> Option<Token>
-    ensures head { (line : List ℕ) → head_of (words_at line tokens.now) ≡ option_map (λ t. (text_of (word_at line t), words_at line (drop 2 tokens.now))) result }
+    ensures head { (line : List ℕ) → head_of (words_at line tokens.now)
+        ≡ option_map (λ t. (text_of (word_at line t), words_at line (drop 2 tokens.now))) result }
     ensures long { IfSome result (λ t. 2 ≤ length tokens.now) }
     ensures lies { (long : ℕ) → All (Lies long) tokens.now → WeightLies long result }
 {
@@ -104,8 +108,10 @@ pub(crate) fn read_parts(
 ) -> Result<Option<Found>, AllocError>
     requires few { length tokens.now < 2 ^ 32 - 1 }
     requires lie { All (Lies (length line.now)) tokens.now }
-    ensures parts { IfOk result (λ found. parts_of (words_at line.now tokens.now) ≡ found_parts line.now reader.new.places.items found) }
-    ensures lies { IfOk result (λ found. FoundLies (length line.now) reader.new.places.items found) }
+    ensures parts { IfOk result (λ found. parts_of (words_at line.now tokens.now)
+        ≡ found_parts line.now reader.new.places.items found) }
+    ensures lies { IfOk result (λ found. FoundLies (length line.now) reader.new.places.items
+        found) }
 {
     let Some(left) = head_token(tokens) else {
         return Ok(None);

@@ -95,8 +95,8 @@ fn find_start(alloc: Global, bytes: &[u8], names: &mut Labels) -> Result<Begun, 
     }))
 }
 
-/// The rules of a grammar file. The names of its states go into one table, and the texts in its trees into another; both
-/// are empty before.
+/// The rules of a grammar file. The names of its states go into one table, and the texts in its
+/// trees into another; both are empty before.
 pub(crate) fn read_raw(
     alloc: Global,
     scale: Scale,

@@ -2,12 +2,13 @@
 ghost use Rattle.std.specs.Prelude.{◌≡◌, ◌≤◌, ◌<◌, ◌+◌, ℕ, length, Some, None, min, ◌==◌, ◌*◌, ◌-◌, true};
 ghost use Rattle.std.specs.List.{list_all};
 ghost use Rattle.std.specs.Option.{option_map};
-ghost use Rattle.tib_grammar_file.specs.Weight.{is_digit as spec_is_digit, is_zero_digit, whole, cost_of};
+ghost use Rattle.tib_grammar_file.specs.Weight.{is_digit as spec_is_digit, is_zero_digit, whole, cost_of, too_large};
 
-use tib_cost::{Boolean, Cost, Scale, Semiring};
+use tib_cost::{Boolean, Cost, MOST, Scale, Semiring};
 use tib_lex::FaultKind;
 
-const TOO_LARGE: u64 = 1_000_000_000_000_001;
+// The least number that is no weight.
+const TOO_LARGE: u64 = MOST + 1;
 
 /// The cost of a rule without a weight, which is the same in each semiring.
 pub(crate) fn one() -> Cost
@@ -31,8 +32,8 @@ fn are_zeros(bytes: &[u8]) -> bool
 // One more digit, or the least number that is too large.
 fn next_value(value: u64, byte: u8) -> u64
     requires digit { spec_is_digit byte ≡ true }
-    requires small { value ≤ 1000000000000001 }
-    ensures { result ≡ min (10 * value + (byte - 48)) 1000000000000001 }
+    requires small { value ≤ too_large }
+    ensures { result ≡ min (10 * value + (byte - 48)) too_large }
 {
     let next = 10 * value + (byte - 48) as u64;
     if next < TOO_LARGE { next } else { TOO_LARGE }
@@ -40,7 +41,7 @@ fn next_value(value: u64, byte: u8) -> u64
 
 // The value of a whole number, or the least number that is too large.
 fn read_whole(text: &[u8]) -> Option<u64>
-    ensures { result ≡ option_map (λ n. min n 1000000000000001) (whole text.now) }
+    ensures { result ≡ option_map (λ n. min n too_large) (whole text.now) }
 {
     if text.is_empty() || !is_digit(text[0]) {
         return None;

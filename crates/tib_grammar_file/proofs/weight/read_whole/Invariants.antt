@@ -1,3 +1,4 @@
+use Rattle.tib_grammar_file.specs.Weight.{too_large}
 use Rattle.std.proofs.Common.{length, ◌-◌, ◌≤◌}
 use Rattle.tib_grammar_file.proofs.Weights.{Value}
 use Rattle.tib_grammar_file.proofs.weight.read_whole.Given as goal
@@ -5,7 +6,7 @@ use Rattle.tib_grammar_file.proofs.weight.read_whole.Given as goal
 abbrev pub invariant-loop-at : goal.invariant-loop-at
 invariant-loop-at l = record {
   within : l.at ≤ length l.text;
-  small : l.value ≤ 1000000000000001;
+  small : l.value ≤ too_large;
   value : Value l.text l.value l.at;
 }
 

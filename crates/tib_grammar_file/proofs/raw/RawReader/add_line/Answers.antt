@@ -6,9 +6,10 @@ use Rattle.tib_tree.specs.Shape.{items_back}
 use Rattle.tib_tree.proofs.Steps.{accepted, refused}
 use Rattle.tib_grammar_file.specs.Rule.{RuleLine, rule_line_of}
 use Rattle.tib_grammar_file.specs.Raw.{AddsNodes}
-use Rattle.tib_grammar_file.proofs.PartsRead.{some_found, bad_rule_line, blank_rule_line, no_rule_line, cost_failed, large_rule_line, good_rule_line, back_long, line_few}
+use Rattle.tib_grammar_file.proofs.PartsRead.{some_found, bad_rule_line, blank_rule_line, no_rule_line, cost_failed, large_rule_line, good_rule_line, line_few}
 use Rattle.tib_grammar_file.proofs.RawRead.{nodes_long}
 use Rattle.tib_grammar_file.proofs.raw.RawReader.add_line.Goals as goal
+use Rattle.tib_tree.proofs.LineRead.{back_long}
 
 pub returns-then-not-branch-clause-line : goal.returns-then-not-branch-clause-line
 returns-then-not-branch-clause-line c =
