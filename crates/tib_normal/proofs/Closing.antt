@@ -5,7 +5,7 @@ use Rattle.std.proofs.lemmas.List.Elements.{Contains-push, Contains-append_left}
 use Rattle.std.proofs.lemmas.List.{get_or-set_other}
 use Rattle.std.proofs.Math.Nat.{suc-mul}
 use Rattle.tib_grammar.specs.Sides.{Lone}
-use Rattle.tib_grammar.specs.Range.{AreInRange}
+use Rattle.tib_grammar.specs.Range.{AreInRange, AreBelow}
 use Rattle.tib_grammar.specs.Run.{rule_at}
 use Rattle.tib_grammar.specs.declared.Rule.{Rule}
 use Rattle.tib_cost.specs.Semiring.{ProductLaws, most, cut}
@@ -13,10 +13,12 @@ use Rattle.tib_cost.specs.Least.{IsLeast}
 use Rattle.tib_cost.proofs.Least.{cut-cases}
 use Rattle.tib_normal.specs.NormalForm.{IsChain, chain_cost}
 use Rattle.tib_normal.specs.Offers.{IsOffer, no_side}
-use Rattle.tib_normal.specs.Closure.{LeadsTo, Waits, HasOrWaits, IsClosing, Spreads, IsStep, AreListed, AreBelow}
+use Rattle.tib_normal.specs.Closure.{LeadsTo, Waits, HasOrWaits, IsClosing, Spreads, IsStep, AreListed}
 use Rattle.tib_normal.specs.Entries.{AddsEntry, TakesLeast}
 use Rattle.tib_normal.specs.Links.{IsNext, no_key}
 use Rattle.tib_normal.specs.Ways.{AreEnds}
+use Rattle.tib_normal.specs.Entries.{unset}
+use Rattle.tib_lex.proofs.Numbers.{same_or_other}
 
 -- a state at which a side has a cost is in range
 pub offer-below :
@@ -143,16 +145,13 @@ module _ {levelled weighted : Bool} {product : ℕ → ℕ → ℕ} (laws : Prod
         told r c (inl k) = inl k
         told r c (inr w) = has r c (waits_on e rest t r c w)
 
-    same_or : (r p : ℕ) → (r ≡ p) ⊎ (r ≡ p → ⊥)
-    same_or r p = grind arith
-
     -- the state of the least entry gets its cost, and the left states of the chain rules to it wait
     pub settled :
         (ends : List ℕ) (e : ℕ × ℕ) (rest new : List (ℕ × ℕ)) (after : ℕ → Option ℕ) → AreEnds rules ends → e.1 < no_key → TakesLeast entries e rest → costs e.1 ≡ None →
         Spreads product rules ends e.1 e.0 (length rules) rest new → after e.1 ≡ Some e.0 → ((r : ℕ) → (r ≡ e.1 → ⊥) → after r ≡ costs r) →
         IsClosing product rules numbers s after new
     settled ends e rest new after are few t unknown spreads here others = record {
-      exact = λ r d h. exact r d h (same_or r e.1);
+      exact = λ r d h. exact r d h (same_or_other r e.1);
       offers = λ x h. elim (spreads.only x h) [
         | inl k ↦ closing.offers x (t.only x k)
         | inr k ↦
@@ -161,7 +160,7 @@ module _ {levelled weighted : Bool} {product : ℕ → ℕ → ℕ} (laws : Prod
             let offer = extends (rule_at rules k.0).left k.0 e.1 e.0 (closing.offers e t.held).0 (record { below = k.1; left = refl; right = right }) in
             (subst (λ z. IsOffer product rules numbers x.1 s z) k.4 (subst (λ z. IsOffer product rules numbers z s (product e.0 (rule_at rules k.0).cost)) k.3 offer), k.5)
       ];
-      covered = λ p d n r k l b. covered p d n r k l b (same_or r e.1);
+      covered = λ p d n r k l b. covered p d n r k l b (same_or_other r e.1);
       start = λ n h k b. told (rule_at rules n).left (rule_at rules n).cost (closing.start n h k b);
     }
       where
@@ -282,11 +281,6 @@ pub spread-all :
     Spreads product rules keys key d (length rules) old new
 spread-all product rules keys key d m old new h k spreads = subst (λ z. Spreads product rules keys key d z old new) (omega (arith, h, k)) spreads
 
--- one for a state without a cost
-abbrev pub unset : Option ℕ → ℕ
-unset None = 1
-unset (Some d) = 0
-
 pub unset_one : (o : Option ℕ) → o ≡ None → unset o ≡ 1
 unset_one None e = refl
 unset_one (Some d) e = absurd (cc)
@@ -307,7 +301,7 @@ below-more n [] state h b (suc i) l = absurd (omega arith)
 below-more n (x ∷ reached) state h b zero l = b 0 (omega arith)
 below-more n (x ∷ reached) state h b (suc i) l = below-more n reached state h (λ j k. b (suc j) (omega arith)) i (omega arith)
 
--- what is settled and what waits together grow less
+-- the states without a cost and the entries together become fewer
 pub fewer-left : (u v n a r l : ℕ) → u + 1 ≡ v → a ≤ r + n → r + 1 ≡ l → a + u * (n + 1) < l + v * (n + 1)
 fewer-left u v n a r l e b k =
     let more : v * (n + 1) ≡ u * (n + 1) + (n + 1) = ap (λ z. z * (n + 1)) (sym e ∙ add-one u) ∙ suc-mul u (n + 1) in

@@ -1,12 +1,11 @@
 -- The costs of runs of a grammar in normal form: the first rule named, and lists of trees cut and joined.
-use Rattle.std.specs.Prelude.{◌≡◌, ℕ, ◌<◌, ◌≤◌, List, [], ◌∷◌, ◌++◌, length, take, drop, Bool, refl}
+use Rattle.std.specs.Prelude.{◌≡◌, ℕ, ◌≤◌, List, [], ◌∷◌, ◌++◌, take, drop, Bool, refl}
 use Rattle.std.proofs.Common.{zero, suc, arith, ap, sym, ◌∙◌, subst}
 use Rattle.tib_tree.specs.Trees.{Trees, none, tree, count, join, first_trees, other_trees}
-use Rattle.tib_grammar.specs.Sides.{Symbol, label, hole, holes}
-use Rattle.tib_grammar.specs.Run.{rule_at, IsCost}
+use Rattle.tib_grammar.specs.Run.{IsCost}
 use Rattle.tib_grammar.specs.Forms.{AreNormal}
 use Rattle.tib_grammar.specs.declared.Rule.{Rule}
-use Rattle.tib_grammar.proofs.NormalRuns.{BeginsBelow, split_all, merge_all, begin, none_to, IsLeast-no_states}
+use Rattle.tib_grammar.proofs.NormalRuns.{split_all, merge_all, none_to, IsLeast-no_states}
 use Rattle.tib_grammar.proofs.Best.{no_trees, no_states}
 use Rattle.tib_cost.specs.Semiring.{ProductLaws}
 

@@ -1,21 +1,19 @@
 -- The parts of places, counted item by item.
-use Rattle.std.specs.Prelude.{◌≡◌, ℕ, ◌+◌, ◌<◌, ◌≤◌, List, [], ◌∷◌, ◌++◌, length, take, drop, refl, sum_by}
+use Rattle.std.specs.Prelude.{◌≡◌, ℕ, ◌+◌, ◌<◌, ◌≤◌, List, [], ◌∷◌, length, take, drop, refl, sum_by}
 use Rattle.std.proofs.Common.{length-append, suc, get_or, arith, ap, ◌∙◌}
 use Rattle.std.proofs.lemmas.List.Sums.{sum_by-cons, sum_by_more, sum_by-take-le}
 use Rattle.tib_tree.specs.Trees.{Trees, none, tree, count, sizes, join, first_trees, other_trees, parse, HasChildren, join_parts, count-first, preorder_of}
-use Rattle.tib_grammar.specs.Sides.{Symbol, label, hole, Side as SideFor}
+use Rattle.tib_grammar.specs.Sides.{Symbol, label, hole, Side as SideFor, labels_in}
 use Rattle.tib_grammar.specs.Items.{pairs_of, pair_of}
 use Rattle.tib_grammar.specs.Run.{rule_at, no_rule}
 use Rattle.tib_grammar.specs.declared.Item.{Item}
 use Rattle.tib_grammar.specs.declared.Item.TheVariants.{Label, Hole}
 use Rattle.tib_grammar.specs.declared.Rule.{Rule}
-use Rattle.tib_normal.specs.NormalForm.{labels_in, heads, inner_rules, all_inner, rule_parts, total, normal_parts}
+use Rattle.tib_normal.specs.NormalForm.{heads, inner_rules, all_inner, rule_parts, normal_parts}
 use Rattle.tib_normal.specs.Places.{parts_in, own_parts, parts_below, place_parts}
 use Rattle.tib_normal.proofs.Placing.{below-kids, nested-kids}
-
-total-append : {A : Type 0} (parts : A → ℕ) (xs ys : List A) → total parts (xs ++ ys) ≡ total parts xs + total parts ys
-total-append parts [] ys = omega arith
-total-append parts (x ∷ xs) ys = omega (arith, total-append parts xs ys)
+use Rattle.tib_lex.proofs.Lists.{total_append}
+use Rattle.tib_lex.specs.Lists.{total}
 
 sizes-heads : (s : ℕ) (k : Trees (Symbol ℕ ℕ)) → sizes (heads s k) ≡ count k
 sizes-heads s none = refl
@@ -29,14 +27,14 @@ parts-inner s (tree (hole q) kids rest) = parts-inner s rest
 parts-inner s (tree (label f) kids rest) =
     let a : List (Rule ℕ) = inner_rules (suc s) kids in
     let b : List (Rule ℕ) = inner_rules (suc s + labels_in kids) rest in
-    omega (arith, length-append a b, total-append rule_parts a b, sizes-heads (suc s) kids, parts-inner (suc s) kids, parts-inner (suc s + labels_in kids) rest)
+    omega (arith, length-append a b, total_append rule_parts a b, sizes-heads (suc s) kids, parts-inner (suc s) kids, parts-inner (suc s + labels_in kids) rest)
 
 parts-all : (s : ℕ) (rules : List (Rule ℕ)) → length (all_inner s rules) + total rule_parts (all_inner s rules) ≡ sum_by place_parts rules
 parts-all s [] = refl
 parts-all s (r ∷ rules) =
     let a : List (Rule ℕ) = inner_rules s r.right.kids in
     let b : List (Rule ℕ) = all_inner (s + labels_in r.right.kids) rules in
-    omega (arith, length-append a b, total-append rule_parts a b, sum_by-cons place_parts r rules, parts-inner s r.right.kids, parts-all (s + labels_in r.right.kids) rules)
+    omega (arith, length-append a b, total_append rule_parts a b, sum_by-cons place_parts r rules, parts-inner s r.right.kids, parts-all (s + labels_in r.right.kids) rules)
 
 -- the parts of the grammar's states and of all places
 pub normal-parts : (s : ℕ) (rules : List (Rule ℕ)) → normal_parts (s + length (all_inner s rules)) (all_inner s rules) ≡ s + sum_by place_parts rules

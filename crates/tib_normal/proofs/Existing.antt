@@ -11,15 +11,15 @@ use Rattle.tib_grammar.proofs.Members.{has_left, has_right, has_either}
 use Rattle.tib_normal.specs.NormalForm.{heads, all_inner, first_inner, Reaches, IsNormalForm, normal_parts}
 use Rattle.tib_normal.specs.Rows.{AreRows, AreOwn, HasMoreParts, HasFormWithin}
 use Rattle.tib_normal.proofs.Forming.{joined, form_of}
-
-last_or_before : (m n : ℕ) → m < suc n → (m < n) ⊎ (m ≡ n)
-last_or_before m n h = grind arith
+use Rattle.tib_lex.proofs.Booleans.{either_way}
+use Rattle.tib_lex.proofs.Numbers.{below_suc_cases}
+use Rattle.tib_grammar.proofs.Sides.{same_label}
 
 -- that a set of costs has no least value cannot be
 module _ (P : ℕ → Type 0) (never : (v : Option ℕ) → IsLeast P v → ⊥) where
   none_below : (n : ℕ) → (m : ℕ) → m < n → P m → m ≤ most → ⊥
   none_below zero m h p b = omega (arith, h)
-  none_below (suc n) m h p b = elim (last_or_before m n h) [
+  none_below (suc n) m h p b = elim (below_suc_cases m n h) [
     | inl k ↦ none_below n m k p b
     | inr e ↦ never (Some m) (record { attained = (p, b); lower = λ k q c. not_below m k (λ l. none_below n k (omega (arith, e)) q c) })
   ]
@@ -29,10 +29,6 @@ module _ (P : ℕ → Type 0) (never : (v : Option ℕ) → IsLeast P v → ⊥)
 
   pub has_least : ⊥
   has_least = never None (record { attained = tt; lower = λ n p b. none_below (suc n) n (omega arith) p b })
-
--- what holds where a fact does or does not hold
-either_way : (A : Type 0) → (A ⊎ (A → ⊥) → ⊥) → ⊥
-either_way A k = k (inr (λ a. k (inl a)))
 
 module _ (product : ℕ → ℕ → ℕ) (states : ℕ) (rules : List (Rule ℕ)) where
   -- the side of rule n in the normal form, where f is its label
@@ -63,7 +59,7 @@ module _ (product : ℕ → ℕ → ℕ) (states : ℕ) (rules : List (Rule ℕ)
     ascends = part.ascends;
     below = part.below;
     before = part.before;
-    here = λ m f c h. here m f c (last_or_before m n h);
+    here = λ m f c h. here m f c (below_suc_cases m n h);
   }
     where
       here :
@@ -127,9 +123,6 @@ module _ (product : ℕ → ℕ → ℕ) (states : ℕ) (rules : List (Rule ℕ)
       no_label : (p f : ℕ) → ◌≡◌ {A = Symbol ℕ ℕ} (hole p) (label f) → ⊥
       no_label p f e = absurd (cc)
 
-      same_label : (f g : ℕ) → ◌≡◌ {A = Symbol ℕ ℕ} (label f) (label g) → f ≡ g
-      same_label f g e = cc
-
       found : (f : ℕ) (now : List (Rule ℕ)) → ArePart q n now → (rule_at rules n).right.label ≡ label f → HasRow now q (side_from n f) → ⊥
       found f now so_far root row =
           k now (part_same q n now so_far (λ g c e r b. subst (λ z. HasRow now q (side_from n z)) (same_label f g (sym root ∙ e)) row))
@@ -160,7 +153,7 @@ module _ (product : ℕ → ℕ → ℕ) (states : ℕ) (rules : List (Rule ℕ)
     rows = part.rows;
     ascends = part.ascends;
     below = λ r h. omega (arith, part.below r h);
-    before = λ p side c h. before p side c (last_or_before p q h);
+    before = λ p side c h. before p side c (below_suc_cases p q h);
     here = λ m f c h. absurd (omega arith);
   }
     where

@@ -2,17 +2,17 @@
 use Rattle.std.specs.Prelude.{◌≡◌, ℕ, ◌+◌, ◌<◌, ◌≤◌, ◌⊎◌, List, [], ◌∷◌, ◌++◌, length, refl, Some, sum_by}
 use Rattle.std.proofs.Common.{zero, suc, arith, ap, sym, ◌∙◌, subst, inl, inr, length-append}
 use Rattle.tib_tree.specs.Trees.{Trees, none, tree}
-use Rattle.tib_lex.specs.Lists.{Has, Each, Ascends}
+use Rattle.tib_lex.specs.Lists.{Has, Each, Ascends, total}
 use Rattle.tib_cost.specs.Semiring.{most}
 use Rattle.tib_cost.specs.Least.{IsLeast}
-use Rattle.tib_grammar.specs.Sides.{Symbol, label, hole, Side as SideFor, Lone, holes, holes_of}
+use Rattle.tib_grammar.specs.Sides.{Symbol, label, hole, Side as SideFor, Lone, holes, holes_of, labels_in}
 use Rattle.tib_grammar.specs.Run.{rule_at, no_rule}
 use Rattle.tib_grammar.specs.Range.{AllBelow, IsInRange, AreInRange, AreLone}
 use Rattle.tib_grammar.specs.Forms.{AreNormal, IsNormalSide}
 use Rattle.tib_grammar.specs.declared.Rule.{Rule}
 use Rattle.tib_grammar.proofs.Members.{has_at, has_left, has_right, has_either}
 use Rattle.tib_grammar.proofs.Sides.{holes_of-label}
-use Rattle.tib_normal.specs.NormalForm.{labels_in, heads, inner_rules, all_inner, first_inner, Reaches, IsNormalCost, IsNormalForm, rule_parts, total, normal_parts}
+use Rattle.tib_normal.specs.NormalForm.{heads, inner_rules, all_inner, first_inner, Reaches, IsNormalCost, IsNormalForm, rule_parts, normal_parts}
 use Rattle.tib_normal.specs.Rows.{AreRows, AreOwn, AreTooMany, HasMoreParts, IfTooMany}
 use Rattle.tib_normal.specs.Places.{rule_labels}
 use Rattle.tib_normal.specs.declared.error.NormalError.{NormalError}
@@ -20,6 +20,7 @@ use Rattle.tib_normal.specs.declared.error.NormalError.TheVariants.{TooMany, Out
 use Rattle.tib_normal.specs.Rules.{IsNormal}
 use Rattle.tib_normal.proofs.Normalizing.{heads_holes, below_or_after, inner_is, all_low}
 use Rattle.tib_normal.proofs.Placing.{length-inner, length-all_inner}
+use Rattle.tib_lex.proofs.Lists.{each_append, each_weaker, total_append}
 
 -- lists
 
@@ -32,20 +33,12 @@ each_has P [] z e h = absurd h
 each_has P (x ∷ xs) z e (inl h) = subst P h e.0
 each_has P (x ∷ xs) z e (inr h) = each_has P xs z e.1 h
 
-each_append : {A : Type 0} (P : A → Type 0) (xs ys : List A) → Each P xs → Each P ys → Each P (xs ++ ys)
-each_append P [] ys a b = b
-each_append P (x ∷ xs) ys a b = (a.0, each_append P xs ys a.1 b)
-
 pub joined : {A : Type 0} (R : A → A → Type 0) (xs ys : List A) → Ascends R xs → Ascends R ys → ((x y : A) → Has xs x → Has ys y → R x y) → Ascends R (xs ++ ys)
 joined R [] ys a b h = b
 joined R (x ∷ xs) ys a b h = (
   each_append (R x) xs ys a.0 (each_of (R x) ys (λ y n. h x y (inl refl) n)),
   joined R xs ys a.1 b (λ y z m n. h y z (inr m) n),
 )
-
-each_weaker : {A : Type 0} (P Q : A → Type 0) (xs : List A) → ((x : A) → P x → Q x) → Each P xs → Each Q xs
-each_weaker P Q [] h e = tt
-each_weaker P Q (x ∷ xs) h e = (h x e.0, each_weaker P Q xs h e.1)
 
 weaker : {A : Type 0} (R T : A → A → Type 0) (xs : List A) → ((x y : A) → R x y → T x y) → Ascends R xs → Ascends T xs
 weaker R T [] h a = tt
@@ -78,10 +71,6 @@ total_fewer f R (x ∷ xs) ys n a h =
     total_fewer f R xs (without ys x m) n a.1 (λ z k. still ys x z m (h z (inr k)) (λ e. n x (subst (R x) (sym e) (each_has (R x) xs z a.0 k))))
     in
     omega (arith, rest, total_without f ys x m)
-
-pub total_append : {A : Type 0} (f : A → ℕ) (xs ys : List A) → total f (xs ++ ys) ≡ total f xs + total f ys
-total_append f [] ys = omega arith
-total_append f (x ∷ xs) ys = omega (arith, total_append f xs ys)
 
 -- states within range
 

@@ -3,26 +3,25 @@ use Rattle.std.specs.Prelude.{◌≡◌, ℕ, ◌+◌, ◌<◌, ◌≤◌, ◌�
 use Rattle.std.proofs.Common.{get_or, arith, ap, sym, ◌∙◌, subst, inl, inr}
 use Rattle.std.proofs.lemmas.List.{get_or-set_same, get_or-set_other, length-set}
 use Rattle.std.proofs.lemmas.List.Sums.{sum_by-set}
-use Rattle.tib_lex.specs.Lists.{Has}
-use Rattle.tib_grammar.specs.Range.{AreInRange}
+use Rattle.tib_lex.specs.Lists.{Has, total}
+use Rattle.tib_grammar.specs.Range.{AreInRange, AreBelow}
 use Rattle.tib_grammar.specs.declared.Rule.{Rule}
 use Rattle.tib_grammar.proofs.Members.{has_left, has_right, has_either}
 use Rattle.tib_cost.specs.Semiring.{ProductLaws, most}
 use Rattle.tib_cost.specs.Least.{IsLeast, AtMost}
-use Rattle.tib_normal.specs.NormalForm.{rule_parts, total}
+use Rattle.tib_normal.specs.NormalForm.{rule_parts}
 use Rattle.tib_normal.specs.Offers.{IsOffer}
-use Rattle.tib_normal.specs.Closure.{IsClosing, Skips, Settles, AreListed, AreBelow}
-use Rattle.tib_normal.specs.Entries.{TakesLeast}
+use Rattle.tib_normal.specs.Closure.{IsClosing, Skips, Settles, AreListed}
+use Rattle.tib_normal.specs.Entries.{TakesLeast, unset}
 use Rattle.tib_normal.specs.Links.{no_key}
 use Rattle.tib_normal.specs.Ways.{AreEnds}
 use Rattle.tib_normal.specs.Gathered.{AreOther, AreLeastRows, AreGathered, HaveMoreParts, row_parts, rule_of}
 use Rattle.tib_normal.specs.declared.row.Row.{Row}
 use Rattle.tib_normal.specs.declared.spread.Spread.{Spread}
-use Rattle.tib_normal.proofs.Forming.{joined, total_append}
-use Rattle.tib_normal.proofs.Closing.{unset, unset_one, fewer-left, listed-more, below-more, offer-below, popped, skipped, settled, ended}
-
-same_or : (r p : ℕ) → (r ≡ p) ⊎ (r ≡ p → ⊥)
-same_or r p = grind arith
+use Rattle.tib_normal.proofs.Forming.{joined}
+use Rattle.tib_normal.proofs.Closing.{unset_one, fewer-left, listed-more, below-more, offer-below, popped, skipped, settled, ended}
+use Rattle.tib_lex.proofs.Lists.{total_append}
+use Rattle.tib_lex.proofs.Numbers.{same_or_other}
 
 same_or_more : (t s : ℕ) → s ≤ t → (t ≡ s) ⊎ (s < t)
 same_or_more t s h = grind arith
@@ -113,7 +112,7 @@ module _ {levelled weighted : Bool} {product : ℕ → ℕ → ℕ} (laws : Prod
       IsGathering product rules numbers s sides states after (rows ++ row q s c ∷ [])
   gathering-more costs after rows q c gathering unknown below side_below least here others = record {
     are = rows-more costs rows q c gathering unknown below side_below least;
-    told = λ r d e. told r d e (same_or r q);
+    told = λ r d e. told r d e (same_or_other r q);
     own = λ x h. own x (has_either rows (row q s c ∷ []) x h);
     whole = λ p t m h b o k. let found = gathering.whole p t m h b o k in (found.0, has_left rows (row q s c ∷ []) (row p t found.0) found.1);
   }
@@ -130,7 +129,7 @@ module _ {levelled weighted : Bool} {product : ℕ → ℕ → ℕ} (laws : Prod
       kept x e (inr k) = others x.state k ∙ e
 
       own : (x : Row) → Has rows x ⊎ Has (row q s c ∷ []) x → (s < x.side) ⊎ ((x.side ≡ s) × (after x.state ≡ Some x.cost))
-      own x (inl h) = elim (gathering.own x h) [ inl k ↦ inl k | inr k ↦ inr (k.0, kept x k.1 (same_or x.state q)) ]
+      own x (inl h) = elim (gathering.own x h) [ inl k ↦ inl k | inr k ↦ inr (k.0, kept x k.1 (same_or_other x.state q)) ]
       own x (inr (inl e)) =
           subst (λ (y : Row). (s < y.side) ⊎ ((y.side ≡ s) × (after y.state ≡ Some y.cost))) e (inr (refl, here))
       own x (inr (inr a)) = absurd a

@@ -1,11 +1,11 @@
 -- Rules that agree as numbers agree in both sides.
-use Rattle.std.specs.Prelude.{◌≡◌, ℕ, ◌+◌, ◌<◌, ◌≤◌, ◌⊎◌, nat_eq, not, cond, Bool, true, false, List, [], ◌∷◌, length, map, refl}
+use Rattle.std.specs.Prelude.{◌≡◌, ℕ, ◌+◌, ◌<◌, ◌≤◌, nat_eq, not, cond, Bool, true, false, List, [], ◌∷◌, length, map, refl}
 use Rattle.std.specs.Global.{Vec}
 use Rattle.std.specs.Cmp.Lexicographic.{pointwise}
 use lib.Pointwise.{bytes_decides}
 use Rattle.tib_lex.specs.Lists.{Ascends}
 use Rattle.tib_grammar.specs.Run.{rule_at, no_rule}
-use Rattle.tib_normal.proofs.Pairwise.{Ascends-at, Ascends-from}
+use Rattle.tib_normal.proofs.Pairwise.{Ascends-at}
 use Rattle.std.proofs.Common.{suc, arith, ap, sym, ◌∙◌, subst, inl, inr, true≢false}
 use Rattle.tib_tree.specs.Trees.{Trees, none, tree, count, preorder, preorder_of, parse_of_preorder, parse}
 use Rattle.tib_grammar.specs.Sides.{Symbol, label, hole, Side as SideFor, AreHoles}
@@ -16,6 +16,9 @@ use Rattle.tib_grammar.specs.declared.Item.{Item}
 use Rattle.tib_grammar.specs.declared.Item.TheVariants.{Label, Hole}
 use Rattle.tib_grammar.specs.declared.Rule.{Rule}
 use Rattle.tib_normal.specs.Keys.{number_in, number_of, key_of, IsWritten}
+use Rattle.tib_lex.proofs.Lists.{Ascends-from, head_is, tail_is}
+use Rattle.tib_grammar.proofs.Sides.{label_is_no_hole}
+use Rattle.tib_lex.proofs.Numbers.{below_cases}
 
 number_of-pair : (x : Item ℕ) → number_in x ≡ number_of (pair_of x).0
 number_of-pair (Label f rank) = refl
@@ -25,22 +28,13 @@ pub numbers : (items : List (Item ℕ)) → map number_in items ≡ map (λ p. n
 numbers [] = refl
 numbers (x ∷ items) = rw (number_of-pair x, numbers items)
 
-head_is : {A : Type 0} {x y : A} {xs ys : List A} → x ∷ xs ≡ y ∷ ys → x ≡ y
-head_is e = cc
-
-tail_is : {A : Type 0} {x y : A} {xs ys : List A} → x ∷ xs ≡ y ∷ ys → xs ≡ ys
-tail_is e = cc
-
-apart : (f p : ℕ) → ◌≡◌ {A = Symbol ℕ ℕ} (label f) (hole p) → ⊥
-apart f p e = absurd (cc)
-
 -- holes alone are as their states in a row
 leaves : (items : List (Item ℕ)) (kids : Trees (Symbol ℕ ℕ)) → pairs_of items ≡ preorder kids → AreHoles kids → preorder kids ≡ map (λ q. (hole q, 0)) (map (λ p. number_of p.0) (preorder kids))
 leaves [] none e a = refl
 leaves [] (tree s ks rest) e a = absurd (cc)
 leaves (x ∷ items) none e a = absurd (cc)
 leaves (x ∷ items) (tree (label f) ks rest) e a = absurd a
-leaves (Label f r ∷ items) (tree (hole p) ks rest) e a = absurd (apart f p (ap (λ x. x.0) (head_is e)))
+leaves (Label f r ∷ items) (tree (hole p) ks rest) e a = absurd (label_is_no_hole f p (ap (λ x. x.0) (head_is e)))
 leaves (Hole q ∷ items) (tree (hole p) none rest) e a = ap (λ x. (hole p, 0) ∷ x) (leaves items rest (tail_is e) a)
 leaves (Hole q ∷ items) (tree (hole p) (tree s ks more) rest) e a =
     let no_kids : 0 ≡ suc (count more) = ap (λ x. x.1) (head_is e) in
@@ -76,9 +70,6 @@ rule_known r s n m w v e = (head_is e, side_known r.right s.right n m w v (tail_
 
 pub key_of-same : (r s : Rule ℕ) → r.left ≡ s.left → r.right ≡ s.right → key_of r ≡ key_of s
 key_of-same r s e k = rw (e, k)
-
-below_cases : (n m : ℕ) → n < m + 1 → (n < m) ⊎ (n ≡ m)
-below_cases n m h = grind arith
 
 module _ (rules : List (Rule ℕ)) where
   -- each key of a set is that of an earlier rule
@@ -120,8 +111,8 @@ module _ (rules : List (Rule ℕ)) where
   AreApart i = (m n : ℕ) → m < n → n < i → key_of (rule_at rules m) ≡ key_of (rule_at rules n) → ⊥
 
   pub apart-more : (has : Vec ℕ → Bool) (i : ℕ) (v : Vec ℕ) → v.items ≡ key_of (rule_at rules i) → AreHeld has i → true ≡ not (has v) → AreApart i → AreApart (i + 1)
-  apart-more has i v is held new apart m n h k e = elim (below_cases n i k) [
-    | inl l ↦ apart m n h l e
+  apart-more has i v is held new label_is_no_hole m n h k e = elim (below_cases n i k) [
+    | inl l ↦ label_is_no_hole m n h l e
     | inr s ↦
         let had : has v ≡ true = held m v (omega arith) (e ∙ ap (λ j. key_of (rule_at rules j)) s ∙ sym is) in
         true≢false (new ∙ ap not had)
@@ -147,6 +138,6 @@ module _ (rules : List (Rule ℕ)) where
       twice false e = absurd (cc)
 
   pub distinct : (i : ℕ) → length rules ≤ i → AreApart i → Ascends (λ (r s : Rule ℕ). r.left ≡ s.left → r.right ≡ s.right → ⊥) rules
-  distinct i h apart =
+  distinct i h label_is_no_hole =
       Ascends-from (λ (r s : Rule ℕ). r.left ≡ s.left → r.right ≡ s.right → ⊥) rules no_rule
-      (λ m n b k l r. apart m n b (omega arith) (key_of-same (rule_at rules m) (rule_at rules n) l r))
+      (λ m n b k l r. label_is_no_hole m n b (omega arith) (key_of-same (rule_at rules m) (rule_at rules n) l r))

@@ -4,7 +4,7 @@ use Rattle.std.proofs.Common.{zero, suc, arith, ap, sym, ◌∙◌, subst, inl, 
 use Rattle.std.proofs.Math.Seq.{take-append_seam, drop-append_seam}
 use Rattle.tib_tree.specs.Trees.{Tree, Trees, none, tree, count, sizes, join, only, first_trees, other_trees, count-first, count-other, first-join, other-join, count-join, join-none}
 use Rattle.tib_tree.proofs.Sizing.{sizes-join}
-use Rattle.tib_grammar.specs.Sides.{Symbol, label, hole, Side as SideFor, Lone, holes, holes_of, fill, AreHoles}
+use Rattle.tib_grammar.specs.Sides.{Symbol, label, hole, Side as SideFor, Lone, holes, holes_of, fill, AreHoles, labels_in}
 use Rattle.tib_grammar.specs.Run.{rule_at, no_rule, AreRuns, yields, cost, IsCost}
 use Rattle.tib_grammar.specs.Series.{IsSeriesAt}
 use Rattle.tib_grammar.specs.Range.{AllBelow, AreInRange, AreLone}
@@ -17,8 +17,10 @@ use Rattle.tib_grammar.proofs.Best.{no_trees, no_states}
 use Rattle.tib_cost.specs.Semiring.{ProductLaws, most}
 use Rattle.tib_cost.proofs.Least.{IsLeast-dominated, at_least_right, grows_both}
 use Rattle.tib_lex.specs.Lists.{Has}
-use Rattle.tib_normal.specs.NormalForm.{labels_in, IsChain, chain_cost, heads, inner_rules, all_inner, first_inner, Reaches, IsNormalCost, IsNormalForm}
-use Rattle.tib_normal.proofs.Costs.{same_label, open_cost, cut_costs, join_costs}
+use Rattle.tib_normal.specs.NormalForm.{IsChain, chain_cost, heads, inner_rules, all_inner, first_inner, Reaches, IsNormalCost, IsNormalForm}
+use Rattle.tib_grammar.proofs.Sides.{one_label}
+use Rattle.tib_grammar.proofs.Opening.{open_cost}
+use Rattle.tib_normal.proofs.Costs.{cut_costs, join_costs}
 
 -- heads, and the rules of places
 
@@ -267,7 +269,7 @@ module _
       ] in
       let side : (rule_at new p.rule).right ≡ record { label = label g; kids = heads (suc s) kids } = ap (λ r. r.right) is in
       let free_cost : (rule_at new p.rule).cost ≡ 0 = ap (λ r. r.cost) is in
-      let g_is : g ≡ f = same_label g f (rule_at new p.rule).right.label (ap (λ r. r.label) side) p.root in
+      let g_is : g ≡ f = one_label g f (rule_at new p.rule).right.label (ap (λ r. r.label) side) p.root in
       let x = unwrap (suc s) kids (omega arith) (λ r i. all r (stands_below s g kids rest r i)) us p.inner
       (subst (λ k. IsCost product new (holes k.kids) us p.inner) side p.kids_cost)
       in
@@ -450,7 +452,7 @@ module _
             let n : ℕ = e.rule in
             let k : Trees (Symbol ℕ ℕ) = (rule_at rules n).right.kids in
             let s : ℕ = first_inner states rules n in
-            let root : e.root ≡ f = same_label e.root f (rule_at new o.rule).right.label (ap (λ z. z.label) e.is_side) o.root in
+            let root : e.root ≡ f = one_label e.root f (rule_at new o.rule).right.label (ap (λ z. z.label) e.is_side) o.root in
             let u = unwrap s k (first_low states rules n) (λ t i. inner_in states rules n t e.below i) kids o.inner
             (subst (λ z. IsCost product new (holes z.kids) kids o.inner) e.is_side o.kids_cost)
             in

@@ -27,6 +27,7 @@ use Rattle.tib_normal.specs.Numbering.{AreApart, GetsNumber, IsNumbered}
 use Rattle.tib_normal.proofs.Placing.{heads-leaves, sum-more, below-kids}
 use Rattle.tib_normal.proofs.LoneSides.{root_of}
 use Rattle.tib_lex.proofs.Booleans.{bool_cases}
+use Rattle.tib_grammar.proofs.Sides.{same_label}
 
 -- whether two lists of numbers are the same
 abbrev pub same_list : Vec ℕ → Vec ℕ → Bool
@@ -73,9 +74,6 @@ gets_number side n number old new before after inserted stored distinct given =
 apart_roots : (f q : ℕ) → ◌≡◌ {A = Symbol ℕ ℕ} (label f) (hole q) → ⊥
 apart_roots f q e = absurd (cc)
 
-same_roots : (f g : ℕ) → ◌≡◌ {A = Symbol ℕ ℕ} (label f) (label g) → f ≡ g
-same_roots f g e = cc
-
 -- a rule whose first item is a label, over the states at the roots of what stands below
 pub numbered-own :
     (items : List (Item ℕ)) (rule : Rule ℕ) (n first f rank count : ℕ) (side stack : List ℕ) (old new : List (List ℕ)) (before after : List ℕ) → pairs_of items ≡ preorder_of rule.right →
@@ -88,7 +86,7 @@ numbered-own items rule n first f rank count side stack old new before after pai
     in
     record {
       chain = λ q e. absurd (apart_roots f q (root ∙ e));
-      own = λ g e. subst (λ z. GetsNumber z n old new before after) (whole ∙ ap (λ z. z ∷ head_states first rule.right.kids) (same_roots f g (root ∙ e))) gets;
+      own = λ g e. subst (λ z. GetsNumber z n old new before after) (whole ∙ ap (λ z. z ∷ head_states first rule.right.kids) (same_label f g (root ∙ e))) gets;
     }
 
 -- the list of numbers that a side stands for is known by the side
@@ -214,7 +212,7 @@ own_more states rules n first f old new before after h first_is root from gets =
       ];
       own = λ m g k l e. elim (same_or_behind n m k) [
         | inl at ↦
-            let label_is : f ≡ g = same_roots f g (sym root ∙ ap (λ i. (rule_at rules i).right.label) (sym at) ∙ e) in
+            let label_is : f ≡ g = same_label f g (sym root ∙ ap (λ i. (rule_at rules i).right.label) (sym at) ∙ e) in
             subst (λ i. HasSide states rules new i g (get_or after i no_side)) (sym at) (subst (λ z. HasSide states rules new n z (get_or after n no_side)) label_is (subst (HasSide states rules new n f) (sym at_n) (own_side states rules n first f new gets.number first_is gets.below gets.is)))
         | inr more ↦
             let has = from.own m g more l e in

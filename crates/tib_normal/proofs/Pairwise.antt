@@ -1,38 +1,23 @@
 -- What holds of each pair of a list, by places.
-use Rattle.std.specs.Prelude.{◌≡◌, ℕ, ◌+◌, ◌<◌, ◌≤◌, List, [], ◌∷◌, length, nat_eq, true, false, slice_range, refl, ◌⊎◌}
+use Rattle.std.specs.Prelude.{◌≡◌, ℕ, ◌+◌, ◌<◌, ◌≤◌, List, [], ◌∷◌, length, slice_range, refl, ◌⊎◌}
 use Rattle.std.proofs.Common.{zero, suc, get_or, arith, ap, subst, take, drop, ◌-◌, inl, inr}
-use Rattle.std.proofs.lemmas.Bool.Decides.{nat_tests}
 use Rattle.tib_lex.specs.Lists.{Each, Ascends}
 use Rattle.tib_grammar.specs.declared.Rule.{Rule}
 use Rattle.tib_grammar.specs.Run.{rule_at, no_rule}
 use Rattle.tib_normal.specs.Rules.{rules_from}
 use Rattle.tib_normal.specs.Index.{IsStart}
-
-pub Each-from : {A : Type 0} (P : A → Type 0) (xs : List A) (d : A) → ((n : ℕ) → n < length xs → P (get_or xs n d)) → Each P xs
-Each-from P [] d h = tt
-Each-from P (x ∷ xs) d h = (h 0 (omega arith), Each-from P xs d (λ n b. h (suc n) (omega arith)))
+use Rattle.tib_lex.proofs.Numbers.{nat_eq_cases}
 
 pub Each-at : {A : Type 0} (P : A → Type 0) (xs : List A) (d : A) → Each P xs → (n : ℕ) → n < length xs → P (get_or xs n d)
 Each-at P [] d e n h = absurd (omega arith)
 Each-at P (x ∷ xs) d e zero h = e.0
 Each-at P (x ∷ xs) d e (suc n) h = Each-at P xs d e.1 n (omega arith)
 
-pub Ascends-from :
-    {A : Type 0} (R : A → A → Type 0) (xs : List A) (d : A) → ((m n : ℕ) → m < n → n < length xs → R (get_or xs m d) (get_or xs n d)) → Ascends R xs
-Ascends-from R [] d h = tt
-Ascends-from R (x ∷ xs) d h = (
-  Each-from (R x) xs d (λ n b. h 0 (suc n) (omega arith) (omega arith)),
-  Ascends-from R xs d (λ m n b c. h (suc m) (suc n) (omega arith) (omega arith)),
-)
-
 pub Ascends-at : {A : Type 0} (R : A → A → Type 0) (xs : List A) (d : A) → Ascends R xs → (m n : ℕ) → m < n → n < length xs → R (get_or xs m d) (get_or xs n d)
 Ascends-at R [] d a m n h k = absurd (omega arith)
 Ascends-at R (x ∷ xs) d a m zero h k = absurd (omega arith)
 Ascends-at R (x ∷ xs) d a zero (suc n) h k = Each-at (R x) xs d a.0 n (omega arith)
 Ascends-at R (x ∷ xs) d a (suc m) (suc n) h k = Ascends-at R xs d a.1 m n (omega arith) (omega arith)
-
-same_number : (g f : ℕ) → ((g ≡ f) × (nat_eq g f ≡ true)) ⊎ ((g ≡ f → ⊥) × (nat_eq g f ≡ false))
-same_number g f = grind (arith, nat_tests)
 
 take_empty : {A : Type 0} (n : ℕ) → let xs : List A = [] in take n xs ≡ xs
 take_empty zero = refl
@@ -59,16 +44,16 @@ between [] q zero n b e s t = take_empty n
 between [] q (suc a) n b e s t = absurd (omega (arith, s.within))
 between (r ∷ rules) q zero zero (suc b) e s t = absurd (omega arith)
 between (r ∷ rules) q zero (suc n) zero e s t = absurd (omega arith)
-between (r ∷ rules) q zero zero zero e s t = elim (same_number r.left q) [
+between (r ∷ rules) q zero zero zero e s t = elim (nat_eq_cases r.left q) [
   | inl k ↦ absurd (omega (arith, k.0, t.from 0 (omega arith) (omega arith)))
   | inr k ↦ rw k.1 (between rules q 0 0 0 refl (start_first r rules q s) (start_first r rules (q + 1) t))
 ]
-between (r ∷ rules) q zero (suc n) (suc b) e s t = elim (same_number r.left q) [
+between (r ∷ rules) q zero (suc n) (suc b) e s t = elim (nat_eq_cases r.left q) [
   | inl k ↦ rw k.1 (ap (λ x. r ∷ x) (between rules q 0 n b (omega arith) (start_first r rules q s) (start_behind r rules (q + 1) b t)))
   | inr k ↦ absurd (k.0 (omega (arith, s.from 0 (omega arith) (omega arith), t.before 0 (omega arith))))
 ]
 between (r ∷ rules) q (suc a) n zero e s t = absurd (omega arith)
-between (r ∷ rules) q (suc a) n (suc b) e s t = elim (same_number r.left q) [
+between (r ∷ rules) q (suc a) n (suc b) e s t = elim (nat_eq_cases r.left q) [
   | inl k ↦ absurd (omega (arith, k.0, s.before 0 (omega arith)))
   | inr k ↦ rw k.1 (between rules q a n b (omega arith) (start_behind r rules q a s) (start_behind r rules (q + 1) b t))
 ]

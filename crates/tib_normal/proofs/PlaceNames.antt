@@ -12,6 +12,7 @@ use Rattle.tib_lex.specs.Lists.{Has}
 use Rattle.tib_grammar.specs.StateName.{IsStateName, AreStateNames}
 use Rattle.tib_grammar.proofs.Members.{has_either, each_more, distinct_more}
 use Rattle.tib_normal.specs.PlaceNames.{digits, name_of_place, names_of_places, IsFree}
+use Rattle.tib_lex.proofs.Lists.{head_is, tail_is}
 
 digit_is_name : (d : ℕ) → d < 10 → is_name_byte (48 + d) ≡ true
 digit_is_name d h = grind (arith, nat_tests)
@@ -35,20 +36,14 @@ length-digits : (n number : ℕ) (behind : List ℕ) → length (digits n number
 length-digits zero number behind = omega arith
 length-digits (suc n) number behind = omega (arith, length-digits n (number / 10) ((48 + number % 10) ∷ behind))
 
--- numbers of so many digits are told by them
+-- numbers of the same number of digits with the same digits are the same
 digits_tell : (n a b : ℕ) (xs ys : List ℕ) → a < 10 ^ n → b < 10 ^ n → digits n a xs ≡ digits n b ys → (a ≡ b) × (xs ≡ ys)
 digits_tell zero a b xs ys low below same = (omega arith, same)
 digits_tell (suc n) a b xs ys low below same =
     let front = digits_tell n (a / 10) (b / 10) ((48 + a % 10) ∷ xs) ((48 + b % 10) ∷ ys) (omega (arith, pow-suc 10 n)) (omega (arith, pow-suc 10 n)) same in
     let quotients : a / 10 ≡ b / 10 = front.0 in
-    let last : 48 + a % 10 ≡ 48 + b % 10 = head front.1 in
-    (omega arith, tail front.1)
-  where
-    head : {x y : ℕ} {xs ys : List ℕ} → x ∷ xs ≡ y ∷ ys → x ≡ y
-    head e = cc
-
-    tail : {x y : ℕ} {xs ys : List ℕ} → x ∷ xs ≡ y ∷ ys → xs ≡ ys
-    tail e = cc
+    let last : 48 + a % 10 ≡ 48 + b % 10 = head_is front.1 in
+    (omega arith, tail_is front.1)
 
 length-name : (n number : ℕ) → 1 ≤ n → length (name_of_place n number) ≡ n
 length-name n number h = omega (arith, length-digits (n - 1) number [])
@@ -79,12 +74,9 @@ has_place n (suc places) text h = elim (has_either (names_of_places n places) (n
 place_is_new : (n places : ℕ) → 9 ≤ n → places < 100000000 → Has (names_of_places n places) (name_of_place n places) → ⊥
 place_is_new n places long few h =
     let r = has_place n places (name_of_place n places) h in
-    let same : digits (n - 1) places [] ≡ digits (n - 1) r.0 [] = tail r.2 in
+    let same : digits (n - 1) places [] ≡ digits (n - 1) r.0 [] = tail_is r.2 in
     let told = digits_tell (n - 1) places r.0 [] [] (enough n places long few) (enough n r.0 long (omega (arith, r.1))) same in
     absurd (omega (arith, told.0, r.1))
-  where
-    tail : {x y : ℕ} {xs ys : List ℕ} → x ∷ xs ≡ y ∷ ys → xs ≡ ys
-    tail e = cc
 
 pub length-names : (n places : ℕ) → length (names_of_places n places) ≡ places
 length-names n zero = refl

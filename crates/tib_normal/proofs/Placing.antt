@@ -4,12 +4,12 @@ use Rattle.std.proofs.Common.{length-append, zero, suc, get_or, arith, ap, sym, 
 use Rattle.std.proofs.lemmas.List.{reverse-append, length-reverse}
 use Rattle.std.proofs.lemmas.List.Sums.{sum_by-cons}
 use Rattle.tib_tree.specs.Trees.{Trees, none, tree, count, join, first_trees, other_trees, parse, HasChildren, join_parts, count-first, preorder_of, parse_of_preorder, HasChildren_of_preorder}
-use Rattle.tib_grammar.specs.Sides.{Symbol, label, hole, Side as SideFor, over, leaves}
+use Rattle.tib_grammar.specs.Sides.{Symbol, label, hole, Side as SideFor, over, leaves, labels_in}
 use Rattle.tib_grammar.specs.Items.{pairs_of, pair_of}
 use Rattle.tib_grammar.specs.declared.Item.{Item}
 use Rattle.tib_grammar.specs.declared.Item.TheVariants.{Label, Hole}
 use Rattle.tib_grammar.specs.declared.Rule.{Rule}
-use Rattle.tib_normal.specs.NormalForm.{labels_in, heads, inner_rules, all_inner}
+use Rattle.tib_normal.specs.NormalForm.{heads, inner_rules, all_inner}
 use Rattle.tib_normal.specs.Places.{head_states, own_states, states_with, rules_with, below_root, rule_labels}
 use Rattle.tib_normal.proofs.LoneSides.{lone_of_hole}
 use Rattle.tib_grammar.specs.Run.{rule_at}

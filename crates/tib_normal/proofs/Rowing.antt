@@ -4,7 +4,7 @@ use Rattle.std.specs.Global.{Vec}
 use Rattle.std.proofs.Common.{zero, suc, get_or, arith, ap, sym, ◌∙◌, subst, inl, inr}
 use Rattle.std.proofs.lemmas.List.{length-map}
 use Rattle.tib_tree.specs.Trees.{sizes}
-use Rattle.tib_lex.specs.Lists.{Has, Ascends}
+use Rattle.tib_lex.specs.Lists.{Has, Ascends, total}
 use Rattle.tib_cost.specs.Least.{IsLeast}
 use Rattle.tib_cost.proofs.Least.{IsLeast-same}
 use Rattle.tib_grammar.specs.declared.Rule.{Rule}
@@ -13,7 +13,7 @@ use Rattle.tib_grammar.specs.Sides.{Symbol, label, hole, leaves, Side as SideFor
 use Rattle.tib_grammar.proofs.Members.{each_of, each_has}
 use Rattle.tib_normal.specs.declared.row.Row.{Row}
 use Rattle.tib_normal.specs.Index.{lists_of}
-use Rattle.tib_normal.specs.NormalForm.{chain_cost, Reaches, rule_parts, total}
+use Rattle.tib_normal.specs.NormalForm.{chain_cost, Reaches, rule_parts}
 use Rattle.tib_normal.specs.Rows.{side_of, side_at, HasSide, AreSides, AreRows, AreOwn, AreTooMany}
 use Rattle.tib_normal.specs.Offers.{IsOffer, no_side}
 use Rattle.tib_normal.specs.Gathered.{AreFull, rule_of, row_parts, AreOther, AreLeastRows, AreGathered, HaveMoreParts}

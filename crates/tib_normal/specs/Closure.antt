@@ -27,11 +27,14 @@ pub record Waits (entries : List (ℕ × ℕ)) (r c : ℕ) : Type 0 where
 abbrev pub HasOrWaits : (ℕ → Option ℕ) → List (ℕ × ℕ) → ℕ → ℕ → Type 0
 HasOrWaits costs entries r c = ((e : ℕ) × (costs r ≡ Some e)) ⊎ Waits entries r c
 
--- Some states have their least costs of the side s. Where a chain rule leads to one of them, its left state has one
--- too or waits; and so has each rule with the side.
-pub record IsClosing (product : ℕ → ℕ → ℕ) (rules : List (Rule ℕ)) (numbers : List ℕ) (s : ℕ) (costs : ℕ → Option ℕ) (entries : List (ℕ × ℕ)) : Type 0 where
+-- Some states have their least costs of the side s. Where a chain rule leads to one of them, its
+-- left state has one too or waits; and so has each rule with the side.
+pub record IsClosing (product : ℕ → ℕ →
+    ℕ) (rules : List (Rule ℕ)) (numbers : List ℕ) (s : ℕ) (costs : ℕ →
+    Option ℕ) (entries : List (ℕ × ℕ)) : Type 0 where
   pub exact : (r d : ℕ) → costs r ≡ Some d → IsLeast (IsOffer product rules numbers r s) (Some d)
-  pub offers : (e : ℕ × ℕ) → Contains entries e → IsOffer product rules numbers e.1 s e.0 × (e.0 ≤ most)
+  pub offers : (e : ℕ × ℕ) → Contains entries e → IsOffer product rules numbers e.1 s e.0
+      × (e.0 ≤ most)
   pub covered :
       (p d n r : ℕ) → costs r ≡ Some d → LeadsTo rules p n r → product d (rule_at rules n).cost ≤ most →
       HasOrWaits costs entries p (product d (rule_at rules n).cost)
@@ -43,11 +46,13 @@ pub record IsClosing (product : ℕ → ℕ → ℕ) (rules : List (Rule ℕ)) (
 pub record IsStep (product : ℕ → ℕ → ℕ) (r : Rule ℕ) (d : ℕ) (old new : List (ℕ × ℕ)) : Type 0 where
   pub kept : (e : ℕ × ℕ) → Contains old e → Contains new e
   pub added : product d r.cost ≤ most → Contains new (product d r.cost, r.left)
-  pub only : (e : ℕ × ℕ) → Contains new e → Contains old e ⊎ ((r.left ≡ e.1) × (product d r.cost ≡ e.0) × (e.0 ≤ most))
+  pub only : (e : ℕ × ℕ) → Contains new e → Contains old e
+      ⊎ ((r.left ≡ e.1) × (product d r.cost ≡ e.0) × (e.0 ≤ most))
   pub long : length new ≤ length old + 1
 
 -- The entries grow by the left states of the rules before m that have the key k.
-pub record Spreads (product : ℕ → ℕ → ℕ) (rules : List (Rule ℕ)) (keys : List ℕ) (k d m : ℕ) (old new : List (ℕ × ℕ)) : Type 0 where
+pub record Spreads (product : ℕ → ℕ →
+    ℕ) (rules : List (Rule ℕ)) (keys : List ℕ) (k d m : ℕ) (old new : List (ℕ × ℕ)) : Type 0 where
   pub kept : (e : ℕ × ℕ) → Contains old e → Contains new e
   pub added :
       (n : ℕ) → n < m → n < length rules → get_or keys n no_key ≡ k → product d (rule_at rules n).cost ≤ most →
@@ -68,7 +73,8 @@ pub record Skips (row : Row) (old new : Spread) (rows now : List Row) (parts sum
   pub rows_same : now ≡ rows
   pub sum_same : sum ≡ parts
 
--- A state gets its cost and a row of so many parts, and the left states of the chain rules to it wait.
+-- A state gets its cost and its row with its parts, and the left states of the chain rules to it
+-- are queued.
 pub record Settles
     (product : ℕ → ℕ → ℕ) (rules : List (Rule ℕ)) (ends : List ℕ) (row : Row) (more : ℕ) (old new : Spread) (rows now : List Row) (parts sum : ℕ) : Type 0 where
   pub unknown : get_or old.costs.items row.state None ≡ None
@@ -81,10 +87,6 @@ pub record Settles
 -- each state that has a cost is listed
 abbrev pub AreListed : List (Option ℕ) → List ℕ → Type 0
 AreListed costs reached = (r d : ℕ) → get_or costs r None ≡ Some d → Contains reached r
-
--- the states are below n
-abbrev pub AreBelow : ℕ → List ℕ → Type 0
-AreBelow n states = (i : ℕ) → i < length states → get_or states i 0 < n
 
 -- no state has a cost or waits
 pub record IsClear (spread : Spread) : Type 0 where

@@ -1,5 +1,5 @@
 -- What is added to an agenda and taken from it.
-use Rattle.std.specs.Prelude.{◌≡◌, ℕ, ◌+◌, ◌≤◌, ◌⊎◌, List, length, Contains}
+use Rattle.std.specs.Prelude.{◌≡◌, ℕ, ◌+◌, ◌≤◌, ◌⊎◌, List, length, Contains, Option, None, Some}
 
 -- the agenda has one entry more
 pub record AddsEntry (old : List (ℕ × ℕ)) (e : ℕ × ℕ) (new : List (ℕ × ℕ)) : Type 0 where
@@ -15,3 +15,8 @@ pub record TakesLeast (old : List (ℕ × ℕ)) (e : ℕ × ℕ) (new : List (�
   pub kept : (x : ℕ × ℕ) → Contains old x → (x ≡ e) ⊎ Contains new x
   pub only : (x : ℕ × ℕ) → Contains new x → Contains old x
   pub long : length new + 1 ≡ length old
+
+-- 1 for a state without a cost, and 0 for one that has its cost
+abbrev pub unset : Option ℕ → ℕ
+unset None = 1
+unset (Some d) = 0

@@ -1,3 +1,4 @@
+-- The definitions of normal forms, of their indexes, and of the search for least chain costs.
 pub mod Rules
 pub mod Index
 pub mod IsIndex

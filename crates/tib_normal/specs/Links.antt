@@ -19,4 +19,5 @@ pub record AreLinks (keys : List ℕ) (count : ℕ) (links : Links) : Type 0 whe
   pub keys_long : length links.first.items ≡ count
   pub places_long : length links.next.items ≡ length keys
   pub first : (k : ℕ) → k < count → IsNext keys k 0 (get_or links.first.items k 0)
-  pub next : (n : ℕ) → n < length keys → get_or keys n no_key < count → IsNext keys (get_or keys n no_key) (n + 1) (get_or links.next.items n 0)
+  pub next : (n : ℕ) → n < length keys → get_or keys n no_key < count →
+      IsNext keys (get_or keys n no_key) (n + 1) (get_or links.next.items n 0)

@@ -21,8 +21,9 @@ names_of_places n (suc places) = names_of_places n places ++ name_of_place n pla
 abbrev pub IsFree : List (List ℕ) → ℕ → Type 0
 IsFree names n = (text : List ℕ) → Has names text → length text ≡ n → ⊥
 
--- which of so many lengths from nine on names have: each has one at most
+-- which of some lengths from nine on names have: each name has one at most
 pub record AreTaken (names : List (List ℕ)) (room : ℕ) (taken : List Bool) : Type 0 where
   pub long : length taken ≡ room
   pub few : count_by (λ b. b) taken ≤ length names
-  pub held : (text : List ℕ) (n : ℕ) → Has names text → length text ≡ 9 + n → n < room → get_or taken n false ≡ true
+  pub held : (text : List ℕ) (n : ℕ) → Has names text → length text ≡ 9 + n → n < room →
+      get_or taken n false ≡ true

@@ -2,12 +2,11 @@
 use Rattle.std.specs.Prelude.{ℕ, ◌+◌, List, [], ◌∷◌, take, drop, sum_by}
 use Rattle.std.proofs.Common.{suc}
 use Rattle.tib_tree.specs.Trees.{Trees, none, tree, parse, count}
-use Rattle.tib_grammar.specs.Sides.{Symbol, label, hole, over}
+use Rattle.tib_grammar.specs.Sides.{Symbol, label, hole, over, labels_in}
 use Rattle.tib_grammar.specs.Items.{pairs_of}
 use Rattle.tib_grammar.specs.declared.Item.{Item}
 use Rattle.tib_grammar.specs.declared.Item.TheVariants.{Label, Hole}
 use Rattle.tib_grammar.specs.declared.Rule.{Rule}
-use Rattle.tib_normal.specs.NormalForm.{labels_in}
 
 -- the states at the roots of some sides, of which the labels have their own from s on
 abbrev pub head_states : ℕ → Trees (Symbol ℕ ℕ) → List ℕ
@@ -27,7 +26,8 @@ states_with (Hole q) s states = q ∷ states
 
 -- the rule of an item's own state over the states behind it
 abbrev pub rules_with : Item ℕ → ℕ → List ℕ → ℕ → List (Rule ℕ)
-rules_with (Label f rank) s states zero_cost = record { left = s; right = over f (take rank states); cost = zero_cost } ∷ []
+rules_with (Label f rank) s states zero_cost =
+    record { left = s; right = over f (take rank states); cost = zero_cost } ∷ []
 rules_with (Hole q) s states zero_cost = []
 
 -- what stands below a root
@@ -38,7 +38,8 @@ below_root items = parse (drop 1 (pairs_of items))
 abbrev pub rule_labels : Rule ℕ → ℕ
 rule_labels r = labels_in r.right.kids
 
--- the parts of the states and rules of the labels in some sides: one for a state, and two and the rank for its rule
+-- the parts of the states and rules of the labels in some sides: one for a state, and two and the
+-- rank for its rule
 abbrev pub parts_in : Trees (Symbol ℕ ℕ) → ℕ
 parts_in none = 0
 parts_in (tree (label f) kids rest) = 3 + count kids + parts_in kids + parts_in rest

@@ -1,16 +1,12 @@
 -- Rules by their left state, and by the label and rank of their right side.
-use Rattle.std.specs.Prelude.{◌≡◌, ℕ, ◌≤◌, Bool, ◌&&◌, nat_eq, false, List, [], ◌∷◌, filter, if◌then◌else◌}
+use Rattle.std.specs.Prelude.{◌≡◌, ℕ, ◌≤◌, Bool, ◌&&◌, nat_eq, List, [], ◌∷◌, filter, if◌then◌else◌}
 use Rattle.std.proofs.Common.{suc}
 use Rattle.tib_tree.specs.Trees.{count}
 use Rattle.tib_lex.specs.Lists.{Ascends}
-use Rattle.tib_grammar.specs.Sides.{Symbol, label, hole}
+use Rattle.tib_grammar.specs.Sides.{label}
 use Rattle.tib_grammar.specs.Forms.{AreNormal}
 use Rattle.tib_grammar.specs.declared.Rule.{Rule}
-
--- whether a symbol is the label f
-abbrev pub is_label : ℕ → Symbol ℕ ℕ → Bool
-is_label f (label g) = nat_eq g f
-is_label f (hole q) = false
+pub use Rattle.tib_grammar.specs.Sides.{is_label}
 
 -- whether the right side is the label f over n sides
 abbrev pub is_over : ℕ → ℕ → Rule ℕ → Bool
@@ -30,7 +26,8 @@ positions_with f n rules = positions_from 0 f n rules
 abbrev pub rules_from : ℕ → List (Rule ℕ) → List (Rule ℕ)
 rules_from q rules = filter (λ r. nat_eq r.left q) rules
 
--- rules in normal form, in ascending order of their left states, of which no two agree in both sides
+-- rules in normal form, in ascending order of their left states, of which no two agree in both
+-- sides
 pub record IsNormal (rules : List (Rule ℕ)) : Type 0 where
   pub normal : AreNormal rules
   pub ascends : Ascends (λ r s. r.left ≤ s.left) rules

@@ -18,7 +18,8 @@ pub record AreEnds (rules : List (Rule ℕ)) (ends : List ℕ) : Type 0 where
   pub each : (n : ℕ) → n < length rules → IsEnd (rule_at rules n) (get_or ends n no_key)
 
 -- the chain rules by their ends, and the other rules by the numbers of their sides
-pub record AreWays (rules : List (Rule ℕ)) (numbers : List ℕ) (sides states : ℕ) (ways : Ways) : Type 0 where
+pub record AreWays (rules : List (Rule ℕ)) (numbers : List ℕ) (sides states : ℕ)
+    (ways : Ways) : Type 0 where
   pub ends : List ℕ
   pub are_ends : AreEnds rules ends
   pub long : length numbers ≡ length rules

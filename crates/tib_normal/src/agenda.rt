@@ -1,4 +1,5 @@
-// The states that wait for their least cost.
+// A queue of states by their costs, for shortest paths (Dijkstra 1959) and least costs of runs
+// (Knuth 1977).
 ghost use Rattle.std.specs.Prelude.{◌≡◌, ℕ, ◌+◌, ◌<◌, ◌≤◌, ◌⊎◌, List, [], ◌∷◌, length, Contains, OnOk, IfSome, IfNone, map};
 ghost use Rattle.tib_normal.specs.Entries.{AddsEntry, TakesLeast};
 
@@ -26,7 +27,7 @@ impl Model for Agenda {
 }
 
 impl Agenda {
-    /// An empty agenda.
+    /// An empty agenda. It takes no memory.
     pub fn new(alloc: Global) -> Agenda
         ensures { result ≡ [] }
     {
@@ -35,7 +36,8 @@ impl Agenda {
         }
     }
 
-    /// Adds a state with a cost.
+    /// Adds a state with a cost. An Err leaves nothing to rely on. Worst case: O(log n) with n
+    /// entries, beside the growth of the heap.
     pub fn push(&mut self, cost: Cost, state: u32) -> Result<(), AllocError>
         ensures { OnOk result (AddsEntry self.old (cost, state) self.new) }
     {
@@ -43,7 +45,8 @@ impl Agenda {
         Ok(())
     }
 
-    /// Takes the least cost and its state.
+    /// Takes an entry of the least cost, or answers none where there is no entry. Worst case: O(log
+    /// n) with n entries.
     pub fn pop(&mut self) -> Option<(Cost, u32)>
         ensures some { IfSome result (λ e. TakesLeast self.old e self.new) }
         ensures none { IfNone result (self.old ≡ []) }

@@ -1,4 +1,5 @@
-// The rules of a grammar in normal form by their left states, and by the labels and ranks of their right sides.
+// The rules of a grammar in normal form by their left states, and by the labels and ranks of their
+// right sides.
 ghost use Rattle.std.specs.Prelude.{◌≡◌, ℕ, ◌+◌, ◌<◌, ◌≤◌, ◌^◌, IsTrue, IfOk, OnOk, OnErr, length, List, [], ◌∷◌, ◌++◌, if◌then◌else◌};
 ghost use Rattle.tib_grammar.specs.Forms.{AreNormal, IsNormalSide};
 ghost use Rattle.tib_grammar.specs.Run.{rule_at};
@@ -11,7 +12,7 @@ ghost use Rattle.tib_grammar.specs.Range.{AreInRange};
 
 use std::alloc::{AllocError, Global};
 use std::collections::HashMap;
-use tib_grammar::{Item, Rule};
+use tib_grammar::Rule;
 use tib_tree::Label;
 
 /// A label and a rank.
@@ -22,13 +23,10 @@ fn shape_of(rule: &Rule<u32>) -> Shape
     requires { IsNormalSide rule.now.right }
     ensures { (f n : ℕ) → is_over f n rule.now ≡ same_shape result (f, n) }
 {
-    match &rule.right.items()[0] {
-        Item::Label { label, rank } => (*label, *rank),
-        Item::Hole(_) => unreachable!(),
-    }
+    rule.root()
 }
 
-/// Puts a position last in the bucket of a shape.
+/// Adds a position behind those of its label and rank.
 fn add(
     alloc: Global,
     shapes: &mut HashMap<Shape, u32>,
@@ -39,7 +37,10 @@ fn add(
     requires numbered { AreNumbered shapes.old buckets.old.items }
     requires few { length buckets.old.items ≤ position }
     ensures numbered { AreNumbered shapes.new buckets.new.items }
-    ensures added { OnOk result ((s : ℕ × ℕ) → held shapes.new buckets.new.items s ≡ (if same_shape shape s then held shapes.old buckets.old.items s ++ position ∷ [] else held shapes.old buckets.old.items s)) }
+    ensures added { OnOk result ((s : ℕ × ℕ) →
+        held shapes.new buckets.new.items s
+        ≡ (if same_shape shape s then held shapes.old buckets.old.items s ++ position ∷ []
+        else held shapes.old buckets.old.items s)) }
     ensures few { length buckets.new.items ≤ position + 1 }
 {
     if let Some(number) = shapes.get(&shape).copied() {
@@ -54,7 +55,7 @@ fn add(
     Ok(())
 }
 
-/// The positions of the rules of each label and rank, and the places at which the rules of each state begin.
+/// The positions of the rules of each label and rank, and where the rules of each state begin.
 #[derive(Drop)]
 pub struct Index {
     shapes: HashMap<Shape, u32>,
@@ -62,7 +63,7 @@ pub struct Index {
     starts: Vec<u32>,
 }
 
-/// The first place from `n` on whose rule has a left state of at least `q`.
+/// The first position from `n` on whose rule has a left state of at least `q`.
 fn start_of(rules: &[Rule<u32>], n: usize, q: u32) -> usize
     requires within { n ≤ length rules.now }
     requires before { (m : ℕ) → m < n → (rule_at rules.now m).left < q }
@@ -76,7 +77,7 @@ fn start_of(rules: &[Rule<u32>], n: usize, q: u32) -> usize
     place
 }
 
-/// The places at which the rules of each state begin, and the number of rules.
+/// The positions at which the rules of each state begin, and the number of rules.
 fn starts_of(alloc: Global, rules: &[Rule<u32>], states: u32) -> Result<Vec<u32>, AllocError>
     requires few { length rules.now < 2 ^ 32 }
     requires range { AreInRange states rules.now }
@@ -94,7 +95,8 @@ fn starts_of(alloc: Global, rules: &[Rule<u32>], states: u32) -> Result<Vec<u32>
 }
 
 impl Index {
-    /// The index of some rules over so many states.
+    /// Indexes rules over this number of states. It takes one pass over the rules and one over the
+    /// states.
     pub fn new(alloc: Global, rules: &[Rule<u32>], states: u32) -> Result<Index, AllocError>
         requires few { length rules.now < 2 ^ 32 }
         requires normal { AreNormal rules.now }
@@ -117,7 +119,8 @@ impl Index {
 
     /// The positions of the rules of a label and a rank.
     pub fn find(&self, label: Label, rank: u32) -> &[u32]
-        ensures { (rules : List (Rule ℕ)) → (states : ℕ) → IsIndex rules states self.now → result.now ≡ positions_with label rank rules }
+        ensures { (rules : List (Rule ℕ)) → (states : ℕ) → IsIndex rules states self.now →
+            result.now ≡ positions_with label rank rules }
     {
         match self.shapes.get(&(label, rank)) {
             Some(number) => {

@@ -1,4 +1,5 @@
-//! Grammars in normal form, and the normal form of a grammar.
+//! Grammars in normal form, and the normal form of a grammar; and the agenda by which states get
+//! their least costs, which `tib_inside` takes too.
 #![tactic(auto)]
 
 mod agenda;
@@ -17,6 +18,7 @@ mod spread;
 mod tests;
 mod ways;
 
+pub use agenda::Agenda;
 pub use error::NormalError;
 pub use normal::Normal;
 pub use normal_form::normalize;

@@ -14,8 +14,8 @@ use std::marker::Model;
 use tib_grammar::{Grammar, Item, Rule};
 use tib_tree::Label;
 
-/// A grammar in normal form, whose rules stand in ascending order of their left states, and of which no two
-/// rules agree in both sides.
+/// A grammar in normal form, whose rules stand in ascending order of their left states, and of
+/// which no two rules agree in both sides.
 #[derive(Drop)]
 pub struct Normal<S> {
     grammar: Grammar<S>,
@@ -77,8 +77,10 @@ fn key(alloc: Global, rule: &Rule<u32>) -> Result<Vec<u32>, AllocError>
 /// Whether no two rules agree in both sides.
 fn are_distinct(alloc: Global, rules: &[Rule<u32>]) -> Result<bool, AllocError>
     requires normal { AreNormal rules.now }
-    ensures yes { IfOk result (λ b. IsTrue b → Ascends (λ r s. r.left ≡ s.left → r.right ≡ s.right → ⊥) rules.now) }
-    ensures no { IfOk result (λ b. b ≡ false → Ascends (λ r s. r.left ≡ s.left → r.right ≡ s.right → ⊥) rules.now → ⊥) }
+    ensures yes { IfOk result (λ b. IsTrue b →
+        Ascends (λ r s. r.left ≡ s.left → r.right ≡ s.right → ⊥) rules.now) }
+    ensures no { IfOk result (λ b. b ≡ false →
+        Ascends (λ r s. r.left ≡ s.left → r.right ≡ s.right → ⊥) rules.now → ⊥) }
 {
     let mut keys = HashSet::new(alloc);
     for rule in rules {
@@ -89,7 +91,8 @@ fn are_distinct(alloc: Global, rules: &[Rule<u32>]) -> Result<bool, AllocError>
     Ok(true)
 }
 
-/// Whether a grammar is one whose rules are in normal form, in ascending order of their left states, and apart.
+/// Whether a grammar is one whose rules are in normal form, in ascending order of their left
+/// states, and apart.
 fn is_normal_form<S>(alloc: Global, grammar: &Grammar<S>) -> Result<bool, AllocError>
     ensures { IfOk result (λ yes. IsTrue yes ↔ IsNormal grammar.now.rules) }
 {
@@ -101,8 +104,8 @@ fn is_normal_form<S>(alloc: Global, grammar: &Grammar<S>) -> Result<bool, AllocE
 }
 
 impl<S: Drop> Normal<S> {
-    /// This grammar, where it is in normal form, its rules stand in ascending order of their left states, and
-    /// no two rules agree in both sides.
+    /// Tests and indexes a grammar: it answers this grammar where it is in normal form, its rules
+    /// stand in ascending order of their left states, and no two rules agree in both sides.
     pub fn new(alloc: Global, grammar: Grammar<S>) -> Result<Option<Normal<S>>, AllocError>
         ensures same { IfOk result (λ made. IfSome made (λ n. n ≡ grammar)) }
         ensures some { IfOk result (λ made. IsSome made ↔ IsNormal grammar.rules) }
@@ -114,7 +117,7 @@ impl<S: Drop> Normal<S> {
         }
     }
 
-    /// This grammar, which is known to be such.
+    /// Indexes a grammar that is already known to be in normal form.
     pub(crate) fn indexed(alloc: Global, grammar: Grammar<S>) -> Result<Normal<S>, AllocError>
         requires { IsNormal grammar.rules }
         ensures { IfOk result (λ n. n ≡ grammar) }
@@ -153,7 +156,8 @@ impl<S> Normal<S> {
         self.index.rules_of(self.grammar.rule_list(), states, state)
     }
 
-    /// The positions, from 0, of the rules whose right side is this label over so many states, ascending.
+    /// The positions, from 0, of the rules whose right side is this label over this number of
+    /// states, ascending.
     pub fn rules_with(&self, label: Label, rank: u32) -> &[u32]
         ensures { result.now ≡ positions_with label rank self.now.rules }
     {

@@ -1,6 +1,9 @@
 // The normal form of a grammar.
+ghost use Rattle.tib_grammar.specs.Series.{KeepsSeries};
+ghost use Rattle.tib_lex.specs.Lists.{total};
+ghost use Rattle.tib_grammar.specs.Sides.{labels_in};
 ghost use Rattle.std.specs.Prelude.{◌≡◌, ℕ, ◌+◌, ◌<◌, ◌≤◌, ◌^◌, List, [], ◌∷◌, length, OnOk, IfErr, IfOk, None, Some, Option, IfSome, IfNone, sum_by, reverse, ◌++◌};
-ghost use Rattle.tib_normal.specs.NormalForm.{labels_in, all_inner, IsNormalForm, KeepsSeries, rule_parts, total, normal_parts};
+ghost use Rattle.tib_normal.specs.NormalForm.{all_inner, IsNormalForm, rule_parts, normal_parts};
 ghost use Rattle.tib_normal.specs.Index.{lists_of};
 ghost use Rattle.tib_normal.specs.Rows.{AreSides, AreOwn, AreTooMany, IfTooMany, HasMoreParts};
 ghost use Rattle.tib_normal.specs.Rules.{IsNormal};
@@ -18,7 +21,7 @@ use std::alloc::{AllocError, Global};
 use tib_cost::Semiring;
 use tib_grammar::{Grammar, Item, Names, Rule};
 
-/// The states of places and the parts that they and their rules have.
+/// How many inner states there are, and the parts that they and their rules have.
 #[derive(Drop)]
 struct Places {
     states: u32,
@@ -34,7 +37,8 @@ impl Places {
         requires states { self.states ≤ self.parts }
         ensures within { IfSome result (λ p. p.parts ≤ limit) }
         ensures states { IfSome result (λ p. p.states + self.parts ≤ p.parts + self.states) }
-        ensures counted { IfSome result (λ p. p.states ≡ self.states + labels_in (below_root items.now)) }
+        ensures counted { IfSome result (λ p. p.states
+            ≡ self.states + labels_in (below_root items.now)) }
         ensures parts { IfSome result (λ p. p.parts ≡ self.parts + parts_below items.now) }
         ensures many { IfNone result (limit < self.parts + parts_below items.now) }
     {
@@ -55,15 +59,18 @@ impl Places {
     }
 }
 
-/// The states of the places of some rules, and the parts of these states and of their rules, beside the parts
-/// of the grammar's states; none where there are more than the limit.
+/// The inner states of some rules, and the parts of these states and of their rules, beside the
+/// parts of the grammar's states; none where there are more than the limit.
 fn count_places(rules: &[Rule<u32>], states: u32, limit: u64) -> Option<Places>
     requires { limit ≤ 20000000 }
     ensures within { IfSome result (λ p. p.parts ≤ limit) }
     ensures states { IfSome result (λ p. p.states + states ≤ p.parts) }
     ensures counted { IfSome result (λ p. p.states ≡ sum_by rule_labels rules.now) }
-    ensures parts { IfSome result (λ p. p.parts ≡ normal_parts (states + length (all_inner states rules.now)) (all_inner states rules.now)) }
-    ensures many { IfNone result (limit < normal_parts (states + length (all_inner states rules.now)) (all_inner states rules.now)) }
+    ensures parts { IfSome result (λ p. p.parts
+        ≡ normal_parts (states + length (all_inner states rules.now))
+        (all_inner states rules.now)) }
+    ensures many { IfNone result (limit < normal_parts
+        (states + length (all_inner states rules.now)) (all_inner states rules.now)) }
 {
     if states as u64 > limit {
         return None;
@@ -78,16 +85,19 @@ fn count_places(rules: &[Rule<u32>], states: u32, limit: u64) -> Option<Places>
     Some(places)
 }
 
-/// The normal form of a grammar: its states, and one for each place below a root where a right side has a label.
-/// Each state gets, at the least cost, the right sides of the states to which its chain rules lead: each side
-/// spreads against the chain rules, from all rules with this side together (least costs by Dijkstra, 1959).
+/// The normal form of a grammar: its states, and an inner state for each label below the root of a
+/// right side. Each state gets, at the least cost, the right sides of the states to which its chain
+/// rules lead: each side spreads against the chain rules, from all rules with this side together
+/// (least costs by Dijkstra, 1959).
 ///
-/// The limit is from 1 to 20,000,000. It answers `TooMany` where the normal form has more parts than that, and
-/// takes no memory for more.
+/// The limit is from 1 to 20,000,000. It answers `TooMany` where the normal form has more parts
+/// than that, and takes no memory for more.
 ///
-/// It takes one pass over the grammar, and then for each rule of the normal form the chain rules to its left state,
-/// times the logarithm of what waits. The worst case is as many sides as rules, each with a cost at each state: the
-/// number of rules times that of chain rules, but no more than the limit times that of chain rules.
+/// Worst case: with n rules, of which c are chain rules, and s states, each of at most n sides
+/// spreads to each state once and follows each chain rule once, so O(n (s + c) log n) steps beside
+/// one pass over the grammar. A side makes a rule at each state that it reaches, so with m rules
+/// made, at most the limit, the steps are also within O((n + m (1 + d)) log n), where d is the
+/// greatest number of chain rules to one state.
 pub fn normalize<S: Semiring + Drop>(
     alloc: Global,
     grammar: &Grammar<S>,
@@ -95,11 +105,15 @@ pub fn normalize<S: Semiring + Drop>(
 ) -> Result<Normal<S>, NormalError>
     requires from { 1 ≤ limit }
     requires to { limit ≤ 20000000 }
-    ensures form { IfOk result (λ n. IsNormalForm S.product (length grammar.now.names) grammar.now.rules (length n.names) n.rules) }
-    ensures names { IfOk result (λ n. (rest : List (List ℕ)) × (n.names ≡ grammar.now.names ++ rest)) }
-    ensures series { IfOk result (λ n. KeepsSeries S.product (length grammar.now.names) grammar.now.rules n.rules) }
+    ensures form { IfOk result (λ n. IsNormalForm S.product (length grammar.now.names)
+        grammar.now.rules (length n.names) n.rules) }
+    ensures names { IfOk result (λ n. (rest : List (List ℕ))
+        × (n.names ≡ grammar.now.names ++ rest)) }
+    ensures series { IfOk result (λ n. KeepsSeries S.product (length grammar.now.names)
+        grammar.now.rules n.rules) }
     ensures within { IfOk result (λ n. normal_parts (length n.names) n.rules ≤ limit) }
-    ensures many { IfErr result (λ e. IfTooMany e limit (HasMoreParts S.product (length grammar.now.names) grammar.now.rules limit)) }
+    ensures many { IfErr result (λ e. IfTooMany e limit
+        (HasMoreParts S.product (length grammar.now.names) grammar.now.rules limit)) }
 {
     grammar.is_sound();
     let listed = match list_rules::<S>(alloc, grammar.rule_list(), grammar.states(), limit) {
@@ -113,14 +127,14 @@ pub fn normalize<S: Semiring + Drop>(
     }
 }
 
-/// The rules of the normal form, and how many states of places they have.
+/// The rules of the normal form, and how many inner states they have.
 #[derive(Drop)]
 struct Listed {
     rules: Vec<Rule<u32>>,
     places: u32,
 }
 
-/// The rules of the normal form of some rules over so many states.
+/// The rules of the normal form of some rules over this number of states.
 fn list_rules<S: Semiring>(
     alloc: Global,
     rules: &[Rule<u32>],
@@ -130,9 +144,11 @@ fn list_rules<S: Semiring>(
     requires limit { limit ≤ 20000000 }
     requires few { length rules.now < 2 ^ 32 }
     requires range { AreInRange states rules.now }
-    ensures form { IfOk result (λ l. IsNormalForm S.product states rules.now (states + l.places) l.rules.items) }
+    ensures form { IfOk result (λ l. IsNormalForm S.product states rules.now (states + l.places)
+        l.rules.items) }
     ensures within { IfOk result (λ l. normal_parts (states + l.places) l.rules.items ≤ limit) }
-    ensures many { IfErr result (λ e. IfTooMany e limit (HasMoreParts S.product states rules.now limit)) }
+    ensures many { IfErr result (λ e. IfTooMany e limit
+        (HasMoreParts S.product states rules.now limit)) }
 {
     let places = match count_places(rules, states, limit) {
         Some(places) => places,
@@ -150,7 +166,8 @@ fn list_rules<S: Semiring>(
     })
 }
 
-/// The rules of the grammar's own states in the normal form, where so many parts stand beside them.
+/// The rules of the grammar's own states in the normal form; `parts` counts what the inner states
+/// have already.
 fn list_own<S: Semiring>(
     alloc: Global,
     rules: &[Rule<u32>],
@@ -164,10 +181,12 @@ fn list_own<S: Semiring>(
     requires few { length rules.now < 2 ^ 32 }
     requires range { AreInRange states rules.now }
     requires long { length sides.now.numbers.items ≡ length rules.now }
-    requires sides { AreSides states rules.now (lists_of sides.now.table.keys) sides.now.numbers.items }
+    requires sides { AreSides states rules.now (lists_of sides.now.table.keys)
+        sides.now.numbers.items }
     ensures own { IfOk result (λ own. AreOwn S.product states rules.now states own.items) }
     ensures within { IfOk result (λ own. parts + total rule_parts own.items ≤ limit) }
-    ensures many { IfErr result (λ e. IfTooMany e limit (AreTooMany S.product states rules.now parts limit)) }
+    ensures many { IfErr result (λ e. IfTooMany e limit
+        (AreTooMany S.product states rules.now parts limit)) }
 {
     let ways = Ways::new(
         alloc,
@@ -188,7 +207,7 @@ fn list_own<S: Semiring>(
     Ok(arrange(alloc, &made.rows, sides, states)?)
 }
 
-/// The rules of the states and those of the places behind them.
+/// The rules of the states and, behind them, those of the inner states.
 fn with_places(rules: Vec<Rule<u32>>, sides: Sides) -> Result<Vec<Rule<u32>>, AllocError>
     ensures { IfOk result (λ all. all.items ≡ rules.items ++ reverse sides.inner.items) }
 {

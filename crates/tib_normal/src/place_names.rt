@@ -1,4 +1,4 @@
-// The names of the states of places.
+// The names of inner states.
 ghost use Rattle.std.specs.Prelude.{◌≡◌, ℕ, ◌+◌, ◌<◌, ◌≤◌, ◌^◌, List, ◌++◌, length, IfOk, map, not, position};
 ghost use Rattle.tib_normal.specs.PlaceNames.{AreTaken, IsFree, name_of_place};
 
@@ -19,7 +19,7 @@ fn taken_lengths(alloc: Global, names: &Names) -> Result<Vec<bool>, AllocError>
     Ok(taken)
 }
 
-/// The first place in a list of lengths that is not taken.
+/// The first index in a list of lengths that is not taken.
 fn first_free(taken: &[bool]) -> Option<usize>
     ensures { result ≡ position not taken.now }
 {
@@ -38,7 +38,7 @@ fn free_length(alloc: Global, names: &Names) -> Result<usize, AllocError>
     }
 }
 
-/// The name of a place: a letter and its number in so many digits that it has this length.
+/// The name of an inner state: a letter and its number, with leading zeros up to this length.
 fn place_name(alloc: Global, number: u32, length: usize) -> Result<Vec<u8>, AllocError>
     requires { 1 ≤ length }
     ensures { IfOk result (λ name. name.items ≡ name_of_place length number) }
@@ -65,7 +65,8 @@ fn texts_of(alloc: Global, names: &Names) -> Result<Vec<Vec<u8>>, AllocError>
     Ok(texts)
 }
 
-/// The names of the states of the normal form: those of the grammar, and then names for the places.
+/// The names of the states of the normal form: those of the grammar, and then those of the inner
+/// states.
 pub(crate) fn all_names(alloc: Global, names: &Names, places: u32) -> Result<Names, AllocError>
     requires few_places { places < 100000000 }
     requires few_states { length names.now + places < 2 ^ 32 }

@@ -26,13 +26,16 @@ pub struct Made {
 }
 
 impl Made {
-    /// Adds the row of a state, a side and a cost, whose rule has so many parts, where the parts stay within the limit.
+    /// Adds the row of a state, a side and a cost, where the parts of its rule keep the sum within
+    /// the limit.
     pub fn add(&mut self, state: u32, side: u32, cost: Cost, parts: u64) -> Result<(), NormalError>
         requires { 1 ≤ parts }
-        ensures rows { OnOk result (self.new.rows.items ≡ self.old.rows.items ++ record { state = state; side = side; cost = cost } ∷ []) }
+        ensures rows { OnOk result (self.new.rows.items ≡ self.old.rows.items
+            ++ record { state = state; side = side; cost = cost } ∷ []) }
         ensures parts { OnOk result (self.new.parts ≡ self.old.parts + parts) }
         ensures limit { self.new.limit ≡ self.old.limit }
-        ensures many { IfErr result (λ e. IfTooMany e self.old.limit (self.old.limit < self.old.parts + parts)) }
+        ensures many { IfErr result (λ e. IfTooMany e self.old.limit (self.old.limit
+            < self.old.parts + parts)) }
     {
         if parts > self.limit || self.parts > self.limit - parts {
             return Err(NormalError::TooMany { limit: self.limit });
@@ -98,10 +101,13 @@ fn list_state(
 ) -> Result<(), AllocError>
     requires links { AreLinks (states_of rows.now) (length links.now.first.items) links.now }
     requires below { state < length links.now.first.items }
-    requires ready { AreReady (length sides.now.table.keys) (lists_of sides.now.table.keys) rows.now }
+    requires ready { AreReady (length sides.now.table.keys) (lists_of sides.now.table.keys)
+        rows.now }
     requires full { AreFull (lists_of sides.now.table.keys) }
-    requires arranging { IsArranging (lists_of sides.now.table.keys) rows.now state 0 rules.old.items }
-    ensures { OnOk result (IsArranging (lists_of sides.now.table.keys) rows.now state (length rows.now) rules.new.items) }
+    requires arranging { IsArranging (lists_of sides.now.table.keys) rows.now state 0
+        rules.old.items }
+    ensures { OnOk result (IsArranging (lists_of sides.now.table.keys) rows.now state
+        (length rows.now) rules.new.items) }
 {
     let mut n = links.first[state as usize] as usize;
     while n < rows.len() {
@@ -111,8 +117,9 @@ fn list_state(
     Ok(())
 }
 
-/// The rules that the rows stand for, in ascending order of their left states: those of a state stand in the order
-/// of its rows. It takes one pass over the states and one over the rows and their sides.
+/// The rules that the rows stand for, in ascending order of their left states: those of a state
+/// stand in the order of its rows. It takes one pass over the states and one over the rows and
+/// their sides.
 pub fn arrange(
     alloc: Global,
     rows: &[Row],
@@ -120,9 +127,11 @@ pub fn arrange(
     states: u32,
 ) -> Result<Vec<Rule<u32>>, AllocError>
     requires few { length rows.now < 2 ^ 32 }
-    requires ready { AreReady (length sides.now.table.keys) (lists_of sides.now.table.keys) rows.now }
+    requires ready { AreReady (length sides.now.table.keys) (lists_of sides.now.table.keys)
+        rows.now }
     requires full { AreFull (lists_of sides.now.table.keys) }
-    ensures { IfOk result (λ rules. AreArranged (lists_of sides.now.table.keys) rows.now states rules.items) }
+    ensures { IfOk result (λ rules. AreArranged (lists_of sides.now.table.keys) rows.now states
+        rules.items) }
 {
     let links = Links::new(alloc, &states_in(alloc, rows)?, states as usize)?;
     let mut rules = Vec::with_capacity(alloc, rows.len())?;

@@ -1,8 +1,10 @@
-// The right sides of the normal form: one label over states, with a state for each place below a root.
+// The right sides of the normal form: one label over states, with an inner state for each label
+// below a root.
+ghost use Rattle.tib_grammar.specs.Sides.{labels_in};
 ghost use Rattle.std.specs.Prelude.{◌≡◌, ℕ, ◌+◌, ◌<◌, ◌≤◌, ◌^◌, List, [], ◌∷◌, ◌++◌, length, take, drop, reverse, sum_by, OnOk, IfOk};
 ghost use Rattle.tib_grammar.specs.Items.{pair_of, pairs_of};
 ghost use Rattle.tib_tree.specs.Trees.{HasChildren};
-ghost use Rattle.tib_normal.specs.NormalForm.{labels_in, inner_rules, all_inner};
+ghost use Rattle.tib_normal.specs.NormalForm.{inner_rules, all_inner};
 ghost use Rattle.tib_normal.specs.Index.{lists_of};
 ghost use Rattle.tib_normal.specs.Rows.{AreSides};
 ghost use Rattle.tib_normal.specs.Offers.{no_side};
@@ -18,14 +20,14 @@ use tib_tree::Label;
 /// Marks a chain rule, which has no side of its own.
 pub const NO_SIDE: u32 = u32::MAX;
 
-/// The sides of the rules that are no chain rules, each once, and the rules of the places below their roots.
+/// The sides of the rules that are no chain rules, each once, and the rules of the inner states.
 #[derive(Drop)]
 pub struct Sides {
     /// The sides: the label of the root and the states at its children.
     pub table: IndexSet<Vec<u32>>,
     /// For each rule the number of its side, or `NO_SIDE`.
     pub numbers: Vec<u32>,
-    /// The rules of the places, from the last place to the first.
+    /// The rules of the inner states, from the last state to the first.
     pub inner: Vec<Rule<u32>>,
 }
 
@@ -52,7 +54,7 @@ fn take_children(
     Ok(side)
 }
 
-/// Puts the state of an item on the stack; that of a label is a new one, which gets its rule.
+/// Puts the state of an item on the stack; a label gets a new inner state and its rule.
 fn place_item(
     alloc: Global,
     item: &Item<u32>,
@@ -64,8 +66,10 @@ fn place_item(
     requires own { own_states item.now ≤ state }
     requires rank { (pair_of item.now).1 ≤ length stack.old.items }
     ensures state { IfOk result (λ s. s + own_states item.now ≡ state) }
-    ensures states { IfOk result (λ s. reverse stack.new.items ≡ states_with item.now s (reverse stack.old.items)) }
-    ensures rules { IfOk result (λ s. inner.new.items ≡ inner.old.items ++ rules_with item.now s (reverse stack.old.items) zero) }
+    ensures states { IfOk result (λ s. reverse stack.new.items
+        ≡ states_with item.now s (reverse stack.old.items)) }
+    ensures rules { IfOk result (λ s. inner.new.items ≡ inner.old.items
+        ++ rules_with item.now s (reverse stack.old.items) zero) }
 {
     match item {
         Item::Hole(end) => {
@@ -86,8 +90,8 @@ fn place_item(
     }
 }
 
-/// Places the items below a root, from the last to the first, with states below this one. The states at the
-/// root's children stand on the stack, the first child's last.
+/// Gives the items below a root their states, from the last to the first, inner ones below this
+/// one. The states at the root's children stand on the stack, the first child's last.
 fn place(
     alloc: Global,
     items: &[Item<u32>],
@@ -102,8 +106,10 @@ fn place(
     requires empty { stack.old.items ≡ [] }
     requires zero { zero ≡ 0 }
     ensures state { IfOk result (λ s. s + labels_in (below_root items.now) ≡ state) }
-    ensures states { IfOk result (λ s. reverse stack.new.items ≡ head_states s (below_root items.now)) }
-    ensures rules { IfOk result (λ s. reverse inner.new.items ≡ inner_rules s (below_root items.now) ++ reverse inner.old.items) }
+    ensures states { IfOk result (λ s. reverse stack.new.items
+        ≡ head_states s (below_root items.now)) }
+    ensures rules { IfOk result (λ s. reverse inner.new.items ≡ inner_rules s (below_root items.now)
+        ++ reverse inner.old.items) }
 {
     let mut first = state;
     let mut i = items.len();
@@ -115,7 +121,8 @@ fn place(
 }
 
 impl Sides {
-    /// The sides of some rules over so many states, where the states of their places are those below `end`.
+    /// The sides of some rules over this number of states, where their inner states are those below
+    /// `end`.
     pub fn new(
         alloc: Global,
         rules: &[Rule<u32>],
@@ -126,9 +133,11 @@ impl Sides {
         requires end { end ≡ states + sum_by rule_labels rules.now }
         requires zero { zero ≡ 0 }
         requires few { length rules.now < 2 ^ 32 }
-        ensures inner { IfOk result (λ sides. reverse sides.inner.items ≡ all_inner states rules.now) }
+        ensures inner { IfOk result (λ sides. reverse sides.inner.items
+            ≡ all_inner states rules.now) }
         ensures long { IfOk result (λ sides. length sides.numbers.items ≡ length rules.now) }
-        ensures sides { IfOk result (λ sides. AreSides states rules.now (lists_of sides.table.keys) sides.numbers.items) }
+        ensures sides { IfOk result (λ sides. AreSides states rules.now (lists_of sides.table.keys)
+            sides.numbers.items) }
     {
         let mut sides = Sides {
             table: IndexSet::new(alloc),
@@ -145,7 +154,7 @@ impl Sides {
         Ok(sides)
     }
 
-    /// Adds the side of a rule and the rules of its places, whose states are below this one.
+    /// Adds the side of a rule and the rules of its inner states, which are below this one.
     fn add(
         &mut self,
         alloc: Global,
@@ -161,9 +170,11 @@ impl Sides {
         requires place { n < length self.old.numbers.items }
         requires few { length self.old.table.keys < no_side }
         ensures state { IfOk result (λ s. s + rule_labels rule.now ≡ state) }
-        ensures rules { IfOk result (λ s. reverse self.new.inner.items ≡ inner_rules s rule.now.right.kids ++ reverse self.old.inner.items) }
+        ensures rules { IfOk result (λ s. reverse self.new.inner.items
+            ≡ inner_rules s rule.now.right.kids ++ reverse self.old.inner.items) }
         ensures empty { OnOk result (stack.new.items ≡ []) }
-        ensures number { IfOk result (λ s. IsNumbered rule.now n s (lists_of self.old.table.keys) (lists_of self.new.table.keys) self.old.numbers.items self.new.numbers.items) }
+        ensures number { IfOk result (λ s. IsNumbered rule.now n s (lists_of self.old.table.keys)
+            (lists_of self.new.table.keys) self.old.numbers.items self.new.numbers.items) }
     {
         let items = rule.right.items();
         let label = match &items[0] {
@@ -177,12 +188,13 @@ impl Sides {
         Ok(first)
     }
 
-    /// Gives a rule the number of its side, which goes last where it is new.
+    /// Gives a rule the number of its side; a new side is added behind the others.
     fn number(&mut self, n: usize, side: Vec<u32>) -> Result<(), AllocError>
         requires place { n < length self.old.numbers.items }
         requires few { length self.old.table.keys < no_side }
         ensures inner { self.new.inner ≡ self.old.inner }
-        ensures number { OnOk result (GetsNumber side.items n (lists_of self.old.table.keys) (lists_of self.new.table.keys) self.old.numbers.items self.new.numbers.items) }
+        ensures number { OnOk result (GetsNumber side.items n (lists_of self.old.table.keys)
+            (lists_of self.new.table.keys) self.old.numbers.items self.new.numbers.items) }
     {
         let (number, _) = self.table.insert_full(side)?;
         self.numbers[n] = number as u32;

@@ -4,7 +4,8 @@ use std::alloc::{AllocError, Global};
 use tib_cost::{Cost, MinPlus};
 use tib_grammar::{Grammar, Item, Names, Rule, Side};
 
-/// A rule: its left state, the items of its right side (a label with its rank, or a state), and its cost.
+/// A rule: its left state, the items of its right side (a label with its rank, or a state), and its
+/// cost.
 type Row<'a> = (u32, &'a [(u32, Option<u32>)], u64);
 
 fn make_rule(alloc: Global, row: Row) -> Result<Option<Rule<u32>>, AllocError> {
@@ -192,7 +193,8 @@ fn only_normal_grammars_are_taken(rt: HostRuntime) -> Result<(), AllocError> {
     Ok(())
 }
 
-/// The rules of a chain of states, each of which leads to the next at cost 1; the last one has a rule of cost 0.
+/// The rules of a chain of states, each of which leads to the next at cost 1; the last one has a
+/// rule of cost 0.
 fn chain_rules(alloc: Global, states: u32) -> Result<Vec<Rule<u32>>, AllocError> {
     let mut rules = Vec::new(alloc);
     for n in 1..states {
@@ -206,7 +208,8 @@ fn chain_rules(alloc: Global, states: u32) -> Result<Vec<Rule<u32>>, AllocError>
     Ok(rules)
 }
 
-/// How many rules the normal form of a chain of 70,000 states has, and what the first of them costs.
+/// How many rules the normal form of a chain of 70,000 states has, and what the first of them
+/// costs.
 fn measure_chain(alloc: Global, limit: u64) -> Result<Option<(usize, u64)>, AllocError> {
     let mut texts = Vec::new(alloc);
     for n in 0..70_000u32 {

@@ -42,7 +42,8 @@ fn ends_of(alloc: Global, rules: &[Rule<u32>]) -> Result<Vec<u32>, AllocError>
     Ok(ends)
 }
 
-/// The chain rules by the states to which they lead, and the other rules by the numbers of their sides.
+/// The chain rules by the states to which they lead, and the other rules by the numbers of their
+/// sides.
 #[derive(Drop)]
 pub struct Ways {
     pub to_state: Links,
@@ -50,7 +51,8 @@ pub struct Ways {
 }
 
 impl Ways {
-    /// The ways to some rules over so many states, which have so many sides with these numbers.
+    /// The ways to some rules over this number of states, whose sides have these numbers below
+    /// `sides`.
     pub fn new(
         alloc: Global,
         rules: &[Rule<u32>],

@@ -3,8 +3,9 @@ use Rattle.std.proofs.Common.{List, zero, suc, refl, subst, ◌-◌, arith, ap, 
 use Rattle.std.proofs.lemmas.List.{get_or_read}
 use Rattle.tib_grammar.specs.Run.{rule_at, no_rule}
 use Rattle.tib_grammar.specs.declared.Rule.{Rule}
-use Rattle.tib_normal.proofs.Pairwise.{Ascends-at, Ascends-from}
+use Rattle.tib_normal.proofs.Pairwise.{Ascends-at}
 use Rattle.tib_normal.proofs.normal.are_ascending.Goals as goal
+use Rattle.tib_lex.proofs.Lists.{Ascends-from}
 
 down :
     (rules : List (Rule ℕ)) → Ascends (λ (r s : Rule ℕ). r.left ≤ s.left) rules → (i least left : ℕ) → i < length rules → left ≡ (rule_at rules i).left →

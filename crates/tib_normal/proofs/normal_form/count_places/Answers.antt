@@ -3,11 +3,11 @@ use Rattle.std.specs.Prelude.{sum_by}
 use Rattle.std.proofs.lemmas.List.{get_or_read, take_all}
 use Rattle.tib_grammar.specs.declared.Rule.{Rule}
 use Rattle.tib_grammar.specs.Run.{no_rule}
-use Rattle.tib_normal.specs.NormalForm.{labels_in}
 use Rattle.tib_normal.specs.Places.{rule_labels, place_parts}
 use Rattle.tib_normal.proofs.Placing.{sum-more, below-kids}
 use Rattle.tib_normal.proofs.Counting.{parts-more, parts-kids, parts-within, normal-parts}
 use Rattle.tib_normal.proofs.normal_form.count_places.Goals as goal
+use Rattle.tib_grammar.specs.Sides.{labels_in}
 
 pub loop-rule-preserved : goal.loop-rule-preserved
 loop-rule-preserved c =

@@ -1,9 +1,10 @@
 use Rattle.std.proofs.Common.{refl, ◌+◌}
 use Rattle.std.specs.Prelude.{reverse}
-use Rattle.tib_normal.specs.NormalForm.{rule_parts, total}
+use Rattle.tib_normal.specs.NormalForm.{rule_parts}
 use Rattle.tib_normal.specs.Rows.{AreTooMany, HasMoreParts}
 use Rattle.tib_normal.proofs.Forming.{form_made, made_within, made_many, places_many, if_many}
 use Rattle.tib_normal.proofs.normal_form.list_rules.Goals as goal
+use Rattle.tib_lex.specs.Lists.{total}
 
 pub returns-in-None-clause-many : goal.returns-in-None-clause-many
 returns-in-None-clause-many g c = (refl, places_many g.S.Semiring.product c.args.states c.args.rules.now c.args.limit c.in-None.ensures.many)

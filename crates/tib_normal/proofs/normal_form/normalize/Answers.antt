@@ -1,9 +1,9 @@
 use Rattle.std.proofs.Common.{◌≡◌, ◌+◌, ℕ, List, length, arith, ap, sym, subst}
 use Rattle.tib_grammar.specs.Range.{AreInRange, AreLone}
-use Rattle.tib_normal.specs.NormalForm.{KeepsSeries}
 use Rattle.tib_normal.proofs.Forming.{form_range, form_normal, few_rules}
 use Rattle.tib_normal.proofs.Normalizing.{normalized}
 use Rattle.tib_normal.proofs.normal_form.normalize.Goals as goal
+use Rattle.tib_grammar.specs.Series.{KeepsSeries}
 
 pub assemble-requires-clause-few_rules : goal.assemble-requires-clause-few_rules
 assemble-requires-clause-few_rules g c = omega (arith, few_rules c.in-Ok.listed.rules.items, c.in-Ok.ensures.within, c.requires.to)

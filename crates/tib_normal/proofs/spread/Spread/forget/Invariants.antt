@@ -1,6 +1,7 @@
 use Rattle.std.proofs.Common.{length, [], ◌≡◌, vec_len}
-use Rattle.tib_normal.specs.Closure.{AreBelow, AreListed}
+use Rattle.tib_normal.specs.Closure.{AreListed}
 use Rattle.tib_normal.proofs.spread.Spread.forget.Given as goal
+use Rattle.tib_grammar.specs.Range.{AreBelow}
 
 abbrev pub invariant-loop-state : goal.invariant-loop-state
 invariant-loop-state l = record {
