@@ -6,7 +6,7 @@ use Rattle.tib_lex.specs.Lists.{Has, Each, Distinct, Ascends}
 use Rattle.tib_tree.specs.Trees.{only}
 use Rattle.tib_grammar.specs.Sides.{holes_of, HolesAreLeaves}
 use Rattle.tib_grammar.specs.Run.{rule_at, no_rule}
-use Rattle.tib_grammar.specs.Range.{AllBelow, IsInRange, AreInRange}
+use Rattle.tib_grammar.specs.Range.{AllBelow, IsInRange, AreInRange, AreBelow}
 use Rattle.tib_grammar.specs.StateName.{IsStateName, AreStateNames}
 use Rattle.tib_grammar.specs.GrammarOf.{GrammarOf, named_rule}
 use Rattle.tib_grammar.specs.declared.Rule.{Rule}
@@ -15,21 +15,19 @@ use Rattle.tib_grammar.proofs.Members.{has_at, at_has, each_has}
 use Rattle.tib_cost.specs.Semiring.{ProductLaws}
 use Rattle.tib_inside.specs.Inside.{IsInside, AreInsides}
 use Rattle.tib_inside.specs.Settling.{costs_in}
-use Rattle.tib_inside.specs.Links.{AreBelow}
 use Rattle.tib_inside.specs.Useful.{IsLive, IsUseful, below}
-use Rattle.tib_inside.specs.Trimmed.{IsTrimmed, AreTrimmed, AreSomeStates, HaveSameSeries, HaveSeriesOfEach}
+use Rattle.tib_inside.specs.Trimmed.{IsTrimmed, AreTrimmed, AreSomeStates, HaveSeriesOfEach}
 use Rattle.tib_inside.specs.Reaching.{lives, IsMarked, IsReached, AreReached, both_marked, chosen, AreKept, AreMoved}
 use Rattle.tib_inside.specs.Reaching as reached
 use Rattle.tib_grammar.specs.Renaming.{number_in}
 use Rattle.tib_inside.specs.Renaming.{AreNumbersOf, AscendsByPlace}
-use Rattle.tib_inside.proofs.Chosen.{chosen_has, chosen_of, chosen_ascends, chosen_below, chosen_by_place, chosen_most, has_map, distinct_at}
+use Rattle.tib_inside.proofs.Chosen.{chosen_has, chosen_of, chosen_ascends, chosen_below, chosen_by_place, chosen_most, distinct_at}
 use Rattle.tib_grammar.proofs.Renamed.{rule_back}
 use Rattle.tib_inside.proofs.Keeping.{kept as kept_series, kept_at}
 use Rattle.tib_inside.proofs.Living.{insides_all, in_marks, live_marked, marked_live, useful_left, reached_useful, useful_reached}
-
-both_true : (a b : Bool) → (a && b) ≡ true → (a ≡ true) × (b ≡ true)
-both_true true b e = (refl, e)
-both_true false b e = absurd (cc)
+use Rattle.tib_lex.proofs.Lists.{has_mapped}
+use Rattle.tib_lex.proofs.Booleans.{and-true}
+use Rattle.tib_grammar.specs.Series.{HaveSameSeries}
 
 true_both : (a b : Bool) → a ≡ true → b ≡ true → (a && b) ≡ true
 true_both a b e f = rw (e, f)
@@ -68,7 +66,7 @@ module _ {levelled weighted : Bool} {product : ℕ → ℕ → ℕ} (laws : Prod
 
       rule_of : (n : ℕ) → n < length rules → get_or both n false ≡ true → IsLive product rules n × IsUseful product rules (rule_at rules n).left
       rule_of n h m =
-          let parts = both_true (get_or live n false) (get_or kept (rule_at rules n).left false) (sym (both_is n h) ∙ m) in
+          let parts = and-true (get_or live n false) (get_or kept (rule_at rules n).left false) (sym (both_is n h) ∙ m) in
           let l = marked_live laws rules (costs_in costs) all live live_is n h parts.0 in
           (l, useful_left laws rules (costs_in costs) all n l (reached_useful laws rules (costs_in costs) all live live_is (rule_at rules n).left (r.only (rule_at rules n).left parts.1)))
 
@@ -91,7 +89,7 @@ kept_state_names names states s b a = record { each = each_name states b; distin
     distinct_names [] b a = tt
     distinct_names (q ∷ states) b a = (
       λ h.
-          let m = has_map (λ q. get_or names q []) states (get_or names q []) h in
+          let m = has_mapped (λ q. get_or names q []) states (get_or names q []) h in
           let at = at_has states m.0 0 m.1 in
           let before : q < get_or states at.0 0 = a 0 (suc at.0) (omega arith) (omega (arith, at.1)) in
           let within : get_or states at.0 0 < length names = b (suc at.0) (omega (arith, at.1)) in

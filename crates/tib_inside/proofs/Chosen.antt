@@ -1,15 +1,13 @@
 -- Numbers that a test holds of, and lists that ascend.
-use Rattle.std.specs.Prelude.{◌≡◌, ℕ, ◌<◌, ◌≤◌, ◌⊎◌, List, [], ◌∷◌, ◌++◌, length, map, Bool, true, false, refl, if◌then◌else◌}
+use Rattle.std.specs.Prelude.{◌≡◌, ℕ, ◌<◌, ◌≤◌, ◌⊎◌, List, [], ◌∷◌, ◌++◌, length, Bool, true, false, refl, if◌then◌else◌}
 use Rattle.std.proofs.Common.{zero, suc, arith, ap, sym, ◌∙◌, subst, inl, inr, get_or, length-append}
 use Rattle.tib_lex.specs.Lists.{Has, Distinct, Ascends}
 use Rattle.tib_grammar.proofs.Members.{has_at, at_has, has_left, has_right, has_either, each_has, each_of}
-use Rattle.tib_inside.specs.Links.{AreBelow}
 use Rattle.tib_inside.specs.Reaching.{chosen}
 use Rattle.tib_inside.specs.Renaming.{AscendsByPlace}
-
-bool_cases : (b : Bool) → (b ≡ true) ⊎ (b ≡ false)
-bool_cases true = inl refl
-bool_cases false = inr refl
+use Rattle.tib_lex.proofs.Booleans.{bool_cases}
+use Rattle.tib_grammar.specs.Range.{AreBelow}
+pub use Rattle.tib_lex.proofs.Lists.{has_mapped as has_map}
 
 -- a number is chosen
 pub record IsChosen (test : ℕ → Bool) (k n : ℕ) : Type 0 where
@@ -95,14 +93,7 @@ ascends_from R (x ∷ xs) d h = (
 pub chosen_by_place : (test : ℕ → Bool) (k : ℕ) (xs : List ℕ) → xs ≡ chosen test k → AscendsByPlace xs
 chosen_by_place test k xs e = ascends_at ◌<◌ xs 0 (subst (Ascends ◌<◌) (sym e) (chosen_ascends test k))
 
-pub has_map : {A B : Type 0} (f : A → B) (xs : List A) (y : B) → Has (map f xs) y → (x : A) × Has xs x × (f x ≡ y)
-has_map f [] y h = absurd h
-has_map f (x ∷ xs) y h = elim h [
-  | inl e ↦ (x, inl refl, e)
-  | inr k ↦ let r = has_map f xs y k in (r.0, inr r.1, r.2)
-]
-
--- places of a list without repetition are told by what stands there
+-- in a list without repetition no value stands at two indices
 pub distinct_at : {A : Type 0} (xs : List A) (i j : ℕ) (d : A) → Distinct xs → i < length xs → j < length xs → get_or xs i d ≡ get_or xs j d → i ≡ j
 distinct_at [] i j d a h k e = absurd (omega arith)
 distinct_at (x ∷ xs) zero zero d a h k e = refl

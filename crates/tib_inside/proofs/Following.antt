@@ -6,17 +6,15 @@ use Rattle.std.proofs.lemmas.List.Sums.{sum_by-set}
 use Rattle.tib_lex.specs.Lists.{Has}
 use Rattle.tib_grammar.specs.Items.{holes_in}
 use Rattle.tib_grammar.specs.Sides.{holes_of}
-use Rattle.tib_grammar.specs.Range.{AreInRange}
+use Rattle.tib_grammar.specs.Range.{AreInRange, AreBelow}
 use Rattle.tib_grammar.specs.Run.{rule_at, no_rule}
 use Rattle.tib_grammar.specs.declared.Rule.{Rule}
 use Rattle.tib_grammar.specs.declared.Item.{Item}
 use Rattle.tib_grammar.specs.declared.Item.TheVariants.{Label, Hole}
 use Rattle.tib_grammar.proofs.Members.{has_left, has_right, has_either}
-use Rattle.tib_inside.specs.Links.{IsNext, AreBelow}
+use Rattle.tib_inside.specs.Links.{IsNext}
 use Rattle.tib_inside.specs.Reaching.{lefts, IsMarked, IsReached, start, below, unmarked, Marks, Follows, IsReaching, AreReached}
-
-same_or : (i k : ℕ) → (i ≡ k) ⊎ (i ≡ k → ⊥)
-same_or i k = grind arith
+use Rattle.tib_lex.proofs.Numbers.{same_or_other}
 
 pub marks_none : (W : ℕ → Type 0) (old : List Bool) (stack : List ℕ) → ((q : ℕ) → W q → ⊥) → Marks W old old stack stack
 marks_none W old stack empty = record {
@@ -54,15 +52,15 @@ marks_one old stack state h free =
     record {
       long = length-set old state true;
       marked = λ q w. subst (IsMarked (slice_set old state true)) w here;
-      kept = λ q k. elim (same_or q state) [
+      kept = λ q k. elim (same_or_other q state) [
         | inl e ↦ subst (IsMarked (slice_set old state true)) (sym e) here
         | inr e ↦ get_or-set_other old state q true false e ∙ k
       ];
-      only = λ q k. elim (same_or q state) [
+      only = λ q k. elim (same_or_other q state) [
         | inl e ↦ inr (sym e)
         | inr e ↦ inl (sym (get_or-set_other old state q true false e) ∙ k)
       ];
-      fresh = λ q k. elim (same_or q state) [
+      fresh = λ q k. elim (same_or_other q state) [
         | inl e ↦ inr (has_right stack (state ∷ []) q (inl (sym e)))
         | inr e ↦ inl (sym (get_or-set_other old state q true false e) ∙ k)
       ];
@@ -253,7 +251,7 @@ reach_begin rules live count h =
     ]
 
     first : (count q : ℕ) → IsMarked (slice_set (replicate count false) 0 true) q → q ≡ 0
-    first count q k = elim (same_or q 0) [
+    first count q k = elim (same_or_other q 0) [
       | inl e ↦ e
       | inr e ↦ let bad : false ≡ true = sym (clear count q) ∙ sym (get_or-set_other (replicate count false) 0 q true false e) ∙ k in absurd (cc bad)
     ]

@@ -11,7 +11,7 @@ use Rattle.tib_cost.specs.Least.{times}
 use Rattle.tib_cost.proofs.Least.{at_least_right, grows_both}
 use Rattle.tib_cost.proofs.Times.{cut-some, cut-within}
 use Rattle.tib_inside.specs.Inside.{IsRunCost, IsInside, total}
-use Rattle.tib_inside.specs.Entries.{TakesLeast}
+use Rattle.tib_normal.specs.Entries.{TakesLeast}
 use Rattle.tib_inside.specs.Settling.{rule_total, HasOrWaits, AreSound}
 
 -- a run begins with a rule of its state

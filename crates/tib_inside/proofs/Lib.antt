@@ -1,4 +1,3 @@
-pub mod Waiting
 pub mod Occurring
 pub mod Totals
 pub mod Knuth

@@ -17,7 +17,7 @@ use Rattle.tib_inside.specs.Inside.{IsRunCost, IsInside, AreInsides, total}
 use Rattle.tib_inside.specs.Settling.{costs_in, rule_total}
 use Rattle.tib_inside.specs.Useful.{product_of, IsLive, IsUseful}
 use Rattle.tib_inside.specs.Useful as useful
-use Rattle.tib_inside.specs.Reaching.{lives, IsMarked, IsReached, AreReached}
+use Rattle.tib_inside.specs.Reaching.{lives, IsMarked, IsReached}
 use Rattle.tib_inside.specs.Reaching as reached
 use Rattle.tib_inside.proofs.Totals.{second_some}
 use Rattle.tib_inside.proofs.Knuth.{run_below, more_runs, rule_run}

@@ -12,13 +12,15 @@ use Rattle.tib_grammar.specs.declared.Rule.{Rule}
 use Rattle.tib_cost.specs.Semiring.{ProductLaws, most}
 use Rattle.tib_cost.specs.Least.{times}
 use Rattle.tib_inside.specs.Inside.{IsRunCost, IsInside, AreInsides}
-use Rattle.tib_inside.specs.Entries.{TakesLeast, AddsEntry}
-use Rattle.tib_inside.specs.Holes.{occurrences}
-use Rattle.tib_inside.specs.Settling.{costs_in, rule_total, Waits, HasOrWaits, AreSound, no_pending, unset, missing_among, known_total, scaled, IsPending, IsSettlingUpTo, IsSettling, Offers, Touches, IsTaken, left_over}
+use Rattle.tib_inside.specs.Settling.{costs_in, rule_total, Waits, HasOrWaits, AreSound, no_pending, missing_among, known_total, scaled, IsPending, IsSettlingUpTo, IsSettling, Offers, Touches, IsTaken, left_over}
 use Rattle.tib_inside.specs.declared.pending.Pending.{Pending}
 use Rattle.tib_inside.proofs.Totals.{total_known, total_missing, none_missing, none_known, scaled_total, missing_less}
 use Rattle.tib_inside.proofs.Knuth.{popped, ended, rule_total_run}
-use Rattle.tib_inside.proofs.Occurring.{same_or, same_cases, one_apart, one_same, below_at, first_occurs}
+use Rattle.tib_inside.proofs.Occurring.{one_apart, one_same, below_at, first_occurs}
+use Rattle.tib_lex.proofs.Numbers.{same_or_other, nat_eq_cases}
+use Rattle.tib_normal.proofs.Closing.{unset_one}
+use Rattle.tib_lex.specs.Lists.{occurrences}
+use Rattle.tib_normal.specs.Entries.{TakesLeast, AddsEntry, unset}
 
 grows : (costs : ℕ → Option ℕ) (before after : List (ℕ × ℕ)) (q c : ℕ) → ((e : ℕ × ℕ) → Contains before e → Contains after e) → HasOrWaits costs before q c → HasOrWaits costs after q c
 grows costs before after q c kept (inl k) = inl k
@@ -90,7 +92,7 @@ module _ {levelled weighted : Bool} {product : ℕ → ℕ → ℕ} (laws : Prod
       IsSettling product rules after e.0 listed pending rest
   settled costs after pending e rest listed taken unknown here others as_often = record {
     sound = record {
-      exact = λ q d h. exact q d h (same_or q e.1);
+      exact = λ q d h. exact q d h (same_or_other q e.1);
       runs = λ x h. taken.settling.sound.runs x (taken.takes.only x h);
       within = λ x h. taken.settling.sound.within x (taken.takes.only x h);
     };
@@ -123,7 +125,7 @@ module _ {levelled weighted : Bool} {product : ℕ → ℕ → ℕ} (laws : Prod
       still q d h (inr k) = (d, others q k ∙ h)
 
       has : (q c : ℕ) → HasOrWaits costs taken.entries q c → HasOrWaits after rest q c
-      has q c (inl k) = inl (still q k.0 k.1 (same_or q e.1))
+      has q c (inl k) = inl (still q k.0 k.1 (same_or_other q e.1))
       has q c (inr w) = last q c (waits_on taken.entries rest e taken.takes q c w)
 
   -- what a rule offers is the cost of a run
@@ -146,14 +148,14 @@ module _ {levelled weighted : Bool} {product : ℕ → ℕ → ℕ} (laws : Prod
       run e z t =
           rule_total_run laws rules costs sound.exact n e.0 b (sym (complete product costs c more (rule_at rules n) p is z) ∙ t)
 
-  -- one rule is told
+  -- one hole of one rule is counted in
   pub touched :
       (costs : ℕ → Option ℕ) (c n : ℕ) (listed : List ℕ) (old new : List Pending) (before after : List (ℕ × ℕ)) → n < length rules →
       IsSettling product rules costs c (n ∷ listed) old before → Touches product costs c n old new before after → IsSettling product rules costs c listed new after
   touched costs c n listed old new before after b s t = record {
     sound = sound_on costs c (occurrences n listed) n (get_or new n no_pending) before after b own s.sound t.offers;
     long = t.long ∙ s.long;
-    each = λ m h. elim (same_cases m n) [
+    each = λ m h. elim (nat_eq_cases m n) [
       | inl k ↦ subst (λ i. IsPending product costs c (occurrences i listed) (rule_at rules i) (get_or new i no_pending)) (sym k.0) own
       | inr k ↦
           let is = s.each m h in
@@ -161,7 +163,7 @@ module _ {levelled weighted : Bool} {product : ℕ → ℕ → ℕ} (laws : Prod
           subst (λ p. IsPending product costs c (occurrences m listed) (rule_at rules m) p) (sym (t.others m k.0))
           (subst (λ u. IsPending product costs c u (rule_at rules m) (get_or old m no_pending)) more is)
     ];
-    offered = λ m d h z e. elim (same_or m n) [
+    offered = λ m d h z e. elim (same_or_other m n) [
       | inl k ↦
           subst (λ i. HasOrWaits costs after (get_or new i no_pending).left d) (sym k)
           (t.offers.offered (ap (λ i. (get_or new i no_pending).missing) (sym k) ∙ z) d (ap (λ i. (get_or new i no_pending).product) (sym k) ∙ e))
@@ -190,13 +192,13 @@ module _ {levelled weighted : Bool} {product : ℕ → ℕ → ℕ} (laws : Prod
   begun costs n p old new before after b unknown left missing known s offers pushed = subst (λ ps. IsSettlingUpTo product rules (n + 1) costs 0 [] ps after) (sym pushed) record {
     sound = sound_on costs 0 0 n p before after b own s.sound offers;
     long = omega (arith, length_push old p, s.long);
-    each = λ m h. elim (same_or m n) [
+    each = λ m h. elim (same_or_other m n) [
       | inl k ↦
           subst (λ x. IsPending product costs 0 0 (rule_at rules m) x) (sym (get_or_push old p no_pending m (s.long ∙ sym k)))
           (subst (λ i. IsPending product costs 0 0 (rule_at rules i) p) (sym k) own)
       | inr k ↦ subst (λ x. IsPending product costs 0 0 (rule_at rules m) x) (sym (get_or_append_left old (p ∷ []) no_pending m (omega (arith, s.long, earlier m h k)))) (s.each m (earlier m h k))
     ];
-    offered = λ m d h z e. elim (same_or m n) [
+    offered = λ m d h z e. elim (same_or_other m n) [
       | inl k ↦
           let at = get_or_push old p no_pending m (s.long ∙ sym k) in
           subst (λ x. HasOrWaits costs after x.left d) (sym at) (offers.offered (ap (λ x. x.missing) (sym at) ∙ z) d (ap (λ x. x.product) (sym at) ∙ e))
@@ -244,10 +246,6 @@ has_some (Some d) e = (d, refl)
 pub has_none : (v : Option ℕ) → is_some v ≡ false → v ≡ None
 has_none None e = refl
 has_none (Some d) e = absurd (cc)
-
-unset_one : (o : Option ℕ) → o ≡ None → unset o ≡ 1
-unset_one None e = refl
-unset_one (Some d) e = absurd (cc)
 
 -- a state that gets its cost leaves less to do
 pub settled_less :

@@ -2,7 +2,7 @@
 use Rattle.std.specs.Prelude.{◌≡◌, ℕ, ◌+◌, ◌<◌, ◌≤◌, List, [], ◌∷◌, ◌++◌, length, drop, Bool, Option, None, Some, refl}
 use Rattle.std.proofs.Common.{zero, suc, arith, ap, sym, ◌∙◌, subst, inl, inr, get_or}
 use Rattle.std.proofs.lemmas.List.{drop_more, drop_all, get_or_default}
-use Rattle.tib_lex.specs.Lists.{Has}
+use Rattle.tib_lex.specs.Lists.{Has, occurrences}
 use Rattle.tib_grammar.specs.Items.{holes_in}
 use Rattle.tib_grammar.specs.Range.{AllBelow}
 use Rattle.tib_grammar.specs.declared.Item.{Item}
@@ -12,9 +12,10 @@ use Rattle.tib_cost.specs.Least.{times, IsCut}
 use Rattle.tib_cost.proofs.Least.{cut-cases}
 use Rattle.tib_cost.proofs.Times.{times_regroups, times_neutral, times_commutes}
 use Rattle.tib_inside.specs.Inside.{total}
-use Rattle.tib_inside.specs.Holes.{occurrences}
-use Rattle.tib_inside.specs.Settling.{unset, missing_among, or_one, scaled}
-use Rattle.tib_inside.proofs.Occurring.{same_cases, one_alike, one_apart}
+use Rattle.tib_inside.specs.Settling.{missing_among, or_one, scaled}
+use Rattle.tib_inside.proofs.Occurring.{one_alike, one_apart}
+use Rattle.tib_lex.proofs.Numbers.{nat_eq_cases}
+use Rattle.tib_normal.specs.Entries.{unset}
 
 times_cut : (product : ℕ → ℕ → ℕ) (v w : Option ℕ) → IsCut (times product v w)
 times_cut product None w = tt
@@ -158,7 +159,7 @@ pub missing_less :
     (costs after : ℕ → Option ℕ) (q c : ℕ) → costs q ≡ None → after q ≡ Some c → ((p : ℕ) → (p ≡ q → ⊥) → after p ≡ costs p) →
     (qs : List ℕ) → missing_among costs qs ≡ missing_among after qs + occurrences q qs
 missing_less costs after q c unknown here others [] = refl
-missing_less costs after q c unknown here others (p ∷ qs) = elim (same_cases q p) [
+missing_less costs after q c unknown here others (p ∷ qs) = elim (nat_eq_cases q p) [
   | inl k ↦
       let before : unset (costs p) ≡ 1 = ap (λ x. unset (costs x)) (sym k.0) ∙ ap unset unknown in
       let now : unset (after p) ≡ 0 = ap (λ x. unset (after x)) (sym k.0) ∙ ap unset here in
@@ -181,7 +182,7 @@ module _ {levelled weighted : Bool} {product : ℕ → ℕ → ℕ} (laws : Prod
       (costs after : ℕ → Option ℕ) (q c : ℕ) → costs q ≡ None → after q ≡ Some c → ((p : ℕ) → (p ≡ q → ⊥) → after p ≡ costs p) → (v : Option ℕ) (qs : List ℕ) →
       scaled product c (times product v (total product (λ p. or_one (costs p)) qs)) (occurrences q qs) ≡ times product v (total product (λ p. or_one (after p)) qs)
   scaled_total costs after q c unknown here others v [] = refl
-  scaled_total costs after q c unknown here others v (p ∷ qs) = elim (same_cases q p) [
+  scaled_total costs after q c unknown here others v (p ∷ qs) = elim (nat_eq_cases q p) [
     | inl k ↦
         let one : occurrences q (p ∷ qs) ≡ suc (occurrences q qs) = omega (arith, one_alike q p k.1) in
         let old : times product (or_one (costs p)) known ≡ known =

@@ -1,8 +1,7 @@
+-- The definitions of inside costs, of useful states, and of trimming.
 pub mod Inside
 pub mod Useful
 pub mod Trimmed
-pub mod Entries
-pub mod Agenda
 pub mod Links
 pub mod Holes
 pub mod Uses

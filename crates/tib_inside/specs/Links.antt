@@ -2,8 +2,10 @@
 use Rattle.std.specs.Prelude.{◌≡◌, ℕ, ◌+◌, ◌<◌, ◌≤◌, List, length}
 use Rattle.std.proofs.Common.{get_or}
 use Rattle.tib_inside.specs.declared.links.Links.{Links}
+pub use Rattle.tib_grammar.specs.Range.{AreBelow}
 
--- p is the first place from i on at which the state q stands, and the length of the list where there is none
+-- p is the first place from i on at which the state q stands, and the length of the list where
+-- there is none
 pub record IsNext (states : List ℕ) (q i p : ℕ) : Type 0 where
   pub from : i ≤ p
   pub within : p ≤ length states
@@ -15,8 +17,5 @@ pub record AreLinks (states : List ℕ) (count : ℕ) (links : Links) : Type 0 w
   pub states_long : length links.first.items ≡ count
   pub places_long : length links.next.items ≡ length states
   pub first : (q : ℕ) → q < count → IsNext states q 0 (get_or links.first.items q 0)
-  pub next : (n : ℕ) → n < length states → IsNext states (get_or states n 0) (n + 1) (get_or links.next.items n 0)
-
--- the states are below n
-abbrev pub AreBelow : ℕ → List ℕ → Type 0
-AreBelow n states = (i : ℕ) → i < length states → get_or states i 0 < n
+  pub next : (n : ℕ) → n < length states →
+      IsNext states (get_or states n 0) (n + 1) (get_or links.next.items n 0)

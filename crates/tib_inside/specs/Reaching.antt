@@ -10,9 +10,9 @@ use Rattle.tib_grammar.specs.Renaming.{number_in}
 use Rattle.tib_grammar.specs.Run.{rule_at}
 use Rattle.tib_grammar.specs.declared.Rule.{Rule}
 use Rattle.tib_inside.specs.Settling.{rule_total}
-use Rattle.tib_inside.specs.Links.{AreBelow}
 use Rattle.tib_inside.specs.Useful.{IsLive, IsUseful}
 use Rattle.tib_inside.specs.Renaming.{AscendsByPlace}
+use Rattle.tib_grammar.specs.Range.{AreBelow}
 
 -- for each rule, whether the product with the costs of the states in its right side is a cost
 abbrev pub lives : (ℕ → ℕ → ℕ) → (ℕ → Option ℕ) → List (Rule ℕ) → List Bool
@@ -26,7 +26,8 @@ lefts rules = map (λ r. r.left) rules
 abbrev pub IsMarked : List Bool → ℕ → Type 0
 IsMarked marks q = get_or marks q false ≡ true
 
--- the start is reached, and so is each state in the right side of a marked rule of a state that is reached
+-- the start is reached, and so is each state in the right side of a marked rule of a state that is
+-- reached
 pub data IsReached (rules : List (Rule ℕ)) (live : List Bool) : ℕ → Type 0 where
   start : IsReached rules live 0
   below :
@@ -39,7 +40,8 @@ unmarked true = 0
 unmarked false = 1
 
 -- the states that are wanted are marked, and those that were not marked before lie on the stack
-pub record Marks (IsWanted : ℕ → Type 0) (old new : List Bool) (before after : List ℕ) : Type 0 where
+pub record Marks (IsWanted : ℕ →
+    Type 0) (old new : List Bool) (before after : List ℕ) : Type 0 where
   pub long : length new ≡ length old
   pub marked : (q : ℕ) → IsWanted q → IsMarked new q
   pub kept : (q : ℕ) → IsMarked old q → IsMarked new q
@@ -59,13 +61,14 @@ pub record Follows (rules : List (Rule ℕ)) (live : List Bool) (p m q : ℕ) : 
   pub stands : Has (holes_of (rule_at rules rule).right) q
 
 -- all marked states are reached, and what each leads to is marked, or it lies on the stack
-pub record IsReaching (rules : List (Rule ℕ)) (live kept : List Bool) (stack : List ℕ) : Type 0 where
-  pub begun : IsMarked kept 0
-  pub only : (q : ℕ) → IsMarked kept q → IsReached rules live q
-  pub waiting : (q : ℕ) → Has stack q → IsMarked kept q
-  pub closed :
-      (n q : ℕ) → n < length rules → IsMarked live n → IsMarked kept (rule_at rules n).left → Has (holes_of (rule_at rules n).right) q →
-      IsMarked kept q ⊎ Has stack (rule_at rules n).left
+pub record IsReaching (rules : List (Rule ℕ)) (live kept : List Bool) (stack : List ℕ) : Type 0
+  where
+    pub begun : IsMarked kept 0
+    pub only : (q : ℕ) → IsMarked kept q → IsReached rules live q
+    pub waiting : (q : ℕ) → Has stack q → IsMarked kept q
+    pub closed :
+        (n q : ℕ) → n < length rules → IsMarked live n → IsMarked kept (rule_at rules n).left → Has (holes_of (rule_at rules n).right) q →
+        IsMarked kept q ⊎ Has stack (rule_at rules n).left
 
 -- the marked states are those that are reached
 pub record AreReached (rules : List (Rule ℕ)) (live kept : List Bool) : Type 0 where
@@ -82,7 +85,8 @@ chosen test zero = []
 chosen test (suc n) = if test n then chosen test n ++ n ∷ [] else chosen test n
 
 -- the start and the useful states, and the live rules of useful states, each ascending
-pub record AreKept (product : ℕ → ℕ → ℕ) (rules : List (Rule ℕ)) (count : ℕ) (states positions : List ℕ) : Type 0 where
+pub record AreKept (product : ℕ → ℕ →
+    ℕ) (rules : List (Rule ℕ)) (count : ℕ) (states positions : List ℕ) : Type 0 where
   pub states_ascend : Ascends ◌<◌ states
   pub states_by_place : AscendsByPlace states
   pub states_below : AreBelow count states
@@ -91,9 +95,14 @@ pub record AreKept (product : ℕ → ℕ → ℕ) (rules : List (Rule ℕ)) (co
   pub rules_ascend : Ascends ◌<◌ positions
   pub rules_below : AreBelow (length rules) positions
   pub rules_few : length positions ≤ length rules
-  pub are_rules : (n : ℕ) → Has positions n ↔ (IsLive product rules n × IsUseful product rules (rule_at rules n).left)
+  pub are_rules : (n : ℕ) → Has positions n
+      ↔ (IsLive product rules n × IsUseful product rules (rule_at rules n).left)
 
--- the marked ones of the first rules are moved, under new numbers, and in none of them stands anything below a hole
-pub record AreMoved (rules : List (Rule ℕ)) (marks : List Bool) (numbers : List ℕ) (count : ℕ) (moved : List (Rule ℕ)) : Type 0 where
-  pub are : moved ≡ map (λ n. named_rule (number_in numbers) (rule_at rules n)) (chosen (λ i. get_or marks i false) count)
-  pub leaves : (n : ℕ) → n < count → IsMarked marks n → HolesAreLeaves (only (rule_at rules n).right)
+-- the marked ones of the first rules are moved, under new numbers, and in none of them stands
+-- anything below a hole
+pub record AreMoved (rules : List (Rule ℕ)) (marks : List Bool) (numbers : List ℕ) (count : ℕ)
+    (moved : List (Rule ℕ)) : Type 0 where
+  pub are : moved ≡ map (λ n. named_rule (number_in numbers) (rule_at rules n)) (chosen (λ i.
+      get_or marks i false) count)
+  pub leaves : (n : ℕ) → n < count → IsMarked marks n →
+      HolesAreLeaves (only (rule_at rules n).right)

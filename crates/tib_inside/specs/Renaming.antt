@@ -8,4 +8,5 @@ AreNumbersOf states numbers = (i : ℕ) → i < length states → get_or numbers
 
 -- each state comes before those behind it
 abbrev pub AscendsByPlace : List ℕ → Type 0
-AscendsByPlace states = (i j : ℕ) → i < j → j < length states → get_or states i 0 < get_or states j 0
+AscendsByPlace states =
+    (i j : ℕ) → i < j → j < length states → get_or states i 0 < get_or states j 0

@@ -7,7 +7,8 @@ ghost use Rattle.tib_inside.specs.Holes.{AreHolesOf};
 use std::alloc::{AllocError, Global};
 use tib_grammar::{Item, Rule};
 
-/// The states in the right sides of some rules, rule by rule, the rule of each, and how many each rule has.
+/// The states in the right sides of some rules, rule by rule, the rule of each, and how many each
+/// rule has.
 #[derive(Drop)]
 pub struct Holes {
     pub states: Vec<u32>,

@@ -1,11 +1,13 @@
-// The places of each state in a list.
+// At which indices each state stands in a list. They are 64-bit numbers, since the right sides may
+// have 2^32 states.
 ghost use Rattle.std.specs.Prelude.{◌≡◌, ℕ, ◌+◌, ◌<◌, ◌≤◌, ◌^◌, IfOk, length};
-ghost use Rattle.tib_inside.specs.Links.{AreLinks, AreBelow};
+ghost use Rattle.tib_grammar.specs.Range.{AreBelow};
+ghost use Rattle.tib_inside.specs.Links.{AreLinks};
 
 use std::alloc::{AllocError, Global};
 
-/// For each state its first place in a list, and for each place the next one of its state. The length of the list stands
-/// where there is none.
+/// For each state its first place in a list, and for each place the next one of its state. The
+/// length of the list stands where there is none.
 #[derive(Drop)]
 pub struct Links {
     pub first: Vec<usize>,

@@ -7,14 +7,15 @@ ghost use Rattle.tib_grammar.specs.Range.{AllBelow, AreInRange};
 ghost use Rattle.tib_inside.specs.Holes.{AreHolesOf};
 ghost use Rattle.tib_inside.specs.Settling.{costs_in, no_pending, Offers, Touches, IsSettling};
 
-use crate::agenda::Agenda;
 use crate::holes::Holes;
 use std::alloc::{AllocError, Global};
 use tib_cost::{Cost, Semiring};
 use tib_grammar::Rule;
+use tib_normal::Agenda;
 
-/// What of a rule is needed while its states get their costs: its left state, how many places of its right side have a
-/// state without a cost, and the product of its cost and those of the other places.
+/// What of a rule is needed while its states get their costs: its left state, how many holes of its
+/// right side are missing, which means that their states have no cost, and the product of its cost
+/// and those of the other holes.
 #[derive(Clone, Copy, Debug)]
 pub struct Pending {
     pub product: Option<Cost>,
@@ -22,7 +23,7 @@ pub struct Pending {
     pub left: u32,
 }
 
-/// The cost of a rule whose states all have costs waits for its left state, unless that has a cost.
+/// If no hole is missing and the left state is unsettled, queues the rule's cost for it.
 fn offer(rule: &Pending, costs: &[Option<Cost>], agenda: &mut Agenda) -> Result<(), AllocError>
     requires left { rule.now.left < length costs.now }
     ensures { OnOk result (Offers (costs_in costs.now) rule.now agenda.old agenda.new) }
@@ -40,7 +41,7 @@ fn offer(rule: &Pending, costs: &[Option<Cost>], agenda: &mut Agenda) -> Result<
     Ok(())
 }
 
-/// A rule one of whose places has got a state with this cost.
+/// Counts in one hole of a rule, whose state has just got this cost.
 fn fill<S: Semiring>(rule: &Pending, cost: Cost) -> Pending
     requires missing { 0 < rule.now.missing }
     ensures left { result.left ≡ rule.now.left }
@@ -58,7 +59,8 @@ fn fill<S: Semiring>(rule: &Pending, cost: Cost) -> Pending
     }
 }
 
-/// One place of rule n has got a state with this cost.
+/// Counts in one hole of rule n, whose state has just got this cost, and queues the rule where it
+/// was the last.
 fn touch<S: Semiring>(
     n: usize,
     cost: Cost,
@@ -69,13 +71,15 @@ fn touch<S: Semiring>(
     requires rule { n < length pending.old.items }
     requires missing { 0 < (get_or pending.old.items n no_pending).missing }
     requires left { (get_or pending.old.items n no_pending).left < length costs.now }
-    ensures { OnOk result (Touches S.product (costs_in costs.now) cost n pending.old.items pending.new.items agenda.old agenda.new) }
+    ensures { OnOk result (Touches S.product (costs_in costs.now) cost n pending.old.items
+        pending.new.items agenda.old agenda.new) }
 {
     pending[n] = fill::<S>(&pending[n], cost);
     offer(&pending[n], costs, agenda)
 }
 
-/// The places of some rules have got a state with this cost.
+/// Counts in a hole of each of some rules, whose state has just got this cost, and queues those
+/// that miss no other.
 pub fn spread<S: Semiring>(
     rules: &[Rule<u32>],
     uses: &[u32],
@@ -86,8 +90,10 @@ pub fn spread<S: Semiring>(
 ) -> Result<(), AllocError>
     requires range { AreInRange (length costs.now) rules.now }
     requires below { AllBelow (length rules.now) uses.now }
-    requires settling { IsSettling S.product rules.now (costs_in costs.now) cost uses.now pending.old.items agenda.old }
-    ensures settling { OnOk result (IsSettling S.product rules.now (costs_in costs.now) 0 [] pending.new.items agenda.new) }
+    requires settling { IsSettling S.product rules.now (costs_in costs.now) cost uses.now
+        pending.old.items agenda.old }
+    ensures settling { OnOk result (IsSettling S.product rules.now (costs_in costs.now) 0 []
+        pending.new.items agenda.new) }
     ensures more { OnOk result (length agenda.new ≤ length agenda.old + length uses.now) }
 {
     for n in uses {
@@ -96,7 +102,7 @@ pub fn spread<S: Semiring>(
     Ok(())
 }
 
-/// The rules while no state has a cost. The costs of those without states on their right wait.
+/// Begins while no state has a cost: queues the costs of the rules without states on their right.
 pub fn begin<S: Semiring>(
     alloc: Global,
     rules: &[Rule<u32>],
@@ -108,7 +114,8 @@ pub fn begin<S: Semiring>(
     requires range { AreInRange (length costs.now) rules.now }
     requires none { (q : ℕ) → costs_in costs.now q ≡ None }
     requires empty { agenda.old ≡ [] }
-    ensures { IfOk result (λ pending. IsSettling S.product rules.now (costs_in costs.now) 0 [] pending.items agenda.new) }
+    ensures { IfOk result (λ pending. IsSettling S.product rules.now (costs_in costs.now) 0 []
+        pending.items agenda.new) }
 {
     let mut pending = Vec::with_capacity(alloc, rules.len())?;
     for (n, rule) in rules.iter().enumerate() {

@@ -47,7 +47,8 @@ fn left_states(alloc: Global, rules: &[Rule<u32>]) -> Result<Vec<u32>, AllocErro
 fn mark(state: u32, kept: &mut Vec<bool>, stack: &mut Vec<u32>) -> Result<(), AllocError>
     requires { state < length kept.old.items }
     ensures long { length kept.new.items ≡ length kept.old.items }
-    ensures marks { OnOk result (Marks (λ q. state ≡ q) kept.old.items kept.new.items stack.old.items stack.new.items) }
+    ensures marks { OnOk result (Marks (λ q.
+        state ≡ q) kept.old.items kept.new.items stack.old.items stack.new.items) }
 {
     if kept[state as usize] {
         return Ok(());
@@ -61,7 +62,8 @@ fn mark(state: u32, kept: &mut Vec<bool>, stack: &mut Vec<u32>) -> Result<(), Al
 fn mark_item(item: &Item<u32>, kept: &mut Vec<bool>, stack: &mut Vec<u32>) -> Result<(), AllocError>
     requires { AllBelow (length kept.old.items) (holes_in (item.now ∷ [])) }
     ensures long { length kept.new.items ≡ length kept.old.items }
-    ensures marks { OnOk result (Marks (Has (holes_in (item.now ∷ []))) kept.old.items kept.new.items stack.old.items stack.new.items) }
+    ensures marks { OnOk result (Marks (Has (holes_in (item.now ∷ []))) kept.old.items
+        kept.new.items stack.old.items stack.new.items) }
 {
     match item {
         Item::Label { .. } => Ok(()),
@@ -80,7 +82,8 @@ fn mark_items(
 ) -> Result<(), AllocError>
     requires { AllBelow (length kept.old.items) (holes_in items.now) }
     ensures long { length kept.new.items ≡ length kept.old.items }
-    ensures marks { OnOk result (Marks (Has (holes_in items.now)) kept.old.items kept.new.items stack.old.items stack.new.items) }
+    ensures marks { OnOk result (Marks (Has (holes_in items.now)) kept.old.items kept.new.items
+        stack.old.items stack.new.items) }
 {
     for item in items {
         mark_item(item, kept, stack)?;
@@ -97,7 +100,9 @@ fn mark_rule(
 ) -> Result<(), AllocError>
     requires { AllBelow (length kept.old.items) (holes_of rule.now.right) }
     ensures long { length kept.new.items ≡ length kept.old.items }
-    ensures marks { OnOk result (Marks (λ q. (is_live ≡ true) × Has (holes_of rule.now.right) q) kept.old.items kept.new.items stack.old.items stack.new.items) }
+    ensures marks { OnOk result (Marks (λ q. (is_live ≡ true)
+        × Has (holes_of rule.now.right) q) kept.old.items kept.new.items stack.old.items
+        stack.new.items) }
 {
     if !is_live {
         return Ok(());
@@ -120,7 +125,8 @@ fn follow(
     requires live { length live.now ≡ length rules.now }
     requires state { state < length kept.old.items }
     ensures long { length kept.new.items ≡ length kept.old.items }
-    ensures marks { OnOk result (Marks (Follows rules.now live.now state (length rules.now)) kept.old.items kept.new.items stack.old.items stack.new.items) }
+    ensures marks { OnOk result (Marks (Follows rules.now live.now state (length rules.now))
+        kept.old.items kept.new.items stack.old.items stack.new.items) }
 {
     let mut n = links.first[state as usize];
     while n < rules.len() {
@@ -151,7 +157,7 @@ fn reach(
     Ok(())
 }
 
-/// For each of so many states, whether live rules lead to it from the start.
+/// For each state below a number, whether live rules lead to it from the start.
 pub fn reached_states(
     alloc: Global,
     rules: &[Rule<u32>],
@@ -184,7 +190,8 @@ pub fn kept_rules(
     requires range { AreInRange (length kept.now) rules.now }
     requires live { length live.now ≡ length rules.now }
     ensures long { IfOk result (λ v. length v.items ≡ length rules.now) }
-    ensures both { IfOk result (λ v. (n : ℕ) → n < length rules.now → get_or v.items n false ≡ both_marked rules.now live.now kept.now n) }
+    ensures both { IfOk result (λ v. (n : ℕ) → n < length rules.now →
+        get_or v.items n false ≡ both_marked rules.now live.now kept.now n) }
 {
     let mut both = Vec::with_capacity(alloc, rules.len())?;
     for n in 0..rules.len() {
@@ -198,10 +205,11 @@ pub fn kept_rules(
     Ok(both)
 }
 
-/// The marked places, ascending.
+/// The marked indices, ascending.
 pub fn marked_places(alloc: Global, marks: &[bool]) -> Result<Vec<u32>, AllocError>
     requires { length marks.now < 2 ^ 32 }
-    ensures { IfOk result (λ v. v.items ≡ chosen (λ i. get_or marks.now i false) (length marks.now)) }
+    ensures { IfOk result (λ v. v.items
+        ≡ chosen (λ i. get_or marks.now i false) (length marks.now)) }
 {
     let mut places = Vec::new(alloc);
     for n in 0..marks.len() {

@@ -6,14 +6,14 @@ ghost use Rattle.tib_grammar.specs.Sides.{holes_of, HolesAreLeaves};
 ghost use Rattle.tib_grammar.specs.GrammarOf.{named_rule};
 ghost use Rattle.tib_grammar.specs.Range.{AllBelow, AreInRange};
 ghost use Rattle.tib_grammar.specs.Renaming.{number_in};
-ghost use Rattle.tib_inside.specs.Links.{AreBelow};
+ghost use Rattle.tib_grammar.specs.Range.{AreBelow};
 ghost use Rattle.tib_inside.specs.Reaching.{AreMoved};
 ghost use Rattle.tib_inside.specs.Renaming.{AreNumbersOf, AscendsByPlace};
 
 use std::alloc::{AllocError, Global};
 use tib_grammar::{Names, Rule};
 
-/// For each of so many states that is listed, its place in the list.
+/// For each listed state below a number, its index in the list.
 pub fn numbers_of(alloc: Global, states: &[u32], count: usize) -> Result<Vec<u32>, AllocError>
     requires few { length states.now < 2 ^ 32 }
     requires below { AreBelow count states.now }
@@ -31,7 +31,8 @@ pub fn numbers_of(alloc: Global, states: &[u32], count: usize) -> Result<Vec<u32
 /// The names of some states.
 fn names_of(alloc: Global, names: &Names, states: &[u32]) -> Result<Vec<Vec<u8>>, AllocError>
     requires { AreBelow (length names.now) states.now }
-    ensures { IfOk result (λ v. map (λ t. t.items) v.items ≡ map (λ q. get_or names.now q []) states.now) }
+    ensures { IfOk result (λ v. map (λ t. t.items) v.items
+        ≡ map (λ q. get_or names.now q []) states.now) }
 {
     let mut texts = Vec::with_capacity(alloc, states.len())?;
     for state in states {
@@ -76,7 +77,8 @@ pub fn marked_rules(
 ) -> Result<Vec<Rule<u32>>, AllocError>
     requires long { length marks.now ≡ length rules.items }
     requires range { AreInRange (length numbers.now) rules.items }
-    ensures { IfOk result (λ v. AreMoved rules.items marks.now numbers.now (length rules.items) v.items) }
+    ensures { IfOk result (λ v. AreMoved rules.items marks.now numbers.now (length rules.items)
+        v.items) }
 {
     let mut moved = Vec::with_capacity(alloc, rules.len())?;
     let mut place = 0;

@@ -15,7 +15,8 @@ use tib_grammar::{Item, Rule};
 fn times_item<S: Semiring>(cost: Cost, item: &Item<u32>, costs: &[Option<Cost>]) -> Option<Cost>
     requires within { cost ≤ most }
     requires below { AllBelow (length costs.now) (holes_in (item.now ∷ [])) }
-    ensures product { result ≡ times S.product (Some cost) (total S.product (costs_in costs.now) (holes_in (item.now ∷ []))) }
+    ensures product { result ≡ times S.product (Some cost)
+        (total S.product (costs_in costs.now) (holes_in (item.now ∷ []))) }
     ensures within { IfSome result (λ c. c ≤ most) }
 {
     match item {
@@ -27,7 +28,8 @@ fn times_item<S: Semiring>(cost: Cost, item: &Item<u32>, costs: &[Option<Cost>])
     }
 }
 
-/// The product of the costs of the states among some items. It ends at the first state that has none.
+/// The product of the costs of the states among some items. It ends at the first state that has
+/// none.
 fn times_items<S: Semiring>(items: &[Item<u32>], costs: &[Option<Cost>]) -> Option<Cost>
     requires { AllBelow (length costs.now) (holes_in items.now) }
     ensures { result ≡ total S.product (costs_in costs.now) (holes_in items.now) }
@@ -42,8 +44,8 @@ fn times_items<S: Semiring>(items: &[Item<u32>], costs: &[Option<Cost>]) -> Opti
     Some(cost)
 }
 
-/// The product of the cost of a rule and those of the states in its right side; none where a state has none or the
-/// product is above the greatest cost.
+/// The product of the cost of a rule and those of the states in its right side; none where a state
+/// has none or the product is above the greatest cost.
 pub fn rule_cost<S: Semiring>(rule: &Rule<u32>, costs: &[Option<Cost>]) -> Option<Cost>
     requires { AllBelow (length costs.now) (holes_of rule.now.right) }
     ensures { result ≡ rule_total S.product (costs_in costs.now) rule.now }

@@ -5,7 +5,8 @@ use tib_cost::{Boolean, Bottleneck, Cost, MinPlus, Semiring};
 use tib_grammar::{Grammar, Item, Names, Rule, Side};
 use tib_normal::Normal;
 
-/// A rule: its left state, the items of its right side (a label with its rank, or a state), and its cost.
+/// A rule: its left state, the items of its right side (a label with its rank, or a state), and its
+/// cost.
 type Row<'a> = (u32, &'a [(u32, Option<u32>)], u64);
 
 fn make_rule(alloc: Global, row: Row) -> Result<Option<Rule<u32>>, AllocError> {
@@ -92,7 +93,7 @@ fn text_of<S>(alloc: Global, grammar: &Grammar<S>) -> Result<String, AllocError>
     Ok(text)
 }
 
-/// The inside costs of some rules over so many states.
+/// The inside costs of some rules over this number of states.
 fn inside_text<S: Semiring + Drop>(
     alloc: Global,
     states: u8,
@@ -114,7 +115,7 @@ fn inside_text<S: Semiring + Drop>(
     Ok(text)
 }
 
-/// The trimmed grammar of some rules over so many states.
+/// The trimmed grammar of some rules over this number of states.
 fn trim_text(alloc: Global, states: u8, rows: &[Row]) -> Result<String, AllocError> {
     match make_grammar::<MinPlus>(alloc, states, rows)? {
         Some(grammar) => text_of(alloc, &trim::<MinPlus>(alloc, grammar)?),
@@ -229,7 +230,7 @@ fn normal_forms_are_trimmed(rt: HostRuntime) -> Result<(), AllocError> {
     Ok(())
 }
 
-/// A grammar of one state with so many rules, each of a label of its own.
+/// A grammar of one state with this number of rules, each of a label of its own.
 fn wide_grammar(alloc: Global, count: u32) -> Result<Option<Grammar<MinPlus>>, AllocError> {
     let mut rules = Vec::new(alloc);
     for label in 0..count {

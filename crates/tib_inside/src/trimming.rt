@@ -4,7 +4,8 @@ ghost use Rattle.std.proofs.Common.{get_or};
 ghost use Rattle.tib_grammar.specs.Range.{AreInRange};
 ghost use Rattle.tib_inside.specs.Inside.{AreInsides};
 ghost use Rattle.tib_inside.specs.Reaching.{AreKept, chosen};
-ghost use Rattle.tib_inside.specs.Trimmed.{IsTrimmed, HasSameSeries, HasSeriesOfEach, AreTrimmed, AreSomeStates, HaveSameSeries, HaveSeriesOfEach};
+ghost use Rattle.tib_inside.specs.Trimmed.{IsTrimmed, HasSeriesOfEach, AreTrimmed, AreSomeStates, HaveSeriesOfEach};
+ghost use Rattle.tib_grammar.specs.Series.{HasSameSeries, HaveSameSeries};
 
 use crate::reaching::{kept_rules, live_rules, marked_places, reached_states};
 use crate::renaming::{kept_names, marked_rules, numbers_of};
@@ -33,7 +34,8 @@ fn keep<S: Semiring>(
     requires range { AreInRange (length costs.now) rules.now }
     requires insides { AreInsides S.product rules.now costs.now }
     ensures long { IfOk result (λ k. length k.rules.items ≡ length rules.now) }
-    ensures kept { IfOk result (λ k. AreKept S.product rules.now (length costs.now) k.states.items (chosen (λ i. get_or k.rules.items i false) (length rules.now))) }
+    ensures kept { IfOk result (λ k. AreKept S.product rules.now (length costs.now) k.states.items
+        (chosen (λ i. get_or k.rules.items i false) (length rules.now))) }
 {
     let live = live_rules::<S>(alloc, rules, costs)?;
     let kept = reached_states(alloc, rules, &live, costs.len())?;
@@ -50,12 +52,13 @@ fn keep<S: Semiring>(
 pub struct TrimmedRules {
     /// The states that are kept, ascending.
     pub states: Vec<u32>,
-    /// The rules that are kept, in order, over the places of these states.
+    /// The rules that are kept, in order, over the indices of these states.
     pub rules: Vec<Rule<u32>>,
 }
 
-/// The start and the useful ones of so many states, and the live rules of useful states, each in its order. The rules are
-/// moved.
+/// The start and the useful ones of this number of states, and the live rules of useful states,
+/// each in its order. The rules are moved. Worst case: that of `inside`, and one pass over the
+/// rules and their right sides.
 pub fn trim_rules<S: Semiring>(
     alloc: Global,
     rules: Vec<Rule<u32>>,
@@ -64,9 +67,11 @@ pub fn trim_rules<S: Semiring>(
     requires some { 0 < states }
     requires few { length rules.items < 2 ^ 32 }
     requires range { AreInRange states rules.items }
-    ensures trimmed { IfOk result (λ t. AreTrimmed S.product rules.items t.states.items t.rules.items) }
+    ensures trimmed { IfOk result (λ t. AreTrimmed S.product rules.items t.states.items
+        t.rules.items) }
     ensures series { IfOk result (λ t. HaveSameSeries S.product rules.items t.rules.items) }
-    ensures each { IfOk result (λ t. HaveSeriesOfEach S.product rules.items t.states.items t.rules.items) }
+    ensures each { IfOk result (λ t. HaveSeriesOfEach S.product rules.items t.states.items
+        t.rules.items) }
     ensures states { IfOk result (λ t. AreSomeStates states t.states.items) }
     ensures range { IfOk result (λ t. AreInRange (length t.states.items) t.rules.items) }
     ensures few { IfOk result (λ t. length t.rules.items ≤ length rules.items) }
@@ -81,8 +86,8 @@ pub fn trim_rules<S: Semiring>(
     })
 }
 
-/// The grammar of the start and the useful states and of the live rules of useful states, each in its order. The rules
-/// are moved.
+/// The grammar of the start and the useful states and of the live rules of useful states, each in
+/// its order. The rules are moved.
 pub fn trim<S: Semiring>(alloc: Global, grammar: Grammar<S>) -> Result<Grammar<S>, AllocError>
     ensures trimmed { IfOk result (λ g. IsTrimmed S.product grammar g) }
     ensures series { IfOk result (λ g. HasSameSeries S.product grammar g) }

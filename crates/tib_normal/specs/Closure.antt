@@ -29,9 +29,8 @@ HasOrWaits costs entries r c = ((e : ℕ) × (costs r ≡ Some e)) ⊎ Waits ent
 
 -- Some states have their least costs of the side s. Where a chain rule leads to one of them, its
 -- left state has one too or waits; and so has each rule with the side.
-pub record IsClosing (product : ℕ → ℕ →
-    ℕ) (rules : List (Rule ℕ)) (numbers : List ℕ) (s : ℕ) (costs : ℕ →
-    Option ℕ) (entries : List (ℕ × ℕ)) : Type 0 where
+pub record IsClosing (product : ℕ → ℕ → ℕ) (rules : List (Rule ℕ)) (numbers : List ℕ) (s : ℕ)
+    (costs : ℕ → Option ℕ) (entries : List (ℕ × ℕ)) : Type 0 where
   pub exact : (r d : ℕ) → costs r ≡ Some d → IsLeast (IsOffer product rules numbers r s) (Some d)
   pub offers : (e : ℕ × ℕ) → Contains entries e → IsOffer product rules numbers e.1 s e.0
       × (e.0 ≤ most)
@@ -51,8 +50,8 @@ pub record IsStep (product : ℕ → ℕ → ℕ) (r : Rule ℕ) (d : ℕ) (old 
   pub long : length new ≤ length old + 1
 
 -- The entries grow by the left states of the rules before m that have the key k.
-pub record Spreads (product : ℕ → ℕ →
-    ℕ) (rules : List (Rule ℕ)) (keys : List ℕ) (k d m : ℕ) (old new : List (ℕ × ℕ)) : Type 0 where
+pub record Spreads (product : ℕ → ℕ → ℕ) (rules : List (Rule ℕ)) (keys : List ℕ) (k d m : ℕ)
+    (old new : List (ℕ × ℕ)) : Type 0 where
   pub kept : (e : ℕ × ℕ) → Contains old e → Contains new e
   pub added :
       (n : ℕ) → n < m → n < length rules → get_or keys n no_key ≡ k → product d (rule_at rules n).cost ≤ most →
@@ -75,8 +74,8 @@ pub record Skips (row : Row) (old new : Spread) (rows now : List Row) (parts sum
 
 -- A state gets its cost and its row with its parts, and the left states of the chain rules to it
 -- are queued.
-pub record Settles
-    (product : ℕ → ℕ → ℕ) (rules : List (Rule ℕ)) (ends : List ℕ) (row : Row) (more : ℕ) (old new : Spread) (rows now : List Row) (parts sum : ℕ) : Type 0 where
+pub record Settles (product : ℕ → ℕ → ℕ) (rules : List (Rule ℕ)) (ends : List ℕ) (row : Row)
+    (more : ℕ) (old new : Spread) (rows now : List Row) (parts sum : ℕ) : Type 0 where
   pub unknown : get_or old.costs.items row.state None ≡ None
   pub set : new.costs.items ≡ slice_set old.costs.items row.state (Some row.cost)
   pub spreads : Spreads product rules ends row.state row.cost (length rules) old.agenda new.agenda

@@ -32,9 +32,8 @@ AreOther x y = x.state ≡ y.state → x.side ≡ y.side → ⊥
 
 -- some rows at least costs, for the states and sides below these numbers, of which no two agree in
 -- both
-pub record AreLeastRows (product : ℕ → ℕ →
-    ℕ) (rules : List (Rule ℕ)) (numbers : List ℕ) (sides states : ℕ) (rows : List Row) : Type 0
-  where
+pub record AreLeastRows (product : ℕ → ℕ → ℕ) (rules : List (Rule ℕ)) (numbers : List ℕ)
+    (sides states : ℕ) (rows : List Row) : Type 0 where
     pub least : (x : Row) → Has rows x → IsLeast (IsOffer product rules numbers x.state x.side)
         (Some x.cost)
     pub state_below : (x : Row) → Has rows x → x.state < states
@@ -42,9 +41,8 @@ pub record AreLeastRows (product : ℕ → ℕ →
     pub apart : Ascends AreOther rows
 
 -- a row for each state that has a cost of a side from number n on
-pub record AreGathered (product : ℕ → ℕ →
-    ℕ) (rules : List (Rule ℕ)) (numbers : List ℕ) (n sides states : ℕ) (rows : List Row) : Type 0
-  where
+pub record AreGathered (product : ℕ → ℕ → ℕ) (rules : List (Rule ℕ)) (numbers : List ℕ)
+    (n sides states : ℕ) (rows : List Row) : Type 0 where
     pub are : AreLeastRows product rules numbers sides states rows
     pub from : (x : Row) → Has rows x → n ≤ x.side
     pub whole :
@@ -53,8 +51,8 @@ pub record AreGathered (product : ℕ → ℕ →
 
 -- some rows at least costs that have more parts than the limit, where the first of them, the old
 -- ones, have been counted in these parts
-pub record HaveMoreParts
-    (product : ℕ → ℕ → ℕ) (rules : List (Rule ℕ)) (numbers : List ℕ) (sides states : ℕ) (table : List (List ℕ)) (old : List Row) (parts limit : ℕ) : Type 0 where
+pub record HaveMoreParts (product : ℕ → ℕ → ℕ) (rules : List (Rule ℕ)) (numbers : List ℕ)
+    (sides states : ℕ) (table : List (List ℕ)) (old : List Row) (parts limit : ℕ) : Type 0 where
   pub rows : List Row
   pub are : AreLeastRows product rules numbers sides states rows
   pub more : limit + total (row_parts table) old < parts + total (row_parts table) rows

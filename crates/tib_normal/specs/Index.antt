@@ -34,8 +34,8 @@ abbrev pub held : {S : Type 0} → HashMap (ℕ × ℕ) ℕ S → List (Vec ℕ)
 held shapes buckets s = bucket_at (lists_of buckets) (get same_shape shapes s)
 
 -- each shape has a bucket of its own
-pub record AreNumbered {S : Type 0} (shapes : HashMap (ℕ
-    × ℕ) ℕ S) (buckets : List (Vec ℕ)) : Type 0 where
+pub record AreNumbered {S : Type 0} (shapes : HashMap (ℕ × ℕ) ℕ S)
+    (buckets : List (Vec ℕ)) : Type 0 where
   pub within : (s : ℕ × ℕ) (i : ℕ) → get same_shape shapes s ≡ Some i → i < length buckets
   pub apart : (s t : ℕ × ℕ) (i : ℕ) → get same_shape shapes s ≡ Some i →
       get same_shape shapes t ≡ Some i → s ≡ t

@@ -63,8 +63,8 @@ first_inner s (r ∷ rs) (suc n) = first_inner (s + labels_in r.right.kids) rs n
 
 -- c is the cost at which a state of the grammar gets this side: by a chain to a state, and a rule
 -- of that state that is no chain rule
-pub record Reaches (product : ℕ → ℕ →
-    ℕ) (states : ℕ) (rules : List (Rule ℕ)) (q : ℕ) (side : SideFor ℕ ℕ) (c : ℕ) : Type 0 where
+pub record Reaches (product : ℕ → ℕ → ℕ) (states : ℕ) (rules : List (Rule ℕ)) (q : ℕ)
+    (side : SideFor ℕ ℕ) (c : ℕ) : Type 0 where
   pub own : q < states
   pub chain : List ℕ
   pub rule : ℕ
@@ -85,9 +85,8 @@ IsNormalCost product states rules q side c =
 
 -- No two rules agree in both sides. Each rule has the least cost of its side, and each side that
 -- has a cost of at most the greatest has a rule.
-pub record IsNormalForm (product : ℕ → ℕ →
-    ℕ) (states : ℕ) (rules : List (Rule ℕ)) (new_states : ℕ) (new_rules : List (Rule ℕ)) : Type 0
-  where
+pub record IsNormalForm (product : ℕ → ℕ → ℕ) (states : ℕ) (rules : List (Rule ℕ)) (new_states : ℕ)
+    (new_rules : List (Rule ℕ)) : Type 0 where
     pub counted : new_states ≡ states + length (all_inner states rules)
     pub ascends : Ascends (λ r s. r.left ≤ s.left) new_rules
     pub distinct : Ascends (λ r s. r.left ≡ s.left → r.right ≡ s.right → ⊥) new_rules

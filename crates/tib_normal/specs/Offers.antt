@@ -11,8 +11,8 @@ no_side = 4294967295
 
 -- c is the cost of a chain from q to a state, and of a rule of that state whose side has the number
 -- s
-pub record IsOffer (product : ℕ → ℕ →
-    ℕ) (rules : List (Rule ℕ)) (numbers : List ℕ) (q s c : ℕ) : Type 0 where
+pub record IsOffer (product : ℕ → ℕ → ℕ) (rules : List (Rule ℕ)) (numbers : List ℕ)
+    (q s c : ℕ) : Type 0 where
   pub rule : ℕ
   pub below : rule < length rules
   pub number : get_or numbers rule no_side ≡ s

@@ -22,8 +22,8 @@ abbrev pub side_at : List (List ℕ) → ℕ → SideFor ℕ ℕ
 side_at table s = side_of (get_or table s [])
 
 -- rule n has the label f at its root, and its side has a number
-pub record HasSide (states : ℕ) (rules : List (Rule ℕ)) (table : List (List ℕ)) (n f s : ℕ) : Type 0
-  where
+pub record HasSide (states : ℕ) (rules : List (Rule ℕ)) (table : List (List ℕ))
+    (n f s : ℕ) : Type 0 where
     pub below : s < length table
     pub is : side_at table s ≡ record {
       label = label f;
@@ -50,8 +50,8 @@ pub record AreRows (product : ℕ → ℕ → ℕ) (states : ℕ) (rules rows : 
       IsLeast (Reaches product states rules r.left r.right) (Some r.cost)
 
 -- the rules of the first n states in the normal form: one for each side that has a cost
-pub record AreOwn (product : ℕ → ℕ →
-    ℕ) (states : ℕ) (rules : List (Rule ℕ)) (n : ℕ) (own : List (Rule ℕ)) : Type 0 where
+pub record AreOwn (product : ℕ → ℕ → ℕ) (states : ℕ) (rules : List (Rule ℕ)) (n : ℕ)
+    (own : List (Rule ℕ)) : Type 0 where
   pub rows : AreRows product states rules own
   pub ascends : Ascends (λ r s. r.left ≤ s.left) own
   pub below : (r : Rule ℕ) → Has own r → r.left < n
@@ -60,8 +60,8 @@ pub record AreOwn (product : ℕ → ℕ →
       (d : ℕ) × Has own (record { left = q; right = side; cost = d })
 
 -- some rules of the normal form, which with these parts beside them have more parts than the limit
-pub record AreTooMany (product : ℕ → ℕ →
-    ℕ) (states : ℕ) (rules : List (Rule ℕ)) (parts limit : ℕ) : Type 0 where
+pub record AreTooMany (product : ℕ → ℕ → ℕ) (states : ℕ) (rules : List (Rule ℕ))
+    (parts limit : ℕ) : Type 0 where
   pub rows : List (Rule ℕ)
   pub are : AreRows product states rules rows
   pub more : limit < parts + total rule_parts rows
@@ -78,8 +78,8 @@ HasMoreParts product states rules limit =
     limit < normal_parts more new
 
 -- there is a normal form that has at most as many parts as the limit
-pub record HasFormWithin (product : ℕ → ℕ →
-    ℕ) (states : ℕ) (rules : List (Rule ℕ)) (limit : ℕ) : Type 0 where
+pub record HasFormWithin (product : ℕ → ℕ → ℕ) (states : ℕ) (rules : List (Rule ℕ))
+    (limit : ℕ) : Type 0 where
   pub states_in_all : ℕ
   pub normal_rules : List (Rule ℕ)
   pub form : IsNormalForm product states rules states_in_all normal_rules

@@ -1,9 +1,9 @@
 use Rattle.std.proofs.Common.{rules, subst, sym, ◌∙◌, ap, ℕ, List, ◌≡◌, ◌∷◌, [], ◌++◌}
 use Rattle.std.specs.Prelude.{Bool, slice_set, true, false, replicate}
-use Rattle.tib_inside.specs.Links.{AreBelow}
 use Rattle.tib_inside.specs.Reaching.{IsReaching}
 use Rattle.tib_inside.proofs.Following.{lefts_below, reach_begin}
 use Rattle.tib_inside.proofs.reaching.reached_states.Goals as goal
+use Rattle.tib_grammar.specs.Range.{AreBelow}
 
 pub new-requires : goal.new-requires
 new-requires c = record { below = subst (λ (xs : List ℕ). AreBelow c.args.count xs) (sym (c.deref.ensures.value ∙ c.in_ok-lefts.ensures)) (lefts_below c.args.rules.now c.args.count c.requires.range) }

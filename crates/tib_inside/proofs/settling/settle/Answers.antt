@@ -1,11 +1,11 @@
 use Rattle.std.proofs.Common.{arith, sym, ap, ◌∙◌, ◌≤◌, ◌+◌, subst, length, List, ℕ}
 use Rattle.std.specs.Prelude.{Option, Some, None, slice_set}
 use Rattle.std.proofs.lemmas.List.{get_or_read, get_or-set_same, get_or-set_other}
-use Rattle.tib_inside.specs.Holes.{occurrences}
 use Rattle.tib_inside.specs.Settling.{costs_in, IsSettling}
 use Rattle.tib_inside.proofs.Moving.{dropped, settled, settled_less, has_some, has_none}
 use Rattle.tib_inside.proofs.Occurring.{uses_fit}
 use Rattle.tib_inside.proofs.settling.settle.Goals as goal
+use Rattle.tib_lex.specs.Lists.{occurrences}
 
 pub returns-then-is_some-clause-settling : goal.returns-then-is_some-clause-settling
 returns-then-is_some-clause-settling g c =
