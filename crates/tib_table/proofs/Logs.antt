@@ -26,7 +26,7 @@ module _ {A : Type 0} where
       go (y ∷ ys) rest (suc i) e = go ys rest i e
 
 module _ {K : Type 0} (eq : K → K → Bool) where
-  -- a key that is inserted is there already or goes last
+  -- a key that is inserted is there already or is added behind the others
   pub insert_grows : (ks : List K) (k : K) → IsPrefix ks (insert_key eq ks k)
   insert_grows ks k = go (list_any (eq k) ks)
     where

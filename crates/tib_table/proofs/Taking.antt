@@ -5,17 +5,20 @@ use Rattle.tib_table.specs.Kept.{Kept, keys_of}
 use Rattle.tib_table.specs.Known.{on}
 
 module _ {D K : Type 0} where
-  keys_set : (ks : List (Kept D K)) (i : ℕ) (t : Kept D K) → map keys_of (set ks i t) ≡ set (map keys_of ks) i t.keys
+  -- the keys of shelves of which one is exchanged
+  pub keys_set : (ks : List (Kept D K)) (i : ℕ) (t : Kept D K) → map keys_of (set ks i t) ≡ set (map keys_of ks) i t.keys
   keys_set [] i t = refl
   keys_set (k ∷ ks) zero t = refl
   keys_set (k ∷ ks) (suc i) t = ap (λ l. k.keys ∷ l) (keys_set ks i t)
 
-  here_after : (ks : List (Kept D K)) (i : ℕ) (t : Kept D K) → i < length ks → on (map keys_of (set ks i t)) i ≡ t.keys
+  -- the keys of the shelf that was put in
+  pub here_after : (ks : List (Kept D K)) (i : ℕ) (t : Kept D K) → i < length ks → on (map keys_of (set ks i t)) i ≡ t.keys
   here_after [] i t l = absurd (omega arith)
   here_after (k ∷ ks) zero t l = refl
   here_after (k ∷ ks) (suc i) t l = here_after ks i t (omega arith)
 
-  here_before : (ks : List (Kept D K)) (i : ℕ) (s : Kept D K) → s ≡ get_or ks i s → i < length ks → on (map keys_of ks) i ≡ s.keys
+  -- the keys of the shelf that stood there
+  pub here_before : (ks : List (Kept D K)) (i : ℕ) (s : Kept D K) → s ≡ get_or ks i s → i < length ks → on (map keys_of ks) i ≡ s.keys
   here_before [] i s e l = absurd (omega arith)
   here_before (k ∷ ks) zero s e l = ap keys_of (sym e)
   here_before (k ∷ ks) (suc i) s e l = here_before ks i s e (omega arith)

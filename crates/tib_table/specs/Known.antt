@@ -8,7 +8,8 @@ pub record TableOf (D : Type 0) : Type 0 where
   pub about : D
   pub locks : List TableId
 
--- what contracts see of seats: at which table they are, and the keys that they know of each shelf, in the shelf's order
+-- what contracts see of seats: at which table they are, and the keys that they know of each shelf,
+-- in the shelf's order
 pub record Knowledge (D K : Type 0) : Type 0 where
   pub table : TableOf D
   pub known : List (List K)
@@ -38,11 +39,15 @@ module _ {K : Type 0} where
 
   -- two keys never have one number, and a key never has two
   pub record IsNumbering (shelves : List (List K)) : Type 0 where
-    pub one_key : (shelf place : ℕ) (x y : K) → Names shelves shelf place x → Names shelves shelf place y → x ≡ y
-    pub one_number : (s p t q : ℕ) (x : K) → Names shelves s p x → Names shelves t q x → (s ≡ t) × (p ≡ q)
+    pub one_key : (shelf place : ℕ) (x y : K) → Names shelves shelf place x →
+        Names shelves shelf place y → x ≡ y
+    pub one_number : (s p t q : ℕ) (x : K) → Names shelves s p x → Names shelves t q x → (s ≡ t)
+        × (p ≡ q)
 
   -- sixteen shelves of keys that may be held, each on the shelf that it names, and each once
-  pub record AreShelves (may_hold : K → Type 0) (shelf_of : K → ℕ) (shelves : List (List K)) : Type 0 where
+  pub record AreShelves (may_hold : K → Type 0) (shelf_of : K → ℕ)
+      (shelves : List (List K)) : Type 0 where
     pub sixteen : length shelves ≡ 16
-    pub held : (shelf place : ℕ) (x : K) → Names shelves shelf place x → may_hold x × (shelf_of x ≡ shelf)
+    pub held : (shelf place : ℕ) (x : K) → Names shelves shelf place x → may_hold x
+        × (shelf_of x ≡ shelf)
     pub numbering : IsNumbering shelves

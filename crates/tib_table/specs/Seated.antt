@@ -22,7 +22,8 @@ module _ {D K : Type 0} where
 
 -- what passes know together
 abbrev pub knowledge : {D E K : Type 0} → D → List (Seen (Entry E K)) → Knowledge D K
-knowledge d ss = record { table = record { about = d; locks = map lock_of ss }; known = map known_of ss }
+knowledge d ss =
+    record { table = record { about = d; locks = map lock_of ss }; known = map known_of ss }
 
 module _ {D K : Type 0} where
   -- the passes from shelf j on are out of a turn, and each knows a log of its shelf
@@ -30,12 +31,14 @@ module _ {D K : Type 0} where
   AreSeated d j [] = Unit {0}
   AreSeated d j (s ∷ ss) = (s.inside ≡ false) × IsLogOf (d, j) s.seen × AreSeated d (j + 1) ss
 
-  -- the locks and passes of so many new shelves
+  -- the locks and passes of a number of new shelves
   abbrev pub AreOpened : D → ℕ → List TableId → List (Seen (Entry (D × ℕ) K)) → Type 0
   AreOpened d n zs ss = (length zs ≡ n) × (map lock_of ss ≡ zs) × (map known_of ss ≡ replicate n []) × AreSeated d 0 ss
 
--- the shelf that a pass knew when it was closed: its log goes on from what the pass has seen, its keys are distinct, and each may be held
-pub record Closes {D K : Type 0} (may_hold : D → K → Type 0) (eq : K → K → Bool) (pass : Seen (Entry D K)) (shelf : Kept D K) : Type 0 where
+-- the shelf that a pass knew when it was closed: its log goes on from what the pass has seen, its
+-- keys are distinct, and each may be held
+pub record Closes {D K : Type 0} (may_hold : D → K → Type 0) (eq : K → K → Bool)
+    (pass : Seen (Entry D K)) (shelf : Kept D K) : Type 0 where
   pub more : IsPrefix pass.seen (log_of shelf)
   pub distinct : IsDistinct eq shelf.keys
   pub held : All (may_hold shelf.about) shelf.keys

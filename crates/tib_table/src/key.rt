@@ -1,3 +1,4 @@
+// Keys, and the shelf on which a key belongs.
 ghost use Rattle.std.specs.Prelude.{◌≡◌, ◌<◌, ℕ, true};
 
 use std::hash::Hash;

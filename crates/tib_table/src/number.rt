@@ -1,3 +1,4 @@
+// A key's number: its shelf and its place there.
 ghost use Rattle.std.specs.Prelude.{◌<◌};
 
 /// The number of a key: its shelf, and its place there.

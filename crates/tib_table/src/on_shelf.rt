@@ -1,3 +1,4 @@
+// The problem of one shelf: the keys that belong on it.
 use crate::key::TableKey;
 use crate::problem::Problem;
 

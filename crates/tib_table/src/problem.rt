@@ -1,3 +1,4 @@
+// What a table is asked to hold: a type of keys, and which of them it may hold.
 use crate::key::TableKey;
 
 /// What the keys of a table belong to. Its data alone decide which keys it may hold.

@@ -1,3 +1,4 @@
+// A shelf: a set of keys, each with a place.
 ghost use Rattle.std.specs.Prelude.{◌≡◌, ◌<◌, ◌++◌, [], ◌∷◌, length, Some, slice_get, IfOk, IfErr, OnOk, MatchOption};
 ghost use Rattle.std.specs.List.{IsDistinct, All};
 ghost use Rattle.indexmap.specs.IndexSet.{insert_key};
@@ -46,7 +47,8 @@ impl<P: Problem> Shelf<P> {
         }
     }
 
-    /// How many keys it has. No two of them are equal, and the problem may hold each. It takes no memory.
+    /// How many keys it has. No two of them are equal, and the problem may hold each. It takes no
+    /// memory.
     pub fn len(&self) -> u64
         ensures count { result ≡ length self.now.keys }
         ensures distinct { IsDistinct P.Key.eq self.now.keys }
@@ -55,7 +57,8 @@ impl<P: Problem> Shelf<P> {
         self.keys.len() as u64
     }
 
-    /// The place of the key, which goes last if it is new. Only for want of memory the key comes back, and nothing is added.
+    /// The place of the key, which is added behind the others if it is new. Only for want of memory
+    /// the key comes back, and nothing is added.
     pub fn number(&mut self, key: P::Key) -> Result<u64, P::Key>
         requires { P.may_hold self.old.about key }
         ensures about { self.new.about ≡ self.old.about }
@@ -77,10 +80,12 @@ impl<P: Problem> Shelf<P> {
         self.keys.get_index(place as usize).unwrap()
     }
 
-    /// Removes the last key and answers it, or None where there is none. The other keys keep their places. It takes no memory.
+    /// Removes the last key and answers it, or None where there is none. The other keys keep their
+    /// places. It takes no memory.
     pub fn take_last(&mut self) -> Option<P::Key>
         ensures about { self.new.about ≡ self.old.about }
-        ensures taken { MatchOption result ((self.old.keys ≡ []) × (self.new.keys ≡ [])) (λ k. self.old.keys ≡ self.new.keys ++ k ∷ []) }
+        ensures taken { MatchOption result ((self.old.keys ≡ [])
+            × (self.new.keys ≡ [])) (λ k. self.old.keys ≡ self.new.keys ++ k ∷ []) }
     {
         self.keys.pop()
     }

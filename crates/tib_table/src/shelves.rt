@@ -1,3 +1,4 @@
+// The shelves of a table that is closed.
 ghost use Rattle.std.specs.Prelude.{◌≡◌, ◌<◌, [], ◌∷◌, ◌++◌, map, length, slice_get, slice_set, option_copied, MatchOption};
 ghost use Rattle.tib_table.specs.Known.{on};
 ghost use Rattle.tib_table.specs.Kept.{keys_of};
@@ -46,11 +47,12 @@ impl<P: Problem> Shelves<P> {
         }
     }
 
-    /// Removes the last key of a shelf and answers it, or None where the shelf is empty. All other keys keep their numbers. It takes
-    /// no memory.
+    /// Removes the last key of a shelf and answers it, or None where the shelf is empty. All other
+    /// keys keep their numbers. It takes no memory.
     pub fn take_last(&mut self, shelf: u32) -> Option<P::Key>
         requires { shelf < 16 }
-        ensures taken { MatchOption result (on self.old shelf ≡ []) (λ k. on self.old shelf ≡ on self.new shelf ++ k ∷ []) }
+        ensures taken { MatchOption result (on self.old shelf ≡ []) (λ k.
+            on self.old shelf ≡ on self.new shelf ++ k ∷ []) }
         ensures others { self.new ≡ slice_set self.old shelf (on self.new shelf) }
     {
         self.shelves[shelf as usize].take_last()

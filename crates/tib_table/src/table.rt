@@ -1,3 +1,4 @@
+// A table: a shelf for the keys of each kind, and the seats at it.
 ghost use Rattle.std.specs.Prelude.{◌≡◌, [], replicate, length, IfOk, IfErr};
 ghost use Rattle.tib_table.specs.Known.{Names, GoOn, KeepNames, longest, IsNumbering, AreShelves};
 
@@ -54,7 +55,8 @@ impl<P: Problem + Copy> Model for Seats<P> {
 }
 
 impl<P: Problem + Copy> Table<P> {
-    /// Sixteen empty shelves, and the first seats. It takes the room that `close` needs too, and fails only for want of memory.
+    /// Sixteen empty shelves, and the first seats. It takes the room that `close` needs too, and
+    /// fails only for want of memory.
     pub fn open(alloc: Global, problem: P) -> Result<(Table<P>, Seats<P>), AllocError>
         ensures about { IfOk result (λ r. r.0.about ≡ P.about problem) }
         ensures seats { IfOk result (λ r. r.1 ≡ record { table = r.0; known = replicate 16 [] }) }
@@ -69,8 +71,9 @@ impl<P: Problem + Copy> Table<P> {
         Ok((table, Seats { problem, passes }))
     }
 
-    /// The number of the key, for which it takes one turn of the key's shelf. The seats then know that it names this key. Only for want
-    /// of memory the key comes back, and nothing is added. It may wait for ever: while another turn of this shelf is held.
+    /// The number of the key, for which it takes one turn of the key's shelf. The seats then know
+    /// that it names this key. Only for want of memory the key comes back, and nothing is added. It
+    /// may wait for ever: while another turn of this shelf is held.
     pub fn number<R: Wait>(
         &self,
         rt: &R,
@@ -107,11 +110,15 @@ impl<P: Problem + Copy> Table<P> {
         })
     }
 
-    /// Takes in other seats, and leaves these with what both know. It takes no memory and waits for nobody.
+    /// Takes in other seats, and leaves these with what both know. It takes no memory and never
+    /// waits.
     pub fn join(&self, seats: &mut Seats<P>, other: Seats<P>)
         requires table { seats.old.table ≡ self.now }
         requires other_table { other.table ≡ self.now }
-        ensures both { seats.new ≡ record { table = self.now; known = longest seats.old.known other.known } }
+        ensures both { seats.new ≡ record {
+          table = self.now;
+          known = longest seats.old.known other.known;
+        } }
         ensures this { GoOn seats.old.known seats.new.known }
         ensures that { GoOn other.known seats.new.known }
     {
@@ -125,8 +132,9 @@ impl<P: Problem + Copy> Table<P> {
         }
     }
 
-    /// Waits for a last turn of each shelf, and gives the shelves. Each number that the seats know names its key there. No key has two
-    /// numbers, and each key is one that the problem may hold. It takes no memory.
+    /// Waits for a last turn of each shelf, and gives the shelves. Each number that the seats know
+    /// names its key there. No key has two numbers, and each key is one that the problem may hold.
+    /// It takes no memory.
     pub fn close<R: Wait>(self, rt: &R, seats: Seats<P>) -> Shelves<P>
         requires table { seats.table ≡ self }
         ensures more { GoOn seats.known result }

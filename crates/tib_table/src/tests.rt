@@ -1,3 +1,4 @@
+// Tables that one thread or several fill.
 ghost use Rattle.std.specs.Prelude.{◌≡◌, ◌≤◌, ◌<◌, IfOk};
 
 use crate::{Number, Problem, Seats, Shelf, Shelves, Table, TableKey};
@@ -103,7 +104,7 @@ struct Numbered {
     numbers: Vec<Number>,
 }
 
-// Numbers so many pairs from the first to the last, or the other way round.
+// Numbers a count of pairs from the first to the last, or the other way round.
 fn number_all<R: Wait>(
     rt: &R,
     alloc: Global,
@@ -169,7 +170,7 @@ fn are_named(shelves: &Shelves<AtMost>, numbers: &[Number], backwards: bool) -> 
     true
 }
 
-// How many keys the shelves hold together, of at most so many on each.
+// How many keys the shelves hold together, where each holds at most `most`.
 fn count_keys(shelves: &mut Shelves<AtMost>, most: u64) -> u64 {
     let mut count = 0u64;
     for shelf in 0..16 {

@@ -1,3 +1,4 @@
+// The locks of all shelves, and a key that is put on its shelf in a turn.
 ghost use Rattle.std.specs.Prelude.{◌≡◌, ◌≤◌, [], map, length, false, Some, slice_get, IfOk, IfErr};
 ghost use Rattle.std.specs.List.{All, AllZip};
 ghost use Rattle.std.specs.Vec.{vec_capacity};
@@ -27,7 +28,11 @@ pub fn open_lock<P: Problem>(
     alloc: Global,
     problem: P,
 ) -> Result<(TurnLock<Shelf<P>>, Pass<Shelf<P>>), AllocError>
-    ensures { IfOk result (λ r. r.1 ≡ record { lock = r.0; seen = shelf_log (P.about problem) []; inside = false }) }
+    ensures { IfOk result (λ r. r.1 ≡ record {
+      lock = r.0;
+      seen = shelf_log (P.about problem) [];
+      inside = false;
+    }) }
 {
     match TurnLock::open(alloc, Shelf::open(alloc, problem)) {
         Ok((lock, pass)) => Ok((lock, pass)),
@@ -35,7 +40,8 @@ pub fn open_lock<P: Problem>(
     }
 }
 
-/// One turn of a shelf, in which the key is numbered. The pass then knows it at that place. Only for want of memory the key comes back.
+/// One turn of a shelf, in which the key is numbered. The pass then knows it at that place. Only
+/// for want of memory the key comes back.
 pub fn number_in_turn<P: Problem, R: Wait>(
     rt: &R,
     lock: &TurnLock<Shelf<P>>,

@@ -1,13 +1,14 @@
 -- Trees with keys and costs: those at some places of a list, and the others.
-use Rattle.std.specs.Prelude.{◌≡◌, ℕ, ◌+◌, ◌<◌, ◌⊎◌, List, [], ◌∷◌, length, map, Bool, true, false, nat_eq, if◌then◌else◌, refl}
+use Rattle.std.specs.Prelude.{◌≡◌, ℕ, ◌+◌, ◌<◌, List, [], ◌∷◌, length, map, Bool, true, false, nat_eq, if◌then◌else◌, refl}
 use Rattle.std.specs.List.{list_any}
 use Rattle.std.proofs.Common.{zero, suc, arith, ap, sym, ◌∙◌, subst, inl, inr, get_or}
-use Rattle.std.proofs.lemmas.Bool.Decides.{nat_tests}
 use Rattle.tib_lex.specs.Lists.{Has, Each, Distinct}
 use Rattle.tib_tree.specs.Trees.{Trees, none, tree, count, join}
 use Rattle.tib_transducer.specs.Run.{pick, tree_at}
 use Rattle.tib_cost.specs.Semiring.{ProductLaws}
 use Rattle.tib_transducer.proofs.Products.{swap_first}
+use Rattle.tib_lex.proofs.Numbers.{nat_eq_cases}
+use Rattle.tib_lex.proofs.Booleans.{bool_cases}
 
 -- a key, a tree and a cost
 pub record Item (K : Type 0) : Type 0 where
@@ -15,13 +16,6 @@ pub record Item (K : Type 0) : Type 0 where
   pub label : ℕ
   pub kids : Trees ℕ
   pub cost : ℕ
-
-pub bool_cases : (b : Bool) → (b ≡ true) ⊎ (b ≡ false)
-bool_cases true = inl refl
-bool_cases false = inr refl
-
-pub nat_eq_cases : (g f : ℕ) → ((g ≡ f) × (nat_eq g f ≡ true)) ⊎ ((g ≡ f → ⊥) × (nat_eq g f ≡ false))
-nat_eq_cases g f = grind (arith, nat_tests)
 
 pub has_any : (i : ℕ) (vs : List ℕ) → Has vs i → list_any (nat_eq i) vs ≡ true
 has_any i [] h = absurd h

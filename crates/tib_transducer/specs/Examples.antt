@@ -1,4 +1,5 @@
--- A small transducer on which the definitions are computed. The labels are S 0, NP 1, VP 2, a 3, Z 4, n 5 and v 6.
+-- A small transducer on which the definitions are computed. The labels are S 0, NP 1, VP 2, a 3, Z
+-- 4, n 5 and v 6.
 use Rattle.std.specs.Prelude.{ℕ, List, [], ◌∷◌, None, Some}
 use Rattle.tib_tree.specs.Trees.{Tree, Trees, none, tree}
 use Rattle.tib_grammar.specs.Sides.{label, hole}

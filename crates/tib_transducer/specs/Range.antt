@@ -1,5 +1,5 @@
--- Rules whose states are in range, whose left sides begin with a label and number their variables, whose right sides have
--- no other variables, and whose leaves are leaves.
+-- Rules whose states are in range, whose left sides begin with a label and number their variables,
+-- whose right sides have no other variables, and whose leaves are leaves.
 use Rattle.std.specs.Prelude.{◌≡◌, ℕ, ◌<◌, List, [], ◌∷◌, length}
 use Rattle.std.proofs.Common.{suc}
 use Rattle.tib_lex.specs.Lists.{Each}
@@ -20,8 +20,8 @@ abbrev pub AreNumbered : ℕ → List Variable → Type 0
 AreNumbered n [] = Unit {0}
 AreNumbered n (x ∷ xs) = (x.number ≡ n) × AreNumbered (suc n) xs
 
--- The left side begins with a label, and numbers its variables from 0 in preorder; the right side has no variable that
--- the left side lacks.
+-- The left side begins with a label, and numbers its variables from 0 in preorder; the right side
+-- has no variable that the left side lacks.
 pub record IsShaped {P : Type 0} (r : TransducerRule P) : Type 0 where
   pub begins : BeginsWithLabel r.left
   pub numbered : AreNumbered 0 (variables_of r.left)

@@ -7,20 +7,24 @@ use Rattle.tib_transducer.specs.Run.{AreTransducerRuns, Reads, outputs, transduc
 use Rattle.tib_transducer.specs.declared.TransducerRule.{TransducerRule}
 
 -- c is the cost of some runs from the states ps that read the trees ts and put out the trees us
-pub record IsTransducerCost (product : ℕ → ℕ → ℕ) (rules : List (TransducerRule ℕ)) (ps : List ℕ) (ts us : Trees ℕ) (c : ℕ) : Type 0 where
+pub record IsTransducerCost (product : ℕ → ℕ → ℕ) (rules : List (TransducerRule ℕ)) (ps : List ℕ)
+    (ts us : Trees ℕ) (c : ℕ) : Type 0 where
   pub runs : Trees ℕ
   pub are_runs : AreTransducerRuns rules ps runs
   pub reads : Reads rules runs ts
   pub output : outputs rules runs ≡ us
   pub costs : transducer_cost product rules runs ≡ c
 
--- v is the series of the transducer at the state p and the trees t and u: the least cost of a run from p that reads t
--- and puts out u
-abbrev pub IsTransducerSeriesAt : (ℕ → ℕ → ℕ) → List (TransducerRule ℕ) → ℕ → Tree ℕ → Tree ℕ → Option ℕ → Type 0
-IsTransducerSeriesAt product rules p t u v = IsLeast (IsTransducerCost product rules (p ∷ []) (only t) (only u)) v
+-- v is the series of the transducer at the state p and the trees t and u: the least cost of a run
+-- from p that reads t and puts out u
+abbrev pub IsTransducerSeriesAt : (ℕ → ℕ → ℕ) → List (TransducerRule ℕ) → ℕ → Tree ℕ → Tree ℕ →
+    Option ℕ → Type 0
+IsTransducerSeriesAt product rules p t u v =
+    IsLeast (IsTransducerCost product rules (p ∷ []) (only t) (only u)) v
 
 -- the series of the transducer, which is that at the start
-abbrev pub IsTransducerSeries : (ℕ → ℕ → ℕ) → List (TransducerRule ℕ) → Tree ℕ → Tree ℕ → Option ℕ → Type 0
+abbrev pub IsTransducerSeries : (ℕ → ℕ → ℕ) → List (TransducerRule ℕ) → Tree ℕ → Tree ℕ → Option ℕ →
+    Type 0
 IsTransducerSeries product rules t u v = IsTransducerSeriesAt product rules 0 t u v
 
 -- two trees have at most one value of the series, at each state

@@ -41,7 +41,8 @@ fn count_variables(items: &[Item<Variable>]) -> Option<usize>
     Some(count)
 }
 
-// Whether the pairs among some items have states below the one number and variables below the other.
+// Whether the pairs among some items have states below the one number and variables below the
+// other.
 fn are_pairs_within(items: &[Item<Pair<u32>>], states: u32, variables: usize) -> bool
     ensures yes { IsTrue result → ArePairsWithin states variables (holes_in items.now) }
     ensures no { result ≡ false → ArePairsWithin states variables (holes_in items.now) → ⊥ }
@@ -90,15 +91,18 @@ fn are_rules(rules: &[TransducerRule<u32>], n: u32) -> bool
 }
 
 impl<S> Transducer<S> {
-    /// A transducer of these names and rules. It answers none exactly where there is no name, a state has a number that is not
-    /// below the number of names, a left side is a lone variable or its variables are not numbered 0, 1, 2 and so on in
-    /// preorder, or a right side has a variable that its left side lacks. It takes no memory.
+    /// A transducer of these names and rules. It answers none exactly where there is no name, a
+    /// state has a number that is not below the number of names, a left side is a lone variable or
+    /// its variables are not numbered 0, 1, 2 and so on in preorder, or a right side has a variable
+    /// that its left side lacks. It takes no memory.
     pub fn new(names: Names, rules: Vec<TransducerRule<u32>>) -> Option<Transducer<S>>
         requires { length rules.items < 2 ^ 32 }
         ensures names { IfSome result (λ t. t.names ≡ names) }
         ensures rules { IfSome result (λ t. t.rules ≡ rules.items) }
-        ensures some { IfSome result (λ _. (0 < length names) × AreWithin (length names) rules.items × AreShaped rules.items) }
-        ensures none { result ≡ None → 0 < length names → AreWithin (length names) rules.items → AreShaped rules.items → ⊥ }
+        ensures some { IfSome result (λ _. (0 < length names) × AreWithin (length names) rules.items
+            × AreShaped rules.items) }
+        ensures none { result ≡ None → 0 < length names → AreWithin (length names) rules.items →
+            AreShaped rules.items → ⊥ }
     {
         names.is_sound();
         let states = names.len();
@@ -112,9 +116,10 @@ impl<S> Transducer<S> {
         })
     }
 
-    /// What holds of each transducer: there is a start, its names are distinct state names, the states of its rules have names,
-    /// its rules are fewer than 2^32, and each has its shape: a left side that begins with a label and numbers its variables
-    /// from 0 in preorder, and a right side without other variables; and nothing stands below a variable or a pair.
+    /// What holds of each transducer: there is a start, its names are distinct state names, the
+    /// states of its rules have names, its rules are fewer than 2^32, and each has its shape: a
+    /// left side that begins with a label and numbers its variables from 0 in preorder, and a right
+    /// side without other variables; and nothing stands below a variable or a pair.
     pub fn is_sound(&self)
         ensures start { 0 < length self.now.names }
         ensures names { AreStateNames self.now.names }

@@ -7,7 +7,7 @@ use lib.ListN.{get_elem?}
 use lib.Seq.{set-get_or}
 use prog.Atomic.{either}
 use Rattle.atomic_table.proofs.Lists.{set_else, set_again, exchanged}
-use Rattle.atomic_table.specs.Table.{State, Me, Step, Act, step, keeps, takes, gives, rest, Valid, stepped, opening, Allows, Splits, Joins}
+use Rattle.atomic_table.specs.Table.{State, Me, Act, step, keeps, takes, Valid, stepped, Allows}
 use Rattle.tib_turn.specs.declared.view.View.{View}
 use Rattle.tib_turn.specs.declared.view.Stage.TheVariants.{Idle, Waiting, Inside}
 use Rattle.tib_turn.specs.Prefixes.{IsPrefix}
@@ -63,7 +63,7 @@ module _ {V E : Type 0} (log : V → List E) where
       (λ hit. (view m.0.seen m.0.told (Waiting old), keeps, tt, drawn s id old m r at out hit room, ((λ _. ap (λ (k : ℕ). (view m.0.seen m.0.told (Waiting k), m.1)) (sym hit)), λ miss. absurd (miss hit))))
       (λ miss. (m.0, keeps, tt, unmoved s 0 id m.0 r at, ((λ hit. absurd (miss hit)), λ _. refl)))
 
-  -- nobody is in a turn where a waiting seat's ticket is served
+  -- no seat is in a turn where a waiting seat's ticket is served
   nobody : (s : S) (id t : ℕ) (v : View E) (r : Rule s) → get_elem? s.views id ≡ some v → v.stage ≡ Waiting t → r.serving ≡ t → (holder : ℕ) → r.holder ≡ holder → r.holder ≡ 0
   nobody s id t v r at waits served zero is = is
   nobody s id t v r at waits served (suc k) is =

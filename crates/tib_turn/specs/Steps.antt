@@ -19,7 +19,8 @@ module _ {V E : Type 0} (log : V → List E) where
   abbrev pub Entered : St → St → Type 0
   Entered m n = (v : V) × (n.1 ≡ (0, Some v) ∷ m.1) × (n.0.seen ≡ log v) × IsInside n.0.stage × IsPrefix m.0.seen (log v)
 
-  -- a waiting seat found which ticket is served: it entered where that is its own, and else nothing changed
+  -- a waiting seat found which ticket is served: it entered where that is its own, and else nothing
+  -- changed
   abbrev pub Looked : Step (Option V) → St → ℕ → St → Type 0
   Looked s m found n = (t : ℕ) → m.0.stage ≡ Waiting t → (found ≡ t → Entered m n) × (found ≢ t → n ≡ m)
 

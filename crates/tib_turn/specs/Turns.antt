@@ -1,4 +1,5 @@
--- The rule of the turn lock: word 0 is the next ticket, word 1 the ticket that is served, and slot 0 has the value.
+-- The rule of the turn lock: word 0 is the next ticket, word 1 the ticket that is served, and slot
+-- 0 has the value.
 use Rattle.std.specs.Prelude.{◌≡◌, ℕ, suc, ◌^◌, ◌≤◌, ◌<◌, List, [], ◌∷◌, length, Option, Some, None}
 use mathlib.Core.Option.{some}
 use lib.ListN.{get_elem?}
@@ -23,7 +24,8 @@ IsInside Idle = ⊥
 IsInside (Waiting t) = ⊥
 IsInside (Inside t) = Unit {0}
 
--- a waiting seat owns a ticket that is not yet passed, and a seat in its turn owns the ticket that is served
+-- a waiting seat owns a ticket that is not yet passed, and a seat in its turn owns the ticket that
+-- is served
 module _ (holder : ℕ) (owner : ℕ → ℕ) (ticket serving j : ℕ) where
   abbrev pub Queued : Stage → Type 0
   Queued Idle = Unit {0}
@@ -31,9 +33,10 @@ module _ (holder : ℕ) (owner : ℕ → ℕ) (ticket serving j : ℕ) where
   Queued (Inside t) = (t ≡ serving) × (t < ticket) × (owner t ≡ j) × (holder ≡ suc j)
 
 module _ {V E : Type 0} (log : V → List E) where
-  -- Turns are taken in the order of tickets, one at a time, and what each seat has seen is a prefix of `agreed`. That is the log of the
-  -- value while no turn is held, and the log at entry while one is. `holder` is 0, or one more than the number of the seat in its turn;
-  -- `owner` tells for each ticket the seat that drew it.
+  -- Turns are taken in the order of tickets, one at a time, and what each seat has seen is a prefix
+  -- of `agreed`. That is the log of the value while no turn is held, and the log at entry while one
+  -- is. `holder` is 0, or one more than the number of the seat in its turn; `owner` tells for each
+  -- ticket the seat that drew it.
   pub record InTurns (s : State (Option V) (View E)) : Type 0 where
     pub agreed : List E
     pub holder : ℕ
@@ -44,13 +47,19 @@ module _ {V E : Type 0} (log : V → List E) where
     pub deep : length s.homes ≡ 1
     pub order : serving ≤ ticket
     pub small : ticket < 2 ^ 64
-    pub free : holder ≡ 0 → (v : V) × (get_elem? s.homes 0 ≡ some (some (Some v))) × (log v ≡ agreed)
-    pub held : (j : ℕ) → holder ≡ suc j → (v : View E) × (get_elem? s.views j ≡ some v) × IsInside v.stage
-    pub queued : (j : ℕ) (v : View E) → get_elem? s.views j ≡ some v → Queued holder owner ticket serving j v.stage
-    pub seen : (j : ℕ) (v : View E) → get_elem? s.views j ≡ some v → IsPrefix v.seen agreed × IsPrefix v.told agreed
-    pub inside : (j : ℕ) (v : View E) → get_elem? s.views j ≡ some v → IsInside v.stage → v.seen ≡ agreed
+    pub free : holder ≡ 0 → (v : V) × (get_elem? s.homes 0 ≡ some (some (Some v)))
+        × (log v ≡ agreed)
+    pub held : (j : ℕ) → holder ≡ suc j → (v : View E) × (get_elem? s.views j ≡ some v)
+        × IsInside v.stage
+    pub queued : (j : ℕ) (v : View E) → get_elem? s.views j ≡ some v →
+        Queued holder owner ticket serving j v.stage
+    pub seen : (j : ℕ) (v : View E) → get_elem? s.views j ≡ some v → IsPrefix v.seen agreed
+        × IsPrefix v.told agreed
+    pub inside : (j : ℕ) (v : View E) → get_elem? s.views j ≡ some v → IsInside v.stage →
+        v.seen ≡ agreed
 
-  -- between calls a pass is out of its turn and holds nothing, or in its turn and holds the empty slot
+  -- between calls a pass is out of its turn and holds nothing, or in its turn and holds the empty
+  -- slot
   abbrev pub Stands : Stage → List (ℕ × Option V) → Type 0
   Stands Idle c = c ≡ []
   Stands (Waiting t) c = ⊥

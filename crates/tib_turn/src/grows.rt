@@ -1,3 +1,4 @@
+// Values with a log that only grows.
 ghost use Rattle.std.specs.Prelude.{List};
 
 /// A value with a log: a list of entries that its holders only ever make longer.

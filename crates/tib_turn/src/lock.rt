@@ -1,3 +1,4 @@
+// The turn lock: a value that one holder at a time may change, in the order of the tickets.
 ghost use Rattle.std.specs.Prelude.{◌≡◌, IfOk, IfErr, true, false};
 ghost use Rattle.tib_turn.specs.Prefixes.{IsPrefix, longer};
 
@@ -11,7 +12,8 @@ use std::marker::{Model, PhantomData};
 use std::snapshot::Snapshot;
 use std::sync::Wait;
 
-/// A value that is handed to one pass at a time, in the order in which they drew their tickets (Reed and Kanodia 1979).
+/// A value that is handed to one pass at a time, in the order in which they drew their tickets
+/// (Reed and Kanodia 1979).
 #[derive(Drop)]
 pub struct TurnLock<V: Grows> {
     table: Table<Option<V>, View<V::Entry>, Snapshot<V>, TakesTurns<V>, Global>,
@@ -30,7 +32,8 @@ impl<V: Grows> Model for TurnLock<V> {
     ghost invariant = { λ l. (l.table.shared.table_id.words ≡ 2) × (l.table.shared.table_id.slots ≡ 1) };
 }
 
-/// What enters a lock. It knows of which lock it is, a list that it has seen, which is a prefix of the log, and whether it is in a turn.
+/// What enters a lock. It knows of which lock it is, a list that it has seen, which is a prefix of
+/// the log, and whether it is in a turn.
 #[derive(Drop)]
 pub struct Pass<V: Grows> {
     seat: Seat<Option<V>, View<V::Entry>>,
@@ -55,10 +58,14 @@ pub struct Turn<'a, V> {
 }
 
 impl<V: Grows> TurnLock<V> {
-    /// A lock over the value, and its first pass, which has seen the value's log. Only for want of memory the value comes back, as it
-    /// was.
+    /// A lock over the value, and its first pass, which has seen the value's log. Only for want of
+    /// memory the value comes back, as it was.
     pub fn open(alloc: Global, value: V) -> Result<(TurnLock<V>, Pass<V>), V>
-        ensures opened { IfOk result (λ r. r.1 ≡ record { lock = r.0; seen = V.log value; inside = false }) }
+        ensures opened { IfOk result (λ r. r.1 ≡ record {
+          lock = r.0;
+          seen = V.log value;
+          inside = false;
+        }) }
         ensures refused { IfErr result (λ v. v ≡ value) }
     {
         let Ok(mut slots) = Vec::with_capacity(alloc, 1) else {
@@ -76,13 +83,18 @@ impl<V: Grows> TurnLock<V> {
         }
     }
 
-    /// Waits for the pass's turn, and hands out the value. The log goes on from what the pass has seen, and now the pass has seen it
-    /// whole. It takes no memory. It may wait for ever: while another turn is held, or where 2^64 - 1 turns were taken.
+    /// Waits for the pass's turn, and hands out the value. The log goes on from what the pass has
+    /// seen, and now the pass has seen it whole. It takes no memory. It may wait for ever: while
+    /// another turn is held, or where 2^64 - 1 turns were taken.
     pub fn enter<R: Wait>(&self, rt: &R, pass: &mut Pass<V>) -> Turn<'_, V>
         requires lock { pass.old.lock ≡ self.now }
         requires outside { pass.old.inside ≡ false }
         ensures prefix { IsPrefix pass.old.seen (V.log result.value) }
-        ensures inside { pass.new ≡ record { lock = self.now; seen = V.log result.value; inside = true } }
+        ensures inside { pass.new ≡ record {
+          lock = self.now;
+          seen = V.log result.value;
+          inside = true;
+        } }
     {
         let ticket = take_ticket(rt, &self.table.shared, &mut pass.seat);
         let value = wait_for_turn(rt, &self.table.shared, &mut pass.seat, ticket);
@@ -92,13 +104,17 @@ impl<V: Grows> TurnLock<V> {
         }
     }
 
-    /// Ends the turn, and serves the next ticket. The value's log goes on from what it was at entry, and the pass has seen it whole. It
-    /// takes no memory and waits for nobody.
+    /// Ends the turn, and serves the next ticket. The value's log goes on from what it was at
+    /// entry, and the pass has seen it whole. It takes no memory and never waits.
     pub fn leave(&self, turn: Turn<'_, V>, pass: &mut Pass<V>)
         requires lock { pass.old.lock ≡ self.now }
         requires inside { pass.old.inside ≡ true }
         requires grows { IsPrefix pass.old.seen (V.log turn.value) }
-        ensures outside { pass.new ≡ record { lock = self.now; seen = V.log turn.entry.value; inside = false } }
+        ensures outside { pass.new ≡ record {
+          lock = self.now;
+          seen = V.log turn.entry.value;
+          inside = false;
+        } }
     {
         let Turn { value, lock: _ } = turn;
         let shared = &self.table.shared;
@@ -108,7 +124,7 @@ impl<V: Grows> TurnLock<V> {
         shared.wake_all(1);
     }
 
-    /// A second pass, which has seen the same list. It takes no memory and waits for nobody.
+    /// A second pass, which has seen the same list. It takes no memory and never waits.
     pub fn split(&self, pass: &mut Pass<V>) -> Pass<V>
         requires lock { pass.old.lock ≡ self.now }
         requires outside { pass.old.inside ≡ false }
@@ -120,13 +136,17 @@ impl<V: Grows> TurnLock<V> {
         }
     }
 
-    /// Takes in another pass, and leaves this one with the longer of both lists, of which both are prefixes. It takes no memory and
-    /// waits for nobody.
+    /// Takes in another pass, and leaves this one with the longer of both lists, of which both are
+    /// prefixes. It takes no memory and never waits.
     pub fn join(&self, pass: &mut Pass<V>, other: Pass<V>)
         requires lock { pass.old.lock ≡ self.now }
         requires other_lock { other.lock ≡ self.now }
         requires outside { (pass.old.inside ≡ false) × (other.inside ≡ false) }
-        ensures longer { pass.new ≡ record { lock = self.now; seen = longer pass.old.seen other.seen; inside = false } }
+        ensures longer { pass.new ≡ record {
+          lock = self.now;
+          seen = longer pass.old.seen other.seen;
+          inside = false;
+        } }
         ensures this { IsPrefix pass.old.seen pass.new.seen }
         ensures that { IsPrefix other.seen pass.new.seen }
     {
@@ -138,7 +158,8 @@ impl<V: Grows> TurnLock<V> {
 }
 
 impl<V: Grows + Drop> TurnLock<V> {
-    /// Waits for a last turn, and gives the value for good. Its log goes on from what the pass has seen. It takes no memory.
+    /// Waits for a last turn, and gives the value for good. Its log goes on from what the pass has
+    /// seen. It takes no memory.
     pub fn close<R: Wait>(self, rt: &R, mut pass: Pass<V>) -> V
         requires lock { pass.lock ≡ self }
         requires outside { pass.inside ≡ false }

@@ -1,10 +1,12 @@
+// The rule of a turn lock: what its words and its seats agree on after every step.
 use crate::grows::Grows;
 use crate::view::View;
 use atomic_table::{Join, Play, Split, TableRule};
 use std::marker::PhantomData;
 use std::snapshot::Snapshot;
 
-/// What holds between any two steps: the log of the value under the lock goes on from what each pass has seen.
+/// What holds between any two steps: the log of the value under the lock goes on from what each
+/// pass has seen.
 pub struct TakesTurns<V> {
     of: PhantomData<V>,
 }
@@ -50,7 +52,8 @@ impl<V: Grows> Play<Option<V>, View<V::Entry>> for EndTurn<V> {
     ghost then = { Left V.log };
 }
 
-/// A step that changes nothing, from which a pass learns that of its two lists one is a prefix of the other.
+/// A step that changes nothing, from which a pass learns that of its two lists one is a prefix of
+/// the other.
 pub struct SeeLonger<V> {
     of: PhantomData<V>,
 }
@@ -72,7 +75,7 @@ impl<E> Split<View<E>> for SplitPass {
     ghost right = { λ v. idle v.seen };
 }
 
-/// A pass that is told what another has seen.
+/// A pass that keeps, beside its own list, the list that another pass has seen.
 pub struct JoinPasses;
 
 impl<E> Join<View<E>> for JoinPasses {

@@ -1,3 +1,4 @@
+// Turn locks that one thread or several share.
 ghost use Rattle.std.specs.Prelude.{◌≡◌, ◌≤◌, false};
 ghost use Rattle.tib_turn.specs.Prefixes.{IsPrefix};
 

@@ -1,3 +1,4 @@
+// Drawing a ticket, and waiting until it is served.
 ghost use Rattle.std.specs.Prelude.{◌≡◌, [], ◌∷◌, None};
 ghost use Rattle.tib_turn.specs.Prefixes.{IsPrefix};
 ghost use Rattle.tib_turn.specs.Turns.{IsInside};

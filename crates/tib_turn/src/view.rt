@@ -1,3 +1,4 @@
+// What one pass has seen of a lock.
 use std::collections::LinkedList;
 
 /// Where a pass stands: out of a turn, waiting for its ticket, or in the turn of its ticket.
@@ -7,7 +8,8 @@ pub enum Stage {
     Inside(u64),
 }
 
-/// What a pass knows: the list that it has seen, and one that it was told by a pass that it took in. No value of it is made.
+/// What a pass knows: the list that it has seen, and the list of a pass that it took in. No value
+/// of it is made.
 pub struct View<E> {
     pub seen: LinkedList<E>,
     pub told: LinkedList<E>,

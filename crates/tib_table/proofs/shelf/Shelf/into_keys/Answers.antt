@@ -1,4 +1,4 @@
-use Rattle.std.proofs.Common.{◌≡◌, ◌∙◌, ap}
+use Rattle.std.proofs.Common.{◌∙◌, ap}
 use Rattle.std.proofs.lemmas.Result.{IfOk-weaker}
 use Rattle.indexmap.proofs.CallerLemmas.{Drains-YieldsInOrder}
 use Rattle.tib_table.proofs.shelf.Shelf.into_keys.Goals as goal
