@@ -2,10 +2,9 @@
 use Rattle.std.proofs.Common.{◌≡◌, ℕ, ◌+◌, ◌-◌, ◌<◌, ◌≤◌, ◌⊎◌, List, [], ◌∷◌, length, get_or, set, take, refl, sym, ap, subst, arith, true, false, nat_eq, inl, inr, suc, zero, get_or-set_same, get_or-set_other, ◌≢◌, ◌∙◌}
 use Rattle.std.proofs.lemmas.Bool.Decides.{nat_tests}
 use Rattle.std.proofs.lemmas.List.{get_or-take, length-take}
-use Rattle.tib_lex.specs.Lists.{Has, Each, Distinct}
+use Rattle.tib_lex.specs.Lists.{Has, Each, Distinct, occurrences}
 use Rattle.tib_transducer.specs.Range.{AreNumbered}
 use Rattle.tib_transducer.specs.declared.Variable.{Variable}
-use Rattle.tib_classes.specs.Counting.{occurrences}
 
 nat_eq_cases : (n m : ℕ) → ((n ≡ m) × (nat_eq n m ≡ true)) ⊎ ((n ≡ m → ⊥) × (nat_eq n m ≡ false))
 nat_eq_cases n m = grind (arith, nat_tests)

@@ -1,13 +1,13 @@
 -- The labels and the variables of a side by its items.
 use Rattle.std.proofs.Common.{◌≡◌, ℕ, ◌+◌, ◌-◌, ◌<◌, ◌≤◌, IsTrue, nat_lt, true, false, is_some, List, [], ◌∷◌, length, get_or, ap, sym, ◌∙◌, refl, subst, arith, suc, zero, inl, inr, Option, None, Some}
 use Rattle.tib_tree.specs.Trees.{Trees, none, tree, join, join_parts, first_trees, other_trees, parse, parse_of, preorder_of, only}
-use Rattle.tib_grammar.specs.Sides.{Symbol, label, hole, Side}
+use Rattle.tib_grammar.specs.Sides.{Symbol, label, hole, Side, labels_in}
 use Rattle.tib_grammar.specs.Items.{pairs_of, holes_in}
 use Rattle.tib_grammar.specs.declared.Item.{Item}
 use Rattle.tib_grammar.specs.declared.Item.TheVariants.{Label, Hole}
 use Rattle.tib_grammar.proofs.Holes.{holes_of_items}
 use Rattle.std.proofs.lemmas.Bool.Decides.{nat_tests}
-use Rattle.tib_transducer.specs.Classes.{labels_in, IsExtended, IsLabelled}
+use Rattle.tib_transducer.specs.Classes.{IsExtended, IsLabelled}
 use Rattle.tib_transducer.specs.declared.TransducerRule.{TransducerRule}
 use Rattle.tib_transducer.specs.declared.Variable.{Variable}
 use Rattle.tib_classes.specs.Counting.{HaveLabel}

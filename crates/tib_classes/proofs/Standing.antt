@@ -1,6 +1,6 @@
 -- Linear and nondeleting rules by how often each variable stands on the right.
 use Rattle.std.proofs.Common.{◌≡◌, ℕ, ◌<◌, ◌≤◌, ◌⊎◌, List, length, map, ap, sym, ◌∙◌, subst, arith, inl, inr}
-use Rattle.tib_lex.specs.Lists.{Has, Each, Distinct}
+use Rattle.tib_lex.specs.Lists.{Has, Each, Distinct, occurrences}
 use Rattle.tib_tree.specs.Trees.{preorder_of}
 use Rattle.tib_grammar.specs.Items.{pairs_of, holes_in}
 use Rattle.tib_grammar.specs.declared.Item.{Item}
@@ -11,7 +11,7 @@ use Rattle.tib_transducer.specs.Classes.{IsLinear, IsNondeleting}
 use Rattle.tib_transducer.specs.declared.Variable.{Variable}
 use Rattle.tib_transducer.specs.declared.Pair.{Pair}
 use Rattle.tib_transducer.specs.declared.TransducerRule.{TransducerRule}
-use Rattle.tib_classes.specs.Counting.{occurrences, numbers_in}
+use Rattle.tib_classes.specs.Counting.{numbers_in}
 use Rattle.tib_classes.proofs.Counting.{has_occurs, occurs_has, distinct_from, distinct_once, none_above, each_numbered, numbered_each}
 
 module _ (r : TransducerRule ℕ) (left : List (Item Variable)) (right : List (Item (Pair ℕ))) (ls : pairs_of left ≡ preorder_of r.left) (rs : pairs_of right ≡ preorder_of r.right) (m : ℕ) (many : m ≡ length (holes_in left)) (shaped : IsShaped r) where

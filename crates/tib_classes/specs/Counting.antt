@@ -1,15 +1,11 @@
--- How often numbers stand in a list, and leaves that have a label.
-use Rattle.std.specs.Prelude.{◌≡◌, ℕ, ◌+◌, List, [], ◌∷◌, nat_eq, if◌then◌else◌, map, Some}
+-- The numbers of variables in pairs, and leaves that have a label.
+use Rattle.std.specs.Prelude.{◌≡◌, ℕ, List, map, Some}
 use Rattle.tib_lex.specs.Lists.{Has}
+pub use Rattle.tib_lex.specs.Lists.{occurrences}
 use Rattle.tib_grammar.specs.declared.Item.{Item}
 use Rattle.tib_grammar.specs.Items.{holes_in}
 use Rattle.tib_transducer.specs.declared.Variable.{Variable}
 use Rattle.tib_transducer.specs.declared.Pair.{Pair}
-
--- at how many places n stands
-abbrev pub occurrences : ℕ → List ℕ → ℕ
-occurrences n [] = 0
-occurrences n (m ∷ ms) = (if nat_eq n m then 1 else 0) + occurrences n ms
 
 -- the numbers of the variables in the pairs among some items
 abbrev pub numbers_in : List (Item (Pair ℕ)) → List ℕ

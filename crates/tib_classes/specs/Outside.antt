@@ -1,4 +1,5 @@
--- The first rule of a transducer that decides its class, and the first that is outside demanded classes.
+-- The first rule of a transducer that decides its class, and the first that is outside demanded
+-- classes.
 use Rattle.std.specs.Prelude.{◌≡◌, ℕ, ◌<◌, List, length, Bool, IsTrue, Option, None, Some}
 use Rattle.std.proofs.Common.{suc}
 use Rattle.tib_transducer.specs.Rules.{transducer_rule}
@@ -8,7 +9,8 @@ use Rattle.tib_classes.specs.declared.error.ClassFault.{ClassFault}
 use Rattle.tib_classes.specs.declared.error.ClassFault.TheVariants.{NotLinear, NotNondeleting, Extended, Labelled}
 
 -- the rule with this number, counted from 1, is outside, and those before it are inside
-pub record IsFirst (Outside Inside : TransducerRule ℕ → Type 0) (rules : List (TransducerRule ℕ)) (number : ℕ) : Type 0 where
+pub record IsFirst (Outside Inside : TransducerRule ℕ → Type 0) (rules : List (TransducerRule ℕ))
+    (number : ℕ) : Type 0 where
   pub position : ℕ
   pub numbered : number ≡ suc position
   pub below : position < length rules
@@ -41,8 +43,8 @@ pub record Meets (d : Demands) (r : TransducerRule ℕ) : Type 0 where
 abbrev pub AllMeet : Demands → List (TransducerRule ℕ) → Type 0
 AllMeet d rules = (n : ℕ) → n < length rules → Meets d (transducer_rule rules n)
 
--- The fault names the first class, in the order linear, nondeleting, not extended, not labelled, that is demanded and that
--- the rule is outside of.
+-- The fault names the first class, in the order linear, nondeleting, not extended, not labelled,
+-- that is demanded and that the rule is outside of.
 abbrev pub IsFaultOf : Demands → TransducerRule ℕ → ClassFault → Type 0
 IsFaultOf d r NotLinear = IsTrue d.linear × (IsLinear r → ⊥)
 IsFaultOf d r NotNondeleting =

@@ -7,10 +7,11 @@ use crate::ClassFault;
 use crate::rules::fault_of;
 use tib_transducer::Transducer;
 
-/// The number of the first rule that is outside one of the demanded classes, and the first class that it is outside of, in the
-/// order of the arguments: linear, nondeleting, not extended (`one_label`), not labelled (`unlabelled`). It answers none
-/// exactly where each rule is of each demanded class. It takes no memory. Its time is that of one pass over the rules up to the
-/// one that it names, but it goes over a right side once for each 64 variables of the left side.
+/// The number of the first rule that is outside one of the demanded classes, and the first class
+/// that it is outside of, in the order of the arguments: linear, nondeleting, not extended
+/// (`one_label`), not labelled (`unlabelled`). It answers none exactly where each rule is of each
+/// demanded class. It takes no memory. Its time is that of one pass over the rules up to the one
+/// that it names, but it goes over a right side once for each 64 variables of the left side.
 pub fn first_outside<S>(
     t: &Transducer<S>,
     linear: bool,
@@ -18,8 +19,10 @@ pub fn first_outside<S>(
     one_label: bool,
     unlabelled: bool,
 ) -> Option<(u32, ClassFault)>
-    ensures some { IfSome result (IsFirstOutside (demands linear nondeleting one_label unlabelled) t.now.rules) }
-    ensures none { result ≡ None → AllMeet (demands linear nondeleting one_label unlabelled) t.now.rules }
+    ensures some { IfSome result (IsFirstOutside (demands linear nondeleting one_label unlabelled)
+        t.now.rules) }
+    ensures none { result ≡ None → AllMeet (demands linear nondeleting one_label unlabelled)
+        t.now.rules }
 {
     t.is_sound();
     let mut number: u32 = 0;
@@ -32,8 +35,9 @@ pub fn first_outside<S>(
     None
 }
 
-/// The number of the first rule that is not linear: a variable stands twice on its right side. It answers none exactly where
-/// all rules are linear. It takes no memory, and the time of `first_outside`.
+/// The number of the first rule that is not linear: a variable stands twice on its right side. It
+/// answers none exactly where all rules are linear. It takes no memory, and the time of
+/// `first_outside`.
 pub fn not_linear<S>(t: &Transducer<S>) -> Option<u32>
     ensures some { IfSome result (IsFirst (λ r. IsLinear r → ⊥) IsLinear t.now.rules) }
     ensures none { result ≡ None → AreLinear t.now.rules }
@@ -41,8 +45,9 @@ pub fn not_linear<S>(t: &Transducer<S>) -> Option<u32>
     first_outside(t, true, false, false, false).map(|(number, _)| number)
 }
 
-/// The number of the first rule that is not nondeleting: a variable of its left side does not stand on its right side. It
-/// answers none exactly where all rules are nondeleting. It takes no memory, and the time of `first_outside`.
+/// The number of the first rule that is not nondeleting: a variable of its left side does not stand
+/// on its right side. It answers none exactly where all rules are nondeleting. It takes no memory,
+/// and the time of `first_outside`.
 pub fn not_nondeleting<S>(t: &Transducer<S>) -> Option<u32>
     ensures some { IfSome result (IsFirst (λ r. IsNondeleting r → ⊥) IsNondeleting t.now.rules) }
     ensures none { result ≡ None → AreNondeleting t.now.rules }
@@ -50,8 +55,9 @@ pub fn not_nondeleting<S>(t: &Transducer<S>) -> Option<u32>
     first_outside(t, false, true, false, false).map(|(number, _)| number)
 }
 
-/// The number of the first extended rule: its left side has more than one label. It answers none exactly where no rule is
-/// extended. It takes no memory, and the time of one pass over the left sides.
+/// The number of the first extended rule: its left side has more than one label. It answers none
+/// exactly where no rule is extended. It takes no memory, and the time of one pass over the left
+/// sides.
 pub fn extended<S>(t: &Transducer<S>) -> Option<u32>
     ensures some { IfSome result (IsFirst IsExtended (λ r. IsExtended r → ⊥) t.now.rules) }
     ensures none { result ≡ None → OneIsExtended t.now.rules → ⊥ }
@@ -59,8 +65,9 @@ pub fn extended<S>(t: &Transducer<S>) -> Option<u32>
     first_outside(t, false, false, true, false).map(|(number, _)| number)
 }
 
-/// The number of the first labelled rule: a variable of its left side has a label. It answers none exactly where no rule is
-/// labelled. It takes no memory, and the time of one pass over the left sides.
+/// The number of the first labelled rule: a variable of its left side has a label. It answers none
+/// exactly where no rule is labelled. It takes no memory, and the time of one pass over the left
+/// sides.
 pub fn labelled<S>(t: &Transducer<S>) -> Option<u32>
     ensures some { IfSome result (IsFirst IsLabelled (λ r. IsLabelled r → ⊥) t.now.rules) }
     ensures none { result ≡ None → OneIsLabelled t.now.rules → ⊥ }

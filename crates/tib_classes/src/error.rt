@@ -22,7 +22,8 @@ pub enum ClassFault {
 /// Why an operation cannot work on a transducer.
 #[derive(Debug, Drop, Error)]
 pub enum ClassError {
-    /// This is the first rule outside the classes that the operation demands. Rules are numbered from 1.
+    /// This is the first rule outside the classes that the operation demands. Rules are numbered
+    /// from 1.
     #[error("rule {rule}: {fault}")]
     Class { rule: u32, fault: ClassFault },
     /// Memory was refused. This says nothing of the transducer.

@@ -1,6 +1,6 @@
-//! Which classes a transducer is of: linear, nondeleting, extended, labelled. Each call names the first rule that decides it,
-//! and `first_outside` the first rule that is outside some classes that are demanded together. No call takes memory. It stands
-//! on `tib_transducer`.
+//! Which classes a transducer is of: linear, nondeleting, extended, labelled. Each call names the
+//! first rule that decides it, and `first_outside` the first rule that is outside some classes that
+//! are demanded together. No call takes memory. It stands on `tib_transducer`.
 #![tactic(auto)]
 
 mod classes;

@@ -24,7 +24,8 @@ fn count_variables(items: &[Item<Variable>]) -> usize
     count
 }
 
-// Whether no variable stands twice on the right. The right side is gone over once for each 64 variables of the left side.
+// Whether no variable stands twice on the right. The right side is gone over once for each 64
+// variables of the left side.
 fn is_linear(rule: &TransducerRule<u32>) -> bool
     requires { IsShaped rule.now }
     ensures yes { IsTrue result → IsLinear rule.now }
@@ -44,7 +45,8 @@ fn is_linear(rule: &TransducerRule<u32>) -> bool
     true
 }
 
-// Whether each variable stands on the right. The right side is gone over once for each 64 variables of the left side.
+// Whether each variable stands on the right. The right side is gone over once for each 64 variables
+// of the left side.
 fn is_nondeleting(rule: &TransducerRule<u32>) -> bool
     requires { IsShaped rule.now }
     ensures yes { IsTrue result → IsNondeleting rule.now }

@@ -1,4 +1,5 @@
-// Small transducers of one state, as written in comments: a label is a number here, 0 for A, 1 for B and 2 for a.
+// Small transducers of one state, as written in comments: a label is a number here, 0 for A, 1 for
+// B and 2 for a.
 use crate::*;
 use std::alloc::Global;
 use std::test::Fail;
@@ -6,7 +7,8 @@ use tib_cost::{MinPlus, Semiring};
 use tib_grammar::{Item, Names, Side};
 use tib_transducer::{Pair, Transducer, TransducerRule, Variable};
 
-// What stands below A on the left, variables first: a variable with or without a label, or the label a.
+// What stands below A on the left, variables first: a variable with or without a label, or the
+// label a.
 #[derive(Clone, Copy)]
 enum Leaf {
     Plain,
@@ -106,8 +108,8 @@ fn deciding(t: &Transducer<MinPlus>) -> [Option<u32>; 4] {
 #[test]
 fn the_first_rule_decides(rt: HostRuntime) -> Result<(), Fail> {
     use Leaf::{Label, Labelled, Plain};
-    // t.A(x0: x1:) -> B(t.x1 t.x0), t.A(x0: x1:) -> B(t.x1 t.x0 t.x1), t.A(x0: x1:) -> B(t.x1), t.A(x0: a) -> B(t.x0),
-    // t.A(x0: x1:a) -> B(t.x1 t.x0), and once more all but the first
+    // t.A(x0: x1:) -> B(t.x1 t.x0), t.A(x0: x1:) -> B(t.x1 t.x0 t.x1), t.A(x0: x1:) -> B(t.x1),
+    // t.A(x0: a) -> B(t.x0), t.A(x0: x1:a) -> B(t.x1 t.x0), and once more all but the first
     let t = transducer(
         rt.alloc(),
         &[

@@ -1,6 +1,7 @@
 // How often variables stand on a right side.
 ghost use Rattle.std.specs.Prelude.{◌≡◌, ◌+◌, ◌<◌, ◌≤◌, ◌↔◌, ℕ, IsTrue, EachIndex, slice_index, length};
-ghost use Rattle.tib_classes.specs.Counting.{occurrences, numbers_in};
+ghost use Rattle.tib_classes.specs.Counting.{numbers_in};
+ghost use Rattle.tib_lex.specs.Lists.{occurrences};
 
 use tib_grammar::Item;
 use tib_transducer::Pair;
@@ -8,7 +9,8 @@ use tib_transducer::Pair;
 // How often each of the 64 variables from `first` on stands among some items.
 pub fn count_uses(items: &[Item<Pair<u32>>], first: usize) -> [usize; 64]
     ensures long { length result ≡ 64 }
-    ensures counted { (k : ℕ) → k < 64 → slice_index result k ≡ occurrences (first + k) (numbers_in items.now) }
+    ensures counted { (k : ℕ) → k < 64 → slice_index result k
+        ≡ occurrences (first + k) (numbers_in items.now) }
 {
     let mut uses: [usize; 64] = [0; 64];
     for item in items {

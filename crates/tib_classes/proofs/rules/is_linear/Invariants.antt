@@ -1,6 +1,7 @@
 use Rattle.std.proofs.Common.{ℕ, ◌<◌, ◌≤◌}
-use Rattle.tib_classes.specs.Counting.{occurrences, numbers_in}
+use Rattle.tib_classes.specs.Counting.{numbers_in}
 use Rattle.tib_classes.proofs.rules.is_linear.Given as goal
+use Rattle.tib_lex.specs.Lists.{occurrences}
 
 abbrev pub decreases-loop-rest : goal.decreases-loop-rest
 decreases-loop-rest l = l.rest
