@@ -8,7 +8,7 @@ use Rattle.tib_command.specs.declared.job.Mode.{Mode}
 use Rattle.tib_command.specs.declared.job.Mode.TheVariants.{MinPlus}
 use Rattle.tib_command.specs.Words.{Text, Part, mode, depth, workers, limit, place, said, begins, reads, then_reads, Item, and_item, values_of, same_part}
 use Rattle.tib_command.specs.Command.{takes, then_takes}
-use Rattle.tib_command.specs.Jobs.{Asked, Task, asked_by, mode_in, number_in, once, task_in}
+use Rattle.tib_command.specs.Jobs.{most_parts, most_trees, most_workers, Asked, Task, asked_by, mode_in, number_in, once, task_in}
 use Rattle.tib_command.proofs.Views.{View, plain_view, ends_view, option_view, refused_view, view, is_option}
 use Rattle.tib_command.proofs.Walks.{AllUtf8, not_waited}
 
@@ -119,22 +119,22 @@ module _ (items : List Item) where
   md = once MinPlus mode_in (values_of mode items)
 
   abbrev k : Option ℕ
-  k = once 1 (number_in 1 10000) (values_of depth items)
+  k = once 1 (number_in 1 most_trees) (values_of depth items)
 
   abbrev w : Option ℕ
-  w = once 1 (number_in 1 16) (values_of workers items)
+  w = once 1 (number_in 1 most_workers) (values_of workers items)
 
   abbrev l : Option ℕ
-  l = once 20000000 (number_in 1 20000000) (values_of limit items)
+  l = once most_parts (number_in 1 most_parts) (values_of limit items)
 
   abbrev t : Option Task
   t = task_in (values_of place items)
 
   no_job : (p : Part) → is_option p ≡ true → list_any is_hyphen (values_of p items) ≡ true → asked_by items ≡ None
   no_job mode o e = ap (λ m. asked_from m k w l t) (no_once MinPlus mode_in (values_of mode items) refl e)
-  no_job depth o e = ap (λ n. asked_from md n w l t) (no_once 1 (number_in 1 10000) (values_of depth items) refl e) ∙ no_k md w l t
-  no_job workers o e = ap (λ n. asked_from md k n l t) (no_once 1 (number_in 1 16) (values_of workers items) refl e) ∙ no_w md k l t
-  no_job limit o e = ap (λ n. asked_from md k w n t) (no_once 20000000 (number_in 1 20000000) (values_of limit items) refl e) ∙ no_l md k w t
+  no_job depth o e = ap (λ n. asked_from md n w l t) (no_once 1 (number_in 1 most_trees) (values_of depth items) refl e) ∙ no_k md w l t
+  no_job workers o e = ap (λ n. asked_from md k n l t) (no_once 1 (number_in 1 most_workers) (values_of workers items) refl e) ∙ no_w md k l t
+  no_job limit o e = ap (λ n. asked_from md k w n t) (no_once most_parts (number_in 1 most_parts) (values_of limit items) refl e) ∙ no_l md k w t
   no_job place o e = absurd (true≢false (sym o))
 
 asked_same : (a b : Option (List Item)) → Differs a b → option_and_then asked_by a ≡ option_and_then asked_by b

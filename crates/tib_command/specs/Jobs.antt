@@ -61,9 +61,22 @@ pub record Task : Type 0 where
 abbrev pub are_files : Operation → List Text → Bool
 are_files op files = (length files == word_count op) && not (list_any (λ f. length f == 0) files)
 
+-- the greatest number of trees that may be asked for
+abbrev pub most_trees : ℕ
+most_trees = 10000
+
+-- the greatest number of workers
+abbrev pub most_workers : ℕ
+most_workers = 16
+
+-- the greatest limit on parts, which holds where none is given
+abbrev pub most_parts : ℕ
+most_parts = 20000000
+
 -- as many file names as the operation takes, none of them empty
 abbrev pub files_in : Operation → List Text → Option Task
-files_in op files = if are_files op files then Some (record { operation = op; files = files }) else None
+files_in op files =
+    if are_files op files then Some (record { operation = op; files = files }) else None
 
 abbrev pub task_in : List Text → Option Task
 task_in [] = None
@@ -81,9 +94,9 @@ asked_by items =
     option_and_then (λ md. option_and_then (λ k. option_and_then (λ w. option_and_then (λ l.
     option_map (λ t. record { mode = md; k = k; workers = w; limit = l; task = t })
     (task_in (values_of place items)))
-    (once 20000000 (number_in 1 20000000) (values_of limit items)))
-    (once 1 (number_in 1 16) (values_of workers items)))
-    (once 1 (number_in 1 10000) (values_of depth items)))
+    (once most_parts (number_in 1 most_parts) (values_of limit items)))
+    (once 1 (number_in 1 most_workers) (values_of workers items)))
+    (once 1 (number_in 1 most_trees) (values_of depth items)))
     (once m.MinPlus mode_in (values_of mode items))
 
 -- what the words ask for, where they are of the language

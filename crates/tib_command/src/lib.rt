@@ -1,13 +1,14 @@
-//! The word language of the command line: options `-m`, `-k`, `-w` and `--limit` in all their forms, anywhere among the
-//! words and each at most once, then the operation and the names of its files. `read_words` answers a job exactly where
-//! the words are of the language, for all lists of words. `clap` tells what each word belongs to, and takes each value as
-//! a text; this crate reads the texts and counts them and the files.
+//! The word language of the command line: options `-m`, `-k`, `-w` and `--limit` in all their
+//! forms, anywhere among the words and each at most once, then the operation and the names of its
+//! files. `read_words` answers a job exactly where the words are of the language, for all lists of
+//! words. `clap` tells what each word belongs to, and takes each value as a text; this crate reads
+//! the texts and counts them and the files.
 #![tactic(auto)]
 
 ghost use Rattle.std.specs.Prelude.{◌≡◌, ◌≤◌, IfOk, IfErr, None, Some, length, map};
 ghost use Rattle.std.specs.String.{string_bytes};
 ghost use Rattle.tib_command.specs.declared.job.CommandError.TheVariants.{Usage};
-ghost use Rattle.tib_command.specs.Jobs.{job_of, meaning, word_count};
+ghost use Rattle.tib_command.specs.Jobs.{job_of, meaning, most_parts, most_trees, most_workers, word_count};
 
 mod job;
 mod options;
@@ -20,27 +21,45 @@ use options::matches_of;
 use std::alloc::Global;
 use values::{mode_once, number_once, read_task};
 
-/// The job that the words ask for, which are those behind the program's name. `Usage` comes exactly where they are not of
-/// the word language.
+/// The greatest number of trees that may be asked for (`-k`).
+pub const MOST_TREES: u64 = 10_000;
+
+/// The greatest number of workers (`-w`).
+pub const MOST_WORKERS: u64 = 16;
+
+/// The greatest limit on parts (`--limit`), which holds where none is given.
+pub const MOST_PARTS: u64 = 20_000_000;
+
+/// The limits that clauses cite are these constants.
+pub fn words_have_limits()
+    ensures trees { MOST_TREES ≡ most_trees }
+    ensures workers { MOST_WORKERS ≡ most_workers }
+    ensures parts { MOST_PARTS ≡ most_parts }
+{}
+
+/// The job that the words ask for, which are those behind the program's name. `Usage` comes exactly
+/// where they are not of the word language.
 pub fn read_words(alloc: Global, words: &[String]) -> Result<Job, CommandError>
-    ensures ok { IfOk result (λ job. job_of (map (λ s. string_bytes s) words.now) ≡ Some (meaning job)) }
-    ensures k { IfOk result (λ job. (1 ≤ job.k) × (job.k ≤ 10000)) }
-    ensures workers { IfOk result (λ job. (1 ≤ job.workers) × (job.workers ≤ 16)) }
-    ensures limit { IfOk result (λ job. (1 ≤ job.limit) × (job.limit ≤ 20000000)) }
+    ensures ok { IfOk result (λ job. job_of (map (λ s. string_bytes s) words.now)
+        ≡ Some (meaning job)) }
+    ensures k { IfOk result (λ job. (1 ≤ job.k) × (job.k ≤ most_trees)) }
+    ensures workers { IfOk result (λ job. (1 ≤ job.workers) × (job.workers ≤ most_workers)) }
+    ensures limit { IfOk result (λ job. (1 ≤ job.limit) × (job.limit ≤ most_parts)) }
     ensures files { IfOk result (λ job. length job.files.items ≡ word_count job.operation) }
-    ensures err { IfErr result (λ e. e ≡ Usage → job_of (map (λ s. string_bytes s) words.now) ≡ None) }
+    ensures err { IfErr result (λ e. e ≡ Usage →
+        job_of (map (λ s. string_bytes s) words.now) ≡ None) }
 {
     let matches = matches_of(alloc, words)?;
     let Some(mode) = mode_once(matches.get_strs("m")) else {
         return Err(CommandError::Usage);
     };
-    let Some(k) = number_once(matches.get_strs("k"), 1, 10_000) else {
+    let Some(k) = number_once(matches.get_strs("k"), 1, MOST_TREES) else {
         return Err(CommandError::Usage);
     };
-    let Some(workers) = number_once(matches.get_strs("w"), 1, 16) else {
+    let Some(workers) = number_once(matches.get_strs("w"), 1, MOST_WORKERS) else {
         return Err(CommandError::Usage);
     };
-    let Some(limit) = number_once(matches.get_strs("limit"), 20_000_000, 20_000_000) else {
+    let Some(limit) = number_once(matches.get_strs("limit"), MOST_PARTS, MOST_PARTS) else {
         return Err(CommandError::Usage);
     };
     let Some(task) = read_task(alloc, matches.get_strs("places"))? else {

@@ -1,3 +1,4 @@
+// Words with the jobs that they ask for, and words that are refused.
 use crate::values::copied;
 use crate::{CommandError, Job, Mode, Operation, read_words};
 use std::alloc::Global;
@@ -8,8 +9,8 @@ fn job(alloc: Global, words: &[&str]) -> Result<Job, CommandError> {
     read_words(alloc, words.as_slice())
 }
 
-// Words, and the mode, the operation, the numbers of `-k`, `-w` and `--limit` and the names of the files that they
-// give.
+// Words, and the mode, the operation, the numbers of `-k`, `-w` and `--limit` and the names of the
+// files that they give.
 type Accepted = (
     &'static [&'static str],
     Mode,

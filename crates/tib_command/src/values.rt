@@ -89,7 +89,8 @@ pub(crate) struct Task {
 
 /// The words as texts of their own.
 pub(crate) fn copied(alloc: Global, words: &[&str]) -> Result<Vec<String>, AllocError>
-    ensures texts { IfOk result (λ v. map (λ s. string_bytes s) v.items ≡ map (λ w. w.now) words.now) }
+    ensures texts { IfOk result (λ v. map (λ s. string_bytes s) v.items
+        ≡ map (λ w. w.now) words.now) }
     ensures many { IfOk result (λ v. length v.items ≡ length words.now) }
 {
     let mut copies = Vec::new(alloc);
@@ -134,7 +135,8 @@ fn are_files(operation: Operation, words: &[&str]) -> bool
 /// What the positional words say, where they are of the language.
 pub(crate) fn read_task(alloc: Global, places: Option<&[&str]>) -> Result<Option<Task>, AllocError>
     ensures task { IfOk result (λ r. option_map task_meaning r ≡ task_in (texts_of places.entry)) }
-    ensures files { IfOk result (λ r. IfSome r (λ t. length t.files.items ≡ word_count t.operation)) }
+    ensures files { IfOk result (λ r. IfSome r (λ t.
+        length t.files.items ≡ word_count t.operation)) }
 {
     let Some([name, words @ ..]) = places else {
         return Ok(None);
