@@ -5,6 +5,7 @@ use Rattle.tib_tree.specs.Trees.{Trees, none, tree, only, join, first_trees, oth
 use Rattle.tib_grammar.specs.Sides.{Symbol, label, hole, Side, holes, fill}
 use Rattle.tib_grammar.specs.Run.{rule_at, no_rule}
 use Rattle.tib_grammar.specs.declared.Rule.{Rule}
+use Rattle.tib_grammar.proofs.Sides.{same_label}
 
 -- a symbol, a side and a rule with each label exchanged for another
 abbrev pub symbol_with : (ℕ → ℕ) → Symbol ℕ ℕ → Symbol ℕ ℕ
@@ -60,7 +61,7 @@ fill_with f (tree (label g) kids rest) ts =
 fill_with f (tree (hole q) kids rest) none = refl
 fill_with f (tree (hole q) kids rest) (tree g below ts) = ap (λ (x : Trees ℕ). tree (f g) (relabel f below) x) (fill_with f rest ts)
 
--- trees are told under numbers that tell labels apart
+-- trees that agree under numbers that are one for each label are the same
 tree_is : {A : Type 0} {g h : A} {us bs cs ds : Trees A} → tree g us bs ≡ tree h cs ds → (g ≡ h) × (us ≡ cs) × (bs ≡ ds)
 tree_is e = (cc, cc, cc)
 
@@ -74,11 +75,8 @@ trees_told {A} {B} f apart (tree s kids rest) (tree g below more) e =
     ∙ ap (λ (x : Trees A). tree g x rest) (trees_told f apart kids below t.1)
     ∙ ap (λ (x : Trees A). tree g below x) (trees_told f apart rest more t.2)
 
-label_is : (g h : ℕ) → ◌≡◌ {A = Symbol ℕ ℕ} (label g) (label h) → g ≡ h
-label_is g h e = cc
-
 pub symbol_told : (f : ℕ → ℕ) → ((i j : ℕ) → f i ≡ f j → i ≡ j) → (s t : Symbol ℕ ℕ) → symbol_with f s ≡ symbol_with f t → s ≡ t
-symbol_told f apart (label g) (label h) e = ap label (apart g h (label_is (f g) (f h) e))
+symbol_told f apart (label g) (label h) e = ap label (apart g h (same_label (f g) (f h) e))
 symbol_told f apart (label g) (hole q) e = absurd (cc)
 symbol_told f apart (hole p) (label h) e = absurd (cc)
 symbol_told f apart (hole p) (hole q) e = e

@@ -1,4 +1,4 @@
--- How leaves are told apart.
+-- How leaves are resolved into states and labels.
 use Rattle.tib_tree.specs.Trees.{most_nodes}
 use Rattle.std.proofs.Common.{◌≡◌, ℕ, ◌+◌, ◌<◌, ◌≤◌, List, [], ◌∷◌, ◌++◌, length, get_or, take, drop, refl, ap, sym, ◌∙◌, subst, arith, append-nil, zero, suc}
 use Rattle.std.specs.Prelude.{slice_get, Some, None, Contains}
@@ -92,7 +92,7 @@ is_a_tree names labels texts raw side r all other =
     let o = one_tree g.trees (g.many ∙ r.tree.one) in
     other o.0 (o.2 ∙ g.order)
 
--- so many nodes from a place on, or fewer
+-- at most a number of nodes from an index on
 pub part_few : (at count : ℕ) (nodes these : List RawItem) → these ≡ take count (drop at nodes) → length these ≤ count
 part_few at count nodes these e = omega (arith, ap length e, length-take count (drop at nodes))
 
@@ -125,7 +125,7 @@ here_at names texts raw lines rules k rule e h is g =
     (subst (λ (rs : List RawRule). Here names lines k (get_or rs k rule)) (sym e)
     (here names raw.rules.items lines k rule (subst (λ (rs : List RawRule). k < length rs) e h) g.rules.heads g.trees))
 
--- the rules up to one were told apart, and the nodes from a place on are those of the others
+-- the rules up to one are resolved, and the nodes from an index on are those of the others
 pub record Resolving (names texts labels : List (List ℕ)) (nodes : List RawItem) (lines : List RuleLine) (k at : ℕ) (rules : List (Rule ℕ)) : Type 0 where
   pub left : Along (IsRaw texts) (drop at nodes) (all_nodes (drop k lines))
   pub done : Along (IsRule names labels) rules (take k lines)

@@ -1,4 +1,4 @@
--- Runs and their costs do not hang on labels, and what they yield goes with them.
+-- Runs and their costs are the same whatever the labels, and what they yield changes with the labels.
 use Rattle.std.proofs.Common.{◌≡◌, ℕ, ◌<◌, List, [], ◌∷◌, ◌++◌, length, get_or, refl, ap, sym, ◌∙◌, subst, arith, zero, suc, Option}
 use Rattle.std.proofs.lemmas.List.{length-map}
 use Rattle.tib_lex.specs.Lists.{Along, Distinct}

@@ -28,7 +28,7 @@ abbrev pub KeptByFault : ReadError → List (List ℕ) → List (List ℕ) → T
 KeptByFault (Fault fault) before now = now ≡ before
 KeptByFault OutOfMemory before now = Unit {0}
 
--- a label's text goes last if it is new, and a state changes nothing
+-- a label's text is added behind the others if it is new, and a state changes nothing
 abbrev pub AddsSymbol : List (List ℕ) → Symbol ℕ ℕ → List (List ℕ) → Type 0
 AddsSymbol before (label f) now =
     (text : List ℕ) × (slice_get now f ≡ Some text) × Adds before text now

@@ -1,4 +1,4 @@
--- Rules whose leaves are not told apart.
+-- Rules before name resolution.
 use Rattle.std.specs.Prelude.{◌≡◌, ℕ, ◌⊎◌, List, [], ◌∷◌, ◌++◌, Option, None, Some, Result, Ok, Err, slice_get, length}
 use Rattle.tib_lex.specs.Lists.{Along}
 use Rattle.tib_lex.specs.declared.fault.FaultKind.{FaultKind}

@@ -16,8 +16,8 @@ use tib_grammar::{Grammar, Item, Names, Rule, Side};
 use tib_io::{Failed, Sink};
 use tib_tree::Labels;
 
-// So many trees from a place of a preorder on, with a space between them. It answers the place
-// behind them.
+// Prints a number of trees from an index of a preorder on, with a space between them. It answers
+// the index behind them.
 fn put_trees<W: Sink>(
     out: &mut W,
     items: &[Item<u32>],
@@ -227,7 +227,8 @@ fn put_grammar<W: Sink>(
 /// Prints a grammar whose labels are in range of the table: a line with the start's name, and then
 /// a line for each rule. A label stands in quotes where it would not read as one. Where costs are
 /// weighed, each line ends with the rule's cost. After a failure a front of the text was appended.
-/// It takes no memory; its calls nest as deep as the deepest right side.
+/// It takes no memory; its calls nest as deep as the deepest right side. Worst case: O(b) steps for
+/// b bytes of text, where a label that is looked up among the names by its hash counts once.
 pub fn print_grammar<S: Semiring, W: Sink>(
     grammar: &Grammar<S>,
     labels: &Labels,

@@ -1,4 +1,4 @@
-// Rules whose leaves are not told apart: which of them are states shows at the end of the file.
+// Rules before name resolution: state or label is known only at the end of the file.
 ghost use Rattle.std.specs.Prelude.{◌≡◌, ◌≤◌, ◌<◌, ◌-◌, ◌+◌, ◌^◌, ℕ, List, [], ◌∷◌, ◌++◌, length, drop, IfOk, OnOk, IfSome, Some, None, slice_get, All};
 ghost use Rattle.tib_lex.specs.Line.{word_at, text_of, Lies};
 ghost use Rattle.tib_lex.specs.Lines.{lines_of, HasNoFeed};
@@ -92,7 +92,7 @@ fn read_item(
     })
 }
 
-// The nodes at some places, which go last.
+// Adds the nodes at some tokens of a line behind the others.
 fn read_side(
     line: &[u8],
     places: &[Place],

@@ -1,4 +1,4 @@
-// Which leaves are states.
+// Name resolution: a leaf without quotes is a state where its text is the name of one, and else a label.
 ghost use Rattle.std.specs.Prelude.{◌≡◌, ◌≤◌, ◌<◌, ◌+◌, ◌-◌, ◌^◌, ℕ, List, length, take, drop, IfOk, IfSome, Some, None, slice_get, All};
 ghost use Rattle.tib_lex.specs.Lines.{HasNoFeed};
 ghost use Rattle.tib_lex.specs.Lists.{Along, Each};
@@ -131,7 +131,7 @@ fn resolve_rule(
     })
 }
 
-// So many nodes from a place on.
+// A number of nodes from an index on.
 fn nodes_at(nodes: &[RawItem], at: usize, count: u32) -> &[RawItem]
     requires { at + count ≤ length nodes.now }
     ensures { result.now ≡ take count (drop at nodes.now) }
@@ -140,7 +140,7 @@ fn nodes_at(nodes: &[RawItem], at: usize, count: u32) -> &[RawItem]
     &rest[..count as usize]
 }
 
-/// The rules with their leaves told apart.
+/// Resolves the leaves of all rules: each is a state or a label.
 pub(crate) fn resolve_rules(
     alloc: Global,
     raw: &RawRules,

@@ -91,7 +91,7 @@ fn any_name_is_a_weight_where_nothing_is_weighed(rt: HostRuntime) -> Result<(), 
     Ok(())
 }
 
-// A front, so many pieces, and a back.
+// A front, a number of pieces, and a back.
 fn repeated(
     alloc: Global,
     front: &[u8],

@@ -1,4 +1,4 @@
-// Reads weights.
+// Weights, and the costs that they stand for.
 ghost use Rattle.std.specs.Prelude.{◌≡◌, ◌≤◌, ◌<◌, ◌+◌, ℕ, length, Some, None, min, ◌==◌, ◌*◌, ◌-◌, true};
 ghost use Rattle.std.specs.List.{list_all};
 ghost use Rattle.std.specs.Option.{option_map};

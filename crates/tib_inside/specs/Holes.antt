@@ -21,8 +21,8 @@ owners_of q (p ∷ states) (n ∷ owners) =
 
 -- Each of the first n rules has as many holes as are counted, and owns as many places of a state as
 -- its right side has.
-pub record AreHolesUpTo (rules : List (Rule ℕ)) (n : ℕ) (states owners counts : List ℕ) : Type 0
-  where
+pub record AreHolesUpTo (rules : List (Rule ℕ)) (n : ℕ)
+    (states owners counts : List ℕ) : Type 0 where
     pub as_many : length owners ≡ length states
     pub counted : length counts ≡ n
     pub counts_are : (m : ℕ) → m < n → get_or counts m 0 ≡ length (holes_of (rule_at rules m).right)

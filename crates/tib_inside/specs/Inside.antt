@@ -7,8 +7,8 @@ use Rattle.tib_grammar.specs.declared.Rule.{Rule}
 use Rattle.tib_cost.specs.Least.{IsLeast, times}
 
 -- c is the cost of some runs from the states qs, whatever they yield
-pub record IsRunCost (product : ℕ → ℕ →
-    ℕ) (rules : List (Rule ℕ)) (qs : List ℕ) (c : ℕ) : Type 0 where
+pub record IsRunCost (product : ℕ → ℕ → ℕ) (rules : List (Rule ℕ)) (qs : List ℕ)
+    (c : ℕ) : Type 0 where
   pub runs : Trees ℕ
   pub are_runs : AreRuns rules qs runs
   pub costs : cost product rules runs ≡ c

@@ -40,8 +40,8 @@ unmarked true = 0
 unmarked false = 1
 
 -- the states that are wanted are marked, and those that were not marked before lie on the stack
-pub record Marks (IsWanted : ℕ →
-    Type 0) (old new : List Bool) (before after : List ℕ) : Type 0 where
+pub record Marks (IsWanted : ℕ → Type 0) (old new : List Bool)
+    (before after : List ℕ) : Type 0 where
   pub long : length new ≡ length old
   pub marked : (q : ℕ) → IsWanted q → IsMarked new q
   pub kept : (q : ℕ) → IsMarked old q → IsMarked new q
@@ -61,8 +61,8 @@ pub record Follows (rules : List (Rule ℕ)) (live : List Bool) (p m q : ℕ) : 
   pub stands : Has (holes_of (rule_at rules rule).right) q
 
 -- all marked states are reached, and what each leads to is marked, or it lies on the stack
-pub record IsReaching (rules : List (Rule ℕ)) (live kept : List Bool) (stack : List ℕ) : Type 0
-  where
+pub record IsReaching (rules : List (Rule ℕ)) (live kept : List Bool)
+    (stack : List ℕ) : Type 0 where
     pub begun : IsMarked kept 0
     pub only : (q : ℕ) → IsMarked kept q → IsReached rules live q
     pub waiting : (q : ℕ) → Has stack q → IsMarked kept q
@@ -85,8 +85,8 @@ chosen test zero = []
 chosen test (suc n) = if test n then chosen test n ++ n ∷ [] else chosen test n
 
 -- the start and the useful states, and the live rules of useful states, each ascending
-pub record AreKept (product : ℕ → ℕ →
-    ℕ) (rules : List (Rule ℕ)) (count : ℕ) (states positions : List ℕ) : Type 0 where
+pub record AreKept (product : ℕ → ℕ → ℕ) (rules : List (Rule ℕ)) (count : ℕ)
+    (states positions : List ℕ) : Type 0 where
   pub states_ascend : Ascends ◌<◌ states
   pub states_by_place : AscendsByPlace states
   pub states_below : AreBelow count states

@@ -30,8 +30,8 @@ abbrev pub HasOrWaits : (ℕ → Option ℕ) → List (ℕ × ℕ) → ℕ → �
 HasOrWaits costs entries q c = ((d : ℕ) × (costs q ≡ Some d)) ⊎ Waits entries q c
 
 -- each cost is the inside cost of its state, and each entry the cost of a run from its state
-pub record AreSound (product : ℕ → ℕ → ℕ) (rules : List (Rule ℕ)) (costs : ℕ →
-    Option ℕ) (entries : List (ℕ × ℕ)) : Type 0 where
+pub record AreSound (product : ℕ → ℕ → ℕ) (rules : List (Rule ℕ)) (costs : ℕ → Option ℕ)
+    (entries : List (ℕ × ℕ)) : Type 0 where
   pub exact : (q d : ℕ) → costs q ≡ Some d → IsInside product rules q (Some d)
   pub runs : (e : ℕ × ℕ) → Contains entries e → IsRunCost product rules (e.1 ∷ []) e.0
   pub within : (e : ℕ × ℕ) → Contains entries e → e.0 ≤ most
@@ -61,8 +61,8 @@ scaled product c v zero = v
 scaled product c v (suc k) = scaled product c (times product v (Some c)) k
 
 -- what is kept of the rule r, once n more holes whose state has the cost c are counted in
-pub record IsPending (product : ℕ → ℕ → ℕ) (costs : ℕ →
-    Option ℕ) (c more : ℕ) (r : Rule ℕ) (p : Pending) : Type 0 where
+pub record IsPending (product : ℕ → ℕ → ℕ) (costs : ℕ → Option ℕ) (c more : ℕ) (r : Rule ℕ)
+    (p : Pending) : Type 0 where
   pub left : p.left ≡ r.left
   pub missing : p.missing ≡ missing_among costs (holes_of r.right) + more
   pub known : scaled product c p.product more ≡ known_total product costs r
@@ -70,8 +70,9 @@ pub record IsPending (product : ℕ → ℕ → ℕ) (costs : ℕ →
 -- The first n rules are kept, where each is still to be told of the cost c as often as it is
 -- listed. Where no state of a rule is missing, its left state has its cost, or the cost of the rule
 -- waits for it.
-pub record IsSettlingUpTo
-    (product : ℕ → ℕ → ℕ) (rules : List (Rule ℕ)) (n : ℕ) (costs : ℕ → Option ℕ) (c : ℕ) (listed : List ℕ) (pending : List Pending) (entries : List (ℕ × ℕ)) : Type 0 where
+pub record IsSettlingUpTo (product : ℕ → ℕ → ℕ) (rules : List (Rule ℕ)) (n : ℕ)
+    (costs : ℕ → Option ℕ) (c : ℕ) (listed : List ℕ) (pending : List Pending)
+    (entries : List (ℕ × ℕ)) : Type 0 where
   pub sound : AreSound product rules costs entries
   pub long : length pending ≡ n
   pub each : (m : ℕ) → m < n → IsPending product costs c (occurrences m listed) (rule_at rules m)
@@ -96,8 +97,8 @@ pub record Offers (costs : ℕ → Option ℕ) (p : Pending) (before after : Lis
   pub more : length after ≤ length before + 1
 
 -- one hole of rule n, whose state has the cost c, is counted in
-pub record Touches
-    (product : ℕ → ℕ → ℕ) (costs : ℕ → Option ℕ) (c n : ℕ) (old new : List Pending) (before after : List (ℕ × ℕ)) : Type 0 where
+pub record Touches (product : ℕ → ℕ → ℕ) (costs : ℕ → Option ℕ) (c n : ℕ) (old new : List Pending)
+    (before after : List (ℕ × ℕ)) : Type 0 where
   pub long : length new ≡ length old
   pub others : (m : ℕ) → (m ≡ n → ⊥) → get_or new m no_pending ≡ get_or old m no_pending
   pub left : (get_or new n no_pending).left ≡ (get_or old n no_pending).left
@@ -107,8 +108,8 @@ pub record Touches
   pub offers : Offers costs (get_or new n no_pending) before after
 
 -- the least entry e is taken from what waits
-pub record IsTaken (product : ℕ → ℕ → ℕ) (rules : List (Rule ℕ)) (costs : ℕ →
-    Option ℕ) (pending : List Pending) (e : ℕ × ℕ) (rest : List (ℕ × ℕ)) : Type 0 where
+pub record IsTaken (product : ℕ → ℕ → ℕ) (rules : List (Rule ℕ)) (costs : ℕ → Option ℕ)
+    (pending : List Pending) (e : ℕ × ℕ) (rest : List (ℕ × ℕ)) : Type 0 where
   pub entries : List (ℕ × ℕ)
   pub takes : TakesLeast entries e rest
   pub settling : IsSettling product rules costs 0 [] pending entries
