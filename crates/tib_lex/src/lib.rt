@@ -20,6 +20,6 @@ pub use fault::{FaultKind, FileFault, LineError, ReadError, file_error};
 pub use laws::{files_have_lines, lines_have_words, tokens_are_words};
 pub use lines::{Line, line_bytes, next_line};
 pub use next::next_token;
-pub use text::{read_text, token_text};
+pub use text::{name_text, read_text, token_text};
 pub use token::{Kind, Lexed, Token};
 pub use tokens::read_tokens;
