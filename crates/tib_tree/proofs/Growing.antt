@@ -69,7 +69,7 @@ found_last a text t m e h =
 before_or_last : (a : List (List ℕ)) (m : ℕ) → (m < length a) ⊎ (length a ≤ m)
 before_or_last a m = elim (bool_cases (nat_lt m (length a))) [ inl h ↦ inl (grind (arith, nat_tests)) | inr h ↦ inr (grind (arith, nat_tests)) ]
 
-holds_text : (a : List (List ℕ)) (text : List ℕ) (m : ℕ) → slice_get a m ≡ Some text → Contains a text
+pub holds_text : (a : List (List ℕ)) (text : List ℕ) (m : ℕ) → slice_get a m ≡ Some text → Contains a text
 holds_text a text m e = (m, slice_get_within a m text e, get_or_from_slice_get a m text text e)
 
 once_more : (a : List (List ℕ)) (text : List ℕ) (m n : ℕ) (t : List ℕ) → AreDistinct a → (Contains a text → ⊥) → slice_get (a ++ text ∷ []) m ≡ Some t → slice_get (a ++ text ∷ []) n ≡ Some t → (m < length a) ⊎ (length a ≤ m) → (n < length a) ⊎ (length a ≤ n) → m ≡ n

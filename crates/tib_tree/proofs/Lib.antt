@@ -17,3 +17,4 @@ pub mod TreesText
 pub mod ReadBack
 pub mod Adding
 pub mod PlainTexts
+pub mod Keys

@@ -18,3 +18,4 @@ pub mod TreesText
 pub mod Laws
 pub mod Wrote
 pub mod Writing
+pub mod Recent

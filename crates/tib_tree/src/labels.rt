@@ -3,28 +3,30 @@ ghost use Rattle.std.specs.Prelude.{◌≡◌, ℕ, ◌+◌, ◌-◌, ◌^◌, �
 ghost use Rattle.tib_lex.specs.Lines.{HasNoFeed};
 ghost use Rattle.tib_lex.specs.Lists.{Each};
 ghost use Rattle.tib_tree.specs.Grows.{Grows, Adds, AreDistinct};
+ghost use Rattle.tib_tree.specs.Recent.{IsKey};
 
-use indexmap::IndexSet;
+use crate::recent::{Recent, key_of};
+use crate::text_set::TextSet;
 use std::alloc::{AllocError, Global};
 use std::marker::Model;
 
 /// Distinct texts without a line feed, in the order of first sight. A text's number is its place.
 #[derive(Drop)]
 pub struct Labels {
-    texts: IndexSet<Vec<u8>>,
+    texts: TextSet,
+    recent: Recent,
     alloc: Global,
 }
 
 impl Model for Labels {
     ghost use Rattle.std.specs.Prelude.{ℕ, List};
+    ghost use Rattle.tib_tree.specs.Recent.{AreSeen};
 
     ghost Value = { List (List ℕ) };
 
-    ghost use Rattle.tib_tree.specs.LabelTexts.{texts_of, IsTable};
+    ghost view = { λ l. l.texts };
 
-    ghost view = { texts_of };
-
-    ghost invariant = { IsTable };
+    ghost invariant = { λ l. AreSeen l.texts l.recent };
 }
 
 impl Labels {
@@ -33,7 +35,8 @@ impl Labels {
         ensures { result ≡ [] }
     {
         Labels {
-            texts: IndexSet::new(alloc),
+            texts: TextSet::new(alloc),
+            recent: Recent::new(alloc),
             alloc,
         }
     }
@@ -53,14 +56,11 @@ impl Labels {
         ensures found { IfSome result (λ n. slice_get self.now n ≡ Some text.now) }
         ensures none { result ≡ None → Contains self.now text.now → ⊥ }
     {
-        match self.texts.get_index_of(text) {
-            Some(i) => Some(i as u32),
-            None => None,
-        }
+        self.texts.find(text)
     }
 
-    /// The number of a text, which is added behind the others where it is new. Only want of memory
-    /// is an error, and after it the table is as before.
+    /// The number of a text, which goes last where it is new. Only want of memory is an error, and after it the table is
+    /// as before.
     pub fn intern(&mut self, text: &[u8]) -> Result<u32, AllocError>
         requires plain { HasNoFeed text.now }
         requires room { length self.old < 2 ^ 32 - 1 }
@@ -69,12 +69,29 @@ impl Labels {
         ensures grows { Grows self.old self.new }
         ensures adds { IfOk result (λ n. Adds self.old text.now self.new) }
     {
-        if let Some(i) = self.texts.get_index_of(text) {
-            return Ok(i as u32);
+        let Some(key) = key_of(text) else {
+            return self.texts.intern(text);
+        };
+        if let Some(label) = self.recent.find(key) {
+            return Ok(label);
         }
-        let owned = text.to_vec(self.alloc)?;
-        let (i, _) = self.texts.insert_full(owned)?;
-        Ok(i as u32)
+        self.intern_short(text, key)
+    }
+
+    // The number of a text with this key, which was not seen lately.
+    fn intern_short(&mut self, text: &[u8], key: u64) -> Result<u32, AllocError>
+        requires key { IsKey text.now key }
+        requires plain { HasNoFeed text.now }
+        requires room { length self.old < 2 ^ 32 - 1 }
+        ensures named { IfOk result (λ n. slice_get self.new n ≡ Some text.now) }
+        ensures err { OnErr result (self.new ≡ self.old) }
+        ensures grows { Grows self.old self.new }
+        ensures adds { IfOk result (λ n. Adds self.old text.now self.new) }
+    {
+        self.recent.make_places(self.alloc)?;
+        let label = self.texts.intern(text)?;
+        self.recent.note(key, label);
+        Ok(label)
     }
 
     /// The text of a number. Takes no memory.
@@ -82,6 +99,6 @@ impl Labels {
         requires { label < length self.now }
         ensures { slice_get self.now label ≡ Some result.now }
     {
-        &self.texts[label as usize]
+        self.texts.text(label)
     }
 }

@@ -9,9 +9,11 @@ mod labels;
 mod laws;
 mod preorder;
 mod print;
+mod recent;
 mod shape;
 #[cfg(test)]
 mod tests;
+mod text_set;
 mod trees;
 
 pub use file::read_trees;

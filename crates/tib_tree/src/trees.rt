@@ -13,7 +13,7 @@ use crate::labels::Labels;
 use crate::preorder::{Label, Room, Tree, tree_from};
 use crate::shape::{Place, Reader};
 use std::alloc::{AllocError, Global};
-use tib_lex::{FaultKind, LineError, Token, read_text, read_tokens};
+use tib_lex::{FaultKind, LineError, Token, name_text, read_text, read_tokens};
 
 /// The most nodes that a tree in a file may have.
 pub const MOST_NODES: usize = 10_000;
@@ -40,6 +40,9 @@ fn intern(
     ensures err { OnErr result (labels.new ≡ labels.old) }
     ensures grows { Grows labels.old labels.new }
 {
+    if let Some(name) = name_text(line, token) {
+        return labels.intern(name);
+    }
     read_text(line, token, text)?;
     labels.intern(text)
 }

@@ -1,7 +1,7 @@
 use Rattle.std.proofs.Common.{[], Some, Contains, map, sym, ◌∙◌, ap, subst}
 use Rattle.std.proofs.lemmas.Option.{slice_get-get_or}
 use Rattle.tib_tree.proofs.Texts.{found_at, not_held}
-use Rattle.tib_tree.proofs.labels.Labels.find.Goals as goal
+use Rattle.tib_tree.proofs.text_set.TextSet.find.Goals as goal
 
 pub returns-in-Some-clause-found : goal.returns-in-Some-clause-found
 returns-in-Some-clause-found c =
