@@ -27,13 +27,13 @@ pub filled : (t : Tree ℕ) (nodes : List Node) → nodes ≡ nodes_of_tree t �
 filled t nodes e = ap nodes_of_tree (tree_of_nodes t nodes e) ∙ sym e
 
 -- the only tree of a preorder
-one_tree : (ts : Trees ℕ) → count ts ≡ 1 → ts ≡ only (first_of 0 ts)
-one_tree none h = absurd (omega arith)
-one_tree (tree f kids none) h = refl
-one_tree (tree f kids (tree g more rest)) h = absurd (omega arith)
+pub only_tree : (ts : Trees ℕ) → count ts ≡ 1 → ts ≡ only (first_of 0 ts)
+only_tree none h = absurd (omega arith)
+only_tree (tree f kids none) h = refl
+only_tree (tree f kids (tree g more rest)) h = absurd (omega arith)
 
 pub only_one : (items : List (ℕ × ℕ)) → IsOneTree items → parse items ≡ only (first_of 0 (parse items))
-only_one items one = one_tree (parse items) one.one
+only_one items one = only_tree (parse items) one.one
 
 pub preorder_same : (t : Tree ℕ) (items : List (ℕ × ℕ)) (nodes : List Node) → IsOneTree items → t ≡ first_of 0 (parse items) → nodes ≡ nodes_of_tree t → preorder_of (first_of 0 (parse (pairs_of nodes))) ≡ items
 preorder_same t items nodes one is e = ap preorder_of (tree_of_nodes t nodes e ∙ is) ∙ preorder-first 0 items one

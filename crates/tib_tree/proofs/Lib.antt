@@ -18,3 +18,4 @@ pub mod ReadBack
 pub mod Adding
 pub mod PlainTexts
 pub mod Keys
+pub mod Shaping

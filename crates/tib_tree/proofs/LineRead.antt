@@ -55,7 +55,7 @@ same_tokens line ts us o e h = ap (λ (xs : List Token). nodes_of (words_at line
 pub same_all : {X : Type 0} (P : X → Type 0) (xs ys : List X) → ys ≡ xs → All P xs → All P ys
 same_all P xs ys e h = subst (λ zs. All P zs) (sym e) h
 
--- the nodes of a tree that was made of copies
-pub tree_nodes : (labels : List (List ℕ)) (line : List ℕ) (t : Tree ℕ) (copy nodes : List (ℕ × ℕ)) (again places : List Place) → preorder_of t ≡ copy → copy ≡ nodes → again ≡ places → AreNodes labels nodes (items_back line again) → AreNodes labels (preorder_of t) (items_back line places)
-tree_nodes labels line t copy nodes again places p q e h =
-    subst (λ (ns : List (ℕ × ℕ)). AreNodes labels ns (items_back line places)) (sym (p ∙ q)) (subst (λ (ps : List Place). AreNodes labels nodes (items_back line ps)) e h)
+-- the nodes of a tree that was made of a copy of the places
+pub tree_nodes : (labels : List (List ℕ)) (line : List ℕ) (t : Tree ℕ) (nodes : List (ℕ × ℕ)) (again places : List Place) → preorder_of t ≡ nodes → again ≡ places → AreNodes labels nodes (items_back line again) → AreNodes labels (preorder_of t) (items_back line places)
+tree_nodes labels line t nodes again places p e h =
+    subst (λ (ns : List (ℕ × ℕ)). AreNodes labels ns (items_back line places)) (sym p) (subst (λ (ps : List Place). AreNodes labels nodes (items_back line ps)) e h)

@@ -1,13 +1,16 @@
 -- Nodes that are read one after another.
-use Rattle.std.proofs.Common.{◌≡◌, ℕ, ◌-◌, ◌<◌, ◌≤◌, List, [], ◌∷◌, ◌++◌, length, get_or, drop, drop-cons, sub-one, refl, sym, subst, arith, Option, zero, suc}
+use Rattle.std.proofs.Common.{◌≡◌, ℕ, ◌-◌, ◌<◌, ◌≤◌, List, [], ◌∷◌, ◌++◌, length, get_or, drop, drop-cons, sub-one, refl, ap, sym, ◌∙◌, subst, arith, Option, zero, suc}
 use Rattle.std.specs.Prelude.{map}
-use Rattle.std.proofs.lemmas.List.{reverse-append}
+use Rattle.std.proofs.lemmas.List.{reverse-append, map-append}
 use Rattle.tib_lex.specs.Grammar.{Word, open_, close, hash, arrow, name, label}
 use Rattle.tib_lex.specs.Line.{text_of}
 use Rattle.tib_tree.specs.Grows.{Grows}
 use Rattle.tib_tree.specs.Written.{Item}
 use Rattle.tib_tree.specs.Nodes.{IsNode, AreNodes}
 use Rattle.tib_tree.specs.Shape.{item_of, item_at, items_back}
+use Rattle.tib_tree.specs.Pairs.{pair_of, pairs_of}
+use Rattle.tib_tree.specs.Shaped.{blank, blank_of, blanks_back}
+use Rattle.tib_tree.specs.declared.preorder.Node.{Node}
 use Rattle.tib_tree.specs.declared.shape.Place.{Place}
 
 pub item_text : (word : Word) (kids : Option ℕ) → (item_of word kids).text ≡ text_of word
@@ -49,3 +52,17 @@ nodes_step line places i d a b ns more n h k all g new e =
     subst (λ (is : List Item). AreNodes b more is) (sym (back_more line places i d h k))
     (subst (λ (ms : List (ℕ × ℕ)). AreNodes b ms (items_back line (drop i places) ++ item_at line (get_or places (i - 1) d) ∷ [])) (sym e)
     (nodes_more b ns (items_back line (drop i places)) n (item_at line (get_or places (i - 1) d)) (nodes_grow a b ns (items_back line (drop i places)) g all) new))
+
+-- the same for nodes with their sizes and depths
+pub pairs_more : (ns more : List Node) (n : Node) → more ≡ ns ++ n ∷ [] → pairs_of more ≡ pairs_of ns ++ pair_of n ∷ []
+pairs_more ns more n e = ap pairs_of e ∙ map-append pair_of ns (n ∷ [])
+
+pub blanks_step : (places : List Place) (i : ℕ) (d : Place) (ns more : List Node) (n : Node) → 0 < i → i ≤ length places → map blank ns ≡ blanks_back (drop i places) → blank n ≡ blank_of (get_or places (i - 1) d) → more ≡ ns ++ n ∷ [] → map blank more ≡ blanks_back (drop (i - 1) places)
+blanks_step places zero d ns more n h k all new e = absurd (omega arith)
+blanks_step places (suc i) d ns more n h k all new e =
+    let here : blank n ≡ blank_of (get_or places i d) = rw sub-one at new in
+    ap (map blank) e
+    ∙ map-append blank ns (n ∷ [])
+    ∙ ap (λ (l : List Node). l ++ blank n ∷ []) all
+    ∙ ap (λ (m : Node). blanks_back (drop (suc i) places) ++ m ∷ []) here
+    ∙ rw (sub-one, drop-cons places i d) (sym (reverse-append (blank_of (get_or places i d) ∷ []) (map blank_of (drop (suc i) places))))

@@ -1,10 +1,10 @@
 -- How the depths of nodes are found from the first one on.
 use Rattle.std.proofs.Common.{◌≡◌, ℕ, ◌-◌, ◌<◌, List, [], ◌∷◌, ◌++◌, length, refl, ap, sym, ◌∙◌, arith, append_assoc, append-nil, length-append, zero, suc, true, false}
 use Rattle.tib_tree.specs.Trees.{Tree, Trees, none, tree, count, sizes, only}
-use Rattle.tib_tree.specs.Filled.{nodes_at, nodes_of_tree, sized, sized_back}
+use Rattle.tib_tree.specs.Filled.{nodes_at, nodes_of_tree, nodes_at_levels, sized, sized_back}
 use Rattle.tib_tree.specs.declared.preorder.Node.{Node}
 
--- The trees that are still to come at each level, the deepest first: how many they are, their nodes without depths, the last one first, and with depths.
+-- The trees that are still to come at each level, the deepest first: how many they are, and their nodes without depths, the last one first.
 abbrev pub counts : List (Trees ℕ) → List ℕ
 counts [] = []
 counts (ts ∷ levels) = counts levels ++ count ts ∷ []
@@ -13,18 +13,14 @@ abbrev pub backs : List (Trees ℕ) → List Node
 backs [] = []
 backs (ts ∷ levels) = backs levels ++ sized_back ts
 
-abbrev pub placed : List (Trees ℕ) → List Node
-placed [] = []
-placed (ts ∷ levels) = nodes_at (length levels) ts ++ placed levels
-
 -- what was placed so far, and what is still to come
 pub record Placed (nodes : List Node) (left : List ℕ) (back all : List Node) : Type 0 where
   pub levels : List (Trees ℕ)
   pub counts_are : left ≡ counts levels
   pub back_is : back ≡ backs levels
-  pub nodes_are : nodes ++ placed levels ≡ all
+  pub nodes_are : nodes ++ nodes_at_levels levels ≡ all
 
-same_ends : {A : Type 0} (xs ys : List A) (x y : A) → xs ++ x ∷ [] ≡ ys ++ y ∷ [] → (xs ≡ ys) × (x ≡ y)
+pub same_ends : {A : Type 0} (xs ys : List A) (x y : A) → xs ++ x ∷ [] ≡ ys ++ y ∷ [] → (xs ≡ ys) × (x ≡ y)
 same_ends [] [] x y e = (refl, cc)
 same_ends [] (z ∷ []) x y e = let bad : x ∷ [] ≡ z ∷ (y ∷ []) = e in absurd (cc)
 same_ends [] (z ∷ (w ∷ ys)) x y e = let bad : x ∷ [] ≡ z ∷ (w ∷ (ys ++ y ∷ [])) = e in absurd (cc)
@@ -52,7 +48,7 @@ placing_starts t nodes left old back none_yet fresh e b = record {
   nodes_are = ap (λ (l : List Node). l ++ (nodes_at 0 (only t) ++ [])) none_yet ∙ append-nil (nodes_at 0 (only t));
 }
 
-all_placed_at : (levels : List (Trees ℕ)) (nodes all : List Node) (left : List ℕ) → left ≡ counts levels → nodes ++ placed levels ≡ all → length left ≡ 0 → nodes ≡ all
+all_placed_at : (levels : List (Trees ℕ)) (nodes all : List Node) (left : List ℕ) → left ≡ counts levels → nodes ++ nodes_at_levels levels ≡ all → length left ≡ 0 → nodes ≡ all
 all_placed_at [] nodes all left c e h = sym (append-nil nodes) ∙ e
 all_placed_at (ts ∷ levels) nodes all left c e h = absurd (omega (arith, ap length c, length-append (counts levels) (count ts ∷ [])))
 
@@ -73,7 +69,7 @@ level_done nodes left rest n back all e z p =
       levels = s.1;
       counts_are = sym s.3;
       back_is = p.back_is ∙ ap backs gone ∙ append-nil (backs s.1);
-      nodes_are = ap (λ (ls : List (Trees ℕ)). nodes ++ placed ls) (sym gone) ∙ p.nodes_are;
+      nodes_are = ap (λ (ls : List (Trees ℕ)). nodes ++ nodes_at_levels ls) (sym gone) ∙ p.nodes_are;
     }
 
 some_tree : (ts : Trees ℕ) (n : ℕ) → count ts ≡ n → 0 < n → (f : ℕ) × (kids : Trees ℕ) × (rest : Trees ℕ) × (ts ≡ tree f kids rest) × (count rest ≡ n - 1)
@@ -94,10 +90,10 @@ nodes_left nodes left rest n back all e more empty p =
     let b : back ≡ backs (t.1 ∷ (t.2 ∷ s.1)) ++ sized t.0 t.1 ∷ [] = p.back_is ∙ ap backs (s.2 ∙ ap (λ (ts : Trees ℕ). ts ∷ s.1) t.3) ∙ regroup s.1 t.0 t.1 t.2 in
     omega (arith, ap length b, length-append (backs (t.1 ∷ (t.2 ∷ s.1))) (sized t.0 t.1 ∷ []))
 
-placed_first : (ls : List (Trees ℕ)) (f : ℕ) (kids rest : Trees ℕ) (nodes : List Node) → nodes ++ placed (tree f kids rest ∷ ls) ≡ (nodes ++ record { label = f; rank = count kids; size = suc (sizes kids); depth = length ls } ∷ []) ++ placed (kids ∷ (rest ∷ ls))
+placed_first : (ls : List (Trees ℕ)) (f : ℕ) (kids rest : Trees ℕ) (nodes : List Node) → nodes ++ nodes_at_levels (tree f kids rest ∷ ls) ≡ (nodes ++ record { label = f; rank = count kids; size = suc (sizes kids); depth = length ls } ∷ []) ++ nodes_at_levels (kids ∷ (rest ∷ ls))
 placed_first ls f kids rest nodes =
-    ap (λ (l : List Node). nodes ++ (record { label = f; rank = count kids; size = suc (sizes kids); depth = length ls } ∷ l)) (append_assoc (nodes_at (suc (length ls)) kids) (nodes_at (length ls) rest) (placed ls))
-    ∙ sym (append_assoc nodes (record { label = f; rank = count kids; size = suc (sizes kids); depth = length ls } ∷ []) (placed (kids ∷ (rest ∷ ls))))
+    ap (λ (l : List Node). nodes ++ (record { label = f; rank = count kids; size = suc (sizes kids); depth = length ls } ∷ l)) (append_assoc (nodes_at (suc (length ls)) kids) (nodes_at (length ls) rest) (nodes_at_levels ls))
+    ∙ sym (append_assoc nodes (record { label = f; rank = count kids; size = suc (sizes kids); depth = length ls } ∷ []) (nodes_at_levels (kids ∷ (rest ∷ ls))))
 
 -- a node, behind which its children come at a level of their own
 pub node_placed : (nodes now : List Node) (left rest mid after : List ℕ) (n depth : ℕ) (back more all : List Node) (node : Node) → left ≡ rest ++ n ∷ [] → 0 < n → back ≡ more ++ node ∷ [] → mid ≡ rest ++ (n - 1) ∷ [] → after ≡ mid ++ node.rank ∷ [] → depth ≡ length mid - 1 → now ≡ nodes ++ record { label = node.label; rank = node.rank; size = node.size; depth = depth } ∷ [] → Placed nodes left back all → Placed now after more all
@@ -118,7 +114,7 @@ node_placed nodes now left rest mid after n depth back more all node e some b m 
       levels = kids ∷ (others ∷ ls);
       counts_are = a ∙ ap (λ (l : List ℕ). l ++ node.rank ∷ []) (m ∙ ap (λ (l : List ℕ). l ++ (n - 1) ∷ []) (sym s.3) ∙ ap (λ (k : ℕ). counts ls ++ k ∷ []) (sym t.4)) ∙ ap (λ (x : Node). (counts ls ++ count others ∷ []) ++ x.rank ∷ []) same.1;
       back_is = same.0;
-      nodes_are = ap (λ (l : List Node). l ++ placed (kids ∷ (others ∷ ls))) (new ∙ ap (λ (x : Node). nodes ++ x ∷ []) first) ∙ sym (placed_first ls f kids others nodes) ∙ ap (λ (l : List (Trees ℕ)). nodes ++ placed l) (sym shape) ∙ p.nodes_are;
+      nodes_are = ap (λ (l : List Node). l ++ nodes_at_levels (kids ∷ (others ∷ ls))) (new ∙ ap (λ (x : Node). nodes ++ x ∷ []) first) ∙ sym (placed_first ls f kids others nodes) ∙ ap (λ (l : List (Trees ℕ)). nodes ++ nodes_at_levels l) (sym shape) ∙ p.nodes_are;
     }
 
 pub nothing : (n : ℕ) → (0 < n → false ≡ true) → n ≡ 0

@@ -1,5 +1,5 @@
 -- The nodes of a tree with their sizes and depths.
-use Rattle.std.specs.Prelude.{ℕ, suc, List, [], ◌∷◌, ◌++◌}
+use Rattle.std.specs.Prelude.{ℕ, suc, List, [], ◌∷◌, ◌++◌, length}
 use Rattle.tib_tree.specs.Trees.{Tree, Trees, none, tree, count, sizes, only}
 use Rattle.tib_tree.specs.declared.preorder.Node.{Node}
 
@@ -21,3 +21,8 @@ sized f kids = record { label = f; rank = count kids; size = suc (sizes kids); d
 abbrev pub sized_back : Trees ℕ → List Node
 sized_back none = []
 sized_back (tree f kids rest) = sized_back rest ++ (sized_back kids ++ sized f kids ∷ [])
+
+-- the nodes of the trees at some levels, the deepest level first
+abbrev pub nodes_at_levels : List (Trees ℕ) → List Node
+nodes_at_levels [] = []
+nodes_at_levels (ts ∷ levels) = nodes_at (length levels) ts ++ nodes_at_levels levels

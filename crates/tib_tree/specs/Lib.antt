@@ -19,3 +19,4 @@ pub mod Laws
 pub mod Wrote
 pub mod Writing
 pub mod Recent
+pub mod Shaped

@@ -21,7 +21,7 @@ abbrev pub items_back : List ℕ → List Place → List Item
 items_back line places = reverse (map (item_at line) places)
 
 abbrev pub state_of : List ℕ → Reader → State
-state_of line r = state r.held r.top (reverse r.above.items) (items_back line r.places.items)
+state_of line r = state r.held r.top (map (λ l. l.trees) (reverse r.above.items)) (items_back line r.places.items)
 
 abbrev pub node_put : Word → State → State
 node_put word s = state None (suc s.top) s.above (item_of word s.held ∷ s.items)

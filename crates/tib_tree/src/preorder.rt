@@ -126,14 +126,14 @@ fn size_nodes(
 
 /// Room for the work on one tree after another.
 #[derive(Drop)]
-pub(crate) struct Room {
+struct Room {
     starts: Vec<u32>,
     back: Vec<Node>,
     counts: Vec<u32>,
 }
 
 impl Room {
-    pub(crate) fn new(alloc: Global) -> Room {
+    fn new(alloc: Global) -> Room {
         Room {
             starts: Vec::new(alloc),
             back: Vec::new(alloc),
@@ -176,11 +176,7 @@ fn place_nodes(
 }
 
 // The tree of nodes that are those of one.
-pub(crate) fn tree_from(
-    alloc: Global,
-    items: &[(Label, u32)],
-    room: &mut Room,
-) -> Result<Tree, AllocError>
+fn tree_from(alloc: Global, items: &[(Label, u32)], room: &mut Room) -> Result<Tree, AllocError>
     requires one { IsOneTree items.now }
     requires few { length items.now < 2 ^ 32 }
     ensures { IfOk result (λ t. preorder_of t ≡ items.now) }
@@ -188,6 +184,14 @@ pub(crate) fn tree_from(
     size_nodes(items, &mut room.starts, &mut room.back)?;
     let nodes = place_nodes(alloc, &mut room.back, &mut room.counts)?;
     Ok(Tree { nodes })
+}
+
+// The tree with these nodes, which are those of one.
+pub(crate) fn tree_of(nodes: Vec<Node>) -> Tree
+    requires { (t : TreeOf ℕ) × (nodes.items ≡ nodes_of_tree t) }
+    ensures { preorder_of result ≡ pairs_of nodes.items }
+{
+    Tree { nodes }
 }
 
 impl Tree {

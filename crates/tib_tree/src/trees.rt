@@ -6,11 +6,13 @@ ghost use Rattle.tib_tree.specs.Grows.{Grows, Adds, AddsAll};
 ghost use Rattle.tib_tree.specs.Lines.{tree_line, texts_in, IsLine};
 ghost use Rattle.tib_tree.specs.Nodes.{IsNode, AreNodes};
 ghost use Rattle.tib_tree.specs.Trees.{most_nodes};
+ghost use Rattle.tib_tree.specs.Pairs.{pair_of, pairs_of};
 ghost use Rattle.tib_tree.specs.Shape.{item_at, items_back, PlaceLies};
+ghost use Rattle.tib_tree.specs.Shaped.{blank, blank_of, blanks_back};
 ghost use Rattle.tib_io.specs.Reads.{most_bytes};
 
 use crate::labels::Labels;
-use crate::preorder::{Label, Room, Tree, tree_from};
+use crate::preorder::{Node, Tree, tree_of};
 use crate::shape::{Place, Reader};
 use std::alloc::{AllocError, Global};
 use tib_lex::{FaultKind, LineError, Token, name_text, read_text, read_tokens};
@@ -52,47 +54,53 @@ fn read_node(
     place: Place,
     labels: &mut Labels,
     text: &mut Vec<u8>,
-) -> Result<(Label, u32), AllocError>
+) -> Result<Node, AllocError>
     requires lies { PlaceLies (length line.now) place }
     requires plain { HasNoFeed line.now }
     requires room { length labels.old < 2 ^ 32 - 1 }
-    ensures node { IfOk result (λ n. IsNode labels.new n (item_at line.now place)) }
+    ensures node { IfOk result (λ n. IsNode labels.new (pair_of n) (item_at line.now place)) }
+    ensures shape { IfOk result (λ n. blank n ≡ blank_of place) }
     ensures added { IfOk result (λ _. Adds labels.old (item_at line.now place).text labels.new) }
     ensures err { OnErr result (labels.new ≡ labels.old) }
     ensures grows { Grows labels.old labels.new }
 {
     let label = intern(line, place.token, labels, text)?;
     let rank = place.kids.unwrap_or(0);
-    Ok((label, rank))
+    Ok(Node {
+        label,
+        rank,
+        size: place.size,
+        depth: place.depth,
+    })
 }
 
-// Puts the nodes at some places, the last place first, into `nodes`.
+// The nodes at some places, of which the last is the root's.
 fn read_nodes(
+    alloc: Global,
     line: &[u8],
     places: &[Place],
     labels: &mut Labels,
     text: &mut Vec<u8>,
-    nodes: &mut Vec<(Label, u32)>,
-) -> Result<(), AllocError>
+) -> Result<Vec<Node>, AllocError>
     requires lie { All (PlaceLies (length line.now)) places.now }
     requires plain { HasNoFeed line.now }
     requires room { length labels.old + length places.now < 2 ^ 32 - 1 }
-    ensures nodes { IfOk result (λ _. AreNodes labels.new nodes.new.items
+    ensures nodes { IfOk result (λ nodes. AreNodes labels.new (pairs_of nodes.items)
         (items_back line.now places.now)) }
-    ensures many { IfOk result (λ _. length nodes.new.items ≡ length places.now) }
+    ensures shape { IfOk result (λ nodes. map blank nodes.items ≡ blanks_back places.now) }
     ensures added { IfOk result (λ _. AddsAll labels.old (map (λ i.
         i.text) (items_back line.now places.now)) labels.new) }
     ensures few { length labels.new ≤ length labels.old + length places.now }
     ensures grows { Grows labels.old labels.new }
 {
-    nodes.clear();
+    let mut nodes = Vec::with_capacity(alloc, places.len())?;
     let mut i = places.len();
     while i > 0 {
         i -= 1;
         let node = read_node(line, places[i], labels, text)?;
         nodes.push(node)?;
     }
-    Ok(())
+    Ok(nodes)
 }
 
 /// Reads lines of a tree file, with room that is used again for each.
@@ -101,8 +109,6 @@ pub struct LineReader {
     tokens: Vec<Token>,
     reader: Reader,
     text: Vec<u8>,
-    nodes: Vec<(Label, u32)>,
-    room: Room,
 }
 
 impl LineReader {
@@ -111,8 +117,6 @@ impl LineReader {
             tokens: Vec::new(alloc),
             reader: Reader::new(alloc),
             text: Vec::new(alloc),
-            nodes: Vec::new(alloc),
-            room: Room::new(alloc),
         }
     }
 
@@ -145,14 +149,7 @@ impl LineReader {
         if self.reader.places.len() > MOST_NODES {
             return Err(LineError::Fault(FaultKind::TooManyNodes));
         }
-        read_nodes(
-            line,
-            &self.reader.places,
-            labels,
-            &mut self.text,
-            &mut self.nodes,
-        )?;
-        let tree = tree_from(alloc, &self.nodes, &mut self.room)?;
-        Ok(Some(tree))
+        let nodes = read_nodes(alloc, line, &self.reader.places, labels, &mut self.text)?;
+        Ok(Some(tree_of(nodes)))
     }
 }

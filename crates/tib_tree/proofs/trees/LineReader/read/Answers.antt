@@ -1,17 +1,15 @@
-use Rattle.std.proofs.Common.{sym, arith, ◌≡◌, ◌<◌, ◌≤◌, ℕ, length, subst, List, ap}
+use Rattle.std.proofs.Common.{arith, ◌≡◌, ◌<◌, ◌≤◌, ℕ, length, List, ap, ◌∙◌}
 use Rattle.std.specs.Prelude.{Some}
 use Rattle.tib_lex.specs.declared.token.Token.{Token}
 use Rattle.tib_tree.specs.Machine.{nodes_of}
 use Rattle.tib_tree.proofs.Adding.{few_places, none_added, line_added}
 use Rattle.std.proofs.lemmas.Bool.Decides.{nat_tests}
 use Rattle.tib_lex.specs.Line.{Lies}
-use Rattle.tib_tree.specs.Nodes.{AreNodes}
 use Rattle.tib_tree.specs.Shape.{PlaceLies, items_back}
 use Rattle.tib_tree.specs.declared.shape.Place.{Place}
 use Rattle.tib_lex.specs.Line.{words_at}
-use Rattle.tib_tree.specs.Trees.{IsOneTree}
-use Rattle.tib_tree.proofs.Read.{tree_back}
-use Rattle.tib_tree.proofs.Values.{one_read}
+use Rattle.tib_tree.specs.Shaped.{blanks_back}
+use Rattle.tib_tree.proofs.Shaping.{one_tree}
 use Rattle.tib_tree.proofs.Steps.{accepted, refused}
 use Rattle.tib_tree.proofs.LineRead.{bad_line, blank_line, no_tree_line, large_line, good_line, same_tokens, same_all, tree_nodes}
 use Rattle.tib_tree.proofs.trees.LineReader.read.Goals as goal
@@ -64,14 +62,8 @@ read_nodes-requires-clause-room c =
     let read = same_tokens c.args.line.now ts.items _ _ c.deref.ensures.value (accepted c.in_ok-read.field-0 _ _ c.if-not-branch-2.false (c.in_ok-read.ensures.nodes c.args.line.now)) in
     omega (arith, c.requires.room, few c.args.line.now ts.items _ _ read c.in_ok-read_tokens.ensures.few c.deref-2.ensures.value)
 
-pub returns-in_err-read_nodes-clause-few : goal.returns-in_err-read_nodes-clause-few
-returns-in_err-read_nodes-clause-few c =
-    let ts = c.read_tokens.new.tokens in
-    let read = same_tokens c.args.line.now ts.items _ _ c.deref.ensures.value (accepted c.in_ok-read.field-0 _ _ c.if-not-branch-2.false (c.in_ok-read.ensures.nodes c.args.line.now)) in
-    omega (arith, c.read_nodes.ensures.few, few c.args.line.now ts.items _ _ read c.in_ok-read_tokens.ensures.few c.deref-2.ensures.value)
-
-pub returns-in_err-tree-clause-few : goal.returns-in_err-tree-clause-few
-returns-in_err-tree-clause-few c =
+pub returns-in_err-nodes-clause-few : goal.returns-in_err-nodes-clause-few
+returns-in_err-nodes-clause-few c =
     let ts = c.read_tokens.new.tokens in
     let read = same_tokens c.args.line.now ts.items _ _ c.deref.ensures.value (accepted c.in_ok-read.field-0 _ _ c.if-not-branch-2.false (c.in_ok-read.ensures.nodes c.args.line.now)) in
     omega (arith, c.read_nodes.ensures.few, few c.args.line.now ts.items _ _ read c.in_ok-read_tokens.ensures.few c.deref-2.ensures.value)
@@ -90,20 +82,17 @@ returns-clause-added c =
     let good = good_line c.args.line.now ts.items c.read.new.self.places.items (accepted c.in_ok-read_tokens.field-0 _ _ c.if-not-branch.false c.in_ok-read_tokens.ensures.words) n
     (same_tokens _ _ _ _ c.deref.ensures.value (accepted c.in_ok-read.field-0 _ _ c.if-not-branch-2.false (c.in_ok-read.ensures.nodes c.args.line.now)))
     (omega (arith, c.read.new.self.places.ok.0, c.if-len-gt-MOST_NODES.false)) in
-    line_added c.args.line.now c.read.new.self.places.items _ c.args.labels.now c.read_nodes.new.labels good c.deref-2.ensures.value c.in_ok-read_nodes.ensures.added
+    line_added c.args.line.now c.read.new.self.places.items _ c.args.labels.now c.read_nodes.new.labels good c.deref-2.ensures.value c.in_ok-nodes.ensures.added
 
 pub read_nodes-requires-clause-lie : goal.read_nodes-requires-clause-lie
 read_nodes-requires-clause-lie c =
     let all = c.in_ok-read.ensures.places c.if-not-branch-2.false (length c.args.line.now) (same_all (Lies (length c.args.line.now)) _ _ c.deref.ensures.value c.in_ok-read_tokens.ensures.within) in
     same_all (PlaceLies (length c.args.line.now)) _ _ c.deref-2.ensures.value all
 
-pub tree_from-requires-clause-one : goal.tree_from-requires-clause-one
-tree_from-requires-clause-one c =
-    let ts = c.read_tokens.new.tokens in
-    let read = same_tokens c.args.line.now ts.items _ _ c.deref.ensures.value (accepted c.in_ok-read.field-0 _ _ c.if-not-branch-2.false (c.in_ok-read.ensures.nodes c.args.line.now)) in
-    subst IsOneTree (sym c.deref-3.ensures.value)
-    (one_read c.read_nodes.new.labels (words_at c.args.line.now ts.items) (items_back c.args.line.now c.read.new.self.places.items) c.read_nodes.new.nodes.items (tree_back _ _ read)
-    (subst (λ (ps : List Place). AreNodes c.read_nodes.new.labels c.read_nodes.new.nodes.items (items_back c.args.line.now ps)) c.deref-2.ensures.value c.in_ok-read_nodes.ensures.nodes))
+pub tree_of-requires : goal.tree_of-requires
+tree_of-requires c =
+    one_tree c.read.new.self.places.items c.in_ok-nodes.nodes.items (c.in_ok-read.ensures.one c.if-not-branch-2.false)
+    (c.in_ok-nodes.ensures.shape ∙ ap blanks_back c.deref-2.ensures.value)
 
 pub returns-clause-line : goal.returns-clause-line
 returns-clause-line c =
@@ -114,5 +103,5 @@ returns-clause-line c =
       good_line c.args.line.now ts.items c.read.new.self.places.items (accepted c.in_ok-read_tokens.field-0 _ _ c.if-not-branch.false c.in_ok-read_tokens.ensures.words) n
           (same_tokens _ _ _ _ c.deref.ensures.value (accepted c.in_ok-read.field-0 _ _ c.if-not-branch-2.false (c.in_ok-read.ensures.nodes c.args.line.now)))
           (omega (arith, c.read.new.self.places.ok.0, c.if-len-gt-MOST_NODES.false)),
-      tree_nodes c.read_nodes.new.labels c.args.line.now c.in_ok-tree.tree _ _ _ _ c.in_ok-tree.ensures c.deref-3.ensures.value c.deref-2.ensures.value c.in_ok-read_nodes.ensures.nodes,
+      tree_nodes c.read_nodes.new.labels c.args.line.now c.tree_of.result _ _ _ c.tree_of.ensures c.deref-2.ensures.value c.in_ok-nodes.ensures.nodes,
     )
