@@ -1,5 +1,5 @@
 // The labels that were seen lately, by the bytes of their texts, so that most labels are found without the hash table.
-ghost use Rattle.std.specs.Prelude.{◌≡◌, ◌<◌, ℕ, List, [], IfSome};
+ghost use Rattle.std.specs.Prelude.{◌≡◌, ◌<◌, ℕ, List, [], IfSome, length};
 ghost use Rattle.tib_tree.specs.Recent.{IsKey, IsSeen, AreSeen};
 
 use std::alloc::{AllocError, Global};
@@ -20,7 +20,7 @@ pub(crate) struct Seen {
     pub label: u32,
 }
 
-/// The label that was seen last at each place. Before the first it has no places.
+/// The labels that were seen last at each two places side by side. Before the first it has no places.
 #[derive(Drop)]
 pub(crate) struct Recent {
     pub seen: Vec<Seen>,
@@ -62,6 +62,17 @@ impl Recent {
             IsSeen texts key n) }
     {
         let place = place_of(key);
+        match self.label_at(place, key) {
+            Some(label) => Some(label),
+            None => self.label_at(place ^ 1, key),
+        }
+    }
+
+    // The label at a place, if its text has this key.
+    fn label_at(&self, place: usize, key: u64) -> Option<u32>
+        ensures { IfSome result (λ n. (texts : List (List ℕ)) → AreSeen texts self.now →
+            IsSeen texts key n) }
+    {
         if place >= self.seen.len() {
             return None;
         }
@@ -84,14 +95,27 @@ impl Recent {
         Ok(())
     }
 
-    // Notes a label with the key of its text.
+    // Notes a label with the key of its text, in place of the one that was seen before the last.
     pub(crate) fn note(&mut self, key: u64, label: u32)
         ensures { (texts : List (List ℕ)) → AreSeen texts self.old → IsSeen texts key label →
             AreSeen texts self.new }
     {
         let place = place_of(key);
         if place < self.seen.len() {
+            self.move_over(place);
             self.seen[place] = Seen { key, label };
+        }
+    }
+
+    // Moves the label at a place to the place beside it.
+    fn move_over(&mut self, place: usize)
+        requires { place < length self.old.seen.items }
+        ensures long { length self.new.seen.items ≡ length self.old.seen.items }
+        ensures seen { (texts : List (List ℕ)) → AreSeen texts self.old → AreSeen texts self.new }
+    {
+        let beside = place ^ 1;
+        if beside < self.seen.len() {
+            self.seen[beside] = self.seen[place];
         }
     }
 }

@@ -66,23 +66,23 @@ impl Reader {
         self.before = 0;
     }
 
-    fn put_node(&mut self, token: Token) -> Result<(), AllocError>
+    fn put_node(&mut self, token: &Token) -> Result<(), AllocError>
         requires trees { self.old.top < 2 ^ 32 - 1 }
         requires nodes { length self.old.places.items < 2 ^ 32 - 1 }
         requires levels { length self.old.above.items < 2 ^ 32 }
         requires shaped { IsShaped self.old }
-        ensures places { IfOk result (λ _. (long : ℕ) → Lies long token →
+        ensures places { IfOk result (λ _. (long : ℕ) → Lies long token.now →
             All (PlaceLies long) self.old.places.items →
             All (PlaceLies long) self.new.places.items) }
         ensures put { IfOk result (λ _. (line : List ℕ) →
-            state_of line self.new ≡ node_put (word_at line token) (state_of line self.old)) }
+            state_of line self.new ≡ node_put (word_at line token.now) (state_of line self.old)) }
         ensures shaped { IfOk result (λ _. IsShaped self.new) }
         ensures longer { IfOk result (λ _. IsLonger self.old self.new) }
     {
         let kids = self.held;
         let count = self.places.len() as u32 + 1;
         let place = Place {
-            token,
+            token: *token,
             kids,
             size: count - self.before,
             depth: self.above.len() as u32,
@@ -95,16 +95,16 @@ impl Reader {
     }
 
     // Reads one more token, if it may stand there.
-    fn put(&mut self, token: Token) -> Result<bool, AllocError>
+    fn put(&mut self, token: &Token) -> Result<bool, AllocError>
         requires trees { self.old.top < 2 ^ 32 - 1 }
         requires nodes { length self.old.places.items < 2 ^ 32 - 1 }
         requires levels { length self.old.above.items < 2 ^ 32 }
         requires shaped { IsShaped self.old }
-        ensures places { IfOk result (λ ok. (long : ℕ) → Lies long token →
+        ensures places { IfOk result (λ ok. (long : ℕ) → Lies long token.now →
             All (PlaceLies long) self.old.places.items →
             All (PlaceLies long) self.new.places.items) }
         ensures put { IfOk result (λ ok. (line : List ℕ) →
-            put (word_at line token) (state_of line self.old)
+            put (word_at line token.now) (state_of line self.old)
             ≡ (if ok then Some (state_of line self.new) else None)) }
         ensures shaped { IfOk result (λ ok. IsTrue ok → IsShaped self.new) }
         ensures longer { IfOk result (λ ok. IsLonger self.old self.new) }
@@ -175,7 +175,7 @@ impl Reader {
         let mut i = tokens.len();
         while i > 0 {
             i -= 1;
-            if !self.put(tokens[i])? {
+            if !self.put(&tokens[i])? {
                 return Ok(false);
             }
         }
