@@ -22,4 +22,4 @@ pub use laws::{nodes_are_read, printed_trees_are_read, texts_are_read, texts_mea
 pub use preorder::{Label, Node, ShapeError, Tree};
 pub use print::{needs_quotes, print_label, print_tree};
 pub use shape::{Place, Reader};
-pub use trees::{LineReader, MOST_NODES, trees_have_a_limit};
+pub use trees::{LineReader, MOST_NODES, intern_token, trees_have_a_limit};

@@ -1,5 +1,5 @@
 // The text of a tree.
-ghost use Rattle.std.specs.Prelude.{◌≡◌, ℕ, ◌<◌, ◌≤◌, List, [], ◌∷◌, ◌++◌, length, take, not, IsTrue, false, replicate, All};
+ghost use Rattle.std.specs.Prelude.{◌≡◌, ℕ, ◌<◌, ◌≤◌, List, [], ◌∷◌, ◌++◌, length, take, not, IsTrue, false, replicate, All, IfSome};
 ghost use Rattle.std.specs.List.{prefix_len};
 ghost use Rattle.tib_lex.specs.Grammar.{IsName, is_name as is_name_text, escape, spelling, label};
 ghost use Rattle.tib_tree.specs.Printed.{label_text, tree_text, is_plain_byte, IsRun, backslash_for, gap_text, text_from};
@@ -136,6 +136,20 @@ fn print_closes<W: Sink>(out: &mut W, count: u32) -> Result<(), Failed>
     Ok(())
 }
 
+// The parentheses that close a few nodes, and the space behind them.
+fn short_gap(closes: u32) -> Option<&'static [u8]>
+    ensures { IfSome result (λ text. text.now ≡ replicate closes 41 ++ 32 ∷ []) }
+{
+    match closes {
+        0 => Some(&b" "[..]),
+        1 => Some(&b") "[..]),
+        2 => Some(&b")) "[..]),
+        3 => Some(&b"))) "[..]),
+        4 => Some(&b")))) "[..]),
+        _ => None,
+    }
+}
+
 // What stands between the label of a node and that of the next one.
 fn print_gap<W: Sink>(out: &mut W, above: u32, depth: u32) -> Result<(), Failed>
     ensures { Wrote (W.written out.old) (W.written out.new) (W.free out.old) (W.free out.new)
@@ -144,7 +158,11 @@ fn print_gap<W: Sink>(out: &mut W, above: u32, depth: u32) -> Result<(), Failed>
     if above < depth {
         return print_piece(out, b"(");
     }
-    match print_closes(out, above - depth) {
+    let closes = above - depth;
+    if let Some(gap) = short_gap(closes) {
+        return print_piece(out, gap);
+    }
+    match print_closes(out, closes) {
         Ok(()) => print_piece(out, b" "),
         Err(Failed) => Err(Failed),
     }

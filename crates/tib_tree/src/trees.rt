@@ -25,8 +25,9 @@ pub fn trees_have_a_limit()
     ensures { MOST_NODES ≡ most_nodes }
 {}
 
-// The number of a token's label.
-fn intern(
+/// The number of the text of a token, which goes last where it is new. Only want of memory is an error, and after it the
+/// table is as before. `text` is room for the text of a quoted token.
+pub fn intern_token(
     line: &[u8],
     token: Token,
     labels: &mut Labels,
@@ -64,7 +65,7 @@ fn read_node(
     ensures err { OnErr result (labels.new ≡ labels.old) }
     ensures grows { Grows labels.old labels.new }
 {
-    let label = intern(line, place.token, labels, text)?;
+    let label = intern_token(line, place.token, labels, text)?;
     let rank = place.kids.unwrap_or(0);
     Ok(Node {
         label,
