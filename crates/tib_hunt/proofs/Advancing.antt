@@ -1,22 +1,22 @@
 -- The steps of a hunt: the seeds, a position that is expanded, a round that ends, and what is too much.
-use Rattle.std.proofs.Common.{◌≡◌, inl, inr, ℕ, zero, suc, ◌+◌, ◌-◌, ◌<◌, ◌≤◌, ◌↔◌, Bool, true, List, [], ◌∷◌, ◌++◌, length, map, take, length-append, append_assoc, refl, sym, ap, subst, ◌∙◌, arith}
+use Rattle.std.proofs.Common.{◌≡◌, inl, inr, ℕ, zero, suc, ◌+◌, ◌-◌, ◌<◌, ◌≤◌, ◌↔◌, Bool, List, [], ◌∷◌, ◌++◌, length, map, take, length-append, append_assoc, refl, sym, ap, subst, ◌∙◌, arith}
 use Rattle.std.proofs.lemmas.Bool.{cases_lt}
+use Rattle.std.specs.declared.cmp.Ordering.{Ordering}
 use Rattle.std.specs.declared.cmp.Ordering.TheVariants.{Less}
-use Rattle.std.specs.Cmp.{IsTotalOrder}
 use Rattle.indexmap.specs.IndexSet.{insert_all}
-use Rattle.tib_lex.specs.Lists.{Has, Each, Distinct, Ascends}
+use Rattle.tib_lex.specs.Lists.{Has, Distinct, Ascends}
 use Rattle.tib_hunt.specs.EdgeLists.{AreListed, IsEnd, Exceeds, key_at, total}
 use Rattle.tib_hunt.specs.Reached.{IfTooMany, Operation, IsNew, AfterRounds, IsReached, AreEdges, IsBeyond}
 use Rattle.tib_hunt.specs.declared.found.HuntError.{HuntError}
 use Rattle.tib_hunt.specs.declared.found.HuntError.TheVariants.{TooMany, OutOfMemory}
-use Rattle.tib_hunt.specs.Numbered.{Name, HaveMore, IsInOrder, moved_to}
+use Rattle.tib_hunt.specs.Numbered.{key_parts, Name, HaveMore, IsInOrder, moved_to}
+use Rattle.tib_hunt.specs.Reading.{Reading}
 use Rattle.tib_hunt.specs.Rows.{read_rows}
 use Rattle.tib_hunt.specs.Held.{Leads, edges_so_far as all_edges, IsHeld as Held, IsBetween as Between, IsWithinRound as WithinRound}
-use Rattle.tib_hunt.specs.declared.place.Place.{Place}
 use Rattle.tib_hunt.specs.declared.row.Row.{Row}
 use Rattle.tib_hunt.proofs.Members.{each_of, has_either, has_left, has_right, total_append}
-use Rattle.tib_hunt.proofs.Reaching.{Laws, edges_stay, beyond, beyond_more, in_reached, seeds_reached}
-use Rattle.tib_hunt.proofs.Sights.{take_front}
+use Rattle.tib_hunt.proofs.Reaching.{IsHunt, edges_stay, beyond, beyond_more, in_reached, seeds_reached}
+use Rattle.tib_hunt.proofs.Sights.{take_front, total_least}
 use Rattle.tib_hunt.proofs.Settling.{Settled}
 use Rattle.tib_hunt.proofs.Holding.{Inserted, inserted, added, more_edges, finished, settled_edges, round_done, leads_on}
 
@@ -25,32 +25,37 @@ apart_of [] ys k d h m = h
 apart_of (x ∷ xs) ys k d (inl e) m = d.0 (has_right xs ys x (subst (Has ys) (sym e) m))
 apart_of (x ∷ xs) ys k d (inr h) m = apart_of xs ys k d.1 h m
 
-module _ {K O E R T : Type 0} (p : Operation K O E) (laws : Laws p) (admits : K → Type 0) (places : R → List Place) (positions : T → List ℕ)
-    (readp : (Place → K) → R → E) (readn : (ℕ → K) → T → E)
-    (reads : (rule : R) (f g : Place → K) → Each (λ place. f place ≡ g place) (places rule) → readp f rule ≡ readp g rule)
-    (readsn : (rule : T) (f g : ℕ → K) → Each (λ n. f n ≡ g n) (positions rule) → readn f rule ≡ readn g rule)
-    (eq : K → K → Bool) (same : (x y : K) → eq x y ≡ true → x ≡ y) (self : (x : K) → eq x x ≡ true) where
+module _ {K O E R T : Type 0} {p : Operation K O E} {admits : K → Type 0} {reading : Reading K E R T}
+    {cmp : K → K → Ordering} {entries : K → ℕ} {eq : K → K → Bool} (hunt : IsHunt p admits reading cmp entries eq) where
   abbrev edges_so_far : K → List K → List T → List (Row R) → List E
-  edges_so_far = all_edges p admits places positions readp readn
+  edges_so_far = all_edges p admits reading
 
   abbrev IsHeld : List K → List K → List T → List (Row R) → ℕ → ℕ → Type 0
-  IsHeld = Held p admits places positions readp readn
+  IsHeld = Held p admits reading
 
   abbrev IsBetween : ℕ → List K → List T → ℕ → ℕ → Type 0
-  IsBetween = Between p admits places positions readp readn
+  IsBetween = Between p admits reading
 
   abbrev IsWithinRound : List K → ℕ → ℕ → List K → List T → List (Row R) → ℕ → ℕ → Type 0
-  IsWithinRound = WithinRound p admits places positions readp readn
+  IsWithinRound = WithinRound p admits reading
+
+  -- the keys have no more parts than all together
+  pub keys_counted : {order keys : List K} {rules : List T} {rows : List (Row R)} {parts limit : ℕ} → IsHeld order keys rules rows parts limit → total (key_parts entries) keys ≤ parts
+  keys_counted {order} {keys} {rules} {rows} {parts} held = subst (λ f. total f keys ≤ parts) hunt.lawful.same_parts held.enough
+
+  -- there are no more keys than the limit
+  pub few_keys : {order keys : List K} {rules : List T} {rows : List (Row R)} {parts limit : ℕ} → IsHeld order keys rules rows parts limit → length keys ≤ limit
+  few_keys {order} {keys} held = let least = total_least entries keys in let a = keys_counted held in let b = held.within in omega arith
 
   -- keys that are too many
   pub too_many_keys : (order keys : List K) (rules : List T) (rows : List (Row R)) (parts limit : ℕ) (h : IsHeld order keys rules rows parts limit)
-      (edge : O → E → Type 0) (ends : List K) (rs : List R) (ep : ℕ) → AreListed edge p.edge_parts places readp order ends rs ep
+      (edge : O → E → Type 0) (ends : List K) (rs : List R) (ep : ℕ) → AreListed edge p.edge_parts reading.places reading.read_places order ends rs ep
       → ((k : K) → Has ends k → (Has order k → ⊥) → (whole : List K) → IsReached p whole → Has whole k)
-      → (n : ℕ) → n ≤ length order → ((d : K) → AreEdges p order n (edges_so_far d keys rules rows ++ map (readp (key_at d order ends)) rs))
+      → (n : ℕ) → n ≤ length order → ((d : K) → AreEdges p order n (edges_so_far d keys rules rows ++ map (reading.read_places (key_at d order ends)) rs))
       → parts + ep ≤ limit → HaveMore eq p.key_parts keys ends (parts + ep) limit → IsBeyond p limit
   too_many_keys order keys rules rows parts limit h edge ends rs ep l stand n low edges within ([], among, more) = absurd (omega arith)
   too_many_keys order keys rules rows parts limit h edge ends rs ep l stand n low edges within ((d ∷ ds), among, more) =
-      let i = inserted eq same self (d ∷ ds) keys in
+      let i = inserted eq hunt.same hunt.self (d ∷ ds) keys in
       let once = i.once h.once in
       let whole_is : insert_all eq keys (d ∷ ds) ≡ order ++ (h.fresh ++ i.new) = i.keys_are ∙ ap (λ (x : List K). x ++ i.new) h.keys_are ∙ append_assoc order h.fresh i.new in
       let leads : Leads p order (insert_all eq keys (d ∷ ds)) = record {
@@ -61,9 +66,9 @@ module _ {K O E R T : Type 0} (p : Operation K O E) (laws : Laws p) (admits : K 
         ];
       } in
       let a = h.counted d in
-      let b = total_append p.edge_parts (edges_so_far d keys rules rows) (map (readp (key_at d order ends)) rs) in
+      let b = total_append p.edge_parts (edges_so_far d keys rules rows) (map (reading.read_places (key_at d order ends)) rs) in
       let c = l.counted d in
-      beyond p laws order (insert_all eq keys (d ∷ ds)) leads once n (edges_so_far d keys rules rows ++ map (readp (key_at d order ends)) rs) low (edges d) limit (omega arith)
+      beyond p hunt.laws order (insert_all eq keys (d ∷ ds)) leads once n (edges_so_far d keys rules rows ++ map (reading.read_places (key_at d order ends)) rs) low (edges d) limit (omega arith)
 
   -- a position with too many edges
   pub too_many_edges : (order keys : List K) (first n : ℕ) (rules : List T) (rows : List (Row R)) (parts limit : ℕ) → IsWithinRound order first n keys rules rows parts limit → n < length order
@@ -72,32 +77,33 @@ module _ {K O E R T : Type 0} (p : Operation K O E) (laws : Laws p) (admits : K 
   too_many_edges (d ∷ order) keys first n rules rows parts limit w low x =
       let a = w.held.counted d in
       let b = w.held.within in
-      beyond_more p laws (d ∷ order) keys w.held.leads w.held.once n (edges_so_far d keys rules rows) w.low (w.edges d) limit (limit - parts) low x (omega arith)
+      beyond_more p hunt.laws (d ∷ order) keys w.held.leads w.held.once n (edges_so_far d keys rules rows) w.low (w.edges d) limit (limit - parts) low x (omega arith)
 
   -- the edges of a position come to those before
   pub with_position : (order keys : List K) (first n : ℕ) (rules : List T) (rows : List (Row R)) (parts limit : ℕ) → IsWithinRound order first n keys rules rows parts limit
-      → (ends : List K) (rs : List R) (ep : ℕ) → AreListed (p.edge order n) p.edge_parts places readp order ends rs ep → (d : K) → AreEdges p order (suc n) (edges_so_far d keys rules rows ++ map (readp (key_at d order ends)) rs)
-  with_position order keys first n rules rows parts limit w ends rs ep l d = (edges_so_far d keys rules rows, map (readp (key_at d order ends)) rs, refl, w.edges d, l.edges d)
+      → (ends : List K) (rs : List R) (ep : ℕ) → AreListed (p.edge order n) p.edge_parts reading.places reading.read_places order ends rs ep → (d : K) → AreEdges p order (suc n) (edges_so_far d keys rules rows ++ map (reading.read_places (key_at d order ends)) rs)
+  with_position order keys first n rules rows parts limit w ends rs ep l d = (edges_so_far d keys rules rows, map (reading.read_places (key_at d order ends)) rs, refl, w.edges d, l.edges d)
 
   pub stands : (order keys : List K) (first n : ℕ) (rules : List T) (rows : List (Row R)) (parts limit : ℕ) → IsWithinRound order first n keys rules rows parts limit → n < length order
       → (ends : List K) → ((k : K) → Has ends k ↔ IsEnd (p.edge order n) p.ends_of k) → (k : K) → Has ends k → (Has order k → ⊥) → (whole : List K) → IsReached p whole → Has whole k
   stands order keys first n rules rows parts limit w low ends are k h fresh whole reached =
-      (in_reached p laws w.rounds first order w.after whole reached).1 k ((n, w.from, low, (are k).0 h), fresh)
+      (in_reached p hunt.laws w.rounds first order w.after whole reached).1 k ((n, w.from, low, (are k).0 h), fresh)
 
   pub too_many_ends : (order keys : List K) (first n : ℕ) (rules : List T) (rows : List (Row R)) (parts limit : ℕ) → IsWithinRound order first n keys rules rows parts limit → n < length order
-      → (ends : List K) (rs : List R) (ep : ℕ) → AreListed (p.edge order n) p.edge_parts places readp order ends rs ep → ((k : K) → Has ends k ↔ IsEnd (p.edge order n) p.ends_of k)
-      → ep ≤ limit - parts → HaveMore eq p.key_parts keys ends (parts + ep) limit → IsBeyond p limit
+      → (ends : List K) (rs : List R) (ep : ℕ) → AreListed (p.edge order n) p.edge_parts reading.places reading.read_places order ends rs ep → ((k : K) → Has ends k ↔ IsEnd (p.edge order n) p.ends_of k)
+      → ep ≤ limit - parts → HaveMore eq (key_parts entries) keys ends (parts + ep) limit → IsBeyond p limit
   too_many_ends order keys first n rules rows parts limit w low ends rs ep l are within more =
-      too_many_keys order keys rules rows parts limit w.held (p.edge order n) ends rs ep l (stands order keys first n rules rows parts limit w low ends are) (suc n) (omega arith) (with_position order keys first n rules rows parts limit w ends rs ep l) (let b = w.held.within in omega arith) more
+      too_many_keys order keys rules rows parts limit w.held (p.edge order n) ends rs ep l (stands order keys first n rules rows parts limit w low ends are) (suc n) (omega arith) (with_position order keys first n rules rows parts limit w ends rs ep l) (let b = w.held.within in omega arith)
+      (subst (λ f. HaveMore eq f keys ends (parts + ep) limit) (sym hunt.lawful.same_parts) more)
 
   -- a position is expanded
   pub expanded : (order keys : List K) (first n : ℕ) (rules : List T) (rows : List (Row R)) (parts limit : ℕ) → IsWithinRound order first n keys rules rows parts limit → n < length order
-      → (ends : List K) (rs : List R) (ep : ℕ) → AreListed (p.edge order n) p.edge_parts places readp order ends rs ep → ((k : K) → Has ends k ↔ IsEnd (p.edge order n) p.ends_of k)
+      → (ends : List K) (rs : List R) (ep : ℕ) → AreListed (p.edge order n) p.edge_parts reading.places reading.read_places order ends rs ep → ((k : K) → Has ends k ↔ IsEnd (p.edge order n) p.ends_of k)
       → ((k : K) → IsEnd (p.edge order n) p.ends_of k → admits k)
-      → (row : Row R) → row.rules.items ≡ rs → (keys' : List K) → keys' ≡ insert_all eq keys ends → Name keys' ends row.ends.items → (parts' : ℕ) → parts' + total p.key_parts keys ≡ (parts + ep) + total p.key_parts keys' → parts' ≤ limit
+      → (row : Row R) → row.rules.items ≡ rs → (keys' : List K) → keys' ≡ insert_all eq keys ends → Name keys' ends row.ends.items → (parts' : ℕ) → parts' + total (key_parts entries) keys ≡ (parts + ep) + total (key_parts entries) keys' → parts' ≤ limit
       → IsWithinRound order first (n + 1) keys' rules (rows ++ row ∷ []) parts' limit
   expanded order keys first n rules rows parts limit w low ends rs ep l are allow row same_rules keys' is named parts' sums within =
-      let i = inserted eq same self ends keys in
+      let i = inserted eq hunt.same hunt.self ends keys in
       let grown : keys' ≡ keys ++ i.new = is ∙ i.keys_are in
       let once : Distinct keys' = subst Distinct (sym is) (i.once w.held.once) in
       let whole_is : keys' ≡ order ++ (w.held.fresh ++ i.new) = grown ∙ ap (λ (x : List K). x ++ i.new) w.held.keys_are ∙ append_assoc order w.held.fresh i.new in
@@ -105,12 +111,12 @@ module _ {K O E R T : Type 0} (p : Operation K O E) (laws : Laws p) (admits : K 
       record {
         rounds = w.rounds;
         after = w.after;
-        held = added p laws admits places positions readp readn reads readsn order keys rules rows parts limit w.held ends rs (p.edge order n) ep l row same_rules keys' i.new grown named once
+        held = added hunt order keys rules rows parts limit w.held ends rs (p.edge order n) ep l row same_rules keys' i.new grown named once
             (λ whole reached k m. stands order keys first n rules rows parts limit w low ends are k (i.among k m) (λ o. apart_of order (w.held.fresh ++ i.new) k (subst Distinct whole_is once) o (has_right w.held.fresh i.new k m)) whole reached)
-            (each_of admits i.new (λ k m. allow k ((are k).0 (i.among k m)))) parts' sums within;
+            (each_of admits i.new (λ k m. allow k ((are k).0 (i.among k m)))) parts' (subst (λ f. parts' + total f keys ≡ (parts + ep) + total f keys') (sym hunt.lawful.same_parts) sums) within;
         from = (let f = w.from in omega arith);
         low = omega arith;
-        edges = λ d. subst (λ (m : ℕ). AreEdges p order m (edges_so_far d keys' rules (rows ++ row ∷ []))) next (subst (λ (es : List E). AreEdges p order (suc n) es) (sym (more_edges p laws admits places positions readp readn reads readsn order keys rules rows parts limit w.held ends rs (p.edge order n) ep l row same_rules keys' i.new grown named d)) (with_position order keys first n rules rows parts limit w ends rs ep l d));
+        edges = λ d. subst (λ (m : ℕ). AreEdges p order m (edges_so_far d keys' rules (rows ++ row ∷ []))) next (subst (λ (es : List E). AreEdges p order (suc n) es) (sym (more_edges hunt order keys rules rows parts limit w.held ends rs (p.edge order n) ep l row same_rules keys' i.new grown named d)) (with_position order keys first n rules rows parts limit w ends rs ep l d));
         ends = λ k m out. elim (has_either keys i.new k (subst (λ (x : List K). Has x k) grown m)) [
           | inl a ↦ w.ends k a out
           | inr b ↦ ((n, w.from, low, (are k).0 (i.among k b)), out)
@@ -137,26 +143,26 @@ module _ {K O E R T : Type 0} (p : Operation K O E) (laws : Laws p) (admits : K 
   -- a round ends
   pub round_ends : (order keys : List K) (first : ℕ) (rules : List T) (rows : List (Row R)) (parts limit : ℕ) (w : IsWithinRound order first (length order) keys rules rows parts limit)
       (keys' : List K) (moved : List ℕ) (sorts : IsInOrder p.cmp order w.held.fresh keys' moved) (rules' : List T)
-      (settled : Settled places positions readp readn reads (length order) moved rules rules' (λ f. read_rows readp (λ n. f (moved_to (length order) moved n)) rows))
+      (settled : Settled reading (length order) moved rules rules' (λ f. read_rows reading.read_places (λ n. f (moved_to (length order) moved n)) rows))
       → IsBetween (length order) keys' rules' parts limit
   round_ends order keys first rules rows parts limit w keys' moved sorts rules' settled =
       let new_is : (k : K) → Has w.held.fresh k ↔ IsNew p order first k = λ k. (
         (λ m. w.ends k (subst (λ (x : List K). Has x k) (sym w.held.keys_are) (has_right order w.held.fresh k m)) (λ o. apart_of order w.held.fresh k (subst Distinct w.held.keys_are w.held.once) o m)),
         (λ n. elim (has_either order w.held.fresh k (subst (λ (x : List K). Has x k) w.held.keys_are (w.seen n.0.0 k n.0.1 n.0.2 n.0.3))) [ inl a ↦ absurd (n.1 a) | inr b ↦ b ]),
       ) in
-      let after = round_done p laws admits places positions readp readn reads readsn order keys rules rows parts limit w.held keys' moved sorts rules' settled w.rounds first w.after new_is in
+      let after = round_done hunt order keys rules rows parts limit w.held keys' moved sorts rules' settled w.rounds first w.after new_is in
       let long : length keys' ≡ length order + length sorts.sorted = ap length sorts.keys_are ∙ length-append order sorts.sorted in
       record {
         rounds = suc w.rounds;
         after = after;
-        held = finished p laws admits places positions readp readn reads readsn order keys rules rows parts limit w.held keys' moved sorts rules' settled (leads_on p laws (suc w.rounds) (length order) keys' after);
+        held = finished hunt order keys rules rows parts limit w.held keys' moved sorts rules' settled (leads_on p hunt.laws (suc w.rounds) (length order) keys' after);
         low = omega arith;
-        edges = λ d. subst (λ (es : List E). AreEdges p keys' (length order) es) (sym (settled_edges p laws admits places positions readp readn reads readsn order keys rules rows parts limit w.held keys' moved sorts rules' settled d))
+        edges = λ d. subst (λ (es : List E). AreEdges p keys' (length order) es) (sym (settled_edges hunt order keys rules rows parts limit w.held keys' moved sorts rules' settled d))
             (grow d sorts.keys_are);
       }
     where
       grow : (d : K) → keys' ≡ order ++ sorts.sorted → AreEdges p keys' (length order) (edges_so_far d keys rules rows)
-      grow d is = subst (λ (x : List K). AreEdges p x (length order) (edges_so_far d keys rules rows)) (sym is) (edges_stay p laws order sorts.sorted (length order) (edges_so_far d keys rules rows) (omega arith) (w.edges d))
+      grow d is = subst (λ (x : List K). AreEdges p x (length order) (edges_so_far d keys rules rows)) (sym is) (edges_stay p hunt.laws order sorts.sorted (length order) (edges_so_far d keys rules rows) (omega arith) (w.edges d))
 
   -- the hunt begins with nothing
 
@@ -184,27 +190,27 @@ module _ {K O E R T : Type 0} (p : Operation K O E) (laws : Laws p) (admits : K 
           let b = ap (total p.edge_parts) is ∙ total_append p.edge_parts front last in
           omega arith
 
-  pub too_many_seeds : (limit : ℕ) (ends : List K) (rs : List R) (ep : ℕ) → AreListed p.seed_edge p.edge_parts places readp [] ends rs ep → ((k : K) → Has ends k ↔ p.seed k)
-      → ep ≤ limit → HaveMore eq p.key_parts [] ends (0 + ep) limit → IsBeyond p limit
+  pub too_many_seeds : (limit : ℕ) (ends : List K) (rs : List R) (ep : ℕ) → AreListed p.seed_edge p.edge_parts reading.places reading.read_places [] ends rs ep → ((k : K) → Has ends k ↔ p.seed k)
+      → ep ≤ limit → HaveMore eq (key_parts entries) [] ends (0 + ep) limit → IsBeyond p limit
   too_many_seeds limit ends rs ep l are within more =
-      too_many_keys [] [] [] [] 0 limit (nothing limit) p.seed_edge ends rs ep l (λ k m out whole reached. seeds_reached p laws whole reached k ((are k).0 m)) 0 (omega arith) (λ d. l.edges d) (omega arith) more
+      too_many_keys [] [] [] [] 0 limit (nothing limit) p.seed_edge ends rs ep l (λ k m out whole reached. seeds_reached p hunt.laws whole reached k ((are k).0 m)) 0 (omega arith) (λ d. l.edges d) (omega arith)
+      (subst (λ f. HaveMore eq f [] ends (0 + ep) limit) (sym hunt.lawful.same_parts) more)
 
-  module _ (limit : ℕ) (ends : List K) (rs : List R) (ep : ℕ) (l : AreListed p.seed_edge p.edge_parts places readp [] ends rs ep) (are : (k : K) → Has ends k ↔ p.seed k)
-      (allow : (k : K) → p.seed k → admits k)
+  module _ (limit : ℕ) (ends : List K) (rs : List R) (ep : ℕ) (l : AreListed p.seed_edge p.edge_parts reading.places reading.read_places [] ends rs ep) (are : (k : K) → Has ends k ↔ p.seed k)
       (row : Row R) (same_rules : row.rules.items ≡ rs) (keys : List K) (is : keys ≡ insert_all eq [] ends) (named : Name keys ends row.ends.items) (parts : ℕ) (sums : parts + total p.key_parts [] ≡ (0 + ep) + total p.key_parts keys) (within : parts ≤ limit) where
-    i : Inserted eq same self [] ends (insert_all eq [] ends)
-    i = inserted eq same self ends []
+    i : Inserted eq hunt.same hunt.self [] ends (insert_all eq [] ends)
+    i = inserted eq hunt.same hunt.self ends []
 
     grown : keys ≡ [] ++ i.new
     grown = is ∙ i.keys_are
 
     pub seeds_held : IsHeld [] keys [] (row ∷ []) parts limit
-    seeds_held = added p laws admits places positions readp readn reads readsn [] [] [] [] 0 limit (nothing limit) ends rs p.seed_edge ep l row same_rules keys i.new grown named
-        (subst Distinct (sym is) (i.once tt)) (λ whole reached k m. seeds_reached p laws whole reached k ((are k).0 (i.among k m)))
-        (each_of admits i.new (λ k m. allow k ((are k).0 (i.among k m)))) parts sums within
+    seeds_held = added hunt [] [] [] [] 0 limit (nothing limit) ends rs p.seed_edge ep l row same_rules keys i.new grown named
+        (subst Distinct (sym is) (i.once tt)) (λ whole reached k m. seeds_reached p hunt.laws whole reached k ((are k).0 (i.among k m)))
+        (each_of admits i.new (λ k m. hunt.lawful.seeds_admitted k ((are k).0 (i.among k m)))) parts sums within
 
     pub hunt_begins : (keys' : List K) (moved : List ℕ) (sorts : IsInOrder p.cmp [] keys keys' moved) (rules' : List T)
-        (settled : Settled places positions readp readn reads 0 moved [] rules' (λ f. read_rows readp (λ n. f (moved_to 0 moved n)) (row ∷ [])))
+        (settled : Settled reading 0 moved [] rules' (λ f. read_rows reading.read_places (λ n. f (moved_to 0 moved n)) (row ∷ [])))
         → IsBetween 0 keys' rules' parts limit
     hunt_begins keys' moved sorts rules' settled =
         let back : (k : K) → Has seeds_held.fresh k → Has i.new k = λ k m. subst (λ (x : List K). Has x k) grown (subst (λ (x : List K). Has x k) (sym seeds_held.keys_are) m) in
@@ -218,30 +224,10 @@ module _ {K O E R T : Type 0} (p : Operation K O E) (laws : Laws p) (admits : K 
         record {
           rounds = 0;
           after = after;
-          held = finished p laws admits places positions readp readn reads readsn [] keys [] (row ∷ []) parts limit seeds_held keys' moved sorts' rules' settled (leads_on p laws 0 0 keys' after);
+          held = finished hunt [] keys [] (row ∷ []) parts limit seeds_held keys' moved sorts' rules' settled (leads_on p hunt.laws 0 0 keys' after);
           low = omega arith;
-          edges = λ d. subst (λ (es : List E). AreEdges p keys' 0 es) (sym (settled_edges p laws admits places positions readp readn reads readsn [] keys [] (row ∷ []) parts limit seeds_held keys' moved sorts' rules' settled d ∙ more_edges p laws admits places positions readp readn reads readsn [] [] [] [] 0 limit (nothing limit) ends rs p.seed_edge ep l row same_rules keys i.new grown named d)) (l.edges d);
+          edges = λ d. subst (λ (es : List E). AreEdges p keys' 0 es) (sym (settled_edges hunt [] keys [] (row ∷ []) parts limit seeds_held keys' moved sorts' rules' settled d ∙ more_edges hunt [] [] [] [] 0 limit (nothing limit) ends rs p.seed_edge ep l row same_rules keys i.new grown named d)) (l.edges d);
         }
-
-pub laws_of : {K O E : Type 0} (p : Operation K O E) → IsTotalOrder p.cmp → ((o : O) (e f : E) → p.seed_edge o e → p.seed_edge o f → e ≡ f) → ((order : List K) (n : ℕ) (o : O) (e f : E) → p.edge order n o e → p.edge order n o f → e ≡ f)
-    → ((xs ys : List K) (n : ℕ) (o : O) (e : E) → n < length xs → n < length ys → take (n + 1) xs ≡ take (n + 1) ys → p.edge xs n o e → p.edge ys n o e) → Laws p
-laws_of p total one_seed one law = record {
-  total_order = total;
-  one_seed_edge = one_seed;
-  one_edge = one;
-  stay = λ xs ys n o e l g. law xs (xs ++ ys) n o e l (longer xs ys n l) (front xs ys (n + 1) (omega arith)) g;
-  back = λ xs ys n o e l g. law (xs ++ ys) xs n o e (longer xs ys n l) l (sym (front xs ys (n + 1) (omega arith))) g;
-}
-  where
-    longer : {A : Type 0} (xs ys : List A) (n : ℕ) → n < length xs → n < length (xs ++ ys)
-    longer xs ys n l = let e = length-append xs ys in omega arith
-
-    front : {A : Type 0} (xs ys : List A) (m : ℕ) → m ≤ length xs → take m xs ≡ take m (xs ++ ys)
-    front [] [] zero l = refl
-    front [] (y ∷ ys) zero l = refl
-    front [] ys (suc m) l = absurd (omega arith)
-    front (x ∷ xs) ys zero l = refl
-    front (x ∷ xs) ys (suc m) l = ap (λ (k : List _). x ∷ k) (front xs ys m (omega arith))
 
 -- the errors of a position's ends, where its keys are too many
 pub told_beyond : (limit : ℕ) (P Q : Type 0) (e : HuntError) → (P → Q) → IfTooMany limit P e → IfTooMany limit Q e

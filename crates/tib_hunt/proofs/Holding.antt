@@ -3,18 +3,20 @@ use Rattle.std.proofs.Common.{◌≡◌, ◌⊎◌, inl, inr, ℕ, zero, suc, �
 use Rattle.std.specs.List.{list_any}
 use Rattle.std.proofs.lemmas.Bool.{cases_lt}
 use Rattle.std.proofs.lemmas.Option.{get_or_from_slice_get, slice_get_within}
+use Rattle.std.specs.declared.cmp.Ordering.{Ordering}
 use Rattle.indexmap.specs.IndexSet.{insert_key, insert_all}
 use Rattle.tib_lex.specs.Lists.{Has, Each, Distinct}
 use Rattle.tib_hunt.specs.EdgeLists.{AreListed, IsWithin, position_of, key_at, total}
 use Rattle.tib_hunt.specs.Reached.{Operation, IsNew, AfterRounds, IsReached}
 use Rattle.tib_hunt.specs.Numbered.{Name, IsInOrder, moved_to}
+use Rattle.tib_hunt.specs.Reading.{Reading}
 use Rattle.tib_hunt.specs.Rows.{read_row, read_rows, IsRowBelow, AreBelow}
 use Rattle.tib_hunt.specs.declared.place.Place.{Place}
 use Rattle.tib_hunt.specs.declared.place.Place.TheVariants.{Known, End}
 use Rattle.tib_hunt.specs.declared.row.Row.{Row}
 use Rattle.tib_hunt.specs.Held.{at, Leads, edges_so_far as all_edges, IsHeld as Held}
 use Rattle.tib_hunt.proofs.Members.{total_fewer, each_of, each_has, has_either, has_left, has_right, total_append}
-use Rattle.tib_hunt.proofs.Reaching.{Laws, in_reached}
+use Rattle.tib_hunt.proofs.Reaching.{Laws, IsHunt, in_reached}
 use Rattle.tib_hunt.proofs.Settling.{Settled, each_weaker, each_append, each_at, stays_low, goes}
 
 -- keys that are inserted one after the other
@@ -122,22 +124,20 @@ as_many keys (x ∷ xs) [] a = absurd a
 as_many keys (x ∷ xs) (n ∷ ns) a = ap suc (as_many keys xs ns a.1)
 
 -- What holds while the positions below n are expanded, over the order at the round's beginning. The keys are those of the order and then the fresh ones.
-module _ {K O E R T : Type 0} (p : Operation K O E) (laws : Laws p) (admits : K → Type 0) (places : R → List Place) (positions : T → List ℕ)
-    (readp : (Place → K) → R → E) (readn : (ℕ → K) → T → E)
-    (reads : (rule : R) (f g : Place → K) → Each (λ place. f place ≡ g place) (places rule) → readp f rule ≡ readp g rule)
-    (readsn : (rule : T) (f g : ℕ → K) → Each (λ n. f n ≡ g n) (positions rule) → readn f rule ≡ readn g rule) where
+module _ {K O E R T : Type 0} {p : Operation K O E} {admits : K → Type 0} {reading : Reading K E R T}
+    {cmp : K → K → Ordering} {entries : K → ℕ} {eq : K → K → Bool} (hunt : IsHunt p admits reading cmp entries eq) where
   abbrev edges_so_far : K → List K → List T → List (Row R) → List E
-  edges_so_far = all_edges p admits places positions readp readn
+  edges_so_far = all_edges p admits reading
 
   abbrev IsHeld : List K → List K → List T → List (Row R) → ℕ → ℕ → Type 0
-  IsHeld = Held p admits places positions readp readn
+  IsHeld = Held p admits reading
 
   -- readings stay when keys are put behind
-  pub rules_same : (d : K) (xs ys : List K) (rules : List T) → AreBelow positions (length xs) rules → map (readn (at d (xs ++ ys))) rules ≡ map (readn (at d xs)) rules
+  pub rules_same : (d : K) (xs ys : List K) (rules : List T) → AreBelow reading.positions (length xs) rules → map (reading.read_positions (at d (xs ++ ys))) rules ≡ map (reading.read_positions (at d xs)) rules
   rules_same d xs ys [] b = refl
-  rules_same d xs ys (t ∷ ts) b = λ i. readsn t (at d (xs ++ ys)) (at d xs) (each_weaker (λ n. n < length xs) _ (positions t) (λ n l. at_front d xs ys n l) b.0) i ∷ rules_same d xs ys ts b.1 i
+  rules_same d xs ys (t ∷ ts) b = λ i. hunt.lawful.reads_positions t (at d (xs ++ ys)) (at d xs) (each_weaker (λ n. n < length xs) _ (reading.positions t) (λ n l. at_front d xs ys n l) b.0) i ∷ rules_same d xs ys ts b.1 i
 
-  rows_same : (read_at read_at' : ℕ → K) (first bound : ℕ) → first ≤ bound → ((n : ℕ) → n < bound → read_at n ≡ read_at' n) → (rows : List (Row R)) → Each (IsRowBelow places first bound) rows → read_rows readp read_at rows ≡ read_rows readp read_at' rows
+  rows_same : (read_at read_at' : ℕ → K) (first bound : ℕ) → first ≤ bound → ((n : ℕ) → n < bound → read_at n ≡ read_at' n) → (rows : List (Row R)) → Each (IsRowBelow reading.places first bound) rows → read_rows reading.read_places read_at rows ≡ read_rows reading.read_places read_at' rows
   rows_same f g first bound low same [] b = refl
   rows_same f g first bound low same (row ∷ rows) b = λ i. (one row b.0 i) ++ (rows_same f g first bound low same rows b.1 i)
     where
@@ -145,20 +145,20 @@ module _ {K O E R T : Type 0} (p : Operation K O E) (laws : Laws p) (admits : K 
       place_same ends e (Known n) l = same n (omega arith)
       place_same ends e (End i) l = same (slice_index ends i) (each_at (λ n. n < bound) ends i 0 e l)
 
-      rules_one : (ends : List ℕ) → Each (λ n. n < bound) ends → (rs : List R) → Each (λ rule. Each (IsWithin first (length ends)) (places rule)) rs → map (readp (λ q. f (position_of ends q))) rs ≡ map (readp (λ q. g (position_of ends q))) rs
+      rules_one : (ends : List ℕ) → Each (λ n. n < bound) ends → (rs : List R) → Each (λ rule. Each (IsWithin first (length ends)) (reading.places rule)) rs → map (reading.read_places (λ q. f (position_of ends q))) rs ≡ map (reading.read_places (λ q. g (position_of ends q))) rs
       rules_one ends e [] w = refl
-      rules_one ends e (r ∷ rs) w = λ i. reads r (λ q. f (position_of ends q)) (λ q. g (position_of ends q)) (each_weaker (IsWithin first (length ends)) _ (places r) (place_same ends e) w.0) i ∷ rules_one ends e rs w.1 i
+      rules_one ends e (r ∷ rs) w = λ i. hunt.lawful.reads_places r (λ q. f (position_of ends q)) (λ q. g (position_of ends q)) (each_weaker (IsWithin first (length ends)) _ (reading.places r) (place_same ends e) w.0) i ∷ rules_one ends e rs w.1 i
 
-      one : (row : Row R) → IsRowBelow places first bound row → read_row readp f row ≡ read_row readp g row
+      one : (row : Row R) → IsRowBelow reading.places first bound row → read_row reading.read_places f row ≡ read_row reading.read_places g row
       one row b = rules_one row.ends.items b.1 row.rules.items b.0
 
-  rows_snoc : (f : ℕ → K) (rows : List (Row R)) (row : Row R) → read_rows readp f (rows ++ row ∷ []) ≡ read_rows readp f rows ++ read_row readp f row
-  rows_snoc f [] row = append-nil (read_row readp f row)
-  rows_snoc f (x ∷ xs) row = ap (λ (l : List E). read_row readp f x ++ l) (rows_snoc f xs row) ∙ sym (append_assoc (read_row readp f x) (read_rows readp f xs) (read_row readp f row))
+  rows_snoc : (f : ℕ → K) (rows : List (Row R)) (row : Row R) → read_rows reading.read_places f (rows ++ row ∷ []) ≡ read_rows reading.read_places f rows ++ read_row reading.read_places f row
+  rows_snoc f [] row = append-nil (read_row reading.read_places f row)
+  rows_snoc f (x ∷ xs) row = ap (λ (l : List E). read_row reading.read_places f x ++ l) (rows_snoc f xs row) ∙ sym (append_assoc (read_row reading.read_places f x) (read_rows reading.read_places f xs) (read_row reading.read_places f row))
 
   -- one more row
   module _ (order keys : List K) (rules : List T) (rows : List (Row R)) (parts limit : ℕ) (h : IsHeld order keys rules rows parts limit)
-      (ends : List K) (rs : List R) (edge : O → E → Type 0) (ep : ℕ) (l : AreListed edge p.edge_parts places readp order ends rs ep)
+      (ends : List K) (rs : List R) (edge : O → E → Type 0) (ep : ℕ) (l : AreListed edge p.edge_parts reading.places reading.read_places order ends rs ep)
       (row : Row R) (same_rules : row.rules.items ≡ rs) (keys' : List K) (new : List K) (grown : keys' ≡ keys ++ new) (named : Name keys' ends row.ends.items) where
     all_keys : keys' ≡ order ++ (h.fresh ++ new)
     all_keys = grown ∙ ap (λ (x : List K). x ++ new) h.keys_are ∙ append_assoc order h.fresh new
@@ -169,22 +169,22 @@ module _ {K O E R T : Type 0} (p : Operation K O E) (laws : Laws p) (admits : K 
     order_within : length order ≤ length keys
     order_within = let a = ap length h.keys_are ∙ length-append order h.fresh in omega arith
 
-    wider : (a b : ℕ) → a ≤ b → (ts : List T) → AreBelow positions a ts → AreBelow positions b ts
-    wider a b low ts w = each_weaker (λ t. Each (λ n. n < a) (positions t)) (λ t. Each (λ n. n < b) (positions t)) ts (λ t e. each_weaker (λ n. n < a) (λ n. n < b) (positions t) (λ n q. omega arith) e) w
+    wider : (a b : ℕ) → a ≤ b → (ts : List T) → AreBelow reading.positions a ts → AreBelow reading.positions b ts
+    wider a b low ts w = each_weaker (λ t. Each (λ n. n < a) (reading.positions t)) (λ t. Each (λ n. n < b) (reading.positions t)) ts (λ t e. each_weaker (λ n. n < a) (λ n. n < b) (reading.positions t) (λ n q. omega arith) e) w
 
-    row_edges : (d : K) → read_row readp (at d keys') row ≡ map (readp (key_at d order ends)) rs
-    row_edges d = ap (λ (x : List R). map (readp (λ q. at d keys' (position_of row.ends.items q))) x) same_rules ∙ go rs l.within
+    row_edges : (d : K) → read_row reading.read_places (at d keys') row ≡ map (reading.read_places (key_at d order ends)) rs
+    row_edges d = ap (λ (x : List R). map (reading.read_places (λ q. at d keys' (position_of row.ends.items q))) x) same_rules ∙ go rs l.within
       where
-        go : (xs : List R) → Each (λ rule. Each (IsWithin (length order) (length ends)) (places rule)) xs → map (readp (λ q. at d keys' (position_of row.ends.items q))) xs ≡ map (readp (key_at d order ends)) xs
+        go : (xs : List R) → Each (λ rule. Each (IsWithin (length order) (length ends)) (reading.places rule)) xs → map (reading.read_places (λ q. at d keys' (position_of row.ends.items q))) xs ≡ map (reading.read_places (key_at d order ends)) xs
         go [] w = refl
-        go (x ∷ xs) w = λ i. reads x (λ q. at d keys' (position_of row.ends.items q)) (key_at d order ends) (each_weaker (IsWithin (length order) (length ends)) _ (places x) (λ q a. sym (same_place d order (h.fresh ++ new) keys' ends row.ends.items all_keys named q a)) w.0) i ∷ go xs w.1 i
+        go (x ∷ xs) w = λ i. hunt.lawful.reads_places x (λ q. at d keys' (position_of row.ends.items q)) (key_at d order ends) (each_weaker (IsWithin (length order) (length ends)) _ (reading.places x) (λ q a. sym (same_place d order (h.fresh ++ new) keys' ends row.ends.items all_keys named q a)) w.0) i ∷ go xs w.1 i
 
-    pub more_edges : (d : K) → edges_so_far d keys' rules (rows ++ row ∷ []) ≡ edges_so_far d keys rules rows ++ map (readp (key_at d order ends)) rs
+    pub more_edges : (d : K) → edges_so_far d keys' rules (rows ++ row ∷ []) ≡ edges_so_far d keys rules rows ++ map (reading.read_places (key_at d order ends)) rs
     more_edges d =
-        let a : map (readn (at d keys')) rules ≡ map (readn (at d keys)) rules = ap (λ (x : List K). map (readn (at d x)) rules) grown ∙ rules_same d keys new rules (wider (length order) (length keys) order_within rules h.rules_below) in
-        let b : read_rows readp (at d keys') rows ≡ read_rows readp (at d keys) rows = ap (λ (x : List K). read_rows readp (at d x) rows) grown ∙ rows_same (at d (keys ++ new)) (at d keys) (length order) (length keys) order_within (λ n q. at_front d keys new n q) rows h.rows_below in
-        let c : read_rows readp (at d keys') (rows ++ row ∷ []) ≡ read_rows readp (at d keys) rows ++ map (readp (key_at d order ends)) rs = rows_snoc (at d keys') rows row ∙ (λ i. b i ++ row_edges d i) in
-        (λ i. a i ++ c i) ∙ sym (append_assoc (map (readn (at d keys)) rules) (read_rows readp (at d keys) rows) (map (readp (key_at d order ends)) rs))
+        let a : map (reading.read_positions (at d keys')) rules ≡ map (reading.read_positions (at d keys)) rules = ap (λ (x : List K). map (reading.read_positions (at d x)) rules) grown ∙ rules_same d keys new rules (wider (length order) (length keys) order_within rules h.rules_below) in
+        let b : read_rows reading.read_places (at d keys') rows ≡ read_rows reading.read_places (at d keys) rows = ap (λ (x : List K). read_rows reading.read_places (at d x) rows) grown ∙ rows_same (at d (keys ++ new)) (at d keys) (length order) (length keys) order_within (λ n q. at_front d keys new n q) rows h.rows_below in
+        let c : read_rows reading.read_places (at d keys') (rows ++ row ∷ []) ≡ read_rows reading.read_places (at d keys) rows ++ map (reading.read_places (key_at d order ends)) rs = rows_snoc (at d keys') rows row ∙ (λ i. b i ++ row_edges d i) in
+        (λ i. a i ++ c i) ∙ sym (append_assoc (map (reading.read_positions (at d keys)) rules) (read_rows reading.read_places (at d keys) rows) (map (reading.read_places (key_at d order ends)) rs))
 
     pub added : (once : Distinct keys') (stand : (whole : List K) → IsReached p whole → (k : K) → Has new k → Has whole k) (allow : Each admits new)
         (parts' : ℕ) → parts' + total p.key_parts keys ≡ (parts + ep) + total p.key_parts keys' → parts' ≤ limit
@@ -199,13 +199,13 @@ module _ {K O E R T : Type 0} (p : Operation K O E) (laws : Laws p) (admits : K 
       };
       admitted = subst (Each admits) (sym grown) (each_append admits keys new h.admitted allow);
       rules_below = h.rules_below;
-      rows_below = each_append (IsRowBelow places (length order) (length keys')) rows (row ∷ [])
-          (each_weaker (IsRowBelow places (length order) (length keys)) (IsRowBelow places (length order) (length keys')) rows (λ r e. (e.0, each_weaker (λ n. n < length keys) (λ n. n < length keys') r.ends.items (λ n q. let g = longer in omega arith) e.1)) h.rows_below)
-          ((subst (λ (x : List R). Each (λ rule. Each (IsWithin (length order) (length row.ends.items)) (places rule)) x) (sym same_rules) (subst (λ (m : ℕ). Each (λ rule. Each (IsWithin (length order) m) (places rule)) rs) (sym (as_many keys' ends row.ends.items named)) l.within), named_below keys' ends row.ends.items named), tt);
+      rows_below = each_append (IsRowBelow reading.places (length order) (length keys')) rows (row ∷ [])
+          (each_weaker (IsRowBelow reading.places (length order) (length keys)) (IsRowBelow reading.places (length order) (length keys')) rows (λ r e. (e.0, each_weaker (λ n. n < length keys) (λ n. n < length keys') r.ends.items (λ n q. let g = longer in omega arith) e.1)) h.rows_below)
+          ((subst (λ (x : List R). Each (λ rule. Each (IsWithin (length order) (length row.ends.items)) (reading.places rule)) x) (sym same_rules) (subst (λ (m : ℕ). Each (λ rule. Each (IsWithin (length order) m) (reading.places rule)) rs) (sym (as_many keys' ends row.ends.items named)) l.within), named_below keys' ends row.ends.items named), tt);
       enough = let e = h.enough in omega arith;
       counted = λ d.
           let a = h.counted d in
-          let b = ap (total p.edge_parts) (more_edges d) ∙ total_append p.edge_parts (edges_so_far d keys rules rows) (map (readp (key_at d order ends)) rs) in
+          let b = ap (total p.edge_parts) (more_edges d) ∙ total_append p.edge_parts (edges_so_far d keys rules rows) (map (reading.read_places (key_at d order ends)) rs) in
           let c = l.counted d in
           omega arith;
       within = low;
@@ -218,7 +218,7 @@ module _ {K O E R T : Type 0} (p : Operation K O E) (laws : Laws p) (admits : K 
   -- the end of a round: the keys are put in order, and the rows are settled
   module _ (order keys : List K) (rules : List T) (rows : List (Row R)) (parts limit : ℕ) (h : IsHeld order keys rules rows parts limit)
       (keys' : List K) (moved : List ℕ) (sorts : IsInOrder p.cmp order h.fresh keys' moved) (rules' : List T)
-      (settled : Settled places positions readp readn reads (length order) moved rules rules' (λ f. read_rows readp (λ n. f (moved_to (length order) moved n)) rows)) where
+      (settled : Settled reading (length order) moved rules rules' (λ f. read_rows reading.read_places (λ n. f (moved_to (length order) moved n)) rows)) where
     long : length keys ≡ length order + length h.fresh
     long = ap length h.keys_are ∙ length-append order h.fresh
 
@@ -266,10 +266,10 @@ module _ {K O E R T : Type 0} (p : Operation K O E) (laws : Laws p) (admits : K 
 
     pub settled_edges : (d : K) → edges_so_far d keys' rules' [] ≡ edges_so_far d keys rules rows
     settled_edges d =
-        let a : map (readn (at d keys')) rules ≡ map (readn (at d order)) rules = ap (λ (x : List K). map (readn (at d x)) rules) sorts.keys_are ∙ rules_same d order sorts.sorted rules h.rules_below in
-        let b : map (readn (at d keys)) rules ≡ map (readn (at d order)) rules = ap (λ (x : List K). map (readn (at d x)) rules) h.keys_are ∙ rules_same d order h.fresh rules h.rules_below in
-        let c : read_rows readp (λ n. at d keys' (moved_to (length order) moved n)) rows ≡ read_rows readp (at d keys) rows = rows_same (λ n. at d keys' (moved_to (length order) moved n)) (at d keys) (length order) (length keys) order_low (moved_key d) rows h.rows_below in
-        append-nil (map (readn (at d keys')) rules') ∙ settled.read (at d keys') ∙ (λ i. (a ∙ sym b) i ++ c i)
+        let a : map (reading.read_positions (at d keys')) rules ≡ map (reading.read_positions (at d order)) rules = ap (λ (x : List K). map (reading.read_positions (at d x)) rules) sorts.keys_are ∙ rules_same d order sorts.sorted rules h.rules_below in
+        let b : map (reading.read_positions (at d keys)) rules ≡ map (reading.read_positions (at d order)) rules = ap (λ (x : List K). map (reading.read_positions (at d x)) rules) h.keys_are ∙ rules_same d order h.fresh rules h.rules_below in
+        let c : read_rows reading.read_places (λ n. at d keys' (moved_to (length order) moved n)) rows ≡ read_rows reading.read_places (at d keys) rows = rows_same (λ n. at d keys' (moved_to (length order) moved n)) (at d keys) (length order) (length keys) order_low (moved_key d) rows h.rows_below in
+        append-nil (map (reading.read_positions (at d keys')) rules') ∙ settled.read (at d keys') ∙ (λ i. (a ∙ sym b) i ++ c i)
 
     moved_low : (xs : List ℕ) (done : ℕ) → ((i : ℕ) → i < length xs → slice_index xs i < length keys') → Each (λ n. n < length keys') xs
     moved_low [] done f = tt
@@ -293,7 +293,7 @@ module _ {K O E R T : Type 0} (p : Operation K O E) (laws : Laws p) (admits : K 
       once = sorts.once;
       leads = leads;
       admitted = each_of admits keys' (λ k m. each_has admits keys k h.admitted (from_keys k m));
-      rules_below = settled.below (length keys') (let g = long' in omega arith) all_moved (each_weaker (λ t. Each (λ n. n < length order) (positions t)) (λ t. Each (λ n. n < length keys') (positions t)) rules (λ t e. each_weaker (λ n. n < length order) (λ n. n < length keys') (positions t) (λ n q. let g = long' in omega arith) e) h.rules_below);
+      rules_below = settled.below (length keys') (let g = long' in omega arith) all_moved (each_weaker (λ t. Each (λ n. n < length order) (reading.positions t)) (λ t. Each (λ n. n < length keys') (reading.positions t)) rules (λ t e. each_weaker (λ n. n < length order) (λ n. n < length keys') (reading.positions t) (λ n q. let g = long' in omega arith) e) h.rules_below);
       rows_below = tt;
       enough = let e = h.enough in let t = same_total p.key_parts in omega arith;
       counted = λ d. let c = h.counted d in let t = same_total p.key_parts in let e = ap (total p.edge_parts) (settled_edges d) in omega arith;

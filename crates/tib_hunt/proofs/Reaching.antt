@@ -1,5 +1,5 @@
 -- Where the rounds lead, and what has more parts than a limit.
-use Rattle.std.proofs.Common.{◌≡◌, ◌⊎◌, inl, inr, ℕ, zero, suc, ◌+◌, ◌-◌, ◌<◌, ◌≤◌, List, [], ◌∷◌, ◌++◌, length, refl, sym, ap, subst, ◌∙◌, arith, length-append, append_assoc, append-nil}
+use Rattle.std.proofs.Common.{◌≡◌, ◌⊎◌, inl, inr, ℕ, zero, suc, ◌+◌, ◌-◌, ◌<◌, ◌≤◌, Bool, true, List, [], ◌∷◌, ◌++◌, length, take, refl, sym, ap, subst, ◌∙◌, arith, length-append, append_assoc, append-nil}
 use Rattle.std.specs.declared.cmp.Ordering.{Ordering}
 use Rattle.std.proofs.lemmas.Bool.{cases_lt}
 use Rattle.std.specs.declared.cmp.Ordering.TheVariants.{Less, Equal, Greater}
@@ -7,6 +7,8 @@ use Rattle.std.specs.Ordering.{ordering_reverse}
 use Rattle.std.specs.Cmp.{IsTotalOrder}
 use Rattle.tib_lex.specs.Lists.{Has, Distinct}
 use Rattle.tib_hunt.specs.EdgeLists.{Exceeds, total}
+use Rattle.tib_hunt.specs.Lawful.{IsLawful}
+use Rattle.tib_hunt.specs.Reading.{Reading}
 use Rattle.tib_hunt.specs.Reached.{Operation, AreAscending, IsNew, AfterRounds, IsReached, AreEdges, IsBeyond}
 use Rattle.tib_hunt.specs.Held.{Leads}
 use Rattle.tib_hunt.proofs.Members.{has_left, has_right, total_fewer, total_append, same_ascending, Lists-parts, Lists-to}
@@ -39,6 +41,37 @@ pub record Laws {K O E : Type 0} (p : Operation K O E) : Type 0 where
   pub one_edge : (order : List K) (n : ℕ) (o : O) (e f : E) → p.edge order n o e → p.edge order n o f → e ≡ f
   pub stay : (xs ys : List K) (n : ℕ) (o : O) (e : E) → n < length xs → p.edge xs n o e → p.edge (xs ++ ys) n o e
   pub back : (xs ys : List K) (n : ℕ) (o : O) (e : E) → n < length xs → p.edge (xs ++ ys) n o e → p.edge xs n o e
+
+-- What the lemmas on a hunt take: what its operation owes, and that keys which compare equal are one.
+pub record IsHunt {K O E R T : Type 0} (p : Operation K O E) (admits : K → Type 0) (reading : Reading K E R T) (cmp : K → K → Ordering) (entries : K → ℕ) (eq : K → K → Bool) : Type 0 where
+  pub lawful : IsLawful p admits reading cmp entries
+  pub laws : Laws p
+  pub same : (x y : K) → eq x y ≡ true → x ≡ y
+  pub self : (x : K) → eq x x ≡ true
+
+-- the laws of an operation that keeps what it owes
+laws_of : {K O E R T : Type 0} {p : Operation K O E} {admits : K → Type 0} {reading : Reading K E R T} {cmp : K → K → Ordering} {entries : K → ℕ} → IsLawful p admits reading cmp entries → IsTotalOrder cmp → Laws p
+laws_of lawful total = record {
+  total_order = subst IsTotalOrder (sym lawful.same_order) total;
+  one_seed_edge = lawful.one_seed_edge;
+  one_edge = lawful.one_edge;
+  stay = λ xs ys n o e l g. lawful.edges_stay xs (xs ++ ys) n o e l (longer xs ys n l) (front xs ys (n + 1) (omega arith)) g;
+  back = λ xs ys n o e l g. lawful.edges_stay (xs ++ ys) xs n o e (longer xs ys n l) l (sym (front xs ys (n + 1) (omega arith))) g;
+}
+  where
+    longer : {A : Type 0} (xs ys : List A) (n : ℕ) → n < length xs → n < length (xs ++ ys)
+    longer xs ys n l = let e = length-append xs ys in omega arith
+
+    front : {A : Type 0} (xs ys : List A) (m : ℕ) → m ≤ length xs → take m xs ≡ take m (xs ++ ys)
+    front [] [] zero l = refl
+    front [] (y ∷ ys) zero l = refl
+    front [] ys (suc m) l = absurd (omega arith)
+    front (x ∷ xs) ys zero l = refl
+    front (x ∷ xs) ys (suc m) l = ap (λ (k : List _). x ∷ k) (front xs ys m (omega arith))
+
+pub hunt_of : {K O E R T : Type 0} {p : Operation K O E} {admits : K → Type 0} {reading : Reading K E R T} {cmp : K → K → Ordering} {entries : K → ℕ} {eq : K → K → Bool}
+    → IsLawful p admits reading cmp entries → IsTotalOrder cmp → ((x y : K) → eq x y ≡ true → x ≡ y) → ((x : K) → eq x x ≡ true) → IsHunt p admits reading cmp entries eq
+hunt_of lawful total same self = record { lawful = lawful; laws = laws_of lawful total; same = same; self = self }
 
 module _ {K O E : Type 0} (p : Operation K O E) (laws : Laws p) where
   -- edges

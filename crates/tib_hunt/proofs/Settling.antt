@@ -5,6 +5,7 @@ use Rattle.std.proofs.lemmas.Bool.{cases_lt}
 use Rattle.tib_lex.specs.Lists.{Each}
 use Rattle.tib_hunt.specs.EdgeLists.{position_of, IsWithin}
 use Rattle.tib_hunt.specs.Numbered.{moved_to}
+use Rattle.tib_hunt.specs.Reading.{Reading}
 use Rattle.tib_hunt.specs.Rows.{read_row, read_rows, IsRowBelow, AreBelow}
 use Rattle.tib_hunt.specs.declared.place.Place.{Place}
 use Rattle.tib_hunt.specs.declared.place.Place.TheVariants.{Known, End}
@@ -46,25 +47,23 @@ module _ (first : ℕ) (moved : List ℕ) where
       go (inl a) = let e = stays_low n a in omega arith
       go (inr a) = let e = goes n a in let c = each_at (λ m. m < bound) moved (n - first) 0 all (omega arith) in omega arith
 
-module _ {R T K E : Type 0} (places : R → List Place) (positions : T → List ℕ) (readp : (Place → K) → R → E) (readn : (ℕ → K) → T → E)
-    (reads : (rule : R) (f g : Place → K) → Each (λ place. f place ≡ g place) (places rule) → readp f rule ≡ readp g rule)
-    (first : ℕ) (moved : List ℕ) where
+module _ {R T K E : Type 0} (reading : Reading K E R T) (first : ℕ) (moved : List ℕ) where
   -- the rules are the old ones and then these edges
   pub record Settled (old rules : List T) (edges : (ℕ → K) → List E) : Type 0 where
-    pub read : (at : ℕ → K) → map (readn at) rules ≡ map (readn at) old ++ edges at
-    pub below : (bound : ℕ) → first ≤ bound → Each (λ n. n < bound) moved → AreBelow positions bound old → AreBelow positions bound rules
+    pub read : (at : ℕ → K) → map (reading.read_positions at) rules ≡ map (reading.read_positions at) old ++ edges at
+    pub below : (bound : ℕ) → first ≤ bound → Each (λ n. n < bound) moved → AreBelow reading.positions bound old → AreBelow reading.positions bound rules
 
   pub settled_none : (old : List T) → Settled old old (λ at. [])
-  settled_none old = record { read = λ at. sym (append-nil (map (readn at) old)); below = λ bound f all a. a }
+  settled_none old = record { read = λ at. sym (append-nil (map (reading.read_positions at) old)); below = λ bound f all a. a }
 
   pub settled_more : (old rules rules' : List T) (edges more : (ℕ → K) → List E) → Settled old rules edges → Settled rules rules' more → Settled old rules' (λ at. edges at ++ more at)
   settled_more old rules rules' edges more s t = record {
-    read = λ at. t.read at ∙ ap (λ (l : List E). l ++ more at) (s.read at) ∙ append_assoc (map (readn at) old) (edges at) (more at);
+    read = λ at. t.read at ∙ ap (λ (l : List E). l ++ more at) (s.read at) ∙ append_assoc (map (reading.read_positions at) old) (edges at) (more at);
     below = λ bound f all a. t.below bound f all (s.below bound f all a);
   }
 
   pub settled_same : (old rules : List T) (edges edges' : (ℕ → K) → List E) → ((at : ℕ → K) → edges at ≡ edges' at) → Settled old rules edges → Settled old rules edges'
-  settled_same old rules edges edges' same s = record { read = λ at. s.read at ∙ ap (λ (l : List E). map (readn at) old ++ l) (same at); below = s.below }
+  settled_same old rules edges edges' same s = record { read = λ at. s.read at ∙ ap (λ (l : List E). map (reading.read_positions at) old ++ l) (same at); below = s.below }
 
   module _ (ends : List ℕ) where
     named_same : (at : ℕ → K) (place : Place) → IsWithin first (length ends) place → at (position_of (map (moved_to first moved) ends) place) ≡ at (moved_to first moved (position_of ends place))
@@ -76,23 +75,24 @@ module _ {R T K E : Type 0} (places : R → List Place) (positions : T → List 
     lows bound (Known p ∷ ps) f all e w = ((let l = w.0 in omega arith), lows bound ps f all e w.1)
     lows bound (End i ∷ ps) f all e w = (subst (λ (n : ℕ). n < bound) (sym (index_map (moved_to first moved) ends i w.0)) (low_after first moved bound (slice_index ends i) f all (each_at (λ n. n < first + length moved) ends i 0 e w.0)), lows bound ps f all e w.1)
 
-    pub one_settled : (rules : List T) (rule : R) (settled : T)
-        → ((at : ℕ → K) → readn at settled ≡ readp (λ place. at (position_of (map (moved_to first moved) ends) place)) rule)
-        → positions settled ≡ map (position_of (map (moved_to first moved) ends)) (places rule)
-        → Each (IsWithin first (length ends)) (places rule) → Each (λ n. n < first + length moved) ends
-        → Settled rules (rules ++ settled ∷ []) (λ at. readp (λ place. at (moved_to first moved (position_of ends place))) rule ∷ [])
-    one_settled rules rule settled is at low few = record {
-      read = λ name. map_both (readn name) rules (settled ∷ []) ∙ ap (λ (e : E). map (readn name) rules ++ e ∷ []) (is name ∙ reads rule _ _ (each_weaker (IsWithin first (length ends)) _ (places rule) (named_same name) low));
-      below = λ bound f all a. each_append (λ (t : T). Each (λ n. n < bound) (positions t)) rules (settled ∷ []) a (subst (Each (λ n. n < bound)) (sym at) (lows bound (places rule) f all few low), tt);
+    pub one_settled : ((rule : R) (f g : Place → K) → Each (λ place. f place ≡ g place) (reading.places rule) → reading.read_places f rule ≡ reading.read_places g rule)
+        → (rules : List T) (rule : R) (settled : T)
+        → ((at : ℕ → K) → reading.read_positions at settled ≡ reading.read_places (λ place. at (position_of (map (moved_to first moved) ends) place)) rule)
+        → reading.positions settled ≡ map (position_of (map (moved_to first moved) ends)) (reading.places rule)
+        → Each (IsWithin first (length ends)) (reading.places rule) → Each (λ n. n < first + length moved) ends
+        → Settled rules (rules ++ settled ∷ []) (λ at. reading.read_places (λ place. at (moved_to first moved (position_of ends place))) rule ∷ [])
+    one_settled reads rules rule settled is at low few = record {
+      read = λ name. map_both (reading.read_positions name) rules (settled ∷ []) ∙ ap (λ (e : E). map (reading.read_positions name) rules ++ e ∷ []) (is name ∙ reads rule _ _ (each_weaker (IsWithin first (length ends)) _ (reading.places rule) (named_same name) low));
+      below = λ bound f all a. each_append (λ (t : T). Each (λ n. n < bound) (reading.positions t)) rules (settled ∷ []) a (subst (Each (λ n. n < bound)) (sym at) (lows bound (reading.places rule) f all few low), tt);
     }
 
   -- the rules of a row up to one of them
   pub rules_more : (old rules rules' : List T) (row : Row R) (i : ℕ) (rule : R) → i < length row.rules.items → rule ≡ get_or row.rules.items i rule
-      → Settled old rules (λ at. map (readp (λ place. at (moved_to first moved (position_of row.ends.items place)))) (take i row.rules.items))
-      → Settled rules rules' (λ at. readp (λ place. at (moved_to first moved (position_of row.ends.items place))) rule ∷ [])
-      → Settled old rules' (λ at. map (readp (λ place. at (moved_to first moved (position_of row.ends.items place)))) (take (i + 1) row.rules.items))
+      → Settled old rules (λ at. map (reading.read_places (λ place. at (moved_to first moved (position_of row.ends.items place)))) (take i row.rules.items))
+      → Settled rules rules' (λ at. reading.read_places (λ place. at (moved_to first moved (position_of row.ends.items place))) rule ∷ [])
+      → Settled old rules' (λ at. map (reading.read_places (λ place. at (moved_to first moved (position_of row.ends.items place)))) (take (i + 1) row.rules.items))
   rules_more old rules rules' row i rule low is s t = settled_same old rules' _ _
-      (λ at. let f : R → E = readp (λ place. at (moved_to first moved (position_of row.ends.items place))) in
+      (λ at. let f : R → E = reading.read_places (λ place. at (moved_to first moved (position_of row.ends.items place))) in
       sym (ap (map f) (take_more row.rules.items i rule low ∙ ap (λ (r : R). take i row.rules.items ++ r ∷ []) (sym is)) ∙ map_both f (take i row.rules.items) (rule ∷ [])))
       (settled_more old rules rules' _ _ s t)
 
@@ -101,11 +101,11 @@ module _ {R T K E : Type 0} (places : R → List Place) (positions : T → List 
   rows_both read at (x ∷ xs) ys = ap (λ (l : List E). read_row read at x ++ l) (rows_both read at xs ys) ∙ sym (append_assoc (read_row read at x) (read_rows read at xs) (read_rows read at ys))
 
   pub rows_more : (old rules rules' : List T) (rows : List (Row R)) (i : ℕ) (row : Row R) → i < length rows → row ≡ get_or rows i row
-      → Settled old rules (λ at. read_rows readp (λ n. at (moved_to first moved n)) (take i rows))
-      → Settled rules rules' (λ at. read_row readp (λ n. at (moved_to first moved n)) row)
-      → Settled old rules' (λ at. read_rows readp (λ n. at (moved_to first moved n)) (take (i + 1) rows))
+      → Settled old rules (λ at. read_rows reading.read_places (λ n. at (moved_to first moved n)) (take i rows))
+      → Settled rules rules' (λ at. read_row reading.read_places (λ n. at (moved_to first moved n)) row)
+      → Settled old rules' (λ at. read_rows reading.read_places (λ n. at (moved_to first moved n)) (take (i + 1) rows))
   rows_more old rules rules' rows i row low is s t = settled_same old rules' _ _
-      (λ at. sym (ap (read_rows readp (λ n. at (moved_to first moved n))) (take_more rows i row low ∙ ap (λ (r : Row R). take i rows ++ r ∷ []) (sym is)) ∙ rows_both readp (λ n. at (moved_to first moved n)) (take i rows) (row ∷ []) ∙ ap (λ (l : List E). read_rows readp (λ n. at (moved_to first moved n)) (take i rows) ++ l) (append-nil (read_row readp (λ n. at (moved_to first moved n)) row))))
+      (λ at. sym (ap (read_rows reading.read_places (λ n. at (moved_to first moved n))) (take_more rows i row low ∙ ap (λ (r : Row R). take i rows ++ r ∷ []) (sym is)) ∙ rows_both reading.read_places (λ n. at (moved_to first moved n)) (take i rows) (row ∷ []) ∙ ap (λ (l : List E). read_rows reading.read_places (λ n. at (moved_to first moved n)) (take i rows) ++ l) (append-nil (read_row reading.read_places (λ n. at (moved_to first moved n)) row))))
       (settled_more old rules rules' _ _ s t)
 
 length_moved : (f : ℕ → ℕ) (xs : List ℕ) → length (map f xs) ≡ length xs

@@ -1,13 +1,15 @@
 -- The end of a round: its keys and rows are taken from the shelves.
-use Rattle.std.proofs.Common.{◌≡◌, inl, inr, ℕ, zero, suc, ◌+◌, ◌<◌, ◌≤◌, Bool, true, Some, List, [], ◌∷◌, ◌++◌, length, map, slice_get, slice_index, slice_index_or, append-nil, refl, sym, ap, subst, ◌∙◌, arith}
+use Rattle.std.proofs.Common.{◌≡◌, inl, inr, ℕ, zero, suc, ◌+◌, ◌<◌, ◌≤◌, Bool, Some, List, [], ◌∷◌, ◌++◌, length, map, slice_get, slice_index, slice_index_or, append-nil, refl, sym, ap, subst, ◌∙◌, arith}
 use Rattle.std.proofs.lemmas.Option.{slice_get_within}
+use Rattle.std.specs.declared.cmp.Ordering.{Ordering}
 use Rattle.indexmap.specs.IndexSet.{insert_all}
 use Rattle.tib_lex.specs.Lists.{Has, Each, Distinct, Along}
 use Rattle.tib_table.specs.Known.{on}
 use Rattle.tib_table.specs.declared.number.Number.{Number}
 use Rattle.tib_hunt.specs.EdgeLists.{IsEnd, IsWithin, key_at, position_of, total}
 use Rattle.tib_hunt.specs.Reached.{IfTooMany, Operation, AreEdges, IsBeyond}
-use Rattle.tib_hunt.specs.Numbered.{Name, HaveMore}
+use Rattle.tib_hunt.specs.Numbered.{key_parts, Name, HaveMore}
+use Rattle.tib_hunt.specs.Reading.{Reading}
 use Rattle.tib_hunt.specs.RoundModel.{Core}
 use Rattle.tib_hunt.specs.Rows.{read_row, read_rows, IsRowBelow}
 use Rattle.tib_hunt.specs.Shelved.{all_on, NameOn, IsShelvedRow, edges_of_rows, position_on, AreOn, IsPlacedRow, IsUnderway as Underway}
@@ -18,7 +20,7 @@ use Rattle.tib_hunt.specs.declared.place.Place.{Place}
 use Rattle.tib_hunt.specs.declared.row.Row.{Row}
 use Rattle.tib_hunt.specs.declared.shelved_row.ShelvedRow.{ShelvedRow}
 use Rattle.tib_hunt.proofs.Members.{each_of, has_either, total_append}
-use Rattle.tib_hunt.proofs.Reaching.{Laws, beyond}
+use Rattle.tib_hunt.proofs.Reaching.{IsHunt, beyond}
 use Rattle.tib_hunt.proofs.Settling.{each_weaker, each_append}
 use Rattle.tib_hunt.proofs.Holding.{Inserted, inserted, same_place, named_below, as_many, rules_same, leads_on}
 use Rattle.tib_hunt.proofs.Underway.{on_all, all_somewhere, distinct_all, stands_whole}
@@ -99,66 +101,69 @@ module _ {K : Type 0} (keys : List K) where
       rows_read d (e ∷ sights) (r ∷ rows) [] a b = absurd b
       rows_read d (e ∷ sights) (r ∷ rows) (r' ∷ rows') a b = λ i. row_read d e r r' a.0 b.0 i ++ rows_read d sights rows rows' a.1 b.1 i
 
-module _ {K O E R T : Type 0} (p : Operation K O E) (laws : Laws p) (admits : K → Type 0) (places : R → List Place) (positions : T → List ℕ)
-    (readp : (Place → K) → R → E) (readn : (ℕ → K) → T → E)
-    (reads : (rule : R) (f g : Place → K) → Each (λ place. f place ≡ g place) (places rule) → readp f rule ≡ readp g rule)
-    (readsn : (rule : T) (f g : ℕ → K) → Each (λ n. f n ≡ g n) (positions rule) → readn f rule ≡ readn g rule)
-    (eq : K → K → Bool) (same : (x y : K) → eq x y ≡ true → x ≡ y) (self : (x : K) → eq x x ≡ true) (shelf_of : K → ℕ) (low : (k : K) → shelf_of k < 16)
-    (order : List K) (first : ℕ) (rules : List T) (was limit : ℕ) (b : Between p admits places positions readp readn first order rules was limit)
-    (s : Core K) (rows : List (ShelvedRow R)) (parts : ℕ) (u : Underway p places readp eq shelf_of order first (length order) s rows was parts limit)
+module _ {K O E R T : Type 0} {p : Operation K O E} {admits : K → Type 0} {reading : Reading K E R T}
+    {cmp : K → K → Ordering} {entries : K → ℕ} {eq : K → K → Bool} (hunt : IsHunt p admits reading cmp entries eq) (shelf_of : K → ℕ) (low : (k : K) → shelf_of k < 16)
+    (order : List K) (first : ℕ) (rules : List T) (was limit : ℕ) (b : Between p admits reading first order rules was limit)
+    (s : Core K) (rows : List (ShelvedRow R)) (parts : ℕ) (u : Underway p reading eq shelf_of order first (length order) s rows was parts limit)
     (kss : List (List K)) (shelves : s.shelves ≡ kss) where
   on_shelf : (k : K) → Has (all_on kss) k → Has (all_on s.shelves) k
   on_shelf k = subst (λ (l : List (List K)). Has (all_on l) k) (sym shelves)
 
-  sights_named : Along (IsShelvedRow places (length order) kss) u.sights rows
-  sights_named = subst (λ (l : List (List K)). Along (IsShelvedRow places (length order) l) u.sights rows) shelves u.named
+  sights_named : Along (IsShelvedRow reading.places (length order) kss) u.sights rows
+  sights_named = subst (λ (l : List (List K)). Along (IsShelvedRow reading.places (length order) l) u.sights rows) shelves u.named
 
-  pub sights_there : (bound : ℕ) × (sights : List (List K)) × Along (IsShelvedRow places bound kss) sights rows
+  pub sights_there : (bound : ℕ) × (sights : List (List K)) × Along (IsShelvedRow reading.places bound kss) sights rows
   sights_there = (length order, u.sights, sights_named)
 
   -- each key stands once on the shelves
   pub once_there : Distinct (all_on kss)
   once_there = subst (λ (l : List (List K)). Distinct (all_on l)) shelves (distinct_all shelf_of s.shelves 0 u.kept.once (λ i k h. let o = (u.kept.only i k h).0 in omega arith))
 
-  pub enough_there : total p.key_parts order ≤ parts
-  enough_there = go order refl
+  enough_in : total p.key_parts order ≤ parts
+  enough_in = go order refl
     where
       go : (l : List K) → l ≡ order → total p.key_parts order ≤ parts
       go [] e = let z = ap (total p.key_parts) e in omega arith
       go (d ∷ l) e = let a = u.counted d in let c = b.held.enough in omega arith
 
+  pub enough_there : total (key_parts entries) order ≤ parts
+  enough_there = subst (λ f. total f order ≤ parts) hunt.lawful.same_parts enough_in
+
   leads : Leads p order order
-  leads = leads_on p laws b.rounds first order b.after
+  leads = leads_on p hunt.laws b.rounds first order b.after
 
   -- new keys that are too many
   pub too_many_new : HaveMore eq p.key_parts order (all_on kss) parts limit → IsBeyond p limit
   too_many_new ([], among, more) = let w = u.within in absurd (omega arith)
   too_many_new ((d ∷ ds), among, more) =
-      let i = inserted eq same self (d ∷ ds) order in
-      beyond p laws order (insert_all eq order (d ∷ ds))
+      let i = inserted eq hunt.same hunt.self (d ∷ ds) order in
+      beyond p hunt.laws order (insert_all eq order (d ∷ ds))
       (record {
         front = leads.front;
         stand = λ whole reached k h. elim (has_either order i.new k (subst (λ (l : List K). Has l k) i.keys_are h)) [
           | inl a ↦ leads.stand whole reached k a
-          | inr m ↦ stands_whole p laws admits places positions readp readn eq same self shelf_of low order first b.rounds b.after b.low s u.kept whole reached k (on_shelf k (among k (i.among k m)))
+          | inr m ↦ stands_whole hunt shelf_of low order first b.rounds b.after b.low s u.kept whole reached k (on_shelf k (among k (i.among k m)))
         ];
       })
-      (i.once b.held.once) (length order) (all_edges p admits places positions readp readn d order rules [] ++ edges_of_rows readp d order u.sights rows) (omega arith) (u.edges d (all_edges p admits places positions readp readn d order rules []) (b.edges d)) limit
+      (i.once b.held.once) (length order) (all_edges p admits reading d order rules [] ++ edges_of_rows reading.read_places d order u.sights rows) (omega arith) (u.edges d (all_edges p admits reading d order rules []) (b.edges d)) limit
       (let a = u.counted d in
       let c = b.held.counted d in
-      let e = total_append p.edge_parts (all_edges p admits places positions readp readn d order rules []) (edges_of_rows readp d order u.sights rows) in
+      let e = total_append p.edge_parts (all_edges p admits reading d order rules []) (edges_of_rows reading.read_places d order u.sights rows) in
       omega arith)
 
-  pub told_new : (e : HuntError) → IfTooMany limit (HaveMore eq p.key_parts order (all_on kss) parts limit) e → IfTooMany limit (IsBeyond p limit) e
-  told_new (TooMany m) h = (h.0, too_many_new h.1)
+  pub told_new : (e : HuntError) → IfTooMany limit (HaveMore eq (key_parts entries) order (all_on kss) parts limit) e → IfTooMany limit (IsBeyond p limit) e
+  told_new (TooMany m) h = (h.0, too_many_new (subst (λ f. HaveMore eq f order (all_on kss) parts limit) (sym hunt.lawful.same_parts) h.1))
   told_new OutOfMemory h = tt
 
   -- the new keys and the rows are taken in
   module _ (allow : (i : ℕ) (k : K) → i < length order → IsEnd (p.edge order i) p.ends_of k → admits k)
       (keys : List K) (is : keys ≡ insert_all eq order (all_on kss)) (nss : List (List ℕ)) (named : Along (Name keys) kss nss)
-      (rows' : List (Row R)) (placed : Along (IsPlacedRow nss) rows rows') (parts' : ℕ) (counted : parts' + total p.key_parts order ≡ parts + total p.key_parts keys) (within : parts' ≤ limit) where
-    i : Inserted eq same self order (all_on kss) (insert_all eq order (all_on kss))
-    i = inserted eq same self (all_on kss) order
+      (rows' : List (Row R)) (placed : Along (IsPlacedRow nss) rows rows') (parts' : ℕ) (counted : parts' + total (key_parts entries) order ≡ parts + total (key_parts entries) keys) (within : parts' ≤ limit) where
+    sums : parts' + total p.key_parts order ≡ parts + total p.key_parts keys
+    sums = subst (λ f. parts' + total f order ≡ parts + total f keys) (sym hunt.lawful.same_parts) counted
+
+    i : Inserted eq hunt.same hunt.self order (all_on kss) (insert_all eq order (all_on kss))
+    i = inserted eq hunt.same hunt.self (all_on kss) order
 
     grown : keys ≡ order ++ i.new
     grown = is ∙ i.keys_are
@@ -173,13 +178,13 @@ module _ {K O E R T : Type 0} (p : Operation K O E) (laws : Laws p) (admits : K 
         let l = b.low in
         (o.0, o.1.0, omega arith, o.2)
 
-    edges_are : (d : K) → all_edges p admits places positions readp readn d keys rules rows' ≡ all_edges p admits places positions readp readn d order rules [] ++ edges_of_rows readp d order u.sights rows
+    edges_are : (d : K) → all_edges p admits reading d keys rules rows' ≡ all_edges p admits reading d order rules [] ++ edges_of_rows reading.read_places d order u.sights rows
     edges_are d =
-        let a : map (readn (at d keys)) rules ≡ map (readn (at d order)) rules = ap (λ (x : List K). map (readn (at d x)) rules) grown ∙ rules_same p laws admits places positions readp readn reads readsn d order i.new rules b.held.rules_below in
-        let c = rows_read keys kss nss named places readp reads order i.new grown d u.sights rows rows' sights_named placed in
-        (λ j. a j ++ c j) ∙ ap (λ (l : List E). l ++ edges_of_rows readp d order u.sights rows) (sym (append-nil (map (readn (at d order)) rules)))
+        let a : map (reading.read_positions (at d keys)) rules ≡ map (reading.read_positions (at d order)) rules = ap (λ (x : List K). map (reading.read_positions (at d x)) rules) grown ∙ rules_same hunt d order i.new rules b.held.rules_below in
+        let c = rows_read keys kss nss named reading.places reading.read_places hunt.lawful.reads_places order i.new grown d u.sights rows rows' sights_named placed in
+        (λ j. a j ++ c j) ∙ ap (λ (l : List E). l ++ edges_of_rows reading.read_places d order u.sights rows) (sym (append-nil (map (reading.read_positions (at d order)) rules)))
 
-    pub within_round : WithinRound p admits places positions readp readn order first (length order) keys rules rows' parts' limit
+    pub within_round : WithinRound p admits reading order first (length order) keys rules rows' parts' limit
     within_round = record {
       rounds = b.rounds;
       after = b.after;
@@ -191,23 +196,24 @@ module _ {K O E R T : Type 0} (p : Operation K O E) (laws : Laws p) (admits : K 
           front = leads.front;
           stand = λ whole reached k h. elim (has_either order i.new k (subst (λ (l : List K). Has l k) grown h)) [
             | inl a ↦ leads.stand whole reached k a
-            | inr m ↦ stands_whole p laws admits places positions readp readn eq same self shelf_of low order first b.rounds b.after b.low s u.kept whole reached k (on_shelf k (i.among k m))
+            | inr m ↦ stands_whole hunt shelf_of low order first b.rounds b.after b.low s u.kept whole reached k (on_shelf k (i.among k m))
           ];
         };
         admitted = subst (Each admits) (sym grown) (each_append admits order i.new b.held.admitted (each_of admits i.new (λ k h. let e = an_end k h in allow e.0 k e.2 e.3)));
         rules_below = b.held.rules_below;
-        rows_below = rows_below keys kss nss named places readp reads order i.new grown u.sights rows rows' sights_named placed;
-        enough = let e = enough_there in omega arith;
+        rows_below = rows_below keys kss nss named reading.places reading.read_places hunt.lawful.reads_places order i.new grown u.sights rows rows' sights_named placed;
+        enough = let e = enough_in in let c = sums in omega arith;
         counted = λ d.
             let a = u.counted d in
             let c = b.held.counted d in
-            let e = ap (total p.edge_parts) (edges_are d) ∙ total_append p.edge_parts (all_edges p admits places positions readp readn d order rules []) (edges_of_rows readp d order u.sights rows) in
+            let f = sums in
+            let e = ap (total p.edge_parts) (edges_are d) ∙ total_append p.edge_parts (all_edges p admits reading d order rules []) (edges_of_rows reading.read_places d order u.sights rows) in
             omega arith;
         within = within;
       };
       from = u.from;
       low = omega arith;
-      edges = λ d. subst (AreEdges p order (length order)) (sym (edges_are d)) (u.edges d (all_edges p admits places positions readp readn d order rules []) (b.edges d));
+      edges = λ d. subst (AreEdges p order (length order)) (sym (edges_are d)) (u.edges d (all_edges p admits reading d order rules []) (b.edges d));
       ends = λ k h out. elim (has_either order i.new k (subst (λ (l : List K). Has l k) grown h)) [
         | inl a ↦ absurd (out a)
         | inr m ↦ (an_end k m, out)

@@ -1,5 +1,6 @@
 -- A round over its items: their ends go on the shelves, and their rows name them there.
 use Rattle.std.proofs.Common.{◌≡◌, ◌⊎◌, inl, inr, ⊎_elim, ℕ, zero, suc, ◌+◌, ◌-◌, ◌<◌, ◌≤◌, ◌↔◌, Bool, true, false, Some, None, List, [], ◌∷◌, ◌++◌, Option, length, map, append_assoc, append-nil, if◌then◌else◌, nat_lt, refl, sym, ap, subst, ◌∙◌, arith}
+use Rattle.std.specs.declared.cmp.Ordering.{Ordering}
 use Rattle.std.specs.List.{list_any}
 use Rattle.std.proofs.lemmas.Bool.{cases_lt}
 use Rattle.std.proofs.lemmas.Bool.Decides.{nat_tests}
@@ -8,32 +9,34 @@ use Rattle.tib_table.specs.Known.{on}
 use Rattle.tib_table.specs.declared.number.Number.{Number}
 use Rattle.tib_hunt.specs.EdgeLists.{IsEnd, key_at, total}
 use Rattle.tib_hunt.specs.Reached.{IfTooMany, Operation, AfterRounds, IsReached, AreEdges, IsBeyond}
+use Rattle.tib_hunt.specs.Expanded.{IsEndAt}
+use Rattle.tib_hunt.specs.Numbered.{key_parts}
+use Rattle.tib_hunt.specs.Reading.{Reading}
 use Rattle.tib_hunt.specs.RoundModel.{Core, opened, IsItem, next_item, with_draw, with_key, with_filed}
 use Rattle.tib_hunt.specs.declared.event.Event.TheVariants.{Draw, File}
 use Rattle.tib_hunt.specs.RoundLaw.{IsKept}
-use Rattle.tib_hunt.specs.Shelved.{all_on, with_keys, NameOn, IsShelvedRow, edges_of_rows, IsWorked, IsTooMuch, IsUnderway as Underway}
+use Rattle.tib_hunt.specs.Shelved.{all_on, with_keys, NameOn, ShelvesHaveMore, IsShelvedRow, edges_of_rows, IsWorked, IsTooMuch, IsUnderway as Underway}
 use Rattle.tib_hunt.specs.Held.{IsBetween as Between, edges_so_far as all_edges}
 use Rattle.tib_hunt.specs.declared.found.HuntError.{HuntError}
 use Rattle.tib_hunt.specs.declared.found.HuntError.TheVariants.{TooMany, OutOfMemory}
-use Rattle.tib_hunt.specs.declared.place.Place.{Place}
 use Rattle.tib_hunt.specs.declared.shelved_row.ShelvedRow.{ShelvedRow}
 use Rattle.tib_hunt.proofs.Members.{has_either, has_left, has_right, total_append}
-use Rattle.tib_hunt.proofs.Reaching.{Laws, beyond, beyond_more, in_reached}
+use Rattle.tib_hunt.proofs.Reaching.{IsHunt, beyond, beyond_more, in_reached}
 use Rattle.tib_hunt.proofs.Holding.{any_has, not_any, leads_on}
 use Rattle.tib_hunt.proofs.Sights.{along_snoc}
 use Rattle.tib_hunt.proofs.OnShelves.{still_name}
 use Rattle.tib_hunt.proofs.Runs.{has_snoc, has_last, begins, kept_after, kept_keys, KeptWith}
 
-module _ {P K O E : Type 0} (edge : P → List K → ℕ → O → E → Type 0) (ends_of : E → List K) (problem : P) (order : List K) (first : ℕ)
+module _ {P K O E : Type 0} (of : P → Operation K O E) (problem : P) (order : List K) (first : ℕ)
     (eq : K → K → Bool) (same : (x y : K) → eq x y ≡ true → x ≡ y) (self : (x : K) → eq x x ≡ true) (shelf_of : K → ℕ) (low : (k : K) → shelf_of k < 16)
-    (s : Core K) (kept : IsKept shelf_of first (length order - first) (λ i k. IsEnd (edge problem order i) ends_of k) s) (item : ℕ) (drawn : IsItem first s.drawn item)
-    (ends : List K) (are : (k : K) → Has ends k ↔ IsEnd (edge problem order item) ends_of k) where
-  with_ends : KeptWith eq same self shelf_of low first (length order - first) (λ i k. IsEnd (edge problem order i) ends_of k) s (with_keys eq shelf_of s ends) ends
-  with_ends = kept_keys eq same self shelf_of low first (length order - first) (λ i k. IsEnd (edge problem order i) ends_of k) s ends kept (λ k h. (item, drawn, (are k).0 h))
+    (s : Core K) (kept : IsKept shelf_of first (length order - first) (IsEndAt (of problem) order) s) (item : ℕ) (drawn : IsItem first s.drawn item)
+    (ends : List K) (are : (k : K) → Has ends k ↔ IsEndAt (of problem) order item k) where
+  with_ends : KeptWith eq same self shelf_of low first (length order - first) (IsEndAt (of problem) order) s (with_keys eq shelf_of s ends) ends
+  with_ends = kept_keys eq same self shelf_of low first (length order - first) (IsEndAt (of problem) order) s ends kept (λ k h. (item, drawn, (are k).0 h))
 
   module _ (about : P × List K × ℕ) (is : about ≡ (problem, order, first)) where
-    pub ends_drawn : (k : K) → Has ends k → (i : ℕ) × IsItem about.2 s.drawn i × IsEnd (edge about.0 about.1 i) ends_of k
-    ends_drawn = subst (λ (a : P × List K × ℕ). (k : K) → Has ends k → (i : ℕ) × IsItem a.2 s.drawn i × IsEnd (edge a.0 a.1 i) ends_of k) (sym is) (λ k h. (item, drawn, (are k).0 h))
+    pub ends_drawn : (k : K) → Has ends k → (i : ℕ) × IsItem about.2 s.drawn i × IsEndAt (of about.0) about.1 i k
+    ends_drawn = subst (λ (a : P × List K × ℕ). (k : K) → Has ends k → (i : ℕ) × IsItem a.2 s.drawn i × IsEndAt (of a.0) a.1 i k) (sym is) (λ k h. (item, drawn, (are k).0 h))
 
     module _ (s' : Core K) (core : s' ≡ with_keys eq shelf_of s ends) where
       pub file_drawn : IsItem about.2 s'.drawn item
@@ -42,8 +45,8 @@ module _ {P K O E : Type 0} (edge : P → List K → ℕ → O → E → Type 0)
       pub file_once : (Has s.filed item → ⊥) → Has s'.filed item → ⊥
       file_once out h = out (subst (λ (l : List ℕ). Has l item) (ap (λ (u : Core K). u.filed) core ∙ with_ends.filed) h)
 
-      pub file_ends : (k : K) → IsEnd (edge about.0 about.1 item) ends_of k → Has (on s'.shelves (shelf_of k)) k
-      file_ends = subst (λ (a : P × List K × ℕ). (k : K) → IsEnd (edge a.0 a.1 item) ends_of k → Has (on s'.shelves (shelf_of k)) k) (sym is)
+      pub file_ends : (k : K) → IsEndAt (of about.0) about.1 item k → Has (on s'.shelves (shelf_of k)) k
+      file_ends = subst (λ (a : P × List K × ℕ). (k : K) → IsEndAt (of a.0) a.1 item k → Has (on s'.shelves (shelf_of k)) k) (sym is)
           (λ k e. subst (λ (u : Core K). Has (on u.shelves (shelf_of k)) k) (sym core) (with_ends.there k ((are k).1 e)))
 
 -- shelves as one list
@@ -69,41 +72,49 @@ distinct_all shelf_of (ks ∷ kss) j once own =
     distinct_both ks (all_on kss) (once 0) (distinct_all shelf_of kss (j + 1) (λ i. once (suc i)) (λ i k h. own (suc i) k h ∙ (let e : j + suc i ≡ (j + 1) + i = omega arith in e)))
     (λ k h m. let r = all_somewhere kss k m in let a = own 0 k h in let b = own (suc r.0) k r.1 in absurd (omega arith))
 
-module _ {K O E R T : Type 0} (p : Operation K O E) (laws : Laws p) (admits : K → Type 0) (places : R → List Place) (positions : T → List ℕ)
-    (readp : (Place → K) → R → E) (readn : (ℕ → K) → T → E)
-    (eq : K → K → Bool) (same : (x y : K) → eq x y ≡ true → x ≡ y) (self : (x : K) → eq x x ≡ true) (shelf_of : K → ℕ) (low : (k : K) → shelf_of k < 16) where
+module _ {K O E R T : Type 0} {p : Operation K O E} {admits : K → Type 0} {reading : Reading K E R T}
+    {cmp : K → K → Ordering} {entries : K → ℕ} {eq : K → K → Bool} (hunt : IsHunt p admits reading cmp entries eq) (shelf_of : K → ℕ) (low : (k : K) → shelf_of k < 16) where
   abbrev IsUnderway : List K → ℕ → ℕ → Core K → List (ShelvedRow R) → ℕ → ℕ → ℕ → Type 0
-  IsUnderway = Underway p places readp eq shelf_of
+  IsUnderway = Underway p reading eq shelf_of
 
   abbrev ends_at : List K → ℕ → K → Type 0
   ends_at order i k = IsEnd (p.edge order i) p.ends_of k
 
-  rows_snoc : (d : K) (order : List K) (sights : List (List K)) (rows : List (ShelvedRow R)) (shelves : List (List K)) (bound : ℕ) → Along (IsShelvedRow places bound shelves) sights rows → (ends : List K) (row : ShelvedRow R)
-      → edges_of_rows readp d order (sights ++ ends ∷ []) (rows ++ row ∷ []) ≡ edges_of_rows readp d order sights rows ++ map (readp (key_at d order ends)) row.rules.items
-  rows_snoc d order [] [] shelves bound a ends row = append-nil (map (readp (key_at d order ends)) row.rules.items)
+  rows_snoc : (d : K) (order : List K) (sights : List (List K)) (rows : List (ShelvedRow R)) (shelves : List (List K)) (bound : ℕ) → Along (IsShelvedRow reading.places bound shelves) sights rows → (ends : List K) (row : ShelvedRow R)
+      → edges_of_rows reading.read_places d order (sights ++ ends ∷ []) (rows ++ row ∷ []) ≡ edges_of_rows reading.read_places d order sights rows ++ map (reading.read_places (key_at d order ends)) row.rules.items
+  rows_snoc d order [] [] shelves bound a ends row = append-nil (map (reading.read_places (key_at d order ends)) row.rules.items)
   rows_snoc d order [] (r ∷ rows) shelves bound a ends row = absurd a
   rows_snoc d order (e ∷ sights) [] shelves bound a ends row = absurd a
-  rows_snoc d order (e ∷ sights) (r ∷ rows) shelves bound a ends row = ap (λ (l : List E). map (readp (key_at d order e)) r.rules.items ++ l) (rows_snoc d order sights rows shelves bound a.1 ends row)
-      ∙ sym (append_assoc (map (readp (key_at d order e)) r.rules.items) (edges_of_rows readp d order sights rows) (map (readp (key_at d order ends)) row.rules.items))
+  rows_snoc d order (e ∷ sights) (r ∷ rows) shelves bound a ends row = ap (λ (l : List E). map (reading.read_places (key_at d order e)) r.rules.items ++ l) (rows_snoc d order sights rows shelves bound a.1 ends row)
+      ∙ sym (append_assoc (map (reading.read_places (key_at d order e)) r.rules.items) (edges_of_rows reading.read_places d order sights rows) (map (reading.read_places (key_at d order ends)) row.rules.items))
 
   -- numbers name their keys still after more keys were numbered
   name_still : (s : Core K) (ks : List K) → length s.shelves ≡ 16 → (first count : ℕ) (is_end : ℕ → K → Type 0) → IsKept shelf_of first count is_end s → ((k : K) → Has ks k → (i : ℕ) × IsItem first s.drawn i × is_end i k)
       → (ends : List K) (ns : List Number) → NameOn s.shelves ends ns → NameOn (with_keys eq shelf_of s ks).shelves ends ns
   name_still s [] wide first count is_end c drawn ends ns a = a
   name_still s (k ∷ ks) wide first count is_end c drawn ends ns a =
-      let one = kept_keys eq same self shelf_of low first count is_end s (k ∷ []) c (λ x h. drawn x (go x h)) in
+      let one = kept_keys eq hunt.same hunt.self shelf_of low first count is_end s (k ∷ []) c (λ x h. drawn x (go x h)) in
       name_still (with_key eq shelf_of s k) ks one.kept.wide first count is_end one.kept (λ x h. drawn x (inr h)) ends ns
-      (still_name eq same self p.key_parts s.shelves (shelf_of k) k (let l = low k in omega arith) ends ns a)
+      (still_name eq hunt.same hunt.self p.key_parts s.shelves (shelf_of k) k (let l = low k in omega arith) ends ns a)
     where
       go : (x : K) → Has (k ∷ []) x → Has (k ∷ ks) x
       go x (inl e) = inl e
       go x (inr h) = absurd h
 
-  rows_still : (bound : ℕ) (shelves shelves' : List (List K)) → ((ends : List K) (ns : List Number) → NameOn shelves ends ns → NameOn shelves' ends ns) → (sights : List (List K)) (rows : List (ShelvedRow R)) → Along (IsShelvedRow places bound shelves) sights rows → Along (IsShelvedRow places bound shelves') sights rows
+  rows_still : (bound : ℕ) (shelves shelves' : List (List K)) → ((ends : List K) (ns : List Number) → NameOn shelves ends ns → NameOn shelves' ends ns) → (sights : List (List K)) (rows : List (ShelvedRow R)) → Along (IsShelvedRow reading.places bound shelves) sights rows → Along (IsShelvedRow reading.places bound shelves') sights rows
   rows_still bound shelves shelves' f [] [] a = tt
   rows_still bound shelves shelves' f [] (r ∷ rows) a = absurd a
   rows_still bound shelves shelves' f (e ∷ sights) [] a = absurd a
   rows_still bound shelves shelves' f (e ∷ sights) (r ∷ rows) a = ((f e r.ends.items a.0.0, a.0.1), rows_still bound shelves shelves' f sights rows a.1)
+
+  -- the ends of an item bring too many keys on the shelves
+  pub told_shelves : (order : List K) (item : ℕ) (s : Core K) (parts limit : ℕ) (ends : List K) → ((k : K) → Has ends k ↔ ends_at order item k)
+      → (e : HuntError) → IfTooMany limit (ShelvesHaveMore eq shelf_of (key_parts entries) s (Has ends) limit) e → IfTooMany limit (IsTooMuch p reading eq shelf_of order item s parts limit) e
+  told_shelves order item s parts limit ends are (TooMany n) h = (
+    h.0,
+    inr (h.1.0, (λ k m. (are k).0 (h.1.1 k m)), subst (λ f. limit < total f (all_on (with_keys eq shelf_of s h.1.0).shelves)) (sym hunt.lawful.same_parts) h.1.2),
+  )
+  told_shelves order item s parts limit ends are OutOfMemory h = tt
 
   -- what stands on the shelves stands in the reached order
   pub stands_whole : (order : List K) (first rounds : ℕ) → AfterRounds p rounds first order → first ≤ length order → (t : Core K) → IsKept shelf_of first (length order - first) (ends_at order) t
@@ -116,13 +127,13 @@ module _ {K O E R T : Type 0} (p : Operation K O E) (laws : Laws p) (admits : K 
       known o.0 o.1.0 (omega arith) o.2 (list_any (eq k) order) refl
     where
       known : (i : ℕ) → first ≤ i → i < length order → ends_at order i k → (c : Bool) → list_any (eq k) order ≡ c → Has whole k
-      known i a l e true q = (leads_on p laws rounds first order after).stand whole reached k (any_has eq same self k order q)
-      known i a l e false q = (in_reached p laws rounds first order after whole reached).1 k ((i, a, l, e), not_any eq same self k order q)
+      known i a l e true q = (leads_on p hunt.laws rounds first order after).stand whole reached k (any_has eq hunt.same hunt.self k order q)
+      known i a l e false q = (in_reached p hunt.laws rounds first order after whole reached).1 k ((i, a, l, e), not_any eq hunt.same hunt.self k order q)
 
   -- nothing is drawn yet
   pub underway_none : (order : List K) (first : ℕ) (was limit : ℕ) → was ≤ limit → IsUnderway order first first opened [] was was limit
   underway_none order first was limit within = record {
-    kept = begins eq same self shelf_of low first (length order - first) (ends_at order);
+    kept = begins eq hunt.same hunt.self shelf_of low first (length order - first) (ends_at order);
     filed = λ i a b. absurd (omega arith);
     only_filed = λ i h. absurd h;
     from = omega arith;
@@ -142,7 +153,7 @@ module _ {K O E R T : Type 0} (p : Operation K O E) (laws : Laws p) (admits : K 
         let b : nat_lt s.drawn (length order - first) ≡ true = (let f = u.from in grind (arith, nat_tests)) in
         let t : Core K = record { drawn = s.drawn + 1; shelves = s.shelves; filed = s.filed } in
         let e : s' ≡ t = is ∙ ap (λ (c : Bool). record { drawn = if c then s.drawn + 1 else s.drawn; shelves = s.shelves; filed = s.filed }) b in
-        let k : IsKept shelf_of first (length order - first) (ends_at order) (with_draw (length order - first) s) = kept_after eq same self shelf_of low first (length order - first) (ends_at order) s Draw u.kept tt in
+        let k : IsKept shelf_of first (length order - first) (ends_at order) (with_draw (length order - first) s) = kept_after eq hunt.same hunt.self shelf_of low first (length order - first) (ends_at order) s Draw u.kept tt in
         let v : IsUnderway order first n t rows was parts limit = record {
           kept = subst (IsKept shelf_of first (length order - first) (ends_at order)) (sym is ∙ e) k;
           filed = u.filed;
@@ -197,31 +208,31 @@ module _ {K O E R T : Type 0} (p : Operation K O E) (laws : Laws p) (admits : K 
       not_filed h = let l = u.only_filed n h in absurd (omega arith)
 
       -- an item was expanded
-      pub underway_more : (t : Core K) (rows' : List (ShelvedRow R)) (parts' : ℕ) → IsWorked p places readp eq shelf_of order n s rows parts t rows' parts' limit → IsUnderway order first (n + 1) t rows' was parts' limit
+      pub underway_more : (t : Core K) (rows' : List (ShelvedRow R)) (parts' : ℕ) → IsWorked p reading eq shelf_of order n s rows parts t rows' parts' limit → IsUnderway order first (n + 1) t rows' was parts' limit
       underway_more t rows' parts' w =
-          let c = kept_keys eq same self shelf_of low first (length order - first) (ends_at order) s w.ends u.kept (λ k h. (n, item_drawn, (w.are_ends k).0 h)) in
+          let c = kept_keys eq hunt.same hunt.self shelf_of low first (length order - first) (ends_at order) s w.ends u.kept (λ k h. (n, item_drawn, (w.are_ends k).0 h)) in
           let t' : Core K = with_filed (with_keys eq shelf_of s w.ends) n in
           let next : suc n ≡ n + 1 = omega arith in
-          let grown : (d : K) → edges_of_rows readp d order (u.sights ++ w.ends ∷ []) rows' ≡ edges_of_rows readp d order u.sights rows ++ map (readp (key_at d order w.ends)) w.row.rules.items
-          = λ d. ap (edges_of_rows readp d order (u.sights ++ w.ends ∷ [])) w.rows_are ∙ rows_snoc d order u.sights rows s.shelves (length order) u.named w.ends w.row in
+          let grown : (d : K) → edges_of_rows reading.read_places d order (u.sights ++ w.ends ∷ []) rows' ≡ edges_of_rows reading.read_places d order u.sights rows ++ map (reading.read_places (key_at d order w.ends)) w.row.rules.items
+          = λ d. ap (edges_of_rows reading.read_places d order (u.sights ++ w.ends ∷ [])) w.rows_are ∙ rows_snoc d order u.sights rows s.shelves (length order) u.named w.ends w.row in
           record {
             kept = subst (IsKept shelf_of first (length order - first) (ends_at order)) (sym w.core_is)
-                (kept_after eq same self shelf_of low first (length order - first) (ends_at order) (with_keys eq shelf_of s w.ends) (File n) c.kept
+                (kept_after eq hunt.same hunt.self shelf_of low first (length order - first) (ends_at order) (with_keys eq shelf_of s w.ends) (File n) c.kept
                 (subst (λ (d : ℕ). IsItem first d n) (sym c.drawn) item_drawn, (λ h. not_filed (subst (λ (l : List ℕ). Has l n) c.filed h)), (λ k e. c.there k ((w.are_ends k).1 e))));
             filed = λ i a b. subst (λ (x : Core K). Has x.filed i) (sym w.core_is) (subst (λ (l : List ℕ). Has (l ++ n ∷ []) i) (sym c.filed) (go i a b (cases_lt i n)));
             only_filed = λ i h. ⊎_elim (λ a. let l = u.only_filed i (subst (λ (l : List ℕ). Has l i) c.filed a) in omega arith) (λ (e : n ≡ i). omega arith) (has_snoc (with_keys eq shelf_of s w.ends).filed n i (subst (λ (x : Core K). Has x.filed i) w.core_is h));
             from = (let f = u.from in omega arith);
             drawn = (let e = ap (λ (x : Core K). x.drawn) w.core_is ∙ c.drawn in omega arith);
             sights = u.sights ++ w.ends ∷ [];
-            named = subst (λ (l : List (ShelvedRow R)). Along (IsShelvedRow places (length order) t.shelves) (u.sights ++ w.ends ∷ []) l) (sym w.rows_are)
-                (along_snoc (IsShelvedRow places (length order) t.shelves) u.sights rows w.ends w.row
+            named = subst (λ (l : List (ShelvedRow R)). Along (IsShelvedRow reading.places (length order) t.shelves) (u.sights ++ w.ends ∷ []) l) (sym w.rows_are)
+                (along_snoc (IsShelvedRow reading.places (length order) t.shelves) u.sights rows w.ends w.row
                 (rows_still (length order) s.shelves t.shelves (λ ends ns a. subst (λ (x : Core K). NameOn x.shelves ends ns) (sym w.core_is) (name_still s w.ends u.kept.wide first (length order - first) (ends_at order) u.kept (λ k h. (n, item_drawn, (w.are_ends k).0 h)) ends ns a)) u.sights rows u.named)
                 (w.named, w.listed.within));
-            edges = λ d front a. subst (λ (m : ℕ). AreEdges p order m (front ++ edges_of_rows readp d order (u.sights ++ w.ends ∷ []) rows')) next
-                (front ++ edges_of_rows readp d order u.sights rows, map (readp (key_at d order w.ends)) w.row.rules.items, ap (λ (l : List E). front ++ l) (grown d) ∙ sym (append_assoc front (edges_of_rows readp d order u.sights rows) (map (readp (key_at d order w.ends)) w.row.rules.items)), u.edges d front a, w.listed.edges d);
+            edges = λ d front a. subst (λ (m : ℕ). AreEdges p order m (front ++ edges_of_rows reading.read_places d order (u.sights ++ w.ends ∷ []) rows')) next
+                (front ++ edges_of_rows reading.read_places d order u.sights rows, map (reading.read_places (key_at d order w.ends)) w.row.rules.items, ap (λ (l : List E). front ++ l) (grown d) ∙ sym (append_assoc front (edges_of_rows reading.read_places d order u.sights rows) (map (reading.read_places (key_at d order w.ends)) w.row.rules.items)), u.edges d front a, w.listed.edges d);
             counted = λ d.
                 let a = u.counted d in
-                let b = ap (total p.edge_parts) (grown d) ∙ total_append p.edge_parts (edges_of_rows readp d order u.sights rows) (map (readp (key_at d order w.ends)) w.row.rules.items) in
+                let b = ap (total p.edge_parts) (grown d) ∙ total_append p.edge_parts (edges_of_rows reading.read_places d order u.sights rows) (map (reading.read_places (key_at d order w.ends)) w.row.rules.items) in
                 let e = w.listed.counted d in
                 let f = w.counted in
                 omega arith;
@@ -233,23 +244,23 @@ module _ {K O E R T : Type 0} (p : Operation K O E) (laws : Laws p) (admits : K 
           go i a b (inr l) = let e : n ≡ i = omega arith in subst (λ (j : ℕ). Has (s.filed ++ n ∷ []) j) e (has_last s.filed n)
 
       -- no more is drawn meanwhile
-      pub more_at : (t : Core K) (rows' : List (ShelvedRow R)) (parts' : ℕ) → IsWorked p places readp eq shelf_of order n s rows parts t rows' parts' limit → first + t.drawn ≡ n + 1
+      pub more_at : (t : Core K) (rows' : List (ShelvedRow R)) (parts' : ℕ) → IsWorked p reading eq shelf_of order n s rows parts t rows' parts' limit → first + t.drawn ≡ n + 1
       more_at t rows' parts' w =
-          let c = kept_keys eq same self shelf_of low first (length order - first) (ends_at order) s w.ends u.kept (λ k h. (n, item_drawn, (w.are_ends k).0 h)) in
+          let c = kept_keys eq hunt.same hunt.self shelf_of low first (length order - first) (ends_at order) s w.ends u.kept (λ k h. (n, item_drawn, (w.are_ends k).0 h)) in
           ap (λ (i : ℕ). first + i) (ap (λ (x : Core K). x.drawn) w.core_is ∙ c.drawn) ∙ at
 
-      module _ (rules : List T) (b : Between p admits places positions readp readn first order rules was limit) (below : n < length order) where
+      module _ (rules : List T) (b : Between p admits reading first order rules was limit) (below : n < length order) where
         abbrev settled : K → List E
-        settled d = all_edges p admits places positions readp readn d order rules []
+        settled d = all_edges p admits reading d order rules []
 
-        all_so_far : (d : K) → AreEdges p order n (settled d ++ edges_of_rows readp d order u.sights rows)
+        all_so_far : (d : K) → AreEdges p order n (settled d ++ edges_of_rows reading.read_places d order u.sights rows)
         all_so_far d = u.edges d (settled d) (b.edges d)
 
-        counted_so_far : (d : K) → parts ≡ total p.key_parts order + total p.edge_parts (settled d ++ edges_of_rows readp d order u.sights rows)
+        counted_so_far : (d : K) → parts ≡ total p.key_parts order + total p.edge_parts (settled d ++ edges_of_rows reading.read_places d order u.sights rows)
         counted_so_far d =
             let a = u.counted d in
             let c = b.held.counted d in
-            let e = total_append p.edge_parts (settled d) (edges_of_rows readp d order u.sights rows) in
+            let e = total_append p.edge_parts (settled d) (edges_of_rows reading.read_places d order u.sights rows) in
             omega arith
 
         some : (xs : List K) → n < length xs → K
@@ -257,24 +268,24 @@ module _ {K O E R T : Type 0} (p : Operation K O E) (laws : Laws p) (admits : K 
         some (x ∷ xs) l = x
 
         -- too many edges, or too many keys on the shelves
-        pub too_much : IsTooMuch p places readp eq shelf_of order n s parts limit → IsBeyond p limit
+        pub too_much : IsTooMuch p reading eq shelf_of order n s parts limit → IsBeyond p limit
         too_much (inl more) =
             let d : K = some order below in
-            beyond_more p laws order order (leads_on p laws b.rounds first order b.after) b.held.once n (settled d ++ edges_of_rows readp d order u.sights rows) (omega arith) (all_so_far d) limit (limit - parts) below more
+            beyond_more p hunt.laws order order (leads_on p hunt.laws b.rounds first order b.after) b.held.once n (settled d ++ edges_of_rows reading.read_places d order u.sights rows) (omega arith) (all_so_far d) limit (limit - parts) below more
             (let c = counted_so_far d in let w = u.within in omega arith)
         too_much (inr (front, among, more)) =
             let d : K = some order below in
-            let c = kept_keys eq same self shelf_of low first (length order - first) (ends_at order) s front u.kept (λ k h. (n, item_drawn, among k h)) in
+            let c = kept_keys eq hunt.same hunt.self shelf_of low first (length order - first) (ends_at order) s front u.kept (λ k h. (n, item_drawn, among k h)) in
             let kss : List (List K) = (with_keys eq shelf_of s front).shelves in
-            let f = leads_on p laws b.rounds first order b.after in
-            beyond p laws order (all_on kss)
+            let f = leads_on p hunt.laws b.rounds first order b.after in
+            beyond p hunt.laws order (all_on kss)
             (record {
               front = f.front;
               stand = stands_whole order first b.rounds b.after b.low (with_keys eq shelf_of s front) c.kept;
             })
             (distinct_all shelf_of kss 0 c.kept.once (λ i k h. (c.kept.only i k h).0 ∙ (let z : i ≡ 0 + i = omega arith in z)))
-            n (settled d ++ edges_of_rows readp d order u.sights rows) (omega arith) (all_so_far d) limit (omega arith)
+            n (settled d ++ edges_of_rows reading.read_places d order u.sights rows) (omega arith) (all_so_far d) limit (omega arith)
 
-        pub told_much : (e : HuntError) → IfTooMany limit (IsTooMuch p places readp eq shelf_of order n s parts limit) e → IfTooMany limit (IsBeyond p limit) e
+        pub told_much : (e : HuntError) → IfTooMany limit (IsTooMuch p reading eq shelf_of order n s parts limit) e → IfTooMany limit (IsBeyond p limit) e
         told_much (TooMany m) h = (h.0, too_much h.1)
         told_much OutOfMemory h = tt

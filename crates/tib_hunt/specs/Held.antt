@@ -3,8 +3,8 @@ use Rattle.std.specs.Prelude.{◌≡◌, ℕ, ◌+◌, ◌<◌, ◌≤◌, List,
 use Rattle.tib_lex.specs.Lists.{Has, Each, Distinct}
 use Rattle.tib_hunt.specs.EdgeLists.{IsEnd, total}
 use Rattle.tib_hunt.specs.Reached.{Operation, IsNew, AfterRounds, IsReached, AreEdges}
+use Rattle.tib_hunt.specs.Reading.{Reading}
 use Rattle.tib_hunt.specs.Rows.{read_rows, IsRowBelow, AreBelow}
-use Rattle.tib_hunt.specs.declared.place.Place.{Place}
 use Rattle.tib_hunt.specs.declared.row.Row.{Row}
 
 -- the key of a number, where the numbers are places in a list of keys
@@ -16,10 +16,10 @@ pub record Leads {K O E : Type 0} (p : Operation K O E) (order keys : List K) : 
   pub front : (whole : List K) → IsReached p whole → (rest : List K) × (whole ≡ order ++ rest)
   pub stand : (whole : List K) → IsReached p whole → (k : K) → Has keys k → Has whole k
 
-module _ {K O E R T : Type 0} (p : Operation K O E) (admits : K → Type 0) (places : R → List Place) (positions : T → List ℕ) (readp : (Place → K) → R → E) (readn : (ℕ → K) → T → E) where
+module _ {K O E R T : Type 0} (p : Operation K O E) (admits : K → Type 0) (reading : Reading K E R T) where
   -- the edges of the settled rules, and then those of the rows
   abbrev pub edges_so_far : K → List K → List T → List (Row R) → List E
-  edges_so_far d keys rules rows = map (readn (at d keys)) rules ++ read_rows readp (at d keys) rows
+  edges_so_far d keys rules rows = map (reading.read_positions (at d keys)) rules ++ read_rows reading.read_places (at d keys) rows
 
   -- The keys are those of the order at the round's beginning, and then the fresh ones in the order of first sight, each once. All stand in
   -- the reached set, and their parts and those of the edges so far are within the limit.
@@ -29,8 +29,8 @@ module _ {K O E R T : Type 0} (p : Operation K O E) (admits : K → Type 0) (pla
     pub once : Distinct keys
     pub leads : Leads p order keys
     pub admitted : Each admits keys
-    pub rules_below : AreBelow positions (length order) rules
-    pub rows_below : Each (IsRowBelow places (length order) (length keys)) rows
+    pub rules_below : AreBelow reading.positions (length order) rules
+    pub rows_below : Each (IsRowBelow reading.places (length order) (length keys)) rows
     pub enough : total p.key_parts keys ≤ parts
     pub counted : (d : K) → parts ≡ total p.key_parts keys + total p.edge_parts (edges_so_far d keys rules rows)
     pub within : parts ≤ limit

@@ -2,9 +2,13 @@ pub mod Claims
 pub mod ClaimRule
 pub mod EdgeLists
 pub mod Reached
+pub mod Reading
+pub mod Expanded
 pub mod Numbered
+pub mod Lawful
 pub mod Rows
 pub mod Held
+pub mod Found
 pub mod RoundModel
 pub mod RoundLaw
 pub mod Shelved

@@ -7,6 +7,10 @@ use Rattle.tib_hunt.specs.EdgeLists.{Lists, IsEnd, total}
 use Rattle.tib_hunt.specs.declared.found.HuntError.{HuntError}
 use Rattle.tib_hunt.specs.declared.found.HuntError.TheVariants.{TooMany, OutOfMemory}
 
+-- the greatest limit of parts
+abbrev pub most_parts : ℕ
+most_parts = 20000000
+
 -- What an operation hunts: the order of keys, the seeds, the edges of the seeds and of each position of an order, each by its origin, the
 -- keys at which an edge ends, and the parts of a key and of an edge.
 pub record Operation (K O E : Type 0) : Type 1 where

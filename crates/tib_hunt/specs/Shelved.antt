@@ -5,6 +5,7 @@ use Rattle.tib_table.specs.Known.{Names}
 use Rattle.tib_table.specs.declared.number.Number.{Number}
 use Rattle.tib_hunt.specs.EdgeLists.{AreListed, Exceeds, IsEnd, IsWithin, key_at, total}
 use Rattle.tib_hunt.specs.Reached.{Operation, AreEdges}
+use Rattle.tib_hunt.specs.Reading.{Reading}
 use Rattle.tib_hunt.specs.RoundModel.{Core, with_key, with_filed}
 use Rattle.tib_hunt.specs.RoundLaw.{IsKept}
 use Rattle.tib_hunt.specs.declared.place.Place.{Place}
@@ -52,13 +53,13 @@ AreOn positions numbers = Each (λ (n : Number). n.place < length (slice_index_o
 abbrev pub IsPlacedRow : {R : Type 0} → List (List ℕ) → ShelvedRow R → Row R → Type 0
 IsPlacedRow positions row placed = (placed.rules.items ≡ row.rules.items) × (placed.ends.items ≡ map (position_on positions) row.ends.items)
 
-module _ {K O E R : Type 0} (p : Operation K O E) (places : R → List Place) (readp : (Place → K) → R → E) (eq : K → K → Bool) (shelf_of : K → ℕ) where
+module _ {K O E R T : Type 0} (p : Operation K O E) (reading : Reading K E R T) (eq : K → K → Bool) (shelf_of : K → ℕ) where
   -- An item was expanded: its ends are numbered on their shelves, its row is the last, and it is filed.
   pub record IsWorked (order : List K) (item : ℕ) (s : Core K) (rows : List (ShelvedRow R)) (parts : ℕ) (t : Core K) (rows' : List (ShelvedRow R)) (parts' limit : ℕ) : Type 0 where
     pub ends : List K
     pub row : ShelvedRow R
     pub more : ℕ
-    pub listed : AreListed (p.edge order item) p.edge_parts places readp order ends row.rules.items more
+    pub listed : AreListed (p.edge order item) p.edge_parts reading.places reading.read_places order ends row.rules.items more
     pub are_ends : (k : K) → Has ends k ↔ IsEnd (p.edge order item) p.ends_of k
     pub named : NameOn t.shelves ends row.ends.items
     pub core_is : t ≡ with_filed (with_keys eq shelf_of s ends) item
@@ -78,7 +79,7 @@ module _ {K O E R : Type 0} (p : Operation K O E) (places : R → List Place) (r
     pub from : first ≤ n
     pub drawn : n ≤ first + s.drawn
     pub sights : List (List K)
-    pub named : Along (IsShelvedRow places (length order) s.shelves) sights rows
-    pub edges : (d : K) (front : List E) → AreEdges p order first front → AreEdges p order n (front ++ edges_of_rows readp d order sights rows)
-    pub counted : (d : K) → parts ≡ was + total p.edge_parts (edges_of_rows readp d order sights rows)
+    pub named : Along (IsShelvedRow reading.places (length order) s.shelves) sights rows
+    pub edges : (d : K) (front : List E) → AreEdges p order first front → AreEdges p order n (front ++ edges_of_rows reading.read_places d order sights rows)
+    pub counted : (d : K) → parts ≡ was + total p.edge_parts (edges_of_rows reading.read_places d order sights rows)
     pub within : parts ≤ limit

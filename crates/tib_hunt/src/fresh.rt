@@ -2,7 +2,7 @@ ghost use Rattle.std.specs.Prelude.{◌≡◌, ℕ, ◌+◌, ◌≤◌, ◌<◌,
 ghost use Rattle.indexmap.specs.IndexSet.{insert_key, insert_all};
 ghost use Rattle.tib_lex.specs.Lists.{Has, Distinct, Along};
 ghost use Rattle.tib_hunt.specs.EdgeLists.{total};
-ghost use Rattle.tib_hunt.specs.Reached.{IfTooMany};
+ghost use Rattle.tib_hunt.specs.Reached.{IfTooMany, most_parts};
 ghost use Rattle.tib_hunt.specs.Numbered.{key_parts, Name, HaveMore, placed, keys_of, IsInOrder};
 ghost use Rattle.tib_hunt.specs.Shelved.{all_on};
 
@@ -28,7 +28,7 @@ fn push_fresh<K: TableKey + Drop>(
     key: K,
 ) -> Result<(), HuntError>
     requires within { parts.old ≤ limit }
-    requires limit { limit ≤ 20000000 }
+    requires limit { limit ≤ most_parts }
     requires few { length fresh.old.items < 2 ^ 32 }
     requires placed { fresh.old.items ≡ placed 0 (keys_of fresh.old.items) }
     ensures keys { OnOk result (keys_of fresh.new.items ≡ keys_of fresh.old.items ++ key ∷ []) }
@@ -61,7 +61,7 @@ fn find_key<K: TableKey + Drop>(
     requires placed { fresh.old.items ≡ placed 0 (keys_of fresh.old.items) }
     requires counted { total (key_parts K.entries_of) (keys.now.keys ++ keys_of fresh.old.items) ≤ parts.old }
     requires within { parts.old ≤ limit }
-    requires limit { limit ≤ 20000000 }
+    requires limit { limit ≤ most_parts }
     ensures keys { OnOk result (keys.now.keys ++ keys_of fresh.new.items ≡ insert_key K.eq (keys.now.keys ++ keys_of fresh.old.items) key) }
     ensures placed { OnOk result (fresh.new.items ≡ placed 0 (keys_of fresh.new.items)) }
     ensures named { IfOk result (λ n. slice_get (keys.now.keys ++ keys_of fresh.new.items) n ≡ Some key) }
@@ -94,7 +94,7 @@ fn find_ends<K: TableKey + Drop>(
     requires placed { fresh.old.items ≡ placed 0 (keys_of fresh.old.items) }
     requires counted { total (key_parts K.entries_of) (keys.now.keys ++ keys_of fresh.old.items) ≤ parts.old }
     requires within { parts.old ≤ limit }
-    requires limit { limit ≤ 20000000 }
+    requires limit { limit ≤ most_parts }
     ensures keys { OnOk result (keys.now.keys ++ keys_of fresh.new.items ≡ insert_all K.eq (keys.now.keys ++ keys_of fresh.old.items) ends.items) }
     ensures placed { OnOk result (fresh.new.items ≡ placed 0 (keys_of fresh.new.items)) }
     ensures named { IfOk result (λ r. Name (keys.now.keys ++ keys_of fresh.new.items) ends.items r.items) }
@@ -131,7 +131,7 @@ pub(crate) fn find_shelves<K: TableKey + Drop>(
     requires once { Distinct (all_on (map (λ v. v.items) shelves.items)) }
     requires counted { total (key_parts K.entries_of) keys.now.keys ≤ parts.old }
     requires within { parts.old ≤ limit }
-    requires limit { limit ≤ 20000000 }
+    requires limit { limit ≤ most_parts }
     ensures keys { OnOk result (keys.now.keys ++ keys_of fresh.new.items ≡ insert_all K.eq keys.now.keys (all_on (map (λ v. v.items) shelves.items))) }
     ensures placed { OnOk result (fresh.new.items ≡ placed 0 (keys_of fresh.new.items)) }
     ensures named { IfOk result (λ r. Along (Name (keys.now.keys ++ keys_of fresh.new.items)) (map (λ v. v.items) shelves.items) (map (λ v. v.items) r.items)) }

@@ -9,14 +9,16 @@ use crate::round_of::RoundOf;
 /// After every complete run of a round's events each item was drawn once and filed once, and the keys on the shelves are the distinct ends of the
 /// items, each once. The filed edges are by definition those of the filed items: that a row has the edges of its item is no part of this law.
 pub fn every_run<E: Expand>(round: &RoundOf<'_, E>)
-    ensures { let order = round.now.order.now in EveryRun E.Key.eq E.Key.shelf_of round.now.first (length order - round.now.first) (E.edge round.now.problem.now order) E.ends_of }
+    ensures { let p = E.hunted round.now.problem.now in let order = round.now.order.now in
+        EveryRun E.Key.eq E.Key.shelf_of round.now.first (length order - round.now.first) (p.edge order) p.ends_of }
 {
     let _round = round;
 }
 
 /// Two complete runs of one round leave the same keys and the same filed items, and so, by definition, the same filed edges.
 pub fn two_runs<E: Expand>(round: &RoundOf<'_, E>)
-    ensures { let order = round.now.order.now in TwoRuns E.Key.eq E.Key.shelf_of round.now.first (length order - round.now.first) (E.edge round.now.problem.now order) E.ends_of }
+    ensures { let p = E.hunted round.now.problem.now in let order = round.now.order.now in
+        TwoRuns E.Key.eq E.Key.shelf_of round.now.first (length order - round.now.first) (p.edge order) p.ends_of }
 {
     let _round = round;
 }

@@ -2,7 +2,7 @@ ghost use Rattle.std.specs.Prelude.{◌≡◌, ℕ, ◌+◌, ◌≤◌, ◌<◌,
 ghost use Rattle.indexmap.specs.IndexSet.{insert_key, insert_all};
 ghost use Rattle.tib_lex.specs.Lists.{Has, Each, Distinct};
 ghost use Rattle.tib_hunt.specs.EdgeLists.{total};
-ghost use Rattle.tib_hunt.specs.Reached.{IfTooMany};
+ghost use Rattle.tib_hunt.specs.Reached.{IfTooMany, most_parts};
 ghost use Rattle.tib_hunt.specs.Numbered.{key_parts, Name, HaveMore, placed, keys_of, Moved, IsInOrder};
 
 use crate::found::HuntError;
@@ -19,7 +19,7 @@ fn number_key<K: TableKey + Drop>(
 ) -> Result<u32, HuntError>
     requires counted { total (key_parts K.entries_of) keys.old.keys ≤ parts.old }
     requires within { parts.old ≤ limit }
-    requires limit { limit ≤ 20000000 }
+    requires limit { limit ≤ most_parts }
     ensures keys { OnOk result (keys.new.keys ≡ insert_key K.eq keys.old.keys key) }
     ensures named { IfOk result (λ n. slice_get keys.new.keys n ≡ Some key) }
     ensures parts { OnOk result (parts.new + total (key_parts K.entries_of) keys.old.keys ≡ parts.old + total (key_parts K.entries_of) keys.new.keys) }
@@ -49,7 +49,7 @@ pub(crate) fn number_ends<K: TableKey + Drop>(
 ) -> Result<Vec<u32>, HuntError>
     requires counted { total (key_parts K.entries_of) keys.old.keys ≤ parts.old }
     requires within { parts.old ≤ limit }
-    requires limit { limit ≤ 20000000 }
+    requires limit { limit ≤ most_parts }
     ensures keys { OnOk result (keys.new.keys ≡ insert_all K.eq keys.old.keys ends.items) }
     ensures named { IfOk result (λ r. Name keys.new.keys ends.items r.items) }
     ensures parts { OnOk result (parts.new + total (key_parts K.entries_of) keys.old.keys ≡ parts.old + total (key_parts K.entries_of) keys.new.keys) }

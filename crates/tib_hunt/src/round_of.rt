@@ -20,7 +20,7 @@ pub struct RoundOf<'a, E: Expand> {
 
 impl<'a, E: Expand> Problem for RoundOf<'a, E> {
     ghost use Rattle.std.specs.Prelude.{ℕ, ◌-◌, length};
-    ghost use Rattle.tib_hunt.specs.EdgeLists.{IsEnd};
+    ghost use Rattle.tib_hunt.specs.Expanded.{IsEndAt};
     ghost use Rattle.tib_hunt.specs.RoundModel.{IsItem};
 
     type Key = E::Key;
@@ -29,18 +29,18 @@ impl<'a, E: Expand> Problem for RoundOf<'a, E> {
 
     ghost about = { λ r. (r.problem.now, r.order.now, r.first) };
 
-    ghost may_hold = { λ d k. (i : ℕ) × IsItem d.2 (length d.1 - d.2) i × IsEnd (E.edge d.0 d.1 i) E.ends_of k };
+    ghost may_hold = { λ d k. (i : ℕ) × IsItem d.2 (length d.1 - d.2) i × IsEndAt (E.hunted d.0) d.1 i k };
 }
 
 impl<'a, E: Expand> Itemized for RoundOf<'a, E> {
     ghost use Rattle.std.specs.Prelude.{◌-◌, length};
-    ghost use Rattle.tib_hunt.specs.EdgeLists.{IsEnd};
+    ghost use Rattle.tib_hunt.specs.Expanded.{IsEndAt};
 
     ghost first_of = { λ d. d.2 };
 
     ghost count_of = { λ d. length d.1 - d.2 };
 
-    ghost is_end = { λ d i k. IsEnd (E.edge d.0 d.1 i) E.ends_of k };
+    ghost is_end = { λ d i k. IsEndAt (E.hunted d.0) d.1 i k };
 
     fn first(&self) -> u32 {
         self.first

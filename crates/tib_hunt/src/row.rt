@@ -53,9 +53,9 @@ fn settle_row<E: Expand>(
     ends: &mut Vec<u32>,
     rules: &mut Vec<E::Rule>,
 ) -> Result<(), AllocError>
-    requires below { IsRowBelow E.places first (first + length moved.now) row.now }
-    ensures read { OnOk result ((at : ℕ → E.Key) → map (E.read_positions at) rules.new.items ≡ map (E.read_positions at) rules.old.items ++ read_row E.read_places (λ n. at (moved_to first moved.now n)) row.now) }
-    ensures below { OnOk result ((bound : ℕ) → first ≤ bound → Each (λ n. n < bound) moved.now → AreBelow E.positions bound rules.old.items → AreBelow E.positions bound rules.new.items) }
+    requires below { IsRowBelow E.reading.places first (first + length moved.now) row.now }
+    ensures read { OnOk result ((at : ℕ → E.Key) → map (E.reading.read_positions at) rules.new.items ≡ map (E.reading.read_positions at) rules.old.items ++ read_row E.reading.read_places (λ n. at (moved_to first moved.now n)) row.now) }
+    ensures below { OnOk result ((bound : ℕ) → first ≤ bound → Each (λ n. n < bound) moved.now → AreBelow E.reading.positions bound rules.old.items → AreBelow E.reading.positions bound rules.new.items) }
 {
     move_ends(&row.ends, first, moved, ends)?;
     for rule in &row.rules {
@@ -76,9 +76,9 @@ pub(crate) fn settle_rows<E: Expand>(
     moved: &[u32],
     rules: &mut Vec<E::Rule>,
 ) -> Result<(), AllocError>
-    requires below { Each (IsRowBelow E.places first (first + length moved.now)) rows.now }
-    ensures read { OnOk result ((at : ℕ → E.Key) → map (E.read_positions at) rules.new.items ≡ map (E.read_positions at) rules.old.items ++ read_rows E.read_places (λ n. at (moved_to first moved.now n)) rows.now) }
-    ensures below { OnOk result ((bound : ℕ) → first ≤ bound → Each (λ n. n < bound) moved.now → AreBelow E.positions bound rules.old.items → AreBelow E.positions bound rules.new.items) }
+    requires below { Each (IsRowBelow E.reading.places first (first + length moved.now)) rows.now }
+    ensures read { OnOk result ((at : ℕ → E.Key) → map (E.reading.read_positions at) rules.new.items ≡ map (E.reading.read_positions at) rules.old.items ++ read_rows E.reading.read_places (λ n. at (moved_to first moved.now n)) rows.now) }
+    ensures below { OnOk result ((bound : ℕ) → first ≤ bound → Each (λ n. n < bound) moved.now → AreBelow E.reading.positions bound rules.old.items → AreBelow E.reading.positions bound rules.new.items) }
 {
     let mut ends = Vec::new(alloc);
     for row in rows {

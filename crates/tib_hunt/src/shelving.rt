@@ -3,7 +3,7 @@ ghost use Rattle.tib_lex.specs.Lists.{Has};
 ghost use Rattle.tib_table.specs.Known.{Names, on};
 ghost use Rattle.tib_hunt.specs.EdgeLists.{total};
 ghost use Rattle.tib_hunt.specs.Numbered.{key_parts};
-ghost use Rattle.tib_hunt.specs.Reached.{IfTooMany};
+ghost use Rattle.tib_hunt.specs.Reached.{IfTooMany, most_parts};
 ghost use Rattle.tib_hunt.specs.RoundModel.{IsItem, next_item, with_draw, with_key, with_filed};
 ghost use Rattle.tib_hunt.specs.Shelved.{all_on, with_keys, NameOn, ShelvesHaveMore};
 
@@ -64,7 +64,7 @@ fn shelve_key<P: Itemized>(
     requires sixteen { length round.old.core.shelves ≡ 16 }
     requires counted { seen.old ≡ total (key_parts P.Key.entries_of) (all_on round.old.core.shelves) }
     requires within { seen.old ≤ limit }
-    requires limit { limit ≤ 20000000 }
+    requires limit { limit ≤ most_parts }
     ensures about { round.new.about ≡ round.old.about }
     ensures core { OnOk result (round.new.core ≡ with_key P.Key.eq P.Key.shelf_of round.old.core key) }
     ensures named { IfOk result (λ n. Names round.new.core.shelves n.shelf n.place key) }
@@ -99,7 +99,7 @@ pub(crate) fn shelve_ends<P: Itemized>(
     requires sixteen { length round.old.core.shelves ≡ 16 }
     requires counted { seen.old ≡ total (key_parts P.Key.entries_of) (all_on round.old.core.shelves) }
     requires within { seen.old ≤ limit }
-    requires limit { limit ≤ 20000000 }
+    requires limit { limit ≤ most_parts }
     ensures about { round.new.about ≡ round.old.about }
     ensures core { OnOk result (round.new.core ≡ with_keys P.Key.eq P.Key.shelf_of round.old.core ends.items) }
     ensures named { IfOk result (λ r. NameOn round.new.core.shelves ends.items r.items) }

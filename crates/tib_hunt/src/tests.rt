@@ -119,7 +119,9 @@ impl TableKey for Node {
 struct Sevens;
 
 impl Expand for Sevens {
-    ghost use Rattle.std.specs.Prelude.{◌≡◌, [], ◌∷◌};
+    ghost use Rattle.std.specs.Prelude.{◌≡◌, [], ◌∷◌, refl};
+    ghost use Rattle.tib_hunt.specs.Numbered.{key_parts};
+    ghost use Rattle.tib_hunt.specs.Reached.{operation};
 
     type Key = Node;
 
@@ -131,25 +133,18 @@ impl Expand for Sevens {
 
     type Edge = Node;
 
-    ghost seed = { λ _ k. k ≡ record { number = 5 } };
-
-    ghost seed_edge = { λ _ _ _. ⊥ };
-
-    ghost edge = { λ _ _ _ o e. (o ≡ 0) × (e ≡ record { number = 7 }) };
-
-    ghost ends_of = { λ e. e ∷ [] };
-
-    ghost parts_of = { λ _. 1 };
+    ghost hunted = { λ _. operation ⟦<Node as Ord>⟧.cmp (λ k. k ≡ record { number = 5 })
+        (λ _ _. ⊥) (λ _ _ o e. (o ≡ 0) × (e ≡ record { number = 7 })) (λ e. e ∷ [])
+        (key_parts ⟦<Node as TableKey>⟧.entries_of) (λ _. 1) };
 
     ghost admits = { λ _ _. Unit {0} };
 
-    ghost places = { λ r. r ∷ [] };
-
-    ghost positions = { λ r. r ∷ [] };
-
-    ghost read_places = { λ f r. f r };
-
-    ghost read_positions = { λ f r. f r };
+    ghost reading = { record {
+      places = λ r. r ∷ [];
+      positions = λ r. r ∷ [];
+      read_places = λ f r. f r;
+      read_positions = λ f r. f r;
+    } };
 
     fn seeds(&self, alloc: Global, budget: u64) -> Result<Edges<Node, Place>, ExpandError> {
         let _budget = budget;
@@ -195,21 +190,18 @@ impl Expand for Sevens {
         }
     }
 
-    ghost reads_places = { λ rule f g same. same.0 };
-
-    ghost reads_positions = { λ rule f g same. same.0 };
-
-    ghost one_edge = { λ p order n o e f a b. a.1 ∙ sym b.1 };
-
-    ghost one_seed_edge = { λ p o e f a b. absurd a };
-
-    ghost seeds_admitted = { λ p k s. tt };
-
-    ghost ends_admitted = { λ p order n o e k all low is has. tt };
-
-    ghost seeds_end = { λ p o e k is has. absurd is };
-
-    ghost edges_stay = { λ p xs ys n o e a b same is. is };
+    ghost lawful = { λ p. record {
+      same_order = refl;
+      same_parts = refl;
+      reads_places = λ rule f g same. same.0;
+      reads_positions = λ rule f g same. same.0;
+      one_edge = λ order n o e f a b. a.1 ∙ sym b.1;
+      one_seed_edge = λ o e f a b. absurd a;
+      seeds_admitted = λ k s. tt;
+      ends_admitted = λ order n o e k all low is has. tt;
+      seeds_end = λ o e k is has. absurd is;
+      edges_stay = λ xs ys n o e a b same is. is;
+    } };
 }
 
 // The answers of a draw, of the number of the node 7, of the filing of the item that was drawn, and of another draw.
@@ -275,7 +267,9 @@ fn sevens_have_more_than_six_parts(rt: HostRuntime) -> Result<(), Fail> {
 struct Fans;
 
 impl Expand for Fans {
-    ghost use Rattle.std.specs.Prelude.{◌≡◌, ◌<◌, ◌+◌, ◌-◌, [], ◌∷◌};
+    ghost use Rattle.std.specs.Prelude.{◌≡◌, ◌<◌, ◌+◌, ◌-◌, [], ◌∷◌, refl};
+    ghost use Rattle.tib_hunt.specs.Numbered.{key_parts};
+    ghost use Rattle.tib_hunt.specs.Reached.{operation};
 
     type Key = Node;
 
@@ -287,25 +281,18 @@ impl Expand for Fans {
 
     type Edge = (Node, Node);
 
-    ghost seed = { λ _ k. k ≡ record { number = 1 } };
-
-    ghost seed_edge = { λ _ _ _. ⊥ };
-
-    ghost edge = { λ _ _ n o e. (n < 4) × (o ≡ 0) × (e ≡ (record { number = 15 + n }, record { number = 18 - n })) };
-
-    ghost ends_of = { λ e. e.0 ∷ e.1 ∷ [] };
-
-    ghost parts_of = { λ _. 1 };
+    ghost hunted = { λ _. operation ⟦<Node as Ord>⟧.cmp (λ k. k ≡ record { number = 1 })
+        (λ _ _. ⊥) (λ _ n o e. (n < 4) × (o ≡ 0) × (e ≡ (record { number = 15 + n }, record { number = 18 - n }))) (λ e. e.0 ∷ e.1 ∷ [])
+        (key_parts ⟦<Node as TableKey>⟧.entries_of) (λ _. 1) };
 
     ghost admits = { λ _ _. Unit {0} };
 
-    ghost places = { λ r. r.0 ∷ r.1 ∷ [] };
-
-    ghost positions = { λ r. r.0 ∷ r.1 ∷ [] };
-
-    ghost read_places = { λ f r. (f r.0, f r.1) };
-
-    ghost read_positions = { λ f r. (f r.0, f r.1) };
+    ghost reading = { record {
+      places = λ r. r.0 ∷ r.1 ∷ [];
+      positions = λ r. r.0 ∷ r.1 ∷ [];
+      read_places = λ f r. (f r.0, f r.1);
+      read_positions = λ f r. (f r.0, f r.1);
+    } };
 
     fn seeds(
         &self,
@@ -357,21 +344,18 @@ impl Expand for Fans {
         Ok((position_at(rule.0, ends), position_at(rule.1, ends)))
     }
 
-    ghost reads_places = { λ rule f g same. λ i. (same.0 i, same.1.0 i) };
-
-    ghost reads_positions = { λ rule f g same. λ i. (same.0 i, same.1.0 i) };
-
-    ghost one_edge = { λ p order n o e f a b. a.2 ∙ sym b.2 };
-
-    ghost one_seed_edge = { λ p o e f a b. absurd a };
-
-    ghost seeds_admitted = { λ p k s. tt };
-
-    ghost ends_admitted = { λ p order n o e k all low is has. tt };
-
-    ghost seeds_end = { λ p o e k is has. absurd is };
-
-    ghost edges_stay = { λ p xs ys n o e a b same is. is };
+    ghost lawful = { λ p. record {
+      same_order = refl;
+      same_parts = refl;
+      reads_places = λ rule f g same. λ i. (same.0 i, same.1.0 i);
+      reads_positions = λ rule f g same. λ i. (same.0 i, same.1.0 i);
+      one_edge = λ order n o e f a b. a.2 ∙ sym b.2;
+      one_seed_edge = λ o e f a b. absurd a;
+      seeds_admitted = λ k s. tt;
+      ends_admitted = λ order n o e k all low is has. tt;
+      seeds_end = λ o e k is has. absurd is;
+      edges_stay = λ xs ys n o e a b same is. is;
+    } };
 }
 
 // The edge of a position.

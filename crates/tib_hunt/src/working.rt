@@ -1,9 +1,10 @@
 ghost use Rattle.std.specs.Prelude.{◌≡◌, ◌-◌, ℕ, ◌≤◌, List, length, map, IfOk, IfErr, OnOk};
 ghost use Rattle.tib_lex.specs.Lists.{Has, Each};
-ghost use Rattle.tib_hunt.specs.EdgeLists.{IsEnd, total};
+ghost use Rattle.tib_hunt.specs.EdgeLists.{total};
+ghost use Rattle.tib_hunt.specs.Expanded.{IsEndAt};
 ghost use Rattle.tib_hunt.specs.Held.{IsBetween};
 ghost use Rattle.tib_hunt.specs.Numbered.{key_parts};
-ghost use Rattle.tib_hunt.specs.Reached.{operation, IfTooMany, IsBeyond};
+ghost use Rattle.tib_hunt.specs.Reached.{IfTooMany, IsBeyond, most_parts};
 ghost use Rattle.tib_hunt.specs.RoundLaw.{IsKept};
 ghost use Rattle.tib_hunt.specs.RoundModel.{Core, IsItem};
 ghost use Rattle.tib_hunt.specs.Shelved.{all_on, IsWorked, IsTooMuch, IsUnderway};
@@ -47,17 +48,17 @@ fn work_item<'a, 'b, E: Expand, G: Gate>(
     requires about { round.old.about ≡ (of.now.problem.now, of.now.order.now, of.now.first) }
     requires drawn { IsItem of.now.first round.old.core.drawn item }
     requires once { Has round.old.core.filed item → ⊥ }
-    requires kept { IsKept E.Key.shelf_of of.now.first (length of.now.order.now - of.now.first) (λ i k. IsEnd (E.edge of.now.problem.now of.now.order.now i) E.ends_of k) round.old.core }
+    requires kept { IsKept E.Key.shelf_of of.now.first (length of.now.order.now - of.now.first) (λ i k. IsEndAt (E.hunted of.now.problem.now) of.now.order.now i k) round.old.core }
     requires admitted { Each (E.admits of.now.problem.now) of.now.order.now }
     requires within { work.old.parts ≤ limit }
     requires counted { work.old.seen ≡ total (key_parts E.Key.entries_of) (all_on round.old.core.shelves) }
     requires few { work.old.seen ≤ limit }
-    requires limit { limit ≤ 20000000 }
+    requires limit { limit ≤ most_parts }
     ensures about { round.new.about ≡ round.old.about }
-    ensures worked { OnOk result (IsWorked (operation E.Key.cmp (E.seed of.now.problem.now) (E.seed_edge of.now.problem.now) (E.edge of.now.problem.now) E.ends_of (key_parts E.Key.entries_of) E.parts_of) E.places E.read_places E.Key.eq E.Key.shelf_of of.now.order.now item round.old.core work.old.rows.items work.old.parts round.new.core work.new.rows.items work.new.parts limit) }
+    ensures worked { OnOk result (IsWorked (E.hunted of.now.problem.now) E.reading E.Key.eq E.Key.shelf_of of.now.order.now item round.old.core work.old.rows.items work.old.parts round.new.core work.new.rows.items work.new.parts limit) }
     ensures counted { OnOk result (work.new.seen ≡ total (key_parts E.Key.entries_of) (all_on round.new.core.shelves)) }
     ensures few { OnOk result (work.new.seen ≤ limit) }
-    ensures more { IfErr result (IfTooMany limit (IsTooMuch (operation E.Key.cmp (E.seed of.now.problem.now) (E.seed_edge of.now.problem.now) (E.edge of.now.problem.now) E.ends_of (key_parts E.Key.entries_of) E.parts_of) E.places E.read_places E.Key.eq E.Key.shelf_of of.now.order.now item round.old.core work.old.parts limit)) }
+    ensures more { IfErr result (IfTooMany limit (IsTooMuch (E.hunted of.now.problem.now) E.reading E.Key.eq E.Key.shelf_of of.now.order.now item round.old.core work.old.parts limit)) }
 {
     gate.pass(0, item);
     let edges = match of.problem.expand(alloc, of.order, item, limit - work.parts) {
@@ -93,10 +94,10 @@ pub(crate) fn work_round<E: Expand, G: Gate>(
     limit: u64,
     gate: &G,
 ) -> Result<Worked<E::Key, E::Over>, HuntError>
-    requires limit { limit ≤ 20000000 }
-    requires between { (rules : List E.Rule) × IsBetween (operation E.Key.cmp (E.seed problem.now) (E.seed_edge problem.now) (E.edge problem.now) E.ends_of (key_parts E.Key.entries_of) E.parts_of) (E.admits problem.now) E.places E.positions E.read_places E.read_positions first order.now rules parts limit }
-    ensures worked { IfOk result (λ r. (core : Core E.Key) × (core.shelves ≡ map (λ v. v.items) r.shelves.items) × IsUnderway (operation E.Key.cmp (E.seed problem.now) (E.seed_edge problem.now) (E.edge problem.now) E.ends_of (key_parts E.Key.entries_of) E.parts_of) E.places E.read_places E.Key.eq E.Key.shelf_of order.now first (length order.now) core r.rows.items parts r.parts limit) }
-    ensures more { IfErr result (IfTooMany limit (IsBeyond (operation E.Key.cmp (E.seed problem.now) (E.seed_edge problem.now) (E.edge problem.now) E.ends_of (key_parts E.Key.entries_of) E.parts_of) limit)) }
+    requires limit { limit ≤ most_parts }
+    requires between { (rules : List E.Rule) × IsBetween (E.hunted problem.now) (E.admits problem.now) E.reading first order.now rules parts limit }
+    ensures worked { IfOk result (λ r. (core : Core E.Key) × (core.shelves ≡ map (λ v. v.items) r.shelves.items) × IsUnderway (E.hunted problem.now) E.reading E.Key.eq E.Key.shelf_of order.now first (length order.now) core r.rows.items parts r.parts limit) }
+    ensures more { IfErr result (IfTooMany limit (IsBeyond (E.hunted problem.now) limit)) }
 {
     let of = RoundOf {
         problem,

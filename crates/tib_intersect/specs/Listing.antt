@@ -8,6 +8,7 @@ use Rattle.tib_grammar.specs.declared.Rule.{Rule}
 use Rattle.tib_grammar.specs.declared.Item.{Item}
 use Rattle.tib_grammar.specs.declared.Item.TheVariants.{Label, Hole}
 use Rattle.tib_hunt.specs.EdgeLists.{total}
+use Rattle.tib_hunt.specs.Reached.{most_parts}
 use Rattle.tib_intersect.specs.declared.listing.Listing.{Listing}
 use Rattle.tib_intersect.specs.PairEdges.{pair_at, IsPairEdge, ends_of, edge_parts}
 use Rattle.tib_intersect.specs.PairRules.{Reads}
@@ -68,7 +69,7 @@ pub record IsTooMuch (product : ℕ → ℕ → ℕ) (one two : Rule ℕ) (old :
 pub record IsWithinBudget (l : Listing) : Type 0 where
   pub few : length l.ends.items ≤ l.parts
   pub within : l.parts ≤ l.budget
-  pub budget : l.budget ≤ 20000000
+  pub budget : l.budget ≤ most_parts
 
 -- one is the rule i of the first grammar, and the rules of the second at these positions lead from the second state
 -- of the pair at a position of the order

@@ -12,7 +12,9 @@ use Rattle.tib_hunt.specs.declared.place.Place.{Place}
 use Rattle.tib_hunt.specs.declared.place.Place.TheVariants.{Known}
 use Rattle.tib_intersect.specs.declared.pair_rule.PairRule.{PairRule}
 use Rattle.tib_intersect.specs.PairEdges.{pair_at, IsPairEdge, StatesBelow, ends_of}
-use Rattle.tib_intersect.specs.PairRules.{ends_from, places_of, read_places, states_in, positions_of}
+use Rattle.tib_hunt.specs.Lawful.{IsLawful}
+use Rattle.tib_intersect.specs.Intersection.{intersection, pair_cmp}
+use Rattle.tib_intersect.specs.PairRules.{ends_from, places_of, read_places, states_in, positions_of, pair_reading}
 
 pub same_label : {P : Type 0} (f g : ℕ) (s : Symbol ℕ P) → s ≡ label f → s ≡ label g → f ≡ g
 same_label f g (label h) e k = cc
@@ -109,3 +111,20 @@ pair_stays xs ys n e =
 
 pub seed_below : (a b : ℕ) (k : ℕ × ℕ) → 0 < a → 0 < b → k ≡ (0, 0) → (k.0 < a) × (k.1 < b)
 seed_below a b k x y e = (omega (arith, x, ap (λ (z : ℕ × ℕ). z.0) e), omega (arith, y, ap (λ (z : ℕ × ℕ). z.1) e))
+
+-- all that the intersection owes of its pairs, edges and rules
+pub pairs_are_lawful :
+    (product : ℕ → ℕ → ℕ) (one two : List (Rule ℕ)) (a b : ℕ) → 0 < a → 0 < b → StatesBelow a one → StatesBelow b two →
+    IsLawful (intersection product one two) (λ k. (k.0 < a) × (k.1 < b)) pair_reading pair_cmp (λ k. 2)
+pairs_are_lawful product one two a b left right low high = record {
+  same_order = refl;
+  same_parts = refl;
+  reads_places = λ rule f g same. reads_places rule f g same;
+  reads_positions = λ rule f g same. reads_positions rule f g same;
+  one_edge = λ order n o e f x y. same_edge product one two (pair_at order n) o e f x y;
+  one_seed_edge = λ o e f x y. absurd x;
+  seeds_admitted = λ k is. seed_below a b k left right is;
+  ends_admitted = λ order n o e k all below is has. ends_below product one two a b (pair_at order n) o e k low high is has;
+  seeds_end = λ o e k is has. absurd is;
+  edges_stay = λ xs ys n o e x y same is. subst (λ k. IsPairEdge product one two k o e) (pair_stays xs ys n same) is;
+}

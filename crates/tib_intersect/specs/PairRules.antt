@@ -4,10 +4,12 @@ use Rattle.std.proofs.Common.{zero, suc}
 use Rattle.tib_lex.specs.Lists.{Each}
 use Rattle.tib_tree.specs.Trees.{Trees, none, tree, only}
 use Rattle.tib_grammar.specs.Sides.{Symbol, label, hole, over}
+use Rattle.tib_grammar.specs.GrammarOf.{named_rule}
 use Rattle.tib_grammar.specs.declared.Rule.{Rule}
 use Rattle.tib_hunt.specs.declared.place.Place.{Place}
 use Rattle.tib_hunt.specs.declared.place.Place.TheVariants.{Known, End}
 use Rattle.tib_hunt.specs.EdgeLists.{IsWithin, key_at}
+use Rattle.tib_hunt.specs.Reading.{Reading}
 use Rattle.tib_intersect.specs.declared.pair_rule.PairRule.{PairRule}
 
 -- n ends side by side, from number i on
@@ -32,6 +34,15 @@ states_in (tree (hole q) kids rest) = q ∷ (states_in kids ++ states_in rest)
 -- the positions in a rule, its left state first
 abbrev pub positions_of : Rule ℕ → List ℕ
 positions_of r = r.left ∷ states_in (only r.right)
+
+-- how rules over places and over positions are read as edges of pairs
+abbrev pub pair_reading : Reading (ℕ × ℕ) (Rule (ℕ × ℕ)) PairRule (Rule ℕ)
+pair_reading = record {
+  places = λ r. places_of r;
+  positions = λ r. positions_of r;
+  read_places = λ f r. read_places f r;
+  read_positions = λ f r. named_rule f r;
+}
 
 -- over the order and the ends the rule is within, and reads as the edge
 pub record Reads (order ends : List (ℕ × ℕ)) (r : PairRule) (e : Rule (ℕ × ℕ)) : Type 0 where

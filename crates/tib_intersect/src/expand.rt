@@ -30,12 +30,10 @@ fn states_at<'e>(rule: &PairRule, ends: &'e [u32]) -> &'e [u32]
 }
 
 impl<'a, S: Semiring> Expand for Pairs<'a, S> {
-    ghost use Rattle.std.specs.Prelude.{◌≡◌, ◌<◌, length};
-    ghost use Rattle.tib_grammar.specs.GrammarOf.{named_rule};
-    ghost use Rattle.tib_intersect.specs.PairEdges.{pair_at, IsPairEdge, ends_of, edge_parts};
-    ghost use Rattle.tib_intersect.specs.PairRules.{places_of, positions_of, read_places};
-    ghost use Rattle.tib_intersect.specs.PairLaws.{same_edge, reads_places, reads_positions, ends_below, pair_stays, seed_below};
-    ghost use Rattle.std.proofs.Common.{subst};
+    ghost use Rattle.std.specs.Prelude.{◌<◌, length};
+    ghost use Rattle.tib_intersect.specs.Intersection.{intersection};
+    ghost use Rattle.tib_intersect.specs.PairLaws.{pairs_are_lawful};
+    ghost use Rattle.tib_intersect.specs.PairRules.{pair_reading};
 
     type Key = Pair;
 
@@ -47,25 +45,11 @@ impl<'a, S: Semiring> Expand for Pairs<'a, S> {
 
     type Edge = Rule<Pair>;
 
-    ghost seed = { λ _ k. k ≡ (0, 0) };
-
-    ghost seed_edge = { λ _ _ _. ⊥ };
-
-    ghost edge = { λ p order n o e. IsPairEdge S.product p.left.now.rules p.right.now.rules (pair_at order n) o e };
-
-    ghost ends_of = { λ e. ends_of e };
-
-    ghost parts_of = { λ e. edge_parts e };
+    ghost hunted = { λ p. intersection S.product p.left.now.rules p.right.now.rules };
 
     ghost admits = { λ p k. (k.0 < length p.left.now.names) × (k.1 < length p.right.now.names) };
 
-    ghost places = { λ r. places_of r };
-
-    ghost positions = { λ r. positions_of r };
-
-    ghost read_places = { λ f r. read_places f r };
-
-    ghost read_positions = { λ f r. named_rule f r };
+    ghost reading = { pair_reading };
 
     fn seeds(&self, alloc: Global, budget: u64) -> Result<Edges<Pair, PairRule>, ExpandError> {
         let _budget = budget;
@@ -106,19 +90,7 @@ impl<'a, S: Semiring> Expand for Pairs<'a, S> {
         })
     }
 
-    ghost reads_places = { λ rule f g same. reads_places rule f g same };
-
-    ghost reads_positions = { λ rule f g same. reads_positions rule f g same };
-
-    ghost one_edge = { λ p order n o e f a b. same_edge S.product p.left.now.rules p.right.now.rules (pair_at order n) o e f a b };
-
-    ghost one_seed_edge = { λ p o e f a b. absurd a };
-
-    ghost seeds_admitted = { λ p k is. seed_below (length p.left.now.names) (length p.right.now.names) k p.left_start p.right_start is };
-
-    ghost ends_admitted = { λ p order n o e k all low is has. ends_below S.product p.left.now.rules p.right.now.rules (length p.left.now.names) (length p.right.now.names) (pair_at order n) o e k p.left_range p.right_range is has };
-
-    ghost seeds_end = { λ p o e k is has. absurd is };
-
-    ghost edges_stay = { λ p xs ys n o e a b same is. subst (λ k. IsPairEdge S.product p.left.now.rules p.right.now.rules k o e) (pair_stays xs ys n same) is };
+    ghost lawful = { λ p. pairs_are_lawful S.product p.left.now.rules p.right.now.rules
+        (length p.left.now.names) (length p.right.now.names)
+        p.left_start p.right_start p.left_range p.right_range };
 }

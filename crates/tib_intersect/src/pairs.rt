@@ -1,5 +1,6 @@
 // The pairs of the states of two grammars, as what is hunted.
 ghost use Rattle.std.specs.Prelude.{◌≡◌, ℕ, ◌<◌, ◌≤◌, List, length, IfOk, Err};
+ghost use Rattle.tib_hunt.specs.Reached.{most_parts};
 ghost use Rattle.tib_intersect.specs.IsIndex.{IsIndex};
 ghost use Rattle.tib_intersect.specs.PairEdges.{pair_at, StatesBelow};
 ghost use Rattle.tib_intersect.specs.Listing.{IsWithinBudget, AreListedFrom, Overruns};
@@ -53,7 +54,7 @@ impl<'a, S: Semiring> Pairs<'a, S> {
         budget: u64,
     ) -> Result<Listing, ExpandError>
         requires first { pair.0 < length self.now.left.now.names }
-        requires budget { budget ≤ 20000000 }
+        requires budget { budget ≤ most_parts }
         ensures listed { IfOk result (λ l. (order : List (ℕ × ℕ)) → position < length order → pair_at order position ≡ pair → AreListedFrom S.product self.now.left.now.rules self.now.right.now.rules order position l) }
         ensures more { result ≡ Err ExpandError.More → (order : List (ℕ × ℕ)) → position < length order → pair_at order position ≡ pair → Overruns S.product self.now.left.now.rules self.now.right.now.rules order position budget }
         ensures within { IfOk result IsWithinBudget }

@@ -2,7 +2,7 @@
 ghost use Rattle.std.specs.Prelude.{◌≡◌, ◌≤◌, ◌<◌, ℕ, length, map, IfOk, IfErr};
 ghost use Rattle.tib_grammar.specs.GrammarOf.{named_rule};
 ghost use Rattle.tib_grammar.specs.Run.{rule_at};
-ghost use Rattle.tib_hunt.specs.Reached.{parts_of, IfTooMany, IsBeyond, IsReachedSet};
+ghost use Rattle.tib_hunt.specs.Reached.{most_parts, parts_of, IfTooMany, IsBeyond, IsReachedSet};
 ghost use Rattle.tib_intersect.specs.PairEdges.{pair_at};
 ghost use Rattle.tib_intersect.specs.PairGrammar.{IsPairGrammar};
 ghost use Rattle.tib_intersect.specs.Intersection.{intersection, HasRootOf};
@@ -26,7 +26,7 @@ pub fn intersect<S: Semiring, G: Gate>(
     gate: &G,
 ) -> Result<Found<Pair, Rule<u32>>, HuntError>
     requires some { 1 ≤ limit }
-    requires limit { limit ≤ 20000000 }
+    requires limit { limit ≤ most_parts }
     ensures reached { IfOk result (λ f. IsReachedSet (intersection S.product left.now.rules right.now.rules) f.order.items (map (named_rule (pair_at f.order.items)) f.rules.items)) }
     ensures grammar { IfOk result (λ f. IsPairGrammar S.product left.now.rules right.now.rules f.order.items f.rules.items) }
     ensures parts { IfOk result (λ f. f.parts ≡ parts_of (intersection S.product left.now.rules right.now.rules) f.order.items (map (named_rule (pair_at f.order.items)) f.rules.items)) }

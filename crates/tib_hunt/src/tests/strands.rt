@@ -9,6 +9,7 @@ use crate::{Edges, Expand, ExpandError, Gate, Open, Place, hunt_alone};
 use std::alloc::{AllocError, Global};
 use std::sync::atomic::{AtomicU64, Ordering};
 use std::test::Fail;
+use tib_table::TableKey;
 
 /// An operation whose seed is the node 0, and of which each position n below the length has one edge, to the nodes that stand 1 and 2 behind so many
 /// times n. So the order is that of all numbers; once n, each round but the first has two items, and at twice n it has twice as many as the one before.
@@ -20,7 +21,9 @@ struct Strands {
 }
 
 impl Expand for Strands {
-    ghost use Rattle.std.specs.Prelude.{◌≡◌, ◌<◌, ◌+◌, ◌*◌, [], ◌∷◌};
+    ghost use Rattle.std.specs.Prelude.{◌≡◌, ◌<◌, ◌+◌, ◌*◌, [], ◌∷◌, refl};
+    ghost use Rattle.tib_hunt.specs.Numbered.{key_parts};
+    ghost use Rattle.tib_hunt.specs.Reached.{operation};
 
     type Key = Node;
 
@@ -32,25 +35,19 @@ impl Expand for Strands {
 
     type Edge = (Node, Node);
 
-    ghost seed = { λ _ k. k ≡ record { number = 0 } };
-
-    ghost seed_edge = { λ _ _ _. ⊥ };
-
-    ghost edge = { λ p _ n o e. (n < p.length) × (o ≡ 0) × (e ≡ (record { number = p.times * n + 1 }, record { number = p.times * n + 2 })) };
-
-    ghost ends_of = { λ e. e.0 ∷ e.1 ∷ [] };
-
-    ghost parts_of = { λ _. 1 };
+    ghost hunted = { λ p. operation ⟦<Node as Ord>⟧.cmp (λ k. k ≡ record { number = 0 })
+        (λ _ _. ⊥) (λ _ n o e. (n < p.length) × (o ≡ 0)
+        × (e ≡ (record { number = p.times * n + 1 }, record { number = p.times * n + 2 }))) (λ e. e.0 ∷ e.1 ∷ [])
+        (key_parts ⟦<Node as TableKey>⟧.entries_of) (λ _. 1) };
 
     ghost admits = { λ _ _. Unit {0} };
 
-    ghost places = { λ r. r.0 ∷ r.1 ∷ [] };
-
-    ghost positions = { λ r. r.0 ∷ r.1 ∷ [] };
-
-    ghost read_places = { λ f r. (f r.0, f r.1) };
-
-    ghost read_positions = { λ f r. (f r.0, f r.1) };
+    ghost reading = { record {
+      places = λ r. r.0 ∷ r.1 ∷ [];
+      positions = λ r. r.0 ∷ r.1 ∷ [];
+      read_places = λ f r. (f r.0, f r.1);
+      read_positions = λ f r. (f r.0, f r.1);
+    } };
 
     fn seeds(
         &self,
@@ -102,21 +99,18 @@ impl Expand for Strands {
         Ok((position_at(rule.0, ends), position_at(rule.1, ends)))
     }
 
-    ghost reads_places = { λ rule f g same. λ i. (same.0 i, same.1.0 i) };
-
-    ghost reads_positions = { λ rule f g same. λ i. (same.0 i, same.1.0 i) };
-
-    ghost one_edge = { λ p order n o e f a b. a.2 ∙ sym b.2 };
-
-    ghost one_seed_edge = { λ p o e f a b. absurd a };
-
-    ghost seeds_admitted = { λ p k s. tt };
-
-    ghost ends_admitted = { λ p order n o e k all low is has. tt };
-
-    ghost seeds_end = { λ p o e k is has. absurd is };
-
-    ghost edges_stay = { λ p xs ys n o e a b same is. is };
+    ghost lawful = { λ p. record {
+      same_order = refl;
+      same_parts = refl;
+      reads_places = λ rule f g same. λ i. (same.0 i, same.1.0 i);
+      reads_positions = λ rule f g same. λ i. (same.0 i, same.1.0 i);
+      one_edge = λ order n o e f a b. a.2 ∙ sym b.2;
+      one_seed_edge = λ o e f a b. absurd a;
+      seeds_admitted = λ k s. tt;
+      ends_admitted = λ order n o e k all low is has. tt;
+      seeds_end = λ o e k is has. absurd is;
+      edges_stay = λ xs ys n o e a b same is. is;
+    } };
 }
 
 // The edge to the two nodes behind a number.

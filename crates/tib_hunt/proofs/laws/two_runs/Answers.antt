@@ -5,4 +5,4 @@ use Rattle.tib_hunt.proofs.laws.two_runs.Goals as goal
 pub returns : goal.returns
 returns g c =
     let r = c.args.round.now in
-    two_runs g.E.Key.PartialEq.eq (λ x y e. g.met.E.Key.TableKey.same x y e) g.met.E.Key.Eq.laws.refl g.E.Key.TableKey.shelf_of (λ x. g.met.E.Key.TableKey.low x) r.first (length r.order.now - r.first) (g.E.Expand.edge r.problem.now r.order.now) g.E.Expand.ends_of
+    two_runs g.E.Key.PartialEq.eq (λ x y e. g.met.E.Key.TableKey.same x y e) g.met.E.Key.Eq.laws.refl g.E.Key.TableKey.shelf_of (λ x. g.met.E.Key.TableKey.low x) r.first (length r.order.now - r.first) ((g.E.Expand.hunted r.problem.now).edge r.order.now) (g.E.Expand.hunted r.problem.now).ends_of

@@ -5,4 +5,4 @@ use Rattle.tib_hunt.proofs.Settling.{Settled}
 use Rattle.tib_hunt.proofs.row.settle_row.Given as goal
 
 abbrev pub invariant-loop-rule : goal.invariant-loop-rule
-invariant-loop-rule g l = Settled g.E.Expand.places g.E.Expand.positions g.E.Expand.read_places g.E.Expand.read_positions g.met.E.Expand.reads_places l.first l.moved l.fn.rules.items l.rules.items (λ at. map (g.E.Expand.read_places (λ place. at (moved_to l.first l.moved (position_of l.row.ends.items place)))) (take l.rule-index l.row.rules.items))
+invariant-loop-rule g l = Settled g.E.Expand.reading l.first l.moved l.fn.rules.items l.rules.items (λ at. map (g.E.Expand.reading.read_places (λ place. at (moved_to l.first l.moved (position_of l.row.ends.items place)))) (take l.rule-index l.row.rules.items))

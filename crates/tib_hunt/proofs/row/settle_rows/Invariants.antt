@@ -5,4 +5,4 @@ use Rattle.tib_hunt.proofs.Settling.{Settled}
 use Rattle.tib_hunt.proofs.row.settle_rows.Given as goal
 
 abbrev pub invariant-loop-row : goal.invariant-loop-row
-invariant-loop-row g l = Settled g.E.Expand.places g.E.Expand.positions g.E.Expand.read_places g.E.Expand.read_positions g.met.E.Expand.reads_places l.first l.moved l.fn.rules.items l.rules.items (λ at. read_rows g.E.Expand.read_places (λ n. at (moved_to l.first l.moved n)) (take l.row-index l.rows))
+invariant-loop-row g l = Settled g.E.Expand.reading l.first l.moved l.fn.rules.items l.rules.items (λ at. read_rows g.E.Expand.reading.read_places (λ n. at (moved_to l.first l.moved n)) (take l.row-index l.rows))

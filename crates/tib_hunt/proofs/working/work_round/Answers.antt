@@ -1,20 +1,17 @@
 use Rattle.std.proofs.Common.{◌∙◌, sym, ap, subst, arith}
-use Rattle.tib_hunt.specs.Reached.{operation}
 use Rattle.tib_hunt.specs.Numbered.{key_parts}
 use Rattle.tib_hunt.specs.Shelved.{all_on, IsUnderway, IsWorked, IsTooMuch}
 use Rattle.tib_hunt.specs.EdgeLists.{total}
 use Rattle.tib_hunt.specs.Reached.{IfTooMany}
-use Rattle.tib_hunt.proofs.Sights.{total_least}
-use Rattle.tib_hunt.proofs.Advancing.{laws_of}
+use Rattle.tib_hunt.proofs.Reaching.{hunt_of}
+use Rattle.tib_hunt.proofs.Advancing.{few_keys}
 use Rattle.tib_hunt.proofs.Underway.{underway_none, next_under, next_at, next_is, underway_more, more_at, told_much}
 use Rattle.tib_hunt.proofs.working.work_round.Goals as goal
 
 pub invariant_of-of : goal.invariant_of-of
 invariant_of-of g c =
-    let least = total_least g.E.Key.TableKey.entries_of c.args.order.now in
     let b = c.requires.between.1 in
-    let a = b.held.enough in
-    let w = b.held.within in
+    let few = few_keys (hunt_of (g.met.E.Expand.lawful c.args.problem.now) g.met.E.Key.Ord.total g.met.E.Key.TableKey.same g.met.E.Key.Eq.laws.refl) b.held in
     let l = c.requires.limit in
     record { within = b.low; few = omega arith }
 
@@ -23,24 +20,24 @@ loop-init g c =
     let e = c.in-Ok.ensures in
     record {
       about = ap (λ r. r.about) e;
-      underway = subst (λ s. IsUnderway (operation g.E.Key.Ord.cmp (g.E.Expand.seed c.args.problem.now) (g.E.Expand.seed_edge c.args.problem.now) (g.E.Expand.edge c.args.problem.now) g.E.Expand.ends_of (key_parts g.E.Key.TableKey.entries_of) g.E.Expand.parts_of) g.E.Expand.places g.E.Expand.read_places g.E.Key.PartialEq.eq g.E.Key.TableKey.shelf_of c.args.order.now c.args.first c.args.first s c.new.result.items c.args.parts c.args.parts c.args.limit) (sym (ap (λ r. r.core) e))
-          (subst (λ rows. IsUnderway (operation g.E.Key.Ord.cmp (g.E.Expand.seed c.args.problem.now) (g.E.Expand.seed_edge c.args.problem.now) (g.E.Expand.edge c.args.problem.now) g.E.Expand.ends_of (key_parts g.E.Key.TableKey.entries_of) g.E.Expand.parts_of) g.E.Expand.places g.E.Expand.read_places g.E.Key.PartialEq.eq g.E.Key.TableKey.shelf_of c.args.order.now c.args.first c.args.first _ rows c.args.parts c.args.parts c.args.limit) (sym c.new.ensures.items) (underway_none (operation g.E.Key.Ord.cmp (g.E.Expand.seed c.args.problem.now) (g.E.Expand.seed_edge c.args.problem.now) (g.E.Expand.edge c.args.problem.now) g.E.Expand.ends_of (key_parts g.E.Key.TableKey.entries_of) g.E.Expand.parts_of) (laws_of (operation g.E.Key.Ord.cmp (g.E.Expand.seed c.args.problem.now) (g.E.Expand.seed_edge c.args.problem.now) (g.E.Expand.edge c.args.problem.now) g.E.Expand.ends_of (key_parts g.E.Key.TableKey.entries_of) g.E.Expand.parts_of) g.met.E.Key.Ord.total (g.met.E.Expand.one_seed_edge c.args.problem.now) (g.met.E.Expand.one_edge c.args.problem.now) (g.met.E.Expand.edges_stay c.args.problem.now)) (g.E.Expand.admits c.args.problem.now) g.E.Expand.places g.E.Expand.positions g.E.Expand.read_places g.E.Expand.read_positions g.E.Key.PartialEq.eq g.met.E.Key.TableKey.same g.met.E.Key.Eq.laws.refl g.E.Key.TableKey.shelf_of (λ x. g.met.E.Key.TableKey.low x) c.args.order.now c.args.first c.args.parts c.args.limit c.requires.between.1.held.within));
+      underway = subst (λ s. IsUnderway (g.E.Expand.hunted c.args.problem.now) g.E.Expand.reading g.E.Key.PartialEq.eq g.E.Key.TableKey.shelf_of c.args.order.now c.args.first c.args.first s c.new.result.items c.args.parts c.args.parts c.args.limit) (sym (ap (λ r. r.core) e))
+          (subst (λ rows. IsUnderway (g.E.Expand.hunted c.args.problem.now) g.E.Expand.reading g.E.Key.PartialEq.eq g.E.Key.TableKey.shelf_of c.args.order.now c.args.first c.args.first _ rows c.args.parts c.args.parts c.args.limit) (sym c.new.ensures.items) (underway_none (hunt_of (g.met.E.Expand.lawful c.args.problem.now) g.met.E.Key.Ord.total g.met.E.Key.TableKey.same g.met.E.Key.Eq.laws.refl) g.E.Key.TableKey.shelf_of (λ x. g.met.E.Key.TableKey.low x) c.args.order.now c.args.first c.args.parts c.args.limit c.requires.between.1.held.within));
       drawn = (let d = ap (λ r. r.core.drawn) e in omega arith);
       counted = sym (ap (λ r. total (key_parts g.E.Key.TableKey.entries_of) (all_on r.core.shelves)) e);
       few = omega arith;
     }
 
 pub returns-in-Err-clause-more : goal.returns-in-Err-clause-more
-returns-in-Err-clause-more g c = told_much (operation g.E.Key.Ord.cmp (g.E.Expand.seed c.args.problem.now) (g.E.Expand.seed_edge c.args.problem.now) (g.E.Expand.edge c.args.problem.now) g.E.Expand.ends_of (key_parts g.E.Key.TableKey.entries_of) g.E.Expand.parts_of) (laws_of (operation g.E.Key.Ord.cmp (g.E.Expand.seed c.args.problem.now) (g.E.Expand.seed_edge c.args.problem.now) (g.E.Expand.edge c.args.problem.now) g.E.Expand.ends_of (key_parts g.E.Key.TableKey.entries_of) g.E.Expand.parts_of) g.met.E.Key.Ord.total (g.met.E.Expand.one_seed_edge c.args.problem.now) (g.met.E.Expand.one_edge c.args.problem.now) (g.met.E.Expand.edges_stay c.args.problem.now)) (g.E.Expand.admits c.args.problem.now) g.E.Expand.places g.E.Expand.positions g.E.Expand.read_places g.E.Expand.read_positions g.E.Key.PartialEq.eq g.met.E.Key.TableKey.same g.met.E.Key.Eq.laws.refl g.E.Key.TableKey.shelf_of (λ x. g.met.E.Key.TableKey.low x) c.args.order.now c.args.first c.loop.counter c.draw_item.new.round.core c.loop.work.rows.items c.args.parts c.loop.work.parts c.args.limit (next_under (operation g.E.Key.Ord.cmp (g.E.Expand.seed c.args.problem.now) (g.E.Expand.seed_edge c.args.problem.now) (g.E.Expand.edge c.args.problem.now) g.E.Expand.ends_of (key_parts g.E.Key.TableKey.entries_of) g.E.Expand.parts_of) (laws_of (operation g.E.Key.Ord.cmp (g.E.Expand.seed c.args.problem.now) (g.E.Expand.seed_edge c.args.problem.now) (g.E.Expand.edge c.args.problem.now) g.E.Expand.ends_of (key_parts g.E.Key.TableKey.entries_of) g.E.Expand.parts_of) g.met.E.Key.Ord.total (g.met.E.Expand.one_seed_edge c.args.problem.now) (g.met.E.Expand.one_edge c.args.problem.now) (g.met.E.Expand.edges_stay c.args.problem.now)) (g.E.Expand.admits c.args.problem.now) g.E.Expand.places g.E.Expand.positions g.E.Expand.read_places g.E.Expand.read_positions g.E.Key.PartialEq.eq g.met.E.Key.TableKey.same g.met.E.Key.Eq.laws.refl g.E.Key.TableKey.shelf_of (λ x. g.met.E.Key.TableKey.low x) c.args.order.now c.args.first c.loop.counter c.loop.round.core c.loop.work.rows.items c.args.parts c.loop.work.parts c.args.limit c.loop.invariant.underway c.args.problem.now c.loop.round.about c.loop.invariant.about c.draw_item.new.round.core c.in-Ok-draw_item.ensures.core c.loop.invariant.drawn (let t = c.loop-test.true in omega arith) c.in-Ok-draw_item.drawn c.in-Ok-draw_item.ensures.next) (next_at (operation g.E.Key.Ord.cmp (g.E.Expand.seed c.args.problem.now) (g.E.Expand.seed_edge c.args.problem.now) (g.E.Expand.edge c.args.problem.now) g.E.Expand.ends_of (key_parts g.E.Key.TableKey.entries_of) g.E.Expand.parts_of) (laws_of (operation g.E.Key.Ord.cmp (g.E.Expand.seed c.args.problem.now) (g.E.Expand.seed_edge c.args.problem.now) (g.E.Expand.edge c.args.problem.now) g.E.Expand.ends_of (key_parts g.E.Key.TableKey.entries_of) g.E.Expand.parts_of) g.met.E.Key.Ord.total (g.met.E.Expand.one_seed_edge c.args.problem.now) (g.met.E.Expand.one_edge c.args.problem.now) (g.met.E.Expand.edges_stay c.args.problem.now)) (g.E.Expand.admits c.args.problem.now) g.E.Expand.places g.E.Expand.positions g.E.Expand.read_places g.E.Expand.read_positions g.E.Key.PartialEq.eq g.met.E.Key.TableKey.same g.met.E.Key.Eq.laws.refl g.E.Key.TableKey.shelf_of (λ x. g.met.E.Key.TableKey.low x) c.args.order.now c.args.first c.loop.counter c.loop.round.core c.loop.work.rows.items c.args.parts c.loop.work.parts c.args.limit c.loop.invariant.underway c.args.problem.now c.loop.round.about c.loop.invariant.about c.draw_item.new.round.core c.in-Ok-draw_item.ensures.core c.loop.invariant.drawn (let t = c.loop-test.true in omega arith) c.in-Ok-draw_item.drawn c.in-Ok-draw_item.ensures.next) c.requires.between.0 c.requires.between.1 (let t = c.loop-test.true in omega arith) c.in-Err.error
-    (subst (λ i. IfTooMany c.args.limit (IsTooMuch (operation g.E.Key.Ord.cmp (g.E.Expand.seed c.args.problem.now) (g.E.Expand.seed_edge c.args.problem.now) (g.E.Expand.edge c.args.problem.now) g.E.Expand.ends_of (key_parts g.E.Key.TableKey.entries_of) g.E.Expand.parts_of) g.E.Expand.places g.E.Expand.read_places g.E.Key.PartialEq.eq g.E.Key.TableKey.shelf_of c.args.order.now i c.draw_item.new.round.core c.loop.work.parts c.args.limit) c.in-Err.error) (next_is (operation g.E.Key.Ord.cmp (g.E.Expand.seed c.args.problem.now) (g.E.Expand.seed_edge c.args.problem.now) (g.E.Expand.edge c.args.problem.now) g.E.Expand.ends_of (key_parts g.E.Key.TableKey.entries_of) g.E.Expand.parts_of) (laws_of (operation g.E.Key.Ord.cmp (g.E.Expand.seed c.args.problem.now) (g.E.Expand.seed_edge c.args.problem.now) (g.E.Expand.edge c.args.problem.now) g.E.Expand.ends_of (key_parts g.E.Key.TableKey.entries_of) g.E.Expand.parts_of) g.met.E.Key.Ord.total (g.met.E.Expand.one_seed_edge c.args.problem.now) (g.met.E.Expand.one_edge c.args.problem.now) (g.met.E.Expand.edges_stay c.args.problem.now)) (g.E.Expand.admits c.args.problem.now) g.E.Expand.places g.E.Expand.positions g.E.Expand.read_places g.E.Expand.read_positions g.E.Key.PartialEq.eq g.met.E.Key.TableKey.same g.met.E.Key.Eq.laws.refl g.E.Key.TableKey.shelf_of (λ x. g.met.E.Key.TableKey.low x) c.args.order.now c.args.first c.loop.counter c.loop.round.core c.loop.work.rows.items c.args.parts c.loop.work.parts c.args.limit c.loop.invariant.underway c.args.problem.now c.loop.round.about c.loop.invariant.about c.draw_item.new.round.core c.in-Ok-draw_item.ensures.core c.loop.invariant.drawn (let t = c.loop-test.true in omega arith) c.in-Ok-draw_item.drawn c.in-Ok-draw_item.ensures.next c.in-Some.item c.in-Some.is) c.in-Err.ensures.more)
+returns-in-Err-clause-more g c = told_much (hunt_of (g.met.E.Expand.lawful c.args.problem.now) g.met.E.Key.Ord.total g.met.E.Key.TableKey.same g.met.E.Key.Eq.laws.refl) g.E.Key.TableKey.shelf_of (λ x. g.met.E.Key.TableKey.low x) c.args.order.now c.args.first c.loop.counter c.draw_item.new.round.core c.loop.work.rows.items c.args.parts c.loop.work.parts c.args.limit (next_under (hunt_of (g.met.E.Expand.lawful c.args.problem.now) g.met.E.Key.Ord.total g.met.E.Key.TableKey.same g.met.E.Key.Eq.laws.refl) g.E.Key.TableKey.shelf_of (λ x. g.met.E.Key.TableKey.low x) c.args.order.now c.args.first c.loop.counter c.loop.round.core c.loop.work.rows.items c.args.parts c.loop.work.parts c.args.limit c.loop.invariant.underway c.args.problem.now c.loop.round.about c.loop.invariant.about c.draw_item.new.round.core c.in-Ok-draw_item.ensures.core c.loop.invariant.drawn (let t = c.loop-test.true in omega arith) c.in-Ok-draw_item.drawn c.in-Ok-draw_item.ensures.next) (next_at (hunt_of (g.met.E.Expand.lawful c.args.problem.now) g.met.E.Key.Ord.total g.met.E.Key.TableKey.same g.met.E.Key.Eq.laws.refl) g.E.Key.TableKey.shelf_of (λ x. g.met.E.Key.TableKey.low x) c.args.order.now c.args.first c.loop.counter c.loop.round.core c.loop.work.rows.items c.args.parts c.loop.work.parts c.args.limit c.loop.invariant.underway c.args.problem.now c.loop.round.about c.loop.invariant.about c.draw_item.new.round.core c.in-Ok-draw_item.ensures.core c.loop.invariant.drawn (let t = c.loop-test.true in omega arith) c.in-Ok-draw_item.drawn c.in-Ok-draw_item.ensures.next) c.requires.between.0 c.requires.between.1 (let t = c.loop-test.true in omega arith) c.in-Err.error
+    (subst (λ i. IfTooMany c.args.limit (IsTooMuch (g.E.Expand.hunted c.args.problem.now) g.E.Expand.reading g.E.Key.PartialEq.eq g.E.Key.TableKey.shelf_of c.args.order.now i c.draw_item.new.round.core c.loop.work.parts c.args.limit) c.in-Err.error) (next_is (hunt_of (g.met.E.Expand.lawful c.args.problem.now) g.met.E.Key.Ord.total g.met.E.Key.TableKey.same g.met.E.Key.Eq.laws.refl) g.E.Key.TableKey.shelf_of (λ x. g.met.E.Key.TableKey.low x) c.args.order.now c.args.first c.loop.counter c.loop.round.core c.loop.work.rows.items c.args.parts c.loop.work.parts c.args.limit c.loop.invariant.underway c.args.problem.now c.loop.round.about c.loop.invariant.about c.draw_item.new.round.core c.in-Ok-draw_item.ensures.core c.loop.invariant.drawn (let t = c.loop-test.true in omega arith) c.in-Ok-draw_item.drawn c.in-Ok-draw_item.ensures.next c.in-Some.item c.in-Some.is) c.in-Err.ensures.more)
 
 pub loop-preserved : goal.loop-preserved
 loop-preserved g c = record {
   about = c.in-Ok-work_item.ensures.about ∙ c.in-Ok-draw_item.ensures.about ∙ c.loop.invariant.about;
-  underway = underway_more (operation g.E.Key.Ord.cmp (g.E.Expand.seed c.args.problem.now) (g.E.Expand.seed_edge c.args.problem.now) (g.E.Expand.edge c.args.problem.now) g.E.Expand.ends_of (key_parts g.E.Key.TableKey.entries_of) g.E.Expand.parts_of) (laws_of (operation g.E.Key.Ord.cmp (g.E.Expand.seed c.args.problem.now) (g.E.Expand.seed_edge c.args.problem.now) (g.E.Expand.edge c.args.problem.now) g.E.Expand.ends_of (key_parts g.E.Key.TableKey.entries_of) g.E.Expand.parts_of) g.met.E.Key.Ord.total (g.met.E.Expand.one_seed_edge c.args.problem.now) (g.met.E.Expand.one_edge c.args.problem.now) (g.met.E.Expand.edges_stay c.args.problem.now)) (g.E.Expand.admits c.args.problem.now) g.E.Expand.places g.E.Expand.positions g.E.Expand.read_places g.E.Expand.read_positions g.E.Key.PartialEq.eq g.met.E.Key.TableKey.same g.met.E.Key.Eq.laws.refl g.E.Key.TableKey.shelf_of (λ x. g.met.E.Key.TableKey.low x) c.args.order.now c.args.first c.loop.counter c.draw_item.new.round.core c.loop.work.rows.items c.args.parts c.loop.work.parts c.args.limit (next_under (operation g.E.Key.Ord.cmp (g.E.Expand.seed c.args.problem.now) (g.E.Expand.seed_edge c.args.problem.now) (g.E.Expand.edge c.args.problem.now) g.E.Expand.ends_of (key_parts g.E.Key.TableKey.entries_of) g.E.Expand.parts_of) (laws_of (operation g.E.Key.Ord.cmp (g.E.Expand.seed c.args.problem.now) (g.E.Expand.seed_edge c.args.problem.now) (g.E.Expand.edge c.args.problem.now) g.E.Expand.ends_of (key_parts g.E.Key.TableKey.entries_of) g.E.Expand.parts_of) g.met.E.Key.Ord.total (g.met.E.Expand.one_seed_edge c.args.problem.now) (g.met.E.Expand.one_edge c.args.problem.now) (g.met.E.Expand.edges_stay c.args.problem.now)) (g.E.Expand.admits c.args.problem.now) g.E.Expand.places g.E.Expand.positions g.E.Expand.read_places g.E.Expand.read_positions g.E.Key.PartialEq.eq g.met.E.Key.TableKey.same g.met.E.Key.Eq.laws.refl g.E.Key.TableKey.shelf_of (λ x. g.met.E.Key.TableKey.low x) c.args.order.now c.args.first c.loop.counter c.loop.round.core c.loop.work.rows.items c.args.parts c.loop.work.parts c.args.limit c.loop.invariant.underway c.args.problem.now c.loop.round.about c.loop.invariant.about c.draw_item.new.round.core c.in-Ok-draw_item.ensures.core c.loop.invariant.drawn (let t = c.loop-test.true in omega arith) c.in-Ok-draw_item.drawn c.in-Ok-draw_item.ensures.next) (next_at (operation g.E.Key.Ord.cmp (g.E.Expand.seed c.args.problem.now) (g.E.Expand.seed_edge c.args.problem.now) (g.E.Expand.edge c.args.problem.now) g.E.Expand.ends_of (key_parts g.E.Key.TableKey.entries_of) g.E.Expand.parts_of) (laws_of (operation g.E.Key.Ord.cmp (g.E.Expand.seed c.args.problem.now) (g.E.Expand.seed_edge c.args.problem.now) (g.E.Expand.edge c.args.problem.now) g.E.Expand.ends_of (key_parts g.E.Key.TableKey.entries_of) g.E.Expand.parts_of) g.met.E.Key.Ord.total (g.met.E.Expand.one_seed_edge c.args.problem.now) (g.met.E.Expand.one_edge c.args.problem.now) (g.met.E.Expand.edges_stay c.args.problem.now)) (g.E.Expand.admits c.args.problem.now) g.E.Expand.places g.E.Expand.positions g.E.Expand.read_places g.E.Expand.read_positions g.E.Key.PartialEq.eq g.met.E.Key.TableKey.same g.met.E.Key.Eq.laws.refl g.E.Key.TableKey.shelf_of (λ x. g.met.E.Key.TableKey.low x) c.args.order.now c.args.first c.loop.counter c.loop.round.core c.loop.work.rows.items c.args.parts c.loop.work.parts c.args.limit c.loop.invariant.underway c.args.problem.now c.loop.round.about c.loop.invariant.about c.draw_item.new.round.core c.in-Ok-draw_item.ensures.core c.loop.invariant.drawn (let t = c.loop-test.true in omega arith) c.in-Ok-draw_item.drawn c.in-Ok-draw_item.ensures.next) c.work_item.new.round.core c.work_item.new.work.rows.items c.work_item.new.work.parts
-      (subst (λ i. IsWorked (operation g.E.Key.Ord.cmp (g.E.Expand.seed c.args.problem.now) (g.E.Expand.seed_edge c.args.problem.now) (g.E.Expand.edge c.args.problem.now) g.E.Expand.ends_of (key_parts g.E.Key.TableKey.entries_of) g.E.Expand.parts_of) g.E.Expand.places g.E.Expand.read_places g.E.Key.PartialEq.eq g.E.Key.TableKey.shelf_of c.args.order.now i c.draw_item.new.round.core c.loop.work.rows.items c.loop.work.parts c.work_item.new.round.core c.work_item.new.work.rows.items c.work_item.new.work.parts c.args.limit) (next_is (operation g.E.Key.Ord.cmp (g.E.Expand.seed c.args.problem.now) (g.E.Expand.seed_edge c.args.problem.now) (g.E.Expand.edge c.args.problem.now) g.E.Expand.ends_of (key_parts g.E.Key.TableKey.entries_of) g.E.Expand.parts_of) (laws_of (operation g.E.Key.Ord.cmp (g.E.Expand.seed c.args.problem.now) (g.E.Expand.seed_edge c.args.problem.now) (g.E.Expand.edge c.args.problem.now) g.E.Expand.ends_of (key_parts g.E.Key.TableKey.entries_of) g.E.Expand.parts_of) g.met.E.Key.Ord.total (g.met.E.Expand.one_seed_edge c.args.problem.now) (g.met.E.Expand.one_edge c.args.problem.now) (g.met.E.Expand.edges_stay c.args.problem.now)) (g.E.Expand.admits c.args.problem.now) g.E.Expand.places g.E.Expand.positions g.E.Expand.read_places g.E.Expand.read_positions g.E.Key.PartialEq.eq g.met.E.Key.TableKey.same g.met.E.Key.Eq.laws.refl g.E.Key.TableKey.shelf_of (λ x. g.met.E.Key.TableKey.low x) c.args.order.now c.args.first c.loop.counter c.loop.round.core c.loop.work.rows.items c.args.parts c.loop.work.parts c.args.limit c.loop.invariant.underway c.args.problem.now c.loop.round.about c.loop.invariant.about c.draw_item.new.round.core c.in-Ok-draw_item.ensures.core c.loop.invariant.drawn (let t = c.loop-test.true in omega arith) c.in-Ok-draw_item.drawn c.in-Ok-draw_item.ensures.next c.in-Some.item c.in-Some.is) c.in-Ok-work_item.ensures.worked);
-  drawn = more_at (operation g.E.Key.Ord.cmp (g.E.Expand.seed c.args.problem.now) (g.E.Expand.seed_edge c.args.problem.now) (g.E.Expand.edge c.args.problem.now) g.E.Expand.ends_of (key_parts g.E.Key.TableKey.entries_of) g.E.Expand.parts_of) (laws_of (operation g.E.Key.Ord.cmp (g.E.Expand.seed c.args.problem.now) (g.E.Expand.seed_edge c.args.problem.now) (g.E.Expand.edge c.args.problem.now) g.E.Expand.ends_of (key_parts g.E.Key.TableKey.entries_of) g.E.Expand.parts_of) g.met.E.Key.Ord.total (g.met.E.Expand.one_seed_edge c.args.problem.now) (g.met.E.Expand.one_edge c.args.problem.now) (g.met.E.Expand.edges_stay c.args.problem.now)) (g.E.Expand.admits c.args.problem.now) g.E.Expand.places g.E.Expand.positions g.E.Expand.read_places g.E.Expand.read_positions g.E.Key.PartialEq.eq g.met.E.Key.TableKey.same g.met.E.Key.Eq.laws.refl g.E.Key.TableKey.shelf_of (λ x. g.met.E.Key.TableKey.low x) c.args.order.now c.args.first c.loop.counter c.draw_item.new.round.core c.loop.work.rows.items c.args.parts c.loop.work.parts c.args.limit (next_under (operation g.E.Key.Ord.cmp (g.E.Expand.seed c.args.problem.now) (g.E.Expand.seed_edge c.args.problem.now) (g.E.Expand.edge c.args.problem.now) g.E.Expand.ends_of (key_parts g.E.Key.TableKey.entries_of) g.E.Expand.parts_of) (laws_of (operation g.E.Key.Ord.cmp (g.E.Expand.seed c.args.problem.now) (g.E.Expand.seed_edge c.args.problem.now) (g.E.Expand.edge c.args.problem.now) g.E.Expand.ends_of (key_parts g.E.Key.TableKey.entries_of) g.E.Expand.parts_of) g.met.E.Key.Ord.total (g.met.E.Expand.one_seed_edge c.args.problem.now) (g.met.E.Expand.one_edge c.args.problem.now) (g.met.E.Expand.edges_stay c.args.problem.now)) (g.E.Expand.admits c.args.problem.now) g.E.Expand.places g.E.Expand.positions g.E.Expand.read_places g.E.Expand.read_positions g.E.Key.PartialEq.eq g.met.E.Key.TableKey.same g.met.E.Key.Eq.laws.refl g.E.Key.TableKey.shelf_of (λ x. g.met.E.Key.TableKey.low x) c.args.order.now c.args.first c.loop.counter c.loop.round.core c.loop.work.rows.items c.args.parts c.loop.work.parts c.args.limit c.loop.invariant.underway c.args.problem.now c.loop.round.about c.loop.invariant.about c.draw_item.new.round.core c.in-Ok-draw_item.ensures.core c.loop.invariant.drawn (let t = c.loop-test.true in omega arith) c.in-Ok-draw_item.drawn c.in-Ok-draw_item.ensures.next) (next_at (operation g.E.Key.Ord.cmp (g.E.Expand.seed c.args.problem.now) (g.E.Expand.seed_edge c.args.problem.now) (g.E.Expand.edge c.args.problem.now) g.E.Expand.ends_of (key_parts g.E.Key.TableKey.entries_of) g.E.Expand.parts_of) (laws_of (operation g.E.Key.Ord.cmp (g.E.Expand.seed c.args.problem.now) (g.E.Expand.seed_edge c.args.problem.now) (g.E.Expand.edge c.args.problem.now) g.E.Expand.ends_of (key_parts g.E.Key.TableKey.entries_of) g.E.Expand.parts_of) g.met.E.Key.Ord.total (g.met.E.Expand.one_seed_edge c.args.problem.now) (g.met.E.Expand.one_edge c.args.problem.now) (g.met.E.Expand.edges_stay c.args.problem.now)) (g.E.Expand.admits c.args.problem.now) g.E.Expand.places g.E.Expand.positions g.E.Expand.read_places g.E.Expand.read_positions g.E.Key.PartialEq.eq g.met.E.Key.TableKey.same g.met.E.Key.Eq.laws.refl g.E.Key.TableKey.shelf_of (λ x. g.met.E.Key.TableKey.low x) c.args.order.now c.args.first c.loop.counter c.loop.round.core c.loop.work.rows.items c.args.parts c.loop.work.parts c.args.limit c.loop.invariant.underway c.args.problem.now c.loop.round.about c.loop.invariant.about c.draw_item.new.round.core c.in-Ok-draw_item.ensures.core c.loop.invariant.drawn (let t = c.loop-test.true in omega arith) c.in-Ok-draw_item.drawn c.in-Ok-draw_item.ensures.next) c.work_item.new.round.core c.work_item.new.work.rows.items c.work_item.new.work.parts
-      (subst (λ i. IsWorked (operation g.E.Key.Ord.cmp (g.E.Expand.seed c.args.problem.now) (g.E.Expand.seed_edge c.args.problem.now) (g.E.Expand.edge c.args.problem.now) g.E.Expand.ends_of (key_parts g.E.Key.TableKey.entries_of) g.E.Expand.parts_of) g.E.Expand.places g.E.Expand.read_places g.E.Key.PartialEq.eq g.E.Key.TableKey.shelf_of c.args.order.now i c.draw_item.new.round.core c.loop.work.rows.items c.loop.work.parts c.work_item.new.round.core c.work_item.new.work.rows.items c.work_item.new.work.parts c.args.limit) (next_is (operation g.E.Key.Ord.cmp (g.E.Expand.seed c.args.problem.now) (g.E.Expand.seed_edge c.args.problem.now) (g.E.Expand.edge c.args.problem.now) g.E.Expand.ends_of (key_parts g.E.Key.TableKey.entries_of) g.E.Expand.parts_of) (laws_of (operation g.E.Key.Ord.cmp (g.E.Expand.seed c.args.problem.now) (g.E.Expand.seed_edge c.args.problem.now) (g.E.Expand.edge c.args.problem.now) g.E.Expand.ends_of (key_parts g.E.Key.TableKey.entries_of) g.E.Expand.parts_of) g.met.E.Key.Ord.total (g.met.E.Expand.one_seed_edge c.args.problem.now) (g.met.E.Expand.one_edge c.args.problem.now) (g.met.E.Expand.edges_stay c.args.problem.now)) (g.E.Expand.admits c.args.problem.now) g.E.Expand.places g.E.Expand.positions g.E.Expand.read_places g.E.Expand.read_positions g.E.Key.PartialEq.eq g.met.E.Key.TableKey.same g.met.E.Key.Eq.laws.refl g.E.Key.TableKey.shelf_of (λ x. g.met.E.Key.TableKey.low x) c.args.order.now c.args.first c.loop.counter c.loop.round.core c.loop.work.rows.items c.args.parts c.loop.work.parts c.args.limit c.loop.invariant.underway c.args.problem.now c.loop.round.about c.loop.invariant.about c.draw_item.new.round.core c.in-Ok-draw_item.ensures.core c.loop.invariant.drawn (let t = c.loop-test.true in omega arith) c.in-Ok-draw_item.drawn c.in-Ok-draw_item.ensures.next c.in-Some.item c.in-Some.is) c.in-Ok-work_item.ensures.worked);
+  underway = underway_more (hunt_of (g.met.E.Expand.lawful c.args.problem.now) g.met.E.Key.Ord.total g.met.E.Key.TableKey.same g.met.E.Key.Eq.laws.refl) g.E.Key.TableKey.shelf_of (λ x. g.met.E.Key.TableKey.low x) c.args.order.now c.args.first c.loop.counter c.draw_item.new.round.core c.loop.work.rows.items c.args.parts c.loop.work.parts c.args.limit (next_under (hunt_of (g.met.E.Expand.lawful c.args.problem.now) g.met.E.Key.Ord.total g.met.E.Key.TableKey.same g.met.E.Key.Eq.laws.refl) g.E.Key.TableKey.shelf_of (λ x. g.met.E.Key.TableKey.low x) c.args.order.now c.args.first c.loop.counter c.loop.round.core c.loop.work.rows.items c.args.parts c.loop.work.parts c.args.limit c.loop.invariant.underway c.args.problem.now c.loop.round.about c.loop.invariant.about c.draw_item.new.round.core c.in-Ok-draw_item.ensures.core c.loop.invariant.drawn (let t = c.loop-test.true in omega arith) c.in-Ok-draw_item.drawn c.in-Ok-draw_item.ensures.next) (next_at (hunt_of (g.met.E.Expand.lawful c.args.problem.now) g.met.E.Key.Ord.total g.met.E.Key.TableKey.same g.met.E.Key.Eq.laws.refl) g.E.Key.TableKey.shelf_of (λ x. g.met.E.Key.TableKey.low x) c.args.order.now c.args.first c.loop.counter c.loop.round.core c.loop.work.rows.items c.args.parts c.loop.work.parts c.args.limit c.loop.invariant.underway c.args.problem.now c.loop.round.about c.loop.invariant.about c.draw_item.new.round.core c.in-Ok-draw_item.ensures.core c.loop.invariant.drawn (let t = c.loop-test.true in omega arith) c.in-Ok-draw_item.drawn c.in-Ok-draw_item.ensures.next) c.work_item.new.round.core c.work_item.new.work.rows.items c.work_item.new.work.parts
+      (subst (λ i. IsWorked (g.E.Expand.hunted c.args.problem.now) g.E.Expand.reading g.E.Key.PartialEq.eq g.E.Key.TableKey.shelf_of c.args.order.now i c.draw_item.new.round.core c.loop.work.rows.items c.loop.work.parts c.work_item.new.round.core c.work_item.new.work.rows.items c.work_item.new.work.parts c.args.limit) (next_is (hunt_of (g.met.E.Expand.lawful c.args.problem.now) g.met.E.Key.Ord.total g.met.E.Key.TableKey.same g.met.E.Key.Eq.laws.refl) g.E.Key.TableKey.shelf_of (λ x. g.met.E.Key.TableKey.low x) c.args.order.now c.args.first c.loop.counter c.loop.round.core c.loop.work.rows.items c.args.parts c.loop.work.parts c.args.limit c.loop.invariant.underway c.args.problem.now c.loop.round.about c.loop.invariant.about c.draw_item.new.round.core c.in-Ok-draw_item.ensures.core c.loop.invariant.drawn (let t = c.loop-test.true in omega arith) c.in-Ok-draw_item.drawn c.in-Ok-draw_item.ensures.next c.in-Some.item c.in-Some.is) c.in-Ok-work_item.ensures.worked);
+  drawn = more_at (hunt_of (g.met.E.Expand.lawful c.args.problem.now) g.met.E.Key.Ord.total g.met.E.Key.TableKey.same g.met.E.Key.Eq.laws.refl) g.E.Key.TableKey.shelf_of (λ x. g.met.E.Key.TableKey.low x) c.args.order.now c.args.first c.loop.counter c.draw_item.new.round.core c.loop.work.rows.items c.args.parts c.loop.work.parts c.args.limit (next_under (hunt_of (g.met.E.Expand.lawful c.args.problem.now) g.met.E.Key.Ord.total g.met.E.Key.TableKey.same g.met.E.Key.Eq.laws.refl) g.E.Key.TableKey.shelf_of (λ x. g.met.E.Key.TableKey.low x) c.args.order.now c.args.first c.loop.counter c.loop.round.core c.loop.work.rows.items c.args.parts c.loop.work.parts c.args.limit c.loop.invariant.underway c.args.problem.now c.loop.round.about c.loop.invariant.about c.draw_item.new.round.core c.in-Ok-draw_item.ensures.core c.loop.invariant.drawn (let t = c.loop-test.true in omega arith) c.in-Ok-draw_item.drawn c.in-Ok-draw_item.ensures.next) (next_at (hunt_of (g.met.E.Expand.lawful c.args.problem.now) g.met.E.Key.Ord.total g.met.E.Key.TableKey.same g.met.E.Key.Eq.laws.refl) g.E.Key.TableKey.shelf_of (λ x. g.met.E.Key.TableKey.low x) c.args.order.now c.args.first c.loop.counter c.loop.round.core c.loop.work.rows.items c.args.parts c.loop.work.parts c.args.limit c.loop.invariant.underway c.args.problem.now c.loop.round.about c.loop.invariant.about c.draw_item.new.round.core c.in-Ok-draw_item.ensures.core c.loop.invariant.drawn (let t = c.loop-test.true in omega arith) c.in-Ok-draw_item.drawn c.in-Ok-draw_item.ensures.next) c.work_item.new.round.core c.work_item.new.work.rows.items c.work_item.new.work.parts
+      (subst (λ i. IsWorked (g.E.Expand.hunted c.args.problem.now) g.E.Expand.reading g.E.Key.PartialEq.eq g.E.Key.TableKey.shelf_of c.args.order.now i c.draw_item.new.round.core c.loop.work.rows.items c.loop.work.parts c.work_item.new.round.core c.work_item.new.work.rows.items c.work_item.new.work.parts c.args.limit) (next_is (hunt_of (g.met.E.Expand.lawful c.args.problem.now) g.met.E.Key.Ord.total g.met.E.Key.TableKey.same g.met.E.Key.Eq.laws.refl) g.E.Key.TableKey.shelf_of (λ x. g.met.E.Key.TableKey.low x) c.args.order.now c.args.first c.loop.counter c.loop.round.core c.loop.work.rows.items c.args.parts c.loop.work.parts c.args.limit c.loop.invariant.underway c.args.problem.now c.loop.round.about c.loop.invariant.about c.draw_item.new.round.core c.in-Ok-draw_item.ensures.core c.loop.invariant.drawn (let t = c.loop-test.true in omega arith) c.in-Ok-draw_item.drawn c.in-Ok-draw_item.ensures.next c.in-Some.item c.in-Some.is) c.in-Ok-work_item.ensures.worked);
   counted = c.in-Ok-work_item.ensures.counted;
   few = c.in-Ok-work_item.ensures.few;
 }

@@ -1,6 +1,5 @@
 use Rattle.std.proofs.Common.{◌≡◌, ◌≤◌, ◌+◌}
 use Rattle.tib_hunt.specs.EdgeLists.{total}
-use Rattle.tib_hunt.specs.Reached.{operation}
 use Rattle.tib_hunt.specs.Numbered.{key_parts}
 use Rattle.tib_hunt.specs.Shelved.{all_on, IsUnderway}
 use Rattle.tib_hunt.proofs.working.work_round.Given as goal
@@ -8,7 +7,7 @@ use Rattle.tib_hunt.proofs.working.work_round.Given as goal
 abbrev pub invariant-loop : goal.invariant-loop
 invariant-loop g l = record {
   about : l.round.about ≡ (l.problem, l.order, l.first);
-  underway : IsUnderway (operation g.E.Key.Ord.cmp (g.E.Expand.seed l.problem) (g.E.Expand.seed_edge l.problem) (g.E.Expand.edge l.problem) g.E.Expand.ends_of (key_parts g.E.Key.TableKey.entries_of) g.E.Expand.parts_of) g.E.Expand.places g.E.Expand.read_places g.E.Key.PartialEq.eq g.E.Key.TableKey.shelf_of l.order l.first l.counter l.round.core l.work.rows.items l.parts l.work.parts l.limit;
+  underway : IsUnderway (g.E.Expand.hunted l.problem) g.E.Expand.reading g.E.Key.PartialEq.eq g.E.Key.TableKey.shelf_of l.order l.first l.counter l.round.core l.work.rows.items l.parts l.work.parts l.limit;
   drawn : l.first + l.round.core.drawn ≡ l.counter;
   counted : l.work.seen ≡ total (key_parts g.E.Key.TableKey.entries_of) (all_on l.round.core.shelves);
   few : l.work.seen ≤ l.limit;
