@@ -6,19 +6,17 @@ use Rattle.std.specs.declared.cmp.Ordering.TheVariants.{Less}
 use Rattle.indexmap.specs.IndexSet.{insert_all}
 use Rattle.tib_lex.specs.Lists.{Has, Distinct, Ascends}
 use Rattle.tib_hunt.specs.EdgeLists.{AreListed, IsEnd, Exceeds, key_at, total}
-use Rattle.tib_hunt.specs.Reached.{IfTooMany, Operation, IsNew, AfterRounds, IsReached, AreEdges, IsBeyond}
-use Rattle.tib_hunt.specs.declared.found.HuntError.{HuntError}
-use Rattle.tib_hunt.specs.declared.found.HuntError.TheVariants.{TooMany, OutOfMemory}
+use Rattle.tib_hunt.specs.Reached.{Operation, IsNew, AfterRounds, IsReached, AreEdges, IsBeyond}
 use Rattle.tib_hunt.specs.Numbered.{key_parts, Name, HaveMore, IsInOrder, moved_to}
 use Rattle.tib_hunt.specs.Reading.{Reading}
 use Rattle.tib_hunt.specs.Rows.{read_rows}
-use Rattle.tib_hunt.specs.Held.{Leads, edges_so_far as all_edges, IsHeld as Held, IsBetween as Between, IsWithinRound as WithinRound}
+use Rattle.tib_hunt.specs.Held.{Leads}
 use Rattle.tib_hunt.specs.declared.row.Row.{Row}
 use Rattle.tib_hunt.proofs.Members.{each_of, has_either, has_left, has_right, total_append}
 use Rattle.tib_hunt.proofs.Reaching.{IsHunt, edges_stay, beyond, beyond_more, in_reached, seeds_reached}
 use Rattle.tib_hunt.proofs.Sights.{take_front, total_least}
 use Rattle.tib_hunt.proofs.Settling.{Settled}
-use Rattle.tib_hunt.proofs.Holding.{Inserted, inserted, added, more_edges, finished, settled_edges, round_done, leads_on}
+use Rattle.tib_hunt.proofs.Holding.{edges_so_far, IsHeld, IsBetween, IsWithinRound, Inserted, inserted, added, more_edges, finished, settled_edges, round_done, leads_on}
 
 pub apart_of : {K : Type 0} (xs ys : List K) (k : K) → Distinct (xs ++ ys) → Has xs k → Has ys k → ⊥
 apart_of [] ys k d h m = h
@@ -27,31 +25,19 @@ apart_of (x ∷ xs) ys k d (inr h) m = apart_of xs ys k d.1 h m
 
 module _ {K O E R T : Type 0} {p : Operation K O E} {admits : K → Type 0} {reading : Reading K E R T}
     {cmp : K → K → Ordering} {entries : K → ℕ} {eq : K → K → Bool} (hunt : IsHunt p admits reading cmp entries eq) where
-  abbrev edges_so_far : K → List K → List T → List (Row R) → List E
-  edges_so_far = all_edges p admits reading
-
-  abbrev IsHeld : List K → List K → List T → List (Row R) → ℕ → ℕ → Type 0
-  IsHeld = Held p admits reading
-
-  abbrev IsBetween : ℕ → List K → List T → ℕ → ℕ → Type 0
-  IsBetween = Between p admits reading
-
-  abbrev IsWithinRound : List K → ℕ → ℕ → List K → List T → List (Row R) → ℕ → ℕ → Type 0
-  IsWithinRound = WithinRound p admits reading
-
   -- the keys have no more parts than all together
-  pub keys_counted : {order keys : List K} {rules : List T} {rows : List (Row R)} {parts limit : ℕ} → IsHeld order keys rules rows parts limit → total (key_parts entries) keys ≤ parts
+  pub keys_counted : {order keys : List K} {rules : List T} {rows : List (Row R)} {parts limit : ℕ} → IsHeld hunt order keys rules rows parts limit → total (key_parts entries) keys ≤ parts
   keys_counted {order} {keys} {rules} {rows} {parts} held = subst (λ f. total f keys ≤ parts) hunt.lawful.same_parts held.enough
 
   -- there are no more keys than the limit
-  pub few_keys : {order keys : List K} {rules : List T} {rows : List (Row R)} {parts limit : ℕ} → IsHeld order keys rules rows parts limit → length keys ≤ limit
+  pub few_keys : {order keys : List K} {rules : List T} {rows : List (Row R)} {parts limit : ℕ} → IsHeld hunt order keys rules rows parts limit → length keys ≤ limit
   few_keys {order} {keys} held = let least = total_least entries keys in let a = keys_counted held in let b = held.within in omega arith
 
   -- keys that are too many
-  pub too_many_keys : (order keys : List K) (rules : List T) (rows : List (Row R)) (parts limit : ℕ) (h : IsHeld order keys rules rows parts limit)
+  pub too_many_keys : (order keys : List K) (rules : List T) (rows : List (Row R)) (parts limit : ℕ) (h : IsHeld hunt order keys rules rows parts limit)
       (edge : O → E → Type 0) (ends : List K) (rs : List R) (ep : ℕ) → AreListed edge p.edge_parts reading.places reading.read_places order ends rs ep
       → ((k : K) → Has ends k → (Has order k → ⊥) → (whole : List K) → IsReached p whole → Has whole k)
-      → (n : ℕ) → n ≤ length order → ((d : K) → AreEdges p order n (edges_so_far d keys rules rows ++ map (reading.read_places (key_at d order ends)) rs))
+      → (n : ℕ) → n ≤ length order → ((d : K) → AreEdges p order n (edges_so_far hunt d keys rules rows ++ map (reading.read_places (key_at d order ends)) rs))
       → parts + ep ≤ limit → HaveMore eq p.key_parts keys ends (parts + ep) limit → IsBeyond p limit
   too_many_keys order keys rules rows parts limit h edge ends rs ep l stand n low edges within ([], among, more) = absurd (omega arith)
   too_many_keys order keys rules rows parts limit h edge ends rs ep l stand n low edges within ((d ∷ ds), among, more) =
@@ -66,30 +52,30 @@ module _ {K O E R T : Type 0} {p : Operation K O E} {admits : K → Type 0} {rea
         ];
       } in
       let a = h.counted d in
-      let b = total_append p.edge_parts (edges_so_far d keys rules rows) (map (reading.read_places (key_at d order ends)) rs) in
+      let b = total_append p.edge_parts (edges_so_far hunt d keys rules rows) (map (reading.read_places (key_at d order ends)) rs) in
       let c = l.counted d in
-      beyond p hunt.laws order (insert_all eq keys (d ∷ ds)) leads once n (edges_so_far d keys rules rows ++ map (reading.read_places (key_at d order ends)) rs) low (edges d) limit (omega arith)
+      beyond p hunt.laws order (insert_all eq keys (d ∷ ds)) leads once n (edges_so_far hunt d keys rules rows ++ map (reading.read_places (key_at d order ends)) rs) low (edges d) limit (omega arith)
 
   -- a position with too many edges
-  pub too_many_edges : (order keys : List K) (first n : ℕ) (rules : List T) (rows : List (Row R)) (parts limit : ℕ) → IsWithinRound order first n keys rules rows parts limit → n < length order
+  pub too_many_edges : (order keys : List K) (first n : ℕ) (rules : List T) (rows : List (Row R)) (parts limit : ℕ) → IsWithinRound hunt order first n keys rules rows parts limit → n < length order
       → Exceeds (p.edge order n) p.edge_parts (limit - parts) → IsBeyond p limit
   too_many_edges [] keys first n rules rows parts limit w low x = absurd (omega arith)
   too_many_edges (d ∷ order) keys first n rules rows parts limit w low x =
       let a = w.held.counted d in
       let b = w.held.within in
-      beyond_more p hunt.laws (d ∷ order) keys w.held.leads w.held.once n (edges_so_far d keys rules rows) w.low (w.edges d) limit (limit - parts) low x (omega arith)
+      beyond_more p hunt.laws (d ∷ order) keys w.held.leads w.held.once n (edges_so_far hunt d keys rules rows) w.low (w.edges d) limit (limit - parts) low x (omega arith)
 
   -- the edges of a position come to those before
-  pub with_position : (order keys : List K) (first n : ℕ) (rules : List T) (rows : List (Row R)) (parts limit : ℕ) → IsWithinRound order first n keys rules rows parts limit
-      → (ends : List K) (rs : List R) (ep : ℕ) → AreListed (p.edge order n) p.edge_parts reading.places reading.read_places order ends rs ep → (d : K) → AreEdges p order (suc n) (edges_so_far d keys rules rows ++ map (reading.read_places (key_at d order ends)) rs)
-  with_position order keys first n rules rows parts limit w ends rs ep l d = (edges_so_far d keys rules rows, map (reading.read_places (key_at d order ends)) rs, refl, w.edges d, l.edges d)
+  pub with_position : (order keys : List K) (first n : ℕ) (rules : List T) (rows : List (Row R)) (parts limit : ℕ) → IsWithinRound hunt order first n keys rules rows parts limit
+      → (ends : List K) (rs : List R) (ep : ℕ) → AreListed (p.edge order n) p.edge_parts reading.places reading.read_places order ends rs ep → (d : K) → AreEdges p order (suc n) (edges_so_far hunt d keys rules rows ++ map (reading.read_places (key_at d order ends)) rs)
+  with_position order keys first n rules rows parts limit w ends rs ep l d = (edges_so_far hunt d keys rules rows, map (reading.read_places (key_at d order ends)) rs, refl, w.edges d, l.edges d)
 
-  pub stands : (order keys : List K) (first n : ℕ) (rules : List T) (rows : List (Row R)) (parts limit : ℕ) → IsWithinRound order first n keys rules rows parts limit → n < length order
+  pub stands : (order keys : List K) (first n : ℕ) (rules : List T) (rows : List (Row R)) (parts limit : ℕ) → IsWithinRound hunt order first n keys rules rows parts limit → n < length order
       → (ends : List K) → ((k : K) → Has ends k ↔ IsEnd (p.edge order n) p.ends_of k) → (k : K) → Has ends k → (Has order k → ⊥) → (whole : List K) → IsReached p whole → Has whole k
   stands order keys first n rules rows parts limit w low ends are k h fresh whole reached =
       (in_reached p hunt.laws w.rounds first order w.after whole reached).1 k ((n, w.from, low, (are k).0 h), fresh)
 
-  pub too_many_ends : (order keys : List K) (first n : ℕ) (rules : List T) (rows : List (Row R)) (parts limit : ℕ) → IsWithinRound order first n keys rules rows parts limit → n < length order
+  pub too_many_ends : (order keys : List K) (first n : ℕ) (rules : List T) (rows : List (Row R)) (parts limit : ℕ) → IsWithinRound hunt order first n keys rules rows parts limit → n < length order
       → (ends : List K) (rs : List R) (ep : ℕ) → AreListed (p.edge order n) p.edge_parts reading.places reading.read_places order ends rs ep → ((k : K) → Has ends k ↔ IsEnd (p.edge order n) p.ends_of k)
       → ep ≤ limit - parts → HaveMore eq (key_parts entries) keys ends (parts + ep) limit → IsBeyond p limit
   too_many_ends order keys first n rules rows parts limit w low ends rs ep l are within more =
@@ -97,11 +83,11 @@ module _ {K O E R T : Type 0} {p : Operation K O E} {admits : K → Type 0} {rea
       (subst (λ f. HaveMore eq f keys ends (parts + ep) limit) (sym hunt.lawful.same_parts) more)
 
   -- a position is expanded
-  pub expanded : (order keys : List K) (first n : ℕ) (rules : List T) (rows : List (Row R)) (parts limit : ℕ) → IsWithinRound order first n keys rules rows parts limit → n < length order
+  pub expanded : (order keys : List K) (first n : ℕ) (rules : List T) (rows : List (Row R)) (parts limit : ℕ) → IsWithinRound hunt order first n keys rules rows parts limit → n < length order
       → (ends : List K) (rs : List R) (ep : ℕ) → AreListed (p.edge order n) p.edge_parts reading.places reading.read_places order ends rs ep → ((k : K) → Has ends k ↔ IsEnd (p.edge order n) p.ends_of k)
       → ((k : K) → IsEnd (p.edge order n) p.ends_of k → admits k)
       → (row : Row R) → row.rules.items ≡ rs → (keys' : List K) → keys' ≡ insert_all eq keys ends → Name keys' ends row.ends.items → (parts' : ℕ) → parts' + total (key_parts entries) keys ≡ (parts + ep) + total (key_parts entries) keys' → parts' ≤ limit
-      → IsWithinRound order first (n + 1) keys' rules (rows ++ row ∷ []) parts' limit
+      → IsWithinRound hunt order first (n + 1) keys' rules (rows ++ row ∷ []) parts' limit
   expanded order keys first n rules rows parts limit w low ends rs ep l are allow row same_rules keys' is named parts' sums within =
       let i = inserted eq hunt.same hunt.self ends keys in
       let grown : keys' ≡ keys ++ i.new = is ∙ i.keys_are in
@@ -116,7 +102,7 @@ module _ {K O E R T : Type 0} {p : Operation K O E} {admits : K → Type 0} {rea
             (each_of admits i.new (λ k m. allow k ((are k).0 (i.among k m)))) parts' (subst (λ f. parts' + total f keys ≡ (parts + ep) + total f keys') (sym hunt.lawful.same_parts) sums) within;
         from = (let f = w.from in omega arith);
         low = omega arith;
-        edges = λ d. subst (λ (m : ℕ). AreEdges p order m (edges_so_far d keys' rules (rows ++ row ∷ []))) next (subst (λ (es : List E). AreEdges p order (suc n) es) (sym (more_edges hunt order keys rules rows parts limit w.held ends rs (p.edge order n) ep l row same_rules keys' i.new grown named d)) (with_position order keys first n rules rows parts limit w ends rs ep l d));
+        edges = λ d. subst (λ (m : ℕ). AreEdges p order m (edges_so_far hunt d keys' rules (rows ++ row ∷ []))) next (subst (λ (es : List E). AreEdges p order (suc n) es) (sym (more_edges hunt order keys rules rows parts limit w.held ends rs (p.edge order n) ep l row same_rules keys' i.new grown named d)) (with_position order keys first n rules rows parts limit w ends rs ep l d));
         ends = λ k m out. elim (has_either keys i.new k (subst (λ (x : List K). Has x k) grown m)) [
           | inl a ↦ w.ends k a out
           | inr b ↦ ((n, w.from, low, (are k).0 (i.among k b)), out)
@@ -128,7 +114,7 @@ module _ {K O E R T : Type 0} {p : Operation K O E} {admits : K → Type 0} {rea
       }
 
   -- a round begins
-  pub round_begins : (first : ℕ) (keys : List K) (rules : List T) (parts limit : ℕ) → IsBetween first keys rules parts limit → IsWithinRound keys first first keys rules [] parts limit
+  pub round_begins : (first : ℕ) (keys : List K) (rules : List T) (parts limit : ℕ) → IsBetween hunt first keys rules parts limit → IsWithinRound hunt keys first first keys rules [] parts limit
   round_begins first keys rules parts limit b = record {
     rounds = b.rounds;
     after = b.after;
@@ -141,10 +127,10 @@ module _ {K O E R T : Type 0} {p : Operation K O E} {admits : K → Type 0} {rea
   }
 
   -- a round ends
-  pub round_ends : (order keys : List K) (first : ℕ) (rules : List T) (rows : List (Row R)) (parts limit : ℕ) (w : IsWithinRound order first (length order) keys rules rows parts limit)
+  pub round_ends : (order keys : List K) (first : ℕ) (rules : List T) (rows : List (Row R)) (parts limit : ℕ) (w : IsWithinRound hunt order first (length order) keys rules rows parts limit)
       (keys' : List K) (moved : List ℕ) (sorts : IsInOrder p.cmp order w.held.fresh keys' moved) (rules' : List T)
       (settled : Settled reading (length order) moved rules rules' (λ f. read_rows reading.read_places (λ n. f (moved_to (length order) moved n)) rows))
-      → IsBetween (length order) keys' rules' parts limit
+      → IsBetween hunt (length order) keys' rules' parts limit
   round_ends order keys first rules rows parts limit w keys' moved sorts rules' settled =
       let new_is : (k : K) → Has w.held.fresh k ↔ IsNew p order first k = λ k. (
         (λ m. w.ends k (subst (λ (x : List K). Has x k) (sym w.held.keys_are) (has_right order w.held.fresh k m)) (λ o. apart_of order w.held.fresh k (subst Distinct w.held.keys_are w.held.once) o m)),
@@ -161,12 +147,12 @@ module _ {K O E R T : Type 0} {p : Operation K O E} {admits : K → Type 0} {rea
             (grow d sorts.keys_are);
       }
     where
-      grow : (d : K) → keys' ≡ order ++ sorts.sorted → AreEdges p keys' (length order) (edges_so_far d keys rules rows)
-      grow d is = subst (λ (x : List K). AreEdges p x (length order) (edges_so_far d keys rules rows)) (sym is) (edges_stay p hunt.laws order sorts.sorted (length order) (edges_so_far d keys rules rows) (omega arith) (w.edges d))
+      grow : (d : K) → keys' ≡ order ++ sorts.sorted → AreEdges p keys' (length order) (edges_so_far hunt d keys rules rows)
+      grow d is = subst (λ (x : List K). AreEdges p x (length order) (edges_so_far hunt d keys rules rows)) (sym is) (edges_stay p hunt.laws order sorts.sorted (length order) (edges_so_far hunt d keys rules rows) (omega arith) (w.edges d))
 
   -- the hunt begins with nothing
 
-  nothing : (limit : ℕ) → IsHeld [] [] [] [] 0 limit
+  nothing : (limit : ℕ) → IsHeld hunt [] [] [] [] 0 limit
   nothing limit = record {
     fresh = [];
     keys_are = refl;
@@ -204,14 +190,14 @@ module _ {K O E R T : Type 0} {p : Operation K O E} {admits : K → Type 0} {rea
     grown : keys ≡ [] ++ i.new
     grown = is ∙ i.keys_are
 
-    pub seeds_held : IsHeld [] keys [] (row ∷ []) parts limit
+    pub seeds_held : IsHeld hunt [] keys [] (row ∷ []) parts limit
     seeds_held = added hunt [] [] [] [] 0 limit (nothing limit) ends rs p.seed_edge ep l row same_rules keys i.new grown named
         (subst Distinct (sym is) (i.once tt)) (λ whole reached k m. seeds_reached p hunt.laws whole reached k ((are k).0 (i.among k m)))
         (each_of admits i.new (λ k m. hunt.lawful.seeds_admitted k ((are k).0 (i.among k m)))) parts sums within
 
     pub hunt_begins : (keys' : List K) (moved : List ℕ) (sorts : IsInOrder p.cmp [] keys keys' moved) (rules' : List T)
         (settled : Settled reading 0 moved [] rules' (λ f. read_rows reading.read_places (λ n. f (moved_to 0 moved n)) (row ∷ [])))
-        → IsBetween 0 keys' rules' parts limit
+        → IsBetween hunt 0 keys' rules' parts limit
     hunt_begins keys' moved sorts rules' settled =
         let back : (k : K) → Has seeds_held.fresh k → Has i.new k = λ k m. subst (λ (x : List K). Has x k) grown (subst (λ (x : List K). Has x k) (sym seeds_held.keys_are) m) in
         let forth : (k : K) → Has keys k → Has seeds_held.fresh k = λ k m. subst (λ (x : List K). Has x k) seeds_held.keys_are m in
@@ -229,11 +215,7 @@ module _ {K O E R T : Type 0} {p : Operation K O E} {admits : K → Type 0} {rea
           edges = λ d. subst (λ (es : List E). AreEdges p keys' 0 es) (sym (settled_edges hunt [] keys [] (row ∷ []) parts limit seeds_held keys' moved sorts' rules' settled d ∙ more_edges hunt [] [] [] [] 0 limit (nothing limit) ends rs p.seed_edge ep l row same_rules keys i.new grown named d)) (l.edges d);
         }
 
--- the errors of a position's ends, where its keys are too many
-pub told_beyond : (limit : ℕ) (P Q : Type 0) (e : HuntError) → (P → Q) → IfTooMany limit P e → IfTooMany limit Q e
-told_beyond limit P Q (TooMany n) f h = (h.0, f h.1)
-told_beyond limit P Q OutOfMemory f h = tt
-
+-- the ends of edges over admitted keys are admitted
 pub end_admitted : {K O E : Type 0} (edge : O → E → Type 0) (ends_of : E → List K) (admits : K → Type 0) → ((o : O) (e : E) (k : K) → edge o e → Has (ends_of e) k → admits k) → (k : K) → IsEnd edge ends_of k → admits k
 end_admitted edge ends_of admits f k (o, e, is, h) = f o e k is h
 

@@ -14,7 +14,7 @@ use Rattle.tib_hunt.specs.Rows.{read_row, read_rows, IsRowBelow, AreBelow}
 use Rattle.tib_hunt.specs.declared.place.Place.{Place}
 use Rattle.tib_hunt.specs.declared.place.Place.TheVariants.{Known, End}
 use Rattle.tib_hunt.specs.declared.row.Row.{Row}
-use Rattle.tib_hunt.specs.Held.{at, Leads, edges_so_far as all_edges, IsHeld as Held}
+use Rattle.tib_hunt.specs.Held.{at, Leads, edges_so_far as all_edges, IsHeld as Held, IsBetween as Between, IsWithinRound as WithinRound}
 use Rattle.tib_hunt.proofs.Members.{total_fewer, each_of, each_has, has_either, has_left, has_right, total_append}
 use Rattle.tib_hunt.proofs.Reaching.{Laws, IsHunt, in_reached}
 use Rattle.tib_hunt.proofs.Settling.{Settled, each_weaker, each_append, each_at, stays_low, goes}
@@ -126,11 +126,17 @@ as_many keys (x ∷ xs) (n ∷ ns) a = ap suc (as_many keys xs ns a.1)
 -- What holds while the positions below n are expanded, over the order at the round's beginning. The keys are those of the order and then the fresh ones.
 module _ {K O E R T : Type 0} {p : Operation K O E} {admits : K → Type 0} {reading : Reading K E R T}
     {cmp : K → K → Ordering} {entries : K → ℕ} {eq : K → K → Bool} (hunt : IsHunt p admits reading cmp entries eq) where
-  abbrev edges_so_far : K → List K → List T → List (Row R) → List E
+  abbrev pub edges_so_far : K → List K → List T → List (Row R) → List E
   edges_so_far = all_edges p admits reading
 
-  abbrev IsHeld : List K → List K → List T → List (Row R) → ℕ → ℕ → Type 0
+  abbrev pub IsHeld : List K → List K → List T → List (Row R) → ℕ → ℕ → Type 0
   IsHeld = Held p admits reading
+
+  abbrev pub IsBetween : ℕ → List K → List T → ℕ → ℕ → Type 0
+  IsBetween = Between p admits reading
+
+  abbrev pub IsWithinRound : List K → ℕ → ℕ → List K → List T → List (Row R) → ℕ → ℕ → Type 0
+  IsWithinRound = WithinRound p admits reading
 
   -- readings stay when keys are put behind
   pub rules_same : (d : K) (xs ys : List K) (rules : List T) → AreBelow reading.positions (length xs) rules → map (reading.read_positions (at d (xs ++ ys))) rules ≡ map (reading.read_positions (at d xs)) rules

@@ -13,8 +13,8 @@ use Rattle.tib_hunt.specs.Reached.{IfTooMany}
 use Rattle.tib_hunt.specs.RoundModel.{Core, with_key}
 use Rattle.tib_hunt.specs.Shelved.{all_on, with_keys, NameOn, ShelvesHaveMore}
 use Rattle.tib_hunt.specs.declared.found.HuntError.{HuntError}
-use Rattle.tib_hunt.specs.declared.found.HuntError.TheVariants.{TooMany, OutOfMemory}
 use Rattle.tib_hunt.proofs.Members.{total_append, has_left}
+use Rattle.tib_hunt.proofs.Reaching.{IfTooMany-weaker}
 use Rattle.tib_hunt.proofs.Holding.{not_any}
 use Rattle.tib_hunt.proofs.Sights.{along_snoc, get_left}
 
@@ -143,5 +143,4 @@ module _ {K : Type 0} (eq : K → K → Bool) (same : (x y : K) → eq x y ≡ t
       }
 
       pub told : (e : HuntError) → IfTooMany limit (limit < total f (all_on (with_key eq shelf_of s k).shelves)) e → IfTooMany limit (ShelvesHaveMore eq shelf_of f old (Has ends) limit) e
-      told (TooMany n) h = (h.0, (done ++ k ∷ [], (λ x m. subst (λ (l : List K). Has l x) (sym whole_still) (has_left (done ++ k ∷ []) rest' x m)), subst (λ (u : Core K). limit < total f (all_on u.shelves)) (sym core_still) h.1))
-      told OutOfMemory h = tt
+      told e = IfTooMany-weaker limit _ _ e (λ more. (done ++ k ∷ [], (λ x m. subst (λ (l : List K). Has l x) (sym whole_still) (has_left (done ++ k ∷ []) rest' x m)), subst (λ (u : Core K). limit < total f (all_on u.shelves)) (sym core_still) more))

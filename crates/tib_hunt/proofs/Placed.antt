@@ -7,8 +7,8 @@ use Rattle.tib_hunt.specs.Numbered.{Name, HaveMore}
 use Rattle.tib_hunt.specs.Reached.{IfTooMany}
 use Rattle.tib_hunt.specs.Shelved.{all_on}
 use Rattle.tib_hunt.specs.declared.found.HuntError.{HuntError}
-use Rattle.tib_hunt.specs.declared.found.HuntError.TheVariants.{TooMany, OutOfMemory}
 use Rattle.tib_hunt.proofs.Members.{has_either, has_left, has_right}
+use Rattle.tib_hunt.proofs.Reaching.{IfTooMany-weaker}
 use Rattle.tib_hunt.proofs.Holding.{inserted}
 use Rattle.tib_hunt.proofs.Sights.{along_snoc, get_left}
 
@@ -74,8 +74,7 @@ module _ {K : Type 0} (eq : K → K → Bool) (same : (x y : K) → eq x y ≡ t
         go k (inr b) = has_right (all_on done) ks k (among k b)
 
     pub told : (e : HuntError) → IfTooMany limit (HaveMore eq f keys ks parts limit) e → IfTooMany limit (HaveMore eq f old (all_on all) was limit) e
-    told (TooMany n) h = (h.0, too_many h.1)
-    told OutOfMemory h = tt
+    told e = IfTooMany-weaker limit _ _ e too_many
 
 -- the same where the shelves and the positions stand as values of other types
 module _ {K V W : Type 0} (eq : K → K → Bool) (same : (x y : K) → eq x y ≡ true → x ≡ y) (self : (x : K) → eq x x ≡ true) (keys_in : V → List K) (numbers_in : W → List ℕ)

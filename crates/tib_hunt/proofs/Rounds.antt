@@ -6,28 +6,10 @@ use Rattle.std.proofs.lemmas.List.Elements.{All-get_or, All-set}
 use Rattle.indexmap.specs.IndexSet.{insert_key}
 use Rattle.tib_table.specs.Kept.{Kept, keys_of}
 use Rattle.tib_table.specs.Known.{on}
+use Rattle.tib_table.proofs.Taking.{keys_set, here_after, here_before}
 use Rattle.tib_hunt.specs.RoundModel.{Core, with_key}
 
-pub replicate_push : {A : Type 0} (n : ℕ) (x : A) → replicate n x ++ x ∷ [] ≡ replicate (n + 1) x
-replicate_push zero x = refl
-replicate_push (suc n) x = let up : suc n + 1 ≡ suc (n + 1) = omega arith in ap (λ l. x ∷ l) (replicate_push n x) ∙ sym (ap (λ m. replicate m x) up)
-
 module _ {D K : Type 0} where
-  keys_set : (ks : List (Kept D K)) (i : ℕ) (t : Kept D K) → map keys_of (set ks i t) ≡ set (map keys_of ks) i t.keys
-  keys_set [] i t = refl
-  keys_set (k ∷ ks) zero t = refl
-  keys_set (k ∷ ks) (suc i) t = ap (λ l. k.keys ∷ l) (keys_set ks i t)
-
-  pub here_after : (ks : List (Kept D K)) (i : ℕ) (t : Kept D K) → i < length ks → on (map keys_of (set ks i t)) i ≡ t.keys
-  here_after [] i t l = absurd (omega arith)
-  here_after (k ∷ ks) zero t l = refl
-  here_after (k ∷ ks) (suc i) t l = here_after ks i t (omega arith)
-
-  here_before : (ks : List (Kept D K)) (i : ℕ) (s : Kept D K) → s ≡ get_or ks i s → i < length ks → on (map keys_of ks) i ≡ s.keys
-  here_before [] i s e l = absurd (omega arith)
-  here_before (k ∷ ks) zero s e l = ap keys_of (sym e)
-  here_before (k ∷ ks) (suc i) s e l = here_before ks i s e (omega arith)
-
   set_same : (ks : List (Kept D K)) (i : ℕ) (s : Kept D K) → s ≡ get_or ks i s → set ks i s ≡ ks
   set_same [] i s e = refl
   set_same (k ∷ ks) zero s e = ap (λ x. x ∷ ks) e

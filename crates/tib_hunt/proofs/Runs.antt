@@ -12,6 +12,7 @@ use Rattle.tib_hunt.specs.declared.event.Event.{Event}
 use Rattle.tib_hunt.specs.declared.event.Event.TheVariants.{Draw, Number, File}
 use Rattle.tib_hunt.specs.RoundModel.{Core, opened, IsItem, with_key, Allowed, after, Runs, put_item, draws}
 use Rattle.tib_hunt.specs.Shelved.{with_keys}
+use Rattle.tib_hunt.proofs.Members.{has_left}
 use Rattle.tib_hunt.specs.RoundLaw.{numbers_from, IsKept, IsEndOf, EveryRun, TwoRuns}
 
 module _ {A : Type 0} where
@@ -20,11 +21,6 @@ module _ {A : Type 0} where
   has_snoc [] x y (inr h) = absurd h
   has_snoc (z ∷ xs) x y (inl e) = inl (inl e)
   has_snoc (z ∷ xs) x y (inr h) = ⊎_elim (λ a. inl (inr a)) (λ b. inr b) (has_snoc xs x y h)
-
-  has_left : (xs ys : List A) (y : A) → Has xs y → Has (xs ++ ys) y
-  has_left [] ys y h = absurd h
-  has_left (z ∷ xs) ys y (inl e) = inl e
-  has_left (z ∷ xs) ys y (inr h) = inr (has_left xs ys y h)
 
   pub has_last : (xs : List A) (x : A) → Has (xs ++ x ∷ []) x
   has_last [] x = inl refl

@@ -8,9 +8,9 @@ use Rattle.tib_lex.specs.Lists.{Has, Along}
 use Rattle.tib_hunt.specs.EdgeLists.{total}
 use Rattle.tib_hunt.specs.Reached.{IfTooMany}
 use Rattle.tib_hunt.specs.declared.found.HuntError.{HuntError}
-use Rattle.tib_hunt.specs.declared.found.HuntError.TheVariants.{TooMany, OutOfMemory}
 use Rattle.tib_hunt.specs.Numbered.{key_parts, Name, HaveMore, placed}
 use Rattle.tib_hunt.proofs.Members.{total_append, has_left}
+use Rattle.tib_hunt.proofs.Reaching.{IfTooMany-weaker}
 
 pub total_least : {K : Type 0} (entries : K → ℕ) (ks : List K) → length ks ≤ total (key_parts entries) ks
 total_least entries [] = omega arith
@@ -80,8 +80,7 @@ module _ {K : Type 0} (eq : K → K → Bool) where
     too_many more = (done ++ k ∷ [], (λ x h. subst (λ (l : List K). Has l x) (sym whole_still) (has_left (done ++ k ∷ []) rest' x h)), (let c = s.counted in let e = ap (total f) all_inserted in omega arith))
 
     pub told : (e : HuntError) → IfTooMany limit (limit + total f keys < parts + total f (insert_key eq keys k)) e → IfTooMany limit (HaveMore eq f old ends was limit) e
-    told (TooMany n) h = (h.0, too_many h.1)
-    told OutOfMemory h = tt
+    told e = IfTooMany-weaker limit _ _ e too_many
 
 module _ {K : Type 0} where
   pub take_front : (xs ys : List K) (n : ℕ) → length xs ≡ n → take n (xs ++ ys) ≡ xs

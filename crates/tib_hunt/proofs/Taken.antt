@@ -15,12 +15,11 @@ use Rattle.tib_hunt.specs.Rows.{read_row, read_rows, IsRowBelow}
 use Rattle.tib_hunt.specs.Shelved.{all_on, NameOn, IsShelvedRow, edges_of_rows, position_on, AreOn, IsPlacedRow, IsUnderway as Underway}
 use Rattle.tib_hunt.specs.Held.{at, Leads, IsBetween as Between, IsWithinRound as WithinRound, edges_so_far as all_edges}
 use Rattle.tib_hunt.specs.declared.found.HuntError.{HuntError}
-use Rattle.tib_hunt.specs.declared.found.HuntError.TheVariants.{TooMany, OutOfMemory}
 use Rattle.tib_hunt.specs.declared.place.Place.{Place}
 use Rattle.tib_hunt.specs.declared.row.Row.{Row}
 use Rattle.tib_hunt.specs.declared.shelved_row.ShelvedRow.{ShelvedRow}
 use Rattle.tib_hunt.proofs.Members.{each_of, has_either, total_append}
-use Rattle.tib_hunt.proofs.Reaching.{IsHunt, beyond}
+use Rattle.tib_hunt.proofs.Reaching.{IfTooMany-weaker, IsHunt, beyond}
 use Rattle.tib_hunt.proofs.Settling.{each_weaker, each_append}
 use Rattle.tib_hunt.proofs.Holding.{Inserted, inserted, same_place, named_below, as_many, rules_same, leads_on}
 use Rattle.tib_hunt.proofs.Underway.{on_all, all_somewhere, distinct_all, stands_whole}
@@ -152,8 +151,7 @@ module _ {K O E R T : Type 0} {p : Operation K O E} {admits : K → Type 0} {rea
       omega arith)
 
   pub told_new : (e : HuntError) → IfTooMany limit (HaveMore eq (key_parts entries) order (all_on kss) parts limit) e → IfTooMany limit (IsBeyond p limit) e
-  told_new (TooMany m) h = (h.0, too_many_new (subst (λ f. HaveMore eq f order (all_on kss) parts limit) (sym hunt.lawful.same_parts) h.1))
-  told_new OutOfMemory h = tt
+  told_new e = IfTooMany-weaker limit _ _ e (λ more. too_many_new (subst (λ f. HaveMore eq f order (all_on kss) parts limit) (sym hunt.lawful.same_parts) more))
 
   -- the new keys and the rows are taken in
   module _ (allow : (i : ℕ) (k : K) → i < length order → IsEnd (p.edge order i) p.ends_of k → admits k)

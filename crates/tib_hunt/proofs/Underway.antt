@@ -18,10 +18,9 @@ use Rattle.tib_hunt.specs.RoundLaw.{IsKept}
 use Rattle.tib_hunt.specs.Shelved.{all_on, with_keys, NameOn, ShelvesHaveMore, IsShelvedRow, edges_of_rows, IsWorked, IsTooMuch, IsUnderway as Underway}
 use Rattle.tib_hunt.specs.Held.{IsBetween as Between, edges_so_far as all_edges}
 use Rattle.tib_hunt.specs.declared.found.HuntError.{HuntError}
-use Rattle.tib_hunt.specs.declared.found.HuntError.TheVariants.{TooMany, OutOfMemory}
 use Rattle.tib_hunt.specs.declared.shelved_row.ShelvedRow.{ShelvedRow}
 use Rattle.tib_hunt.proofs.Members.{has_either, has_left, has_right, total_append}
-use Rattle.tib_hunt.proofs.Reaching.{IsHunt, beyond, beyond_more, in_reached}
+use Rattle.tib_hunt.proofs.Reaching.{IfTooMany-weaker, IsHunt, beyond, beyond_more, in_reached}
 use Rattle.tib_hunt.proofs.Holding.{any_has, not_any, leads_on}
 use Rattle.tib_hunt.proofs.Sights.{along_snoc}
 use Rattle.tib_hunt.proofs.OnShelves.{still_name}
@@ -110,11 +109,8 @@ module _ {K O E R T : Type 0} {p : Operation K O E} {admits : K → Type 0} {rea
   -- the ends of an item bring too many keys on the shelves
   pub told_shelves : (order : List K) (item : ℕ) (s : Core K) (parts limit : ℕ) (ends : List K) → ((k : K) → Has ends k ↔ ends_at order item k)
       → (e : HuntError) → IfTooMany limit (ShelvesHaveMore eq shelf_of (key_parts entries) s (Has ends) limit) e → IfTooMany limit (IsTooMuch p reading eq shelf_of order item s parts limit) e
-  told_shelves order item s parts limit ends are (TooMany n) h = (
-    h.0,
-    inr (h.1.0, (λ k m. (are k).0 (h.1.1 k m)), subst (λ f. limit < total f (all_on (with_keys eq shelf_of s h.1.0).shelves)) (sym hunt.lawful.same_parts) h.1.2),
-  )
-  told_shelves order item s parts limit ends are OutOfMemory h = tt
+  told_shelves order item s parts limit ends are e = IfTooMany-weaker limit _ _ e (λ (front, among, more).
+      inr (front, (λ k m. (are k).0 (among k m)), subst (λ f. limit < total f (all_on (with_keys eq shelf_of s front).shelves)) (sym hunt.lawful.same_parts) more))
 
   -- what stands on the shelves stands in the reached order
   pub stands_whole : (order : List K) (first rounds : ℕ) → AfterRounds p rounds first order → first ≤ length order → (t : Core K) → IsKept shelf_of first (length order - first) (ends_at order) t
@@ -287,5 +283,4 @@ module _ {K O E R T : Type 0} {p : Operation K O E} {admits : K → Type 0} {rea
             n (settled d ++ edges_of_rows reading.read_places d order u.sights rows) (omega arith) (all_so_far d) limit (omega arith)
 
         pub told_much : (e : HuntError) → IfTooMany limit (IsTooMuch p reading eq shelf_of order n s parts limit) e → IfTooMany limit (IsBeyond p limit) e
-        told_much (TooMany m) h = (h.0, too_much h.1)
-        told_much OutOfMemory h = tt
+        told_much e = IfTooMany-weaker limit _ _ e too_much

@@ -12,4 +12,5 @@ pub mod Found
 pub mod RoundModel
 pub mod RoundLaw
 pub mod Shelved
+pub mod States
 pub mod Answers

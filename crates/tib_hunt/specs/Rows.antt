@@ -1,7 +1,9 @@
 -- Rows of rules whose ends have numbers.
-use Rattle.std.specs.Prelude.{ℕ, ◌<◌, List, [], ◌∷◌, ◌++◌, map, length}
+use Rattle.std.specs.Prelude.{◌≡◌, ℕ, ◌<◌, ◌≤◌, List, [], ◌∷◌, ◌++◌, map, length}
 use Rattle.tib_lex.specs.Lists.{Each}
 use Rattle.tib_hunt.specs.EdgeLists.{position_of, IsWithin}
+use Rattle.tib_hunt.specs.Numbered.{moved_to}
+use Rattle.tib_hunt.specs.Reading.{Reading}
 use Rattle.tib_hunt.specs.declared.place.Place.{Place}
 use Rattle.tib_hunt.specs.declared.row.Row.{Row}
 
@@ -22,3 +24,18 @@ IsRowBelow places first bound row = Each (λ rule. Each (IsWithin first (length 
 -- each position in the rules is below the bound
 abbrev pub AreBelow : {T : Type 0} → (T → List ℕ) → ℕ → List T → Type 0
 AreBelow positions bound rules = Each (λ rule. Each (λ n. n < bound) (positions rule)) rules
+
+module _ {K E R T : Type 0} (reading : Reading K E R T) (first : ℕ) (moved : List ℕ) where
+  -- the new rules stand for the edges of the old ones and then for those of the row, where the numbers from `first` on were moved
+  abbrev pub ReadsRow : List T → Row R → List T → Type 0
+  ReadsRow old row new =
+      (at : ℕ → K) → map (reading.read_positions at) new ≡ map (reading.read_positions at) old ++ read_row reading.read_places (λ n. at (moved_to first moved n)) row
+
+  -- the same of rows
+  abbrev pub ReadAs : List T → List (Row R) → List T → Type 0
+  ReadAs old rows new =
+      (at : ℕ → K) → map (reading.read_positions at) new ≡ map (reading.read_positions at) old ++ read_rows reading.read_places (λ n. at (moved_to first moved n)) rows
+
+  -- each bound of the old rules that is no less than `first`, and of what was moved, is one of the new rules
+  abbrev pub StayBelow : List T → List T → Type 0
+  StayBelow old new = (bound : ℕ) → first ≤ bound → Each (λ n. n < bound) moved → AreBelow reading.positions bound old → AreBelow reading.positions bound new

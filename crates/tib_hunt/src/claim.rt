@@ -1,3 +1,5 @@
+//! What a seat of the claim counter knows, and what each of its steps does.
+
 use atomic_table::{Join, Play, Split, TableRule};
 use std::collections::LinkedList;
 

@@ -1,3 +1,5 @@
+//! The events of a round, and what each answers.
+
 use tib_table::Number;
 
 /// An event of a round: one atomic action of a worker.

@@ -1,14 +1,8 @@
-//! A round of few items, worked on one list of keys: it opens no shelves.
+//! A round of few items, on one list of keys: it opens no shelves.
 
-ghost use Rattle.std.specs.Prelude.{◌≡◌, ℕ, ◌+◌, ◌≤◌, ◌<◌, ◌^◌, ◌++◌, [], ◌∷◌, length, map, take, drop, List, IfOk, IfErr, OnOk};
-ghost use Rattle.indexmap.specs.IndexSet.{insert_all};
-ghost use Rattle.tib_lex.specs.Lists.{Each, Distinct};
-ghost use Rattle.tib_hunt.specs.EdgeLists.{total};
+ghost use Rattle.std.specs.Prelude.{◌≡◌, ◌≤◌, [], length, IfErr, OnOk};
 ghost use Rattle.tib_hunt.specs.Reached.{IfTooMany, IsBeyond, most_parts};
-ghost use Rattle.tib_hunt.specs.Numbered.{key_parts, Name, HaveMore, IsInOrder, moved_to};
-ghost use Rattle.tib_hunt.specs.Held.{IsBetween, IsWithinRound};
-ghost use Rattle.tib_hunt.specs.Rows.{read_rows, IsRowBelow, AreBelow};
-ghost use Rattle.tib_hunt.specs.declared.row.Row.{Row};
+ghost use Rattle.tib_hunt.specs.States.{IsBetweenRounds, IsExpanded};
 
 use crate::expand::Expand;
 use crate::found::{Gate, HuntError};
@@ -17,7 +11,7 @@ use crate::place::ExpandError;
 use std::alloc::Global;
 use tib_table::TableKey;
 
-// Expands the positions of the order from `first` on, and numbers their ends behind the order.
+// Expands the positions of the order from `first` on. Their ends are numbered as if they followed the order as they were found.
 fn expand_few<E: Expand, G: Gate>(
     state: &mut HuntState<E>,
     alloc: Global,
@@ -27,9 +21,9 @@ fn expand_few<E: Expand, G: Gate>(
     first: u32,
 ) -> Result<(), HuntError>
     requires limit { limit ≤ most_parts }
-    requires between { IsBetween (E.hunted problem.now) (E.admits problem.now) E.reading first state.old.keys.keys state.old.rules.items state.old.parts limit }
+    requires between { IsBetweenRounds (E.hunted problem.now) (E.admits problem.now) E.reading first limit state.old }
     requires rows { state.old.rows.items ≡ [] }
-    ensures within { OnOk result (IsWithinRound (E.hunted problem.now) (E.admits problem.now) E.reading state.old.keys.keys first (length state.old.keys.keys) state.new.keys.keys state.new.rules.items state.new.rows.items state.new.parts limit) }
+    ensures within { OnOk result (IsExpanded (E.hunted problem.now) (E.admits problem.now) E.reading state.old.keys.keys first limit state.new.keys.keys state.new) }
     ensures more { IfErr result (IfTooMany limit (IsBeyond (E.hunted problem.now) limit)) }
 {
     let bound = state.keys.len();
@@ -49,7 +43,7 @@ fn expand_few<E: Expand, G: Gate>(
     Ok(())
 }
 
-/// Expands the positions from `first` on, and puts their new ends behind the order.
+/// Expands the positions from `first` on, and appends their new ends in ascending order.
 pub(crate) fn round_of_few<E: Expand, G: Gate>(
     state: &mut HuntState<E>,
     alloc: Global,
@@ -59,9 +53,9 @@ pub(crate) fn round_of_few<E: Expand, G: Gate>(
     first: u32,
 ) -> Result<(), HuntError>
     requires limit { limit ≤ most_parts }
-    requires between { IsBetween (E.hunted problem.now) (E.admits problem.now) E.reading first state.old.keys.keys state.old.rules.items state.old.parts limit }
+    requires between { IsBetweenRounds (E.hunted problem.now) (E.admits problem.now) E.reading first limit state.old }
     requires rows { state.old.rows.items ≡ [] }
-    ensures between { OnOk result (IsBetween (E.hunted problem.now) (E.admits problem.now) E.reading (length state.old.keys.keys) state.new.keys.keys state.new.rules.items state.new.parts limit) }
+    ensures between { OnOk result (IsBetweenRounds (E.hunted problem.now) (E.admits problem.now) E.reading (length state.old.keys.keys) limit state.new) }
     ensures rows { OnOk result (state.new.rows.items ≡ []) }
     ensures more { IfErr result (IfTooMany limit (IsBeyond (E.hunted problem.now) limit)) }
 {

@@ -1,3 +1,5 @@
+//! What a hunt answers, and the gate that it calls for each item.
+
 use thiserror::Error;
 
 /// The reached set of an operation.
@@ -11,24 +13,24 @@ pub struct Found<K, R> {
     pub parts: u64,
 }
 
-/// Why nothing is found.
+/// Why a hunt answers no reached set.
 #[derive(Debug, Drop, PartialEq, Eq, Error)]
 pub enum HuntError {
     /// The reached set has more parts than the limit.
     #[error("more than {limit} parts")]
     TooMany { limit: u64 },
-    /// There is no memory.
+    /// Memory was refused.
     #[error("out of memory")]
     OutOfMemory,
 }
 
-/// What is told of each item before it is expanded.
+/// Called once for each item, before it is expanded.
 pub trait Gate {
-    /// A worker passes with an item.
+    /// The worker of this number is about to expand the item.
     fn pass(&self, worker: u32, item: u32);
 }
 
-/// A gate that holds no worker.
+/// A gate that does nothing.
 pub struct Open;
 
 impl Gate for Open {

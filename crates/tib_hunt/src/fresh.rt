@@ -1,9 +1,11 @@
+//! The fresh keys of a round: those of its shelves that the order lacks, which are then appended to it in ascending order.
+
 ghost use Rattle.std.specs.Prelude.{◌≡◌, ℕ, ◌+◌, ◌≤◌, ◌<◌, ◌^◌, ◌++◌, [], ◌∷◌, Some, length, map, slice_get, IfOk, IfErr, IfSome, IfNone, OnOk};
 ghost use Rattle.indexmap.specs.IndexSet.{insert_key, insert_all};
 ghost use Rattle.tib_lex.specs.Lists.{Has, Distinct, Along};
 ghost use Rattle.tib_hunt.specs.EdgeLists.{total};
 ghost use Rattle.tib_hunt.specs.Reached.{IfTooMany, most_parts};
-ghost use Rattle.tib_hunt.specs.Numbered.{key_parts, Name, HaveMore, placed, keys_of, IsInOrder};
+ghost use Rattle.tib_hunt.specs.Numbered.{key_parts, Name, HaveMore, KeyExceeds, AddsParts, placed, keys_of, IsInOrder};
 ghost use Rattle.tib_hunt.specs.Shelved.{all_on};
 
 use crate::found::HuntError;
@@ -13,14 +15,14 @@ use std::alloc::{AllocError, Global};
 use tib_table::TableKey;
 
 // The position of a key, or None where it is not in the order.
-fn position_of<K: TableKey + Drop>(keys: &IndexSet<K>, key: &K) -> Option<usize>
+fn find_position<K: TableKey + Drop>(keys: &IndexSet<K>, key: &K) -> Option<usize>
     ensures some { IfSome result (λ n. slice_get keys.now.keys n ≡ Some key.now) }
     ensures none { IfNone result (Has keys.now.keys key.now → ⊥) }
 {
     keys.get_index_of(key)
 }
 
-// Puts a key behind the fresh ones. It adds its parts, which the limit must leave.
+// Appends a key to the fresh ones. Adds the key's parts; `TooMany` if that passes the limit.
 fn push_fresh<K: TableKey + Drop>(
     fresh: &mut Vec<(K, u32)>,
     parts: &mut u64,
@@ -49,7 +51,8 @@ fn push_fresh<K: TableKey + Drop>(
     Ok(())
 }
 
-// The number of a key that is not among the fresh ones, which stand behind the order. A key that is not in the order is the last fresh one.
+// The number of a key that is none of the fresh ones, where these follow the order. Appends a key that the order lacks to the fresh ones,
+// and adds its parts; `TooMany` if that passes the limit.
 fn find_key<K: TableKey + Drop>(
     keys: &IndexSet<K>,
     fresh: &mut Vec<(K, u32)>,
@@ -65,11 +68,11 @@ fn find_key<K: TableKey + Drop>(
     ensures keys { OnOk result (keys.now.keys ++ keys_of fresh.new.items ≡ insert_key K.eq (keys.now.keys ++ keys_of fresh.old.items) key) }
     ensures placed { OnOk result (fresh.new.items ≡ placed 0 (keys_of fresh.new.items)) }
     ensures named { IfOk result (λ n. slice_get (keys.now.keys ++ keys_of fresh.new.items) n ≡ Some key) }
-    ensures parts { OnOk result (parts.new + total (key_parts K.entries_of) (keys.now.keys ++ keys_of fresh.old.items) ≡ parts.old + total (key_parts K.entries_of) (keys.now.keys ++ keys_of fresh.new.items)) }
+    ensures parts { OnOk result (AddsParts (key_parts K.entries_of) (keys.now.keys ++ keys_of fresh.old.items) (keys.now.keys ++ keys_of fresh.new.items) parts.old parts.new) }
     ensures within { OnOk result (parts.new ≤ limit) }
-    ensures more { IfErr result (IfTooMany limit (limit + total (key_parts K.entries_of) (keys.now.keys ++ keys_of fresh.old.items) < parts.old + total (key_parts K.entries_of) (insert_key K.eq (keys.now.keys ++ keys_of fresh.old.items) key))) }
+    ensures more { IfErr result (IfTooMany limit (KeyExceeds K.eq (key_parts K.entries_of) (keys.now.keys ++ keys_of fresh.old.items) key parts.old limit)) }
 {
-    if let Some(position) = position_of(keys, &key) {
+    if let Some(position) = find_position(keys, &key) {
         return Ok(position as u32);
     }
     let number = (keys.len() + fresh.len()) as u32;
@@ -79,8 +82,8 @@ fn find_key<K: TableKey + Drop>(
     }
 }
 
-// The numbers of keys that are not among the fresh ones, which stand behind the order. Those that are not in the order go behind the
-// fresh ones.
+// The numbers of keys that are none of the fresh ones, where these follow the order. Appends those that the order lacks to the fresh ones,
+// and adds their parts; `TooMany` if that passes the limit.
 fn find_ends<K: TableKey + Drop>(
     alloc: Global,
     keys: &IndexSet<K>,
@@ -98,7 +101,7 @@ fn find_ends<K: TableKey + Drop>(
     ensures keys { OnOk result (keys.now.keys ++ keys_of fresh.new.items ≡ insert_all K.eq (keys.now.keys ++ keys_of fresh.old.items) ends.items) }
     ensures placed { OnOk result (fresh.new.items ≡ placed 0 (keys_of fresh.new.items)) }
     ensures named { IfOk result (λ r. Name (keys.now.keys ++ keys_of fresh.new.items) ends.items r.items) }
-    ensures parts { OnOk result (parts.new + total (key_parts K.entries_of) (keys.now.keys ++ keys_of fresh.old.items) ≡ parts.old + total (key_parts K.entries_of) (keys.now.keys ++ keys_of fresh.new.items)) }
+    ensures parts { OnOk result (AddsParts (key_parts K.entries_of) (keys.now.keys ++ keys_of fresh.old.items) (keys.now.keys ++ keys_of fresh.new.items) parts.old parts.new) }
     ensures within { OnOk result (parts.new ≤ limit) }
     ensures more { IfErr result (IfTooMany limit (HaveMore K.eq (key_parts K.entries_of) (keys.now.keys ++ keys_of fresh.old.items) ends.items parts.old limit)) }
 {
@@ -117,8 +120,8 @@ fn find_ends<K: TableKey + Drop>(
     Ok(numbers)
 }
 
-/// The numbers of the keys of shelves, of which those that are not in the order stand behind it, as fresh ones. These add their parts, which
-/// the limit must leave.
+/// The numbers of the keys of the shelves, where the fresh ones follow the order. Fills `fresh` with those that the order lacks, each with its
+/// index among them, and adds their parts; `TooMany` if that passes the limit.
 pub(crate) fn find_shelves<K: TableKey + Drop>(
     alloc: Global,
     keys: &IndexSet<K>,
@@ -135,7 +138,7 @@ pub(crate) fn find_shelves<K: TableKey + Drop>(
     ensures keys { OnOk result (keys.now.keys ++ keys_of fresh.new.items ≡ insert_all K.eq keys.now.keys (all_on (map (λ v. v.items) shelves.items))) }
     ensures placed { OnOk result (fresh.new.items ≡ placed 0 (keys_of fresh.new.items)) }
     ensures named { IfOk result (λ r. Along (Name (keys.now.keys ++ keys_of fresh.new.items)) (map (λ v. v.items) shelves.items) (map (λ v. v.items) r.items)) }
-    ensures parts { OnOk result (parts.new + total (key_parts K.entries_of) keys.now.keys ≡ parts.old + total (key_parts K.entries_of) (keys.now.keys ++ keys_of fresh.new.items)) }
+    ensures parts { OnOk result (AddsParts (key_parts K.entries_of) keys.now.keys (keys.now.keys ++ keys_of fresh.new.items) parts.old parts.new) }
     ensures within { OnOk result (parts.new ≤ limit) }
     ensures more { IfErr result (IfTooMany limit (HaveMore K.eq (key_parts K.entries_of) keys.now.keys (all_on (map (λ v. v.items) shelves.items)) parts.old limit)) }
 {
@@ -154,7 +157,7 @@ pub(crate) fn find_shelves<K: TableKey + Drop>(
     Ok(positions)
 }
 
-/// Puts fresh keys, each with its place among them, behind the others in ascending order. Answers where each of them went.
+/// Appends the fresh keys, each with its index among them, in ascending order. Answers the position of each of them.
 pub(crate) fn put_fresh<K: TableKey + Drop>(
     alloc: Global,
     keys: &mut IndexSet<K>,

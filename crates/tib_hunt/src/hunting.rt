@@ -1,13 +1,14 @@
-ghost use Rattle.std.specs.Prelude.{◌≡◌, ℕ, ◌+◌, ◌≤◌, ◌<◌, ◌^◌, ◌++◌, [], ◌∷◌, length, map, take, drop, List, IfOk, IfErr, OnOk};
+//! The state of a hunt: its keys, rules, rows and parts, with the steps that begin it, take a round in and put its keys in order.
+
+ghost use Rattle.std.specs.Prelude.{◌≡◌, ◌+◌, ◌≤◌, ◌<◌, ◌^◌, ◌++◌, [], length, take, drop, IfOk, IfErr, OnOk};
 ghost use Rattle.indexmap.specs.IndexSet.{insert_all};
-ghost use Rattle.tib_lex.specs.Lists.{Along, Each, Distinct};
+ghost use Rattle.tib_lex.specs.Lists.{Each, Distinct};
 ghost use Rattle.tib_hunt.specs.EdgeLists.{total};
 ghost use Rattle.tib_hunt.specs.Reached.{IfTooMany, IsBeyond, most_parts};
-ghost use Rattle.tib_hunt.specs.Numbered.{key_parts, Name, HaveMore, IsInOrder, moved_to, placed, keys_of};
-ghost use Rattle.tib_hunt.specs.Held.{IsBetween, IsWithinRound};
-ghost use Rattle.tib_hunt.specs.Rows.{read_rows, IsRowBelow, AreBelow};
-ghost use Rattle.tib_hunt.specs.Shelved.{all_on, IsShelvedRow, IsPlacedRow};
-ghost use Rattle.tib_hunt.specs.declared.row.Row.{Row};
+ghost use Rattle.tib_hunt.specs.Numbered.{key_parts, HaveMore, AddsParts, placed, keys_of};
+ghost use Rattle.tib_hunt.specs.Rows.{IsRowBelow};
+ghost use Rattle.tib_hunt.specs.Shelved.{all_on};
+ghost use Rattle.tib_hunt.specs.States.{AddsEdges, AreSettled, IsBetweenRounds, IsExpanded, shelves_of, AreShelved, ArePlaced};
 
 use crate::expand::Expand;
 use crate::found::{Gate, HuntError};
@@ -21,7 +22,7 @@ use indexmap::IndexSet;
 use std::alloc::{AllocError, Global};
 use tib_table::TableKey;
 
-/// The keys so far, the settled rules, the rows of the round, and the parts of all.
+/// The keys so far, the rules over their positions, the rows of the round, and the parts of all.
 #[derive(Drop)]
 pub(crate) struct HuntState<E: Expand> {
     pub keys: IndexSet<E::Key>,
@@ -31,7 +32,7 @@ pub(crate) struct HuntState<E: Expand> {
 }
 
 impl<E: Expand> HuntState<E> {
-    /// Puts a list of edges behind the rows, and numbers its ends.
+    /// Appends the edges as a row, and numbers their ends. Adds the parts of the edges and of the new keys; `TooMany` if that passes the limit.
     pub fn add_edges(
         &mut self,
         alloc: Global,
@@ -42,9 +43,9 @@ impl<E: Expand> HuntState<E> {
         requires within { self.old.parts + edges.parts ≤ limit }
         requires limit { limit ≤ most_parts }
         ensures keys { OnOk result (self.new.keys.keys ≡ insert_all E.Key.eq self.old.keys.keys edges.ends.items) }
-        ensures row { OnOk result ((row : Row E.Over) × (self.new.rows.items ≡ self.old.rows.items ++ row ∷ []) × (row.rules.items ≡ edges.rules.items) × Name self.new.keys.keys edges.ends.items row.ends.items) }
+        ensures row { OnOk result (AddsEdges edges self.old self.new) }
         ensures rules { OnOk result (self.new.rules ≡ self.old.rules) }
-        ensures parts { OnOk result (self.new.parts + total (key_parts E.Key.entries_of) self.old.keys.keys ≡ (self.old.parts + edges.parts) + total (key_parts E.Key.entries_of) self.new.keys.keys) }
+        ensures parts { OnOk result (AddsParts (key_parts E.Key.entries_of) self.old.keys.keys self.new.keys.keys (self.old.parts + edges.parts) self.new.parts) }
         ensures within { OnOk result (self.new.parts ≤ limit) }
         ensures more { IfErr result (IfTooMany limit (HaveMore E.Key.eq (key_parts E.Key.entries_of) self.old.keys.keys edges.ends.items (self.old.parts + edges.parts) limit)) }
     {
@@ -63,27 +64,28 @@ impl<E: Expand> HuntState<E> {
         Ok(())
     }
 
-    /// Takes in the rows that a round has made. The keys of its shelves that are not in the order are answered, each with its place among them;
-    /// the ends of the rows have numbers, in which these keys stand behind the others.
+    /// Takes in the rows of a round, and gives the ends in them the numbers of their keys, in which the fresh keys follow those of the order.
+    /// Answers the fresh keys, each with its index among them: those of the shelves that the order lacks. Adds their parts; `TooMany` if that
+    /// passes the limit.
     pub fn take_in(
         &mut self,
         alloc: Global,
         limit: u64,
         worked: Worked<E::Key, E::Over>,
     ) -> Result<Vec<(E::Key, u32)>, HuntError>
-        requires once { Distinct (all_on (map (λ v. v.items) worked.shelves.items)) }
+        requires once { Distinct (all_on (shelves_of worked)) }
         requires counted { total (key_parts E.Key.entries_of) self.old.keys.keys ≤ worked.parts }
         requires within { worked.parts ≤ limit }
         requires limit { limit ≤ most_parts }
-        requires rows { (bound : ℕ) × (sights : List (List E.Key)) × Along (IsShelvedRow E.reading.places bound (map (λ v. v.items) worked.shelves.items)) sights worked.rows.items }
+        requires rows { AreShelved E.reading.places worked }
         ensures order { OnOk result (self.new.keys.keys ≡ self.old.keys.keys) }
-        ensures keys { IfOk result (λ r. self.old.keys.keys ++ keys_of r.items ≡ insert_all E.Key.eq self.old.keys.keys (all_on (map (λ v. v.items) worked.shelves.items))) }
+        ensures keys { IfOk result (λ r. self.old.keys.keys ++ keys_of r.items ≡ insert_all E.Key.eq self.old.keys.keys (all_on (shelves_of worked))) }
         ensures placed { IfOk result (λ r. r.items ≡ placed 0 (keys_of r.items)) }
         ensures rules { OnOk result (self.new.rules ≡ self.old.rules) }
-        ensures rows { IfOk result (λ r. (positions : List (List ℕ)) × Along (Name (self.old.keys.keys ++ keys_of r.items)) (map (λ v. v.items) worked.shelves.items) positions × Along (IsPlacedRow positions) worked.rows.items self.new.rows.items) }
-        ensures parts { IfOk result (λ r. self.new.parts + total (key_parts E.Key.entries_of) self.old.keys.keys ≡ worked.parts + total (key_parts E.Key.entries_of) (self.old.keys.keys ++ keys_of r.items)) }
+        ensures rows { IfOk result (λ r. ArePlaced (self.old.keys.keys ++ keys_of r.items) worked self.new.rows.items) }
+        ensures parts { IfOk result (λ r. AddsParts (key_parts E.Key.entries_of) self.old.keys.keys (self.old.keys.keys ++ keys_of r.items) worked.parts self.new.parts) }
         ensures within { OnOk result (self.new.parts ≤ limit) }
-        ensures more { IfErr result (IfTooMany limit (HaveMore E.Key.eq (key_parts E.Key.entries_of) self.old.keys.keys (all_on (map (λ v. v.items) worked.shelves.items)) worked.parts limit)) }
+        ensures more { IfErr result (IfTooMany limit (HaveMore E.Key.eq (key_parts E.Key.entries_of) self.old.keys.keys (all_on (shelves_of worked)) worked.parts limit)) }
     {
         let Worked {
             shelves,
@@ -110,7 +112,7 @@ impl<E: Expand> HuntState<E> {
         Ok(fresh)
     }
 
-    /// Puts fresh keys, each with its place among them, behind the others in ascending order, and settles the rows.
+    /// Appends the fresh keys, each with its index among them, in ascending order, and settles the rows.
     pub fn settle_fresh(
         &mut self,
         alloc: Global,
@@ -123,9 +125,7 @@ impl<E: Expand> HuntState<E> {
         requires below { Each (IsRowBelow E.reading.places (length self.old.keys.keys) (length (self.old.keys.keys ++ keys_of fresh.items))) self.old.rows.items }
         ensures rows { OnOk result (self.new.rows.items ≡ []) }
         ensures parts { OnOk result (self.new.parts ≡ self.old.parts) }
-        ensures settled { OnOk result ((moved : List ℕ) × IsInOrder E.Key.cmp self.old.keys.keys (keys_of fresh.items) self.new.keys.keys moved
-            × ((at : ℕ → E.Key) → map (E.reading.read_positions at) self.new.rules.items ≡ map (E.reading.read_positions at) self.old.rules.items ++ read_rows E.reading.read_places (λ n. at (moved_to (length self.old.keys.keys) moved n)) self.old.rows.items)
-            × ((bound : ℕ) → length self.old.keys.keys ≤ bound → Each (λ n. n < bound) moved → AreBelow E.reading.positions bound self.old.rules.items → AreBelow E.reading.positions bound self.new.rules.items)) }
+        ensures settled { OnOk result (AreSettled E.Key.cmp E.reading (length self.old.keys.keys) self.old.keys.keys (keys_of fresh.items) self.old self.new) }
     {
         let first = self.keys.len() as u32;
         let moved = put_fresh(alloc, &mut self.keys, fresh)?;
@@ -142,9 +142,7 @@ impl<E: Expand> HuntState<E> {
         requires below { Each (IsRowBelow E.reading.places first (length self.old.keys.keys)) self.old.rows.items }
         ensures rows { OnOk result (self.new.rows.items ≡ []) }
         ensures parts { OnOk result (self.new.parts ≡ self.old.parts) }
-        ensures settled { OnOk result ((moved : List ℕ) × IsInOrder E.Key.cmp (take first self.old.keys.keys) (drop first self.old.keys.keys) self.new.keys.keys moved
-            × ((at : ℕ → E.Key) → map (E.reading.read_positions at) self.new.rules.items ≡ map (E.reading.read_positions at) self.old.rules.items ++ read_rows E.reading.read_places (λ n. at (moved_to first moved n)) self.old.rows.items)
-            × ((bound : ℕ) → first ≤ bound → Each (λ n. n < bound) moved → AreBelow E.reading.positions bound self.old.rules.items → AreBelow E.reading.positions bound self.new.rules.items)) }
+        ensures settled { OnOk result (AreSettled E.Key.cmp E.reading first (take first self.old.keys.keys) (drop first self.old.keys.keys) self.old self.new) }
     {
         let moved = sort_new(alloc, &mut self.keys, first as usize)?;
         settle_rows(alloc, problem, &self.rows, first, &moved, &mut self.rules)?;
@@ -153,7 +151,7 @@ impl<E: Expand> HuntState<E> {
     }
 }
 
-/// The keys of a set, in its order.
+/// The keys of a set, in its order. Err if memory is refused.
 pub(crate) fn list_keys<K: TableKey + Drop>(
     alloc: Global,
     keys: IndexSet<K>,
@@ -164,8 +162,8 @@ pub(crate) fn list_keys<K: TableKey + Drop>(
 }
 
 impl<E: Expand> HuntState<E> {
-    /// Expands the positions of the order from `first` on, as long as the reached set may be within the limit. Answers the fresh keys, each
-    /// with its place among them.
+    /// Expands the positions of the order from `first` on. Answers the fresh keys, each with its index among them, or `TooMany` where the
+    /// reached set passes the limit.
     pub fn expand_all<G: Gate>(
         &mut self,
         alloc: Global,
@@ -175,11 +173,11 @@ impl<E: Expand> HuntState<E> {
         first: u32,
     ) -> Result<Vec<(E::Key, u32)>, HuntError>
         requires limit { limit ≤ most_parts }
-        requires between { IsBetween (E.hunted problem.now) (E.admits problem.now) E.reading first self.old.keys.keys self.old.rules.items self.old.parts limit }
+        requires between { IsBetweenRounds (E.hunted problem.now) (E.admits problem.now) E.reading first limit self.old }
         requires rows { self.old.rows.items ≡ [] }
         ensures order { OnOk result (self.new.keys.keys ≡ self.old.keys.keys) }
         ensures placed { IfOk result (λ r. r.items ≡ placed 0 (keys_of r.items)) }
-        ensures within { IfOk result (λ r. IsWithinRound (E.hunted problem.now) (E.admits problem.now) E.reading self.old.keys.keys first (length self.old.keys.keys) (self.old.keys.keys ++ keys_of r.items) self.new.rules.items self.new.rows.items self.new.parts limit) }
+        ensures within { IfOk result (λ r. IsExpanded (E.hunted problem.now) (E.admits problem.now) E.reading self.old.keys.keys first limit (self.old.keys.keys ++ keys_of r.items) self.new) }
         ensures more { IfErr result (IfTooMany limit (IsBeyond (E.hunted problem.now) limit)) }
     {
         let order = self.keys.as_slice();
@@ -195,10 +193,10 @@ impl<E: Expand> HuntState<E> {
 }
 
 impl<E: Expand> HuntState<E> {
-    /// The seeds in ascending order, and their edges.
+    /// The state with the seeds in ascending order and their edges, or `TooMany` where the reached set passes the limit.
     pub fn begin(alloc: Global, problem: &E, limit: u64) -> Result<HuntState<E>, HuntError>
         requires limit { limit ≤ most_parts }
-        ensures between { IfOk result (λ h. IsBetween (E.hunted problem.now) (E.admits problem.now) E.reading 0 h.keys.keys h.rules.items h.parts limit × (h.rows.items ≡ [])) }
+        ensures between { IfOk result (λ h. IsBetweenRounds (E.hunted problem.now) (E.admits problem.now) E.reading 0 limit h × (h.rows.items ≡ [])) }
         ensures more { IfErr result (IfTooMany limit (IsBeyond (E.hunted problem.now) limit)) }
     {
         let edges = match problem.seeds(alloc, limit) {
@@ -222,7 +220,7 @@ impl<E: Expand> HuntState<E> {
         Ok(state)
     }
 
-    /// Expands the positions from `first` on, and puts their new ends behind the order.
+    /// Expands the positions from `first` on, on shelves, and appends their new ends in ascending order.
     pub fn round<G: Gate>(
         &mut self,
         alloc: Global,
@@ -232,9 +230,9 @@ impl<E: Expand> HuntState<E> {
         first: u32,
     ) -> Result<(), HuntError>
         requires limit { limit ≤ most_parts }
-        requires between { IsBetween (E.hunted problem.now) (E.admits problem.now) E.reading first self.old.keys.keys self.old.rules.items self.old.parts limit }
+        requires between { IsBetweenRounds (E.hunted problem.now) (E.admits problem.now) E.reading first limit self.old }
         requires rows { self.old.rows.items ≡ [] }
-        ensures between { OnOk result (IsBetween (E.hunted problem.now) (E.admits problem.now) E.reading (length self.old.keys.keys) self.new.keys.keys self.new.rules.items self.new.parts limit) }
+        ensures between { OnOk result (IsBetweenRounds (E.hunted problem.now) (E.admits problem.now) E.reading (length self.old.keys.keys) limit self.new) }
         ensures rows { OnOk result (self.new.rows.items ≡ []) }
         ensures more { IfErr result (IfTooMany limit (IsBeyond (E.hunted problem.now) limit)) }
     {

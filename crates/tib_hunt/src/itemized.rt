@@ -1,3 +1,5 @@
+//! Problems with items that end at keys.
+
 ghost use Rattle.std.specs.Prelude.{◌≡◌, ◌+◌, ◌<◌, ◌^◌, ℕ};
 ghost use Rattle.tib_hunt.specs.RoundModel.{IsItem};
 

@@ -1,3 +1,5 @@
+//! The claim counter, from which many threads draw the items of a round, each item once.
+
 ghost use Rattle.std.specs.Prelude.{◌≡◌, ◌+◌, ◌-◌, ◌<◌, ◌^◌, ◌++◌, [], ◌∷◌, IfOk, IfSome, IfNone};
 ghost use Rattle.tib_hunt.specs.Claims.{HasDrawnOnce};
 
@@ -43,7 +45,7 @@ impl Model for Seat {
 }
 
 impl Items {
-    /// A counter of so many items, fewer than 2^32, and its first seat, which has all 2^31 shares. It fails only for want of memory.
+    /// A counter of this number of items, fewer than 2^32, and its first seat, which has all 2^31 shares. Err if memory is refused.
     pub fn open(alloc: Global, count: u64) -> Result<(Items, Seat), AllocError>
         requires { count < 2 ^ 32 }
         ensures count { IfOk result (λ r. r.0.count ≡ count) }

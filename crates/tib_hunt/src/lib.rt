@@ -16,8 +16,6 @@ pub mod laws;
 mod numbering;
 mod place;
 mod placing;
-#[cfg(test)]
-mod plain;
 mod reach;
 mod round;
 mod round_of;
@@ -34,7 +32,7 @@ pub use found::{Found, Gate, HuntError, Open};
 pub use itemized::Itemized;
 pub use items::{Items, Seat};
 pub use place::{Edges, ExpandError, Place};
-pub use reach::{hunt, hunt_alone};
+pub use reach::{MOST_PARTS, hunt, hunt_alone, hunts_have_a_limit};
 pub use round::Round;
 pub use round_of::RoundOf;
 pub use tib_table::TableKey;

@@ -1,16 +1,18 @@
+//! Keys numbered in the order of first sight, and then put in ascending order.
+
 ghost use Rattle.std.specs.Prelude.{◌≡◌, ℕ, ◌+◌, ◌≤◌, ◌<◌, ◌^◌, ◌++◌, Some, length, map, reverse, drop, take, slice_get, IfOk, IfErr, OnOk};
 ghost use Rattle.indexmap.specs.IndexSet.{insert_key, insert_all};
 ghost use Rattle.tib_lex.specs.Lists.{Has, Each, Distinct};
 ghost use Rattle.tib_hunt.specs.EdgeLists.{total};
 ghost use Rattle.tib_hunt.specs.Reached.{IfTooMany, most_parts};
-ghost use Rattle.tib_hunt.specs.Numbered.{key_parts, Name, HaveMore, placed, keys_of, Moved, IsInOrder};
+ghost use Rattle.tib_hunt.specs.Numbered.{key_parts, Name, HaveMore, KeyExceeds, AddsParts, placed, keys_of, Moved, IsInOrder};
 
 use crate::found::HuntError;
 use indexmap::IndexSet;
 use std::alloc::{AllocError, Global};
 use tib_table::TableKey;
 
-// The number of a key, which goes last if it is new. A new key adds its parts, which the limit must leave.
+// The number of a key among the keys. Appends a new key and adds its parts; `TooMany` if that passes the limit.
 fn number_key<K: TableKey + Drop>(
     keys: &mut IndexSet<K>,
     parts: &mut u64,
@@ -22,9 +24,9 @@ fn number_key<K: TableKey + Drop>(
     requires limit { limit ≤ most_parts }
     ensures keys { OnOk result (keys.new.keys ≡ insert_key K.eq keys.old.keys key) }
     ensures named { IfOk result (λ n. slice_get keys.new.keys n ≡ Some key) }
-    ensures parts { OnOk result (parts.new + total (key_parts K.entries_of) keys.old.keys ≡ parts.old + total (key_parts K.entries_of) keys.new.keys) }
+    ensures parts { OnOk result (AddsParts (key_parts K.entries_of) keys.old.keys keys.new.keys parts.old parts.new) }
     ensures within { OnOk result (parts.new ≤ limit) }
-    ensures more { IfErr result (IfTooMany limit (limit + total (key_parts K.entries_of) keys.old.keys < parts.old + total (key_parts K.entries_of) (insert_key K.eq keys.old.keys key))) }
+    ensures more { IfErr result (IfTooMany limit (KeyExceeds K.eq (key_parts K.entries_of) keys.old.keys key parts.old limit)) }
 {
     let size = key.entries();
     let Ok((number, added)) = keys.insert_full(key) else {
@@ -39,7 +41,8 @@ fn number_key<K: TableKey + Drop>(
     Ok(number as u32)
 }
 
-/// The numbers of keys, of which the new ones go last in the order of first sight. New keys add their parts, which the limit must leave.
+/// The numbers of the ends among the keys. Appends new keys in the order of first sight and adds their parts; `TooMany` if that passes the
+/// limit.
 pub(crate) fn number_ends<K: TableKey + Drop>(
     alloc: Global,
     keys: &mut IndexSet<K>,
@@ -52,7 +55,7 @@ pub(crate) fn number_ends<K: TableKey + Drop>(
     requires limit { limit ≤ most_parts }
     ensures keys { OnOk result (keys.new.keys ≡ insert_all K.eq keys.old.keys ends.items) }
     ensures named { IfOk result (λ r. Name keys.new.keys ends.items r.items) }
-    ensures parts { OnOk result (parts.new + total (key_parts K.entries_of) keys.old.keys ≡ parts.old + total (key_parts K.entries_of) keys.new.keys) }
+    ensures parts { OnOk result (AddsParts (key_parts K.entries_of) keys.old.keys keys.new.keys parts.old parts.new) }
     ensures within { OnOk result (parts.new ≤ limit) }
     ensures more { IfErr result (IfTooMany limit (HaveMore K.eq (key_parts K.entries_of) keys.old.keys ends.items parts.old limit)) }
 {
@@ -71,7 +74,7 @@ pub(crate) fn number_ends<K: TableKey + Drop>(
     Ok(numbers)
 }
 
-// Takes out the keys from `first` on, each with its place among them, the last one first.
+// Takes out the keys from `first` on, each with its index among them, the last one first.
 fn take_new<K: TableKey + Drop>(
     alloc: Global,
     keys: &mut IndexSet<K>,
@@ -92,7 +95,7 @@ fn take_new<K: TableKey + Drop>(
     Ok(new)
 }
 
-/// Puts keys behind the others. Answers where the key of each place went.
+/// Appends the keys. Answers the position at which the key of each index stands.
 pub(crate) fn put_new<K: TableKey + Drop>(
     alloc: Global,
     keys: &mut IndexSet<K>,
@@ -115,7 +118,7 @@ pub(crate) fn put_new<K: TableKey + Drop>(
     Ok(moved)
 }
 
-/// Puts the keys from `first` on in ascending order. Answers where each of them went.
+/// Puts the keys from `first` on in ascending order. Answers the position of each of them.
 pub(crate) fn sort_new<K: TableKey + Drop>(
     alloc: Global,
     keys: &mut IndexSet<K>,

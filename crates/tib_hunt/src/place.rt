@@ -1,3 +1,5 @@
+//! What a list of edges is made of.
+
 use thiserror::Error;
 
 /// Where a rule over keys points: at a position of the order, or at one of the ends of its own list.
@@ -5,7 +7,7 @@ use thiserror::Error;
 pub enum Place {
     /// A position of the order.
     Known(u32),
-    /// The end of that number.
+    /// The end at that index of its list.
     End(u32),
 }
 
@@ -26,7 +28,7 @@ pub enum ExpandError {
     /// Their rules have more parts than the budget.
     #[error("more parts than the budget")]
     More,
-    /// There is no memory.
+    /// Memory was refused.
     #[error("out of memory")]
     OutOfMemory,
 }

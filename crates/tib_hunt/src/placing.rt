@@ -1,3 +1,5 @@
+//! The ends of the rows of a round get numbers in the order and the fresh keys, in place of those on shelves.
+
 ghost use Rattle.std.specs.Prelude.{◌≡◌, ◌<◌, length, map, slice_index_or, [], IfOk};
 ghost use Rattle.tib_lex.specs.Lists.{Along, Each};
 ghost use Rattle.tib_hunt.specs.Shelved.{position_on, AreOn, IsPlacedRow};
@@ -7,7 +9,7 @@ use crate::shelved_row::ShelvedRow;
 use std::alloc::{AllocError, Global};
 use tib_table::Number;
 
-// The positions of numbers on shelves.
+// The positions of the numbers on shelves.
 fn place_ends(
     alloc: Global,
     ends: &[Number],
@@ -23,6 +25,7 @@ fn place_ends(
     Ok(placed)
 }
 
+// The position of a number on a shelf.
 fn place_end(number: Number, positions: &[Vec<u32>]) -> u32
     requires { number.place < length (slice_index_or (map (λ v. v.items) positions.now) number.shelf []) }
     ensures { result ≡ position_on (map (λ v. v.items) positions.now) number }
@@ -30,7 +33,7 @@ fn place_end(number: Number, positions: &[Vec<u32>]) -> u32
     positions[number.shelf as usize][number.place as usize]
 }
 
-/// The rows, with the positions of their ends.
+/// The rows, with the positions of their ends in place of their numbers on shelves.
 pub(crate) fn place_rows<R: Drop>(
     alloc: Global,
     rows: Vec<ShelvedRow<R>>,

@@ -1,3 +1,5 @@
+//! The core of one round: its shelves, the count of drawn items and the filed ones, changed by one event at a time.
+
 ghost use Rattle.std.specs.Prelude.{◌≡◌, ◌<◌, ℕ, [], replicate, length, map, IfOk, OnOk, OnErr};
 ghost use Rattle.tib_table.specs.Kept.{keys_of};
 ghost use Rattle.tib_table.specs.Known.{on};
@@ -34,7 +36,7 @@ impl<P: Itemized> Model for Round<P> {
 }
 
 impl<P: Itemized + Copy> Round<P> {
-    /// A round in which nothing is drawn, numbered or filed. It fails only for want of memory.
+    /// A round in which nothing is drawn, numbered or filed. Err if memory is refused.
     pub fn open(alloc: Global, problem: P) -> Result<Round<P>, AllocError>
         ensures { IfOk result (λ r. r ≡ record { about = P.about problem; core = opened }) }
     {
@@ -75,8 +77,8 @@ fn list_shelves<P: Itemized>(
 }
 
 impl<P: Itemized> Round<P> {
-    /// Performs one event. A draw answers the next item, or None where all are drawn; a key is numbered on its shelf; an item is filed.
-    /// Only for want of memory it fails, and then nothing changed.
+    /// Performs one event. A draw answers the next item, or None where all are drawn; a key is numbered on its shelf; an item is filed. Err if
+    /// memory is refused, and then nothing has changed.
     pub fn step(&mut self, event: Event<P::Key>) -> Result<Answer, AllocError>
         requires { let d = self.old.about in Allowed P.Key.eq P.Key.shelf_of (P.first_of d) (P.count_of d) (P.is_end d) self.old.core event }
         ensures about { self.new.about ≡ self.old.about }
@@ -99,7 +101,7 @@ impl<P: Itemized> Round<P> {
         self.shelves[shelf as usize].len()
     }
 
-    /// The keys of the sixteen shelves, each shelf in the order of first sight. It fails only for want of memory.
+    /// Ends the round and hands out the keys of the sixteen shelves, each shelf in the order of first sight. Err if memory is refused.
     pub fn close(self, alloc: Global) -> Result<Vec<Vec<P::Key>>, AllocError>
         ensures { IfOk result (λ r. map (λ v. v.items) r.items ≡ self.core.shelves) }
     {
@@ -142,7 +144,7 @@ impl<P: Itemized> Round<P> {
         Ok(Answer::Numbered(Number { shelf, place }))
     }
 
-    // Puts an item among the filed ones.
+    // Appends an item to the filed ones.
     fn file(&mut self, item: u32) -> Result<Answer, AllocError>
         ensures about { self.new.about ≡ self.old.about }
         ensures after { OnOk result (self.new.core ≡ with_filed self.old.core item) }

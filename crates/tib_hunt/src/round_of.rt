@@ -1,3 +1,5 @@
+//! The problem of one round of a hunt.
+
 ghost use Rattle.std.specs.Prelude.{◌≤◌, ◌<◌, ◌^◌, length};
 
 use crate::expand::Expand;

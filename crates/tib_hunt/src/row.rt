@@ -1,7 +1,9 @@
-ghost use Rattle.std.specs.Prelude.{◌≡◌, ℕ, ◌+◌, ◌≤◌, ◌<◌, ◌^◌, ◌++◌, length, map, IfOk, OnOk};
+//! Rows of edges whose ends have numbers, and how their rules get the positions of the ends.
+
+ghost use Rattle.std.specs.Prelude.{◌≡◌, ◌+◌, ◌<◌, length, map, OnOk};
 ghost use Rattle.tib_lex.specs.Lists.{Each};
 ghost use Rattle.tib_hunt.specs.Numbered.{moved_to};
-ghost use Rattle.tib_hunt.specs.Rows.{read_row, read_rows, IsRowBelow, AreBelow};
+ghost use Rattle.tib_hunt.specs.Rows.{IsRowBelow, ReadsRow, ReadAs, StayBelow};
 
 use crate::expand::Expand;
 use std::alloc::{AllocError, Global};
@@ -15,7 +17,7 @@ pub struct Row<R> {
     pub ends: Vec<u32>,
 }
 
-// Puts the numbers in place of what stood there, after those from `first` on were moved.
+// Fills the list with the numbers of the ends, after the numbers from `first` on were moved.
 fn move_ends(
     ends: &[u32],
     first: u32,
@@ -32,6 +34,7 @@ fn move_ends(
     Ok(())
 }
 
+// The number of an end, after the numbers from `first` on were moved.
 fn move_end(number: u32, first: u32, moved: &[u32]) -> u32
     requires { number < first + length moved.now }
     ensures { result ≡ moved_to first moved.now number }
@@ -43,7 +46,7 @@ fn move_end(number: u32, first: u32, moved: &[u32]) -> u32
     }
 }
 
-// Settles the rules of a row, and puts them behind the others. The ends are moved in a list that serves every row.
+// Settles the rules of a row, and appends them to the rules. `ends` is a list that serves every row.
 fn settle_row<E: Expand>(
     alloc: Global,
     problem: &E,
@@ -54,8 +57,8 @@ fn settle_row<E: Expand>(
     rules: &mut Vec<E::Rule>,
 ) -> Result<(), AllocError>
     requires below { IsRowBelow E.reading.places first (first + length moved.now) row.now }
-    ensures read { OnOk result ((at : ℕ → E.Key) → map (E.reading.read_positions at) rules.new.items ≡ map (E.reading.read_positions at) rules.old.items ++ read_row E.reading.read_places (λ n. at (moved_to first moved.now n)) row.now) }
-    ensures below { OnOk result ((bound : ℕ) → first ≤ bound → Each (λ n. n < bound) moved.now → AreBelow E.reading.positions bound rules.old.items → AreBelow E.reading.positions bound rules.new.items) }
+    ensures read { OnOk result (ReadsRow E.reading first moved.now rules.old.items row.now rules.new.items) }
+    ensures below { OnOk result (StayBelow E.reading first moved.now rules.old.items rules.new.items) }
 {
     move_ends(&row.ends, first, moved, ends)?;
     for rule in &row.rules {
@@ -67,7 +70,7 @@ fn settle_row<E: Expand>(
     Ok(())
 }
 
-/// Settles the rules of all rows, and puts them behind the others.
+/// Settles the rules of all rows, and appends them to the rules.
 pub(crate) fn settle_rows<E: Expand>(
     alloc: Global,
     problem: &E,
@@ -77,8 +80,8 @@ pub(crate) fn settle_rows<E: Expand>(
     rules: &mut Vec<E::Rule>,
 ) -> Result<(), AllocError>
     requires below { Each (IsRowBelow E.reading.places first (first + length moved.now)) rows.now }
-    ensures read { OnOk result ((at : ℕ → E.Key) → map (E.reading.read_positions at) rules.new.items ≡ map (E.reading.read_positions at) rules.old.items ++ read_rows E.reading.read_places (λ n. at (moved_to first moved.now n)) rows.now) }
-    ensures below { OnOk result ((bound : ℕ) → first ≤ bound → Each (λ n. n < bound) moved.now → AreBelow E.reading.positions bound rules.old.items → AreBelow E.reading.positions bound rules.new.items) }
+    ensures read { OnOk result (ReadAs E.reading first moved.now rules.old.items rows.now rules.new.items) }
+    ensures below { OnOk result (StayBelow E.reading first moved.now rules.old.items rules.new.items) }
 {
     let mut ends = Vec::new(alloc);
     for row in rows {

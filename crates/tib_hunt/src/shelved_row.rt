@@ -1,3 +1,5 @@
+//! Rows of a round, whose ends have numbers on the shelves.
+
 use tib_table::Number;
 
 /// Edges of an item of a round, whose ends have numbers on the shelves.

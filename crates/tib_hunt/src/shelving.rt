@@ -1,3 +1,5 @@
+//! Keys of a round go on its shelves, within a limit of parts; its items are drawn and filed.
+
 ghost use Rattle.std.specs.Prelude.{◌≡◌, ℕ, ◌≤◌, ◌<◌, length, IfOk, IfErr, OnOk};
 ghost use Rattle.tib_lex.specs.Lists.{Has};
 ghost use Rattle.tib_table.specs.Known.{Names, on};
@@ -39,7 +41,7 @@ pub(crate) fn file_item<P: Itemized>(round: &mut Round<P>, item: u32) -> Result<
     Ok(())
 }
 
-// The number of a key on its shelf.
+// The number of a key on its shelf, which is appended there if it is new.
 fn number_on_shelf<P: Itemized>(round: &mut Round<P>, key: P::Key) -> Result<Number, AllocError>
     requires { (i : ℕ) × IsItem (P.first_of round.old.about) round.old.core.drawn i × P.is_end round.old.about i key }
     ensures about { round.new.about ≡ round.old.about }
@@ -53,7 +55,7 @@ fn number_on_shelf<P: Itemized>(round: &mut Round<P>, key: P::Key) -> Result<Num
     }
 }
 
-// The number of a key on its shelf. A key that is new there adds its parts, which the limit must leave.
+// The number of a key on its shelf. Adds the parts of a key that is new there; `TooMany` if that passes the limit.
 fn shelve_key<P: Itemized>(
     round: &mut Round<P>,
     seen: &mut u64,
@@ -87,7 +89,7 @@ fn shelve_key<P: Itemized>(
     Ok(number)
 }
 
-/// The numbers of the ends of drawn items on their shelves. Keys that are new there add their parts, which the limit must leave.
+/// The numbers of the ends of drawn items on their shelves. Adds the parts of keys that are new there; `TooMany` if that passes the limit.
 pub(crate) fn shelve_ends<P: Itemized>(
     alloc: Global,
     round: &mut Round<P>,

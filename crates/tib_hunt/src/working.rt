@@ -1,4 +1,6 @@
-ghost use Rattle.std.specs.Prelude.{◌≡◌, ◌-◌, ℕ, ◌≤◌, List, length, map, IfOk, IfErr, OnOk};
+//! A round on its core: its items are drawn and expanded, their ends are numbered on shelves, and each item is filed with its row.
+
+ghost use Rattle.std.specs.Prelude.{◌≡◌, ◌-◌, ◌≤◌, List, length, IfOk, IfErr, OnOk};
 ghost use Rattle.tib_lex.specs.Lists.{Has, Each};
 ghost use Rattle.tib_hunt.specs.EdgeLists.{total};
 ghost use Rattle.tib_hunt.specs.Expanded.{IsEndAt};
@@ -6,8 +8,9 @@ ghost use Rattle.tib_hunt.specs.Held.{IsBetween};
 ghost use Rattle.tib_hunt.specs.Numbered.{key_parts};
 ghost use Rattle.tib_hunt.specs.Reached.{IfTooMany, IsBeyond, most_parts};
 ghost use Rattle.tib_hunt.specs.RoundLaw.{IsKept};
-ghost use Rattle.tib_hunt.specs.RoundModel.{Core, IsItem};
-ghost use Rattle.tib_hunt.specs.Shelved.{all_on, IsWorked, IsTooMuch, IsUnderway};
+ghost use Rattle.tib_hunt.specs.RoundModel.{IsItem};
+ghost use Rattle.tib_hunt.specs.Shelved.{all_on, IsTooMuch};
+ghost use Rattle.tib_hunt.specs.States.{WorksItem, WorksRound};
 
 use crate::expand::Expand;
 use crate::found::{Gate, HuntError};
@@ -19,7 +22,7 @@ use crate::shelving::{draw_item, file_item, shelve_ends};
 use std::alloc::Global;
 use tib_table::TableKey;
 
-/// What a round has made: the keys on its shelves, the rows of its items, and the parts of all that was there before and of these rows.
+/// What a round makes: the keys on its shelves, the rows of its items, and the parts of all that was there before and of these rows.
 #[derive(Drop)]
 pub(crate) struct Worked<K, R> {
     pub shelves: Vec<Vec<K>>,
@@ -35,7 +38,8 @@ struct Work<R> {
     seen: u64,
 }
 
-// Expands an item that was drawn: its ends are numbered on their shelves, and it is filed.
+// Expands an item that was drawn, numbers its ends on their shelves, and files it. `TooMany` if its edges, or the keys on the shelves, pass
+// the limit.
 fn work_item<'a, 'b, E: Expand, G: Gate>(
     alloc: Global,
     of: &'a RoundOf<'b, E>,
@@ -48,14 +52,14 @@ fn work_item<'a, 'b, E: Expand, G: Gate>(
     requires about { round.old.about ≡ (of.now.problem.now, of.now.order.now, of.now.first) }
     requires drawn { IsItem of.now.first round.old.core.drawn item }
     requires once { Has round.old.core.filed item → ⊥ }
-    requires kept { IsKept E.Key.shelf_of of.now.first (length of.now.order.now - of.now.first) (λ i k. IsEndAt (E.hunted of.now.problem.now) of.now.order.now i k) round.old.core }
+    requires kept { IsKept E.Key.shelf_of of.now.first (length of.now.order.now - of.now.first) (IsEndAt (E.hunted of.now.problem.now) of.now.order.now) round.old.core }
     requires admitted { Each (E.admits of.now.problem.now) of.now.order.now }
     requires within { work.old.parts ≤ limit }
     requires counted { work.old.seen ≡ total (key_parts E.Key.entries_of) (all_on round.old.core.shelves) }
     requires few { work.old.seen ≤ limit }
     requires limit { limit ≤ most_parts }
     ensures about { round.new.about ≡ round.old.about }
-    ensures worked { OnOk result (IsWorked (E.hunted of.now.problem.now) E.reading E.Key.eq E.Key.shelf_of of.now.order.now item round.old.core work.old.rows.items work.old.parts round.new.core work.new.rows.items work.new.parts limit) }
+    ensures worked { OnOk result (WorksItem (E.hunted of.now.problem.now) E.reading E.Key.eq E.Key.shelf_of of.now.order.now item limit round.old.core work.old round.new.core work.new) }
     ensures counted { OnOk result (work.new.seen ≡ total (key_parts E.Key.entries_of) (all_on round.new.core.shelves)) }
     ensures few { OnOk result (work.new.seen ≤ limit) }
     ensures more { IfErr result (IfTooMany limit (IsTooMuch (E.hunted of.now.problem.now) E.reading E.Key.eq E.Key.shelf_of of.now.order.now item round.old.core work.old.parts limit)) }
@@ -84,7 +88,8 @@ fn work_item<'a, 'b, E: Expand, G: Gate>(
     Ok(())
 }
 
-/// One round: the positions of the order from `first` on are drawn and expanded, their ends are numbered on shelves, and they are filed.
+/// Works one round: draws the positions of the order from `first` on, expands them, numbers their ends on shelves, and files them. `TooMany`
+/// where the reached set passes the limit.
 pub(crate) fn work_round<E: Expand, G: Gate>(
     alloc: Global,
     problem: &E,
@@ -96,7 +101,7 @@ pub(crate) fn work_round<E: Expand, G: Gate>(
 ) -> Result<Worked<E::Key, E::Over>, HuntError>
     requires limit { limit ≤ most_parts }
     requires between { (rules : List E.Rule) × IsBetween (E.hunted problem.now) (E.admits problem.now) E.reading first order.now rules parts limit }
-    ensures worked { IfOk result (λ r. (core : Core E.Key) × (core.shelves ≡ map (λ v. v.items) r.shelves.items) × IsUnderway (E.hunted problem.now) E.reading E.Key.eq E.Key.shelf_of order.now first (length order.now) core r.rows.items parts r.parts limit) }
+    ensures worked { IfOk result (WorksRound (E.hunted problem.now) E.reading E.Key.eq E.Key.shelf_of order.now first parts limit) }
     ensures more { IfErr result (IfTooMany limit (IsBeyond (E.hunted problem.now) limit)) }
 {
     let of = RoundOf {

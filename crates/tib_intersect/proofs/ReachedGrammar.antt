@@ -129,10 +129,6 @@ module _ (product : ℕ → ℕ → ℕ) (near far left right : GrammarOf) (same
   beyond_of limit h =
       subst (λ (x : GrammarOf). IsBeyond (intersection product left.rules x.rules) limit) same_right (subst (λ (x : GrammarOf). IsBeyond (intersection product x.rules far.rules) limit) same_left h)
 
-pub told_beyond : (limit : ℕ) (P Q : Type 0) (e : HuntError) → (P → Q) → IfTooMany limit P e → IfTooMany limit Q e
-told_beyond limit P Q (TooMany n) f h = (h.0, f h.1)
-told_beyond limit P Q OutOfMemory f h = tt
-
 pub ok_both : {T E : Type 0} (r : Result T E) (P Q R : T → Type 0) → ((x : T) → P x → Q x → R x) → IfOk r P → IfOk r Q → IfOk r R
 ok_both (Ok x) P Q R f h k = f x h k
 ok_both (Err e) P Q R f h k = tt

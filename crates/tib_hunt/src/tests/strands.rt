@@ -4,8 +4,8 @@ ghost use Rattle.tib_hunt.specs.declared.place.Place.{Place};
 ghost use Rattle.std.proofs.Common.{◌∙◌, sym};
 
 use super::{Node, position_at};
-use crate::plain::hunt_plainly;
-use crate::{Edges, Expand, ExpandError, Gate, Open, Place, hunt_alone};
+use crate::reach::hunt_by;
+use crate::{Edges, Expand, ExpandError, Gate, MOST_PARTS, Open, Place, hunt_alone};
 use std::alloc::{AllocError, Global};
 use std::sync::atomic::{AtomicU64, Ordering};
 use std::test::Fail;
@@ -160,7 +160,7 @@ fn many_strands_are_found_and_each_item_passes_once(rt: HostRuntime) -> Result<(
             passes: AtomicU64::new(0),
             sum: AtomicU64::new(0),
         };
-        match hunt_alone(rt.alloc(), &Strands { times, length }, 20_000_000, &gate) {
+        match hunt_alone(rt.alloc(), &Strands { times, length }, MOST_PARTS, &gate) {
             Ok(found) => {
                 assert_eq!(rt; found.order.len(), keys);
                 assert_eq!(rt; found.parts, parts);
@@ -180,7 +180,7 @@ fn shelves_and_one_list_find_the_same_strands(rt: HostRuntime) -> Result<(), Fai
         length: 40,
     };
     for limit in 1..210 {
-        let plain = hunt_plainly(rt.alloc(), &strands, limit, &Open);
+        let plain = hunt_by(rt.alloc(), &strands, limit, usize::MAX, &Open);
         match hunt_alone(rt.alloc(), &strands, limit, &Open) {
             Ok(found) => match plain {
                 Ok(plain) => {

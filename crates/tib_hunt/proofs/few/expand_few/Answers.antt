@@ -1,8 +1,8 @@
 use Rattle.std.proofs.Common.{◌+◌, ◌-◌, refl, sym, subst, arith}
 use Rattle.tib_hunt.specs.Expanded.{ListsEdges, EdgesExceed, HasEnds, IsEndAt}
 use Rattle.tib_hunt.specs.Held.{IsWithinRound}
-use Rattle.tib_hunt.proofs.Reaching.{hunt_of}
-use Rattle.tib_hunt.proofs.Advancing.{few_keys, keys_counted, too_many_edges, too_many_ends, expanded, told_beyond, end_admitted, slice_is}
+use Rattle.tib_hunt.proofs.Reaching.{IfTooMany-weaker, hunt_of}
+use Rattle.tib_hunt.proofs.Advancing.{few_keys, keys_counted, too_many_edges, too_many_ends, expanded, end_admitted, slice_is}
 use Rattle.tib_hunt.proofs.few.expand_few.Goals as goal
 
 pub overflow_cast-n-end : goal.overflow_cast-n-end
@@ -20,7 +20,7 @@ returns-in-Err-More-clause-more g c = (
 )
 
 pub returns-in-Err-clause-more : goal.returns-in-Err-clause-more
-returns-in-Err-clause-more g c = told_beyond c.args.limit _ _ c.in-Err.error (too_many_ends (hunt_of (g.met.E.Expand.lawful c.args.problem.now) g.met.E.Key.Ord.total g.met.E.Key.TableKey.same g.met.E.Key.Eq.laws.refl) c.args.state.now.keys.keys c.loop-n.state.keys.keys c.args.first c.loop-n.n c.loop-n.state.rules.items c.loop-n.state.rows.items c.loop-n.state.parts c.args.limit c.loop-n.invariant (let a = c.loop-n-test.true in let b = c.len-bound.ensures.len in omega arith)
+returns-in-Err-clause-more g c = IfTooMany-weaker c.args.limit _ _ c.in-Err.error (too_many_ends (hunt_of (g.met.E.Expand.lawful c.args.problem.now) g.met.E.Key.Ord.total g.met.E.Key.TableKey.same g.met.E.Key.Eq.laws.refl) c.args.state.now.keys.keys c.loop-n.state.keys.keys c.args.first c.loop-n.n c.loop-n.state.rules.items c.loop-n.state.rows.items c.loop-n.state.parts c.args.limit c.loop-n.invariant (let a = c.loop-n-test.true in let b = c.len-bound.ensures.len in omega arith)
     c.in-Ok.edges.ends.items c.in-Ok.edges.rules.items c.in-Ok.edges.parts
     (subst (λ o. ListsEdges (g.E.Expand.hunted c.args.problem.now) g.E.Expand.reading o c.loop-n.n c.in-Ok.edges) (slice_is c.args.state.now.keys.keys c.loop-n.state.keys.keys c.loop-n.invariant.held.fresh c.as_slice.result.now c.len-bound.result c.loop-n.invariant.held.keys_are c.as_slice.ensures.keys c.len-bound.ensures.len) c.in-Ok.ensures.listed)
     (subst (λ o. HasEnds (IsEndAt (g.E.Expand.hunted c.args.problem.now) o c.loop-n.n) c.in-Ok.edges) (slice_is c.args.state.now.keys.keys c.loop-n.state.keys.keys c.loop-n.invariant.held.fresh c.as_slice.result.now c.len-bound.result c.loop-n.invariant.held.keys_are c.as_slice.ensures.keys c.len-bound.ensures.len) c.in-Ok.ensures.ends)

@@ -4,8 +4,8 @@ use Rattle.tib_hunt.specs.EdgeLists.{total}
 use Rattle.tib_hunt.specs.Numbered.{key_parts, keys_of}
 use Rattle.tib_hunt.proofs.Members.{total_append}
 use Rattle.tib_hunt.proofs.Sights.{total_least, get_left}
-use Rattle.tib_hunt.proofs.Advancing.{told_beyond}
 use Rattle.tib_hunt.proofs.FreshKeys.{many, known, unknown, last_at}
+use Rattle.tib_hunt.proofs.Reaching.{IfTooMany-weaker}
 use Rattle.tib_hunt.proofs.fresh.find_key.Goals as goal
 
 pub overflow_cast-result : goal.overflow_cast-result
@@ -65,7 +65,7 @@ returns-in-Ok-clause-parts g c =
     omega arith
 
 pub returns-in-Err-clause-more : goal.returns-in-Err-clause-more
-returns-in-Err-clause-more g c = told_beyond c.args.limit _ _ c.in-Err.error (λ more.
+returns-in-Err-clause-more g c = IfTooMany-weaker c.args.limit _ _ c.in-Err.error (λ more.
     let t = ap (total (key_parts g.K.TableKey.entries_of)) (unknown g.K.PartialEq.eq g.met.K.TableKey.same g.met.K.Eq.laws.refl c.args.keys.now.keys (keys_of c.args.fresh.now.items) c.args.key c.in_default.ensures.none c.requires.apart ∙ sym (append_assoc c.args.keys.now.keys (keys_of c.args.fresh.now.items) (c.args.key ∷ []))) in
     let u = total_append (key_parts g.K.TableKey.entries_of) (c.args.keys.now.keys ++ keys_of c.args.fresh.now.items) (c.args.key ∷ []) in
     omega arith) c.in-Err.ensures.more

@@ -1,5 +1,5 @@
 use Rattle.std.proofs.Common.{◌+◌, ◌≤◌, ◌∙◌, [], ◌∷◌, ◌++◌, length, length-append, sym, ap, subst}
-use Rattle.tib_hunt.proofs.Rounds.{replicate_push}
+use Rattle.tib_table.proofs.Passes.{replicate_push}
 use Rattle.tib_hunt.proofs.round.open_shelves.Goals as goal
 
 pub loop-preserved : goal.loop-preserved

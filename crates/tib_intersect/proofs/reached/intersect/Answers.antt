@@ -1,5 +1,6 @@
 use Rattle.std.proofs.lemmas.Result.{IfOk-weaker, IfErr-weaker}
-use Rattle.tib_intersect.proofs.ReachedGrammar.{pair_grammar, roots, few_pairs, few_rules, reached_of, beyond_of, told_beyond, ok_both}
+use Rattle.tib_hunt.proofs.Reaching.{IfTooMany-weaker}
+use Rattle.tib_intersect.proofs.ReachedGrammar.{pair_grammar, roots, few_pairs, few_rules, reached_of, beyond_of, ok_both}
 use Rattle.tib_intersect.proofs.reached.intersect.Goals as goal
 
 pub returns-clause-reached : goal.returns-clause-reached
@@ -28,5 +29,5 @@ returns-clause-roots g c =
 
 pub returns-clause-more : goal.returns-clause-more
 returns-clause-more g c =
-    IfErr-weaker c.hunt_alone.result _ _ (λ e h. told_beyond c.args.limit _ _ e (beyond_of g.S.Semiring.product c.in-Ok.pairs.left.now c.in-Ok.pairs.right.now c.args.left.now c.args.right.now c.in-Ok.ensures.left c.in-Ok.ensures.right c.args.limit) h)
+    IfErr-weaker c.hunt_alone.result _ _ (λ e h. IfTooMany-weaker c.args.limit _ _ e (beyond_of g.S.Semiring.product c.in-Ok.pairs.left.now c.in-Ok.pairs.right.now c.args.left.now c.args.right.now c.in-Ok.ensures.left c.in-Ok.ensures.right c.args.limit) h)
     c.hunt_alone.ensures.more

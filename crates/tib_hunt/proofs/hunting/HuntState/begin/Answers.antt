@@ -1,7 +1,7 @@
 use Rattle.std.proofs.Common.{◌∙◌, ◌++◌, ◌+◌, [], ◌∷◌, refl, ap, subst, arith}
 use Rattle.tib_hunt.specs.Numbered.{key_parts, HaveMore}
-use Rattle.tib_hunt.proofs.Reaching.{hunt_of}
-use Rattle.tib_hunt.proofs.Advancing.{few_keys, told_beyond, seeds_exceed, too_many_seeds}
+use Rattle.tib_hunt.proofs.Reaching.{IfTooMany-weaker, hunt_of}
+use Rattle.tib_hunt.proofs.Advancing.{few_keys, seeds_exceed, too_many_seeds}
 use Rattle.tib_hunt.proofs.Finding.{begun, begins_at, no_keys}
 use Rattle.tib_hunt.proofs.hunting.HuntState.begin.Goals as goal
 
@@ -9,7 +9,7 @@ pub returns-in-Err-More-clause-more : goal.returns-in-Err-More-clause-more
 returns-in-Err-More-clause-more g c = (refl, seeds_exceed (hunt_of (g.met.E.Expand.lawful c.args.problem.now) g.met.E.Key.Ord.total g.met.E.Key.TableKey.same g.met.E.Key.Eq.laws.refl) c.args.limit (c.in-Err-More.ensures.more c.in-Err-More.field-0-is))
 
 pub returns-in-Err-clause-more : goal.returns-in-Err-clause-more
-returns-in-Err-clause-more g c = told_beyond c.args.limit _ _ c.in-Err.error
+returns-in-Err-clause-more g c = IfTooMany-weaker c.args.limit _ _ c.in-Err.error
     (λ h. too_many_seeds (hunt_of (g.met.E.Expand.lawful c.args.problem.now) g.met.E.Key.Ord.total g.met.E.Key.TableKey.same g.met.E.Key.Eq.laws.refl) c.args.limit c.in-Ok.edges.ends.items c.in-Ok.edges.rules.items c.in-Ok.edges.parts c.in-Ok.ensures.listed c.in-Ok.ensures.ends c.in-Ok.ensures.within
     (subst (λ l. HaveMore g.E.Key.PartialEq.eq (key_parts g.E.Key.TableKey.entries_of) l c.in-Ok.edges.ends.items (0 + c.in-Ok.edges.parts) c.args.limit) (no_keys (hunt_of (g.met.E.Expand.lawful c.args.problem.now) g.met.E.Key.Ord.total g.met.E.Key.TableKey.same g.met.E.Key.Eq.laws.refl) c.new.result.keys c.new.ensures.len) h)) c.in-Err.ensures.more
 

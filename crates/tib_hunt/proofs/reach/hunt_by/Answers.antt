@@ -2,7 +2,7 @@ use Rattle.std.proofs.Common.{arith}
 use Rattle.tib_hunt.proofs.Reaching.{hunt_of}
 use Rattle.tib_hunt.proofs.Advancing.{few_keys}
 use Rattle.tib_hunt.proofs.Finding.{all_found, all_counted}
-use Rattle.tib_hunt.proofs.reach.hunt_alone.Goals as goal
+use Rattle.tib_hunt.proofs.reach.hunt_by.Goals as goal
 
 pub overflow_cast-next : goal.overflow_cast-next
 overflow_cast-next g c =

@@ -1,6 +1,7 @@
-use Rattle.std.proofs.Common.{◌≡◌, ◌-◌, []}
+use Rattle.std.proofs.Common.{◌≡◌, ◌+◌, ◌-◌, []}
 use Rattle.tib_hunt.specs.Held.{IsBetween}
-use Rattle.tib_hunt.proofs.reach.hunt_alone.Given as goal
+use Rattle.tib_hunt.specs.Reached.{most_parts}
+use Rattle.tib_hunt.proofs.reach.hunt_by.Given as goal
 
 abbrev pub invariant-loop-first : goal.invariant-loop-first
 invariant-loop-first g l = record {
@@ -9,4 +10,4 @@ invariant-loop-first g l = record {
 }
 
 abbrev pub decreases-loop-first : goal.decreases-loop-first
-decreases-loop-first g l = 20000001 - l.first
+decreases-loop-first g l = (most_parts + 1) - l.first
