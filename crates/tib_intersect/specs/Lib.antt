@@ -6,3 +6,4 @@ pub mod Matching
 pub mod IsIndex
 pub mod Listing
 pub mod Intersection
+pub mod Answered

@@ -1,5 +1,5 @@
 -- The edges of a pair, listed one after another.
-use Rattle.std.specs.Prelude.{◌≡◌, ℕ, ◌+◌, ◌<◌, ◌≤◌, ◌⊎◌, List, [], ◌∷◌, ◌++◌, length, zip}
+use Rattle.std.specs.Prelude.{◌≡◌, ℕ, ◌+◌, ◌<◌, ◌≤◌, ◌⊎◌, List, [], ◌∷◌, ◌++◌, length, map, zip}
 use Rattle.tib_lex.specs.Lists.{Has, Distinct, Along}
 use Rattle.tib_cost.specs.Semiring.{most}
 use Rattle.tib_grammar.specs.Sides.{label, holes}
@@ -106,3 +106,31 @@ module _ (product : ℕ → ℕ → ℕ) (ones twos : List (Rule ℕ)) (order : 
     pub tried : List (ℕ × ℕ)
     pub listed : IsListed tried l
     pub all : (o : ℕ × ℕ) (e : Rule (ℕ × ℕ)) → IsPairEdge product ones twos (pair_at order n) o e → Has tried o
+
+-- the list gets the edges of one rule and of the rules of the second grammar at these positions
+abbrev pub ListsMatches : (ℕ → ℕ → ℕ) → List (Rule ℕ) → Rule ℕ → List ℕ → Listing → Listing → Type 0
+ListsMatches product twos one positions old new =
+    (ones : List (Rule ℕ)) (order : List (ℕ × ℕ)) (i : ℕ) (tried : List (ℕ × ℕ)) →
+    Stands ones twos order i old.position one positions → ((j : ℕ) → Has tried (i, j) → ⊥) →
+    IsListed product ones twos order old.position tried old →
+    IsListed product ones twos order old.position (tried ++ map (λ j. (i, j)) positions) new
+
+-- with these edges the pair has more parts than the budget
+abbrev pub MatchesOverrun : (ℕ → ℕ → ℕ) → List (Rule ℕ) → Rule ℕ → List ℕ → Listing → Type 0
+MatchesOverrun product twos one positions old =
+    (ones : List (Rule ℕ)) (order : List (ℕ × ℕ)) (i : ℕ) (tried : List (ℕ × ℕ)) →
+    Stands ones twos order i old.position one positions → ((j : ℕ) → Has tried (i, j) → ⊥) →
+    IsListed product ones twos order old.position tried old →
+    Overruns product ones twos order old.position old.budget
+
+-- the list has every edge of the pair, over each order in which the pair has this position
+abbrev pub ListsPair : (ℕ → ℕ → ℕ) → List (Rule ℕ) → List (Rule ℕ) → ℕ × ℕ → ℕ → Listing → Type 0
+ListsPair product ones twos pair position l =
+    (order : List (ℕ × ℕ)) → position < length order → pair_at order position ≡ pair →
+    AreListedFrom product ones twos order position l
+
+-- the edges of the pair have more parts than the budget
+abbrev pub PairOverruns : (ℕ → ℕ → ℕ) → List (Rule ℕ) → List (Rule ℕ) → ℕ × ℕ → ℕ → ℕ → Type 0
+PairOverruns product ones twos pair position budget =
+    (order : List (ℕ × ℕ)) → position < length order → pair_at order position ≡ pair →
+    Overruns product ones twos order position budget

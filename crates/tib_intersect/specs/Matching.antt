@@ -1,5 +1,5 @@
 -- The positions of the rules that a rule agrees with.
-use Rattle.std.specs.Prelude.{◌≡◌, ℕ, ◌<◌, ◌&&◌, nat_eq, Bool, List, [], ◌∷◌, length, map, Option, None, Some, if◌then◌else◌}
+use Rattle.std.specs.Prelude.{◌≡◌, ℕ, ◌<◌, ◌&&◌, nat_eq, Bool, List, [], ◌∷◌, ◌++◌, length, map, Option, None, Some, if◌then◌else◌}
 use Rattle.std.specs.Global.{Vec}
 use Rattle.std.specs.HashMap.{HashMap, get}
 use Rattle.std.proofs.Common.{suc, get_or}
@@ -13,7 +13,7 @@ positions_from k test [] = []
 positions_from k test (r ∷ rules) =
     if test r then k ∷ positions_from (suc k) test rules else positions_from (suc k) test rules
 
--- whether a rule leads from a state to a label over so many states; these three numbers are its shape
+-- whether a rule has a left state, a label at its root and a rank; these three numbers are its shape
 abbrev pub has_shape : ℕ × ℕ × ℕ → Rule ℕ → Bool
 has_shape s r = (nat_eq r.left s.0 && is_label s.1 r.right.label) && nat_eq (count r.right.kids) s.2
 
@@ -41,3 +41,9 @@ held shapes buckets s = bucket_at (lists_of buckets) (get same_shape shapes s)
 pub record AreNumbered {S : Type 0} (shapes : HashMap (ℕ × ℕ × ℕ) ℕ S) (buckets : List (Vec ℕ)) : Type 0 where
   pub within : (s : ℕ × ℕ × ℕ) (i : ℕ) → get same_shape shapes s ≡ Some i → i < length buckets
   pub apart : (s t : ℕ × ℕ × ℕ) (i : ℕ) → get same_shape shapes s ≡ Some i → get same_shape shapes t ≡ Some i → s ≡ t
+
+-- the bucket of the shape gets the position as its last, and the other buckets stay
+abbrev pub AddsPosition : {S : Type 0} → ℕ × ℕ × ℕ → ℕ → HashMap (ℕ × ℕ × ℕ) ℕ S → List (Vec ℕ) → HashMap (ℕ × ℕ × ℕ) ℕ S → List (Vec ℕ) → Type 0
+AddsPosition shape position shapes buckets shapes' buckets' =
+    (s : ℕ × ℕ × ℕ) →
+    held shapes' buckets' s ≡ (if same_shape shape s then held shapes buckets s ++ position ∷ [] else held shapes buckets s)

@@ -1,10 +1,10 @@
 // The rules of a grammar in normal form by their left states and the labels and ranks of their right sides.
-ghost use Rattle.std.specs.Prelude.{◌≡◌, ℕ, ◌+◌, ◌<◌, ◌≤◌, ◌^◌, IfOk, OnOk, length, List, [], ◌∷◌, ◌++◌, if◌then◌else◌};
+ghost use Rattle.std.specs.Prelude.{◌≡◌, ℕ, ◌+◌, ◌<◌, ◌≤◌, ◌^◌, IfOk, OnOk, length, List};
 ghost use Rattle.tib_grammar.specs.Forms.{AreNormal, IsNormalSide};
 ghost use Rattle.tib_grammar.specs.declared.Rule.{Rule};
 ghost use Rattle.tib_grammar.specs.Sides.{label as label_symbol};
 ghost use Rattle.tib_tree.specs.Trees.{count};
-ghost use Rattle.tib_intersect.specs.Matching.{AreNumbered, has_shape, held, positions_with, same_shape};
+ghost use Rattle.tib_intersect.specs.Matching.{AddsPosition, AreNumbered, has_shape, positions_with, same_shape};
 ghost use Rattle.tib_intersect.specs.IsIndex.{IsIndex};
 
 use std::alloc::{AllocError, Global};
@@ -12,7 +12,7 @@ use std::collections::HashMap;
 use tib_grammar::{Item, Rule};
 use tib_tree::Label;
 
-/// A left state, a label and a rank.
+/// The shape of a rule: its left state, the label at its root and its rank.
 pub type Shape = (u32, Label, u32);
 
 /// The label and the rank of a rule's right side.
@@ -36,7 +36,7 @@ fn shape_of(rule: &Rule<u32>) -> Shape
     (rule.left, label, rank)
 }
 
-/// Puts a position last in the bucket of a shape.
+/// Appends a position to the bucket of a shape.
 fn add(
     alloc: Global,
     shapes: &mut HashMap<Shape, u32>,
@@ -47,7 +47,7 @@ fn add(
     requires numbered { AreNumbered shapes.old buckets.old.items }
     requires few { length buckets.old.items ≤ position }
     ensures numbered { AreNumbered shapes.new buckets.new.items }
-    ensures added { OnOk result ((s : ℕ × ℕ × ℕ) → held shapes.new buckets.new.items s ≡ (if same_shape shape s then held shapes.old buckets.old.items s ++ position ∷ [] else held shapes.old buckets.old.items s)) }
+    ensures added { OnOk result (AddsPosition shape position shapes.old buckets.old.items shapes.new buckets.new.items) }
     ensures few { length buckets.new.items ≤ position + 1 }
 {
     if let Some(number) = shapes.get(&shape).copied() {
@@ -84,7 +84,7 @@ impl Index {
         Ok(Index { shapes, buckets })
     }
 
-    /// The positions of the rules of a state whose right side is this label over so many states.
+    /// The positions of the rules of a state whose right side is this label over `rank` states, ascending. Cost: one look-up by hash.
     pub fn find(&self, state: u32, label: Label, rank: u32) -> &[u32]
         ensures { (rules : List (Rule ℕ)) → IsIndex rules self.now → result.now ≡ positions_with (state, label, rank) rules }
     {

@@ -4,7 +4,7 @@ ghost use Rattle.tib_lex.specs.Lists.{Has, Each, Distinct};
 ghost use Rattle.tib_grammar.specs.Forms.{AreNormal, IsNormalSide};
 ghost use Rattle.tib_grammar.specs.Run.{rule_at};
 ghost use Rattle.tib_grammar.specs.declared.Rule.{Rule};
-ghost use Rattle.tib_intersect.specs.Listing.{state_in, states_of, pairs_of, Agree, IsNext, IsTooMuch, IsWithinBudget, IsListed, Overruns, Stands};
+ghost use Rattle.tib_intersect.specs.Listing.{state_in, states_of, pairs_of, Agree, IsNext, IsTooMuch, IsWithinBudget, ListsMatches, MatchesOverrun};
 
 use crate::index::label_of;
 use crate::pair::Pair;
@@ -32,7 +32,7 @@ fn states_below(rule: &Rule<u32>) -> &[Item<u32>]
     &rule.right.items()[1..]
 }
 
-/// Puts the pairs of the states of some items behind some ends.
+/// Appends the pairs of the states of the items to the ends.
 fn push_pairs(ends: &mut Vec<Pair>, one: &[Item<u32>], two: &[Item<u32>]) -> Result<(), AllocError>
     requires { length one.now ≡ length two.now }
     ensures { OnOk result (ends.new.items ≡ ends.old.items ++ zip (map state_in one.now) (map state_in two.now)) }
@@ -125,10 +125,8 @@ impl Listing {
         requires positions { Each (λ j. (j < length others.now) × Agree one.now (rule_at others.now j)) positions.now }
         requires distinct { Distinct positions.now }
         requires within { IsWithinBudget self.old }
-        ensures listed { OnOk result ((ones : List (Rule ℕ)) (order : List (ℕ × ℕ)) (i : ℕ) (tried : List (ℕ × ℕ)) → Stands ones others.now order i self.old.position one.now positions.now → ((j : ℕ) → Has tried (i, j) → ⊥) →
-            IsListed S.product ones others.now order self.old.position tried self.old → IsListed S.product ones others.now order self.old.position (tried ++ map (λ j. (i, j)) positions.now) self.new) }
-        ensures more { result ≡ Err ExpandError.More → (ones : List (Rule ℕ)) (order : List (ℕ × ℕ)) (i : ℕ) (tried : List (ℕ × ℕ)) → Stands ones others.now order i self.old.position one.now positions.now → ((j : ℕ) → Has tried (i, j) → ⊥) →
-            IsListed S.product ones others.now order self.old.position tried self.old → Overruns S.product ones others.now order self.old.position self.old.budget }
+        ensures listed { OnOk result (ListsMatches S.product others.now one.now positions.now self.old self.new) }
+        ensures more { result ≡ Err ExpandError.More → MatchesOverrun S.product others.now one.now positions.now self.old }
         ensures within { OnOk result (IsWithinBudget self.new) }
         ensures position { self.new.position ≡ self.old.position }
         ensures budget { self.new.budget ≡ self.old.budget }

@@ -2,8 +2,8 @@
 ghost use Rattle.std.specs.Prelude.{◌≡◌, ℕ, ◌<◌, ◌≤◌, List, length, IfOk, Err};
 ghost use Rattle.tib_hunt.specs.Reached.{most_parts};
 ghost use Rattle.tib_intersect.specs.IsIndex.{IsIndex};
-ghost use Rattle.tib_intersect.specs.PairEdges.{pair_at, StatesBelow};
-ghost use Rattle.tib_intersect.specs.Listing.{IsWithinBudget, AreListedFrom, Overruns};
+ghost use Rattle.tib_intersect.specs.PairEdges.{StatesBelow};
+ghost use Rattle.tib_intersect.specs.Listing.{IsWithinBudget, ListsPair, PairOverruns};
 
 use crate::index::{Index, label_of};
 use crate::listing::Listing;
@@ -55,8 +55,8 @@ impl<'a, S: Semiring> Pairs<'a, S> {
     ) -> Result<Listing, ExpandError>
         requires first { pair.0 < length self.now.left.now.names }
         requires budget { budget ≤ most_parts }
-        ensures listed { IfOk result (λ l. (order : List (ℕ × ℕ)) → position < length order → pair_at order position ≡ pair → AreListedFrom S.product self.now.left.now.rules self.now.right.now.rules order position l) }
-        ensures more { result ≡ Err ExpandError.More → (order : List (ℕ × ℕ)) → position < length order → pair_at order position ≡ pair → Overruns S.product self.now.left.now.rules self.now.right.now.rules order position budget }
+        ensures listed { IfOk result (ListsPair S.product self.now.left.now.rules self.now.right.now.rules pair position) }
+        ensures more { result ≡ Err ExpandError.More → PairOverruns S.product self.now.left.now.rules self.now.right.now.rules pair position budget }
         ensures within { IfOk result IsWithinBudget }
         ensures budget { IfOk result (λ l. l.budget ≡ budget) }
     {

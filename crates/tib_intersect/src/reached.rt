@@ -1,11 +1,9 @@
-// The reached set of pairs.
-ghost use Rattle.std.specs.Prelude.{◌≡◌, ◌≤◌, ◌<◌, ℕ, length, map, IfOk, IfErr};
-ghost use Rattle.tib_grammar.specs.GrammarOf.{named_rule};
-ghost use Rattle.tib_grammar.specs.Run.{rule_at};
-ghost use Rattle.tib_hunt.specs.Reached.{most_parts, parts_of, IfTooMany, IsBeyond, IsReachedSet};
-ghost use Rattle.tib_intersect.specs.PairEdges.{pair_at};
-ghost use Rattle.tib_intersect.specs.PairGrammar.{IsPairGrammar};
-ghost use Rattle.tib_intersect.specs.Intersection.{intersection, HasRootOf};
+//! The pairs that are reached, with their rules.
+
+ghost use Rattle.std.specs.Prelude.{◌≤◌, length, IfOk, IfErr};
+ghost use Rattle.tib_hunt.specs.Reached.{most_parts, IfTooMany, IsBeyond};
+ghost use Rattle.tib_intersect.specs.Answered.{IsIntersection, IsGrammar, HasParts, HaveRootsOf};
+ghost use Rattle.tib_intersect.specs.Intersection.{intersection};
 
 use crate::pair::Pair;
 use crate::pairs::Pairs;
@@ -16,8 +14,10 @@ use tib_hunt::{Found, Gate, HuntError, hunt_alone};
 use tib_normal::Normal;
 
 /// The pairs that are reached from the pair of the starts, in the order by rounds, and the rules over their positions.
-/// As a grammar whose start is position 0 they give each tree the product of its two costs. `TooMany` comes exactly
-/// where they have more parts than the limit.
+/// As a grammar whose start is position 0 they give each tree the product of its two costs. `TooMany` exactly where
+/// they have more parts than the limit, 1 to `MOST_PARTS` of tib_hunt; `OutOfMemory` if memory is refused. Calls `gate`
+/// once for each pair. Cost: for each pair the rules of its first state, each with one look-up by hash, and the edges
+/// that it makes. The product of tree automata is from Comon and others, 2007.
 pub fn intersect<S: Semiring, G: Gate>(
     alloc: Global,
     left: &Normal<S>,
@@ -27,14 +27,15 @@ pub fn intersect<S: Semiring, G: Gate>(
 ) -> Result<Found<Pair, Rule<u32>>, HuntError>
     requires some { 1 ≤ limit }
     requires limit { limit ≤ most_parts }
-    ensures reached { IfOk result (λ f. IsReachedSet (intersection S.product left.now.rules right.now.rules) f.order.items (map (named_rule (pair_at f.order.items)) f.rules.items)) }
-    ensures grammar { IfOk result (λ f. IsPairGrammar S.product left.now.rules right.now.rules f.order.items f.rules.items) }
-    ensures parts { IfOk result (λ f. f.parts ≡ parts_of (intersection S.product left.now.rules right.now.rules) f.order.items (map (named_rule (pair_at f.order.items)) f.rules.items)) }
+    ensures reached { IfOk result (IsIntersection S.product left.now.rules right.now.rules) }
+    ensures grammar { IfOk result (IsGrammar S.product left.now.rules right.now.rules) }
+    ensures parts { IfOk result (HasParts S.product left.now.rules right.now.rules) }
     ensures within { IfOk result (λ f. f.parts ≤ limit) }
     ensures few { IfOk result (λ f. length f.order.items ≤ limit) }
     ensures few_rules { IfOk result (λ f. length f.rules.items ≤ limit) }
-    ensures roots { IfOk result (λ f. (m : ℕ) → m < length f.rules.items → HasRootOf left.now.rules (rule_at f.rules.items m)) }
-    ensures more { IfErr result (IfTooMany limit (IsBeyond (intersection S.product left.now.rules right.now.rules) limit)) }
+    ensures roots { IfOk result (HaveRootsOf left.now.rules) }
+    ensures more { let hunted = intersection S.product left.now.rules right.now.rules in
+        IfErr result (IfTooMany limit (IsBeyond hunted limit)) }
 {
     let Ok(pairs) = Pairs::new(alloc, left, right) else {
         return Err(HuntError::OutOfMemory);
