@@ -18,6 +18,7 @@ use Rattle.tib_hunt.proofs.Sights.{take_front, total_least}
 use Rattle.tib_hunt.proofs.Settling.{Settled}
 use Rattle.tib_hunt.proofs.Holding.{edges_so_far, IsHeld, IsBetween, IsWithinRound, Inserted, inserted, added, more_edges, finished, settled_edges, round_done, leads_on}
 
+-- no key stands in both parts of a list of distinct keys
 pub apart_of : {K : Type 0} (xs ys : List K) (k : K) → Distinct (xs ++ ys) → Has xs k → Has ys k → ⊥
 apart_of [] ys k d h m = h
 apart_of (x ∷ xs) ys k d (inl e) m = d.0 (has_right xs ys x (subst (Has ys) (sym e) m))
@@ -70,11 +71,13 @@ module _ {K O E R T : Type 0} {p : Operation K O E} {admits : K → Type 0} {rea
       → (ends : List K) (rs : List R) (ep : ℕ) → AreListed (p.edge order n) p.edge_parts reading.places reading.read_places order ends rs ep → (d : K) → AreEdges p order (suc n) (edges_so_far hunt d keys rules rows ++ map (reading.read_places (key_at d order ends)) rs)
   with_position order keys first n rules rows parts limit w ends rs ep l d = (edges_so_far hunt d keys rules rows, map (reading.read_places (key_at d order ends)) rs, refl, w.edges d, l.edges d)
 
+  -- each end of a position that the order lacks stands in the reached order
   pub stands : (order keys : List K) (first n : ℕ) (rules : List T) (rows : List (Row R)) (parts limit : ℕ) → IsWithinRound hunt order first n keys rules rows parts limit → n < length order
       → (ends : List K) → ((k : K) → Has ends k ↔ IsEnd (p.edge order n) p.ends_of k) → (k : K) → Has ends k → (Has order k → ⊥) → (whole : List K) → IsReached p whole → Has whole k
   stands order keys first n rules rows parts limit w low ends are k h fresh whole reached =
       (in_reached p hunt.laws w.rounds first order w.after whole reached).1 k ((n, w.from, low, (are k).0 h), fresh)
 
+  -- the new ends of a position are too many
   pub too_many_ends : (order keys : List K) (first n : ℕ) (rules : List T) (rows : List (Row R)) (parts limit : ℕ) → IsWithinRound hunt order first n keys rules rows parts limit → n < length order
       → (ends : List K) (rs : List R) (ep : ℕ) → AreListed (p.edge order n) p.edge_parts reading.places reading.read_places order ends rs ep → ((k : K) → Has ends k ↔ IsEnd (p.edge order n) p.ends_of k)
       → ep ≤ limit - parts → HaveMore eq (key_parts entries) keys ends (parts + ep) limit → IsBeyond p limit
@@ -166,6 +169,7 @@ module _ {K O E R T : Type 0} {p : Operation K O E} {admits : K → Type 0} {rea
     within = omega arith;
   }
 
+  -- the edges of the seeds are too many
   pub seeds_exceed : (limit : ℕ) → Exceeds p.seed_edge p.edge_parts limit → IsBeyond p limit
   seeds_exceed limit x whole fs (reached, all) = let a = go (length whole) fs all in omega arith
     where
@@ -176,6 +180,7 @@ module _ {K O E R T : Type 0} {p : Operation K O E} {admits : K → Type 0} {rea
           let b = ap (total p.edge_parts) is ∙ total_append p.edge_parts front last in
           omega arith
 
+  -- the seeds are too many
   pub too_many_seeds : (limit : ℕ) (ends : List K) (rs : List R) (ep : ℕ) → AreListed p.seed_edge p.edge_parts reading.places reading.read_places [] ends rs ep → ((k : K) → Has ends k ↔ p.seed k)
       → ep ≤ limit → HaveMore eq (key_parts entries) [] ends (0 + ep) limit → IsBeyond p limit
   too_many_seeds limit ends rs ep l are within more =
@@ -190,11 +195,13 @@ module _ {K O E R T : Type 0} {p : Operation K O E} {admits : K → Type 0} {rea
     grown : keys ≡ [] ++ i.new
     grown = is ∙ i.keys_are
 
+    -- the seeds and their edges are held
     pub seeds_held : IsHeld hunt [] keys [] (row ∷ []) parts limit
     seeds_held = added hunt [] [] [] [] 0 limit (nothing limit) ends rs p.seed_edge ep l row same_rules keys i.new grown named
         (subst Distinct (sym is) (i.once tt)) (λ whole reached k m. seeds_reached p hunt.laws whole reached k ((are k).0 (i.among k m)))
         (each_of admits i.new (λ k m. hunt.lawful.seeds_admitted k ((are k).0 (i.among k m)))) parts sums within
 
+    -- with the seeds in order the hunt stands before its first round
     pub hunt_begins : (keys' : List K) (moved : List ℕ) (sorts : IsInOrder p.cmp [] keys keys' moved) (rules' : List T)
         (settled : Settled reading 0 moved [] rules' (λ f. read_rows reading.read_places (λ n. f (moved_to 0 moved n)) (row ∷ [])))
         → IsBetween hunt 0 keys' rules' parts limit

@@ -92,6 +92,7 @@ draws_from count id m s c at some_share going n is (no far) =
     record { same = f.same; owed = omega arith; idle = λ none. absurd (omega arith) } in
     (w, next, (λ near. absurd (omega arith)), (λ _. refl), tells count _ next id w (here_after s.views id m.0 w at) some_share)
 
+-- a draw keeps the rule
 pub draws : (count slots id : ℕ) (m : Me ℕ Claim) → 0 < m.0.shares → m.0.nones ≡ 0 → Allows (EachIsDrawnOnce count) slots id m 0 (λ n. (n + 1) % 2 ^ 64) (Drew (step slots 0 1 0 none) m)
 draws count slots id m some_share going s c long at small =
     let n : ℕ = get_or s.words 0 0 in
@@ -100,11 +101,13 @@ draws count slots id m some_share going s c long at small =
     let d = draws_from count id m s c at some_share going n refl (dec_lt n count) in
     (d.0, keeps, tt, subst (λ k. EachIsDrawnOnce count record { words = set s.words 0 k; homes = s.homes; views = set s.views id d.0 }) up d.1, (refl, d.2, d.3, d.4))
 
+-- a look keeps the rule
 pub looks : (count slots id : ℕ) (m : Me ℕ Claim) → 0 < m.0.shares → Allows (EachIsDrawnOnce count) slots id m 0 (λ n. n) (Looked (step slots 0 0 0 none) m)
 looks count slots id m some_share s c long at small =
     let next = moved count id (get_or s.words 0 0) s m.0 m.0 c at (λ x. refl) (omega arith) refl (c.fair id m.0 at) in
     (m.0, keeps, tt, next, (refl, tells count s c id m.0 at some_share))
 
+-- a split keeps the rule
 pub parts : (count id : ℕ) (v : Claim) → 1 < v.shares → v.nones ≡ 0 → Splits (EachIsDrawnOnce count) id v (claim v.count (v.shares - 1) v.nones v.drawn) (claim v.count 1 0 [])
 parts count id v more going s c at =
     let f = c.fair id v at in
@@ -120,6 +123,7 @@ parts count id v more going s c at =
           (all_set (λ _ u. IsFair count u) s.views id l record { same = λ _. f.same (omega arith); owed = omega arith; idle = λ none. absurd (omega arith) } (λ j u _ e. c.fair j u e));
     }
 
+-- a join keeps the rule
 pub joins : (count id : ℕ) (v : Claim) (other : ℕ) (u : Claim) → 0 < v.shares → Joins (EachIsDrawnOnce count) id v other u (claim v.count (v.shares + u.shares) (v.nones + u.nones) (v.drawn ++ u.drawn)) (claim 0 0 0 [])
 joins count id v other u some_share s c at apart there =
     let f = c.fair id v at in

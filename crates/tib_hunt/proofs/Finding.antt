@@ -26,6 +26,7 @@ module _ {K O E R T : Type 0} {p : Operation K O E} {admits : K → Type 0} {rea
   AreSettled first order fresh rules rows keys' rules' =
       (moved : List ℕ) × IsInOrder cmp order fresh keys' moved × ReadAs reading first moved rules rows rules' × StayBelow reading first moved rules rules'
 
+  -- a round on one list ends where its new keys are in order
   pub round_ends_at : (order keys : List K) (first : ℕ) (rules : List T) (rows : List (Row R)) (parts limit : ℕ) → IsWithinRound hunt order first (length order) keys rules rows parts limit
       → (keys' : List K) (rules' : List T) (parts' bound : ℕ) → bound ≡ length order → parts' ≡ parts → AreSettled bound (take bound keys) (drop bound keys) rules rows keys' rules' → IsBetween hunt (length order) keys' rules' parts' limit
   round_ends_at order keys first rules rows parts limit w keys' rules' parts' bound is same_parts (moved, sorts, read, below) =
@@ -39,6 +40,7 @@ module _ {K O E R T : Type 0} {p : Operation K O E} {admits : K → Type 0} {rea
         below = subst (λ (c : ℕ). (b : ℕ) → c ≤ b → Each (λ n. n < b) moved → AreBelow reading.positions b rules → AreBelow reading.positions b rules') is below;
       }))
 
+  -- a round on shelves ends where its fresh keys are in order
   pub fresh_round_ends : (order fresh : List K) (first : ℕ) (rules : List T) (rows : List (Row R)) (parts limit : ℕ) → IsWithinRound hunt order first (length order) (order ++ fresh) rules rows parts limit
       → (old keys' : List K) (rules' : List T) (parts' : ℕ) → old ≡ order → parts' ≡ parts → AreSettled (length old) old fresh rules rows keys' rules' → IsBetween hunt (length order) keys' rules' parts' limit
   fresh_round_ends order fresh first rules rows parts limit w old keys' rules' parts' is same_parts settled =
@@ -48,6 +50,7 @@ module _ {K O E R T : Type 0} {p : Operation K O E} {admits : K → Type 0} {rea
       (round_ends hunt order (order ++ fresh) first rules rows parts limit w keys' moved
       (subst (λ (l : List K). IsInOrder p.cmp order l keys' moved) u (in_order sorts)) rules' (record { read = read; below = below }))
 
+  -- a list of no keys is empty
   pub no_keys : (keys : List K) → length keys ≡ 0 → keys ≡ []
   no_keys [] e = refl
   no_keys (k ∷ ks) e = absurd (omega arith)
@@ -63,10 +66,12 @@ module _ {K O E R T : Type 0} {p : Operation K O E} {admits : K → Type 0} {rea
     is_so : keys ≡ insert_all eq [] ends
     is_so = is ∙ ap (λ (x : List K). insert_all eq x ends) none_is
 
+    -- what is held once the edges of the seeds are added
     pub begun : IsHeld hunt [] keys [] rows parts limit
     begun = subst (λ (x : List (Row R)). IsHeld hunt [] keys [] x parts limit) (sym rows_are)
         (seeds_held hunt limit ends rs ep l are row same_rules keys is_so named parts sums_so within)
 
+    -- the hunt stands before its first round
     pub begins_at : (keys' : List K) (rules rules' : List T) (parts' : ℕ) → rules ≡ [] → parts' ≡ parts → AreSettled 0 (take 0 keys) (drop 0 keys) rules rows keys' rules' → IsBetween hunt 0 keys' rules' parts' limit
     begins_at keys' rules rules' parts' none_yet same_parts (moved, sorts, read, below) =
         subst (λ (n : ℕ). IsBetween hunt 0 keys' rules' n limit) (sym same_parts)
@@ -85,6 +90,7 @@ module _ {K O E R T : Type 0} {p : Operation K O E} {admits : K → Type 0} {rea
       subst (λ (o : List K). IsReachedSet p o (map (reading.read_positions (at d o)) rules)) (sym is)
       ((b.rounds, first, b.after, λ k n. let f = n.0.1 in let g = n.0.2 in absurd (omega arith)), e)
 
+  -- the parts are those of the reached set
   pub all_counted : (first : ℕ) (keys : List K) (rules : List T) (parts limit : ℕ) → IsBetween hunt first keys rules parts limit → (order : List K) → order ≡ keys → (d : K) → parts ≡ parts_of p order (map (reading.read_positions (at d order)) rules)
   all_counted first keys rules parts limit b order is d =
       subst (λ (o : List K). parts ≡ parts_of p o (map (reading.read_positions (at d o)) rules)) (sym is)

@@ -1,4 +1,4 @@
--- Keys that are not in the order stand behind it, each once.
+-- Keys that the order lacks follow it, each once.
 use Rattle.std.proofs.Common.{◌≡◌, ◌⊎◌, inl, inr, ℕ, zero, suc, ◌+◌, Bool, true, false, true≢false, not, ◌||◌, cond, is_some, IfSome, IfNone, nat_lt, None, Some, Option, List, [], ◌∷◌, ◌++◌, length, drop, reverse, slice_get, position, append_assoc, append-nil, length-append, if◌then◌else◌, refl, sym, ap, subst, ◌∙◌, arith}
 use Rattle.std.specs.List.{list_any, position_or_len}
 use Rattle.std.specs.List.Sorted.{IsPermutation}
@@ -19,6 +19,7 @@ module _ {K : Type 0} where
   has_at (x ∷ xs) zero k e = inl (grind (arith, e))
   has_at (x ∷ xs) (suc n) k e = inr (has_at xs n k e)
 
+  -- the last fresh key has the last number
   pub last_at : (xs ys : List K) (k : K) (n : ℕ) → n ≡ length xs + length ys → slice_get (xs ++ (ys ++ k ∷ [])) n ≡ Some k
   last_at [] [] k zero e = refl
   last_at [] [] k (suc n) e = absurd (omega arith)
@@ -33,13 +34,16 @@ module _ {K : Type 0} where
       let z : (n + 1) + length ks ≡ n + suc (length ks) = omega arith in
       λ i. (x, n) ∷ (placed_snoc (n + 1) ks k ∙ (λ j. placed (n + 1) ks ++ (k, z j) ∷ [])) i
 
+  -- there are as many keys as pairs
   pub many : (ps : List (K × ℕ)) → length (keys_of ps) ≡ length ps
   many [] = refl
   many (p ∷ ps) = ap suc (many ps)
 
+  -- a pair at the end is a key at the end
   pub keys_snoc : (ps ps' : List (K × ℕ)) (k : K) (place : ℕ) → ps' ≡ ps ++ (k, place) ∷ [] → keys_of ps' ≡ keys_of ps ++ k ∷ []
   keys_snoc ps ps' k place is = ap keys_of is ∙ map_append (λ (p : K × ℕ). p.0) ps ((k, place) ∷ [])
 
+  -- each key still has its index after one more
   pub still_placed : (ps ps' : List (K × ℕ)) (k : K) (place : ℕ) → ps ≡ placed 0 (keys_of ps) → place ≡ length ps → ps' ≡ ps ++ (k, place) ∷ [] → ps' ≡ placed 0 (keys_of ps')
   still_placed ps ps' k place was at is =
       let m = many ps in
@@ -60,6 +64,7 @@ module _ {K : Type 0} where
   apart_both (x ∷ xs) ys k d (inl e) m = d.0 (has_right xs ys x (subst (Has ys) (sym e) m))
   apart_both (x ∷ xs) ys k d (inr h) m = apart_both xs ys k d.1 h m
 
+  -- the pairs in any order are the keys with their indexes in that order
   pub turned : (ps qs : List (K × ℕ)) → ps ≡ placed 0 (keys_of ps) → IsPermutation ps qs → IsPermutation (reverse (placed 0 (keys_of ps))) qs
   turned ps qs is perm = subst (λ (l : List (K × ℕ)). IsPermutation (reverse l) qs) is (IsPermutation-trans (reverse ps) ps qs (IsPermutation-sym ps (reverse ps) (IsPermutation-reverse ps)) perm)
 
@@ -86,6 +91,7 @@ module _ {K : Type 0} (eq : K → K → Bool) (same : (x y : K) → eq x y ≡ t
   found_at xs k (Some n) e t = at_position xs k n e (sym t)
   found_at xs k None e t = tt
 
+  -- a key that a look-up does not find is not there
   pub not_found : (xs : List K) (k : K) (r : Option ℕ) → is_some r ≡ list_any (eq k) xs → IfNone r (Has xs k → ⊥)
   not_found xs k (Some n) t = tt
   not_found xs k None t = not_any eq same self k xs (sym t)
@@ -97,10 +103,11 @@ module _ {K : Type 0} (eq : K → K → Bool) (same : (x y : K) → eq x y ≡ t
       go true e = e
       go false e = absurd (not_any eq same self k ks e h)
 
-  -- a key of the order stays where it is, and any other goes last
+  -- a key of the order stays where it is, and any other is appended
   pub known : (keys fresh : List K) (k : K) (n : ℕ) → slice_get keys n ≡ Some k → insert_key eq (keys ++ fresh) k ≡ keys ++ fresh
   known keys fresh k n e = ap (λ (b : Bool). if b then keys ++ fresh else (keys ++ fresh) ++ k ∷ []) (any_true (keys ++ fresh) k (has_left keys fresh k (has_at keys n k e)))
 
+  -- a key that neither list has is appended
   pub unknown : (keys fresh : List K) (k : K) → (Has keys k → ⊥) → (Has fresh k → ⊥) → insert_key eq (keys ++ fresh) k ≡ keys ++ (fresh ++ k ∷ [])
   unknown keys fresh k n m = ap (λ (b : Bool). if b then keys ++ fresh else (keys ++ fresh) ++ k ∷ []) (absent eq same (keys ++ fresh) k (λ h. go (has_either keys fresh k h))) ∙ append_assoc keys fresh (k ∷ [])
     where
@@ -134,13 +141,16 @@ module _ {K : Type 0} (eq : K → K → Bool) (same : (x y : K) → eq x y ≡ t
     parted : Distinct (all_on done ++ (ks ++ all_on rest'))
     parted = subst Distinct (ap all_on (s.whole ∙ ap (λ (l : List (List K)). done ++ l) next) ∙ all_both done (ks ∷ rest')) once
 
+    -- the keys of a shelf are distinct
     pub shelf_once : Distinct ks
     shelf_once = before ks (all_on rest') (behind (all_on done) (ks ++ all_on rest') parted)
 
+    -- no key of a shelf is among the fresh ones yet
     pub shelf_apart : (k : K) → Has ks k → Has now k → ⊥
     shelf_apart k h m =
         let r = fresh_are keys [] now (all_on done) (s.keys_are ∙ ap (λ (l : List K). insert_all eq l (all_on done)) (sym (append-nil keys))) in
         apart_both (all_on done) (ks ++ all_on rest') k parted (r.2 k (subst (λ (l : List K). Has l k) r.1 m)) (has_left ks (all_on rest') k h)
 
+-- as many numbers were moved as there are fresh keys
 pub moved_bound : {K : Type 0} (order fresh : List K) (moved : List ℕ) → length moved ≡ length fresh → length (order ++ fresh) ≡ length order + length moved
 moved_bound order fresh moved e = let a = length-append order fresh in omega arith

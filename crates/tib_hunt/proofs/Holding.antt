@@ -30,6 +30,7 @@ module _ {K : Type 0} (eq : K → K → Bool) (same : (x y : K) → eq x y ≡ t
       go (inr (inl e)) = inr e
       go (inr (inr n)) = absurd n
 
+  -- a key that compares equal to one of the list stands in it
   pub any_has : (k : K) (ks : List K) → list_any (eq k) ks ≡ true → Has ks k
   any_has k [] e = absurd (true≢false (sym e))
   any_has k (x ∷ xs) e = go (eq k x) refl (any_has k xs) e
@@ -38,6 +39,7 @@ module _ {K : Type 0} (eq : K → K → Bool) (same : (x y : K) → eq x y ≡ t
       go true q r e = inl (sym (same k x q))
       go false q r e = inr (r e)
 
+  -- a key that compares equal to none of the list does not stand in it
   pub not_any : (k : K) (ks : List K) → list_any (eq k) ks ≡ false → Has ks k → ⊥
   not_any k [] e h = h
   not_any k (x ∷ xs) e (inl i) = go (eq k x) (subst (λ z. eq k z ≡ true) (sym i) (self k)) e
@@ -68,6 +70,7 @@ module _ {K : Type 0} (eq : K → K → Bool) (same : (x y : K) → eq x y ≡ t
     pub there : (k : K) → Has ends k → Has keys k
     pub once : Distinct old → Distinct keys
 
+  -- what inserting keys one after the other does
   pub inserted : (ends old : List K) → Inserted old ends (insert_all eq old ends)
   inserted [] old = record { new = []; keys_are = sym (append-nil old); among = λ k h. absurd h; there = λ k h. absurd h; once = λ d. d }
   inserted (x ∷ ends) old = go (list_any (eq x) old) refl (inserted ends (insert_key eq old x))
@@ -95,6 +98,7 @@ module _ {K : Type 0} (eq : K → K → Bool) (same : (x y : K) → eq x y ≡ t
       }
 
 module _ {K : Type 0} (d : K) where
+  -- the keys of a front keep their numbers
   pub at_front : (xs ys : List K) (n : ℕ) → n < length xs → at d (xs ++ ys) n ≡ at d xs n
   at_front [] ys n l = absurd (omega arith)
   at_front (x ∷ xs) ys zero l = refl
@@ -111,12 +115,14 @@ module _ {K : Type 0} (d : K) where
   same_place order fresh keys ends ns is a (Known p) l = sym (ap (λ (k : List K). at d k p) is ∙ at_front order fresh p l)
   same_place order fresh keys ends ns is a (End i) l = sym (named_end keys ends ns i a l)
 
+-- numbers that name keys are below the count of keys
 pub named_below : {K : Type 0} (keys ends : List K) (ns : List ℕ) → Name keys ends ns → Each (λ n. n < length keys) ns
 named_below keys [] [] a = tt
 named_below keys [] (n ∷ ns) a = absurd a
 named_below keys (x ∷ xs) [] a = absurd a
 named_below keys (x ∷ xs) (n ∷ ns) a = (slice_get_within keys n x a.0, named_below keys xs ns a.1)
 
+-- there are as many numbers as ends
 pub as_many : {K : Type 0} (keys ends : List K) (ns : List ℕ) → Name keys ends ns → length ns ≡ length ends
 as_many keys [] [] a = refl
 as_many keys [] (n ∷ ns) a = absurd a
@@ -126,6 +132,7 @@ as_many keys (x ∷ xs) (n ∷ ns) a = ap suc (as_many keys xs ns a.1)
 -- What holds while the positions below n are expanded, over the order at the round's beginning. The keys are those of the order and then the fresh ones.
 module _ {K O E R T : Type 0} {p : Operation K O E} {admits : K → Type 0} {reading : Reading K E R T}
     {cmp : K → K → Ordering} {entries : K → ℕ} {eq : K → K → Bool} (hunt : IsHunt p admits reading cmp entries eq) where
+  -- what is held, by the words of specs, for the operation of the hunt
   abbrev pub edges_so_far : K → List K → List T → List (Row R) → List E
   edges_so_far = all_edges p admits reading
 
@@ -185,6 +192,7 @@ module _ {K O E R T : Type 0} {p : Operation K O E} {admits : K → Type 0} {rea
         go [] w = refl
         go (x ∷ xs) w = λ i. hunt.lawful.reads_places x (λ q. at d keys' (position_of row.ends.items q)) (key_at d order ends) (each_weaker (IsWithin (length order) (length ends)) _ (reading.places x) (λ q a. sym (same_place d order (h.fresh ++ new) keys' ends row.ends.items all_keys named q a)) w.0) i ∷ go xs w.1 i
 
+    -- one more row adds its edges
     pub more_edges : (d : K) → edges_so_far d keys' rules (rows ++ row ∷ []) ≡ edges_so_far d keys rules rows ++ map (reading.read_places (key_at d order ends)) rs
     more_edges d =
         let a : map (reading.read_positions (at d keys')) rules ≡ map (reading.read_positions (at d keys)) rules = ap (λ (x : List K). map (reading.read_positions (at d x)) rules) grown ∙ rules_same d keys new rules (wider (length order) (length keys) order_within rules h.rules_below) in
@@ -192,6 +200,7 @@ module _ {K O E R T : Type 0} {p : Operation K O E} {admits : K → Type 0} {rea
         let c : read_rows reading.read_places (at d keys') (rows ++ row ∷ []) ≡ read_rows reading.read_places (at d keys) rows ++ map (reading.read_places (key_at d order ends)) rs = rows_snoc (at d keys') rows row ∙ (λ i. b i ++ row_edges d i) in
         (λ i. a i ++ c i) ∙ sym (append_assoc (map (reading.read_positions (at d keys)) rules) (read_rows reading.read_places (at d keys) rows) (map (reading.read_places (key_at d order ends)) rs))
 
+    -- what is held after one more row
     pub added : (once : Distinct keys') (stand : (whole : List K) → IsReached p whole → (k : K) → Has new k → Has whole k) (allow : Each admits new)
         (parts' : ℕ) → parts' + total p.key_parts keys ≡ (parts + ep) + total p.key_parts keys' → parts' ≤ limit
         → IsHeld order keys' rules (rows ++ row ∷ []) parts' limit
@@ -270,6 +279,7 @@ module _ {K O E R T : Type 0} {p : Operation K O E} {admits : K → Type 0} {rea
     order_low : length order ≤ length keys
     order_low = let g = long in omega arith
 
+    -- settled rules stand for the edges that the rows had
     pub settled_edges : (d : K) → edges_so_far d keys' rules' [] ≡ edges_so_far d keys rules rows
     settled_edges d =
         let a : map (reading.read_positions (at d keys')) rules ≡ map (reading.read_positions (at d order)) rules = ap (λ (x : List K). map (reading.read_positions (at d x)) rules) sorts.keys_are ∙ rules_same d order sorts.sorted rules h.rules_below in
@@ -281,6 +291,7 @@ module _ {K O E R T : Type 0} {p : Operation K O E} {admits : K → Type 0} {rea
     moved_low [] done f = tt
     moved_low (x ∷ xs) done f = (f 0 (omega arith), moved_low xs done (λ i l. f (suc i) (omega arith)))
 
+    -- all numbers after the move are those of keys
     pub all_moved : Each (λ n. n < length keys') moved
     all_moved = moved_low moved 0 (λ i l. let m : i < length h.fresh = (let c = sorts.counted in omega arith) in low i m (some h.fresh i m))
       where
@@ -292,6 +303,7 @@ module _ {K O E R T : Type 0} {p : Operation K O E} {admits : K → Type 0} {rea
         low : (i : ℕ) → i < length h.fresh → (k : K) × (slice_get h.fresh i ≡ Some k) → slice_index moved i < length keys'
         low i l (k, e) = slice_get_within keys' (slice_index moved i) k (sorts.names i k e)
 
+    -- what is held after the round
     pub finished : Leads p keys' keys' → IsHeld keys' keys' rules' [] parts limit
     finished leads = record {
       fresh = [];
@@ -312,6 +324,7 @@ module _ {K O E R T : Type 0} {p : Operation K O E} {admits : K → Type 0} {rea
 
 -- after a round the keys lead on
 module _ {K O E : Type 0} (p : Operation K O E) (laws : Laws p) where
+  -- the order after some rounds leads on
   pub leads_on : (rounds first : ℕ) (order : List K) → AfterRounds p rounds first order → Leads p order order
   leads_on rounds first order after = record {
     front = λ whole reached. (in_reached p laws rounds first order after whole reached).0;

@@ -2,6 +2,7 @@
 use Rattle.std.proofs.Common.{◌≡◌, ℕ, zero, suc, ◌+◌, ◌≤◌, List, [], ◌∷◌, ◌++◌, refl, arith}
 use Rattle.tib_hunt.specs.Claims.{one_if, occurrences, once_below}
 
+-- a number stands in two lists as often as in both together
 pub occurrences-append : (x : ℕ) (xs ys : List ℕ) → occurrences x (xs ++ ys) ≡ occurrences x xs + occurrences x ys
 occurrences-append x [] ys = omega arith
 occurrences-append x (y ∷ xs) ys = let h = occurrences-append x xs ys in omega arith
@@ -13,6 +14,7 @@ once_above : (x n : ℕ) → n ≤ x → once_below x n ≡ 0
 once_above x zero h = refl
 once_above x (suc n) h = let a = once_above x n (omega arith) in grind arith
 
+-- a number is counted at most once below a count
 pub once_le : (x n : ℕ) → once_below x n ≤ 1
 once_le x zero = omega arith
 once_le x (suc n) = let a = once_le x n in let b = once_above x n in grind arith

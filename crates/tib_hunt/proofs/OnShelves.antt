@@ -54,6 +54,7 @@ module _ {K : Type 0} (eq : K → K → Bool) (same : (x y : K) → eq x y ≡ t
       named_so : slice_get (insert_key eq (on kss i) k) p ≡ Some k
       named_so = sym (ap (λ (l : List K). slice_get l p) here) ∙ named
 
+      -- a key that is new on its shelf adds its parts
       pub grew : p ≡ length (on kss i) → total f (all_on kss') ≡ total f (all_on kss) + f k
       grew last = go (list_any (eq k) (on kss i)) named_so
         where
@@ -61,6 +62,7 @@ module _ {K : Type 0} (eq : K → K → Bool) (same : (x y : K) → eq x y ≡ t
           go true e = let l = slice_get_within (on kss i) p k e in absurd (omega arith)
           go false e = total_set f kss i (on kss i ++ k ∷ []) (f k) low (let a = total_append f (on kss i) (k ∷ []) in omega arith)
 
+      -- a key that was there adds none
       pub stayed : (p ≡ length (on kss i) → ⊥) → total f (all_on kss') ≡ total f (all_on kss)
       stayed apart = go (list_any (eq k) (on kss i)) refl named_so
         where
@@ -68,6 +70,7 @@ module _ {K : Type 0} (eq : K → K → Bool) (same : (x y : K) → eq x y ≡ t
           go true q e = let a = total_set f kss i (on kss i) 0 low (omega arith) in omega arith
           go false q e = absurd (apart (got_last (on kss i) p k e (not_any eq same self k (on kss i) q)))
 
+    -- a number names its key still
     pub still_names : (j p : ℕ) (x : K) → Names kss j p x → Names kss' j p x
     still_names j p x e = dite (ℕ_discrete j i)
         (λ q. subst (λ (m : ℕ). Names kss' m p x) (sym q) (ap (λ (l : List K). slice_get l p) here ∙ go (list_any (eq k) (on kss i)) (subst (λ (m : ℕ). Names kss m p x) q e)))
@@ -77,6 +80,7 @@ module _ {K : Type 0} (eq : K → K → Bool) (same : (x y : K) → eq x y ≡ t
         go true e = e
         go false e = get_left eq (on kss i) (k ∷ []) p x e
 
+    -- numbers name their keys still
     pub still_name : (ends : List K) (ns : List Number) → NameOn kss ends ns → NameOn kss' ends ns
     still_name [] [] a = tt
     still_name [] (n ∷ ns) a = absurd a
@@ -84,7 +88,7 @@ module _ {K : Type 0} (eq : K → K → Bool) (same : (x y : K) → eq x y ≡ t
     still_name (x ∷ xs) (n ∷ ns) a = (still_names n.shelf n.place x a.0, still_name xs ns a.1)
 
   module _ (shelf_of : K → ℕ) (low : (k : K) → shelf_of k < 16) where
-    -- whether a key was new on its shelf is told by its place
+    -- whether a key was new on its shelf shows in its place there
     module _ (f : K → ℕ) (s s' : Core K) (k : K) (wide : length s.shelves ≡ 16) (is : s' ≡ with_key eq shelf_of s k) (n : Number) (own_shelf : n.shelf ≡ shelf_of k) (named : Names s'.shelves n.shelf n.place k)
         (shelf held : ℕ) (that : shelf ≡ shelf_of k) (held_is : held ≡ length (on s.shelves shelf)) where
       few : shelf_of k < length s.shelves
@@ -96,12 +100,15 @@ module _ {K : Type 0} (eq : K → K → Bool) (same : (x y : K) → eq x y ≡ t
       held_here : held ≡ length (on s.shelves (shelf_of k))
       held_here = held_is ∙ ap (λ (i : ℕ). length (on s.shelves i)) that
 
+      -- a new key adds its parts to those of the core
       pub key_grew : n.place ≡ held → total f (all_on (with_key eq shelf_of s k).shelves) ≡ total f (all_on s.shelves) + f k
       key_grew e = grew f s.shelves (shelf_of k) k few n.place named_here (e ∙ held_here)
 
+      -- a known key adds none to those of the core
       pub key_stayed : (n.place ≡ held → ⊥) → total f (all_on (with_key eq shelf_of s k).shelves) ≡ total f (all_on s.shelves)
       key_stayed d = stayed f s.shelves (shelf_of k) k few n.place named_here (λ e. d (e ∙ sym held_here))
 
+    -- the last key is numbered after the others
     pub with_last : (s : Core K) (ks : List K) (k : K) → with_keys eq shelf_of s (ks ++ k ∷ []) ≡ with_key eq shelf_of (with_keys eq shelf_of s ks) k
     with_last s [] k = refl
     with_last s (x ∷ xs) k = with_last (with_key eq shelf_of s x) xs k
@@ -123,6 +130,7 @@ module _ {K : Type 0} (eq : K → K → Bool) (same : (x y : K) → eq x y ≡ t
       core_still : with_keys eq shelf_of old (done ++ k ∷ []) ≡ with_key eq shelf_of s k
       core_still = with_last old done k ∙ ap (λ (u : Core K). with_key eq shelf_of u k) (sym c.core_is)
 
+      -- the next key is one of the ends
       pub own : Has ends k
       own = subst (λ (l : List K). Has l k) (sym whole_still) (has_left (done ++ k ∷ []) rest' k (last done))
         where
@@ -130,6 +138,7 @@ module _ {K : Type 0} (eq : K → K → Bool) (same : (x y : K) → eq x y ≡ t
           last [] = inl refl
           last (x ∷ xs) = inr (last xs)
 
+      -- what holds after one more end is numbered
       pub shelved : (s' : Core K) (n : Number) (seen' : ℕ) → s' ≡ with_key eq shelf_of s k → Names s'.shelves n.shelf n.place k → seen' ≡ total f (all_on (with_key eq shelf_of s k).shelves) → seen' ≤ limit → ShelvedSoFar f old ends (done ++ k ∷ []) rest' limit s' (numbers ++ n ∷ []) seen'
       shelved s' n seen' is named counted within = record {
         whole = whole_still;
@@ -142,5 +151,6 @@ module _ {K : Type 0} (eq : K → K → Bool) (same : (x y : K) → eq x y ≡ t
         within = within;
       }
 
+      -- where the next key is too much, so are the ends
       pub told : (e : HuntError) → IfTooMany limit (limit < total f (all_on (with_key eq shelf_of s k).shelves)) e → IfTooMany limit (ShelvesHaveMore eq shelf_of f old (Has ends) limit) e
       told e = IfTooMany-weaker limit _ _ e (λ more. (done ++ k ∷ [], (λ x m. subst (λ (l : List K). Has l x) (sym whole_still) (has_left (done ++ k ∷ []) rest' x m)), subst (λ (u : Core K). limit < total f (all_on u.shelves)) (sym core_still) more))

@@ -12,10 +12,12 @@ use Rattle.tib_hunt.proofs.Reaching.{IfTooMany-weaker}
 use Rattle.tib_hunt.proofs.Holding.{inserted}
 use Rattle.tib_hunt.proofs.Sights.{along_snoc, get_left}
 
+-- the keys of two lists of shelves
 pub all_both : {K : Type 0} (xss yss : List (List K)) → all_on (xss ++ yss) ≡ all_on xss ++ all_on yss
 all_both [] yss = refl
 all_both (xs ∷ xss) yss = ap (λ (l : List _). xs ++ l) (all_both xss yss) ∙ sym (append_assoc xs (all_on xss) (all_on yss))
 
+-- a map over two lists
 pub map_append : {A B : Type 0} (f : A → B) (xs ys : List A) → map f (xs ++ ys) ≡ map f xs ++ map f ys
 map_append f [] ys = refl
 map_append f (x ∷ xs) ys = ap (λ (l : List _). f x ∷ l) (map_append f xs ys)
@@ -55,6 +57,7 @@ module _ {K : Type 0} (eq : K → K → Bool) (same : (x y : K) → eq x y ≡ t
     inserted_on : (xs : List K) → insert_all eq old (all_on done ++ xs) ≡ insert_all eq keys xs
     inserted_on xs = insert_both old (all_on done) xs ∙ ap (λ (l : List K). insert_all eq l xs) (sym c.keys_are)
 
+    -- what holds after one more shelf
     pub placed : (keys' : List K) (ns : List ℕ) (parts' : ℕ) → keys' ≡ insert_all eq keys ks → Name keys' ks ns → parts' + total f keys ≡ parts + total f keys' → parts' ≤ limit → PlacedSoFar f old all (done ++ ks ∷ []) rest' was limit keys' (positions ++ ns ∷ []) parts'
     placed keys' ns parts' is named counted within =
         let i = inserted eq same self ks keys in
@@ -66,6 +69,7 @@ module _ {K : Type 0} (eq : K → K → Bool) (same : (x y : K) → eq x y ≡ t
           within = within;
         }
 
+    -- where the keys of a shelf are too many, so are those of all
     pub too_many : HaveMore eq f keys ks parts limit → HaveMore eq f old (all_on all) was limit
     too_many (some, among, more) = (all_on done ++ some, (λ k h. subst (λ (l : List K). Has l k) (sym (ap all_on whole_still ∙ all_both (done ++ ks ∷ []) rest')) (has_left (all_on (done ++ ks ∷ [])) (all_on rest') k (subst (λ (l : List K). Has l k) (sym last_on) (go k (has_either (all_on done) some k h))))), (let e = c.counted in let q = ap (total f) (inserted_on some) in omega arith))
       where
@@ -73,6 +77,7 @@ module _ {K : Type 0} (eq : K → K → Bool) (same : (x y : K) → eq x y ≡ t
         go k (inl a) = has_left (all_on done) ks k a
         go k (inr b) = has_right (all_on done) ks k (among k b)
 
+    -- the same of the error
     pub told : (e : HuntError) → IfTooMany limit (HaveMore eq f keys ks parts limit) e → IfTooMany limit (HaveMore eq f old (all_on all) was limit) e
     told e = IfTooMany-weaker limit _ _ e too_many
 
@@ -80,9 +85,11 @@ module _ {K : Type 0} (eq : K → K → Bool) (same : (x y : K) → eq x y ≡ t
 module _ {K V W : Type 0} (eq : K → K → Bool) (same : (x y : K) → eq x y ≡ true → x ≡ y) (self : (x : K) → eq x x ≡ true) (keys_in : V → List K) (numbers_in : W → List ℕ)
     (f : K → ℕ) (old : List K) (all done rest : List V) (was limit : ℕ) (keys : List K) (positions : List W) (parts : ℕ)
     (c : PlacedSoFar eq same self f old (map keys_in all) (map keys_in done) (map keys_in rest) was limit keys (map numbers_in positions) parts) (v : V) (rest' : List V) (next : rest ≡ v ∷ rest') where
+  -- the same of the error, where shelves are read by a function
   pub shelf_told : (e : HuntError) → IfTooMany limit (HaveMore eq f keys (keys_in v) parts limit) e → IfTooMany limit (HaveMore eq f old (all_on (map keys_in all)) was limit) e
   shelf_told = told eq same self f old (map keys_in all) (map keys_in done) (map keys_in rest) was limit keys (map numbers_in positions) parts c (keys_in v) (map keys_in rest') (ap (map keys_in) next)
 
+  -- what holds after one more shelf, where shelves are read by a function
   pub shelf_placed : (keys' : List K) (w : W) (positions' : List W) (parts' : ℕ) → positions' ≡ positions ++ w ∷ [] → keys' ≡ insert_all eq keys (keys_in v) → Name keys' (keys_in v) (numbers_in w) → parts' + total f keys ≡ parts + total f keys' → parts' ≤ limit
       → PlacedSoFar eq same self f old (map keys_in all) (map keys_in (done ++ v ∷ [])) (map keys_in rest') was limit keys' (map numbers_in positions') parts'
   shelf_placed keys' w positions' parts' put is named counted within =
@@ -90,5 +97,6 @@ module _ {K V W : Type 0} (eq : K → K → Bool) (same : (x y : K) → eq x y �
       subst (λ (l : List (List K)). PlacedSoFar eq same self f old (map keys_in all) l (map keys_in rest') was limit keys' (map numbers_in positions') parts') (sym (map_append keys_in done (v ∷ [])))
       (subst (λ (l : List (List ℕ)). PlacedSoFar eq same self f old (map keys_in all) (map keys_in done ++ keys_in v ∷ []) (map keys_in rest') was limit keys' l parts') (sym (ap (map numbers_in) put ∙ map_append numbers_in positions (w ∷ []))) r)
 
+-- the next element goes from the rest to those that are done
 pub rest_next : {A : Type 0} (xs ys : List A) (y : A) (ys' : List A) (all : List A) → all ≡ xs ++ ys → ys ≡ y ∷ ys' → all ≡ (xs ++ y ∷ []) ++ ys'
 rest_next xs ys y ys' all is next = is ∙ ap (λ (l : List _). xs ++ l) next ∙ sym (append_assoc xs (y ∷ []) ys')

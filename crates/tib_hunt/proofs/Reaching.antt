@@ -9,7 +9,6 @@ use Rattle.tib_lex.specs.Lists.{Has, Distinct}
 use Rattle.tib_hunt.specs.EdgeLists.{Exceeds, total}
 use Rattle.tib_hunt.specs.Lawful.{IsLawful}
 use Rattle.tib_hunt.specs.Reading.{Reading}
-use Rattle.tib_hunt.specs.declared.place.Place.{Place}
 use Rattle.tib_hunt.specs.Reached.{IfTooMany, Operation, AreAscending, IsNew, AfterRounds, IsReached, AreEdges, IsBeyond}
 use Rattle.tib_hunt.specs.Held.{Leads}
 use Rattle.tib_hunt.specs.declared.found.HuntError.{HuntError}
@@ -34,6 +33,7 @@ IsNotGreater Greater = ⊥
 less≢greater : Less ≡ Greater → ⊥
 less≢greater e = subst IsNotGreater e tt
 
+-- of two keys not each is less than the other
 pub apart : {K : Type 0} (cmp : K → K → Ordering) → IsTotalOrder cmp → (x y : K) → cmp x y ≡ Less → cmp y x ≡ Less → ⊥
 apart cmp o x y a b = less≢greater (sym a ∙ o.antisymm x y ∙ ap ordering_reverse b)
 
@@ -77,6 +77,7 @@ laws_of lawful total = record {
     front (x ∷ xs) ys zero l = refl
     front (x ∷ xs) ys (suc m) l = ap (λ (k : List _). x ∷ k) (front xs ys m (omega arith))
 
+-- what lemmas take, from what the operation owes and the key type promises
 pub hunt_of : {K O E R T : Type 0} {p : Operation K O E} {admits : K → Type 0} {reading : Reading K E R T} {cmp : K → K → Ordering} {entries : K → ℕ} {eq : K → K → Bool}
     → IsLawful p admits reading cmp entries → IsTotalOrder cmp → ((x y : K) → eq x y ≡ true → x ≡ y) → ((x : K) → eq x x ≡ true) → IsHunt p admits reading cmp entries eq
 hunt_of lawful total same self = record { lawful = lawful; laws = laws_of lawful total; same = same; self = self }
@@ -84,6 +85,7 @@ hunt_of lawful total same self = record { lawful = lawful; laws = laws_of lawful
 module _ {K O E : Type 0} (p : Operation K O E) (laws : Laws p) where
   -- edges
 
+  -- the edges of the first positions stay when the order grows
   pub edges_stay : (xs ys : List K) (n : ℕ) (es : List E) → n ≤ length xs → AreEdges p xs n es → AreEdges p (xs ++ ys) n es
   edges_stay xs ys zero es low l = l
   edges_stay xs ys (suc n) es low (front, last, is, before, l) =
@@ -120,6 +122,7 @@ module _ {K O E : Type 0} (p : Operation K O E) (laws : Laws p) where
   one_round : (old : List K) (first : ℕ) (new new' : List K) → AreAscending p (IsNew p old first) new → AreAscending p (IsNew p old first) new' → new ≡ new'
   one_round old first new new' a b = same_ascending {Before = λ x y. p.cmp x y ≡ Less} (apart p.cmp laws.total_order) new new' a.0 b.0 (λ k h. (b.1 k).1 ((a.1 k).0 h)) (λ k h. (a.1 k).1 ((b.1 k).0 h))
 
+  -- the same number of rounds gives one order
   pub one_order : (n : ℕ) (e f : ℕ) (o u : List K) → AfterRounds p n e o → AfterRounds p n f u → (e ≡ f) × (o ≡ u)
   one_order zero e f o u a b = (a.0 ∙ sym b.0, same_ascending {Before = λ x y. p.cmp x y ≡ Less} (apart p.cmp laws.total_order) o u a.1.0 b.1.0 (λ k h. (b.1.1 k).1 ((a.1.1 k).0 h)) (λ k h. (a.1.1 k).1 ((b.1.1 k).0 h)))
   one_order (suc n) e f o u (old, first, new, before, is, at, made) (old', first', new', before', is', at', made') =
@@ -174,6 +177,7 @@ module _ {K O E : Type 0} (p : Operation K O E) (laws : Laws p) where
   -- parts
 
   module _ (order keys : List K) (leads : Leads p order keys) (once : Distinct keys) (n : ℕ) (es : List E) (low : n ≤ length order) (edges : AreEdges p order n es) (limit : ℕ) where
+    -- keys and edges with too many parts
     pub beyond : limit < total p.key_parts keys + total p.edge_parts es → IsBeyond p limit
     beyond more whole fs (reached, all) =
         let f = leads.front whole reached in
@@ -184,6 +188,7 @@ module _ {K O E : Type 0} (p : Operation K O E) (laws : Laws p) where
         let b = fewer_parts whole n (length whole - n) es fs here (subst (λ (i : ℕ). AreEdges p whole i fs) d all) in
         omega arith
 
+    -- edges of one more position with too many parts
     pub beyond_more : (budget : ℕ) → n < length order → Exceeds (p.edge order n) p.edge_parts budget → limit ≤ total p.key_parts keys + total p.edge_parts es + budget → IsBeyond p limit
     beyond_more budget below exceeds more whole fs (reached, all) =
         let f = leads.front whole reached in

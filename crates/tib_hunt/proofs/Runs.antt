@@ -16,12 +16,14 @@ use Rattle.tib_hunt.proofs.Members.{has_left}
 use Rattle.tib_hunt.specs.RoundLaw.{numbers_from, IsKept, IsEndOf, EveryRun, TwoRuns}
 
 module _ {A : Type 0} where
+  -- a member of a list with one more element
   pub has_snoc : (xs : List A) (x y : A) → Has (xs ++ x ∷ []) y → Has xs y ⊎ (x ≡ y)
   has_snoc [] x y (inl e) = inr e
   has_snoc [] x y (inr h) = absurd h
   has_snoc (z ∷ xs) x y (inl e) = inl (inl e)
   has_snoc (z ∷ xs) x y (inr h) = ⊎_elim (λ a. inl (inr a)) (λ b. inr b) (has_snoc xs x y h)
 
+  -- the last element is a member
   pub has_last : (xs : List A) (x : A) → Has (xs ++ x ∷ []) x
   has_last [] x = inl refl
   has_last (z ∷ xs) x = inr (has_last xs x)
@@ -78,6 +80,7 @@ module _ {K : Type 0} (eq : K → K → Bool) (same : (x y : K) → eq x y ≡ t
     nothing zero (suc n) = refl
     nothing (suc j) (suc n) = nothing j n
 
+    -- the opened core keeps the rule of a round
     pub begins : Kept opened
     begins = record {
       wide = refl;
@@ -104,6 +107,7 @@ module _ {K : Type 0} (eq : K → K → Bool) (same : (x y : K) → eq x y ≡ t
       stands = c.stands;
     }
 
+    -- an event that is allowed keeps it
     pub kept_after : (s : Core K) (e : Event K) → Kept s → Allowed eq shelf first count is_end s e → Kept (after eq shelf first count is_end s e)
     kept_after s Draw c a = go (nat_lt s.drawn count) refl
       where
@@ -142,6 +146,7 @@ module _ {K : Type 0} (eq : K → K → Bool) (same : (x y : K) → eq x y ≡ t
       pub stays : (j : ℕ) (x : K) → Has (on s.shelves j) x → Has (on t.shelves j) x
       pub there : (x : K) → Has ks x → Has (on t.shelves (shelf x)) x
 
+    -- numbering ends of drawn items keeps it
     pub kept_keys : (s : Core K) (ks : List K) → Kept s → ((k : K) → Has ks k → (i : ℕ) × IsItem first s.drawn i × is_end i k) → KeptWith s (with_keys eq shelf s ks) ks
     kept_keys s [] c ends = record { kept = c; drawn = refl; filed = refl; stays = λ j x h. h; there = λ x h. absurd h }
     kept_keys s (k ∷ ks) c ends =
@@ -177,9 +182,11 @@ module _ {K : Type 0} (eq : K → K → Bool) (same : (x y : K) → eq x y ≡ t
             (suc n, (let f = e in omega arith), ap (λ (l : List ℕ). (first + s.drawn) ∷ l) (is ∙ ap (λ (m : ℕ). numbers_from m n) up))
         go false (n, e, is) = (n, e, is)
 
+    -- a run from the opened core keeps it
     pub kept_at_end : (es : List (Event K)) (t : Core K) → Runs eq shelf first count is_end opened es t → Kept t
     kept_at_end es t r = kept_run opened es t begins r
 
+    -- a complete run draws all items in order
     pub drawn_in_order : (es : List (Event K)) (t : Core K) → Runs eq shelf first count is_end opened es t → t.drawn ≡ count → draws eq shelf first count is_end opened es ≡ numbers_from first count
     drawn_in_order es t r all =
         let d = draws_in_order opened es t r in
@@ -191,6 +198,7 @@ module _ {K : Type 0} (eq : K → K → Bool) (same : (x y : K) → eq x y ≡ t
     abbrev is_end : ℕ → K → Type 0
     is_end = IsEndOf eq shelf first count edge ends
 
+    -- what holds after every complete run
     pub every_run : EveryRun eq shelf first count edge ends
     every_run es t (r, (all, done)) =
         let c = kept_at_end shelf low first count is_end es t r in
@@ -207,6 +215,7 @@ module _ {K : Type 0} (eq : K → K → Bool) (same : (x y : K) → eq x y ≡ t
           keys_once = c.once;
         }
 
+    -- two complete runs leave the same
     pub two_runs : TwoRuns eq shelf first count edge ends
     two_runs es fs t u a b =
         let v = every_run es t a in

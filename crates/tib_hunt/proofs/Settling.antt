@@ -11,19 +11,23 @@ use Rattle.tib_hunt.specs.declared.place.Place.{Place}
 use Rattle.tib_hunt.specs.declared.place.Place.TheVariants.{Known, End}
 use Rattle.tib_hunt.specs.declared.row.Row.{Row}
 
+-- what follows from what holds all along holds all along
 pub each_weaker : {A : Type 0} (P Q : A → Type 0) (xs : List A) → ((x : A) → P x → Q x) → Each P xs → Each Q xs
 each_weaker P Q [] h e = tt
 each_weaker P Q (x ∷ xs) h e = (h x e.0, each_weaker P Q xs h e.1)
 
+-- what holds all along two lists holds along both
 pub each_append : {A : Type 0} (P : A → Type 0) (xs ys : List A) → Each P xs → Each P ys → Each P (xs ++ ys)
 each_append P [] ys a b = b
 each_append P (x ∷ xs) ys a b = (a.0, each_append P xs ys a.1 b)
 
+-- what holds all along holds of the element at an index
 pub each_at : {A : Type 0} (P : A → Type 0) (xs : List A) (i : ℕ) (d : A) → Each P xs → i < length xs → P (get_or xs i d)
 each_at P [] i d e l = absurd (omega arith)
 each_at P (x ∷ xs) zero d e l = e.0
 each_at P (x ∷ xs) (suc i) d e l = each_at P xs i d e.1 (omega arith)
 
+-- a map over two lists
 pub map_both : {A B : Type 0} (f : A → B) (xs ys : List A) → map f (xs ++ ys) ≡ map f xs ++ map f ys
 map_both f [] ys = refl
 map_both f (x ∷ xs) ys = ap (λ (l : List _). f x ∷ l) (map_both f xs ys)
@@ -34,9 +38,11 @@ index_map f (x ∷ xs) zero l = refl
 index_map f (x ∷ xs) (suc i) l = index_map f xs i (omega arith)
 
 module _ (first : ℕ) (moved : List ℕ) where
+  -- a number below the first one stays
   pub stays_low : (n : ℕ) → n < first → moved_to first moved n ≡ n
   stays_low n l = let b : nat_lt n first ≡ true = grind (arith, l) in ap (λ (c : Bool). if c then n else slice_index moved (n - first)) b
 
+  -- any other number is moved
   pub goes : (n : ℕ) → first ≤ n → moved_to first moved n ≡ slice_index moved (n - first)
   goes n l = let b : nat_lt n first ≡ false = grind (arith, l) in ap (λ (c : Bool). if c then n else slice_index moved (n - first)) b
 
@@ -53,15 +59,18 @@ module _ {R T K E : Type 0} (reading : Reading K E R T) (first : ℕ) (moved : L
     pub read : (at : ℕ → K) → map (reading.read_positions at) rules ≡ map (reading.read_positions at) old ++ edges at
     pub below : (bound : ℕ) → first ≤ bound → Each (λ n. n < bound) moved → AreBelow reading.positions bound old → AreBelow reading.positions bound rules
 
+  -- no rule is settled yet
   pub settled_none : (old : List T) → Settled old old (λ at. [])
   settled_none old = record { read = λ at. sym (append-nil (map (reading.read_positions at) old)); below = λ bound f all a. a }
 
+  -- more rules are settled
   pub settled_more : (old rules rules' : List T) (edges more : (ℕ → K) → List E) → Settled old rules edges → Settled rules rules' more → Settled old rules' (λ at. edges at ++ more at)
   settled_more old rules rules' edges more s t = record {
     read = λ at. t.read at ∙ ap (λ (l : List E). l ++ more at) (s.read at) ∙ append_assoc (map (reading.read_positions at) old) (edges at) (more at);
     below = λ bound f all a. t.below bound f all (s.below bound f all a);
   }
 
+  -- the same edges by another name
   pub settled_same : (old rules : List T) (edges edges' : (ℕ → K) → List E) → ((at : ℕ → K) → edges at ≡ edges' at) → Settled old rules edges → Settled old rules edges'
   settled_same old rules edges edges' same s = record { read = λ at. s.read at ∙ ap (λ (l : List E). map (reading.read_positions at) old ++ l) (same at); below = s.below }
 
@@ -75,6 +84,7 @@ module _ {R T K E : Type 0} (reading : Reading K E R T) (first : ℕ) (moved : L
     lows bound (Known p ∷ ps) f all e w = ((let l = w.0 in omega arith), lows bound ps f all e w.1)
     lows bound (End i ∷ ps) f all e w = (subst (λ (n : ℕ). n < bound) (sym (index_map (moved_to first moved) ends i w.0)) (low_after first moved bound (slice_index ends i) f all (each_at (λ n. n < first + length moved) ends i 0 e w.0)), lows bound ps f all e w.1)
 
+    -- one rule is settled
     pub one_settled : ((rule : R) (f g : Place → K) → Each (λ place. f place ≡ g place) (reading.places rule) → reading.read_places f rule ≡ reading.read_places g rule)
         → (rules : List T) (rule : R) (settled : T)
         → ((at : ℕ → K) → reading.read_positions at settled ≡ reading.read_places (λ place. at (position_of (map (moved_to first moved) ends) place)) rule)

@@ -34,16 +34,20 @@ module _ {P K O E : Type 0} (of : P → Operation K O E) (problem : P) (order : 
   with_ends = kept_keys eq same self shelf_of low first (length order - first) (IsEndAt (of problem) order) s ends kept (λ k h. (item, drawn, (are k).0 h))
 
   module _ (about : P × List K × ℕ) (is : about ≡ (problem, order, first)) where
+    -- the ends of the item may be numbered
     pub ends_drawn : (k : K) → Has ends k → (i : ℕ) × IsItem about.2 s.drawn i × IsEndAt (of about.0) about.1 i k
     ends_drawn = subst (λ (a : P × List K × ℕ). (k : K) → Has ends k → (i : ℕ) × IsItem a.2 s.drawn i × IsEndAt (of a.0) a.1 i k) (sym is) (λ k h. (item, drawn, (are k).0 h))
 
     module _ (s' : Core K) (core : s' ≡ with_keys eq shelf_of s ends) where
+      -- the item was drawn
       pub file_drawn : IsItem about.2 s'.drawn item
       file_drawn = subst (λ (a : P × List K × ℕ). IsItem a.2 s'.drawn item) (sym is) (subst (λ (n : ℕ). IsItem first n item) (sym (ap (λ (u : Core K). u.drawn) core ∙ with_ends.drawn)) drawn)
 
+      -- the item was not filed before
       pub file_once : (Has s.filed item → ⊥) → Has s'.filed item → ⊥
       file_once out h = out (subst (λ (l : List ℕ). Has l item) (ap (λ (u : Core K). u.filed) core ∙ with_ends.filed) h)
 
+      -- the ends of the item stand on the shelves
       pub file_ends : (k : K) → IsEndAt (of about.0) about.1 item k → Has (on s'.shelves (shelf_of k)) k
       file_ends = subst (λ (a : P × List K × ℕ). (k : K) → IsEndAt (of a.0) a.1 item k → Has (on s'.shelves (shelf_of k)) k) (sym is)
           (λ k e. subst (λ (u : Core K). Has (on u.shelves (shelf_of k)) k) (sym core) (with_ends.there k ((are k).1 e)))
@@ -54,6 +58,7 @@ on_all [] j k h = absurd h
 on_all (ks ∷ kss) zero k h = has_left ks (all_on kss) k h
 on_all (ks ∷ kss) (suc j) k h = has_right ks (all_on kss) k (on_all kss j k h)
 
+-- a key of all shelves stands on one
 pub all_somewhere : {K : Type 0} (kss : List (List K)) (k : K) → Has (all_on kss) k → (j : ℕ) × Has (on kss j) k
 all_somewhere [] k h = absurd h
 all_somewhere (ks ∷ kss) k h = elim (has_either ks (all_on kss) k h) [
@@ -65,6 +70,7 @@ distinct_both : {K : Type 0} (xs ys : List K) → Distinct xs → Distinct ys �
 distinct_both [] ys a b n = b
 distinct_both (x ∷ xs) ys a b n = ((λ h. ⊎_elim a.0 (n x (inl refl)) (has_either xs ys x h)), distinct_both xs ys a.1 b (λ k h m. n k (inr h) m))
 
+-- keys that stand once on their own shelves are distinct
 pub distinct_all : {K : Type 0} (shelf_of : K → ℕ) (kss : List (List K)) (j : ℕ) → ((i : ℕ) → Distinct (on kss i)) → ((i : ℕ) (k : K) → Has (on kss i) k → shelf_of k ≡ j + i) → Distinct (all_on kss)
 distinct_all shelf_of [] j once own = tt
 distinct_all shelf_of (ks ∷ kss) j once own =
@@ -172,27 +178,35 @@ module _ {K O E R T : Type 0} {p : Operation K O E} {admits : K → Type 0} {rea
       all_next : IsUnderway order first n s' rows was parts limit × (first + s'.drawn ≡ n + 1) × (next_item first (length order - first) s ≡ Some n)
       all_next = underway_drawn s' (core ∙ ap (λ (a : P × List K × ℕ). with_draw (length a.1 - a.2) s) is) at below
 
+      -- what holds after the draw
       pub next_under : IsUnderway order first n s' rows was parts limit
       next_under = all_next.0
 
+      -- the draw counted one item
       pub next_at : first + s'.drawn ≡ n + 1
       next_at = all_next.1
 
+      -- the draw answered the next item
       pub next_some : drawn ≡ Some n
       next_some = next ∙ ap (λ (a : P × List K × ℕ). next_item a.2 (length a.1 - a.2) s) is ∙ all_next.2
 
+      -- which item was drawn
       pub next_is : (item : ℕ) → drawn ≡ Some item → item ≡ n
       next_is item e = let f : Some item ≡ Some n = sym e ∙ next_some in cc
 
+      -- the item counts as drawn
       pub next_drawn : (item : ℕ) → drawn ≡ Some item → IsItem first s'.drawn item
       next_drawn item e = let i = next_is item e in let a = next_at in let f = u.from in (omega arith, omega arith)
 
+      -- the item was not filed before
       pub next_once : (item : ℕ) → drawn ≡ Some item → Has s'.filed item → ⊥
       next_once item e h = let i = next_is item e in let l = next_under.only_filed item h in omega arith
 
+      -- the draw left the shelves as they were
       pub next_shelves : s'.shelves ≡ s.shelves
       next_shelves = ap (λ (c : Core K). c.shelves) core
 
+      -- the parts are within the limit
       pub next_within : parts ≤ limit
       next_within = u.within
 
@@ -200,6 +214,7 @@ module _ {K O E R T : Type 0} {p : Operation K O E} {admits : K → Type 0} {rea
       item_drawn : IsItem first s.drawn n
       item_drawn = (u.from, omega arith)
 
+      -- the next item was not filed before
       pub not_filed : Has s.filed n → ⊥
       not_filed h = let l = u.only_filed n h in absurd (omega arith)
 
@@ -282,5 +297,6 @@ module _ {K O E R T : Type 0} {p : Operation K O E} {admits : K → Type 0} {rea
             (distinct_all shelf_of kss 0 c.kept.once (λ i k h. (c.kept.only i k h).0 ∙ (let z : i ≡ 0 + i = omega arith in z)))
             n (settled d ++ edges_of_rows reading.read_places d order u.sights rows) (omega arith) (all_so_far d) limit (omega arith)
 
+        -- the error of an item says that no reached set is within the limit
         pub told_much : (e : HuntError) → IfTooMany limit (IsTooMuch p reading eq shelf_of order n s parts limit) e → IfTooMany limit (IsBeyond p limit) e
         told_much e = IfTooMany-weaker limit _ _ e too_much

@@ -1,4 +1,4 @@
--- Lists of edges, each told by its origin, and rules that stand for them.
+-- Lists of edges, each with its origin, and rules that stand for them.
 use Rattle.std.specs.Prelude.{◌≡◌, ℕ, ◌+◌, ◌<◌, ◌^◌, List, [], ◌∷◌, map, length, slice_index, slice_index_or}
 use Rattle.tib_lex.specs.Lists.{Has, Each, Distinct, Along}
 use Rattle.tib_hunt.specs.declared.place.Place.{Place}
@@ -22,7 +22,7 @@ abbrev pub key_at : {K : Type 0} → K → List K → List K → Place → K
 key_at d order ends (Known p) = slice_index_or order p d
 key_at d order ends (End i) = slice_index_or ends i d
 
--- the place is a position of an order of this length, or one of so many ends
+-- the place is a position of an order of this length, or an end of a list of this length
 abbrev pub IsWithin : ℕ → ℕ → Place → Type 0
 IsWithin positions ends (Known p) = p < positions
 IsWithin positions ends (End i) = i < ends
@@ -40,8 +40,9 @@ IsEnd {K} {O} {E} edge ends_of k = (o : O) × (e : E) × edge o e × Has (ends_o
 abbrev pub Exceeds : {O E : Type 0} → (O → E → Type 0) → (E → ℕ) → ℕ → Type 0
 Exceeds {O} {E} edge parts_of budget = (es : List E) → Lists edge es → budget < total parts_of es
 
--- The rules, read over the order and the ends, are the edges, and have so many parts; each place in them is within.
-pub record AreListed {K O E R : Type 0} (edge : O → E → Type 0) (parts_of : E → ℕ) (places : R → List Place) (read : (Place → K) → R → E) (order ends : List K) (rules : List R) (parts : ℕ) : Type 0 where
+-- The rules, read over the order and the ends, are the edges, and `parts` are the parts of these; each place in the rules is within.
+pub record AreListed {K O E R : Type 0} (edge : O → E → Type 0) (parts_of : E → ℕ) (places : R → List Place)
+    (read : (Place → K) → R → E) (order ends : List K) (rules : List R) (parts : ℕ) : Type 0 where
   pub few : length ends < 2 ^ 32
   pub within : Each (λ rule. Each (IsWithin (length order) (length ends)) (places rule)) rules
   pub edges : (d : K) → Lists edge (map (read (key_at d order ends)) rules)

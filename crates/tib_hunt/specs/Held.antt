@@ -7,7 +7,7 @@ use Rattle.tib_hunt.specs.Reading.{Reading}
 use Rattle.tib_hunt.specs.Rows.{read_rows, IsRowBelow, AreBelow}
 use Rattle.tib_hunt.specs.declared.row.Row.{Row}
 
--- the key of a number, where the numbers are places in a list of keys
+-- the key of a number, where the numbers are indexes in a list of keys
 abbrev pub at : {K : Type 0} → K → List K → ℕ → K
 at d keys n = slice_index_or keys n d
 
@@ -35,7 +35,7 @@ module _ {K O E R T : Type 0} (p : Operation K O E) (admits : K → Type 0) (rea
     pub counted : (d : K) → parts ≡ total p.key_parts keys + total p.edge_parts (edges_so_far d keys rules rows)
     pub within : parts ≤ limit
 
-  -- Between two rounds: the order after so many rounds, of which the first positions are expanded and their edges are settled.
+  -- Between two rounds: the order after some rounds, of which the positions below the first one are expanded and their rules settled.
   pub record IsBetween (first : ℕ) (keys : List K) (rules : List T) (parts limit : ℕ) : Type 0 where
     pub rounds : ℕ
     pub after : AfterRounds p rounds first keys

@@ -22,8 +22,17 @@ pub record Operation (K O E : Type 0) : Type 1 where
   pub key_parts : K → ℕ
   pub edge_parts : E → ℕ
 
-abbrev pub operation : {K O E : Type 0} → (K → K → Ordering) → (K → Type 0) → (O → E → Type 0) → (List K → ℕ → O → E → Type 0) → (E → List K) → (K → ℕ) → (E → ℕ) → Operation K O E
-operation cmp seed seed_edge edge ends_of key_parts edge_parts = record { cmp = cmp; seed = seed; seed_edge = seed_edge; edge = edge; ends_of = ends_of; key_parts = key_parts; edge_parts = edge_parts }
+abbrev pub operation : {K O E : Type 0} → (K → K → Ordering) → (K → Type 0) → (O → E → Type 0) → (List K → ℕ → O → E → Type 0) → (E → List K)
+    → (K → ℕ) → (E → ℕ) → Operation K O E
+operation cmp seed seed_edge edge ends_of key_parts edge_parts = record {
+  cmp = cmp;
+  seed = seed;
+  seed_edge = seed_edge;
+  edge = edge;
+  ends_of = ends_of;
+  key_parts = key_parts;
+  edge_parts = edge_parts;
+}
 
 -- As an example take numbers as keys, the seed 1, and from each number n of at most 3 the edges to 2n and 3n. The order begins with 1. The first
 -- round appends 2 and 3. The second expands these two, and appends 4, 6 and 9, each once. The third appends nothing: the reached set is
@@ -37,7 +46,7 @@ module _ {K O E : Type 0} (p : Operation K O E) where
   abbrev pub IsNew : List K → ℕ → K → Type 0
   IsNew order expanded k = ((i : ℕ) × (expanded ≤ i) × (i < length order) × IsEnd (p.edge order i) p.ends_of k) × (Has order k → ⊥)
 
-  -- After so many rounds this is the order, and its positions below `expanded` are expanded. It begins with the seeds, ascending, and each round
+  -- The order after this number of rounds, of which the positions below `expanded` are expanded. It begins with the seeds, ascending, and each round
   -- appends its new ends, ascending.
   abbrev pub AfterRounds : ℕ → ℕ → List K → Type 0
   AfterRounds zero expanded order = (expanded ≡ 0) × AreAscending p.seed order

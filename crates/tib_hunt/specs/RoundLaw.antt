@@ -5,7 +5,7 @@ use Rattle.tib_table.specs.Known.{on}
 use Rattle.tib_hunt.specs.declared.event.Event.{Event}
 use Rattle.tib_hunt.specs.RoundModel.{Core, opened, IsItem, Runs, draws, IsComplete}
 
--- so many numbers from this one on
+-- the given count of numbers from this one on
 abbrev pub numbers_from : ℕ → ℕ → List ℕ
 numbers_from n zero = []
 numbers_from n (suc k) = n ∷ numbers_from (n + 1) k

@@ -15,7 +15,7 @@ pub record Core (K : Type 0) : Type 0 where
 abbrev pub opened : {K : Type 0} → Core K
 opened = record { drawn = 0; shelves = replicate 16 []; filed = [] }
 
--- the items of a round are so many positions from the first one on
+-- the items of a round are `count` positions from the first one on
 abbrev pub IsItem : ℕ → ℕ → ℕ → Type 0
 IsItem first count i = (first ≤ i) × (i < first + count)
 
@@ -27,7 +27,7 @@ next_item first count s = if nat_lt s.drawn count then Some (first + s.drawn) el
 abbrev pub with_draw : {K : Type 0} → ℕ → Core K → Core K
 with_draw count s = record { drawn = if nat_lt s.drawn count then s.drawn + 1 else s.drawn; shelves = s.shelves; filed = s.filed }
 
--- the state after a key is numbered: a new key goes last on its shelf
+-- the state after a key is numbered: a new key is appended to its shelf
 abbrev pub with_key : {K : Type 0} → (K → K → Bool) → (K → ℕ) → Core K → K → Core K
 with_key eq shelf_of s k = record { drawn = s.drawn; shelves = slice_set s.shelves (shelf_of k) (insert_key eq (on s.shelves (shelf_of k)) k); filed = s.filed }
 
@@ -60,7 +60,7 @@ module _ {K : Type 0} (eq : K → K → Bool) (shelf_of : K → ℕ) (first coun
   after s (Number k) = with_key eq shelf_of s k
   after s (File i) = with_filed s i
 
-  -- the events lead from s to t, each allowed in its place
+  -- the events lead from s to t, each allowed when it comes
   abbrev pub Runs : Core K → List (Event K) → Core K → Type 0
   Runs s [] t = t ≡ s
   Runs s (e ∷ es) t = Allowed s e × Runs (after s e) es t

@@ -45,7 +45,7 @@ module _ {K : Type 0} where
 abbrev pub position_on : List (List ℕ) → Number → ℕ
 position_on positions n = slice_index (slice_index_or positions n.shelf []) n.place
 
--- each number has a place there
+-- each number has a position there
 abbrev pub AreOn : List (List ℕ) → List Number → Type 0
 AreOn positions numbers = Each (λ (n : Number). n.place < length (slice_index_or positions n.shelf [])) numbers
 

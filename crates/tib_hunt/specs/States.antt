@@ -13,7 +13,6 @@ use Rattle.tib_hunt.specs.declared.hunting.HuntState.{HuntState}
 use Rattle.tib_hunt.specs.declared.place.Edges.{Edges}
 use Rattle.tib_hunt.specs.declared.place.Place.{Place}
 use Rattle.tib_hunt.specs.declared.row.Row.{Row}
-use Rattle.tib_hunt.specs.declared.shelved_row.ShelvedRow.{ShelvedRow}
 use Rattle.tib_hunt.specs.declared.working.Work.{Work}
 use Rattle.tib_hunt.specs.declared.working.Worked.{Worked}
 

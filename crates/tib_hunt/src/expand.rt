@@ -20,7 +20,8 @@ use crate::place::{Edges, ExpandError};
 use std::alloc::{AllocError, Global};
 use tib_table::TableKey;
 
-/// An operation whose keys are reached from seeds along edges. An edge is told by its origin, and stands once for each origin that gives it.
+/// An operation whose keys are reached from seeds along edges. An edge comes from an
+/// origin, and stands once in a list for each origin that gives it.
 pub trait Expand {
     /// What is reached.
     type Key: TableKey + Drop;

@@ -26,7 +26,7 @@ impl Model for Items {
     ghost invariant = { λ i. (i.table.shared.table_id.words ≡ 1) × (i.table.shared.key ≡ i.count) };
 }
 
-/// A place from which one thread draws. It knows at which counter it is, its shares, how often it was answered None, and the numbers
+/// A seat at the counter, from which one thread draws. It knows at which counter it is, its shares, how often it was answered None, and the numbers
 /// that it drew, in order.
 #[derive(Drop)]
 pub struct Seat {

@@ -12,6 +12,7 @@ all_below : (n : ℕ) (qs : List ℕ) → AllBelow n qs → (q : ℕ) → Has qs
 all_below n [] a q h = absurd h
 all_below n (p ∷ qs) a q h = elim h [ inl e ↦ subst (λ x. x < n) e a.0 | inr m ↦ all_below n qs a.1 q m ]
 
+-- the states of a sound grammar are in range
 pub states_below : (g h : GrammarOf) → g ≡ h → AreInRange (length g.names) g.rules → StatesBelow (length h.names) h.rules
 states_below g h e range =
     subst (λ (x : GrammarOf). StatesBelow (length x.names) x.rules) e (λ m q below has. all_below (length g.names) (holes_of (rule_at g.rules m).right) (range m below).1 q has)

@@ -9,6 +9,7 @@ use Rattle.tib_intersect.specs.Matching.{same_shape, bucket_at, lists_of}
 nat_eq_cases : (g f : ℕ) → ((g ≡ f) × (nat_eq g f ≡ true)) ⊎ ((g ≡ f → ⊥) × (nat_eq g f ≡ false))
 nat_eq_cases g f = grind (arith, nat_tests)
 
+-- two shapes are the same or not, as the test says
 pub same_shape_cases : (s t : ℕ × ℕ × ℕ) → ((s ≡ t) × (same_shape s t ≡ true)) ⊎ ((s ≡ t → ⊥) × (same_shape s t ≡ false))
 same_shape_cases s t = elim (nat_eq_cases s.0 t.0) [
   | inl h ↦ elim (nat_eq_cases s.1 t.1) [

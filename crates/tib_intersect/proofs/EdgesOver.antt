@@ -83,6 +83,7 @@ module _ (product : ℕ → ℕ → ℕ) (one two : List (Rule ℕ)) (order : Li
       whole = all_stand;
     }
 
+  -- edges position by position are a list by position and origin
   pub edges_below : (n : ℕ) (es : List (Rule (ℕ × ℕ))) → AreEdges (intersection product one two) order n es → Lists (GivesBelow n) es
   edges_below zero es l = record {
     origins = [];

@@ -22,6 +22,7 @@ use Rattle.tib_intersect.specs.PairGrammar.{IsPairGrammar, GivesEdge}
 use Rattle.tib_intersect.specs.PairLaws.{same_label, same_edge}
 use Rattle.tib_intersect.proofs.Steps.{open_cost, close_cost, mix, count-costs}
 
+-- what becomes holes by new names was holes
 pub AreHoles-relabel : {P Q : Type 0} (g : P → Q) (s : Trees (Symbol ℕ P)) (qs : List Q) → relabel (symbol_map g) s ≡ leaves qs → AreHoles s
 AreHoles-relabel g none qs e = tt
 AreHoles-relabel g (tree (label f) kids rest) [] e = absurd (cc)
@@ -29,13 +30,16 @@ AreHoles-relabel g (tree (label f) kids rest) (q ∷ qs) e = absurd (cc)
 AreHoles-relabel g (tree (hole p) kids rest) [] e = absurd (cc)
 AreHoles-relabel g (tree (hole p) kids rest) (q ∷ qs) e = AreHoles-relabel g rest qs (cc)
 
+-- what becomes a label was that label
 pub label-relabel : {P Q : Type 0} (g : P → Q) (s : Symbol ℕ P) (f : ℕ) → symbol_map g s ≡ label f → s ≡ label f
 label-relabel g (label h) f e = let k : h ≡ f = cc in ap label k
 label-relabel g (hole p) f e = absurd (cc)
 
+-- a symbol that is a label is one
 pub IsLabel-is : (s : Symbol ℕ ℕ) (f : ℕ) → s ≡ label f → IsLabel s
 IsLabel-is s f e = subst IsLabel (sym e) tt
 
+-- the first components of pairs
 pub firsts-zip : (qs rs : List ℕ) → length qs ≡ length rs → map (λ x. x.0) (zip qs rs) ≡ qs
 firsts-zip [] [] e = refl
 firsts-zip [] (r ∷ rs) e = absurd (omega arith)
@@ -48,18 +52,22 @@ seconds-zip [] (r ∷ rs) e = absurd (omega arith)
 seconds-zip (q ∷ qs) [] e = absurd (omega arith)
 seconds-zip (q ∷ qs) (r ∷ rs) e = ap (λ zs. r ∷ zs) (seconds-zip qs rs (omega arith))
 
+-- the first states of the pairs at positions
 abbrev pub firsts : List (ℕ × ℕ) → List ℕ → List ℕ
 firsts order [] = []
 firsts order (k ∷ ks) = (pair_at order k).0 ∷ firsts order ks
 
+-- the second states of the pairs at positions
 abbrev pub seconds : List (ℕ × ℕ) → List ℕ → List ℕ
 seconds order [] = []
 seconds order (k ∷ ks) = (pair_at order k).1 ∷ seconds order ks
 
+-- the first states as a map
 pub firsts-map : (order : List (ℕ × ℕ)) (ks : List ℕ) → firsts order ks ≡ map (λ x. x.0) (map (pair_at order) ks)
 firsts-map order [] = refl
 firsts-map order (k ∷ ks) = ap (λ zs. (pair_at order k).0 ∷ zs) (firsts-map order ks)
 
+-- the second states as a map
 pub seconds-map : (order : List (ℕ × ℕ)) (ks : List ℕ) → seconds order ks ≡ map (λ x. x.1) (map (pair_at order) ks)
 seconds-map order [] = refl
 seconds-map order (k ∷ ks) = ap (λ zs. (pair_at order k).1 ∷ zs) (seconds-map order ks)
@@ -115,6 +123,7 @@ module _
         cost_is = e.costs;
       }
 
+  -- the rules over pairs are in normal form
   pub rules_normal : AreNormal rules
   rules_normal j h =
       let s = pairs.sound j h in
@@ -278,6 +287,7 @@ module _
 
 -- from lists of edges by their origins
 
+-- equal elements of a list of distinct ones have one index
 pub distinct_at : {A : Type 0} (xs : List A) (i j : ℕ) (d : A) → Distinct xs → i < length xs → j < length xs → get_or xs i d ≡ get_or xs j d → i ≡ j
 distinct_at [] i j d s h k e = absurd (omega arith)
 distinct_at (x ∷ xs) zero zero d s h k e = refl
@@ -285,6 +295,7 @@ distinct_at (x ∷ xs) zero (suc j) d s h k e = absurd (s.0 (subst (Has xs) (sym
 distinct_at (x ∷ xs) (suc i) zero d s h k e = absurd (s.0 (subst (Has xs) e (has_at xs i d (omega arith))))
 distinct_at (x ∷ xs) (suc i) (suc j) d s h k e = ap suc (distinct_at xs i j d s.1 (omega arith) (omega arith) e)
 
+-- the partner of the element at an index
 pub along_at : {A B : Type 0} (R : A → B → Type 0) (xs : List A) (ys : List B) (j : ℕ) (d : B) → Along R xs ys → j < length ys → (x : A) × R x (get_or ys j d)
 along_at R [] [] j d a h = absurd (omega arith)
 along_at R [] (y ∷ ys) j d a h = absurd a
@@ -292,6 +303,7 @@ along_at R (x ∷ xs) [] j d a h = absurd a
 along_at R (x ∷ xs) (y ∷ ys) zero d a h = (x, a.0)
 along_at R (x ∷ xs) (y ∷ ys) (suc j) d a h = along_at R xs ys j d a.1 (omega arith)
 
+-- the partner of a member
 pub along_has : {A B : Type 0} (R : A → B → Type 0) (xs : List A) (ys : List B) (x : A) (d : B) → Along R xs ys → Has xs x → (j : ℕ) × (j < length ys) × R x (get_or ys j d)
 along_has R [] ys x d a h = absurd h
 along_has R (z ∷ xs) [] x d a h = absurd a
@@ -300,11 +312,13 @@ along_has R (z ∷ xs) (y ∷ ys) x d a h = elim h [
   | inr k ↦ let r = along_has R xs ys x d a.1 k in (suc r.0, omega (arith, r.1), r.2)
 ]
 
+-- the element of a map at an index
 pub get_map : {A B : Type 0} (g : A → B) (xs : List A) (j : ℕ) (d : B) (c : A) → j < length xs → get_or (map g xs) j d ≡ g (get_or xs j c)
 get_map g [] j d c h = absurd (omega arith)
 get_map g (x ∷ xs) zero d c h = refl
 get_map g (x ∷ xs) (suc j) d c h = get_map g xs j d c (omega arith)
 
+-- a map keeps the length
 pub length_map : {A B : Type 0} (g : A → B) (xs : List A) → length (map g xs) ≡ length xs
 length_map g [] = refl
 length_map g (x ∷ xs) = ap suc (length_map g xs)
@@ -333,6 +347,7 @@ sound_from product one two order rules found =
           );
     }
 
+-- the series of the grammar of the pairs is the product
 pub pairs_mean :
     {levelled weighted : Bool} {product : ℕ → ℕ → ℕ} (laws : ProductLaws levelled weighted product) (one two : List (Rule ℕ)) → AreNormal one → AreNormal two →
     (order : List (ℕ × ℕ)) (rules : List (Rule ℕ)) → IsPairGrammar product one two order rules → (t : Tree ℕ) (a b v : Option ℕ) → IsSeries product one t a →

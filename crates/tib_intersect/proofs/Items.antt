@@ -33,11 +33,13 @@ states_of_items (Hole q ∷ xs) (tree (hole p) (tree s ks more) rest) e a =
     let no_kids : 0 ≡ suc (count more) = ap (λ x. x.1) (head_is e) in
     absurd (omega arith)
 
+-- as many holes as children
 pub length-holes : (kids : Trees (Symbol ℕ ℕ)) → AreHoles kids → length (holes kids) ≡ count kids
 length-holes none a = refl
 length-holes (tree (label f) ks rest) a = absurd a
 length-holes (tree (hole p) ks rest) a = ap suc (length-holes rest a)
 
+-- the items below the root carry the states
 pub states_below_root : (items : List (Item ℕ)) (side : Side ℕ ℕ) → pairs_of items ≡ preorder_of side → AreHoles side.kids → map state_in (drop 1 items) ≡ holes side.kids
 states_below_root [] side e a = absurd (cc)
 states_below_root (x ∷ xs) side e a =

@@ -30,10 +30,12 @@ module _ {K : Type 0} where
   index_append (x ∷ xs) ys zero d h = refl
   index_append (x ∷ xs) ys (suc i) d h = index_append xs ys i d (omega arith)
 
+  -- the element behind the first list
   pub index_seam : (xs : List K) (y : K) (ys : List K) (d : K) → slice_index_or (xs ++ y ∷ ys) (length xs) d ≡ y
   index_seam [] y ys d = refl
   index_seam (x ∷ xs) y ys d = index_seam xs y ys d
 
+  -- an index in range reads the element
   pub index_get : (xs : List K) (i : ℕ) (d c : K) → i < length xs → slice_index_or xs i d ≡ get_or xs i c
   index_get [] i d c h = absurd (omega arith)
   index_get (x ∷ xs) zero d c h = refl
@@ -226,9 +228,11 @@ has_second i j (k ∷ js) h = elim h [ inl e ↦ inl (ap (λ o. o.1) e) | inr m 
 module _
     (ones twos : List (Rule ℕ)) (order : List (ℕ × ℕ)) (n i : ℕ) (one : Rule ℕ) (ps : List ℕ) (k : ℕ)
     (fits : Each (λ j. (j < length twos) × Agree one (rule_at twos j)) ps) (distinct : Distinct ps) (h : k < length ps) where
+  -- the match is a rule of the second grammar
   pub place_below : get_or ps k 0 < length twos
   place_below = (each_has (λ j. (j < length twos) × Agree one (rule_at twos j)) ps (get_or ps k 0) fits (has_at ps k 0 h)).0
 
+  -- which two rules give the next edge
   pub rules_here : (two : Rule ℕ) → two ≡ rule_at twos (get_or ps k 0) → Stands ones twos order i n one ps → AreRules ones twos order n i (get_or ps k 0) one two
   rules_here two is stands =
       let fit = each_has (λ j. (j < length twos) × Agree one (rule_at twos j)) ps (get_or ps k 0) fits (has_at ps k 0 h) in
@@ -243,15 +247,18 @@ module _
         agree = subst (Agree one) (sym is) fit.1;
       }
 
+  -- the next origin was not tried
   pub not_tried : (tried : List (ℕ × ℕ)) → ((j : ℕ) → Has tried (i, j) → ⊥) → Has {A = ℕ × ℕ} (tried ++ map (λ j. (i, j)) (take k ps)) (i, get_or ps k 0) → ⊥
   not_tried tried fresh has = elim (has_either tried (map (λ j. (i, j)) (take k ps)) (i, get_or ps k 0) has) [
     | inl m ↦ fresh (get_or ps k 0) m
     | inr m ↦ not_before ps k 0 distinct h (has_second i (get_or ps k 0) (take k ps) m)
   ]
 
+  -- the next origin is tried
   pub tried_more : (tried : List (ℕ × ℕ)) → (tried ++ map (λ j. (i, j)) (take k ps)) ++ (i, get_or ps k 0) ∷ [] ≡ tried ++ map (λ j. (i, j)) (take (k + 1) ps)
   tried_more tried = append_assoc tried (map (λ j. (i, j)) (take k ps)) ((i, get_or ps k 0) ∷ []) ∙ ap (λ (zs : List (ℕ × ℕ)). tried ++ zs) (sym (map_more (λ j. (i, j)) ps k 0 h))
 
+-- as many pairs as states of the first rule
 pub length-pairs : (one two : Rule ℕ) → Agree one two → length (pairs_of one two) ≡ length (states_of one)
 length-pairs one two agree = length-zip (states_of one) (states_of two) agree.rank
 
@@ -262,8 +269,10 @@ pub rules_are :
     ≡ rules ++ record { position = position; label = root; first_end = first'; rank = rank'; cost = cost' } ∷ []
 rules_are rules position root e d k = rw (e, d, k)
 
+-- the root of a rule in normal form is a label
 pub root_of : (one : Rule ℕ) → IsNormalSide one.right → (f : ℕ) × (one.right.label ≡ label f)
 root_of one normal = label_named one.right.label normal.is_label
 
+-- the ends of the next edge
 pub pairs_are : (old now : List (ℕ × ℕ)) (one two : Rule ℕ) (xs ys : List ℕ) → xs ≡ states_of one → ys ≡ states_of two → now ≡ old ++ zip xs ys → now ≡ old ++ pairs_of one two
 pairs_are old now one two xs ys e d h = h ∙ ap (λ (zs : List ℕ). old ++ zip zs ys) e ∙ ap (λ (zs : List ℕ). old ++ zip (states_of one) zs) d

@@ -5,22 +5,26 @@ use Rattle.std.proofs.lemmas.List.{take_all}
 use Rattle.tib_lex.specs.Lists.{Has, Each, Distinct, Along}
 use Rattle.tib_hunt.specs.EdgeLists.{total}
 
+-- one more pair of partners
 pub along_more : {A B : Type 0} (R : A → B → Type 0) (xs : List A) (ys : List B) (x : A) (y : B) → Along R xs ys → R x y → Along R (xs ++ x ∷ []) (ys ++ y ∷ [])
 along_more R [] [] x y a r = (r, tt)
 along_more R [] (b ∷ ys) x y a r = absurd a
 along_more R (z ∷ xs) [] x y a r = absurd a
 along_more R (z ∷ xs) (b ∷ ys) x y a r = (a.0, along_more R xs ys x y a.1 r)
 
+-- a relation that follows from another
 pub along_map : {A B : Type 0} (R S : A → B → Type 0) → ((x : A) (y : B) → R x y → S x y) → (xs : List A) (ys : List B) → Along R xs ys → Along S xs ys
 along_map R S f [] [] a = tt
 along_map R S f [] (y ∷ ys) a = absurd a
 along_map R S f (x ∷ xs) [] a = absurd a
 along_map R S f (x ∷ xs) (y ∷ ys) a = (f x y a.0, along_map R S f xs ys a.1)
 
+-- the total with one more element
 pub total_more : {E : Type 0} (parts : E → ℕ) (es : List E) (e : E) → total parts (es ++ e ∷ []) ≡ total parts es + parts e
 total_more parts [] e = omega arith
 total_more parts (x ∷ es) e = omega (arith, total_more parts es e)
 
+-- what follows from what holds all along
 pub each_map : {A : Type 0} (P Q : A → Type 0) → ((x : A) → P x → Q x) → (xs : List A) → Each P xs → Each Q xs
 each_map P Q f [] h = tt
 each_map P Q f (x ∷ xs) h = (f x h.0, each_map P Q f xs h.1)
@@ -88,6 +92,7 @@ zip_at {A} {B} {C} {D} f g (a ∷ xs) (b ∷ ys) (suc i) x y h k =
     let one : suc i + 1 ≡ suc (i + 1) = omega arith in
     ap (λ j. take j ((f a, g b) ∷ zip (map f xs) (map g ys))) one ∙ ap (λ (zs : List (C × D)). (f a, g b) ∷ zs) (zip_at f g xs ys i x y (omega arith) (omega arith))
 
+-- all pairs of two lists
 pub zip_all : {A B C D : Type 0} (f : A → C) (g : B → D) (xs : List A) (ys : List B) (i : ℕ) → length xs ≤ i → take i (zip (map f xs) (map g ys)) ≡ zip (map f xs) (map g ys)
 zip_all f g xs ys i h = take_all i (zip (map f xs) (map g ys)) (omega (arith, shorter f g xs ys))
   where
@@ -101,5 +106,6 @@ pub pushed : (before now zs more : List (ℕ × ℕ)) {k l : ℕ × ℕ} → now
 pushed before now zs more {k} {l} e d m =
     ap (λ (xs : List (ℕ × ℕ)). xs ++ k ∷ []) e ∙ ap (λ x. (before ++ zs) ++ x ∷ []) d ∙ append_assoc before zs (l ∷ []) ∙ ap (λ (xs : List (ℕ × ℕ)). before ++ xs) (sym m)
 
+-- pairs of equal components are equal
 pub same_pair : {a b c d : ℕ} → a ≡ b → c ≡ d → ◌≡◌ {A = ℕ × ℕ} (a, c) (b, d)
 same_pair e k = rw (e, k)

@@ -32,6 +32,7 @@ module _ (test : Rule ℕ → Bool) where
       let e : p - k ≡ suc (p - suc k) = omega (arith, h.from) in
       record { from = omega (arith, h.from); below = omega (arith, h.below); passes = rw e h.passes }
 
+  -- what holds of a listed position
   pub place_of : (rules : List (Rule ℕ)) (k p : ℕ) → Has (positions_from k test rules) p → IsPlace test rules k p
   place_of [] k p h = absurd h
   place_of (r ∷ rules) k p h = step (place_of rules (suc k) p) (test r) refl h
@@ -45,6 +46,7 @@ module _ (test : Rule ℕ → Bool) where
       step later true e (inr m) = shift r rules k p (later m)
       step later false e m = shift r rules k p (later m)
 
+  -- a rule that passes the test has its position listed
   pub has_place : (rules : List (Rule ℕ)) (k m : ℕ) → m < length rules → test (rule_at rules m) ≡ true → Has (positions_from k test rules) (k + m)
   has_place [] k m h e = absurd (omega arith)
   has_place (r ∷ rules) k zero h e =
@@ -58,6 +60,7 @@ module _ (test : Rule ℕ → Bool) where
       wider true h = inr h
       wider false h = h
 
+  -- the positions are distinct
   pub places_distinct : (rules : List (Rule ℕ)) (k : ℕ) → Distinct (positions_from k test rules)
   places_distinct [] k = tt
   places_distinct (r ∷ rules) k = step (places_distinct rules (suc k)) (test r)
@@ -75,6 +78,7 @@ module _ (test : Rule ℕ → Bool) where
       step later true = ap suc later
       step later false = later
 
+  -- the rule at a listed position passes the test
   pub passing-at :
       (rules : List (Rule ℕ)) (k m : ℕ) → m < length (positions_from k test rules) →
       get_or (filter test rules) m no_rule ≡ get_or rules (get_or (positions_from k test rules) m 0 - k) no_rule
@@ -146,6 +150,7 @@ place_of_shape rules s p h =
     let z : p - 0 ≡ p = omega arith in
     (omega (arith, at.below), of_shape s (rule_at rules p) (subst (λ j. has_shape s (get_or rules j no_rule) ≡ true) z at.passes))
 
+-- a rule of the shape has its position listed
 pub has_place_of_shape : (rules : List (Rule ℕ)) (s : ℕ × ℕ × ℕ) (p : ℕ) → p < length rules → IsOfShape s (rule_at rules p) → Has (positions_with s rules) p
 has_place_of_shape rules s p h is =
     let z : 0 + p ≡ p = omega arith in
@@ -155,9 +160,11 @@ has_place_of_shape rules s p h is =
 abbrev pub positions_of : ℕ → List (Rule ℕ) → List ℕ
 positions_of q rules = positions_from 0 (λ r. nat_eq r.left q) rules
 
+-- as many rules of a state as positions
 pub rules_from-length : (q : ℕ) (rules : List (Rule ℕ)) → length (rules_from q rules) ≡ length (positions_of q rules)
 rules_from-length q rules = passing-length (λ r. nat_eq r.left q) rules 0
 
+-- the rule at each of these positions
 pub rules_from-at : (q : ℕ) (rules : List (Rule ℕ)) (m : ℕ) → m < length (positions_of q rules) → get_or (rules_from q rules) m no_rule ≡ rule_at rules (get_or (positions_of q rules) m 0)
 rules_from-at q rules m h =
     let z : get_or (positions_of q rules) m 0 - 0 ≡ get_or (positions_of q rules) m 0 = omega arith in
@@ -170,6 +177,7 @@ pub record IsRuleOf (q : ℕ) (rules : List (Rule ℕ)) (m : ℕ) (r : Rule ℕ)
   pub is : r ≡ rule_at rules (get_or (positions_of q rules) m 0)
   pub left : r.left ≡ q
 
+-- which rule of the grammar a rule of the state is
 pub rule_of : (q : ℕ) (rules : List (Rule ℕ)) (m : ℕ) (r : Rule ℕ) → m < length (rules_from q rules) → r ≡ get_or (rules_from q rules) m no_rule → IsRuleOf q rules m r
 rule_of q rules m r h e =
     let place : m < length (positions_of q rules) = omega (arith, rules_from-length q rules) in
@@ -186,6 +194,7 @@ rule_of q rules m r h e =
 
 -- the matches of a rule
 module _ (twos : List (Rule ℕ)) (two_normal : AreNormal twos) (q f rank : ℕ) (one : Rule ℕ) (normal : IsNormalSide one.right) (root : one.right.label ≡ label f) (many : rank ≡ count one.right.kids) where
+  -- each match agrees with the rule
   pub matches_agree : Each (λ j. (j < length twos) × Agree one (rule_at twos j)) (positions_with (q, f, rank) twos)
   matches_agree = each_of (λ j. (j < length twos) × Agree one (rule_at twos j)) (positions_with (q, f, rank) twos) (λ j h.
       let at = place_of_shape twos (q, f, rank) j h in (
@@ -196,6 +205,7 @@ module _ (twos : List (Rule ℕ)) (two_normal : AreNormal twos) (q f rank : ℕ)
         },
       ))
 
+  -- each match leads from the second state
   pub matches_left : (j : ℕ) → Has (positions_with (q, f, rank) twos) j → (rule_at twos j).left ≡ q
   matches_left j h = (place_of_shape twos (q, f, rank) j h).1.left
 
@@ -255,20 +265,24 @@ listed_more product ones twos order n i firsts matches l m before listed found =
   ];
 }
 
+-- which rule of the grammar comes next
 pub rule_in : (q : ℕ) (rules : List (Rule ℕ)) (m s : ℕ) (r : Rule ℕ) (xs : List (Rule ℕ)) → xs ≡ rules_from s rules → s ≡ q → m < length xs → r ≡ get_or xs m r → IsRuleOf q rules m r
 rule_in q rules m s r xs are same h e =
     let is : xs ≡ rules_from q rules = are ∙ ap (λ z. rules_from z rules) same in
     rule_of q rules m r (subst (λ (ys : List (Rule ℕ)). m < length ys) is h) (get_or_read xs m r h e no_rule ∙ ap (λ (ys : List (Rule ℕ)). get_or ys m no_rule) is)
 
+-- the rule is in normal form
 pub rule_normal : (q : ℕ) (rules : List (Rule ℕ)) (m : ℕ) (r : Rule ℕ) → AreNormal rules → IsRuleOf q rules m r → IsNormalSide r.right
 rule_normal q rules m r normal rule = subst (λ (x : Rule ℕ). IsNormalSide x.right) (sym rule.is) (normal (get_or (positions_of q rules) m 0) rule.below)
 
+-- the matches of the index are those of the shape
 pub matches_fit :
     (others : List (Rule ℕ)) (matches : List ℕ) (t f rank : ℕ) (one : Rule ℕ) → AreNormal others → IsNormalSide one.right → one.right.label ≡ label f → rank ≡ count one.right.kids →
     matches ≡ positions_with (t, f, rank) others → Each (λ j. (j < length others) × Agree one (rule_at others j)) matches
 matches_fit others matches t f rank one others_normal normal root many are =
     subst (Each (λ j. (j < length others) × Agree one (rule_at others j))) (sym are) (matches_agree others others_normal t f rank one normal root many)
 
+-- the matches are distinct
 pub matches_distinct : (others : List (Rule ℕ)) (matches : List ℕ) (t f rank : ℕ) → matches ≡ positions_with (t, f, rank) others → Distinct matches
 matches_distinct others matches t f rank are = subst Distinct (sym are) (places_distinct (has_shape (t, f, rank)) others 0)
 
@@ -277,6 +291,7 @@ module _
     (product : ℕ → ℕ → ℕ) (ones others : List (Rule ℕ)) (order : List (ℕ × ℕ)) (n m : ℕ) (key : ℕ × ℕ) (one : Rule ℕ) (matches : List ℕ) (t f rank : ℕ)
     (rule : IsRuleOf key.0 ones m one) (normal : IsNormalSide one.right) (others_normal : AreNormal others) (root : one.right.label ≡ label f) (many : rank ≡ count one.right.kids)
     (state : t ≡ key.1) (are : matches ≡ positions_with (t, f, rank) others) (within : n < length order) (at : pair_at order n ≡ key) where
+  -- the rule and its matches lead from the pair
   pub stands_here : Stands ones others order (get_or (positions_of key.0 ones) m 0) n one matches
   stands_here = record {
     below = rule.below;
@@ -289,12 +304,14 @@ module _
         ∙ sym (ap (λ (k : ℕ × ℕ). k.1) at);
   }
 
+  -- no origin of the rule was tried
   pub fresh_here :
       (l : Listing) (before : AreListedFor product ones others order n (take m (positions_of key.0 ones)) l) (j : ℕ) →
       Has before.tried (get_or (positions_of key.0 ones) m 0, j) → ⊥
   fresh_here l before j h =
       not_before (positions_of key.0 ones) m 0 (places_distinct (λ r. nat_eq r.left key.0) ones 0) rule.place (before.among (get_or (positions_of key.0 ones) m 0, j) h)
 
+  -- what is listed before the rule
   pub listed_here :
       (l k : Listing) (before : AreListedFor product ones others order n (take m (positions_of key.0 ones)) l) →
       IsListed product ones others order n (before.tried ++ map (λ j. (get_or (positions_of key.0 ones) m 0, j)) matches) k →

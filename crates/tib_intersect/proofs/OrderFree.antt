@@ -1,4 +1,4 @@
--- What the reached set of the pairs does not hang on.
+-- The reached set of the pairs does not depend on the order of the rules.
 use Rattle.std.specs.Prelude.{◌≡◌, ℕ, ◌+◌, ◌<◌, List, [], ◌∷◌, ◌++◌, length, zip, refl}
 use Rattle.std.proofs.Common.{zero, suc, arith, ap, sym, ◌∙◌, subst, inl, inr, length-append, append-nil}
 use Rattle.tib_lex.specs.Lists.{Has, Distinct, Along}
@@ -171,6 +171,7 @@ module _ (product : ℕ → ℕ → ℕ) (one two three four : List (Rule ℕ)) 
     edges_to product one two three four first second order (length order) es all,
   )
 
+-- the reached set is the same for rules in another order
 pub order_is_free : (product : ℕ → ℕ → ℕ) → OrderIsFree product
 order_is_free product one two three four first second order es h = reached_to product one two three four first second order es h
 
@@ -199,6 +200,7 @@ module _ (product : ℕ → ℕ → ℕ) (one two : List (Rule ℕ)) where
       let f = along_of (GivesEdge product one two order) m.origins fs o.0 m.given (m.whole o.0 e o.1) in
       subst (Has fs) (same_edge product one two (pair_at order o.0.0) o.0.1 f.0 e f.1.1 o.1.1) f.2
 
+-- two reached sets have the same order and edges
 pub one_set : (product : ℕ → ℕ → ℕ) → IsOneSet product
 one_set product one two order other es fs h k =
     let same = same_order product one two order other h.0 k.0 in

@@ -14,9 +14,11 @@ use Rattle.tib_intersect.specs.PairLaws.{same_edge}
 use Rattle.tib_intersect.specs.Intersection.{pair_cmp, intersection}
 use Rattle.tib_intersect.proofs.Listed.{index_append}
 
+-- pairs have a total order
 pub pair_total : IsTotalOrder pair_cmp
 pair_total = then_total (on_total (λ (p : ℕ × ℕ). p.0) nat_cmp_total) (on_total (λ (p : ℕ × ℕ). p.1) nat_cmp_total)
 
+-- two lists without a common member are distinct together
 pub distinct_append : {A : Type 0} (xs ys : List A) → Distinct xs → Distinct ys → ((x : A) → Has xs x → Has ys x → ⊥) → Distinct (xs ++ ys)
 distinct_append [] ys d e n = e
 distinct_append (x ∷ xs) ys d e n = (
@@ -32,6 +34,7 @@ ascending_once (x ∷ xs) a = (
 )
 
 module _ (product : ℕ → ℕ → ℕ) (one two : List (Rule ℕ)) where
+  -- the laws of the intersection
   pub pair_laws : Laws (intersection product one two)
   pair_laws = record {
     total_order = pair_total;
@@ -41,11 +44,13 @@ module _ (product : ℕ → ℕ → ℕ) (one two : List (Rule ℕ)) where
     back = λ xs ys n o e low is. subst (λ k. IsPairEdge product one two k o e) (index_append xs ys n (0, 0) low) is;
   }
 
+  -- no pair stands twice in an order
   pub order_once : (rounds expanded : ℕ) (order : List (ℕ × ℕ)) → AfterRounds (intersection product one two) rounds expanded order → Distinct order
   order_once zero expanded order (none, first) = ascending_once order first.0
   order_once (suc rounds) expanded order (old, first, new, before, is, at, made) =
       subst Distinct (sym made) (distinct_append old new (order_once rounds first old before) (ascending_once new is.0) (λ k h m. ((is.1 k).0 m).1 h))
 
+  -- each order begins with the pair of the starts
   pub order_begins : (rounds expanded : ℕ) (order : List (ℕ × ℕ)) → AfterRounds (intersection product one two) rounds expanded order → (rest : List (ℕ × ℕ)) × (order ≡ (0, 0) ∷ rest)
   order_begins zero expanded [] (none, first) = absurd ((first.1 (0, 0)).1 refl)
   order_begins zero expanded (x ∷ xs) (none, first) = (xs, ap (λ (z : ℕ × ℕ). z ∷ xs) ((first.1 x).0 (inl refl)))

@@ -81,6 +81,7 @@ module _ (product : ℕ → ℕ → ℕ) (one two : List (Rule ℕ)) where
       }
 
   module _ (order : List (ℕ × ℕ)) (rules : List (Rule ℕ)) (reached : IsReachedSet (intersection product one two) order (map (named_rule (pair_at order)) rules)) where
+    -- the rules are the grammar of the pairs
     pub pair_grammar : AreBelow positions_of (length order) rules → IsPairGrammar product one two order rules
     pair_grammar below =
         let begins = order_begins product one two reached.0.0 reached.0.1 order reached.0.2 in
@@ -92,6 +93,7 @@ module _ (product : ℕ → ℕ → ℕ) (one two : List (Rule ℕ)) where
           edges = edges_below product one two order (length order) (map (named_rule (pair_at order)) rules) reached.1;
         }
 
+    -- each rule has the root of a rule of the first grammar
     pub roots : (m : ℕ) → m < length rules → HasRootOf one (rule_at rules m)
     roots m h =
         let spare : Rule (ℕ × ℕ) = named_rule (pair_at order) no_rule in
@@ -112,23 +114,28 @@ edges_least (e ∷ es) = omega (arith, edges_least es)
 
 module _ (product : ℕ → ℕ → ℕ) (one two : List (Rule ℕ)) (order : List (ℕ × ℕ)) (rules : List (Rule ℕ)) (parts limit : ℕ)
     (counted : parts ≡ parts_of (intersection product one two) order (map (named_rule (pair_at order)) rules)) (within : parts ≤ limit) where
+  -- there are no more pairs than the limit
   pub few_pairs : length order ≤ limit
   few_pairs = omega (arith, pairs_least order, counted, within)
 
+  -- there are no more rules than the limit
   pub few_rules : length rules ≤ limit
   few_rules = omega (arith, edges_least (map (named_rule (pair_at order)) rules), length_map (named_rule (pair_at order)) rules, counted, within)
 
 -- the same grammars under other names
 
 module _ (product : ℕ → ℕ → ℕ) (near far left right : GrammarOf) (same_left : near ≡ left) (same_right : far ≡ right) where
+  -- the reached set of the grammars that were asked for
   pub reached_of : (order : List (ℕ × ℕ)) (es : List (Rule (ℕ × ℕ))) → IsReachedSet (intersection product near.rules far.rules) order es → IsReachedSet (intersection product left.rules right.rules) order es
   reached_of order es h =
       subst (λ (x : GrammarOf). IsReachedSet (intersection product left.rules x.rules) order es) same_right (subst (λ (x : GrammarOf). IsReachedSet (intersection product x.rules far.rules) order es) same_left h)
 
+  -- the same of what is too large
   pub beyond_of : (limit : ℕ) → IsBeyond (intersection product near.rules far.rules) limit → IsBeyond (intersection product left.rules right.rules) limit
   beyond_of limit h =
       subst (λ (x : GrammarOf). IsBeyond (intersection product left.rules x.rules) limit) same_right (subst (λ (x : GrammarOf). IsBeyond (intersection product x.rules far.rules) limit) same_left h)
 
+-- what follows from two clauses of one answer
 pub ok_both : {T E : Type 0} (r : Result T E) (P Q R : T → Type 0) → ((x : T) → P x → Q x → R x) → IfOk r P → IfOk r Q → IfOk r R
 ok_both (Ok x) P Q R f h k = f x h k
 ok_both (Err e) P Q R f h k = tt

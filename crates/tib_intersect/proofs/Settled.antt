@@ -17,11 +17,13 @@ drop_at [] i h = absurd (omega arith)
 drop_at (x ∷ ends) zero h = refl
 drop_at (x ∷ ends) (suc i) h = drop_at ends i (omega arith)
 
+-- ends side by side have the positions of a slice
 pub positions_are : (ends : List ℕ) (i k : ℕ) → i + k ≤ length ends → take k (drop i ends) ≡ map (position_of ends) (ends_from i k)
 positions_are ends i zero h = refl
 positions_are ends i (suc k) h =
     ap (λ xs. take (suc k) xs) (drop_at ends i (omega arith)) ∙ ap (λ xs. slice_index ends i ∷ xs) (positions_are ends (suc i) k (omega arith))
 
+-- the ends of a rule are a slice of the list
 pub ends_fit : (known m i k : ℕ) → Each (IsWithin known m) (ends_from i k) → 0 < k → i + k ≤ m
 ends_fit known m i zero h p = absurd (omega arith)
 ends_fit known m i (suc zero) h p = omega (arith, h.0)
@@ -31,6 +33,7 @@ length-ends : (f : Place → ℕ) (i k : ℕ) → length (map f (ends_from i k))
 length-ends f i zero = refl
 length-ends f i (suc k) = ap suc (length-ends f (suc i) k)
 
+-- as many positions as ends
 pub length-positions : (ends : List ℕ) (i k : ℕ) → length (map (position_of ends) (ends_from i k)) ≡ k
 length-positions ends i k = length-ends (position_of ends) i k
 
@@ -58,6 +61,7 @@ append_nothing : (xs : List ℕ) → xs ++ [] ≡ xs
 append_nothing [] = refl
 append_nothing (x ∷ xs) = ap (λ ys. x ∷ ys) (append_nothing xs)
 
+-- the settled rule has the positions of its ends
 pub settled_positions :
     (r : PairRule) (ends qs : List ℕ) (s : Rule ℕ) → qs ≡ map (position_of ends) (ends_from r.first_end r.rank) → s ≡ record { left = r.position; right = over r.label qs; cost = r.cost } →
     positions_of s ≡ map (position_of ends) (places_of r)

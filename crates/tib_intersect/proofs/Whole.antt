@@ -14,6 +14,7 @@ use Rattle.tib_intersect.specs.Listing.{all_ends, IsWithinBudget, AreListedFrom,
 use Rattle.tib_intersect.specs.PairLaws.{same_edge}
 use Rattle.tib_intersect.proofs.Lists.{total_fewer}
 
+-- the partner of a member of the first list
 pub along_of : {A B : Type 0} (R : A → B → Type 0) (xs : List A) (ys : List B) (x : A) → Along R xs ys → Has xs x → (y : B) × R x y × Has ys y
 along_of R [] ys x a h = absurd h
 along_of R (z ∷ xs) [] x a h = absurd a
@@ -22,6 +23,7 @@ along_of R (z ∷ xs) (y ∷ ys) x a h = elim h [
   | inr k ↦ let r = along_of R xs ys x a.1 k in (r.0, r.1, inr r.2)
 ]
 
+-- the partner of a member of the second list
 pub along_back : {A B : Type 0} (R : A → B → Type 0) (xs : List A) (ys : List B) (y : B) → Along R xs ys → Has ys y → (x : A) × R x y
 along_back R [] [] y a h = absurd h
 along_back R [] (z ∷ ys) y a h = absurd a

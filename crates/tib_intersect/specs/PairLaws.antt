@@ -16,12 +16,14 @@ use Rattle.tib_hunt.specs.Lawful.{IsLawful}
 use Rattle.tib_intersect.specs.Intersection.{intersection, pair_cmp}
 use Rattle.tib_intersect.specs.PairRules.{ends_from, places_of, read_places, states_in, positions_of, pair_reading}
 
+-- a symbol has one label
 pub same_label : {P : Type 0} (f g : ℕ) (s : Symbol ℕ P) → s ≡ label f → s ≡ label g → f ≡ g
 same_label f g (label h) e k = cc
 same_label f g (hole p) e k = absurd (cc)
 
 -- an origin gives one edge
-pub same_edge : (product : ℕ → ℕ → ℕ) (one two : List (Rule ℕ)) (key o : ℕ × ℕ) (e d : Rule (ℕ × ℕ)) → IsPairEdge product one two key o e → IsPairEdge product one two key o d → e ≡ d
+pub same_edge : (product : ℕ → ℕ → ℕ) (one two : List (Rule ℕ)) (key o : ℕ × ℕ) (e d : Rule (ℕ × ℕ)) →
+    IsPairEdge product one two key o e → IsPairEdge product one two key o d → e ≡ d
 same_edge product one two key o e d h k =
     let root : h.root ≡ k.root = same_label h.root k.root (rule_at one o.0).right.label h.first_root k.first_root in
     let zipped : List (ℕ × ℕ) = zip (holes (rule_at one o.0).right.kids) (holes (rule_at two o.1).right.kids) in
@@ -32,11 +34,12 @@ same_edge product one two key o e d h k =
     ∙ ap (λ r. record { left = d.left; right = r; cost = e.cost }) right
     ∙ ap (λ c. record { left = d.left; right = d.right; cost = c }) costs
 
+-- functions that agree along a list have the same map
 pub map_same : {A B : Type 0} (f g : A → B) (xs : List A) → Each (λ x. f x ≡ g x) xs → map f xs ≡ map g xs
 map_same f g [] h = refl
 map_same f g (x ∷ xs) h = ap (λ y. y ∷ map f xs) h.0 ∙ ap (λ ys. g x ∷ ys) (map_same f g xs h.1)
 
--- what a rule reads as hangs on its places alone
+-- what a rule stands for depends on the keys at its places alone
 pub reads_places : {K : Type 0} (r : PairRule) (f g : Place → K) → Each (λ p. f p ≡ g p) (places_of r) → read_places f r ≡ read_places g r
 reads_places r f g h =
     ap (λ k. record { left = k; right = over r.label (map f (ends_from r.first_end r.rank)); cost = r.cost }) h.0
@@ -60,15 +63,17 @@ relabel_same f g (tree (hole q) kids rest) h =
     ∙ ap (λ ks. tree (hole (g q)) ks (relabel (symbol_map f) rest)) (relabel_same f g kids (each_left (λ q. f q ≡ g q) (states_in kids) (states_in rest) h.1))
     ∙ ap (λ rs. tree (hole (g q)) (relabel (symbol_map g) kids) rs) (relabel_same f g rest (each_right (λ q. f q ≡ g q) (states_in kids) (states_in rest) h.1))
 
-symbol_same : {K : Type 0} (f g : ℕ → K) (s : Symbol ℕ ℕ) (kids : Trees (Symbol ℕ ℕ)) → Each (λ q. f q ≡ g q) (states_in (tree s kids none)) → symbol_map {A = ℕ} f s ≡ symbol_map g s
+symbol_same : {K : Type 0} (f g : ℕ → K) (s : Symbol ℕ ℕ) (kids : Trees (Symbol ℕ ℕ)) →
+    Each (λ q. f q ≡ g q) (states_in (tree s kids none)) → symbol_map {A = ℕ} f s ≡ symbol_map g s
 symbol_same f g (label x) kids h = refl
 symbol_same f g (hole q) kids h = ap hole h.0
 
-kids_same : {K : Type 0} (f g : ℕ → K) (s : Symbol ℕ ℕ) (kids : Trees (Symbol ℕ ℕ)) → Each (λ q. f q ≡ g q) (states_in (tree s kids none)) → relabel (symbol_map f) kids ≡ relabel (symbol_map g) kids
+kids_same : {K : Type 0} (f g : ℕ → K) (s : Symbol ℕ ℕ) (kids : Trees (Symbol ℕ ℕ)) →
+    Each (λ q. f q ≡ g q) (states_in (tree s kids none)) → relabel (symbol_map f) kids ≡ relabel (symbol_map g) kids
 kids_same f g (label x) kids h = relabel_same f g kids (each_left (λ q. f q ≡ g q) (states_in kids) [] h)
 kids_same f g (hole q) kids h = relabel_same f g kids (each_left (λ q. f q ≡ g q) (states_in kids) [] h.1)
 
--- what a rule over positions stands for hangs on these alone
+-- what a rule over positions stands for depends on the keys at these alone
 pub reads_positions : {K : Type 0} (r : Rule ℕ) (f g : ℕ → K) → Each (λ q. f q ≡ g q) (positions_of r) → named_rule f r ≡ named_rule g r
 reads_positions r f g h =
     ap (λ k. record { left = k; right = side_map f r.right; cost = r.cost }) h.0
@@ -109,6 +114,7 @@ pair_stays xs ys n e =
     let same : take (suc n) xs ≡ take (suc n) ys = subst (λ m. take m xs ≡ take m ys) one e in
     sym (take_at xs n (0, 0)) ∙ ap (λ (zs : List (ℕ × ℕ)). get_or zs n (0, 0)) same ∙ take_at ys n (0, 0)
 
+-- the pair of the starts has its states in range
 pub seed_below : (a b : ℕ) (k : ℕ × ℕ) → 0 < a → 0 < b → k ≡ (0, 0) → (k.0 < a) × (k.1 < b)
 seed_below a b k x y e = (omega (arith, x, ap (λ (z : ℕ × ℕ). z.0) e), omega (arith, y, ap (λ (z : ℕ × ℕ). z.1) e))
 

@@ -1,4 +1,5 @@
-// The pairs of states as an operation: its seed, its edges, and the rules that stand for these.
+//! The pairs of states as an operation: its seed, its edges, and the rules that stand for these.
+
 ghost use Rattle.std.specs.Prelude.{◌≡◌, ℕ, ◌<◌, ◌^◌, length, map};
 ghost use Rattle.tib_lex.specs.Lists.{Each};
 ghost use Rattle.tib_hunt.specs.EdgeLists.{IsWithin, position_of};

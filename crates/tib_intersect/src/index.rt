@@ -1,4 +1,5 @@
-// The rules of a grammar in normal form by their left states and the labels and ranks of their right sides.
+//! The rules of a grammar in normal form by their left states and the labels and ranks of their right sides.
+
 ghost use Rattle.std.specs.Prelude.{◌≡◌, ℕ, ◌+◌, ◌<◌, ◌≤◌, ◌^◌, IfOk, OnOk, length, List};
 ghost use Rattle.tib_grammar.specs.Forms.{AreNormal, IsNormalSide};
 ghost use Rattle.tib_grammar.specs.declared.Rule.{Rule};

@@ -1,4 +1,5 @@
-// What holds of the grammar of the pairs, in every semiring.
+//! What holds of the grammar of the pairs, in every semiring.
+
 ghost use Rattle.tib_intersect.specs.PairGrammar.{PairsMean};
 ghost use Rattle.tib_intersect.specs.Intersection.{OrderIsFree, IsOneSet};
 

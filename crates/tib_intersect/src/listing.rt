@@ -1,4 +1,5 @@
-// The edges of a pair of states, listed one after another.
+//! The edges of a pair of states, listed one after another.
+
 ghost use Rattle.std.specs.Prelude.{◌≡◌, ℕ, ◌<◌, ◌≤◌, ◌⊎◌, ◌++◌, List, length, map, zip, OnOk, Err};
 ghost use Rattle.tib_lex.specs.Lists.{Has, Each, Distinct};
 ghost use Rattle.tib_grammar.specs.Forms.{AreNormal, IsNormalSide};

@@ -1,3 +1,5 @@
+//! Pairs of states, the keys of the operation.
+
 ghost use Rattle.std.specs.Prelude.{◌≡◌};
 
 use std::marker::Model;

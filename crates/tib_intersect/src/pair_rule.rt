@@ -1,3 +1,5 @@
+//! An edge of a pair, over places.
+
 use tib_cost::Cost;
 use tib_tree::Label;
 

@@ -1,4 +1,5 @@
-// The pairs of the states of two grammars, as what is hunted.
+//! The pairs of the states of two grammars, as what is hunted.
+
 ghost use Rattle.std.specs.Prelude.{◌≡◌, ℕ, ◌<◌, ◌≤◌, List, length, IfOk, Err};
 ghost use Rattle.tib_hunt.specs.Reached.{most_parts};
 ghost use Rattle.tib_intersect.specs.IsIndex.{IsIndex};
