@@ -11,9 +11,7 @@ use Rattle.tib_grammar.specs.GrammarOf.{GrammarOf, named_rule}
 use Rattle.tib_grammar.specs.declared.Rule.{Rule}
 use Rattle.tib_grammar.proofs.Members.{each_has, has_at}
 use Rattle.tib_hunt.specs.EdgeLists.{total}
-use Rattle.tib_hunt.specs.Reached.{IsReachedSet, IsBeyond, IfTooMany, parts_of}
-use Rattle.tib_hunt.specs.declared.found.HuntError.{HuntError}
-use Rattle.tib_hunt.specs.declared.found.HuntError.TheVariants.{TooMany, OutOfMemory}
+use Rattle.tib_hunt.specs.Reached.{IsReachedSet, IsBeyond, parts_of}
 use Rattle.tib_hunt.specs.Rows.{AreBelow}
 use Rattle.tib_hunt.specs.Numbered.{key_parts}
 use Rattle.tib_intersect.specs.PairEdges.{pair_at, IsPairEdge, edge_parts}
