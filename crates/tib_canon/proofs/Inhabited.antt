@@ -13,6 +13,7 @@ use Rattle.tib_grammar.specs.declared.Rule.{Rule}
 use Rattle.tib_grammar.proofs.Members.{has_at, at_has}
 use Rattle.tib_cost.specs.Least.{IsLeast}
 use Rattle.tib_cost.specs.Semiring.{ProductLaws, most}
+use Rattle.tib_normal.proofs.Existing.{has_least}
 use Rattle.tib_inside.specs.Inside.{IsRunCost, IsInside, AreInsides}
 use Rattle.tib_inside.specs.Settling.{costs_in}
 use Rattle.tib_inside.specs.Trimmed.{IsTrimmed}
@@ -23,25 +24,6 @@ use Rattle.tib_inside.proofs.Keeping.{as_many, named_at}
 use Rattle.tib_inside.proofs.Living.{insides_all, live_by_runs}
 use Rattle.tib_inside.proofs.Occurring.{below_has}
 use Rattle.tib_canon.proofs.TrimmedOnce.{place_told}
-
--- That a set of costs has no least value, and is not empty of costs either, cannot be.
-
-module _ (P : ℕ → Type 0) (never : (v : Option ℕ) → IsLeast P v → ⊥) where
-  below_none : (n : ℕ) → (m : ℕ) → m < n → P m → m ≤ most → ⊥
-  below_none zero m h p b = omega (arith, h)
-  below_none (suc n) m h p b = elim (last_or_before m n h) [
-    | inl k ↦ below_none n m k p b
-    | inr e ↦ never (Some m) (record { attained = (p, b); lower = λ k q c. not_below m k (λ l. below_none n k (omega (arith, e)) q c) })
-  ]
-    where
-      last_or_before : (m n : ℕ) → m < suc n → (m < n) ⊎ (m ≡ n)
-      last_or_before m n h = grind arith
-
-      not_below : (m k : ℕ) → (k < m → ⊥) → m ≤ k
-      not_below m k h = grind arith
-
-  pub least_is : ⊥
-  least_is = never None (record { attained = tt; lower = λ n p b. below_none (suc n) n (omega arith) p b })
 
 module _ (product : ℕ → ℕ → ℕ) (rules : List (Rule ℕ)) where
   last_or_before : (q n : ℕ) → q < n + 1 → (q < n) ⊎ (q ≡ n)
@@ -58,7 +40,7 @@ module _ (product : ℕ → ℕ → ℕ) (rules : List (Rule ℕ)) where
   insides_are zero k = k [] refl (λ q h. absurd (omega arith))
   insides_are (suc n) k =
       insides_are n (λ costs long are.
-      least_is (IsRunCost product rules (length costs ∷ [])) (λ v i. k (costs ++ v ∷ []) (omega (arith, length-append costs (v ∷ []), long)) (insides_more costs v are i)))
+      has_least (IsRunCost product rules (length costs ∷ [])) (λ v i. k (costs ++ v ∷ []) (omega (arith, length-append costs (v ∷ []), long)) (insides_more costs v are i)))
 
   inside_along : (qs cs : List ℕ) (q : ℕ) → Along (λ p c. IsInside product rules p (Some c)) qs cs → Has qs q → (c : ℕ) × IsInside product rules q (Some c)
   inside_along [] cs q a h = absurd h

@@ -117,20 +117,24 @@ module _ {K : Type 0} (cmp : K → K → Ordering) (order : List K) (start : ℕ
 no_leaves : SidesEndInHoles []
 no_leaves m h = absurd (omega arith)
 
+pub begun_once :
+    {K : Type 0} (cmp : K → K → Ordering) → IsTotalOrder cmp → (product : ℕ → ℕ → ℕ) (scale : Scale) (labels : List (List ℕ)) (order : List K) (xs ys : List (Rule ℕ)) (begin : Begin) (g k h i : GrammarOf) →
+    ((r : Rule ℕ) → Has xs r → Has ys r) → ((r : Rule ℕ) → Has ys r → Has xs r) → SidesEndInHoles xs → SidesEndInHoles ys → IsBegun cmp order xs begin g → IsBegun cmp order ys begin k →
+    IsCanonical product scale labels g h → IsCanonical product scale labels k i → h ≡ i
+begun_once cmp total product scale labels order xs ys (At start) g k h i to from leaves others c d a b =
+    let same = by_keys_once cmp total order start c.states d.states c.by_keys d.by_keys in
+    one_canonical_of product scale labels g k h i (leaves_over cmp order start xs g c leaves) (leaves_over cmp order start ys k d others)
+    (record {
+      to = stands_over cmp order start xs ys g k c d same leaves others to;
+      from = stands_over cmp order start ys xs k g d c (sym same) others leaves from;
+    }) a b
+begun_once cmp total product scale labels order xs ys Empty g k h i to from leaves others c d a b =
+    one_canonical_of product scale labels without_rules without_rules h i no_leaves no_leaves (alike_self [])
+    (subst (λ (z : GrammarOf). IsCanonical product scale labels z h) c a) (subst (λ (z : GrammarOf). IsCanonical product scale labels z i) d b)
+
 pub keys_once :
     {K : Type 0} (cmp : K → K → Ordering) → IsTotalOrder cmp → (product : ℕ → ℕ → ℕ) (scale : Scale) (labels : List (List ℕ)) (order : List K) (xs ys : List (Rule ℕ)) (begin : Begin) (h i : GrammarOf) →
     ((r : Rule ℕ) → Has xs r → Has ys r) → ((r : Rule ℕ) → Has ys r → Has xs r) → SidesEndInHoles xs → SidesEndInHoles ys →
     IsCanonicalOverKeys product scale labels cmp order xs begin h → IsCanonicalOverKeys product scale labels cmp order ys begin i → h ≡ i
-keys_once cmp total product scale labels order xs ys begin h i to from leaves others a b = by begin a.begun b.begun
-  where
-    by : (begin : Begin) → IsBegun cmp order xs begin a.over → IsBegun cmp order ys begin b.over → h ≡ i
-    by (At start) c d =
-        let same = by_keys_once cmp total order start c.states d.states c.by_keys d.by_keys in
-        one_canonical_of product scale labels a.over b.over h i (leaves_over cmp order start xs a.over c leaves) (leaves_over cmp order start ys b.over d others)
-        (record {
-          to = stands_over cmp order start xs ys a.over b.over c d same leaves others to;
-          from = stands_over cmp order start ys xs b.over a.over d c (sym same) others leaves from;
-        }) a.canonical b.canonical
-    by Empty c d =
-        one_canonical_of product scale labels without_rules without_rules h i no_leaves no_leaves (alike_self [])
-        (subst (λ (g : GrammarOf). IsCanonical product scale labels g h) c a.canonical) (subst (λ (g : GrammarOf). IsCanonical product scale labels g i) d b.canonical)
+keys_once cmp total product scale labels order xs ys begin h i to from leaves others a b =
+    begun_once cmp total product scale labels order xs ys begin a.over b.over h i to from leaves others a.begun b.begun a.canonical b.canonical

@@ -33,3 +33,8 @@ pub mod TrimmedExist
 pub mod OrderExists
 pub mod CanonicalExists
 pub mod OverKeysExist
+pub mod ReachedOnce
+pub mod ReachedAlike
+pub mod EdgesByText
+pub mod ConstructionOnce
+pub mod ConstructionExists

@@ -69,7 +69,7 @@ positions_with f rules (n ∷ positions) e =
     ap (λ (x : Rule ℕ). x ∷ rules_with f (map (rule_at rules) positions)) (sym (at_with f rules n e.0)) ∙ ap (λ (xs : List (Rule ℕ)). rule_at (rules_with f rules) n ∷ xs) (positions_with f rules positions e.1)
 
 -- rules in range under the other numbers
-range_with : (f : ℕ → ℕ) (n : ℕ) (rules : List (Rule ℕ)) → AreInRange n rules → AreInRange n (rules_with f rules)
+pub range_with : (f : ℕ → ℕ) (n : ℕ) (rules : List (Rule ℕ)) → AreInRange n rules → AreInRange n (rules_with f rules)
 range_with f n rules range m k =
     let e : DifferInLabels rules (rules_with f rules) = differ_with f rules in
     let below : m < length rules = omega (arith, k, e.long) in

@@ -3,3 +3,4 @@ pub mod Merging
 pub mod Lines
 pub mod Keys
 pub mod TrimmedForms
+pub mod Constructions

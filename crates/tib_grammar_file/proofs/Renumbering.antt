@@ -1,5 +1,5 @@
 -- The numbers of one table's texts in another table.
-use Rattle.std.proofs.Common.{◌≡◌, ℕ, ◌+◌, ◌⊎◌, Bool, true, false, List, [], ◌∷◌, length, refl, ap, sym, ◌∙◌, arith, zero, suc, inl, inr, Option}
+use Rattle.std.proofs.Common.{◌≡◌, ℕ, ◌+◌, ◌<◌, ◌⊎◌, Bool, true, false, List, [], ◌∷◌, length, refl, ap, sym, ◌∙◌, arith, zero, suc, inl, inr, Option}
 use Rattle.std.specs.Prelude.{slice_get, Some, None, cond}
 use Rattle.std.specs.Bool.{Decides}
 use Rattle.std.specs.Str.{bytes_eq}
@@ -10,10 +10,12 @@ use Rattle.tib_grammar_file.specs.ByText.{HaveOneText}
 use Rattle.tib_grammar_file.proofs.OneGrammar.{number_same}
 use Rattle.tib_lex.proofs.Lists.{some_same}
 
--- each label gets the number of its text in the other table, and no two labels get one number
+-- each label gets the number of its text in the other table, a label whose text is not there gets none of that table, and no
+-- two labels get one number
 pub record Renumbers (labels others : List (List ℕ)) (f : ℕ → ℕ) : Type 0 where
   pub apart : (i j : ℕ) → f i ≡ f j → i ≡ j
   pub gives : (i k : ℕ) → HaveOneText labels others i k → f i ≡ k
+  pub back : (i : ℕ) → f i < length others → HaveOneText labels others i (f i)
 
 -- the place of a text in a table, and behind the table by i where it is not there
 abbrev place_or : List (List ℕ) → List ℕ → ℕ → ℕ
@@ -59,6 +61,10 @@ is_moved labels others i (Some t) e = elim (is_place others t i) [
   | inr s ↦ inr s
 ]
 
+moved_back : (labels others : List (List ℕ)) (i n : ℕ) → IsMoved labels others i n → n < length others → HaveOneText labels others i n
+moved_back labels others i n (inl h) low = h
+moved_back labels others i n (inr e) low = absurd (omega (arith, e, low))
+
 moved_apart : (labels others : List (List ℕ)) → Distinct labels → (i j m n : ℕ) → IsMoved labels others i m → IsMoved labels others j n → m ≡ n → i ≡ j
 moved_apart labels others apart i j m n (inl h) (inl k) e =
     let same : h.text ≡ k.text = some_same h.text k.text (sym h.second ∙ ap (slice_get others) e ∙ k.second) in
@@ -77,5 +83,6 @@ renumbering labels others apart different =
         gives = λ i k h.
             ap (λ (o : Option (List ℕ)). number_of others o i) h.first
             ∙ number_same others (place_or others h.text i) k h.text different (found others h.text i k h.second) h.second;
+        back = λ i low. moved_back labels others i (f i) (is_moved labels others i (slice_get labels i) refl) low;
       },
     )

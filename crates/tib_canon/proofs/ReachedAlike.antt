@@ -1,0 +1,82 @@
+-- Two problems whose edges correspond, one by one, reach the same order.
+use Rattle.std.proofs.Common.{◌≡◌, ℕ, zero, suc, ◌<◌, List, [], ◌∷◌, ◌++◌, length, map, refl, sym, ap, ◌∙◌, subst}
+use Rattle.std.proofs.lemmas.List.{map-append}
+use Rattle.std.specs.declared.cmp.Ordering.{Ordering}
+use Rattle.std.specs.declared.cmp.Ordering.TheVariants.{Less}
+use Rattle.tib_lex.specs.Lists.{Has, Ascends, Along}
+use Rattle.tib_hunt.specs.EdgeLists.{Lists}
+use Rattle.tib_hunt.specs.Reached.{Operation, IsNew, AreAscending, AfterRounds, AreEdges, IsReachedSet}
+
+-- The edges that `Gives` gives and those that `Tells` tells correspond under f: an edge of the one goes to one of the other, with
+-- the same origin, and each of the other comes from one.
+pub record Correspond {O E : Type 0} (f : E → E) (Gives Tells : O → E → Type 0) : Type 0 where
+  pub to : (o : O) (e : E) → Gives o e → Tells o (f e)
+  pub from : (o : O) (e : E) → Tells o e → (old : E) × (e ≡ f old) × Gives o old
+
+-- The problems have one order of keys and the same seeds, and their edges correspond and end at the same keys.
+pub record AreProblemsAlike {K O E : Type 0} (f : E → E) (p q : Operation K O E) : Type 0 where
+  pub cmp : p.cmp ≡ q.cmp
+  pub seed_to : (k : K) → p.seed k → q.seed k
+  pub seed_from : (k : K) → q.seed k → p.seed k
+  pub seed_edges : Correspond f p.seed_edge q.seed_edge
+  pub edges : (order : List K) (n : ℕ) → Correspond f (p.edge order n) (q.edge order n)
+  pub ends : (e : E) → q.ends_of (f e) ≡ p.ends_of e
+
+-- lists of edges that correspond
+module _ {O E : Type 0} (f : E → E) (Gives Tells : O → E → Type 0) (c : Correspond f Gives Tells) where
+  along_to : (os : List O) (es : List E) → Along Gives os es → Along Tells os (map f es)
+  along_to [] [] a = tt
+  along_to [] (e ∷ es) a = absurd a
+  along_to (o ∷ os) [] a = absurd a
+  along_to (o ∷ os) (e ∷ es) a = (c.to o e a.0, along_to os es a.1)
+
+  lists_to : (es : List E) → Lists Gives es → Lists Tells (map f es)
+  lists_to es l = record {
+    origins = l.origins;
+    once = l.once;
+    given = along_to l.origins es l.given;
+    whole = λ o x g. let r = c.from o x g in l.whole o r.0 r.2;
+  }
+
+module _ {K O E : Type 0} (f : E → E) (p q : Operation K O E) (a : AreProblemsAlike f p q) where
+  new_to : (order : List K) (expanded : ℕ) (k : K) → IsNew p order expanded k → IsNew q order expanded k
+  new_to order expanded k ((i, from, below, (o, e, is, has)), out) =
+      ((i, from, below, (o, f e, (a.edges order i).to o e is, subst (λ (ks : List K). Has ks k) (sym (a.ends e)) has)), out)
+
+  new_from : (order : List K) (expanded : ℕ) (k : K) → IsNew q order expanded k → IsNew p order expanded k
+  new_from order expanded k ((i, from, below, (o, e, is, has)), out) =
+      let r = (a.edges order i).from o e is in
+      let there : Has (q.ends_of (f r.0)) k = subst (λ (x : E). Has (q.ends_of x) k) r.1 has in
+      ((i, from, below, (o, r.0, r.2, subst (λ (ks : List K). Has ks k) (a.ends r.0) there)), out)
+
+  ascend_to : (P Q : K → Type 0) (ks : List K) → ((k : K) → P k → Q k) → ((k : K) → Q k → P k) → AreAscending p P ks → AreAscending q Q ks
+  ascend_to P Q ks to from up =
+      (subst (λ (c : K → K → Ordering). Ascends (λ x y. c x y ≡ Less) ks) a.cmp up.0, λ k. (λ h. to k ((up.1 k).0 h), λ h. (up.1 k).1 (from k h)))
+
+  rounds_to : (rounds expanded : ℕ) (order : List K) → AfterRounds p rounds expanded order → AfterRounds q rounds expanded order
+  rounds_to zero expanded order (none, first) = (none, ascend_to p.seed q.seed order a.seed_to a.seed_from first)
+  rounds_to (suc rounds) expanded order (old, start, new, before, is, at, made) = (
+    old,
+    start,
+    new,
+    rounds_to rounds start old before,
+    ascend_to (IsNew p old start) (IsNew q old start) new (new_to old start) (new_from old start) is,
+    at,
+    made,
+  )
+
+  edges_to : (order : List K) (n : ℕ) (es : List E) → AreEdges p order n es → AreEdges q order n (map f es)
+  edges_to order zero es l = lists_to f p.seed_edge q.seed_edge a.seed_edges es l
+  edges_to order (suc n) es (front, last, is, before, l) = (
+    map f front,
+    map f last,
+    ap (map f) is ∙ map-append f front last,
+    edges_to order n front before,
+    lists_to f (p.edge order n) (q.edge order n) (a.edges order n) last l,
+  )
+
+  pub reached_alike : (order : List K) (es : List E) → IsReachedSet p order es → IsReachedSet q order (map f es)
+  reached_alike order es ((rounds, expanded, after, stops), all) = (
+    (rounds, expanded, rounds_to rounds expanded order after, λ k h. stops k (new_from order expanded k h)),
+    edges_to order (length order) es all,
+  )
