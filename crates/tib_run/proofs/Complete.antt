@@ -5,7 +5,7 @@ use Rattle.tib_lex.specs.declared.fault.FileFault.{FileFault}
 use Rattle.tib_command.specs.Jobs.{Asked}
 use Rattle.tib_run.specs.declared.status.Status.{Status}
 use Rattle.tib_run.specs.declared.status.Status.TheVariants as statuses
-use Rattle.tib_run.specs.Kinds.{Kind, kind_at, file_at, OfName, OfFile, Told, IsShort, IsOfKind, HasFault, KindsHaveNoFault}
+use Rattle.tib_run.specs.Kinds.{Kind, kind_at, file_at, OfName, OfFile, Told, IsShort, IsLong, IsOfKind, HasFault, KindsHaveNoFault}
 use Rattle.tib_run.specs.Causes.{HasCause, HasTooMany, scale_of}
 use Rattle.tib_run.specs.Answers.{IsAnswerable, IsCalm, IsComplete, WithinIsNotTooMuch}
 use Rattle.tib_run.proofs.Faults.{told_both}
@@ -40,8 +40,8 @@ module _ (no_fault : KindsHaveNoFault) (apart : WithinIsNotTooMuch) where
             no_fault (scale_of asked.mode) kind b.0 fault b.1.1 b.2
 
     -- none is too long
-    not_long : (n : ℕ) → OfFile (Some asked) n (Told held (λ bytes. 8388608 < length bytes)) → ⊥
-    not_long n h = refuted n (λ bytes. 8388608 < length bytes) (λ x s p. omega (arith, s, p)) h
+    not_long : (n : ℕ) → OfFile (Some asked) n (Told held IsLong) → ⊥
+    not_long n h = refuted n IsLong (λ x s p. omega (arith, s, p)) h
 
     -- and what is made is within the limit
     not_large : (limit : ℕ) → HasTooMany (Some asked) held limit → ⊥

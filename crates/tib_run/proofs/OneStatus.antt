@@ -9,11 +9,12 @@ use Rattle.tib_command.specs.declared.job.Operation.{Operation}
 use Rattle.tib_command.specs.declared.job.Operation.TheVariants as operations
 use Rattle.tib_run.specs.declared.status.Status.{Status}
 use Rattle.tib_run.specs.declared.status.Status.TheVariants as statuses
-use Rattle.tib_run.specs.Kinds.{Kind, of_grammar, of_trees, kinds_of, kind_at, file_at, bytes_at, OfName, OfFile, Told, IsShort, IsOfKind, HasFault}
-use Rattle.tib_run.specs.Causes.{IsTooMuch, scale_of, product_of}
-use Rattle.tib_run.specs.Answers.{IsAnswerOf, IsAnswer, AreTold, EndsCalmly, AreOneStatus}
+use Rattle.tib_run.specs.Kinds.{Kind, of_grammar, of_trees, kinds_of, kind_at, file_at, bytes_at, OfName, OfFile, Told, IsShort, IsLong, IsOfKind, HasFault}
+use Rattle.tib_run.specs.Causes.{IsTooMuch, scale_of, bytes_of}
+use Rattle.tib_run.specs.Answers.{IsAnswer, AreTold, EndsCalmly, AreOneStatus}
 use Rattle.tib_run.proofs.Faults.{faulty_kind, one_fault}
-use Rattle.tib_run.proofs.Limits.{answer_apart}
+use Rattle.tib_run.proofs.FileValues.{kinds_told}
+use Rattle.tib_run.proofs.OfJobs.{answer_apart}
 use Rattle.tib_run.proofs.Reached.{if_some, some_kind, told_some}
 
 -- places in a list
@@ -28,33 +29,7 @@ slice_some [] n h = absurd (omega arith)
 slice_some (x ∷ xs) zero h = (x, refl)
 slice_some (x ∷ xs) (suc n) h = slice_some xs n (omega arith)
 
--- the files of an answer are of their kinds
-
-kind_given : (scale : Scale) (o : Option (List ℕ)) (k kind : Kind) → (let x : Option Kind = Some k in x ≡ Some kind) → IfSome o (IsOfKind scale k) → IfSome o (IsOfKind scale kind)
-kind_given scale o k kind e h = subst (λ z. IfSome o (IsOfKind scale z)) (some_kind k kind e) h
-
-first_sound :
-    (o : Operation) (scale : Scale) (product : ℕ → ℕ → ℕ) (limit : ℕ) (first second : Option (List ℕ)) (text : List ℕ) → IsAnswerOf o scale product limit first second text → (kind : Kind) →
-    slice_get (kinds_of o) 0 ≡ Some kind → IfSome first (IsOfKind scale kind)
-first_sound operations.Weigh scale product limit first second text a kind e = kind_given scale first of_grammar kind e (if_some first (λ x r. (a.early, a.g, r)) a.grammar)
-first_sound operations.Inside scale product limit first second text a kind e = kind_given scale first of_grammar kind e (if_some first (λ x r. (a.labels, a.g, r)) a.grammar)
-first_sound operations.Normal scale product limit first second text a kind e = kind_given scale first of_grammar kind e (if_some first (λ x r. (a.labels, a.g, r)) a.grammar)
-first_sound operations.Intersect scale product limit first second text a kind e = kind_given scale first of_grammar kind e (if_some first (λ x r. (a.early, a.f, r)) a.one)
-
-second_sound :
-    (o : Operation) (scale : Scale) (product : ℕ → ℕ → ℕ) (limit : ℕ) (first second : Option (List ℕ)) (text : List ℕ) → IsAnswerOf o scale product limit first second text → (kind : Kind) →
-    slice_get (kinds_of o) 1 ≡ Some kind → IfSome second (IsOfKind scale kind)
-second_sound operations.Weigh scale product limit first second text a kind e = kind_given scale second of_trees kind e (if_some second (λ x r. (a.labels, a.trees, r)) a.listed)
-second_sound operations.Inside scale product limit first second text a kind e = absurd (cc e)
-second_sound operations.Normal scale product limit first second text a kind e = absurd (cc e)
-second_sound operations.Intersect scale product limit first second text a kind e = kind_given scale second of_grammar kind e (if_some second (λ x r. (a.labels, a.g, r)) a.two)
-
-no_third : (o : Operation) (n : ℕ) (kind : Kind) → slice_get (kinds_of o) (suc (suc n)) ≡ Some kind → ⊥
-no_third operations.Weigh n kind e = absurd (cc e)
-no_third operations.Inside n kind e = absurd (cc e)
-no_third operations.Normal n kind e = absurd (cc e)
-no_third operations.Intersect n kind e = absurd (cc e)
-
+-- a file of its kind is not too long
 kind_short : (scale : Scale) (kind : Kind) (x : List ℕ) → IsOfKind scale kind x → IsShort x
 kind_short scale of_grammar x is = is.2.0
 kind_short scale of_trees x is = is.2.0
@@ -100,7 +75,7 @@ module _ (asked : Asked) (held : List ℕ → Option (List ℕ)) where
   Says (statuses.TooMany limit) = ((n : ℕ) → IsSound n) × (asked.limit ≡ limit) × IsTooMuch asked held
   Says (statuses.ReadFault n) = ⊥
   Says statuses.WriteFault = ⊥
-  Says (statuses.TooLong n) = (s : Stops n) × (8388608 < length s.text)
+  Says (statuses.TooLong n) = (s : Stops n) × (IsLong s.text)
   Says statuses.OutOfMemory = Unit {0}
 
   never_stops : ((n : ℕ) → IsSound n) → (n : ℕ) → Stops n → ⊥
@@ -123,7 +98,7 @@ module _ (asked : Asked) (held : List ℕ → Option (List ℕ)) where
       let kind : s.kind ≡ t.kind = some_kind s.kind t.kind (sym s.is ∙ ap (kind_at (Some asked)) (one_stop m n s t) ∙ t.is) in
       one_fault scale t.kind t.text a b (subst (λ z. HasFault scale (Some z) t.text a) kind (subst (λ z. HasFault scale (Some s.kind) z a) (one_text m n s t) h)) k
 
-  short_and_long : (m n : ℕ) (s : Stops m) (t : Stops n) → IsShort s.text → 8388608 < length t.text → ⊥
+  short_and_long : (m n : ℕ) (s : Stops m) (t : Stops n) → IsShort s.text → IsLong t.text → ⊥
   short_and_long m n s t h k = omega (arith, h, k, ap length (one_text m n s t))
 
   module _ (told : AreTold asked held) where
@@ -178,8 +153,8 @@ module _ (asked : Asked) (held : List ℕ → Option (List ℕ)) where
         has : bytes n ≡ Some text
         given : P text
 
-      bytes_of : (n : ℕ) (P : List ℕ → Type 0) → OfFile (Some asked) n (Told held P) → HasBytes n P
-      bytes_of n P h =
+      told_of : (n : ℕ) (P : List ℕ → Type 0) → OfFile (Some asked) n (Told held P) → HasBytes n P
+      told_of n P h =
           let name = named (file_at (Some asked) n) (Told held P) h in
           let k = has_kind n name.0 name.1 in
           let b = some_of (bytes n) P (told n k.0 k.1) (told_some held (file_at (Some asked) n) P h) in
@@ -191,15 +166,13 @@ module _ (asked : Asked) (held : List ℕ → Option (List ℕ)) where
 
       all_sound : (text : List ℕ) → IsAnswer asked held text → (n : ℕ) → IsSound n
       all_sound text a zero kind e = absurd (cc e)
-      all_sound text a (suc zero) kind e = first_sound asked.task.operation scale (product_of asked.mode) asked.limit (bytes 1) (bytes 2) text a kind e
-      all_sound text a (suc (suc zero)) kind e = second_sound asked.task.operation scale (product_of asked.mode) asked.limit (bytes 1) (bytes 2) text a kind e
-      all_sound text a (suc (suc (suc n))) kind e = absurd (no_third asked.task.operation n kind e)
+      all_sound text a (suc n) kind e = kinds_told scale a.labels (kinds_of asked.task.operation) (bytes_of asked held) a.values a.texts.texts n kind e
 
       says : (s : Status) → EndsCalmly asked held s → Says s
       says statuses.Done e = let t = e.text refl in (all_sound t.0 t.1, t)
       says statuses.Usage e = let never : (let o : Option Asked = Some asked in o ≡ None) = e.cause in absurd (cc never)
       says (statuses.BadInput n fault) e =
-          let b = bytes_of n (λ x. IsShort x × HasFault scale (kind_at (Some asked) n) x fault) e.cause in
+          let b = told_of n (λ x. IsShort x × HasFault scale (kind_at (Some asked) n) x fault) e.cause in
           let f : HasFault scale (Some b.kind) b.text fault = subst (λ k. HasFault scale k b.text fault) b.is b.given.1 in (
             record { before = λ m h kind is. e.earlier m kind h is; kind = b.kind; is = b.is; text = b.text; has = b.has; bad = λ k. faulty_kind scale b.kind b.text fault f k },
             b.given.0,
@@ -209,7 +182,7 @@ module _ (asked : Asked) (held : List ℕ → Option (List ℕ)) where
       says (statuses.ReadFault n) e = e.calm.files n e.cause
       says statuses.WriteFault e = e.calm.out e.cause.1
       says (statuses.TooLong n) e =
-          let b = bytes_of n (λ x. 8388608 < length x) e.cause in (
+          let b = told_of n IsLong e.cause in (
             record { before = λ m h kind is. e.earlier m kind h is; kind = b.kind; is = b.is; text = b.text; has = b.has; bad = λ k. omega (arith, b.given, kind_short scale b.kind b.text k) },
             b.given,
           )

@@ -10,17 +10,17 @@ use Rattle.tib_tree.specs.Grows.{Grows, AreDistinct}
 use Rattle.tib_grammar.specs.GrammarOf.{GrammarOf}
 use Rattle.tib_grammar.specs.Series.{IsSeries}
 use Rattle.tib_grammar.specs.declared.Rule.{Rule}
-use Rattle.tib_grammar_file.specs.Read.{ReadsAs}
 use Rattle.tib_normal.specs.NormalForm.{KeepsSeries}
-use Rattle.tib_normal.specs.Rows.{HasMoreParts}
+use Rattle.tib_inside.specs.Trimmed.{HasSameSeries, HaveSameSeries}
 use Rattle.tib_command.specs.Jobs.{Asked}
-use Rattle.tib_command.specs.declared.job.Operation.TheVariants as operations
+use Rattle.tib_command.specs.declared.job.Operation.{Operation}
 use Rattle.tib_run.specs.declared.status.Status.{Status}
 use Rattle.tib_run.specs.declared.status.Status.TheVariants as statuses
-use Rattle.tib_run.specs.Kinds.{Kind, of_grammar, of_trees, kind_at, kinds_of, file_at, bytes_at, OfName, OfFile, Told, IsShort, IsRead, ListsTrees, IsOfKind, HasFault}
-use Rattle.tib_run.specs.Answers.{IsWeighed, HasInsides, HasNormalText, IsAnswer, IsAnswerOf}
-use Rattle.tib_run.specs.Intersections.{HasIntersection, HasLargeIntersection, IntersectsTooMuch}
-use Rattle.tib_run.specs.Causes.{HasLargeForm, HasCause, AreBefore, HasEarlier, IsAbout, IsEarly, IsFormFault, IsIntersectionFault, MakesTooMuch, file_count, scale_of, product_of, scale_by}
+use Rattle.tib_run.specs.Kinds.{Kind, of_grammar, of_trees, kind_at, kinds_of, file_at, bytes_at, OfName, OfFile, Told, IsShort, IsRead, ListsTrees, ValueOf, IsTextOf, IsOfKind, ValuesOf, AreTexts, HasFault}
+use Rattle.tib_run.specs.Answers.{IsResultOf, IsAnswer, IsAnswerOf}
+use Rattle.tib_run.specs.Made.{IsMadeFault}
+use Rattle.tib_run.specs.Causes.{HasCause, AreBefore, HasEarlier, IsAbout, IsEarly, MakesTooMuch, makes, bytes_of, file_count, scale_of, product_of, scale_by}
+use Rattle.tib_run.proofs.FileValues.{told_grown, kinds_told}
 
 -- the name of a file by its place among the job's files
 pub name_at : {A : Type 0} (f : A → List ℕ) (xs : List A) (i : ℕ) (x : A) → i < length xs → x ≡ get_or xs i x → slice_get (map f xs) i ≡ Some (f x)
@@ -119,191 +119,72 @@ about_earlier job held file statuses.WriteFault h b = tt
 about_earlier job held file (statuses.TooLong n) h b = subst (AreBefore job held) (sym h) b
 about_earlier job held file statuses.OutOfMemory h b = tt
 
-pub form_early : (product : ℕ → ℕ → ℕ) (g : GrammarOf) (limit : ℕ) (s : Status) → IsFormFault product g limit s → IsEarly s
-form_early product g limit statuses.Done h = absurd h
-form_early product g limit statuses.Usage h = absurd h
-form_early product g limit (statuses.BadInput n fault) h = tt
-form_early product g limit (statuses.TooMany n) h = tt
-form_early product g limit (statuses.ReadFault n) h = tt
-form_early product g limit statuses.WriteFault h = absurd h
-form_early product g limit (statuses.TooLong n) h = tt
-form_early product g limit statuses.OutOfMemory h = tt
+-- where the first file was read, the files before the second are of their kinds
+pub before_second :
+    (asked : Asked) (held : List ℕ → Option (List ℕ)) (o : Operation) (scale : Scale) (labels : List (List ℕ)) (kind : Kind) (value : ValueOf kind) → asked.task.operation ≡ o →
+    slice_get (kinds_of o) 0 ≡ Some kind → scale ≡ scale_of asked.mode → OfFile (Some asked) 1 (Told held (IsTextOf scale labels kind value)) → AreBefore (Some asked) held 2
+before_second asked held o scale labels kind value op at we h =
+    before_more (Some asked) held 1 kind (before_first (Some asked) held) (subst (λ (q : Operation). slice_get (kinds_of q) 0 ≡ Some kind) (sym op) at)
+    (if_some (bytes_at held (file_at (Some asked) 1)) (λ bytes t. (labels, value, subst (λ (w : Scale). IsTextOf w labels kind value bytes) we t))
+    (told_some held (file_at (Some asked) 1) (IsTextOf scale labels kind value) h))
 
-pub form_earlier :
-    (job : Option Asked) (held : List ℕ → Option (List ℕ)) (product : ℕ → ℕ → ℕ) (g : GrammarOf) (limit : ℕ) (s : Status) → IsFormFault product g limit s → AreBefore job held (file_count job + 1) →
-    HasEarlier job held s
-form_earlier job held product g limit statuses.Done h b = tt
-form_earlier job held product g limit statuses.Usage h b = tt
-form_earlier job held product g limit (statuses.BadInput n fault) h b = absurd h
-form_earlier job held product g limit (statuses.TooMany n) h b = b
-form_earlier job held product g limit (statuses.ReadFault n) h b = absurd h
-form_earlier job held product g limit statuses.WriteFault h b = tt
-form_earlier job held product g limit (statuses.TooLong n) h b = absurd h
-form_earlier job held product g limit statuses.OutOfMemory h b = tt
+-- the values of one file, and of two, over the last table of labels
 
--- the job makes the normal form of its first file
-abbrev pub MakesForm : Asked → Type 0
-MakesForm asked =
-    (n : ℕ) (first second : Option (List ℕ)) → IfSome first (HasLargeForm (scale_of asked.mode) (product_of asked.mode) n) →
-    MakesTooMuch asked.task.operation (scale_of asked.mode) (product_of asked.mode) n first second
+pub one_file :
+    (asked : Asked) (held : List ℕ → Option (List ℕ)) (scale : Scale) (labels : List (List ℕ)) (kind : Kind) (value : ValueOf kind) → AreDistinct labels →
+    OfFile (Some asked) 1 (Told held (IsTextOf scale labels kind value)) → AreTexts scale labels (bytes_of asked held) (kind ∷ []) (value, tt)
+one_file asked held scale labels kind value distinct h = record { distinct = distinct; texts = (told_some held (file_at (Some asked) 1) (IsTextOf scale labels kind value) h, tt) }
 
-pub weigh_makes : (asked : Asked) → asked.task.operation ≡ operations.Weigh → MakesForm asked
-weigh_makes asked e n first second h = subst (λ o. MakesTooMuch o (scale_of asked.mode) (product_of asked.mode) n first second) (sym e) h
+pub two_files :
+    (asked : Asked) (held later : List ℕ → Option (List ℕ)) (scale : Scale) (early labels : List (List ℕ)) (first second : Kind) (one : ValueOf first) (two : ValueOf second) →
+    AreDistinct labels → Grows early labels → later ≡ held → OfFile (Some asked) 1 (Told held (IsTextOf scale early first one)) →
+    OfFile (Some asked) 2 (Told later (IsTextOf scale labels second two)) → AreTexts scale labels (bytes_of asked held) (first ∷ (second ∷ [])) (one, (two, tt))
+two_files asked held later scale early labels first second one two distinct grows same h k =
+    let here : OfFile (Some asked) 2 (Told held (IsTextOf scale labels second two)) = subst (λ (t : List ℕ → Option (List ℕ)). OfFile (Some asked) 2 (Told t (IsTextOf scale labels second two))) same k in
+    record {
+      distinct = distinct;
+      texts = (
+        told_grown scale early labels first one (bytes_of asked held 0) grows (told_some held (file_at (Some asked) 1) (IsTextOf scale early first one) h),
+        (told_some held (file_at (Some asked) 2) (IsTextOf scale labels second two) here, tt),
+      );
+    }
 
-pub normal_makes : (asked : Asked) → asked.task.operation ≡ operations.Normal → MakesForm asked
-normal_makes asked e n first second h = subst (λ o. MakesTooMuch o (scale_of asked.mode) (product_of asked.mode) n first second) (sym e) h
+-- what follows for a job from the values of its files
 
--- too many parts of the normal form of the grammar of the first file are a cause
-pub form_cause :
-    (asked : Asked) (held : List ℕ → Option (List ℕ)) (before now : List ℕ → ℕ) (a b : ℕ) (scale : Scale) (product : ℕ → ℕ → ℕ) (labels : List (List ℕ)) (g : GrammarOf) (s : Status) →
-    MakesForm asked → scale ≡ scale_of asked.mode → product ≡ product_of asked.mode → AreDistinct labels → IfSome (bytes_at held (file_at (Some asked) 1)) (IsRead scale labels g) →
-    IsFormFault product g asked.limit s → HasCause (Some asked) held before now a b s
-form_cause asked held before now a b scale product labels g statuses.Done op we pe d text h = absurd h
-form_cause asked held before now a b scale product labels g statuses.Usage op we pe d text h = absurd h
-form_cause asked held before now a b scale product labels g (statuses.BadInput m fault) op we pe d text h = absurd h
-form_cause asked held before now a b scale product labels g (statuses.TooMany n) op we pe d text h =
-    let more : HasMoreParts (product_of asked.mode) (length g.names) g.rules asked.limit = subst (λ p. HasMoreParts p (length g.names) g.rules asked.limit) pe h.1 in (
-      sym h.0,
-      op asked.limit (bytes_at held (file_at (Some asked) 1)) (bytes_at held (file_at (Some asked) 2))
-          (if_some (bytes_at held (file_at (Some asked) 1)) (λ bytes r. record { labels = labels; g = g; distinct = d; text = subst (λ w. ReadsAs w labels bytes g) we r.1; more = more }) text),
-    )
-form_cause asked held before now a b scale product labels g (statuses.ReadFault m) op we pe d text h = absurd h
-form_cause asked held before now a b scale product labels g statuses.WriteFault op we pe d text h = absurd h
-form_cause asked held before now a b scale product labels g (statuses.TooLong m) op we pe d text h = absurd h
-form_cause asked held before now a b scale product labels g statuses.OutOfMemory op we pe d text h = tt
+module _
+    (asked : Asked) (held : List ℕ → Option (List ℕ)) (o : Operation) (scale : Scale) (product : ℕ → ℕ → ℕ) (labels : List (List ℕ)) (values : ValuesOf (kinds_of o)) (op : asked.task.operation ≡ o)
+    (we : scale ≡ scale_of asked.mode) (pe : product ≡ product_of asked.mode) (texts : AreTexts scale labels (bytes_of asked held) (kinds_of o) values) where
+  -- all files are of their kinds
+  pub all_are : AreBefore (Some asked) held (file_count (Some asked) + 1)
+  all_are zero kind low e = absurd (cc e)
+  all_are (suc n) kind low e =
+      subst (λ (w : Scale). IfSome (bytes_of asked held n) (IsOfKind w kind)) we
+      (kinds_told scale labels (kinds_of o) (bytes_of asked held) values texts.texts n kind (subst (λ (q : Operation). slice_get (kinds_of q) n ≡ Some kind) op e))
 
-pub intersection_early : (product : ℕ → ℕ → ℕ) (f g : GrammarOf) (limit : ℕ) (s : Status) → IsIntersectionFault product f g limit s → IsEarly s
-intersection_early product f g limit statuses.Done h = absurd h
-intersection_early product f g limit statuses.Usage h = absurd h
-intersection_early product f g limit (statuses.BadInput n fault) h = tt
-intersection_early product f g limit (statuses.TooMany n) h = tt
-intersection_early product f g limit (statuses.ReadFault n) h = tt
-intersection_early product f g limit statuses.WriteFault h = absurd h
-intersection_early product f g limit (statuses.TooLong n) h = tt
-intersection_early product f g limit statuses.OutOfMemory h = tt
+  -- that too much is made of them is a cause
+  pub made_cause : (before now : List ℕ → ℕ) (a b : ℕ) (s : Status) → IsMadeFault (makes o product asked.limit values).more asked.limit s → HasCause (Some asked) held before now a b s
+  made_cause before now a b statuses.Done h = absurd h
+  made_cause before now a b statuses.Usage h = absurd h
+  made_cause before now a b (statuses.BadInput m fault) h = absurd h
+  made_cause before now a b (statuses.TooMany n) h =
+      let much : MakesTooMuch o scale product asked.limit (bytes_of asked held) = record { labels = labels; values = values; texts = texts; more = h.1 } in (
+        sym h.0,
+        subst (λ (q : Operation). MakesTooMuch q (scale_of asked.mode) (product_of asked.mode) asked.limit (bytes_of asked held)) (sym op)
+            (subst (λ (p : ℕ → ℕ → ℕ). MakesTooMuch o (scale_of asked.mode) p asked.limit (bytes_of asked held)) pe
+            (subst (λ (w : Scale). MakesTooMuch o w product asked.limit (bytes_of asked held)) we much)),
+      )
+  made_cause before now a b (statuses.ReadFault m) h = absurd h
+  made_cause before now a b statuses.WriteFault h = absurd h
+  made_cause before now a b (statuses.TooLong m) h = absurd h
+  made_cause before now a b statuses.OutOfMemory h = tt
 
-pub intersection_earlier :
-    (job : Option Asked) (held : List ℕ → Option (List ℕ)) (product : ℕ → ℕ → ℕ) (f g : GrammarOf) (limit : ℕ) (s : Status) → IsIntersectionFault product f g limit s →
-    AreBefore job held (file_count job + 1) → HasEarlier job held s
-intersection_earlier job held product f g limit statuses.Done h b = tt
-intersection_earlier job held product f g limit statuses.Usage h b = tt
-intersection_earlier job held product f g limit (statuses.BadInput n fault) h b = absurd h
-intersection_earlier job held product f g limit (statuses.TooMany n) h b = b
-intersection_earlier job held product f g limit (statuses.ReadFault n) h b = absurd h
-intersection_earlier job held product f g limit statuses.WriteFault h b = tt
-intersection_earlier job held product f g limit (statuses.TooLong n) h b = absurd h
-intersection_earlier job held product f g limit statuses.OutOfMemory h b = tt
-
--- too many parts of what the grammars of the two files intersect in are a cause
-pub intersection_cause :
-    (asked : Asked) (held : List ℕ → Option (List ℕ)) (before now : List ℕ → ℕ) (a b : ℕ) (scale : Scale) (product : ℕ → ℕ → ℕ) (early labels : List (List ℕ)) (f g : GrammarOf) (s : Status) →
-    asked.task.operation ≡ operations.Intersect → scale ≡ scale_of asked.mode → product ≡ product_of asked.mode → AreDistinct labels → Grows early labels →
-    IfSome (bytes_at held (file_at (Some asked) 1)) (IsRead scale early f) → IfSome (bytes_at held (file_at (Some asked) 2)) (IsRead scale labels g) →
-    IsIntersectionFault product f g asked.limit s → HasCause (Some asked) held before now a b s
-intersection_cause asked held before now a b scale product early labels f g statuses.Done op we pe d k one two h = absurd h
-intersection_cause asked held before now a b scale product early labels f g statuses.Usage op we pe d k one two h = absurd h
-intersection_cause asked held before now a b scale product early labels f g (statuses.BadInput m fault) op we pe d k one two h = absurd h
-intersection_cause asked held before now a b scale product early labels f g (statuses.TooMany n) op we pe d k one two h =
-    let first : Option (List ℕ) = bytes_at held (file_at (Some asked) 1) in
-    let second : Option (List ℕ) = bytes_at held (file_at (Some asked) 2) in
-    let more : IntersectsTooMuch (product_of asked.mode) asked.limit f g = subst (λ p. IntersectsTooMuch p asked.limit f g) pe h.1 in
-    let large : IfSome first (λ x. IfSome second (HasLargeIntersection (scale_of asked.mode) (product_of asked.mode) asked.limit x)) =
-    if_some first (λ x r. if_some second (λ y q. record {
-      early = early;
-      labels = labels;
-      f = f;
-      g = g;
-      distinct = d;
-      grows = k;
-      one = subst (λ w. ReadsAs w early x f) we r.1;
-      two = subst (λ w. ReadsAs w labels y g) we q.1;
-      more = more;
-    }) two) one
-    in (sym h.0, subst (λ o. MakesTooMuch o (scale_of asked.mode) (product_of asked.mode) asked.limit first second) (sym op) large)
-intersection_cause asked held before now a b scale product early labels f g (statuses.ReadFault m) op we pe d k one two h = absurd h
-intersection_cause asked held before now a b scale product early labels f g statuses.WriteFault op we pe d k one two h = absurd h
-intersection_cause asked held before now a b scale product early labels f g (statuses.TooLong m) op we pe d k one two h = absurd h
-intersection_cause asked held before now a b scale product early labels f g statuses.OutOfMemory op we pe d k one two h = tt
-
--- the files of the operations
-
-pub first_of_weigh : (asked : Asked) → asked.task.operation ≡ operations.Weigh → kind_at (Some asked) 1 ≡ Some of_grammar
-first_of_weigh asked e = subst (λ o. slice_get (kinds_of o) 0 ≡ Some of_grammar) (sym e) refl
-
-pub second_of_weigh : (asked : Asked) → asked.task.operation ≡ operations.Weigh → kind_at (Some asked) 2 ≡ Some of_trees
-second_of_weigh asked e = subst (λ o. slice_get (kinds_of o) 1 ≡ Some of_trees) (sym e) refl
-
-pub all_of_weigh : (asked : Asked) (held : List ℕ → Option (List ℕ)) → asked.task.operation ≡ operations.Weigh → AreBefore (Some asked) held 3 → AreBefore (Some asked) held (file_count (Some asked) + 1)
-all_of_weigh asked held e h = subst (λ o. AreBefore (Some asked) held (length (kinds_of o) + 1)) (sym e) h
-
-pub first_of_inside : (asked : Asked) → asked.task.operation ≡ operations.Inside → kind_at (Some asked) 1 ≡ Some of_grammar
-first_of_inside asked e = subst (λ o. slice_get (kinds_of o) 0 ≡ Some of_grammar) (sym e) refl
-
-pub first_of_normal : (asked : Asked) → asked.task.operation ≡ operations.Normal → kind_at (Some asked) 1 ≡ Some of_grammar
-first_of_normal asked e = subst (λ o. slice_get (kinds_of o) 0 ≡ Some of_grammar) (sym e) refl
-
-pub all_of_normal : (asked : Asked) (held : List ℕ → Option (List ℕ)) → asked.task.operation ≡ operations.Normal → AreBefore (Some asked) held 2 → AreBefore (Some asked) held (file_count (Some asked) + 1)
-all_of_normal asked held e h = subst (λ o. AreBefore (Some asked) held (length (kinds_of o) + 1)) (sym e) h
-
-pub first_of_intersect : (asked : Asked) → asked.task.operation ≡ operations.Intersect → kind_at (Some asked) 1 ≡ Some of_grammar
-first_of_intersect asked e = subst (λ o. slice_get (kinds_of o) 0 ≡ Some of_grammar) (sym e) refl
-
-pub second_of_intersect : (asked : Asked) → asked.task.operation ≡ operations.Intersect → kind_at (Some asked) 2 ≡ Some of_grammar
-second_of_intersect asked e = subst (λ o. slice_get (kinds_of o) 1 ≡ Some of_grammar) (sym e) refl
-
-pub all_of_intersect : (asked : Asked) (held : List ℕ → Option (List ℕ)) → asked.task.operation ≡ operations.Intersect → AreBefore (Some asked) held 3 → AreBefore (Some asked) held (file_count (Some asked) + 1)
-all_of_intersect asked held e h = subst (λ o. AreBefore (Some asked) held (length (kinds_of o) + 1)) (sym e) h
-
--- a grammar that was read is of its kind
-pub grammar_is :
-    (job : Option Asked) (held : List ℕ → Option (List ℕ)) (n : ℕ) (scale : Scale) (labels : List (List ℕ)) (g : GrammarOf) → scale ≡ scale_by job → OfFile job n (Told held (IsRead scale labels g)) →
-    IfSome (bytes_at held (file_at job n)) (IsOfKind (scale_by job) of_grammar)
-grammar_is job held n scale labels g we h =
-    if_some (bytes_at held (file_at job n)) (λ bytes r. (labels, g, subst (λ w. IsRead w labels g bytes) we r)) (told_some held (file_at job n) (IsRead scale labels g) h)
-
--- trees that were read are of their kind
-pub trees_are :
-    (job : Option Asked) (held : List ℕ → Option (List ℕ)) (n : ℕ) (labels : List (List ℕ)) (trees : List (Tree ℕ)) → OfFile job n (Told held (ListsTrees labels trees)) →
-    IfSome (bytes_at held (file_at job n)) (IsOfKind (scale_by job) of_trees)
-trees_are job held n labels trees h = if_some (bytes_at held (file_at job n)) (λ bytes r. (labels, trees, r)) (told_some held (file_at job n) (ListsTrees labels trees) h)
-
--- the answers of the operations
-
-pub answer_weigh :
-    (asked : Asked) (held : List ℕ → Option (List ℕ)) (scale : Scale) (product : ℕ → ℕ → ℕ) (text : List ℕ) → asked.task.operation ≡ operations.Weigh → scale ≡ scale_of asked.mode → product ≡ product_of asked.mode →
-    IsWeighed scale product asked.limit (bytes_at held (file_at (Some asked) 1)) (bytes_at held (file_at (Some asked) 2)) text → IsAnswer asked held text
-answer_weigh asked held scale product text op we pe h =
-    let first : Option (List ℕ) = bytes_at held (file_at (Some asked) 1) in
-    let second : Option (List ℕ) = bytes_at held (file_at (Some asked) 2) in
-    subst (λ o. IsAnswerOf o (scale_of asked.mode) (product_of asked.mode) asked.limit first second text) (sym op)
-    (subst (λ p. IsWeighed (scale_of asked.mode) p asked.limit first second text) pe (subst (λ w. IsWeighed w product asked.limit first second text) we h))
-
-pub answer_inside :
-    (asked : Asked) (held : List ℕ → Option (List ℕ)) (scale : Scale) (product : ℕ → ℕ → ℕ) (text : List ℕ) → asked.task.operation ≡ operations.Inside → scale ≡ scale_of asked.mode → product ≡ product_of asked.mode →
-    HasInsides scale product (bytes_at held (file_at (Some asked) 1)) text → IsAnswer asked held text
-answer_inside asked held scale product text op we pe h =
-    let first : Option (List ℕ) = bytes_at held (file_at (Some asked) 1) in
-    let second : Option (List ℕ) = bytes_at held (file_at (Some asked) 2) in
-    subst (λ o. IsAnswerOf o (scale_of asked.mode) (product_of asked.mode) asked.limit first second text) (sym op)
-    (subst (λ p. HasInsides (scale_of asked.mode) p first text) pe (subst (λ w. HasInsides w product first text) we h))
-
-pub answer_normal :
-    (asked : Asked) (held : List ℕ → Option (List ℕ)) (scale : Scale) (product : ℕ → ℕ → ℕ) (text : List ℕ) → asked.task.operation ≡ operations.Normal → scale ≡ scale_of asked.mode → product ≡ product_of asked.mode →
-    HasNormalText scale product asked.limit (bytes_at held (file_at (Some asked) 1)) text → IsAnswer asked held text
-answer_normal asked held scale product text op we pe h =
-    let first : Option (List ℕ) = bytes_at held (file_at (Some asked) 1) in
-    let second : Option (List ℕ) = bytes_at held (file_at (Some asked) 2) in
-    subst (λ o. IsAnswerOf o (scale_of asked.mode) (product_of asked.mode) asked.limit first second text) (sym op)
-    (subst (λ p. HasNormalText (scale_of asked.mode) p asked.limit first text) pe (subst (λ w. HasNormalText w product asked.limit first text) we h))
-
-pub answer_intersect :
-    (asked : Asked) (held : List ℕ → Option (List ℕ)) (scale : Scale) (product : ℕ → ℕ → ℕ) (text : List ℕ) → asked.task.operation ≡ operations.Intersect → scale ≡ scale_of asked.mode →
-    product ≡ product_of asked.mode → HasIntersection scale product asked.limit (bytes_at held (file_at (Some asked) 1)) (bytes_at held (file_at (Some asked) 2)) text → IsAnswer asked held text
-answer_intersect asked held scale product text op we pe h =
-    let first : Option (List ℕ) = bytes_at held (file_at (Some asked) 1) in
-    let second : Option (List ℕ) = bytes_at held (file_at (Some asked) 2) in
-    subst (λ o. IsAnswerOf o (scale_of asked.mode) (product_of asked.mode) asked.limit first second text) (sym op)
-    (subst (λ p. HasIntersection (scale_of asked.mode) p asked.limit first second text) pe (subst (λ w. HasIntersection w product asked.limit first second text) we h))
+  -- and the result on them is an answer
+  pub made_answer : (text : List ℕ) → (makes o product asked.limit values).within → IsResultOf o scale product asked.limit labels values text → IsAnswer asked held text
+  made_answer text within is =
+      let answers : IsAnswerOf o scale product asked.limit (bytes_of asked held) text = record { labels = labels; values = values; texts = texts; within = within; result_is = is } in
+      subst (λ (q : Operation). IsAnswerOf q (scale_of asked.mode) (product_of asked.mode) asked.limit (bytes_of asked held) text) (sym op)
+      (subst (λ (p : ℕ → ℕ → ℕ). IsAnswerOf o (scale_of asked.mode) p asked.limit (bytes_of asked held) text) pe
+      (subst (λ (w : Scale). IsAnswerOf o w product asked.limit (bytes_of asked held) text) we answers))
 
 -- weights by rules that keep the series are weights by the rules that they were made of
 pub weights_kept :
@@ -313,3 +194,11 @@ weights_kept product states rules new [] [] h k a = tt
 weights_kept product states rules new [] (v ∷ vs) h k a = absurd a
 weights_kept product states rules new (t ∷ ts) [] h k a = absurd a
 weights_kept product states rules new (t ∷ ts) (v ∷ vs) h k a = ((k 0 h t v).1 a.0, weights_kept product states rules new ts vs h k a.1)
+
+-- what has the series of a normal form has that of its grammar
+pub same_by_form :
+    (product : ℕ → ℕ → ℕ) (g m form h : GrammarOf) → 0 < length g.names → form ≡ m → KeepsSeries product (length g.names) g.rules m.rules → HasSameSeries product form h →
+    HaveSameSeries product g.rules h.rules
+same_by_form product g m form h some same kept series t v =
+    let own : HasSameSeries product m h = subst (λ (n : GrammarOf). HasSameSeries product n h) same series in
+    (λ x. (own t v).0 ((kept 0 some t v).0 x), λ x. (kept 0 some t v).1 ((own t v).1 x))

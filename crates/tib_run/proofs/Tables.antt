@@ -1,6 +1,6 @@
--- A file that was read over one table of labels is read over each other one that has its labels.
+-- A file that was read over one table of labels is read over each other one that has its labels, by other numbers.
 use Rattle.tib_cost.specs.declared.Scale.{Scale}
-use Rattle.std.proofs.Common.{◌≡◌, ℕ, ◌⊎◌, Bool, true, false, List, [], ◌∷◌, ◌++◌, length, refl, ap, ◌∙◌, subst, arith, suc, zero, inl, inr, Option, Contains}
+use Rattle.std.proofs.Common.{◌≡◌, ℕ, ◌⊎◌, Bool, true, false, List, [], ◌∷◌, ◌++◌, length, map, refl, ap, ◌∙◌, subst, arith, suc, zero, inl, inr, Option, Contains}
 use Rattle.std.specs.Prelude.{Some, None, slice_get}
 use Rattle.std.specs.Bool.{Decides}
 use Rattle.std.specs.Str.{bytes_eq}
@@ -8,19 +8,23 @@ use Rattle.std.proofs.lemmas.Option.{slice_get-get_or}
 use Rattle.std.proofs.lemmas.List.{length-append}
 use Rattle.std.proofs.lemmas.Slice.Eq.{bytes_eq-Decides}
 use Rattle.tib_lex.specs.Grammar.{Word}
-use Rattle.tib_lex.specs.Lists.{Along}
+use Rattle.tib_lex.specs.Lines.{lines_of}
+use Rattle.tib_lex.specs.Lists.{Along, Each}
 use Rattle.tib_tree.specs.Grows.{Grows, AreDistinct}
-use Rattle.tib_tree.specs.Trees.{Trees, none, tree, only, count, preorder}
+use Rattle.tib_tree.specs.Meaning.{Says, IsTreeLine}
+use Rattle.tib_tree.specs.Trees.{Tree, Trees, none, tree, only, count, preorder, sizes, relabel, relabel_tree}
+use Rattle.tib_tree.specs.TreesText.{HasTrees, IsSmall}
 use Rattle.tib_tree.specs.Written.{Written, end, leaf, head}
 use Rattle.tib_tree.proofs.Growing.{grows_not, grows_twice, grows_more, distinct_added}
-use Rattle.tib_grammar.specs.Sides.{Symbol, label, hole}
+use Rattle.tib_grammar.specs.Sides.{Symbol, label, hole, Side}
 use Rattle.tib_grammar.specs.GrammarOf.{GrammarOf}
 use Rattle.tib_grammar.specs.declared.Rule.{Rule}
 use Rattle.tib_grammar_file.specs.GrammarText.{Means, SpellsRuleOf, AreSmallRules}
 use Rattle.tib_grammar_file.specs.Read.{ReadsAs}
 use Rattle.tib_grammar_file.proofs.OneGrammar.{some_same}
-use Rattle.tib_grammar_file.proofs.Relabelled.{trees_with, rules_with}
+use Rattle.tib_grammar_file.proofs.Relabelled.{symbol_with, trees_with, rule_with, rules_with}
 use Rattle.tib_canon.proofs.TrimmedByText.{grammar_with}
+use Rattle.tib_run.specs.Kinds.{ListsTrees}
 
 -- a table has no text twice where one that it grew to has none
 pub early_distinct : (early labels : List (List ℕ)) → Grows early labels → AreDistinct labels → AreDistinct early
@@ -189,3 +193,92 @@ read_over scale early labels bytes g r =
       distinct = o.1.distinct;
       reads = reads_with labels o.0 (moved labels o.0 o.1.has) (moves labels o.0 o.1.has) scale bytes g r;
     }
+
+pub sizes_kept : {A B : Type 0} (f : A → B) (ts : Trees A) → sizes (relabel f ts) ≡ sizes ts
+sizes_kept f none = refl
+sizes_kept f (tree s kids rest) = omega (arith, sizes_kept f kids, sizes_kept f rest)
+
+-- trees over the other numbers
+module _ (labels others : List (List ℕ)) (f : ℕ → ℕ) (moves : (i : ℕ) (text : List ℕ) → slice_get labels i ≡ Some text → slice_get others (f i) ≡ Some text) where
+  says_with : (w : Written) (ts : Trees ℕ) → Says labels w ts → Says others w (relabel f ts)
+  says_with end none s = tt
+  says_with end (tree g kids rest) s = absurd s
+  says_with (leaf quoted text more) none s = absurd s
+  says_with (leaf quoted text more) (tree g none rest) s = (moves g text s.0, says_with more rest s.1)
+  says_with (leaf quoted text more) (tree g (tree h below behind) rest) s = absurd s
+  says_with (head quoted text below more) none s = absurd s
+  says_with (head quoted text below more) (tree g kids rest) s = (moves g text s.0, says_with below kids s.1, says_with more rest s.2)
+
+  line_with : (line : List ℕ) (t : Tree ℕ) → IsTreeLine labels line t → IsTreeLine others line (relabel_tree f t)
+  line_with line t l = record {
+    words = l.words;
+    has = l.has;
+    spells = record { written = l.spells.written; spelled = l.spells.spelled; says = says_with l.spells.written (only t) l.spells.says };
+  }
+
+  lines_with : (lines : List (List ℕ)) (ts : List (Tree ℕ)) → HasTrees labels lines ts → HasTrees others lines (map (relabel_tree f) ts)
+  lines_with [] ts h = ap (map (relabel_tree f)) h
+  lines_with (line ∷ lines) ts (inl h) = inl (h.0, lines_with lines ts h.1)
+  lines_with (line ∷ lines) ts (inr h) = inr (relabel_tree f h.0, map (relabel_tree f) h.1, ap (map (relabel_tree f)) h.2, line_with line h.0 h.3, lines_with lines h.1 h.4)
+
+  small_with : (ts : List (Tree ℕ)) → Each IsSmall ts → Each IsSmall (map (relabel_tree f) ts)
+  small_with [] e = tt
+  small_with (t ∷ ts) e = (omega (arith, e.0, sizes_kept f t.kids), small_with ts e.1)
+
+-- the trees of the bytes over a table to which another has grown
+pub record ListsOver (early : List (List ℕ)) (bytes : List ℕ) : Type 0 where
+  pub labels : List (List ℕ)
+  pub trees : List (Tree ℕ)
+  pub grows : Grows early labels
+  pub distinct : AreDistinct early → AreDistinct labels
+  pub listed : ListsTrees labels trees bytes
+
+pub lists_over : (early labels : List (List ℕ)) (bytes : List ℕ) (ts : List (Tree ℕ)) → ListsTrees labels ts bytes → ListsOver early bytes
+lists_over early labels bytes ts l =
+    let o = all_more early labels in
+    let f : ℕ → ℕ = moved labels o.0 o.1.has in
+    let m = moves labels o.0 o.1.has in
+    record {
+      labels = o.0;
+      trees = map (relabel_tree f) ts;
+      grows = o.1.grows;
+      distinct = o.1.distinct;
+      listed = (l.0, lines_with labels o.0 f m (lines_of bytes) ts l.1, small_with labels o.0 f m ts l.2);
+    }
+
+-- what was read over a table is read over each to which it has grown
+
+symbol_itself : (s : Symbol ℕ ℕ) → symbol_with (λ i. i) s ≡ s
+symbol_itself (label i) = refl
+symbol_itself (hole q) = refl
+
+relabel_itself : {A : Type 0} (f : A → A) → ((x : A) → f x ≡ x) → (ts : Trees A) → relabel f ts ≡ ts
+relabel_itself f same none = refl
+relabel_itself {A} f same (tree s kids rest) =
+    ap (λ (x : A). tree x (relabel f kids) (relabel f rest)) (same s)
+    ∙ ap (λ (x : Trees A). tree s x (relabel f rest)) (relabel_itself f same kids)
+    ∙ ap (λ (x : Trees A). tree s kids x) (relabel_itself f same rest)
+
+tree_itself : {A : Type 0} (f : A → A) → ((x : A) → f x ≡ x) → (t : Tree A) → relabel_tree f t ≡ t
+tree_itself {A} f same t =
+    ap (λ (x : A). record { label = x; kids = relabel f t.kids }) (same t.label) ∙ ap (λ (x : Trees A). record { label = t.label; kids = x }) (relabel_itself f same t.kids)
+
+all_itself : {A : Type 0} (f : A → A) → ((x : A) → f x ≡ x) → (xs : List A) → map f xs ≡ xs
+all_itself f same [] = refl
+all_itself {A} f same (x ∷ xs) = ap (λ (y : A). y ∷ map f xs) (same x) ∙ ap (λ (ys : List A). x ∷ ys) (all_itself f same xs)
+
+rules_itself : (rules : List (Rule ℕ)) → rules_with (λ i. i) rules ≡ rules
+rules_itself rules =
+    all_itself (rule_with (λ i. i))
+    (λ r. ap (λ (s : Side ℕ ℕ). record { left = r.left; right = s; cost = r.cost }) (tree_itself (symbol_with (λ i. i)) symbol_itself r.right)) rules
+
+pub reads_grown : (scale : Scale) (early labels : List (List ℕ)) (bytes : List ℕ) (g : GrammarOf) → Grows early labels → ReadsAs scale early bytes g → ReadsAs scale labels bytes g
+reads_grown scale early labels bytes g grows r =
+    subst (λ (rs : List (Rule ℕ)). ReadsAs scale labels bytes (record { names = g.names; rules = rs })) (rules_itself g.rules) (reads_with early labels (λ i. i) grows.kept scale bytes g r)
+
+pub lists_grown : (early labels : List (List ℕ)) (bytes : List ℕ) (ts : List (Tree ℕ)) → Grows early labels → ListsTrees early ts bytes → ListsTrees labels ts bytes
+lists_grown early labels bytes ts grows l = (
+  l.0,
+  subst (HasTrees labels (lines_of bytes)) (all_itself (relabel_tree (λ i. i)) (tree_itself (λ (i : ℕ). i) (λ i. refl)) ts) (lines_with early labels (λ i. i) grows.kept (lines_of bytes) ts l.1),
+  l.2,
+)

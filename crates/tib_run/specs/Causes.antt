@@ -2,18 +2,19 @@
 use Rattle.tib_cost.specs.declared.Scale.{Scale}
 use Rattle.tib_cost.specs.declared.Scale.TheVariants as scales
 use Rattle.std.specs.Prelude.{◌≡◌, ℕ, ◌+◌, max, ◌<◌, Bool, true, false, List, length, Option, Some, None, IfSome, IsSome}
+use Rattle.std.proofs.Common.{suc}
 use Rattle.tib_io.specs.Causes.{Rose}
-use Rattle.tib_tree.specs.Grows.{AreDistinct}
-use Rattle.tib_grammar.specs.GrammarOf.{GrammarOf}
-use Rattle.tib_grammar_file.specs.Read.{ReadsAs}
-use Rattle.tib_normal.specs.Rows.{HasMoreParts}
 use Rattle.tib_command.specs.Jobs.{Asked}
 use Rattle.tib_command.specs.declared.job.Mode.{Mode}
 use Rattle.tib_command.specs.declared.job.Mode.TheVariants as modes
 use Rattle.tib_command.specs.declared.job.Operation.{Operation}
 use Rattle.tib_command.specs.declared.job.Operation.TheVariants as operations
-use Rattle.tib_run.specs.Kinds.{kind_at, kinds_of, file_at, bytes_at, OfFile, Told, IsShort, IsOfKind, HasFault, Kind}
-use Rattle.tib_run.specs.Intersections.{HasLargeIntersection, IntersectsTooMuch}
+use Rattle.tib_run.specs.Kinds.{kind_at, kinds_of, file_at, bytes_at, OfFile, Told, IsShort, IsLong, IsOfKind, HasFault, Kind, ValuesOf, AreTexts}
+use Rattle.tib_run.specs.Made.{Made}
+use Rattle.tib_run.specs.Weigh.{weigh_makes}
+use Rattle.tib_run.specs.Inside.{inside_makes}
+use Rattle.tib_run.specs.Normal.{normal_makes}
+use Rattle.tib_run.specs.Intersect.{intersect_makes}
 use Rattle.tib_run.specs.declared.status.Status.{Status}
 use Rattle.tib_run.specs.declared.status.Status.TheVariants as statuses
 
@@ -35,27 +36,39 @@ product_of modes.Bottleneck = max
 product_of modes.Widest = max
 product_of modes.Boolean = max
 
--- The bytes are the text of a grammar whose normal form has more parts than the limit. Its table has each label once: over
--- a table with a label twice, two rules that are written alike would be two.
-pub record HasLargeForm (scale : Scale) (product : ℕ → ℕ → ℕ) (limit : ℕ) (bytes : List ℕ) : Type 0 where
-  pub labels : List (List ℕ)
-  pub g : GrammarOf
-  pub distinct : AreDistinct labels
-  pub text : ReadsAs scale labels bytes g
-  pub more : HasMoreParts product (length g.names) g.rules limit
+-- what an operation makes of the values of its files
+abbrev pub makes : (operation : Operation) → (ℕ → ℕ → ℕ) → ℕ → ValuesOf (kinds_of operation) → Made
+makes operations.Weigh product limit values = weigh_makes product limit values.0
+makes operations.Inside product limit values = inside_makes
+makes operations.Normal product limit values = normal_makes product limit values.0
+makes operations.Intersect product limit values = intersect_makes product limit values.0 values.1.0
 
--- what an operation makes of its files has more parts than the limit: a normal form, where it makes one, or the reached
--- set of an intersection
-abbrev pub MakesTooMuch : Operation → Scale → (ℕ → ℕ → ℕ) → ℕ → Option (List ℕ) → Option (List ℕ) → Type 0
-MakesTooMuch operations.Weigh scale product limit first second = IfSome first (HasLargeForm scale product limit)
-MakesTooMuch operations.Inside scale product limit first second = ⊥
-MakesTooMuch operations.Normal scale product limit first second = IfSome first (HasLargeForm scale product limit)
-MakesTooMuch operations.Intersect scale product limit first second = IfSome first (λ one. IfSome second (HasLargeIntersection scale product limit one))
+-- Files are the texts of values of which an operation makes something with more parts than the limit.
+pub record MakesTooMuch (operation : Operation) (scale : Scale) (product : ℕ → ℕ → ℕ) (limit : ℕ) (bytes : ℕ → Option (List ℕ)) : Type 0 where
+  pub labels : List (List ℕ)
+  pub values : ValuesOf (kinds_of operation)
+  pub texts : AreTexts scale labels bytes (kinds_of operation) values
+  pub more : (makes operation product limit values).more
+
+-- whatever values the files are the texts of, what the operation makes of them is within the limit
+abbrev pub StaysWithin : Operation → Scale → (ℕ → ℕ → ℕ) → ℕ → (ℕ → Option (List ℕ)) → Type 0
+StaysWithin operation scale product limit bytes =
+    (labels : List (List ℕ)) (values : ValuesOf (kinds_of operation)) → AreTexts scale labels bytes (kinds_of operation) values →
+    (makes operation product limit values).within
+
+-- the bytes of the files of a job, counted from 0, where they are told
+abbrev pub bytes_of : Asked → (List ℕ → Option (List ℕ)) → ℕ → Option (List ℕ)
+bytes_of asked held n = bytes_at held (file_at (Some asked) (suc n))
 
 -- what the job makes of its files has more parts than its limit
 abbrev pub IsTooMuch : Asked → (List ℕ → Option (List ℕ)) → Type 0
 IsTooMuch asked held =
-    MakesTooMuch asked.task.operation (scale_of asked.mode) (product_of asked.mode) asked.limit (bytes_at held (file_at (Some asked) 1)) (bytes_at held (file_at (Some asked) 2))
+    MakesTooMuch asked.task.operation (scale_of asked.mode) (product_of asked.mode) asked.limit (bytes_of asked held)
+
+-- what the job makes of its files is within its limit
+abbrev pub IsWithin : Asked → (List ℕ → Option (List ℕ)) → Type 0
+IsWithin asked held =
+    StaysWithin asked.task.operation (scale_of asked.mode) (product_of asked.mode) asked.limit (bytes_of asked held)
 
 abbrev pub HasTooMany : Option Asked → (List ℕ → Option (List ℕ)) → ℕ → Type 0
 HasTooMany None held limit = ⊥
@@ -72,7 +85,7 @@ HasCause job held before now out_before out_now (statuses.BadInput file fault) =
 HasCause job held before now out_before out_now (statuses.TooMany limit) = HasTooMany job held limit
 HasCause job held before now out_before out_now (statuses.ReadFault file) = OfFile job file (λ name. Rose (before name) (now name))
 HasCause job held before now out_before out_now statuses.WriteFault = IsSome job × Rose out_before out_now
-HasCause job held before now out_before out_now (statuses.TooLong file) = OfFile job file (Told held (λ bytes. 8388608 < length bytes))
+HasCause job held before now out_before out_now (statuses.TooLong file) = OfFile job file (Told held IsLong)
 HasCause job held before now out_before out_now statuses.OutOfMemory = Unit {0}
 
 -- the files of a job before the n-th are of their kinds, where they are told
@@ -105,15 +118,3 @@ IsEarly statuses.Done = ⊥
 IsEarly statuses.Usage = ⊥
 IsEarly statuses.WriteFault = ⊥
 IsEarly status = Unit {0}
-
--- the normal form of these rules has more parts than the limit, or memory was refused
-abbrev pub IsFormFault : (ℕ → ℕ → ℕ) → GrammarOf → ℕ → Status → Type 0
-IsFormFault product g limit (statuses.TooMany n) = (n ≡ limit) × HasMoreParts product (length g.names) g.rules limit
-IsFormFault product g limit statuses.OutOfMemory = Unit {0}
-IsFormFault product g limit status = ⊥
-
--- what two grammars intersect in has more parts than the limit, or memory was refused
-abbrev pub IsIntersectionFault : (ℕ → ℕ → ℕ) → GrammarOf → GrammarOf → ℕ → Status → Type 0
-IsIntersectionFault product f g limit (statuses.TooMany n) = (n ≡ limit) × IntersectsTooMuch product limit f g
-IsIntersectionFault product f g limit statuses.OutOfMemory = Unit {0}
-IsIntersectionFault product f g limit status = ⊥

@@ -1,9 +1,10 @@
 -- What the files of a job hold.
 use Rattle.tib_cost.specs.declared.Scale.{Scale}
-use Rattle.std.specs.Prelude.{◌≡◌, ℕ, ◌≤◌, Bool, List, [], ◌∷◌, length, Option, Some, None, IfSome, Err, slice_get}
+use Rattle.std.specs.Prelude.{◌≡◌, ℕ, ◌<◌, ◌≤◌, Bool, List, [], ◌∷◌, length, Option, Some, None, IfSome, IsSome, Err, slice_get}
 use Rattle.std.proofs.Common.{zero, suc}
 use Rattle.tib_lex.specs.Lists.{Each}
 use Rattle.tib_lex.specs.declared.fault.FileFault.{FileFault}
+use Rattle.tib_tree.specs.Grows.{AreDistinct}
 use Rattle.tib_tree.specs.Trees.{Tree}
 use Rattle.tib_tree.specs.TreesText.{TreesText, IsSmall, IsFirstFault as IsFirstTreeFault}
 use Rattle.tib_grammar.specs.GrammarOf.{GrammarOf}
@@ -54,8 +55,14 @@ abbrev pub Told : (List ℕ → Option (List ℕ)) → (List ℕ → Type 0) →
 Told held P name = IfSome (held name) P
 
 -- a file that is read is not longer than this
+abbrev pub most_bytes : ℕ
+most_bytes = 8388608
+
 abbrev pub IsShort : List ℕ → Type 0
-IsShort bytes = length bytes ≤ 8388608
+IsShort bytes = length bytes ≤ most_bytes
+
+abbrev pub IsLong : List ℕ → Type 0
+IsLong bytes = most_bytes < length bytes
 
 -- the grammar of the text, with no right side too large
 abbrev pub IsRead : Scale → List (List ℕ) → GrammarOf → List ℕ → Type 0
@@ -65,18 +72,43 @@ IsRead scale labels g bytes = IsShort bytes × ReadsAs scale labels bytes g
 abbrev pub ListsTrees : List (List ℕ) → List (Tree ℕ) → List ℕ → Type 0
 ListsTrees labels trees bytes = IsShort bytes × TreesText labels bytes trees × Each IsSmall trees
 
--- the bytes are the text of a grammar, and not too many
-abbrev pub IsGrammarFile : Scale → List ℕ → Type 0
-IsGrammarFile scale bytes = (labels : List (List ℕ)) × (g : GrammarOf) × IsRead scale labels g bytes
+-- what the text of a file of the kind stands for
+abbrev pub ValueOf : Kind → Type 0
+ValueOf of_grammar = GrammarOf
+ValueOf of_trees = List (Tree ℕ)
 
--- the bytes are the text of trees, and not too many
-abbrev pub IsTreeFile : List ℕ → Type 0
-IsTreeFile bytes = (labels : List (List ℕ)) × (trees : List (Tree ℕ)) × ListsTrees labels trees bytes
+-- the bytes are not too many, and are the text of the value over a table of labels
+abbrev pub IsTextOf : Scale → List (List ℕ) → (kind : Kind) → ValueOf kind → List ℕ → Type 0
+IsTextOf scale labels of_grammar g bytes = IsRead scale labels g bytes
+IsTextOf scale labels of_trees trees bytes = ListsTrees labels trees bytes
 
 -- the bytes are the text of a value of the kind
 abbrev pub IsOfKind : Scale → Kind → List ℕ → Type 0
-IsOfKind scale of_grammar bytes = IsGrammarFile scale bytes
-IsOfKind scale of_trees bytes = IsTreeFile bytes
+IsOfKind scale kind bytes = (labels : List (List ℕ)) × (value : ValueOf kind) × IsTextOf scale labels kind value bytes
+
+-- values for the files of a job, in order
+abbrev pub ValuesOf : List Kind → Type 0
+ValuesOf [] = Unit {0}
+ValuesOf (kind ∷ kinds) = ValueOf kind × ValuesOf kinds
+
+-- files, where their bytes are told, are the texts of these values over one table of labels; files are counted from 0
+abbrev pub AreTextsOf : Scale → List (List ℕ) → (ℕ → Option (List ℕ)) → (kinds : List Kind) → ValuesOf kinds → Type 0
+AreTextsOf scale labels bytes [] values = Unit {0}
+AreTextsOf scale labels bytes (kind ∷ kinds) values =
+    IfSome (bytes 0) (IsTextOf scale labels kind values.0) × AreTextsOf scale labels (λ n. bytes (suc n)) kinds values.1
+
+-- The same over a table that has each label once: over one with a label twice, two rules that are written alike would be two.
+pub record AreTexts (scale : Scale) (labels : List (List ℕ)) (bytes : ℕ → Option (List ℕ)) (kinds : List Kind) (values : ValuesOf kinds) : Type 0 where
+  pub distinct : AreDistinct labels
+  pub texts : AreTextsOf scale labels bytes kinds values
+
+-- each file is told, and is of its kind
+abbrev pub AreOfKinds : Scale → List Kind → (ℕ → Option (List ℕ)) → Type 0
+AreOfKinds scale kinds bytes = (n : ℕ) (kind : Kind) → slice_get kinds n ≡ Some kind → OfName (bytes n) (IsOfKind scale kind)
+
+-- each file is told
+abbrev pub AreAllTold : List Kind → (ℕ → Option (List ℕ)) → Type 0
+AreAllTold kinds bytes = (n : ℕ) (kind : Kind) → slice_get kinds n ≡ Some kind → IsSome (bytes n)
 
 -- the first fault of the bytes as the text of a value of the kind
 abbrev pub HasFault : Scale → Option Kind → List ℕ → FileFault → Type 0

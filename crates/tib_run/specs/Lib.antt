@@ -1,8 +1,13 @@
 pub mod Codes
 pub mod Log
 pub mod Kinds
-pub mod Intersections
-pub mod Causes
 pub mod Text
+pub mod Made
+pub mod Weigh
+pub mod Inside
+pub mod Normal
+pub mod Intersect
+pub mod Causes
 pub mod Answers
 pub mod Run
+pub mod Laws

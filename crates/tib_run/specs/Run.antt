@@ -102,6 +102,7 @@ pub record IsLogged (line : List ℕ) (old new : SinkSeen) : Type 0 where
 -- two runs on the same words, over files that tell the same bytes, in which no count rises, end with one status
 abbrev pub RunsEndAlike : Type 0
 RunsEndAlike =
-    (words : List (List ℕ)) (asked : Asked) (before after others later : FilesSeen) (old new first last : SinkSeen) (one other : Status) → job_of words ≡ Some asked → AreTold asked before.held →
-    others.held ≡ before.held → IsCalm asked before.faults after.faults old.faults new.faults → IsCalm asked others.faults later.faults first.faults last.faults →
+    (words : List (List ℕ)) (asked : Asked) (before after others later : FilesSeen) (old new first last : SinkSeen) (one other : Status) →
+    job_of words ≡ Some asked → AreTold asked before.held → others.held ≡ before.held →
+    IsCalm asked before.faults after.faults old.faults new.faults → IsCalm asked others.faults later.faults first.faults last.faults →
     IsRunOf (Some asked) before after old new one → IsRunOf (Some asked) others later first last other → AreOneStatus one other

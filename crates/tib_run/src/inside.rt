@@ -83,6 +83,7 @@ pub(crate) fn inside_of_file<S: Semiring, F: Files>(
         Ok(grammar) => grammar,
         Err(status) => return Err(status),
     };
+    labels.len();
     let costs = match inside::<S>(alloc, &grammar) {
         Ok(costs) => costs,
         Err(_) => return Err(Status::OutOfMemory),

@@ -1,64 +1,34 @@
 // `intersect`: the canonical grammar of the trees that two grammars have, at the products of their costs.
-ghost use Rattle.std.specs.Prelude.{◌≡◌, ◌≤◌, ℕ, List, Some, length, IfErr, IfOk};
+ghost use Rattle.std.specs.Prelude.{◌≡◌, ◌≤◌, Some, length, IfErr, IfOk};
 ghost use Rattle.tib_io.specs.Causes.{GoesOn};
 ghost use Rattle.tib_command.specs.Jobs.{meaning};
 ghost use Rattle.tib_grammar_file.specs.GrammarText.{GrammarText};
 ghost use Rattle.tib_grammar_file.specs.Printable.{ArePrintable};
 ghost use Rattle.tib_grammar_file.specs.Printed.{grammar_text};
 ghost use Rattle.tib_hunt.specs.Reached.{IfTooMany, IsBeyond};
-ghost use Rattle.tib_inside.specs.Trimmed.{HasSameSeries};
-ghost use Rattle.tib_normal.specs.Rows.{HasFormWithin};
-ghost use Rattle.tib_canon.specs.TrimmedForms.{IsTrimmedForm};
-ghost use Rattle.tib_intersect.specs.Intersection.{intersection};
+ghost use Rattle.tib_canon.specs.Constructions.{IsCanonicalOf};
 ghost use Rattle.tib_run.specs.Answers.{IsAnswer};
-ghost use Rattle.tib_run.specs.Causes.{HasCause, HasEarlier, IsEarly, IsFormFault, IsIntersectionFault, scale_of, product_of};
-ghost use Rattle.tib_run.specs.Intersections.{HasProductSeries, IsCanonicalOfPairs, IsCanonicalIntersection};
+ghost use Rattle.tib_run.specs.Causes.{HasCause, HasEarlier, IsEarly, scale_of, product_of};
+ghost use Rattle.tib_run.specs.Intersect.{HasProductSeries, intersecting, intersect_makes, HasIntersectionText};
+ghost use Rattle.tib_run.specs.Made.{IsMadeFault};
 
 use crate::files::grammar_in;
+use crate::forms::trimmed_form;
 use crate::status::Status;
 use std::alloc::Global;
 use tib_canon::{
-    Begin, Printed, keys_keep_the_series, normal_forms_are_printable, over_keys_texts_are_read,
-    to_grammar, trimmed_forms_have_the_same_rules, trimmed_is_printable,
+    Begin, Printed, over_keys_texts_are_read, to_grammar, trimmed_forms_have_the_same_rules,
 };
 use tib_command::{Job, Operation};
 use tib_cost::Semiring;
 use tib_grammar::Grammar;
 use tib_grammar_file::{printable_is_labelled, printable_stays};
 use tib_hunt::{Gate, HuntError};
-use tib_inside::trim_normal;
 use tib_intersect::laws::{order_is_free, pairs_mean};
 use tib_intersect::{Pair, intersect};
 use tib_io::{Files, GrowingSink};
-use tib_normal::{Normal, NormalError, normalize};
+use tib_normal::Normal;
 use tib_tree::Labels;
-
-// The trimmed normal form of a grammar.
-fn trimmed_form<S: Semiring + Drop>(
-    alloc: Global,
-    grammar: &Grammar<S>,
-    limit: u64,
-) -> Result<Normal<S>, Status>
-    requires limit { (1 ≤ limit) × (limit ≤ 20000000) }
-    ensures form { IfOk result (λ m. IsTrimmedForm S.product grammar.now m) }
-    ensures within { IfOk result (λ m. HasFormWithin S.product (length grammar.now.names) grammar.now.rules limit) }
-    ensures series { IfOk result (λ m. HasSameSeries S.product grammar.now m) }
-    ensures printable { IfOk result (λ m. (labels : List (List ℕ)) → ArePrintable S.SCALE labels grammar.now.rules → ArePrintable S.SCALE labels m.rules) }
-    ensures err { IfErr result (IsFormFault S.product grammar.now limit) }
-{
-    grammar.is_sound();
-    let normal = match normalize::<S>(alloc, grammar, limit) {
-        Ok(normal) => normal,
-        Err(NormalError::TooMany { .. }) => return Err(Status::TooMany { limit }),
-        Err(NormalError::OutOfMemory) => return Err(Status::OutOfMemory),
-    };
-    normal_forms_are_printable::<S>();
-    trimmed_is_printable();
-    match trim_normal::<S>(alloc, normal) {
-        Ok(trimmed) => Ok(trimmed),
-        Err(_) => Err(Status::OutOfMemory),
-    }
-}
 
 // The canonical form of the pairs of two grammars.
 fn canonical_of_pairs<S: Semiring + Drop, G: Gate>(
@@ -72,11 +42,11 @@ fn canonical_of_pairs<S: Semiring + Drop, G: Gate>(
     requires one { ArePrintable S.SCALE labels.now one.now.rules }
     requires two { ArePrintable S.SCALE labels.now two.now.rules }
     requires limit { (1 ≤ limit) × (limit ≤ 20000000) }
-    ensures canonical { IfOk result (λ h. IsCanonicalOfPairs S.SCALE S.product limit labels.now one.now two.now h.grammar) }
+    ensures canonical { IfOk result (λ h. IsCanonicalOf S.product S.SCALE labels.now limit (intersecting S.product (one.now, two.now)) h.grammar) }
     ensures series { IfOk result (λ h. HasProductSeries S.product one.now.rules two.now.rules h.grammar.rules) }
     ensures read { IfOk result (λ h. GrammarText S.SCALE labels.now h.text.bytes h.grammar) }
     ensures text { IfOk result (λ h. h.text.bytes ≡ grammar_text S.SCALE labels.now h.grammar) }
-    ensures err { IfErr result (IfTooMany limit (IsBeyond (intersection S.product one.now.rules two.now.rules) limit)) }
+    ensures err { IfErr result (IfTooMany limit (IsBeyond (intersecting S.product (one.now, two.now)).problem limit)) }
 {
     one.grammar();
     two.grammar();
@@ -86,7 +56,6 @@ fn canonical_of_pairs<S: Semiring + Drop, G: Gate>(
     };
     pairs_mean::<S>();
     printable_is_labelled();
-    keys_keep_the_series::<Pair>();
     over_keys_texts_are_read::<S, Pair>();
     match to_grammar::<S, Pair>(alloc, found, Begin::At(0), labels) {
         Ok(canonical) => Ok(canonical),
@@ -106,11 +75,9 @@ fn intersection_of<S: Semiring + Drop, G: Gate>(
     requires first { ArePrintable S.SCALE labels.now first.now.rules }
     requires second { ArePrintable S.SCALE labels.now second.now.rules }
     requires limit { (1 ≤ limit) × (limit ≤ 20000000) }
-    ensures canonical { IfOk result (λ h. IsCanonicalIntersection S.SCALE S.product limit labels.now first.now second.now h.grammar) }
-    ensures series { IfOk result (λ h. HasProductSeries S.product first.now.rules second.now.rules h.grammar.rules) }
-    ensures read { IfOk result (λ h. GrammarText S.SCALE labels.now h.text.bytes h.grammar) }
-    ensures text { IfOk result (λ h. h.text.bytes ≡ grammar_text S.SCALE labels.now h.grammar) }
-    ensures err { IfErr result (IsIntersectionFault S.product first.now second.now limit) }
+    ensures text { IfOk result (λ h. HasIntersectionText S.SCALE S.product limit labels.now first.now second.now h.text.bytes) }
+    ensures within { IfOk result (λ _. (intersect_makes S.product limit first.now second.now).within) }
+    ensures err { IfErr result (IsMadeFault (intersect_makes S.product limit first.now second.now).more limit) }
 {
     let one = match trimmed_form::<S>(alloc, first, limit) {
         Ok(one) => one,

@@ -6,6 +6,7 @@
 mod answer;
 mod command;
 mod files;
+mod forms;
 mod inside;
 mod intersect;
 mod laws;

@@ -2,14 +2,14 @@
 ghost use Rattle.std.specs.Prelude.{◌≡◌, ◌≤◌, Some, length, IfErr, IfOk};
 ghost use Rattle.tib_io.specs.Causes.{GoesOn};
 ghost use Rattle.tib_command.specs.Jobs.{meaning};
-ghost use Rattle.tib_grammar_file.specs.GrammarText.{GrammarText};
 ghost use Rattle.tib_grammar_file.specs.Printable.{ArePrintable};
-ghost use Rattle.tib_grammar_file.specs.Printed.{grammar_text};
-ghost use Rattle.tib_inside.specs.Trimmed.{HasSameSeries};
-ghost use Rattle.tib_run.specs.Answers.{IsAnswer, IsCanonicalNormal};
-ghost use Rattle.tib_run.specs.Causes.{HasCause, HasEarlier, IsEarly, IsFormFault, scale_of, product_of};
+ghost use Rattle.tib_run.specs.Answers.{IsAnswer};
+ghost use Rattle.tib_run.specs.Causes.{HasCause, HasEarlier, IsEarly, scale_of, product_of};
+ghost use Rattle.tib_run.specs.Made.{IsMadeFault};
+ghost use Rattle.tib_run.specs.Normal.{HasNormalText, normal_makes};
 
 use crate::files::grammar_in;
+use crate::forms::normal_of;
 use crate::status::Status;
 use std::alloc::Global;
 use tib_canon::{Printed, canonical, normal_forms_are_printable, normal_texts_are_read};
@@ -18,7 +18,6 @@ use tib_cost::Semiring;
 use tib_grammar::Grammar;
 use tib_grammar_file::printable_is_labelled;
 use tib_io::{Files, GrowingSink};
-use tib_normal::{NormalError, normalize};
 use tib_tree::Labels;
 
 // The canonical form of the grammar's normal form.
@@ -30,17 +29,14 @@ fn canonical_normal<S: Semiring + Drop>(
 ) -> Result<Printed<S>, Status>
     requires printable { ArePrintable S.SCALE labels.now grammar.now.rules }
     requires limit { (1 ≤ limit) × (limit ≤ 20000000) }
-    ensures canonical { IfOk result (λ h. IsCanonicalNormal S.SCALE S.product limit labels.now grammar.now h.grammar) }
-    ensures series { IfOk result (λ h. HasSameSeries S.product grammar.now h.grammar) }
-    ensures read { IfOk result (λ h. GrammarText S.SCALE labels.now h.text.bytes h.grammar) }
-    ensures text { IfOk result (λ h. h.text.bytes ≡ grammar_text S.SCALE labels.now h.grammar) }
-    ensures err { IfErr result (IsFormFault S.product grammar.now limit) }
+    ensures text { IfOk result (λ h. HasNormalText S.SCALE S.product limit labels.now grammar.now h.text.bytes) }
+    ensures within { IfOk result (λ _. (normal_makes S.product limit grammar.now).within) }
+    ensures err { IfErr result (IsMadeFault (normal_makes S.product limit grammar.now).more limit) }
 {
     grammar.is_sound();
-    let normal = match normalize::<S>(alloc, grammar, limit) {
+    let normal = match normal_of::<S>(alloc, grammar, limit) {
         Ok(normal) => normal,
-        Err(NormalError::TooMany { .. }) => return Err(Status::TooMany { limit }),
-        Err(NormalError::OutOfMemory) => return Err(Status::OutOfMemory),
+        Err(status) => return Err(status),
     };
     let form = normal.into_grammar();
     form.is_sound();

@@ -4,11 +4,13 @@ ghost use Rattle.std.specs.List.{AllZip};
 ghost use Rattle.tib_grammar.specs.Series.{IsSeries};
 ghost use Rattle.tib_io.specs.Causes.{GoesOn};
 ghost use Rattle.tib_command.specs.Jobs.{meaning};
-ghost use Rattle.tib_run.specs.Causes.{HasCause, HasEarlier, IsEarly, IsFormFault, scale_of, product_of};
+ghost use Rattle.tib_run.specs.Causes.{HasCause, HasEarlier, IsEarly, scale_of, product_of};
 ghost use Rattle.tib_run.specs.Answers.{IsAnswer};
-ghost use Rattle.tib_normal.specs.Rows.{HasFormWithin};
+ghost use Rattle.tib_run.specs.Made.{IsMadeFault};
+ghost use Rattle.tib_run.specs.Weigh.{weigh_makes};
 
 use crate::files::{grammar_in, trees_in};
+use crate::forms::normal_of;
 use crate::status::Status;
 use crate::text::weighed_text;
 use std::alloc::Global;
@@ -17,7 +19,7 @@ use tib_command::{Job, Operation};
 use tib_cost::{Cost, Semiring};
 use tib_grammar::Grammar;
 use tib_io::{Failed, Files, GrowingSink};
-use tib_normal::{Normal, NormalError, normalize};
+use tib_normal::Normal;
 use tib_tree::{Labels, Tree};
 use tib_weigh::weigh_all;
 
@@ -48,14 +50,13 @@ fn costs_of<S: Semiring + Sync + Drop, R: Threads + Sync>(
     requires { (1 ≤ limit) × (limit ≤ 20000000) }
     ensures costs { IfOk result (λ costs. length costs.items ≡ length trees.now) }
     ensures weights { IfOk result (λ costs. AllZip (λ t v. IsSeries S.product grammar.now.rules t v) trees.now costs.items) }
-    ensures within { IfOk result (λ _. HasFormWithin S.product (length grammar.now.names) grammar.now.rules limit) }
-    ensures err { IfErr result (IsFormFault S.product grammar.now limit) }
+    ensures within { IfOk result (λ _. (weigh_makes S.product limit grammar.now).within) }
+    ensures err { IfErr result (IsMadeFault (weigh_makes S.product limit grammar.now).more limit) }
 {
     grammar.is_sound();
-    let normal = match normalize::<S>(alloc, grammar, limit) {
+    let normal = match normal_of::<S>(alloc, grammar, limit) {
         Ok(normal) => normal,
-        Err(NormalError::TooMany { .. }) => return Err(Status::TooMany { limit }),
-        Err(NormalError::OutOfMemory) => return Err(Status::OutOfMemory),
+        Err(status) => return Err(status),
     };
     match costs_by::<S, R>(rt, alloc, &normal, trees) {
         Ok(costs) => Ok(costs),

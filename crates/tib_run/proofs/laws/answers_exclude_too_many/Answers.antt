@@ -1,4 +1,4 @@
-use Rattle.tib_run.proofs.Limits.{answer_within, answer_apart}
+use Rattle.tib_run.proofs.OfJobs.{answer_within, answer_apart}
 use Rattle.tib_run.proofs.laws.answers_exclude_too_many.Goals as goal
 
 pub returns-clause-within : goal.returns-clause-within

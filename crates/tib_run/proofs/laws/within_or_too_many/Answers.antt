@@ -1,4 +1,4 @@
-use Rattle.tib_run.proofs.Limits.{within_apart, within_or_more}
+use Rattle.tib_run.proofs.OfJobs.{within_apart, within_or_more}
 use Rattle.tib_run.proofs.laws.within_or_too_many.Goals as goal
 
 pub returns-clause-apart : goal.returns-clause-apart

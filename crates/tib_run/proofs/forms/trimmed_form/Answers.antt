@@ -1,4 +1,4 @@
-use Rattle.tib_run.proofs.intersect.trimmed_form.Goals as goal
+use Rattle.tib_run.proofs.forms.trimmed_form.Goals as goal
 
 pub returns-in-Ok-trim_normal-clause-printable : goal.returns-in-Ok-trim_normal-clause-printable
 returns-in-Ok-trim_normal-clause-printable g c labels printable =

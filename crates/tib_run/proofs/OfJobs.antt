@@ -1,0 +1,112 @@
+-- What holds of the answers of jobs, over what each operation brings.
+use Rattle.tib_cost.specs.declared.Scale.{Scale}
+use Rattle.std.proofs.Common.{◌≡◌, ℕ, ◌<◌, Bool, true, false, List, refl, Option, suc, arith}
+use Rattle.std.specs.Prelude.{Some, None, IsSome, slice_get}
+use Rattle.tib_cost.specs.Semiring.{sum_laws, max_laws, boolean_laws}
+use Rattle.tib_canon.proofs.Within.{distinct_texts}
+use Rattle.tib_command.specs.Jobs.{Asked, job_of}
+use Rattle.tib_command.specs.declared.job.Mode.{Mode}
+use Rattle.tib_command.specs.declared.job.Mode.TheVariants as modes
+use Rattle.tib_command.specs.declared.job.Operation.{Operation}
+use Rattle.tib_command.specs.declared.job.Operation.TheVariants as operations
+use Rattle.tib_run.specs.Kinds.{Kind, kinds_of, file_at, bytes_at, OfName, IsOfKind, AreOfKinds, AreAllTold}
+use Rattle.tib_run.specs.Causes.{scale_of, product_of, MakesTooMuch, StaysWithin, IsTooMuch, IsWithin, bytes_of}
+use Rattle.tib_run.specs.Answers.{IsAnswerOf, IsAnswer, AreTold, AreOfTheirKinds, MeetsLaws, NeedsOf}
+use Rattle.tib_run.proofs.FileValues.{values_there, values_agree, all_sound}
+use Rattle.tib_run.proofs.FilesAsked.{limit_asked}
+use Rattle.tib_run.proofs.OfOperations.{makes_either, makes_by_text, result_once, result_there}
+
+-- told files are told
+is_told : (o : Option (List ℕ)) (P : List ℕ → Type 0) → OfName o P → IsSome o
+is_told None P h = absurd h
+is_told (Some x) P h = refl
+
+all_told : (scale : Scale) (o : Operation) (bytes : ℕ → Option (List ℕ)) → AreOfKinds scale (kinds_of o) bytes → AreAllTold (kinds_of o) bytes
+all_told scale o bytes are n kind e = is_told (bytes n) (IsOfKind scale kind) (are n kind e)
+
+module _ (o : Operation) (scale : Scale) (product : ℕ → ℕ → ℕ) (limit : ℕ) (bytes : ℕ → Option (List ℕ)) where
+  -- one text
+  pub one_answer : (text other : List ℕ) → AreAllTold (kinds_of o) bytes → IsAnswerOf o scale product limit bytes text → IsAnswerOf o scale product limit bytes other → text ≡ other
+  one_answer text other told a b =
+      result_once scale product limit a.labels b.labels (distinct_texts a.labels a.texts.distinct) (distinct_texts b.labels b.texts.distinct) o a.values b.values text other
+      (values_agree scale a.labels b.labels (kinds_of o) bytes a.values b.values told a.texts.texts b.texts.texts) a.result_is b.result_is
+
+  -- within the limit or too much: not both
+  pub made_apart : StaysWithin o scale product limit bytes → MakesTooMuch o scale product limit bytes → ⊥
+  made_apart small large = (makes_either scale product limit o large.values).apart (small large.labels large.values large.texts) large.more
+
+  -- and that neither holds cannot be
+  pub made_either : AreOfKinds scale (kinds_of o) bytes → (StaysWithin o scale product limit bytes → ⊥) → (MakesTooMuch o scale product limit bytes → ⊥) → ⊥
+  made_either are small large =
+      let v = values_there scale (kinds_of o) bytes are in
+      (makes_either scale product limit o v.1).either
+      (λ w. small (λ labels values texts.
+      makes_by_text scale product limit v.0 labels (distinct_texts v.0 v.2.distinct) (distinct_texts labels texts.distinct) o v.1 values
+      (values_agree scale v.0 labels (kinds_of o) bytes v.1 values (all_told scale o bytes are) v.2.texts texts.texts) w))
+      (λ m. large (record { labels = v.0; values = v.1; texts = v.2; more = m }))
+
+  -- an answer is within the limit
+  pub answer_stays : (text : List ℕ) → AreAllTold (kinds_of o) bytes → IsAnswerOf o scale product limit bytes text → StaysWithin o scale product limit bytes
+  answer_stays text told a labels values texts =
+      makes_by_text scale product limit a.labels labels (distinct_texts a.labels a.texts.distinct) (distinct_texts labels texts.distinct) o a.values values
+      (values_agree scale a.labels labels (kinds_of o) bytes a.values values told a.texts.texts texts.texts) a.within
+
+  -- what is within the limit has an answer: that it has none cannot be
+  pub answer_there :
+      NeedsOf o product limit → AreOfKinds scale (kinds_of o) bytes → StaysWithin o scale product limit bytes →
+      ((text : List ℕ) → IsAnswerOf o scale product limit bytes text → ⊥) → ⊥
+  answer_there needs are small never =
+      let v = values_there scale (kinds_of o) bytes are in
+      let w = small v.0 v.1 v.2 in
+      result_there scale product limit v.0 (distinct_texts v.0 v.2.distinct) o needs v.1 (all_sound scale v.0 (kinds_of o) bytes v.1 (all_told scale o bytes are) v.2.texts) w (λ text is.
+      never text (record { labels = v.0; values = v.1; texts = v.2; within = w; result_is = is }))
+
+-- the product of each mode meets its laws
+laws_of : (mode : Mode) (limit : ℕ) → limit < 4294967296 → MeetsLaws (product_of mode) limit
+laws_of modes.MinPlus limit low = record { levelled = false; weighed = true; laws = sum_laws; low = low }
+laws_of modes.Bottleneck limit low = record { levelled = true; weighed = true; laws = max_laws true; low = low }
+laws_of modes.Widest limit low = record { levelled = true; weighed = true; laws = max_laws true; low = low }
+laws_of modes.Boolean limit low = record { levelled = false; weighed = false; laws = boolean_laws; low = low }
+
+needs_met : (o : Operation) (product : ℕ → ℕ → ℕ) (limit : ℕ) → MeetsLaws product limit → NeedsOf o product limit
+needs_met operations.Weigh product limit m = tt
+needs_met operations.Inside product limit m = tt
+needs_met operations.Normal product limit m = m
+needs_met operations.Intersect product limit m = m
+
+-- the same of jobs
+
+module _ (asked : Asked) (held : List ℕ → Option (List ℕ)) where
+  told_bytes : AreTold asked held → AreAllTold (kinds_of asked.task.operation) (bytes_of asked held)
+  told_bytes told n kind e = told (suc n) kind e
+
+  kinds_bytes : AreOfTheirKinds asked held → AreOfKinds (scale_of asked.mode) (kinds_of asked.task.operation) (bytes_of asked held)
+  kinds_bytes are n kind e = are (suc n) kind e
+
+  pub one_job_answer : (text other : List ℕ) → AreTold asked held → IsAnswer asked held text → IsAnswer asked held other → text ≡ other
+  one_job_answer text other told a b = one_answer asked.task.operation (scale_of asked.mode) (product_of asked.mode) asked.limit (bytes_of asked held) text other (told_bytes told) a b
+
+  pub within_apart : IsWithin asked held → IsTooMuch asked held → ⊥
+  within_apart small large = made_apart asked.task.operation (scale_of asked.mode) (product_of asked.mode) asked.limit (bytes_of asked held) small large
+
+  pub within_or_more : AreOfTheirKinds asked held → (IsWithin asked held → ⊥) → (IsTooMuch asked held → ⊥) → ⊥
+  within_or_more are small large = made_either asked.task.operation (scale_of asked.mode) (product_of asked.mode) asked.limit (bytes_of asked held) (kinds_bytes are) small large
+
+  pub answer_within : (text : List ℕ) → AreTold asked held → IsAnswer asked held text → IsWithin asked held
+  answer_within text told a = answer_stays asked.task.operation (scale_of asked.mode) (product_of asked.mode) asked.limit (bytes_of asked held) text (told_bytes told) a
+
+  pub answer_apart : (text : List ℕ) → AreTold asked held → IsAnswer asked held text → IsTooMuch asked held → ⊥
+  answer_apart text told a large = within_apart (answer_within text told a) large
+
+  pub answered_not_more : (text : List ℕ) → AreOfTheirKinds asked held → IsAnswer asked held text → IsTooMuch asked held → ⊥
+  answered_not_more text are = answer_apart text (λ n kind e. is_told (bytes_at held (file_at (Some asked) n)) (IsOfKind (scale_of asked.mode) kind) (are n kind e))
+
+  module _ (words : List (List ℕ)) (of_words : job_of words ≡ Some asked) (are : AreOfTheirKinds asked held) where
+    pub job_answered : IsWithin asked held → ((text : List ℕ) → IsAnswer asked held text → ⊥) → ⊥
+    job_answered small never =
+        answer_there asked.task.operation (scale_of asked.mode) (product_of asked.mode) asked.limit (bytes_of asked held) (needs_met asked.task.operation (product_of asked.mode) asked.limit (laws_of asked.mode asked.limit (omega (arith, limit_asked words asked of_words))))
+        (kinds_bytes are) small never
+
+    -- so it has an answer or too many parts: that it has neither cannot be
+    pub answered_or_more : ((text : List ℕ) → IsAnswer asked held text → ⊥) → (IsTooMuch asked held → ⊥) → ⊥
+    answered_or_more never few = within_or_more are (λ within. job_answered within never) few

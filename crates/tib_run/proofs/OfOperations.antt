@@ -1,0 +1,64 @@
+-- What each operation brings: that its text is one, that what it makes does not hang on the numbers of labels and is within the
+-- limit or has more parts than it, and that it has a text where that is within the limit.
+use Rattle.tib_cost.specs.declared.Scale.{Scale}
+use Rattle.std.proofs.Common.{◌≡◌, ℕ, ◌<◌, Bool, List, [], ◌∷◌}
+use Rattle.tib_lex.specs.Lists.{Distinct}
+use Rattle.tib_command.specs.declared.job.Operation.{Operation}
+use Rattle.tib_command.specs.declared.job.Operation.TheVariants as operations
+use Rattle.tib_run.specs.Kinds.{kinds_of, ValuesOf}
+use Rattle.tib_run.specs.Causes.{makes}
+use Rattle.tib_run.specs.Answers.{IsResultOf, NeedsOf}
+use Rattle.tib_run.specs.Made.{normal_form, and_then, reached_set}
+use Rattle.tib_run.specs.Intersect.{AreTrimmedForms, intersecting}
+use Rattle.tib_run.proofs.FileValues.{AllAgree, AllSound}
+use Rattle.tib_run.proofs.FormsByText.{within_by_text, pairs_by_text}
+use Rattle.tib_run.proofs.MadeParts.{IsEither, nothing_either, both_either, form_either, reached_either}
+use Rattle.tib_run.proofs.OfWeigh.{weighed_once, weighed_there}
+use Rattle.tib_run.proofs.OfInside.{insides_once, insides_there}
+use Rattle.tib_run.proofs.OfNormal.{normal_once, normal_there}
+use Rattle.tib_run.proofs.OfIntersect.{intersection_once, intersection_there}
+
+module _ (scale : Scale) (product : ℕ → ℕ → ℕ) (limit : ℕ) where
+  -- what is made is within the limit, or has more parts
+  pub makes_either : (o : Operation) (values : ValuesOf (kinds_of o)) → IsEither (makes o product limit values)
+  makes_either operations.Weigh values = form_either product limit values.0
+  makes_either operations.Inside values = nothing_either
+  makes_either operations.Normal values = form_either product limit values.0
+  makes_either operations.Intersect values =
+      let pairs = reached_set limit (AreTrimmedForms product values.0 values.1.0) (intersecting product) in
+      both_either (normal_form product limit values.0) (and_then (normal_form product limit values.1.0) pairs) (form_either product limit values.0)
+      (both_either (normal_form product limit values.1.0) pairs (form_either product limit values.1.0)
+      (reached_either limit (AreTrimmedForms product values.0 values.1.0) (intersecting product)))
+
+  module _ (labels others : List (List ℕ)) (apart : Distinct labels) (different : Distinct others) where
+    -- it is within the limit over each table of labels
+    pub makes_by_text : (o : Operation) (values more : ValuesOf (kinds_of o)) → AllAgree labels others (kinds_of o) values more → (makes o product limit values).within → (makes o product limit more).within
+    makes_by_text operations.Weigh values more a w = within_by_text product limit labels others apart different values.0 more.0 a.0 w
+    makes_by_text operations.Inside values more a w = tt
+    makes_by_text operations.Normal values more a w = within_by_text product limit labels others apart different values.0 more.0 a.0 w
+    makes_by_text operations.Intersect values more a w = (
+      within_by_text product limit labels others apart different values.0 more.0 a.0 w.0,
+      (
+        within_by_text product limit labels others apart different values.1.0 more.1.0 a.1.0 w.1.0,
+        pairs_by_text product limit labels others apart different values.0 values.1.0 more.0 more.1.0 a.0 a.1.0 w.1.1,
+      ),
+    )
+
+    -- and the text is one
+    pub result_once :
+        (o : Operation) (values more : ValuesOf (kinds_of o)) (text other : List ℕ) → AllAgree labels others (kinds_of o) values more → IsResultOf o scale product limit labels values text →
+        IsResultOf o scale product limit others more other → text ≡ other
+    result_once operations.Weigh values more text other a b c = weighed_once scale product labels others values.0 more.0 apart different a.0 values.1.0 more.1.0 text other a.1.0 b c
+    result_once operations.Inside values more text other a b c = insides_once scale product labels others values.0 more.0 text other a.0 b c
+    result_once operations.Normal values more text other a b c = normal_once scale product limit labels others values.0 more.0 text other apart different a.0 b c
+    result_once operations.Intersect values more text other a b c = intersection_once scale product limit labels others values.0 values.1.0 more.0 more.1.0 text other apart different a.0 a.1.0 b c
+
+  -- where it is within the limit, that there is no text cannot be
+  pub result_there :
+      (labels : List (List ℕ)) → Distinct labels → (o : Operation) → NeedsOf o product limit → (values : ValuesOf (kinds_of o)) → AllSound scale labels (kinds_of o) values →
+      (makes o product limit values).within → ((text : List ℕ) → IsResultOf o scale product limit labels values text → ⊥) → ⊥
+  result_there labels apart operations.Weigh needs values s w never = weighed_there scale product labels values.0 values.1.0 never
+  result_there labels apart operations.Inside needs values s w never = insides_there scale product values.0 never
+  result_there labels apart operations.Normal m values s w never = normal_there m.laws scale limit m.low labels apart values.0 s.0.0 s.0.1 w never
+  result_there labels apart operations.Intersect m values s w never =
+      intersection_there m.laws scale limit m.low labels apart values.0 values.1.0 s.0.0 s.1.0.0 s.0.1 s.1.0.1 w.1.1 never

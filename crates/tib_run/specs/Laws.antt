@@ -1,0 +1,71 @@
+-- What holds of the answers of operations and of jobs.
+use Rattle.tib_cost.specs.declared.Scale.{Scale}
+use Rattle.std.specs.Prelude.{◌≡◌, ℕ, Bool, List, Option, Some}
+use Rattle.tib_command.specs.Jobs.{Asked, job_of}
+use Rattle.tib_command.specs.declared.job.Operation.{Operation}
+use Rattle.tib_run.specs.Kinds.{kinds_of, AreOfKinds, AreAllTold}
+use Rattle.tib_run.specs.Causes.{StaysWithin, IsTooMuch, IsWithin}
+use Rattle.tib_run.specs.Answers.{IsAnswerOf, NeedsOf, IsAnswer, AreTold, AreOfTheirKinds, EndsCalmly, AreOneStatus}
+use Rattle.tib_run.specs.declared.status.Status.{Status}
+
+-- over told files the text of each operation is one
+abbrev pub TextsAreOne : Type 0
+TextsAreOne =
+    (operation : Operation) (scale : Scale) (product : ℕ → ℕ → ℕ) (limit : ℕ) (bytes : ℕ → Option (List ℕ)) (text other : List ℕ) →
+    AreAllTold (kinds_of operation) bytes → IsAnswerOf operation scale product limit bytes text →
+    IsAnswerOf operation scale product limit bytes other → text ≡ other
+
+-- where the files of an operation are of their kinds, and what it makes of them is within the limit, that no text answers
+-- cannot be
+abbrev pub TextsExist : Type 0
+TextsExist =
+    (operation : Operation) (scale : Scale) (product : ℕ → ℕ → ℕ) (limit : ℕ) (bytes : ℕ → Option (List ℕ)) →
+    NeedsOf operation product limit → AreOfKinds scale (kinds_of operation) bytes → StaysWithin operation scale product limit bytes →
+    ((text : List ℕ) → IsAnswerOf operation scale product limit bytes text → ⊥) → ⊥
+
+-- where the files of a job are told, one text answers it
+abbrev pub AnswersAreOne : Type 0
+AnswersAreOne =
+    (asked : Asked) (held : List ℕ → Option (List ℕ)) (text other : List ℕ) → AreTold asked held → IsAnswer asked held text →
+    IsAnswer asked held other → text ≡ other
+
+-- and it is within the limit of the job
+abbrev pub AnswersAreWithin : Type 0
+AnswersAreWithin =
+    (asked : Asked) (held : List ℕ → Option (List ℕ)) (text : List ℕ) → AreTold asked held → IsAnswer asked held text → IsWithin asked held
+
+-- so that it is not too much
+abbrev pub AnswersAreNotTooMuch : Type 0
+AnswersAreNotTooMuch =
+    (asked : Asked) (held : List ℕ → Option (List ℕ)) (text : List ℕ) → AreTold asked held → IsAnswer asked held text →
+    IsTooMuch asked held → ⊥
+
+-- where the files of a job are of their kinds, that it is neither within its limit nor too much cannot be
+abbrev pub IsWithinOrTooMuch : Type 0
+IsWithinOrTooMuch =
+    (asked : Asked) (held : List ℕ → Option (List ℕ)) → AreOfTheirKinds asked held → (IsWithin asked held → ⊥) →
+    (IsTooMuch asked held → ⊥) → ⊥
+
+-- where the files of a job that words ask for are of their kinds, and it is within its limit, that no text answers cannot be
+abbrev pub JobsAreAnswered : Type 0
+JobsAreAnswered =
+    (words : List (List ℕ)) (asked : Asked) (held : List ℕ → Option (List ℕ)) → job_of words ≡ Some asked →
+    AreOfTheirKinds asked held → IsWithin asked held → ((text : List ℕ) → IsAnswer asked held text → ⊥) → ⊥
+
+-- that it has neither an answer nor too many parts cannot be
+abbrev pub JobsHaveOne : Type 0
+JobsHaveOne =
+    (words : List (List ℕ)) (asked : Asked) (held : List ℕ → Option (List ℕ)) → job_of words ≡ Some asked →
+    AreOfTheirKinds asked held → ((text : List ℕ) → IsAnswer asked held text → ⊥) → (IsTooMuch asked held → ⊥) → ⊥
+
+-- and it has not both
+abbrev pub JobsHaveNotBoth : Type 0
+JobsHaveNotBoth =
+    (asked : Asked) (held : List ℕ → Option (List ℕ)) (text : List ℕ) → AreOfTheirKinds asked held → IsAnswer asked held text →
+    IsTooMuch asked held → ⊥
+
+-- a job whose files are told ends with one status in all runs in which no count rises and no memory is refused
+abbrev pub StatusesAreOne : Type 0
+StatusesAreOne =
+    (words : List (List ℕ)) (asked : Asked) (held : List ℕ → Option (List ℕ)) (one other : Status) → job_of words ≡ Some asked →
+    AreTold asked held → EndsCalmly asked held one → EndsCalmly asked held other → AreOneStatus one other
