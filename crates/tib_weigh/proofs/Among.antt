@@ -1,8 +1,8 @@
 -- Runs that begin with one of some rules.
-use Rattle.std.specs.Prelude.{◌≡◌, ℕ, ◌<◌, ◌≤◌, Bool, true, false, nat_eq, List, [], ◌∷◌, ◌++◌, length, ◌⊎◌, Option, None, Some, refl, if◌then◌else◌}
-use Rattle.std.proofs.Common.{zero, suc, ap, sym, ◌∙◌, arith, inl, inr, subst, get_or, append_assoc}
+use Rattle.std.specs.Prelude.{◌≡◌, ℕ, ◌<◌, ◌≤◌, Bool, nat_eq, List, [], ◌∷◌, ◌++◌, length, ◌⊎◌, Option, None, Some, refl, if◌then◌else◌}
+use Rattle.std.proofs.Common.{zero, suc, ap, sym, ◌∙◌, arith, inl, inr, subst, get_or}
 use Rattle.tib_lex.specs.Lists.{Has}
-use Rattle.tib_tree.specs.Trees.{Trees, none, tree, count, first_trees, count-first}
+use Rattle.tib_tree.specs.Trees.{Trees, none, tree, count, first_trees}
 use Rattle.tib_cost.specs.Semiring.{ProductLaws}
 use Rattle.tib_cost.specs.Least.{IsLeast, times, lesser}
 use Rattle.tib_cost.proofs.Least.{IsLeast-same, IsLeast-none, IsLeast-either, IsLeast-either_none, IsLeast-scaled}
@@ -16,24 +16,18 @@ use Rattle.tib_weigh.specs.declared.vector.Entry.{Entry}
 use Rattle.tib_weigh.specs.Entries.{cost_in}
 use Rattle.tib_weigh.specs.Vectors.{times_all, Weighed}
 use Rattle.tib_weigh.proofs.EntryLemmas.{nat_eq_cases}
-use Rattle.tib_weigh.specs.Serving.{IsRulePlace, IsUnserved, Serves}
-use Rattle.tib_weigh.proofs.Places.{places_below, place_has, has_rule_place}
+use Rattle.tib_weigh.specs.RulePlaces.{IsRulePlace}
+use Rattle.tib_weigh.proofs.Places.{places_below, place_has}
 use Rattle.tib_weigh.proofs.Sides.{length-holes}
 use Rattle.tib_weigh.proofs.Stacks.{times-none}
-use Rattle.tib_weigh.proofs.Members.{has_at, has_first, has_last, has_either, has_parts, has_right}
-use Rattle.tib_lex.proofs.Lists.{append_nil}
+use Rattle.tib_weigh.proofs.Members.{has_first, has_last, has_either}
 
 -- c is the cost of a run from q that begins with one of the rules at these positions and yields f over kids
 abbrev pub BeginsAmong : (ℕ → ℕ → ℕ) → List (Rule ℕ) → ℕ → ℕ → Trees ℕ → List ℕ → ℕ → Type 0
 BeginsAmong product rules q f kids ps c = (n : ℕ) × Has ps n × Begins product rules q f kids n c
 
-keeps_value : (b : Bool) (v w : Option ℕ) → w ≡ None → v ≡ (if b then lesser v w else v)
-keeps_value true None w e = rw e refl
-keeps_value true (Some a) w e = rw e refl
-keeps_value false v w e = refl
-
 -- a product is none where one of its costs is
-times_all-none_at : (product : ℕ → ℕ → ℕ) (qs : List ℕ) (vs : List (List Entry)) (j : ℕ) → j < length qs → cost_in (get_or vs j []) (get_or qs j 0) ≡ None → times_all product qs vs ≡ None
+pub times_all-none_at : (product : ℕ → ℕ → ℕ) (qs : List ℕ) (vs : List (List Entry)) (j : ℕ) → j < length qs → cost_in (get_or vs j []) (get_or qs j 0) ≡ None → times_all product qs vs ≡ None
 times_all-none_at product [] vs j h e = absurd (omega arith)
 times_all-none_at product (q ∷ qs) [] j h e = refl
 times_all-none_at product (q ∷ qs) (v ∷ vs) zero h e = rw e refl
@@ -103,6 +97,23 @@ module _ {levelled weighted : Bool} {product : ℕ → ℕ → ℕ} (laws : Prod
   times_all-is_least (q ∷ qs) (tree f kids rest) (v ∷ vs) h w =
       IsLeast-one_more laws rules q qs f kids (first_trees (length qs) rest) (w.0.least q) (times_all-is_least qs rest vs (omega arith) w.1)
 
+  -- a rule is worth the least cost of the runs that begin with it
+  pub rule_least :
+      AreNormal rules → (ts : Trees ℕ) (vs : List (List Entry)) (f k m q : ℕ) → IsRulePlace rules f k m → k ≤ count ts → Weighed product rules ts vs → (rule_at rules m).left ≡ q →
+      IsLeast (Begins product rules q f (first_trees k ts) m) (times product (Some (rule_at rules m).cost) (times_all product (holes (rule_at rules m).right.kids) vs))
+  rule_least normal ts vs f k m q place enough w left =
+      IsLeast-same (λ c p. record { left = left; root = place.root; below = p }) (λ c b. b.below) (IsLeast-scaled laws (rule_at rules m).cost all)
+    where
+      holes_long : length (holes (rule_at rules m).right.kids) ≡ k
+      holes_long = length-holes (rule_at rules m).right.kids (normal m place.below).are_holes ∙ place.many
+
+      all : IsLeast (IsCost product rules (holes (rule_at rules m).right.kids) (first_trees k ts)) (times_all product (holes (rule_at rules m).right.kids) vs)
+      all =
+          subst
+          (λ j. IsLeast (IsCost product rules (holes (rule_at rules m).right.kids) (first_trees j ts)) (times_all product (holes (rule_at rules m).right.kids) vs))
+          holes_long
+          (times_all-is_least (holes (rule_at rules m).right.kids) ts vs (omega (arith, holes_long, enough)) w)
+
   -- one rule more
   pub among_step :
       AreNormal rules → (ts : Trees ℕ) (vs : List (List Entry)) (f k : ℕ) (ps : List ℕ) (m q : ℕ) (v v' : Option ℕ) → IsRulePlace rules f k m → k ≤ count ts → Weighed product rules ts vs →
@@ -123,51 +134,6 @@ module _ {levelled weighted : Bool} {product : ℕ → ℕ → ℕ} (laws : Prod
           (λ j. IsLeast (IsCost product rules (holes (rule_at rules m).right.kids) (first_trees j ts)) (times_all product (holes (rule_at rules m).right.kids) vs))
           holes_long
           (times_all-is_least (holes (rule_at rules m).right.kids) ts vs (omega (arith, holes_long, enough)) w)
-
-  -- a rule more that the vectors don't serve
-  unserved_step :
-      AreNormal rules → (ts : Trees ℕ) (vs : List (List Entry)) (f k : ℕ) (ps : List ℕ) (m q : ℕ) (v : Option ℕ) → IsRulePlace rules f k m → k ≤ count ts → Weighed product rules ts vs →
-      IsUnserved rules k vs m → IsLeast (BeginsAmong product rules q f (first_trees k ts) ps) v → IsLeast (BeginsAmong product rules q f (first_trees k ts) (ps ++ m ∷ [])) v
-  unserved_step normal ts vs f k ps m q v place enough w un h =
-      let qs : List ℕ = holes (rule_at rules m).right.kids in
-      let long : length qs ≡ k = length-holes (rule_at rules m).right.kids (normal m place.below).are_holes ∙ place.many in
-      let none : times_all product qs vs ≡ None = times_all-none_at product qs vs un.place (omega (arith, long, un.within)) un.costless in
-      let costless : times product (Some (rule_at rules m).cost) (times_all product qs vs) ≡ None = rw none refl in
-      among_step normal ts vs f k ps m q v v place enough w h (keeps_value (nat_eq (rule_at rules m).left q) v _ costless)
-
-  -- rules more, of which each is there or is not served
-  among_more :
-      AreNormal rules → (ts : Trees ℕ) (vs : List (List Entry)) (f k : ℕ) (us ps : List ℕ) (q : ℕ) (v : Option ℕ) → k ≤ count ts → Weighed product rules ts vs →
-      ((p : ℕ) → Has us p → IsRulePlace rules f k p × (Has ps p ⊎ IsUnserved rules k vs p)) → IsLeast (BeginsAmong product rules q f (first_trees k ts) ps) v →
-      IsLeast (BeginsAmong product rules q f (first_trees k ts) (ps ++ us)) v
-  among_more normal ts vs f k [] ps q v enough w each h =
-      subst (λ (xs : List ℕ). IsLeast (BeginsAmong product rules q f (first_trees k ts) xs) v) (sym (append_nil ps)) h
-  among_more normal ts vs f k (u ∷ us) ps q v enough w each h =
-      subst (λ (xs : List ℕ). IsLeast (BeginsAmong product rules q f (first_trees k ts) xs) v) (append_assoc ps (u ∷ []) us)
-      (among_more normal ts vs f k us (ps ++ u ∷ []) q v enough w (λ p a. later p (each p (inr a))) (next (each u (inl refl))))
-    where
-      later : (p : ℕ) → IsRulePlace rules f k p × (Has ps p ⊎ IsUnserved rules k vs p) → IsRulePlace rules f k p × (Has (ps ++ u ∷ []) p ⊎ IsUnserved rules k vs p)
-      later p (place, inl had) = (place, inl (has_first ps u p had))
-      later p (place, inr un) = (place, inr un)
-
-      next : IsRulePlace rules f k u × (Has ps u ⊎ IsUnserved rules k vs u) → IsLeast (BeginsAmong product rules q f (first_trees k ts) (ps ++ u ∷ [])) v
-      next (place, inl had) =
-          IsLeast-same (λ c b. (b.0, has_first ps u b.0 b.1, b.2))
-          (λ c b. (b.0, elim (has_either ps u b.0 b.1) [ inl x ↦ x | inr e ↦ subst (Has ps) e had ], b.2)) h
-      next (place, inr un) = unserved_step normal ts vs f k ps u q v place enough w un h
-
-  -- the rules that are served give the least cost of all
-  pub among_served :
-      AreNormal rules → (ts : Trees ℕ) (vs : List (List Entry)) (f k : ℕ) (ps : List ℕ) (q : ℕ) (v : Option ℕ) → k ≤ count ts → Weighed product rules ts vs → Serves rules f k vs ps →
-      IsLeast (BeginsAmong product rules q f (first_trees k ts) ps) v → IsLeast (IsCost product rules (q ∷ []) (tree f (first_trees k ts) none)) v
-  among_served normal ts vs f k ps q v enough w serves h =
-      among_all normal q f k (first_trees k ts) (count-first k ts enough)
-      (IsLeast-same (λ c b. (b.0, listed b.0 (has_parts ps (positions_with f k rules) b.0 b.1), b.2)) (λ c b. (b.0, has_right ps (positions_with f k rules) b.0 b.1, b.2))
-      (among_more normal ts vs f k (positions_with f k rules) ps q v enough w (λ p a. let place = has_rule_place rules f k p a in (place, serves.all p place)) h))
-    where
-      listed : (n : ℕ) → Has ps n ⊎ Has (positions_with f k rules) n → Has (positions_with f k rules) n
-      listed n (inl a) = let at = has_at ps n 0 a in place_has rules f k n (subst (IsRulePlace rules f k) at.2 (serves.each at.0 at.1))
-      listed n (inr a) = a
 
 pub count-Weighed : (product : ℕ → ℕ → ℕ) (rules : List (Rule ℕ)) (ts : Trees ℕ) (vs : List (List Entry)) → Weighed product rules ts vs → count ts ≡ length vs
 count-Weighed product rules none [] w = refl

@@ -37,13 +37,13 @@ has_parts [] ys x h = inr h
 has_parts (z ∷ xs) ys x (inl e) = inl (inl e)
 has_parts (z ∷ xs) ys x (inr h) = elim (has_parts xs ys x h) [ inl a ↦ inl (inr a) | inr b ↦ inr b ]
 
-pub has_first : (ps : List ℕ) (m n : ℕ) → Has ps n → Has (ps ++ m ∷ []) n
+pub has_first : {A : Type 0} (ps : List A) (m n : A) → Has ps n → Has (ps ++ m ∷ []) n
 has_first ps m n h = has_left ps (m ∷ []) n h
 
-pub has_last : (ps : List ℕ) (m : ℕ) → Has (ps ++ m ∷ []) m
+pub has_last : {A : Type 0} (ps : List A) (m : A) → Has (ps ++ m ∷ []) m
 has_last ps m = has_right ps (m ∷ []) m (inl refl)
 
-pub has_either : (ps : List ℕ) (m n : ℕ) → Has (ps ++ m ∷ []) n → Has ps n ⊎ (m ≡ n)
+pub has_either : {A : Type 0} (ps : List A) (m n : A) → Has (ps ++ m ∷ []) n → Has ps n ⊎ (m ≡ n)
 has_either [] m n (inl e) = inr e
 has_either [] m n (inr h) = absurd h
 has_either (p ∷ ps) m n (inl e) = inl (inl e)

@@ -1,5 +1,5 @@
 -- The positions of the rules of a label and a rank.
-use Rattle.std.specs.Prelude.{◌≡◌, ℕ, ◌+◌, ◌-◌, ◌<◌, ◌≤◌, Bool, true, false, List, [], ◌∷◌, length, ◌⊎◌, if◌then◌else◌, refl}
+use Rattle.std.specs.Prelude.{◌≡◌, ℕ, ◌+◌, ◌-◌, ◌<◌, ◌≤◌, Bool, true, false, List, [], ◌∷◌, length, if◌then◌else◌, refl}
 use Rattle.std.proofs.Common.{zero, suc, ap, ◌∙◌, arith, get_or, inl, inr, subst}
 use Rattle.tib_lex.specs.Lists.{Has, Ascends}
 use Rattle.tib_grammar.specs.declared.Rule.{Rule}
@@ -10,9 +10,8 @@ use Rattle.tib_tree.specs.Trees.{count}
 use Rattle.tib_grammar.specs.Sides.{Symbol, label, hole}
 use Rattle.tib_normal.specs.Rules.{is_label, is_over, positions_from, positions_with}
 use Rattle.tib_normal.proofs.Pairwise.{Ascends-at}
-use Rattle.tib_weigh.specs.declared.vector.Entry.{Entry}
-use Rattle.tib_weigh.specs.Serving.{IsRulePlace, Serves, IsUnserved}
-use Rattle.tib_weigh.proofs.Members.{has_at, at_has}
+use Rattle.tib_weigh.specs.RulePlaces.{IsRulePlace}
+use Rattle.tib_weigh.proofs.Members.{has_at}
 
 -- p, counted from k, is the position of a rule of the label f and the rank n
 pub record IsPlace (rules : List (Rule ℕ)) (k f n p : ℕ) : Type 0 where
@@ -148,34 +147,3 @@ pub has_rule_place : (rules : List (Rule ℕ)) (f n p : ℕ) → Has (positions_
 has_rule_place rules f n p h =
     let at = has_at (positions_with f n rules) p 0 h in
     subst (IsRulePlace rules f n) at.2 (rule_place rules (positions_with f n rules) f n at.0 refl at.1)
-
--- all rules of the label and the rank
-pub all_serve : (rules : List (Rule ℕ)) (f n : ℕ) (vs : List (List Entry)) (ps : List ℕ) → ps ≡ positions_with f n rules → Ascends (λ r s. r.left ≤ s.left) rules → Serves rules f n vs ps
-all_serve rules f n vs ps e a = record {
-  each = λ i h. rule_place rules ps f n i e h;
-  ascend = λ i j h l. later_left rules ps f n i j e a h l;
-  all = λ p at. inl (rw e (place_has rules f n p at));
-}
-
-same_or_less : (m n : ℕ) → m ≤ n → (m ≡ n) ⊎ (m < n)
-same_or_less m n h = grind arith
-
--- ascending positions of rules of the label and the rank, with all that are served
-pub some_serve :
-    (rules : List (Rule ℕ)) (f n : ℕ) (vs : List (List Entry)) (ps : List ℕ) → Ascends (λ r s. r.left ≤ s.left) rules →
-    ((i j : ℕ) → i < j → j < length ps → get_or ps i 0 ≤ get_or ps j 0) → ((p : ℕ) → Has ps p → Has (positions_with f n rules) p) →
-    ((p : ℕ) → Has (positions_with f n rules) p → Has ps p ⊎ IsUnserved rules n vs p) → Serves rules f n vs ps
-some_serve rules f n vs ps a sorted only all = record {
-  each = each;
-  ascend = λ i j h l. lefts (get_or ps i 0) (get_or ps j 0) (each j l).below (sorted i j h l);
-  all = λ p at. all p (place_has rules f n p at);
-}
-  where
-    each : (i : ℕ) → i < length ps → IsRulePlace rules f n (get_or ps i 0)
-    each i h = has_rule_place rules f n (get_or ps i 0) (only (get_or ps i 0) (at_has ps i 0 h))
-
-    lefts : (p q : ℕ) → q < length rules → p ≤ q → (rule_at rules p).left ≤ (rule_at rules q).left
-    lefts p q l h = elim (same_or_less p q h) [
-      | inl e ↦ let same : (rule_at rules p).left ≡ (rule_at rules q).left = ap (λ i. (rule_at rules i).left) e in omega arith
-      | inr lt ↦ Ascends-at (λ r s. r.left ≤ s.left) rules no_rule a p q lt l
-    ]

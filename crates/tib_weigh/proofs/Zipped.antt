@@ -17,3 +17,7 @@ zip_append R [] [] us vs h k = k
 zip_append R [] (y ∷ ys) us vs h k = absurd h
 zip_append R (x ∷ xs) [] us vs h k = absurd h
 zip_append R (x ∷ xs) (y ∷ ys) us vs h k = (h.0, zip_append R xs ys us vs h.1 k)
+
+pub ok_two : {A E : Type 0} (P Q T : A → Type 0) (r : Result A E) → IfOk r P → IfOk r Q → ((a : A) → P a → Q a → T a) → IfOk r T
+ok_two P Q T (Ok a) h k f = f a h k
+ok_two P Q T (Err e) h k f = tt

@@ -14,7 +14,7 @@ use Rattle.tib_weigh.specs.declared.index.Index.{Index}
 -- a table of the rules at these positions for each of n child places
 pub record AreTables (rules : List (Rule ℕ)) (ps : List ℕ) (n : ℕ) (tables : List Table) : Type 0 where
   pub long : length tables ≡ n
-  pub each : (j : ℕ) (t : Table) → j < n → t ≡ get_or tables j t → IsTable rules ps j t
+  pub each : (j : ℕ) (t : Table) → j < n → t ≡ get_or tables j t → IsTable rules n ps j t
 
 -- the tables of the label f over n states, and for n = 0 the vector of a leaf
 pub record IsShape (product : ℕ → ℕ → ℕ) (rules : List (Rule ℕ)) (f n : ℕ) (s : Shape) : Type 0 where

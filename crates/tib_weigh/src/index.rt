@@ -1,17 +1,21 @@
 // The rules of a grammar in normal form by label and rank, and then by the states of each child place.
-ghost use Rattle.std.specs.Prelude.{◌≡◌, ℕ, ◌+◌, ◌-◌, ◌<◌, ◌≤◌, length, IfOk, IfSome, List, get_or};
-ghost use Rattle.tib_lex.specs.Lists.{Ascends};
+ghost use Rattle.std.specs.Prelude.{◌≡◌, ℕ, ◌+◌, ◌-◌, ◌<◌, ◌≤◌, length, IfOk, IfSome, List, []};
+ghost use Rattle.tib_lex.specs.Lists.{Each};
 ghost use Rattle.tib_grammar.specs.declared.Rule.{Rule};
 ghost use Rattle.tib_normal.specs.Rules.{positions_with};
-ghost use Rattle.tib_weigh.specs.Serving.{Serves};
+ghost use Rattle.tib_weigh.specs.Buckets.{AreRules};
+ghost use Rattle.tib_weigh.specs.Entries.{IsAscending};
+ghost use Rattle.tib_weigh.specs.Found.{IsBlank};
 ghost use Rattle.tib_weigh.specs.Shapes.{AreTables, IsShape, IsIndex};
-ghost use Rattle.tib_weigh.specs.Vectors.{vectors, IsVectorOf};
-ghost use Rattle.tib_tree.specs.Trees.{none, count};
+ghost use Rattle.tib_weigh.specs.Vectors.{vectors, IsVectorOf, Weighed};
+ghost use Rattle.tib_tree.specs.Trees.{Trees, none, first_trees};
 ghost use Rattle.tib_grammar.specs.Forms.{AreNormal};
-ghost use Rattle.tib_grammar.specs.Run.{rule_at};
+ghost use Rattle.tib_grammar.specs.Range.{AreInRange};
 
-use crate::node::node_vector;
+use crate::found::Found;
+use crate::node::put_node_vector;
 use crate::table::Table;
+use crate::trying::try_table;
 use crate::vector::Entry;
 use std::alloc::{AllocError, Global};
 use std::collections::HashMap;
@@ -20,13 +24,9 @@ use tib_grammar::{Item, Rule};
 use tib_normal::Normal;
 use tib_tree::Label;
 
-// How few rules of a label and rank are tried all: looking for the best place would cost as much.
-const FEW: usize = 32;
-
-/// The rules of one label and rank: how many they are, a table for each child place, and the vector of a leaf.
+/// The rules of one label and rank: a table for each child place, and the vector of a leaf.
 #[derive(Drop)]
 pub(crate) struct Shape {
-    many: usize,
     tables: Vec<Table>,
     leaf: Vec<Entry>,
 }
@@ -40,13 +40,12 @@ fn tables_of(
     states: u32,
 ) -> Result<Vec<Table>, AllocError>
     requires normal { AreNormal rules.now }
-    requires within { (i : ℕ) → i < length positions.now → get_or positions.now i 0 < length rules.now }
-    requires many { (i : ℕ) → i < length positions.now → count (rule_at rules.now (get_or positions.now i 0)).right.kids ≡ rank }
+    requires rules { AreRules rules.now rank positions.now }
     ensures { IfOk result (λ v. AreTables rules.now positions.now rank v.items) }
 {
     let mut tables = Vec::new(alloc);
     for place in 0..rank {
-        tables.push(Table::new(alloc, rules, positions, place as usize, states)?)?;
+        tables.push(Table::new(alloc, rules, positions, place as usize, rank, states)?)?;
     }
     Ok(tables)
 }
@@ -60,18 +59,14 @@ fn leaf_of<S: Semiring>(
 ) -> Result<Vec<Entry>, AllocError>
     ensures { IfOk result (λ v. rank ≡ 0 → IsVectorOf S.product normal.now.rules label none v.items) }
 {
+    let mut leaf = Vec::new(alloc);
     if rank > 0 {
-        return Ok(Vec::new(alloc));
+        return Ok(leaf);
     }
+    let rules = normal.grammar().rule_list();
     let positions = normal.rules_with(label, 0);
-    node_vector::<S>(
-        alloc,
-        normal.grammar().rule_list(),
-        positions,
-        label,
-        0,
-        &[],
-    )
+    put_node_vector::<S>(rules, positions, label, 0, &[], &mut leaf)?;
+    Ok(leaf)
 }
 
 impl Shape {
@@ -93,11 +88,7 @@ impl Shape {
             grammar.states(),
         )?;
         let leaf = leaf_of::<S>(alloc, normal, label, rank)?;
-        Ok(Shape {
-            many: positions.len(),
-            tables,
-            leaf,
-        })
+        Ok(Shape { tables, leaf })
     }
 
     /// The vector of a leaf.
@@ -107,43 +98,49 @@ impl Shape {
         &self.leaf
     }
 
-    // The child place whose states leave the fewest rules, where these are fewer than all and all are not few.
-    fn best_place(&self, stack: &[Vec<Entry>]) -> Option<usize>
-        requires { length self.now.tables.items ≤ length stack.now }
-        ensures { IfSome result (λ j. j < length self.now.tables.items) }
+    // The child place whose states leave the fewest rules, as far as their number tells.
+    fn best_place(&self, stack: &[Vec<Entry>]) -> usize
+        requires some { 0 < length self.now.tables.items }
+        requires enough { length self.now.tables.items ≤ length stack.now }
+        ensures { result < length self.now.tables.items }
     {
-        if self.many < FEW {
-            return None;
-        }
-        let mut best = None;
-        let mut least = self.many;
+        let mut best = 0;
+        let mut least = usize::MAX;
         for place in 0..self.tables.len() {
-            let left = self.tables[place].left_by(&stack[stack.len() - 1 - place], least);
+            let left = self.tables[place].left_by(stack[stack.len() - 1 - place].len());
             if left < least {
                 least = left;
-                best = Some(place);
+                best = place;
             }
         }
         best
     }
 
-    /// The rules that the vectors on top of the stack can serve at the child place that leaves the fewest, in order, and
-    /// None where each place leaves all.
-    pub(crate) fn served(
+    /// Puts the vector of a node with children over the trees on top of the stack into an empty one. Only the rules are
+    /// tried that one child can serve.
+    pub(crate) fn put_vector<S: Semiring>(
         &self,
-        alloc: Global,
+        rules: &[Rule<u32>],
+        rank: u32,
         stack: &[Vec<Entry>],
-    ) -> Result<Option<Vec<u32>>, AllocError>
-        requires { length self.now.tables.items ≤ length stack.now }
-        ensures { (rules : List (Rule ℕ)) → (f n : ℕ) → Ascends (λ r s. r.left ≤ s.left) rules → AreTables rules (positions_with f n rules) n self.now.tables.items
-            → IfOk result (λ made. IfSome made (λ ps. Serves rules f n (vectors stack.now) ps.items)) }
+        found: &mut Found,
+        vector: &mut Vec<Entry>,
+    ) -> Result<(), AllocError>
+        requires normal { AreNormal rules.now }
+        requires range { AreInRange (length found.old.costs.items) rules.now }
+        requires tables { (f : ℕ) × AreTables rules.now (positions_with f rank rules.now) rank self.now.tables.items }
+        requires some { 0 < rank }
+        requires enough { rank ≤ length stack.now }
+        requires ascend { Each IsAscending (vectors stack.now) }
+        requires blank { IsBlank found.old }
+        requires empty { vector.old.items ≡ [] }
+        ensures vector { IfOk result (λ _. (f : ℕ) (ts : Trees ℕ) → AreTables rules.now (positions_with f rank rules.now) rank self.now.tables.items → Weighed S.product rules.now ts (vectors stack.now) → IsVectorOf S.product rules.now f (first_trees rank ts) vector.new.items) }
+        ensures blank { IfOk result (λ _. IsBlank found.new) }
+        ensures long { IfOk result (λ _. length found.new.costs.items ≡ length found.old.costs.items) }
     {
-        let Some(place) = self.best_place(stack) else {
-            return Ok(None);
-        };
-        let mut positions = self.tables[place].gather(alloc, &stack[stack.len() - 1 - place])?;
-        positions.sort_unstable();
-        Ok(Some(positions))
+        let place = self.best_place(stack);
+        try_table::<S>(found, &self.tables[place], rules, stack, place, rank)?;
+        found.move_into(vector)
     }
 }
 

@@ -1,17 +1,17 @@
 // The vector of a node, over the vectors of its children.
-ghost use Rattle.std.specs.Prelude.{◌≡◌, ℕ, ◌+◌, ◌-◌, ◌<◌, ◌≤◌, length, map, IfOk, None, Some, nat_eq, if◌then◌else◌, get_or};
+ghost use Rattle.std.specs.Prelude.{◌≡◌, ℕ, ◌+◌, ◌-◌, ◌<◌, ◌≤◌, [], length, map, IfOk, None, Some, nat_eq, if◌then◌else◌, get_or};
 ghost use Rattle.tib_cost.specs.Least.{lesser as lesser_of, times as times_of};
 ghost use Rattle.tib_lex.specs.Lists.{Ascends, Each};
 ghost use Rattle.tib_tree.specs.Trees.{Trees, count, first_trees};
 ghost use Rattle.tib_grammar.specs.Forms.{AreNormal, IsNormalSide};
 ghost use Rattle.tib_grammar.specs.Sides.{holes as holes_of};
-ghost use Rattle.tib_weigh.specs.Serving.{Serves};
+ghost use Rattle.tib_normal.specs.Rules.{positions_with};
 ghost use Rattle.tib_weigh.specs.Entries.{cost_in, EndsBy, IsAscending};
 ghost use Rattle.tib_weigh.specs.Vectors.{state_in, times_all, vectors, IsVectorOf, Weighed};
 
 use crate::below::{holes, state_of};
 use crate::vector::{Entry, add_cost, cost_at};
-use std::alloc::{AllocError, Global};
+use std::alloc::AllocError;
 use tib_cost::{Cost, Semiring};
 use tib_grammar::{Item, Rule};
 use tib_tree::Label;
@@ -71,25 +71,26 @@ fn add_rule<S: Semiring>(
     }
 }
 
-/// The vector of a node of a label and a rank over the trees on top of the stack. The positions are those of the rules
-/// of this label and rank that the vectors of the children can serve; no other rule is looked at.
-pub(crate) fn node_vector<S: Semiring>(
-    alloc: Global,
+/// Puts the vector of a node of a label and a rank over the trees on top of the stack into an empty one. The positions are
+/// those of all rules of this label and rank.
+pub(crate) fn put_node_vector<S: Semiring>(
     rules: &[Rule<u32>],
     positions: &[u32],
     label: Label,
     rank: u32,
     stack: &[Vec<Entry>],
-) -> Result<Vec<Entry>, AllocError>
+    vector: &mut Vec<Entry>,
+) -> Result<(), AllocError>
     requires normal { AreNormal rules.now }
-    requires positions { Serves rules.now label rank (vectors stack.now) positions.now }
+    requires ascending { Ascends (λ r s. r.left ≤ s.left) rules.now }
+    requires positions { positions.now ≡ positions_with label rank rules.now }
     requires enough { rank ≤ length stack.now }
     requires ascend { Each IsAscending (vectors stack.now) }
-    ensures { IfOk result (λ v. (ts : Trees ℕ) → Weighed S.product rules.now ts (vectors stack.now) → IsVectorOf S.product rules.now label (first_trees rank ts) v.items) }
+    requires empty { vector.old.items ≡ [] }
+    ensures { IfOk result (λ _. (ts : Trees ℕ) → Weighed S.product rules.now ts (vectors stack.now) → IsVectorOf S.product rules.now label (first_trees rank ts) vector.new.items) }
 {
-    let mut vector = Vec::new(alloc);
     for position in positions {
-        add_rule::<S>(&rules[*position as usize], stack, &mut vector)?;
+        add_rule::<S>(&rules[*position as usize], stack, vector)?;
     }
-    Ok(vector)
+    Ok(())
 }

@@ -51,8 +51,8 @@ pub(crate) fn cost_at(vector: &[Entry], state: u32) -> Option<Cost>
     }
 }
 
-// The lesser of two costs.
-fn lesser(a: Cost, b: Cost) -> Cost
+/// The lesser of two costs.
+pub(crate) fn lesser(a: Cost, b: Cost) -> Cost
     ensures { result ≡ min a b }
 {
     a.min(b)

@@ -1,16 +1,18 @@
 // The cost of a tree, and of many.
-ghost use Rattle.std.specs.Prelude.{◌≡◌, ℕ, ◌+◌, ◌-◌, ◌<◌, ◌≤◌, ◌^◌, length, take, IfOk, vec_len};
+ghost use Rattle.std.specs.Prelude.{◌≡◌, ℕ, ◌+◌, ◌-◌, ◌<◌, ◌≤◌, ◌^◌, length, take, IfOk, vec_len, []};
 ghost use Rattle.tib_grammar.specs.Series.{IsSeries};
 ghost use Rattle.std.specs.List.{AllZip};
 ghost use Rattle.std.specs.Thread.{IsSync};
 ghost use Rattle.tib_lex.specs.Lists.{Each};
 ghost use Rattle.tib_tree.specs.Trees.{Trees, first_trees};
 ghost use Rattle.tib_weigh.specs.Entries.{IsAscending};
+ghost use Rattle.tib_weigh.specs.Found.{IsBlank};
 ghost use Rattle.tib_weigh.specs.Shapes.{IsIndex};
 ghost use Rattle.tib_weigh.specs.Vectors.{vectors, IsVectorOf, Weighed};
 
+use crate::found::Found;
 use crate::index::Index;
-use crate::node::node_vector;
+use crate::node::put_node_vector;
 use crate::vector::{Entry, cost_at};
 use std::alloc::{AllocError, Global};
 use std::thread::{Threads, available_parallelism, join};
@@ -18,32 +20,83 @@ use tib_cost::{Cost, Semiring};
 use tib_normal::Normal;
 use tib_tree::{Label, Tree};
 
-// The vector of a node over the trees on top of the stack, from what the index has for its label and rank, else from all
-// rules of these.
-fn vector_at<S: Semiring>(
-    alloc: Global,
+// What is used again from node to node: the costs by state, and vectors that no tree needs any more.
+#[derive(Drop)]
+struct Room {
+    found: Found,
+    spare: Vec<Vec<Entry>>,
+}
+
+impl Room {
+    // Room for a grammar of so many states.
+    fn new(alloc: Global, states: u32) -> Result<Room, AllocError>
+        ensures blank { IfOk result (λ r. IsBlank r.found) }
+        ensures long { IfOk result (λ r. length r.found.costs.items ≡ states) }
+    {
+        Ok(Room {
+            found: Found::new(alloc, states as usize)?,
+            spare: Vec::new(alloc),
+        })
+    }
+
+    // An empty vector.
+    fn vector(&mut self, alloc: Global) -> Vec<Entry>
+        ensures empty { result.items ≡ [] }
+        ensures found { self.new.found ≡ self.old.found }
+    {
+        let Some(mut vector) = self.spare.pop() else {
+            return Vec::new(alloc);
+        };
+        vector.clear();
+        vector
+    }
+
+    // Takes so many vectors off the stack, and keeps them.
+    fn keep(&mut self, stack: &mut Vec<Vec<Entry>>, count: u32) -> Result<(), AllocError>
+        ensures stack { IfOk result (λ _. stack.new.items ≡ take (vec_len stack.old - count) stack.old.items) }
+        ensures found { IfOk result (λ _. self.new.found ≡ self.old.found) }
+    {
+        for done in 0..count {
+            if let Some(vector) = stack.pop() {
+                self.spare.push(vector)?;
+            }
+        }
+        Ok(())
+    }
+}
+
+// Puts the vector of a node over the trees on top of the stack into an empty one, from what the index has for its label
+// and rank, else from all rules of these.
+fn put_vector_at<S: Semiring>(
     normal: &Normal<S>,
     index: &Index,
+    found: &mut Found,
     label: Label,
     rank: u32,
     stack: &[Vec<Entry>],
-) -> Result<Vec<Entry>, AllocError>
+    vector: &mut Vec<Entry>,
+) -> Result<(), AllocError>
     requires index { IsIndex S.product normal.now.rules index.now }
     requires enough { rank ≤ length stack.now }
     requires ascend { Each IsAscending (vectors stack.now) }
-    ensures { IfOk result (λ v. (ts : Trees ℕ) → Weighed S.product normal.now.rules ts (vectors stack.now) → IsVectorOf S.product normal.now.rules label (first_trees rank ts) v.items) }
+    requires blank { IsBlank found.old }
+    requires long { length found.old.costs.items ≡ length normal.now.names }
+    requires empty { vector.old.items ≡ [] }
+    ensures vector { IfOk result (λ _. (ts : Trees ℕ) → Weighed S.product normal.now.rules ts (vectors stack.now) → IsVectorOf S.product normal.now.rules label (first_trees rank ts) vector.new.items) }
+    ensures blank { IfOk result (λ _. IsBlank found.new) }
+    ensures long { IfOk result (λ _. length found.new.costs.items ≡ length normal.now.names) }
 {
-    let rules = normal.grammar().rule_list();
-    if let Some(shape) = index.find(label, rank) {
-        if rank == 0 {
-            return Vec::from_slice(alloc, shape.leaf());
-        }
-        if let Some(positions) = shape.served(alloc, stack)? {
-            return node_vector::<S>(alloc, rules, &positions, label, rank, stack);
-        }
+    let grammar = normal.grammar();
+    grammar.is_sound();
+    let rules = grammar.rule_list();
+    let Some(shape) = index.find(label, rank) else {
+        let positions = normal.rules_with(label, rank);
+        return put_node_vector::<S>(rules, positions, label, rank, stack, vector);
+    };
+    if rank == 0 {
+        return vector.extend_from_slice(shape.leaf());
     }
-    let positions = normal.rules_with(label, rank);
-    node_vector::<S>(alloc, rules, positions, label, rank, stack)
+    shape.put_vector::<S>(rules, rank, stack, found, vector)
 }
 
 // The cost of a tree, with an index of the rules, which may lack some or all of them. In a bottom-up pass the vector of a
@@ -52,10 +105,15 @@ fn weigh_by<S: Semiring>(
     alloc: Global,
     normal: &Normal<S>,
     index: &Index,
+    room: &mut Room,
     tree: &Tree,
 ) -> Result<Option<Cost>, AllocError>
-    requires { IsIndex S.product normal.now.rules index.now }
-    ensures { IfOk result (λ v. IsSeries S.product normal.now.rules tree.now v) }
+    requires index { IsIndex S.product normal.now.rules index.now }
+    requires blank { IsBlank room.old.found }
+    requires long { length room.old.found.costs.items ≡ length normal.now.names }
+    ensures cost { IfOk result (λ v. IsSeries S.product normal.now.rules tree.now v) }
+    ensures blank { IfOk result (λ _. IsBlank room.new.found) }
+    ensures long { IfOk result (λ _. length room.new.found.costs.items ≡ length normal.now.names) }
 {
     let nodes = tree.nodes();
     let mut stack: Vec<Vec<Entry>> = Vec::new(alloc);
@@ -63,11 +121,22 @@ fn weigh_by<S: Semiring>(
     while i > 0 {
         i -= 1;
         let node = nodes[i];
-        let vector = vector_at::<S>(alloc, normal, index, node.label, node.rank, &stack)?;
-        stack.truncate(stack.len() - node.rank as usize);
+        let mut vector = room.vector(alloc);
+        put_vector_at::<S>(
+            normal,
+            index,
+            &mut room.found,
+            node.label,
+            node.rank,
+            &stack,
+            &mut vector,
+        )?;
+        room.keep(&mut stack, node.rank)?;
         stack.push(vector)?;
     }
-    Ok(cost_at(&stack[0], 0))
+    let cost = cost_at(&stack[0], 0);
+    room.keep(&mut stack, 1)?;
+    Ok(cost)
 }
 
 // The index of the rules, or where the nodes are too few to be worth it the index of none.
@@ -95,7 +164,8 @@ pub fn weigh<S: Semiring>(
     ensures { IfOk result (λ v. IsSeries S.product normal.now.rules tree.now v) }
 {
     let index = index_for::<S>(alloc, normal, tree.nodes().len())?;
-    weigh_by::<S>(alloc, normal, &index, tree)
+    let mut room = Room::new(alloc, normal.grammar().states())?;
+    weigh_by::<S>(alloc, normal, &index, &mut room, tree)
 }
 
 // The costs of the trees, in order, in this thread.
@@ -109,8 +179,9 @@ fn weigh_each<S: Semiring>(
     ensures { IfOk result (λ vs. AllZip (λ t v. IsSeries S.product normal.now.rules t v) trees.now vs.items) }
 {
     let mut costs = Vec::with_capacity(alloc, trees.len())?;
+    let mut room = Room::new(alloc, normal.grammar().states())?;
     for tree in trees {
-        costs.push(weigh_by::<S>(alloc, normal, index, tree)?)?;
+        costs.push(weigh_by::<S>(alloc, normal, index, &mut room, tree)?)?;
     }
     Ok(costs)
 }

@@ -6,5 +6,5 @@ use Rattle.tib_weigh.proofs.index.tables_of.Given as goal
 abbrev pub invariant-loop-place : goal.invariant-loop-place
 invariant-loop-place l = record {
   long : length l.tables.items ≡ l.place;
-  each : (j : ℕ) (t : Table) → j < l.place → t ≡ get_or l.tables.items j t → IsTable l.rules l.positions j t;
+  each : (j : ℕ) (t : Table) → j < l.place → t ≡ get_or l.tables.items j t → IsTable l.rules l.rank l.positions j t;
 }

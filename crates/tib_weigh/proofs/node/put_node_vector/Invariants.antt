@@ -5,7 +5,7 @@ use Rattle.tib_grammar.specs.Run.{rule_at}
 use Rattle.tib_weigh.specs.Entries.{cost_in, EndsBy, IsAscending}
 use Rattle.tib_weigh.specs.Vectors.{vectors, Weighed}
 use Rattle.tib_weigh.proofs.Among.{BeginsAmong}
-use Rattle.tib_weigh.proofs.node.node_vector.Given as goal
+use Rattle.tib_weigh.proofs.node.put_node_vector.Given as goal
 
 abbrev pub invariant-loop-position : goal.invariant-loop-position
 invariant-loop-position g l = record {

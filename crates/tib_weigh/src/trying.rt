@@ -1,0 +1,198 @@
+// The costs at a node from a table of its rules: only the rules are tried that one child can serve.
+ghost use Rattle.std.specs.Prelude.{◌≡◌, ◌⊎◌, ℕ, ◌+◌, ◌-◌, ◌<◌, ◌≤◌, length, map, IfOk, None, Some, nat_eq, get_or, [], if◌then◌else◌};
+ghost use Rattle.tib_cost.specs.Least.{lesser as lesser_of, times as times_of};
+ghost use Rattle.tib_lex.specs.Lists.{Each};
+ghost use Rattle.tib_grammar.specs.Forms.{AreNormal};
+ghost use Rattle.tib_weigh.specs.Buckets.{IsRuleOver};
+ghost use Rattle.tib_weigh.specs.Entries.{cost_in, IsAscending};
+ghost use Rattle.tib_weigh.specs.Found.{cost_of, IsBlank, IsNoted};
+ghost use Rattle.tib_weigh.specs.Tables.{bucket};
+ghost use Rattle.tib_weigh.specs.Vectors.{state_in, vectors};
+ghost use Rattle.tib_weigh.specs.Worth.{times_beside, rest_worth, worth, HasTried, HasTriedAll, IsRemembered, AreSound};
+
+use crate::below::{holes, state_of};
+use crate::found::Found;
+use crate::ready::Ready;
+use crate::table::Table;
+use crate::vector::{Entry, cost_at};
+use std::alloc::AllocError;
+use tib_cost::{Cost, Semiring};
+use tib_grammar::{Item, Rule};
+
+/// The product of the costs at all child places but one, for the states below the rule at a position.
+#[derive(Drop)]
+pub(crate) struct Rest {
+    pub position: Option<u32>,
+    pub cost: Option<Cost>,
+}
+
+// The product of the costs of the last trees of the stack at the states of the holes, but for one child place.
+fn product_beside<S: Semiring>(
+    holes: &[Item<u32>],
+    stack: &[Vec<Entry>],
+    place: usize,
+) -> Option<Cost>
+    requires enough { length holes.now ≤ length stack.now }
+    requires ascend { Each IsAscending (vectors stack.now) }
+    ensures { result ≡ times_beside S.product place 0 (map state_in holes.now) (vectors stack.now) }
+{
+    let mut product = S::one();
+    let mut i = holes.len();
+    while i > 0 {
+        i -= 1;
+        if i == place {
+            continue;
+        }
+        let Some(cost) = cost_at(&stack[stack.len() - 1 - i], state_of(&holes[i])) else {
+            return None;
+        };
+        let Some(more) = S::times(cost, product) else {
+            return None;
+        };
+        product = more;
+    }
+    Some(product)
+}
+
+// Finds the product beside the child place for the rule at a position, where it is not the one that is known.
+fn recall<S: Semiring>(
+    last: &mut Rest,
+    rules: &[Rule<u32>],
+    stack: &[Vec<Entry>],
+    place: usize,
+    rank: u32,
+    position: u32,
+)
+    requires normal { AreNormal rules.now }
+    requires rule { IsRuleOver rules.now rank position }
+    requires enough { rank ≤ length stack.now }
+    requires ascend { Each IsAscending (vectors stack.now) }
+    requires last { IsRemembered S.product rules.now place (vectors stack.now) last.old }
+    ensures last { IsRemembered S.product rules.now place (vectors stack.now) last.new }
+    ensures cost { last.new.cost ≡ rest_worth S.product rules.now place (vectors stack.now) position }
+{
+    if let Some(known) = last.position {
+        if known == position {
+            return;
+        }
+    }
+    let cost = product_beside::<S>(holes(&rules[position as usize]), stack, place);
+    last.cost = cost;
+    last.position = Some(position);
+}
+
+// The product of the costs of a state, of the other states and of a rule.
+fn product_with<S: Semiring>(cost: Cost, beside: Option<Cost>, own: Cost) -> Option<Cost>
+    ensures { result ≡ times_of S.product (times_of S.product (Some cost) beside) (Some own) }
+{
+    match beside {
+        Some(beside) => match S::times(cost, beside) {
+            Some(product) => S::times(product, own),
+            None => None,
+        },
+        None => None,
+    }
+}
+
+// Lowers the cost at a state to this one, where there is one.
+fn lower(found: &mut Found, state: u32, cost: Option<Cost>) -> Result<(), AllocError>
+    requires within { state < length found.old.costs.items }
+    requires noted { IsNoted found.old }
+    ensures noted { IfOk result (λ _. IsNoted found.new) }
+    ensures long { IfOk result (λ _. length found.new.costs.items ≡ length found.old.costs.items) }
+    ensures costs { IfOk result (λ _. (q : ℕ) → cost_of found.new q ≡ (if nat_eq state q then lesser_of (cost_of found.old q) cost else cost_of found.old q)) }
+{
+    match cost {
+        Some(cost) => found.add(state, cost),
+        None => Ok(()),
+    }
+}
+
+// Tries the rules of a slot for the state of an entry of the vector at the child place.
+fn try_slot<S: Semiring>(
+    found: &mut Found,
+    last: &mut Rest,
+    ready: &[Ready],
+    entry: &Entry,
+    rules: &[Rule<u32>],
+    stack: &[Vec<Entry>],
+    place: usize,
+    rank: u32,
+) -> Result<(), AllocError>
+    requires normal { AreNormal rules.now }
+    requires sound { AreSound rules.now rank (length found.old.costs.items) ready.now }
+    requires enough { rank ≤ length stack.now }
+    requires ascend { Each IsAscending (vectors stack.now) }
+    requires here { cost_in (get_or (vectors stack.now) place []) entry.now.state ≡ Some entry.now.cost }
+    requires last { IsRemembered S.product rules.now place (vectors stack.now) last.old }
+    requires noted { IsNoted found.old }
+    ensures last { IsRemembered S.product rules.now place (vectors stack.now) last.new }
+    ensures noted { IfOk result (λ _. IsNoted found.new) }
+    ensures long { IfOk result (λ _. length found.new.costs.items ≡ length found.old.costs.items) }
+    ensures tried { IfOk result (λ _. HasTried (worth S.product rules.now place (vectors stack.now)) entry.now.state ready.now (cost_of found.old) (cost_of found.new)) }
+{
+    for record in ready {
+        if record.state != entry.state {
+            continue;
+        }
+        recall::<S>(last, rules, stack, place, rank, record.rest);
+        let cost = product_with::<S>(entry.cost, last.cost, record.cost);
+        lower(found, record.left, cost)?;
+    }
+    Ok(())
+}
+
+// Tries the rules of a table at a child place for the entries of the vector there.
+fn try_entries<S: Semiring>(
+    found: &mut Found,
+    table: &Table,
+    vector: &[Entry],
+    rules: &[Rule<u32>],
+    stack: &[Vec<Entry>],
+    place: usize,
+    rank: u32,
+) -> Result<(), AllocError>
+    requires normal { AreNormal rules.now }
+    requires sound { (q : ℕ) → AreSound rules.now rank (length found.old.costs.items) (bucket table.now q) }
+    requires vector { vector.now ≡ get_or (vectors stack.now) place [] }
+    requires ascends { IsAscending vector.now }
+    requires enough { rank ≤ length stack.now }
+    requires ascend { Each IsAscending (vectors stack.now) }
+    requires blank { IsBlank found.old }
+    ensures noted { IfOk result (λ _. IsNoted found.new) }
+    ensures long { IfOk result (λ _. length found.new.costs.items ≡ length found.old.costs.items) }
+    ensures tried { IfOk result (λ _. HasTriedAll (worth S.product rules.now place (vectors stack.now)) vector.now (bucket table.now) (cost_of found.new)) }
+{
+    let mut last = Rest {
+        position: None,
+        cost: None,
+    };
+    for entry in vector {
+        let ready = table.at(entry.state);
+        try_slot::<S>(found, &mut last, ready, entry, rules, stack, place, rank)?;
+    }
+    Ok(())
+}
+
+/// Tries the rules of a table at a child place that the vector there serves.
+pub(crate) fn try_table<S: Semiring>(
+    found: &mut Found,
+    table: &Table,
+    rules: &[Rule<u32>],
+    stack: &[Vec<Entry>],
+    place: usize,
+    rank: u32,
+) -> Result<(), AllocError>
+    requires normal { AreNormal rules.now }
+    requires sound { (q : ℕ) → AreSound rules.now rank (length found.old.costs.items) (bucket table.now q) }
+    requires within { place < rank }
+    requires enough { rank ≤ length stack.now }
+    requires ascend { Each IsAscending (vectors stack.now) }
+    requires blank { IsBlank found.old }
+    ensures noted { IfOk result (λ _. IsNoted found.new) }
+    ensures long { IfOk result (λ _. length found.new.costs.items ≡ length found.old.costs.items) }
+    ensures tried { IfOk result (λ _. HasTriedAll (worth S.product rules.now place (vectors stack.now)) (get_or (vectors stack.now) place []) (bucket table.now) (cost_of found.new)) }
+{
+    let vector = &stack[stack.len() - 1 - place];
+    try_entries::<S>(found, table, vector, rules, stack, place, rank)
+}
