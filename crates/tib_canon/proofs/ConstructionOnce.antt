@@ -1,26 +1,24 @@
 -- The canonical text of a construction does not hang on the numbers of labels.
 use Rattle.tib_cost.specs.declared.Scale.{Scale}
-use Rattle.std.proofs.Common.{◌≡◌, ℕ, ◌<◌, Bool, List, [], ◌∷◌, length, map, get_or, refl, ap, sym, ◌∙◌, subst, arith, inl, inr}
+use Rattle.std.proofs.Common.{◌≡◌, ℕ, ◌<◌, List, [], length, map, get_or, ap, sym, ◌∙◌, subst}
 use Rattle.std.proofs.lemmas.Option.{get_or_from_slice_get}
 use Rattle.std.specs.declared.cmp.Ordering.{Ordering}
 use Rattle.tib_lex.specs.Lists.{Has, Distinct}
 use Rattle.tib_tree.specs.Trees.{Trees, none, tree, only}
-use Rattle.tib_grammar.specs.Sides.{Symbol, label, hole, HolesAreLeaves}
+use Rattle.tib_grammar.specs.Sides.{Symbol, label, hole}
 use Rattle.tib_grammar.specs.GrammarOf.{GrammarOf, named_rule}
 use Rattle.tib_grammar.specs.Range.{AreInRange, SidesEndInHoles}
 use Rattle.tib_grammar.specs.Run.{rule_at, no_rule}
 use Rattle.tib_grammar.specs.declared.Rule.{Rule}
 use Rattle.tib_grammar.proofs.Members.{at_has}
-use Rattle.tib_grammar_file.specs.ByText.{HaveOneText}
 use Rattle.tib_grammar_file.specs.Printable.{HavePlainLabels, ArePrintable}
 use Rattle.tib_grammar_file.specs.Printed.{grammar_text}
 use Rattle.tib_grammar_file.proofs.Relabelled.{trees_with, rule_with, rules_with}
 use Rattle.tib_grammar_file.proofs.Renumbering.{Renumbers}
 use Rattle.tib_hunt.specs.Reached.{IsReachedSet}
 use Rattle.tib_hunt.proofs.Reaching.{Laws}
-use Rattle.tib_canon.specs.Canonical.{IsCanonical}
 use Rattle.tib_canon.specs.Constructions.{Construction, edges_over, AreRulesOver, IsCanonicalOf}
-use Rattle.tib_canon.specs.Keys.{IsBegun, without_rules}
+use Rattle.tib_canon.specs.Keys.{IsBegun}
 use Rattle.tib_canon.specs.declared.begin.Begin.{Begin}
 use Rattle.tib_canon.specs.declared.begin.Begin.TheVariants.{At, Empty}
 use Rattle.tib_canon.proofs.CanonicalByText.{labels_back, canonical_labels, canonical_with}

@@ -1,6 +1,6 @@
 -- Edges over keys under other numbers of labels.
 use Rattle.std.proofs.Common.{◌≡◌, ℕ, ◌<◌, List, [], ◌∷◌, ◌++◌, length, map, refl, ap, sym, ◌∙◌}
-use Rattle.tib_tree.specs.Trees.{Trees, none, tree, only, sizes, relabel, relabel_tree}
+use Rattle.tib_tree.specs.Trees.{Trees, none, tree, only, relabel, relabel_tree}
 use Rattle.tib_grammar.specs.Sides.{Symbol, label, hole, Side, holes, leaves, over, symbol_map, side_map, HolesAreLeaves}
 use Rattle.tib_grammar.specs.GrammarOf.{named_rule}
 use Rattle.tib_grammar.specs.Range.{SidesEndInHoles}

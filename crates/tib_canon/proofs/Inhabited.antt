@@ -11,7 +11,6 @@ use Rattle.tib_grammar.specs.Range.{AreInRange}
 use Rattle.tib_grammar.specs.Run.{rule_at, AreRuns, cost}
 use Rattle.tib_grammar.specs.declared.Rule.{Rule}
 use Rattle.tib_grammar.proofs.Members.{has_at, at_has}
-use Rattle.tib_cost.specs.Least.{IsLeast}
 use Rattle.tib_cost.specs.Semiring.{ProductLaws, most}
 use Rattle.tib_normal.proofs.Existing.{has_least}
 use Rattle.tib_inside.specs.Inside.{IsRunCost, IsInside, AreInsides}

@@ -1,6 +1,6 @@
 -- The canonical form over keys, from that of the rules over them.
 use Rattle.tib_cost.specs.declared.Scale.{Scale}
-use Rattle.std.proofs.Common.{◌≡◌, ℕ, Bool, List, [], length, sym, ap, ◌∙◌, refl}
+use Rattle.std.proofs.Common.{◌≡◌, ℕ, List, [], length, sym, ap, ◌∙◌, refl}
 use Rattle.std.specs.declared.cmp.Ordering.{Ordering}
 use Rattle.tib_grammar.specs.declared.Rule.{Rule}
 use Rattle.tib_inside.specs.Trimmed.{HasSameSeries}

@@ -1,6 +1,6 @@
 -- The normal forms of a grammar have the same rules.
 use Rattle.tib_cost.specs.declared.Scale.{Scale}
-use Rattle.std.proofs.Common.{◌≡◌, ℕ, ◌+◌, ◌≤◌, Bool, List, [], ◌∷◌, length, sym, subst, arith, suc, inl, inr}
+use Rattle.std.proofs.Common.{◌≡◌, ℕ, ◌+◌, ◌≤◌, List, [], ◌∷◌, length, sym, subst, arith, suc, inl, inr}
 use Rattle.tib_lex.specs.Lists.{Has}
 use Rattle.tib_tree.specs.Trees.{Trees, none, tree, only}
 use Rattle.tib_grammar.specs.Sides.{Symbol, label, hole, HolesAreLeaves}

@@ -1,7 +1,7 @@
 -- Rules are told by their lines.
 use Rattle.tib_cost.specs.declared.Scale.{Scale}
 use Rattle.tib_cost.specs.declared.Scale.TheVariants as scales
-use Rattle.std.proofs.Common.{◌≡◌, ℕ, ◌<◌, ◌≤◌, Bool, true, false, List, [], ◌∷◌, ◌++◌, length, take, refl, ap, sym, ◌∙◌, subst, append-nil, arith, length-append}
+use Rattle.std.proofs.Common.{◌≡◌, ℕ, ◌<◌, ◌≤◌, List, [], ◌∷◌, ◌++◌, length, take, refl, ap, sym, ◌∙◌, subst, append-nil, arith, length-append}
 use Rattle.std.specs.Prelude.{◌-◌}
 use Rattle.std.proofs.lemmas.Option.{slice_get-get_or}
 use Rattle.tib_lex.specs.Grammar.{Word, HasWords}

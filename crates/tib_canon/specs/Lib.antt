@@ -4,3 +4,4 @@ pub mod Lines
 pub mod Keys
 pub mod TrimmedForms
 pub mod Constructions
+pub mod Laws

@@ -1,6 +1,6 @@
 -- Faults of files: a file of its kind has none, and each file has one at most.
 use Rattle.tib_cost.specs.declared.Scale.{Scale}
-use Rattle.std.specs.Prelude.{◌≡◌, ℕ, Bool, List, Option, Some, None, Result, Ok, Err, IfSome}
+use Rattle.std.specs.Prelude.{◌≡◌, ℕ, List, Option, Some, None, Result, Ok, Err, IfSome}
 use Rattle.std.proofs.Common.{sym, ◌∙◌}
 use Rattle.tib_lex.specs.declared.fault.FileFault.{FileFault}
 use Rattle.tib_tree.specs.Written.{Item}
@@ -10,7 +10,7 @@ use Rattle.tib_grammar_file.proofs.FirstFaults.{fault_once}
 use Rattle.tib_grammar_file.proofs.TextRead.{no_text}
 use Rattle.tib_grammar_file.specs.FaultLaws.{TextsHaveNone}
 use Rattle.tib_tree.specs.Laws.{FaultsAlone}
-use Rattle.tib_run.specs.Kinds.{Kind, of_grammar, of_trees, bytes_at, OfName, Told, IsOfKind, HasFault, KindsHaveNoFault}
+use Rattle.tib_run.specs.Kinds.{Kind, of_grammar, of_trees, bytes_at, OfName, Told, HasFault, KindsHaveNoFault}
 
 -- what holds of the bytes of a file where they are told, and that they are told
 pub told_both : (held : List ℕ → Option (List ℕ)) (o : Option (List ℕ)) (P Q : List ℕ → Type 0) → OfName o (Told held P) → OfName (bytes_at held o) Q → (x : List ℕ) × P x × Q x

@@ -1,9 +1,8 @@
 -- The values of the files of a job, over tables of labels.
 use Rattle.tib_cost.specs.declared.Scale.{Scale}
-use Rattle.std.specs.Prelude.{◌≡◌, ℕ, Bool, List, [], ◌∷◌, Option, Some, None, IfSome, IsSome, slice_get, refl}
-use Rattle.std.proofs.Common.{zero, suc, ap, sym, ◌∙◌, subst}
+use Rattle.std.specs.Prelude.{◌≡◌, ℕ, List, [], ◌∷◌, Option, Some, None, IfSome, IsSome, slice_get, refl}
+use Rattle.std.proofs.Common.{zero, suc, subst}
 use Rattle.tib_lex.specs.Lists.{Along}
-use Rattle.tib_tree.specs.Trees.{Tree}
 use Rattle.tib_tree.specs.Grows.{Grows, AreDistinct}
 use Rattle.tib_tree.proofs.Growing.{grows_not, grows_twice}
 use Rattle.tib_grammar_file.specs.ByText.{AgreeByText, AreOneTree}

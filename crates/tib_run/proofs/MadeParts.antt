@@ -1,7 +1,7 @@
 -- What is made is within a limit or has more parts than it: not both, and that neither holds cannot be.
 use Rattle.tib_cost.specs.declared.Scale.{Scale}
-use Rattle.std.proofs.Common.{◌≡◌, ℕ, ◌+◌, ◌<◌, ◌≤◌, Bool, List, length, subst, sym, arith, inl, inr}
-use Rattle.std.specs.Prelude.{Option, Some}
+use Rattle.std.proofs.Common.{◌≡◌, ℕ, ◌+◌, ◌<◌, ◌≤◌, List, subst, arith, inl, inr}
+use Rattle.std.specs.Prelude.{Option}
 use Rattle.tib_grammar.specs.GrammarOf.{GrammarOf}
 use Rattle.tib_normal.specs.NormalForm.{normal_parts}
 use Rattle.tib_hunt.specs.Reached.{parts_of, IfTooMany}

@@ -1,6 +1,6 @@
 -- What `inside` writes: one text, and that there is none cannot be.
 use Rattle.tib_cost.specs.declared.Scale.{Scale}
-use Rattle.std.proofs.Common.{◌≡◌, ℕ, ◌<◌, Bool, List, [], ◌∷◌, length, get_or, refl, ap, sym, ◌∙◌, arith, suc, Option}
+use Rattle.std.proofs.Common.{◌≡◌, ℕ, ◌<◌, List, [], ◌∷◌, length, get_or, refl, ap, sym, ◌∙◌, arith, suc, Option}
 use Rattle.std.specs.Prelude.{None}
 use Rattle.tib_cost.proofs.Least.{IsLeast-unique}
 use Rattle.tib_grammar.specs.GrammarOf.{GrammarOf}

@@ -1,14 +1,14 @@
 -- What `intersect` writes: one text, and that there is none cannot be where all that is made is within the limit.
 use Rattle.tib_cost.specs.declared.Scale.{Scale}
 use Rattle.tib_cost.specs.declared.Scale.TheVariants as scales
-use Rattle.std.proofs.Common.{◌≡◌, ℕ, ◌<◌, ◌≤◌, Bool, List, [], ◌∷◌, ◌++◌, length, map, zip, refl, sym, ap, ◌∙◌, subst, arith, inl, inr}
+use Rattle.std.proofs.Common.{◌≡◌, ℕ, ◌<◌, ◌≤◌, Bool, List, [], ◌∷◌, length, map, zip, refl, sym, ap, ◌∙◌, subst, arith, inl, inr}
 use Rattle.std.specs.Ordering.{nat_cmp}
 use Rattle.std.specs.declared.cmp.Ordering.TheVariants.{Equal}
 use Rattle.tib_lex.specs.Lists.{Has, Distinct}
 use Rattle.tib_tree.specs.Trees.{none, tree, only, relabel}
 use Rattle.tib_cost.specs.Semiring.{ProductLaws, most}
 use Rattle.tib_grammar.specs.Forms.{AreNormal}
-use Rattle.tib_grammar.specs.Sides.{Symbol, Side as SideFor, HolesAreLeaves, leaves, over, holes, symbol_map}
+use Rattle.tib_grammar.specs.Sides.{Symbol, Side as SideFor, HolesAreLeaves, leaves, holes, symbol_map}
 use Rattle.tib_grammar.specs.GrammarOf.{GrammarOf, named_rule}
 use Rattle.tib_grammar.specs.Range.{AreInRange}
 use Rattle.tib_grammar.specs.Run.{rule_at}

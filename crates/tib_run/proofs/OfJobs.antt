@@ -1,7 +1,7 @@
 -- What holds of the answers of jobs, over what each operation brings.
 use Rattle.tib_cost.specs.declared.Scale.{Scale}
-use Rattle.std.proofs.Common.{◌≡◌, ℕ, ◌<◌, Bool, true, false, List, refl, Option, suc, arith}
-use Rattle.std.specs.Prelude.{Some, None, IsSome, slice_get}
+use Rattle.std.proofs.Common.{◌≡◌, ℕ, ◌<◌, true, false, List, refl, Option, suc, arith}
+use Rattle.std.specs.Prelude.{Some, None, IsSome}
 use Rattle.tib_cost.specs.Semiring.{sum_laws, max_laws, boolean_laws}
 use Rattle.tib_canon.proofs.Within.{distinct_texts}
 use Rattle.tib_command.specs.Jobs.{Asked, job_of}
@@ -9,7 +9,7 @@ use Rattle.tib_command.specs.declared.job.Mode.{Mode}
 use Rattle.tib_command.specs.declared.job.Mode.TheVariants as modes
 use Rattle.tib_command.specs.declared.job.Operation.{Operation}
 use Rattle.tib_command.specs.declared.job.Operation.TheVariants as operations
-use Rattle.tib_run.specs.Kinds.{Kind, kinds_of, file_at, bytes_at, OfName, IsOfKind, AreOfKinds, AreAllTold}
+use Rattle.tib_run.specs.Kinds.{kinds_of, file_at, bytes_at, OfName, IsOfKind, AreOfKinds, AreAllTold}
 use Rattle.tib_run.specs.Causes.{scale_of, product_of, MakesTooMuch, StaysWithin, IsTooMuch, IsWithin, bytes_of}
 use Rattle.tib_run.specs.Answers.{IsAnswerOf, IsAnswer, AreTold, AreOfTheirKinds, MeetsLaws, NeedsOf}
 use Rattle.tib_run.proofs.FileValues.{values_there, values_agree, all_sound}

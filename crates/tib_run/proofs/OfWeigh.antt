@@ -1,6 +1,6 @@
 -- What `weigh` writes: one text, and that there is none cannot be.
 use Rattle.tib_cost.specs.declared.Scale.{Scale}
-use Rattle.std.proofs.Common.{◌≡◌, ℕ, Bool, List, [], ◌∷◌, ◌++◌, refl, ap, sym, ◌∙◌, Option}
+use Rattle.std.proofs.Common.{◌≡◌, ℕ, List, [], ◌∷◌, ◌++◌, refl, ap, sym, ◌∙◌, Option}
 use Rattle.std.specs.List.{AllZip}
 use Rattle.tib_lex.specs.Lists.{Along, Distinct}
 use Rattle.tib_cost.proofs.Least.{IsLeast-unique}

@@ -1,12 +1,10 @@
 -- A job whose files are told ends with one status in runs in which no count rises, but for want of memory.
 use Rattle.tib_cost.specs.declared.Scale.{Scale}
-use Rattle.std.specs.Prelude.{◌≡◌, ℕ, ◌+◌, ◌<◌, ◌⊎◌, Bool, List, [], ◌∷◌, length, Option, Some, None, IfSome, IsSome, slice_get, refl}
+use Rattle.std.specs.Prelude.{◌≡◌, ℕ, ◌+◌, ◌<◌, ◌⊎◌, List, [], ◌∷◌, length, Option, Some, None, IfSome, IsSome, slice_get, refl}
 use Rattle.std.proofs.Common.{arith, ap, sym, ◌∙◌, subst, zero, suc, inl, inr}
 use Rattle.tib_lex.specs.declared.fault.FileFault.{FileFault}
 use Rattle.tib_grammar_file.proofs.OneGrammar.{some_same}
 use Rattle.tib_command.specs.Jobs.{Asked}
-use Rattle.tib_command.specs.declared.job.Operation.{Operation}
-use Rattle.tib_command.specs.declared.job.Operation.TheVariants as operations
 use Rattle.tib_run.specs.declared.status.Status.{Status}
 use Rattle.tib_run.specs.declared.status.Status.TheVariants as statuses
 use Rattle.tib_run.specs.Kinds.{Kind, of_grammar, of_trees, kinds_of, kind_at, file_at, bytes_at, OfName, OfFile, Told, IsShort, IsLong, IsOfKind, HasFault}
@@ -15,7 +13,7 @@ use Rattle.tib_run.specs.Answers.{IsAnswer, AreTold, EndsCalmly, AreOneStatus}
 use Rattle.tib_run.proofs.Faults.{faulty_kind, one_fault}
 use Rattle.tib_run.proofs.FileValues.{kinds_told}
 use Rattle.tib_run.proofs.OfJobs.{answer_apart}
-use Rattle.tib_run.proofs.Reached.{if_some, some_kind, told_some}
+use Rattle.tib_run.proofs.Reached.{some_kind, told_some}
 
 -- places in a list
 

@@ -1,6 +1,5 @@
 -- More pairs than the limit, whichever trimmed normal forms are taken.
-use Rattle.std.specs.Prelude.{◌≡◌, ℕ, Bool, List}
-use Rattle.std.proofs.Common.{subst}
+use Rattle.std.specs.Prelude.{ℕ, List}
 use Rattle.tib_grammar.specs.GrammarOf.{GrammarOf}
 use Rattle.tib_grammar.specs.declared.Rule.{Rule}
 use Rattle.tib_hunt.specs.Reached.{IsBeyond}

@@ -1,6 +1,6 @@
 -- From a file of a job to the answer of the run.
 use Rattle.tib_cost.specs.declared.Scale.{Scale}
-use Rattle.std.specs.Prelude.{◌≡◌, ℕ, ◌+◌, ◌-◌, ◌≤◌, ◌<◌, ◌⊎◌, Bool, List, length, Option, Some, None, IfSome, slice_get, refl}
+use Rattle.std.specs.Prelude.{◌≡◌, ℕ, ◌+◌, ◌-◌, ◌≤◌, ◌<◌, ◌⊎◌, List, length, Option, Some, None, IfSome, slice_get}
 use Rattle.std.specs.List.{AllZip}
 use Rattle.std.proofs.Common.{subst, sym, ◌∙◌, arith, ap, zero, suc, inl, inr, map, get_or, [], ◌∷◌}
 use Rattle.tib_io.specs.Causes.{Rose}
@@ -16,7 +16,7 @@ use Rattle.tib_command.specs.Jobs.{Asked}
 use Rattle.tib_command.specs.declared.job.Operation.{Operation}
 use Rattle.tib_run.specs.declared.status.Status.{Status}
 use Rattle.tib_run.specs.declared.status.Status.TheVariants as statuses
-use Rattle.tib_run.specs.Kinds.{Kind, of_grammar, of_trees, kind_at, kinds_of, file_at, bytes_at, OfName, OfFile, Told, IsShort, IsRead, ListsTrees, ValueOf, IsTextOf, IsOfKind, ValuesOf, AreTexts, HasFault}
+use Rattle.tib_run.specs.Kinds.{Kind, kind_at, kinds_of, file_at, bytes_at, OfName, OfFile, Told, IsShort, ValueOf, IsTextOf, IsOfKind, ValuesOf, AreTexts, HasFault}
 use Rattle.tib_run.specs.Answers.{IsResultOf, IsAnswer, IsAnswerOf}
 use Rattle.tib_run.specs.Made.{IsMadeFault}
 use Rattle.tib_run.specs.Causes.{HasCause, AreBefore, HasEarlier, IsAbout, IsEarly, MakesTooMuch, makes, bytes_of, file_count, scale_of, product_of, scale_by}

@@ -1,14 +1,14 @@
 -- The promise of a run, for each way in which it ends.
-use Rattle.std.specs.Prelude.{◌≡◌, ℕ, ◌<◌, ◌≤◌, true, false, List, length, Option, Some, None, Result, Ok, Err, refl}
+use Rattle.std.specs.Prelude.{◌≡◌, ℕ, ◌≤◌, true, false, List, length, Option, Some, None, Result, Ok, Err, refl}
 use Rattle.std.proofs.Common.{arith, subst}
-use Rattle.tib_io.specs.Causes.{GoesOn, Rose, last_count}
+use Rattle.tib_io.specs.Causes.{GoesOn, Rose}
 use Rattle.tib_io.specs.Pieces.{front_whole}
 use Rattle.tib_io.specs.Writes.{Takes, TakesFront, Calm}
 use Rattle.tib_tree.specs.Wrote.{Wrote}
 use Rattle.tib_command.specs.Jobs.{Asked}
 use Rattle.tib_run.specs.declared.status.Status.{Status}
 use Rattle.tib_run.specs.declared.status.Status.TheVariants as statuses
-use Rattle.tib_run.specs.Answers.{IsAnswer, HasRoom, StandsStill, WithinIsNotTooMuch}
+use Rattle.tib_run.specs.Answers.{IsAnswer, StandsStill, WithinIsNotTooMuch}
 use Rattle.tib_run.specs.Causes.{HasCause, HasEarlier, IsEarly}
 use Rattle.tib_run.specs.Kinds.{KindsHaveNoFault}
 use Rattle.tib_run.specs.Run.{FilesSeen, SinkSeen, IsUntouched, IsRunOf, IsLogged}

@@ -1,9 +1,9 @@
 -- Two runs of one job end alike, by the promise of a run.
-use Rattle.std.specs.Prelude.{◌≡◌, ℕ, List, Option, Some}
+use Rattle.std.specs.Prelude.{ℕ, List, Option, Some}
 use Rattle.std.proofs.Common.{subst}
-use Rattle.tib_command.specs.Jobs.{Asked, job_of}
+use Rattle.tib_command.specs.Jobs.{Asked}
 use Rattle.tib_run.specs.declared.status.Status.{Status}
-use Rattle.tib_run.specs.Answers.{IsAnswer, AreTold, IsCalm, EndsCalmly, AreOneStatus}
+use Rattle.tib_run.specs.Answers.{IsCalm, EndsCalmly}
 use Rattle.tib_run.specs.Run.{FilesSeen, SinkSeen, IsRunOf, RunsEndAlike}
 use Rattle.tib_run.proofs.FilesAsked.{files_asked}
 use Rattle.tib_run.proofs.OneStatus.{one_status}

@@ -1,7 +1,7 @@
 -- What each answer of a run says of the words, the files and the output.
 use Rattle.tib_cost.specs.declared.Scale.{Scale}
 use Rattle.tib_cost.specs.declared.Scale.TheVariants as scales
-use Rattle.std.specs.Prelude.{◌≡◌, ℕ, ◌+◌, max, ◌<◌, Bool, true, false, List, length, Option, Some, None, IfSome, IsSome}
+use Rattle.std.specs.Prelude.{◌≡◌, ℕ, ◌+◌, max, ◌<◌, List, length, Option, Some, None, IfSome, IsSome}
 use Rattle.std.proofs.Common.{suc}
 use Rattle.tib_io.specs.Causes.{Rose}
 use Rattle.tib_command.specs.Jobs.{Asked}

@@ -1,6 +1,6 @@
 -- `inside`: the states of a grammar with their inside costs.
 use Rattle.tib_cost.specs.declared.Scale.{Scale}
-use Rattle.std.specs.Prelude.{◌≡◌, ℕ, Bool, List, length, Option}
+use Rattle.std.specs.Prelude.{◌≡◌, ℕ, List, length, Option}
 use Rattle.tib_grammar.specs.GrammarOf.{GrammarOf}
 use Rattle.tib_inside.specs.Inside.{AreInsides}
 use Rattle.tib_run.specs.Made.{Made, nothing}

@@ -1,6 +1,6 @@
 -- What the files of a job hold.
 use Rattle.tib_cost.specs.declared.Scale.{Scale}
-use Rattle.std.specs.Prelude.{◌≡◌, ℕ, ◌<◌, ◌≤◌, Bool, List, [], ◌∷◌, length, Option, Some, None, IfSome, IsSome, Err, slice_get}
+use Rattle.std.specs.Prelude.{◌≡◌, ℕ, ◌<◌, ◌≤◌, List, [], ◌∷◌, length, Option, Some, None, IfSome, IsSome, slice_get}
 use Rattle.std.proofs.Common.{zero, suc}
 use Rattle.tib_lex.specs.Lists.{Each}
 use Rattle.tib_lex.specs.declared.fault.FileFault.{FileFault}

@@ -1,6 +1,6 @@
 -- What holds of the answers of operations and of jobs.
 use Rattle.tib_cost.specs.declared.Scale.{Scale}
-use Rattle.std.specs.Prelude.{◌≡◌, ℕ, Bool, List, Option, Some}
+use Rattle.std.specs.Prelude.{◌≡◌, ℕ, List, Option, Some}
 use Rattle.tib_command.specs.Jobs.{Asked, job_of}
 use Rattle.tib_command.specs.declared.job.Operation.{Operation}
 use Rattle.tib_run.specs.Kinds.{kinds_of, AreOfKinds, AreAllTold}

@@ -1,12 +1,19 @@
 -- What an operation makes, and the limit on its parts.
-use Rattle.std.specs.Prelude.{◌≡◌, ℕ, ◌⊎◌, List, length}
+use Rattle.std.specs.Prelude.{◌≡◌, ◌≤◌, ℕ, ◌⊎◌, length}
 use Rattle.tib_grammar.specs.GrammarOf.{GrammarOf}
-use Rattle.tib_grammar.specs.declared.Rule.{Rule}
 use Rattle.tib_normal.specs.Rows.{HasMoreParts, HasFormWithin}
 use Rattle.tib_hunt.specs.Reached.{IsBeyond}
 use Rattle.tib_canon.specs.Constructions.{Construction, HasReachedWithin}
 use Rattle.tib_run.specs.declared.status.Status.{Status}
 use Rattle.tib_run.specs.declared.status.Status.TheVariants as statuses
+
+-- the greatest limit that a command may have
+abbrev pub most_parts : ℕ
+most_parts = 20000000
+
+-- a limit that a command may have
+abbrev pub IsLimit : ℕ → Type 0
+IsLimit limit = (1 ≤ limit) × (limit ≤ most_parts)
 
 -- What is made: that there is one within the limit, and that each has more parts than the limit.
 pub record Made : Type 1 where

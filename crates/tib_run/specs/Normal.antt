@@ -1,6 +1,6 @@
 -- `normal`: the normal form of a grammar.
 use Rattle.tib_cost.specs.declared.Scale.{Scale}
-use Rattle.std.specs.Prelude.{◌≡◌, ℕ, ◌≤◌, Bool, List, length}
+use Rattle.std.specs.Prelude.{ℕ, ◌≤◌, List, length}
 use Rattle.tib_grammar.specs.GrammarOf.{GrammarOf}
 use Rattle.tib_normal.specs.NormalForm.{IsNormalForm, normal_parts}
 use Rattle.tib_inside.specs.Trimmed.{HaveSameSeries}

@@ -1,7 +1,7 @@
 -- The text that a job writes.
 use Rattle.tib_cost.specs.Scale.{is_weighted, weight_in}
 use Rattle.tib_cost.specs.declared.Scale.{Scale}
-use Rattle.std.specs.Prelude.{ℕ, Bool, List, [], ◌∷◌, ◌++◌, Option, None, Some, codes, decimal, if◌then◌else◌}
+use Rattle.std.specs.Prelude.{ℕ, List, [], ◌∷◌, ◌++◌, Option, None, Some, codes, decimal, if◌then◌else◌}
 use Rattle.tib_tree.specs.Trees.{Tree}
 use Rattle.tib_tree.specs.Printed.{tree_text}
 

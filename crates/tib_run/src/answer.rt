@@ -5,6 +5,7 @@ ghost use Rattle.tib_command.specs.Jobs.{meaning, word_count};
 ghost use Rattle.tib_run.specs.Answers.{IsAnswer};
 ghost use Rattle.tib_run.specs.Causes.{HasCause, HasEarlier, IsEarly, scale_of, product_of};
 ghost use Rattle.tib_run.specs.Run.{IsRunOf, files_seen, sink_seen};
+ghost use Rattle.tib_run.specs.Made.{IsLimit};
 
 use crate::inside::inside_of_file;
 use crate::intersect::intersect_files;
@@ -28,7 +29,7 @@ fn text_of<S: Semiring + Sync + Drop, R: Threads + Sync, F: Files, G: Gate>(
     gate: &G,
 ) -> Result<GrowingSink, Status>
     requires files { length job.now.files.items ≡ word_count job.now.operation }
-    requires limit { (1 ≤ job.now.limit) × (job.now.limit ≤ 20000000) }
+    requires limit { IsLimit job.now.limit }
     requires mode { S.SCALE ≡ scale_of job.now.mode }
     requires product { S.product ≡ product_of job.now.mode }
     ensures text { IfOk result (λ text. IsAnswer (meaning job.now) (F.held files.old) text.bytes) }
@@ -57,7 +58,7 @@ pub(crate) fn answer_job<S: Semiring + Sync + Drop, R: Threads + Sync, F: Files,
     gate: &G,
 ) -> Status
     requires files { length job.now.files.items ≡ word_count job.now.operation }
-    requires limit { (1 ≤ job.now.limit) × (job.now.limit ≤ 20000000) }
+    requires limit { IsLimit job.now.limit }
     requires mode { S.SCALE ≡ scale_of job.now.mode }
     requires product { S.product ≡ product_of job.now.mode }
     ensures { IsRunOf (Some (meaning job.now))

@@ -3,6 +3,7 @@ ghost use Rattle.std.specs.Prelude.{◌≡◌, ◌≤◌, Some, length, map, str
 ghost use Rattle.tib_command.specs.Jobs.{job_of, meaning, word_count};
 ghost use Rattle.tib_run.specs.Log.{line_of};
 ghost use Rattle.tib_run.specs.Run.{IsRunOf, IsLogged, files_seen, sink_seen};
+ghost use Rattle.tib_run.specs.Made.{IsLimit};
 
 use crate::answer::answer_job;
 use crate::laws::{files_have_no_fault, within_or_too_many};
@@ -25,7 +26,7 @@ fn perform_job<R: Threads + Sync, F: Files, O: Sink, G: Gate>(
     gate: &G,
 ) -> Status
     requires files { length job.now.files.items ≡ word_count job.now.operation }
-    requires limit { (1 ≤ job.now.limit) × (job.now.limit ≤ 20000000) }
+    requires limit { IsLimit job.now.limit }
     ensures { IsRunOf (Some (meaning job.now))
         (files_seen F.held F.sure F.faults files.old) (files_seen F.held F.sure F.faults files.new)
         (sink_seen O.written O.free O.faults O.finished out.old) (sink_seen O.written O.free O.faults O.finished out.new) result }

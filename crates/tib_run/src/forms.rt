@@ -4,7 +4,7 @@ ghost use Rattle.tib_grammar_file.specs.Printable.{ArePrintable};
 ghost use Rattle.tib_inside.specs.Trimmed.{HasSameSeries};
 ghost use Rattle.tib_normal.specs.NormalForm.{IsNormalForm, KeepsSeries, normal_parts};
 ghost use Rattle.tib_canon.specs.TrimmedForms.{IsTrimmedForm};
-ghost use Rattle.tib_run.specs.Made.{normal_form, IsMadeFault};
+ghost use Rattle.tib_run.specs.Made.{IsLimit, normal_form, IsMadeFault};
 
 use crate::status::Status;
 use std::alloc::Global;
@@ -20,7 +20,7 @@ pub(crate) fn normal_of<S: Semiring + Drop>(
     grammar: &Grammar<S>,
     limit: u64,
 ) -> Result<Normal<S>, Status>
-    requires limit { (1 ≤ limit) × (limit ≤ 20000000) }
+    requires limit { IsLimit limit }
     ensures form { IfOk result (λ m. IsNormalForm S.product (length grammar.now.names) grammar.now.rules (length m.names) m.rules) }
     ensures series { IfOk result (λ m. KeepsSeries S.product (length grammar.now.names) grammar.now.rules m.rules) }
     ensures parts { IfOk result (λ m. normal_parts (length m.names) m.rules ≤ limit) }
@@ -40,7 +40,7 @@ pub(crate) fn trimmed_form<S: Semiring + Drop>(
     grammar: &Grammar<S>,
     limit: u64,
 ) -> Result<Normal<S>, Status>
-    requires limit { (1 ≤ limit) × (limit ≤ 20000000) }
+    requires limit { IsLimit limit }
     ensures form { IfOk result (λ m. IsTrimmedForm S.product grammar.now m) }
     ensures within { IfOk result (λ _. (normal_form S.product limit grammar.now).within) }
     ensures series { IfOk result (λ m. HasSameSeries S.product grammar.now m) }

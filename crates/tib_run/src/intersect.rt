@@ -10,7 +10,7 @@ ghost use Rattle.tib_canon.specs.Constructions.{IsCanonicalOf};
 ghost use Rattle.tib_run.specs.Answers.{IsAnswer};
 ghost use Rattle.tib_run.specs.Causes.{HasCause, HasEarlier, IsEarly, scale_of, product_of};
 ghost use Rattle.tib_run.specs.Intersect.{HasProductSeries, intersecting, intersect_makes, HasIntersectionText};
-ghost use Rattle.tib_run.specs.Made.{IsMadeFault};
+ghost use Rattle.tib_run.specs.Made.{IsLimit, IsMadeFault};
 
 use crate::files::grammar_in;
 use crate::forms::trimmed_form;
@@ -41,7 +41,7 @@ fn canonical_of_pairs<S: Semiring + Drop, G: Gate>(
 ) -> Result<Printed<S>, HuntError>
     requires one { ArePrintable S.SCALE labels.now one.now.rules }
     requires two { ArePrintable S.SCALE labels.now two.now.rules }
-    requires limit { (1 ≤ limit) × (limit ≤ 20000000) }
+    requires limit { IsLimit limit }
     ensures canonical { IfOk result (λ h. IsCanonicalOf S.product S.SCALE labels.now limit (intersecting S.product (one.now, two.now)) h.grammar) }
     ensures series { IfOk result (λ h. HasProductSeries S.product one.now.rules two.now.rules h.grammar.rules) }
     ensures read { IfOk result (λ h. GrammarText S.SCALE labels.now h.text.bytes h.grammar) }
@@ -74,7 +74,7 @@ fn intersection_of<S: Semiring + Drop, G: Gate>(
 ) -> Result<Printed<S>, Status>
     requires first { ArePrintable S.SCALE labels.now first.now.rules }
     requires second { ArePrintable S.SCALE labels.now second.now.rules }
-    requires limit { (1 ≤ limit) × (limit ≤ 20000000) }
+    requires limit { IsLimit limit }
     ensures text { IfOk result (λ h. HasIntersectionText S.SCALE S.product limit labels.now first.now second.now h.text.bytes) }
     ensures within { IfOk result (λ _. (intersect_makes S.product limit first.now second.now).within) }
     ensures err { IfErr result (IsMadeFault (intersect_makes S.product limit first.now second.now).more limit) }
@@ -105,7 +105,7 @@ pub(crate) fn intersect_files<S: Semiring + Drop, F: Files, G: Gate>(
 ) -> Result<GrowingSink, Status>
     requires operation { job.now.operation ≡ Operation.Intersect }
     requires files { length job.now.files.items ≡ 2 }
-    requires limit { (1 ≤ job.now.limit) × (job.now.limit ≤ 20000000) }
+    requires limit { IsLimit job.now.limit }
     requires mode { S.SCALE ≡ scale_of job.now.mode }
     requires product { S.product ≡ product_of job.now.mode }
     ensures text { IfOk result (λ text. IsAnswer (meaning job.now) (F.held files.old) text.bytes) }

@@ -5,7 +5,7 @@ ghost use Rattle.tib_command.specs.Jobs.{meaning};
 ghost use Rattle.tib_grammar_file.specs.Printable.{ArePrintable};
 ghost use Rattle.tib_run.specs.Answers.{IsAnswer};
 ghost use Rattle.tib_run.specs.Causes.{HasCause, HasEarlier, IsEarly, scale_of, product_of};
-ghost use Rattle.tib_run.specs.Made.{IsMadeFault};
+ghost use Rattle.tib_run.specs.Made.{IsLimit, IsMadeFault};
 ghost use Rattle.tib_run.specs.Normal.{HasNormalText, normal_makes};
 
 use crate::files::grammar_in;
@@ -28,7 +28,7 @@ fn canonical_normal<S: Semiring + Drop>(
     limit: u64,
 ) -> Result<Printed<S>, Status>
     requires printable { ArePrintable S.SCALE labels.now grammar.now.rules }
-    requires limit { (1 ≤ limit) × (limit ≤ 20000000) }
+    requires limit { IsLimit limit }
     ensures text { IfOk result (λ h. HasNormalText S.SCALE S.product limit labels.now grammar.now h.text.bytes) }
     ensures within { IfOk result (λ _. (normal_makes S.product limit grammar.now).within) }
     ensures err { IfErr result (IsMadeFault (normal_makes S.product limit grammar.now).more limit) }
@@ -57,7 +57,7 @@ pub(crate) fn normal_of_file<S: Semiring + Drop, F: Files>(
 ) -> Result<GrowingSink, Status>
     requires operation { job.now.operation ≡ Operation.Normal }
     requires files { length job.now.files.items ≡ 1 }
-    requires limit { (1 ≤ job.now.limit) × (job.now.limit ≤ 20000000) }
+    requires limit { IsLimit job.now.limit }
     requires mode { S.SCALE ≡ scale_of job.now.mode }
     requires product { S.product ≡ product_of job.now.mode }
     ensures text { IfOk result (λ text. IsAnswer (meaning job.now) (F.held files.old) text.bytes) }

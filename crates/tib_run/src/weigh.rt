@@ -6,7 +6,7 @@ ghost use Rattle.tib_io.specs.Causes.{GoesOn};
 ghost use Rattle.tib_command.specs.Jobs.{meaning};
 ghost use Rattle.tib_run.specs.Causes.{HasCause, HasEarlier, IsEarly, scale_of, product_of};
 ghost use Rattle.tib_run.specs.Answers.{IsAnswer};
-ghost use Rattle.tib_run.specs.Made.{IsMadeFault};
+ghost use Rattle.tib_run.specs.Made.{IsLimit, IsMadeFault};
 ghost use Rattle.tib_run.specs.Weigh.{weigh_makes};
 
 use crate::files::{grammar_in, trees_in};
@@ -47,7 +47,7 @@ fn costs_of<S: Semiring + Sync + Drop, R: Threads + Sync>(
     trees: &[Tree],
     limit: u64,
 ) -> Result<Vec<Option<Cost>>, Status>
-    requires { (1 ≤ limit) × (limit ≤ 20000000) }
+    requires { IsLimit limit }
     ensures costs { IfOk result (λ costs. length costs.items ≡ length trees.now) }
     ensures weights { IfOk result (λ costs. AllZip (λ t v. IsSeries S.product grammar.now.rules t v) trees.now costs.items) }
     ensures within { IfOk result (λ _. (weigh_makes S.product limit grammar.now).within) }
@@ -73,7 +73,7 @@ pub(crate) fn weigh_files<S: Semiring + Sync + Drop, R: Threads + Sync, F: Files
 ) -> Result<GrowingSink, Status>
     requires operation { job.now.operation ≡ Operation.Weigh }
     requires files { length job.now.files.items ≡ 2 }
-    requires limit { (1 ≤ job.now.limit) × (job.now.limit ≤ 20000000) }
+    requires limit { IsLimit job.now.limit }
     requires mode { S.SCALE ≡ scale_of job.now.mode }
     requires product { S.product ≡ product_of job.now.mode }
     ensures text { IfOk result (λ text. IsAnswer (meaning job.now) (F.held files.old) text.bytes) }

@@ -1,5 +1,5 @@
 use Rattle.tib_cost.specs.declared.Scale.{Scale}
-use Rattle.std.proofs.Common.{◌≡◌, ℕ, List, Bool, take, map, get_or, ◌∷◌}
+use Rattle.std.proofs.Common.{◌≡◌, ℕ, List, take, map, get_or, ◌∷◌}
 use Rattle.tib_lex.specs.Lists.{Each}
 use Rattle.tib_grammar.specs.Run.{rule_at}
 use Rattle.tib_canon.specs.Lines.{IsLineAt, AreTexts}
