@@ -248,7 +248,7 @@ fn three_pairs_are_reached_by_four_rules(rt: HostRuntime) -> Result<(), Fail> {
     Ok(())
 }
 
-// The grammar of one tree: so many labels 7, each below the one before, and a label 8 below the last.
+// The grammar of one tree: `length` labels 7, each below the one before, and a label 8 below the last.
 fn chain(alloc: Global, length: u32) -> Result<Normal<MinPlus>, Fail>
     requires { length ≤ 1000000 }
 {

@@ -11,8 +11,9 @@ use std::sync::atomic::{AtomicU64, Ordering};
 use std::test::Fail;
 use tib_table::TableKey;
 
-/// An operation whose seed is the node 0, and of which each position n below the length has one edge, to the nodes that stand 1 and 2 behind so many
-/// times n. So the order is that of all numbers; once n, each round but the first has two items, and at twice n it has twice as many as the one before.
+/// An operation whose seed is the node 0, and of which each position n below the length has one edge, to the nodes `times` * n + 1 and
+/// `times` * n + 2. So the order is that of all numbers; at `times` 1 each round but the first has two items, and at 2 it has twice as many as
+/// the one before.
 #[derive(Drop)]
 struct Strands {
     times: u32,
