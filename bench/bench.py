@@ -258,6 +258,11 @@ def main(program):
     grammar, trees = write("schema.grammar", schema.lines), write("schema.trees", texts)
     row("weigh %d nodes in 480 documents, %d rules of a schema" % (nodes, len(schema.lines) - 1), measure(program, "weigh", grammar, trees), nodes / 1e6, "million nodes/s")
 
+    processors = sorted(os.sched_getaffinity(0))
+    one_processor = measure("taskset", "-c", str(processors[0]), program, "weigh", grammar, trees)
+    row("  the same on one processor", one_processor, nodes / 1e6, "million nodes/s")
+    print("  on %d processors it is %.1f times as fast" % (len(processors), one_processor[0] / measure(program, "weigh", grammar, trees)[0]))
+
     print("\nthe sets of positions, 200 trees of depth 4,000")
     for size in (4, 8, 12, 16):
         grammar = write("chain%d.grammar" % size, chain_family(size))
