@@ -14,10 +14,9 @@ use crate::rule::{read_cost, read_parts};
 use std::alloc::{AllocError, Global};
 use tib_cost::{Cost, Scale};
 use tib_lex::{
-    FaultKind, Kind, LineError, ReadError, Token, file_error, line_bytes, next_line, read_text,
-    read_tokens,
+    FaultKind, Kind, LineError, ReadError, Token, file_error, line_bytes, next_line, read_tokens,
 };
-use tib_tree::{Labels, MOST_NODES, Place, Reader};
+use tib_tree::{Labels, MOST_NODES, Place, Reader, intern_token};
 
 /// A node whose text may be a state's.
 #[derive(Clone, Copy, Debug)]
@@ -66,8 +65,7 @@ fn read_name(
     ensures adds { IfOk result (λ n. Adds names.old (text_of (word_at line.now token)) names.new) }
     ensures few { length names.new ≤ length names.old + 1 }
 {
-    read_text(line, token, text)?;
-    names.intern(text)
+    intern_token(line, token, names, text)
 }
 
 fn read_item(

@@ -1,7 +1,7 @@
 // Lines, tokens and texts of small files.
 use crate::{
-    FaultKind, FileFault, Kind, Lexed, Line, ReadError, Token, line_bytes, next_line, next_token,
-    read_tokens, token_text,
+    FaultKind, FileFault, Kind, Lexed, Line, ReadError, Token, line_bytes, name_text, next_line,
+    next_token, read_tokens, token_text,
 };
 use std::alloc::{AllocError, Global};
 use std::test::Fail;
@@ -124,5 +124,7 @@ fn a_quoted_text_loses_its_quotes(rt: HostRuntime) -> Result<(), Fail> {
         token_text(alloc, line, &tokens[0])?.as_slice(),
         b"f".as_slice()
     );
+    assert_eq!(rt; name_text(line, tokens[0]), Some(b"f".as_slice()));
+    assert_eq!(rt; name_text(line, tokens[2]), None);
     Ok(())
 }

@@ -148,3 +148,18 @@ fn a_printed_tree_is_its_text(rt: HostRuntime) -> Result<(), Fail> {
     assert!(rt; !needs_quotes(b"->>"));
     Ok(())
 }
+
+#[test]
+fn labels_that_come_again_keep_their_numbers(rt: HostRuntime) -> Result<(), Fail> {
+    let alloc = rt.alloc();
+    let text = b"f(\"\" a abcdefg abcdefgh a(abcdefgh abcdefg) \"\" f)";
+    let mut labels = Labels::new(alloc);
+    let mut out = GrowingSink::new(alloc);
+    match read_trees(alloc, text, &mut labels) {
+        Ok(trees) => assert!(rt; print_first(&trees, &labels, &mut out).is_ok()),
+        Err(_) => assert!(rt; false),
+    }
+    assert_eq!(rt; out.bytes(), text.as_slice());
+    assert_eq!(rt; labels.len(), 5);
+    Ok(())
+}
