@@ -39,7 +39,7 @@ pub dotted : (words rest : List Word) (left : List ℕ) → head_of words ≡ So
 unfolding parts_of
 dotted words rest left e d = ap parts_with e ∙ dot_parts (has_dot left) left rest d
 
-words_front : (line : List ℕ) (weight : Option Token) (rest : List Token) → words_at line (front_of weight rest) ≡ front_of (text_at line weight) (words_at line rest)
+pub words_front : (line : List ℕ) (weight : Option Token) (rest : List Token) → words_at line (front_of weight rest) ≡ front_of (text_at line weight) (words_at line rest)
 words_front line None rest = sym (ap (λ (n : ℕ). take (n - 0) (words_at line rest)) (length-map rest (word_at line)) ∙ take-map (word_at line) (length rest - 0) rest)
 words_front line (Some t) rest = sym (ap (λ (n : ℕ). take (n - 2) (words_at line rest)) (length-map rest (word_at line)) ∙ take-map (word_at line) (length rest - 2) rest)
 

@@ -50,7 +50,8 @@ fn is_quoted(place: Place) -> bool
     }
 }
 
-fn read_name(
+/// Reads the text of a token into `text` and puts it into the table. After an error the table holds what it held.
+pub fn read_name(
     line: &[u8],
     token: Token,
     names: &mut Labels,

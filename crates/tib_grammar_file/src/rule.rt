@@ -34,8 +34,8 @@ fn weight_token(hash: Token, name: Token) -> Option<Token>
     }
 }
 
-// The token of the weight at the end of these tokens.
-fn weight_of(rest: &[Token]) -> Option<Token>
+/// The token of the weight at the end of these tokens, if a hash and a name end them.
+pub fn weight_of(rest: &[Token]) -> Option<Token>
     ensures weight { (line : List ℕ) → weight_in (words_at line rest.now) ≡ text_at line result }
     ensures long { IfSome result (λ t. 2 ≤ length rest.now) }
     ensures lies { (long : ℕ) → All (Lies long) rest.now → WeightLies long result }
@@ -47,8 +47,8 @@ fn weight_of(rest: &[Token]) -> Option<Token>
     weight_token(rest[n - 2], rest[n - 1])
 }
 
-// The tokens of the tree in front of the weight.
-fn tree_tokens(rest: &[Token], weight: Option<Token>) -> &[Token]
+/// The tokens of the tree in front of the weight.
+pub fn tree_tokens(rest: &[Token], weight: Option<Token>) -> &[Token]
     requires { IfSome weight (λ t. 2 ≤ length rest.now) }
     ensures { result.now ≡ front_of weight rest.now }
 {
@@ -128,8 +128,9 @@ pub(crate) fn read_parts(
     Ok(Some(Found { left, weight }))
 }
 
+/// The cost of a rule with this weight or without one. A fault is that of the weight. The text is read into `text`.
 #[tactic(auto, unfolding(crate::specs::Weight::cost_of))]
-pub(crate) fn read_cost(
+pub fn read_cost(
     scale: Scale,
     line: &[u8],
     weight: Option<Token>,

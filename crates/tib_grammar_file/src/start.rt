@@ -32,8 +32,9 @@ fn start_token(tokens: &[Token]) -> Option<Token>
     }
 }
 
-// Whether a line is the start line, whose name goes into the table.
-fn read_start(
+/// Whether a line is the start line, whose name goes into the table. A line without tokens is not, and any other line has a
+/// fault. `tokens` and `text` are room to work in.
+pub fn read_start(
     line: &[u8],
     tokens: &mut Vec<Token>,
     text: &mut Vec<u8>,

@@ -125,21 +125,21 @@ word_again arrow = refl
 word_again (name text) = refl
 word_again (label text) = ap (λ (l : List ℕ). label (unescape l)) (inner_text text) ∙ ap label (unescape_escape text)
 
-slice_there : (bl xs rest : List ℕ) → slice_range (bl ++ (xs ++ rest)) (length bl) (length bl + length xs) ≡ xs
+pub slice_there : (bl xs rest : List ℕ) → slice_range (bl ++ (xs ++ rest)) (length bl) (length bl + length xs) ≡ xs
 slice_there bl xs rest =
     let n : length bl + length xs - length bl ≡ length xs = omega arith in
     ap (λ (l : List ℕ). take (length bl + length xs - length bl) l) (drop_front bl (xs ++ rest)) ∙ ap (λ (m : ℕ). take m (xs ++ rest)) n ∙ take-append_seam xs rest
 
-drop_there : (bl xs rest : List ℕ) → drop (length bl + length xs) (bl ++ (xs ++ rest)) ≡ rest
+pub drop_there : (bl xs rest : List ℕ) → drop (length bl + length xs) (bl ++ (xs ++ rest)) ≡ rest
 drop_there bl xs rest = drop_more bl (xs ++ rest) (length xs) ∙ drop_front xs rest
 
-abbrev token_of : Word → ℕ → Token
+abbrev pub token_of : Word → ℕ → Token
 token_of word at = record { kind = kind_of word; start = at; end = at + length (spelling word) }
 
 word_there : (bl : List ℕ) (word : Word) (rest : List ℕ) → word_of (kind_of word) (slice_range (bl ++ (spelling word ++ rest)) (length bl) (length bl + length (spelling word))) ≡ word
 word_there bl word rest = ap (word_of (kind_of word)) (slice_there bl (spelling word) rest) ∙ word_again word
 
-next_word : (bl : List ℕ) (word : Word) (rest : List ℕ) → list_all is_blank bl ≡ true → IsWord word → MayPrecede word rest → next (bl ++ (spelling word ++ rest)) 0 ≡ lexed.Token (token_of word (length bl))
+pub next_word : (bl : List ℕ) (word : Word) (rest : List ℕ) → list_all is_blank bl ≡ true → IsWord word → MayPrecede word rest → next (bl ++ (spelling word ++ rest)) 0 ≡ lexed.Token (token_of word (length bl))
 next_word bl word rest white w p = next_at bl (spelling word ++ rest) white (black_word word rest w) ∙ first_again word rest (length bl) w p
 
 -- a word at the front, and what is read behind it
@@ -149,7 +149,7 @@ first_word bl word rest white w p =
     ∙ ap (λ (x : Word). option_map (λ words. x ∷ words) (words_of (drop (length bl + length (spelling word)) (bl ++ (spelling word ++ rest))))) (word_there bl word rest)
     ∙ ap (λ (l : List ℕ). option_map (λ words. word ∷ words) (words_of l)) (drop_there bl (spelling word) rest)
 
-behind : (bytes bl rest more : List ℕ) (word : Word) → bytes ≡ bl ++ rest → Begins rest word more → bytes ≡ bl ++ (spelling word ++ more)
+pub behind : (bytes bl rest more : List ℕ) (word : Word) → bytes ≡ bl ++ rest → Begins rest word more → bytes ≡ bl ++ (spelling word ++ more)
 behind bytes bl rest more word e b = e ∙ ap (λ (l : List ℕ). bl ++ l) b.spelled
 
 quiet_end : (bytes : List ℕ) (at : ℕ) → IsQuiet bytes → first bytes at ≡ lexed.End
@@ -235,7 +235,7 @@ same_token : (t : Token) (word : Word) (at : ℕ) → lexed.Token t ≡ span (ki
 same_token t word at e = cc
 
 -- the word that was read, in front of what is read behind it
-token_word : (bytes bl back : List ℕ) (t : Token) (f : Found back (length bl) (lexed.Token t)) → bytes ≡ bl ++ back → (word_of t.kind (slice_range bytes t.start t.end) ≡ f.word) × (drop t.end bytes ≡ f.rest)
+pub token_word : (bytes bl back : List ℕ) (t : Token) (f : Found back (length bl) (lexed.Token t)) → bytes ≡ bl ++ back → (word_of t.kind (slice_range bytes t.start t.end) ≡ f.word) × (drop t.end bytes ≡ f.rest)
 token_word bytes bl back t f e =
     let same : t ≡ token_of f.word (length bl) = same_token t f.word (length bl) f.is in
     let parts : bytes ≡ bl ++ (spelling f.word ++ f.rest) = behind bytes bl back f.rest f.word e f.begins in (

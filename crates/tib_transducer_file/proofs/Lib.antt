@@ -1,0 +1,17 @@
+mod Numbers
+mod Slices
+mod Variables
+mod LinePieces
+mod Backs
+mod Joins
+mod PartsFound
+mod VariablesUsed
+mod SidesRead
+mod SideTrees
+mod RulesRead
+mod LinesRead
+mod FileRead
+mod Starts
+mod PiecesHad
+mod FaultyLines
+mod FirstFaults

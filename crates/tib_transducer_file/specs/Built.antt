@@ -1,0 +1,60 @@
+-- What a line adds to what was read.
+use Rattle.std.specs.Prelude.{◌≡◌, ◌+◌, ◌<◌, ◌≤◌, ◌⊎◌, ℕ, List, [], ◌∷◌, ◌++◌, length, map, Option, Some, None, Result, Ok, Err, Contains, false}
+use Rattle.std.specs.List.{list_any}
+use Rattle.std.specs.Global.{Vec}
+use Rattle.tib_lex.specs.Lists.{Along}
+use Rattle.tib_lex.specs.Lines.{lines_of}
+use Rattle.tib_lex.specs.declared.fault.FaultKind.{FaultKind}
+use Rattle.tib_lex.specs.declared.fault.FileFault.{FileFault}
+use Rattle.tib_lex.specs.declared.fault.LineError.{LineError}
+use Rattle.tib_lex.specs.declared.fault.LineError.TheVariants as line_errors
+use Rattle.tib_lex.specs.declared.fault.ReadError.{ReadError}
+use Rattle.tib_lex.specs.declared.fault.ReadError.TheVariants as errors
+use Rattle.tib_tree.specs.Grows.{Adds, AddsAll}
+use Rattle.tib_tree.specs.Written.{Item}
+use Rattle.tib_tree.specs.Machine.{nodes_of, IsTree}
+use Rattle.tib_tree.specs.Trees.{preorder_of}
+use Rattle.tib_lex.specs.Grammar.{Word}
+use Rattle.tib_grammar.specs.Items.{pair_of, pairs_of, holes_in}
+use Rattle.tib_grammar.specs.declared.Item.{Item as SideItem}
+use Rattle.tib_transducer.specs.Range.{AreNumbered}
+use Rattle.tib_transducer.specs.Rules.{variables_of}
+use Rattle.tib_transducer.specs.declared.Variable.{Variable}
+use Rattle.tib_transducer.specs.declared.Pair.{Pair}
+use Rattle.tib_transducer.specs.declared.TransducerRule.{TransducerRule}
+use Rattle.tib_transducer_file.specs.Forms.{pair_in}
+use Rattle.tib_transducer_file.specs.Rule.{Parts, RuleLine, state_of, is_unknown}
+use Rattle.tib_transducer_file.specs.Value.{IsRule, states_in, states_of}
+
+-- words that are one tree with these items
+abbrev pub AreOneTree : List Item → Type 0
+AreOneTree is = (words : List Word) × (nodes_of words ≡ Some is)
+
+-- no pair of these has a number that is none of those
+abbrev pub AreKnown : List ℕ → List Item → Type 0
+AreKnown numbers items = list_any (λ i. is_unknown numbers (pair_in i)) items ≡ false
+
+-- the states of a rule go into the table of names, from left to right
+abbrev pub AddsStates : List (List ℕ) → Parts → List (List ℕ) → Type 0
+AddsStates before p names = AddsAll before (state_of p ∷ states_in p.right) names
+
+-- a rule of a line went last, and its states into the table of names
+pub record AddsRule (before names labels : List (List ℕ)) (old now : List (TransducerRule ℕ)) (line : RuleLine) : Type 0 where
+  pub rule : TransducerRule ℕ
+  pub is : IsRule names labels rule line
+  pub adds : AddsStates before line.parts names
+  pub last : now ≡ old ++ rule ∷ []
+
+-- a line has no tokens, or its rule went last
+abbrev pub AddsLine : List (List ℕ) → List (List ℕ) → List (List ℕ) → List (TransducerRule ℕ) → List (TransducerRule ℕ) → Result (Unit {0}) LineError → Result (Option RuleLine) FaultKind → Type 0
+AddsLine before names labels old now (Ok done) wanted =
+    ((wanted ≡ Ok None) × (names ≡ before) × (now ≡ old))
+    ⊎ ((line : RuleLine) × (wanted ≡ Ok (Some line)) × AddsRule before names labels old now line)
+AddsLine before names labels old now (Err (line_errors.Fault kind)) wanted = wanted ≡ Err kind
+AddsLine before names labels old now (Err line_errors.OutOfMemory) wanted = Unit {0}
+
+-- the rules of a file
+abbrev pub AreFileRules : List (List ℕ) → List (List ℕ) → List (List ℕ) → Result (Vec (TransducerRule ℕ)) ReadError → Result (List RuleLine) FileFault → Type 0
+AreFileRules before names labels (Ok rules) wanted = (lines : List RuleLine) × (wanted ≡ Ok lines) × Along (IsRule names labels) rules.items lines × AddsAll before (states_of lines) names
+AreFileRules before names labels (Err (errors.Fault fault)) wanted = wanted ≡ Err fault
+AreFileRules before names labels (Err errors.OutOfMemory) wanted = Unit {0}

@@ -1,0 +1,12 @@
+pub mod Pieces
+pub mod Forms
+pub mod Rule
+pub mod Value
+pub mod Reading
+pub mod TransducerText
+pub mod Faults
+pub mod Found
+pub mod Sides
+pub mod Built
+pub mod Begins
+pub mod Reader

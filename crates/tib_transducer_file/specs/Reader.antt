@@ -1,0 +1,44 @@
+-- What was read of a line before its rule is made.
+use Rattle.tib_cost.specs.declared.Scale.{Scale}
+use Rattle.std.specs.Prelude.{◌≡◌, ◌+◌, ◌≤◌, ℕ, List, length, false, Option, Some, None, Result, Ok, Err}
+use Rattle.tib_lex.specs.declared.fault.LineError.{LineError}
+use Rattle.tib_lex.specs.declared.fault.LineError.TheVariants as errors
+use Rattle.tib_tree.specs.Shape.{items_back}
+use Rattle.tib_tree.specs.declared.shape.Place.{Place}
+use Rattle.tib_grammar_file.specs.Found.{text_at}
+use Rattle.tib_transducer_file.specs.Rule.{Parts, has_unknown, numbers_in, checked, rule_line, rule_line_of}
+use Rattle.tib_transducer_file.specs.Found.{FoundIn, parts_with}
+use Rattle.tib_transducer_file.specs.Built.{AreOneTree}
+use Rattle.tib_transducer_file.specs.declared.parts.Found.{Found}
+
+-- the parts of a rule that was found
+abbrev pub parts_found : List ℕ → List Place → List Place → Found → Parts
+parts_found line left right f = parts_with (items_back line left) (items_back line right) (text_at line f.weight)
+
+-- the tokens of a line are a rule
+pub record FoundRule (line : List ℕ) (left right : List Place) (f : Found) : Type 0 where
+  pub lies : FoundIn line left right f
+  pub read : (scale : Scale) → rule_line scale line ≡ checked scale (parts_found line left right f)
+  pub left_tree : AreOneTree (items_back line left)
+  pub right_tree : AreOneTree (items_back line right)
+  pub few : length left + length right ≤ length line
+
+-- a rule, or no tokens, or a fault
+abbrev pub IsFound : List ℕ → List Place → List Place → Result (Option Found) LineError → Type 0
+IsFound line left right (Ok None) = (scale : Scale) → rule_line scale line ≡ Ok None
+IsFound line left right (Ok (Some f)) = FoundRule line left right f
+IsFound line left right (Err (errors.Fault kind)) = (scale : Scale) → rule_line scale line ≡ Err kind
+IsFound line left right (Err errors.OutOfMemory) = Unit {0}
+
+-- a rule without a fault, of this cost
+pub record GoodRule (scale : Scale) (p : Parts) (numbers : List ℕ) (left right : List Place) (cost : ℕ) : Type 0 where
+  pub read : checked scale p ≡ Ok (Some (rule_line_of p cost))
+  pub numbers_are : numbers ≡ numbers_in p.below
+  pub known : has_unknown p ≡ false
+  pub few_left : length left ≤ 10000
+  pub few_right : length right ≤ 10000
+
+abbrev pub IsGood : Scale → Parts → List ℕ → List Place → List Place → Result ℕ LineError → Type 0
+IsGood scale p numbers left right (Ok cost) = GoodRule scale p numbers left right cost
+IsGood scale p numbers left right (Err (errors.Fault kind)) = checked scale p ≡ Err kind
+IsGood scale p numbers left right (Err errors.OutOfMemory) = Unit {0}

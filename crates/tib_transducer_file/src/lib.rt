@@ -1,0 +1,16 @@
+//! Weighted top-down tree transducers as text. `read_transducer` takes the bytes of a file and gives the transducer whose text
+//! they are, or the first fault of the file. It stands on the lines and tokens of `tib_lex`, the labels of `tib_tree`, the
+//! weights of `tib_grammar_file` and the transducers of `tib_transducer`.
+#![tactic(auto)]
+
+mod forms;
+mod parts;
+mod pieces;
+mod rules;
+mod sides;
+mod start;
+#[cfg(test)]
+mod tests;
+mod transducer;
+
+pub use transducer::read_transducer;
