@@ -59,8 +59,8 @@ impl Labels {
         self.texts.find(text)
     }
 
-    /// The number of a text, which goes last where it is new. Only want of memory is an error, and after it the table is
-    /// as before.
+    /// The number of a text, which is put at the end of the table where it is new. Only want of memory is an error, and
+    /// after it the table is as before.
     pub fn intern(&mut self, text: &[u8]) -> Result<u32, AllocError>
         requires plain { HasNoFeed text.now }
         requires room { length self.old < 2 ^ 32 - 1 }

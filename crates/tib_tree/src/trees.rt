@@ -25,8 +25,8 @@ pub fn trees_have_a_limit()
     ensures { MOST_NODES ≡ most_nodes }
 {}
 
-/// The number of the text of a token, which goes last where it is new. Only want of memory is an error, and after it the
-/// table is as before. `text` is room for the text of a quoted token.
+/// The number of the text of a token, which is put at the end of the table where it is new. Only want of memory is an error,
+/// and after it the table is as before. `text` is room for the text of a quoted token.
 pub fn intern_token(
     line: &[u8],
     token: Token,
