@@ -1,0 +1,11 @@
+pub mod Restricting
+pub mod Leaves
+pub mod DeletedCosts
+pub mod Covering
+pub mod Preimages
+pub mod Asking
+pub mod Images
+pub mod Examples
+pub mod KeyOrders
+pub mod Reached
+pub mod Families

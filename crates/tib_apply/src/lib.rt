@@ -1,0 +1,6 @@
+//! Forward and backward application of a transducer to a grammar in normal form: the trees into which the transducer turns
+//! trees of the grammar, and the trees that it turns into trees of the grammar, each at the least cost. What is defined and
+//! proved of both stands here, for every semiring. It stands on `tib_transducer`, `tib_match`, `tib_inside` and `tib_hunt`.
+#![tactic(auto)]
+
+pub mod laws;
