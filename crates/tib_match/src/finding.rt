@@ -1,0 +1,117 @@
+// The matches of a side.
+ghost use Rattle.std.specs.Prelude.{◌≡◌, ◌<◌, ◌∷◌, [], map, length, IfOk};
+ghost use Rattle.tib_grammar.specs.Items.{pair_of, pairs_of};
+ghost use Rattle.tib_grammar.specs.Forms.{AreNormal};
+ghost use Rattle.tib_tree.specs.Trees.{preorder_of};
+ghost use Rattle.tib_normal.specs.Rules.{positions_with};
+ghost use Rattle.tib_match.specs.PartialMatches.{AreNext, AreFound, start_from};
+ghost use Rattle.tib_match.specs.Leading.{partials_of, all_led};
+ghost use Rattle.tib_match.specs.MatchLists.{AreMatches};
+ghost use Rattle.tib_match.specs.MatchView.{matched};
+
+use crate::found_match::Match;
+use crate::merging::merge;
+use crate::partial::{Partial, add_all_placed, take_all};
+use smallvec::SmallVec;
+use std::alloc::{AllocError, Global};
+use tib_cost::Semiring;
+use tib_grammar::{Item, Side};
+use tib_normal::Normal;
+use tib_tree::Label;
+
+// What the rules of a label and a rank make of some partial matches.
+fn lead_all<S: Semiring>(
+    alloc: Global,
+    normal: &Normal<S>,
+    label: Label,
+    rank: u32,
+    old: &[Partial],
+) -> Result<Vec<Partial>, AllocError>
+    ensures normal { AreNormal normal.now.rules }
+    ensures led { IfOk result (λ found. partials_of found.items ≡ all_led S.product normal.now.rules (positions_with label rank normal.now.rules) (partials_of old.now)) }
+{
+    let rules = normal.grammar().rule_list();
+    let positions = normal.rules_with(label, rank);
+    let mut found = Vec::new(alloc);
+    for partial in old {
+        add_all_placed::<S>(alloc, partial, rules, positions, &mut found)?;
+    }
+    Ok(found)
+}
+
+// What an item of a side makes of some partial matches.
+fn next<S: Semiring, P>(
+    alloc: Global,
+    normal: &Normal<S>,
+    item: &Item<P>,
+    old: Vec<Partial>,
+) -> Result<Vec<Partial>, AllocError>
+    ensures { IfOk result (λ found. AreNext S.product normal.now.rules (pair_of item.now) (partials_of old.items) (partials_of found.items)) }
+{
+    match item {
+        Item::Label { label, rank } => {
+            let led = lead_all(alloc, normal, *label, *rank, &old)?;
+            merge(alloc, led)
+        }
+        Item::Hole(_) => take_all(alloc, old),
+    }
+}
+
+// What is found along some items from a state.
+fn find<S: Semiring, P>(
+    alloc: Global,
+    normal: &Normal<S>,
+    state: u32,
+    items: &[Item<P>],
+) -> Result<Vec<Partial>, AllocError>
+    ensures { IfOk result (λ found. AreFound S.product normal.now.rules (pairs_of items.now) (start_from state ∷ []) (partials_of found.items)) }
+{
+    let mut waiting = Vec::new(alloc);
+    waiting.push(state)?;
+    let mut found = Vec::new(alloc);
+    found.push(Partial {
+        waiting,
+        states: Vec::new(alloc),
+        cost: S::one(),
+    })?;
+    for item in items {
+        found = next(alloc, normal, item, found)?;
+    }
+    Ok(found)
+}
+
+// The matches that were found.
+fn list_matches(alloc: Global, found: Vec<Partial>) -> Result<Vec<Match>, AllocError>
+    ensures { IfOk result (λ ms. ms.items ≡ map matched found.items) }
+{
+    let mut matches = Vec::with_capacity(alloc, found.len())?;
+    for partial in found {
+        let Partial { states, cost, .. } = partial;
+        matches.push(Match {
+            cost,
+            states: SmallVec::from_vec(states),
+        })?;
+    }
+    Ok(matches)
+}
+
+/// The matches of a side from a state: for each list of states at its holes the least cost, of at most `MOST`, of running the
+/// grammar from the state through the side down to them. Each list stands once, and they ascend. A lone hole gives the state
+/// itself at the cost of the product of nothing.
+///
+/// It reads the side once from the front, and keeps of all ways to a list of states that waits and a list of states at holes
+/// the cheapest. The worst case is as many ways as there are choices of rules for the labels whose trees wait.
+pub fn matches<S: Semiring, P>(
+    alloc: Global,
+    normal: &Normal<S>,
+    state: u32,
+    side: &Side<P>,
+) -> Result<Vec<Match>, AllocError>
+    requires { state < length normal.now.names }
+    ensures { IfOk result (λ ms. AreMatches S.product normal.now.rules side.now state ms.items) }
+{
+    normal.grammar().is_sound();
+    let found = find(alloc, normal, state, side.items())?;
+    let kept = merge(alloc, found)?;
+    list_matches(alloc, kept)
+}
