@@ -22,7 +22,7 @@ split_last (x ∷ y ∷ xs) (suc n) q e h = ap (λ ys. x ∷ ys) (split_last (y 
 turned : (xs : List ℕ) (n q : ℕ) → length xs ≡ suc n → slice_get xs n ≡ Some q → reverse xs ≡ q ∷ reverse (take n xs)
 turned xs n q e h = ap (λ ys. reverse ys) (split_last xs n q e h) ∙ reverse-append (take n xs) (q ∷ [])
 
-last_turned : (xs : List ℕ) (q : ℕ) → slice_get xs (length xs - 1) ≡ Some q → reverse xs ≡ q ∷ reverse (take (length xs - 1) xs)
+pub last_turned : (xs : List ℕ) (q : ℕ) → slice_get xs (length xs - 1) ≡ Some q → reverse xs ≡ q ∷ reverse (take (length xs - 1) xs)
 last_turned [] q h = absurd (cc)
 last_turned (x ∷ xs) q h =
     let e : suc (length xs) - 1 ≡ length xs = omega arith in

@@ -1,23 +1,46 @@
 // The matches of a side.
-ghost use Rattle.std.specs.Prelude.{◌≡◌, ◌<◌, ◌∷◌, [], map, length, IfOk};
+ghost use Rattle.std.specs.Prelude.{◌≡◌, ◌<◌, ◌∷◌, [], ◌++◌, map, length, IfOk, OnOk};
 ghost use Rattle.tib_grammar.specs.Items.{pair_of, pairs_of};
 ghost use Rattle.tib_grammar.specs.Forms.{AreNormal};
 ghost use Rattle.tib_tree.specs.Trees.{preorder_of};
 ghost use Rattle.tib_normal.specs.Rules.{positions_with};
 ghost use Rattle.tib_match.specs.PartialMatches.{AreNext, AreFound, start_from};
-ghost use Rattle.tib_match.specs.Leading.{partials_of, all_led};
+ghost use Rattle.tib_match.specs.Leading.{partial_of, partials_of, all_placed, all_led};
+ghost use Rattle.tib_match.specs.Narrowing.{LeftsAscend};
+ghost use Rattle.tib_lex.specs.Lists.{Each};
 ghost use Rattle.tib_match.specs.MatchLists.{AreMatches};
 ghost use Rattle.tib_match.specs.MatchView.{matched};
 
 use crate::found_match::Match;
 use crate::merging::merge;
+use crate::narrowing::narrow;
 use crate::partial::{Partial, add_all_placed, take_all};
 use smallvec::SmallVec;
 use std::alloc::{AllocError, Global};
 use tib_cost::Semiring;
-use tib_grammar::{Item, Side};
+use tib_grammar::{Item, Rule, Side};
 use tib_normal::Normal;
 use tib_tree::Label;
+
+// Adds what the rules at some positions, in ascending order of their left states, make of a partial match.
+fn add_led<S: Semiring>(
+    alloc: Global,
+    partial: &Partial,
+    rules: &[Rule<u32>],
+    positions: &[u32],
+    found: &mut Vec<Partial>,
+) -> Result<(), AllocError>
+    requires below { Each (λ n. n < length rules.now) positions.now }
+    requires ascend { LeftsAscend rules.now positions.now }
+    ensures { OnOk result (partials_of found.new.items ≡ partials_of found.old.items ++ all_placed S.product rules.now (partial_of partial.now) positions.now) }
+{
+    let count = partial.waiting.len();
+    if count == 0 {
+        return Ok(());
+    }
+    let own = narrow(rules, positions, partial.waiting[count - 1]);
+    add_all_placed::<S>(alloc, partial, rules, own, found)
+}
 
 // What the rules of a label and a rank make of some partial matches.
 fn lead_all<S: Semiring>(
@@ -34,7 +57,7 @@ fn lead_all<S: Semiring>(
     let positions = normal.rules_with(label, rank);
     let mut found = Vec::new(alloc);
     for partial in old {
-        add_all_placed::<S>(alloc, partial, rules, positions, &mut found)?;
+        add_led::<S>(alloc, partial, rules, positions, &mut found)?;
     }
     Ok(found)
 }
