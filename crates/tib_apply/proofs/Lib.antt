@@ -9,3 +9,4 @@ pub mod Examples
 pub mod KeyOrders
 pub mod Reached
 pub mod Families
+pub mod Gathered

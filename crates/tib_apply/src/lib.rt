@@ -3,4 +3,9 @@
 //! proved of both stands here, for every semiring. It stands on `tib_transducer`, `tib_match`, `tib_inside` and `tib_hunt`.
 #![tactic(auto)]
 
+mod key;
 pub mod laws;
+mod restrictions;
+
+pub use key::Key;
+pub use restrictions::Restrictions;
