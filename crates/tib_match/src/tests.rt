@@ -40,7 +40,7 @@ fn normal<S: Semiring + Drop>(alloc: Global) -> Result<Normal<S>, Fail> {
             cost: Cost::new(*cost).ok_or("cost")?,
         })?;
     }
-    if rules.len() > 9 {
+    if texts.len() > 9 || rules.len() > 9 {
         return Err("too many rules".into());
     }
     let names = Names::from_list(alloc, texts)?.ok_or("names")?;
