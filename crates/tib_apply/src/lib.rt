@@ -6,6 +6,8 @@
 mod key;
 pub mod laws;
 mod restrictions;
+#[cfg(test)]
+mod tests;
 
 pub use key::Key;
 pub use restrictions::Restrictions;
