@@ -45,8 +45,10 @@ fn over_keys<K: TableKey + Drop>(
     Ok(rules)
 }
 
-/// The canonical grammar whose states are the keys of an order: the start is named `q0`, and the others `q1`, `q2` and so on
-/// in ascending order of their keys, of those that are useful. The rules are over positions of the order.
+/// The canonical grammar whose states are the keys of an order: the start is named `q0`, and the
+/// others `q1`, `q2` and so on in ascending order of their keys, of those that are useful. The
+/// rules are over positions of the order. Err only if memory is refused, and then both are gone.
+/// Worst case: the keys are sorted once, and then that of `canonical`.
 pub fn to_grammar<S: Semiring, K: TableKey + Drop>(
     alloc: Global,
     found: Found<K, Rule<u32>>,

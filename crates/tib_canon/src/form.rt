@@ -12,11 +12,13 @@ use tib_grammar::{Grammar, Rule};
 use tib_inside::trim_rules;
 use tib_tree::Labels;
 
-/// The canonical form of a grammar whose labels are in the table. States and rules that no run within the greatest cost
-/// uses are left out; the states that stay are named `q0` (the start), `q1`, `q2` and so on in their order; of rules that
-/// agree in both sides the cheapest stays; and the rules are sorted by their left states and then by the bytes of their
-/// lines as they are printed. The series is that of the grammar. Each rule is hashed and printed once, the lines are sorted
-/// once, and the rules are moved.
+/// The canonical form of a grammar whose labels are in the table. States and rules that no run
+/// within the greatest cost uses are left out; the states that stay are named `q0` (the start),
+/// `q1`, `q2` and so on in their order; of rules that agree in both sides the cheapest stays; and
+/// the rules are sorted by their left states and then by the bytes of their lines as they are
+/// printed. The series is that of the grammar. Err only if memory is refused, and then the grammar
+/// is gone. Worst case: that of `trim_rules`; each rule that stays is hashed and printed once, the
+/// lines are sorted once, by O(r log r) comparisons of r lines, and the rules are moved.
 pub fn canonical<S: Semiring>(
     alloc: Global,
     grammar: Grammar<S>,
@@ -35,7 +37,7 @@ pub fn canonical<S: Semiring>(
     canonical_of_rules(alloc, states, rules, labels)
 }
 
-/// The canonical form of a grammar of these rules over so many states, whatever their names.
+/// The canonical form of a grammar of these rules over this number of states, whatever their names.
 pub(crate) fn canonical_of_rules<S: Semiring>(
     alloc: Global,
     states: u32,

@@ -77,8 +77,9 @@ pub fn over_keys_texts_are_read<S: Semiring, K: TableKey>()
     ensures { OverKeysTextsAreRead S.product K.cmp }
 {}
 
-/// The text of the canonical form of a normal form does not hang on the numbers of labels: grammars that agree by the texts
-/// of their labels, each over a table of distinct labels of its own, have one such text.
+/// The text of the canonical form of a normal form does not depend on the numbers of labels:
+/// grammars that agree by the texts of their labels, each over a table of distinct labels of its
+/// own, have one text of it.
 pub fn canonical_text_is_one<S: Semiring>()
     ensures { CanonicalTextIsOne S.product }
 {}

@@ -24,8 +24,9 @@ pub struct Printed<S> {
     pub text: GrowingSink,
 }
 
-/// The grammar of rules over so many states, with the states named by their numbers, equal rules merged at the least cost,
-/// and the rules sorted. The rules are moved, and the lines by which they are sorted are the text.
+/// The grammar of rules over this number of states, with the states named by their numbers, equal
+/// rules merged at the least cost, and the rules sorted. The rules are moved, and the lines by
+/// which they are sorted are the text.
 pub(crate) fn in_order<S: Semiring>(
     alloc: Global,
     states: u32,

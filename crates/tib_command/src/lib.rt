@@ -38,7 +38,8 @@ pub fn words_have_limits()
 {}
 
 /// The job that the words ask for, which are those behind the program's name. `Usage` comes exactly
-/// where they are not of the word language.
+/// where they are not of the word language, `OutOfMemory` only if memory is refused. Cost: that of
+/// `clap` for these words, and a few passes over the values.
 pub fn read_words(alloc: Global, words: &[String]) -> Result<Job, CommandError>
     ensures ok { IfOk result (λ job. job_of (map (λ s. string_bytes s) words.now)
         ≡ Some (meaning job)) }

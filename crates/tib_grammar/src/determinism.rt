@@ -153,7 +153,8 @@ fn check_rules(alloc: Global, rules: &[Rule<u32>]) -> Result<(), DeterminismFaul
 }
 
 impl<S> Grammar<S> {
-    /// Whether each rule has one label over states on its right. It takes no memory.
+    /// Whether each rule has one label over states on its right. It takes no memory. Worst case:
+    /// one pass over the items of all rules.
     pub fn is_normal(&self) -> bool
         ensures yes { IsTrue result → AreNormal self.now.rules }
         ensures no { result ≡ false → AreNormal self.now.rules → ⊥ }

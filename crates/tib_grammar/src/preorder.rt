@@ -60,7 +60,8 @@ fn items_over(
 
 impl<P: Drop> Side<P> {
     /// The side whose preorder the items are. It answers `NotATree` exactly where they are not the
-    /// preorder of one tree, and it takes no memory.
+    /// preorder of one tree, and then they are gone. It takes no memory. Worst case: one pass over
+    /// the items.
     pub fn from_preorder(items: Vec<Item<P>>) -> Result<Side<P>, ShapeError>
         requires { length items.items < 2 ^ 32 }
         ensures side { IfOk result (λ s. preorder_of s ≡ pairs_of items.items) }

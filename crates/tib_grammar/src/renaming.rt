@@ -50,7 +50,8 @@ impl Rule<u32> {
     }
 }
 
-/// Gives the states of some rules the numbers that a list has for them. It takes no memory.
+/// Gives the states of some rules the numbers that a list has for them. It takes no memory. Worst
+/// case: one pass over the items of the rules.
 pub fn rename_rules(rules: &mut [Rule<u32>], numbers: &[u32])
     requires { AreInRange (length numbers.now) rules.old }
     ensures { rules.new ≡ map (named_rule (number_in numbers.now)) rules.old }

@@ -250,8 +250,9 @@ pub fn print_grammar<S: Semiring, W: Sink>(
     put_grammar(out, S::SCALE, grammar.rule_list(), grammar.names(), labels)
 }
 
-/// Prints the line of a rule, whose states and labels have texts, as `print_grammar` does. It takes
-/// no memory; its calls nest as deep as the right side.
+/// Prints the line of a rule, whose states and labels have texts, as `print_grammar` does. After a
+/// failure a front of the line was appended. It takes no memory; its calls nest as deep as the
+/// right side. Worst case: that of `print_grammar`, for the bytes of the line.
 pub fn print_rule<S: Semiring, W: Sink>(
     rule: &Rule<u32>,
     names: &Names,

@@ -114,7 +114,8 @@ pub fn hunt_alone<E: Expand, G: Gate>(
     hunt_by(alloc, problem, limit, MANY, gate)
 }
 
-/// The reached set as `hunt_alone` answers it, found by this number of workers. So far there is one.
+/// The reached set as `hunt_alone` answers it, found by this number of workers. So far there is
+/// one. Errors and cost are those of `hunt_alone`.
 pub fn hunt<E: Expand, G: Gate>(
     alloc: Global,
     problem: &E,

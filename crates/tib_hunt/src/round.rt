@@ -78,7 +78,7 @@ fn list_shelves<P: Itemized>(
 
 impl<P: Itemized> Round<P> {
     /// Performs one event. A draw answers the next item, or None where all are drawn; a key is numbered on its shelf; an item is filed. Err if
-    /// memory is refused, and then nothing has changed.
+    /// memory is refused, and then nothing has changed. Cost: at most one look-up by hash.
     pub fn step(&mut self, event: Event<P::Key>) -> Result<Answer, AllocError>
         requires { let d = self.old.about in Allowed P.Key.eq P.Key.shelf_of (P.first_of d) (P.count_of d) (P.is_end d) self.old.core event }
         ensures about { self.new.about ≡ self.old.about }
@@ -101,7 +101,8 @@ impl<P: Itemized> Round<P> {
         self.shelves[shelf as usize].len()
     }
 
-    /// Ends the round and hands out the keys of the sixteen shelves, each shelf in the order of first sight. Err if memory is refused.
+    /// Ends the round and hands out the keys of the sixteen shelves, each shelf in the order of
+    /// first sight. Err if memory is refused, and then they are gone. Each key is moved once.
     pub fn close(self, alloc: Global) -> Result<Vec<Vec<P::Key>>, AllocError>
         ensures { IfOk result (λ r. map (λ v. v.items) r.items ≡ self.core.shelves) }
     {

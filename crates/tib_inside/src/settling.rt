@@ -81,7 +81,8 @@ pub(crate) fn inside_costs<S: Semiring>(
 /// right side that have none yet (as Dowling and Gallier 1984 do for Horn clauses), so what is kept
 /// of it is looked at once for each of them.
 ///
-/// Worst case: with s states, r rules and h states in their right sides, O(s + h + r log r) steps.
+/// Err only if memory is refused. Worst case: with s states, r rules and h states in their right
+/// sides, O(s + h + r log r) steps, beside one pass over the labels of the right sides.
 pub fn inside<S: Semiring>(
     alloc: Global,
     grammar: &Grammar<S>,

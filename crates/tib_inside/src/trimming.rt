@@ -57,8 +57,8 @@ pub struct TrimmedRules {
 }
 
 /// The start and the useful ones of this number of states, and the live rules of useful states,
-/// each in its order. The rules are moved. Worst case: that of `inside`, and one pass over the
-/// rules and their right sides.
+/// each in its order. The rules are moved. Err only if memory is refused, and then they are gone.
+/// Worst case: that of `inside`, and a few passes over the rules and their right sides.
 pub fn trim_rules<S: Semiring>(
     alloc: Global,
     rules: Vec<Rule<u32>>,
@@ -87,7 +87,8 @@ pub fn trim_rules<S: Semiring>(
 }
 
 /// The grammar of the start and the useful states and of the live rules of useful states, each in
-/// its order. The rules are moved.
+/// its order. The rules are moved. Err only if memory is refused, and then the grammar is gone.
+/// Worst case: that of `trim_rules`, and one pass over the names that stay.
 pub fn trim<S: Semiring>(alloc: Global, grammar: Grammar<S>) -> Result<Grammar<S>, AllocError>
     ensures trimmed { IfOk result (λ g. IsTrimmed S.product grammar g) }
     ensures series { IfOk result (λ g. HasSameSeries S.product grammar g) }
@@ -104,7 +105,8 @@ pub fn trim<S: Semiring>(alloc: Global, grammar: Grammar<S>) -> Result<Grammar<S
     }
 }
 
-/// The same of a grammar in normal form, which stays in normal form.
+/// The same of a grammar in normal form, which stays in normal form. Worst case: that of `trim` and
+/// of `Normal::new`.
 pub fn trim_normal<S: Semiring + Drop>(
     alloc: Global,
     normal: Normal<S>,

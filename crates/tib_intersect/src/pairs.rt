@@ -31,7 +31,8 @@ pub struct Pairs<'a, S> {
 }
 
 impl<'a, S: Semiring> Pairs<'a, S> {
-    /// The pairs of two grammars.
+    /// The pairs of two grammars. Err only if memory is refused. Cost: one look-up by hash for each
+    /// rule of the second grammar.
     pub fn new(
         alloc: Global,
         left: &'a Normal<S>,

@@ -13,11 +13,13 @@ use tib_grammar::Rule;
 use tib_hunt::{Found, Gate, HuntError, hunt_alone};
 use tib_normal::Normal;
 
-/// The pairs that are reached from the pair of the starts, in the order by rounds, and the rules over their positions.
-/// As a grammar whose start is position 0 they give each tree the product of its two costs. `TooMany` exactly where
-/// they have more parts than the limit, 1 to `MOST_PARTS` of tib_hunt; `OutOfMemory` if memory is refused. Calls `gate`
-/// once for each pair. Cost: for each pair the rules of its first state, each with one look-up by hash, and the edges
-/// that it makes. The product of tree automata is from Comon and others, 2007.
+/// The pairs that are reached from the pair of the starts, in the order by rounds, and the rules
+/// over their positions. As a grammar whose start is position 0 they give each tree the product of
+/// its two costs. `TooMany` exactly where they have more parts than the limit, 1 to `MOST_PARTS` of
+/// tib_hunt; `OutOfMemory` if memory is refused. Calls `gate` once for each pair. Cost: for each
+/// pair the rules of its first state, each with one look-up by hash, and the edges that it makes,
+/// beside the hunt's own (`hunt_alone`). The product of tree automata is from Comon and others,
+/// 2007.
 pub fn intersect<S: Semiring, G: Gate>(
     alloc: Global,
     left: &Normal<S>,

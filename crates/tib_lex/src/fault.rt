@@ -95,7 +95,7 @@ impl From<AllocError> for LineError {
     }
 }
 
-/// The error of a line as one of its file.
+/// The error of a line as one of its file. Takes no memory.
 pub fn file_error(line: u32, error: LineError) -> ReadError
     ensures { result ≡ file_error_of line error }
 {

@@ -105,7 +105,10 @@ fn is_normal_form<S>(alloc: Global, grammar: &Grammar<S>) -> Result<bool, AllocE
 
 impl<S: Drop> Normal<S> {
     /// Tests and indexes a grammar: it answers this grammar where it is in normal form, its rules
-    /// stand in ascending order of their left states, and no two rules agree in both sides.
+    /// stand in ascending order of their left states, and no two rules agree in both sides; else
+    /// none. Err only if memory is refused. After either the grammar is gone. Worst case: a few
+    /// passes over the items of the rules, each rule with two look-ups by hash, and one over the
+    /// states.
     pub fn new(alloc: Global, grammar: Grammar<S>) -> Result<Option<Normal<S>>, AllocError>
         ensures same { IfOk result (λ made. IfSome made (λ n. n ≡ grammar)) }
         ensures some { IfOk result (λ made. IsSome made ↔ IsNormal grammar.rules) }
@@ -129,7 +132,7 @@ impl<S: Drop> Normal<S> {
 }
 
 impl<S> Normal<S> {
-    /// The grammar.
+    /// The grammar. It takes no memory.
     pub fn grammar(&self) -> &Grammar<S>
         ensures same { result.now ≡ self.now }
         ensures normal { IsNormal self.now.rules }
@@ -146,7 +149,7 @@ impl<S> Normal<S> {
         grammar
     }
 
-    /// The rules of a state, in order.
+    /// The rules of a state, in order. It takes no memory. Worst case: O(1) steps.
     pub fn rules_of(&self, state: u32) -> &[Rule<u32>]
         requires { state < length self.now.names }
         ensures { result.now ≡ rules_from state self.now.rules }
@@ -157,7 +160,7 @@ impl<S> Normal<S> {
     }
 
     /// The positions, from 0, of the rules whose right side is this label over this number of
-    /// states, ascending.
+    /// states, ascending. It takes no memory. Cost: one look-up by hash.
     pub fn rules_with(&self, label: Label, rank: u32) -> &[u32]
         ensures { result.now ≡ positions_with label rank self.now.rules }
     {

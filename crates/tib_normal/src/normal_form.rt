@@ -91,7 +91,8 @@ fn count_places(rules: &[Rule<u32>], states: u32, limit: u64) -> Option<Places>
 /// (least costs by Dijkstra, 1959).
 ///
 /// The limit is from 1 to 20,000,000. It answers `TooMany` where the normal form has more parts
-/// than that, and takes no memory for more.
+/// than that, and takes no memory for more; `OutOfMemory` says nothing of the grammar, which is
+/// as before in each case.
 ///
 /// Worst case: with n rules, of which c are chain rules, and s states, each of at most n sides
 /// spreads to each state once and follows each chain rule once, so O(n (s + c) log n) steps beside

@@ -58,7 +58,7 @@ impl<P: Problem> Shelf<P> {
     }
 
     /// The place of the key, which is added behind the others if it is new. Only for want of memory
-    /// the key comes back, and nothing is added.
+    /// the key comes back, and nothing is added. Cost: one look-up by hash.
     pub fn number(&mut self, key: P::Key) -> Result<u64, P::Key>
         requires { P.may_hold self.old.about key }
         ensures about { self.new.about ≡ self.old.about }
@@ -90,7 +90,8 @@ impl<P: Problem> Shelf<P> {
         self.keys.pop()
     }
 
-    /// All keys, in the order of first sight. It fails only for want of memory.
+    /// All keys, in the order of first sight. It fails only for want of memory, and then they are
+    /// gone. Each key is moved once.
     pub fn into_keys(self, alloc: Global) -> Result<Vec<P::Key>, AllocError>
         ensures { IfOk result (λ r. r.items ≡ self.keys) }
     {

@@ -73,7 +73,8 @@ impl<P: Problem + Copy> Table<P> {
 
     /// The number of the key, for which it takes one turn of the key's shelf. The seats then know
     /// that it names this key. Only for want of memory the key comes back, and nothing is added. It
-    /// may wait for ever: while another turn of this shelf is held.
+    /// may wait for ever: while another turn of this shelf is held. Cost: one turn, and one look-up
+    /// by hash.
     pub fn number<R: Wait>(
         &self,
         rt: &R,

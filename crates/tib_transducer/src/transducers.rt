@@ -75,7 +75,7 @@ fn is_rule(rule: &TransducerRule<u32>, n: u32) -> bool
     are_pairs_within(right, n, variables)
 }
 
-// Whether all rules are such.
+// Whether each rule has its shape, and its states are below n.
 fn are_rules(rules: &[TransducerRule<u32>], n: u32) -> bool
     ensures shaped { IsTrue result → AreShaped rules.now }
     ensures within { IsTrue result → AreWithin n rules.now }
@@ -94,7 +94,8 @@ impl<S> Transducer<S> {
     /// A transducer of these names and rules. It answers none exactly where there is no name, a
     /// state has a number that is not below the number of names, a left side is a lone variable or
     /// its variables are not numbered 0, 1, 2 and so on in preorder, or a right side has a variable
-    /// that its left side lacks. It takes no memory.
+    /// that its left side lacks; then both are gone. It takes no memory. Worst case: one pass over
+    /// the items of all sides.
     pub fn new(names: Names, rules: Vec<TransducerRule<u32>>) -> Option<Transducer<S>>
         requires { length rules.items < 2 ^ 32 }
         ensures names { IfSome result (λ t. t.names ≡ names) }
@@ -119,7 +120,8 @@ impl<S> Transducer<S> {
     /// What holds of each transducer: there is a start, its names are distinct state names, the
     /// states of its rules have names, its rules are fewer than 2^32, and each has its shape: a
     /// left side that begins with a label and numbers its variables from 0 in preorder, and a right
-    /// side without other variables; and nothing stands below a variable or a pair.
+    /// side without other variables; and nothing stands below a variable or a pair. It computes
+    /// nothing.
     pub fn is_sound(&self)
         ensures start { 0 < length self.now.names }
         ensures names { AreStateNames self.now.names }
@@ -163,7 +165,7 @@ impl<S> Transducer<S> {
         &self.rules[n as usize - 1]
     }
 
-    /// The names of the states.
+    /// The names of the states. It takes no memory.
     pub fn names(&self) -> &Names
         ensures { result.now ≡ self.now.names }
     {

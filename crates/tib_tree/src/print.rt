@@ -12,7 +12,7 @@ use tib_io::{Failed, Sink, write_whole};
 use tib_lex::is_name;
 
 /// Whether a label is written in quotes: where it is empty, has a byte that is no name byte, or is
-/// `->`. Takes no memory.
+/// `->`. Takes no memory. Worst case: O(n) steps for n bytes.
 pub fn needs_quotes(text: &[u8]) -> bool
     ensures value { result ≡ not (is_name_text text.now) }
     ensures yes { IsTrue result → IsName text.now → ⊥ }
@@ -110,8 +110,9 @@ fn print_quoted<W: Sink>(out: &mut W, text: &[u8]) -> Result<(), Failed>
     }
 }
 
-/// Writes a label: its bytes, or in quotes with `\"` and `\\` where it needs quotes. Takes no
-/// memory.
+/// Writes a label: its bytes, or in quotes with `\"` and `\\` where it needs quotes. It fails only
+/// where the sink does, and then a front of the text was written. Takes no memory. Worst case: O(n)
+/// steps for n bytes.
 pub fn print_label<W: Sink>(out: &mut W, text: &[u8]) -> Result<(), Failed>
     ensures { Wrote (W.written out.old) (W.written out.new) (W.free out.old) (W.free out.new)
         (W.faults out.old) (W.faults out.new) (label_text text.now) result }
@@ -204,7 +205,7 @@ fn print_nodes<W: Sink>(out: &mut W, labels: &Labels, nodes: &[Node]) -> Result<
 
 /// Writes a tree: its label, and where it has children, these in parentheses with one space between
 /// them. Labels are written as `print_label` does. It fails only where the sink does, and then a
-/// front of the text was written. Takes no memory.
+/// front of the text was written. Takes no memory. Worst case: O(b) steps for b bytes of text.
 pub fn print_tree<W: Sink>(tree: &Tree, labels: &Labels, out: &mut W) -> Result<(), Failed>
     requires { HasLabels labels.now tree.now }
     ensures { Wrote (W.written out.old) (W.written out.new) (W.free out.old) (W.free out.new)

@@ -41,6 +41,7 @@ pub struct Reader {
 }
 
 impl Reader {
+    /// A reader that has read nothing. Takes no memory.
     pub fn new(alloc: Global) -> Reader
         ensures { (line : List ℕ) → state_of line result ≡ start }
     {
@@ -161,7 +162,9 @@ impl Reader {
         Ok(true)
     }
 
-    /// Reads these tokens as one tree, if they are one.
+    /// Reads these tokens, and answers whether they are one tree; then `places` has its nodes, the
+    /// last one first. After false, and after an Err, which comes only if memory is refused, the
+    /// reader can be used again. Worst case: O(n) steps for n tokens.
     pub fn read(&mut self, tokens: &[Token]) -> Result<bool, AllocError>
         requires { length tokens.now < 2 ^ 32 - 1 }
         ensures places { IfOk result (λ ok. IsTrue ok → (long : ℕ) → All (Lies long) tokens.now →
