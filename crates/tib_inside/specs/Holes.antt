@@ -23,13 +23,13 @@ owners_of q (p ∷ states) (n ∷ owners) =
 -- its right side has.
 pub record AreHolesUpTo (rules : List (Rule ℕ)) (n : ℕ)
     (states owners counts : List ℕ) : Type 0 where
-    pub as_many : length owners ≡ length states
-    pub counted : length counts ≡ n
-    pub counts_are : (m : ℕ) → m < n → get_or counts m 0 ≡ length (holes_of (rule_at rules m).right)
-    pub owners_below : AllBelow n owners
-    pub states_below : (count : ℕ) → AreInRange count rules → AllBelow count states
-    pub each : (q m : ℕ) → m < n → occurrences m (owners_of q states owners)
-        ≡ occurrences q (holes_of (rule_at rules m).right)
+  pub as_many : length owners ≡ length states
+  pub counted : length counts ≡ n
+  pub counts_are : (m : ℕ) → m < n → get_or counts m 0 ≡ length (holes_of (rule_at rules m).right)
+  pub owners_below : AllBelow n owners
+  pub states_below : (count : ℕ) → AreInRange count rules → AllBelow count states
+  pub each : (q m : ℕ) → m < n → occurrences m (owners_of q states owners)
+      ≡ occurrences q (holes_of (rule_at rules m).right)
 
 -- these are the states in the right sides of the rules
 abbrev pub AreHolesOf : List (Rule ℕ) → Holes → Type 0

@@ -63,12 +63,12 @@ pub record Follows (rules : List (Rule ℕ)) (live : List Bool) (p m q : ℕ) : 
 -- all marked states are reached, and what each leads to is marked, or it lies on the stack
 pub record IsReaching (rules : List (Rule ℕ)) (live kept : List Bool)
     (stack : List ℕ) : Type 0 where
-    pub begun : IsMarked kept 0
-    pub only : (q : ℕ) → IsMarked kept q → IsReached rules live q
-    pub waiting : (q : ℕ) → Has stack q → IsMarked kept q
-    pub closed :
-        (n q : ℕ) → n < length rules → IsMarked live n → IsMarked kept (rule_at rules n).left → Has (holes_of (rule_at rules n).right) q →
-        IsMarked kept q ⊎ Has stack (rule_at rules n).left
+  pub begun : IsMarked kept 0
+  pub only : (q : ℕ) → IsMarked kept q → IsReached rules live q
+  pub waiting : (q : ℕ) → Has stack q → IsMarked kept q
+  pub closed :
+      (n q : ℕ) → n < length rules → IsMarked live n → IsMarked kept (rule_at rules n).left → Has (holes_of (rule_at rules n).right) q →
+      IsMarked kept q ⊎ Has stack (rule_at rules n).left
 
 -- the marked states are those that are reached
 pub record AreReached (rules : List (Rule ℕ)) (live kept : List Bool) : Type 0 where

@@ -34,20 +34,20 @@ AreOther x y = x.state ≡ y.state → x.side ≡ y.side → ⊥
 -- both
 pub record AreLeastRows (product : ℕ → ℕ → ℕ) (rules : List (Rule ℕ)) (numbers : List ℕ)
     (sides states : ℕ) (rows : List Row) : Type 0 where
-    pub least : (x : Row) → Has rows x → IsLeast (IsOffer product rules numbers x.state x.side)
-        (Some x.cost)
-    pub state_below : (x : Row) → Has rows x → x.state < states
-    pub side_below : (x : Row) → Has rows x → x.side < sides
-    pub apart : Ascends AreOther rows
+  pub least : (x : Row) → Has rows x → IsLeast (IsOffer product rules numbers x.state x.side)
+      (Some x.cost)
+  pub state_below : (x : Row) → Has rows x → x.state < states
+  pub side_below : (x : Row) → Has rows x → x.side < sides
+  pub apart : Ascends AreOther rows
 
 -- a row for each state that has a cost of a side from number n on
 pub record AreGathered (product : ℕ → ℕ → ℕ) (rules : List (Rule ℕ)) (numbers : List ℕ)
     (n sides states : ℕ) (rows : List Row) : Type 0 where
-    pub are : AreLeastRows product rules numbers sides states rows
-    pub from : (x : Row) → Has rows x → n ≤ x.side
-    pub whole :
-        (q s c : ℕ) → n ≤ s → s < sides → IsOffer product rules numbers q s c → c ≤ most →
-        (d : ℕ) × Has rows (record { state = q; side = s; cost = d })
+  pub are : AreLeastRows product rules numbers sides states rows
+  pub from : (x : Row) → Has rows x → n ≤ x.side
+  pub whole :
+      (q s c : ℕ) → n ≤ s → s < sides → IsOffer product rules numbers q s c → c ≤ most →
+      (d : ℕ) × Has rows (record { state = q; side = s; cost = d })
 
 -- some rows at least costs that have more parts than the limit, where the first of them, the old
 -- ones, have been counted in these parts

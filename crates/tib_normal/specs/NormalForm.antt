@@ -87,14 +87,14 @@ IsNormalCost product states rules q side c =
 -- has a cost of at most the greatest has a rule.
 pub record IsNormalForm (product : ℕ → ℕ → ℕ) (states : ℕ) (rules : List (Rule ℕ)) (new_states : ℕ)
     (new_rules : List (Rule ℕ)) : Type 0 where
-    pub counted : new_states ≡ states + length (all_inner states rules)
-    pub ascends : Ascends (λ r s. r.left ≤ s.left) new_rules
-    pub distinct : Ascends (λ r s. r.left ≡ s.left → r.right ≡ s.right → ⊥) new_rules
-    pub least : (r : Rule ℕ) → Has new_rules r →
-        IsLeast (IsNormalCost product states rules r.left r.right) (Some r.cost)
-    pub whole :
-        (q : ℕ) (side : SideFor ℕ ℕ) (c : ℕ) → IsNormalCost product states rules q side c → c ≤ most →
-        (d : ℕ) × Has new_rules (record { left = q; right = side; cost = d })
+  pub counted : new_states ≡ states + length (all_inner states rules)
+  pub ascends : Ascends (λ r s. r.left ≤ s.left) new_rules
+  pub distinct : Ascends (λ r s. r.left ≡ s.left → r.right ≡ s.right → ⊥) new_rules
+  pub least : (r : Rule ℕ) → Has new_rules r →
+      IsLeast (IsNormalCost product states rules r.left r.right) (Some r.cost)
+  pub whole :
+      (q : ℕ) (side : SideFor ℕ ℕ) (c : ℕ) → IsNormalCost product states rules q side c → c ≤ most →
+      (d : ℕ) × Has new_rules (record { left = q; right = side; cost = d })
 
 -- the normal form keeps the series
 abbrev pub IsNormalized : (ℕ → ℕ → ℕ) → Type 0

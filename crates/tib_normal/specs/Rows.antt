@@ -24,11 +24,11 @@ side_at table s = side_of (get_or table s [])
 -- rule n has the label f at its root, and its side has a number
 pub record HasSide (states : ℕ) (rules : List (Rule ℕ)) (table : List (List ℕ))
     (n f s : ℕ) : Type 0 where
-    pub below : s < length table
-    pub is : side_at table s ≡ record {
-      label = label f;
-      kids = heads (first_inner states rules n) (rule_at rules n).right.kids;
-    }
+  pub below : s < length table
+  pub is : side_at table s ≡ record {
+    label = label f;
+    kids = heads (first_inner states rules n) (rule_at rules n).right.kids;
+  }
 
 -- Each rule has the number of its side, in which each label below the root has become its state; a
 -- chain rule has none. No side has two numbers.
