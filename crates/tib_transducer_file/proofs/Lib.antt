@@ -15,3 +15,5 @@ mod Starts
 mod PiecesHad
 mod FaultyLines
 mod FirstFaults
+mod ShapesRead
+mod TextRead
