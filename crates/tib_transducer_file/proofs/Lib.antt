@@ -17,3 +17,4 @@ mod FaultyLines
 mod FirstFaults
 mod ShapesRead
 mod TextRead
+mod FileText

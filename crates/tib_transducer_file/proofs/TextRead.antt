@@ -26,7 +26,7 @@ use Rattle.tib_transducer_file.proofs.PiecesHad.{pieces_had}
 use Rattle.tib_transducer_file.proofs.RulesRead.{parts_back}
 
 -- what a line that is read without a fault holds
-abbrev LineHolds : Scale → List ℕ → Result (Option RuleLine) FaultKind → Type 0
+abbrev pub LineHolds : Scale → List ℕ → Result (Option RuleLine) FaultKind → Type 0
 LineHolds scale line (Ok None) = HasWords [] line
 LineHolds scale line (Ok (Some rule)) = SpellsLine scale line rule × (has_many rule.parts ≡ false)
 LineHolds scale line (Err kind) = Unit {0}
@@ -54,6 +54,6 @@ pieces_hold scale line None e = tt
 pieces_hold scale line (Some []) e = pieces_had [] line e
 pieces_hold scale line (Some (p ∷ pieces)) e = parts_hold scale line (p ∷ pieces) (parts_of (p ∷ pieces)) e refl
 
-line_holds : (scale : Scale) (line : List ℕ) → LineHolds scale line (rule_line scale line)
+pub line_holds : (scale : Scale) (line : List ℕ) → LineHolds scale line (rule_line scale line)
 unfolding rule_line
 line_holds scale line = pieces_hold scale line (pieces_of line) refl

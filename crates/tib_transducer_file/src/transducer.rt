@@ -70,7 +70,6 @@ pub fn read_transducer<S: Semiring>(
     bytes: &[u8],
     labels: &mut Labels,
 ) -> Result<Transducer<S>, ReadError>
-    requires unproved { ⊥ }
     requires short { length bytes.now ≤ 8388608 }
     requires room { length labels.old + length bytes.now < 2 ^ 32 - 1 }
     ensures text { IfOk result (λ t. ReadsAs S.SCALE labels.new bytes.now t) }
