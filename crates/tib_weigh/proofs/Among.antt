@@ -15,12 +15,12 @@ use Rattle.tib_normal.specs.Rules.{positions_with}
 use Rattle.tib_weigh.specs.declared.vector.Entry.{Entry}
 use Rattle.tib_weigh.specs.Entries.{cost_in}
 use Rattle.tib_weigh.specs.Vectors.{times_all, Weighed}
-use Rattle.tib_weigh.proofs.EntryLemmas.{nat_eq_cases}
 use Rattle.tib_weigh.specs.RulePlaces.{IsRulePlace}
 use Rattle.tib_weigh.proofs.Places.{places_below, place_has}
-use Rattle.tib_weigh.proofs.Sides.{length-holes}
 use Rattle.tib_weigh.proofs.Stacks.{times-none}
-use Rattle.tib_weigh.proofs.Members.{has_first, has_last, has_either}
+use Rattle.tib_weigh.proofs.Members.{has_first, has_last, has_or_last}
+use Rattle.tib_lex.proofs.Numbers.{nat_eq_cases}
+use Rattle.tib_grammar.proofs.Sides.{length-holes}
 
 -- c is the cost of a run from q that begins with one of the rules at these positions and yields f over kids
 abbrev pub BeginsAmong : (ℕ → ℕ → ℕ) → List (Rule ℕ) → ℕ → ℕ → Trees ℕ → List ℕ → ℕ → Type 0
@@ -42,7 +42,7 @@ module _ {levelled weighted : Bool} {product : ℕ → ℕ → ℕ} (laws : Prod
   one_more q f kids ps m c (inr b) = (m, has_last ps m, b)
 
   one_less : (q f : ℕ) (kids : Trees ℕ) (ps : List ℕ) (m c : ℕ) → BeginsAmong product rules q f kids (ps ++ m ∷ []) c → BeginsAmong product rules q f kids ps c ⊎ Begins product rules q f kids m c
-  one_less q f kids ps m c b = elim (has_either ps m b.0 b.1) [
+  one_less q f kids ps m c b = elim (has_or_last ps m b.0 b.1) [
     | inl h ↦ inl (b.0, h, b.2)
     | inr e ↦ inr (subst (λ n. Begins product rules q f kids n c) (sym e) b.2)
   ]

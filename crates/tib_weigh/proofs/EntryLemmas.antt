@@ -1,14 +1,11 @@
 -- Lemmas on sparse vectors.
 use Rattle.std.proofs.Common.{◌≡◌, ℕ, ◌+◌, ◌<◌, ◌≤◌, List, [], ◌∷◌, ◌++◌, length, get_or, drop, zero, suc, refl, arith, ap, ◌∙◌, subst, true, false, inl, inr, add-one}
 use Rattle.std.specs.Prelude.{◌⊎◌, nat_eq, Option, None, Some, if◌then◌else◌, min}
-use Rattle.std.proofs.lemmas.Bool.Decides.{nat_tests}
 use Rattle.tib_lex.specs.Lists.{Each}
+use Rattle.tib_lex.proofs.Numbers.{nat_eq_cases}
 use Rattle.tib_cost.specs.Least.{lesser}
 use Rattle.tib_weigh.specs.Entries.{cost_in, IsAscending, EndsBy}
 use Rattle.tib_weigh.specs.declared.vector.Entry.{Entry}
-
-pub nat_eq_cases : (a b : ℕ) → ((a ≡ b) × (nat_eq a b ≡ true)) ⊎ ((a ≡ b → ⊥) × (nat_eq a b ≡ false))
-nat_eq_cases a b = grind (arith, nat_tests)
 
 -- all states lie above q
 abbrev pub Above : ℕ → List Entry → Type 0

@@ -11,11 +11,12 @@ use Rattle.tib_grammar.specs.declared.Item.{Item}
 use Rattle.tib_grammar.specs.declared.Item.TheVariants.{Label}
 use Rattle.tib_grammar.specs.Sides.{holes}
 use Rattle.tib_grammar.specs.Run.{rule_at}
-use Rattle.tib_weigh.specs.Vectors.{state_in}
 use Rattle.tib_weigh.specs.declared.ready.Ready.{Ready}
 use Rattle.tib_weigh.specs.Buckets.{lists_of, state_below, IsReady, Stands, HoldsAll, HoldsOnly}
-use Rattle.tib_weigh.proofs.EntryLemmas.{nat_eq_cases}
-use Rattle.tib_weigh.proofs.Members.{has_first, has_last, has_either, at_has}
+use Rattle.tib_weigh.proofs.Members.{has_first, has_last, has_or_last}
+use Rattle.tib_grammar.specs.Items.{state_in}
+use Rattle.tib_lex.proofs.Numbers.{nat_eq_cases}
+use Rattle.tib_lex.proofs.Members.{has_at}
 
 -- an empty slot more
 empty_more : (xs : List (List Ready)) → ((s : ℕ) → get_or xs s [] ≡ []) → (s : ℕ) → get_or (xs ++ [] ∷ []) s [] ≡ []
@@ -57,7 +58,7 @@ module _ (old : List (List Ready)) (k : ℕ) (p : Ready) (below : k < length old
   came s x h = elim (nat_eq_cases s k) [
     | inl y ↦
         let there : Has (get_or old k [] ++ p ∷ []) x = subst (λ (l : List Ready). Has l x) (ap (λ i. get_or one_more i []) y.0 ∙ get_or-set_same old k (get_or old k [] ++ p ∷ []) [] below) h in
-        elim (has_either (get_or old k []) p x there) [
+        elim (has_or_last (get_or old k []) p x there) [
           | inl a ↦ inl (subst (λ i. Has (get_or old i []) x) (sym y.0) a)
           | inr e ↦ inr e
         ]
@@ -77,7 +78,7 @@ filed_more rules n j all ps r old new some has ready e holds only =
     let below : k < length old = mod_below r.state (length old) some in
     let long : length new ≡ length old = ap length e ∙ length-set old k (get_or old k [] ++ r ∷ []) in
     record {
-      holds = λ x h. rw (long, e) (held x (has_either ps r.position x h));
+      holds = λ x h. rw (long, e) (held x (has_or_last ps r.position x h));
       only = λ s x h. own s x (came old k r below s x (subst (λ (xs : List (List Ready)). Has (get_or xs s []) x) e h));
     }
   where
@@ -122,6 +123,6 @@ filed_step rules n j all i slots many k r was v h some long slot position ready 
     ∙ ap (λ (l : List Ready). set (lists_of slots) k l) (pushed ∙ ap (λ (l : List Ready). l ++ r ∷ []) there)
     ∙ ap (λ m. set (lists_of slots) m (get_or (lists_of slots) m [] ++ r ∷ [])) k_is
     in
-    let has : Has all r.position = subst (Has all) (sym position) (at_has all i 0 h) in
+    let has : Has all r.position = subst (Has all) (sym position) (has_at all i 0 h) in
     subst (λ p. FiledMore rules n j all (take i all) p (lists_of (set slots k v))) position
     (filed_more rules n j all (take i all) r (lists_of slots) (lists_of (set slots k v)) (omega (arith, lists_long)) has ready made holds only)

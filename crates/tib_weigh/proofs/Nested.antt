@@ -7,19 +7,11 @@ use Rattle.tib_cost.specs.Least.{IsLeast}
 use Rattle.tib_tree.specs.Trees.{Trees}
 use Rattle.tib_grammar.specs.Sides.{Symbol, label, hole, over, Side as SideFor}
 use Rattle.tib_grammar.specs.Run.{rule_at}
+use Rattle.tib_grammar.proofs.Sides.{label_is_no_hole, same_hole, same_label}
 use Rattle.tib_grammar.specs.declared.Rule.{Rule}
-use Rattle.tib_grammar.proofs.Members.{each_has}
 use Rattle.tib_normal.specs.NormalForm.{IsChain, chain_cost, IsDistance, heads, first_inner, IsNormalCost, IsNormalForm}
 use Rattle.tib_weigh.specs.Examples.{nested, normal_rules}
-
-label_is_no_hole : (f p : ℕ) → ◌≡◌ {A = Symbol ℕ ℕ} (label f) (hole p) → ⊥
-label_is_no_hole f p e = absurd (cc)
-
-one_label : (f g : ℕ) → ◌≡◌ {A = Symbol ℕ ℕ} (label f) (label g) → f ≡ g
-one_label f g e = cc e
-
-one_hole : (p q : ℕ) → ◌≡◌ {A = Symbol ℕ ℕ} (hole p) (hole q) → p ≡ q
-one_hole p q e = cc e
+use Rattle.tib_lex.proofs.Members.{each_has}
 
 -- no chain leads on from a state that is not the start
 stays : (q : ℕ) (ns : List ℕ) (r : ℕ) → 1 ≤ q → IsChain nested q ns r → (q ≡ r) × (chain_cost ◌+◌ nested ns ≡ 0)
@@ -36,7 +28,7 @@ from_start :
 from_start [] r h = inl (h, refl)
 from_start (zero ∷ ns) r h = absurd (label_is_no_hole 0 h.2.0 (ap (λ s. s.label) h.2.1))
 from_start (suc zero ∷ ns) r h =
-    let p : 1 ≡ h.2.0 = one_hole 1 h.2.0 (ap (λ s. s.label) h.2.1) in
+    let p : 1 ≡ h.2.0 = same_hole 1 h.2.0 (ap (λ s. s.label) h.2.1) in
     let s = stays h.2.0 ns r (omega (arith, p)) h.2.2 in
     inr (p ∙ s.0, omega (arith, s.1))
 from_start (suc (suc zero) ∷ ns) r h = absurd (omega (arith, h.1))
@@ -113,7 +105,7 @@ one_cost (x ∷ xs) d r s h k e f = elim h [
 
 apart : Ascends Apart normal_rules
 apart = (
-  ((λ e f. omega (arith, one_label 0 3 (ap (λ s. s.label) f))), ((λ e f. omega (arith, e)), ((λ e f. omega (arith, e)), ((λ e f. omega (arith, e)), tt)))),
+  ((λ e f. omega (arith, same_label 0 3 (ap (λ s. s.label) f))), ((λ e f. omega (arith, e)), ((λ e f. omega (arith, e)), ((λ e f. omega (arith, e)), tt)))),
   (
     ((λ e f. omega (arith, e)), ((λ e f. omega (arith, e)), ((λ e f. omega (arith, e)), tt))),
     (

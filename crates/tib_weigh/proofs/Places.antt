@@ -7,11 +7,14 @@ use Rattle.tib_grammar.specs.Run.{rule_at, no_rule}
 use Rattle.std.specs.Prelude.{◌&&◌, nat_eq}
 use Rattle.std.proofs.lemmas.Bool.Decides.{nat_tests}
 use Rattle.tib_tree.specs.Trees.{count}
-use Rattle.tib_grammar.specs.Sides.{Symbol, label, hole}
-use Rattle.tib_normal.specs.Rules.{is_label, is_over, positions_from, positions_with}
+use Rattle.tib_grammar.specs.Sides.{label, is_label}
+use Rattle.tib_grammar.proofs.Sides.{is_label-true, is_label_cases}
+use Rattle.tib_lex.proofs.Booleans.{and-true}
+use Rattle.tib_lex.proofs.Numbers.{nat_eq-true}
+use Rattle.tib_normal.specs.Rules.{is_over, positions_from, positions_with}
 use Rattle.tib_normal.proofs.Pairwise.{Ascends-at}
 use Rattle.tib_weigh.specs.RulePlaces.{IsRulePlace}
-use Rattle.tib_weigh.proofs.Members.{has_at}
+use Rattle.tib_lex.proofs.Members.{at_has}
 
 -- p, counted from k, is the position of a rule of the label f and the rank n
 pub record IsPlace (rules : List (Rule ℕ)) (k f n p : ℕ) : Type 0 where
@@ -89,17 +92,6 @@ lefts_ascend rules f n i j a h l =
     let b : get_or (positions_with f n rules) j 0 < length rules = omega (arith, at.below) in
     Ascends-at (λ r s. r.left ≤ s.left) rules no_rule a (get_or (positions_with f n rules) i 0) (get_or (positions_with f n rules) j 0) (places_ascend rules 0 f n i j h l) b
 
-and-true : (a b : Bool) → (a && b) ≡ true → (a ≡ true) × (b ≡ true)
-and-true true b e = (refl, e)
-and-true false b e = absurd (cc)
-
-nat_eq-true : (a b : ℕ) → nat_eq a b ≡ true → a ≡ b
-nat_eq-true a b e = grind (arith, nat_tests)
-
-is_label-true : (f : ℕ) (s : Symbol ℕ ℕ) → is_label f s ≡ true → s ≡ label f
-is_label-true f (label g) e = ap label (nat_eq-true g f e)
-is_label-true f (hole p) e = absurd (cc)
-
 pub rule_place : (rules : List (Rule ℕ)) (ps : List ℕ) (f n i : ℕ) → ps ≡ positions_with f n rules → i < length ps → IsRulePlace rules f n (get_or ps i 0)
 rule_place rules ps f n i e h =
     rw e (from_place (place_at rules 0 f n i (subst (λ (xs : List ℕ). i < length xs) e h)))
@@ -128,14 +120,13 @@ pub later_left :
     (rule_at rules (get_or ps i 0)).left ≤ (rule_at rules (get_or ps j 0)).left
 later_left rules ps f n i j e a h l = rw e (lefts_ascend rules f n i j a h (subst (λ (xs : List ℕ). j < length xs) e l))
 
-is_label-same : (s : Symbol ℕ ℕ) (f : ℕ) → s ≡ label f → is_label f s ≡ true
-is_label-same (label g) f e = let same : g ≡ f = cc in grind (arith, nat_tests)
-is_label-same (hole p) f e = absurd (cc)
-
 is_over-same : (r : Rule ℕ) (f k : ℕ) → r.right.label ≡ label f → count r.right.kids ≡ k → is_over f k r ≡ true
 is_over-same r f k root many =
     let same : nat_eq (count r.right.kids) k ≡ true = grind (arith, nat_tests) in
-    rw (is_label-same r.right.label f root, same) refl
+    let root_same : is_label f r.right.label ≡ true =
+    elim (is_label_cases r.right.label f) [ inl y ↦ y.1 | inr n ↦ absurd (n.0 root) ]
+    in
+    rw (root_same, same) refl
 
 -- a rule of the label and the rank is among those that are listed, and the other way round
 pub place_has : (rules : List (Rule ℕ)) (f n p : ℕ) → IsRulePlace rules f n p → Has (positions_with f n rules) p
@@ -145,5 +136,5 @@ place_has rules f n p at =
 
 pub has_rule_place : (rules : List (Rule ℕ)) (f n p : ℕ) → Has (positions_with f n rules) p → IsRulePlace rules f n p
 has_rule_place rules f n p h =
-    let at = has_at (positions_with f n rules) p 0 h in
+    let at = at_has (positions_with f n rules) p 0 h in
     subst (IsRulePlace rules f n) at.2 (rule_place rules (positions_with f n rules) f n at.0 refl at.1)

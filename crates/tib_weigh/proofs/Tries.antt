@@ -22,17 +22,19 @@ use Rattle.tib_weigh.specs.declared.vector.Entry.{Entry}
 use Rattle.tib_weigh.specs.declared.ready.Ready.{Ready}
 use Rattle.tib_weigh.specs.declared.table.Table.{Table}
 use Rattle.tib_weigh.specs.Entries.{cost_in, IsAscending}
-use Rattle.tib_weigh.specs.Vectors.{times_all, vectors, state_in, Weighed, IsVectorOf}
+use Rattle.tib_weigh.specs.Vectors.{times_all, vectors, Weighed, IsVectorOf}
 use Rattle.tib_weigh.specs.Buckets.{state_below, IsRuleOver, IsReady, Stands}
 use Rattle.tib_weigh.specs.Tables.{bucket, IsTable}
 use Rattle.tib_weigh.specs.RulePlaces.{IsRulePlace}
 use Rattle.tib_weigh.specs.Worth.{times_beside, rest_worth, worth, IsWorth, HasTried, HasTriedAll}
-use Rattle.tib_weigh.proofs.EntryLemmas.{nat_eq_cases}
-use Rattle.tib_weigh.proofs.Members.{has_left, has_either, has_last, at_has}
+use Rattle.tib_weigh.proofs.Members.{has_last, has_or_last}
 use Rattle.tib_weigh.proofs.Places.{has_rule_place}
-use Rattle.tib_weigh.proofs.Sides.{length-holes}
 use Rattle.tib_weigh.proofs.Stacks.{times-none, slot, length-vectors}
 use Rattle.tib_weigh.proofs.Among.{BeginsAmong, among_all, rule_least, times_all-none_at}
+use Rattle.tib_grammar.specs.Items.{state_in}
+use Rattle.tib_lex.proofs.Numbers.{nat_eq_cases}
+use Rattle.tib_lex.proofs.Members.{has_left, has_at}
+use Rattle.tib_grammar.proofs.Sides.{length-holes}
 
 -- a cost that is not greater than one of two that are lesser
 lesser_lowers : (v w x : Option ℕ) → IsNoGreater v x → IsNoGreater (lesser v w) x
@@ -76,7 +78,7 @@ pub tried_past :
     (value : Ready → Option ℕ) (s : ℕ) (rs : List Ready) (r : Ready) (old mid : ℕ → Option ℕ) → (r.state ≡ s → ⊥) → HasTried value s rs old mid → HasTried value s (rs ++ r ∷ []) old mid
 tried_past value s rs r old mid other was = record {
   lower = was.lower;
-  tried = λ x h e. elim (has_either rs r x h) [ inl a ↦ was.tried x a e | inr same ↦ absurd (other (ap (λ (y : Ready). y.state) same ∙ e)) ];
+  tried = λ x h e. elim (has_or_last rs r x h) [ inl a ↦ was.tried x a e | inr same ↦ absurd (other (ap (λ (y : Ready). y.state) same ∙ e)) ];
   from = λ q c e. elim (was.from q c e) [ inl a ↦ inl a | inr w ↦ inr (worth_more value rs r q c w) ];
 }
 
@@ -86,7 +88,7 @@ pub tried_more :
     ((q : ℕ) → new q ≡ (if nat_eq r.left q then lesser (mid q) w else mid q)) → HasTried value s rs old mid → HasTried value s (rs ++ r ∷ []) old new
 tried_more value s rs r old mid new w is step was = record {
   lower = λ q x h. lowers q x (was.lower q x h);
-  tried = λ x h e. elim (has_either rs r x h) [ inl a ↦ lowers x.left (value x) (was.tried x a e) | inr same ↦ subst (λ (y : Ready). IsNoGreater (new y.left) (value y)) same own ];
+  tried = λ x h e. elim (has_or_last rs r x h) [ inl a ↦ lowers x.left (value x) (was.tried x a e) | inr same ↦ subst (λ (y : Ready). IsNoGreater (new y.left) (value y)) same own ];
   from = λ q c e. comes q c (nat_eq_cases r.left q) e;
 }
   where
@@ -130,7 +132,7 @@ pub all_more :
     (value : Ready → Option ℕ) (v : List Entry) (e : Entry) (at : ℕ → List Ready) (rs : List Ready) (mid new : ℕ → Option ℕ) → rs ≡ at e.state → HasTried value e.state rs mid new → HasTriedAll value v at mid →
     HasTriedAll value (v ++ e ∷ []) at new
 all_more value v e at rs mid new is step was = record {
-  tried = λ x r h a s. elim (has_either v e x h) [
+  tried = λ x r h a s. elim (has_or_last v e x h) [
     | inl b ↦ step.lower r.left (value r) (was.tried x r b a s)
     | inr same ↦ step.tried r (subst (λ (l : List Ready). Has l r) (ap (λ (y : Entry). at y.state) (sym same) ∙ sym is) a) (s ∙ ap (λ (y : Entry). y.state) (sym same))
   ];
@@ -231,7 +233,7 @@ module _ {levelled weighted : Bool} {product : ℕ → ℕ → ℕ} (laws : Prod
 
 -- an item of a list, as it was read
 pub has_item : {A : Type 0} (xs : List A) (i : ℕ) (x : A) → i < length xs → x ≡ get_or xs i x → Has xs x
-has_item xs i x h e = subst (Has xs) (sym e) (at_has xs i x h)
+has_item xs i x h e = subst (Has xs) (sym e) (has_at xs i x h)
 
 pub taken : {A : Type 0} (P : List A → Type 0) (xs : List A) (i : ℕ) (x : A) → i < length xs → x ≡ get_or xs i x → P (take i xs ++ x ∷ []) → P (take (i + 1) xs)
 taken {A} P xs i x h e p = subst P (sym (take_more xs i x h ∙ ap (λ (y : A). take i xs ++ y ∷ []) (sym e))) p

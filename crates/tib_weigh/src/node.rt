@@ -7,9 +7,9 @@ ghost use Rattle.tib_grammar.specs.Forms.{AreNormal, IsNormalSide};
 ghost use Rattle.tib_grammar.specs.Sides.{holes as holes_of};
 ghost use Rattle.tib_normal.specs.Rules.{positions_with};
 ghost use Rattle.tib_weigh.specs.Entries.{cost_in, EndsBy, IsAscending};
-ghost use Rattle.tib_weigh.specs.Vectors.{state_in, times_all, vectors, IsVectorOf, Weighed};
+ghost use Rattle.tib_weigh.specs.Vectors.{times_all, vectors, IsVectorOf, Weighed};
+ghost use Rattle.tib_grammar.specs.Items.{state_in};
 
-use crate::below::{holes, state_of};
 use crate::vector::{Entry, add_cost, cost_at};
 use std::alloc::AllocError;
 use tib_cost::{Cost, Semiring};
@@ -37,7 +37,7 @@ fn product_of<S: Semiring>(holes: &[Item<u32>], stack: &[Vec<Entry>]) -> Option<
     let mut i = holes.len();
     while i > 0 {
         i -= 1;
-        let Some(cost) = cost_at(&stack[stack.len() - 1 - i], state_of(&holes[i])) else {
+        let Some(cost) = cost_at(&stack[stack.len() - 1 - i], holes[i].state()) else {
             return None;
         };
         let Some(more) = S::times(cost, product) else {
@@ -65,7 +65,7 @@ fn add_rule<S: Semiring>(
         then lesser_of (cost_in vector.old.items q) (times_of S.product (Some rule.now.cost) (times_all S.product (holes_of rule.now.right.kids) (vectors stack.now)))
         else cost_in vector.old.items q)) }
 {
-    match times::<S>(Some(rule.cost), product_of::<S>(holes(rule), stack)) {
+    match times::<S>(Some(rule.cost), product_of::<S>(rule.states_below(), stack)) {
         Some(cost) => add_cost(vector, rule.left, cost),
         None => Ok(()),
     }

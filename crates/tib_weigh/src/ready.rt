@@ -1,9 +1,8 @@
 // Rules of one label and rank as they are tried by the state at one child place.
 ghost use Rattle.std.specs.Prelude.{◌≡◌, ℕ, ◌<◌, length, get_or, IsTrue};
 ghost use Rattle.tib_grammar.specs.declared.Item.TheVariants.{Label};
-ghost use Rattle.tib_weigh.specs.Vectors.{state_in};
+ghost use Rattle.tib_grammar.specs.Items.{state_in};
 
-use crate::below::state_of;
 use tib_cost::Cost;
 use tib_grammar::Item;
 
@@ -24,7 +23,7 @@ pub(crate) fn agree_beside(first: &[Item<u32>], second: &[Item<u32>], place: usi
     ensures { IsTrue result → (i : ℕ) → i < length first.now → (i ≡ place → ⊥) → state_in (get_or first.now i (Label 0 0)) ≡ state_in (get_or second.now i (Label 0 0)) }
 {
     for i in 0..first.len() {
-        if i != place && state_of(&first[i]) != state_of(&second[i]) {
+        if i != place && first[i].state() != second[i].state() {
             return false;
         }
     }

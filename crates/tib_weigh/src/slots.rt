@@ -3,7 +3,6 @@ ghost use Rattle.std.specs.Prelude.{◌≡◌, ℕ, ◌%◌, ◌<◌, length, If
 ghost use Rattle.tib_grammar.specs.Forms.{AreNormal};
 ghost use Rattle.tib_weigh.specs.Buckets.{lists_of, slot_at, AgreeBeside, AreRules, HoldsAll, IsRuleOver, HoldsOnly};
 
-use crate::below::{holes, state_of};
 use crate::ready::{Ready, agree_beside};
 use std::alloc::{AllocError, Global};
 use tib_grammar::Rule;
@@ -25,7 +24,7 @@ fn slot_of(state: u32, slots: usize) -> usize
     if state < slots { state } else { state % slots }
 }
 
-// So many empty slots.
+// Empty slots, as many as asked.
 fn blank(alloc: Global, slots: usize) -> Result<Vec<Vec<Ready>>, AllocError>
     ensures many { IfOk result (λ v. vec_len v ≡ slots) }
     ensures empty { IfOk result (λ v. (s : ℕ) → get_or (lists_of v.items) s [] ≡ []) }
@@ -45,8 +44,8 @@ fn rest_of(rules: &[Rule<u32>], rest: u32, position: u32, place: usize, rank: u3
     ensures over { IsRuleOver rules.now rank result }
     ensures beside { AgreeBeside rules.now rank place result position }
 {
-    let first = holes(&rules[rest as usize]);
-    let second = holes(&rules[position as usize]);
+    let first = rules[rest as usize].states_below();
+    let second = rules[position as usize].states_below();
     if agree_beside(first, second, place) {
         return rest;
     }
@@ -78,7 +77,7 @@ fn filed(
     for position in positions {
         rest = rest_of(rules, rest, *position, place, rank);
         let rule = &rules[*position as usize];
-        let state = state_of(&holes(rule)[place]);
+        let state = rule.states_below()[place].state();
         made[slot_of(state, slots)].push(Ready {
             position: *position,
             left: rule.left,
@@ -91,7 +90,7 @@ fn filed(
 }
 
 impl Slots {
-    /// The rules at some positions in so many slots, by the states at a child place.
+    /// The rules at some positions in this number of slots, by the states at a child place.
     pub(crate) fn new(
         alloc: Global,
         rules: &[Rule<u32>],

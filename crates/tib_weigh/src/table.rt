@@ -20,7 +20,7 @@ pub(crate) struct Table {
 }
 
 impl Table {
-    /// The table of some rules of one rank at a child place, in a grammar of so many states. It takes time and memory in
+    /// The table of some rules of one rank at a child place, in a grammar of this number of states. It takes time and memory in
     /// proportion to the number of positions.
     pub(crate) fn new(
         alloc: Global,
@@ -42,7 +42,7 @@ impl Table {
         Ok(Table { slots, average })
     }
 
-    /// About how many rules so many states leave.
+    /// About how many rules this number of states leaves.
     pub(crate) fn left_by(&self, states: usize) -> usize {
         states.saturating_mul(self.average)
     }

@@ -107,7 +107,7 @@ fn each_semiring_takes_its_own_least(rt: HostRuntime) -> Result<(), Fail> {
     Ok(())
 }
 
-// The costs of so many trees, of which each seventh is S(a a) and the others are a.
+// The costs of this number of trees, of which each seventh is S(a a) and the others are a.
 fn costs_of_many<R: Threads + Sync>(
     rt: &R,
     alloc: Global,

@@ -7,10 +7,10 @@ ghost use Rattle.tib_weigh.specs.Buckets.{IsRuleOver};
 ghost use Rattle.tib_weigh.specs.Entries.{cost_in, IsAscending};
 ghost use Rattle.tib_weigh.specs.Found.{cost_of, IsBlank, IsNoted};
 ghost use Rattle.tib_weigh.specs.Tables.{bucket};
-ghost use Rattle.tib_weigh.specs.Vectors.{state_in, vectors};
+ghost use Rattle.tib_weigh.specs.Vectors.{vectors};
 ghost use Rattle.tib_weigh.specs.Worth.{times_beside, rest_worth, worth, HasTried, HasTriedAll, IsRemembered, AreSound};
+ghost use Rattle.tib_grammar.specs.Items.{state_in};
 
-use crate::below::{holes, state_of};
 use crate::found::Found;
 use crate::ready::Ready;
 use crate::table::Table;
@@ -43,7 +43,7 @@ fn product_beside<S: Semiring>(
         if i == place {
             continue;
         }
-        let Some(cost) = cost_at(&stack[stack.len() - 1 - i], state_of(&holes[i])) else {
+        let Some(cost) = cost_at(&stack[stack.len() - 1 - i], holes[i].state()) else {
             return None;
         };
         let Some(more) = S::times(cost, product) else {
@@ -76,7 +76,7 @@ fn recall<S: Semiring>(
             return;
         }
     }
-    let cost = product_beside::<S>(holes(&rules[position as usize]), stack, place);
+    let cost = product_beside::<S>(rules[position as usize].states_below(), stack, place);
     last.cost = cost;
     last.position = Some(position);
 }

@@ -28,7 +28,7 @@ struct Room {
 }
 
 impl Room {
-    // Room for a grammar of so many states.
+    // Room for a grammar of this number of states.
     fn new(alloc: Global, states: u32) -> Result<Room, AllocError>
         ensures blank { IfOk result (λ r. IsBlank r.found) }
         ensures long { IfOk result (λ r. length r.found.costs.items ≡ states) }
@@ -51,7 +51,7 @@ impl Room {
         vector
     }
 
-    // Takes so many vectors off the stack, and keeps them.
+    // Takes vectors off the stack, as many as asked, and keeps them.
     fn keep(&mut self, stack: &mut Vec<Vec<Entry>>, count: u32) -> Result<(), AllocError>
         ensures stack { IfOk result (λ _. stack.new.items ≡ take (vec_len stack.old - count) stack.old.items) }
         ensures found { IfOk result (λ _. self.new.found ≡ self.old.found) }
@@ -195,7 +195,7 @@ fn nodes_of(trees: &[Tree]) -> usize {
     nodes
 }
 
-// How many of the first trees have about so many nodes together: at least one, and not all.
+// How many of the first trees have about this number of nodes together: at least one, and not all.
 fn first_with(trees: &[Tree], nodes: usize) -> usize
     requires { 2 ≤ length trees.now }
     ensures { (1 ≤ result) × (result < length trees.now) }
@@ -212,7 +212,7 @@ fn first_with(trees: &[Tree], nodes: usize) -> usize
 // How few nodes are worth a thread of their own.
 const LEAST_PIECE: usize = 1024;
 
-// The costs of the trees, in order. The work is halved by nodes so many times, and each half has a thread of its own.
+// The costs of the trees, in order. The work is halved by nodes `times` times, and each half has a thread of its own.
 #[cycle(halves)]
 fn weigh_halves<S: Semiring + Sync, R: Threads + Sync>(
     rt: &R,

@@ -1,6 +1,7 @@
 use Rattle.std.proofs.Common.{◌≡◌, ◌≤◌, length, drop, map}
 use Rattle.std.specs.Prelude.{Some}
-use Rattle.tib_weigh.specs.Vectors.{state_in, times_all, vectors}
+use Rattle.tib_weigh.specs.Vectors.{times_all, vectors}
+use Rattle.tib_grammar.specs.Items.{state_in}
 use Rattle.tib_weigh.proofs.node.product_of.Given as goal
 
 abbrev pub invariant-loop-i : goal.invariant-loop-i

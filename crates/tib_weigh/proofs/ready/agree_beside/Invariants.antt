@@ -1,6 +1,6 @@
 use Rattle.std.proofs.Common.{◌≡◌, ◌<◌, ℕ, get_or}
 use Rattle.tib_grammar.specs.declared.Item.TheVariants.{Label}
-use Rattle.tib_weigh.specs.Vectors.{state_in}
+use Rattle.tib_grammar.specs.Items.{state_in}
 use Rattle.tib_weigh.proofs.ready.agree_beside.Given as goal
 
 abbrev pub invariant-loop-i : goal.invariant-loop-i

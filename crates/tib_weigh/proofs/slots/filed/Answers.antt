@@ -14,9 +14,9 @@ loop-position-preserved c =
     let test = c.loop-position-test.true in
     let p : ℕ = get_or ps i 0 in
     let same = rule_here rules p c.index-rules-position.result (c.requires.rules i test).below c.index-rules-position.is in
-    let state = state_is rules p c.args.place c.index-rules-position.result c.holes.result.now c.state_of-state.result same c.holes.ensures.states c.state_of-state.ensures in
+    let state = state_is rules p c.args.place c.index-rules-position.result c.states_below.result.now c.state-state.result same c.states_below.ensures.states c.state-state.ensures in
     let more = filed_step rules c.args.rank c.args.place ps i c.loop-position.made.items c.args.slots c.slot_of.result
-    (record { position = p; left = c.index-rules-position.result.left; state = c.state_of-state.result; rest = c.rest_of-rest.result; cost = c.index-rules-position.result.cost })
+    (record { position = p; left = c.index-rules-position.result.left; state = c.state-state.result; rest = c.rest_of-rest.result; cost = c.index-rules-position.result.cost })
     c.index_mut.result.now c.push.new.self test c.requires.some (sym c.loop-position.made.ok.0 ∙ c.loop-position.invariant.many) c.slot_of.ensures refl
     (record { left = ap (λ (r : Rule ℕ). r.left) same; cost = ap (λ (r : Rule ℕ). r.cost) same; state = sym state; rest = c.rest_of-rest.ensures.over; beside = c.rest_of-rest.ensures.beside })
     c.index_mut.ensures.value c.in_ok-push.ensures.items c.loop-position.invariant.all c.loop-position.invariant.only in

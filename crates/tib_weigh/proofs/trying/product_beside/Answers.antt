@@ -21,14 +21,14 @@ pub returns-in_default : goal.returns-in_default
 returns-in_default g c =
     none_beside g.S.Semiring.product c.args.stack.now c.args.holes.now c.args.place c.loop-i.i c.loop-i.invariant.within c.requires.enough
     (hole_beside g.S.Semiring.product c.args.stack.now c.args.holes.now c.args.place c.loop-i.i c.index-stack-stack.result c.cost_at.result c.loop-i.product c.loop-i-test.true c.loop-i.invariant.within c.requires.enough (λ e. absurd (omega (arith, e, c.if-i-place.false))) c.requires.ascend c.index-stack-stack.is
-    (rw (c.cost_at.ensures, c.deref.ensures.value, c.state_of.ensures)) c.loop-i.invariant.product
+    (rw (c.cost_at.ensures, c.deref.ensures.value, c.state.ensures)) c.loop-i.invariant.product
     ∙ ap (λ (v : Option ℕ). times g.S.Semiring.product v (Some c.loop-i.product)) c.in_default.is)
 
 pub returns-in_default-times : goal.returns-in_default-times
 returns-in_default-times g c =
     none_beside g.S.Semiring.product c.args.stack.now c.args.holes.now c.args.place c.loop-i.i c.loop-i.invariant.within c.requires.enough
     (hole_beside g.S.Semiring.product c.args.stack.now c.args.holes.now c.args.place c.loop-i.i c.index-stack-stack.result c.cost_at.result c.loop-i.product c.loop-i-test.true c.loop-i.invariant.within c.requires.enough (λ e. absurd (omega (arith, e, c.if-i-place.false))) c.requires.ascend c.index-stack-stack.is
-    (rw (c.cost_at.ensures, c.deref.ensures.value, c.state_of.ensures)) c.loop-i.invariant.product
+    (rw (c.cost_at.ensures, c.deref.ensures.value, c.state.ensures)) c.loop-i.invariant.product
     ∙ ap (λ (v : Option ℕ). times g.S.Semiring.product v (Some c.loop-i.product)) c.in-Some.is
     ∙ sym c.times.ensures ∙ c.in_default-times.is)
 
@@ -37,7 +37,7 @@ loop-i-preserved g c = record {
   within = omega arith;
   product =
       sym (hole_beside g.S.Semiring.product c.args.stack.now c.args.holes.now c.args.place c.loop-i.i c.index-stack-stack.result c.cost_at.result c.loop-i.product c.loop-i-test.true c.loop-i.invariant.within c.requires.enough (λ e. absurd (omega (arith, e, c.if-i-place.false))) c.requires.ascend c.index-stack-stack.is
-      (rw (c.cost_at.ensures, c.deref.ensures.value, c.state_of.ensures)) c.loop-i.invariant.product
+      (rw (c.cost_at.ensures, c.deref.ensures.value, c.state.ensures)) c.loop-i.invariant.product
       ∙ ap (λ (v : Option ℕ). times g.S.Semiring.product v (Some c.loop-i.product)) c.in-Some.is
       ∙ sym c.times.ensures ∙ c.in-Some-times.is);
 }

@@ -1,7 +1,8 @@
 use Rattle.std.proofs.Common.{◌≡◌, ◌≤◌, length, drop, map}
 use Rattle.std.specs.Prelude.{Some}
-use Rattle.tib_weigh.specs.Vectors.{state_in, vectors}
+use Rattle.tib_weigh.specs.Vectors.{vectors}
 use Rattle.tib_weigh.specs.Worth.{times_beside}
+use Rattle.tib_grammar.specs.Items.{state_in}
 use Rattle.tib_weigh.proofs.trying.product_beside.Given as goal
 
 abbrev pub invariant-loop-i : goal.invariant-loop-i
