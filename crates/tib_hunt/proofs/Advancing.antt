@@ -4,19 +4,20 @@ use Rattle.std.proofs.lemmas.Bool.{cases_lt}
 use Rattle.std.specs.declared.cmp.Ordering.{Ordering}
 use Rattle.std.specs.declared.cmp.Ordering.TheVariants.{Less}
 use Rattle.indexmap.specs.IndexSet.{insert_all}
-use Rattle.tib_lex.specs.Lists.{Has, Distinct, Ascends}
-use Rattle.tib_hunt.specs.EdgeLists.{AreListed, IsEnd, Exceeds, key_at, total}
+use Rattle.tib_lex.specs.Lists.{Has, Distinct, Ascends, total}
+use Rattle.tib_hunt.specs.EdgeLists.{AreListed, IsEnd, Exceeds, key_at}
 use Rattle.tib_hunt.specs.Reached.{Operation, IsNew, AfterRounds, IsReached, AreEdges, IsBeyond}
 use Rattle.tib_hunt.specs.Numbered.{key_parts, Name, HaveMore, IsInOrder, moved_to}
 use Rattle.tib_hunt.specs.Reading.{Reading}
 use Rattle.tib_hunt.specs.Rows.{read_rows}
 use Rattle.tib_hunt.specs.Held.{Leads}
 use Rattle.tib_hunt.specs.declared.row.Row.{Row}
-use Rattle.tib_hunt.proofs.Members.{each_of, has_either, has_left, has_right, total_append}
 use Rattle.tib_hunt.proofs.Reaching.{IsHunt, edges_stay, beyond, beyond_more, in_reached, seeds_reached}
 use Rattle.tib_hunt.proofs.Sights.{take_front, total_least}
 use Rattle.tib_hunt.proofs.Settling.{Settled}
 use Rattle.tib_hunt.proofs.Holding.{edges_so_far, IsHeld, IsBetween, IsWithinRound, Inserted, inserted, added, more_edges, finished, settled_edges, round_done, leads_on}
+use Rattle.tib_lex.proofs.Members.{each_of, has_either, has_left, has_right}
+use Rattle.tib_lex.proofs.Lists.{total_append}
 
 -- no key stands in both parts of a list of distinct keys
 pub apart_of : {K : Type 0} (xs ys : List K) (k : K) → Distinct (xs ++ ys) → Has xs k → Has ys k → ⊥

@@ -6,11 +6,12 @@ use lib.ListN.{get_elem?}
 use Rattle.atomic_table.proofs.Lists.{at_set}
 use Rattle.atomic_table.specs.Table.{State, Me, step, keeps, Allows, Splits, Joins}
 use Rattle.tib_hunt.specs.declared.claim.Claim.{Claim}
-use Rattle.tib_hunt.specs.ClaimRule.{claim, total, IsFair, EachIsDrawnOnce, IsTold, Drew, Looked}
-use Rattle.tib_hunt.specs.Claims.{one_if, occurrences, once_below}
+use Rattle.tib_hunt.specs.ClaimRule.{claim, IsFair, EachIsDrawnOnce, IsTold, Drew, Looked}
+use Rattle.tib_hunt.specs.Claims.{one_if, once_below}
 use Rattle.tib_hunt.proofs.Totals.{total_set, total_snoc, total_at, total_le, alone}
 use Rattle.tib_hunt.proofs.Occurrences.{occurrences-append, once_le}
 use Rattle.tib_turn.proofs.Lists.{here_after, all_set, all_snoc}
+use Rattle.tib_lex.specs.Lists.{total, occurrences}
 
 abbrev St : Type 0
 St = State ℕ Claim

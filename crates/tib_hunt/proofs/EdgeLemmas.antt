@@ -1,7 +1,7 @@
 -- Lists of edges: one edge, and at least one.
 use Rattle.std.proofs.Common.{◌≡◌, inl, ℕ, ◌<◌, List, [], ◌∷◌, sym, arith}
-use Rattle.tib_lex.specs.Lists.{Has, Along}
-use Rattle.tib_hunt.specs.EdgeLists.{Lists, total}
+use Rattle.tib_lex.specs.Lists.{Has, Along, total}
+use Rattle.tib_hunt.specs.EdgeLists.{Lists}
 
 module _ {O E : Type 0} (edge : O → E → Type 0) where
   -- where one origin alone gives an edge, that edge is the list

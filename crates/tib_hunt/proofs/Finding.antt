@@ -2,8 +2,8 @@
 use Rattle.std.proofs.Common.{◌≡◌, ℕ, ◌+◌, ◌<◌, ◌≤◌, ◌↔◌, Bool, List, [], ◌∷◌, ◌++◌, length, map, take, drop, append-nil, refl, sym, ap, subst, ◌∙◌, arith}
 use Rattle.std.specs.declared.cmp.Ordering.{Ordering}
 use Rattle.indexmap.specs.IndexSet.{insert_all}
-use Rattle.tib_lex.specs.Lists.{Has, Each}
-use Rattle.tib_hunt.specs.EdgeLists.{AreListed, total}
+use Rattle.tib_lex.specs.Lists.{Has, Each, total}
+use Rattle.tib_hunt.specs.EdgeLists.{AreListed}
 use Rattle.tib_hunt.specs.Reached.{Operation, IsReachedSet, AreEdges, parts_of}
 use Rattle.tib_hunt.specs.Numbered.{key_parts, Name, IsInOrder, moved_to}
 use Rattle.tib_hunt.specs.Reading.{Reading}

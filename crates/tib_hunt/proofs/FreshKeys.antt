@@ -7,11 +7,11 @@ use Rattle.indexmap.specs.IndexSet.{insert_key, insert_all}
 use Rattle.tib_lex.specs.Lists.{Has, Distinct}
 use Rattle.tib_hunt.specs.Numbered.{placed, keys_of}
 use Rattle.tib_hunt.specs.Shelved.{all_on}
-use Rattle.tib_hunt.proofs.Members.{has_either, has_left, has_right}
 use Rattle.tib_hunt.proofs.Sorting.{absent, distinct_apart}
 use Rattle.tib_hunt.proofs.Holding.{inserted, not_any}
 use Rattle.tib_hunt.proofs.Sights.{SoFar, drop_front}
 use Rattle.tib_hunt.proofs.Placed.{PlacedSoFar, all_both, map_append}
+use Rattle.tib_lex.proofs.Members.{has_either, has_left, has_right}
 
 module _ {K : Type 0} where
   has_at : (ks : List K) (n : ℕ) (k : K) → slice_get ks n ≡ Some k → Has ks k

@@ -5,8 +5,8 @@ use Rattle.std.proofs.lemmas.Bool.{cases_lt}
 use Rattle.std.proofs.lemmas.Option.{get_or_from_slice_get, slice_get_within}
 use Rattle.std.specs.declared.cmp.Ordering.{Ordering}
 use Rattle.indexmap.specs.IndexSet.{insert_key, insert_all}
-use Rattle.tib_lex.specs.Lists.{Has, Each, Distinct}
-use Rattle.tib_hunt.specs.EdgeLists.{AreListed, IsWithin, position_of, key_at, total}
+use Rattle.tib_lex.specs.Lists.{Has, Each, Distinct, total}
+use Rattle.tib_hunt.specs.EdgeLists.{AreListed, IsWithin, position_of, key_at}
 use Rattle.tib_hunt.specs.Reached.{Operation, IsNew, AfterRounds, IsReached}
 use Rattle.tib_hunt.specs.Numbered.{Name, IsInOrder, moved_to}
 use Rattle.tib_hunt.specs.Reading.{Reading}
@@ -15,9 +15,11 @@ use Rattle.tib_hunt.specs.declared.place.Place.{Place}
 use Rattle.tib_hunt.specs.declared.place.Place.TheVariants.{Known, End}
 use Rattle.tib_hunt.specs.declared.row.Row.{Row}
 use Rattle.tib_hunt.specs.Held.{at, Leads, edges_so_far as all_edges, IsHeld as Held, IsBetween as Between, IsWithinRound as WithinRound}
-use Rattle.tib_hunt.proofs.Members.{total_fewer, each_of, each_has, has_either, has_left, has_right, total_append}
+use Rattle.tib_hunt.proofs.Members.{total_fewer}
 use Rattle.tib_hunt.proofs.Reaching.{Laws, IsHunt, in_reached}
-use Rattle.tib_hunt.proofs.Settling.{Settled, each_weaker, each_append, each_at, stays_low, goes}
+use Rattle.tib_hunt.proofs.Settling.{Settled, each_at, stays_low, goes}
+use Rattle.tib_lex.proofs.Members.{each_of, each_has, has_either, has_left, has_right}
+use Rattle.tib_lex.proofs.Lists.{total_append, each_weaker, each_append}
 
 -- keys that are inserted one after the other
 module _ {K : Type 0} (eq : K → K → Bool) (same : (x y : K) → eq x y ≡ true → x ≡ y) (self : (x : K) → eq x x ≡ true) where

@@ -4,7 +4,7 @@ mod ClaimSteps
 pub mod Runs
 pub mod Rounds
 pub mod EdgeLemmas
-mod Members
+pub mod Members
 pub mod Reaching
 mod Sights
 mod Sorting

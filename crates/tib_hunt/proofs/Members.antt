@@ -1,40 +1,19 @@
 -- Members of lists, and sums over them.
 use Rattle.std.proofs.Common.{◌≡◌, ◌⊎◌, inl, inr, ℕ, ◌+◌, ◌≤◌, List, [], ◌∷◌, ◌++◌, refl, sym, ap, subst, ◌∙◌, arith}
-use Rattle.tib_lex.specs.Lists.{Has, Each, Distinct, Ascends, Along}
-use Rattle.tib_hunt.specs.EdgeLists.{Lists, total}
+use Rattle.tib_lex.specs.Lists.{Has, Each, Distinct, Ascends, Along, total}
+use Rattle.tib_lex.proofs.Members.{each_has, has_either}
+use Rattle.tib_hunt.specs.EdgeLists.{Lists}
 
 module _ {A : Type 0} where
-  -- what holds of each member holds all along
-  pub each_of : (P : A → Type 0) (xs : List A) → ((x : A) → Has xs x → P x) → Each P xs
-  each_of P [] h = tt
-  each_of P (x ∷ xs) h = (h x (inl refl), each_of P xs (λ y m. h y (inr m)))
-
-  -- what holds all along holds of each member
-  pub each_has : (P : A → Type 0) (xs : List A) (z : A) → Each P xs → Has xs z → P z
-  each_has P [] z e h = absurd h
-  each_has P (x ∷ xs) z e (inl h) = subst P h e.0
-  each_has P (x ∷ xs) z e (inr h) = each_has P xs z e.1 h
-
-  -- a member of two lists together is one of either
-  pub has_either : (xs ys : List A) (x : A) → Has (xs ++ ys) x → Has xs x ⊎ Has ys x
-  has_either [] ys x h = inr h
-  has_either (z ∷ xs) ys x (inl e) = inl (inl e)
-  has_either (z ∷ xs) ys x (inr h) = go (has_either xs ys x h)
-    where
-      go : Has xs x ⊎ Has ys x → Has (z ∷ xs) x ⊎ Has ys x
-      go (inl a) = inl (inr a)
-      go (inr b) = inr b
-
-  -- a member of the first list is one of both
-  pub has_left : (xs ys : List A) (y : A) → Has xs y → Has (xs ++ ys) y
-  has_left [] ys y h = absurd h
-  has_left (z ∷ xs) ys y (inl e) = inl e
-  has_left (z ∷ xs) ys y (inr h) = inr (has_left xs ys y h)
-
-  -- a member of the second list is one of both
-  pub has_right : (xs ys : List A) (y : A) → Has ys y → Has (xs ++ ys) y
-  has_right [] ys y h = h
-  has_right (z ∷ xs) ys y h = inr (has_right xs ys y h)
+  -- two lists without a common member are distinct together
+  pub distinct_append :
+      (xs ys : List A) → Distinct xs → Distinct ys → ((x : A) → Has xs x → Has ys x → ⊥) →
+      Distinct (xs ++ ys)
+  distinct_append [] ys d e n = e
+  distinct_append (x ∷ xs) ys d e n = (
+    λ h. elim (has_either xs ys x h) [ inl k ↦ d.0 k | inr k ↦ n x (inl refl) k ],
+    distinct_append xs ys d.1 e (λ y h. n y (inr h)),
+  )
 
   -- a list without a member
   abbrev without : (ys : List A) (x : A) → Has ys x → List A
@@ -62,11 +41,6 @@ module _ {A : Type 0} where
       let rest : total f xs ≤ total f (without ys x m) = total_fewer f xs (without ys x m) d.1 (λ z k. still ys x z m (h z (inr k)) (λ e. d.0 (subst (Has xs) (sym e) k))) in
       let r = total_without f ys x m in
       omega arith
-
-  -- the total of two lists is the sum of their totals
-  pub total_append : (f : A → ℕ) (xs ys : List A) → total f (xs ++ ys) ≡ total f xs + total f ys
-  total_append f [] ys = omega arith
-  total_append f (x ∷ xs) ys = let r = total_append f xs ys in omega arith
 
   module _ {Before : A → A → Type 0} (apart : (x y : A) → Before x y → Before y x → ⊥) where
     not_itself : (x y : A) → x ≡ y → Before x y → ⊥

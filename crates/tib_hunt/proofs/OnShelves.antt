@@ -5,18 +5,18 @@ use Rattle.std.proofs.lemmas.Option.{slice_get_within}
 use mathlib.Core.Logic.{dite}
 use native.Mathlib.Decide.{ℕ_discrete}
 use Rattle.indexmap.specs.IndexSet.{insert_key}
-use Rattle.tib_lex.specs.Lists.{Has}
+use Rattle.tib_lex.specs.Lists.{Has, total}
 use Rattle.tib_table.specs.Known.{on, Names}
 use Rattle.tib_table.specs.declared.number.Number.{Number}
-use Rattle.tib_hunt.specs.EdgeLists.{total}
 use Rattle.tib_hunt.specs.Reached.{IfTooMany}
 use Rattle.tib_hunt.specs.RoundModel.{Core, with_key}
 use Rattle.tib_hunt.specs.Shelved.{all_on, with_keys, NameOn, ShelvesHaveMore}
 use Rattle.tib_hunt.specs.declared.found.HuntError.{HuntError}
-use Rattle.tib_hunt.proofs.Members.{total_append, has_left}
 use Rattle.tib_hunt.proofs.Reaching.{IfTooMany-weaker}
 use Rattle.tib_hunt.proofs.Holding.{not_any}
 use Rattle.tib_hunt.proofs.Sights.{along_snoc, get_left}
+use Rattle.tib_lex.proofs.Lists.{total_append}
+use Rattle.tib_lex.proofs.Members.{has_left}
 
 module _ {K : Type 0} (eq : K → K → Bool) (same : (x y : K) → eq x y ≡ true → x ≡ y) (self : (x : K) → eq x x ≡ true) where
   got_has : (ks : List K) (p : ℕ) (k : K) → slice_get ks p ≡ Some k → Has ks k

@@ -1,16 +1,15 @@
 -- The keys of shelves get positions, and so do the ends of rows.
 use Rattle.std.proofs.Common.{◌≡◌, ◌⊎◌, inl, inr, ℕ, ◌+◌, ◌≤◌, Bool, true, List, [], ◌∷◌, ◌++◌, map, append_assoc, append-nil, refl, sym, ap, subst, ◌∙◌, arith}
 use Rattle.indexmap.specs.IndexSet.{insert_key, insert_all}
-use Rattle.tib_lex.specs.Lists.{Has, Along}
-use Rattle.tib_hunt.specs.EdgeLists.{total}
+use Rattle.tib_lex.specs.Lists.{Has, Along, total}
 use Rattle.tib_hunt.specs.Numbered.{Name, HaveMore}
 use Rattle.tib_hunt.specs.Reached.{IfTooMany}
 use Rattle.tib_hunt.specs.Shelved.{all_on}
 use Rattle.tib_hunt.specs.declared.found.HuntError.{HuntError}
-use Rattle.tib_hunt.proofs.Members.{has_either, has_left, has_right}
 use Rattle.tib_hunt.proofs.Reaching.{IfTooMany-weaker}
 use Rattle.tib_hunt.proofs.Holding.{inserted}
 use Rattle.tib_hunt.proofs.Sights.{along_snoc, get_left}
+use Rattle.tib_lex.proofs.Members.{has_either, has_left, has_right}
 
 -- the keys of two lists of shelves
 pub all_both : {K : Type 0} (xss yss : List (List K)) → all_on (xss ++ yss) ≡ all_on xss ++ all_on yss

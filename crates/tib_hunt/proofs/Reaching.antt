@@ -5,15 +5,17 @@ use Rattle.std.proofs.lemmas.Bool.{cases_lt}
 use Rattle.std.specs.declared.cmp.Ordering.TheVariants.{Less, Equal, Greater}
 use Rattle.std.specs.Ordering.{ordering_reverse}
 use Rattle.std.specs.Cmp.{IsTotalOrder}
-use Rattle.tib_lex.specs.Lists.{Has, Distinct}
-use Rattle.tib_hunt.specs.EdgeLists.{Exceeds, total}
+use Rattle.tib_lex.specs.Lists.{Has, Distinct, total}
+use Rattle.tib_hunt.specs.EdgeLists.{Exceeds}
 use Rattle.tib_hunt.specs.Lawful.{IsLawful}
 use Rattle.tib_hunt.specs.Reading.{Reading}
 use Rattle.tib_hunt.specs.Reached.{IfTooMany, Operation, AreAscending, IsNew, AfterRounds, IsReached, AreEdges, IsBeyond}
 use Rattle.tib_hunt.specs.Held.{Leads}
 use Rattle.tib_hunt.specs.declared.found.HuntError.{HuntError}
 use Rattle.tib_hunt.specs.declared.found.HuntError.TheVariants.{TooMany, OutOfMemory}
-use Rattle.tib_hunt.proofs.Members.{has_left, has_right, total_fewer, total_append, same_ascending, Lists-parts, Lists-to}
+use Rattle.tib_hunt.proofs.Members.{total_fewer, same_ascending, Lists-parts, Lists-to}
+use Rattle.tib_lex.proofs.Members.{has_left, has_right}
+use Rattle.tib_lex.proofs.Lists.{total_append}
 
 -- m after n
 abbrev later : ℕ → ℕ → ℕ

@@ -12,8 +12,8 @@ use Rattle.tib_hunt.specs.declared.event.Event.{Event}
 use Rattle.tib_hunt.specs.declared.event.Event.TheVariants.{Draw, Number, File}
 use Rattle.tib_hunt.specs.RoundModel.{Core, opened, IsItem, with_key, Allowed, after, Runs, put_item, draws}
 use Rattle.tib_hunt.specs.Shelved.{with_keys}
-use Rattle.tib_hunt.proofs.Members.{has_left}
 use Rattle.tib_hunt.specs.RoundLaw.{numbers_from, IsKept, IsEndOf, EveryRun, TwoRuns}
+use Rattle.tib_lex.proofs.Members.{has_left}
 
 module _ {A : Type 0} where
   -- a member of a list with one more element

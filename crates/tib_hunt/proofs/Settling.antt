@@ -3,6 +3,7 @@ use Rattle.std.proofs.Common.{◌≡◌, ◌⊎◌, inl, inr, ℕ, zero, suc, �
 use Rattle.std.proofs.lemmas.List.{take_more}
 use Rattle.std.proofs.lemmas.Bool.{cases_lt}
 use Rattle.tib_lex.specs.Lists.{Each}
+use Rattle.tib_lex.proofs.Lists.{each_weaker, each_append}
 use Rattle.tib_hunt.specs.EdgeLists.{position_of, IsWithin}
 use Rattle.tib_hunt.specs.Numbered.{moved_to}
 use Rattle.tib_hunt.specs.Reading.{Reading}
@@ -10,16 +11,6 @@ use Rattle.tib_hunt.specs.Rows.{read_row, read_rows, IsRowBelow, AreBelow}
 use Rattle.tib_hunt.specs.declared.place.Place.{Place}
 use Rattle.tib_hunt.specs.declared.place.Place.TheVariants.{Known, End}
 use Rattle.tib_hunt.specs.declared.row.Row.{Row}
-
--- what follows from what holds all along holds all along
-pub each_weaker : {A : Type 0} (P Q : A → Type 0) (xs : List A) → ((x : A) → P x → Q x) → Each P xs → Each Q xs
-each_weaker P Q [] h e = tt
-each_weaker P Q (x ∷ xs) h e = (h x e.0, each_weaker P Q xs h e.1)
-
--- what holds all along two lists holds along both
-pub each_append : {A : Type 0} (P : A → Type 0) (xs ys : List A) → Each P xs → Each P ys → Each P (xs ++ ys)
-each_append P [] ys a b = b
-each_append P (x ∷ xs) ys a b = (a.0, each_append P xs ys a.1 b)
 
 -- what holds all along holds of the element at an index
 pub each_at : {A : Type 0} (P : A → Type 0) (xs : List A) (i : ℕ) (d : A) → Each P xs → i < length xs → P (get_or xs i d)

@@ -4,13 +4,13 @@ use Rattle.std.specs.List.{list_any}
 use Rattle.std.proofs.lemmas.Grind.{reverse_onto}
 use Rattle.std.proofs.lemmas.List.Sums.{fold_push}
 use Rattle.indexmap.specs.IndexSet.{insert_key, insert_all}
-use Rattle.tib_lex.specs.Lists.{Has, Along}
-use Rattle.tib_hunt.specs.EdgeLists.{total}
+use Rattle.tib_lex.specs.Lists.{Has, Along, total}
 use Rattle.tib_hunt.specs.Reached.{IfTooMany}
 use Rattle.tib_hunt.specs.declared.found.HuntError.{HuntError}
 use Rattle.tib_hunt.specs.Numbered.{key_parts, Name, HaveMore, placed}
-use Rattle.tib_hunt.proofs.Members.{total_append, has_left}
 use Rattle.tib_hunt.proofs.Reaching.{IfTooMany-weaker}
+use Rattle.tib_lex.proofs.Lists.{total_append}
+use Rattle.tib_lex.proofs.Members.{has_left}
 
 pub total_least : {K : Type 0} (entries : K → ℕ) (ks : List K) → length ks ≤ total (key_parts entries) ks
 total_least entries [] = omega arith

@@ -3,10 +3,10 @@ use Rattle.std.proofs.Common.{◌≡◌, inl, inr, ℕ, zero, suc, ◌+◌, ◌<
 use Rattle.std.proofs.lemmas.Option.{slice_get_within}
 use Rattle.std.specs.declared.cmp.Ordering.{Ordering}
 use Rattle.indexmap.specs.IndexSet.{insert_all}
-use Rattle.tib_lex.specs.Lists.{Has, Each, Distinct, Along}
+use Rattle.tib_lex.specs.Lists.{Has, Each, Distinct, Along, total}
 use Rattle.tib_table.specs.Known.{on}
 use Rattle.tib_table.specs.declared.number.Number.{Number}
-use Rattle.tib_hunt.specs.EdgeLists.{IsEnd, IsWithin, key_at, position_of, total}
+use Rattle.tib_hunt.specs.EdgeLists.{IsEnd, IsWithin, key_at, position_of}
 use Rattle.tib_hunt.specs.Reached.{IfTooMany, Operation, AreEdges, IsBeyond}
 use Rattle.tib_hunt.specs.Numbered.{key_parts, Name, HaveMore}
 use Rattle.tib_hunt.specs.Reading.{Reading}
@@ -18,11 +18,11 @@ use Rattle.tib_hunt.specs.declared.found.HuntError.{HuntError}
 use Rattle.tib_hunt.specs.declared.place.Place.{Place}
 use Rattle.tib_hunt.specs.declared.row.Row.{Row}
 use Rattle.tib_hunt.specs.declared.shelved_row.ShelvedRow.{ShelvedRow}
-use Rattle.tib_hunt.proofs.Members.{each_of, has_either, total_append}
 use Rattle.tib_hunt.proofs.Reaching.{IfTooMany-weaker, IsHunt, beyond}
-use Rattle.tib_hunt.proofs.Settling.{each_weaker, each_append}
 use Rattle.tib_hunt.proofs.Holding.{Inserted, inserted, same_place, named_below, as_many, rules_same, leads_on}
 use Rattle.tib_hunt.proofs.Underway.{on_all, all_somewhere, distinct_all, stands_whole}
+use Rattle.tib_lex.proofs.Members.{each_of, has_either}
+use Rattle.tib_lex.proofs.Lists.{total_append, each_weaker, each_append}
 
 module _ {K : Type 0} (keys : List K) where
   named_at : (ends : List K) (ns : List ℕ) → Name keys ends ns → (i : ℕ) (k : K) → slice_get ends i ≡ Some k → slice_get keys (slice_index ns i) ≡ Some k

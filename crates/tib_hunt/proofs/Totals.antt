@@ -3,7 +3,7 @@ use Rattle.std.proofs.Common.{◌≡◌, ℕ, zero, suc, ◌+◌, ◌≤◌, Lis
 use mathlib.Core.Option.{some, some-ne-none, some-injective}
 use lib.ListN.{get_elem?}
 use Rattle.tib_hunt.specs.declared.claim.Claim.{Claim}
-use Rattle.tib_hunt.specs.ClaimRule.{total}
+use Rattle.tib_lex.specs.Lists.{total}
 
 pub total_set : (f : Claim → ℕ) (views : List Claim) (j : ℕ) (v w : Claim) → get_elem? views j ≡ some v → total f (set views j w) + f v ≡ total f views + f w
 total_set f [] j v w e = absurd (some-ne-none v (sym e))

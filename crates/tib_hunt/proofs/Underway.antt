@@ -4,10 +4,10 @@ use Rattle.std.specs.declared.cmp.Ordering.{Ordering}
 use Rattle.std.specs.List.{list_any}
 use Rattle.std.proofs.lemmas.Bool.{cases_lt}
 use Rattle.std.proofs.lemmas.Bool.Decides.{nat_tests}
-use Rattle.tib_lex.specs.Lists.{Has, Distinct, Along}
+use Rattle.tib_lex.specs.Lists.{Has, Distinct, Along, total}
 use Rattle.tib_table.specs.Known.{on}
 use Rattle.tib_table.specs.declared.number.Number.{Number}
-use Rattle.tib_hunt.specs.EdgeLists.{IsEnd, key_at, total}
+use Rattle.tib_hunt.specs.EdgeLists.{IsEnd, key_at}
 use Rattle.tib_hunt.specs.Reached.{IfTooMany, Operation, AfterRounds, IsReached, AreEdges, IsBeyond}
 use Rattle.tib_hunt.specs.Expanded.{IsEndAt}
 use Rattle.tib_hunt.specs.Numbered.{key_parts}
@@ -19,12 +19,13 @@ use Rattle.tib_hunt.specs.Shelved.{all_on, with_keys, NameOn, ShelvesHaveMore, I
 use Rattle.tib_hunt.specs.Held.{IsBetween as Between, edges_so_far as all_edges}
 use Rattle.tib_hunt.specs.declared.found.HuntError.{HuntError}
 use Rattle.tib_hunt.specs.declared.shelved_row.ShelvedRow.{ShelvedRow}
-use Rattle.tib_hunt.proofs.Members.{has_either, has_left, has_right, total_append}
 use Rattle.tib_hunt.proofs.Reaching.{IfTooMany-weaker, IsHunt, beyond, beyond_more, in_reached}
 use Rattle.tib_hunt.proofs.Holding.{any_has, not_any, leads_on}
 use Rattle.tib_hunt.proofs.Sights.{along_snoc}
 use Rattle.tib_hunt.proofs.OnShelves.{still_name}
 use Rattle.tib_hunt.proofs.Runs.{has_snoc, has_last, begins, kept_after, kept_keys, KeptWith}
+use Rattle.tib_lex.proofs.Members.{has_either, has_left, has_right}
+use Rattle.tib_lex.proofs.Lists.{total_append}
 
 module _ {P K O E : Type 0} (of : P → Operation K O E) (problem : P) (order : List K) (first : ℕ)
     (eq : K → K → Bool) (same : (x y : K) → eq x y ≡ true → x ≡ y) (self : (x : K) → eq x x ≡ true) (shelf_of : K → ℕ) (low : (k : K) → shelf_of k < 16)

@@ -4,16 +4,12 @@ use mathlib.Core.Option.{some}
 use lib.ListN.{get_elem?}
 use Rattle.atomic_table.specs.Table.{State, Me, Step}
 use Rattle.tib_hunt.specs.declared.claim.Claim.{Claim}
-use Rattle.tib_hunt.specs.Claims.{occurrences, once_below, DrawnOnce}
+use Rattle.tib_hunt.specs.Claims.{once_below, DrawnOnce}
+use Rattle.tib_lex.specs.Lists.{occurrences, total}
 
 -- what a seat knows
 abbrev pub claim : ℕ → ℕ → ℕ → List ℕ → Claim
 claim count shares nones drawn = record { count = count; shares = shares; nones = nones; drawn = drawn }
-
--- f of each view, added up
-abbrev pub total : (Claim → ℕ) → List Claim → ℕ
-total f [] = 0
-total f (v ∷ vs) = f v + total f vs
 
 -- it knows the number of items, was answered None at most as often as it has shares, and has drawn nothing where it has no share
 pub record IsFair (count : ℕ) (v : Claim) : Type 0 where

@@ -1,6 +1,7 @@
 -- What contracts see of the claim counter and its seats.
-use Rattle.std.specs.Prelude.{◌≡◌, ℕ, zero, suc, ◌+◌, ◌^◌, ◌≤◌, ◌<◌, ◌==◌, if◌then◌else◌, List, [], ◌∷◌}
+use Rattle.std.specs.Prelude.{◌≡◌, ℕ, zero, suc, ◌+◌, ◌^◌, ◌≤◌, ◌<◌, nat_eq, if◌then◌else◌, List}
 use Rattle.atomic_table.specs.Seated.{TableId}
+use Rattle.tib_lex.specs.Lists.{occurrences}
 use Rattle.tib_hunt.specs.declared.claim.Claim.{Claim}
 
 -- which counter it is, and how many items it has
@@ -21,12 +22,7 @@ claimed z v = record { counter = record { table = z; count = v.count }; shares =
 
 -- 1 where two numbers are equal, and else 0
 abbrev pub one_if : ℕ → ℕ → ℕ
-one_if x y = if x == y then 1 else 0
-
--- how often x stands in the list
-abbrev pub occurrences : ℕ → List ℕ → ℕ
-occurrences x [] = 0
-occurrences x (y ∷ ys) = one_if x y + occurrences x ys
+one_if x y = if nat_eq x y then 1 else 0
 
 -- 1 where x is below n, and else 0
 abbrev pub once_below : ℕ → ℕ → ℕ

@@ -1,6 +1,6 @@
 -- Lists of edges, each with its origin, and rules that stand for them.
 use Rattle.std.specs.Prelude.{◌≡◌, ℕ, ◌+◌, ◌<◌, ◌^◌, List, [], ◌∷◌, map, length, slice_index, slice_index_or}
-use Rattle.tib_lex.specs.Lists.{Has, Each, Distinct, Along}
+use Rattle.tib_lex.specs.Lists.{Has, Each, Distinct, Along, total}
 use Rattle.tib_hunt.specs.declared.place.Place.{Place}
 use Rattle.tib_hunt.specs.declared.place.Place.TheVariants.{Known, End}
 
@@ -11,11 +11,6 @@ pub record Lists {O A : Type 0} (Gives : O → A → Type 0) (xs : List A) : Typ
   pub once : Distinct origins
   pub given : Along Gives origins xs
   pub whole : (o : O) (x : A) → Gives o x → Has origins o
-
--- the parts of edges, added up
-abbrev pub total : {E : Type 0} → (E → ℕ) → List E → ℕ
-total parts [] = 0
-total parts (e ∷ es) = parts e + total parts es
 
 -- the key at a place, over an order and a list of ends
 abbrev pub key_at : {K : Type 0} → K → List K → List K → Place → K

@@ -1,7 +1,7 @@
 -- What is held while an operation is hunted.
 use Rattle.std.specs.Prelude.{◌≡◌, ℕ, ◌+◌, ◌<◌, ◌≤◌, List, [], ◌++◌, length, map, slice_index_or}
-use Rattle.tib_lex.specs.Lists.{Has, Each, Distinct}
-use Rattle.tib_hunt.specs.EdgeLists.{IsEnd, total}
+use Rattle.tib_lex.specs.Lists.{Has, Each, Distinct, total}
+use Rattle.tib_hunt.specs.EdgeLists.{IsEnd}
 use Rattle.tib_hunt.specs.Reached.{Operation, IsNew, AfterRounds, IsReached, AreEdges}
 use Rattle.tib_hunt.specs.Reading.{Reading}
 use Rattle.tib_hunt.specs.Rows.{read_rows, IsRowBelow, AreBelow}

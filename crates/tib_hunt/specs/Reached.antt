@@ -2,8 +2,8 @@
 use Rattle.std.specs.Prelude.{◌≡◌, ◌↔◌, ℕ, zero, suc, ◌+◌, ◌<◌, ◌≤◌, List, ◌++◌, length}
 use Rattle.std.specs.declared.cmp.Ordering.{Ordering}
 use Rattle.std.specs.declared.cmp.Ordering.TheVariants.{Less}
-use Rattle.tib_lex.specs.Lists.{Has, Ascends}
-use Rattle.tib_hunt.specs.EdgeLists.{Lists, IsEnd, total}
+use Rattle.tib_lex.specs.Lists.{Has, Ascends, total}
+use Rattle.tib_hunt.specs.EdgeLists.{Lists, IsEnd}
 use Rattle.tib_hunt.specs.declared.found.HuntError.{HuntError}
 use Rattle.tib_hunt.specs.declared.found.HuntError.TheVariants.{TooMany, OutOfMemory}
 

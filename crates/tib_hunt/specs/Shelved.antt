@@ -1,9 +1,9 @@
 -- The keys on the shelves of a round, and the rows of its items, whose ends have numbers on the shelves.
 use Rattle.std.specs.Prelude.{◌≡◌, ◌↔◌, ◌⊎◌, ℕ, ◌+◌, ◌-◌, ◌<◌, ◌≤◌, Bool, List, [], ◌∷◌, ◌++◌, length, map, slice_index, slice_index_or}
-use Rattle.tib_lex.specs.Lists.{Has, Each, Along}
+use Rattle.tib_lex.specs.Lists.{Has, Each, Along, total}
 use Rattle.tib_table.specs.Known.{Names}
 use Rattle.tib_table.specs.declared.number.Number.{Number}
-use Rattle.tib_hunt.specs.EdgeLists.{AreListed, Exceeds, IsEnd, IsWithin, key_at, total}
+use Rattle.tib_hunt.specs.EdgeLists.{AreListed, Exceeds, IsEnd, IsWithin, key_at}
 use Rattle.tib_hunt.specs.Reached.{Operation, AreEdges}
 use Rattle.tib_hunt.specs.Reading.{Reading}
 use Rattle.tib_hunt.specs.RoundModel.{Core, with_key, with_filed}

@@ -2,8 +2,7 @@
 
 ghost use Rattle.std.specs.Prelude.{◌≡◌, ◌+◌, ◌≤◌, ◌<◌, ◌^◌, ◌++◌, [], length, take, drop, IfOk, IfErr, OnOk};
 ghost use Rattle.indexmap.specs.IndexSet.{insert_all};
-ghost use Rattle.tib_lex.specs.Lists.{Each, Distinct};
-ghost use Rattle.tib_hunt.specs.EdgeLists.{total};
+ghost use Rattle.tib_lex.specs.Lists.{Each, Distinct, total};
 ghost use Rattle.tib_hunt.specs.Reached.{IfTooMany, IsBeyond, most_parts};
 ghost use Rattle.tib_hunt.specs.Numbered.{key_parts, HaveMore, AddsParts, placed, keys_of};
 ghost use Rattle.tib_hunt.specs.Rows.{IsRowBelow};

@@ -2,8 +2,7 @@
 
 ghost use Rattle.std.specs.Prelude.{◌≡◌, ℕ, ◌+◌, ◌≤◌, ◌<◌, ◌^◌, ◌++◌, Some, length, map, reverse, drop, take, slice_get, IfOk, IfErr, OnOk};
 ghost use Rattle.indexmap.specs.IndexSet.{insert_key, insert_all};
-ghost use Rattle.tib_lex.specs.Lists.{Has, Each, Distinct};
-ghost use Rattle.tib_hunt.specs.EdgeLists.{total};
+ghost use Rattle.tib_lex.specs.Lists.{Has, Each, Distinct, total};
 ghost use Rattle.tib_hunt.specs.Reached.{IfTooMany, most_parts};
 ghost use Rattle.tib_hunt.specs.Numbered.{key_parts, Name, HaveMore, KeyExceeds, AddsParts, placed, keys_of, Moved, IsInOrder};
 

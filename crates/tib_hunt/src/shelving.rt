@@ -1,9 +1,8 @@
 //! Keys of a round go on its shelves, within a limit of parts; its items are drawn and filed.
 
 ghost use Rattle.std.specs.Prelude.{◌≡◌, ℕ, ◌≤◌, ◌<◌, length, IfOk, IfErr, OnOk};
-ghost use Rattle.tib_lex.specs.Lists.{Has};
+ghost use Rattle.tib_lex.specs.Lists.{Has, total};
 ghost use Rattle.tib_table.specs.Known.{Names, on};
-ghost use Rattle.tib_hunt.specs.EdgeLists.{total};
 ghost use Rattle.tib_hunt.specs.Numbered.{key_parts};
 ghost use Rattle.tib_hunt.specs.Reached.{IfTooMany, most_parts};
 ghost use Rattle.tib_hunt.specs.RoundModel.{IsItem, next_item, with_draw, with_key, with_filed};

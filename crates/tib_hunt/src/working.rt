@@ -1,8 +1,7 @@
 //! A round on its core: its items are drawn and expanded, their ends are numbered on shelves, and each item is filed with its row.
 
 ghost use Rattle.std.specs.Prelude.{◌≡◌, ◌-◌, ◌≤◌, List, length, IfOk, IfErr, OnOk};
-ghost use Rattle.tib_lex.specs.Lists.{Has, Each};
-ghost use Rattle.tib_hunt.specs.EdgeLists.{total};
+ghost use Rattle.tib_lex.specs.Lists.{Has, Each, total};
 ghost use Rattle.tib_hunt.specs.Expanded.{IsEndAt};
 ghost use Rattle.tib_hunt.specs.Held.{IsBetween};
 ghost use Rattle.tib_hunt.specs.Numbered.{key_parts};

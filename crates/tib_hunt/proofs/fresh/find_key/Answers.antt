@@ -1,11 +1,11 @@
 use Rattle.std.proofs.Common.{◌≡◌, ◌∙◌, ◌++◌, ◌∷◌, ◌+◌, Some, [], length-append, append_assoc, slice_get, sym, ap, subst, arith}
 use Rattle.std.proofs.lemmas.Option.{slice_get_within}
-use Rattle.tib_hunt.specs.EdgeLists.{total}
 use Rattle.tib_hunt.specs.Numbered.{key_parts, keys_of}
-use Rattle.tib_hunt.proofs.Members.{total_append}
 use Rattle.tib_hunt.proofs.Sights.{total_least, get_left}
 use Rattle.tib_hunt.proofs.FreshKeys.{many, known, unknown, last_at}
 use Rattle.tib_hunt.proofs.Reaching.{IfTooMany-weaker}
+use Rattle.tib_lex.specs.Lists.{total}
+use Rattle.tib_lex.proofs.Lists.{total_append}
 use Rattle.tib_hunt.proofs.fresh.find_key.Goals as goal
 
 pub overflow_cast-result : goal.overflow_cast-result

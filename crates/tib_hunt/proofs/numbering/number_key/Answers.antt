@@ -1,8 +1,8 @@
 use Rattle.std.proofs.Common.{refl, ap, arith}
-use Rattle.tib_hunt.specs.EdgeLists.{total}
 use Rattle.tib_hunt.specs.Numbered.{key_parts}
 use Rattle.tib_hunt.proofs.Sights.{total_new, total_old, total_least}
 use Rattle.tib_hunt.proofs.numbering.number_key.Goals.{then-added+else-size-limit, else-added}
+use Rattle.tib_lex.specs.Lists.{total}
 use Rattle.tib_hunt.proofs.numbering.number_key.Goals as goal
 
 pub returns-then-size-limit-clause-more : goal.returns-then-size-limit-clause-more
