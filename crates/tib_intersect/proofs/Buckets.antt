@@ -2,37 +2,27 @@
 use Rattle.std.specs.Prelude.{◌≡◌, ℕ, ◌+◌, ◌<◌, ◌&&◌, ◌⊎◌, nat_eq, Bool, true, false, List, [], ◌∷◌, ◌++◌, length, Option, None, Some, if◌then◌else◌, cond, refl}
 use Rattle.std.specs.Global.{Vec}
 use Rattle.std.proofs.Common.{get_or, ap, sym, ◌∙◌, arith, inl, inr, set}
-use Rattle.std.proofs.lemmas.Bool.Decides.{nat_tests}
 use Rattle.std.proofs.lemmas.List.{get_or-set_same, get_or-set_other, map-set, length-map}
-use Rattle.tib_intersect.specs.Matching.{same_shape, bucket_at, lists_of}
-
-nat_eq_cases : (g f : ℕ) → ((g ≡ f) × (nat_eq g f ≡ true)) ⊎ ((g ≡ f → ⊥) × (nat_eq g f ≡ false))
-nat_eq_cases g f = grind (arith, nat_tests)
+use Rattle.tib_lex.proofs.Booleans.{and-both, and-first, and-second}
+use Rattle.tib_lex.proofs.Numbers.{nat_eq_cases}
+use Rattle.tib_intersect.specs.Matching.{same_shape}
+use Rattle.tib_normal.specs.Index.{bucket_at, lists_of}
 
 -- two shapes are the same or not, as the test says
 pub same_shape_cases : (s t : ℕ × ℕ × ℕ) → ((s ≡ t) × (same_shape s t ≡ true)) ⊎ ((s ≡ t → ⊥) × (same_shape s t ≡ false))
 same_shape_cases s t = elim (nat_eq_cases s.0 t.0) [
   | inl h ↦ elim (nat_eq_cases s.1 t.1) [
     | inl k ↦ elim (nat_eq_cases s.2 t.2) [
-      | inl l ↦ inl (triple h.0 k.0 l.0, both (both h.1 k.1) l.1)
-      | inr l ↦ inr (λ e. l.0 (ap (λ x. x.2) e), second (both h.1 k.1) l.1)
+      | inl l ↦ inl (triple h.0 k.0 l.0, and-both _ _ (and-both _ _ h.1 k.1) l.1)
+      | inr l ↦ inr (λ e. l.0 (ap (λ x. x.2) e), and-second (and-both _ _ h.1 k.1) l.1)
     ]
-    | inr k ↦ inr (λ e. k.0 (ap (λ x. x.1) e), first (nat_eq s.2 t.2) (second h.1 k.1))
+    | inr k ↦ inr (λ e. k.0 (ap (λ x. x.1) e), and-first (nat_eq s.2 t.2) (and-second h.1 k.1))
   ]
-  | inr h ↦ inr (λ e. h.0 (ap (λ x. x.0) e), first (nat_eq s.2 t.2) (first (nat_eq s.1 t.1) h.1))
+  | inr h ↦ inr (λ e. h.0 (ap (λ x. x.0) e), and-first (nat_eq s.2 t.2) (and-first (nat_eq s.1 t.1) h.1))
 ]
   where
     triple : {a b c d e f : ℕ} → a ≡ b → c ≡ d → e ≡ f → ◌≡◌ {A = ℕ × ℕ × ℕ} (a, c, e) (b, d, f)
     triple e k l = rw (e, k, l)
-
-    both : {a b : Bool} → a ≡ true → b ≡ true → (a && b) ≡ true
-    both e k = rw (e, k)
-
-    second : {a b : Bool} → a ≡ true → b ≡ false → (a && b) ≡ false
-    second e k = rw (e, k)
-
-    first : {a : Bool} (b : Bool) → a ≡ false → (a && b) ≡ false
-    first b e = rw e
 
 -- one bucket grows, and the others stay
 pub held-set :

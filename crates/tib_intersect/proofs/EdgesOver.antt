@@ -4,14 +4,14 @@ use Rattle.std.proofs.Common.{zero, suc, arith, ap, sym, subst, inl, inr}
 use Rattle.std.proofs.lemmas.Bool.{cases_lt}
 use Rattle.tib_lex.specs.Lists.{Has, Distinct, Along}
 use Rattle.tib_grammar.specs.declared.Rule.{Rule}
-use Rattle.tib_grammar.proofs.Members.{has_left, has_right}
 use Rattle.tib_hunt.specs.EdgeLists.{Lists}
 use Rattle.tib_hunt.specs.Reached.{AreEdges}
 use Rattle.tib_intersect.specs.PairEdges.{pair_at, IsPairEdge}
 use Rattle.tib_intersect.specs.Intersection.{intersection}
 use Rattle.tib_intersect.proofs.Lists.{along_map}
-use Rattle.tib_intersect.proofs.PairOrders.{distinct_append}
+use Rattle.tib_hunt.proofs.Members.{distinct_append}
 use Rattle.tib_intersect.proofs.Whole.{along_of}
+use Rattle.tib_lex.proofs.Members.{has_left, has_right}
 
 along_append : {A B : Type 0} (R : A → B → Type 0) (xs zs : List A) (ys ws : List B) → Along R xs ys → Along R zs ws → Along R (xs ++ zs) (ys ++ ws)
 along_append R [] zs [] ws a b = b

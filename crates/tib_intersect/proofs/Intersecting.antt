@@ -10,17 +10,18 @@ use Rattle.tib_grammar.specs.Forms.{AreNormal, IsLabel}
 use Rattle.tib_grammar.specs.Range.{AllBelow}
 use Rattle.tib_grammar.specs.GrammarOf.{named_rule}
 use Rattle.tib_grammar.specs.declared.Rule.{Rule}
-use Rattle.tib_grammar.proofs.Sides.{holes-relabel, holes-leaves, holes_of-label}
+use Rattle.tib_grammar.proofs.Sides.{holes-relabel, holes-leaves, holes_of-label, one_label}
 use Rattle.tib_grammar.proofs.NormalRuns.{none_to, IsLeast-no_states}
 use Rattle.tib_grammar.proofs.Best.{no_trees, no_states}
-use Rattle.tib_grammar.proofs.Members.{has_at}
 use Rattle.tib_cost.specs.Semiring.{ProductLaws, most}
 use Rattle.tib_cost.specs.Least.{IsLeast, Products, times}
 use Rattle.tib_cost.proofs.Least.{IsLeast-dominated, IsLeast-products, IsLeast-unique, at_least_right}
 use Rattle.tib_intersect.specs.PairEdges.{pair_at, IsPairEdge}
 use Rattle.tib_intersect.specs.PairGrammar.{IsPairGrammar, GivesEdge}
-use Rattle.tib_intersect.specs.PairLaws.{same_label, same_edge}
-use Rattle.tib_intersect.proofs.Steps.{open_cost, close_cost, mix, count-costs}
+use Rattle.tib_intersect.specs.PairLaws.{same_edge}
+use Rattle.tib_intersect.proofs.Steps.{mix, count-costs}
+use Rattle.tib_lex.proofs.Members.{has_at}
+use Rattle.tib_grammar.proofs.Opening.{open_cost, close_cost}
 
 -- what becomes holes by new names was holes
 pub AreHoles-relabel : {P Q : Type 0} (g : P → Q) (s : Trees (Symbol ℕ P)) (qs : List Q) → relabel (symbol_map g) s ≡ leaves qs → AreHoles s
@@ -147,7 +148,7 @@ module _
       let s = pairs.sound p.rule p.below in
       let e : IsEdgeRule p.rule s.0.0 s.0.1 = edge_rule p.rule s.0 s.1 in
       let key : pair_at order k ≡ ((rule_at one s.0.0).left, (rule_at two s.0.1).left) = ap (pair_at order) (sym p.left) ∙ e.key in
-      let root : e.root ≡ f = same_label e.root f (rule_at rules p.rule).right.label e.root_is p.root in
+      let root : e.root ≡ f = one_label e.root f (rule_at rules p.rule).right.label e.root_is p.root in
       let below = project kids (holes (rule_at rules p.rule).right.kids) p.inner p.kids_cost in
       let after = project rest ks p.outer p.rest_cost in
       let w : ℕ = (rule_at one s.0.0).cost in
@@ -234,7 +235,7 @@ module _
       (subst (IsPairEdge product one two (pair_at order q) (p.rule, t.rule)) (sym c.3) edge)
       in
       let e : IsEdgeRule c.0 p.rule t.rule = edge_rule c.0 (p.rule, t.rule) named in
-      let root : e.root ≡ f = same_label e.root f (rule_at one p.rule).right.label e.first_root p.root in
+      let root : e.root ≡ f = one_label e.root f (rule_at one p.rule).right.label e.first_root p.root in
       close_cost laws rules rules_normal q ks f kids rest (product a b) (record {
         rule = c.0;
         below = c.1;

@@ -2,7 +2,6 @@ pub mod Steps
 pub mod Intersecting
 pub mod Buckets
 pub mod Positions
-pub mod Items
 pub mod Lists
 pub mod Listed
 pub mod Matches

@@ -11,7 +11,6 @@ use Rattle.tib_grammar.specs.Forms.{IsNormalSide}
 use Rattle.tib_grammar.proofs.NormalRuns.{label_named}
 use Rattle.tib_grammar.specs.declared.Rule.{Rule}
 use Rattle.tib_grammar.proofs.Sides.{holes_of-over}
-use Rattle.tib_grammar.proofs.Members.{distinct_more, each_has, has_at, has_left, has_right, has_either}
 use Rattle.tib_hunt.specs.declared.place.Place.{Place}
 use Rattle.tib_hunt.specs.declared.place.Place.TheVariants.{Known, End}
 use Rattle.tib_hunt.specs.EdgeLists.{IsWithin, key_at}
@@ -21,7 +20,9 @@ use Rattle.tib_intersect.specs.PairEdges.{pair_at, IsPairEdge, ends_of, edge_par
 use Rattle.tib_intersect.specs.PairRules.{ends_from, places_of, Reads}
 use Rattle.tib_intersect.specs.Listing.{states_of, pairs_of, all_ends, Agree, IsAdded, IsPassed, IsNext, IsTooMuch, IsListed, Overruns, Stands}
 use Rattle.tib_intersect.specs.PairLaws.{reads_places}
-use Rattle.tib_intersect.proofs.Lists.{along_more, along_map, total_more, each_map}
+use Rattle.tib_intersect.proofs.Lists.{along_more, along_map, total_more}
+use Rattle.tib_lex.proofs.Members.{distinct_more, each_has, has_at, has_left, has_right, has_either}
+use Rattle.tib_lex.proofs.Lists.{each_weaker}
 
 module _ {K : Type 0} where
   -- a key that stands in a list stands there too where the list goes on
@@ -65,10 +66,11 @@ ends_within n m i (suc k) h = (omega arith, ends_within n m (suc i) k (omega ari
 -- a rule reads the same where the ends go on
 pub reads_longer : (order xs ys : List (ℕ × ℕ)) (r : PairRule) (e : Rule (ℕ × ℕ)) → Reads order xs r e → Reads order (xs ++ ys) r e
 reads_longer order xs ys r e h = record {
-  within = each_map (IsWithin (length order) (length xs)) (IsWithin (length order) (length (xs ++ ys))) (within_wider (length order) (length xs) (length (xs ++ ys)) (omega (arith, length-append xs ys))) (places_of r) h.within;
+  within = each_weaker (IsWithin (length order) (length xs)) (IsWithin (length order) (length (xs ++ ys))) (places_of r)
+      (within_wider (length order) (length xs) (length (xs ++ ys)) (omega (arith, length-append xs ys))) h.within;
   read = λ d.
       reads_places r (key_at d order (xs ++ ys)) (key_at d order xs)
-      (each_map (IsWithin (length order) (length xs)) (λ p. key_at d order (xs ++ ys) p ≡ key_at d order xs p) (place_stays d order xs ys) (places_of r) h.within)
+      (each_weaker (IsWithin (length order) (length xs)) (λ p. key_at d order (xs ++ ys) p ≡ key_at d order xs p) (places_of r) (place_stays d order xs ys) h.within)
       ∙ h.read d;
 }
 

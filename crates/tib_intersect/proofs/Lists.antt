@@ -2,8 +2,7 @@
 use Rattle.std.specs.Prelude.{◌≡◌, ℕ, ◌+◌, ◌<◌, ◌≤◌, ◌⊎◌, List, [], ◌∷◌, ◌++◌, length, map, take, zip, refl}
 use Rattle.std.proofs.Common.{zero, suc, arith, ap, sym, ◌∙◌, subst, get_or, inl, inr, append_assoc}
 use Rattle.std.proofs.lemmas.List.{take_all}
-use Rattle.tib_lex.specs.Lists.{Has, Each, Distinct, Along}
-use Rattle.tib_hunt.specs.EdgeLists.{total}
+use Rattle.tib_lex.specs.Lists.{Has, Each, Distinct, Along, total}
 
 -- one more pair of partners
 pub along_more : {A B : Type 0} (R : A → B → Type 0) (xs : List A) (ys : List B) (x : A) (y : B) → Along R xs ys → R x y → Along R (xs ++ x ∷ []) (ys ++ y ∷ [])
@@ -23,11 +22,6 @@ along_map R S f (x ∷ xs) (y ∷ ys) a = (f x y a.0, along_map R S f xs ys a.1)
 pub total_more : {E : Type 0} (parts : E → ℕ) (es : List E) (e : E) → total parts (es ++ e ∷ []) ≡ total parts es + parts e
 total_more parts [] e = omega arith
 total_more parts (x ∷ es) e = omega (arith, total_more parts es e)
-
--- what follows from what holds all along
-pub each_map : {A : Type 0} (P Q : A → Type 0) → ((x : A) → P x → Q x) → (xs : List A) → Each P xs → Each Q xs
-each_map P Q f [] h = tt
-each_map P Q f (x ∷ xs) h = (f x h.0, each_map P Q f xs h.1)
 
 -- the list without one origin and its edge
 record Without {O E : Type 0} (edge : O → E → Type 0) (parts : E → ℕ) (os : List O) (es : List E) (o : O) : Type 0 where

@@ -5,20 +5,21 @@ use Rattle.std.proofs.lemmas.Bool.Decides.{nat_tests}
 use Rattle.std.proofs.lemmas.List.{take_more, take_all, get_or_read}
 use Rattle.tib_lex.specs.Lists.{Has, Each, Distinct, Along}
 use Rattle.tib_tree.specs.Trees.{count}
-use Rattle.tib_grammar.specs.Sides.{Symbol, label, hole}
+use Rattle.tib_grammar.specs.Sides.{Symbol, label, hole, is_label}
 use Rattle.tib_grammar.specs.Run.{rule_at, no_rule}
 use Rattle.tib_grammar.specs.Forms.{AreNormal, IsNormalSide}
 use Rattle.tib_grammar.specs.declared.Rule.{Rule}
-use Rattle.tib_grammar.proofs.Members.{each_of, has_at, has_left, has_right, has_either}
-use Rattle.tib_normal.specs.Rules.{is_label, rules_from}
+use Rattle.tib_normal.specs.Rules.{rules_from}
 use Rattle.tib_intersect.specs.declared.listing.Listing.{Listing}
 use Rattle.tib_intersect.specs.PairEdges.{pair_at, IsPairEdge}
 use Rattle.tib_intersect.specs.PairRules.{Reads}
 use Rattle.tib_intersect.specs.Matching.{positions_from, positions_with, has_shape}
 use Rattle.tib_intersect.specs.Listing.{states_of, Agree, IsListed, Stands, AreListedFrom}
-use Rattle.tib_intersect.proofs.Items.{length-holes}
 use Rattle.tib_intersect.proofs.Listed.{not_before}
-use Rattle.tib_intersect.specs.PairLaws.{same_label}
+use Rattle.tib_lex.proofs.Booleans.{and-true, and-both}
+use Rattle.tib_lex.proofs.Numbers.{nat_eq-true}
+use Rattle.tib_lex.proofs.Members.{each_of, has_at, has_left, has_right, has_either}
+use Rattle.tib_grammar.proofs.Sides.{length-holes, one_label, is_label-true, is_label_cases}
 
 -- p, counted from k, is the position of a rule that passes the test
 pub record IsPlace (test : Rule ℕ → Bool) (rules : List (Rule ℕ)) (k p : ℕ) : Type 0 where
@@ -106,25 +107,13 @@ module _ (test : Rule ℕ → Bool) where
       step more true (suc m) h = more m (omega arith)
       step more false m h = more m h
 
--- shapes
-
-and-true : (a b : Bool) → (a && b) ≡ true → (a ≡ true) × (b ≡ true)
-and-true true b e = (refl, e)
-and-true false b e = absurd (cc)
-
-nat_eq-true : (a b : ℕ) → nat_eq a b ≡ true → a ≡ b
-nat_eq-true a b e = grind (arith, nat_tests)
-
+-- numbers that are the same pass the test
 nat_eq-same : (a b : ℕ) → a ≡ b → nat_eq a b ≡ true
 nat_eq-same a b e = grind (arith, nat_tests)
 
-is_label-true : (f : ℕ) (s : Symbol ℕ ℕ) → is_label f s ≡ true → s ≡ label f
-is_label-true f (label g) e = ap label (nat_eq-true g f e)
-is_label-true f (hole p) e = absurd (cc)
-
+-- so does a label with itself
 is_label-same : (f : ℕ) (s : Symbol ℕ ℕ) → s ≡ label f → is_label f s ≡ true
-is_label-same f (label g) e = nat_eq-same g f (cc)
-is_label-same f (hole p) e = absurd (cc)
+is_label-same f s e = elim (is_label_cases s f) [ inl y ↦ y.1 | inr n ↦ absurd (n.0 e) ]
 
 pub record IsOfShape (s : ℕ × ℕ × ℕ) (r : Rule ℕ) : Type 0 where
   pub left : r.left ≡ s.0
@@ -137,11 +126,8 @@ of_shape s r e =
     let inner = and-true _ _ outer.0 in
     record { left = nat_eq-true r.left s.0 inner.0; root = is_label-true s.1 r.right.label inner.1; many = nat_eq-true (count r.right.kids) s.2 outer.1 }
 
-both : {a b : Bool} → a ≡ true → b ≡ true → (a && b) ≡ true
-both e k = rw (e, k)
-
 shape_of : (s : ℕ × ℕ × ℕ) (r : Rule ℕ) → IsOfShape s r → has_shape s r ≡ true
-shape_of s r h = both (both (nat_eq-same r.left s.0 h.left) (is_label-same s.1 r.right.label h.root)) (nat_eq-same (count r.right.kids) s.2 h.many)
+shape_of s r h = and-both _ _ (and-both _ _ (nat_eq-same r.left s.0 h.left) (is_label-same s.1 r.right.label h.root)) (nat_eq-same (count r.right.kids) s.2 h.many)
 
 -- a rule at a position of a shape
 pub place_of_shape : (rules : List (Rule ℕ)) (s : ℕ × ℕ × ℕ) (p : ℕ) → Has (positions_with s rules) p → (p < length rules) × IsOfShape s (rule_at rules p)
@@ -214,7 +200,7 @@ module _ (twos : List (Rule ℕ)) (two_normal : AreNormal twos) (q f rank : ℕ)
       (product : ℕ → ℕ → ℕ) (ones : List (Rule ℕ)) (key o : ℕ × ℕ) (e : Rule (ℕ × ℕ)) → key.1 ≡ q → one ≡ rule_at ones o.0 → IsPairEdge product ones twos key o e →
       Has (positions_with (q, f, rank) twos) o.1
   edge_matches product ones key o e second is edge =
-      let same : edge.root ≡ f = same_label edge.root f (rule_at ones o.0).right.label edge.first_root (ap (λ (r : Rule ℕ). r.right.label) (sym is) ∙ root) in
+      let same : edge.root ≡ f = one_label edge.root f (rule_at ones o.0).right.label edge.first_root (ap (λ (r : Rule ℕ). r.right.label) (sym is) ∙ root) in
       has_place_of_shape twos (q, f, rank) o.1 edge.second (record {
         left = sym (ap (λ (k : ℕ × ℕ). k.1) edge.from) ∙ second;
         root = edge.second_root ∙ ap label same;

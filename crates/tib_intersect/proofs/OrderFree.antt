@@ -1,26 +1,26 @@
 -- The reached set of the pairs does not depend on the order of the rules.
 use Rattle.std.specs.Prelude.{◌≡◌, ℕ, ◌+◌, ◌<◌, List, [], ◌∷◌, ◌++◌, length, zip, refl}
 use Rattle.std.proofs.Common.{zero, suc, arith, ap, sym, ◌∙◌, subst, inl, inr, length-append, append-nil}
-use Rattle.tib_lex.specs.Lists.{Has, Distinct, Along}
+use Rattle.tib_lex.specs.Lists.{Has, Distinct, Along, IsReordering}
 use Rattle.tib_grammar.specs.Sides.{holes, over}
 use Rattle.tib_grammar.specs.Run.{rule_at, no_rule}
 use Rattle.tib_grammar.specs.declared.Rule.{Rule}
-use Rattle.tib_grammar.proofs.Members.{has_at, at_has}
 use Rattle.tib_hunt.specs.EdgeLists.{Lists}
 use Rattle.tib_hunt.specs.Reached.{IsNew, AfterRounds, IsReached, AreEdges, IsReachedSet}
 use Rattle.tib_hunt.proofs.Reaching.{in_reached}
 use Rattle.tib_intersect.specs.PairEdges.{pair_at, IsPairEdge}
 use Rattle.tib_intersect.specs.PairGrammar.{GivesEdge}
 use Rattle.tib_intersect.specs.PairLaws.{same_edge}
-use Rattle.tib_intersect.specs.Intersection.{intersection, DifferInOrder, OrderIsFree, IsOneSet}
+use Rattle.tib_intersect.specs.Intersection.{intersection, OrderIsFree, IsOneSet}
 use Rattle.tib_intersect.proofs.Intersecting.{distinct_at}
 use Rattle.tib_intersect.proofs.Whole.{along_of, along_back}
 use Rattle.tib_intersect.proofs.PairOrders.{pair_laws}
 use Rattle.tib_intersect.proofs.EdgesOver.{edges_below}
+use Rattle.tib_lex.proofs.Members.{has_at, at_has}
 
 -- lists of rules that differ in their order
 
-turned : (xs ys : List (Rule ℕ)) → DifferInOrder xs ys → DifferInOrder ys xs
+turned : (xs ys : List (Rule ℕ)) → IsReordering xs ys → IsReordering ys xs
 turned xs ys d = record { to = d.from; from = d.to; once_first = d.once_second; once_second = d.once_first }
 
 -- one rule at a position of the one list and at a position of the other
@@ -29,7 +29,7 @@ record IsSameRule (xs ys : List (Rule ℕ)) (m n : ℕ) : Type 0 where
   second : n < length ys
   is : rule_at xs m ≡ rule_at ys n
 
-module _ (xs ys : List (Rule ℕ)) (d : DifferInOrder xs ys) where
+module _ (xs ys : List (Rule ℕ)) (d : IsReordering xs ys) where
   place_in : (m : ℕ) → m < length xs → (n : ℕ) × IsSameRule xs ys m n
   place_in m h =
       let p = at_has ys (rule_at xs m) no_rule (d.to (rule_at xs m) (has_at xs m no_rule h)) in
@@ -113,7 +113,7 @@ module _ (product : ℕ → ℕ → ℕ) (one two three four : List (Rule ℕ)) 
         within = is.within;
       }
 
-module _ (product : ℕ → ℕ → ℕ) (one two three four : List (Rule ℕ)) (first : DifferInOrder one three) (second : DifferInOrder two four) where
+module _ (product : ℕ → ℕ → ℕ) (one two three four : List (Rule ℕ)) (first : IsReordering one three) (second : IsReordering two four) where
   edge_to : (key o : ℕ × ℕ) (e : Rule (ℕ × ℕ)) → IsPairEdge product one two key o e → (p : ℕ × ℕ) × IsSamePlace product one two three four o p × IsPairEdge product three four key p e
   edge_to key o e is =
       let m = place_in one three first o.0 is.first in
@@ -127,7 +127,7 @@ turned_rule xs ys m n s = record { first = s.second; second = s.first; is = sym 
 same_numbers : (o p : ℕ × ℕ) → o.0 ≡ p.0 → o.1 ≡ p.1 → o ≡ p
 same_numbers o p a b = λ i. (a i, b i)
 
-module _ (product : ℕ → ℕ → ℕ) (one two three four : List (Rule ℕ)) (first : DifferInOrder one three) (second : DifferInOrder two four) where
+module _ (product : ℕ → ℕ → ℕ) (one two three four : List (Rule ℕ)) (first : IsReordering one three) (second : IsReordering two four) where
   edge_back : (key p : ℕ × ℕ) (e : Rule (ℕ × ℕ)) → IsPairEdge product three four key p e → (o : ℕ × ℕ) × IsSamePlace product one two three four o p × IsPairEdge product one two key o e
   edge_back key p e is =
       let r = edge_to product three four one two (turned one three first) (turned two four second) key p e is in
@@ -149,7 +149,7 @@ module _ (product : ℕ → ℕ → ℕ) (one two three four : List (Rule ℕ)) 
   edges_to order zero es l = l
   edges_to order (suc n) es (front, last, is, before, l) = (front, last, is, edges_to order n front before, lists_to (pair_at order n) last l)
 
-module _ (product : ℕ → ℕ → ℕ) (one two three four : List (Rule ℕ)) (first : DifferInOrder one three) (second : DifferInOrder two four) where
+module _ (product : ℕ → ℕ → ℕ) (one two three four : List (Rule ℕ)) (first : IsReordering one three) (second : IsReordering two four) where
   new_back : (order : List (ℕ × ℕ)) (expanded : ℕ) (k : ℕ × ℕ) → IsNew (intersection product three four) order expanded k → IsNew (intersection product one two) order expanded k
   new_back = new_to product three four one two (turned one three first) (turned two four second)
 

@@ -6,25 +6,18 @@ use Rattle.std.specs.Cmp.{IsTotalOrder}
 use Rattle.std.proofs.lemmas.Cmp.{then_total, on_total, nat_cmp_total}
 use Rattle.tib_lex.specs.Lists.{Has, Distinct, Ascends}
 use Rattle.tib_grammar.specs.declared.Rule.{Rule}
-use Rattle.tib_grammar.proofs.Members.{each_has, has_either}
 use Rattle.tib_hunt.specs.Reached.{AfterRounds}
+use Rattle.tib_hunt.proofs.Members.{distinct_append}
 use Rattle.tib_hunt.proofs.Reaching.{Laws, apart}
 use Rattle.tib_intersect.specs.PairEdges.{pair_at, IsPairEdge}
 use Rattle.tib_intersect.specs.PairLaws.{same_edge}
 use Rattle.tib_intersect.specs.Intersection.{pair_cmp, intersection}
 use Rattle.tib_intersect.proofs.Listed.{index_append}
+use Rattle.tib_lex.proofs.Members.{each_has, has_either}
 
 -- pairs have a total order
 pub pair_total : IsTotalOrder pair_cmp
 pair_total = then_total (on_total (λ (p : ℕ × ℕ). p.0) nat_cmp_total) (on_total (λ (p : ℕ × ℕ). p.1) nat_cmp_total)
-
--- two lists without a common member are distinct together
-pub distinct_append : {A : Type 0} (xs ys : List A) → Distinct xs → Distinct ys → ((x : A) → Has xs x → Has ys x → ⊥) → Distinct (xs ++ ys)
-distinct_append [] ys d e n = e
-distinct_append (x ∷ xs) ys d e n = (
-  λ h. elim (has_either xs ys x h) [ inl k ↦ d.0 k | inr k ↦ n x (inl refl) k ],
-  distinct_append xs ys d.1 e (λ y h. n y (inr h)),
-)
 
 ascending_once : (xs : List (ℕ × ℕ)) → Ascends (λ a b. pair_cmp a b ≡ Less) xs → Distinct xs
 ascending_once [] a = tt

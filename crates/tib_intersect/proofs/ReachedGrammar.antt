@@ -2,15 +2,14 @@
 use Rattle.std.specs.Prelude.{◌≡◌, ℕ, ◌<◌, ◌≤◌, List, [], ◌∷◌, ◌++◌, length, map, zip, refl, IfOk}
 use Rattle.std.proofs.Common.{suc, arith, ap, sym, ◌∙◌, subst, Ok, Err}
 use Rattle.std.specs.declared.result.Result.{Result}
-use Rattle.tib_lex.specs.Lists.{Each}
+use Rattle.tib_lex.specs.Lists.{Each, total}
 use Rattle.tib_tree.specs.Trees.{Trees, none, tree, relabel, only}
 use Rattle.tib_grammar.specs.Sides.{Symbol, label, hole, holes, symbol_map, leaves}
 use Rattle.tib_grammar.specs.Run.{rule_at, no_rule}
 use Rattle.tib_grammar.specs.Range.{AllBelow, AreInRange}
+use Rattle.tib_grammar.proofs.Below.{below_append}
 use Rattle.tib_grammar.specs.GrammarOf.{GrammarOf, named_rule}
 use Rattle.tib_grammar.specs.declared.Rule.{Rule}
-use Rattle.tib_grammar.proofs.Members.{each_has, has_at}
-use Rattle.tib_hunt.specs.EdgeLists.{total}
 use Rattle.tib_hunt.specs.Reached.{IsReachedSet, IsBeyond, parts_of}
 use Rattle.tib_hunt.specs.Rows.{AreBelow}
 use Rattle.tib_hunt.specs.Numbered.{key_parts}
@@ -21,12 +20,9 @@ use Rattle.tib_intersect.specs.Intersection.{intersection, HasRootOf}
 use Rattle.tib_intersect.proofs.Intersecting.{label-relabel, firsts-zip, along_at, get_map, length_map}
 use Rattle.tib_intersect.proofs.PairOrders.{order_once, order_begins}
 use Rattle.tib_intersect.proofs.EdgesOver.{edges_below}
+use Rattle.tib_lex.proofs.Members.{each_has, has_at}
 
 -- range
-
-all_append : (n : ℕ) (xs ys : List ℕ) → AllBelow n xs → AllBelow n ys → AllBelow n (xs ++ ys)
-all_append n [] ys a b = b
-all_append n (x ∷ xs) ys a b = (a.0, all_append n xs ys a.1 b)
 
 each_left : (n : ℕ) (xs ys : List ℕ) → Each (λ q. q < n) (xs ++ ys) → Each (λ q. q < n) xs
 each_left n [] ys h = tt
@@ -39,7 +35,7 @@ each_right n (x ∷ xs) ys h = each_right n xs ys h.1
 holes_below : (n : ℕ) (ts : Trees (Symbol ℕ ℕ)) → Each (λ q. q < n) (states_in ts) → AllBelow n (holes ts)
 holes_below n none h = tt
 holes_below n (tree (label x) kids rest) h =
-    all_append n (holes kids) (holes rest) (holes_below n kids (each_left n (states_in kids) (states_in rest) h)) (holes_below n rest (each_right n (states_in kids) (states_in rest) h))
+    below_append n (holes kids) (holes rest) (holes_below n kids (each_left n (states_in kids) (states_in rest) h)) (holes_below n rest (each_right n (states_in kids) (states_in rest) h))
 holes_below n (tree (hole q) kids rest) h = (h.0, holes_below n rest (each_right n (states_in kids) (states_in rest) h.1))
 
 rules_in_range : (n : ℕ) (rules : List (Rule ℕ)) → AreBelow positions_of n rules → AreInRange n rules

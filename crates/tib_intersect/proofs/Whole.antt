@@ -1,11 +1,10 @@
 -- What a whole list of edges says, and what holds of all edges.
 use Rattle.std.specs.Prelude.{◌≡◌, ℕ, ◌≤◌, ◌↔◌, List, [], ◌∷◌, length, map, refl}
 use Rattle.std.proofs.Common.{arith, ap, sym, ◌∙◌, subst, inl, inr}
-use Rattle.tib_lex.specs.Lists.{Has, Each, Along}
+use Rattle.tib_lex.specs.Lists.{Has, Each, Along, total}
 use Rattle.tib_grammar.specs.Sides.{over}
 use Rattle.tib_grammar.specs.declared.Rule.{Rule}
-use Rattle.tib_grammar.proofs.Members.{has_left, has_right, has_either}
-use Rattle.tib_hunt.specs.EdgeLists.{total, key_at, IsWithin, IsEnd, Exceeds, AreListed}
+use Rattle.tib_hunt.specs.EdgeLists.{key_at, IsWithin, IsEnd, Exceeds, AreListed}
 use Rattle.tib_intersect.specs.declared.listing.Listing.{Listing}
 use Rattle.tib_intersect.specs.declared.pair_rule.PairRule.{PairRule}
 use Rattle.tib_intersect.specs.PairEdges.{pair_at, IsPairEdge, ends_of, edge_parts}
@@ -13,6 +12,7 @@ use Rattle.tib_intersect.specs.PairRules.{places_of, read_places, Reads}
 use Rattle.tib_intersect.specs.Listing.{all_ends, IsWithinBudget, AreListedFrom, Overruns}
 use Rattle.tib_intersect.specs.PairLaws.{same_edge}
 use Rattle.tib_intersect.proofs.Lists.{total_fewer}
+use Rattle.tib_lex.proofs.Members.{has_left, has_right, has_either}
 
 -- the partner of a member of the first list
 pub along_of : {A B : Type 0} (R : A → B → Type 0) (xs : List A) (ys : List B) (x : A) → Along R xs ys → Has xs x → (y : B) × R x y × Has ys y

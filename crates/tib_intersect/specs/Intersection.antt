@@ -5,7 +5,7 @@ use Rattle.std.specs.declared.cmp.Ordering.{Ordering}
 use Rattle.tib_grammar.specs.Sides.{label, holes, over}
 use Rattle.tib_grammar.specs.Run.{rule_at}
 use Rattle.tib_grammar.specs.declared.Rule.{Rule}
-use Rattle.tib_lex.specs.Lists.{Has, Distinct}
+use Rattle.tib_lex.specs.Lists.{Has, IsReordering}
 use Rattle.tib_hunt.specs.Reached.{Operation, operation, IsReachedSet}
 use Rattle.tib_hunt.specs.Numbered.{key_parts}
 use Rattle.tib_intersect.specs.PairEdges.{pair_at, IsPairEdge, ends_of, edge_parts}
@@ -31,17 +31,10 @@ pub record HasRootOf (rules : List (Rule ℕ)) (r : Rule ℕ) : Type 0 where
   pub rank : length states ≡ length (holes (rule_at rules position).right.kids)
   pub right : r.right ≡ over root states
 
--- two lists of rules differ in their order alone, and none stands twice
-pub record DifferInOrder (xs ys : List (Rule ℕ)) : Type 0 where
-  pub to : (r : Rule ℕ) → Has xs r → Has ys r
-  pub from : (r : Rule ℕ) → Has ys r → Has xs r
-  pub once_first : Distinct xs
-  pub once_second : Distinct ys
-
--- the reached set is the same for lists of rules that differ in their order alone
+-- the reached set is the same for lists of rules that differ in their order alone, and have no rule twice
 abbrev pub OrderIsFree : (ℕ → ℕ → ℕ) → Type 0
 OrderIsFree product =
-    (one two three four : List (Rule ℕ)) → DifferInOrder one three → DifferInOrder two four → (order : List (ℕ × ℕ)) (edges : List (Rule (ℕ × ℕ))) →
+    (one two three four : List (Rule ℕ)) → IsReordering one three → IsReordering two four → (order : List (ℕ × ℕ)) (edges : List (Rule (ℕ × ℕ))) →
     IsReachedSet (intersection product one two) order edges → IsReachedSet (intersection product three four) order edges
 
 -- two grammars reach the same pairs in the same order, and the same edges

@@ -1,22 +1,14 @@
 -- The edges of a pair, listed one after another.
 use Rattle.std.specs.Prelude.{◌≡◌, ℕ, ◌+◌, ◌<◌, ◌≤◌, ◌⊎◌, List, [], ◌∷◌, ◌++◌, length, map, zip}
-use Rattle.tib_lex.specs.Lists.{Has, Distinct, Along}
+use Rattle.tib_lex.specs.Lists.{Has, Distinct, Along, total}
 use Rattle.tib_cost.specs.Semiring.{most}
 use Rattle.tib_grammar.specs.Sides.{label, holes}
 use Rattle.tib_grammar.specs.Run.{rule_at}
 use Rattle.tib_grammar.specs.declared.Rule.{Rule}
-use Rattle.tib_grammar.specs.declared.Item.{Item}
-use Rattle.tib_grammar.specs.declared.Item.TheVariants.{Label, Hole}
-use Rattle.tib_hunt.specs.EdgeLists.{total}
 use Rattle.tib_hunt.specs.Reached.{most_parts}
 use Rattle.tib_intersect.specs.declared.listing.Listing.{Listing}
 use Rattle.tib_intersect.specs.PairEdges.{pair_at, IsPairEdge, ends_of, edge_parts}
 use Rattle.tib_intersect.specs.PairRules.{Reads}
-
--- the state that an item carries
-abbrev pub state_in : Item ℕ → ℕ
-state_in (Label f rank) = 0
-state_in (Hole q) = q
 
 -- the states below the root of a rule
 abbrev pub states_of : Rule ℕ → List ℕ

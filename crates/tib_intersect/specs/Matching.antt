@@ -5,7 +5,8 @@ use Rattle.std.specs.HashMap.{HashMap, get}
 use Rattle.std.proofs.Common.{suc, get_or}
 use Rattle.tib_tree.specs.Trees.{count}
 use Rattle.tib_grammar.specs.declared.Rule.{Rule}
-use Rattle.tib_normal.specs.Rules.{is_label}
+use Rattle.tib_grammar.specs.Sides.{is_label}
+use Rattle.tib_normal.specs.Index.{bucket_at, lists_of}
 
 -- the positions, of which the first is k, of the rules that pass a test
 abbrev pub positions_from : ℕ → (Rule ℕ → Bool) → List (Rule ℕ) → List ℕ
@@ -24,14 +25,6 @@ positions_with s rules = positions_from 0 (has_shape s) rules
 -- whether two shapes are the same
 abbrev pub same_shape : ℕ × ℕ × ℕ → ℕ × ℕ × ℕ → Bool
 same_shape s t = (nat_eq s.0 t.0 && nat_eq s.1 t.1) && nat_eq s.2 t.2
-
--- the bucket of a number, empty where there is none
-abbrev pub bucket_at : List (List ℕ) → Option ℕ → List ℕ
-bucket_at buckets None = []
-bucket_at buckets (Some i) = get_or buckets i []
-
-abbrev pub lists_of : List (Vec ℕ) → List (List ℕ)
-lists_of buckets = map (λ b. b.items) buckets
 
 -- what an index holds for a shape
 abbrev pub held : {S : Type 0} → HashMap (ℕ × ℕ × ℕ) ℕ S → List (Vec ℕ) → ℕ × ℕ × ℕ → List ℕ

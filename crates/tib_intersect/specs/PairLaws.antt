@@ -7,7 +7,7 @@ use Rattle.tib_grammar.specs.Sides.{Symbol, label, hole, symbol_map, holes, hole
 use Rattle.tib_grammar.specs.GrammarOf.{named_rule}
 use Rattle.tib_grammar.specs.Run.{rule_at}
 use Rattle.tib_grammar.specs.declared.Rule.{Rule}
-use Rattle.tib_grammar.proofs.Sides.{holes_of-label, holes_of-over}
+use Rattle.tib_grammar.proofs.Sides.{holes_of-label, holes_of-over, one_label}
 use Rattle.tib_hunt.specs.declared.place.Place.{Place}
 use Rattle.tib_hunt.specs.declared.place.Place.TheVariants.{Known}
 use Rattle.tib_intersect.specs.declared.pair_rule.PairRule.{PairRule}
@@ -16,16 +16,11 @@ use Rattle.tib_hunt.specs.Lawful.{IsLawful}
 use Rattle.tib_intersect.specs.Intersection.{intersection, pair_cmp}
 use Rattle.tib_intersect.specs.PairRules.{ends_from, places_of, read_places, states_in, positions_of, pair_reading}
 
--- a symbol has one label
-pub same_label : {P : Type 0} (f g : ℕ) (s : Symbol ℕ P) → s ≡ label f → s ≡ label g → f ≡ g
-same_label f g (label h) e k = cc
-same_label f g (hole p) e k = absurd (cc)
-
 -- an origin gives one edge
 pub same_edge : (product : ℕ → ℕ → ℕ) (one two : List (Rule ℕ)) (key o : ℕ × ℕ) (e d : Rule (ℕ × ℕ)) →
     IsPairEdge product one two key o e → IsPairEdge product one two key o d → e ≡ d
 same_edge product one two key o e d h k =
-    let root : h.root ≡ k.root = same_label h.root k.root (rule_at one o.0).right.label h.first_root k.first_root in
+    let root : h.root ≡ k.root = one_label h.root k.root (rule_at one o.0).right.label h.first_root k.first_root in
     let zipped : List (ℕ × ℕ) = zip (holes (rule_at one o.0).right.kids) (holes (rule_at two o.1).right.kids) in
     let left : e.left ≡ d.left = h.left ∙ sym k.left in
     let right : e.right ≡ d.right = h.right ∙ ap (λ f. over f zipped) root ∙ sym k.right in

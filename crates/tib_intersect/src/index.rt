@@ -3,37 +3,23 @@
 ghost use Rattle.std.specs.Prelude.{◌≡◌, ℕ, ◌+◌, ◌<◌, ◌≤◌, ◌^◌, IfOk, OnOk, length, List};
 ghost use Rattle.tib_grammar.specs.Forms.{AreNormal, IsNormalSide};
 ghost use Rattle.tib_grammar.specs.declared.Rule.{Rule};
-ghost use Rattle.tib_grammar.specs.Sides.{label as label_symbol};
-ghost use Rattle.tib_tree.specs.Trees.{count};
 ghost use Rattle.tib_intersect.specs.Matching.{AddsPosition, AreNumbered, has_shape, positions_with, same_shape};
 ghost use Rattle.tib_intersect.specs.IsIndex.{IsIndex};
 
 use std::alloc::{AllocError, Global};
 use std::collections::HashMap;
-use tib_grammar::{Item, Rule};
+use tib_grammar::Rule;
 use tib_tree::Label;
 
 /// The shape of a rule: its left state, the label at its root and its rank.
 pub type Shape = (u32, Label, u32);
-
-/// The label and the rank of a rule's right side.
-pub(crate) fn label_of(rule: &Rule<u32>) -> (Label, u32)
-    requires { IsNormalSide rule.now.right }
-    ensures label { rule.now.right.label ≡ label_symbol result.0 }
-    ensures rank { result.1 ≡ count rule.now.right.kids }
-{
-    match &rule.right.items()[0] {
-        Item::Label { label, rank } => (*label, *rank),
-        Item::Hole(_) => unreachable!(),
-    }
-}
 
 /// The shape of a rule.
 fn shape_of(rule: &Rule<u32>) -> Shape
     requires { IsNormalSide rule.now.right }
     ensures { (s : ℕ × ℕ × ℕ) → has_shape s rule.now ≡ same_shape result s }
 {
-    let (label, rank) = label_of(rule);
+    let (label, rank) = rule.root();
     (rule.left, label, rank)
 }
 

@@ -5,33 +5,15 @@ ghost use Rattle.tib_lex.specs.Lists.{Has, Each, Distinct};
 ghost use Rattle.tib_grammar.specs.Forms.{AreNormal, IsNormalSide};
 ghost use Rattle.tib_grammar.specs.Run.{rule_at};
 ghost use Rattle.tib_grammar.specs.declared.Rule.{Rule};
-ghost use Rattle.tib_intersect.specs.Listing.{state_in, states_of, pairs_of, Agree, IsNext, IsTooMuch, IsWithinBudget, ListsMatches, MatchesOverrun};
+ghost use Rattle.tib_intersect.specs.Listing.{states_of, pairs_of, Agree, IsNext, IsTooMuch, IsWithinBudget, ListsMatches, MatchesOverrun};
+ghost use Rattle.tib_grammar.specs.Items.{state_in};
 
-use crate::index::label_of;
 use crate::pair::Pair;
 use crate::pair_rule::PairRule;
 use std::alloc::{AllocError, Global};
 use tib_cost::Semiring;
 use tib_grammar::{Item, Rule};
 use tib_hunt::{Edges, ExpandError};
-
-/// The state that an item carries.
-fn state_of(item: &Item<u32>) -> u32
-    ensures { result ≡ state_in item.now }
-{
-    match item {
-        Item::Label { .. } => 0,
-        Item::Hole(state) => *state,
-    }
-}
-
-/// The states below the root of a rule in normal form.
-fn states_below(rule: &Rule<u32>) -> &[Item<u32>]
-    requires { IsNormalSide rule.now.right }
-    ensures { map state_in result.now ≡ states_of rule.now }
-{
-    &rule.right.items()[1..]
-}
 
 /// Appends the pairs of the states of the items to the ends.
 fn push_pairs(ends: &mut Vec<Pair>, one: &[Item<u32>], two: &[Item<u32>]) -> Result<(), AllocError>
@@ -40,7 +22,7 @@ fn push_pairs(ends: &mut Vec<Pair>, one: &[Item<u32>], two: &[Item<u32>]) -> Res
 {
     for i in 0..one.len() {
         let (first, second) = (&one[i], &two[i]);
-        ends.push(Pair::new(state_of(first), state_of(second)))?;
+        ends.push(Pair::new(first.state(), second.state()))?;
     }
     Ok(())
 }
@@ -89,13 +71,13 @@ impl Listing {
         let Some(cost) = S::times(one.cost, two.cost) else {
             return Ok(());
         };
-        let (label, rank) = label_of(one);
+        let (label, rank) = one.root();
         let parts = self.parts + 2 + rank as u64;
         if parts > self.budget {
             return Err(ExpandError::More);
         }
         let first_end = self.ends.len() as u32;
-        match push_pairs(&mut self.ends, states_below(one), states_below(two)) {
+        match push_pairs(&mut self.ends, one.states_below(), two.states_below()) {
             Ok(()) => {}
             Err(_) => return Err(ExpandError::OutOfMemory),
         }

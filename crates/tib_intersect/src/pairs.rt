@@ -6,7 +6,7 @@ ghost use Rattle.tib_intersect.specs.IsIndex.{IsIndex};
 ghost use Rattle.tib_intersect.specs.PairEdges.{StatesBelow};
 ghost use Rattle.tib_intersect.specs.Listing.{IsWithinBudget, ListsPair, PairOverruns};
 
-use crate::index::{Index, label_of};
+use crate::index::Index;
 use crate::listing::Listing;
 use crate::pair::Pair;
 use crate::pair_rule::PairRule;
@@ -66,7 +66,7 @@ impl<'a, S: Semiring> Pairs<'a, S> {
         self.left.grammar().is_sound();
         let others = self.right.grammar().rule_list();
         for one in self.left.rules_of(pair.first()) {
-            let (label, rank) = label_of(one);
+            let (label, rank) = one.root();
             let matches = self.index.find(pair.second(), label, rank);
             match listing.add_matches::<S>(one, others, matches) {
                 Ok(()) => {}

@@ -15,8 +15,8 @@ use Rattle.tib_intersect.proofs.pairs.Pairs.list_edges.Goals as goal
 same_fault : (f : ExpandError) → ◌≡◌ {A = Result Listing ExpandError} (Err f) (Err ExpandError.More) → ◌≡◌ {A = Result (Unit {0}) ExpandError} (Err f) (Err ExpandError.More)
 same_fault f e = let same : f ≡ ExpandError.More = cc e in ap Err same
 
-pub label_of-label-requires : goal.label_of-label-requires
-label_of-label-requires g c =
+pub root-label-requires : goal.root-label-requires
+root-label-requires g c =
     rule_normal c.args.pair.0 c.args.self.now.left.now.rules c.loop-one.one-index c.one-item.result c.grammar.ensures.normal.normal
     (rule_in c.args.pair.0 c.args.self.now.left.now.rules c.loop-one.one-index c.first.result c.one-item.result c.rules_of-one-items.result.now c.rules_of-one-items.ensures c.first.ensures c.loop-one-test.true c.one-item.is)
 
@@ -37,14 +37,14 @@ add_matches-requires-clause-positions g c =
     let rule = rule_in key.0 ones c.loop-one.one-index c.first.result one c.rules_of-one-items.result.now c.rules_of-one-items.ensures c.first.ensures c.loop-one-test.true c.one-item.is in
     let normal = rule_normal key.0 ones c.loop-one.one-index one c.grammar.ensures.normal.normal rule in
     let others_normal : AreNormal others = subst AreNormal (sym o) c.grammar-2.ensures.normal.normal in
-    let are : matches ≡ positions_with (c.second.result, c.label_of-label.result.0, c.label_of-label.result.1) others =
-    c.find-matches.ensures twos c.args.self.now.indexed ∙ ap (λ (rs : List (Rule ℕ)). positions_with (c.second.result, c.label_of-label.result.0, c.label_of-label.result.1) rs) (sym o) in
-    matches_fit others matches c.second.result c.label_of-label.result.0 c.label_of-label.result.1 one others_normal normal c.label_of-label.ensures.label c.label_of-label.ensures.rank are
+    let are : matches ≡ positions_with (c.second.result, c.root-label.result.0, c.root-label.result.1) others =
+    c.find-matches.ensures twos c.args.self.now.indexed ∙ ap (λ (rs : List (Rule ℕ)). positions_with (c.second.result, c.root-label.result.0, c.root-label.result.1) rs) (sym o) in
+    matches_fit others matches c.second.result c.root-label.result.0 c.root-label.result.1 one others_normal normal c.root-label.ensures.label c.root-label.ensures.rank are
 
 pub add_matches-requires-clause-distinct : goal.add_matches-requires-clause-distinct
 add_matches-requires-clause-distinct g c =
     let are = c.find-matches.ensures c.args.self.now.right.now.rules c.args.self.now.indexed in
-    matches_distinct c.args.self.now.right.now.rules c.find-matches.result.now c.second.result c.label_of-label.result.0 c.label_of-label.result.1 are
+    matches_distinct c.args.self.now.right.now.rules c.find-matches.result.now c.second.result c.root-label.result.0 c.root-label.result.1 are
 
 pub returns-in-Err-clause-more : goal.returns-in-Err-clause-more
 returns-in-Err-clause-more g c e order within at =
@@ -58,8 +58,8 @@ returns-in-Err-clause-more g c e order within at =
     let rule = rule_in key.0 ones c.loop-one.one-index c.first.result one c.rules_of-one-items.result.now c.rules_of-one-items.ensures c.first.ensures c.loop-one-test.true c.one-item.is in
     let normal = rule_normal key.0 ones c.loop-one.one-index one c.grammar.ensures.normal.normal rule in
     let others_normal : AreNormal others = subst AreNormal (sym o) c.grammar-2.ensures.normal.normal in
-    let are : matches ≡ positions_with (c.second.result, c.label_of-label.result.0, c.label_of-label.result.1) others =
-    c.find-matches.ensures twos c.args.self.now.indexed ∙ ap (λ (rs : List (Rule ℕ)). positions_with (c.second.result, c.label_of-label.result.0, c.label_of-label.result.1) rs) (sym o) in
+    let are : matches ≡ positions_with (c.second.result, c.root-label.result.0, c.root-label.result.1) others =
+    c.find-matches.ensures twos c.args.self.now.indexed ∙ ap (λ (rs : List (Rule ℕ)). positions_with (c.second.result, c.root-label.result.0, c.root-label.result.1) rs) (sym o) in
     let m = c.loop-one.one-index in
     let n = c.loop-one.listing.position in
     let same : n ≡ c.args.position = c.loop-one.invariant.position in
@@ -68,8 +68,8 @@ returns-in-Err-clause-more g c e order within at =
     let before : AreListedFor g.S.Semiring.product ones others order n (take m (positions_of key.0 ones)) c.loop-one.listing =
     subst (λ rs. AreListedFor g.S.Semiring.product ones rs order n (take m (positions_of key.0 ones)) c.loop-one.listing) (sym o)
     (subst (λ j. AreListedFor g.S.Semiring.product ones twos order j (take m (positions_of key.0 ones)) c.loop-one.listing) (sym same) (c.loop-one.invariant.listed order within at)) in
-    let stands = stands_here g.S.Semiring.product ones others order n m key one matches c.second.result c.label_of-label.result.0 c.label_of-label.result.1 rule normal others_normal c.label_of-label.ensures.label c.label_of-label.ensures.rank c.second.ensures are inside there in
-    let fresh = fresh_here g.S.Semiring.product ones others order n m key one matches c.second.result c.label_of-label.result.0 c.label_of-label.result.1 rule normal others_normal c.label_of-label.ensures.label c.label_of-label.ensures.rank c.second.ensures are inside there c.loop-one.listing before in
+    let stands = stands_here g.S.Semiring.product ones others order n m key one matches c.second.result c.root-label.result.0 c.root-label.result.1 rule normal others_normal c.root-label.ensures.label c.root-label.ensures.rank c.second.ensures are inside there in
+    let fresh = fresh_here g.S.Semiring.product ones others order n m key one matches c.second.result c.root-label.result.0 c.root-label.result.1 rule normal others_normal c.root-label.ensures.label c.root-label.ensures.rank c.second.ensures are inside there c.loop-one.listing before in
     let over = c.add_matches.ensures.more (c.in-Err.is ∙ same_fault c.in-Err.fault e) ones order (get_or (positions_of key.0 ones) m 0) before.tried stands fresh before.listed in
     subst (Overruns g.S.Semiring.product ones twos order c.args.position) c.loop-one.invariant.budget
     (subst (λ j. Overruns g.S.Semiring.product ones twos order j c.loop-one.listing.budget) same
@@ -91,8 +91,8 @@ loop-one-preserved g c = record {
       let rule = rule_in key.0 ones c.loop-one.one-index c.first.result one c.rules_of-one-items.result.now c.rules_of-one-items.ensures c.first.ensures c.loop-one-test.true c.one-item.is in
       let normal = rule_normal key.0 ones c.loop-one.one-index one c.grammar.ensures.normal.normal rule in
       let others_normal : AreNormal others = subst AreNormal (sym o) c.grammar-2.ensures.normal.normal in
-      let are : matches ≡ positions_with (c.second.result, c.label_of-label.result.0, c.label_of-label.result.1) others =
-      c.find-matches.ensures twos c.args.self.now.indexed ∙ ap (λ (rs : List (Rule ℕ)). positions_with (c.second.result, c.label_of-label.result.0, c.label_of-label.result.1) rs) (sym o) in
+      let are : matches ≡ positions_with (c.second.result, c.root-label.result.0, c.root-label.result.1) others =
+      c.find-matches.ensures twos c.args.self.now.indexed ∙ ap (λ (rs : List (Rule ℕ)). positions_with (c.second.result, c.root-label.result.0, c.root-label.result.1) rs) (sym o) in
       let m = c.loop-one.one-index in
       let n = c.loop-one.listing.position in
       let same : n ≡ c.args.position = c.loop-one.invariant.position in
@@ -101,12 +101,12 @@ loop-one-preserved g c = record {
       let before : AreListedFor g.S.Semiring.product ones others order n (take m (positions_of key.0 ones)) c.loop-one.listing =
       subst (λ rs. AreListedFor g.S.Semiring.product ones rs order n (take m (positions_of key.0 ones)) c.loop-one.listing) (sym o)
       (subst (λ j. AreListedFor g.S.Semiring.product ones twos order j (take m (positions_of key.0 ones)) c.loop-one.listing) (sym same) (c.loop-one.invariant.listed order within at)) in
-      let stands = stands_here g.S.Semiring.product ones others order n m key one matches c.second.result c.label_of-label.result.0 c.label_of-label.result.1 rule normal others_normal c.label_of-label.ensures.label c.label_of-label.ensures.rank c.second.ensures are inside there in
-      let fresh = fresh_here g.S.Semiring.product ones others order n m key one matches c.second.result c.label_of-label.result.0 c.label_of-label.result.1 rule normal others_normal c.label_of-label.ensures.label c.label_of-label.ensures.rank c.second.ensures are inside there c.loop-one.listing before in
+      let stands = stands_here g.S.Semiring.product ones others order n m key one matches c.second.result c.root-label.result.0 c.root-label.result.1 rule normal others_normal c.root-label.ensures.label c.root-label.ensures.rank c.second.ensures are inside there in
+      let fresh = fresh_here g.S.Semiring.product ones others order n m key one matches c.second.result c.root-label.result.0 c.root-label.result.1 rule normal others_normal c.root-label.ensures.label c.root-label.ensures.rank c.second.ensures are inside there c.loop-one.listing before in
       let listed = c.in-Ok.ensures.listed ones order (get_or (positions_of key.0 ones) m 0) before.tried stands fresh before.listed in
       subst (λ j. AreListedFor g.S.Semiring.product ones twos order j (take (m + 1) (positions_of key.0 ones)) c.add_matches.new.self) same
       (subst (λ rs. AreListedFor g.S.Semiring.product ones rs order n (take (m + 1) (positions_of key.0 ones)) c.add_matches.new.self) o
-      (listed_here g.S.Semiring.product ones others order n m key one matches c.second.result c.label_of-label.result.0 c.label_of-label.result.1 rule normal others_normal c.label_of-label.ensures.label c.label_of-label.ensures.rank c.second.ensures are inside there c.loop-one.listing c.add_matches.new.self before listed));
+      (listed_here g.S.Semiring.product ones others order n m key one matches c.second.result c.root-label.result.0 c.root-label.result.1 rule normal others_normal c.root-label.ensures.label c.root-label.ensures.rank c.second.ensures are inside there c.loop-one.listing c.add_matches.new.self before listed));
 }
 
 pub returns-clause-listed : goal.returns-clause-listed
