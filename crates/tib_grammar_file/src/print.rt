@@ -16,8 +16,8 @@ use tib_grammar::{Grammar, Item, Names, Rule, Side};
 use tib_io::{Failed, Sink};
 use tib_tree::Labels;
 
-// Prints a number of trees from an index of a preorder on, with a space between them. It answers
-// the index behind them.
+// Prints a number of trees from a place of a preorder on, with a space between them. It answers
+// the place behind them.
 fn put_trees<W: Sink>(
     out: &mut W,
     items: &[Item<u32>],

@@ -131,7 +131,7 @@ fn resolve_rule(
     })
 }
 
-// A number of nodes from an index on.
+// A number of nodes from a place on.
 fn nodes_at(nodes: &[RawItem], at: usize, count: u32) -> &[RawItem]
     requires { at + count ≤ length nodes.now }
     ensures { result.now ≡ take count (drop at nodes.now) }

@@ -47,7 +47,8 @@ pub trait Expand {
     // Which edges the rules stand for.
     ghost reading: { Reading Self.Key Self.Edge Self.Over Self.Rule };
 
-    /// The edges of the seeds, and the seeds. `More` comes exactly where these edges have more parts than the budget.
+    /// The edges of the seeds, and the seeds. `More` comes exactly where these edges have more parts
+    /// than the budget, `OutOfMemory` only if memory is refused.
     fn seeds(&self, alloc: Global, budget: u64) -> Result<Edges<Self::Key, Self::Over>, ExpandError>
         requires { budget ≤ most_parts }
         ensures listed { IfOk result (ListsSeedEdges (hunted self.now) reading) }
@@ -55,7 +56,8 @@ pub trait Expand {
         ensures within { IfOk result (λ r. r.parts ≤ budget) }
         ensures more { IfErr result (IfMore (SeedEdgesExceed (hunted self.now) budget)) };
 
-    /// The edges of the position `n` of the order, and their ends. `More` comes exactly where these edges have more parts than the budget.
+    /// The edges of the position `n` of the order, and their ends. `More` comes exactly where these
+    /// edges have more parts than the budget, `OutOfMemory` only if memory is refused.
     fn expand(
         &self,
         alloc: Global,
@@ -71,7 +73,7 @@ pub trait Expand {
         ensures within { IfOk result (λ r. r.parts ≤ budget) }
         ensures more { IfErr result (IfMore (EdgesExceed (hunted self.now) order.now n budget)) };
 
-    /// The rule with each of its ends replaced by that end's position.
+    /// The rule with each of its ends replaced by that end's position. Err only if memory is refused.
     fn settle(
         &self,
         alloc: Global,

@@ -1,4 +1,4 @@
-// At which indices each state stands in a list. They are 64-bit numbers, since the right sides may
+// At which places each state stands in a list. They are 64-bit numbers, since the right sides may
 // have 2^32 states.
 ghost use Rattle.std.specs.Prelude.{◌≡◌, ℕ, ◌+◌, ◌<◌, ◌≤◌, ◌^◌, IfOk, length};
 ghost use Rattle.tib_grammar.specs.Range.{AreBelow};

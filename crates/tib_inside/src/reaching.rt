@@ -205,7 +205,7 @@ pub fn kept_rules(
     Ok(both)
 }
 
-/// The marked indices, ascending.
+/// The marked places, ascending.
 pub fn marked_places(alloc: Global, marks: &[bool]) -> Result<Vec<u32>, AllocError>
     requires { length marks.now < 2 ^ 32 }
     ensures { IfOk result (λ v. v.items

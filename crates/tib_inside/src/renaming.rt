@@ -13,7 +13,7 @@ ghost use Rattle.tib_inside.specs.Renaming.{AreNumbersOf, AscendsByPlace};
 use std::alloc::{AllocError, Global};
 use tib_grammar::{Names, Rule};
 
-/// For each listed state below a number, its index in the list.
+/// For each listed state below a number, its place in the list.
 pub fn numbers_of(alloc: Global, states: &[u32], count: usize) -> Result<Vec<u32>, AllocError>
     requires few { length states.now < 2 ^ 32 }
     requires below { AreBelow count states.now }

@@ -52,7 +52,7 @@ fn keep<S: Semiring>(
 pub struct TrimmedRules {
     /// The states that are kept, ascending.
     pub states: Vec<u32>,
-    /// The rules that are kept, in order, over the indices of these states.
+    /// The rules that are kept, in order, over the places of these states.
     pub rules: Vec<Rule<u32>>,
 }
 

@@ -1,10 +1,10 @@
-// At which indices each key stands in a list of keys.
+// At which places each key stands in a list of keys.
 ghost use Rattle.std.specs.Prelude.{◌≡◌, ℕ, ◌+◌, ◌<◌, ◌≤◌, ◌^◌, IfOk, length};
 ghost use Rattle.tib_normal.specs.Links.{AreLinks};
 
 use std::alloc::{AllocError, Global};
 
-/// For each key its first index in a list of keys, and for each index the next one of its key. The
+/// For each key its first place in a list of keys, and for each place the next one of its key. The
 /// length of the list means that there is none.
 #[derive(Drop)]
 pub struct Links {

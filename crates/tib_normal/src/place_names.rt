@@ -19,7 +19,7 @@ fn taken_lengths(alloc: Global, names: &Names) -> Result<Vec<bool>, AllocError>
     Ok(taken)
 }
 
-/// The first index in a list of lengths that is not taken.
+/// The first place in a list of lengths that is not taken.
 fn first_free(taken: &[bool]) -> Option<usize>
     ensures { result ≡ position not taken.now }
 {
