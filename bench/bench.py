@@ -6,7 +6,9 @@ No test times anything; the numbers depend on the machine and on what else it do
 import math
 import os
 import random
+import re
 import resource
+import shutil
 import subprocess
 import sys
 import time
@@ -67,6 +69,27 @@ def some_trees(size):
         lines.append(line)
         length += len(line) + 1
     return lines
+
+
+def as_xml(lines, size):
+    """An XML document of about `size` bytes: the first trees of some lines, each node an element."""
+    parts, length = ["<r>"], 7
+    for line in lines:
+        made, above = [], []
+        for label, opening in re.findall(r"([^() ]+)(\(?)|\)", line):
+            if not label:
+                made.append("</%s>" % above.pop())
+            elif opening:
+                made.append("<%s>" % label)
+                above.append(label)
+            else:
+                made.append("<%s/>" % label)
+        text = "".join(made)
+        length += len(text)
+        if length > size:
+            break
+        parts.append(text)
+    return ["".join(parts) + "</r>"]
 
 
 class Weighing:
@@ -245,6 +268,10 @@ def main(program):
     size = sum(len(line) + 1 for line in lines) / MEGABYTE
     row("read 8 MB of trees (a fault in the last line)", measure(program, "weigh", tiny, write("faulty.trees", lines + ["("])), size, "MB/s")
     row("read, weigh and print 8 MB of trees", measure(program, "weigh", tiny, write("large.trees", lines)), size, "MB/s")
+    if shutil.which("xmllint"):
+        xml = write("large.xml", as_xml(lines, MOST))
+        row("  xmllint parses 8 MB of such trees", measure("xmllint", "--noout", xml), size, "MB/s")
+        row("  the same as a stream", measure("xmllint", "--noout", "--stream", xml), size, "MB/s")
 
     weighing = Weighing()
     grammar = write("weigh.grammar", weighing.lines)
