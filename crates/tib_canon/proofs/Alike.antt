@@ -6,11 +6,11 @@ use Rattle.tib_tree.specs.Trees.{Trees, none, tree}
 use Rattle.tib_grammar.specs.Sides.{holes_of}
 use Rattle.tib_grammar.specs.Run.{rule_at, no_rule, AreRuns, cost}
 use Rattle.tib_grammar.specs.declared.Rule.{Rule}
-use Rattle.tib_grammar.proofs.Members.{has_at, at_has}
 use Rattle.tib_cost.specs.Semiring.{most}
 use Rattle.tib_cost.proofs.Least.{IsLeast-same}
 use Rattle.tib_inside.specs.Inside.{IsRunCost, IsInside}
 use Rattle.tib_inside.specs.Useful.{product_of, IsLive, IsUseful}
+use Rattle.tib_lex.proofs.Members.{has_at, at_has}
 use Rattle.tib_inside.specs.Useful as useful
 
 -- each rule of the one list stands in the other

@@ -5,22 +5,22 @@ use Rattle.std.proofs.lemmas.List.{length-map, get_or-map}
 use Rattle.std.proofs.lemmas.Option.{get_or_from_slice_get}
 use Rattle.tib_lex.specs.Lists.{Has, Distinct}
 use Rattle.tib_tree.specs.Trees.{Trees, none, tree, only, relabel}
-use Rattle.tib_grammar.specs.Sides.{Symbol, label, hole, Side, symbol_map}
+use Rattle.tib_grammar.specs.Sides.{Symbol, label, hole, Side, symbol_map, labels_in}
 use Rattle.tib_grammar.specs.GrammarOf.{GrammarOf, named_rule}
 use Rattle.tib_grammar.specs.Run.{rule_at, no_rule}
 use Rattle.tib_grammar.specs.declared.Rule.{Rule}
-use Rattle.tib_grammar.proofs.Members.{has_at, at_has, has_either}
 use Rattle.tib_grammar_file.specs.ByText.{HaveOneShape, HaveOneText, AgreeInSymbol, AreOneRule, AgreeByText}
 use Rattle.tib_grammar_file.specs.Printed.{grammar_text}
 use Rattle.tib_grammar_file.proofs.Relabelled.{rules_with}
 use Rattle.tib_grammar_file.proofs.Renumbering.{Renumbers, renumbering}
 use Rattle.tib_grammar_file.proofs.RunsByText.{along_at, rules_given}
-use Rattle.tib_normal.specs.NormalForm.{labels_in, heads, inner_rules, all_inner, first_inner, IsNormalForm}
+use Rattle.tib_normal.specs.NormalForm.{heads, inner_rules, all_inner, first_inner, IsNormalForm}
 use Rattle.tib_inside.specs.Trimmed.{IsTrimmed}
 use Rattle.tib_canon.specs.Canonical.{IsCanonical}
 use Rattle.tib_canon.proofs.NormalByText.{form_with}
 use Rattle.tib_canon.proofs.NormalForms.{one_of_forms}
 use Rattle.tib_canon.proofs.TrimmedByText.{grammar_with, EachLabel, EachLabelIn, KeepsText, trimmed_with, grammar_printed, order_with}
+use Rattle.tib_lex.proofs.Members.{has_at, at_has, has_either}
 
 -- what holds of each label of a grammar holds of each label of its normal, trimmed and canonical forms
 module _ (P : ℕ → Type 0) where

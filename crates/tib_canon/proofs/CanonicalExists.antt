@@ -7,12 +7,11 @@ use Rattle.tib_grammar.specs.GrammarOf.{GrammarOf}
 use Rattle.tib_grammar.specs.Range.{AreInRange, SidesEndInHoles}
 use Rattle.tib_grammar.specs.Run.{no_rule}
 use Rattle.tib_grammar.specs.declared.Rule.{Rule}
-use Rattle.tib_grammar.proofs.Members.{at_has}
 use Rattle.tib_grammar_file.specs.Printable.{IsPlainCost, ArePrintable}
 use Rattle.tib_grammar_file.proofs.Plain.{are_labelled}
 use Rattle.tib_cost.specs.Semiring.{ProductLaws}
 use Rattle.tib_inside.specs.Settling.{costs_in}
-use Rattle.tib_inside.specs.Trimmed.{IsTrimmed, HasSameSeries}
+use Rattle.tib_inside.specs.Trimmed.{IsTrimmed}
 use Rattle.tib_inside.proofs.Keeping.{kept}
 use Rattle.tib_inside.proofs.Living.{insides_all}
 use Rattle.tib_canon.specs.Canonical.{names_of, IsInOrder, IsCanonical}
@@ -26,6 +25,8 @@ use Rattle.tib_canon.proofs.Telling.{IsSafe}
 use Rattle.tib_canon.proofs.TrimmedExist.{trimmed_there}
 use Rattle.tib_canon.proofs.TrimmedOnce.{names_long}
 use Rattle.tib_canon.proofs.Within.{rules_safe}
+use Rattle.tib_lex.proofs.Members.{at_has}
+use Rattle.tib_grammar.specs.Series.{HasSameSeries}
 
 plain_within : (scale : Scale) (cost : ℕ) → IsPlainCost scale cost → cost ≤ 1000000000000000
 plain_within scales.Plain cost h = h

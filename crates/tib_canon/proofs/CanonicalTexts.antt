@@ -13,7 +13,6 @@ use Rattle.tib_grammar.specs.Range.{AreInRange, IsInRange, AreLone, SidesEndInHo
 use Rattle.tib_grammar.specs.Run.{rule_at, no_rule}
 use Rattle.tib_grammar.specs.StateName.{AreStateNames}
 use Rattle.tib_grammar.specs.declared.Rule.{Rule}
-use Rattle.tib_grammar.proofs.Members.{has_at, at_has, each_has, each_of}
 use Rattle.tib_grammar_file.specs.ByName.{HasText, HaveRules}
 use Rattle.tib_grammar_file.specs.GrammarText.{GrammarText}
 use Rattle.tib_grammar_file.specs.Printable.{ArePrintable}
@@ -34,6 +33,7 @@ use Rattle.tib_canon.proofs.Inhabited.{few_states, some_states, states_have_rule
 use Rattle.tib_canon.proofs.PrintableRules.{canonical_printable, form_printable, over_printable}
 use Rattle.tib_canon.proofs.StateNames.{length-names_of, are_state_names}
 use Rattle.tib_canon.proofs.TrimmedOnce.{leaves_back, names_long}
+use Rattle.tib_lex.proofs.Members.{has_at, at_has, each_has, each_of}
 
 -- rules in order ascend by their left states
 

@@ -3,14 +3,15 @@ use Rattle.std.proofs.Common.{◌≡◌, ℕ, ◌+◌, ◌<◌, ◌≤◌, List,
 use Rattle.std.specs.Prelude.{◌≢◌, Option, None, Some}
 use Rattle.std.proofs.lemmas.List.{get_or_append_left, get_or-set_same, get_or-set_other}
 use Rattle.std.proofs.Math.Seq.{get_or-append_seam}
+use Rattle.tib_lex.proofs.Numbers.{below_cases}
 use Rattle.tib_lex.specs.Lists.{Has, Distinct}
 use Rattle.tib_tree.specs.Trees.{preorder_of}
 use Rattle.tib_grammar.specs.Run.{rule_at}
 use Rattle.tib_grammar.specs.declared.Rule.{Rule}
 use Rattle.tib_grammar.proofs.Holes.{pairs_same, side_same}
-use Rattle.tib_grammar.proofs.Members.{has_at, at_has}
 use Rattle.tib_canon.specs.Canonical.{AgreeInSides}
 use Rattle.tib_canon.specs.Merging.{Sides, no_sides, AreSidesOf, IsCheaper, HasCheaperAt, AreCheapest, IsChosenFor, IsChoosing, IsNoted}
+use Rattle.tib_lex.proofs.Members.{has_at, at_has}
 
 -- rules with the same sides agree, and the other way round
 agree_from : (k : Sides) (r s : Rule ℕ) → AreSidesOf k r → AreSidesOf k s → AgreeInSides r s
@@ -21,9 +22,6 @@ sides_from j k r s a b e =
     let left : j.0 ≡ k.0 = a.0 ∙ e.left ∙ sym b.0 in
     let right : j.1 ≡ k.1 = pairs_same j.1 k.1 (a.1 ∙ ap preorder_of e.right ∙ sym b.1) in
     ap (λ x. (x, j.1)) left ∙ ap (λ x. (k.0, x)) right
-
-below_or_last : (i n : ℕ) → i < n + 1 → (i < n) ⊎ (i ≡ n)
-below_or_last i n h = grind arith
 
 same_or_other : (i n : ℕ) → (i ≡ n) ⊎ (i ≢ n)
 same_or_other i n = grind arith
@@ -50,10 +48,10 @@ module _ (rules : List (Rule ℕ)) (n : ℕ) (sides : List Sides) (best : List �
   chosen_new new = record {
     long = omega (arith, length-more sides k, length-more best n, c.long);
     few = omega (arith, length-more best n, c.few);
-    distinct = λ i j h l e. apart i j (below_or_last i (length sides) (omega (arith, length-more sides k))) (below_or_last j (length sides) (omega (arith, length-more sides k))) e;
-    below = λ i h. low i (below_or_last i (length best) (omega (arith, length-more best n)));
-    are = λ i h. are i (below_or_last i (length best) (omega (arith, length-more best n)));
-    whole = λ m h. whole m (below_or_last m n h);
+    distinct = λ i j h l e. apart i j (below_cases i (length sides) (omega (arith, length-more sides k))) (below_cases j (length sides) (omega (arith, length-more sides k))) e;
+    below = λ i h. low i (below_cases i (length best) (omega (arith, length-more best n)));
+    are = λ i h. are i (below_cases i (length best) (omega (arith, length-more best n)));
+    whole = λ m h. whole m (below_cases m n h);
   }
     where
       old_side : (i : ℕ) → i < length sides → get_or (sides ++ k ∷ []) i no_sides ≡ get_or sides i no_sides
@@ -112,7 +110,7 @@ module _ (rules : List (Rule ℕ)) (n : ℕ) (sides : List Sides) (best : List �
     distinct = c.distinct;
     below = λ i h. low i (same_or_other i place) (omega (arith, length-set best place p));
     are = λ i h. are i (same_or_other i place) (omega (arith, length-set best place p));
-    whole = λ m h. whole m (below_or_last m n h);
+    whole = λ m h. whole m (below_cases m n h);
   }
     where
       inside : place < length best

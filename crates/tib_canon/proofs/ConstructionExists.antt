@@ -3,7 +3,7 @@ use Rattle.tib_cost.specs.declared.Scale.{Scale}
 use Rattle.std.proofs.Common.{◌≡◌, ℕ, ◌<◌, ◌≤◌, Bool, List, [], ◌∷◌, length, map, get_or, sym, subst, arith}
 use Rattle.std.proofs.lemmas.List.{get_or-map, length-map}
 use Rattle.std.specs.declared.cmp.Ordering.TheVariants.{Equal}
-use Rattle.tib_lex.specs.Lists.{Has, Distinct}
+use Rattle.tib_lex.specs.Lists.{Has, Distinct, total}
 use Rattle.tib_tree.specs.Trees.{Trees, none, tree, only, relabel}
 use Rattle.tib_cost.specs.Semiring.{ProductLaws}
 use Rattle.tib_grammar.specs.Sides.{Symbol, label, hole, HolesAreLeaves, holes_of, symbol_map}
@@ -11,11 +11,9 @@ use Rattle.tib_grammar.specs.GrammarOf.{GrammarOf, named_rule}
 use Rattle.tib_grammar.specs.Range.{IsInRange, AreInRange}
 use Rattle.tib_grammar.specs.Run.{rule_at, no_rule}
 use Rattle.tib_grammar.specs.declared.Rule.{Rule}
-use Rattle.tib_grammar.proofs.Members.{has_at}
 use Rattle.tib_grammar_file.specs.GrammarText.{GrammarText}
 use Rattle.tib_grammar_file.specs.Printable.{HavePlainLabels, IsPlainCost, IsPrintable}
 use Rattle.tib_grammar_file.specs.Printed.{grammar_text}
-use Rattle.tib_hunt.specs.EdgeLists.{total}
 use Rattle.tib_hunt.specs.Reached.{IsReached, IsReachedSet, parts_of}
 use Rattle.tib_hunt.proofs.Reaching.{Laws}
 use Rattle.tib_canon.specs.Constructions.{Construction, edges_over, HasReachedWithin, AreRulesOver, IsCanonicalOf}
@@ -24,6 +22,7 @@ use Rattle.tib_canon.proofs.CanonicalTexts.{keys_text}
 use Rattle.tib_canon.proofs.OverKeysExist.{keys_there}
 use Rattle.tib_canon.proofs.PlacesIn.{place_in, placed_in_range, placed_back, map_itself}
 use Rattle.tib_canon.proofs.ReachedOnce.{order_once, key_same}
+use Rattle.tib_lex.proofs.Members.{has_at}
 
 -- an edge over the keys of an order, which can be printed whatever states stand for its keys
 pub record IsEdgeOver {K : Type 0} (scale : Scale) (labels : List (List ℕ)) (order : List K) (e : Rule K) : Type 0 where

@@ -10,7 +10,6 @@ use Rattle.tib_grammar.specs.GrammarOf.{GrammarOf, named_rule}
 use Rattle.tib_grammar.specs.Range.{AreInRange, SidesEndInHoles}
 use Rattle.tib_grammar.specs.Run.{rule_at, no_rule}
 use Rattle.tib_grammar.specs.declared.Rule.{Rule}
-use Rattle.tib_grammar.proofs.Members.{at_has}
 use Rattle.tib_grammar_file.specs.Printable.{HavePlainLabels, ArePrintable}
 use Rattle.tib_grammar_file.specs.Printed.{grammar_text}
 use Rattle.tib_grammar_file.proofs.Relabelled.{trees_with, rule_with, rules_with}
@@ -23,12 +22,14 @@ use Rattle.tib_canon.specs.declared.begin.Begin.{Begin}
 use Rattle.tib_canon.specs.declared.begin.Begin.TheVariants.{At, Empty}
 use Rattle.tib_canon.proofs.CanonicalByText.{labels_back, canonical_labels, canonical_with}
 use Rattle.tib_canon.proofs.EdgesByText.{edge_with, edges_commute, leaves_with}
-use Rattle.tib_canon.proofs.InOrder.{has_mapped, mapped_has}
+use Rattle.tib_canon.proofs.InOrder.{mapped_has}
 use Rattle.tib_canon.proofs.KeysOnce.{begun_once, rule_over}
 use Rattle.tib_canon.proofs.ReachedOnce.{one_set, order_once}
 use Rattle.tib_canon.proofs.TrimmedByText.{grammar_with, EachLabel, EachLabelIn, KeepsText, range_with, over_with, grammar_printed}
 use Rattle.tib_canon.proofs.TrimmedOnce.{Fit, fit_from, place_in, rule_told}
 use Rattle.tib_inside.proofs.Chosen.{distinct_at}
+use Rattle.tib_lex.proofs.Members.{at_has}
+use Rattle.tib_lex.proofs.Lists.{has_mapped}
 
 -- a rule over the positions of an order, with nothing below a state
 record IsFit (n : ℕ) (r : Rule ℕ) : Type 0 where

@@ -1,4 +1,5 @@
 -- Sorted lines give a grammar in canonical order.
+use Rattle.tib_lex.proofs.Lists.{Each-from, Ascends-from, has_mapped}
 use Rattle.tib_cost.specs.declared.Scale.{Scale}
 use Rattle.std.proofs.Common.{◌≡◌, ℕ, ◌<◌, ◌≤◌, List, [], ◌∷◌, length, map, get_or, refl, ap, sym, ◌∙◌, subst, arith, suc, inl, inr, ◌⊎◌}
 use Rattle.std.specs.Prelude.{IsPermutation, IsSorted}
@@ -12,7 +13,6 @@ use Rattle.tib_grammar.specs.GrammarOf.{GrammarOf}
 use Rattle.tib_grammar.specs.Run.{rule_at, no_rule}
 use Rattle.tib_grammar.specs.StateName.{AreStateNames}
 use Rattle.tib_grammar.specs.declared.Rule.{Rule}
-use Rattle.tib_grammar.proofs.Members.{has_at, at_has, each_has}
 use Rattle.tib_canon.specs.Canonical.{names_of, line_of, rule_cmp, AgreeInSides, HasSides, IsInOrder}
 use Rattle.tib_canon.specs.Lines.{IsLineAt}
 use Rattle.tib_canon.specs.Merging.{AreCheapest}
@@ -20,6 +20,7 @@ use Rattle.tib_canon.specs.declared.lines.Line.{Line}
 use Rattle.tib_canon.proofs.Permuting.{has_permuted, distinct_permuted, distinct_at}
 use Rattle.tib_canon.proofs.Sorting.{text_cmp, line_cmp, sorted_apart}
 use Rattle.tib_canon.proofs.Telling.{IsSafe, told_by_line}
+use Rattle.tib_lex.proofs.Members.{has_at, at_has, each_has}
 
 pub cheapest_permuted : (rules : List (Rule ℕ)) (xs ys : List ℕ) → IsPermutation xs ys → AreCheapest rules xs → AreCheapest rules ys
 cheapest_permuted rules xs ys p c =
@@ -31,25 +32,6 @@ cheapest_permuted rules xs ys p c =
       apart = λ q r h k e. c.apart q r (has_permuted ys xs q back h) (has_permuted ys xs r back k) e;
       whole = λ m h. let w = c.whole m h in record { position = w.position; stands = has_permuted xs ys w.position p w.stands; agrees = w.agrees; costs = w.costs };
     }
-
-Each-from : {A : Type 0} (P : A → Type 0) (xs : List A) (d : A) → ((n : ℕ) → n < length xs → P (get_or xs n d)) → Each P xs
-Each-from P [] d h = tt
-Each-from P (x ∷ xs) d h = (h 0 (omega arith), Each-from P xs d (λ n b. h (suc n) (omega arith)))
-
-Ascends-from : {A : Type 0} (R : A → A → Type 0) (xs : List A) (d : A) → ((m n : ℕ) → m < n → n < length xs → R (get_or xs m d) (get_or xs n d)) → Ascends R xs
-Ascends-from R [] d h = tt
-Ascends-from R (x ∷ xs) d h = (
-  Each-from (R x) xs d (λ n b. h 0 (suc n) (omega arith) (omega arith)),
-  Ascends-from R xs d (λ m n b c. h (suc m) (suc n) (omega arith) (omega arith)),
-)
-
--- what stands in a list under a function
-pub has_mapped : {A B : Type 0} (f : A → B) (xs : List A) (y : B) → Has (map f xs) y → (x : A) × Has xs x × (f x ≡ y)
-has_mapped f [] y h = absurd h
-has_mapped f (x ∷ xs) y h = elim h [
-  | inl e ↦ (x, inl refl, e)
-  | inr k ↦ let r = has_mapped f xs y k in (r.0, inr r.1, r.2)
-]
 
 pub mapped_has : {A B : Type 0} (f : A → B) (xs : List A) (x : A) → Has xs x → Has (map f xs) (f x)
 mapped_has f [] x h = absurd h

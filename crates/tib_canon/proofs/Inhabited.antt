@@ -3,14 +3,14 @@ use Rattle.std.proofs.Common.{◌≡◌, ◌⊎◌, ℕ, ◌+◌, ◌<◌, ◌�
 use Rattle.std.specs.Prelude.{None, Some}
 use Rattle.std.proofs.lemmas.List.{get_or_append_left}
 use Rattle.std.proofs.Math.Seq.{get_or-append_seam}
+use Rattle.tib_lex.proofs.Numbers.{same_or_other, below_cases}
 use Rattle.tib_lex.specs.Lists.{Has, Along}
 use Rattle.tib_tree.specs.Trees.{Trees, none, tree}
 use Rattle.tib_grammar.specs.Sides.{holes_of}
 use Rattle.tib_grammar.specs.GrammarOf.{GrammarOf}
-use Rattle.tib_grammar.specs.Range.{AreInRange}
+use Rattle.tib_grammar.specs.Range.{AreInRange, IsLeftIn}
 use Rattle.tib_grammar.specs.Run.{rule_at, AreRuns, cost}
 use Rattle.tib_grammar.specs.declared.Rule.{Rule}
-use Rattle.tib_grammar.proofs.Members.{has_at, at_has}
 use Rattle.tib_cost.specs.Semiring.{ProductLaws, most}
 use Rattle.tib_normal.proofs.Existing.{has_least}
 use Rattle.tib_inside.specs.Inside.{IsRunCost, IsInside, AreInsides}
@@ -23,13 +23,11 @@ use Rattle.tib_inside.proofs.Keeping.{as_many, named_at}
 use Rattle.tib_inside.proofs.Living.{insides_all, live_by_runs}
 use Rattle.tib_inside.proofs.Occurring.{below_has}
 use Rattle.tib_canon.proofs.TrimmedOnce.{place_told}
+use Rattle.tib_lex.proofs.Members.{has_at, at_has}
 
 module _ (product : ℕ → ℕ → ℕ) (rules : List (Rule ℕ)) where
-  last_or_before : (q n : ℕ) → q < n + 1 → (q < n) ⊎ (q ≡ n)
-  last_or_before q n h = grind arith
-
   insides_more : (costs : List (Option ℕ)) (v : Option ℕ) → AreInsides product rules costs → IsInside product rules (length costs) v → AreInsides product rules (costs ++ v ∷ [])
-  insides_more costs v are i q h = elim (last_or_before q (length costs) (omega (arith, length-append costs (v ∷ [])))) [
+  insides_more costs v are i q h = elim (below_cases q (length costs) (omega (arith, length-append costs (v ∷ [])))) [
     | inl k ↦ subst (IsInside product rules q) (sym (get_or_append_left costs (v ∷ []) None q k)) (are q k)
     | inr e ↦ subst (λ p. IsInside product rules p (get_or (costs ++ v ∷ []) p None)) (sym e) (subst (IsInside product rules (length costs)) (sym (get_or-append_seam costs v [] None)) i)
   ]
@@ -76,12 +74,6 @@ module _ (product : ℕ → ℕ → ℕ) (rules : List (Rule ℕ)) where
           k n (live_by_runs laws rules (costs_in costs) all n inner a.0 a.2 (omega (arith, less, m))) a.1
 
 -- whether a state has a rule can be seen
-
-abbrev IsLeftIn : List (Rule ℕ) → ℕ → Type 0
-IsLeftIn rules q = (n : ℕ) × (n < length rules) × ((rule_at rules n).left ≡ q)
-
-same_or_other : (p q : ℕ) → (p ≡ q) ⊎ (p ≡ q → ⊥)
-same_or_other p q = grind arith
 
 not_left : (r : Rule ℕ) (rules : List (Rule ℕ)) (q : ℕ) → (r.left ≡ q → ⊥) → (IsLeftIn rules q → ⊥) → IsLeftIn (r ∷ rules) q → ⊥
 not_left r rules q other others (zero, h, e) = other e

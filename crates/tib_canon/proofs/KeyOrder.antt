@@ -10,9 +10,9 @@ use Rattle.std.proofs.lemmas.Cmp.{on_total, then_total, nat_cmp_total}
 use Rattle.std.proofs.lemmas.List.{length-map}
 use Rattle.std.proofs.lemmas.List.Sorted.{ranks_by, sorted_far, length_permutation, IsPermutation-map, IsPermutation-sym}
 use Rattle.tib_lex.specs.Lists.{Has, Ascends, Distinct}
-use Rattle.tib_grammar.proofs.Members.{at_has, each_has, each_of}
 use Rattle.tib_canon.specs.Keys.{marked, StandBefore, AreByKeys}
 use Rattle.tib_canon.proofs.Permuting.{has_permuted, distinct_permuted}
+use Rattle.tib_lex.proofs.Members.{at_has, each_has, each_of}
 
 -- a key with its position, and whether it is another than the start
 abbrev Mark : Type 0 → Type 0

@@ -3,12 +3,12 @@ use Rattle.tib_cost.specs.declared.Scale.{Scale}
 use Rattle.std.proofs.Common.{◌≡◌, ℕ, List, [], length, sym, ap, ◌∙◌, refl}
 use Rattle.std.specs.declared.cmp.Ordering.{Ordering}
 use Rattle.tib_grammar.specs.declared.Rule.{Rule}
-use Rattle.tib_inside.specs.Trimmed.{HasSameSeries}
 use Rattle.tib_canon.specs.Canonical.{names_of, OverStates, IsCanonical}
 use Rattle.tib_canon.specs.Keys.{IsOverKeys, IsCanonicalOverKeys}
 use Rattle.tib_canon.specs.declared.begin.Begin.TheVariants.{At, Empty}
 use Rattle.tib_grammar.specs.GrammarOf.{GrammarOf}
 use Rattle.tib_canon.proofs.StateNames.{length-names_of}
+use Rattle.tib_grammar.specs.Series.{HasSameSeries}
 
 module _ {K : Type 0} (product : ℕ → ℕ → ℕ) (scale : Scale) (labels : List (List ℕ)) (cmp : K → K → Ordering) (order : List K) (rules : List (Rule ℕ)) (h : GrammarOf) where
   pub at_key :

@@ -13,8 +13,7 @@ use Rattle.tib_grammar.specs.GrammarOf.{GrammarOf, named_rule}
 use Rattle.tib_grammar.specs.Range.{SidesEndInHoles}
 use Rattle.tib_grammar.specs.Run.{rule_at, no_rule}
 use Rattle.tib_grammar.specs.declared.Rule.{Rule}
-use Rattle.tib_grammar.proofs.Members.{has_at, at_has, each_has, each_of}
-use Rattle.tib_inside.proofs.Chosen.{distinct_at, has_map}
+use Rattle.tib_inside.proofs.Chosen.{distinct_at}
 use Rattle.tib_canon.specs.Canonical.{IsCanonical}
 use Rattle.tib_canon.specs.Keys.{StandBefore, AreByKeys, IsOverKeys, IsBegun, IsCanonicalOverKeys, without_rules}
 use Rattle.tib_canon.specs.declared.begin.Begin.{Begin}
@@ -22,6 +21,8 @@ use Rattle.tib_canon.specs.declared.begin.Begin.TheVariants.{At, Empty}
 use Rattle.tib_canon.proofs.Alike.{alike_self}
 use Rattle.tib_canon.proofs.One.{ascending_same, one_less}
 use Rattle.tib_canon.proofs.TrimmedOnce.{Fit, fit_from, leaves_back, place_in, rule_told, one_canonical_of}
+use Rattle.tib_lex.proofs.Members.{has_at, at_has, each_has, each_of}
+use Rattle.tib_lex.proofs.Lists.{has_mapped}
 
 -- the positions of an order by their keys, each once
 
@@ -108,7 +109,7 @@ module _ {K : Type 0} (cmp : K → K → Ordering) (order : List K) (start : ℕ
       ((r : Rule ℕ) → Has xs r → Has ys r) → (r : Rule ℕ) → Has g.rules r → Has k.rules r
   stands_over xs ys g k a b same leaves others to r h =
       let there : Has ys (named_rule (place_in a.states) r) = to (named_rule (place_in a.states) r) (rule_over xs g a r h) in
-      let s = has_map (named_rule (place_in b.states)) k.rules (named_rule (place_in a.states) r) (subst (λ (rs : List (Rule ℕ)). Has rs (named_rule (place_in a.states) r)) (sym b.named) there) in
+      let s = has_mapped (named_rule (place_in b.states)) k.rules (named_rule (place_in a.states) r) (subst (λ (rs : List (Rule ℕ)). Has rs (named_rule (place_in a.states) r)) (sym b.named) there) in
       let mine = is_over xs g a leaves r h in
       let its = is_over ys k b others s.0 s.1 in
       let renamed : named_rule (place_in b.states) s.0 ≡ named_rule (place_in b.states) r = s.2 ∙ ap (λ (qs : List ℕ). named_rule (place_in qs) r) same in

@@ -4,14 +4,15 @@ use Rattle.std.specs.Prelude.{Some}
 use Rattle.std.proofs.lemmas.List.{length-map, map-append}
 use Rattle.tib_lex.specs.Lists.{Has, Each, Ascends}
 use Rattle.tib_tree.specs.Trees.{Trees, none, tree}
-use Rattle.tib_grammar.specs.Sides.{Symbol, label, hole, Side, Lone}
+use Rattle.tib_grammar.specs.Sides.{Symbol, label, hole, Side, Lone, labels_in}
 use Rattle.tib_grammar.specs.Run.{rule_at}
 use Rattle.tib_grammar.specs.declared.Rule.{Rule}
 use Rattle.tib_grammar_file.proofs.Relabelled.{symbol_with, trees_with, side_with, rule_with, rules_with, at_with, side_told}
 use Rattle.tib_cost.specs.Least.{IsLeast}
 use Rattle.tib_cost.proofs.Least.{IsLeast-same}
-use Rattle.tib_normal.specs.NormalForm.{IsChain, chain_cost, labels_in, heads, inner_rules, all_inner, first_inner, Reaches, IsNormalCost, IsNormalForm}
-use Rattle.tib_canon.proofs.InOrder.{has_mapped, mapped_has}
+use Rattle.tib_normal.specs.NormalForm.{IsChain, chain_cost, heads, inner_rules, all_inner, first_inner, Reaches, IsNormalCost, IsNormalForm}
+use Rattle.tib_canon.proofs.InOrder.{mapped_has}
+use Rattle.tib_lex.proofs.Lists.{has_mapped}
 
 pub each_mapped : {A B : Type 0} (R : A → Type 0) (S : B → Type 0) (f : A → B) (xs : List A) → ((x : A) → Has xs x → R x → S (f x)) → Each R xs → Each S (map f xs)
 each_mapped R S f [] moves e = tt

@@ -3,17 +3,17 @@ use Rattle.tib_cost.specs.declared.Scale.{Scale}
 use Rattle.std.proofs.Common.{◌≡◌, ℕ, ◌+◌, ◌≤◌, List, [], ◌∷◌, length, sym, subst, arith, suc, inl, inr}
 use Rattle.tib_lex.specs.Lists.{Has}
 use Rattle.tib_tree.specs.Trees.{Trees, none, tree, only}
-use Rattle.tib_grammar.specs.Sides.{Symbol, label, hole, HolesAreLeaves}
+use Rattle.tib_grammar.specs.Sides.{Symbol, label, hole, HolesAreLeaves, labels_in}
 use Rattle.tib_grammar.specs.GrammarOf.{GrammarOf}
 use Rattle.tib_grammar.specs.Range.{SidesEndInHoles}
 use Rattle.tib_grammar.specs.Run.{rule_at, no_rule}
 use Rattle.tib_grammar.specs.declared.Rule.{Rule}
-use Rattle.tib_grammar.proofs.Members.{has_at, has_either}
-use Rattle.tib_normal.specs.NormalForm.{labels_in, heads, inner_rules, all_inner, first_inner, IsNormalCost, IsNormalForm}
+use Rattle.tib_normal.specs.NormalForm.{heads, inner_rules, all_inner, first_inner, IsNormalCost, IsNormalForm}
 use Rattle.tib_normal.proofs.Normalizing.{below_or_after}
 use Rattle.tib_canon.specs.Canonical.{IsCanonical}
 use Rattle.tib_canon.proofs.Alike.{AreAlike}
 use Rattle.tib_canon.proofs.TrimmedOnce.{one_canonical_of}
+use Rattle.tib_lex.proofs.Members.{has_at, has_either}
 
 -- nothing stands below a state in the rules of a normal form
 

@@ -5,80 +5,36 @@ use Rattle.std.specs.List.{list_any, position_or_len}
 use Rattle.std.specs.Cmp.Lexicographic.{pointwise}
 use Rattle.std.proofs.lemmas.List.{map-append}
 use Rattle.std.proofs.lemmas.Bool.Decides.{nat_tests}
+use Rattle.tib_lex.proofs.Numbers.{nat_eq-true, nat_eq-itself}
+use Rattle.tib_lex.proofs.Booleans.{and-true, or-either, or-neither}
 use Rattle.tib_lex.specs.Lists.{Has}
 use Rattle.tib_grammar.specs.declared.Item.{Item}
 use Rattle.tib_grammar.specs.declared.Item.TheVariants.{Label, Hole}
-use Rattle.tib_grammar.proofs.RightSides.{IsItemTest}
+use Rattle.tib_grammar.proofs.RightSides.{IsItemTest, items_same, items_themselves}
 use Rattle.tib_canon.specs.Merging.{Sides, no_sides}
 
-both : (a b : Bool) → (a && b) ≡ true → (a ≡ true) × (b ≡ true)
-both true b e = (refl, e)
-both false b e = absurd (cc)
-
-nat_same : (a b : ℕ) → nat_eq a b ≡ true → a ≡ b
-nat_same a b e = grind (arith, nat_tests)
-
-nat_itself : (a : ℕ) → nat_eq a a ≡ true
-nat_itself a = grind (arith, nat_tests)
-
 module _ (E : Item ℕ → Item ℕ → Bool) (test : IsItemTest E) where
-  item_same : (x y : Item ℕ) → E x y ≡ true → x ≡ y
-  item_same (Label f r) (Label g s) e =
-      let parts = both (nat_eq f g) (nat_eq r s) (sym (test.labels f r g s) ∙ e) in
-      let labels : f ≡ g = nat_same f g parts.0 in
-      let ranks : r ≡ s = nat_same r s parts.1 in
-      cc
-  item_same (Label f r) (Hole q) e = absurd (true≢false (sym e ∙ test.label_hole f r q))
-  item_same (Hole p) (Label g s) e = absurd (true≢false (sym e ∙ test.hole_label p g s))
-  item_same (Hole p) (Hole q) e = ap Hole (nat_same p q (sym (test.holes p q) ∙ e))
-
-  item_itself : (x : Item ℕ) → E x x ≡ true
-  item_itself (Label f r) = test.labels f r f r ∙ rw (nat_itself f, nat_itself r) refl
-  item_itself (Hole p) = test.holes p p ∙ nat_itself p
-
-  items_same : (xs ys : List (Item ℕ)) → pointwise E xs ys ≡ true → xs ≡ ys
-  items_same [] [] e = refl
-  items_same [] (y ∷ ys) e = absurd (cc)
-  items_same (x ∷ xs) [] e = absurd (cc)
-  items_same (x ∷ xs) (y ∷ ys) e =
-      let parts = both (E x y) (pointwise E xs ys) e in
-      let head : x ≡ y = item_same x y parts.0 in
-      let tail : xs ≡ ys = items_same xs ys parts.1 in
-      cc
-
-  items_themselves : (xs : List (Item ℕ)) → pointwise E xs xs ≡ true
-  items_themselves [] = refl
-  items_themselves (x ∷ xs) = rw (item_itself x, items_themselves xs) refl
-
-  -- the test of both sides tells them
+  -- the test of and-true sides tells them
   pub sides_same : (j k : Sides) → (nat_eq j.0 k.0 && pointwise E j.1 k.1) ≡ true → k ≡ j
   sides_same j k e =
-      let parts = both (nat_eq j.0 k.0) (pointwise E j.1 k.1) e in
-      let left : j.0 ≡ k.0 = nat_same j.0 k.0 parts.0 in
-      let right : j.1 ≡ k.1 = items_same j.1 k.1 parts.1 in
+      let parts = and-true (nat_eq j.0 k.0) (pointwise E j.1 k.1) e in
+      let left : j.0 ≡ k.0 = nat_eq-true j.0 k.0 parts.0 in
+      let right : j.1 ≡ k.1 = items_same E test j.1 k.1 parts.1 in
       sym (ap (λ x. (x, j.1)) left ∙ ap (λ x. (k.0, x)) right)
 
   pub sides_themselves : (j k : Sides) → k ≡ j → (nat_eq j.0 k.0 && pointwise E j.1 k.1) ≡ true
-  sides_themselves j k e = subst (λ (l : Sides). (nat_eq j.0 l.0 && pointwise E j.1 l.1) ≡ true) (sym e) (rw (nat_itself j.0, items_themselves j.1) refl)
-
-either : (a b : Bool) → (a || b) ≡ true → (a ≡ true) ⊎ ((a ≡ false) × (b ≡ true))
-either true b e = inl refl
-either false b e = inr (refl, e)
-
-neither : (a b : Bool) → (a || b) ≡ false → (a ≡ false) × (b ≡ false)
-neither true b e = absurd (cc)
-neither false b e = (refl, e)
+  sides_themselves j k e = subst (λ (l : Sides). (nat_eq j.0 l.0 && pointwise E j.1 l.1) ≡ true) (sym e) (rw (nat_eq-itself j.0, items_themselves E test j.1) refl)
 
 module _ {K : Type 0} (v : K → Sides) (t : K → Bool) (x : K) where
   absent : ((k : K) → v k ≡ v x → t k ≡ true) → (keys : List K) → list_any t keys ≡ false → Has (map v keys) (v x) → ⊥
   absent told [] f h = h
   absent told (k ∷ keys) f h =
-      let parts = neither (t k) (list_any t keys) f in
+      let parts = or-neither (t k) (list_any t keys) f in
       elim h [ inl e ↦ true≢false (sym (told k e) ∙ parts.0) | inr m ↦ absent told keys parts.1 m ]
 
   found : ((k : K) → t k ≡ true → v k ≡ v x) → (keys : List K) → list_any t keys ≡ true → (position_or_len t keys < length (map v keys)) × (get_or (map v keys) (position_or_len t keys) no_sides ≡ v x)
   found tells [] e = absurd (cc)
-  found tells (k ∷ keys) e = elim (either (t k) (list_any t keys) e) [
+  found tells (k ∷ keys) e = elim (or-either (t k) (list_any t keys) e) [
     | inl h ↦ here k keys (t k) h (tells k h)
     | inr m ↦ there k keys (t k) m.0 (position_or_len t keys) (found tells keys m.1)
   ]

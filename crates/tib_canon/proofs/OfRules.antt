@@ -7,11 +7,12 @@ use Rattle.tib_grammar.specs.Range.{SidesEndInHoles}
 use Rattle.tib_grammar.specs.declared.Rule.{Rule}
 use Rattle.tib_grammar_file.specs.Printed.{AreLabelled}
 use Rattle.tib_cost.specs.Semiring.{ProductLaws}
-use Rattle.tib_inside.specs.Trimmed.{IsTrimmed, AreTrimmed, HasSameSeries, HaveSameSeries}
+use Rattle.tib_inside.specs.Trimmed.{IsTrimmed, AreTrimmed}
 use Rattle.tib_canon.specs.Canonical.{OverStates, IsInOrder, IsCanonical}
 use Rattle.tib_canon.proofs.CanonicalTexts.{trimmed_leaves}
 use Rattle.tib_canon.proofs.One.{series_kept, series_on}
 use Rattle.tib_canon.proofs.Trimmed.{labelled_still, labelled_kept}
+use Rattle.tib_grammar.specs.Series.{HasSameSeries, HaveSameSeries}
 
 module _ (product : ℕ → ℕ → ℕ) (count : ℕ) (old : List (Rule ℕ)) (states : List ℕ) (new : List (Rule ℕ)) (t : AreTrimmed product old states new) where
   -- the grammars without names, of which only the rules matter

@@ -9,15 +9,14 @@ use Rattle.std.specs.declared.cmp.Ordering.TheVariants.{Less, Greater}
 use Rattle.std.proofs.lemmas.Cmp.{on_total, then_total, nat_cmp_total, nat_list_cmp_total}
 use Rattle.tib_lex.specs.Lists.{Has, Each, Ascends}
 use Rattle.tib_grammar.specs.GrammarOf.{GrammarOf}
-use Rattle.tib_grammar.specs.Series.{Covers}
+use Rattle.tib_grammar.specs.Series.{Covers, HasSameSeries}
 use Rattle.tib_grammar.specs.Sides.{Side}
 use Rattle.tib_grammar.specs.declared.Rule.{Rule}
 use Rattle.tib_grammar.proofs.Covering.{same_series, covers_members}
-use Rattle.tib_grammar.proofs.Members.{each_has}
 use Rattle.tib_cost.specs.Semiring.{ProductLaws}
-use Rattle.tib_inside.specs.Trimmed.{HasSameSeries}
 use Rattle.tib_canon.specs.Canonical.{names_of, line_of, rule_cmp, AgreeInSides, IsInOrder}
 use Rattle.tib_canon.proofs.Alike.{AreAlike, alike_self, alike_back}
+use Rattle.tib_lex.proofs.Members.{each_has}
 
 module _ {A : Type 0} (R : A → A → Type 0) (one_way : (x y : A) → R x y → R y x → ⊥) where
   front_same : (x y : A) (xs ys : List A) → Each (R x) xs → Each (R y) ys → Has (y ∷ ys) x → Has (x ∷ xs) y → x ≡ y

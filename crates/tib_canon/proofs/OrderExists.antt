@@ -11,12 +11,12 @@ use Rattle.tib_lex.specs.Lists.{Has, Each, Distinct, Ascends}
 use Rattle.tib_grammar.specs.GrammarOf.{GrammarOf}
 use Rattle.tib_grammar.specs.StateName.{AreStateNames}
 use Rattle.tib_grammar.specs.declared.Rule.{Rule}
-use Rattle.tib_grammar.proofs.Members.{each_has, each_of}
 use Rattle.tib_canon.specs.Canonical.{names_of, line_of, rule_cmp, AgreeInSides, HasSides, IsInOrder}
 use Rattle.tib_canon.proofs.InOrder.{agree_back, agree_on}
 use Rattle.tib_canon.proofs.Sorting.{any, turned, both_equal, number_same, text_same}
 use Rattle.tib_canon.proofs.Telling.{IsSafe, told_by_line}
-use Rattle.tib_canon.proofs.TrimmedExist.{either_way}
+use Rattle.tib_lex.proofs.Members.{each_has, each_of}
+use Rattle.tib_lex.proofs.Booleans.{either_way}
 
 -- Of rules that agree in both sides one of the cheapest.
 

@@ -6,14 +6,12 @@ use Rattle.std.specs.declared.cmp.Ordering.{Ordering}
 use Rattle.tib_lex.specs.Lists.{Has}
 use Rattle.tib_tree.specs.Trees.{Trees, none, tree, only, relabel}
 use Rattle.tib_grammar.specs.Sides.{Symbol, label, hole, symbol_map, holes_of}
-use Rattle.tib_grammar.specs.Range.{AllBelow, IsInRange, AreInRange, SidesEndInHoles}
+use Rattle.tib_grammar.specs.Range.{AllBelow, IsInRange, AreInRange, SidesEndInHoles, AreBelow}
 use Rattle.tib_grammar.specs.Run.{rule_at, no_rule}
 use Rattle.tib_grammar.specs.GrammarOf.{GrammarOf, named_rule}
 use Rattle.tib_grammar.specs.declared.Rule.{Rule}
 use Rattle.tib_grammar.proofs.Sides.{holes-relabel}
-use Rattle.tib_grammar.proofs.Members.{has_at, at_has}
 use Rattle.tib_grammar_file.specs.Printed.{LabelsBelow, AreLabelled}
-use Rattle.tib_inside.specs.Links.{AreBelow}
 use Rattle.tib_grammar.specs.Renaming.{number_in}
 use Rattle.tib_inside.specs.Renaming.{AreNumbersOf}
 use Rattle.tib_grammar.proofs.Renamed.{rule_back}
@@ -22,6 +20,7 @@ use Rattle.tib_canon.specs.Keys.{AreByKeys, IsOverKeys, IsBegun}
 use Rattle.tib_canon.specs.declared.begin.Begin.{Begin}
 use Rattle.tib_canon.specs.declared.begin.Begin.TheVariants.{At, Empty}
 use Rattle.tib_canon.proofs.Permuting.{distinct_at}
+use Rattle.tib_lex.proofs.Members.{has_at, at_has}
 
 all_mapped : (n k : ℕ) (f : ℕ → ℕ) (qs : List ℕ) → ((q : ℕ) → q < k → f q < n) → AllBelow k qs → AllBelow n (map f qs)
 all_mapped n k f [] h b = tt

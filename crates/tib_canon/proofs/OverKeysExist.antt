@@ -14,7 +14,6 @@ use Rattle.tib_grammar.specs.GrammarOf.{GrammarOf, named_rule}
 use Rattle.tib_grammar.specs.Range.{IsInRange, AreInRange, SidesEndInHoles}
 use Rattle.tib_grammar.specs.Run.{rule_at, no_rule}
 use Rattle.tib_grammar.specs.declared.Rule.{Rule}
-use Rattle.tib_grammar.proofs.Members.{has_at, at_has, each_has}
 use Rattle.tib_grammar_file.specs.Printable.{ArePrintable}
 use Rattle.tib_cost.specs.Semiring.{ProductLaws}
 use Rattle.tib_inside.proofs.Occurring.{below_has}
@@ -26,10 +25,12 @@ use Rattle.tib_canon.proofs.KeysOnce.{leaves_over}
 use Rattle.tib_canon.proofs.One.{one_less}
 use Rattle.tib_canon.proofs.OrderExists.{AreSortedOf, sorted_there, ascends_within}
 use Rattle.tib_canon.proofs.Permuting.{distinct_at}
-use Rattle.tib_canon.proofs.PlacesIn.{same_or_other, place_in, placed_in_range, placed_back, map_itself}
+use Rattle.tib_canon.proofs.PlacesIn.{place_in, placed_in_range, placed_back, map_itself}
 use Rattle.tib_canon.proofs.PrintableRules.{over_printable}
 use Rattle.tib_canon.proofs.StateNames.{length-names_of}
 use Rattle.tib_canon.proofs.TrimmedExist.{AreThose, with_last, without_last}
+use Rattle.tib_lex.proofs.Members.{has_at, at_has, each_has}
+use Rattle.tib_lex.proofs.Numbers.{same_or_other}
 
 -- the numbers below n but one
 record AreOthers (start n : ℕ) (others : List ℕ) : Type 0 where

@@ -4,17 +4,15 @@ use Rattle.std.specs.Prelude.{nat_eq, cond, sum_by, Contains, IsPermutation}
 use Rattle.std.proofs.lemmas.Bool.Decides.{nat_tests}
 use Rattle.std.proofs.lemmas.List.Sums.{sum_by-cons}
 use Rattle.std.proofs.lemmas.List.Sorted.{Contains-permutation, sum_by-IsPermutation}
+use Rattle.tib_lex.proofs.Numbers.{nat_eq_cases}
 use Rattle.tib_lex.specs.Lists.{Has, Distinct}
-use Rattle.tib_grammar.proofs.Members.{has_at, at_has}
+use Rattle.tib_lex.proofs.Members.{has_at, at_has}
 
 pub has_permuted : {A : Type 0} (xs ys : List A) (x : A) → IsPermutation xs ys → Has xs x → Has ys x
 has_permuted xs ys x p h =
     let a = at_has xs x x h in
     let c : Contains ys x = Contains-permutation xs ys x p (a.0, a.1, a.2) in
     subst (Has ys) c.2 (has_at ys c.0 x c.1)
-
-same_number : (g f : ℕ) → ((g ≡ f) × (nat_eq g f ≡ true)) ⊎ ((g ≡ f → ⊥) × (nat_eq g f ≡ false))
-same_number g f = grind (arith, nat_tests)
 
 -- how often a number stands
 abbrev one_at : ℕ → ℕ → ℕ
@@ -39,7 +37,7 @@ once_more p xs =
 
 no_more : (p x : ℕ) (xs : List ℕ) → (x ≡ p → ⊥) → times_in p (x ∷ xs) ≡ times_in p xs
 no_more p x xs h =
-    let there : nat_eq x p ≡ false = elim (same_number x p) [ inl k ↦ absurd (h k.0) | inr k ↦ k.1 ] in
+    let there : nat_eq x p ≡ false = elim (nat_eq_cases x p) [ inl k ↦ absurd (h k.0) | inr k ↦ k.1 ] in
     let nought : one_at p x ≡ 0 = naught (nat_eq x p) there in
     omega (arith, sum_by-cons (one_at p) x xs, nought)
 
@@ -59,7 +57,7 @@ stands_nowhere p (x ∷ xs) h = no_more p x xs (λ e. h (inl e)) ∙ stands_nowh
 
 at_most_once : (xs : List ℕ) → Distinct xs → (p : ℕ) → times_in p xs ≤ 1
 at_most_once [] d p = omega arith
-at_most_once (x ∷ xs) d p = elim (same_number x p) [
+at_most_once (x ∷ xs) d p = elim (nat_eq_cases x p) [
   | inl k ↦
       let none : times_in x xs ≡ 0 = stands_nowhere x xs d.0 in
       subst (λ q. times_in q (x ∷ xs) ≤ 1) k.0 (omega (arith, once_more x xs, none))

@@ -1,10 +1,10 @@
 -- Lines one behind another in a text.
+use Rattle.tib_lex.proofs.Numbers.{below_cases}
 use Rattle.tib_cost.specs.declared.Scale.{Scale}
 use Rattle.std.proofs.Common.{◌≡◌, ℕ, ◌+◌, ◌-◌, ◌<◌, ◌≤◌, List, [], ◌∷◌, ◌++◌, length, take, drop, map, get_or, refl, ap, sym, ◌∙◌, subst, arith, zero, suc, inl, inr, ◌⊎◌, append-nil, append_assoc, length-append}
 use Rattle.std.proofs.lemmas.List.{length-map, get_or-map, get_or_append_left, map-append, take-append-le, take-append-drop, drop_more, take_more}
 use Rattle.std.proofs.Math.Seq.{get_or-append_seam, take-length, take-suc, drop-append_seam}
 use Rattle.tib_lex.specs.Lists.{Each}
-use Rattle.tib_grammar.proofs.Members.{each_more}
 use Rattle.tib_grammar.specs.Run.{rule_at, no_rule}
 use Rattle.tib_grammar.specs.declared.Rule.{Rule}
 use Rattle.tib_grammar_file.specs.Printed.{trees_text, cost_text, rule_text, rules_text}
@@ -13,9 +13,7 @@ use Rattle.tib_canon.specs.Canonical.{line_of}
 use Rattle.tib_canon.specs.Lines.{AreTexts, IsLineAt}
 use Rattle.tib_cost.specs.Semiring.{most}
 use Rattle.tib_canon.specs.declared.lines.Line.{Line}
-
-last_or_before : (i n : ℕ) → i < n + 1 → (i < n) ⊎ (i ≡ n)
-last_or_before i n h = grind arith
+use Rattle.tib_lex.proofs.Members.{each_more}
 
 module _ (scale : Scale) (names labels : List (List ℕ)) where
   texts-append : (xs ys : List (Rule ℕ)) → rules_text scale names labels (xs ++ ys) ≡ rules_text scale names labels xs ++ rules_text scale names labels ys
@@ -50,7 +48,7 @@ module _ (scale : Scale) (names labels : List (List ℕ)) where
       record {
         whole = whole;
         long = omega (arith, ap length f, length-append ends (length text1 ∷ []), t.long, longer);
-        places = λ i h. elim (last_or_before i (length rules) (omega (arith, longer))) [
+        places = λ i h. elim (below_cases i (length rules) (omega (arith, longer))) [
           | inl k ↦
               ap (λ (es : List ℕ). get_or es i 0) f ∙ get_or_append_left ends (length text1 ∷ []) 0 i (omega (arith, t.long)) ∙ t.places i k
               ∙ ap (λ (rs : List (Rule ℕ)). length (rules_text scale names labels rs)) (sym (take-append-le (suc i) rules (r ∷ []) (omega arith)))

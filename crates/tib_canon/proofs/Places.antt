@@ -5,10 +5,10 @@ use Rattle.std.proofs.lemmas.List.{length-map, get_or-map, get_or-set_other}
 use Rattle.tib_lex.specs.Lists.{Each, Distinct}
 use Rattle.tib_grammar.specs.Run.{rule_at, no_rule}
 use Rattle.tib_grammar.specs.declared.Rule.{Rule}
-use Rattle.tib_grammar.proofs.Members.{has_at, each_has}
 use Rattle.tib_canon.proofs.Permuting.{distinct_at}
 use Rattle.tib_canon.proofs.Pieces.{mapped_more}
 use Rattle.tib_canon.specs.declared.lines.Line.{Line}
+use Rattle.tib_lex.proofs.Members.{has_at, each_has}
 
 module _ (rules : List (Rule ℕ)) (lines : List Line) where
   abbrev pub position_at : Line → ℕ → ℕ

@@ -6,11 +6,8 @@ use Rattle.tib_grammar.specs.Sides.{Symbol, label, hole, holes, holes_of, side_m
 use Rattle.tib_grammar.specs.GrammarOf.{named_rule}
 use Rattle.tib_grammar.specs.Range.{AllBelow, IsInRange}
 use Rattle.tib_grammar.specs.declared.Rule.{Rule}
-use Rattle.tib_grammar.proofs.Members.{has_left, has_right}
 use Rattle.tib_grammar.proofs.Sides.{holes-relabel}
-
-pub same_or_other : (p q : ℕ) → (p ≡ q) ⊎ (p ≡ q → ⊥)
-same_or_other p q = grind arith
+use Rattle.tib_lex.proofs.Members.{has_left, has_right}
 
 abbrev pub place_by : {A B : Type 0} → A ⊎ B → ℕ → ℕ
 place_by (inl e) n = 0

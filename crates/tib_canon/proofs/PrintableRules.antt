@@ -6,19 +6,19 @@ use Rattle.std.proofs.lemmas.List.{length-map, get_or-map}
 use Rattle.std.specs.declared.cmp.Ordering.{Ordering}
 use Rattle.tib_lex.specs.Lists.{Has}
 use Rattle.tib_tree.specs.Trees.{Trees, none, tree, only, relabel}
-use Rattle.tib_grammar.specs.Sides.{Symbol, label, hole, symbol_map, Side}
+use Rattle.tib_grammar.specs.Sides.{Symbol, label, hole, symbol_map, Side, labels_in}
 use Rattle.tib_grammar.specs.GrammarOf.{GrammarOf, named_rule}
 use Rattle.tib_grammar.specs.Run.{rule_at, no_rule}
 use Rattle.tib_grammar.specs.declared.Rule.{Rule}
-use Rattle.tib_grammar.proofs.Members.{has_at, at_has, has_either}
 use Rattle.tib_grammar_file.specs.Printable.{IsPlainCost, HavePlainLabels, IsPrintable, ArePrintable}
 use Rattle.tib_cost.specs.Semiring.{most}
-use Rattle.tib_normal.specs.NormalForm.{IsChain, chain_cost, labels_in, heads, inner_rules, all_inner, first_inner, Reaches, IsNormalCost, IsNormalForm}
+use Rattle.tib_normal.specs.NormalForm.{IsChain, chain_cost, heads, inner_rules, all_inner, first_inner, Reaches, IsNormalCost, IsNormalForm}
 use Rattle.tib_normal.proofs.Normalizing.{below_or_after}
 use Rattle.tib_inside.specs.Trimmed.{IsTrimmed}
 use Rattle.tib_inside.proofs.Keeping.{as_many, named_at}
 use Rattle.tib_canon.specs.Canonical.{IsCanonical}
 use Rattle.tib_canon.specs.Keys.{IsOverKeys}
+use Rattle.tib_lex.proofs.Members.{has_at, at_has, has_either}
 
 -- a rule can be printed if it can with other states
 

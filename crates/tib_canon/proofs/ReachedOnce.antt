@@ -3,11 +3,12 @@ use Rattle.std.proofs.Common.{◌≡◌, ◌⊎◌, ℕ, zero, suc, ◌+◌, ◌
 use Rattle.std.specs.declared.cmp.Ordering.{Ordering}
 use Rattle.std.specs.declared.cmp.Ordering.TheVariants.{Less, Equal, Greater}
 use Rattle.std.specs.Ordering.{ordering_reverse}
+use Rattle.tib_hunt.proofs.Members.{distinct_append}
 use Rattle.tib_lex.specs.Lists.{Has, Distinct, Ascends, Along}
-use Rattle.tib_grammar.proofs.Members.{each_has, has_either, has_left, has_right}
 use Rattle.tib_hunt.specs.EdgeLists.{Lists}
 use Rattle.tib_hunt.specs.Reached.{Operation, AfterRounds, IsReached, AreEdges, IsReachedSet}
 use Rattle.tib_hunt.proofs.Reaching.{Laws, apart, in_reached}
+use Rattle.tib_lex.proofs.Members.{each_has, has_either, has_left, has_right}
 
 -- values that are listed by their origins
 module _ {O A : Type 0} (Gives : O → A → Type 0) where
@@ -33,13 +34,6 @@ module _ {O A : Type 0} (Gives : O → A → Type 0) where
 
   pub listed_given : (xs : List A) → Lists Gives xs → (x : A) → Has xs x → (o : O) × Gives o x
   listed_given xs l x h = origin_of l.origins xs x l.given h
-
-distinct_append : {A : Type 0} (xs ys : List A) → Distinct xs → Distinct ys → ((x : A) → Has xs x → Has ys x → ⊥) → Distinct (xs ++ ys)
-distinct_append [] ys d e n = e
-distinct_append (x ∷ xs) ys d e n = (
-  λ h. elim (has_either xs ys x h) [ inl k ↦ d.0 k | inr k ↦ n x (inl refl) k ],
-  distinct_append xs ys d.1 e (λ y h. n y (inr h)),
-)
 
 module _ {K O E : Type 0} (p : Operation K O E) (laws : Laws p) where
   pub same_order : (order other : List K) → IsReached p order → IsReached p other → order ≡ other

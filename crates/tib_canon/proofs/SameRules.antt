@@ -1,17 +1,17 @@
 -- The trimmed normal forms of a grammar have the same rules.
 use Rattle.std.proofs.Common.{◌≡◌, ℕ, ◌<◌, List, length, get_or, ap, sym, ◌∙◌, arith, inl, inr, ◌⊎◌}
-use Rattle.tib_lex.specs.Lists.{Ascends, Distinct}
+use Rattle.tib_lex.specs.Lists.{Ascends, Distinct, IsReordering}
 use Rattle.tib_grammar.specs.GrammarOf.{GrammarOf, named_rule}
 use Rattle.tib_grammar.specs.Run.{rule_at, no_rule}
 use Rattle.tib_grammar.specs.declared.Rule.{Rule}
-use Rattle.tib_grammar.proofs.Members.{has_at}
 use Rattle.tib_inside.specs.Trimmed.{IsTrimmed}
 use Rattle.tib_inside.proofs.Chosen.{ascends_at}
 use Rattle.tib_inside.proofs.Keeping.{as_many, named_at}
-use Rattle.tib_canon.specs.TrimmedForms.{IsTrimmedForm, HaveSameRules}
+use Rattle.tib_canon.specs.TrimmedForms.{IsTrimmedForm}
 use Rattle.tib_canon.proofs.Choosing.{distinct_from}
 use Rattle.tib_canon.proofs.NormalForms.{form_leaves, forms_alike}
 use Rattle.tib_canon.proofs.TrimmedOnce.{place_told, trimmed_alike}
+use Rattle.tib_lex.proofs.Members.{has_at}
 
 abbrev Differ : Rule ℕ → Rule ℕ → Type 0
 Differ r s = r.left ≡ s.left → r.right ≡ s.right → ⊥
@@ -38,7 +38,7 @@ module _ (product : ℕ → ℕ → ℕ) (old new : GrammarOf) (trimmed : IsTrim
       (position_told old.rules (get_or trimmed.rules i 0) (get_or trimmed.rules j 0) apart (old_below i h) (old_below j k)
       (sym (named_at product old new trimmed i h) ∙ ap (named_rule (λ q. get_or trimmed.states q 0)) e ∙ named_at product old new trimmed j k)))
 
-pub same_rules : (product : ℕ → ℕ → ℕ) (g m n : GrammarOf) → IsTrimmedForm product g m → IsTrimmedForm product g n → HaveSameRules m.rules n.rules
+pub same_rules : (product : ℕ → ℕ → ℕ) (g m n : GrammarOf) → IsTrimmedForm product g m → IsTrimmedForm product g n → IsReordering m.rules n.rules
 same_rules product g m n a b =
     let leaves = form_leaves product (length g.names) g.rules (length a.normal.names) a.normal.rules a.form in
     let others = form_leaves product (length g.names) g.rules (length b.normal.names) b.normal.rules b.form in

@@ -6,14 +6,15 @@ use Rattle.std.specs.List.{list_all, list_any}
 use Rattle.std.proofs.lemmas.Bool.Decides.{nat_tests}
 use Rattle.std.proofs.lemmas.Fmt.{decimal_injective}
 use Rattle.std.proofs.lemmas.List.{map-append, length-map}
+use Rattle.tib_lex.proofs.Lists.{tail_is}
 use Rattle.tib_lex.specs.Bytes.{is_name_byte}
 use Rattle.tib_lex.specs.Lists.{Has}
 use Rattle.tib_lex.proofs.Spelled.{and_true}
 use Rattle.tib_grammar.specs.StateName.{IsStateName, AreStateNames}
-use Rattle.tib_grammar.proofs.Members.{has_either, each_more, distinct_more}
 use Rattle.tib_grammar_file.specs.Weight.{is_digit}
 use Rattle.tib_grammar_file.proofs.PrintedRules.{digits_are, all_changes}
 use Rattle.tib_canon.specs.Canonical.{name_of, names_of}
+use Rattle.tib_lex.proofs.Members.{has_either, each_more, distinct_more}
 
 digit_is_name : (c : ℕ) → is_digit c ≡ true → is_name_byte c ≡ true
 digit_is_name c h = let t = and_true (nat_lt 47 c) (nat_lt c 58) h in grind (arith, nat_tests)
@@ -36,9 +37,6 @@ is_state_name n h =
       no_stop = digits_no_stop (decimal n) digits;
     }
 
-tail_same : {x y : ℕ} {xs ys : List ℕ} → x ∷ xs ≡ y ∷ ys → xs ≡ ys
-tail_same e = cc
-
 has_number : (n : ℕ) (text : List ℕ) → Has (names_of n) text → (m : ℕ) × (m < n) × (text ≡ name_of m)
 has_number zero text h = absurd h
 has_number (suc n) text h = elim (has_either (names_of n) (name_of n ∷ []) text h) [
@@ -49,7 +47,7 @@ has_number (suc n) text h = elim (has_either (names_of n) (name_of n ∷ []) tex
 is_new : (n : ℕ) → n < 4294967296 → Has (names_of n) (name_of n) → ⊥
 is_new n h k =
     let r = has_number n (name_of n) k in
-    let same : n ≡ r.0 = decimal_injective n r.0 (omega arith) (omega (arith, r.1)) (tail_same r.2) in
+    let same : n ≡ r.0 = decimal_injective n r.0 (omega arith) (omega (arith, r.1)) (tail_is r.2) in
     absurd (omega (arith, r.1))
 
 pub length-names_of : (n : ℕ) → length (names_of n) ≡ n

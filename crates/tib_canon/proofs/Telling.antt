@@ -1,4 +1,5 @@
 -- Rules are told by their lines.
+use Rattle.tib_grammar.proofs.Sides.{symbol_itself}
 use Rattle.tib_cost.specs.declared.Scale.{Scale}
 use Rattle.tib_cost.specs.declared.Scale.TheVariants as scales
 use Rattle.std.proofs.Common.{◌≡◌, ℕ, ◌<◌, ◌≤◌, List, [], ◌∷◌, ◌++◌, length, take, refl, ap, sym, ◌∙◌, subst, append-nil, arith, length-append}
@@ -16,9 +17,10 @@ use Rattle.tib_grammar_file.specs.Printed.{rule_text}
 use Rattle.tib_grammar_file.proofs.PrintedTrees.{Fits}
 use Rattle.tib_grammar_file.proofs.PrintedLines.{line_ends}
 use Rattle.tib_grammar_file.proofs.PrintedRules.{line_of as line_in, row_of, line_read, rule_spelled, FitsRule, Renames}
-use Rattle.tib_grammar_file.proofs.OneGrammar.{words_same, rule_same}
+use Rattle.tib_grammar_file.proofs.OneGrammar.{rule_same}
 use Rattle.tib_cost.specs.Semiring.{most}
 use Rattle.tib_canon.specs.Canonical.{line_of}
+use Rattle.tib_lex.proofs.HasWords.{words_once}
 
 -- a rule whose states and labels have texts, at a cost
 pub record IsSafe (names labels : List (List ℕ)) (r : Rule ℕ) : Type 0 where
@@ -49,10 +51,6 @@ plain_fits scales.Unweighted names labels r s = record { left = s.left; right = 
 
 itself : (names : List (List ℕ)) → Renames names names (λ q. q)
 itself names = record { to = λ q h. slice_get-get_or names q [] h; back = λ text h. h }
-
-symbol_itself : (s : Symbol ℕ ℕ) → symbol_map (λ (q : ℕ). q) s ≡ s
-symbol_itself (label f) = refl
-symbol_itself (hole q) = refl
 
 trees_themselves : (ts : Trees (Symbol ℕ ℕ)) → relabel (symbol_map (λ (q : ℕ). q)) ts ≡ ts
 trees_themselves none = refl
@@ -99,7 +97,7 @@ told_by_line scale names labels r s are apart first second same =
     plain_line scale names labels r ∙ sym (line_is scale names labels r) ∙ same ∙ line_is scale names labels s ∙ sym (plain_line scale names labels s) in
     let mine : HasWords (row_of scale names labels q) (line_in scale names labels p) = subst (HasWords (row_of scale names labels q)) lines (line_read scale names labels q are.each fit) in
     let words : row_of scale names labels q ≡ row_of scale names labels p =
-    words_same (line_in scale names labels p) (row_of scale names labels q) (row_of scale names labels p) mine (line_read scale names labels p are.each fits) in
+    words_once (line_in scale names labels p) (row_of scale names labels q) (row_of scale names labels p) mine (line_read scale names labels p are.each fits) in
     let one : SpellsRuleOf scale names labels (row_of scale names labels p) (named_rule (λ (x : ℕ). x) q) =
     subst (λ (ws : List Word). SpellsRuleOf scale names labels ws (named_rule (λ (x : ℕ). x) q)) words (rule_spelled scale names names labels (λ x. x) q are.each (itself names) fit) in
     let two = rule_spelled scale names names labels (λ x. x) p are.each (itself names) fits in

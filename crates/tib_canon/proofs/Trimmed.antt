@@ -7,9 +7,9 @@ use Rattle.tib_grammar.specs.Sides.{Symbol, label, hole, symbol_map}
 use Rattle.tib_grammar.specs.GrammarOf.{GrammarOf, named_rule}
 use Rattle.tib_grammar.specs.Run.{rule_at, no_rule}
 use Rattle.tib_grammar.specs.declared.Rule.{Rule}
-use Rattle.tib_grammar.proofs.Members.{has_at, at_has}
 use Rattle.tib_grammar_file.specs.Printed.{LabelsBelow, AreLabelled}
 use Rattle.tib_inside.specs.Trimmed.{IsTrimmed}
+use Rattle.tib_lex.proofs.Members.{has_at, at_has}
 
 labels_back : (n : ℕ) (f : ℕ → ℕ) (ts : Trees (Symbol ℕ ℕ)) → LabelsBelow n (relabel (symbol_map f) ts) → LabelsBelow n ts
 labels_back n f none h = tt

@@ -13,7 +13,6 @@ use Rattle.tib_grammar.specs.GrammarOf.{GrammarOf, named_rule}
 use Rattle.tib_grammar.specs.Range.{AllBelow, AreInRange}
 use Rattle.tib_grammar.specs.Run.{rule_at}
 use Rattle.tib_grammar.specs.declared.Rule.{Rule}
-use Rattle.tib_grammar.proofs.Members.{each_of}
 use Rattle.tib_grammar_file.specs.Printed.{label_text, space, opening, closing, trees_text, cost_text, rule_text, rules_text, grammar_text}
 use Rattle.tib_grammar_file.proofs.Relabelled.{symbol_with, trees_with, side_with, rule_with, rules_with, at_with, side_told}
 use Rattle.tib_grammar_file.proofs.RunsByText.{DifferInLabels, differ_back, differ_with}
@@ -21,9 +20,11 @@ use Rattle.tib_inside.specs.Trimmed.{IsTrimmed}
 use Rattle.tib_inside.specs.Useful.{IsLive, IsUseful}
 use Rattle.tib_canon.specs.Canonical.{line_of, rule_cmp, AgreeInSides, HasSides, IsInOrder}
 use Rattle.tib_canon.specs.Keys.{IsOverKeys}
-use Rattle.tib_canon.proofs.InOrder.{has_mapped, mapped_has}
+use Rattle.tib_canon.proofs.InOrder.{mapped_has}
 use Rattle.tib_canon.proofs.InsidesByText.{live_kept, useful_kept}
 use Rattle.tib_canon.proofs.NormalByText.{ascends_mapped}
+use Rattle.tib_lex.proofs.Members.{each_of}
+use Rattle.tib_lex.proofs.Lists.{has_mapped}
 
 -- a grammar under other numbers of labels
 abbrev pub grammar_with : (ℕ → ℕ) → GrammarOf → GrammarOf

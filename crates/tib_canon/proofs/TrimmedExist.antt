@@ -7,16 +7,14 @@ use Rattle.tib_grammar.specs.GrammarOf.{GrammarOf, named_rule}
 use Rattle.tib_grammar.specs.Range.{IsInRange, AreInRange, SidesEndInHoles}
 use Rattle.tib_grammar.specs.Run.{rule_at, no_rule}
 use Rattle.tib_grammar.specs.declared.Rule.{Rule}
-use Rattle.tib_grammar.proofs.Members.{has_at, has_left, has_right, has_either, each_more}
 use Rattle.tib_inside.specs.Trimmed.{IsTrimmed}
 use Rattle.tib_inside.specs.Useful.{IsLive, IsUseful}
 use Rattle.tib_inside.specs.Useful as useful
 use Rattle.tib_canon.proofs.Inhabited.{useful_below}
-use Rattle.tib_canon.proofs.PlacesIn.{same_or_other, place_in, placed_in_range, placed_back, map_back}
-
--- what holds where a fact does or does not hold
-pub either_way : (A : Type 0) → (A ⊎ (A → ⊥) → ⊥) → ⊥
-either_way A k = k (inr (λ a. k (inl a)))
+use Rattle.tib_canon.proofs.PlacesIn.{place_in, placed_in_range, placed_back, map_back}
+use Rattle.tib_lex.proofs.Members.{has_at, has_left, has_right, has_either, each_more}
+use Rattle.tib_lex.proofs.Booleans.{either_way}
+use Rattle.tib_lex.proofs.Numbers.{same_or_other, below_suc_cases}
 
 -- the numbers below n of which P holds, ascending
 pub record AreThose (P : ℕ → Type 0) (n : ℕ) (those : List ℕ) : Type 0 where
@@ -24,9 +22,6 @@ pub record AreThose (P : ℕ → Type 0) (n : ℕ) (those : List ℕ) : Type 0 w
   pub below : (q : ℕ) → Has those q → q < n
   pub hold : (q : ℕ) → Has those q → P q
   pub all : (q : ℕ) → q < n → P q → Has those q
-
-last_or_before : (m n : ℕ) → m < suc n → (m < n) ⊎ (m ≡ n)
-last_or_before m n h = grind arith
 
 ascends_more : (xs : List ℕ) (n : ℕ) → Ascends ◌<◌ xs → ((q : ℕ) → Has xs q → q < n) → Ascends ◌<◌ (xs ++ n ∷ [])
 ascends_more [] n a b = (tt, tt)
@@ -37,7 +32,7 @@ with_last P n those t p = record {
   ascend = ascends_more those n t.ascend t.below;
   below = λ q h. below q (has_either those (n ∷ []) q h);
   hold = λ q h. hold q (has_either those (n ∷ []) q h);
-  all = λ q h x. all q x (last_or_before q n h);
+  all = λ q h x. all q x (below_suc_cases q n h);
 }
   where
     below : (q : ℕ) → Has those q ⊎ Has (n ∷ []) q → q < suc n
@@ -59,7 +54,7 @@ without_last P n those t never = record {
   ascend = t.ascend;
   below = λ q h. omega (arith, t.below q h);
   hold = t.hold;
-  all = λ q h x. all q x (last_or_before q n h);
+  all = λ q h x. all q x (below_suc_cases q n h);
 }
   where
     all : (q : ℕ) → P q → (q < n) ⊎ (q ≡ n) → Has those q

@@ -1,4 +1,5 @@
 -- Grammars with the same rules have one canonical form.
+use Rattle.tib_grammar.proofs.Below.{below_front, below_back}
 use Rattle.tib_cost.specs.declared.Scale.{Scale}
 use Rattle.std.proofs.Common.{◌≡◌, ℕ, ◌<◌, List, [], ◌∷◌, ◌++◌, length, get_or, refl, ap, sym, ◌∙◌, subst, arith, zero, suc, inl, inr}
 use Rattle.std.proofs.lemmas.List.{length-map, get_or-map}
@@ -9,12 +10,12 @@ use Rattle.tib_grammar.specs.GrammarOf.{GrammarOf, named_rule}
 use Rattle.tib_grammar.specs.Range.{AllBelow, SidesEndInHoles}
 use Rattle.tib_grammar.specs.Run.{rule_at, no_rule}
 use Rattle.tib_grammar.specs.declared.Rule.{Rule}
-use Rattle.tib_grammar.proofs.Members.{has_at, at_has, each_has}
 use Rattle.tib_inside.specs.Trimmed.{IsTrimmed}
 use Rattle.tib_inside.specs.Useful.{IsLive, IsUseful}
 use Rattle.tib_canon.specs.Canonical.{IsCanonical}
 use Rattle.tib_canon.proofs.Alike.{AreAlike, StandsAt, alike_self, alike_back, stands_at, live_moved, useful_moved}
 use Rattle.tib_canon.proofs.One.{ascending_same, one_order_of}
+use Rattle.tib_lex.proofs.Members.{has_at, at_has, each_has}
 
 below_way : (x y : ℕ) → x < y → y < x → ⊥
 below_way x y h k = omega arith
@@ -26,14 +27,6 @@ place_told (x ∷ xs) zero zero a h k e = refl
 place_told (x ∷ xs) zero (suc j) a h k e = let more : x < get_or xs j 0 = each_has (λ y. x < y) xs (get_or xs j 0) a.0 (has_at xs j 0 (omega arith)) in omega (arith, more, e)
 place_told (x ∷ xs) (suc i) zero a h k e = let more : x < get_or xs i 0 = each_has (λ y. x < y) xs (get_or xs i 0) a.0 (has_at xs i 0 (omega arith)) in omega (arith, more, e)
 place_told (x ∷ xs) (suc i) (suc j) a h k e = ap suc (place_told xs i j a.1 (omega arith) (omega arith) e)
-
-below_front : (n : ℕ) (ps qs : List ℕ) → AllBelow n (ps ++ qs) → AllBelow n ps
-below_front n [] qs h = tt
-below_front n (p ∷ ps) qs h = (h.0, below_front n ps qs h.1)
-
-below_back : (n : ℕ) (ps qs : List ℕ) → AllBelow n (ps ++ qs) → AllBelow n qs
-below_back n [] qs h = h
-below_back n (p ∷ ps) qs h = below_back n ps qs h.1
 
 -- trees over states below n, and nothing below a state
 abbrev pub Fit : ℕ → Trees (Symbol ℕ ℕ) → Type 0

@@ -14,7 +14,6 @@ use Rattle.tib_grammar.specs.Range.{AreInRange, SidesEndInHoles, IsInRange}
 use Rattle.tib_grammar.specs.Run.{rule_at, no_rule}
 use Rattle.tib_grammar.specs.StateName.{AreStateNames}
 use Rattle.tib_grammar.specs.declared.Rule.{Rule}
-use Rattle.tib_grammar.proofs.Members.{has_at, at_has, each_has, each_of}
 use Rattle.tib_grammar_file.specs.Printed.{AreLabelled, IsRuleWithin, grammar_text}
 use Rattle.tib_grammar_file.proofs.PrintedTrees.{fits_of}
 use Rattle.tib_grammar_file.proofs.Printing.{rule_within}
@@ -28,6 +27,7 @@ use Rattle.tib_canon.proofs.Sorting.{line_cmp}
 use Rattle.tib_canon.proofs.Telling.{IsSafe}
 use Rattle.tib_canon.proofs.LinesText.{lines_grammar}
 use Rattle.tib_canon.proofs.InOrder.{AreSorted, cheapest_permuted, kept, in_order}
+use Rattle.tib_lex.proofs.Members.{has_at, at_has, each_has, each_of}
 
 -- no text of a table stands twice
 pub distinct_texts : (texts : List (List ℕ)) → AreDistinct texts → Distinct texts

@@ -8,10 +8,10 @@ use Rattle.tib_lex.specs.Lists.{Has, Ascends, Distinct}
 use Rattle.tib_grammar.specs.GrammarOf.{GrammarOf, named_rule}
 use Rattle.tib_grammar.specs.Range.{AreInRange}
 use Rattle.tib_grammar.specs.declared.Rule.{Rule}
-use Rattle.tib_inside.specs.Trimmed.{HasSameSeries}
 use Rattle.tib_canon.specs.Canonical.{names_of, IsCanonical}
 use Rattle.tib_canon.specs.declared.begin.Begin.{Begin}
 use Rattle.tib_canon.specs.declared.begin.Begin.TheVariants.{At, Empty}
+use Rattle.tib_grammar.specs.Series.{HasSameSeries}
 
 -- each key with its position, and whether it is another than the start
 abbrev pub marked : {K : Type 0} → ℕ → ℕ → List K → List (Bool × K × ℕ)

@@ -1,9 +1,9 @@
 -- What holds of canonical forms.
 use Rattle.tib_cost.specs.declared.Scale.{Scale}
 use Rattle.std.specs.Prelude.{◌≡◌, ◌<◌, ◌^◌, ◌↔◌, ℕ, List, Option, length}
-use Rattle.tib_lex.specs.Lists.{Has, Distinct}
+use Rattle.tib_lex.specs.Lists.{Has, Distinct, IsReordering}
 use Rattle.tib_grammar.specs.GrammarOf.{GrammarOf}
-use Rattle.tib_grammar.specs.Series.{IsSeriesAt, IsSeries}
+use Rattle.tib_grammar.specs.Series.{IsSeriesAt, IsSeries, HasSameSeries}
 use Rattle.tib_tree.specs.Trees.{Tree}
 use Rattle.tib_grammar.specs.Range.{AreInRange, SidesEndInHoles}
 use Rattle.tib_grammar.specs.declared.Rule.{Rule}
@@ -13,10 +13,10 @@ use Rattle.tib_grammar_file.specs.Printed.{grammar_text}
 use Rattle.tib_normal.specs.NormalForm.{IsNormalForm}
 use Rattle.tib_grammar_file.specs.ByText.{AgreeByText}
 use Rattle.tib_inside.specs.Inside.{AreInsides}
-use Rattle.tib_inside.specs.Trimmed.{IsTrimmed, HasSameSeries}
+use Rattle.tib_inside.specs.Trimmed.{IsTrimmed}
 use Rattle.tib_canon.specs.Canonical.{IsInOrder, IsCanonical}
 use Rattle.tib_canon.specs.Keys.{IsOverKeys, IsCanonicalOverKeys}
-use Rattle.tib_canon.specs.TrimmedForms.{IsTrimmedForm, HaveSameRules}
+use Rattle.tib_canon.specs.TrimmedForms.{IsTrimmedForm}
 use Rattle.tib_canon.specs.declared.begin.Begin.{Begin}
 use Rattle.tib_canon.specs.declared.begin.Begin.TheVariants.{At}
 use Rattle.std.specs.declared.cmp.Ordering.{Ordering}
@@ -61,7 +61,7 @@ KeysKeepSeries {K} cmp =
 abbrev pub TrimmedFormsHaveSameRules : Type 0
 TrimmedFormsHaveSameRules =
     (product : ℕ → ℕ → ℕ) (g m n : GrammarOf) → IsTrimmedForm product g m →
-    IsTrimmedForm product g n → HaveSameRules m.rules n.rules
+    IsTrimmedForm product g n → IsReordering m.rules n.rules
 
 -- rules over the positions of an order have one canonical grammar over its keys, whatever their
 -- order and however often one of them stands

@@ -2,8 +2,8 @@
 ghost use Rattle.std.specs.Prelude.{◌≡◌, ◌<◌, ◌^◌, length, IfOk};
 ghost use Rattle.tib_grammar.specs.Range.{AreInRange, SidesEndInHoles};
 ghost use Rattle.tib_grammar_file.specs.Printed.{AreLabelled, grammar_text};
-ghost use Rattle.tib_inside.specs.Trimmed.{HasSameSeries};
 ghost use Rattle.tib_canon.specs.Canonical.{OverStates, IsCanonical};
+ghost use Rattle.tib_grammar.specs.Series.{HasSameSeries};
 
 use crate::ordering::{Printed, in_order};
 use std::alloc::{AllocError, Global};

@@ -2,9 +2,9 @@
 ghost use Rattle.std.specs.Prelude.{◌≡◌, ℕ, ◌-◌, ◌<◌, ◌^◌, length, map, IfOk};
 ghost use Rattle.std.proofs.Common.{get_or};
 ghost use Rattle.tib_lex.specs.Lists.{Distinct};
-ghost use Rattle.tib_inside.specs.Links.{AreBelow};
 ghost use Rattle.tib_inside.specs.Renaming.{AreNumbersOf};
 ghost use Rattle.tib_canon.specs.Keys.{marked, AreByKeys};
+ghost use Rattle.tib_grammar.specs.Range.{AreBelow};
 
 use std::alloc::{AllocError, Global};
 use tib_table::TableKey;

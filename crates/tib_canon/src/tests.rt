@@ -163,7 +163,7 @@ fn states_are_named_by_their_keys(rt: HostRuntime) -> Result<(), Fail> {
     Ok(())
 }
 
-// The text of a grammar of so many states beside the start, each with a rule of a label of its own, or of the start alone with
+// The text of a grammar of this number of states beside the start, each with a rule of a label of its own, or of the start alone with
 // all these rules.
 fn wide_text(alloc: Global, count: u32, one_state: bool) -> Result<Vec<u8>, AllocError> {
     let mut text = b"s\n".to_vec(alloc)?;

@@ -1,5 +1,4 @@
 use Rattle.std.proofs.Common.{length, sym, subst, ◌∙◌, IfOk}
-use Rattle.tib_inside.specs.Trimmed.{HasSameSeries}
 use Rattle.tib_canon.specs.Canonical.{names_of, OverStates, IsCanonical}
 use Rattle.tib_canon.specs.Keys.{IsCanonicalOverKeys}
 use Rattle.tib_canon.specs.declared.begin.Begin.TheVariants.{At, Empty}
@@ -7,6 +6,7 @@ use Rattle.tib_canon.proofs.KeysCanonical.{at_key, at_none}
 use Rattle.tib_canon.proofs.KeysOnce.{leaves_over}
 use Rattle.tib_canon.proofs.One.{if_both}
 use Rattle.tib_canon.proofs.OverKeys.{labelled_begun}
+use Rattle.tib_grammar.specs.Series.{HasSameSeries}
 use Rattle.tib_canon.proofs.begin.to_grammar.Goals as goal
 
 pub canonical_of_rules-requires-clause-leaves : goal.canonical_of_rules-requires-clause-leaves

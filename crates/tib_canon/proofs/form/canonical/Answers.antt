@@ -1,8 +1,8 @@
 use Rattle.std.proofs.Common.{ℕ, List, sym, subst}
 use Rattle.tib_grammar.specs.declared.Rule.{Rule}
-use Rattle.tib_inside.specs.Trimmed.{HasSameSeries}
 use Rattle.tib_canon.specs.Canonical.{OverStates}
 use Rattle.tib_canon.proofs.One.{if_ok}
+use Rattle.tib_grammar.specs.Series.{HasSameSeries}
 use Rattle.tib_canon.proofs.form.canonical.Goals as goal
 
 pub returns-clause-series : goal.returns-clause-series

@@ -1,10 +1,10 @@
 use Rattle.std.proofs.Common.{length, ◌∙◌, arith, subst, sym}
 use Rattle.tib_grammar.specs.Range.{AreInRange}
 use Rattle.tib_grammar_file.specs.Printed.{AreLabelled}
-use Rattle.tib_inside.specs.Trimmed.{HasSameSeries}
 use Rattle.tib_canon.specs.Canonical.{OverStates, IsCanonical}
 use Rattle.tib_canon.proofs.One.{if_ok}
 use Rattle.tib_canon.proofs.OfRules.{leaves_kept, labels_kept, is_canonical, has_series, labels_still}
+use Rattle.tib_grammar.specs.Series.{HasSameSeries}
 use Rattle.tib_canon.proofs.form.canonical_of_rules.Goals as goal
 
 pub overflow_cast-len : goal.overflow_cast-len
