@@ -1,15 +1,14 @@
 -- Normal forms and the pairs of two grammars have as many parts over each table of labels.
 use Rattle.std.proofs.Common.{◌≡◌, ℕ, ◌+◌, ◌≤◌, List, [], ◌∷◌, length, map, refl, ap, subst, arith}
-use Rattle.tib_lex.specs.Lists.{Distinct}
+use Rattle.tib_lex.specs.Lists.{Distinct, total, total as edges_total}
 use Rattle.tib_grammar.specs.GrammarOf.{GrammarOf}
 use Rattle.tib_grammar.specs.declared.Rule.{Rule}
 use Rattle.tib_grammar_file.specs.ByText.{AgreeByText}
 use Rattle.tib_grammar_file.proofs.Relabelled.{symbol_with, rules_with}
 use Rattle.tib_grammar_file.proofs.Renumbering.{renumbering}
 use Rattle.tib_grammar_file.proofs.RunsByText.{rules_given}
-use Rattle.tib_normal.specs.NormalForm.{IsNormalForm, rule_parts, total}
+use Rattle.tib_normal.specs.NormalForm.{IsNormalForm, rule_parts}
 use Rattle.tib_normal.specs.Rows.{HasFormWithin}
-use Rattle.tib_hunt.specs.EdgeLists.{total as edges_total}
 use Rattle.tib_hunt.specs.Numbered.{key_parts}
 use Rattle.tib_intersect.specs.PairEdges.{edge_parts}
 use Rattle.tib_canon.proofs.EdgesByText.{key_with, edge_with}

@@ -13,14 +13,12 @@ use Rattle.tib_grammar.specs.GrammarOf.{GrammarOf, named_rule}
 use Rattle.tib_grammar.specs.Range.{AreInRange}
 use Rattle.tib_grammar.specs.Run.{rule_at}
 use Rattle.tib_grammar.specs.declared.Rule.{Rule}
-use Rattle.tib_grammar.proofs.Members.{has_at}
 use Rattle.tib_grammar_file.specs.ByText.{AgreeByText}
 use Rattle.tib_grammar_file.specs.Printable.{IsPlainCost, HavePlainLabels, ArePrintable}
 use Rattle.tib_grammar_file.specs.Printed.{grammar_text}
 use Rattle.tib_grammar_file.proofs.Renumbering.{renumbering}
 use Rattle.tib_normal.proofs.Forming.{form_range, form_normal}
 use Rattle.tib_hunt.specs.Reached.{IsReached, IsReachedSet}
-use Rattle.tib_inside.specs.Trimmed.{HasSameSeries}
 use Rattle.tib_inside.proofs.StillNormal.{still_normal}
 use Rattle.tib_canon.specs.Constructions.{AreRulesOver, IsCanonicalOf}
 use Rattle.tib_canon.specs.Keys.{IsCanonicalOverKeys}
@@ -44,10 +42,12 @@ use Rattle.tib_intersect.proofs.Intersecting.{pairs_mean}
 use Rattle.tib_intersect.proofs.Lists.{same_pair}
 use Rattle.tib_intersect.proofs.PairOrders.{pair_laws, order_once, order_begins}
 use Rattle.tib_run.specs.Made.{HasReachedFrom}
-use Rattle.tib_run.specs.Intersect.{HasProductSeries, AreTrimmedForms, intersecting, HasIntersectionText}
+use Rattle.tib_run.specs.Intersect.{AreTrimmedForms, intersecting, HasIntersectionText}
 use Rattle.tib_run.proofs.OfNormal.{form_series}
 use Rattle.tib_run.proofs.PairsByText.{pairs_given}
 use Rattle.tib_run.proofs.ReadSound.{IsSound}
+use Rattle.tib_lex.proofs.Members.{has_at}
+use Rattle.tib_grammar.specs.Series.{HasSameSeries, HasProductSeries}
 
 -- one text
 

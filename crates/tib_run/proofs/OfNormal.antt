@@ -11,7 +11,6 @@ use Rattle.tib_normal.specs.NormalForm.{IsNormalForm, normal_parts}
 use Rattle.tib_normal.specs.Rows.{HasFormWithin}
 use Rattle.tib_normal.proofs.Forming.{form_range}
 use Rattle.tib_normal.proofs.Normalizing.{normalized}
-use Rattle.tib_inside.specs.Trimmed.{HasSameSeries}
 use Rattle.tib_canon.specs.Canonical.{names_of}
 use Rattle.tib_canon.proofs.CanonicalByText.{one_canonical_text}
 use Rattle.tib_canon.proofs.CanonicalExists.{canonical_there}
@@ -22,6 +21,7 @@ use Rattle.tib_canon.proofs.PrintableRules.{form_printable}
 use Rattle.tib_canon.proofs.StateNames.{length-names_of}
 use Rattle.tib_run.specs.Normal.{HasNormalText}
 use Rattle.tib_run.proofs.ReadSound.{IsSound}
+use Rattle.tib_grammar.specs.Series.{HasSameSeries}
 
 pub normal_once :
     (scale : Scale) (product : ℕ → ℕ → ℕ) (limit : ℕ) (labels others : List (List ℕ)) (g h : GrammarOf) (text other : List ℕ) → Distinct labels → Distinct others → AgreeByText labels others g h →

@@ -3,7 +3,6 @@ use Rattle.tib_cost.specs.declared.Scale.{Scale}
 use Rattle.std.specs.Prelude.{◌≡◌, ℕ, ◌+◌, ◌<◌, ◌⊎◌, List, [], ◌∷◌, length, Option, Some, None, IfSome, IsSome, slice_get, refl}
 use Rattle.std.proofs.Common.{arith, ap, sym, ◌∙◌, subst, zero, suc, inl, inr}
 use Rattle.tib_lex.specs.declared.fault.FileFault.{FileFault}
-use Rattle.tib_grammar_file.proofs.OneGrammar.{some_same}
 use Rattle.tib_command.specs.Jobs.{Asked}
 use Rattle.tib_run.specs.declared.status.Status.{Status}
 use Rattle.tib_run.specs.declared.status.Status.TheVariants as statuses
@@ -14,6 +13,7 @@ use Rattle.tib_run.proofs.Faults.{faulty_kind, one_fault}
 use Rattle.tib_run.proofs.FileValues.{kinds_told}
 use Rattle.tib_run.proofs.OfJobs.{answer_apart}
 use Rattle.tib_run.proofs.Reached.{some_kind, told_some}
+use Rattle.tib_lex.proofs.Lists.{some_same}
 
 -- places in a list
 

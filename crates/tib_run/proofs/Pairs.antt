@@ -3,18 +3,16 @@ use Rattle.std.specs.Prelude.{ℕ, List}
 use Rattle.tib_grammar.specs.GrammarOf.{GrammarOf}
 use Rattle.tib_grammar.specs.declared.Rule.{Rule}
 use Rattle.tib_hunt.specs.Reached.{IsBeyond}
-use Rattle.tib_canon.specs.TrimmedForms.{IsTrimmedForm, HaveSameRules}
-use Rattle.tib_intersect.specs.Intersection.{intersection, DifferInOrder, OrderIsFree}
+use Rattle.tib_canon.specs.TrimmedForms.{IsTrimmedForm}
+use Rattle.tib_intersect.specs.Intersection.{intersection, OrderIsFree}
 use Rattle.tib_run.specs.Intersect.{AreTrimmedForms, intersecting}
-
-differ : (xs ys : List (Rule ℕ)) → HaveSameRules xs ys → DifferInOrder xs ys
-differ xs ys h = record { to = h.to; from = h.from; once_first = h.once_first; once_second = h.once_second }
+use Rattle.tib_lex.specs.Lists.{IsReordering}
 
 pub more_pairs :
     (product : ℕ → ℕ → ℕ) (limit : ℕ) (f g one two : GrammarOf) → OrderIsFree product →
-    ((h m n : GrammarOf) → IsTrimmedForm product h m → IsTrimmedForm product h n → HaveSameRules m.rules n.rules) →
+    ((h m n : GrammarOf) → IsTrimmedForm product h m → IsTrimmedForm product h n → IsReordering m.rules n.rules) →
     IsTrimmedForm product f one → IsTrimmedForm product g two → IsBeyond (intersection product one.rules two.rules) limit →
     (from : GrammarOf × GrammarOf) → AreTrimmedForms product f g from → IsBeyond (intersecting product from).problem limit
 more_pairs product limit f g one two free same first second beyond from are order edges reached =
     beyond order edges
-    (free from.0.rules from.1.rules one.rules two.rules (differ from.0.rules one.rules (same f from.0 one are.0 first)) (differ from.1.rules two.rules (same g from.1 two are.1 second)) order edges reached)
+    (free from.0.rules from.1.rules one.rules two.rules (same f from.0 one are.0 first) (same g from.1 two are.1 second) order edges reached)

@@ -20,8 +20,9 @@ use Rattle.tib_canon.proofs.ReachedAlike.{AreProblemsAlike, reached_alike}
 use Rattle.tib_canon.proofs.SameRules.{same_rules}
 use Rattle.tib_canon.proofs.TrimmedByText.{grammar_with, trimmed_with}
 use Rattle.tib_intersect.specs.PairEdges.{pair_at, IsPairEdge}
-use Rattle.tib_intersect.specs.Intersection.{intersection, DifferInOrder}
+use Rattle.tib_intersect.specs.Intersection.{intersection}
 use Rattle.tib_intersect.proofs.OrderFree.{order_is_free}
+use Rattle.tib_lex.specs.Lists.{IsReordering}
 
 -- an edge under the other numbers is that of an edge under the old ones
 record HasOldEdge (product : ℕ → ℕ → ℕ) (f : ℕ → ℕ) (one two : List (Rule ℕ)) (key o : ℕ × ℕ) (e : Rule (ℕ × ℕ)) : Type 0 where
@@ -121,7 +122,7 @@ module _ (product : ℕ → ℕ → ℕ) (labels others : List (List ℕ)) (f : 
       }
 
   -- any two trimmed normal forms of grammars that agree have the same rules, but for the numbers of labels
-  differ : (g h m k : GrammarOf) → AgreeByText labels others g h → IsTrimmedForm product g m → IsTrimmedForm product h k → DifferInOrder (rules_with f m.rules) k.rules
+  differ : (g h m k : GrammarOf) → AgreeByText labels others g h → IsTrimmedForm product g m → IsTrimmedForm product h k → IsReordering (rules_with f m.rules) k.rules
   differ g h m k a t u =
       let s = same_rules product h (grammar_with f m) k (trimmed_given g h m a t) u in
       record { to = s.to; from = s.from; once_first = s.once_first; once_second = s.once_second }

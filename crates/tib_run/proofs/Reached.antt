@@ -8,10 +8,8 @@ use Rattle.tib_lex.specs.declared.fault.FileFault.{FileFault}
 use Rattle.tib_tree.specs.Trees.{Tree}
 use Rattle.tib_tree.specs.Grows.{Grows, AreDistinct}
 use Rattle.tib_grammar.specs.GrammarOf.{GrammarOf}
-use Rattle.tib_grammar.specs.Series.{IsSeries}
+use Rattle.tib_grammar.specs.Series.{IsSeries, KeepsSeries, HasSameSeries, HaveSameSeries}
 use Rattle.tib_grammar.specs.declared.Rule.{Rule}
-use Rattle.tib_normal.specs.NormalForm.{KeepsSeries}
-use Rattle.tib_inside.specs.Trimmed.{HasSameSeries, HaveSameSeries}
 use Rattle.tib_command.specs.Jobs.{Asked}
 use Rattle.tib_command.specs.declared.job.Operation.{Operation}
 use Rattle.tib_run.specs.declared.status.Status.{Status}

@@ -7,6 +7,7 @@ use Rattle.tib_lex.specs.Lists.{Along}
 use Rattle.tib_tree.specs.Grows.{Adds, AddsAll}
 use Rattle.tib_tree.specs.Trees.{Trees, none, tree, only}
 use Rattle.tib_tree.specs.Written.{Written, end, leaf, head}
+use Rattle.tib_grammar.proofs.Below.{below_append}
 use Rattle.tib_grammar.specs.Sides.{Symbol, label, hole, holes, HolesAreLeaves}
 use Rattle.tib_grammar.specs.GrammarOf.{GrammarOf}
 use Rattle.tib_grammar.specs.Range.{AllBelow, AreInRange, SidesEndInHoles}
@@ -17,10 +18,6 @@ get_below : (names : List (List ℕ)) (q : ℕ) (text : List ℕ) → slice_get 
 get_below [] q text e = absurd (cc)
 get_below (name ∷ names) zero text e = omega arith
 get_below (name ∷ names) (suc q) text e = omega (arith, get_below names q text e)
-
-all_append : (n : ℕ) (ps qs : List ℕ) → AllBelow n ps → AllBelow n qs → AllBelow n (ps ++ qs)
-all_append n [] qs a b = b
-all_append n (p ∷ ps) qs a b = (a.0, all_append n ps qs a.1 b)
 
 module _ (names labels : List (List ℕ)) where
   leaves_of : (ts : Trees (Symbol ℕ ℕ)) (w : Written) → Means names labels ts w → HolesAreLeaves ts
@@ -36,9 +33,9 @@ module _ (names labels : List (List ℕ)) where
   states_of none w m = tt
   states_of (tree s kids rest) end m = absurd m
   states_of (tree (label f) kids rest) (leaf quoted text more) m =
-      all_append (length names) (holes kids) (holes rest) (subst (λ (ts : Trees (Symbol ℕ ℕ)). AllBelow (length names) (holes ts)) (sym m.1) tt) (states_of rest more m.2)
+      below_append (length names) (holes kids) (holes rest) (subst (λ (ts : Trees (Symbol ℕ ℕ)). AllBelow (length names) (holes ts)) (sym m.1) tt) (states_of rest more m.2)
   states_of (tree (hole q) kids rest) (leaf quoted text more) m = (get_below names q text m.0.1, states_of rest more m.2)
-  states_of (tree (label f) kids rest) (head quoted text below more) m = all_append (length names) (holes kids) (holes rest) (states_of kids below m.1) (states_of rest more m.2)
+  states_of (tree (label f) kids rest) (head quoted text below more) m = below_append (length names) (holes kids) (holes rest) (states_of kids below m.1) (states_of rest more m.2)
   states_of (tree (hole q) kids rest) (head quoted text below more) m = absurd m.0
 
   module _ (scale : Scale) where

@@ -21,10 +21,10 @@ use Rattle.tib_grammar.specs.GrammarOf.{GrammarOf}
 use Rattle.tib_grammar.specs.declared.Rule.{Rule}
 use Rattle.tib_grammar_file.specs.GrammarText.{Means, SpellsRuleOf, AreSmallRules}
 use Rattle.tib_grammar_file.specs.Read.{ReadsAs}
-use Rattle.tib_grammar_file.proofs.OneGrammar.{some_same}
 use Rattle.tib_grammar_file.proofs.Relabelled.{symbol_with, trees_with, rule_with, rules_with}
 use Rattle.tib_canon.proofs.TrimmedByText.{grammar_with}
 use Rattle.tib_run.specs.Kinds.{ListsTrees}
+use Rattle.tib_lex.proofs.Lists.{some_same}
 
 -- a table has no text twice where one that it grew to has none
 pub early_distinct : (early labels : List (List ℕ)) → Grows early labels → AreDistinct labels → AreDistinct early

@@ -1,20 +1,12 @@
 -- `intersect`: the intersection of two grammars.
 use Rattle.tib_cost.specs.declared.Scale.{Scale}
-use Rattle.std.specs.Prelude.{◌≡◌, ◌↔◌, ℕ, List, Option}
-use Rattle.tib_cost.specs.Least.{times}
-use Rattle.tib_tree.specs.Trees.{Tree}
+use Rattle.std.specs.Prelude.{ℕ, List}
 use Rattle.tib_grammar.specs.GrammarOf.{GrammarOf}
-use Rattle.tib_grammar.specs.Series.{IsSeries}
-use Rattle.tib_grammar.specs.declared.Rule.{Rule}
+pub use Rattle.tib_grammar.specs.Series.{HasProductSeries}
 use Rattle.tib_canon.specs.Constructions.{Construction, at_first, IsCanonicalFrom, HasGrammarText}
 use Rattle.tib_canon.specs.TrimmedForms.{IsTrimmedForm}
 use Rattle.tib_intersect.specs.Intersection.{intersection}
 use Rattle.tib_run.specs.Made.{Made, and_then, normal_form, reached_set}
-
--- the rules give each tree the product of the costs that two others give it
-abbrev pub HasProductSeries : (ℕ → ℕ → ℕ) → List (Rule ℕ) → List (Rule ℕ) → List (Rule ℕ) → Type 0
-HasProductSeries product one two rules =
-    (t : Tree ℕ) (a b v : Option ℕ) → IsSeries product one t a → IsSeries product two t b → IsSeries product rules t v ↔ v ≡ times product a b
 
 -- the trimmed normal forms of two grammars
 abbrev pub AreTrimmedForms : (ℕ → ℕ → ℕ) → GrammarOf → GrammarOf → GrammarOf × GrammarOf → Type 0

@@ -3,10 +3,10 @@ use Rattle.tib_cost.specs.declared.Scale.{Scale}
 use Rattle.std.specs.Prelude.{ℕ, ◌≤◌, List, length}
 use Rattle.tib_grammar.specs.GrammarOf.{GrammarOf}
 use Rattle.tib_normal.specs.NormalForm.{IsNormalForm, normal_parts}
-use Rattle.tib_inside.specs.Trimmed.{HaveSameSeries}
 use Rattle.tib_canon.specs.Canonical.{IsCanonical}
 use Rattle.tib_canon.specs.Constructions.{HasGrammarText}
 use Rattle.tib_run.specs.Made.{Made, normal_form}
+use Rattle.tib_grammar.specs.Series.{HaveSameSeries}
 
 -- the canonical form of a normal form of a grammar, which is within the limit
 pub record IsCanonicalNormal (scale : Scale) (product : ℕ → ℕ → ℕ) (limit : ℕ) (labels : List (List ℕ)) (g h : GrammarOf) : Type 0 where

@@ -24,7 +24,7 @@ struct Ending {
     finishes: u64,
 }
 
-// In how many pieces so many bytes go over.
+// In how many pieces this number of bytes goes over.
 fn pieces(bytes: usize, most: usize) -> u64 {
     if most == 0 {
         return 0;
@@ -86,7 +86,7 @@ fn ending_of(row: &Row, outside: Outside) -> Ending {
     }
 }
 
-// The line that is told of a status, where it is not the row's own.
+// What the program writes of a status, where it is not the row's own.
 fn line_of(status: Status) -> &'static str {
     match status {
         Status::ReadFault { file: 1 } => "tiburon: file 1: cannot be read\n",
@@ -244,7 +244,7 @@ const fn fault(file: u32, kind: FaultKind) -> Status {
     }
 }
 
-// How an operation ends whose first file is a comment of so many bytes.
+// How an operation ends whose first file is a comment of this number of bytes.
 fn status_of<R: Threads + Sync>(
     rt: &R,
     alloc: Global,
