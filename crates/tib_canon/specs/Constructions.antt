@@ -53,7 +53,8 @@ pub record IsCanonicalOf {K O : Type 0} (product : ℕ → ℕ → ℕ) (scale :
   pub canonical : IsCanonicalOverKeys product scale labels c.problem.cmp order rules begin h
 
 -- the same of a construction from what values were brought to, as trimmed normal forms
-pub record IsCanonicalFrom {W K O : Type 0} (product : ℕ → ℕ → ℕ) (scale : Scale) (labels : List (List ℕ)) (limit : ℕ) (IsMade : W → Type 0) (constructing : W → Construction K O) (h : GrammarOf) : Type 0 where
+pub record IsCanonicalFrom {W K O : Type 0} (product : ℕ → ℕ → ℕ) (scale : Scale) (labels : List (List ℕ)) (limit : ℕ)
+    (IsMade : W → Type 0) (constructing : W → Construction K O) (h : GrammarOf) : Type 0 where
   pub from : W
   pub is_made : IsMade from
   pub canonical : IsCanonicalOf product scale labels limit (constructing from) h

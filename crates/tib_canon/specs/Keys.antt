@@ -55,7 +55,8 @@ IsBegun cmp order rules (At position) g = IsOverKeys cmp order rules position g
 IsBegun cmp order rules Empty g = g ≡ without_rules
 
 -- the canonical form of the grammar over the keys, which has its series
-pub record IsCanonicalOverKeys {K : Type 0} (product : ℕ → ℕ → ℕ) (scale : Scale) (labels : List (List ℕ)) (cmp : K → K → Ordering) (order : List K) (rules : List (Rule ℕ)) (begin : Begin) (h : GrammarOf) : Type 0 where
+pub record IsCanonicalOverKeys {K : Type 0} (product : ℕ → ℕ → ℕ) (scale : Scale) (labels : List (List ℕ))
+    (cmp : K → K → Ordering) (order : List K) (rules : List (Rule ℕ)) (begin : Begin) (h : GrammarOf) : Type 0 where
   pub over : GrammarOf
   pub begun : IsBegun cmp order rules begin over
   pub canonical : IsCanonical product scale labels over h

@@ -88,8 +88,11 @@ pub(crate) fn lines_at<'a>(
     texts: &'a Texts,
 ) -> Result<Vec<Line<'a>>, AllocError>
     requires below { (i : ℕ) → i < length positions.now → get_or positions.now i 0 < length rules.now }
-    requires texts { (scale : Scale) × (names : List (List ℕ)) × (labels : List (List ℕ)) × AreTexts scale names labels (map (rule_at rules.now) positions.now) texts.now.sink.bytes texts.now.ends.items }
-    ensures lines { IfOk result (λ lines. (scale : Scale) (names labels : List (List ℕ)) → AreTexts scale names labels (map (rule_at rules.now) positions.now) texts.now.sink.bytes texts.now.ends.items → Each (IsLineAt scale names labels rules.now) lines.items) }
+    requires texts { (scale : Scale) × (names : List (List ℕ)) × (labels : List (List ℕ))
+        × AreTexts scale names labels (map (rule_at rules.now) positions.now) texts.now.sink.bytes texts.now.ends.items }
+    ensures lines { IfOk result (λ lines. (scale : Scale) (names labels : List (List ℕ))
+        → AreTexts scale names labels (map (rule_at rules.now) positions.now) texts.now.sink.bytes texts.now.ends.items
+        → Each (IsLineAt scale names labels rules.now) lines.items) }
     ensures positions { IfOk result (λ lines. map (λ line. line.position) lines.items ≡ positions.now) }
 {
     let text = texts.sink.bytes();

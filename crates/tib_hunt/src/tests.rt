@@ -1,3 +1,4 @@
+// Small hunts: what they reach, how many parts that has, and what a limit leaves.
 ghost use Rattle.std.specs.Prelude.{◌≡◌, ◌<◌, ◌+◌, ◌-◌, ℕ, [], ◌∷◌, length, IfOk, IfErr};
 ghost use Rattle.tib_hunt.specs.EdgeLists.{IsWithin, position_of};
 ghost use Rattle.tib_hunt.specs.declared.place.Place.{Place};
