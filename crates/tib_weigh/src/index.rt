@@ -7,8 +7,8 @@ ghost use Rattle.tib_weigh.specs.Buckets.{AreRules};
 ghost use Rattle.tib_weigh.specs.Entries.{IsAscending};
 ghost use Rattle.tib_weigh.specs.Found.{IsBlank};
 ghost use Rattle.tib_weigh.specs.Shapes.{AreTables, IsShape, IsIndex};
-ghost use Rattle.tib_weigh.specs.Vectors.{vectors, IsVectorOf, Weighed};
-ghost use Rattle.tib_tree.specs.Trees.{Trees, none, first_trees};
+ghost use Rattle.tib_weigh.specs.Vectors.{vectors, IsNodeVector, IsVectorOf};
+ghost use Rattle.tib_tree.specs.Trees.{none};
 ghost use Rattle.tib_grammar.specs.Forms.{AreNormal};
 ghost use Rattle.tib_grammar.specs.Range.{AreInRange};
 
@@ -134,7 +134,9 @@ impl Shape {
         requires ascend { Each IsAscending (vectors stack.now) }
         requires blank { IsBlank found.old }
         requires empty { vector.old.items ≡ [] }
-        ensures vector { IfOk result (λ _. (f : ℕ) (ts : Trees ℕ) → AreTables rules.now (positions_with f rank rules.now) rank self.now.tables.items → Weighed S.product rules.now ts (vectors stack.now) → IsVectorOf S.product rules.now f (first_trees rank ts) vector.new.items) }
+        ensures vector { IfOk result (λ _. (f : ℕ) →
+            AreTables rules.now (positions_with f rank rules.now) rank self.now.tables.items →
+            IsNodeVector S.product rules.now f rank (vectors stack.now) vector.new.items) }
         ensures blank { IfOk result (λ _. IsBlank found.new) }
         ensures long { IfOk result (λ _. length found.new.costs.items ≡ length found.old.costs.items) }
     {

@@ -2,12 +2,12 @@
 ghost use Rattle.std.specs.Prelude.{◌≡◌, ℕ, ◌+◌, ◌-◌, ◌<◌, ◌≤◌, [], length, map, IfOk, None, Some, nat_eq, if◌then◌else◌, get_or};
 ghost use Rattle.tib_cost.specs.Least.{lesser as lesser_of, times as times_of};
 ghost use Rattle.tib_lex.specs.Lists.{Ascends, Each};
-ghost use Rattle.tib_tree.specs.Trees.{Trees, count, first_trees};
+ghost use Rattle.tib_tree.specs.Trees.{count};
 ghost use Rattle.tib_grammar.specs.Forms.{AreNormal, IsNormalSide};
 ghost use Rattle.tib_grammar.specs.Sides.{holes as holes_of};
 ghost use Rattle.tib_normal.specs.Rules.{positions_with};
 ghost use Rattle.tib_weigh.specs.Entries.{cost_in, EndsBy, IsAscending};
-ghost use Rattle.tib_weigh.specs.Vectors.{times_all, vectors, IsVectorOf, Weighed};
+ghost use Rattle.tib_weigh.specs.Vectors.{times_all, vectors, IsNodeVector};
 ghost use Rattle.tib_grammar.specs.Items.{state_in};
 
 use crate::vector::{Entry, add_cost, cost_at};
@@ -87,7 +87,7 @@ pub(crate) fn put_node_vector<S: Semiring>(
     requires enough { rank ≤ length stack.now }
     requires ascend { Each IsAscending (vectors stack.now) }
     requires empty { vector.old.items ≡ [] }
-    ensures { IfOk result (λ _. (ts : Trees ℕ) → Weighed S.product rules.now ts (vectors stack.now) → IsVectorOf S.product rules.now label (first_trees rank ts) vector.new.items) }
+    ensures { IfOk result (λ _. IsNodeVector S.product rules.now label rank (vectors stack.now) vector.new.items) }
 {
     for position in positions {
         add_rule::<S>(&rules[*position as usize], stack, vector)?;

@@ -4,11 +4,10 @@ ghost use Rattle.tib_grammar.specs.Series.{IsSeries};
 ghost use Rattle.std.specs.List.{AllZip};
 ghost use Rattle.std.specs.Thread.{IsSync};
 ghost use Rattle.tib_lex.specs.Lists.{Each};
-ghost use Rattle.tib_tree.specs.Trees.{Trees, first_trees};
 ghost use Rattle.tib_weigh.specs.Entries.{IsAscending};
 ghost use Rattle.tib_weigh.specs.Found.{IsBlank};
 ghost use Rattle.tib_weigh.specs.Shapes.{IsIndex};
-ghost use Rattle.tib_weigh.specs.Vectors.{vectors, IsVectorOf, Weighed};
+ghost use Rattle.tib_weigh.specs.Vectors.{vectors, IsNodeVector};
 
 use crate::found::Found;
 use crate::index::Index;
@@ -34,7 +33,7 @@ impl Room {
         ensures long { IfOk result (λ r. length r.found.costs.items ≡ states) }
     {
         Ok(Room {
-            found: Found::new(alloc, states as usize)?,
+            found: Found::new(alloc, states)?,
             spare: Vec::new(alloc),
         })
     }
@@ -82,7 +81,7 @@ fn put_vector_at<S: Semiring>(
     requires blank { IsBlank found.old }
     requires long { length found.old.costs.items ≡ length normal.now.names }
     requires empty { vector.old.items ≡ [] }
-    ensures vector { IfOk result (λ _. (ts : Trees ℕ) → Weighed S.product normal.now.rules ts (vectors stack.now) → IsVectorOf S.product normal.now.rules label (first_trees rank ts) vector.new.items) }
+    ensures vector { IfOk result (λ _. IsNodeVector S.product normal.now.rules label rank (vectors stack.now) vector.new.items) }
     ensures blank { IfOk result (λ _. IsBlank found.new) }
     ensures long { IfOk result (λ _. length found.new.costs.items ≡ length normal.now.names) }
 {

@@ -16,4 +16,4 @@ returns-clause-vector g c =
     let tables = subst (λ (rules : List (Rule ℕ)). AreTables rules (positions_with c.args.label c.args.rank rules) c.args.rank c.in-Some.shape.now.tables.items) (sym same) shape.tables in
     let weighed = subst (λ (rules : List (Rule ℕ)). Weighed g.S.Semiring.product rules ts (vectors c.args.stack.now)) (sym same) w in
     subst (λ (rules : List (Rule ℕ)). IsVectorOf g.S.Semiring.product rules c.args.label (first_trees c.args.rank ts) c.put_vector.new.vector.items) same
-    (h c.args.label ts tables weighed))
+    (h c.args.label tables ts weighed))

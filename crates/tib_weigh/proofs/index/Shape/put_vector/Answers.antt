@@ -9,7 +9,7 @@ use Rattle.tib_weigh.proofs.Tries.{vector_found}
 use Rattle.tib_weigh.proofs.index.Shape.put_vector.Goals as goal
 
 pub returns-clause-vector : goal.returns-clause-vector
-returns-clause-vector g c = ok_two _ _ _ c.move_into.result c.move_into.ensures.ascends c.move_into.ensures.costs (λ x ascends costs f ts tables w.
+returns-clause-vector g c = ok_two _ _ _ c.move_into.result c.move_into.ensures.ascends c.move_into.ensures.costs (λ x ascends costs f tables ts w.
     let vs = vectors c.args.stack.now in
     let inside : c.best_place-place.result < c.args.rank = omega (arith, c.best_place-place.ensures, tables.long) in
     let deep : c.args.rank ≤ length vs = omega (arith, c.requires.enough, length-vectors c.args.stack.now) in
