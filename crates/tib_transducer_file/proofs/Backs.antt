@@ -1,9 +1,9 @@
 -- The items of places, which stand in the order of reading, the last first.
-use Rattle.std.proofs.Common.{◌≡◌, ℕ, ◌+◌, ◌-◌, ◌<◌, ◌≤◌, List, [], ◌∷◌, ◌++◌, length, get_or, take, drop, refl, ap, sym, ◌∙◌, subst, arith, Bool, true, false, zero, suc, reverse}
+use Rattle.std.proofs.Common.{◌≡◌, ℕ, ◌+◌, ◌-◌, ◌<◌, ◌≤◌, List, [], ◌∷◌, ◌++◌, length, get_or, take, refl, ap, sym, ◌∙◌, arith, Bool, true, false, zero, suc, reverse}
 use Rattle.std.specs.Prelude.{map, ◌||◌}
-use Rattle.std.specs.List.{list_any, All, Any}
+use Rattle.std.specs.List.{list_any}
 use Rattle.std.proofs.lemmas.List.{reverse-append, map-append, take_more, take_all, length-reverse, length-map}
-use Rattle.std.proofs.lemmas.List.Folds.{list_any-append, list_any-from_Any}
+use Rattle.std.proofs.lemmas.List.Folds.{list_any-append}
 use Rattle.tib_tree.specs.Written.{Item}
 use Rattle.tib_tree.specs.Shape.{item_at, items_back}
 use Rattle.tib_tree.specs.declared.shape.Place.{Place}

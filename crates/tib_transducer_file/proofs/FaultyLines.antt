@@ -6,11 +6,11 @@ use Rattle.std.specs.Prelude.{Some, None, Result, Ok, Err, cond}
 use Rattle.tib_lex.specs.declared.fault.FaultKind.{FaultKind}
 use Rattle.tib_lex.specs.declared.fault.FaultKind.TheVariants as kinds
 use Rattle.tib_lex.proofs.FirstFaults.{Fits}
-use Rattle.tib_grammar_file.specs.Faults.{IsFaultIf, IsWeightFault}
+use Rattle.tib_grammar_file.specs.Faults.{IsFaultIf}
 use Rattle.tib_grammar_file.specs.Weight.{cost_of}
 use Rattle.tib_grammar_file.proofs.FaultyLines.{WeightSays, weight_says}
 use Rattle.tib_transducer_file.specs.Pieces.{Piece, HasPieces, pieces_of}
-use Rattle.tib_transducer_file.specs.Rule.{Parts, SpellsRule, parts_of, RuleLine, rule_line_of, is_lone, is_twice, has_unknown, has_many, with_cost, checked, good_parts, rule_in, rule_line}
+use Rattle.tib_transducer_file.specs.Rule.{Parts, SpellsRule, parts_of, RuleLine, rule_line_of, is_lone, is_twice, has_unknown, has_many, with_cost, good_parts, rule_in, rule_line}
 use Rattle.tib_transducer_file.specs.TransducerText.{HasParts, SpellsLine}
 use Rattle.tib_transducer_file.specs.Faults.{HasBadWeight, HasRuleFault, HoldsRule}
 use Rattle.tib_transducer_file.proofs.PiecesHad.{pieces_had, bad_pieces}

@@ -1,7 +1,6 @@
 -- How the rules of a file are read.
-use Rattle.std.proofs.Common.{◌≡◌, ℕ, ◌+◌, ◌-◌, ◌<◌, ◌≤◌, inl, inr, List, [], ◌∷◌, ◌++◌, length, drop, refl, ap, sym, ◌∙◌, subst, arith, append_assoc, append-nil, Option}
+use Rattle.std.proofs.Common.{◌≡◌, ℕ, ◌+◌, ◌≤◌, inl, inr, List, [], ◌∷◌, ◌++◌, length, drop, refl, ap, sym, ◌∙◌, subst, arith, append_assoc, append-nil, Option}
 use Rattle.std.specs.Prelude.{slice_range, Some, None, Result, Ok, Err}
-use Rattle.std.specs.Global.{Vec}
 use Rattle.std.proofs.lemmas.List.{length-append}
 use Rattle.tib_lex.specs.Lines.{lines_of, front, with_line, each_line}
 use Rattle.tib_lex.specs.NextLine.{IsNextLine}
@@ -20,7 +19,7 @@ use Rattle.tib_grammar_file.proofs.Alongs.{along_changes, along_more}
 use Rattle.tib_transducer.specs.declared.TransducerRule.{TransducerRule}
 use Rattle.tib_transducer_file.specs.Rule.{RuleLine, numbers_in, state_of}
 use Rattle.tib_transducer_file.specs.Value.{IsRule, IsRightNode, states_in, states_of}
-use Rattle.tib_transducer_file.specs.Built.{AddsLine, AddsRule, AreFileRules}
+use Rattle.tib_transducer_file.specs.Built.{AddsLine, AreFileRules}
 use Rattle.tib_transducer_file.proofs.SidesRead.{right_grows, adds_append}
 use Rattle.tib_transducer_file.proofs.LinesRead.{left_side_grows}
 

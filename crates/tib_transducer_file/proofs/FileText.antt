@@ -1,12 +1,11 @@
 -- The transducer of a file that was read.
 use Rattle.tib_cost.specs.declared.Scale.{Scale}
-use Rattle.std.proofs.Common.{◌≡◌, ℕ, ◌+◌, ◌<◌, ◌≤◌, inl, inr, List, [], ◌∷◌, ◌++◌, length, take, drop, refl, ap, sym, ◌∙◌, subst, arith, Option, Bool, true, false, suc, zero}
-use Rattle.std.specs.Prelude.{Some, None, Result, Ok, Err, nat_eq, nat_lt, cond, not, ◌==◌, ◌||◌, ◌&&◌}
-use Rattle.std.specs.List.{list_any, prefix_len}
+use Rattle.std.proofs.Common.{◌≡◌, ℕ, ◌+◌, ◌<◌, ◌≤◌, inl, inr, List, [], ◌∷◌, ◌++◌, length, drop, refl, ap, sym, ◌∙◌, subst, arith, Option, Bool, true, false, suc}
+use Rattle.std.specs.Prelude.{Some, None, Result, Ok, Err, nat_eq, nat_lt, cond, not, ◌==◌, ◌&&◌}
+use Rattle.std.specs.List.{list_any}
 use Rattle.std.proofs.lemmas.Bool.Decides.{nat_tests}
-use Rattle.tib_lex.specs.Grammar.{Word, name, is_name, IsName, HasWords}
-use Rattle.tib_lex.specs.Line.{words_of}
-use Rattle.tib_lex.specs.Lines.{lines_of, front, with_line, each_line}
+use Rattle.tib_lex.specs.Grammar.{is_name}
+use Rattle.tib_lex.specs.Lines.{lines_of, front, with_line}
 use Rattle.tib_lex.specs.Lists.{Along, Each}
 use Rattle.tib_lex.specs.declared.fault.FaultKind.{FaultKind}
 use Rattle.tib_lex.specs.declared.fault.FileFault.{FileFault}
@@ -17,7 +16,6 @@ use Rattle.tib_tree.specs.Grows.{Adds, AddsAll}
 use Rattle.tib_tree.specs.Trees.{preorder_of, most_nodes}
 use Rattle.tib_tree.specs.Written.{Item}
 use Rattle.tib_grammar.specs.StateName.{IsStateName, AreStateNames}
-use Rattle.tib_grammar_file.specs.Rule.{has_dot}
 use Rattle.tib_grammar_file.specs.Reading.{start_line}
 use Rattle.tib_grammar_file.proofs.Alongs.{along_long}
 use Rattle.tib_grammar_file.proofs.TextRead.{all_names, some_name}
@@ -36,11 +34,11 @@ use Rattle.tib_transducer_file.specs.Faults.{IsCause}
 use Rattle.tib_transducer_file.proofs.FirstFaults.{fault_is_first}
 use Rattle.tib_transducer_file.proofs.ShapesRead.{rules_shaped, rules_within}
 use Rattle.tib_grammar_file.proofs.RowsRead.{start_back, no_start_back}
-use Rattle.tib_transducer_file.specs.Forms.{not_stop, stop_at, before_stop, behind_stop, is_root, is_number, number_of, leaf_text, pair_of, pair_if, pair_in}
+use Rattle.tib_transducer_file.specs.Forms.{stop_at, before_stop, behind_stop, is_root, is_number, number_of, leaf_text, pair_of, pair_if, pair_in}
 use Rattle.tib_transducer_file.specs.Rule.{Parts, RuleLine, rule_line, has_many, has_state, state_of, numbers_in}
 use Rattle.tib_transducer_file.specs.Value.{IsLeftNode, IsLeftSide, IsRightNode, IsRule, states_in, states_of, state_before}
 use Rattle.tib_transducer_file.specs.Reading.{started, with_start, rules_from, transducer_from}
-use Rattle.tib_transducer_file.specs.TransducerText.{SpellsLine, HaveRules, HaveStart, IsSmallRule, ReadsAs}
+use Rattle.tib_transducer_file.specs.TransducerText.{HaveRules, HaveStart, IsSmallRule, ReadsAs}
 use Rattle.tib_transducer_file.proofs.TextRead.{LineHolds, line_holds}
 
 -- the rules
@@ -154,7 +152,7 @@ begun scale n line lines start rules (Ok (Some s)) (Ok ds) more h behind go e =
     let there : FileHeld scale (line ∷ lines) s ds = record { have = inr (t.0, t.1, d.have); few = d.few; named = d.named; name = record { is_name = t.0.are.1.is_word; no_stop = t.1 } } in
     subst (λ (x : List ℕ × List RuleLine). FileHeld scale (line ∷ lines) x.0 x.1) same there
 
-file_held : (scale : Scale) (n : ℕ) (lines : List (List ℕ)) (start : List ℕ) (rules : List RuleLine) → transducer_from scale n lines ≡ Ok (start, rules) → FileHeld scale lines start rules
+pub file_held : (scale : Scale) (n : ℕ) (lines : List (List ℕ)) (start : List ℕ) (rules : List RuleLine) → transducer_from scale n lines ≡ Ok (start, rules) → FileHeld scale lines start rules
 file_held scale n [] start rules e = absurd (whole_err _ (start, rules) e)
 file_held scale n (line ∷ lines) start rules e =
     begun scale n line lines start rules (start_line line) (rules_from scale (suc n) lines) (transducer_from scale (suc n) lines) refl (rules_held scale (suc n) lines) (file_held scale (suc n) lines start rules) e
@@ -174,7 +172,7 @@ one_small names labels r line h f =
     let b = lt_false most_nodes (length line.parts.right) o.1 in
     (omega (arith, a, left_long labels (preorder_of r.left) line.parts h.left), omega (arith, b, along_long (IsRightNode names labels (numbers_in line.parts.below)) (preorder_of r.right) line.parts.right h.right))
 
-all_small : (names labels : List (List ℕ)) (rules : List (TransducerRule ℕ)) (lines : List RuleLine) → Along (IsRule names labels) rules lines → Each IsFew lines → Each IsSmallRule rules
+pub all_small : (names labels : List (List ℕ)) (rules : List (TransducerRule ℕ)) (lines : List RuleLine) → Along (IsRule names labels) rules lines → Each IsFew lines → Each IsSmallRule rules
 all_small names labels [] lines a f = tt
 all_small names labels (r ∷ rules) [] a f = absurd a
 all_small names labels (r ∷ rules) (l ∷ lines) a f = (one_small names labels r l a.0 f.0, all_small names labels rules lines a.1 f.1)

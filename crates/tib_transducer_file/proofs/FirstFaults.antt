@@ -1,10 +1,10 @@
 -- The function that says what a transducer file holds, and its first fault.
 use Rattle.tib_cost.specs.declared.Scale.{Scale}
-use Rattle.std.proofs.Common.{◌≡◌, ℕ, inl, inr, List, [], ◌∷◌, ap, sym, ◌∙◌, subst, Option, suc, refl}
+use Rattle.std.proofs.Common.{◌≡◌, ℕ, inl, inr, List, [], ◌∷◌, ap, sym, subst, Option, suc}
 use Rattle.std.specs.Prelude.{Some, None, Result, Ok, Err}
 use Rattle.tib_lex.proofs.FirstFaults.{fault_found}
 use Rattle.tib_lex.specs.FirstFault.{FirstFault}
-use Rattle.tib_lex.specs.Lines.{lines_of, each_line, with_line, front}
+use Rattle.tib_lex.specs.Lines.{lines_of}
 use Rattle.tib_lex.specs.declared.fault.FaultKind.{FaultKind}
 use Rattle.tib_lex.specs.declared.fault.FaultKind.TheVariants as kinds
 use Rattle.tib_lex.specs.declared.fault.FileFault.{FileFault}
@@ -12,7 +12,7 @@ use Rattle.tib_grammar_file.specs.Reading.{fault_at, start_line}
 use Rattle.tib_grammar_file.specs.Faults.{HasStartFault, FirstFaultFromStart}
 use Rattle.tib_grammar_file.proofs.FaultyLines.{StartSays, start_says}
 use Rattle.tib_transducer_file.specs.Rule.{RuleLine, rule_line}
-use Rattle.tib_transducer_file.specs.Reading.{started, with_start, rules_from, transducer_from, transducer_in}
+use Rattle.tib_transducer_file.specs.Reading.{started, with_start, rules_from, transducer_from}
 use Rattle.tib_transducer_file.specs.Faults.{HasRuleFault, HoldsRule, IsFirstFault}
 use Rattle.tib_transducer_file.proofs.FaultyLines.{rule_says}
 

@@ -1,17 +1,16 @@
 -- The words of a left side, one after another.
-use Rattle.std.proofs.Common.{◌≡◌, ℕ, ◌+◌, ◌-◌, ◌<◌, ◌≤◌, List, [], ◌∷◌, ◌++◌, length, get_or, take, drop, drop-cons, add-one, refl, ap, sym, ◌∙◌, subst, arith, append_assoc, append-nil, Bool, true, false, zero, suc}
-use Rattle.std.specs.Prelude.{map, ◌&&◌, ◌==◌, slice_range, cond, not}
+use Rattle.std.proofs.Common.{◌≡◌, ℕ, ◌+◌, ◌<◌, ◌≤◌, List, [], ◌∷◌, ◌++◌, length, get_or, drop, drop-cons, add-one, refl, ap, sym, ◌∙◌, arith, append_assoc, append-nil, Bool, true, false}
+use Rattle.std.specs.Prelude.{◌&&◌, ◌==◌, slice_range, not}
 use Rattle.std.specs.List.{All, prefix_len}
 use Rattle.std.proofs.lemmas.List.{map-append, drop-drop, drop_all}
 use Rattle.tib_lex.specs.Grammar.{Word, name}
 use Rattle.tib_lex.specs.Line.{word_at, words_at, Lies}
 use Rattle.tib_lex.specs.declared.token.Token.{Token}
-use Rattle.tib_lex.specs.declared.token.Kind.{Kind}
 use Rattle.tib_lex.specs.declared.token.Kind.TheVariants as kinds
-use Rattle.tib_lex.proofs.Found.{is_byte}
+use Rattle.tib_lex.proofs.Numbers.{byte_same}
 use Rattle.tib_lex.proofs.Spelled.{and_true}
-use Rattle.tib_transducer_file.specs.Pieces.{Piece, piece, meaning, meanings, pieces_at}
-use Rattle.tib_transducer_file.specs.Forms.{is_kind, takes, takes_next, joins}
+use Rattle.tib_transducer_file.specs.Pieces.{pieces_at}
+use Rattle.tib_transducer_file.specs.Forms.{is_kind, takes, joins}
 use Rattle.tib_transducer_file.specs.Found.{bytes_at}
 use Rattle.tib_transducer_file.proofs.Slices.{slice_joined}
 
@@ -33,7 +32,7 @@ last_false true d e = e
 last_false false d e = refl
 
 joined_place : (t u : Token) → are_joined t u ≡ true → u.start ≡ t.end
-joined_place t u e = is_byte u.start t.end (and_true (is_kind kinds.Name t.kind && is_kind kinds.Quoted u.kind) (u.start == t.end) e).1
+joined_place t u e = byte_same u.start t.end (and_true (is_kind kinds.Name t.kind && is_kind kinds.Quoted u.kind) (u.start == t.end) e).1
 
 pub two_words : (line : List ℕ) (root : Bool) (tokens behind : List Token) (d : Token) (r s : Bool) → 1 < length tokens → behind ≡ drop 2 tokens → All (Lies (length line)) tokens → r ≡ are_joined (get_or tokens 0 d) (get_or tokens 1 d) → r ≡ true → ((at : ℕ) → s ≡ takes root (bytes_at line (get_or tokens 0 d)) (pieces_at line at behind)) → s ≡ true → (at : ℕ) →
     joins root (pieces_at line at tokens) ≡ word_at line (both (get_or tokens 0 d) (get_or tokens 1 d)) ∷ joins false (pieces_at line (get_or tokens 1 d).end (drop 2 tokens))

@@ -1,20 +1,27 @@
-mod Numbers
-mod Slices
-mod Variables
-mod LinePieces
-mod Backs
-mod Joins
-mod PartsFound
-mod VariablesUsed
-mod SidesRead
-mod SideTrees
-mod RulesRead
-mod LinesRead
-mod FileRead
-mod Starts
-mod PiecesHad
-mod FaultyLines
-mod FirstFaults
-mod ShapesRead
-mod TextRead
-mod FileText
+pub mod Numbers
+pub mod Slices
+pub mod Variables
+pub mod LinePieces
+pub mod Backs
+pub mod Joins
+pub mod PartsFound
+pub mod VariablesUsed
+pub mod SidesRead
+pub mod SideTrees
+pub mod RulesRead
+pub mod LinesRead
+pub mod FileRead
+pub mod Starts
+pub mod PiecesHad
+pub mod FaultyLines
+pub mod FirstFaults
+pub mod ShapesRead
+pub mod TextRead
+pub mod FileText
+pub mod PiecesRead
+pub mod LinesHeld
+pub mod FaultsOnce
+pub mod OneByText
+pub mod OneTransducer
+pub mod SomeText
+pub mod LabelsHeld

@@ -1,20 +1,18 @@
 -- The tokens of a line from a place on.
-use Rattle.std.proofs.Common.{◌≡◌, ℕ, ◌+◌, ◌-◌, ◌<◌, ◌≤◌, inl, inr, List, [], ◌∷◌, ◌++◌, length, take, drop, refl, ap, sym, ◌∙◌, subst, arith, append_assoc, append-nil, Option, Bool, true, false, ◌==◌, zero, suc, length-append, length-drop, zero-add}
-use Rattle.std.specs.Prelude.{option_map, slice_range, cond, Some, None, map, not}
-use Rattle.std.specs.List.{list_all}
+use Rattle.std.proofs.Common.{◌≡◌, ℕ, ◌+◌, ◌<◌, List, [], ◌∷◌, ◌++◌, length, drop, refl, ap, sym, ◌∙◌, subst, arith, append_assoc, append-nil, Option, Bool, true, false, ◌==◌, zero, suc, length-drop, zero-add}
+use Rattle.std.specs.Prelude.{option_map, slice_range, Some, None, not}
 use Rattle.std.proofs.lemmas.Bool.Decides.{nat_tests}
-use Rattle.tib_lex.specs.Grammar.{Word, begins_blank, spelling, Begins, HasWords, IsBadAfter, HasBadToken}
+use Rattle.tib_lex.specs.Grammar.{Word, begins_blank, spelling}
 use Rattle.tib_lex.specs.Bytes.{is_blank}
 use Rattle.tib_lex.specs.Next.{first, next, blanks, span}
 use Rattle.tib_lex.specs.Laws.{kind_of}
 use Rattle.tib_lex.proofs.Found.{found}
-use Rattle.tib_lex.specs.Line.{words_of, words_in, words_after, word_of}
 use Rattle.tib_lex.specs.declared.token.Token.{Token}
 use Rattle.tib_lex.specs.declared.token.Lexed.{Lexed}
 use Rattle.tib_lex.specs.declared.token.Lexed.TheVariants as lexed
 use Rattle.tib_lex.proofs.LineWords.{takes}
 use Rattle.tib_lex.proofs.LineAt.{shift, next_shift, same_slice, drops}
-use Rattle.tib_transducer_file.specs.Pieces.{Piece, piece, meaning, pieces_after, pieces_in, pieces_of, pieces_at}
+use Rattle.tib_transducer_file.specs.Pieces.{Piece, piece, pieces_after, pieces_in, pieces_of, pieces_at}
 
 -- enough turns are enough
 after_same : (f g : List ℕ → Option (List Piece)) (bytes : List ℕ) (r : Lexed) → ((t : Token) → r ≡ lexed.Token t → f (drop t.end bytes) ≡ g (drop t.end bytes)) → pieces_after f bytes r ≡ pieces_after g bytes r

@@ -1,6 +1,6 @@
 -- What a rule line holds, by what was found in it.
 use Rattle.tib_cost.specs.declared.Scale.{Scale}
-use Rattle.std.proofs.Common.{◌≡◌, ℕ, ◌+◌, ◌<◌, ◌≤◌, List, [], ◌∷◌, length, refl, ap, sym, ◌∙◌, subst, arith, Option, suc}
+use Rattle.std.proofs.Common.{◌≡◌, ℕ, ◌<◌, ◌≤◌, List, [], ◌∷◌, length, refl, ap, sym, ◌∙◌, subst, arith, Option, suc}
 use Rattle.std.specs.Prelude.{Some, None, Ok, Err, slice_get}
 use Rattle.tib_lex.specs.Grammar.{Word}
 use Rattle.tib_lex.specs.Line.{text_of, word_at}
@@ -25,7 +25,7 @@ use Rattle.tib_transducer.specs.declared.Variable.{Variable}
 use Rattle.tib_transducer.specs.declared.Pair.{Pair}
 use Rattle.tib_transducer_file.specs.Pieces.{pieces_of, pieces_at}
 use Rattle.tib_transducer_file.specs.Forms.{variable_in, before_stop}
-use Rattle.tib_transducer_file.specs.Rule.{Parts, SpellsRule, parts_of, good_parts, rule_line, rule_line_of, state_of, number_before, numbers_in}
+use Rattle.tib_transducer_file.specs.Rule.{Parts, parts_of, good_parts, rule_line, rule_line_of, number_before, numbers_in}
 use Rattle.tib_transducer_file.specs.Found.{found_parts, FoundIn, FoundLies, parts_with, IsChecked}
 use Rattle.tib_transducer_file.specs.Value.{IsLeftNode, IsLeftSide, IsRightNode, IsRule}
 use Rattle.tib_transducer_file.specs.Built.{AreOneTree}

@@ -1,5 +1,5 @@
 -- The parts of a rule line, by what was found in it.
-use Rattle.std.proofs.Common.{◌≡◌, ℕ, ◌+◌, ◌-◌, ◌<◌, ◌≤◌, List, [], ◌∷◌, ◌++◌, length, take, drop, refl, ap, sym, ◌∙◌, subst, arith, Bool, true, false, Option, zero, suc}
+use Rattle.std.proofs.Common.{◌≡◌, ℕ, ◌+◌, ◌<◌, List, [], ◌∷◌, length, take, drop, refl, ap, sym, ◌∙◌, subst, arith, true, false, Option, zero, suc}
 use Rattle.std.specs.Prelude.{Some, None, nat_lt, cond, ◌==◌, slice_range}
 use Rattle.std.specs.List.{All, list_any, prefix_len}
 use Rattle.std.proofs.lemmas.Bool.Decides.{nat_tests}
@@ -15,10 +15,9 @@ use Rattle.tib_grammar_file.specs.Rule.{front_of, weight_in, right_parts, with_n
 use Rattle.tib_grammar_file.proofs.PartsRead.{words_front}
 use Rattle.tib_transducer_file.specs.Pieces.{Piece, piece, meanings, pieces_at}
 use Rattle.tib_transducer_file.specs.Forms.{left_words, is_stray}
-use Rattle.tib_transducer_file.specs.Rule.{Parts, parts, has_state, arrow_at, with_right, with_left, parts_at, parts_of}
-use Rattle.tib_transducer_file.specs.Found.{parts_with, found_parts, FoundIn, LeftIn, IsLeftFound}
+use Rattle.tib_transducer_file.specs.Rule.{Parts, arrow_at, with_right, with_left, parts_at, parts_of}
+use Rattle.tib_transducer_file.specs.Found.{parts_with, FoundIn, LeftIn, IsLeftFound}
 use Rattle.tib_transducer_file.specs.declared.forms.RootToken.{RootToken}
-use Rattle.tib_transducer_file.specs.declared.parts.Found.{Found}
 use Rattle.tib_transducer_file.proofs.Joins.{no_arrow}
 
 arrow_same : (line : List ℕ) (at : ℕ) (tokens : List Token) → arrow_at (pieces_at line at tokens) ≡ prefix_len no_arrow tokens

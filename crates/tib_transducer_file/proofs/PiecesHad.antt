@@ -1,7 +1,7 @@
 -- A line has just the tokens that are read of it.
 use Rattle.std.proofs.Common.{◌≡◌, ℕ, ◌+◌, List, [], ◌∷◌, ◌++◌, length, drop, refl, ap, sym, ◌∙◌, subst, Option, zero, suc}
-use Rattle.std.specs.Prelude.{option_map, slice_range, Some, None, map, not}
-use Rattle.tib_lex.specs.Grammar.{Word, begins_blank, spelling, Begins, HasWords, HasBadToken}
+use Rattle.std.specs.Prelude.{option_map, slice_range, Some, None, not}
+use Rattle.tib_lex.specs.Grammar.{Word, begins_blank, spelling, Begins, HasBadToken}
 use Rattle.tib_lex.specs.Next.{next, span}
 use Rattle.tib_lex.specs.Laws.{kind_of, Found}
 use Rattle.tib_lex.specs.Line.{words_of, words_in, words_after, word_of}

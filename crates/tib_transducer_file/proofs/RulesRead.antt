@@ -1,7 +1,7 @@
 -- The parts that are read of tokens are those of the rule that they spell.
-use Rattle.std.proofs.Common.{◌≡◌, ℕ, ◌+◌, ◌<◌, ◌≤◌, List, [], ◌∷◌, ◌++◌, length, take, drop, get_or, refl, ap, sym, ◌∙◌, subst, arith, Bool, true, false, Option, zero, suc, length-append}
-use Rattle.std.specs.Prelude.{Some, None, nat_lt, cond, not, ◌&&◌, ◌==◌}
-use Rattle.std.specs.List.{prefix_len, list_any}
+use Rattle.std.proofs.Common.{◌≡◌, ℕ, ◌+◌, ◌<◌, ◌≤◌, List, [], ◌∷◌, ◌++◌, length, take, drop, get_or, refl, ap, sym, ◌∙◌, subst, arith, Bool, true, false, Option, suc, length-append}
+use Rattle.std.specs.Prelude.{Some, None, nat_lt, cond, not}
+use Rattle.std.specs.List.{list_any}
 use Rattle.std.proofs.lemmas.Bool.Decides.{nat_tests}
 use Rattle.std.proofs.lemmas.List.{take-append-drop, drop_more, length-map}
 use Rattle.tib_lex.specs.Grammar.{Word, open_, close, hash, arrow, name, label}
@@ -10,7 +10,7 @@ use Rattle.tib_lex.proofs.Spelled.{and_true}
 use Rattle.std.proofs.lemmas.List.Sums.{prefix_len_stops}
 use Rattle.tib_lex.specs.declared.token.Kind.{Kind}
 use Rattle.tib_lex.specs.declared.token.Kind.TheVariants as token_kinds
-use Rattle.tib_tree.specs.Written.{Written, Item, end, leaf, head, word_for, spell, count, items}
+use Rattle.tib_tree.specs.Written.{Written, Item, end, leaf, head, word_for, spell, items}
 use Rattle.tib_tree.specs.Machine.{nodes_of, IsTree}
 use Rattle.tib_tree.proofs.Read.{tree_back, tree_forth}
 use Rattle.tib_grammar_file.specs.Rule.{weight_words, right_parts, Parts as RightParts, parts as right_of, parts_of as right_read}

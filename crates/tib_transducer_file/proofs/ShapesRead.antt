@@ -1,16 +1,16 @@
 -- Rules that stand for lines have their shape, and their states have names.
-use Rattle.std.proofs.Common.{◌≡◌, ℕ, ◌+◌, ◌<◌, ◌≤◌, List, [], ◌∷◌, ◌++◌, length, refl, ap, sym, ◌∙◌, subst, arith, Option, Bool, true, false, zero, suc}
+use Rattle.std.proofs.Common.{◌≡◌, ℕ, ◌<◌, List, [], ◌∷◌, length, refl, ap, sym, ◌∙◌, subst, arith, Option, Bool, true, false, zero, suc}
 use Rattle.std.specs.Prelude.{Some, None, slice_get}
 use Rattle.std.proofs.lemmas.Option.{slice_get_within}
 use Rattle.tib_lex.specs.Lists.{Along}
 use Rattle.tib_tree.specs.Nodes.{rank_of}
-use Rattle.tib_tree.specs.Trees.{preorder_of}
+use Rattle.tib_tree.specs.Trees.{only, preorder_of}
 use Rattle.tib_tree.specs.Written.{Item}
-use Rattle.tib_grammar.specs.Sides.{Symbol, label, hole}
+use Rattle.tib_grammar.specs.Sides.{Symbol, label, hole, Side, HolesAreLeaves}
 use Rattle.tib_grammar.specs.Items.{pair_of, pairs_of, holes_in}
 use Rattle.tib_grammar.specs.declared.Item.{Item as SideItem}
 use Rattle.tib_grammar.specs.declared.Item.TheVariants.{Label, Hole}
-use Rattle.tib_grammar.proofs.Holes.{holes_of_items}
+use Rattle.tib_grammar.proofs.Holes.{holes_of_items, HolesAreLeaves-items}
 use Rattle.tib_transducer.specs.Pairs.{begins, ArePairsWithin}
 use Rattle.tib_transducer.specs.Range.{AreNumbered, IsShaped, AreShaped, IsWithin, AreWithin}
 use Rattle.tib_transducer.specs.declared.Variable.{Variable}
@@ -22,12 +22,12 @@ use Rattle.tib_transducer_file.specs.Rule.{Parts, RuleLine, label_of, numbers_in
 use Rattle.tib_transducer_file.specs.Value.{IsRootItem, IsLeftSymbol, IsLeftNode, IsLeftSide, IsRightSymbol, IsRightNode, IsRule}
 
 -- variables and pairs have no children
-variable_rank : (q : Bool) (k : Option ℕ) (t : List ℕ) (v : ℕ × Option (List ℕ)) → variable_if (leaf_text q k t) ≡ Some v → rank_of k ≡ 0
+pub variable_rank : (q : Bool) (k : Option ℕ) (t : List ℕ) (v : ℕ × Option (List ℕ)) → variable_if (leaf_text q k t) ≡ Some v → rank_of k ≡ 0
 variable_rank true k t v e = let bad : None ≡ Some v = e in absurd (cc)
 variable_rank false None t v e = refl
 variable_rank false (Some n) t v e = let bad : None ≡ Some v = e in absurd (cc)
 
-pair_rank : (q : Bool) (k : Option ℕ) (t : List ℕ) (v : List ℕ × ℕ) → pair_if (leaf_text q k t) ≡ Some v → rank_of k ≡ 0
+pub pair_rank : (q : Bool) (k : Option ℕ) (t : List ℕ) (v : List ℕ × ℕ) → pair_if (leaf_text q k t) ≡ Some v → rank_of k ≡ 0
 pair_rank true k t v e = let bad : None ≡ Some v = e in absurd (cc)
 pair_rank false None t v e = refl
 pair_rank false (Some n) t v e = let bad : None ≡ Some v = e in absurd (cc)
@@ -126,3 +126,7 @@ rules_within names labels [] lines a m h = absurd (omega arith)
 rules_within names labels (r ∷ rules) [] a m h = absurd a
 rules_within names labels (r ∷ rules) (l ∷ lines) a zero h = (rule_shaped names labels r l a.0).1
 rules_within names labels (r ∷ rules) (l ∷ lines) a (suc m) h = rules_within names labels rules lines a.1 m (omega arith)
+
+-- nothing stands below a variable
+pub left_ends : (labels : List (List ℕ)) (s : Side ℕ Variable) (p : Parts) → IsLeftSide labels (preorder_of s) p → HolesAreLeaves (only s)
+left_ends labels s p h = HolesAreLeaves-items (items_from (preorder_of s)) s (rooted labels (preorder_of s) p h).pairs

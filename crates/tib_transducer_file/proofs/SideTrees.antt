@@ -1,21 +1,19 @@
 -- Items of a side that are one tree.
-use Rattle.std.proofs.Common.{◌≡◌, ℕ, ◌+◌, ◌-◌, ◌<◌, ◌≤◌, List, [], ◌∷◌, ◌++◌, length, get_or, take, drop, refl, ap, sym, ◌∙◌, subst, arith, append-nil, Option, suc}
-use Rattle.std.specs.Prelude.{Some, slice_get, map}
+use Rattle.std.proofs.Common.{◌≡◌, ℕ, ◌-◌, ◌≤◌, List, [], ◌∷◌, ◌++◌, length, get_or, take, drop, refl, ap, sym, ◌∙◌, subst, arith, Option, suc}
+use Rattle.std.specs.Prelude.{None}
 use Rattle.std.proofs.lemmas.List.{take-append-drop}
-use Rattle.tib_lex.specs.Grammar.{Word}
 use Rattle.tib_lex.specs.Lists.{Along}
+use Rattle.tib_lex.specs.declared.token.Kind.TheVariants as token_kinds
 use Rattle.tib_tree.specs.Grows.{Grows}
 use Rattle.tib_tree.specs.Nodes.{rank_of}
 use Rattle.tib_tree.specs.Trees.{Trees, none, tree, preorder, preorder_of, count as count_trees, IsOneTree, IsOneTree-preorder_of}
 use Rattle.tib_tree.specs.Written.{Written, Item, end, leaf, head, items, count}
-use Rattle.tib_tree.specs.Machine.{nodes_of}
 use Rattle.tib_tree.specs.Shape.{items_back, item_at}
 use Rattle.tib_tree.specs.declared.shape.Place.{Place}
 use Rattle.tib_tree.proofs.Read.{tree_back}
 use Rattle.tib_grammar.specs.Sides.{Symbol, label, hole, Side}
 use Rattle.tib_grammar.specs.Items.{pair_of, pairs_of, holes_in}
 use Rattle.tib_grammar.specs.declared.Item.{Item as SideItem}
-use Rattle.tib_grammar.specs.declared.Item.TheVariants.{Label, Hole}
 use Rattle.tib_grammar.proofs.Holes.{holes_of_items}
 use Rattle.tib_grammar_file.proofs.Alongs.{along_changes, along_front, along_back, along_long}
 use Rattle.tib_grammar_file.proofs.Resolved.{one_tree}
@@ -24,7 +22,6 @@ use Rattle.tib_transducer.specs.Rules.{variables_of}
 use Rattle.tib_transducer.specs.declared.Variable.{Variable}
 use Rattle.tib_transducer.specs.declared.Pair.{Pair}
 use Rattle.tib_transducer_file.specs.Forms.{behind_stop, written_label}
-use Rattle.tib_transducer_file.specs.Rule.{Parts}
 use Rattle.tib_transducer_file.specs.Found.{bytes_at, parts_with}
 use Rattle.tib_transducer_file.specs.Value.{IsRootItem, IsLeftNode, IsLeftSide, IsRightNode}
 use Rattle.tib_transducer_file.specs.Sides.{PushesLeft}
@@ -79,6 +76,10 @@ are_one xs is t h =
     let r = ranked w.tree xs (subst (λ (js : List Item). Along HasRank xs js) (sym w.nodes) h) in
     let o = one_tree r.trees (r.many ∙ w.one) in
     subst IsOneTree (o.2 ∙ r.order) (IsOneTree-preorder_of o.0)
+
+-- what is read where no place is
+abbrev pub no_place : Place
+no_place = record { token = record { kind = token_kinds.Open; start = 0; end = 0 }; kids = None; size = 0; depth = 0 }
 
 -- right sides
 pub right_ranks : (names labels : List (List ℕ)) (numbers : List ℕ) (ss : List (Symbol ℕ (Pair ℕ) × ℕ)) (is : List Item) → Along (IsRightNode names labels numbers) ss is → Along HasRank ss is

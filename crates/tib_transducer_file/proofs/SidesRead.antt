@@ -1,10 +1,9 @@
 -- How the sides of a rule are made.
-use Rattle.std.proofs.Common.{◌≡◌, ℕ, ◌+◌, ◌-◌, ◌<◌, ◌≤◌, List, [], ◌∷◌, ◌++◌, length, get_or, take, drop, refl, ap, sym, ◌∙◌, subst, arith, append_assoc, append-nil, Bool, true, false, Option, zero, suc}
-use Rattle.std.specs.Prelude.{Some, None, slice_get, map}
+use Rattle.std.proofs.Common.{◌≡◌, ℕ, ◌+◌, ◌-◌, ◌<◌, ◌≤◌, List, [], ◌∷◌, ◌++◌, length, get_or, drop, refl, ap, sym, ◌∙◌, subst, arith, append_assoc, append-nil, Option, zero, suc}
+use Rattle.std.specs.Prelude.{Some, None}
 use Rattle.std.proofs.lemmas.List.{drop_all, map-append, length-append}
 use Rattle.tib_lex.specs.Lists.{Along}
-use Rattle.tib_tree.specs.Grows.{Grows, Adds, AddsAll}
-use Rattle.tib_tree.specs.Nodes.{rank_of}
+use Rattle.tib_tree.specs.Grows.{Grows, AddsAll}
 use Rattle.tib_tree.specs.Written.{Item}
 use Rattle.tib_tree.specs.Shape.{items_back, item_at}
 use Rattle.tib_tree.specs.declared.shape.Place.{Place}
@@ -13,7 +12,7 @@ use Rattle.tib_grammar.specs.Sides.{Symbol, label, hole}
 use Rattle.tib_grammar.specs.Items.{pair_of, pairs_of, holes_in}
 use Rattle.tib_grammar.specs.declared.Item.{Item as SideItem}
 use Rattle.tib_grammar.specs.declared.Item.TheVariants.{Label, Hole}
-use Rattle.tib_grammar_file.proofs.Alongs.{along_changes, along_more, along_long}
+use Rattle.tib_grammar_file.proofs.Alongs.{along_changes, along_more}
 use Rattle.tib_transducer.specs.Range.{AreNumbered}
 use Rattle.tib_transducer.specs.declared.Variable.{Variable}
 use Rattle.tib_transducer.specs.declared.Pair.{Pair}

@@ -1,6 +1,6 @@
 -- How a transducer file begins.
 use Rattle.tib_cost.specs.declared.Scale.{Scale}
-use Rattle.std.proofs.Common.{◌≡◌, ℕ, ◌+◌, ◌<◌, ◌≤◌, List, length, drop, ap, sym, ◌∙◌, subst, arith, Bool, true, false, suc}
+use Rattle.std.proofs.Common.{◌≡◌, ℕ, ◌+◌, ◌≤◌, List, length, drop, ap, sym, ◌∙◌, subst, arith, Bool, true, false, suc}
 use Rattle.std.specs.Prelude.{slice_range, Ok, Err}
 use Rattle.std.proofs.lemmas.List.{drop_all}
 use Rattle.tib_lex.specs.Lines.{lines_of}

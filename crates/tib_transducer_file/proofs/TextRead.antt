@@ -1,27 +1,15 @@
 -- The transducer that is read is the one whose text the bytes are.
 use Rattle.tib_cost.specs.declared.Scale.{Scale}
-use Rattle.std.proofs.Common.{◌≡◌, ℕ, ◌+◌, ◌≤◌, inl, inr, List, [], ◌∷◌, ◌++◌, length, take, refl, ap, sym, ◌∙◌, subst, arith, Option, Bool, true, false, suc, zero}
-use Rattle.std.specs.Prelude.{Some, None, Result, Ok, Err, nat_eq, nat_lt, cond, not, ◌==◌, ◌||◌, ◌&&◌}
-use Rattle.std.specs.List.{list_any, prefix_len}
-use Rattle.std.proofs.lemmas.Bool.Decides.{nat_tests}
-use Rattle.tib_lex.specs.Grammar.{Word, name, is_name, IsName, IsWord, HasWords}
-use Rattle.tib_lex.specs.Lines.{lines_of, front, with_line, each_line}
-use Rattle.tib_lex.specs.Lists.{Along, Each}
+use Rattle.std.proofs.Common.{◌≡◌, ℕ, List, [], ◌∷◌, refl, Option, Bool, true, false}
+use Rattle.std.specs.Prelude.{Some, None, Result, Ok, Err, cond}
+use Rattle.tib_lex.specs.Grammar.{HasWords}
 use Rattle.tib_lex.specs.declared.fault.FaultKind.{FaultKind}
 use Rattle.tib_lex.specs.declared.fault.FaultKind.TheVariants as kinds
-use Rattle.tib_lex.specs.declared.fault.FileFault.{FileFault}
-use Rattle.tib_lex.proofs.Spelled.{and_true}
-use Rattle.tib_tree.specs.Trees.{preorder_of}
-use Rattle.tib_grammar.specs.StateName.{IsStateName, AreStateNames}
-use Rattle.tib_grammar_file.specs.Rule.{has_dot}
 use Rattle.tib_grammar_file.specs.Weight.{cost_of}
-use Rattle.tib_grammar_file.specs.Reading.{start_line}
 use Rattle.tib_grammar_file.proofs.WholeWeights.{cost_back}
 use Rattle.tib_transducer_file.specs.Pieces.{Piece, pieces_of}
-use Rattle.tib_transducer_file.specs.Forms.{before_stop, not_stop, stop_at, is_root, pair_of, pair_in}
-use Rattle.tib_transducer_file.specs.Rule.{Parts, parts_of, RuleLine, rule_line_of, rule_line, rule_in, good_parts, checked, with_cost, is_lone, is_twice, has_unknown, has_many, has_state, state_of}
-use Rattle.tib_transducer_file.specs.Reading.{started, with_start, rules_from, transducer_from}
-use Rattle.tib_transducer_file.specs.TransducerText.{HasParts, SpellsLine, HaveRules, HaveStart}
+use Rattle.tib_transducer_file.specs.Rule.{Parts, parts_of, RuleLine, rule_line_of, rule_line, rule_in, good_parts, with_cost, is_lone, is_twice, has_unknown, has_many}
+use Rattle.tib_transducer_file.specs.TransducerText.{HasParts, SpellsLine}
 use Rattle.tib_transducer_file.proofs.PiecesHad.{pieces_had}
 use Rattle.tib_transducer_file.proofs.RulesRead.{parts_back}
 

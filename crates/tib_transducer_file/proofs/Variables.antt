@@ -1,17 +1,13 @@
 -- What a token is, by its bytes.
-use Rattle.std.proofs.Common.{◌≡◌, ℕ, ◌+◌, ◌-◌, ◌<◌, ◌≤◌, List, [], ◌∷◌, ◌++◌, length, get_or, take, drop, refl, ap, sym, ◌∙◌, subst, arith, Bool, true, false, Option, zero, suc}
-use Rattle.std.specs.Prelude.{Some, None, slice_range, nat_lt, ◌==◌, ◌&&◌, not, cond, option_map}
-use Rattle.std.specs.List.{list_all, prefix_len}
+use Rattle.std.proofs.Common.{◌≡◌, ℕ, ◌+◌, ◌<◌, ◌≤◌, List, [], ◌∷◌, length, get_or, take, drop, refl, ap, sym, ◌∙◌, subst, arith, Bool, true, false, Option, zero, suc}
+use Rattle.std.specs.Prelude.{Some, None, slice_range, nat_lt, ◌==◌, ◌&&◌, not, cond}
+use Rattle.std.specs.List.{list_all}
 use Rattle.std.proofs.lemmas.Bool.Decides.{nat_tests}
 use Rattle.std.proofs.lemmas.List.Sums.{prefix_len-le-length}
 use Rattle.tib_lex.specs.Grammar.{is_name}
 use Rattle.tib_lex.proofs.Quotes.{ne-eqb}
-use Rattle.tib_lex.proofs.Found.{is_byte}
-use Rattle.tib_lex.specs.declared.token.Token.{Token}
-use Rattle.tib_lex.specs.Line.{Lies}
 use Rattle.tib_grammar_file.specs.Weight.{is_digit}
 use Rattle.tib_transducer_file.specs.Forms.{digits, some_digits, number_size, number_of, behind_number, is_colon, ending, label_behind, variable_of, stop_at, before_stop, behind_stop, is_number, pair_of, is_root, ends_with_colon}
-use Rattle.tib_transducer_file.specs.Found.{bytes_at}
 use Rattle.tib_transducer_file.proofs.Numbers.{front_digits}
 use Rattle.tib_transducer_file.proofs.Slices.{slice_drop, slice_empty, slice_cons, slice_long, slice_take}
 

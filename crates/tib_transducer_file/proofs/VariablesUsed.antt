@@ -1,22 +1,17 @@
 -- How the variables of a rule are checked.
-use Rattle.tib_cost.specs.declared.Scale.{Scale}
-use Rattle.std.proofs.Common.{◌≡◌, ℕ, ◌+◌, ◌-◌, ◌<◌, ◌≤◌, List, [], ◌∷◌, ◌++◌, length, get_or, take, drop, refl, ap, sym, ◌∙◌, subst, arith, append_assoc, append-nil, Bool, true, false, Option, zero, suc, reverse}
-use Rattle.std.specs.Prelude.{Some, None, Err, nat_eq, ◌||◌, ◌&&◌, not, cond, map}
-use Rattle.std.specs.List.{All, list_any}
-use Rattle.std.proofs.lemmas.List.Folds.{list_any-append}
+use Rattle.std.proofs.Common.{◌≡◌, ℕ, ◌-◌, ◌<◌, ◌≤◌, List, [], ◌∷◌, ◌++◌, length, get_or, take, drop, refl, ap, sym, ◌∙◌, arith, append_assoc, append-nil, Bool, true, false, Option, zero, suc, reverse}
+use Rattle.std.specs.Prelude.{Some, None, nat_eq, ◌||◌, not, map}
+use Rattle.std.specs.List.{list_any}
 use Rattle.std.proofs.lemmas.List.{take-append-drop, drop_all, map-append, reverse-append}
 use Rattle.indexmap.specs.IndexSet.{insert_key}
-use Rattle.tib_lex.specs.declared.fault.FaultKind.TheVariants as kinds
 use Rattle.tib_tree.specs.Written.{Item}
 use Rattle.tib_tree.specs.Shape.{items_back, item_at}
 use Rattle.tib_tree.specs.declared.shape.Place.{Place}
-use Rattle.tib_tree.proofs.NodesRead.{back_more, item_kids}
-use Rattle.tib_lex.specs.Line.{word_at}
-use Rattle.tib_transducer_file.specs.Forms.{variable_in, variable_of, pair_in, behind_stop, is_some}
-use Rattle.tib_transducer_file.specs.Rule.{Parts, parts, number_before, numbers_in, repeats, is_leaf, is_lone, is_twice, is_unknown, has_unknown, checked}
-use Rattle.tib_transducer_file.specs.Found.{bytes_at, parts_with, IsRootAt, is_lone_root, AreNumbers, AreGood, IsChecked}
+use Rattle.tib_tree.proofs.NodesRead.{back_more}
+use Rattle.tib_transducer_file.specs.Forms.{variable_in}
+use Rattle.tib_transducer_file.specs.Rule.{number_before, numbers_in, repeats}
+use Rattle.tib_transducer_file.specs.Found.{IsRootAt, AreNumbers}
 use Rattle.tib_transducer_file.specs.declared.forms.RootToken.{RootToken}
-use Rattle.tib_transducer_file.proofs.Backs.{last_back}
 
 pub numbers_append : (xs ys : List Item) → numbers_in (xs ++ ys) ≡ numbers_in xs ++ numbers_in ys
 numbers_append [] ys = refl

@@ -1,26 +1,18 @@
 -- What a line adds to what was read.
-use Rattle.std.specs.Prelude.{◌≡◌, ◌+◌, ◌<◌, ◌≤◌, ◌⊎◌, ℕ, List, [], ◌∷◌, ◌++◌, length, map, Option, Some, None, Result, Ok, Err, Contains, false}
+use Rattle.std.specs.Prelude.{◌≡◌, ◌⊎◌, ℕ, List, [], ◌∷◌, ◌++◌, Option, Some, None, Result, Ok, Err, false}
 use Rattle.std.specs.List.{list_any}
 use Rattle.std.specs.Global.{Vec}
 use Rattle.tib_lex.specs.Lists.{Along}
-use Rattle.tib_lex.specs.Lines.{lines_of}
 use Rattle.tib_lex.specs.declared.fault.FaultKind.{FaultKind}
 use Rattle.tib_lex.specs.declared.fault.FileFault.{FileFault}
 use Rattle.tib_lex.specs.declared.fault.LineError.{LineError}
 use Rattle.tib_lex.specs.declared.fault.LineError.TheVariants as line_errors
 use Rattle.tib_lex.specs.declared.fault.ReadError.{ReadError}
 use Rattle.tib_lex.specs.declared.fault.ReadError.TheVariants as errors
-use Rattle.tib_tree.specs.Grows.{Adds, AddsAll}
+use Rattle.tib_tree.specs.Grows.{AddsAll}
 use Rattle.tib_tree.specs.Written.{Item}
-use Rattle.tib_tree.specs.Machine.{nodes_of, IsTree}
-use Rattle.tib_tree.specs.Trees.{preorder_of}
+use Rattle.tib_tree.specs.Machine.{nodes_of}
 use Rattle.tib_lex.specs.Grammar.{Word}
-use Rattle.tib_grammar.specs.Items.{pair_of, pairs_of, holes_in}
-use Rattle.tib_grammar.specs.declared.Item.{Item as SideItem}
-use Rattle.tib_transducer.specs.Range.{AreNumbered}
-use Rattle.tib_transducer.specs.Rules.{variables_of}
-use Rattle.tib_transducer.specs.declared.Variable.{Variable}
-use Rattle.tib_transducer.specs.declared.Pair.{Pair}
 use Rattle.tib_transducer.specs.declared.TransducerRule.{TransducerRule}
 use Rattle.tib_transducer_file.specs.Forms.{pair_in}
 use Rattle.tib_transducer_file.specs.Rule.{Parts, RuleLine, state_of, is_unknown}

@@ -4,11 +4,10 @@ use Rattle.std.specs.List.{All}
 use Rattle.tib_cost.specs.declared.Scale.{Scale}
 use Rattle.tib_lex.specs.Line.{word_at, text_of, Lies}
 use Rattle.tib_lex.specs.declared.token.Token.{Token}
-use Rattle.tib_lex.specs.declared.fault.FaultKind.{FaultKind}
 use Rattle.tib_lex.specs.declared.fault.LineError.{LineError}
 use Rattle.tib_lex.specs.declared.fault.LineError.TheVariants as errors
 use Rattle.tib_tree.specs.Written.{Item, item}
-use Rattle.tib_tree.specs.Shape.{item_at, items_back, PlaceLies}
+use Rattle.tib_tree.specs.Shape.{items_back, PlaceLies}
 use Rattle.tib_tree.specs.declared.shape.Place.{Place}
 use Rattle.tib_grammar_file.specs.Found.{text_at, WeightLies}
 use Rattle.tib_grammar_file.specs.Rule.{Parts as RightParts}

@@ -10,3 +10,6 @@ pub mod Sides
 pub mod Built
 pub mod Begins
 pub mod Reader
+pub mod ByText
+pub mod Laws
+pub mod Labelled

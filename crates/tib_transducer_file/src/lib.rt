@@ -4,6 +4,7 @@
 #![tactic(auto)]
 
 mod forms;
+mod laws;
 mod parts;
 mod pieces;
 mod rules;
@@ -13,4 +14,8 @@ mod start;
 mod tests;
 mod transducer;
 
+pub use laws::{
+    one_transducer_by_text, text_has_one_transducer, transducer_faults_are_one,
+    transducer_faults_are_read, transducer_files_are_texts_or_faulty,
+};
 pub use transducer::read_transducer;

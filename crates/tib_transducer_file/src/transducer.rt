@@ -3,6 +3,7 @@ ghost use Rattle.std.specs.Prelude.{◌≡◌, ◌≤◌, ◌<◌, ◌+◌, ◌-
 ghost use Rattle.tib_tree.specs.Grows.{Grows};
 ghost use Rattle.tib_grammar.specs.StateName.{AreStateNames};
 ghost use Rattle.tib_transducer.specs.Range.{AreWithin, AreShaped};
+ghost use Rattle.tib_transducer_file.specs.Labelled.{AreLabelled};
 ghost use Rattle.tib_transducer_file.specs.TransducerText.{ReadsAs};
 ghost use Rattle.tib_transducer_file.specs.Faults.{IsCause};
 
@@ -73,6 +74,7 @@ pub fn read_transducer<S: Semiring>(
     requires short { length bytes.now ≤ 8388608 }
     requires room { length labels.old + length bytes.now < 2 ^ 32 - 1 }
     ensures text { IfOk result (λ t. ReadsAs S.SCALE labels.new bytes.now t) }
+    ensures labelled { IfOk result (λ t. AreLabelled (length labels.new) t.rules) }
     ensures fault { IfErr result (λ e. IsCause S.SCALE bytes.now e) }
     ensures labels { Grows labels.old labels.new }
     ensures few { length labels.new ≤ length labels.old + length bytes.now }

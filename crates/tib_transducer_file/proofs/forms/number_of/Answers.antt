@@ -1,4 +1,4 @@
-use Rattle.std.proofs.Common.{arith, ◌≡◌, ◌-◌, ◌+◌, ℕ, subst, sym, true, take, drop}
+use Rattle.std.proofs.Common.{arith, ◌≡◌, ◌-◌, ◌+◌, ℕ, subst, true, take, drop}
 use Rattle.std.specs.List.{list_all}
 use Rattle.tib_grammar_file.specs.Weight.{is_digit}
 use Rattle.tib_transducer_file.proofs.Variables.{number_in}

@@ -1,4 +1,4 @@
-use Rattle.std.proofs.Common.{arith, ◌∙◌, ap, sym, refl, length}
+use Rattle.std.proofs.Common.{arith, ◌∙◌, ap, refl, length}
 use Rattle.tib_transducer_file.specs.Forms.{before_stop, behind_stop}
 use Rattle.tib_transducer_file.proofs.Variables.{state_at, label_at, front_some}
 use Rattle.tib_transducer_file.proofs.Slices.{slice_long}

@@ -1,6 +1,4 @@
-use Rattle.std.proofs.Common.{arith, ◌∙◌, ap, ◌≡◌, true}
-use Rattle.std.specs.Prelude.{◌==◌}
-use Rattle.std.proofs.lemmas.Bool.Decides.{nat_tests}
+use Rattle.std.proofs.Common.{arith, ◌∙◌, ap}
 use Rattle.tib_lex.proofs.Quotes.{ne-eqb}
 use Rattle.tib_transducer_file.specs.Forms.{number_size, number_of}
 use Rattle.tib_transducer_file.proofs.Variables.{no_variable, bare_variable, no_colon, colon_variable, number_fits, same_eqb}

@@ -1,8 +1,7 @@
-use Rattle.std.proofs.Common.{arith, ◌∙◌, sym, ap, subst, refl, length, List, ℕ, ◌+◌}
+use Rattle.std.proofs.Common.{arith, ◌∙◌, sym, ap, subst, refl, length, List, ◌+◌}
 use Rattle.std.specs.List.{All, list_any}
 use Rattle.tib_grammar_file.specs.Found.{text_at}
 use Rattle.tib_transducer_file.specs.Forms.{is_stray}
-use Rattle.std.specs.Prelude.{Some}
 use Rattle.std.proofs.lemmas.List.{take_rest}
 use Rattle.std.proofs.lemmas.List.Elements.{All-drop}
 use Rattle.tib_lex.specs.Line.{Lies}
@@ -11,7 +10,6 @@ use Rattle.tib_tree.specs.Shape.{PlaceLies, items_back}
 use Rattle.tib_tree.specs.declared.shape.Place.{Place}
 use Rattle.tib_tree.proofs.Steps.{accepted, refused}
 use Rattle.tib_grammar_file.proofs.PartsRead.{all_front}
-use Rattle.tib_grammar_file.specs.Rule.{parts as right_of}
 use Rattle.tib_transducer_file.proofs.PartsFound.{no_arrow_found, split_found, right_found, no_left, some_left, no_right, stray_right, both_found, found_in}
 use Rattle.tib_transducer_file.proofs.parts.find_parts.Goals as goal
 

@@ -1,6 +1,5 @@
-use Rattle.std.proofs.Common.{arith, refl}
+use Rattle.std.proofs.Common.{arith}
 use Rattle.std.proofs.lemmas.List.{take_rest}
-use Rattle.tib_lex.specs.declared.token.Token.{Token}
 use Rattle.tib_lex.specs.declared.token.Kind.TheVariants as kinds
 use Rattle.tib_transducer_file.proofs.Joins.{two_words, not_joined, not_taken}
 use Rattle.tib_transducer_file.proofs.parts.first_word.Goals as goal

@@ -1,6 +1,6 @@
 use Rattle.std.proofs.Common.{◌∙◌, sym}
 use Rattle.tib_transducer_file.specs.Forms.{is_stray}
-use Rattle.tib_transducer_file.proofs.Backs.{tried_more, tried_all, tried_one}
+use Rattle.tib_transducer_file.proofs.Backs.{tried_all, tried_one}
 use Rattle.tib_transducer_file.proofs.parts.has_stray.Goals as goal
 
 pub returns-then-is_stray : goal.returns-then-is_stray

@@ -2,7 +2,7 @@ use Rattle.std.proofs.Common.{◌∙◌, sym}
 use Rattle.indexmap.specs.IndexSet.{keys}
 use Rattle.tib_transducer_file.specs.Forms.{pair_in}
 use Rattle.tib_transducer_file.specs.Rule.{is_unknown}
-use Rattle.tib_transducer_file.proofs.Backs.{tried_more, tried_all, tried_one}
+use Rattle.tib_transducer_file.proofs.Backs.{tried_all, tried_one}
 use Rattle.tib_transducer_file.proofs.parts.has_unknown.Goals as goal
 
 pub returns-then-is_unknown_at : goal.returns-then-is_unknown_at

@@ -1,4 +1,4 @@
-use Rattle.std.proofs.Common.{arith, ◌∙◌, ap, length, ◌∷◌, []}
+use Rattle.std.proofs.Common.{arith, ap, length}
 use Rattle.std.proofs.lemmas.List.{take_rest}
 use Rattle.tib_lex.proofs.LineAt.{more_lie, more_long}
 use Rattle.tib_transducer_file.proofs.Joins.{joining_goes}

@@ -1,4 +1,4 @@
-use Rattle.std.proofs.Common.{arith, sym, subst, List, length}
+use Rattle.std.proofs.Common.{sym, subst, List, length}
 use Rattle.std.specs.List.{All}
 use Rattle.tib_lex.specs.Line.{Lies}
 use Rattle.tib_lex.specs.declared.token.Token.{Token}

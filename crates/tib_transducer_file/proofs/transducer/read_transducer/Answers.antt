@@ -1,4 +1,5 @@
 use Rattle.tib_transducer_file.proofs.FileText.{file_read, names_sound, reads_as, rules_ready, begun_fault, rules_fault}
+use Rattle.tib_transducer_file.proofs.LabelsHeld.{text_labelled}
 use Rattle.tib_transducer_file.proofs.transducer.read_transducer.Goals as goal
 
 pub state_names-requires-clause-sound : goal.state_names-requires-clause-sound
@@ -19,6 +20,12 @@ pub returns-in-Ok-state_names-clause-text : goal.returns-in-Ok-state_names-claus
 returns-in-Ok-state_names-clause-text g c =
     reads_as g.S.Semiring.SCALE c.args.bytes.now c.read_rules.new.names c.in-Ok-state_names.states c.read_rules.new.labels c.in-Ok-read_rules.rules.items c.transducer_over.result (file_read g.S.Semiring.SCALE _ c.args.bytes.now c.new-names.result c.find_start.new.names c.read_rules.new.names c.read_rules.new.labels c.in-Ok.begun c.in-Ok-read_rules.rules c.SCALE.ensures c.new-names.ensures c.in-Ok.ensures c.in-Ok-read_rules.ensures.rules)
     c.in-Ok-state_names.ensures c.transducer_over.ensures.names c.transducer_over.ensures.rules
+
+pub returns-in-Ok-state_names-clause-labelled : goal.returns-in-Ok-state_names-clause-labelled
+returns-in-Ok-state_names-clause-labelled g c =
+    text_labelled g.S.Semiring.SCALE c.read_rules.new.labels c.args.bytes.now c.transducer_over.result
+    (reads_as g.S.Semiring.SCALE c.args.bytes.now c.read_rules.new.names c.in-Ok-state_names.states c.read_rules.new.labels c.in-Ok-read_rules.rules.items c.transducer_over.result (file_read g.S.Semiring.SCALE _ c.args.bytes.now c.new-names.result c.find_start.new.names c.read_rules.new.names c.read_rules.new.labels c.in-Ok.begun c.in-Ok-read_rules.rules c.SCALE.ensures c.new-names.ensures c.in-Ok.ensures c.in-Ok-read_rules.ensures.rules)
+    c.in-Ok-state_names.ensures c.transducer_over.ensures.names c.transducer_over.ensures.rules)
 
 pub returns-in-Err-clause-fault : goal.returns-in-Err-clause-fault
 returns-in-Err-clause-fault g c = begun_fault g.S.Semiring.SCALE c.args.bytes.now c.new-names.result c.find_start.new.names c.in-Err.error c.in-Err.ensures

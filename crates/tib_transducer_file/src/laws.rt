@@ -1,0 +1,28 @@
+// What holds of the texts of transducers.
+ghost use Rattle.tib_transducer_file.specs.Laws.{GivesFaults, TextsHaveNone, FirstIsOne, TextOrFault, TextsMeanOne, TextHasOne};
+
+/// The function that says what a file holds gives a fault exactly where this is the first of the file.
+pub fn transducer_faults_are_read()
+    ensures { GivesFaults }
+{}
+
+/// Bytes with a fault are the text of no transducer, and they have one first fault.
+pub fn transducer_faults_are_one()
+    ensures none { TextsHaveNone }
+    ensures one { FirstIsOne }
+{}
+
+/// Each file is the text of a transducer, over some table of labels, or it has a first fault.
+pub fn transducer_files_are_texts_or_faulty()
+    ensures { TextOrFault }
+{}
+
+/// The transducers of one text, each over a table of labels of its own, differ in the numbers of labels alone.
+pub fn one_transducer_by_text()
+    ensures { TextsMeanOne }
+{}
+
+/// Bytes are the text of at most one transducer over one table of distinct labels.
+pub fn text_has_one_transducer()
+    ensures { TextHasOne }
+{}
