@@ -1,0 +1,3 @@
+-- The definitions of printed transducers: their text, and the texts that it needs.
+pub mod Printed
+pub mod Within

@@ -1,0 +1,13 @@
+//! The text of a transducer. `print_transducer` writes it into a sink: exactly `transducer_text` of
+//! `specs`, or a front of it where the sink fails. Labels stand in quotes where they would read as
+//! something else. It stands on the transducers of `tib_transducer`, on what `tib_transducer_file`
+//! reads, and on the sinks of `tib_io`.
+#![tactic(auto)]
+
+mod leaf;
+mod print;
+mod put;
+#[cfg(test)]
+mod tests;
+
+pub use print::print_transducer;
