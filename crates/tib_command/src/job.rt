@@ -29,6 +29,8 @@ pub enum Operation {
     Normal,
     /// The canonical grammar of the trees that two grammars have, at the products of their costs.
     Intersect,
+    /// Which classes a transducer is of, and which rule decides.
+    Check,
 }
 
 /// What the words ask for.

@@ -21,7 +21,7 @@ type Accepted = (
     &'static [&'static str],
 );
 
-static ACCEPTED: [Accepted; 24] = [
+static ACCEPTED: [Accepted; 25] = [
     (
         &["-k5", "weigh", "g", "t"],
         Mode::MinPlus,
@@ -238,9 +238,18 @@ static ACCEPTED: [Accepted; 24] = [
         14,
         &["g", "h"],
     ),
+    (
+        &["check", "t"],
+        Mode::MinPlus,
+        Operation::Check,
+        1,
+        1,
+        20000000,
+        &["t"],
+    ),
 ];
 
-static REFUSED: [&[&str]; 62] = [
+static REFUSED: [&[&str]; 65] = [
     &[],
     &["--"],
     &["weigh"],
@@ -258,6 +267,9 @@ static REFUSED: [&[&str]; 62] = [
     &["intersect"],
     &["intersect", "g"],
     &["intersect", "g", "h", "i"],
+    &["check"],
+    &["check", "t", "u"],
+    &["Check", "t"],
     &["-k==5", "weigh", "g", "t"],
     &["-k=", "weigh", "g", "t"],
     &["-k", "-5", "weigh", "g", "t"],

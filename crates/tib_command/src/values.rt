@@ -30,6 +30,7 @@ fn operation_in(text: &str) -> Option<Operation>
         "inside" => Some(Operation::Inside),
         "normal" => Some(Operation::Normal),
         "intersect" => Some(Operation::Intersect),
+        "check" => Some(Operation::Check),
         _ => None,
     }
 }
@@ -105,10 +106,8 @@ fn word_count(operation: Operation) -> usize
     ensures { result ≡ word_count operation }
 {
     match operation {
-        Operation::Weigh => 2,
-        Operation::Inside => 1,
-        Operation::Normal => 1,
-        Operation::Intersect => 2,
+        Operation::Inside | Operation::Normal | Operation::Check => 1,
+        Operation::Weigh | Operation::Intersect => 2,
     }
 }
 
