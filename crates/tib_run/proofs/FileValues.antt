@@ -8,10 +8,13 @@ use Rattle.tib_tree.proofs.Growing.{grows_not, grows_twice}
 use Rattle.tib_grammar_file.specs.ByText.{AgreeByText, AreOneTree}
 use Rattle.tib_grammar_file.proofs.OneByText.{one_by_text}
 use Rattle.tib_grammar_file.proofs.TreesByText.{trees_by_text}
-use Rattle.tib_run.specs.Kinds.{Kind, of_grammar, of_trees, OfName, ValueOf, IsTextOf, IsOfKind, ValuesOf, AreTextsOf, AreTexts, AreOfKinds, AreAllTold}
+use Rattle.tib_run.specs.Kinds.{Kind, of_grammar, of_trees, of_transducer, OfName, ValueOf, IsTextOf, IsOfKind, ValuesOf, AreTextsOf, AreTexts, AreOfKinds, AreAllTold}
 use Rattle.tib_grammar_file.specs.Printable.{ArePrintable}
 use Rattle.tib_grammar_file.proofs.Plain.{read_plain}
 use Rattle.tib_run.proofs.ReadSound.{IsSound, read_sound}
+use Rattle.tib_transducer_file.specs.ByText.{AreOneTransducer}
+use Rattle.tib_transducer_file.proofs.OneByText.{one_by_text as one_transducer}
+use Rattle.tib_run.proofs.TransducerTables.{transducer_over, transducer_grown}
 use Rattle.tib_run.proofs.Tables.{none_distinct, read_over, lists_over, reads_grown, lists_grown}
 
 -- a value of a file, where its bytes are told, over a table to which another has grown
@@ -27,6 +30,8 @@ text_over scale early labels of_grammar g bytes r =
     let o = read_over scale early labels bytes g r.1 in record { labels = o.labels; value = o.g; grows = o.grows; distinct = o.distinct; text = (r.0, o.reads) }
 text_over scale early labels of_trees trees bytes l =
     let o = lists_over early labels bytes trees l in record { labels = o.labels; value = o.trees; grows = o.grows; distinct = o.distinct; text = o.listed }
+text_over scale early labels of_transducer t bytes r =
+    let o = transducer_over scale early labels bytes t r.1 in record { labels = o.labels; value = o.t; grows = o.grows; distinct = o.distinct; text = (r.0, o.reads) }
 
 told_over : (scale : Scale) (early : List (List ℕ)) (kind : Kind) (bytes : Option (List ℕ)) → OfName bytes (IsOfKind scale kind) → IsTextOver scale early kind bytes
 told_over scale early kind None is = absurd is
@@ -36,6 +41,7 @@ told_over scale early kind (Some bytes) is = text_over scale early is.0 kind is.
 pub text_grown : (scale : Scale) (early labels : List (List ℕ)) (kind : Kind) (value : ValueOf kind) (bytes : List ℕ) → Grows early labels → IsTextOf scale early kind value bytes → IsTextOf scale labels kind value bytes
 text_grown scale early labels of_grammar g bytes grows r = (r.0, reads_grown scale early labels bytes g grows r.1)
 text_grown scale early labels of_trees trees bytes grows l = lists_grown early labels bytes trees grows l
+text_grown scale early labels of_transducer t bytes grows r = (r.0, transducer_grown scale early labels bytes t grows r.1)
 
 pub told_grown :
     (scale : Scale) (early labels : List (List ℕ)) (kind : Kind) (value : ValueOf kind) (bytes : Option (List ℕ)) → Grows early labels → IfSome bytes (IsTextOf scale early kind value) →
@@ -74,6 +80,7 @@ values_there scale kinds bytes are =
 abbrev pub AgreeInText : List (List ℕ) → List (List ℕ) → (kind : Kind) → ValueOf kind → ValueOf kind → Type 0
 AgreeInText labels others of_grammar g h = AgreeByText labels others g h
 AgreeInText labels others of_trees ts us = Along (AreOneTree labels others) ts us
+AgreeInText labels others of_transducer t u = AreOneTransducer labels others t u
 
 abbrev pub AllAgree : List (List ℕ) → List (List ℕ) → (kinds : List Kind) → ValuesOf kinds → ValuesOf kinds → Type 0
 AllAgree labels others [] values more = Unit {0}
@@ -84,6 +91,7 @@ text_agrees :
     AgreeInText labels others kind value other
 text_agrees scale labels others of_grammar g h bytes r q = one_by_text scale labels others bytes g h r.1.text q.1.text
 text_agrees scale labels others of_trees ts us bytes l m = trees_by_text labels others bytes ts us l.1 m.1
+text_agrees scale labels others of_transducer t u bytes r q = one_transducer scale labels others bytes t u r.1 q.1
 
 told_agrees :
     (scale : Scale) (labels others : List (List ℕ)) (kind : Kind) (value other : ValueOf kind) (bytes : Option (List ℕ)) → IsSome bytes → IfSome bytes (IsTextOf scale labels kind value) →
@@ -120,6 +128,7 @@ kinds_told scale labels (k ∷ kinds) bytes values t (suc n) kind e = kinds_told
 abbrev pub IsSoundValue : Scale → List (List ℕ) → (kind : Kind) → ValueOf kind → Type 0
 IsSoundValue scale labels of_grammar g = IsSound g × ArePrintable scale labels g.rules
 IsSoundValue scale labels of_trees trees = Unit {0}
+IsSoundValue scale labels of_transducer t = Unit {0}
 
 abbrev pub AllSound : Scale → List (List ℕ) → (kinds : List Kind) → ValuesOf kinds → Type 0
 AllSound scale labels [] values = Unit {0}
@@ -129,6 +138,7 @@ sound_value : (scale : Scale) (labels : List (List ℕ)) (kind : Kind) (value : 
 sound_value scale labels kind value None told t = absurd (cc told)
 sound_value scale labels of_grammar g (Some bytes) told r = (read_sound scale labels bytes g r.1.text, read_plain scale labels bytes g r.1.text)
 sound_value scale labels of_trees trees (Some bytes) told l = tt
+sound_value scale labels of_transducer t (Some bytes) told r = tt
 
 pub all_sound :
     (scale : Scale) (labels : List (List ℕ)) (kinds : List Kind) (bytes : ℕ → Option (List ℕ)) (values : ValuesOf kinds) → AreAllTold kinds bytes → AreTextsOf scale labels bytes kinds values →

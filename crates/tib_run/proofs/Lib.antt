@@ -1,4 +1,5 @@
 pub mod Tables
+pub mod TransducerTables
 pub mod ReadSound
 pub mod FileValues
 pub mod Lines
@@ -9,6 +10,7 @@ pub mod OfWeigh
 pub mod OfInside
 pub mod OfNormal
 pub mod OfIntersect
+pub mod OfCheck
 pub mod OfOperations
 pub mod FilesAsked
 pub mod OfJobs

@@ -47,3 +47,16 @@ pub each_at : {A : Type 0} (P : A → Type 0) (xs : List A) (i : ℕ) (x : A) �
 each_at P [] i x h l e = absurd (omega arith)
 each_at P (y ∷ ys) zero x h l e = subst P (sym e) h.0
 each_at P (y ∷ ys) (suc i) x h l e = each_at P ys i x h.1 (omega arith) e
+
+-- four pieces that went into an empty text, one behind the other
+pub four_pieces :
+    (start first second third last a b c d : List ℕ) → start ≡ [] → first ≡ start ++ a → second ≡ first ++ b → third ≡ second ++ c → last ≡ third ++ d →
+    last ≡ a ++ (b ++ (c ++ d))
+four_pieces start first second third last a b c d empty one two three four =
+    four
+    ∙ ap (λ (x : List ℕ). x ++ d) three
+    ∙ ap (λ (x : List ℕ). (x ++ c) ++ d) two
+    ∙ ap (λ (x : List ℕ). ((x ++ b) ++ c) ++ d) one
+    ∙ ap (λ (x : List ℕ). (((x ++ a) ++ b) ++ c) ++ d) empty
+    ∙ append_assoc (a ++ b) c d
+    ∙ append_assoc a b (c ++ d)

@@ -73,6 +73,7 @@ needs_met operations.Weigh product limit m = tt
 needs_met operations.Inside product limit m = tt
 needs_met operations.Normal product limit m = m
 needs_met operations.Intersect product limit m = m
+needs_met operations.Check product limit m = tt
 
 -- the same of jobs
 

@@ -17,6 +17,7 @@ use Rattle.tib_run.proofs.OfWeigh.{weighed_once, weighed_there}
 use Rattle.tib_run.proofs.OfInside.{insides_once, insides_there}
 use Rattle.tib_run.proofs.OfNormal.{normal_once, normal_there}
 use Rattle.tib_run.proofs.OfIntersect.{intersection_once, intersection_there}
+use Rattle.tib_run.proofs.OfCheck.{classes_once, classes_there}
 
 module _ (scale : Scale) (product : ℕ → ℕ → ℕ) (limit : ℕ) where
   -- what is made is within the limit, or has more parts
@@ -29,6 +30,7 @@ module _ (scale : Scale) (product : ℕ → ℕ → ℕ) (limit : ℕ) where
       both_either (normal_form product limit values.0) (and_then (normal_form product limit values.1.0) pairs) (form_either product limit values.0)
       (both_either (normal_form product limit values.1.0) pairs (form_either product limit values.1.0)
       (reached_either limit (AreTrimmedForms product values.0 values.1.0) (intersecting product)))
+  makes_either operations.Check values = nothing_either
 
   module _ (labels others : List (List ℕ)) (apart : Distinct labels) (different : Distinct others) where
     -- it is within the limit over each table of labels
@@ -43,6 +45,7 @@ module _ (scale : Scale) (product : ℕ → ℕ → ℕ) (limit : ℕ) where
         pairs_by_text product limit labels others apart different values.0 values.1.0 more.0 more.1.0 a.0 a.1.0 w.1.1,
       ),
     )
+    makes_by_text operations.Check values more a w = tt
 
     -- and the text is one
     pub result_once :
@@ -52,6 +55,7 @@ module _ (scale : Scale) (product : ℕ → ℕ → ℕ) (limit : ℕ) where
     result_once operations.Inside values more text other a b c = insides_once scale product labels others values.0 more.0 text other a.0 b c
     result_once operations.Normal values more text other a b c = normal_once scale product limit labels others values.0 more.0 text other apart different a.0 b c
     result_once operations.Intersect values more text other a b c = intersection_once scale product limit labels others values.0 values.1.0 more.0 more.1.0 text other apart different a.0 a.1.0 b c
+    result_once operations.Check values more text other a b c = classes_once labels others values.0 more.0 text other a.0 b c
 
   -- where it is within the limit, that there is no text cannot be
   pub result_there :
@@ -62,3 +66,4 @@ module _ (scale : Scale) (product : ℕ → ℕ → ℕ) (limit : ℕ) where
   result_there labels apart operations.Normal m values s w never = normal_there m.laws scale limit m.low labels apart values.0 s.0.0 s.0.1 w never
   result_there labels apart operations.Intersect m values s w never =
       intersection_there m.laws scale limit m.low labels apart values.0 values.1.0 s.0.0 s.1.0.0 s.0.1 s.1.0.1 w.1.1 never
+  result_there labels apart operations.Check needs values s w never = classes_there values.0 never

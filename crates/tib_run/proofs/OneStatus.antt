@@ -6,7 +6,7 @@ use Rattle.tib_lex.specs.declared.fault.FileFault.{FileFault}
 use Rattle.tib_command.specs.Jobs.{Asked}
 use Rattle.tib_run.specs.declared.status.Status.{Status}
 use Rattle.tib_run.specs.declared.status.Status.TheVariants as statuses
-use Rattle.tib_run.specs.Kinds.{Kind, of_grammar, of_trees, kinds_of, kind_at, file_at, bytes_at, OfName, OfFile, Told, IsShort, IsLong, IsOfKind, HasFault}
+use Rattle.tib_run.specs.Kinds.{Kind, of_grammar, of_trees, of_transducer, kinds_of, kind_at, file_at, bytes_at, OfName, OfFile, Told, IsShort, IsLong, IsOfKind, HasFault}
 use Rattle.tib_run.specs.Causes.{IsTooMuch, scale_of, bytes_of}
 use Rattle.tib_run.specs.Answers.{IsAnswer, AreTold, EndsCalmly, AreOneStatus}
 use Rattle.tib_run.proofs.Faults.{faulty_kind, one_fault}
@@ -31,6 +31,7 @@ slice_some (x ∷ xs) (suc n) h = slice_some xs n (omega arith)
 kind_short : (scale : Scale) (kind : Kind) (x : List ℕ) → IsOfKind scale kind x → IsShort x
 kind_short scale of_grammar x is = is.2.0
 kind_short scale of_trees x is = is.2.0
+kind_short scale of_transducer x is = is.2.0
 
 holds : (o : Option (List ℕ)) (x : List ℕ) (P : List ℕ → Type 0) → o ≡ Some x → IfSome o P → P x
 holds o x P e h = let there : IfSome (Some x) P = subst (λ z. IfSome z P) e h in there

@@ -14,6 +14,7 @@ use Rattle.tib_run.specs.Weigh.{IsWeighed}
 use Rattle.tib_run.specs.Inside.{HasInsides}
 use Rattle.tib_run.specs.Normal.{HasNormalText}
 use Rattle.tib_run.specs.Intersect.{HasIntersectionText}
+use Rattle.tib_run.specs.Check.{HasClasses}
 
 -- the text answers the operation on these values of its files
 abbrev pub IsResultOf : (operation : Operation) → Scale → (ℕ → ℕ → ℕ) → ℕ → List (List ℕ) → ValuesOf (kinds_of operation) → List ℕ → Type 0
@@ -21,6 +22,7 @@ IsResultOf operations.Weigh scale product limit labels values text = IsWeighed s
 IsResultOf operations.Inside scale product limit labels values text = HasInsides scale product values.0 text
 IsResultOf operations.Normal scale product limit labels values text = HasNormalText scale product limit labels values.0 text
 IsResultOf operations.Intersect scale product limit labels values text = HasIntersectionText scale product limit labels values.0 values.1.0 text
+IsResultOf operations.Check scale product limit labels values text = HasClasses values.0 text
 
 -- The text answers the operation on files with these bytes: they are the texts of values, what is made of these is within
 -- the limit, and the text answers the operation on them. Nothing is said of a file whose bytes are not told.
@@ -44,6 +46,7 @@ NeedsOf operations.Weigh product limit = Unit {0}
 NeedsOf operations.Inside product limit = Unit {0}
 NeedsOf operations.Normal product limit = MeetsLaws product limit
 NeedsOf operations.Intersect product limit = MeetsLaws product limit
+NeedsOf operations.Check product limit = Unit {0}
 
 -- the text answers the job
 abbrev pub IsAnswer : Asked → (List ℕ → Option (List ℕ)) → List ℕ → Type 0

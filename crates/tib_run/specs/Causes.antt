@@ -15,6 +15,7 @@ use Rattle.tib_run.specs.Weigh.{weigh_makes}
 use Rattle.tib_run.specs.Inside.{inside_makes}
 use Rattle.tib_run.specs.Normal.{normal_makes}
 use Rattle.tib_run.specs.Intersect.{intersect_makes}
+use Rattle.tib_run.specs.Check.{check_makes}
 use Rattle.tib_run.specs.declared.status.Status.{Status}
 use Rattle.tib_run.specs.declared.status.Status.TheVariants as statuses
 
@@ -42,6 +43,7 @@ makes operations.Weigh product limit values = weigh_makes product limit values.0
 makes operations.Inside product limit values = inside_makes
 makes operations.Normal product limit values = normal_makes product limit values.0
 makes operations.Intersect product limit values = intersect_makes product limit values.0 values.1.0
+makes operations.Check product limit values = check_makes
 
 -- Files are the texts of values of which an operation makes something with more parts than the limit.
 pub record MakesTooMuch (operation : Operation) (scale : Scale) (product : ℕ → ℕ → ℕ) (limit : ℕ) (bytes : ℕ → Option (List ℕ)) : Type 0 where

@@ -10,6 +10,9 @@ use Rattle.tib_tree.specs.TreesText.{TreesText, IsSmall, IsFirstFault as IsFirst
 use Rattle.tib_grammar.specs.GrammarOf.{GrammarOf}
 use Rattle.tib_grammar_file.specs.Read.{ReadsAs}
 use Rattle.tib_grammar_file.specs.Faults.{IsFirstFault}
+use Rattle.tib_transducer.specs.TransducerOf.{TransducerOf}
+use Rattle.tib_transducer_file.specs.TransducerText.{ReadsAs as ReadsAsTransducer}
+use Rattle.tib_transducer_file.specs.Faults.{IsFirstFault as IsFirstTransducerFault}
 use Rattle.tib_command.specs.Jobs.{Asked}
 use Rattle.tib_command.specs.declared.job.Operation.{Operation}
 use Rattle.tib_command.specs.declared.job.Operation.TheVariants as operations
@@ -17,6 +20,7 @@ use Rattle.tib_command.specs.declared.job.Operation.TheVariants as operations
 pub data Kind : Type 0 where
   of_grammar : Kind
   of_trees : Kind
+  of_transducer : Kind
 
 -- what the files of an operation hold, in order
 abbrev pub kinds_of : Operation → List Kind
@@ -24,6 +28,7 @@ kinds_of operations.Weigh = of_grammar ∷ of_trees ∷ []
 kinds_of operations.Inside = of_grammar ∷ []
 kinds_of operations.Normal = of_grammar ∷ []
 kinds_of operations.Intersect = of_grammar ∷ of_grammar ∷ []
+kinds_of operations.Check = of_transducer ∷ []
 
 -- what the n-th file of a job holds, from 1 on
 abbrev pub kind_at : Option Asked → ℕ → Option Kind
@@ -72,15 +77,21 @@ IsRead scale labels g bytes = IsShort bytes × ReadsAs scale labels bytes g
 abbrev pub ListsTrees : List (List ℕ) → List (Tree ℕ) → List ℕ → Type 0
 ListsTrees labels trees bytes = IsShort bytes × TreesText labels bytes trees × Each IsSmall trees
 
+-- the transducer of the text, with no side too large
+abbrev pub IsTransducerRead : Scale → List (List ℕ) → TransducerOf → List ℕ → Type 0
+IsTransducerRead scale labels t bytes = IsShort bytes × ReadsAsTransducer scale labels bytes t
+
 -- what the text of a file of the kind stands for
 abbrev pub ValueOf : Kind → Type 0
 ValueOf of_grammar = GrammarOf
 ValueOf of_trees = List (Tree ℕ)
+ValueOf of_transducer = TransducerOf
 
 -- the bytes are not too many, and are the text of the value over a table of labels
 abbrev pub IsTextOf : Scale → List (List ℕ) → (kind : Kind) → ValueOf kind → List ℕ → Type 0
 IsTextOf scale labels of_grammar g bytes = IsRead scale labels g bytes
 IsTextOf scale labels of_trees trees bytes = ListsTrees labels trees bytes
+IsTextOf scale labels of_transducer t bytes = IsTransducerRead scale labels t bytes
 
 -- the bytes are the text of a value of the kind
 abbrev pub IsOfKind : Scale → Kind → List ℕ → Type 0
@@ -115,6 +126,7 @@ abbrev pub HasFault : Scale → Option Kind → List ℕ → FileFault → Type 
 HasFault scale None bytes fault = ⊥
 HasFault scale (Some of_grammar) bytes fault = IsFirstFault scale bytes fault
 HasFault scale (Some of_trees) bytes fault = IsFirstTreeFault bytes fault
+HasFault scale (Some of_transducer) bytes fault = IsFirstTransducerFault scale bytes fault
 
 -- bytes of a kind have no fault as such
 abbrev pub KindsHaveNoFault : Type 0

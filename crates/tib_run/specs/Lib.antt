@@ -7,6 +7,7 @@ pub mod Weigh
 pub mod Inside
 pub mod Normal
 pub mod Intersect
+pub mod Check
 pub mod Causes
 pub mod Answers
 pub mod Run

@@ -3,7 +3,7 @@ ghost use Rattle.std.specs.Prelude.{◌≡◌, ◌≤◌, ◌<◌, ◌+◌, ◌-
 ghost use Rattle.tib_io.specs.Causes.{GoesOn};
 ghost use Rattle.tib_command.specs.Jobs.{meaning};
 ghost use Rattle.tib_run.specs.Causes.{HasCause, IsAbout, scale_of};
-ghost use Rattle.tib_run.specs.Kinds.{file_at, kind_at, OfFile, Told, IsShort, IsRead, ListsTrees, of_grammar, of_trees};
+ghost use Rattle.tib_run.specs.Kinds.{file_at, kind_at, OfFile, Told, IsShort, IsRead, ListsTrees, IsTransducerRead, of_grammar, of_trees, of_transducer};
 ghost use Rattle.tib_grammar_file.specs.Printable.{ArePrintable};
 ghost use Rattle.tib_tree.specs.Grows.{AreDistinct, Grows};
 ghost use Rattle.tib_lex.specs.Lists.{Each};
@@ -17,6 +17,8 @@ use tib_grammar::Grammar;
 use tib_grammar_file::{read_grammar, read_grammars_are_printable};
 use tib_io::{FileError, Files, read_file};
 use tib_lex::ReadError;
+use tib_transducer::Transducer;
+use tib_transducer_file::read_transducer;
 use tib_tree::{Labels, Tree, read_trees};
 
 // The name of a file of the job, which counts from 1.
@@ -117,6 +119,39 @@ pub(crate) fn trees_in<F: Files>(
             labels.len();
             Ok(trees)
         }
+        Err(ReadError::Fault(fault)) => Err(Status::BadInput { file, fault }),
+        Err(ReadError::OutOfMemory) => Err(Status::OutOfMemory),
+    }
+}
+
+/// The transducer of a file of the job, or the status with which the run ends.
+pub(crate) fn transducer_in<S: Semiring, F: Files>(
+    alloc: Global,
+    job: &Job,
+    file: u32,
+    files: &mut F,
+    labels: &mut Labels,
+) -> Result<Transducer<S>, Status>
+    requires from { 1 ≤ file }
+    requires to { file ≤ length job.now.files.items }
+    requires kind { kind_at (Some (meaning job.now)) file ≡ Some of_transducer }
+    requires mode { S.SCALE ≡ scale_of job.now.mode }
+    requires room { length labels.old + 8388608 < 2 ^ 32 - 1 }
+    ensures few { length labels.new ≤ length labels.old + 8388608 }
+    ensures text { IfOk result (λ t. OfFile (Some (meaning job.now)) file (Told (F.held files.old) (IsTransducerRead S.SCALE labels.new t))) }
+    ensures grows { Grows labels.old labels.new }
+    ensures cause { IfErr result (HasCause (Some (meaning job.now)) (F.held files.old) (F.faults files.old) (F.faults files.new) 0 0) }
+    ensures about { IfErr result (IsAbout file) }
+    ensures held { F.held files.new ≡ F.held files.old }
+    ensures sure { F.sure files.new ≡ F.sure files.old }
+    ensures counts { GoesOn (F.sure files.old) (F.faults files.old) (F.faults files.new) }
+{
+    let bytes = match bytes_of(alloc, job, file, files) {
+        Ok(bytes) => bytes,
+        Err(status) => return Err(status),
+    };
+    match read_transducer::<S>(alloc, &bytes, labels) {
+        Ok(transducer) => Ok(transducer),
         Err(ReadError::Fault(fault)) => Err(Status::BadInput { file, fault }),
         Err(ReadError::OutOfMemory) => Err(Status::OutOfMemory),
     }

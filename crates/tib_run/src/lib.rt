@@ -4,6 +4,7 @@
 #![tactic(auto)]
 
 mod answer;
+mod check;
 mod command;
 mod files;
 mod forms;

@@ -8,10 +8,12 @@ use tib_lex::{FaultKind, FileFault};
 mod large;
 mod rows;
 mod running;
+mod transducer_rows;
 mod watched;
 
 use rows::{BINARY, INTERSECTED, ONE_FILE, RIGHT, Row, WEIGHED, WIDEST};
 use running::{Outside, Ran, SOUND, run_words};
+use transducer_rows::CHECKED;
 
 // How a run is to end: its status, how many bytes of the row's text are written, and how often the files are read and
 // the output is written to and finished.
@@ -208,6 +210,12 @@ fn intersections_are_as_worked_out(rt: HostRuntime) -> Result<(), Fail> {
 }
 
 #[test]
+fn classes_are_told_as_worked_out(rt: HostRuntime) -> Result<(), Fail> {
+    assert_eq!(rt; first_wrong(&rt, rt.alloc(), &CHECKED)?, None);
+    Ok(())
+}
+
+#[test]
 fn the_mode_widest_is_as_worked_out(rt: HostRuntime) -> Result<(), Fail> {
     assert_eq!(rt; first_wrong(&rt, rt.alloc(), &WIDEST)?, None);
     Ok(())
@@ -253,7 +261,7 @@ fn status_of<R: Threads + Sync>(
 ) -> Result<Status, AllocError> {
     let file = vec![in alloc; b'%'; length]?;
     let other = b"a".to_vec(alloc)?;
-    if operation == "inside" || operation == "normal" {
+    if operation == "inside" || operation == "normal" || operation == "check" {
         let ran = run_words(rt, alloc, &[operation, "G"], file, other, SOUND)?;
         return Ok(ran.status);
     }
@@ -271,6 +279,7 @@ fn files_are_as_long_as_they_may_be(rt: HostRuntime) -> Result<(), Fail> {
         ("normal", 8_388_609, Status::TooLong { file: 1 }),
         ("normal", 8_388_608, fault(1, FaultKind::NoStart)),
         ("intersect", 8_388_609, Status::TooLong { file: 1 }),
+        ("check", 8_388_609, Status::TooLong { file: 1 }),
     ] {
         let ended = status_of(&rt, alloc, operation, length)?;
         assert_eq!(rt; ended, status, "{operation} of {length} bytes");
