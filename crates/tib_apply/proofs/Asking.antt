@@ -18,7 +18,8 @@ use Rattle.tib_transducer.specs.declared.Variable.{Variable}
 use Rattle.tib_apply.specs.Restrictions.{restriction}
 use Rattle.tib_apply.specs.Forward.{deleted, IsAskedCost, IsDeletedCost}
 use Rattle.tib_match.proofs.Steps.{one_of, neutral_right, no_trees, no_states, open_cost}
-use Rattle.tib_transducer.proofs.Selecting.{Item, keys_of, trees_of, product_of, stays, others, selected, selected-keys, selected-trees, selected-each, stays-keys, stays-each, parted, assemble, keys_long, bool_cases}
+use Rattle.tib_transducer.proofs.Selecting.{Item, keys_of, trees_of, product_of, stays, others, selected, selected-keys, selected-trees, selected-each, stays-keys, stays-each, parted, assemble, keys_long}
+use Rattle.tib_lex.proofs.Booleans.{bool_cases}
 use Rattle.tib_apply.proofs.Restricting.{IsListed, AreAdmitted, binds}
 use Rattle.tib_apply.proofs.Leaves.{map_twice, map_same_at, each_to}
 

@@ -14,7 +14,7 @@ use Rattle.tib_apply.proofs.Restricting.{IsListed, AreAdmitted, admits}
 use Rattle.tib_transducer.specs.declared.Variable.{Variable}
 use Rattle.tib_transducer.specs.declared.Pair.{Pair}
 use Rattle.tib_apply.specs.Backward.{states_at}
-use Rattle.tib_transducer.proofs.Selecting.{nat_eq_cases}
+use Rattle.tib_lex.proofs.Numbers.{nat_eq_cases}
 
 -- the number of a variable is its place
 pub number_at : (xs : List Variable) (n i : ℕ) → AreNumbered n xs → i < length xs → (get_or xs i no_variable).number ≡ n + i

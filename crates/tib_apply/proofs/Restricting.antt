@@ -9,7 +9,7 @@ use Rattle.tib_transducer.specs.Run.{Binds}
 use Rattle.tib_transducer.specs.declared.Variable.{Variable}
 use Rattle.tib_transducer.specs.declared.TransducerRule.{TransducerRule}
 use Rattle.tib_apply.specs.Restrictions.{with_label, labels_of, all_labels, without, once, restricted_labels, place_of, restriction, Admits}
-use Rattle.tib_transducer.proofs.Selecting.{nat_eq_cases}
+use Rattle.tib_lex.proofs.Numbers.{nat_eq_cases}
 
 -- the label of the variable, if it has one, stands in the list
 abbrev pub IsListed : List ℕ → Variable → Type 0
