@@ -3,11 +3,17 @@
 //! proved of both stands here, for every semiring. It stands on `tib_transducer`, `tib_match`, `tib_inside` and `tib_hunt`.
 #![tactic(auto)]
 
+mod error;
+mod image;
 mod key;
 pub mod laws;
+mod preimage;
 mod restrictions;
 #[cfg(test)]
 mod tests;
 
+pub use error::ApplyError;
+pub use image::apply_forward;
 pub use key::Key;
+pub use preimage::apply_backward;
 pub use restrictions::Restrictions;
