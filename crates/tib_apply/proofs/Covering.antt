@@ -22,6 +22,7 @@ use Rattle.tib_apply.proofs.Leaves.{get_map, map_long}
 use Rattle.tib_match.proofs.Steps.{three_within}
 use Rattle.tib_inside.specs.Inside.{AreInsides}
 use Rattle.tib_apply.proofs.DeletedCosts.{deleted_least, deleted_is}
+use Rattle.tib_keyed.proofs.Partners.{distinct_at, along_at, along_has}
 use Rattle.tib_match.proofs.MatchCosts.{least_at, match_costs, match_is_least}
 
 -- a rule leads from the position k to the side, keys in place of positions, and costs at most c
@@ -68,28 +69,6 @@ pub record CoversForward (product : ℕ → ℕ → ℕ) (grammar : List (Rule �
       HasRuleTo order rules k
       (side_map (forward_key (restricted_labels moves) (transducer_rule moves n).left ss) (transducer_rule moves n).right)
       (product (product (transducer_rule moves n).cost c) d)
-
-pub distinct_at : {A : Type 0} (xs : List A) (i j : ℕ) (d : A) → Distinct xs → i < length xs → j < length xs → get_or xs i d ≡ get_or xs j d → i ≡ j
-distinct_at [] i j d s h k e = absurd (omega arith)
-distinct_at (x ∷ xs) zero zero d s h k e = refl
-distinct_at (x ∷ xs) zero (suc j) d s h k e = absurd (s.0 (subst (Has xs) (sym e) (has_at xs j d (omega arith))))
-distinct_at (x ∷ xs) (suc i) zero d s h k e = absurd (s.0 (subst (Has xs) e (has_at xs i d (omega arith))))
-distinct_at (x ∷ xs) (suc i) (suc j) d s h k e = ap suc (distinct_at xs i j d s.1 (omega arith) (omega arith) e)
-
-pub along_at : {A B : Type 0} (R : A → B → Type 0) (xs : List A) (ys : List B) (j : ℕ) (d : B) → Along R xs ys → j < length ys → (x : A) × R x (get_or ys j d)
-along_at R [] [] j d a h = absurd (omega arith)
-along_at R [] (y ∷ ys) j d a h = absurd a
-along_at R (x ∷ xs) [] j d a h = absurd a
-along_at R (x ∷ xs) (y ∷ ys) zero d a h = (x, a.0)
-along_at R (x ∷ xs) (y ∷ ys) (suc j) d a h = along_at R xs ys j d a.1 (omega arith)
-
-pub along_has : {A B : Type 0} (R : A → B → Type 0) (xs : List A) (ys : List B) (x : A) (d : B) → Along R xs ys → Has xs x → (j : ℕ) × (j < length ys) × R x (get_or ys j d)
-along_has R [] ys x d a h = absurd h
-along_has R (z ∷ xs) [] x d a h = absurd a
-along_has R (z ∷ xs) (y ∷ ys) x d a h = elim h [
-  | inl e ↦ (0, omega arith, subst (λ w. R w y) e a.0)
-  | inr k ↦ let r = along_has R xs ys x d a.1 k in (suc r.0, omega (arith, r.1), r.2)
-]
 
 module _ {O : Type 0} (Edge : ℕ × ℕ × ℕ → O → Rule (ℕ × ℕ × ℕ) → Type 0) (order : List (ℕ × ℕ × ℕ)) (rules : List (Rule ℕ)) (found : IsKeyGrammar Edge order rules) where
   abbrev Gives : ℕ × O → Rule (ℕ × ℕ × ℕ) → Type 0

@@ -6,7 +6,6 @@ pub mod Preimages
 pub mod Asking
 pub mod Images
 pub mod Examples
-pub mod KeyOrders
 pub mod Reached
 pub mod Families
 pub mod Gathered

@@ -16,7 +16,7 @@ use Rattle.tib_apply.specs.KeyGrammars.{key_at, IsKeyGrammar}
 use Rattle.tib_apply.specs.Operations.{key_cmp, key_entries, edge_parts, key_operation, IsOneSet}
 use Rattle.tib_apply.specs.Forward.{IsForwardEdge}
 use Rattle.tib_apply.specs.Backward.{IsBackwardEdge}
-use Rattle.tib_apply.proofs.KeyOrders.{order_begins, order_once, edges_below, one_set}
+use Rattle.tib_keyed.proofs.KeyOrders.{order_begins, order_once, edges_below, one_set}
 
 pub key_total : IsTotalOrder key_cmp
 key_total = then_total (on_total (λ (k : ℕ × ℕ × ℕ). k.0) nat_cmp_total) (then_total (on_total (λ (k : ℕ × ℕ × ℕ). k.1) nat_cmp_total) (on_total (λ (k : ℕ × ℕ × ℕ). k.2) nat_cmp_total))
@@ -27,17 +27,17 @@ module _ (Edge : ℕ × ℕ × ℕ → ℕ × List ℕ → Rule (ℕ × ℕ × �
       (order : List (ℕ × ℕ × ℕ)) (rules : List (Rule ℕ)) → AreInRange (length order) rules → IsReachedSet (key_operation Edge) order (map (named_rule (key_at order)) rules) →
       IsKeyGrammar Edge order rules
   reached_grammar order rules range reached =
-      let begins = order_begins key_cmp key_total (0, 0, 0) Edge (λ e. holes_of e.right) (key_parts key_entries) edge_parts reached.0.0 reached.0.1 order reached.0.2 in
+      let begins = order_begins key_cmp (0, 0, 0) Edge (λ e. holes_of e.right) (key_parts key_entries) edge_parts key_total reached.0.0 reached.0.1 order reached.0.2 in
       record {
         long = omega (arith, ap length begins.1);
         start = ap (λ (l : List (ℕ × ℕ × ℕ)). key_at l 0) begins.1;
-        once = order_once key_cmp key_total (0, 0, 0) Edge (λ e. holes_of e.right) (key_parts key_entries) edge_parts reached.0.0 reached.0.1 order reached.0.2;
+        once = order_once key_cmp (0, 0, 0) Edge (λ e. holes_of e.right) (key_parts key_entries) edge_parts key_total reached.0.0 reached.0.1 order reached.0.2;
         in_range = range;
-        edges = edges_below key_cmp key_total (0, 0, 0) Edge (λ e. holes_of e.right) (key_parts key_entries) edge_parts order (length order) (map (named_rule (key_at order)) rules) reached.1;
+        edges = edges_below key_cmp (0, 0, 0) Edge (λ e. holes_of e.right) (key_parts key_entries) edge_parts order (length order) (map (named_rule (key_at order)) rules) reached.1;
       }
 
   pub one_key_set : ((k : ℕ × ℕ × ℕ) (o : ℕ × List ℕ) (e f : Rule (ℕ × ℕ × ℕ)) → Edge k o e → Edge k o f → e ≡ f) → IsOneSet (key_operation Edge)
-  one_key_set one order other es fs h k = one_set key_cmp key_total (0, 0, 0) Edge (λ e. holes_of e.right) (key_parts key_entries) edge_parts one order other es fs h k
+  one_key_set one order other es fs h k = one_set key_cmp (0, 0, 0) Edge (λ e. holes_of e.right) (key_parts key_entries) edge_parts key_total one order other es fs h k
 
 same_rule : (e f : Rule (ℕ × ℕ × ℕ)) → e.left ≡ f.left → e.right ≡ f.right → e.cost ≡ f.cost → e ≡ f
 same_rule e f left right costs =

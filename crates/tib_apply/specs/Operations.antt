@@ -9,7 +9,8 @@ use Rattle.tib_grammar.specs.Sides.{holes_of}
 use Rattle.tib_grammar.specs.Range.{AreInRange}
 use Rattle.tib_grammar.specs.GrammarOf.{named_rule}
 use Rattle.tib_grammar.specs.declared.Rule.{Rule}
-use Rattle.tib_hunt.specs.Reached.{Operation, operation, IsReachedSet}
+use Rattle.tib_hunt.specs.Reached.{Operation, IsReachedSet}
+use Rattle.tib_keyed.specs.Keyed.{keyed}
 use Rattle.tib_hunt.specs.Numbered.{key_parts}
 use Rattle.tib_transducer.specs.declared.TransducerRule.{TransducerRule}
 use Rattle.tib_apply.specs.KeyGrammars.{key_at, IsKeyGrammar}
@@ -35,7 +36,7 @@ edge_parts e = 1 + size e.right
 -- From the key of the starts each key leads on along its edges.
 abbrev pub key_operation : {O : Type 0} → (ℕ × ℕ × ℕ → O → Rule (ℕ × ℕ × ℕ) → Type 0) → Operation (ℕ × ℕ × ℕ) O (Rule (ℕ × ℕ × ℕ))
 key_operation Edge =
-    operation key_cmp (λ k. k ≡ (0, 0, 0)) (λ o e. ⊥) (λ order n o e. Edge (key_at order n) o e) (λ e. holes_of e.right) (key_parts key_entries) edge_parts
+    keyed key_cmp (0, 0, 0) Edge (λ e. holes_of e.right) (key_parts key_entries) edge_parts
 
 abbrev pub forward_image : (ℕ → ℕ → ℕ) → List (Rule ℕ) → List (TransducerRule ℕ) → Operation (ℕ × ℕ × ℕ) (ℕ × List ℕ) (Rule (ℕ × ℕ × ℕ))
 forward_image product grammar moves = key_operation (IsForwardEdge product grammar moves)

@@ -1,5 +1,5 @@
 -- Buckets by the shapes of rules.
-use Rattle.std.specs.Prelude.{◌≡◌, ℕ, ◌+◌, ◌<◌, ◌&&◌, ◌⊎◌, nat_eq, Bool, true, false, List, [], ◌∷◌, ◌++◌, length, Option, None, Some, if◌then◌else◌, cond, refl}
+use Rattle.std.specs.Prelude.{◌≡◌, ℕ, ◌+◌, ◌<◌, ◌⊎◌, nat_eq, true, false, List, [], ◌∷◌, ◌++◌, length, Option, None, Some, if◌then◌else◌, cond, refl}
 use Rattle.std.specs.Global.{Vec}
 use Rattle.std.proofs.Common.{get_or, ap, sym, ◌∙◌, arith, inl, inr, set}
 use Rattle.std.proofs.lemmas.List.{get_or-set_same, get_or-set_other, map-set, length-map}

@@ -1,7 +1,7 @@
 -- The grammar of the pairs has the product of the series.
 use Rattle.std.specs.Prelude.{◌≡◌, ℕ, ◌<◌, ◌≤◌, ◌↔◌, List, [], ◌∷◌, length, Bool, map, zip, refl, Option}
-use Rattle.std.proofs.Common.{zero, suc, arith, ap, sym, ◌∙◌, subst, get_or, inl, inr}
-use Rattle.tib_lex.specs.Lists.{Has, Distinct, Along}
+use Rattle.std.proofs.Common.{zero, suc, arith, ap, sym, ◌∙◌, subst, get_or}
+use Rattle.tib_lex.specs.Lists.{Has}
 use Rattle.tib_tree.specs.Trees.{Trees, Tree, none, tree, relabel, only}
 use Rattle.tib_grammar.specs.Sides.{Symbol, label, hole, holes, AreHoles, symbol_map, leaves, over}
 use Rattle.tib_grammar.specs.Run.{rule_at, no_rule, IsCost}
@@ -20,7 +20,7 @@ use Rattle.tib_intersect.specs.PairEdges.{pair_at, IsPairEdge}
 use Rattle.tib_intersect.specs.PairGrammar.{IsPairGrammar, GivesEdge}
 use Rattle.tib_intersect.specs.PairLaws.{same_edge}
 use Rattle.tib_intersect.proofs.Steps.{mix, count-costs}
-use Rattle.tib_lex.proofs.Members.{has_at}
+pub use Rattle.tib_keyed.proofs.Partners.{distinct_at, along_at, along_has}
 use Rattle.tib_grammar.proofs.Opening.{open_cost, close_cost}
 
 -- what becomes holes by new names was holes
@@ -287,31 +287,6 @@ module _
           (omega (arith, p.4)))
 
 -- from lists of edges by their origins
-
--- equal elements of a list of distinct ones have one index
-pub distinct_at : {A : Type 0} (xs : List A) (i j : ℕ) (d : A) → Distinct xs → i < length xs → j < length xs → get_or xs i d ≡ get_or xs j d → i ≡ j
-distinct_at [] i j d s h k e = absurd (omega arith)
-distinct_at (x ∷ xs) zero zero d s h k e = refl
-distinct_at (x ∷ xs) zero (suc j) d s h k e = absurd (s.0 (subst (Has xs) (sym e) (has_at xs j d (omega arith))))
-distinct_at (x ∷ xs) (suc i) zero d s h k e = absurd (s.0 (subst (Has xs) e (has_at xs i d (omega arith))))
-distinct_at (x ∷ xs) (suc i) (suc j) d s h k e = ap suc (distinct_at xs i j d s.1 (omega arith) (omega arith) e)
-
--- the partner of the element at an index
-pub along_at : {A B : Type 0} (R : A → B → Type 0) (xs : List A) (ys : List B) (j : ℕ) (d : B) → Along R xs ys → j < length ys → (x : A) × R x (get_or ys j d)
-along_at R [] [] j d a h = absurd (omega arith)
-along_at R [] (y ∷ ys) j d a h = absurd a
-along_at R (x ∷ xs) [] j d a h = absurd a
-along_at R (x ∷ xs) (y ∷ ys) zero d a h = (x, a.0)
-along_at R (x ∷ xs) (y ∷ ys) (suc j) d a h = along_at R xs ys j d a.1 (omega arith)
-
--- the partner of a member
-pub along_has : {A B : Type 0} (R : A → B → Type 0) (xs : List A) (ys : List B) (x : A) (d : B) → Along R xs ys → Has xs x → (j : ℕ) × (j < length ys) × R x (get_or ys j d)
-along_has R [] ys x d a h = absurd h
-along_has R (z ∷ xs) [] x d a h = absurd a
-along_has R (z ∷ xs) (y ∷ ys) x d a h = elim h [
-  | inl e ↦ (0, omega arith, subst (λ w. R w y) e a.0)
-  | inr k ↦ let r = along_has R xs ys x d a.1 k in (suc r.0, omega (arith, r.1), r.2)
-]
 
 -- the element of a map at an index
 pub get_map : {A B : Type 0} (g : A → B) (xs : List A) (j : ℕ) (d : B) (c : A) → j < length xs → get_or (map g xs) j d ≡ g (get_or xs j c)

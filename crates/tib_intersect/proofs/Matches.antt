@@ -1,11 +1,11 @@
 -- The positions of the rules that pass a test, and of those that a rule agrees with.
-use Rattle.std.specs.Prelude.{◌≡◌, ℕ, ◌+◌, ◌-◌, ◌<◌, ◌≤◌, ◌&&◌, nat_eq, Bool, true, false, List, [], ◌∷◌, ◌++◌, length, map, take, filter, if◌then◌else◌, refl}
+use Rattle.std.specs.Prelude.{◌≡◌, ℕ, ◌+◌, ◌-◌, ◌<◌, ◌≤◌, nat_eq, Bool, true, false, List, [], ◌∷◌, ◌++◌, length, map, take, filter, if◌then◌else◌, refl}
 use Rattle.std.proofs.Common.{zero, suc, arith, ap, sym, ◌∙◌, subst, get_or, inl, inr}
 use Rattle.std.proofs.lemmas.Bool.Decides.{nat_tests}
 use Rattle.std.proofs.lemmas.List.{take_more, take_all, get_or_read}
 use Rattle.tib_lex.specs.Lists.{Has, Each, Distinct, Along}
 use Rattle.tib_tree.specs.Trees.{count}
-use Rattle.tib_grammar.specs.Sides.{Symbol, label, hole, is_label}
+use Rattle.tib_grammar.specs.Sides.{Symbol, label, is_label}
 use Rattle.tib_grammar.specs.Run.{rule_at, no_rule}
 use Rattle.tib_grammar.specs.Forms.{AreNormal, IsNormalSide}
 use Rattle.tib_grammar.specs.declared.Rule.{Rule}

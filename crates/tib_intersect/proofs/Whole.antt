@@ -11,27 +11,8 @@ use Rattle.tib_intersect.specs.PairEdges.{pair_at, IsPairEdge, ends_of, edge_par
 use Rattle.tib_intersect.specs.PairRules.{places_of, read_places, Reads}
 use Rattle.tib_intersect.specs.Listing.{all_ends, IsWithinBudget, AreListedFrom, Overruns}
 use Rattle.tib_intersect.specs.PairLaws.{same_edge}
-use Rattle.tib_intersect.proofs.Lists.{total_fewer}
+pub use Rattle.tib_keyed.proofs.Partners.{along_of, along_back, total_fewer}
 use Rattle.tib_lex.proofs.Members.{has_left, has_right, has_either}
-
--- the partner of a member of the first list
-pub along_of : {A B : Type 0} (R : A → B → Type 0) (xs : List A) (ys : List B) (x : A) → Along R xs ys → Has xs x → (y : B) × R x y × Has ys y
-along_of R [] ys x a h = absurd h
-along_of R (z ∷ xs) [] x a h = absurd a
-along_of R (z ∷ xs) (y ∷ ys) x a h = elim h [
-  | inl e ↦ (y, subst (λ w. R w y) e a.0, inl refl)
-  | inr k ↦ let r = along_of R xs ys x a.1 k in (r.0, r.1, inr r.2)
-]
-
--- the partner of a member of the second list
-pub along_back : {A B : Type 0} (R : A → B → Type 0) (xs : List A) (ys : List B) (y : B) → Along R xs ys → Has ys y → (x : A) × R x y
-along_back R [] [] y a h = absurd h
-along_back R [] (z ∷ ys) y a h = absurd a
-along_back R (x ∷ xs) [] y a h = absurd h
-along_back R (x ∷ xs) (z ∷ ys) y a h = elim h [
-  | inl e ↦ (x, subst (R x) e a.0)
-  | inr k ↦ along_back R xs ys y a.1 k
-]
 
 reads_within : (order ends : List (ℕ × ℕ)) (rules : List PairRule) (es : List (Rule (ℕ × ℕ))) → Along (Reads order ends) rules es → Each (λ r. Each (IsWithin (length order) (length ends)) (places_of r)) rules
 reads_within order ends [] es a = tt

@@ -6,9 +6,10 @@ use Rattle.tib_grammar.specs.Sides.{label, holes, over}
 use Rattle.tib_grammar.specs.Run.{rule_at}
 use Rattle.tib_grammar.specs.declared.Rule.{Rule}
 use Rattle.tib_lex.specs.Lists.{Has, IsReordering}
-use Rattle.tib_hunt.specs.Reached.{Operation, operation, IsReachedSet}
+use Rattle.tib_hunt.specs.Reached.{Operation, IsReachedSet}
+use Rattle.tib_keyed.specs.Keyed.{keyed}
 use Rattle.tib_hunt.specs.Numbered.{key_parts}
-use Rattle.tib_intersect.specs.PairEdges.{pair_at, IsPairEdge, ends_of, edge_parts}
+use Rattle.tib_intersect.specs.PairEdges.{IsPairEdge, ends_of, edge_parts}
 
 -- by the first state, then the second
 abbrev pub pair_cmp : ℕ × ℕ → ℕ × ℕ → Ordering
@@ -18,8 +19,7 @@ pair_cmp x y = ordering_then (nat_cmp x.0 y.0) (nat_cmp x.1 y.1)
 -- parts, and an edge one and the nodes of its right side.
 abbrev pub intersection : (ℕ → ℕ → ℕ) → List (Rule ℕ) → List (Rule ℕ) → Operation (ℕ × ℕ) (ℕ × ℕ) (Rule (ℕ × ℕ))
 intersection product one two =
-    operation pair_cmp (λ k. k ≡ (0, 0)) (λ o e. ⊥) (λ order n o e. IsPairEdge product one two (pair_at order n) o e) (λ e. ends_of e)
-    (key_parts (λ k. 2)) (λ e. edge_parts e)
+    keyed pair_cmp (0, 0) (IsPairEdge product one two) (λ e. ends_of e) (key_parts (λ k. 2)) (λ e. edge_parts e)
 
 -- the right side of the rule is the label of a rule of the list over as many states as there
 pub record HasRootOf (rules : List (Rule ℕ)) (r : Rule ℕ) : Type 0 where
