@@ -2,6 +2,8 @@
 use Rattle.std.specs.Prelude.{◌≡◌, ℕ, ◌+◌, ◌<◌, ◌≤◌, ◌&&◌, nat_eq, Bool, true, false, List, [], ◌∷◌, length, if◌then◌else◌, refl}
 use Rattle.std.proofs.Common.{zero, suc, ap, arith, get_or, inl, inr, subst}
 use Rattle.std.proofs.lemmas.Bool.Decides.{nat_tests}
+use Rattle.tib_lex.proofs.Booleans.{and-true}
+use Rattle.tib_lex.proofs.Numbers.{nat_eq-true}
 use Rattle.tib_lex.specs.Lists.{Has, Each, Ascends}
 use Rattle.tib_tree.specs.Trees.{Trees, none, tree, count}
 use Rattle.tib_grammar.specs.declared.Rule.{Rule}
@@ -46,13 +48,6 @@ has_place (r ∷ rules) k f n zero h e =
 has_place (r ∷ rules) k f n (suc m) h e =
     let s : suc k + m ≡ k + suc m = omega arith in
     has_more k (k + suc m) (positions_from (suc k) f n rules) (is_over f n r) (subst (Has (positions_from (suc k) f n rules)) s (has_place rules (suc k) f n m (omega arith) e))
-
-and-true : (a b : Bool) → (a && b) ≡ true → (a ≡ true) × (b ≡ true)
-and-true true b e = (refl, e)
-and-true false b e = absurd (cc)
-
-nat_eq-true : (a b : ℕ) → nat_eq a b ≡ true → a ≡ b
-nat_eq-true a b e = grind (arith, nat_tests)
 
 is_label-true : (f : ℕ) (s : Symbol ℕ ℕ) → is_label f s ≡ true → s ≡ label f
 is_label-true f (label g) e = ap label (nat_eq-true g f e)

@@ -7,9 +7,7 @@ use Rattle.std.proofs.lemmas.List.Folds.{list_any-append}
 use Rattle.tib_tree.specs.Written.{Item}
 use Rattle.tib_tree.specs.Shape.{item_at, items_back}
 use Rattle.tib_tree.specs.declared.shape.Place.{Place}
-
-pub back_long : (line : List ℕ) (places : List Place) → length (items_back line places) ≡ length places
-back_long line places = length-reverse (map (item_at line) places) ∙ length-map places (item_at line)
+pub use Rattle.tib_tree.proofs.LineRead.{back_long}
 
 back_first : (line : List ℕ) (p : Place) (places : List Place) → items_back line (p ∷ places) ≡ items_back line places ++ item_at line p ∷ []
 back_first line p places = reverse-append (item_at line p ∷ []) (map (item_at line) places)
