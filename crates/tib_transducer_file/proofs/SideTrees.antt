@@ -6,7 +6,7 @@ use Rattle.tib_lex.specs.Lists.{Along}
 use Rattle.tib_lex.specs.declared.token.Kind.TheVariants as token_kinds
 use Rattle.tib_tree.specs.Grows.{Grows}
 use Rattle.tib_tree.specs.Nodes.{rank_of}
-use Rattle.tib_tree.specs.Trees.{Trees, none, tree, preorder, preorder_of, count as count_trees, IsOneTree, IsOneTree-preorder_of}
+use Rattle.tib_tree.specs.Trees.{Trees, none, tree, preorder, preorder_of, count as count_trees, IsOneTree, IsOneTree-preorder_of, most_nodes}
 use Rattle.tib_tree.specs.Written.{Written, Item, end, leaf, head, items, count}
 use Rattle.tib_tree.specs.Shape.{items_back, item_at}
 use Rattle.tib_tree.specs.declared.shape.Place.{Place}
@@ -89,7 +89,7 @@ pairs_long : {P : Type 0} (items : List (SideItem P)) → length (pairs_of items
 pairs_long [] = refl
 pairs_long (s ∷ items) = ap suc (pairs_long items)
 
-pub right_few : (names labels : List (List ℕ)) (numbers : List ℕ) (items : List (SideItem (Pair ℕ))) (line : List ℕ) (places : List Place) → length places ≤ 10000 → Along (IsRightNode names labels numbers) (pairs_of items) (items_back line places) → length items ≤ 10000
+pub right_few : (names labels : List (List ℕ)) (numbers : List ℕ) (items : List (SideItem (Pair ℕ))) (line : List ℕ) (places : List Place) → length places ≤ most_nodes → Along (IsRightNode names labels numbers) (pairs_of items) (items_back line places) → length items ≤ most_nodes
 right_few names labels numbers items line places h a =
     omega (arith, h, pairs_long items, along_long (IsRightNode names labels numbers) (pairs_of items) (items_back line places) a, back_long line places)
 
@@ -134,7 +134,7 @@ left_made m b line places root place d first none_yet old items n g r at is item
           (sym (ap holes_in all ∙ holes_append (first ∷ []) p.more ∙ ap (λ (vs : List Variable). vs ++ holes_in p.more) holes)) p.numbered;
     }
 
-pub left_few : (labels : List (List ℕ)) (line : List ℕ) (places : List Place) (items : List (SideItem Variable)) → length places ≤ 10000 → Made labels line places items → length items ≤ 10000
+pub left_few : (labels : List (List ℕ)) (line : List ℕ) (places : List Place) (items : List (SideItem Variable)) → length places ≤ most_nodes → Made labels line places items → length items ≤ most_nodes
 left_few labels line places items h d = omega (arith, h, pairs_long items, along_long HasRank (pairs_of items) (items_back line places) d.ranks, back_long line places)
 
 pub side_numbered : (labels : List (List ℕ)) (line : List ℕ) (places : List Place) (items : List (SideItem Variable)) (s : Side ℕ Variable) → Made labels line places items → preorder_of s ≡ pairs_of items → AreNumbered 0 (variables_of s)

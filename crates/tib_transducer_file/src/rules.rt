@@ -1,6 +1,7 @@
 // The rules of a file.
 ghost use Rattle.std.specs.Prelude.{◌≡◌, ◌≤◌, ◌<◌, ◌+◌, ◌-◌, ◌^◌, length, drop, IfOk};
 ghost use Rattle.indexmap.specs.IndexSet.{keys};
+ghost use Rattle.tib_io.specs.Reads.{most_bytes};
 ghost use Rattle.tib_cost.specs.declared.Scale.{Scale};
 ghost use Rattle.tib_lex.specs.Lines.{lines_of, HasNoFeed};
 ghost use Rattle.tib_tree.specs.Grows.{Grows};
@@ -115,7 +116,7 @@ impl RuleReader {
 
     /// What is found in a line, if it has tokens.
     fn find(&mut self, line: &[u8]) -> Result<Option<Found>, LineError>
-        requires { length line.now ≤ 8388608 }
+        requires { length line.now ≤ most_bytes }
         ensures { IsFound line.now self.new.left.places.items self.new.right.places.items result }
     {
         if !read_pieces(line, &mut self.tokens)? {
@@ -145,7 +146,7 @@ impl RuleReader {
         labels: &mut Labels,
         rules: &mut Vec<TransducerRule<u32>>,
     ) -> Result<(), LineError>
-        requires short { length line.now ≤ 8388608 }
+        requires short { length line.now ≤ most_bytes }
         requires plain { HasNoFeed line.now }
         requires names { length names.old + length line.now < 2 ^ 32 - 1 }
         requires labels { length labels.old + length line.now < 2 ^ 32 - 1 }
@@ -201,7 +202,7 @@ pub(crate) fn read_rules(
     names: &mut Labels,
     labels: &mut Labels,
 ) -> Result<Vec<TransducerRule<u32>>, ReadError>
-    requires short { length bytes.now ≤ 8388608 }
+    requires short { length bytes.now ≤ most_bytes }
     requires place { start ≤ length bytes.now }
     requires number { first ≤ start + 1 }
     requires names { length names.old + (length bytes.now - start) < 2 ^ 32 - 1 }

@@ -6,7 +6,7 @@ ghost use Rattle.tib_lex.specs.Lines.{HasNoFeed};
 ghost use Rattle.tib_lex.specs.Lists.{Along};
 ghost use Rattle.tib_tree.specs.Grows.{Grows, AddsAll};
 ghost use Rattle.tib_tree.specs.Shape.{items_back, item_at, PlaceLies};
-ghost use Rattle.tib_tree.specs.Trees.{preorder_of, IsOneTree};
+ghost use Rattle.tib_tree.specs.Trees.{preorder_of, most_nodes, IsOneTree};
 ghost use Rattle.tib_tree.specs.Written.{Item as ItemOf};
 ghost use Rattle.tib_grammar.specs.Items.{pair_of, pairs_of, holes_in};
 ghost use Rattle.tib_transducer.specs.Range.{AreNumbered};
@@ -120,7 +120,7 @@ fn push_below(
 ) -> Result<(), AllocError>
     requires lie { All (PlaceLies (length line.now)) below.now }
     requires plain { HasNoFeed line.now }
-    requires few { length below.now ≤ 10000 }
+    requires few { length below.now ≤ most_nodes }
     requires room { length labels.old + length below.now < 2 ^ 32 - 1 }
     ensures items { IfOk result (λ _. PushesLeft labels.new items.old.items items.new.items (items_back line.now below.now)) }
     ensures grows { Grows labels.old labels.new }
@@ -138,7 +138,7 @@ fn push_below(
 }
 
 fn left_side(items: Vec<Item<Variable>>) -> Side<Variable>
-    requires few { length items.items ≤ 10000 }
+    requires few { length items.items ≤ most_nodes }
     requires tree { IsOneTree (pairs_of items.items) }
     ensures { preorder_of result ≡ pairs_of items.items }
 {
@@ -162,7 +162,7 @@ pub(crate) fn read_left(
     requires tree { AreOneTree (items_back line.now places.now) }
     requires lie { All (PlaceLies (length line.now)) places.now }
     requires plain { HasNoFeed line.now }
-    requires few { length places.now ≤ 10000 }
+    requires few { length places.now ≤ most_nodes }
     requires room { length labels.old + length places.now < 2 ^ 32 - 1 }
     ensures side { IfOk result (λ s. (right : List ItemOf) (weight : Option (List ℕ)) → IsLeftSide labels.new (preorder_of s) (parts_with (items_back line.now places.now) right weight)) }
     ensures numbered { IfOk result (λ s. AreNumbered 0 (variables_of s)) }
@@ -180,7 +180,7 @@ pub(crate) fn read_left(
 // The place of a number among those of the variables.
 fn place_of(variables: &IndexSet<u32>, number: u32) -> u32
     requires known { is_unknown (keys variables.now) (Some ([], number)) ≡ false }
-    requires few { length (keys variables.now) ≤ 10000 }
+    requires few { length (keys variables.now) ≤ most_nodes }
     ensures { slice_get (keys variables.now) result ≡ Some number }
 {
     match variables.get_index_of(&number) {
@@ -201,7 +201,7 @@ fn right_item(
     requires lies { PlaceLies (length line.now) place }
     requires plain { HasNoFeed line.now }
     requires known { is_unknown (keys variables.now) (spec_pair_in (item_at line.now place)) ≡ false }
-    requires variables { length (keys variables.now) ≤ 10000 }
+    requires variables { length (keys variables.now) ≤ most_nodes }
     requires names { length names.old < 2 ^ 32 - 1 }
     requires labels { length labels.old < 2 ^ 32 - 1 }
     ensures item { IfOk result (λ s. IsRightNode names.new labels.new (keys variables.now) (pair_of s) (item_at line.now place)) }
@@ -233,7 +233,7 @@ fn right_items(
     requires lie { All (PlaceLies (length line.now)) places.now }
     requires plain { HasNoFeed line.now }
     requires known { AreKnown (keys variables.now) (items_back line.now places.now) }
-    requires variables { length (keys variables.now) ≤ 10000 }
+    requires variables { length (keys variables.now) ≤ most_nodes }
     requires names { length names.old + length places.now < 2 ^ 32 - 1 }
     requires labels { length labels.old + length places.now < 2 ^ 32 - 1 }
     ensures items { IfOk result (λ s. Along (IsRightNode names.new labels.new (keys variables.now)) (pairs_of s.items) (items_back line.now places.now)) }
@@ -254,7 +254,7 @@ fn right_items(
 }
 
 fn right_side(items: Vec<Item<Pair<u32>>>) -> Side<Pair<u32>>
-    requires few { length items.items ≤ 10000 }
+    requires few { length items.items ≤ most_nodes }
     requires tree { IsOneTree (pairs_of items.items) }
     ensures { preorder_of result ≡ pairs_of items.items }
 {
@@ -279,8 +279,8 @@ pub(crate) fn read_right(
     requires lie { All (PlaceLies (length line.now)) places.now }
     requires plain { HasNoFeed line.now }
     requires known { AreKnown (keys variables.now) (items_back line.now places.now) }
-    requires variables { length (keys variables.now) ≤ 10000 }
-    requires few { length places.now ≤ 10000 }
+    requires variables { length (keys variables.now) ≤ most_nodes }
+    requires few { length places.now ≤ most_nodes }
     requires names { length names.old + length places.now < 2 ^ 32 - 1 }
     requires labels { length labels.old + length places.now < 2 ^ 32 - 1 }
     ensures side { IfOk result (λ s. Along (IsRightNode names.new labels.new (keys variables.now)) (preorder_of s) (items_back line.now places.now)) }

@@ -1,5 +1,6 @@
 // The start of a transducer file, and what follows it.
 ghost use Rattle.std.specs.Prelude.{◌≡◌, ◌≤◌, ◌<◌, ◌-◌, ◌^◌, ℕ, List, [], length};
+ghost use Rattle.tib_io.specs.Reads.{most_bytes};
 ghost use Rattle.tib_transducer_file.specs.Begins.{IsBegun};
 
 use std::alloc::Global;
@@ -20,7 +21,7 @@ pub(crate) fn find_start(
     bytes: &[u8],
     names: &mut Labels,
 ) -> Result<Begun, ReadError>
-    requires short { length bytes.now ≤ 8388608 }
+    requires short { length bytes.now ≤ most_bytes }
     requires room { length names.old < 2 ^ 32 - 1 }
     ensures { IsBegun bytes.now names.old names.new result }
 {

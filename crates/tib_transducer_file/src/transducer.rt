@@ -1,5 +1,6 @@
 // Reads transducer files.
 ghost use Rattle.std.specs.Prelude.{◌≡◌, ◌≤◌, ◌<◌, ◌+◌, ◌-◌, ◌^◌, length, map, IfOk, IfErr};
+ghost use Rattle.tib_io.specs.Reads.{most_bytes};
 ghost use Rattle.tib_tree.specs.Grows.{Grows};
 ghost use Rattle.tib_grammar.specs.StateName.{AreStateNames};
 ghost use Rattle.tib_transducer.specs.Range.{AreWithin, AreShaped};
@@ -48,7 +49,7 @@ fn transducer_over<S: Semiring>(names: Names, rules: Vec<TransducerRule<u32>>) -
     requires start { 0 < length names }
     requires range { AreWithin (length names) rules.items }
     requires shaped { AreShaped rules.items }
-    requires few { length rules.items ≤ 8388608 }
+    requires few { length rules.items ≤ most_bytes }
     ensures names { result.names ≡ names }
     ensures rules { result.rules ≡ rules.items }
 {
@@ -71,7 +72,7 @@ pub fn read_transducer<S: Semiring>(
     bytes: &[u8],
     labels: &mut Labels,
 ) -> Result<Transducer<S>, ReadError>
-    requires short { length bytes.now ≤ 8388608 }
+    requires short { length bytes.now ≤ most_bytes }
     requires room { length labels.old + length bytes.now < 2 ^ 32 - 1 }
     ensures text { IfOk result (λ t. ReadsAs S.SCALE labels.new bytes.now t) }
     ensures labelled { IfOk result (λ t. AreLabelled (length labels.new) t.rules) }
