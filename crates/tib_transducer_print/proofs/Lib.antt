@@ -1,2 +1,14 @@
-pub mod Printing
 pub mod Plain
+pub mod Printing
+pub mod Numerals
+pub mod Tokens
+pub mod Forests
+pub mod LeftTokens
+pub mod RightTokens
+pub mod RuleTokens
+pub mod RuleMeaning
+pub mod Fitting
+pub mod RulesBack
+pub mod PrintedBytes
+pub mod FileBack
+pub mod FileOrdered

@@ -4,10 +4,14 @@
 //! reads, and on the sinks of `tib_io`.
 #![tactic(auto)]
 
+mod laws;
 mod leaf;
 mod print;
 mod put;
 #[cfg(test)]
 mod tests;
 
+pub use laws::{
+    ordered_transducers_are_read, printed_rules_are_read, printed_transducers_are_read,
+};
 pub use print::print_transducer;
