@@ -49,7 +49,10 @@ pub record IsSameByName (t u : TransducerOf) : Type 0 where
 -- the line of a rule without its line feed
 abbrev pub line_text : Scale → List (List ℕ) → List (List ℕ) → TransducerRule ℕ → List ℕ
 line_text scale names labels r =
-    get_or names r.state [] ++ (46 ∷ (side_text (variable_text names labels) labels r.left ++ (32 ∷ (45 ∷ (62 ∷ (32 ∷ (side_text (pair_text names labels) labels r.right ++ cost_text scale r.cost)))))))
+    get_or names r.state []
+    ++ (46 ∷ (side_text (variable_text names labels) labels r.left
+    ++ (32 ∷ (45 ∷ (62 ∷ (32 ∷ (side_text (pair_text names labels) labels r.right
+    ++ cost_text scale r.cost)))))))
 
 -- the states of rules, as they stand from left to right
 abbrev pub states_of : List (TransducerRule ℕ) → List ℕ
@@ -105,7 +108,8 @@ pub record ReadsBack (scale : Scale) (labels : List (List ℕ)) (bytes : List �
 abbrev pub PrintsRules : Type 0
 PrintsRules =
     (scale : Scale) (labels : List (List ℕ)) (t : TransducerOf) → HasText scale labels t →
-    Each (λ r. (line : RuleLine) × SpellsLine scale (line_text scale t.names labels r) line × IsRule t.names labels r line) t.rules
+    Each (λ r. (line : RuleLine) × SpellsLine scale (line_text scale t.names labels r) line
+    × IsRule t.names labels r line) t.rules
 
 -- what is printed of a transducer that has a text reads back
 abbrev pub PrintsBack : Type 0
