@@ -19,7 +19,7 @@ use Rattle.tib_transducer_print.proofs.FileBack.{prints_as}
 use Rattle.tib_transducer_print.proofs.RulesBack.{rules_own, names_own}
 
 -- distinct names stand at one place each
-one_place : (xs : List (List ℕ)) (i j : ℕ) → Distinct xs → i < length xs → j < length xs → get_or xs i [] ≡ get_or xs j [] → i ≡ j
+pub one_place : (xs : List (List ℕ)) (i j : ℕ) → Distinct xs → i < length xs → j < length xs → get_or xs i [] ≡ get_or xs j [] → i ≡ j
 one_place [] i j d h k e = absurd (omega arith)
 one_place (x ∷ xs) zero zero d h k e = refl
 one_place (x ∷ xs) zero (suc j) d h k e = absurd (d.0 (subst (Has xs) (sym e) (has_at xs j [] (omega arith))))

@@ -28,7 +28,7 @@ use Rattle.tib_transducer_print.proofs.RightTokens.{IsPairPlain}
 use Rattle.tib_transducer_print.proofs.RuleTokens.{parts_of, FitsRule, line_spelled}
 use Rattle.tib_transducer_print.proofs.RuleMeaning.{rule_with, rule_meant, states_printed}
 
-each_parts : {A : Type 0} (P : A → Type 0) (xs ys : List A) → Each P (xs ++ ys) → Each P xs × Each P ys
+pub each_parts : {A : Type 0} (P : A → Type 0) (xs ys : List A) → Each P (xs ++ ys) → Each P xs × Each P ys
 each_parts P [] ys h = (tt, h)
 each_parts P (x ∷ xs) ys h = let t = each_parts P xs ys h.1 in ((h.0, t.0), t.1)
 

@@ -12,3 +12,6 @@ pub mod RulesBack
 pub mod PrintedBytes
 pub mod FileBack
 pub mod FileOrdered
+pub mod ReadStates
+pub mod ReadLabels
+pub mod ReadBack

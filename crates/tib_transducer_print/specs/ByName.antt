@@ -128,3 +128,11 @@ abbrev pub OrderedPrintsBack : Type 0
 OrderedPrintsBack =
     (scale : Scale) (labels : List (List ℕ)) (t : TransducerOf) → HasText scale labels t →
     ComeInOrder 1 (states_of t.rules) → TransducerText scale labels (transducer_text scale labels t) t
+
+-- A transducer that was read has a text, its states come in order, and what is printed of it is the
+-- text of this very transducer.
+abbrev pub ReadTransducersPrintBack : Type 0
+ReadTransducersPrintBack =
+    (scale : Scale) (labels : List (List ℕ)) (bytes : List ℕ) (t : TransducerOf) →
+    ReadsAs scale labels bytes t → HasText scale labels t × ComeInOrder 1 (states_of t.rules)
+    × ReadsAs scale labels (transducer_text scale labels t) t

@@ -1,5 +1,5 @@
 // What holds of the printed text of transducers.
-ghost use Rattle.tib_transducer_print.specs.ByName.{OrderedPrintsBack, PrintsBack, PrintsRules};
+ghost use Rattle.tib_transducer_print.specs.ByName.{OrderedPrintsBack, PrintsBack, PrintsRules, ReadTransducersPrintBack};
 
 /// Each line that is printed of a rule spells a rule, which is this very one. It needs labels without line feeds, variables
 /// with numbers of nine digits at most, and costs of 0 where nothing is weighed.
@@ -17,4 +17,9 @@ pub fn printed_transducers_are_read()
 /// states keep their numbers.
 pub fn ordered_transducers_are_read()
     ensures { OrderedPrintsBack }
+{}
+
+/// What is printed of a transducer that was read is the text of this very transducer.
+pub fn read_transducers_are_printed_back()
+    ensures { ReadTransducersPrintBack }
 {}

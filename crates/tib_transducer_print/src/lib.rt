@@ -13,5 +13,6 @@ mod tests;
 
 pub use laws::{
     ordered_transducers_are_read, printed_rules_are_read, printed_transducers_are_read,
+    read_transducers_are_printed_back,
 };
 pub use print::print_transducer;
