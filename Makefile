@@ -1,5 +1,5 @@
 # What people type. `make` proves what the program needs and leaves bin/tiburon.
-.PHONY: build run try test bench clean
+.PHONY: build run try test bench install dist clean
 
 build:
 	@tools/build
@@ -22,6 +22,25 @@ test:
 
 bench: build
 	@python3 bench/bench.py bin/tiburon
+
+# The program, its manual page and its completion for bash, below PREFIX; DESTDIR stands before it where packages are made.
+PREFIX ?= /usr/local
+install: bin/tiburon
+	install -d $(DESTDIR)$(PREFIX)/bin $(DESTDIR)$(PREFIX)/share/man/man1 $(DESTDIR)$(PREFIX)/share/bash-completion/completions
+	install -m 755 bin/tiburon $(DESTDIR)$(PREFIX)/bin/tiburon
+	install -m 644 docs/tiburon.1 $(DESTDIR)$(PREFIX)/share/man/man1/tiburon.1
+	install -m 644 tools/tiburon.bash $(DESTDIR)$(PREFIX)/share/bash-completion/completions/tiburon
+
+# The same three files in bin/tiburon.tar, to be unpacked below a prefix.
+dist: bin/tiburon
+	@rm -rf bin/packed
+	@$(MAKE) --no-print-directory -s install DESTDIR=bin/packed PREFIX=
+	tar -C bin/packed --sort=name --owner=0 --group=0 --numeric-owner -cf bin/tiburon.tar bin share
+	@rm -rf bin/packed
+
+# Where there is no program yet, it is proved and built.
+bin/tiburon:
+	@tools/build
 
 clean:
 	rm -rf bin crates/*/out bench/work
