@@ -45,7 +45,9 @@ operation_in text = if bytes_eq text (codes "weigh") then Some o.Weigh
     else (if bytes_eq text (codes "inside") then Some o.Inside
     else (if bytes_eq text (codes "normal") then Some o.Normal
     else (if bytes_eq text (codes "intersect") then Some o.Intersect
-    else (if bytes_eq text (codes "check") then Some o.Check else None))))
+    else (if bytes_eq text (codes "forward") then Some o.Forward
+    else (if bytes_eq text (codes "backward") then Some o.Backward
+    else (if bytes_eq text (codes "check") then Some o.Check else None))))))
 
 -- how many words follow the operation
 abbrev pub word_count : Operation → ℕ
@@ -53,6 +55,8 @@ word_count o.Weigh = 2
 word_count o.Inside = 1
 word_count o.Normal = 1
 word_count o.Intersect = 2
+word_count o.Forward = 2
+word_count o.Backward = 2
 word_count o.Check = 1
 
 -- what the positional words say: the operation and its files

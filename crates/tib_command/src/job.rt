@@ -29,6 +29,12 @@ pub enum Operation {
     Normal,
     /// The canonical grammar of the trees that two grammars have, at the products of their costs.
     Intersect,
+    /// The canonical grammar of the trees into which a transducer turns those of a grammar, at the
+    /// least products of both costs.
+    Forward,
+    /// The canonical grammar of the trees that a transducer turns into those of a grammar, at the
+    /// least products of both costs.
+    Backward,
     /// Which classes a transducer is of, and which rule decides.
     Check,
 }

@@ -21,7 +21,7 @@ type Accepted = (
     &'static [&'static str],
 );
 
-static ACCEPTED: [Accepted; 25] = [
+static ACCEPTED: [Accepted; 27] = [
     (
         &["-k5", "weigh", "g", "t"],
         Mode::MinPlus,
@@ -239,6 +239,24 @@ static ACCEPTED: [Accepted; 25] = [
         &["g", "h"],
     ),
     (
+        &["forward", "-mwidest", "g", "t"],
+        Mode::Widest,
+        Operation::Forward,
+        1,
+        1,
+        20000000,
+        &["g", "t"],
+    ),
+    (
+        &["--limit=9", "backward", "t", "g"],
+        Mode::MinPlus,
+        Operation::Backward,
+        1,
+        1,
+        9,
+        &["t", "g"],
+    ),
+    (
         &["check", "t"],
         Mode::MinPlus,
         Operation::Check,
@@ -249,7 +267,7 @@ static ACCEPTED: [Accepted; 25] = [
     ),
 ];
 
-static REFUSED: [&[&str]; 65] = [
+static REFUSED: [&[&str]; 73] = [
     &[],
     &["--"],
     &["weigh"],
@@ -267,6 +285,14 @@ static REFUSED: [&[&str]; 65] = [
     &["intersect"],
     &["intersect", "g"],
     &["intersect", "g", "h", "i"],
+    &["forward"],
+    &["forward", "g"],
+    &["forward", "g", "t", "u"],
+    &["Forward", "g", "t"],
+    &["backward"],
+    &["backward", "t"],
+    &["backward", "t", "g", "h"],
+    &["backwards", "t", "g"],
     &["check"],
     &["check", "t", "u"],
     &["Check", "t"],

@@ -30,6 +30,8 @@ fn operation_in(text: &str) -> Option<Operation>
         "inside" => Some(Operation::Inside),
         "normal" => Some(Operation::Normal),
         "intersect" => Some(Operation::Intersect),
+        "forward" => Some(Operation::Forward),
+        "backward" => Some(Operation::Backward),
         "check" => Some(Operation::Check),
         _ => None,
     }
@@ -107,7 +109,7 @@ fn word_count(operation: Operation) -> usize
 {
     match operation {
         Operation::Inside | Operation::Normal | Operation::Check => 1,
-        Operation::Weigh | Operation::Intersect => 2,
+        Operation::Weigh | Operation::Intersect | Operation::Forward | Operation::Backward => 2,
     }
 }
 
