@@ -241,6 +241,17 @@ def monadic(states, seed):
     return lines
 
 
+def turning_letters(states):
+    """A transducer of words: each state turns each of the five letters into another one, and goes on in another state."""
+    random.seed(13)
+    lines = ["t0"]
+    for state in range(states):
+        lines += ["t%d.%s(x0:) -> %s(t%d.x0) # %d" % (state, letter, random.choice("abcde"), random.randrange(states), random.randrange(10)) for letter in "abcd"]
+        lines.append("t%d.e -> e" % state)
+        lines.append("t%d.e(x0:) -> e(t%d.x0) # 1" % (state, random.randrange(states)))
+    return lines
+
+
 def deep_trees(depth, number):
     random.seed(4)
     return ["".join(random.choice("ab") + "(" for _ in range(depth)) + "e" + ")" * depth for _ in range(number)]
@@ -313,6 +324,11 @@ def main(program):
     for name, made in (("in 200,000 rounds of one", long_words(200000)), ("in 18 rounds", wide_words(200000))):
         grammar = write("words.grammar", made)
         row("intersect a grammar of 200,000 states with itself, %s" % name, measure(program, "intersect", grammar, grammar), 0.2, "million pairs/s")
+
+    words_of, turning = write("monadic11.grammar", monadic(800, 11)), write("turning.transducer", turning_letters(100))
+    for words in (("forward", words_of, turning), ("backward", turning, words_of)):
+        applied = subprocess.run([program, *words], capture_output=True, check=False).stdout.splitlines()
+        row("%s, 800 states and 100 of the transducer: %d rules" % (words[0], len(applied) - 1), measure(program, *words), (len(applied) - 1) / 1e6, "million rules/s")
 
     print("\nhow time grows over three doublings (the exponent is about 1 where it grows as the input)")
     for name, sizes, words in (

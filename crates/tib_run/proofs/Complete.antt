@@ -6,9 +6,10 @@ use Rattle.tib_command.specs.Jobs.{Asked}
 use Rattle.tib_run.specs.declared.status.Status.{Status}
 use Rattle.tib_run.specs.declared.status.Status.TheVariants as statuses
 use Rattle.tib_run.specs.Kinds.{Kind, kind_at, file_at, OfName, OfFile, Told, IsShort, IsLong, IsOfKind, HasFault, KindsHaveNoFault}
-use Rattle.tib_run.specs.Causes.{HasCause, HasTooMany, scale_of}
+use Rattle.tib_run.specs.Causes.{HasCause, HasTooMany, scale_of, bytes_of}
 use Rattle.tib_run.specs.Answers.{IsAnswerable, IsCalm, IsComplete, WithinIsNotTooMuch}
 use Rattle.tib_run.proofs.Faults.{told_both}
+use Rattle.tib_run.proofs.OfJobs.{class_apart}
 
 named : (o : Option (List ℕ)) (P : List ℕ → Type 0) → OfName o P → (name : List ℕ) × (o ≡ Some name) × P name
 named None P h = absurd h
@@ -53,6 +54,7 @@ module _ (no_fault : KindsHaveNoFault) (apart : WithinIsNotTooMuch) where
     answered before now out_before out_now statuses.Done calm h = inl refl
     answered before now out_before out_now statuses.Usage calm h = absurd (cc h)
     answered before now out_before out_now (statuses.BadInput file fault) calm h = absurd (faultless file fault h)
+    answered before now out_before out_now (statuses.Class file rule fault) calm h = absurd (class_apart asked.task.operation (scale_of asked.mode) (bytes_of asked held) file (rule, fault) given.class h)
     answered before now out_before out_now (statuses.TooMany limit) calm h = absurd (not_large limit h)
     answered before now out_before out_now (statuses.ReadFault file) calm h = absurd (calm.files file h)
     answered before now out_before out_now statuses.WriteFault calm h = absurd (calm.out h.1)

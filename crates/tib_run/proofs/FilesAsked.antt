@@ -31,6 +31,8 @@ as_many_kinds operations.Weigh = refl
 as_many_kinds operations.Inside = refl
 as_many_kinds operations.Normal = refl
 as_many_kinds operations.Intersect = refl
+as_many_kinds operations.Forward = refl
+as_many_kinds operations.Backward = refl
 as_many_kinds operations.Check = refl
 
 first_test : (m n : ℕ) (b : Bool) → (m == n) && b ≡ true → m ≡ n

@@ -1,6 +1,7 @@
 pub mod Tables
 pub mod TransducerTables
 pub mod ReadSound
+pub mod PlainMoves
 pub mod FileValues
 pub mod Lines
 pub mod PairsByText
@@ -11,6 +12,14 @@ pub mod OfInside
 pub mod OfNormal
 pub mod OfIntersect
 pub mod OfCheck
+pub mod ClassesByText
+pub mod MovesByText
+pub mod EdgesApplied
+pub mod AppliedByText
+pub mod AppliedSeries
+pub mod PlainEdges
+pub mod OfForward
+pub mod OfBackward
 pub mod OfOperations
 pub mod FilesAsked
 pub mod OfJobs

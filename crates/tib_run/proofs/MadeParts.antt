@@ -9,7 +9,7 @@ use Rattle.tib_hunt.specs.declared.found.HuntError.{HuntError}
 use Rattle.tib_hunt.specs.declared.found.HuntError.TheVariants.{TooMany}
 use Rattle.tib_canon.specs.Constructions.{Construction, edges_over, IsCanonicalOf}
 use Rattle.tib_run.specs.Made.{Made, nothing, and_then, normal_form, reached_set, HasReachedFrom, IsMadeFault}
-use Rattle.tib_run.specs.Causes.{HasEarlier, AreBefore, IsEarly, file_count}
+use Rattle.tib_run.specs.Causes.{HasEarlier, HasClass, AreBefore, IsEarly, file_count}
 use Rattle.tib_run.specs.declared.status.Status.{Status}
 use Rattle.tib_run.specs.declared.status.Status.TheVariants as statuses
 use Rattle.tib_command.specs.Jobs.{Asked}
@@ -52,26 +52,29 @@ module _ (P : Type 0) (limit : ℕ) where
   made_early statuses.Done h = absurd h
   made_early statuses.Usage h = absurd h
   made_early (statuses.BadInput n fault) h = tt
+  made_early (statuses.Class n rule fault) h = absurd h
   made_early (statuses.TooMany n) h = tt
   made_early (statuses.ReadFault n) h = tt
   made_early statuses.WriteFault h = absurd h
   made_early (statuses.TooLong n) h = tt
   made_early statuses.OutOfMemory h = tt
 
-  pub made_earlier : (job : Option Asked) (held : List ℕ → Option (List ℕ)) (s : Status) → IsMadeFault P limit s → AreBefore job held (file_count job + 1) → HasEarlier job held s
-  made_earlier job held statuses.Done h b = tt
-  made_earlier job held statuses.Usage h b = tt
-  made_earlier job held (statuses.BadInput n fault) h b = absurd h
-  made_earlier job held (statuses.TooMany n) h b = b
-  made_earlier job held (statuses.ReadFault n) h b = absurd h
-  made_earlier job held statuses.WriteFault h b = tt
-  made_earlier job held (statuses.TooLong n) h b = absurd h
-  made_earlier job held statuses.OutOfMemory h b = tt
+  pub made_earlier : (job : Option Asked) (held : List ℕ → Option (List ℕ)) (s : Status) → IsMadeFault P limit s → AreBefore job held (file_count job + 1) → HasClass job held → HasEarlier job held s
+  made_earlier job held statuses.Done h b c = tt
+  made_earlier job held statuses.Usage h b c = tt
+  made_earlier job held (statuses.BadInput n fault) h b c = absurd h
+  made_earlier job held (statuses.Class n rule fault) h b c = absurd h
+  made_earlier job held (statuses.TooMany n) h b c = (b, c)
+  made_earlier job held (statuses.ReadFault n) h b c = absurd h
+  made_earlier job held statuses.WriteFault h b c = tt
+  made_earlier job held (statuses.TooLong n) h b c = absurd h
+  made_earlier job held statuses.OutOfMemory h b c = tt
 
   pub made_weaker : (Q : Type 0) → (P → Q) → (s : Status) → IsMadeFault P limit s → IsMadeFault Q limit s
   made_weaker Q f statuses.Done h = h
   made_weaker Q f statuses.Usage h = h
   made_weaker Q f (statuses.BadInput n fault) h = h
+  made_weaker Q f (statuses.Class n rule fault) h = h
   made_weaker Q f (statuses.TooMany n) h = (h.0, f h.1)
   made_weaker Q f (statuses.ReadFault n) h = h
   made_weaker Q f statuses.WriteFault h = h

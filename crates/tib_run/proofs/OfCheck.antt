@@ -1,19 +1,18 @@
 -- What `check` writes: one text, and that there is none cannot be.
-use Rattle.std.proofs.Common.{◌≡◌, ℕ, ◌+◌, ◌<◌, ◌⊎◌, List, [], ◌∷◌, ◌++◌, length, map, get_or, refl, ap, sym, ◌∙◌, subst, arith, zero, suc, inl, inr, Option}
+use Rattle.std.proofs.Common.{◌≡◌, ℕ, ◌+◌, ◌<◌, ◌⊎◌, List, [], ◌∷◌, ◌++◌, length, map, refl, ap, sym, ◌∙◌, subst, arith, zero, suc, inl, inr, Option}
 use Rattle.std.specs.Prelude.{Some, None}
 use Rattle.tib_lex.specs.Lists.{Along, Each, Has, Distinct}
 use Rattle.tib_tree.specs.Trees.{Trees, none, tree, only}
 use Rattle.tib_grammar.specs.Sides.{Symbol, label, hole, holes, labels_in}
-use Rattle.tib_grammar_file.specs.ByText.{HaveOneShape, HaveOneText}
+use Rattle.tib_grammar_file.specs.ByText.{HaveOneShape}
 use Rattle.tib_grammar_file.proofs.Alongs.{along_append}
-use Rattle.tib_transducer.specs.Rules.{transducer_rule, no_rule, variables_of, variables_in}
+use Rattle.tib_transducer.specs.Rules.{transducer_rule, variables_of, variables_in}
 use Rattle.tib_transducer.specs.Classes.{IsLinear, IsNondeleting, IsExtended, IsLabelled}
 use Rattle.tib_transducer.specs.TransducerOf.{TransducerOf}
 use Rattle.tib_transducer.specs.declared.Variable.{Variable}
 use Rattle.tib_transducer.specs.declared.Pair.{Pair}
 use Rattle.tib_transducer.specs.declared.TransducerRule.{TransducerRule}
 use Rattle.tib_transducer_file.specs.ByText.{AskForOneText, AreOneVariable, AgreeOnLeft, AgreeOnRight, AreOneTransducerRule, AreOneTransducer}
-use Rattle.tib_classes.specs.Outside.{IsFirst}
 use Rattle.tib_run.specs.Check.{IsFirstSuch, class_lines, HasClasses}
 
 -- the first rule of which something holds
@@ -142,45 +141,45 @@ module _ (labels others : List (List ℕ)) where
   one_asks_back (x ∷ xs) (z ∷ ys) a y (inr h) g e = let o = one_asks_back xs ys a.1 y h g e in (o.0, inr o.1, o.2, o.3)
 
   module _ (r s : TransducerRule ℕ) (one : AreOneTransducerRule labels others r s) where
-    linear_to : IsLinear r → IsLinear s
+    pub linear_to : IsLinear r → IsLinear s
     linear_to h = subst (λ (ns : List ℕ). Distinct ns) (used_same (only r.right) (only s.right) one.right) h
 
-    linear_from : IsLinear s → IsLinear r
+    pub linear_from : IsLinear s → IsLinear r
     linear_from h = subst (λ (ns : List ℕ). Distinct ns) (sym (used_same (only r.right) (only s.right) one.right)) h
 
-    nondeleting_to : IsNondeleting r → IsNondeleting s
+    pub nondeleting_to : IsNondeleting r → IsNondeleting s
     nondeleting_to h =
         all_used (variables_in s.right) (variables_of r.left) (variables_of s.left) (variables_along (only r.left) (only s.left) one.left)
         (subst (λ (ns : List ℕ). Each (λ x. Has ns x.number) (variables_of r.left)) (used_same (only r.right) (only s.right) one.right) h)
 
-    nondeleting_from : IsNondeleting s → IsNondeleting r
+    pub nondeleting_from : IsNondeleting s → IsNondeleting r
     nondeleting_from h =
         subst (λ (ns : List ℕ). Each (λ x. Has ns x.number) (variables_of r.left)) (sym (used_same (only r.right) (only s.right) one.right))
         (all_used_back (variables_in s.right) (variables_of r.left) (variables_of s.left) (variables_along (only r.left) (only s.left) one.left) h)
 
-    extended_to : IsExtended r → IsExtended s
+    pub extended_to : IsExtended r → IsExtended s
     extended_to h = omega (arith, h, labels_same (only r.left) (only s.left) one.left)
 
-    extended_from : IsExtended s → IsExtended r
+    pub extended_from : IsExtended s → IsExtended r
     extended_from h = omega (arith, h, labels_same (only r.left) (only s.left) one.left)
 
-    labelled_to : IsLabelled r → IsLabelled s
+    pub labelled_to : IsLabelled r → IsLabelled s
     labelled_to h =
         let o = one_asks (variables_of r.left) (variables_of s.left) (variables_along (only r.left) (only s.left) one.left) h.variable h.stands h.root h.labelled in
         record { variable = o.0; stands = o.1; root = o.2; labelled = o.3 }
 
-    labelled_from : IsLabelled s → IsLabelled r
+    pub labelled_from : IsLabelled s → IsLabelled r
     labelled_from h =
         let o = one_asks_back (variables_of r.left) (variables_of s.left) (variables_along (only r.left) (only s.left) one.left) h.variable h.stands h.root h.labelled in
         record { variable = o.0; stands = o.1; root = o.2; labelled = o.3 }
 
-  rules_long : (rs ss : List (TransducerRule ℕ)) → Along (AreOneTransducerRule labels others) rs ss → length rs ≡ length ss
+  pub rules_long : (rs ss : List (TransducerRule ℕ)) → Along (AreOneTransducerRule labels others) rs ss → length rs ≡ length ss
   rules_long [] [] a = refl
   rules_long [] (s ∷ ss) a = absurd a
   rules_long (r ∷ rs) [] a = absurd a
   rules_long (r ∷ rs) (s ∷ ss) a = ap suc (rules_long rs ss a.1)
 
-  rule_at : (rs ss : List (TransducerRule ℕ)) → Along (AreOneTransducerRule labels others) rs ss → (n : ℕ) → n < length rs → AreOneTransducerRule labels others (transducer_rule rs n) (transducer_rule ss n)
+  pub rule_at : (rs ss : List (TransducerRule ℕ)) → Along (AreOneTransducerRule labels others) rs ss → (n : ℕ) → n < length rs → AreOneTransducerRule labels others (transducer_rule rs n) (transducer_rule ss n)
   rule_at [] ss a n h = absurd (omega arith)
   rule_at (r ∷ rs) [] a n h = absurd a
   rule_at (r ∷ rs) (s ∷ ss) a zero h = a.0

@@ -108,7 +108,7 @@ leaves_plain : (labels : List (List ℕ)) (place : ℕ × ℕ → ℕ) (ks : Lis
 leaves_plain labels place [] = tt
 leaves_plain labels place (k ∷ ks) = (tt, leaves_plain labels place ks)
 
-plain_product : (scale : Scale) (product : ℕ → ℕ → ℕ) (a b c : ℕ) → product 0 0 ≡ 0 → IsPlainCost scale a → IsPlainCost scale b → c ≡ product a b → c ≤ most → IsPlainCost scale c
+pub plain_product : (scale : Scale) (product : ℕ → ℕ → ℕ) (a b c : ℕ) → product 0 0 ≡ 0 → IsPlainCost scale a → IsPlainCost scale b → c ≡ product a b → c ≤ most → IsPlainCost scale c
 plain_product scales.Plain product a b c zeros x y e low = low
 plain_product scales.Reversed product a b c zeros x y e low = low
 plain_product scales.Unweighted product a b c zeros x y e low = e ∙ ap (λ z. product z b) x ∙ ap (product 0) y ∙ zeros
@@ -156,17 +156,17 @@ module _ (product : ℕ → ℕ → ℕ) (zeros : product 0 0 ≡ 0) (scale : Sc
 
 module _ {levelled weighed : Bool} {product : ℕ → ℕ → ℕ} (laws : ProductLaws levelled weighed product) where
   -- what holds of a trimmed normal form
-  form_same : (g m : GrammarOf) → IsSound g → IsTrimmedForm product g m → (HasSameSeries product g m → ⊥) → ⊥
+  pub form_same : (g m : GrammarOf) → IsSound g → IsTrimmedForm product g m → (HasSameSeries product g m → ⊥) → ⊥
   form_same g m s t k =
       trimmed_series laws t.normal m (form_range product (length g.names) g.rules (length t.normal.names) t.normal.rules t.form s.range (are_lone g.rules s.leaves)) t.trimmed (λ same.
       k (series_on product g t.normal m (form_series laws g t.normal s t.form) same))
 
-  form_plain : (scale : Scale) (labels : List (List ℕ)) (g m : GrammarOf) → IsTrimmedForm product g m → ArePrintable scale labels g.rules → ArePrintable scale labels m.rules
+  pub form_plain : (scale : Scale) (labels : List (List ℕ)) (g m : GrammarOf) → IsTrimmedForm product g m → ArePrintable scale labels g.rules → ArePrintable scale labels m.rules
   form_plain scale labels g m t p =
       trimmed_printable scale labels product t.normal m t.trimmed
       (form_printable product (laws.neutral 0) scale labels (length g.names) g.rules p (length t.normal.names) t.normal.rules t.form)
 
-  form_is_normal : (g m : GrammarOf) → IsTrimmedForm product g m → AreNormal m.rules
+  pub form_is_normal : (g m : GrammarOf) → IsTrimmedForm product g m → AreNormal m.rules
   form_is_normal g m t = (still_normal product t.normal m t.trimmed (form_normal product (length g.names) g.rules (length t.normal.names) t.normal.rules t.form)).normal
 
   pub intersection_there :

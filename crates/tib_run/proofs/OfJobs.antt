@@ -10,11 +10,13 @@ use Rattle.tib_command.specs.declared.job.Mode.TheVariants as modes
 use Rattle.tib_command.specs.declared.job.Operation.{Operation}
 use Rattle.tib_command.specs.declared.job.Operation.TheVariants as operations
 use Rattle.tib_run.specs.Kinds.{kinds_of, file_at, bytes_at, OfName, IsOfKind, AreOfKinds, AreAllTold}
-use Rattle.tib_run.specs.Causes.{scale_of, product_of, MakesTooMuch, StaysWithin, IsTooMuch, IsWithin, bytes_of}
+use Rattle.tib_classes.specs.declared.error.ClassFault.{ClassFault}
+use Rattle.tib_run.specs.Causes.{scale_of, product_of, demanded, BreaksClass, MeetsClass, StaysInClass, IsInClass, IsOutOfClass, MakesTooMuch, StaysWithin, IsTooMuch, IsWithin, bytes_of}
 use Rattle.tib_run.specs.Answers.{IsAnswerOf, IsAnswer, AreTold, AreOfTheirKinds, MeetsLaws, NeedsOf}
 use Rattle.tib_run.proofs.FileValues.{values_there, values_agree, all_sound}
 use Rattle.tib_run.proofs.FilesAsked.{limit_asked}
-use Rattle.tib_run.proofs.OfOperations.{makes_either, makes_by_text, result_once, result_there}
+use Rattle.tib_run.proofs.ClassesByText.{met_by_text, broken_once, not_both, met_or_broken}
+use Rattle.tib_run.proofs.OfOperations.{one_demand, makes_either, makes_by_text, result_once, result_there}
 
 -- told files are told
 is_told : (o : Option (List ℕ)) (P : List ℕ → Type 0) → OfName o P → IsSome o
@@ -23,6 +25,34 @@ is_told (Some x) P h = refl
 
 all_told : (scale : Scale) (o : Operation) (bytes : ℕ → Option (List ℕ)) → AreOfKinds scale (kinds_of o) bytes → AreAllTold (kinds_of o) bytes
 all_told scale o bytes are n kind e = is_told (bytes n) (IsOfKind scale kind) (are n kind e)
+
+-- the class that an operation demands
+module _ (o : Operation) (scale : Scale) (bytes : ℕ → Option (List ℕ)) where
+  -- it is not both kept and broken
+  pub class_apart : (file : ℕ) (x : ℕ × ClassFault) → StaysInClass o scale bytes → BreaksClass o scale bytes file x → ⊥
+  class_apart file x inside b = not_both (demanded o b.values) file x (inside b.labels b.values b.texts) b.broken
+
+  -- where the files are told it is kept over each table of labels
+  pub class_told : AreAllTold (kinds_of o) bytes → MeetsClass o scale bytes → StaysInClass o scale bytes
+  class_told told m labels values texts =
+      met_by_text m.labels labels (demanded o m.values) (demanded o values)
+      (one_demand m.labels labels o m.values values (values_agree scale m.labels labels (kinds_of o) bytes m.values values told m.texts.texts texts.texts)) m.met
+
+  -- and broken by one rule in one way
+  pub break_once :
+      AreAllTold (kinds_of o) bytes → (file other : ℕ) (x y : ℕ × ClassFault) → BreaksClass o scale bytes file x → BreaksClass o scale bytes other y →
+      (file ≡ other) × (x.0 ≡ y.0) × (x.1 ≡ y.1)
+  break_once told file other x y a b =
+      broken_once a.labels b.labels (demanded o a.values) (demanded o b.values)
+      (one_demand a.labels b.labels o a.values b.values (values_agree scale a.labels b.labels (kinds_of o) bytes a.values b.values told a.texts.texts b.texts.texts)) file other x y a.broken b.broken
+
+  -- that it is neither cannot be
+  pub class_either : AreOfKinds scale (kinds_of o) bytes → (StaysInClass o scale bytes → ⊥) → ((file : ℕ) (x : ℕ × ClassFault) → BreaksClass o scale bytes file x → ⊥) → ⊥
+  class_either are inside outside =
+      let v = values_there scale (kinds_of o) bytes are in
+      met_or_broken (demanded o v.1)
+      (λ met. inside (class_told (all_told scale o bytes are) (record { labels = v.0; values = v.1; texts = v.2; met = met })))
+      (λ file x broken. outside file x (record { labels = v.0; values = v.1; texts = v.2; broken = broken }))
 
 module _ (o : Operation) (scale : Scale) (product : ℕ → ℕ → ℕ) (limit : ℕ) (bytes : ℕ → Option (List ℕ)) where
   -- one text
@@ -51,15 +81,20 @@ module _ (o : Operation) (scale : Scale) (product : ℕ → ℕ → ℕ) (limit 
       makes_by_text scale product limit a.labels labels (distinct_texts a.labels a.texts.distinct) (distinct_texts labels texts.distinct) o a.values values
       (values_agree scale a.labels labels (kinds_of o) bytes a.values values told a.texts.texts texts.texts) a.within
 
-  -- what is within the limit has an answer: that it has none cannot be
+  -- of files of the class that is demanded
+  pub answer_class : (text : List ℕ) → AreAllTold (kinds_of o) bytes → IsAnswerOf o scale product limit bytes text → StaysInClass o scale bytes
+  answer_class text told a = class_told o scale bytes told (record { labels = a.labels; values = a.values; texts = a.texts; met = a.met })
+
+  -- what is within the limit and of that class has an answer: that it has none cannot be
   pub answer_there :
-      NeedsOf o product limit → AreOfKinds scale (kinds_of o) bytes → StaysWithin o scale product limit bytes →
+      NeedsOf o product limit → AreOfKinds scale (kinds_of o) bytes → StaysInClass o scale bytes → StaysWithin o scale product limit bytes →
       ((text : List ℕ) → IsAnswerOf o scale product limit bytes text → ⊥) → ⊥
-  answer_there needs are small never =
+  answer_there needs are inside small never =
       let v = values_there scale (kinds_of o) bytes are in
       let w = small v.0 v.1 v.2 in
-      result_there scale product limit v.0 (distinct_texts v.0 v.2.distinct) o needs v.1 (all_sound scale v.0 (kinds_of o) bytes v.1 (all_told scale o bytes are) v.2.texts) w (λ text is.
-      never text (record { labels = v.0; values = v.1; texts = v.2; within = w; result_is = is }))
+      let met = inside v.0 v.1 v.2 in
+      result_there scale product limit v.0 (distinct_texts v.0 v.2.distinct) o needs v.1 (all_sound scale v.0 (kinds_of o) bytes v.1 (all_told scale o bytes are) v.2.texts) met w (λ text is.
+      never text (record { labels = v.0; values = v.1; texts = v.2; met = met; within = w; result_is = is }))
 
 -- the product of each mode meets its laws
 laws_of : (mode : Mode) (limit : ℕ) → limit < 4294967296 → MeetsLaws (product_of mode) limit
@@ -73,6 +108,8 @@ needs_met operations.Weigh product limit m = tt
 needs_met operations.Inside product limit m = tt
 needs_met operations.Normal product limit m = m
 needs_met operations.Intersect product limit m = m
+needs_met operations.Forward product limit m = m
+needs_met operations.Backward product limit m = m
 needs_met operations.Check product limit m = tt
 
 -- the same of jobs
@@ -87,6 +124,22 @@ module _ (asked : Asked) (held : List ℕ → Option (List ℕ)) where
   pub one_job_answer : (text other : List ℕ) → AreTold asked held → IsAnswer asked held text → IsAnswer asked held other → text ≡ other
   one_job_answer text other told a b = one_answer asked.task.operation (scale_of asked.mode) (product_of asked.mode) asked.limit (bytes_of asked held) text other (told_bytes told) a b
 
+  pub outside_apart : (file : ℕ) (x : ℕ × ClassFault) → IsInClass asked held → IsOutOfClass asked held file x → ⊥
+  outside_apart file x inside outside = class_apart asked.task.operation (scale_of asked.mode) (bytes_of asked held) file x inside outside
+
+  pub inside_told : AreTold asked held → MeetsClass asked.task.operation (scale_of asked.mode) (bytes_of asked held) → IsInClass asked held
+  inside_told told m = class_told asked.task.operation (scale_of asked.mode) (bytes_of asked held) (told_bytes told) m
+
+  pub outside_once :
+      AreTold asked held → (file other : ℕ) (x y : ℕ × ClassFault) → IsOutOfClass asked held file x → IsOutOfClass asked held other y → (file ≡ other) × (x.0 ≡ y.0) × (x.1 ≡ y.1)
+  outside_once told file other x y a b = break_once asked.task.operation (scale_of asked.mode) (bytes_of asked held) (told_bytes told) file other x y a b
+
+  pub inside_or_not : AreOfTheirKinds asked held → (IsInClass asked held → ⊥) → ((file : ℕ) (x : ℕ × ClassFault) → IsOutOfClass asked held file x → ⊥) → ⊥
+  inside_or_not are inside outside = class_either asked.task.operation (scale_of asked.mode) (bytes_of asked held) (kinds_bytes are) inside outside
+
+  pub answer_inside : (text : List ℕ) → AreTold asked held → IsAnswer asked held text → IsInClass asked held
+  answer_inside text told a = answer_class asked.task.operation (scale_of asked.mode) (product_of asked.mode) asked.limit (bytes_of asked held) text (told_bytes told) a
+
   pub within_apart : IsWithin asked held → IsTooMuch asked held → ⊥
   within_apart small large = made_apart asked.task.operation (scale_of asked.mode) (product_of asked.mode) asked.limit (bytes_of asked held) small large
 
@@ -99,15 +152,22 @@ module _ (asked : Asked) (held : List ℕ → Option (List ℕ)) where
   pub answer_apart : (text : List ℕ) → AreTold asked held → IsAnswer asked held text → IsTooMuch asked held → ⊥
   answer_apart text told a large = within_apart (answer_within text told a) large
 
+  pub kinds_are_told : AreOfTheirKinds asked held → AreTold asked held
+  kinds_are_told are n kind e = is_told (bytes_at held (file_at (Some asked) n)) (IsOfKind (scale_of asked.mode) kind) (are n kind e)
+
+  pub answered_not_outside : (text : List ℕ) (file : ℕ) (x : ℕ × ClassFault) → AreOfTheirKinds asked held → IsAnswer asked held text → IsOutOfClass asked held file x → ⊥
+  answered_not_outside text file x are a outside = outside_apart file x (answer_inside text (kinds_are_told are) a) outside
+
   pub answered_not_more : (text : List ℕ) → AreOfTheirKinds asked held → IsAnswer asked held text → IsTooMuch asked held → ⊥
-  answered_not_more text are = answer_apart text (λ n kind e. is_told (bytes_at held (file_at (Some asked) n)) (IsOfKind (scale_of asked.mode) kind) (are n kind e))
+  answered_not_more text are = answer_apart text (kinds_are_told are)
 
   module _ (words : List (List ℕ)) (of_words : job_of words ≡ Some asked) (are : AreOfTheirKinds asked held) where
-    pub job_answered : IsWithin asked held → ((text : List ℕ) → IsAnswer asked held text → ⊥) → ⊥
-    job_answered small never =
+    pub job_answered : IsInClass asked held → IsWithin asked held → ((text : List ℕ) → IsAnswer asked held text → ⊥) → ⊥
+    job_answered inside small never =
         answer_there asked.task.operation (scale_of asked.mode) (product_of asked.mode) asked.limit (bytes_of asked held) (needs_met asked.task.operation (product_of asked.mode) asked.limit (laws_of asked.mode asked.limit (omega (arith, limit_asked words asked of_words))))
-        (kinds_bytes are) small never
+        (kinds_bytes are) inside small never
 
-    -- so it has an answer or too many parts: that it has neither cannot be
-    pub answered_or_more : ((text : List ℕ) → IsAnswer asked held text → ⊥) → (IsTooMuch asked held → ⊥) → ⊥
-    answered_or_more never few = within_or_more are (λ within. job_answered within never) few
+    -- so it has an answer, a rule outside the class or too many parts: that it has none of them cannot be
+    pub answered_or_more :
+        ((text : List ℕ) → IsAnswer asked held text → ⊥) → ((file : ℕ) (x : ℕ × ClassFault) → IsOutOfClass asked held file x → ⊥) → (IsTooMuch asked held → ⊥) → ⊥
+    answered_or_more never outside few = inside_or_not are (λ inside. within_or_more are (λ within. job_answered inside within never) few) outside

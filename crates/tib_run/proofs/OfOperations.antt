@@ -1,15 +1,21 @@
 -- What each operation brings: that its text is one, that what it makes does not hang on the numbers of labels and is within the
 -- limit or has more parts than it, and that it has a text where that is within the limit.
 use Rattle.tib_cost.specs.declared.Scale.{Scale}
-use Rattle.std.proofs.Common.{◌≡◌, ℕ, List}
+use Rattle.std.proofs.Common.{◌≡◌, ℕ, List, refl}
 use Rattle.tib_lex.specs.Lists.{Distinct}
 use Rattle.tib_command.specs.declared.job.Operation.{Operation}
 use Rattle.tib_command.specs.declared.job.Operation.TheVariants as operations
 use Rattle.tib_run.specs.Kinds.{kinds_of, ValuesOf}
-use Rattle.tib_run.specs.Causes.{makes}
+use Rattle.tib_run.specs.Causes.{makes, demanded}
+use Rattle.tib_run.specs.Classes.{IsMet}
 use Rattle.tib_run.specs.Answers.{IsResultOf, NeedsOf}
 use Rattle.tib_run.specs.Made.{normal_form, and_then, reached_set}
 use Rattle.tib_run.specs.Intersect.{AreTrimmedForms, intersecting}
+use Rattle.tib_run.specs.Forward.{forwarding}
+use Rattle.tib_run.specs.Backward.{inverting}
+use Rattle.tib_canon.specs.TrimmedForms.{IsTrimmedForm}
+use Rattle.tib_run.proofs.AppliedByText.{forward_by_text, backward_by_text}
+use Rattle.tib_run.proofs.ClassesByText.{IsOneDemand}
 use Rattle.tib_run.proofs.FileValues.{AllAgree, AllSound}
 use Rattle.tib_run.proofs.FormsByText.{within_by_text, pairs_by_text}
 use Rattle.tib_run.proofs.MadeParts.{IsEither, nothing_either, both_either, form_either, reached_either}
@@ -17,7 +23,19 @@ use Rattle.tib_run.proofs.OfWeigh.{weighed_once, weighed_there}
 use Rattle.tib_run.proofs.OfInside.{insides_once, insides_there}
 use Rattle.tib_run.proofs.OfNormal.{normal_once, normal_there}
 use Rattle.tib_run.proofs.OfIntersect.{intersection_once, intersection_there}
+use Rattle.tib_run.proofs.OfForward.{forward_once, forward_there}
+use Rattle.tib_run.proofs.OfBackward.{backward_once, backward_there}
 use Rattle.tib_run.proofs.OfCheck.{classes_once, classes_there}
+
+-- what is demanded is one over each table of labels
+pub one_demand : (labels others : List (List ℕ)) (o : Operation) (values more : ValuesOf (kinds_of o)) → AllAgree labels others (kinds_of o) values more → IsOneDemand labels others (demanded o values) (demanded o more)
+one_demand labels others operations.Weigh values more a = tt
+one_demand labels others operations.Inside values more a = tt
+one_demand labels others operations.Normal values more a = tt
+one_demand labels others operations.Intersect values more a = tt
+one_demand labels others operations.Forward values more a = (refl, refl, a.1.0.rules)
+one_demand labels others operations.Backward values more a = (refl, refl, a.0.rules)
+one_demand labels others operations.Check values more a = tt
 
 module _ (scale : Scale) (product : ℕ → ℕ → ℕ) (limit : ℕ) where
   -- what is made is within the limit, or has more parts
@@ -30,6 +48,12 @@ module _ (scale : Scale) (product : ℕ → ℕ → ℕ) (limit : ℕ) where
       both_either (normal_form product limit values.0) (and_then (normal_form product limit values.1.0) pairs) (form_either product limit values.0)
       (both_either (normal_form product limit values.1.0) pairs (form_either product limit values.1.0)
       (reached_either limit (AreTrimmedForms product values.0 values.1.0) (intersecting product)))
+  makes_either operations.Forward values =
+      both_either (normal_form product limit values.0) (reached_set limit (IsTrimmedForm product values.0) (forwarding product values.1.0)) (form_either product limit values.0)
+      (reached_either limit (IsTrimmedForm product values.0) (forwarding product values.1.0))
+  makes_either operations.Backward values =
+      both_either (normal_form product limit values.1.0) (reached_set limit (IsTrimmedForm product values.1.0) (inverting product values.0)) (form_either product limit values.1.0)
+      (reached_either limit (IsTrimmedForm product values.1.0) (inverting product values.0))
   makes_either operations.Check values = nothing_either
 
   module _ (labels others : List (List ℕ)) (apart : Distinct labels) (different : Distinct others) where
@@ -45,6 +69,14 @@ module _ (scale : Scale) (product : ℕ → ℕ → ℕ) (limit : ℕ) where
         pairs_by_text product limit labels others apart different values.0 values.1.0 more.0 more.1.0 a.0 a.1.0 w.1.1,
       ),
     )
+    makes_by_text operations.Forward values more a w = (
+      within_by_text product limit labels others apart different values.0 more.0 a.0 w.0,
+      forward_by_text product limit labels others apart different values.0 more.0 values.1.0 more.1.0 a.0 a.1.0 w.1,
+    )
+    makes_by_text operations.Backward values more a w = (
+      within_by_text product limit labels others apart different values.1.0 more.1.0 a.1.0 w.0,
+      backward_by_text product limit labels others apart different values.1.0 more.1.0 values.0 more.0 a.1.0 a.0 w.1,
+    )
     makes_by_text operations.Check values more a w = tt
 
     -- and the text is one
@@ -55,15 +87,21 @@ module _ (scale : Scale) (product : ℕ → ℕ → ℕ) (limit : ℕ) where
     result_once operations.Inside values more text other a b c = insides_once scale product labels others values.0 more.0 text other a.0 b c
     result_once operations.Normal values more text other a b c = normal_once scale product limit labels others values.0 more.0 text other apart different a.0 b c
     result_once operations.Intersect values more text other a b c = intersection_once scale product limit labels others values.0 values.1.0 more.0 more.1.0 text other apart different a.0 a.1.0 b c
+    result_once operations.Forward values more text other a b c = forward_once scale product limit labels others values.0 more.0 values.1.0 more.1.0 text other apart different a.0 a.1.0 b c
+    result_once operations.Backward values more text other a b c = backward_once scale product limit labels others values.1.0 more.1.0 values.0 more.0 text other apart different a.1.0 a.0 b c
     result_once operations.Check values more text other a b c = classes_once labels others values.0 more.0 text other a.0 b c
 
   -- where it is within the limit, that there is no text cannot be
   pub result_there :
       (labels : List (List ℕ)) → Distinct labels → (o : Operation) → NeedsOf o product limit → (values : ValuesOf (kinds_of o)) → AllSound scale labels (kinds_of o) values →
-      (makes o product limit values).within → ((text : List ℕ) → IsResultOf o scale product limit labels values text → ⊥) → ⊥
-  result_there labels apart operations.Weigh needs values s w never = weighed_there scale product labels values.0 values.1.0 never
-  result_there labels apart operations.Inside needs values s w never = insides_there scale product values.0 never
-  result_there labels apart operations.Normal m values s w never = normal_there m.laws scale limit m.low labels apart values.0 s.0.0 s.0.1 w never
-  result_there labels apart operations.Intersect m values s w never =
+      IsMet (demanded o values) → (makes o product limit values).within → ((text : List ℕ) → IsResultOf o scale product limit labels values text → ⊥) → ⊥
+  result_there labels apart operations.Weigh needs values s met w never = weighed_there scale product labels values.0 values.1.0 never
+  result_there labels apart operations.Inside needs values s met w never = insides_there scale product values.0 never
+  result_there labels apart operations.Normal m values s met w never = normal_there m.laws scale limit m.low labels apart values.0 s.0.0 s.0.1 w never
+  result_there labels apart operations.Intersect m values s met w never =
       intersection_there m.laws scale limit m.low labels apart values.0 values.1.0 s.0.0 s.1.0.0 s.0.1 s.1.0.1 w.1.1 never
-  result_there labels apart operations.Check needs values s w never = classes_there values.0 never
+  result_there labels apart operations.Forward m values s met w never =
+      forward_there m.laws scale limit m.low labels apart values.0 values.1.0 s.0.0 s.0.1 s.1.0 met w.1 never
+  result_there labels apart operations.Backward m values s met w never =
+      backward_there m.laws scale limit m.low labels apart values.1.0 values.0 s.1.0.0 s.1.0.1 s.0 met w.1 never
+  result_there labels apart operations.Check needs values s met w never = classes_there values.0 never

@@ -7,11 +7,11 @@ use Rattle.tib_command.specs.Jobs.{Asked}
 use Rattle.tib_run.specs.declared.status.Status.{Status}
 use Rattle.tib_run.specs.declared.status.Status.TheVariants as statuses
 use Rattle.tib_run.specs.Kinds.{Kind, of_grammar, of_trees, of_transducer, kinds_of, kind_at, file_at, bytes_at, OfName, OfFile, Told, IsShort, IsLong, IsOfKind, HasFault}
-use Rattle.tib_run.specs.Causes.{IsTooMuch, scale_of, bytes_of}
+use Rattle.tib_run.specs.Causes.{IsInClass, IsOutOfClass, IsTooMuch, scale_of, bytes_of}
 use Rattle.tib_run.specs.Answers.{IsAnswer, AreTold, EndsCalmly, AreOneStatus}
 use Rattle.tib_run.proofs.Faults.{faulty_kind, one_fault}
 use Rattle.tib_run.proofs.FileValues.{kinds_told}
-use Rattle.tib_run.proofs.OfJobs.{answer_apart}
+use Rattle.tib_run.proofs.OfJobs.{answer_apart, answer_inside, outside_apart, outside_once, inside_told}
 use Rattle.tib_run.proofs.Reached.{some_kind, told_some}
 use Rattle.tib_lex.proofs.Lists.{some_same}
 
@@ -71,7 +71,8 @@ module _ (asked : Asked) (held : List ℕ → Option (List ℕ)) where
   Says statuses.Done = ((n : ℕ) → IsSound n) × ((text : List ℕ) × IsAnswer asked held text)
   Says statuses.Usage = ⊥
   Says (statuses.BadInput n fault) = (s : Stops n) × IsShort s.text × HasFault scale (Some s.kind) s.text fault
-  Says (statuses.TooMany limit) = ((n : ℕ) → IsSound n) × (asked.limit ≡ limit) × IsTooMuch asked held
+  Says (statuses.Class file rule fault) = ((n : ℕ) → IsSound n) × IsOutOfClass asked held file (rule, fault)
+  Says (statuses.TooMany limit) = ((n : ℕ) → IsSound n) × (asked.limit ≡ limit) × IsTooMuch asked held × IsInClass asked held
   Says (statuses.ReadFault n) = ⊥
   Says statuses.WriteFault = ⊥
   Says (statuses.TooLong n) = (s : Stops n) × (IsLong s.text)
@@ -105,6 +106,7 @@ module _ (asked : Asked) (held : List ℕ → Option (List ℕ)) where
     one_of statuses.Done statuses.Done a b = inl refl
     one_of statuses.Done statuses.Usage a b = absurd b
     one_of statuses.Done (statuses.BadInput n f) a b = absurd (never_stops a.0 n b.0)
+    one_of statuses.Done (statuses.Class f r x) a b = absurd (outside_apart asked held f (r, x) (answer_inside asked held a.1.0 told a.1.1) b.1)
     one_of statuses.Done (statuses.TooMany l) a b = absurd (answer_apart asked held a.1.0 told a.1.1 b.2)
     one_of statuses.Done (statuses.ReadFault n) a b = absurd b
     one_of statuses.Done statuses.WriteFault a b = absurd b
@@ -114,14 +116,27 @@ module _ (asked : Asked) (held : List ℕ → Option (List ℕ)) where
     one_of (statuses.BadInput m e) statuses.Done a b = absurd (never_stops b.0 m a.0)
     one_of (statuses.BadInput m e) statuses.Usage a b = absurd b
     one_of (statuses.BadInput m e) (statuses.BadInput n f) a b = inl (λ i. statuses.BadInput (one_stop m n a.0 b.0 i) (same_fault m n e f a.0 b.0 a.2 b.2 i))
+    one_of (statuses.BadInput m e) (statuses.Class f r x) a b = absurd (never_stops b.0 m a.0)
     one_of (statuses.BadInput m e) (statuses.TooMany l) a b = absurd (never_stops b.0 m a.0)
     one_of (statuses.BadInput m e) (statuses.ReadFault n) a b = absurd b
     one_of (statuses.BadInput m e) statuses.WriteFault a b = absurd b
     one_of (statuses.BadInput m e) (statuses.TooLong n) a b = absurd (short_and_long m n a.0 b.0 a.1 b.1)
     one_of (statuses.BadInput m e) statuses.OutOfMemory a b = inr (inr refl)
+    one_of (statuses.Class g q y) statuses.Done a b = absurd (outside_apart asked held g (q, y) (answer_inside asked held b.1.0 told b.1.1) a.1)
+    one_of (statuses.Class g q y) statuses.Usage a b = absurd b
+    one_of (statuses.Class g q y) (statuses.BadInput n f) a b = absurd (never_stops a.0 n b.0)
+    one_of (statuses.Class g q y) (statuses.Class f r x) a b =
+        let same = outside_once asked held told g f (q, y) (r, x) a.1 b.1 in
+        inl (λ i. statuses.Class (same.0 i) (same.1 i) (same.2 i))
+    one_of (statuses.Class g q y) (statuses.TooMany l) a b = absurd (outside_apart asked held g (q, y) b.3 a.1)
+    one_of (statuses.Class g q y) (statuses.ReadFault n) a b = absurd b
+    one_of (statuses.Class g q y) statuses.WriteFault a b = absurd b
+    one_of (statuses.Class g q y) (statuses.TooLong n) a b = absurd (never_stops a.0 n b.0)
+    one_of (statuses.Class g q y) statuses.OutOfMemory a b = inr (inr refl)
     one_of (statuses.TooMany k) statuses.Done a b = absurd (answer_apart asked held b.1.0 told b.1.1 a.2)
     one_of (statuses.TooMany k) statuses.Usage a b = absurd b
     one_of (statuses.TooMany k) (statuses.BadInput n f) a b = absurd (never_stops a.0 n b.0)
+    one_of (statuses.TooMany k) (statuses.Class f r x) a b = absurd (outside_apart asked held f (r, x) a.3 b.1)
     one_of (statuses.TooMany k) (statuses.TooMany l) a b = inl (ap (λ (z : ℕ). statuses.TooMany z) (sym a.1 ∙ b.1))
     one_of (statuses.TooMany k) (statuses.ReadFault n) a b = absurd b
     one_of (statuses.TooMany k) statuses.WriteFault a b = absurd b
@@ -132,6 +147,7 @@ module _ (asked : Asked) (held : List ℕ → Option (List ℕ)) where
     one_of (statuses.TooLong m) statuses.Done a b = absurd (never_stops b.0 m a.0)
     one_of (statuses.TooLong m) statuses.Usage a b = absurd b
     one_of (statuses.TooLong m) (statuses.BadInput n f) a b = absurd (short_and_long n m b.0 a.0 b.1 a.1)
+    one_of (statuses.TooLong m) (statuses.Class f r x) a b = absurd (never_stops b.0 m a.0)
     one_of (statuses.TooLong m) (statuses.TooMany l) a b = absurd (never_stops b.0 m a.0)
     one_of (statuses.TooLong m) (statuses.ReadFault n) a b = absurd b
     one_of (statuses.TooLong m) statuses.WriteFault a b = absurd b
@@ -177,7 +193,8 @@ module _ (asked : Asked) (held : List ℕ → Option (List ℕ)) where
             b.given.0,
             f,
           )
-      says (statuses.TooMany limit) e = (λ n kind is. e.earlier n kind (all_before n kind is) is, e.cause.0, e.cause.1)
+      says (statuses.Class file rule fault) e = (λ n kind is. e.earlier n kind (all_before n kind is) is, e.cause)
+      says (statuses.TooMany limit) e = (λ n kind is. e.earlier.0 n kind (all_before n kind is) is, e.cause.0, e.cause.1, inside_told asked held told e.earlier.1)
       says (statuses.ReadFault n) e = e.calm.files n e.cause
       says statuses.WriteFault e = e.calm.out e.cause.1
       says (statuses.TooLong n) e =

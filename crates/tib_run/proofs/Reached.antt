@@ -17,8 +17,10 @@ use Rattle.tib_run.specs.declared.status.Status.TheVariants as statuses
 use Rattle.tib_run.specs.Kinds.{Kind, kind_at, kinds_of, file_at, bytes_at, OfName, OfFile, Told, IsShort, ValueOf, IsTextOf, IsOfKind, ValuesOf, AreTexts, HasFault}
 use Rattle.tib_run.specs.Answers.{IsResultOf, IsAnswer, IsAnswerOf}
 use Rattle.tib_run.specs.Made.{IsMadeFault}
-use Rattle.tib_run.specs.Causes.{HasCause, AreBefore, HasEarlier, IsAbout, IsEarly, MakesTooMuch, makes, bytes_of, file_count, scale_of, product_of, scale_by}
+use Rattle.tib_run.specs.Causes.{HasCause, AreBefore, HasEarlier, IsAbout, IsEarly, BreaksClass, MeetsClass, MakesTooMuch, makes, demanded, bytes_of, file_count, scale_of, product_of, scale_by}
+use Rattle.tib_run.specs.Classes.{Demanded, IsMet, IsClassFault}
 use Rattle.tib_run.proofs.FileValues.{told_grown, kinds_told}
+use Rattle.tib_run.proofs.MadeParts.{made_earlier}
 
 -- the name of a file by its place among the job's files
 pub name_at : {A : Type 0} (f : A → List ℕ) (xs : List A) (i : ℕ) (x : A) → i < length xs → x ≡ get_or xs i x → slice_get (map f xs) i ≡ Some (f x)
@@ -67,6 +69,7 @@ pub cause_earlier :
 cause_earlier job held before middle now a b statuses.Done up h = h
 cause_earlier job held before middle now a b statuses.Usage up h = h
 cause_earlier job held before middle now a b (statuses.BadInput n fault) up h = h
+cause_earlier job held before middle now a b (statuses.Class n rule fault) up h = h
 cause_earlier job held before middle now a b (statuses.TooMany limit) up h = h
 cause_earlier job held before middle now a b (statuses.ReadFault n) up h =
     name_map (file_at job n) (λ name. Rose (middle name) (now name)) (λ name. Rose (before name) (now name)) (λ name r. omega (arith, up name, r)) h
@@ -101,16 +104,29 @@ pub about_early : (file : ℕ) (s : Status) → IsAbout file s → IsEarly s
 about_early file statuses.Done h = absurd h
 about_early file statuses.Usage h = absurd h
 about_early file (statuses.BadInput n fault) h = tt
+about_early file (statuses.Class n rule fault) h = absurd h
 about_early file (statuses.TooMany limit) h = tt
 about_early file (statuses.ReadFault n) h = tt
 about_early file statuses.WriteFault h = absurd h
 about_early file (statuses.TooLong n) h = tt
 about_early file statuses.OutOfMemory h = tt
 
+pub class_early : (demanded : Option Demanded) (s : Status) → IsClassFault demanded s → IsEarly s
+class_early demanded statuses.Done h = absurd h
+class_early demanded statuses.Usage h = absurd h
+class_early demanded (statuses.BadInput n fault) h = absurd h
+class_early demanded (statuses.Class n rule fault) h = tt
+class_early demanded (statuses.TooMany limit) h = absurd h
+class_early demanded (statuses.ReadFault n) h = absurd h
+class_early demanded statuses.WriteFault h = absurd h
+class_early demanded (statuses.TooLong n) h = absurd h
+class_early demanded statuses.OutOfMemory h = absurd h
+
 pub about_earlier : (job : Option Asked) (held : List ℕ → Option (List ℕ)) (file : ℕ) (s : Status) → IsAbout file s → AreBefore job held file → HasEarlier job held s
 about_earlier job held file statuses.Done h b = tt
 about_earlier job held file statuses.Usage h b = tt
 about_earlier job held file (statuses.BadInput n fault) h b = subst (AreBefore job held) (sym h) b
+about_earlier job held file (statuses.Class n rule fault) h b = absurd h
 about_earlier job held file (statuses.TooMany limit) h b = absurd h
 about_earlier job held file (statuses.ReadFault n) h b = subst (AreBefore job held) (sym h) b
 about_earlier job held file statuses.WriteFault h b = tt
@@ -164,6 +180,7 @@ module _
   made_cause before now a b statuses.Done h = absurd h
   made_cause before now a b statuses.Usage h = absurd h
   made_cause before now a b (statuses.BadInput m fault) h = absurd h
+  made_cause before now a b (statuses.Class m rule fault) h = absurd h
   made_cause before now a b (statuses.TooMany n) h =
       let much : MakesTooMuch o scale product asked.limit (bytes_of asked held) = record { labels = labels; values = values; texts = texts; more = h.1 } in (
         sym h.0,
@@ -176,10 +193,43 @@ module _
   made_cause before now a b (statuses.TooLong m) h = absurd h
   made_cause before now a b statuses.OutOfMemory h = tt
 
+  -- it comes where all files are of their kinds and of the class that is demanded
+  pub made_first : (s : Status) → IsMet (demanded o values) → IsMadeFault (makes o product asked.limit values).more asked.limit s → HasEarlier (Some asked) held s
+  made_first s met h =
+      let own : MeetsClass o scale (bytes_of asked held) = record { labels = labels; values = values; texts = texts; met = met } in
+      made_earlier (makes o product asked.limit values).more asked.limit (Some asked) held s h all_are
+      (subst (λ (q : Operation). MeetsClass q (scale_of asked.mode) (bytes_of asked held)) (sym op) (subst (λ (w : Scale). MeetsClass o w (bytes_of asked held)) we own))
+
+  -- that a rule is outside this class is a cause
+  pub class_cause : (before now : List ℕ → ℕ) (a b : ℕ) (s : Status) → IsClassFault (demanded o values) s → HasCause (Some asked) held before now a b s
+  class_cause before now a b statuses.Done h = absurd h
+  class_cause before now a b statuses.Usage h = absurd h
+  class_cause before now a b (statuses.BadInput m fault) h = absurd h
+  class_cause before now a b (statuses.Class m rule fault) h =
+      let own : BreaksClass o scale (bytes_of asked held) m (rule, fault) = record { labels = labels; values = values; texts = texts; broken = h } in
+      subst (λ (q : Operation). BreaksClass q (scale_of asked.mode) (bytes_of asked held) m (rule, fault)) (sym op)
+      (subst (λ (w : Scale). BreaksClass o w (bytes_of asked held) m (rule, fault)) we own)
+  class_cause before now a b (statuses.TooMany n) h = absurd h
+  class_cause before now a b (statuses.ReadFault m) h = absurd h
+  class_cause before now a b statuses.WriteFault h = absurd h
+  class_cause before now a b (statuses.TooLong m) h = absurd h
+  class_cause before now a b statuses.OutOfMemory h = absurd h
+
+  pub class_first : (s : Status) → IsClassFault (demanded o values) s → HasEarlier (Some asked) held s
+  class_first statuses.Done h = absurd h
+  class_first statuses.Usage h = absurd h
+  class_first (statuses.BadInput m fault) h = absurd h
+  class_first (statuses.Class m rule fault) h = all_are
+  class_first (statuses.TooMany n) h = absurd h
+  class_first (statuses.ReadFault m) h = absurd h
+  class_first statuses.WriteFault h = absurd h
+  class_first (statuses.TooLong m) h = absurd h
+  class_first statuses.OutOfMemory h = absurd h
+
   -- and the result on them is an answer
-  pub made_answer : (text : List ℕ) → (makes o product asked.limit values).within → IsResultOf o scale product asked.limit labels values text → IsAnswer asked held text
-  made_answer text within is =
-      let answers : IsAnswerOf o scale product asked.limit (bytes_of asked held) text = record { labels = labels; values = values; texts = texts; within = within; result_is = is } in
+  pub made_answer : (text : List ℕ) → IsMet (demanded o values) → (makes o product asked.limit values).within → IsResultOf o scale product asked.limit labels values text → IsAnswer asked held text
+  made_answer text met within is =
+      let answers : IsAnswerOf o scale product asked.limit (bytes_of asked held) text = record { labels = labels; values = values; texts = texts; met = met; within = within; result_is = is } in
       subst (λ (q : Operation). IsAnswerOf q (scale_of asked.mode) (product_of asked.mode) asked.limit (bytes_of asked held) text) (sym op)
       (subst (λ (p : ℕ → ℕ → ℕ). IsAnswerOf o (scale_of asked.mode) p asked.limit (bytes_of asked held) text) pe
       (subst (λ (w : Scale). IsAnswerOf o w product asked.limit (bytes_of asked held) text) we answers))

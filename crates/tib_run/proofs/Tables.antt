@@ -259,15 +259,15 @@ relabel_itself {A} f same (tree s kids rest) =
     ∙ ap (λ (x : Trees A). tree s x (relabel f rest)) (relabel_itself f same kids)
     ∙ ap (λ (x : Trees A). tree s kids x) (relabel_itself f same rest)
 
-tree_itself : {A : Type 0} (f : A → A) → ((x : A) → f x ≡ x) → (t : Tree A) → relabel_tree f t ≡ t
+pub tree_itself : {A : Type 0} (f : A → A) → ((x : A) → f x ≡ x) → (t : Tree A) → relabel_tree f t ≡ t
 tree_itself {A} f same t =
     ap (λ (x : A). record { label = x; kids = relabel f t.kids }) (same t.label) ∙ ap (λ (x : Trees A). record { label = t.label; kids = x }) (relabel_itself f same t.kids)
 
-all_itself : {A : Type 0} (f : A → A) → ((x : A) → f x ≡ x) → (xs : List A) → map f xs ≡ xs
+pub all_itself : {A : Type 0} (f : A → A) → ((x : A) → f x ≡ x) → (xs : List A) → map f xs ≡ xs
 all_itself f same [] = refl
 all_itself {A} f same (x ∷ xs) = ap (λ (y : A). y ∷ map f xs) (same x) ∙ ap (λ (ys : List A). x ∷ ys) (all_itself f same xs)
 
-rules_itself : (rules : List (Rule ℕ)) → rules_with (λ i. i) rules ≡ rules
+pub rules_itself : (rules : List (Rule ℕ)) → rules_with (λ i. i) rules ≡ rules
 rules_itself rules =
     all_itself (rule_with (λ i. i))
     (λ r. ap (λ (s : Side ℕ ℕ). record { left = r.left; right = s; cost = r.cost }) (tree_itself (symbol_with (λ i. i)) symbol_itself r.right)) rules

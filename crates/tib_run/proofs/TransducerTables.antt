@@ -1,15 +1,14 @@
 -- A transducer file that was read over one table of labels is read over each other one that has its labels, by other numbers.
 use Rattle.tib_cost.specs.declared.Scale.{Scale}
-use Rattle.std.proofs.Common.{◌≡◌, ℕ, ◌≤◌, List, [], ◌∷◌, ◌++◌, length, map, refl, ap, sym, ◌∙◌, subst, arith, suc, Option}
+use Rattle.std.proofs.Common.{◌≡◌, ℕ, List, [], ◌∷◌, ◌++◌, length, map, refl, ap, sym, ◌∙◌, subst, arith, suc, Option}
 use Rattle.std.specs.Prelude.{Some, None, slice_get, option_map}
 use Rattle.std.proofs.lemmas.List.{length-map, map-append}
 use Rattle.tib_lex.specs.Lists.{Along, Each}
 use Rattle.tib_tree.specs.Grows.{Grows, AreDistinct}
-use Rattle.tib_tree.specs.Nodes.{rank_of}
-use Rattle.tib_tree.specs.Trees.{Tree, Trees, none, tree, only, count, preorder, preorder_of, relabel, relabel_tree, most_nodes}
+use Rattle.tib_tree.specs.Trees.{Tree, Trees, none, tree, only, count, preorder, preorder_of, relabel, relabel_tree}
 use Rattle.tib_tree.specs.Written.{Item}
 use Rattle.tib_tree.proofs.Growing.{grows_not}
-use Rattle.tib_grammar.specs.Sides.{Symbol, label, hole, Side, holes}
+use Rattle.tib_grammar.specs.Sides.{Symbol, label, hole, holes}
 use Rattle.tib_grammar.proofs.Renamed.{preorder-relabel}
 use Rattle.tib_grammar_file.proofs.Alongs.{along_changes}
 use Rattle.tib_transducer.specs.Range.{AreNumbered}
@@ -27,18 +26,20 @@ use Rattle.tib_run.proofs.Tables.{all_more, moved, moves}
 
 -- a transducer with each label exchanged for another
 
-abbrev variable_with : (ℕ → ℕ) → Variable → Variable
+abbrev pub variable_with : (ℕ → ℕ) → Variable → Variable
 variable_with f x = record { number = x.number; label = option_map f x.label }
 
-abbrev left_with : (ℕ → ℕ) → Symbol ℕ Variable → Symbol ℕ Variable
-left_with f (label g) = label (f g)
-left_with f (hole x) = hole (variable_with f x)
+abbrev pub node_with : {P : Type 0} → (ℕ → ℕ) → (P → P) → Symbol ℕ P → Symbol ℕ P
+node_with f r (label g) = label (f g)
+node_with f r (hole x) = hole (r x)
 
-abbrev right_with : (ℕ → ℕ) → Symbol ℕ (Pair ℕ) → Symbol ℕ (Pair ℕ)
-right_with f (label g) = label (f g)
-right_with f (hole x) = hole x
+abbrev pub left_with : (ℕ → ℕ) → Symbol ℕ Variable → Symbol ℕ Variable
+left_with f s = node_with f (variable_with f) s
 
-abbrev rule_with : (ℕ → ℕ) → TransducerRule ℕ → TransducerRule ℕ
+abbrev pub right_with : (ℕ → ℕ) → Symbol ℕ (Pair ℕ) → Symbol ℕ (Pair ℕ)
+right_with f s = node_with f (λ x. x) s
+
+abbrev pub rule_with : (ℕ → ℕ) → TransducerRule ℕ → TransducerRule ℕ
 rule_with f r = record { state = r.state; left = relabel_tree (left_with f) r.left; right = relabel_tree (right_with f) r.right; cost = r.cost }
 
 abbrev transducer_with : (ℕ → ℕ) → TransducerOf → TransducerOf
@@ -58,14 +59,17 @@ preorder_with g t =
 as_long : {A B : Type 0} (g : A → B) (t : Tree A) → length (preorder_of (relabel_tree g t)) ≡ length (preorder_of t)
 as_long g t = ap length (preorder_with g t) ∙ length-map (preorder_of t) (λ p. (g p.0, p.1))
 
+pub holes_noted : {P : Type 0} (f : ℕ → ℕ) (r : P → P) (ts : Trees (Symbol ℕ P)) → holes (relabel (node_with f r) ts) ≡ map r (holes ts)
+holes_noted f r none = refl
+holes_noted {P} f r (tree (label g) kids rest) =
+    ap (λ (xs : List P). xs ++ holes (relabel (node_with f r) rest)) (holes_noted f r kids)
+    ∙ ap (λ (xs : List P). map r (holes kids) ++ xs) (holes_noted f r rest)
+    ∙ sym (map-append r (holes kids) (holes rest))
+holes_noted {P} f r (tree (hole x) kids rest) = ap (λ (xs : List P). r x ∷ xs) (holes_noted f r rest)
+
 module _ (f : ℕ → ℕ) where
-  variables_with : (ts : Trees (Symbol ℕ Variable)) → holes (relabel (left_with f) ts) ≡ map (variable_with f) (holes ts)
-  variables_with none = refl
-  variables_with (tree (label g) kids rest) =
-      ap (λ (xs : List Variable). xs ++ holes (relabel (left_with f) rest)) (variables_with kids)
-      ∙ ap (λ (xs : List Variable). map (variable_with f) (holes kids) ++ xs) (variables_with rest)
-      ∙ sym (map-append (variable_with f) (holes kids) (holes rest))
-  variables_with (tree (hole x) kids rest) = ap (λ (xs : List Variable). variable_with f x ∷ xs) (variables_with rest)
+  pub variables_with : (ts : Trees (Symbol ℕ Variable)) → holes (relabel (left_with f) ts) ≡ map (variable_with f) (holes ts)
+  variables_with ts = holes_noted f (variable_with f) ts
 
   numbered_with : (n : ℕ) (xs : List Variable) → AreNumbered n xs → AreNumbered n (map (variable_with f) xs)
   numbered_with n [] h = tt

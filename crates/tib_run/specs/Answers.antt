@@ -9,11 +9,14 @@ use Rattle.tib_command.specs.declared.job.Operation.TheVariants as operations
 use Rattle.tib_run.specs.declared.status.Status.{Status}
 use Rattle.tib_run.specs.declared.status.Status.TheVariants as statuses
 use Rattle.tib_run.specs.Kinds.{Kind, kind_at, kinds_of, file_at, bytes_at, OfName, IsShort, IsOfKind, ValuesOf, AreTexts}
-use Rattle.tib_run.specs.Causes.{scale_of, product_of, makes, bytes_of, HasCause, HasEarlier, IsTooMuch, IsWithin}
+use Rattle.tib_run.specs.Causes.{scale_of, product_of, makes, demanded, bytes_of, HasCause, HasEarlier, IsTooMuch, IsWithin, IsInClass}
+use Rattle.tib_run.specs.Classes.{IsMet}
 use Rattle.tib_run.specs.Weigh.{IsWeighed}
 use Rattle.tib_run.specs.Inside.{HasInsides}
 use Rattle.tib_run.specs.Normal.{HasNormalText}
 use Rattle.tib_run.specs.Intersect.{HasIntersectionText}
+use Rattle.tib_run.specs.Forward.{HasForwardText}
+use Rattle.tib_run.specs.Backward.{HasBackwardText}
 use Rattle.tib_run.specs.Check.{HasClasses}
 
 -- the text answers the operation on these values of its files
@@ -22,14 +25,18 @@ IsResultOf operations.Weigh scale product limit labels values text = IsWeighed s
 IsResultOf operations.Inside scale product limit labels values text = HasInsides scale product values.0 text
 IsResultOf operations.Normal scale product limit labels values text = HasNormalText scale product limit labels values.0 text
 IsResultOf operations.Intersect scale product limit labels values text = HasIntersectionText scale product limit labels values.0 values.1.0 text
+IsResultOf operations.Forward scale product limit labels values text = HasForwardText scale product limit labels values.0 values.1.0 text
+IsResultOf operations.Backward scale product limit labels values text = HasBackwardText scale product limit labels values.0 values.1.0 text
 IsResultOf operations.Check scale product limit labels values text = HasClasses values.0 text
 
--- The text answers the operation on files with these bytes: they are the texts of values, what is made of these is within
--- the limit, and the text answers the operation on them. Nothing is said of a file whose bytes are not told.
+-- The text answers the operation on files with these bytes: they are the texts of values, which are of the class that is
+-- demanded, what is made of these is within the limit, and the text answers the operation on them. Nothing is said of a file
+-- whose bytes are not told.
 pub record IsAnswerOf (operation : Operation) (scale : Scale) (product : ℕ → ℕ → ℕ) (limit : ℕ) (bytes : ℕ → Option (List ℕ)) (text : List ℕ) : Type 0 where
   pub labels : List (List ℕ)
   pub values : ValuesOf (kinds_of operation)
   pub texts : AreTexts scale labels bytes (kinds_of operation) values
+  pub met : IsMet (demanded operation values)
   pub within : (makes operation product limit values).within
   pub result_is : IsResultOf operation scale product limit labels values text
 
@@ -46,6 +53,8 @@ NeedsOf operations.Weigh product limit = Unit {0}
 NeedsOf operations.Inside product limit = Unit {0}
 NeedsOf operations.Normal product limit = MeetsLaws product limit
 NeedsOf operations.Intersect product limit = MeetsLaws product limit
+NeedsOf operations.Forward product limit = MeetsLaws product limit
+NeedsOf operations.Backward product limit = MeetsLaws product limit
 NeedsOf operations.Check product limit = Unit {0}
 
 -- the text answers the job
@@ -66,10 +75,12 @@ abbrev pub AreOfTheirKinds : Asked → (List ℕ → Option (List ℕ)) → Type
 AreOfTheirKinds asked held =
     (n : ℕ) (kind : Kind) → kind_at (Some asked) n ≡ Some kind → OfName (bytes_at held (file_at (Some asked) n)) (IsOfKind (scale_of asked.mode) kind)
 
--- each file of a job is told, not too long and of its kind, and what the job makes is within the limit
+-- each file of a job is told, not too long and of its kind, and of the class that the operation demands, and what the job makes
+-- is within the limit
 pub record IsAnswerable (asked : Asked) (held : List ℕ → Option (List ℕ)) : Type 0 where
   pub short : (n : ℕ) (name : List ℕ) → file_at (Some asked) n ≡ Some name → OfName (held name) IsShort
   pub kinds : AreOfTheirKinds asked held
+  pub class : IsInClass asked held
   pub within : IsWithin asked held
 
 -- no count of a file of the job rose, nor that of the output

@@ -4,6 +4,7 @@ use Rattle.tib_cost.specs.declared.Scale.TheVariants as scales
 use Rattle.std.specs.Prelude.{◌≡◌, ℕ, ◌+◌, max, ◌<◌, List, length, Option, Some, None, IfSome, IsSome}
 use Rattle.std.proofs.Common.{suc}
 use Rattle.tib_io.specs.Causes.{Rose}
+use Rattle.tib_classes.specs.declared.error.ClassFault.{ClassFault}
 use Rattle.tib_command.specs.Jobs.{Asked}
 use Rattle.tib_command.specs.declared.job.Mode.{Mode}
 use Rattle.tib_command.specs.declared.job.Mode.TheVariants as modes
@@ -15,7 +16,10 @@ use Rattle.tib_run.specs.Weigh.{weigh_makes}
 use Rattle.tib_run.specs.Inside.{inside_makes}
 use Rattle.tib_run.specs.Normal.{normal_makes}
 use Rattle.tib_run.specs.Intersect.{intersect_makes}
+use Rattle.tib_run.specs.Forward.{forward_makes, forward_demands}
+use Rattle.tib_run.specs.Backward.{backward_makes, backward_demands}
 use Rattle.tib_run.specs.Check.{check_makes}
+use Rattle.tib_run.specs.Classes.{Demanded, IsMet, IsBroken}
 use Rattle.tib_run.specs.declared.status.Status.{Status}
 use Rattle.tib_run.specs.declared.status.Status.TheVariants as statuses
 
@@ -43,7 +47,19 @@ makes operations.Weigh product limit values = weigh_makes product limit values.0
 makes operations.Inside product limit values = inside_makes
 makes operations.Normal product limit values = normal_makes product limit values.0
 makes operations.Intersect product limit values = intersect_makes product limit values.0 values.1.0
+makes operations.Forward product limit values = forward_makes product limit values.0 values.1.0
+makes operations.Backward product limit values = backward_makes product limit values.0 values.1.0
 makes operations.Check product limit values = check_makes
+
+-- what class an operation demands of which file
+abbrev pub demanded : (operation : Operation) → ValuesOf (kinds_of operation) → Option Demanded
+demanded operations.Weigh values = None
+demanded operations.Inside values = None
+demanded operations.Normal values = None
+demanded operations.Intersect values = None
+demanded operations.Forward values = forward_demands values.1.0
+demanded operations.Backward values = backward_demands values.0
+demanded operations.Check values = None
 
 -- Files are the texts of values of which an operation makes something with more parts than the limit.
 pub record MakesTooMuch (operation : Operation) (scale : Scale) (product : ℕ → ℕ → ℕ) (limit : ℕ) (bytes : ℕ → Option (List ℕ)) : Type 0 where
@@ -57,6 +73,26 @@ abbrev pub StaysWithin : Operation → Scale → (ℕ → ℕ → ℕ) → ℕ �
 StaysWithin operation scale product limit bytes =
     (labels : List (List ℕ)) (values : ValuesOf (kinds_of operation)) → AreTexts scale labels bytes (kinds_of operation) values →
     (makes operation product limit values).within
+
+-- Files are the texts of values that are not of the class that an operation demands, and this is the first rule that is not.
+pub record BreaksClass (operation : Operation) (scale : Scale) (bytes : ℕ → Option (List ℕ)) (file : ℕ) (found : ℕ × ClassFault) : Type 0 where
+  pub labels : List (List ℕ)
+  pub values : ValuesOf (kinds_of operation)
+  pub texts : AreTexts scale labels bytes (kinds_of operation) values
+  pub broken : IsBroken (demanded operation values) file found
+
+-- Files are the texts of values that are of that class.
+pub record MeetsClass (operation : Operation) (scale : Scale) (bytes : ℕ → Option (List ℕ)) : Type 0 where
+  pub labels : List (List ℕ)
+  pub values : ValuesOf (kinds_of operation)
+  pub texts : AreTexts scale labels bytes (kinds_of operation) values
+  pub met : IsMet (demanded operation values)
+
+-- whatever values the files are the texts of, they are of that class
+abbrev pub StaysInClass : Operation → Scale → (ℕ → Option (List ℕ)) → Type 0
+StaysInClass operation scale bytes =
+    (labels : List (List ℕ)) (values : ValuesOf (kinds_of operation)) → AreTexts scale labels bytes (kinds_of operation) values →
+    IsMet (demanded operation values)
 
 -- the bytes of the files of a job, counted from 0, where they are told
 abbrev pub bytes_of : Asked → (List ℕ → Option (List ℕ)) → ℕ → Option (List ℕ)
@@ -72,18 +108,36 @@ abbrev pub IsWithin : Asked → (List ℕ → Option (List ℕ)) → Type 0
 IsWithin asked held =
     StaysWithin asked.task.operation (scale_of asked.mode) (product_of asked.mode) asked.limit (bytes_of asked held)
 
+-- the files of the job are of the class that its operation demands
+abbrev pub IsInClass : Asked → (List ℕ → Option (List ℕ)) → Type 0
+IsInClass asked held = StaysInClass asked.task.operation (scale_of asked.mode) (bytes_of asked held)
+
+-- this rule of this file is the first that is not
+abbrev pub IsOutOfClass : Asked → (List ℕ → Option (List ℕ)) → ℕ → ℕ × ClassFault → Type 0
+IsOutOfClass asked held file found = BreaksClass asked.task.operation (scale_of asked.mode) (bytes_of asked held) file found
+
+abbrev pub HasOutside : Option Asked → (List ℕ → Option (List ℕ)) → ℕ → ℕ × ClassFault → Type 0
+HasOutside None held file found = ⊥
+HasOutside (Some asked) held file found = IsOutOfClass asked held file found
+
+-- no class is broken
+abbrev pub HasClass : Option Asked → (List ℕ → Option (List ℕ)) → Type 0
+HasClass None held = ⊥
+HasClass (Some asked) held = MeetsClass asked.task.operation (scale_of asked.mode) (bytes_of asked held)
+
 abbrev pub HasTooMany : Option Asked → (List ℕ → Option (List ℕ)) → ℕ → Type 0
 HasTooMany None held limit = ⊥
 HasTooMany (Some asked) held limit = (asked.limit ≡ limit) × IsTooMuch asked held
 
 -- Each answer comes only with its cause: words that are no command, a count of faults that rose in this run, a file that
--- is too long, the first fault of a file that is not, or a normal form or a reached set with more parts than the limit of
--- the job. Want of memory may stand at any place.
+-- is too long, the first fault of a file that is not, the first rule outside the class that the operation demands, or a normal
+-- form or a reached set with more parts than the limit of the job. Want of memory may stand at any place.
 abbrev pub HasCause : Option Asked → (List ℕ → Option (List ℕ)) → (List ℕ → ℕ) → (List ℕ → ℕ) → ℕ → ℕ → Status → Type 0
 HasCause job held before now out_before out_now statuses.Done = IsSome job
 HasCause job held before now out_before out_now statuses.Usage = job ≡ None
 HasCause job held before now out_before out_now (statuses.BadInput file fault) =
     OfFile job file (Told held (λ bytes. IsShort bytes × HasFault (scale_by job) (kind_at job file) bytes fault))
+HasCause job held before now out_before out_now (statuses.Class file rule fault) = HasOutside job held file (rule, fault)
 HasCause job held before now out_before out_now (statuses.TooMany limit) = HasTooMany job held limit
 HasCause job held before now out_before out_now (statuses.ReadFault file) = OfFile job file (λ name. Rose (before name) (now name))
 HasCause job held before now out_before out_now statuses.WriteFault = IsSome job × Rose out_before out_now
@@ -98,12 +152,14 @@ abbrev pub file_count : Option Asked → ℕ
 file_count None = 0
 file_count (Some asked) = length (kinds_of asked.task.operation)
 
--- an answer about a file comes only where the files before it are of their kinds, and one about the parts where all are
+-- an answer about a file comes only where the files before it are of their kinds, one about a class where all are, and one about
+-- the parts where all are and no class is broken
 abbrev pub HasEarlier : Option Asked → (List ℕ → Option (List ℕ)) → Status → Type 0
 HasEarlier job held (statuses.BadInput file fault) = AreBefore job held file
 HasEarlier job held (statuses.ReadFault file) = AreBefore job held file
 HasEarlier job held (statuses.TooLong file) = AreBefore job held file
-HasEarlier job held (statuses.TooMany limit) = AreBefore job held (file_count job + 1)
+HasEarlier job held (statuses.Class file rule fault) = AreBefore job held (file_count job + 1)
+HasEarlier job held (statuses.TooMany limit) = AreBefore job held (file_count job + 1) × HasClass job held
 HasEarlier job held status = Unit {0}
 
 -- an answer about one file, or want of memory

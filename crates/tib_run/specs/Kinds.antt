@@ -28,6 +28,8 @@ kinds_of operations.Weigh = of_grammar ∷ of_trees ∷ []
 kinds_of operations.Inside = of_grammar ∷ []
 kinds_of operations.Normal = of_grammar ∷ []
 kinds_of operations.Intersect = of_grammar ∷ of_grammar ∷ []
+kinds_of operations.Forward = of_grammar ∷ of_transducer ∷ []
+kinds_of operations.Backward = of_transducer ∷ of_grammar ∷ []
 kinds_of operations.Check = of_transducer ∷ []
 
 -- what the n-th file of a job holds, from 1 on

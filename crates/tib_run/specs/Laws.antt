@@ -1,10 +1,11 @@
 -- What holds of the answers of operations and of jobs.
 use Rattle.tib_cost.specs.declared.Scale.{Scale}
 use Rattle.std.specs.Prelude.{◌≡◌, ℕ, List, Option, Some}
+use Rattle.tib_classes.specs.declared.error.ClassFault.{ClassFault}
 use Rattle.tib_command.specs.Jobs.{Asked, job_of}
 use Rattle.tib_command.specs.declared.job.Operation.{Operation}
 use Rattle.tib_run.specs.Kinds.{kinds_of, AreOfKinds, AreAllTold}
-use Rattle.tib_run.specs.Causes.{StaysWithin, IsTooMuch, IsWithin}
+use Rattle.tib_run.specs.Causes.{StaysInClass, StaysWithin, IsInClass, IsOutOfClass, IsTooMuch, IsWithin}
 use Rattle.tib_run.specs.Answers.{IsAnswerOf, NeedsOf, IsAnswer, AreTold, AreOfTheirKinds, EndsCalmly, AreOneStatus}
 use Rattle.tib_run.specs.declared.status.Status.{Status}
 
@@ -15,12 +16,13 @@ TextsAreOne =
     AreAllTold (kinds_of operation) bytes → IsAnswerOf operation scale product limit bytes text →
     IsAnswerOf operation scale product limit bytes other → text ≡ other
 
--- where the files of an operation are of their kinds, and what it makes of them is within the limit, that no text answers
--- cannot be
+-- where the files of an operation are of their kinds and of the class that it demands, and what it makes of them is within the
+-- limit, that no text answers cannot be
 abbrev pub TextsExist : Type 0
 TextsExist =
     (operation : Operation) (scale : Scale) (product : ℕ → ℕ → ℕ) (limit : ℕ) (bytes : ℕ → Option (List ℕ)) →
-    NeedsOf operation product limit → AreOfKinds scale (kinds_of operation) bytes → StaysWithin operation scale product limit bytes →
+    NeedsOf operation product limit → AreOfKinds scale (kinds_of operation) bytes → StaysInClass operation scale bytes →
+    StaysWithin operation scale product limit bytes →
     ((text : List ℕ) → IsAnswerOf operation scale product limit bytes text → ⊥) → ⊥
 
 -- where the files of a job are told, one text answers it
@@ -46,23 +48,49 @@ IsWithinOrTooMuch =
     (asked : Asked) (held : List ℕ → Option (List ℕ)) → AreOfTheirKinds asked held → (IsWithin asked held → ⊥) →
     (IsTooMuch asked held → ⊥) → ⊥
 
--- where the files of a job that words ask for are of their kinds, and it is within its limit, that no text answers cannot be
+-- an answer is of files that are of the class that the job demands
+abbrev pub AnswersAreInClass : Type 0
+AnswersAreInClass =
+    (asked : Asked) (held : List ℕ → Option (List ℕ)) (text : List ℕ) → AreTold asked held → IsAnswer asked held text → IsInClass asked held
+
+-- files that are of this class have no rule outside it
+abbrev pub InClassIsNotOutside : Type 0
+InClassIsNotOutside =
+    (asked : Asked) (held : List ℕ → Option (List ℕ)) (file : ℕ) (found : ℕ × ClassFault) → IsInClass asked held →
+    IsOutOfClass asked held file found → ⊥
+
+-- where the files of a job are of their kinds, that they are neither of the class that it demands nor have a first rule outside it
+-- cannot be
+abbrev pub IsInClassOrOutside : Type 0
+IsInClassOrOutside =
+    (asked : Asked) (held : List ℕ → Option (List ℕ)) → AreOfTheirKinds asked held → (IsInClass asked held → ⊥) →
+    ((file : ℕ) (found : ℕ × ClassFault) → IsOutOfClass asked held file found → ⊥) → ⊥
+
+-- where the files of a job that words ask for are of their kinds and of the class that it demands, and it is within its limit, that
+-- no text answers cannot be
 abbrev pub JobsAreAnswered : Type 0
 JobsAreAnswered =
     (words : List (List ℕ)) (asked : Asked) (held : List ℕ → Option (List ℕ)) → job_of words ≡ Some asked →
-    AreOfTheirKinds asked held → IsWithin asked held → ((text : List ℕ) → IsAnswer asked held text → ⊥) → ⊥
+    AreOfTheirKinds asked held → IsInClass asked held → IsWithin asked held → ((text : List ℕ) → IsAnswer asked held text → ⊥) → ⊥
 
--- that it has neither an answer nor too many parts cannot be
+-- that it has neither an answer nor a rule outside that class nor too many parts cannot be
 abbrev pub JobsHaveOne : Type 0
 JobsHaveOne =
     (words : List (List ℕ)) (asked : Asked) (held : List ℕ → Option (List ℕ)) → job_of words ≡ Some asked →
-    AreOfTheirKinds asked held → ((text : List ℕ) → IsAnswer asked held text → ⊥) → (IsTooMuch asked held → ⊥) → ⊥
+    AreOfTheirKinds asked held → ((text : List ℕ) → IsAnswer asked held text → ⊥) →
+    ((file : ℕ) (found : ℕ × ClassFault) → IsOutOfClass asked held file found → ⊥) → (IsTooMuch asked held → ⊥) → ⊥
 
--- and it has not both
+-- an answer and too many parts it has not both
 abbrev pub JobsHaveNotBoth : Type 0
 JobsHaveNotBoth =
     (asked : Asked) (held : List ℕ → Option (List ℕ)) (text : List ℕ) → AreOfTheirKinds asked held → IsAnswer asked held text →
     IsTooMuch asked held → ⊥
+
+-- nor has it an answer and a rule outside that class
+abbrev pub JobsHaveNotOutside : Type 0
+JobsHaveNotOutside =
+    (asked : Asked) (held : List ℕ → Option (List ℕ)) (text : List ℕ) (file : ℕ) (found : ℕ × ClassFault) → AreOfTheirKinds asked held →
+    IsAnswer asked held text → IsOutOfClass asked held file found → ⊥
 
 -- a job whose files are told ends with one status in all runs in which no count rises and no memory is refused
 abbrev pub StatusesAreOne : Type 0

@@ -6,7 +6,11 @@ pub mod Made
 pub mod Weigh
 pub mod Inside
 pub mod Normal
+pub mod Classes
+pub mod Moves
 pub mod Intersect
+pub mod Forward
+pub mod Backward
 pub mod Check
 pub mod Causes
 pub mod Answers

@@ -3,6 +3,8 @@ use Rattle.std.specs.Prelude.{ℕ, List, [], ◌++◌, codes, decimal}
 use Rattle.tib_lex.specs.declared.fault.FaultKind.{FaultKind}
 use Rattle.tib_lex.specs.declared.fault.FaultKind.TheVariants as kinds
 use Rattle.tib_lex.specs.declared.fault.FileFault.{FileFault}
+use Rattle.tib_classes.specs.declared.error.ClassFault.{ClassFault}
+use Rattle.tib_classes.specs.declared.error.ClassFault.TheVariants as classes
 use Rattle.tib_run.specs.declared.status.Status.{Status}
 use Rattle.tib_run.specs.declared.status.Status.TheVariants as statuses
 
@@ -23,6 +25,16 @@ kind_words kinds.TooManyNodes = codes "too many nodes\n"
 abbrev pub fault_line : ℕ → FileFault → List ℕ
 fault_line file fault = (codes "tiburon: file " ++ decimal file ++ codes ": line ") ++ (decimal fault.line ++ codes ": " ++ kind_words fault.kind)
 
+-- the words of a class that a rule breaks, with the end of their line
+unfoldable pub class_words : ClassFault → List ℕ
+class_words classes.NotLinear = codes "not linear\n"
+class_words classes.NotNondeleting = codes "not nondeleting\n"
+class_words classes.Extended = codes "extended\n"
+class_words classes.Labelled = codes "labelled\n"
+
+abbrev pub class_line : ℕ → ℕ → ClassFault → List ℕ
+class_line file rule fault = (codes "tiburon: file " ++ decimal file ++ codes ": rule ") ++ (decimal rule ++ codes ": " ++ class_words fault)
+
 -- the line of a status that names no number
 unfoldable pub plain_line_of : Status → List ℕ
 plain_line_of statuses.Usage = codes "tiburon: usage: tiburon [-m MODE] [-k N] [-w N] [--limit N] OPERATION FILE...\n"
@@ -33,6 +45,7 @@ plain_line_of _ = []
 -- the line of a status, and nothing for the one of a run that is done
 abbrev pub line_of : Status → List ℕ
 line_of (statuses.BadInput file fault) = fault_line file fault
+line_of (statuses.Class file rule fault) = class_line file rule fault
 line_of (statuses.TooMany limit) = codes "tiburon: more than " ++ decimal limit ++ codes " parts\n"
 line_of (statuses.ReadFault file) = codes "tiburon: file " ++ decimal file ++ codes ": cannot be read\n"
 line_of (statuses.TooLong file) = codes "tiburon: file " ++ decimal file ++ codes ": longer than 8388608 bytes\n"

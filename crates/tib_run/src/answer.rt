@@ -7,7 +7,9 @@ ghost use Rattle.tib_run.specs.Causes.{HasCause, HasEarlier, IsEarly, scale_of, 
 ghost use Rattle.tib_run.specs.Run.{IsRunOf, files_seen, sink_seen};
 ghost use Rattle.tib_run.specs.Made.{IsLimit};
 
+use crate::backward::backward_files;
 use crate::check::check_file;
+use crate::forward::forward_files;
 use crate::inside::inside_of_file;
 use crate::intersect::intersect_files;
 use crate::laws::{files_have_no_fault, within_or_too_many};
@@ -46,6 +48,8 @@ fn text_of<S: Semiring + Sync + Drop, R: Threads + Sync, F: Files, G: Gate>(
         Operation::Inside => inside_of_file::<S, F>(alloc, job, files),
         Operation::Normal => normal_of_file::<S, F>(alloc, job, files),
         Operation::Intersect => intersect_files::<S, F, G>(alloc, job, files, gate),
+        Operation::Forward => forward_files::<S, F, G>(alloc, job, files, gate),
+        Operation::Backward => backward_files::<S, F, G>(alloc, job, files, gate),
         Operation::Check => check_file::<S, F>(alloc, job, files),
     }
 }

@@ -3,6 +3,7 @@ ghost use Rattle.std.specs.Prelude.{◌≡◌, ◌≤◌, ◌<◌, ◌+◌, ◌-
 ghost use Rattle.tib_io.specs.Causes.{GoesOn};
 ghost use Rattle.tib_command.specs.Jobs.{meaning};
 ghost use Rattle.tib_run.specs.Causes.{HasCause, IsAbout, scale_of};
+ghost use Rattle.tib_run.specs.Moves.{ArePlainMoves};
 ghost use Rattle.tib_run.specs.Kinds.{file_at, kind_at, OfFile, Told, IsShort, IsRead, ListsTrees, IsTransducerRead, of_grammar, of_trees, of_transducer};
 ghost use Rattle.tib_grammar_file.specs.Printable.{ArePrintable};
 ghost use Rattle.tib_tree.specs.Grows.{AreDistinct, Grows};
@@ -139,6 +140,7 @@ pub(crate) fn transducer_in<S: Semiring, F: Files>(
     requires room { length labels.old + 8388608 < 2 ^ 32 - 1 }
     ensures few { length labels.new ≤ length labels.old + 8388608 }
     ensures text { IfOk result (λ t. OfFile (Some (meaning job.now)) file (Told (F.held files.old) (IsTransducerRead S.SCALE labels.new t))) }
+    ensures plain { IfOk result (λ t. ArePlainMoves S.SCALE labels.new t.rules) }
     ensures grows { Grows labels.old labels.new }
     ensures cause { IfErr result (HasCause (Some (meaning job.now)) (F.held files.old) (F.faults files.old) (F.faults files.new) 0 0) }
     ensures about { IfErr result (IsAbout file) }

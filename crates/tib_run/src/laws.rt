@@ -2,6 +2,10 @@
 ghost use Rattle.tib_run.specs.Kinds.{KindsHaveNoFault};
 ghost use Rattle.tib_run.specs.Answers.{WithinIsNotTooMuch};
 ghost use Rattle.tib_run.specs.Laws.{
+  AnswersAreInClass,
+  InClassIsNotOutside,
+  IsInClassOrOutside,
+  JobsHaveNotOutside,
   TextsAreOne,
   TextsExist,
   AnswersAreOne,
@@ -50,18 +54,28 @@ pub fn within_or_too_many()
     ensures either { IsWithinOrTooMuch }
 {}
 
-/// Where the files of an operation are of their kinds, and what it makes of them is within the limit, it cannot be that no
-/// text answers. For `normal` and `intersect` the product meets its laws.
+/// Files of a job are of the class that its operation demands or have a first rule that is not: not both, where they are of their
+/// kinds it cannot be that neither holds, and an answer is of files of that class.
+pub fn in_class_or_outside()
+    ensures answers { AnswersAreInClass }
+    ensures apart { InClassIsNotOutside }
+    ensures either { IsInClassOrOutside }
+{}
+
+/// Where the files of an operation are of their kinds and of the class that it demands, and what it makes of them is within the
+/// limit, it cannot be that no text answers. Where a grammar is made the product meets its laws.
 pub fn answers_exist()
     ensures { TextsExist }
 {}
 
-/// Where the files of a job that words ask for are of their kinds, it has an answer or too many parts, and not both: what is
-/// within its limit cannot lack an answer, and that neither is there cannot be.
+/// Where the files of a job that words ask for are of their kinds, it has an answer, a rule outside the class that it demands, or
+/// too many parts, and an answer with neither of the others: what is of that class and within its limit cannot lack an answer,
+/// and that none of the three is there cannot be.
 pub fn jobs_have_answers()
     ensures within { JobsAreAnswered }
     ensures either { JobsHaveOne }
     ensures apart { JobsHaveNotBoth }
+    ensures outside { JobsHaveNotOutside }
 {}
 
 /// A job whose files are told ends with one status in all runs in which no count rises and no memory is refused.

@@ -4,10 +4,13 @@
 #![tactic(auto)]
 
 mod answer;
+mod backward;
 mod check;
+mod classes;
 mod command;
 mod files;
 mod forms;
+mod forward;
 mod inside;
 mod intersect;
 mod laws;
@@ -22,7 +25,8 @@ mod weigh;
 pub use command::{run, run_alone};
 pub use laws::{
     answers_are_one, answers_exclude_too_many, answers_exist, files_have_no_fault,
-    jobs_have_answers, runs_end_alike, statuses_are_one, texts_are_one, within_or_too_many,
+    in_class_or_outside, jobs_have_answers, runs_end_alike, statuses_are_one, texts_are_one,
+    within_or_too_many,
 };
 pub use log::tell;
 pub use status::Status;

@@ -1,10 +1,11 @@
 // The line on the log.
 ghost use Rattle.std.specs.Prelude.{◌≡◌, ◌++◌, decimal};
 ghost use Rattle.tib_tree.specs.Wrote.{Wrote};
-ghost use Rattle.tib_run.specs.Log.{kind_words, line_of, plain_line_of};
+ghost use Rattle.tib_run.specs.Log.{class_words, kind_words, line_of, plain_line_of};
 
 use crate::status::Status;
 use itoa::Buffer;
+use tib_classes::ClassFault;
 use tib_io::{Failed, Sink, write_whole};
 use tib_lex::FaultKind;
 
@@ -64,6 +65,19 @@ fn words_of(kind: FaultKind) -> &'static [u8]
     }
 }
 
+// The words of a class that a rule breaks, with the end of their line.
+#[tactic(auto, unfolding(crate::specs::Log::class_words))]
+fn words_of_class(fault: ClassFault) -> &'static [u8]
+    ensures { result.now ≡ class_words fault }
+{
+    match fault {
+        ClassFault::NotLinear => b"not linear\n",
+        ClassFault::NotNondeleting => b"not nondeleting\n",
+        ClassFault::Extended => b"extended\n",
+        ClassFault::Labelled => b"labelled\n",
+    }
+}
+
 // Writes a number and two pieces behind it.
 fn write_behind<W: Sink>(
     out: &mut W,
@@ -115,6 +129,15 @@ pub fn tell<W: Sink>(log: &mut W, status: &Status) -> Result<(), Failed>
             fault.line,
             b": ",
             words_of(fault.kind),
+        ),
+        Status::Class { file, rule, fault } => write_place(
+            log,
+            b"tiburon: file ",
+            file,
+            b": rule ",
+            rule,
+            b": ",
+            words_of_class(fault),
         ),
         Status::TooMany { limit } => {
             write_about(log, b"tiburon: more than ", limit, b" parts\n")

@@ -2,6 +2,7 @@
 ghost use Rattle.std.specs.Prelude.{◌≡◌};
 ghost use Rattle.tib_run.specs.Codes.{code_of};
 
+use tib_classes::ClassFault;
 use tib_lex::FileFault;
 
 /// How a run ended. `file` counts the files of the command from 1.
@@ -12,15 +13,30 @@ pub enum Status {
     /// The words are not in the word language.
     Usage,
     /// The bytes of a file are no value of its kind within the limits; this is its first fault.
-    BadInput { file: u32, fault: FileFault },
+    BadInput {
+        file: u32,
+        fault: FileFault,
+    },
+    /// The operation demands a class of the transducer of a file. This rule, counted from 1, is the first that is not of it.
+    Class {
+        file: u32,
+        rule: u32,
+        fault: ClassFault,
+    },
     /// A constructed object has more than `limit` parts.
-    TooMany { limit: u64 },
+    TooMany {
+        limit: u64,
+    },
     /// A read of a file failed.
-    ReadFault { file: u32 },
+    ReadFault {
+        file: u32,
+    },
     /// The output failed; a front of the text was written.
     WriteFault,
     /// A file has more than 8,388,608 bytes.
-    TooLong { file: u32 },
+    TooLong {
+        file: u32,
+    },
     /// Memory was refused; nothing was written.
     OutOfMemory,
 }
@@ -34,6 +50,7 @@ impl Status {
             Status::Done => 0,
             Status::Usage => 2,
             Status::BadInput { .. } => 3,
+            Status::Class { .. } => 4,
             Status::TooMany { .. } => 5,
             Status::ReadFault { .. } => 7,
             Status::WriteFault => 8,

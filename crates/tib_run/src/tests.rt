@@ -5,12 +5,14 @@ use std::test::Fail;
 use std::thread::Threads;
 use tib_lex::{FaultKind, FileFault};
 
+mod applied_rows;
 mod large;
 mod rows;
 mod running;
 mod transducer_rows;
 mod watched;
 
+use applied_rows::{BACKWARD, DELETED_FROM, DELETING, FORWARD, SWAPPED_FROM, SWAPPING};
 use rows::{BINARY, INTERSECTED, ONE_FILE, RIGHT, Row, WEIGHED, WIDEST};
 use running::{Outside, Ran, SOUND, run_words};
 use transducer_rows::CHECKED;
@@ -210,6 +212,18 @@ fn intersections_are_as_worked_out(rt: HostRuntime) -> Result<(), Fail> {
 }
 
 #[test]
+fn outputs_of_a_transducer_are_as_worked_out(rt: HostRuntime) -> Result<(), Fail> {
+    assert_eq!(rt; first_wrong(&rt, rt.alloc(), &FORWARD)?, None);
+    Ok(())
+}
+
+#[test]
+fn inputs_of_a_transducer_are_as_worked_out(rt: HostRuntime) -> Result<(), Fail> {
+    assert_eq!(rt; first_wrong(&rt, rt.alloc(), &BACKWARD)?, None);
+    Ok(())
+}
+
+#[test]
 fn classes_are_told_as_worked_out(rt: HostRuntime) -> Result<(), Fail> {
     assert_eq!(rt; first_wrong(&rt, rt.alloc(), &CHECKED)?, None);
     Ok(())
@@ -241,6 +255,33 @@ fn an_intersection_is_refused_below_its_parts(rt: HostRuntime) -> Result<(), Fai
         // Each of the two pairs passes the gate once.
         let passed = (ran.passes, ran.items);
         assert!(rt; limit < 14 || passed == (2, 1), "the gate: {passed:?}");
+    }
+    Ok(())
+}
+
+#[test]
+fn an_application_is_refused_below_its_parts(rt: HostRuntime) -> Result<(), Fail> {
+    let alloc = rt.alloc();
+    // The normal form has 13 parts, and the reached set 11; then 11 and 17.
+    for (operation, first, second, parts) in [
+        ("forward", DELETED_FROM, DELETING, 13),
+        ("backward", SWAPPING, SWAPPED_FROM, 17),
+    ] {
+        for limit in 1..=parts {
+            let option = format!(in alloc; "--limit={limit}")?;
+            let words = [option.as_str(), operation, "G", "T"];
+            let (left, right) = (
+                first.as_bytes().to_vec(alloc)?,
+                second.as_bytes().to_vec(alloc)?,
+            );
+            let ran = run_words(&rt, alloc, &words, left, right, SOUND)?;
+            let told = if limit < parts {
+                Status::TooMany { limit }
+            } else {
+                Status::Done
+            };
+            assert_eq!(rt; ran.status, told, "{operation} with the limit {limit}");
+        }
     }
     Ok(())
 }
@@ -279,6 +320,8 @@ fn files_are_as_long_as_they_may_be(rt: HostRuntime) -> Result<(), Fail> {
         ("normal", 8_388_609, Status::TooLong { file: 1 }),
         ("normal", 8_388_608, fault(1, FaultKind::NoStart)),
         ("intersect", 8_388_609, Status::TooLong { file: 1 }),
+        ("forward", 8_388_609, Status::TooLong { file: 1 }),
+        ("backward", 8_388_609, Status::TooLong { file: 1 }),
         ("check", 8_388_609, Status::TooLong { file: 1 }),
     ] {
         let ended = status_of(&rt, alloc, operation, length)?;

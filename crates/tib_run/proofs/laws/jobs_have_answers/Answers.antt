@@ -1,4 +1,4 @@
-use Rattle.tib_run.proofs.OfJobs.{job_answered, answered_or_more, answered_not_more}
+use Rattle.tib_run.proofs.OfJobs.{job_answered, answered_or_more, answered_not_more, answered_not_outside}
 use Rattle.tib_run.proofs.laws.jobs_have_answers.Goals as goal
 
 pub returns-clause-within : goal.returns-clause-within
@@ -9,3 +9,6 @@ returns-clause-either c words asked held is are = answered_or_more asked held wo
 
 pub returns-clause-apart : goal.returns-clause-apart
 returns-clause-apart c = answered_not_more
+
+pub returns-clause-outside : goal.returns-clause-outside
+returns-clause-outside c = answered_not_outside

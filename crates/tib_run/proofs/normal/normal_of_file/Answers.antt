@@ -1,11 +1,9 @@
 use Rattle.std.proofs.Common.{ℕ, List}
-use Rattle.std.specs.Prelude.{Option, Some}
+use Rattle.std.specs.Prelude.{Option}
 use Rattle.tib_command.specs.Jobs.{meaning}
 use Rattle.tib_command.specs.declared.job.Operation.TheVariants as operations
 use Rattle.tib_run.specs.Kinds.{of_grammar}
-use Rattle.tib_run.specs.Normal.{normal_makes}
-use Rattle.tib_run.proofs.MadeParts.{made_earlier}
-use Rattle.tib_run.proofs.Reached.{one_file, all_are, made_cause, made_answer}
+use Rattle.tib_run.proofs.Reached.{one_file, made_first, made_cause, made_answer}
 use Rattle.tib_run.proofs.normal.normal_of_file.Goals as goal
 
 pub returns-in-Err-canonical_normal-clause-cause : goal.returns-in-Err-canonical_normal-clause-cause
@@ -18,13 +16,13 @@ returns-in-Err-canonical_normal-clause-cause g c =
 pub returns-in-Err-canonical_normal-clause-earlier : goal.returns-in-Err-canonical_normal-clause-earlier
 returns-in-Err-canonical_normal-clause-earlier g c =
     let held : List ℕ → Option (List ℕ) = g.F.Files.held c.args.files.now in
-    made_earlier (normal_makes g.S.Semiring.product c.args.job.now.limit c.in-Ok.grammar).more c.args.job.now.limit (Some (meaning c.args.job.now)) held c.in-Err-canonical_normal.status c.in-Err-canonical_normal.ensures.err
-    (all_are (meaning c.args.job.now) held operations.Normal g.S.Semiring.SCALE g.S.Semiring.product c.grammar_in.new.labels (c.in-Ok.grammar, tt) c.requires.operation c.requires.mode c.requires.product
-    (one_file (meaning c.args.job.now) held g.S.Semiring.SCALE c.grammar_in.new.labels of_grammar c.in-Ok.grammar c.len.ensures.distinct c.in-Ok.ensures.text))
+    made_first (meaning c.args.job.now) held operations.Normal g.S.Semiring.SCALE g.S.Semiring.product c.grammar_in.new.labels (c.in-Ok.grammar, tt) c.requires.operation c.requires.mode c.requires.product
+    (one_file (meaning c.args.job.now) held g.S.Semiring.SCALE c.grammar_in.new.labels of_grammar c.in-Ok.grammar c.len.ensures.distinct c.in-Ok.ensures.text)
+    c.in-Err-canonical_normal.status tt c.in-Err-canonical_normal.ensures.err
 
 pub returns-clause-text : goal.returns-clause-text
 returns-clause-text g c =
     let held : List ℕ → Option (List ℕ) = g.F.Files.held c.args.files.now in
     made_answer (meaning c.args.job.now) held operations.Normal g.S.Semiring.SCALE g.S.Semiring.product c.grammar_in.new.labels (c.in-Ok.grammar, tt) c.requires.operation c.requires.mode c.requires.product
     (one_file (meaning c.args.job.now) held g.S.Semiring.SCALE c.grammar_in.new.labels of_grammar c.in-Ok.grammar c.len.ensures.distinct c.in-Ok.ensures.text)
-    c.in-Ok-canonical_normal.canonical.text.bytes c.in-Ok-canonical_normal.ensures.within c.in-Ok-canonical_normal.ensures.text
+    c.in-Ok-canonical_normal.canonical.text.bytes tt c.in-Ok-canonical_normal.ensures.within c.in-Ok-canonical_normal.ensures.text
