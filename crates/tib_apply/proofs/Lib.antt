@@ -9,3 +9,4 @@ pub mod Examples
 pub mod Reached
 pub mod Families
 pub mod Gathered
+pub mod Bucketing

@@ -7,6 +7,7 @@ mod error;
 mod image;
 mod key;
 pub mod laws;
+mod moves;
 mod preimage;
 mod restrictions;
 #[cfg(test)]
