@@ -10,3 +10,5 @@ pub mod Reached
 pub mod Families
 pub mod Gathered
 pub mod Bucketing
+pub mod NumberedSides
+pub mod ListedEdges

@@ -3,16 +3,21 @@
 //! proved of both stands here, for every semiring. It stands on `tib_transducer`, `tib_match`, `tib_inside` and `tib_hunt`.
 #![tactic(auto)]
 
+mod backward;
+mod edge_list;
 mod error;
+mod expand_backward;
 mod image;
 mod key;
 pub mod laws;
 mod moves;
+mod placing;
 mod preimage;
 mod restrictions;
 #[cfg(test)]
 mod tests;
 
+pub use backward::Backward;
 pub use error::ApplyError;
 pub use image::apply_forward;
 pub use key::Key;

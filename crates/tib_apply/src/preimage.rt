@@ -5,12 +5,14 @@ ghost use Rattle.tib_hunt.specs.Reached.{most_parts, IsBeyond};
 ghost use Rattle.tib_apply.specs.Applied.{IsReachedBy, HasPartsOf, AreOverOrder, IsApplyFault};
 ghost use Rattle.tib_apply.specs.Operations.{inverse_image};
 
+use crate::backward::Backward;
 use crate::error::ApplyError;
 use crate::key::Key;
 use std::alloc::Global;
+use tib_classes::ClassError;
 use tib_cost::Semiring;
 use tib_grammar::Rule;
-use tib_hunt::{Found, Gate};
+use tib_hunt::{Found, Gate, HuntError, hunt_alone};
 use tib_normal::Normal;
 use tib_transducer::Transducer;
 
@@ -22,7 +24,6 @@ pub fn apply_backward<S: Semiring, G: Gate>(
     limit: u64,
     gate: &G,
 ) -> Result<Found<Key, Rule<u32>>, ApplyError>
-    requires open { ⊥ }
     requires some { 1 ≤ limit }
     requires limit { limit ≤ most_parts }
     ensures class { IfOk result (λ _. AllMeet (demands true true false false) transducer.now.rules) }
@@ -35,6 +36,14 @@ pub fn apply_backward<S: Semiring, G: Gate>(
     ensures fault { let hunted = inverse_image S.product transducer.now.rules grammar.now.rules in
         IfErr result (IsApplyFault (demands true true false false) transducer.now.rules limit (IsBeyond hunted limit)) }
 {
-    let _unused = (alloc, grammar, transducer, limit, gate);
-    Err(ApplyError::OutOfMemory)
+    let backward = match Backward::new(alloc, transducer, grammar) {
+        Ok(backward) => backward,
+        Err(ClassError::Class { rule, fault }) => return Err(ApplyError::Class { rule, fault }),
+        Err(ClassError::OutOfMemory) => return Err(ApplyError::OutOfMemory),
+    };
+    match hunt_alone(alloc, &backward, limit, gate) {
+        Ok(found) => Ok(found),
+        Err(HuntError::TooMany { limit }) => Err(ApplyError::TooMany { limit }),
+        Err(HuntError::OutOfMemory) => Err(ApplyError::OutOfMemory),
+    }
 }

@@ -69,6 +69,20 @@ impl Restrictions {
         Ok(Restrictions { labels })
     }
 
+    /// The restriction of a variable with this label: 0 where it has none, and otherwise the number of the label, or one more than
+    /// all where the list lacks it. Cost: one look-up by hash.
+    pub fn number(&self, label: Option<Label>) -> u32
+        ensures { result ≡ restriction self.now label }
+    {
+        let Some(label) = label else {
+            return 0;
+        };
+        match self.labels.get_index_of(&label) {
+            Some(place) => place as u32 + 1,
+            None => self.labels.len() as u32 + 1,
+        }
+    }
+
     /// Whether a restriction admits the trees with a label at the root: 0 admits all, another number those of its own label.
     /// It takes no memory.
     pub fn admits(&self, restriction: u32, label: Label) -> bool

@@ -1,0 +1,15 @@
+use Rattle.std.proofs.Common.{◌<◌, ◌≤◌, ap, ◌++◌, ◌∙◌, length, map, take, List, ℕ}
+use Rattle.std.proofs.lemmas.List.{take_all}
+use Rattle.tib_grammar.specs.Items.{holes_in}
+use Rattle.tib_grammar.specs.declared.Item.TheVariants.{Label}
+use Rattle.tib_apply.specs.BackwardLists.{variable_key}
+use Rattle.tib_apply.proofs.NumberedSides.{each_item, keys_more}
+use Rattle.tib_apply.proofs.placing.push_keys.Goals as goal
+
+pub push_key-requires : goal.push_key-requires
+push_key-requires c = each_item (λ x. x.number < length c.args.states.now) c.args.items.now c.loop-item.item-index (Label 0 0) c.loop-item-test.true c.requires
+
+pub loop-item-preserved : goal.loop-item-preserved
+loop-item-preserved c =
+    keys_more (variable_key c.args.restrictions.now c.args.states.now) c.args.items.now c.loop-item.item-index c.args.ends.now.items c.loop-item.ends.items c.push_key.new.ends.items c.loop-item-test.true c.loop-item.invariant
+    c.in_ok-push_key.ensures
