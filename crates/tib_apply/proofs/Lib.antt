@@ -12,3 +12,6 @@ pub mod Gathered
 pub mod Bucketing
 pub mod NumberedSides
 pub mod ListedEdges
+pub mod MappedSides
+pub mod BackwardEdges
+pub mod PlaceNumbers

@@ -172,6 +172,7 @@ impl<'a, S: Semiring> Backward<'a, S> {
         ensures within { OnOk result (IsWithinBudget list.new) }
         ensures alike { IsAlike list.old list.new }
     {
+        self.transducer.is_sound();
         let rule = &self.transducer.rule_list()[position as usize];
         if !self.admits(key, rule) {
             return Ok(());
