@@ -12,6 +12,8 @@ use Rattle.tib_lex.proofs.Members.{each_has, has_at, has_left, has_right, has_ei
 use Rattle.tib_tree.specs.Trees.{Trees, none, tree, only, size, preorder_of}
 use Rattle.tib_cost.specs.Semiring.{most}
 use Rattle.tib_cost.proofs.Least.{IsLeast-unique}
+use Rattle.tib_grammar.specs.Range.{AllBelow, AreInRange}
+use Rattle.tib_grammar.specs.GrammarOf.{GrammarOf}
 use Rattle.tib_grammar.specs.Run.{rule_at}
 use Rattle.tib_grammar.specs.Sides.{Symbol, label, hole, Side as SideFor, holes, holes_of, side_map, HolesAreLeaves}
 use Rattle.tib_grammar.specs.Items.{pairs_of, holes_in}
@@ -35,7 +37,7 @@ use Rattle.tib_apply.specs.Operations.{edge_parts}
 use Rattle.tib_apply.specs.KeyRules.{carried, end_at, Reads}
 use Rattle.tib_apply.specs.KeyLaws.{side_same}
 use Rattle.tib_apply.specs.Listing.{AddsEdge, IsNext, IsTooMuch, IsWithinBudget, IsAlike, IsListed, Overruns, AreListedFrom, AreListedFor}
-use Rattle.tib_apply.specs.BackwardLists.{edge_to, backward_edge, variable_key, number_from, AdmitsRule}
+use Rattle.tib_apply.specs.BackwardLists.{edge_to, backward_edge, variable_key, number_from, AdmitsRule, StatesBelow}
 use Rattle.tib_apply.specs.declared.edge_list.EdgeList.{EdgeList}
 use Rattle.tib_apply.proofs.Bucketing.{moves_once, move_is, is_move}
 use Rattle.tib_apply.proofs.ListedEdges.{listed_next, overruns_next, nothing_listed}
@@ -388,3 +390,23 @@ moves_more product moves grammar key positions k i l low at h =
 
 pub alike_on : (a b c : EdgeList) → IsAlike a b → IsAlike b c → IsAlike a c
 alike_on a b c h k = record { position = k.position ∙ h.position; budget = k.budget ∙ h.budget }
+
+-- a place among the positions of the rules of a state
+module _ (moves : List (TransducerRule ℕ)) (q : ℕ) (ps : List ℕ) (are : ps ≡ moves_of q moves) (k : ℕ) (low : k < length ps) where
+  pub place_is : (get_or ps k 0 < length moves) × ((transducer_rule moves (get_or ps k 0)).state ≡ q)
+  place_is = move_is q moves (get_or ps k 0) (subst (λ xs. Has xs (get_or ps k 0)) are (has_at ps k 0 low))
+
+  pub place_low : k < length (moves_of q moves)
+  place_low = subst (λ (xs : List ℕ). k < length xs) are low
+
+  pub place_apart : Has (take k (moves_of q moves)) (get_or ps k 0) → ⊥
+  place_apart h = not_before ps k 0 (subst Distinct (sym are) (moves_once q moves)) low (subst (λ (xs : List ℕ). Has (take k xs) (get_or ps k 0)) (sym are) h)
+
+all_below : (n : ℕ) (qs : List ℕ) → AllBelow n qs → (q : ℕ) → Has qs q → q < n
+all_below n [] a q h = absurd h
+all_below n (p ∷ qs) a q h = elim h [ inl e ↦ subst (λ x. x < n) e a.0 | inr m ↦ all_below n qs a.1 q m ]
+
+-- the states of a sound grammar are in range
+pub states_below : (g h : GrammarOf) → g ≡ h → AreInRange (length g.names) g.rules → StatesBelow (length h.names) h.rules
+states_below g h e range =
+    subst (λ (x : GrammarOf). StatesBelow (length x.names) x.rules) e (λ m q below has. all_below (length g.names) (holes_of (rule_at g.rules m).right) (range m below).1 q has)
