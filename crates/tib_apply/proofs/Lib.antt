@@ -15,3 +15,4 @@ pub mod ListedEdges
 pub mod MappedSides
 pub mod BackwardEdges
 pub mod PlaceNumbers
+pub mod AppliedKeys

@@ -204,6 +204,7 @@ impl<'a, S: Semiring> Backward<'a, S> {
             MovesOverrun S.product self.now.transducer.now.rules self.now.grammar.now.rules key budget }
         ensures within { IfOk result IsWithinBudget }
         ensures position { IfOk result (λ l. l.position ≡ position) }
+        ensures budget { IfOk result (λ l. l.budget ≡ budget) }
     {
         let mut list = EdgeList::new(alloc, position, budget);
         for place in self.moves.of(key.first()) {
