@@ -26,7 +26,7 @@ use Rattle.tib_apply.specs.Operations.{key_cmp, key_entries, edge_parts, forward
 use Rattle.tib_apply.specs.Restrictions.{restricted_labels}
 use Rattle.tib_apply.specs.Forward.{IsForwardEdge, forward_key, deleted, IsAskedCost, IsDeletedCost}
 use Rattle.tib_apply.specs.Backward.{IsBackwardEdge, backward_key}
-use Rattle.tib_apply.proofs.KeyOrders.{op_laws, order_begins}
+use Rattle.tib_keyed.proofs.KeyOrders.{op_laws, order_begins}
 use Rattle.tib_apply.proofs.Reached.{key_total, same_forward_edge, same_backward_edge}
 use Rattle.tib_canon.proofs.ConstructionExists.{IsEdgeOver, IsPlainConstruction}
 use Rattle.tib_canon.proofs.ReachedOnce.{edge_given, ends_stand}
@@ -48,11 +48,11 @@ key_same x y e =
 
 pub forward_laws : (product : ℕ → ℕ → ℕ) (grammar : List (Rule ℕ)) (moves : List (TransducerRule ℕ)) → Laws (forward_image product grammar moves)
 forward_laws product grammar moves =
-    op_laws key_cmp key_total (0, 0, 0) (IsForwardEdge product grammar moves) (λ e. holes_of e.right) (key_parts key_entries) edge_parts (same_forward_edge product grammar moves)
+    op_laws key_cmp (0, 0, 0) (IsForwardEdge product grammar moves) (λ e. holes_of e.right) (key_parts key_entries) edge_parts key_total (same_forward_edge product grammar moves)
 
 pub backward_laws : (product : ℕ → ℕ → ℕ) (moves : List (TransducerRule ℕ)) (grammar : List (Rule ℕ)) → Laws (inverse_image product moves grammar)
 backward_laws product moves grammar =
-    op_laws key_cmp key_total (0, 0, 0) (IsBackwardEdge product moves grammar) (λ e. holes_of e.right) (key_parts key_entries) edge_parts (same_backward_edge product moves grammar)
+    op_laws key_cmp (0, 0, 0) (IsBackwardEdge product moves grammar) (λ e. holes_of e.right) (key_parts key_entries) edge_parts key_total (same_backward_edge product moves grammar)
 
 -- sides with keys at their leaves
 
@@ -154,7 +154,7 @@ module _
     equal = key_same;
     parts = λ k. omega arith;
     some = λ order reached. (
-        let begins = order_begins key_cmp key_total (0, 0, 0) (IsForwardEdge product form.rules t.rules) (λ e. holes_of e.right) (key_parts key_entries) edge_parts reached.0 reached.1 order reached.2 in
+        let begins = order_begins key_cmp (0, 0, 0) (IsForwardEdge product form.rules t.rules) (λ e. holes_of e.right) (key_parts key_entries) edge_parts key_total reached.0 reached.1 order reached.2 in
         omega (arith, ap length begins.1));
     begins = λ order. refl;
     edges = forwards_over;
@@ -200,7 +200,7 @@ module _
     equal = key_same;
     parts = λ k. omega arith;
     some = λ order reached. (
-        let begins = order_begins key_cmp key_total (0, 0, 0) (IsBackwardEdge product t.rules form.rules) (λ e. holes_of e.right) (key_parts key_entries) edge_parts reached.0 reached.1 order reached.2 in
+        let begins = order_begins key_cmp (0, 0, 0) (IsBackwardEdge product t.rules form.rules) (λ e. holes_of e.right) (key_parts key_entries) edge_parts key_total reached.0 reached.1 order reached.2 in
         omega (arith, ap length begins.1));
     begins = λ order. refl;
     edges = backwards_over;
