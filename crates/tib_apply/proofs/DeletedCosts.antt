@@ -26,7 +26,7 @@ lt_cases a b = grind arith
 module _
     {levelled weighted : Bool} {product : ℕ → ℕ → ℕ} (laws : ProductLaws levelled weighted product)
     (grammar : List (Rule ℕ)) (costs : List (Option ℕ)) (range : AreInRange (length costs) grammar) (insides : AreInsides product grammar costs) where
-  inside_is : (q : ℕ) → IsLeast (IsRunCost product grammar (q ∷ [])) (get_or costs q None)
+  pub inside_is : (q : ℕ) → IsLeast (IsRunCost product grammar (q ∷ [])) (get_or costs q None)
   inside_is q = elim (lt_cases q (length costs)) [
     | inl h ↦ insides q h
     | inr h ↦ subst (IsLeast (IsRunCost product grammar (q ∷ []))) (sym (past costs q h)) (IsLeast-none (λ c r. no_run h r.runs r.are_runs))
@@ -69,7 +69,7 @@ module _
       no_states c (tree n runs rest) a e = absurd a
   total_is (q ∷ qs) = IsLeast-same (runs_join q qs) (runs_split q qs) (IsLeast-products laws (inside_is q) (total_is qs))
 
-  abbrev asked_least : Option ℕ → ℕ → Option ℕ
+  abbrev pub asked_least : Option ℕ → ℕ → Option ℕ
   asked_least None q = get_or costs q None
   asked_least (Some f) q = best_rule product grammar (total product (λ q. get_or costs q None)) q f (length grammar)
 
@@ -103,7 +103,7 @@ module _
     },
   )
 
-  asked_is : (l : Option ℕ) (q : ℕ) → IsLeast (IsAskedCost product grammar l q) (asked_least l q)
+  pub asked_is : (l : Option ℕ) (q : ℕ) → IsLeast (IsAskedCost product grammar l q) (asked_least l q)
   asked_is None q = inside_is q
   asked_is (Some f) q =
       IsLeast-same (begins_to f q) (begins_from f q)

@@ -16,3 +16,9 @@ pub mod MappedSides
 pub mod BackwardEdges
 pub mod PlaceNumbers
 pub mod AppliedKeys
+pub mod ForwardSettled
+pub mod ForwardListed
+pub mod RunCosts
+pub mod ForwardPlanned
+pub mod ForwardEdges
+pub mod ForwardTables

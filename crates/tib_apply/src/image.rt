@@ -6,15 +6,22 @@ ghost use Rattle.tib_apply.specs.Applied.{IsReachedBy, HasPartsOf, AreOverOrder,
 ghost use Rattle.tib_apply.specs.Operations.{forward_image};
 
 use crate::error::ApplyError;
+use crate::forward::Forward;
 use crate::key::Key;
 use std::alloc::Global;
+use tib_classes::ClassError;
 use tib_cost::Semiring;
 use tib_grammar::Rule;
-use tib_hunt::{Found, Gate};
+use tib_hunt::{Found, Gate, HuntError, hunt_alone};
 use tib_normal::Normal;
 use tib_transducer::Transducer;
 
-/// The keys that forward application reaches from the key of the starts, with their rules.
+/// The keys that forward application reaches from the key of the starts, in the order by rounds, and the rules over their
+/// positions. As a grammar whose start is position 0 they give each tree the least cost of putting it out from a tree of the
+/// grammar (`laws::forward_means`). `Class` exactly where the transducer is not linear; `TooMany` exactly where they have more
+/// parts than the limit, 1 to `MOST_PARTS` of tib_hunt; `OutOfMemory` if memory is refused. Calls `gate` once for each key.
+/// Cost: that of `Forward::new`, and for each key the matches of the left sides of the rules of its state and the edges that they
+/// make, beside the hunt's own (`hunt_alone`). The image of a grammar under a linear transducer is from Comon and others, 2007.
 pub fn apply_forward<S: Semiring, G: Gate>(
     alloc: Global,
     grammar: &Normal<S>,
@@ -22,7 +29,6 @@ pub fn apply_forward<S: Semiring, G: Gate>(
     limit: u64,
     gate: &G,
 ) -> Result<Found<Key, Rule<u32>>, ApplyError>
-    requires open { ⊥ }
     requires some { 1 ≤ limit }
     requires limit { limit ≤ most_parts }
     ensures class { IfOk result (λ _. AllMeet (demands true false false false) transducer.now.rules) }
@@ -35,6 +41,14 @@ pub fn apply_forward<S: Semiring, G: Gate>(
     ensures fault { let hunted = forward_image S.product grammar.now.rules transducer.now.rules in
         IfErr result (IsApplyFault (demands true false false false) transducer.now.rules limit (IsBeyond hunted limit)) }
 {
-    let _unused = (alloc, grammar, transducer, limit, gate);
-    Err(ApplyError::OutOfMemory)
+    let forward = match Forward::new(alloc, grammar, transducer) {
+        Ok(forward) => forward,
+        Err(ClassError::Class { rule, fault }) => return Err(ApplyError::Class { rule, fault }),
+        Err(ClassError::OutOfMemory) => return Err(ApplyError::OutOfMemory),
+    };
+    match hunt_alone(alloc, &forward, limit, gate) {
+        Ok(found) => Ok(found),
+        Err(HuntError::TooMany { limit }) => Err(ApplyError::TooMany { limit }),
+        Err(HuntError::OutOfMemory) => Err(ApplyError::OutOfMemory),
+    }
 }

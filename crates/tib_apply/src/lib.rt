@@ -4,9 +4,16 @@
 #![tactic(auto)]
 
 mod backward;
+mod deleting;
 mod edge_list;
 mod error;
 mod expand_backward;
+mod forward;
+mod forward_expand;
+mod forward_listing;
+mod forward_plan;
+mod forward_rule;
+mod forward_settling;
 mod image;
 mod key;
 pub mod laws;
@@ -19,6 +26,8 @@ mod tests;
 
 pub use backward::Backward;
 pub use error::ApplyError;
+pub use forward::Forward;
+pub use forward_rule::ForwardRule;
 pub use image::apply_forward;
 pub use key::Key;
 pub use preimage::apply_backward;

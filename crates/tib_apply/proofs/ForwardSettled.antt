@@ -1,0 +1,144 @@
+-- Rules over places with positions in place of their ends.
+use Rattle.std.specs.Prelude.{◌≡◌, ℕ, ◌+◌, ◌<◌, ◌≤◌, List, [], ◌∷◌, ◌++◌, length, map, drop, refl, slice_index}
+use Rattle.std.proofs.Common.{Err, zero, suc, arith, ap, sym, ◌∙◌, subst, get_or, append_assoc}
+use Rattle.std.proofs.lemmas.List.{length-append}
+use Rattle.tib_lex.specs.Lists.{Each}
+use Rattle.tib_lex.proofs.Lists.{append_nil}
+use Rattle.std.specs.declared.result.Result.{Result}
+use Rattle.tib_tree.specs.declared.preorder.ShapeError.{ShapeError}
+use Rattle.tib_tree.specs.declared.preorder.ShapeError.TheVariants.{NotATree, OutOfMemory}
+use Rattle.tib_tree.specs.Trees.{Trees, none, tree, only, relabel, count, preorder, preorder_of}
+use Rattle.tib_grammar.specs.Sides.{Symbol, label, hole, Side as SideFor, holes, holes_of, HolesAreLeaves, symbol_map, side_map}
+use Rattle.tib_grammar.specs.Items.{pairs_of, pair_of, holes_in}
+use Rattle.tib_grammar.specs.GrammarOf.{named_rule}
+use Rattle.tib_grammar.specs.declared.Item.{Item}
+use Rattle.tib_grammar.specs.declared.Item.TheVariants.{Label, Hole}
+use Rattle.tib_grammar.specs.declared.Rule.{Rule}
+use Rattle.tib_grammar.proofs.Holes.{side_same}
+use Rattle.tib_hunt.specs.declared.place.Place.{Place}
+use Rattle.tib_hunt.specs.declared.place.Place.TheVariants.{Known, End}
+use Rattle.tib_hunt.specs.EdgeLists.{IsWithin, position_of}
+use Rattle.tib_apply.specs.declared.forward_rule.ForwardRule.{ForwardRule}
+use Rattle.tib_apply.specs.ForwardRules.{ends_from, numbered, numbered_root, numbered_side, places_of, read_places, states_in, positions_of}
+use Rattle.tib_apply.specs.ForwardRuleLaws.{side_numbers, map_append}
+use Rattle.tib_apply.specs.ForwardSettling.{settled_pairs}
+
+-- ends side by side are within their list
+pub ends_fit : (known m i k : ℕ) → Each (IsWithin known m) (ends_from i k) → 0 < k → i + k ≤ m
+ends_fit known m i zero h p = absurd (omega arith)
+ends_fit known m i (suc zero) h p = omega (arith, h.0)
+ends_fit known m i (suc (suc k)) h p = omega (arith, ends_fit known m (suc i) (suc k) h.1 (omega arith))
+
+module _ {P : Type 0} (ends : List ℕ) where
+  count_numbered : (n : ℕ) (ts : Trees (Symbol ℕ P)) → count (relabel (symbol_map {A = ℕ} (slice_index ends)) (numbered n ts)) ≡ count ts
+  count_numbered n none = refl
+  count_numbered n (tree (label f) kids rest) = ap suc (count_numbered (n + length (holes kids)) rest)
+  count_numbered n (tree (hole p) kids rest) = ap suc (count_numbered (suc n) rest)
+
+  -- numbered sides in preorder, before others
+  numbered_settles :
+      (n : ℕ) (ts : Trees (Symbol ℕ P)) (xs : List (Symbol ℕ P × ℕ)) → HolesAreLeaves ts →
+      settled_pairs ends n (preorder ts ++ xs) ≡ preorder (relabel (symbol_map (slice_index ends)) (numbered n ts)) ++ settled_pairs ends (n + length (holes ts)) xs
+  numbered_settles n none xs h =
+      let e : n ≡ n + 0 = omega arith in
+      ap (λ m. settled_pairs ends m xs) e
+  numbered_settles n (tree (label f) kids rest) xs h =
+      let k : ℕ = length (holes kids) in
+      let inner = preorder (relabel (symbol_map {A = ℕ} (slice_index ends)) (numbered n kids)) in
+      let outer = preorder (relabel (symbol_map {A = ℕ} (slice_index ends)) (numbered (n + k) rest)) in
+      let long : (n + k) + length (holes rest) ≡ n + length (holes kids ++ holes rest) = omega (arith, length-append (holes kids) (holes rest)) in
+      ap (λ ys. (label f, count kids) ∷ settled_pairs ends n ys) (append_assoc (preorder kids) (preorder rest) xs)
+      ∙ ap (λ ys. (label f, count kids) ∷ ys) (numbered_settles n kids (preorder rest ++ xs) h.0)
+      ∙ ap (λ ys. (label f, count kids) ∷ (inner ++ ys)) (numbered_settles (n + k) rest xs h.1)
+      ∙ ap (λ m. (label f, count kids) ∷ (inner ++ (outer ++ settled_pairs ends m xs))) long
+      ∙ ap (λ ys. (label f, count kids) ∷ ys) (sym (append_assoc inner outer (settled_pairs ends (n + length (holes kids ++ holes rest)) xs)))
+      ∙ ap (λ c. (label f, c) ∷ ((inner ++ outer) ++ settled_pairs ends (n + length (holes kids ++ holes rest)) xs)) (sym (count_numbered n kids))
+  numbered_settles n (tree (hole p) none rest) xs h =
+      let outer = preorder (relabel (symbol_map {A = ℕ} (slice_index ends)) (numbered (suc n) rest)) in
+      let long : suc n + length (holes rest) ≡ n + suc (length (holes rest)) = omega arith in
+      ap (λ ys. (hole (slice_index ends n), 0) ∷ ys) (numbered_settles (suc n) rest xs h)
+      ∙ ap (λ m. (hole (slice_index ends n), 0) ∷ (outer ++ settled_pairs ends m xs)) long
+  numbered_settles n (tree (hole p) (tree s kids more) rest) xs h = absurd h
+
+  -- the side with positions in its holes has this preorder
+  pub settles : (n : ℕ) (side : SideFor ℕ P) → HolesAreLeaves (only side) → preorder_of (side_map (slice_index ends) (numbered_side n side)) ≡ settled_pairs ends n (preorder_of side)
+  settles n side h = by side.label side.kids h
+    where
+      by :
+          (s : Symbol ℕ P) (kids : Trees (Symbol ℕ P)) → HolesAreLeaves (tree s kids none) →
+          preorder_of (side_map (slice_index ends) (numbered_root n s kids)) ≡ settled_pairs ends n ((s, count kids) ∷ preorder kids)
+      by (label f) kids h =
+          ap (λ c. (label f, c) ∷ preorder (relabel (symbol_map (slice_index ends)) (numbered n kids))) (count_numbered n kids)
+          ∙ ap (λ ys. (label f, count kids) ∷ ys)
+          (sym (append_nil (preorder (relabel (symbol_map (slice_index ends)) (numbered n kids)))) ∙ sym (numbered_settles n kids [] h.0) ∙ ap (settled_pairs ends n) (append_nil (preorder kids)))
+      by (hole p) none h = refl
+      by (hole p) (tree s kids more) h = absurd h
+
+  -- a side whose items are these is that side
+  pub side_settled :
+      (n : ℕ) (side : SideFor ℕ P) (items : List (Item P)) (settled : List (Item ℕ)) (s : SideFor ℕ ℕ) → HolesAreLeaves (only side) → pairs_of items ≡ preorder_of side →
+      pairs_of settled ≡ settled_pairs ends n (pairs_of items) → preorder_of s ≡ pairs_of settled → s ≡ side_map (slice_index ends) (numbered_side n side)
+  side_settled n side items settled s leaves same made is =
+      side_same s (side_map (slice_index ends) (numbered_side n side)) (is ∙ made ∙ ap (settled_pairs ends n) same ∙ sym (settles n side leaves))
+
+-- an item more
+
+pub next_item : {A : Type 0} (items : List A) (i : ℕ) (item : A) → i < length items → item ≡ get_or items i item → drop i items ≡ item ∷ drop (i + 1) items
+next_item [] i item h e = absurd (omega arith)
+next_item (x ∷ items) zero item h e = ap (λ y. y ∷ items) (sym e)
+next_item (x ∷ items) (suc i) item h e =
+    let d : suc i + 1 ≡ suc (i + 1) = omega arith in
+    next_item items i item (omega arith) e ∙ ap (λ j. item ∷ drop j (x ∷ items)) (sym d)
+
+relabel_twice : {K : Type 0} (g : ℕ → ℕ) (f : ℕ → K) (ts : Trees (Symbol ℕ ℕ)) → relabel (symbol_map {A = ℕ} f) (relabel (symbol_map g) ts) ≡ relabel (symbol_map (λ i. f (g i))) ts
+relabel_twice g f none = refl
+relabel_twice g f (tree (label x) kids rest) =
+    ap (λ ks. tree (label x) ks (relabel (symbol_map f) (relabel (symbol_map g) rest))) (relabel_twice g f kids)
+    ∙ ap (λ rs. tree (label x) (relabel (symbol_map (λ i. f (g i))) kids) rs) (relabel_twice g f rest)
+relabel_twice g f (tree (hole q) kids rest) =
+    ap (λ ks. tree (hole (f (g q))) ks (relabel (symbol_map f) (relabel (symbol_map g) rest))) (relabel_twice g f kids)
+    ∙ ap (λ rs. tree (hole (f (g q))) (relabel (symbol_map (λ i. f (g i))) kids) rs) (relabel_twice g f rest)
+
+map_twice : {K : Type 0} (g : ℕ → ℕ) (f : ℕ → K) (s : SideFor ℕ ℕ) → side_map f (side_map g s) ≡ side_map (λ i. f (g i)) s
+map_twice {K} g f s =
+    ap (λ x. record { label = x; kids = relabel (symbol_map f) (relabel (symbol_map g) s.kids) }) (by s.label)
+    ∙ ap (λ ks. record { label = symbol_map (λ i. f (g i)) s.label; kids = ks }) (relabel_twice g f s.kids)
+  where
+    by : (x : Symbol ℕ ℕ) → ◌≡◌ {A = Symbol ℕ K} (symbol_map f (symbol_map g x)) (symbol_map (λ i. f (g i)) x)
+    by (label x) = refl
+    by (hole x) = refl
+
+states_map : (g : ℕ → ℕ) (ts : Trees (Symbol ℕ ℕ)) → states_in (relabel (symbol_map g) ts) ≡ map g (states_in ts)
+states_map g none = refl
+states_map g (tree (label x) kids rest) =
+    ap (λ xs. xs ++ states_in (relabel (symbol_map g) rest)) (states_map g kids) ∙ ap (λ xs. map g (states_in kids) ++ xs) (states_map g rest)
+    ∙ sym (map_append g (states_in kids) (states_in rest))
+states_map g (tree (hole q) kids rest) =
+    ap (λ xs. g q ∷ xs)
+    (ap (λ xs. xs ++ states_in (relabel (symbol_map g) rest)) (states_map g kids) ∙ ap (λ xs. map g (states_in kids) ++ xs) (states_map g rest)
+    ∙ sym (map_append g (states_in kids) (states_in rest)))
+
+map_map : {A B C : Type 0} (f : A → B) (g : B → C) (xs : List A) → map g (map f xs) ≡ map (λ x. g (f x)) xs
+map_map f g [] = refl
+map_map f g (x ∷ xs) = ap (λ ys. g (f x) ∷ ys) (map_map f g xs)
+
+module _ (r : ForwardRule) (ends : List ℕ) (s : SideFor ℕ ℕ) (is : s ≡ side_map (slice_index ends) (numbered_side r.first_end r.right.now)) where
+  -- the settled rule reads as the rule over places
+  pub settled_reads : {K : Type 0} (at : ℕ → K) → named_rule at (record { left = r.position; right = s; cost = r.cost }) ≡ read_places (λ place. at (position_of ends place)) r
+  settled_reads at =
+      ap (λ t. record { left = at r.position; right = side_map at t; cost = r.cost }) is
+      ∙ ap (λ t. record { left = at r.position; right = t; cost = r.cost }) (map_twice (slice_index ends) at (numbered_side r.first_end r.right.now))
+
+  -- the settled rule has the positions of its ends
+  pub settled_positions : positions_of (record { left = r.position; right = s; cost = r.cost }) ≡ map (position_of ends) (places_of r)
+  settled_positions =
+      let side = numbered_side r.first_end r.right.now in
+      ap (λ t. r.position ∷ states_in (only t)) is
+      ∙ ap (λ xs. r.position ∷ xs) (states_map (slice_index ends) (only side) ∙ sym (map_map End (position_of ends) (states_in (only side))) ∙ ap (map (position_of ends)) (side_numbers r.first_end r.right.now))
+
+-- the items of a tree are not refused
+pub no_fault :
+    {T : Type 0} (r : Result T ShapeError) (Is : SideFor ℕ ℕ → Type 0) (e : ShapeError) → r ≡ Err e → (r ≡ Err NotATree → (s : SideFor ℕ ℕ) → Is s → ⊥) → (r ≡ Err OutOfMemory → ⊥) →
+    (s : SideFor ℕ ℕ) → Is s → ⊥
+no_fault r Is NotATree at not_a_tree no_memory s is = not_a_tree at s is
+no_fault r Is OutOfMemory at not_a_tree no_memory s is = no_memory at

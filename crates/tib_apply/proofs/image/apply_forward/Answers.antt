@@ -1,0 +1,27 @@
+use Rattle.tib_apply.proofs.ForwardTables.{answer_reached, answer_beyond, rules_in_range, few_keys, few_rules, too_many}
+use Rattle.tib_apply.proofs.image.apply_forward.Goals as goal
+
+pub returns-in-Ok-hunt_alone-clause-reached : goal.returns-in-Ok-hunt_alone-clause-reached
+returns-in-Ok-hunt_alone-clause-reached g c =
+    answer_reached g.met.S.Semiring.laws c.in-Ok.forward.grammar.now c.args.grammar.now c.in-Ok.forward.transducer.now c.args.transducer.now c.in-Ok.ensures.grammar c.in-Ok.ensures.transducer c.in-Ok.forward.runs c.in-Ok.ensures.least
+    c.in-Ok-hunt_alone.found.order.items _ (c.in-Ok-hunt_alone.ensures.reached (0, 0, 0))
+
+pub returns-in-Ok-hunt_alone-clause-range : goal.returns-in-Ok-hunt_alone-clause-range
+returns-in-Ok-hunt_alone-clause-range g c = rules_in_range _ c.in-Ok-hunt_alone.found.rules.items c.in-Ok-hunt_alone.ensures.positions
+
+pub returns-in-Ok-hunt_alone-clause-parts : goal.returns-in-Ok-hunt_alone-clause-parts
+returns-in-Ok-hunt_alone-clause-parts g c = c.in-Ok-hunt_alone.ensures.parts (0, 0, 0)
+
+pub returns-in-Ok-hunt_alone-clause-few : goal.returns-in-Ok-hunt_alone-clause-few
+returns-in-Ok-hunt_alone-clause-few g c =
+    few_keys c.in-Ok-hunt_alone.found.order.items c.in-Ok-hunt_alone.found.rules.items c.in-Ok-hunt_alone.found.parts c.args.limit (c.in-Ok-hunt_alone.ensures.parts (0, 0, 0)) c.in-Ok-hunt_alone.ensures.within
+
+pub returns-in-Ok-hunt_alone-clause-few_rules : goal.returns-in-Ok-hunt_alone-clause-few_rules
+returns-in-Ok-hunt_alone-clause-few_rules g c =
+    few_rules c.in-Ok-hunt_alone.found.order.items c.in-Ok-hunt_alone.found.rules.items c.in-Ok-hunt_alone.found.parts c.args.limit (c.in-Ok-hunt_alone.ensures.parts (0, 0, 0)) c.in-Ok-hunt_alone.ensures.within
+
+pub returns-in-Err-TooMany-clause-fault : goal.returns-in-Err-TooMany-clause-fault
+returns-in-Err-TooMany-clause-fault g c =
+    let said = too_many c.args.limit c.in-Err-TooMany.limit _ c.in-Err-TooMany.field-0 c.in-Err-TooMany.ensures.more c.in-Err-TooMany.field-0-is in
+    (said.0, answer_beyond g.met.S.Semiring.laws c.in-Ok.forward.grammar.now c.args.grammar.now c.in-Ok.forward.transducer.now c.args.transducer.now c.in-Ok.ensures.grammar c.in-Ok.ensures.transducer c.in-Ok.forward.runs
+    c.in-Ok.ensures.least c.args.limit said.1)

@@ -1,0 +1,206 @@
+//! Forward application, as what is hunted: the edges of a key.
+
+ghost use Rattle.std.specs.Prelude.{◌≡◌, ℕ, ◌<◌, ◌≤◌, length, map, Some, true, false, IsTrue, IfOk, IfErr, OnOk, Err};
+ghost use Rattle.tib_lex.specs.Lists.{Each};
+ghost use Rattle.tib_cost.specs.Least.{times};
+ghost use Rattle.tib_classes.specs.Outside.{demands, AllMeet};
+ghost use Rattle.tib_grammar.specs.Sides.{label as label_symbol};
+ghost use Rattle.tib_hunt.specs.Reached.{most_parts};
+ghost use Rattle.tib_transducer.specs.Rules.{transducer_rule};
+ghost use Rattle.tib_apply.specs.Restrictions.{restricted_labels, Admits};
+ghost use Rattle.tib_apply.specs.TableEdges.{IsTableEdge};
+ghost use Rattle.tib_apply.specs.ForwardListing.{IsWithinBudget};
+ghost use Rattle.tib_apply.specs.ForwardLists.{HoleStatesBelow, IsClassErrorOf, IsAtMatch, ListsOrigin, OriginOverruns, ListsRule, RuleOverruns, ListsKey, KeyOverruns};
+ghost use Rattle.tib_apply.specs.ForwardPlans.{asked_at, HasPlans};
+ghost use Rattle.tib_apply.specs.LeastRuns.{AreLeastRuns, deleted_in};
+ghost use Rattle.tib_apply.specs.Moves.{IsMoves};
+
+use crate::deleting::{LeastRuns, product_of};
+use crate::forward_listing::ForwardListing;
+use crate::forward_plan::{Plan, plans_of};
+use crate::key::Key;
+use crate::moves::Moves;
+use crate::restrictions::Restrictions;
+use std::alloc::{AllocError, Global};
+use tib_classes::{ClassError, first_outside};
+use tib_cost::{Cost, Semiring};
+use tib_grammar::Item;
+use tib_hunt::ExpandError;
+use tib_match::{Match, matches};
+use tib_normal::Normal;
+use tib_transducer::{Transducer, TransducerRule};
+
+/// A grammar and a linear transducer, with what is looked up of them.
+#[derive(Drop)]
+pub struct Forward<'a, S> {
+    /// The grammar.
+    pub grammar: &'a Normal<S>,
+    /// The transducer.
+    pub transducer: &'a Transducer<S>,
+    restrictions: Restrictions,
+    moves: Moves,
+    plans: Vec<Plan>,
+    runs: LeastRuns,
+    pub ghost restricted: { restrictions ≡ restricted_labels transducer.now.rules },
+    pub ghost indexed: { IsMoves transducer.now.rules moves },
+    pub ghost planned: { HasPlans (restricted_labels transducer.now.rules) transducer.now.rules plans.items },
+    pub ghost start: { 0 < length grammar.now.names },
+    pub ghost range: { HoleStatesBelow (length grammar.now.names) grammar.now.rules },
+}
+
+impl<'a, S: Semiring> Forward<'a, S> {
+    /// What is hunted for a grammar and a transducer. `Class` exactly where the transducer is not linear: it names the first such
+    /// rule. `OutOfMemory` only if memory is refused. Cost: a few passes over the rules of both, with one look-up by hash for
+    /// each rule of the grammar, and the inside costs of the grammar.
+    pub fn new(
+        alloc: Global,
+        grammar: &'a Normal<S>,
+        transducer: &'a Transducer<S>,
+    ) -> Result<Forward<'a, S>, ClassError>
+        ensures grammar { IfOk result (λ f. f.grammar.now ≡ grammar.now) }
+        ensures transducer { IfOk result (λ f. f.transducer.now ≡ transducer.now) }
+        ensures least { IfOk result (λ f. AreLeastRuns S.product grammar.now.rules f.runs) }
+        ensures class { IfOk result (λ _. AllMeet (demands true false false false) transducer.now.rules) }
+        ensures fault { IfErr result (IsClassErrorOf (demands true false false false) transducer.now.rules) }
+    {
+        if let Some((rule, fault)) = first_outside(transducer, true, false, false, false) {
+            return Err(ClassError::Class { rule, fault });
+        }
+        match Forward::indexed(alloc, grammar, transducer) {
+            Ok(forward) => Ok(forward),
+            Err(_) => Err(ClassError::OutOfMemory),
+        }
+    }
+
+    /// The same for a transducer that is known to be linear.
+    fn indexed(
+        alloc: Global,
+        grammar: &'a Normal<S>,
+        transducer: &'a Transducer<S>,
+    ) -> Result<Forward<'a, S>, AllocError>
+        ensures grammar { IfOk result (λ f. f.grammar.now ≡ grammar.now) }
+        ensures transducer { IfOk result (λ f. f.transducer.now ≡ transducer.now) }
+        ensures least { IfOk result (λ f. AreLeastRuns S.product grammar.now.rules f.runs) }
+    {
+        grammar.grammar().is_sound();
+        transducer.is_sound();
+        let restrictions = Restrictions::new(alloc, transducer.rule_list())?;
+        let moves = Moves::new(alloc, transducer)?;
+        let plans = plans_of(alloc, &restrictions, transducer.rule_list())?;
+        let runs = LeastRuns::new::<S>(alloc, grammar)?;
+        Ok(Forward {
+            grammar,
+            transducer,
+            restrictions,
+            moves,
+            plans,
+            runs,
+        })
+    }
+
+    /// Whether the restriction of a key admits the label with which a left side begins.
+    fn admits(&self, key: Key, rule: &TransducerRule<u32>) -> bool
+        ensures yes { IsTrue result → (root : ℕ) × (rule.now.left.label ≡ label_symbol root) × Admits self.now.restrictions key.2 root }
+        ensures no { result ≡ false → (root : ℕ) → rule.now.left.label ≡ label_symbol root → Admits self.now.restrictions key.2 root → ⊥ }
+    {
+        match &rule.left.items()[0] {
+            Item::Label { label, .. } => self.restrictions.admits(key.restriction(), *label),
+            Item::Hole(_) => false,
+        }
+    }
+
+    /// The cost of the edge of a rule and a match, none where it has none or it is above the greatest cost.
+    fn edge_cost(&self, rule: &TransducerRule<u32>, plan: &Plan, found: &Match) -> Option<Cost>
+        requires { Each (λ x. x.number < length found.now.0) plan.now.left_out.items }
+        ensures { result ≡ times S.product (times S.product (Some rule.now.cost) (Some found.now.1)) (deleted_in S.product self.now.runs (map (asked_at found.now.0) plan.now.left_out.items)) }
+    {
+        let below = self.runs.total::<S>(&plan.left_out, found.states.as_slice());
+        product_of::<S>(S::times(rule.cost, found.cost), below)
+    }
+
+    /// Lists the edge of the rule at a position of the transducer and of a match of its left side, unless its cost is too great.
+    fn list_match(
+        &self,
+        key: Key,
+        position: u32,
+        found: &Match,
+        listing: &mut ForwardListing<'a>,
+    ) -> Result<(), ExpandError>
+        requires at { IsAtMatch S.product self.now.grammar.now.rules self.now.transducer.now.rules key position found.now }
+        requires within { IsWithinBudget listing.old }
+        ensures listed { OnOk result (ListsOrigin (IsTableEdge S.product self.now.grammar.now.rules self.now.transducer.now.rules self.now.runs key) key (position, found.now.0) listing.old listing.new) }
+        ensures more { result ≡ Err ExpandError.More → OriginOverruns (IsTableEdge S.product self.now.grammar.now.rules self.now.transducer.now.rules self.now.runs key) key (position, found.now.0) listing.old }
+        ensures within { OnOk result (IsWithinBudget listing.new) }
+        ensures position { listing.new.position ≡ listing.old.position }
+        ensures budget { listing.new.budget ≡ listing.old.budget }
+    {
+        let transducer = self.transducer;
+        transducer.is_sound();
+        self.grammar.grammar().is_sound();
+        let rule = &transducer.rule_list()[position as usize];
+        let plan = &self.plans[position as usize];
+        let Some(cost) = self.edge_cost(rule, plan, found) else {
+            return Ok(());
+        };
+        listing.add(&rule.right, &plan.ends, found.states.as_slice(), cost)
+    }
+
+    /// Lists the edges of the rule at a position of the transducer.
+    fn list_rule(
+        &self,
+        alloc: Global,
+        key: Key,
+        position: u32,
+        listing: &mut ForwardListing<'a>,
+    ) -> Result<(), ExpandError>
+        requires below { position < length self.now.transducer.now.rules }
+        requires state { (transducer_rule self.now.transducer.now.rules position).state ≡ key.1 }
+        requires first { key.0 < length self.now.grammar.now.names }
+        requires within { IsWithinBudget listing.old }
+        ensures listed { OnOk result (ListsRule (IsTableEdge S.product self.now.grammar.now.rules self.now.transducer.now.rules self.now.runs key) key position listing.old listing.new) }
+        ensures more { result ≡ Err ExpandError.More → RuleOverruns (IsTableEdge S.product self.now.grammar.now.rules self.now.transducer.now.rules self.now.runs key) key position listing.old }
+        ensures within { OnOk result (IsWithinBudget listing.new) }
+        ensures position { listing.new.position ≡ listing.old.position }
+        ensures budget { listing.new.budget ≡ listing.old.budget }
+    {
+        let rule = &self.transducer.rule_list()[position as usize];
+        if !self.admits(key, rule) {
+            return Ok(());
+        }
+        let Ok(all) = matches(alloc, self.grammar, key.first(), &rule.left) else {
+            return Err(ExpandError::OutOfMemory);
+        };
+        for found in &all {
+            match self.list_match(key, position, found, listing) {
+                Ok(()) => {}
+                Err(fault) => return Err(fault),
+            }
+        }
+        Ok(())
+    }
+
+    /// The edges of a key that stands at a position.
+    pub(crate) fn list_edges(
+        &self,
+        alloc: Global,
+        key: Key,
+        position: u32,
+        budget: u64,
+    ) -> Result<ForwardListing<'a>, ExpandError>
+        requires first { key.0 < length self.now.grammar.now.names }
+        requires budget { budget ≤ most_parts }
+        ensures listed { IfOk result (ListsKey (IsTableEdge S.product self.now.grammar.now.rules self.now.transducer.now.rules self.now.runs key) key position) }
+        ensures more { result ≡ Err ExpandError.More → KeyOverruns (IsTableEdge S.product self.now.grammar.now.rules self.now.transducer.now.rules self.now.runs key) key position budget }
+        ensures within { IfOk result IsWithinBudget }
+        ensures budget { IfOk result (λ l. l.budget ≡ budget) }
+    {
+        let mut listing = ForwardListing::new(alloc, position, budget);
+        for move_position in self.moves.of(key.second()) {
+            match self.list_rule(alloc, key, *move_position, &mut listing) {
+                Ok(()) => {}
+                Err(fault) => return Err(fault),
+            }
+        }
+        Ok(listing)
+    }
+}
