@@ -263,9 +263,9 @@ module _ (m : ℕ) where
   distinct_origins [] h = tt
   distinct_origins (f ∷ ms) h = (
     λ k.
-      let x = has_mapped origin_of ms (m, f.0) k in
-      let same : x.0.0 ≡ f.0 = ap (λ (p : ℕ × List ℕ). p.1) x.2 in
-      itself f.0 (subst (λ z. slice_cmp nat_cmp f.0 z ≡ Less) same (each_has (λ (b : List ℕ × ℕ). slice_cmp nat_cmp f.0 b.0 ≡ Less) ms x.0 h.0 x.1)),
+        let x = has_mapped origin_of ms (m, f.0) k in
+        let same : x.0.0 ≡ f.0 = ap (λ (p : ℕ × List ℕ). p.1) x.2 in
+        itself f.0 (subst (λ z. slice_cmp nat_cmp f.0 z ≡ Less) same (each_has (λ (b : List ℕ × ℕ). slice_cmp nat_cmp f.0 b.0 ≡ Less) ms x.0 h.0 x.1)),
     distinct_origins ms h.1,
   )
 

@@ -236,7 +236,7 @@ module _ (order : List (ℕ × ℕ × ℕ)) where
     within = (
       subst (λ p. p < length order) (sym position) below,
       subst (λ s. Each (IsWithin (length order) (length (xs ++ map f (holes_of side)))) (ends_from r.first_end (length (holes_of s)))) (sym right)
-      (ends_within (length order) (length (xs ++ map f (holes_of side))) r.first_end (length (holes_of side)) (omega (arith, first, length-append xs (map f (holes_of side)), lengths_map f (holes_of side)))),
+          (ends_within (length order) (length (xs ++ map f (holes_of side))) r.first_end (length (holes_of side)) (omega (arith, first, length-append xs (map f (holes_of side)), lengths_map f (holes_of side)))),
     );
     read = λ d.
         let all = xs ++ map f (holes_of side) in

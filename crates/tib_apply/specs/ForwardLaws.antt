@@ -30,7 +30,8 @@ some_is e = cc
 
 -- an origin gives one edge
 pub same_table_edge :
-    (product : ℕ → ℕ → ℕ) (grammar : List (Rule ℕ)) (moves : List (TransducerRule ℕ)) (runs : LeastRuns) (key : ℕ × ℕ × ℕ) (o : ℕ × List ℕ) (e f : Rule (ℕ × ℕ × ℕ)) →
+    (product : ℕ → ℕ → ℕ) (grammar : List (Rule ℕ)) (moves : List (TransducerRule ℕ)) (runs : LeastRuns)
+    (key : ℕ × ℕ × ℕ) (o : ℕ × List ℕ) (e f : Rule (ℕ × ℕ × ℕ)) →
     IsTableEdge product grammar moves runs key o e → IsTableEdge product grammar moves runs key o f → e ≡ f
 same_table_edge product grammar moves runs key o e f h k =
     let w : ℕ = (transducer_rule moves o.0).cost in
@@ -52,7 +53,8 @@ has_cut (suc k) (y ∷ xs) x h = elim h [
 
 -- the states of a match are in range
 states_within :
-    {P : Type 0} (product : ℕ → ℕ → ℕ) (grammar : List (Rule ℕ)) (n : ℕ) → HoleStatesBelow n grammar → (ts : Trees (Symbol ℕ P)) (qs ss : List ℕ) (c : ℕ) → IsMatchCost product grammar ts qs ss c →
+    {P : Type 0} (product : ℕ → ℕ → ℕ) (grammar : List (Rule ℕ)) (n : ℕ) → HoleStatesBelow n grammar → (ts : Trees (Symbol ℕ P)) (qs ss : List ℕ) (c : ℕ) →
+    IsMatchCost product grammar ts qs ss c →
     ((q : ℕ) → Has qs q → q < n) → (s : ℕ) → Has ss s → s < n
 states_within product grammar n range none [] [] c m within s h = absurd h
 states_within product grammar n range none [] (x ∷ ss) c m within s h = absurd m
@@ -67,7 +69,8 @@ states_within product grammar n range (tree (label f) kids rest) [] ss c m withi
 states_within product grammar n range (tree (label f) kids rest) (q ∷ qs) ss c m within s h = elim (has_cut (length (holes kids)) ss s h) [
   | inl k ↦
       states_within product grammar n range kids (holes (rule_at grammar m.rule).right.kids) (take (length (holes kids)) ss) m.inner m.kids
-      (λ y l. range m.rule y m.below (subst (λ xs. Has xs y) (sym (holes_of-label (rule_at grammar m.rule).right.label (rule_at grammar m.rule).right.kids f m.root)) l)) s k
+      (λ y l.
+      range m.rule y m.below (subst (λ xs. Has xs y) (sym (holes_of-label (rule_at grammar m.rule).right.label (rule_at grammar m.rule).right.kids f m.root)) l)) s k
   | inr k ↦ states_within product grammar n range rest qs (drop (length (holes kids)) ss) m.outer m.rest (λ y l. within y (inr l)) s k
 ]
 
@@ -78,7 +81,8 @@ state_at n (s ∷ ss) (suc i) some within = state_at n ss i some (λ x h. within
 
 -- the ends of an edge have their states in range
 pub table_ends_below :
-    (product : ℕ → ℕ → ℕ) (grammar : List (Rule ℕ)) (moves : List (TransducerRule ℕ)) (runs : LeastRuns) (n : ℕ) → 0 < n → HoleStatesBelow n grammar → (key : ℕ × ℕ × ℕ) (o : ℕ × List ℕ) (e : Rule (ℕ × ℕ × ℕ)) (k : ℕ × ℕ × ℕ) →
+    (product : ℕ → ℕ → ℕ) (grammar : List (Rule ℕ)) (moves : List (TransducerRule ℕ)) (runs : LeastRuns) (n : ℕ) → 0 < n → HoleStatesBelow n grammar →
+    (key : ℕ × ℕ × ℕ) (o : ℕ × List ℕ) (e : Rule (ℕ × ℕ × ℕ)) (k : ℕ × ℕ × ℕ) →
     key.0 < n → IsTableEdge product grammar moves runs key o e → Has (holes_of e.right) k → k.0 < n
 table_ends_below product grammar moves runs n some range key o e k below is has =
     let r : TransducerRule ℕ = transducer_rule moves o.0 in
@@ -87,7 +91,8 @@ table_ends_below product grammar moves runs n some range key o e k below is has 
     in
     let x = has_mapped (forward_key (restricted_labels moves) r.left o.1) (holes_of r.right) k (subst (λ (xs : List (ℕ × ℕ × ℕ)). Has xs k) keys has) in
     let states : (s : ℕ) → Has o.1 s → s < n =
-    states_within product grammar n range (only r.left) (key.0 ∷ []) o.1 is.matched is.is_match.attained.0 (λ q h. elim h [ inl same ↦ subst (λ y. y < n) same below | inr nothing ↦ absurd nothing ])
+    states_within product grammar n range (only r.left) (key.0 ∷ []) o.1 is.matched is.is_match.attained.0
+    (λ q h. elim h [ inl same ↦ subst (λ y. y < n) same below | inr nothing ↦ absurd nothing ])
     in
     subst (λ (y : ℕ × ℕ × ℕ). y.0 < n) x.2 (state_at n o.1 x.0.variable some states)
 
@@ -120,7 +125,8 @@ forward_is_lawful product grammar moves runs n some range = record {
   one_seed_edge = λ o e f x y. absurd x;
   seeds_admitted = λ k is. first_below n k some is;
   ends_admitted = λ order m o e k all below is has.
-      table_ends_below product grammar moves runs n some range (key_at order m) o e k (each_has (λ (x : ℕ × ℕ × ℕ). x.0 < n) order (key_at order m) all (has_at order m (0, 0, 0) below)) is has;
+      table_ends_below product grammar moves runs n some range (key_at order m) o e k
+      (each_has (λ (x : ℕ × ℕ × ℕ). x.0 < n) order (key_at order m) all (has_at order m (0, 0, 0) below)) is has;
   seeds_end = λ o e k is has. absurd is;
   edges_stay = λ xs ys m o e x y same is. subst (λ k. IsTableEdge product grammar moves runs k o e) (key_stays xs ys m same) is;
 }

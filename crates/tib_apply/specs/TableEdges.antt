@@ -14,7 +14,8 @@ use Rattle.tib_apply.specs.Operations.{key_operation}
 use Rattle.tib_apply.specs.declared.deleting.LeastRuns.{LeastRuns}
 
 -- an edge of a key as `IsForwardEdge` has it, where the cost of what is left out is that of the tables
-pub record IsTableEdge (product : ℕ → ℕ → ℕ) (grammar : List (Rule ℕ)) (moves : List (TransducerRule ℕ)) (runs : LeastRuns) (key : ℕ × ℕ × ℕ) (origin : ℕ × List ℕ) (e : Rule (ℕ × ℕ × ℕ)) : Type 0 where
+pub record IsTableEdge (product : ℕ → ℕ → ℕ) (grammar : List (Rule ℕ)) (moves : List (TransducerRule ℕ))
+    (runs : LeastRuns) (key : ℕ × ℕ × ℕ) (origin : ℕ × List ℕ) (e : Rule (ℕ × ℕ × ℕ)) : Type 0 where
   pub below : origin.0 < length moves
   pub state : (transducer_rule moves origin.0).state ≡ key.1
   pub root : ℕ

@@ -134,11 +134,7 @@ impl LeastRuns {
     }
 
     /// The least cost of runs at some variables, each with its label, where the variables stand at these states.
-    pub(crate) fn total<S: Semiring>(
-        &self,
-        left_out: &[Variable],
-        states: &[u32],
-    ) -> Option<Cost>
+    pub(crate) fn total<S: Semiring>(&self, left_out: &[Variable], states: &[u32]) -> Option<Cost>
         requires { Each (λ x. x.number < length states.now) left_out.now }
         ensures { result ≡ deleted_in S.product self.now (map (asked_at states.now) left_out.now) }
     {

@@ -114,7 +114,9 @@ impl<'a, S: Semiring> Forward<'a, S> {
         requires { Each (λ x. x.number < length found.now.0) plan.now.left_out.items }
         ensures { result ≡ times S.product (times S.product (Some rule.now.cost) (Some found.now.1)) (deleted_in S.product self.now.runs (map (asked_at found.now.0) plan.now.left_out.items)) }
     {
-        let below = self.runs.total::<S>(&plan.left_out, found.states.as_slice());
+        let below = self
+            .runs
+            .total::<S>(&plan.left_out, found.states.as_slice());
         product_of::<S>(S::times(rule.cost, found.cost), below)
     }
 
@@ -128,8 +130,10 @@ impl<'a, S: Semiring> Forward<'a, S> {
     ) -> Result<(), ExpandError>
         requires at { IsAtMatch S.product self.now.grammar.now.rules self.now.transducer.now.rules key position found.now }
         requires within { IsWithinBudget listing.old }
-        ensures listed { OnOk result (ListsOrigin (IsTableEdge S.product self.now.grammar.now.rules self.now.transducer.now.rules self.now.runs key) key (position, found.now.0) listing.old listing.new) }
-        ensures more { result ≡ Err ExpandError.More → OriginOverruns (IsTableEdge S.product self.now.grammar.now.rules self.now.transducer.now.rules self.now.runs key) key (position, found.now.0) listing.old }
+        ensures listed { let gives = IsTableEdge S.product self.now.grammar.now.rules self.now.transducer.now.rules self.now.runs key in
+            OnOk result (ListsOrigin gives key (position, found.now.0) listing.old listing.new) }
+        ensures more { let gives = IsTableEdge S.product self.now.grammar.now.rules self.now.transducer.now.rules self.now.runs key in
+            result ≡ Err ExpandError.More → OriginOverruns gives key (position, found.now.0) listing.old }
         ensures within { OnOk result (IsWithinBudget listing.new) }
         ensures position { listing.new.position ≡ listing.old.position }
         ensures budget { listing.new.budget ≡ listing.old.budget }
@@ -157,8 +161,10 @@ impl<'a, S: Semiring> Forward<'a, S> {
         requires state { (transducer_rule self.now.transducer.now.rules position).state ≡ key.1 }
         requires first { key.0 < length self.now.grammar.now.names }
         requires within { IsWithinBudget listing.old }
-        ensures listed { OnOk result (ListsRule (IsTableEdge S.product self.now.grammar.now.rules self.now.transducer.now.rules self.now.runs key) key position listing.old listing.new) }
-        ensures more { result ≡ Err ExpandError.More → RuleOverruns (IsTableEdge S.product self.now.grammar.now.rules self.now.transducer.now.rules self.now.runs key) key position listing.old }
+        ensures listed { let gives = IsTableEdge S.product self.now.grammar.now.rules self.now.transducer.now.rules self.now.runs key in
+            OnOk result (ListsRule gives key position listing.old listing.new) }
+        ensures more { let gives = IsTableEdge S.product self.now.grammar.now.rules self.now.transducer.now.rules self.now.runs key in
+            result ≡ Err ExpandError.More → RuleOverruns gives key position listing.old }
         ensures within { OnOk result (IsWithinBudget listing.new) }
         ensures position { listing.new.position ≡ listing.old.position }
         ensures budget { listing.new.budget ≡ listing.old.budget }
@@ -189,8 +195,10 @@ impl<'a, S: Semiring> Forward<'a, S> {
     ) -> Result<ForwardListing<'a>, ExpandError>
         requires first { key.0 < length self.now.grammar.now.names }
         requires budget { budget ≤ most_parts }
-        ensures listed { IfOk result (ListsKey (IsTableEdge S.product self.now.grammar.now.rules self.now.transducer.now.rules self.now.runs key) key position) }
-        ensures more { result ≡ Err ExpandError.More → KeyOverruns (IsTableEdge S.product self.now.grammar.now.rules self.now.transducer.now.rules self.now.runs key) key position budget }
+        ensures listed { let gives = IsTableEdge S.product self.now.grammar.now.rules self.now.transducer.now.rules self.now.runs key in
+            IfOk result (ListsKey gives key position) }
+        ensures more { let gives = IsTableEdge S.product self.now.grammar.now.rules self.now.transducer.now.rules self.now.runs key in
+            result ≡ Err ExpandError.More → KeyOverruns gives key position budget }
         ensures within { IfOk result IsWithinBudget }
         ensures budget { IfOk result (λ l. l.budget ≡ budget) }
     {

@@ -17,11 +17,7 @@ use tib_hunt::{Edges, ExpandError};
 use tib_transducer::Pair;
 
 /// Appends the keys of some ends, where the variables stand at these states of the grammar.
-fn push_ends(
-    ends: &mut Vec<Key>,
-    planned: &[PlannedEnd],
-    states: &[u32],
-) -> Result<(), AllocError>
+fn push_ends(ends: &mut Vec<Key>, planned: &[PlannedEnd], states: &[u32]) -> Result<(), AllocError>
     requires { Each (λ e. e.variable < length states.now) planned.now }
     ensures { OnOk result (ends.new.items ≡ ends.old.items ++ map (end_at states.now) planned.now) }
 {

@@ -14,6 +14,8 @@ mod forward_listing;
 mod forward_plan;
 mod forward_rule;
 mod forward_settling;
+#[cfg(test)]
+mod forward_tests;
 mod image;
 mod key;
 pub mod laws;

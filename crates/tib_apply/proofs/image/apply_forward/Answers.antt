@@ -22,6 +22,8 @@ returns-in-Ok-hunt_alone-clause-few_rules g c =
 
 pub returns-in-Err-TooMany-clause-fault : goal.returns-in-Err-TooMany-clause-fault
 returns-in-Err-TooMany-clause-fault g c =
-    let said = too_many c.args.limit c.in-Err-TooMany.limit _ c.in-Err-TooMany.field-0 c.in-Err-TooMany.ensures.more c.in-Err-TooMany.field-0-is in
-    (said.0, answer_beyond g.met.S.Semiring.laws c.in-Ok.forward.grammar.now c.args.grammar.now c.in-Ok.forward.transducer.now c.args.transducer.now c.in-Ok.ensures.grammar c.in-Ok.ensures.transducer c.in-Ok.forward.runs
-    c.in-Ok.ensures.least c.args.limit said.1)
+    let said = too_many c.args.limit c.in-Err-TooMany.limit _ c.in-Err-TooMany.field-0 c.in-Err-TooMany.ensures.more c.in-Err-TooMany.field-0-is in (
+      said.0,
+      answer_beyond g.met.S.Semiring.laws c.in-Ok.forward.grammar.now c.args.grammar.now c.in-Ok.forward.transducer.now c.args.transducer.now c.in-Ok.ensures.grammar c.in-Ok.ensures.transducer c.in-Ok.forward.runs
+          c.in-Ok.ensures.least c.args.limit said.1,
+    )

@@ -16,7 +16,7 @@ edge_cost-requires g c =
     let is = rule_here c.rule_list.result.now moves m c.index-rule_list-position.result c.rule_list.ensures (get_or_read c.rule_list.result.now m c.index-rule_list-position.result below c.index-rule_list-position.is no_rule) in
     let planned = subst (IsPlan (restricted_labels moves) (transducer_rule moves m)) (sym c.index-plan.ensures) (c.args.self.now.planned.plan_at m _ c.requires.at.below) in
     let facts = match_facts g.met.S.Semiring.laws c.args.self.now.grammar.now.rules moves c.args.self.now.runs c.args.key m c.args.found.now c.grammar.ensures.normal.normal c.requires.at c.index-plan.result.now
-        c.index-rule_list-position.result is (c.is_sound.ensures.shaped m c.requires.at.below) (c.is_sound.ensures.leaves m c.requires.at.below).1 planned
+    c.index-rule_list-position.result is (c.is_sound.ensures.shaped m c.requires.at.below) (c.is_sound.ensures.leaves m c.requires.at.below).1 planned
     in
     facts.left_below
 
@@ -28,7 +28,7 @@ returns-in_default-clause-listed g c =
     let is = rule_here c.rule_list.result.now moves m c.index-rule_list-position.result c.rule_list.ensures (get_or_read c.rule_list.result.now m c.index-rule_list-position.result below c.index-rule_list-position.is no_rule) in
     let planned = subst (IsPlan (restricted_labels moves) (transducer_rule moves m)) (sym c.index-plan.ensures) (c.args.self.now.planned.plan_at m _ c.requires.at.below) in
     let facts = match_facts g.met.S.Semiring.laws c.args.self.now.grammar.now.rules moves c.args.self.now.runs c.args.key m c.args.found.now c.grammar.ensures.normal.normal c.requires.at c.index-plan.result.now
-        c.index-rule_list-position.result is (c.is_sound.ensures.shaped m c.requires.at.below) (c.is_sound.ensures.leaves m c.requires.at.below).1 planned
+    c.index-rule_list-position.result is (c.is_sound.ensures.shaped m c.requires.at.below) (c.is_sound.ensures.leaves m c.requires.at.below).1 planned
     in
     origin_passed g.met.S.Semiring.laws c.args.self.now.grammar.now.rules moves c.args.self.now.runs c.args.key m c.args.found.now c.grammar.ensures.normal.normal c.requires.at c.index-plan.result.now
     c.index-rule_list-position.result facts c.args.listing.now (sym c.in_default.is ∙ c.edge_cost.ensures)
@@ -41,7 +41,7 @@ add-requires-clause-below g c =
     let is = rule_here c.rule_list.result.now moves m c.index-rule_list-position.result c.rule_list.ensures (get_or_read c.rule_list.result.now m c.index-rule_list-position.result below c.index-rule_list-position.is no_rule) in
     let planned = subst (IsPlan (restricted_labels moves) (transducer_rule moves m)) (sym c.index-plan.ensures) (c.args.self.now.planned.plan_at m _ c.requires.at.below) in
     let facts = match_facts g.met.S.Semiring.laws c.args.self.now.grammar.now.rules moves c.args.self.now.runs c.args.key m c.args.found.now c.grammar.ensures.normal.normal c.requires.at c.index-plan.result.now
-        c.index-rule_list-position.result is (c.is_sound.ensures.shaped m c.requires.at.below) (c.is_sound.ensures.leaves m c.requires.at.below).1 planned
+    c.index-rule_list-position.result is (c.is_sound.ensures.shaped m c.requires.at.below) (c.is_sound.ensures.leaves m c.requires.at.below).1 planned
     in
     let states = c.as_slice.ensures ∙ ap (λ f. f.0) c.found.view_is in
     subst (λ n. Each (λ e. e.variable < n) c.deref.result.now) (ap length (sym states))
@@ -55,15 +55,15 @@ returns-clause-listed g c =
     let is = rule_here c.rule_list.result.now moves m c.index-rule_list-position.result c.rule_list.ensures (get_or_read c.rule_list.result.now m c.index-rule_list-position.result below c.index-rule_list-position.is no_rule) in
     let planned = subst (IsPlan (restricted_labels moves) (transducer_rule moves m)) (sym c.index-plan.ensures) (c.args.self.now.planned.plan_at m _ c.requires.at.below) in
     let facts = match_facts g.met.S.Semiring.laws c.args.self.now.grammar.now.rules moves c.args.self.now.runs c.args.key m c.args.found.now c.grammar.ensures.normal.normal c.requires.at c.index-plan.result.now
-        c.index-rule_list-position.result is (c.is_sound.ensures.shaped m c.requires.at.below) (c.is_sound.ensures.leaves m c.requires.at.below).1 planned
+    c.index-rule_list-position.result is (c.is_sound.ensures.shaped m c.requires.at.below) (c.is_sound.ensures.leaves m c.requires.at.below).1 planned
     in
     let states = c.as_slice.ensures ∙ ap (λ f. f.0) c.found.view_is in
     let keys = ap (λ ss. map (end_at ss) c.deref.result.now) states ∙ ap (map (end_at c.args.found.now.0)) c.deref.ensures.value in
     on_ok c.add.result _ _
     (λ added.
-      origin_added g.met.S.Semiring.laws c.args.self.now.grammar.now.rules moves c.args.self.now.runs c.args.key m c.args.found.now c.grammar.ensures.normal.normal c.requires.at c.index-plan.result.now
-      c.index-rule_list-position.result facts c.in-Some.cost (sym c.in-Some.is ∙ c.edge_cost.ensures) c.args.listing.now c.add.new.self
-      (subst (λ ks. IsAdded c.index-rule_list-position.result.right ks c.in-Some.cost c.args.listing.now c.add.new.self) keys added))
+    origin_added g.met.S.Semiring.laws c.args.self.now.grammar.now.rules moves c.args.self.now.runs c.args.key m c.args.found.now c.grammar.ensures.normal.normal c.requires.at c.index-plan.result.now
+    c.index-rule_list-position.result facts c.in-Some.cost (sym c.in-Some.is ∙ c.edge_cost.ensures) c.args.listing.now c.add.new.self
+    (subst (λ ks. IsAdded c.index-rule_list-position.result.right ks c.in-Some.cost c.args.listing.now c.add.new.self) keys added))
     c.add.ensures.added
 
 pub returns-clause-more : goal.returns-clause-more
@@ -74,7 +74,7 @@ returns-clause-more g c = λ e.
     let is = rule_here c.rule_list.result.now moves m c.index-rule_list-position.result c.rule_list.ensures (get_or_read c.rule_list.result.now m c.index-rule_list-position.result below c.index-rule_list-position.is no_rule) in
     let planned = subst (IsPlan (restricted_labels moves) (transducer_rule moves m)) (sym c.index-plan.ensures) (c.args.self.now.planned.plan_at m _ c.requires.at.below) in
     let facts = match_facts g.met.S.Semiring.laws c.args.self.now.grammar.now.rules moves c.args.self.now.runs c.args.key m c.args.found.now c.grammar.ensures.normal.normal c.requires.at c.index-plan.result.now
-        c.index-rule_list-position.result is (c.is_sound.ensures.shaped m c.requires.at.below) (c.is_sound.ensures.leaves m c.requires.at.below).1 planned
+    c.index-rule_list-position.result is (c.is_sound.ensures.shaped m c.requires.at.below) (c.is_sound.ensures.leaves m c.requires.at.below).1 planned
     in
     origin_overruns g.met.S.Semiring.laws c.args.self.now.grammar.now.rules moves c.args.self.now.runs c.args.key m c.args.found.now c.grammar.ensures.normal.normal c.requires.at c.index-plan.result.now
     c.index-rule_list-position.result facts c.in-Some.cost (sym c.in-Some.is ∙ c.edge_cost.ensures) c.args.listing.now (c.add.ensures.more e)

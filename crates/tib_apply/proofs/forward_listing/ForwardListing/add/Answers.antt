@@ -25,8 +25,14 @@ returns-clause-within c =
     let ends = ap length c.in-Ok.ensures in
     record {
       few = omega (
-          arith, ends, c.requires.within.few, length-append c.args.self.now.ends.items (map (end_at c.args.states.now) c.args.planned.now), lengths_map (end_at c.args.states.now) c.args.planned.now, c.requires.planned,
-          holes_within c.args.right.now, items_size c.items.result.now c.args.right.now c.items.ensures.items
+        arith,
+        ends,
+        c.requires.within.few,
+        length-append c.args.self.now.ends.items (map (end_at c.args.states.now) c.args.planned.now),
+        lengths_map (end_at c.args.states.now) c.args.planned.now,
+        c.requires.planned,
+        holes_within c.args.right.now,
+        items_size c.items.result.now c.args.right.now c.items.ensures.items,
       );
       within = c.if-parts-self.false;
       budget = c.requires.within.budget;
