@@ -73,7 +73,7 @@ keys_behind f first n ends [] a e = tt
 keys_behind f first n ends (x ∷ xs) a e = (
   sym (seam ends (f x) (map f xs) (first + x.number) (0, 0, 0) (omega (arith, a.0, e))),
   subst (λ (ks : List (ℕ × ℕ × ℕ)). Each (λ y. f y ≡ end_at ks (number_from first y)) xs) (append_assoc ends (f x ∷ []) (map f xs))
-  (keys_behind f first (suc n) (ends ++ f x ∷ []) xs a.1 (omega (arith, e, length-append ends (f x ∷ [])))),
+      (keys_behind f first (suc n) (ends ++ f x ∷ []) xs a.1 (omega (arith, e, length-append ends (f x ∷ [])))),
 )
 
 -- one edge

@@ -4,6 +4,8 @@
 #![tactic(auto)]
 
 mod backward;
+#[cfg(test)]
+mod backward_tests;
 mod deleting;
 mod edge_list;
 mod error;

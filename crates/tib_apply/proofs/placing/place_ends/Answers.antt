@@ -1,6 +1,5 @@
 use Rattle.std.proofs.Common.{◌<◌, length, slice_index}
 use Rattle.std.proofs.lemmas.Result.{IfOk-weaker}
-
 use Rattle.tib_apply.proofs.NumberedSides.{each_of_side, with_more, side_with}
 use Rattle.tib_apply.proofs.placing.place_ends.Goals as goal
 

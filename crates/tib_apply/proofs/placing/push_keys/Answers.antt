@@ -1,6 +1,4 @@
-use Rattle.std.proofs.Common.{◌<◌, ◌≤◌, ap, ◌++◌, ◌∙◌, length, map, take, List, ℕ}
-use Rattle.std.proofs.lemmas.List.{take_all}
-use Rattle.tib_grammar.specs.Items.{holes_in}
+use Rattle.std.proofs.Common.{◌<◌, length}
 use Rattle.tib_grammar.specs.declared.Item.TheVariants.{Label}
 use Rattle.tib_apply.specs.BackwardLists.{variable_key}
 use Rattle.tib_apply.proofs.NumberedSides.{each_item, keys_more}

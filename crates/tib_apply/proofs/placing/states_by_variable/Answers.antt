@@ -1,4 +1,4 @@
-use Rattle.std.proofs.Common.{◌≡◌, ◌-◌, ◌<◌, suc, arith, sym, ◌∙◌, ℕ, length}
+use Rattle.std.proofs.Common.{◌≡◌, ◌-◌, ◌<◌, suc, arith, ◌∙◌, length}
 use Rattle.std.proofs.lemmas.List.{length-set}
 use Rattle.tib_apply.proofs.NumberedSides.{one_left, place_fits, pair_fits, left_less, pair_put}
 use Rattle.tib_apply.proofs.placing.states_by_variable.Goals as goal

@@ -1,4 +1,4 @@
-use Rattle.std.proofs.Common.{◌≡◌, ◌≤◌, ◌∙◌, ap, sym, subst, inl, List, ℕ, arith}
+use Rattle.std.proofs.Common.{◌≤◌, ◌∙◌, ap, sym, subst, inl, List, ℕ, arith}
 use Rattle.tib_cost.specs.Semiring.{most}
 use Rattle.tib_cost.proofs.Times.{cut-some}
 use Rattle.tib_apply.specs.Restrictions.{restricted_labels}

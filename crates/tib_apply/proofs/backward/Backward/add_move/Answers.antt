@@ -1,4 +1,4 @@
-use Rattle.std.proofs.Common.{◌≡◌, ◌<◌, ◌∙◌, ◌++◌, ap, sym, subst, map, take, [], ℕ, List, length, get_or, arith}
+use Rattle.std.proofs.Common.{◌<◌, ◌∙◌, ◌++◌, ap, sym, subst, map, [], ℕ, List, length}
 use Rattle.std.proofs.lemmas.List.{get_or_read, take_all}
 use Rattle.tib_transducer.specs.Rules.{transducer_rule, no_rule}
 use Rattle.tib_transducer.specs.Range.{IsShaped}

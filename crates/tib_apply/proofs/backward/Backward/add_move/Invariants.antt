@@ -1,4 +1,4 @@
-use Rattle.std.proofs.Common.{◌≡◌, ◌++◌, ℕ, List, map, take}
+use Rattle.std.proofs.Common.{◌++◌, ℕ, List, map, take}
 use Rattle.tib_lex.specs.Lists.{Has}
 use Rattle.tib_apply.specs.Backward.{IsBackwardEdge}
 use Rattle.tib_apply.specs.Listing.{IsWithinBudget, IsAlike, IsListed}

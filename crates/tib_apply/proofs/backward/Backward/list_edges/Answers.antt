@@ -1,4 +1,4 @@
-use Rattle.std.proofs.Common.{◌≡◌, ◌∙◌, ap, sym, subst, take, ℕ, List, length, get_or, arith, Err}
+use Rattle.std.proofs.Common.{◌≡◌, ◌∙◌, ap, subst, take, ℕ, List, length, get_or, arith, Err}
 use Rattle.std.proofs.lemmas.List.{take_all}
 use Rattle.std.specs.declared.result.Result.{Result}
 use Rattle.tib_hunt.specs.declared.place.ExpandError.{ExpandError}

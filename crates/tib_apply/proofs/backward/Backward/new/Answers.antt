@@ -1,4 +1,4 @@
-use Rattle.std.proofs.Common.{◌<◌, ◌≡◌, ap, subst, ◌∙◌, length, List, ℕ}
+use Rattle.std.proofs.Common.{◌<◌, ap, subst, ◌∙◌, length, List, ℕ}
 use Rattle.tib_transducer.specs.declared.TransducerRule.{TransducerRule}
 use Rattle.tib_apply.specs.Restrictions.{restricted_labels}
 use Rattle.tib_apply.proofs.BackwardEdges.{states_below}

@@ -1,4 +1,4 @@
-use Rattle.std.proofs.Common.{◌≡◌, ◌∙◌, ap, sym, length, get_or, List, ℕ, arith, refl}
+use Rattle.std.proofs.Common.{◌∙◌, ap, length, get_or, List, ℕ, arith, refl}
 use Rattle.tib_grammar.proofs.Holes.{holes_of_items}
 use Rattle.tib_apply.specs.Restrictions.{restricted_labels}
 use Rattle.tib_apply.specs.BackwardLists.{variable_key}

@@ -1,4 +1,4 @@
-use Rattle.std.proofs.Common.{◌≡◌, ◌+◌, ◌∙◌, ap, sym, arith, ℕ, List, length}
+use Rattle.std.proofs.Common.{◌≡◌, ap, arith}
 use Rattle.tib_apply.specs.Restrictions.{restriction, place_of}
 use Rattle.tib_apply.proofs.PlaceNumbers.{place_found, place_behind}
 use Rattle.tib_apply.proofs.restrictions.Restrictions.number.Goals as goal
