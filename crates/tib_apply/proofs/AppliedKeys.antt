@@ -1,6 +1,6 @@
 -- What the reached set of an operation over keys says of its rules and parts.
-use Rattle.std.specs.Prelude.{◌≡◌, ℕ, ◌+◌, ◌<◌, ◌≤◌, List, [], ◌∷◌, length, map, IfOk}
-use Rattle.std.proofs.Common.{arith, ap, subst, Ok, Err}
+use Rattle.std.specs.Prelude.{◌≡◌, ℕ, ◌<◌, ◌≤◌, List, [], ◌∷◌, length, map, IfOk}
+use Rattle.std.proofs.Common.{arith, subst, Ok, Err}
 use Rattle.std.proofs.lemmas.List.{length-map}
 use Rattle.std.specs.declared.result.Result.{Result}
 use Rattle.tib_lex.specs.Lists.{Each, total}
@@ -19,7 +19,7 @@ use Rattle.tib_hunt.specs.Numbered.{key_parts}
 use Rattle.tib_transducer.specs.TransducerOf.{TransducerOf}
 use Rattle.tib_apply.specs.KeyGrammars.{key_at}
 use Rattle.tib_apply.specs.Operations.{key_entries, edge_parts, key_operation, inverse_image}
-use Rattle.tib_apply.specs.KeyRules.{carried, positions_of}
+use Rattle.tib_apply.specs.KeyRules.{positions_of}
 use Rattle.tib_apply.proofs.MappedSides.{each_hole}
 
 all_below : (n : ℕ) (qs : List ℕ) → Each (λ q. q < n) qs → AllBelow n qs

@@ -1,7 +1,7 @@
 -- One edge of backward application, and the edges of one rule and of all.
 use Rattle.std.specs.Prelude.{◌≡◌, ℕ, ◌+◌, ◌<◌, ◌≤◌, List, [], ◌∷◌, ◌++◌, length, map, take, drop, Option, Some, refl, slice_index_or}
-use Rattle.std.proofs.Common.{zero, suc, arith, ap, sym, ◌∙◌, subst, get_or, inl, inr, append_assoc, append-nil}
-use Rattle.std.proofs.lemmas.List.{length-append, length-map, map_more, take_more, take_all}
+use Rattle.std.proofs.Common.{zero, suc, arith, ap, sym, ◌∙◌, subst, get_or, inl, inr, append_assoc}
+use Rattle.std.proofs.lemmas.List.{length-append, length-map, map_more, take_more}
 use Rattle.std.proofs.lemmas.Cmp.{nat_list_cmp_total}
 use Rattle.std.specs.Ordering.{nat_cmp}
 use Rattle.std.specs.Cmp.Lexicographic.{slice_cmp}
@@ -33,7 +33,6 @@ use Rattle.tib_match.specs.MatchLists.{AreMatches}
 use Rattle.tib_apply.specs.Restrictions.{restricted_labels}
 use Rattle.tib_apply.specs.Backward.{states_at, backward_key, IsBackwardEdge}
 use Rattle.tib_apply.specs.Moves.{moves_of}
-use Rattle.tib_apply.specs.Operations.{edge_parts}
 use Rattle.tib_apply.specs.KeyRules.{carried, end_at, Reads}
 use Rattle.tib_apply.specs.KeyLaws.{side_same}
 use Rattle.tib_apply.specs.Listing.{AddsEdge, IsNext, IsTooMuch, IsWithinBudget, IsAlike, IsListed, Overruns, AreListedFrom, AreListedFor}

@@ -13,7 +13,7 @@ use Rattle.tib_grammar.specs.declared.Rule.{Rule}
 use Rattle.tib_grammar.proofs.Sides.{holes-relabel}
 use Rattle.tib_hunt.specs.declared.place.Place.{Place}
 use Rattle.tib_hunt.specs.declared.place.Place.TheVariants.{Known, End}
-use Rattle.tib_hunt.specs.EdgeLists.{IsWithin, key_at, IsEnd, Exceeds, AreListed, Lists}
+use Rattle.tib_hunt.specs.EdgeLists.{IsWithin, key_at, IsEnd, Exceeds, AreListed}
 use Rattle.tib_transducer.specs.declared.Pair.{Pair}
 use Rattle.tib_apply.specs.Operations.{edge_parts}
 use Rattle.tib_apply.specs.declared.forward_rule.ForwardRule.{ForwardRule}

@@ -1,21 +1,19 @@
 -- What rules do, from lists of restrictions and marks.
-use Rattle.std.specs.Prelude.{◌≡◌, ℕ, ◌+◌, ◌<◌, ◌≤◌, Bool, true, false, not, cond, nat_eq, nat_lt, List, [], ◌∷◌, ◌++◌, length, map, take, refl, Option, None, Some, if◌then◌else◌}
-use Rattle.std.specs.List.{list_any, position_or_len}
-use Rattle.std.proofs.Common.{zero, suc, arith, ap, sym, ◌∙◌, subst, get_or, inl, inr, position}
-use Rattle.std.proofs.lemmas.Bool.Decides.{nat_tests}
-use Rattle.tib_lex.specs.Lists.{Has, Each, Along}
-use Rattle.tib_lex.proofs.Numbers.{nat_eq_cases}
+use Rattle.std.specs.Prelude.{◌≡◌, ℕ, ◌+◌, ◌<◌, Bool, false, nat_eq, List, [], ◌∷◌, ◌++◌, length, map, take, refl, if◌then◌else◌}
+use Rattle.std.specs.List.{list_any}
+use Rattle.std.proofs.Common.{zero, suc, arith, ap, sym, ◌∙◌, subst, get_or}
+use Rattle.tib_lex.specs.Lists.{Each, Along}
 use Rattle.tib_tree.specs.Trees.{preorder_of}
 use Rattle.tib_grammar.specs.Sides.{Side as SideFor, holes_of}
 use Rattle.tib_grammar.specs.Items.{pairs_of, holes_in}
 use Rattle.tib_grammar.specs.declared.Item.{Item}
 use Rattle.tib_grammar.proofs.Holes.{holes_of_items}
-use Rattle.tib_transducer.specs.Rules.{no_variable, no_rule, transducer_rule, variables_of, variable_at, variables_in}
+use Rattle.tib_transducer.specs.Rules.{no_variable, no_rule, transducer_rule, variables_of, variables_in}
 use Rattle.tib_transducer.specs.Range.{AreNumbered, IsShaped}
 use Rattle.tib_transducer.specs.declared.Variable.{Variable}
 use Rattle.tib_transducer.specs.declared.Pair.{Pair}
 use Rattle.tib_transducer.specs.declared.TransducerRule.{TransducerRule}
-use Rattle.tib_apply.specs.Restrictions.{place_of, restriction}
+use Rattle.tib_apply.specs.Restrictions.{restriction}
 use Rattle.tib_apply.specs.ForwardPlans.{end_of, planned_end, unmarked_of, left_out, IsPlan, ArePlans}
 use Rattle.tib_apply.specs.declared.forward_plan.PlannedEnd.{PlannedEnd}
 use Rattle.tib_apply.specs.declared.forward_plan.Plan.{Plan}

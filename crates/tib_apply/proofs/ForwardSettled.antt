@@ -1,6 +1,6 @@
 -- Rules over places with positions in place of their ends.
 use Rattle.std.specs.Prelude.{◌≡◌, ℕ, ◌+◌, ◌<◌, ◌≤◌, List, [], ◌∷◌, ◌++◌, length, map, drop, refl, slice_index}
-use Rattle.std.proofs.Common.{Err, zero, suc, arith, ap, sym, ◌∙◌, subst, get_or, append_assoc}
+use Rattle.std.proofs.Common.{Err, zero, suc, arith, ap, sym, ◌∙◌, get_or, append_assoc}
 use Rattle.std.proofs.lemmas.List.{length-append}
 use Rattle.tib_lex.specs.Lists.{Each}
 use Rattle.tib_lex.proofs.Lists.{append_nil}
@@ -8,15 +8,12 @@ use Rattle.std.specs.declared.result.Result.{Result}
 use Rattle.tib_tree.specs.declared.preorder.ShapeError.{ShapeError}
 use Rattle.tib_tree.specs.declared.preorder.ShapeError.TheVariants.{NotATree, OutOfMemory}
 use Rattle.tib_tree.specs.Trees.{Trees, none, tree, only, relabel, count, preorder, preorder_of}
-use Rattle.tib_grammar.specs.Sides.{Symbol, label, hole, Side as SideFor, holes, holes_of, HolesAreLeaves, symbol_map, side_map}
-use Rattle.tib_grammar.specs.Items.{pairs_of, pair_of, holes_in}
+use Rattle.tib_grammar.specs.Sides.{Symbol, label, hole, Side as SideFor, holes, HolesAreLeaves, symbol_map, side_map}
+use Rattle.tib_grammar.specs.Items.{pairs_of}
 use Rattle.tib_grammar.specs.GrammarOf.{named_rule}
 use Rattle.tib_grammar.specs.declared.Item.{Item}
-use Rattle.tib_grammar.specs.declared.Item.TheVariants.{Label, Hole}
-use Rattle.tib_grammar.specs.declared.Rule.{Rule}
 use Rattle.tib_grammar.proofs.Holes.{side_same}
-use Rattle.tib_hunt.specs.declared.place.Place.{Place}
-use Rattle.tib_hunt.specs.declared.place.Place.TheVariants.{Known, End}
+use Rattle.tib_hunt.specs.declared.place.Place.TheVariants.{End}
 use Rattle.tib_hunt.specs.EdgeLists.{IsWithin, position_of}
 use Rattle.tib_apply.specs.declared.forward_rule.ForwardRule.{ForwardRule}
 use Rattle.tib_apply.specs.ForwardRules.{ends_from, numbered, numbered_root, numbered_side, places_of, read_places, states_in, positions_of}

@@ -1,11 +1,11 @@
 -- Forward application over tables is forward application, and what its hunt answers.
-use Rattle.std.specs.Prelude.{◌≡◌, ◌↔◌, ℕ, ◌+◌, ◌<◌, ◌≤◌, List, [], ◌∷◌, ◌++◌, length, map, Bool, refl, Option, None, Some, IfOk}
-use Rattle.std.proofs.Common.{zero, suc, arith, ap, sym, ◌∙◌, subst, Ok, Err}
+use Rattle.std.specs.Prelude.{◌≡◌, ℕ, ◌+◌, ◌<◌, ◌≤◌, List, [], ◌∷◌, ◌++◌, length, map, Bool, refl, Option, None, Some, IfOk}
+use Rattle.std.proofs.Common.{zero, suc, arith, ap, subst, Ok, Err}
 use Rattle.std.specs.declared.result.Result.{Result}
-use Rattle.tib_lex.specs.Lists.{Has, Each, total}
+use Rattle.tib_lex.specs.Lists.{Each, total}
 use Rattle.tib_lex.proofs.Members.{each_has, has_at}
 use Rattle.tib_tree.specs.Trees.{Trees, none, tree, only}
-use Rattle.tib_grammar.specs.Sides.{Symbol, label, hole, holes, holes_of}
+use Rattle.tib_grammar.specs.Sides.{Symbol, label, hole, holes}
 use Rattle.tib_grammar.specs.Run.{rule_at, no_rule}
 use Rattle.tib_grammar.specs.Range.{AllBelow, AreInRange}
 use Rattle.tib_grammar.specs.GrammarOf.{GrammarOf, named_rule}
@@ -17,7 +17,6 @@ use Rattle.tib_cost.proofs.Least.{IsLeast-one, IsLeast-products, IsLeast-unique}
 use Rattle.tib_hunt.specs.Reached.{AfterRounds, IsNew, AreEdges, IsReachedSet, IsBeyond, IfTooMany}
 use Rattle.tib_hunt.specs.declared.found.HuntError.{HuntError}
 use Rattle.tib_hunt.specs.declared.found.HuntError.TheVariants.{TooMany}
-use Rattle.tib_hunt.specs.EdgeLists.{Lists}
 use Rattle.tib_hunt.specs.Numbered.{key_parts}
 use Rattle.tib_hunt.specs.Rows.{AreBelow}
 use Rattle.tib_hunt.proofs.Members.{Lists-to}

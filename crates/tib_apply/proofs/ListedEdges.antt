@@ -9,14 +9,13 @@ use Rattle.tib_tree.specs.Trees.{only}
 use Rattle.tib_cost.specs.Semiring.{most}
 use Rattle.tib_grammar.specs.Sides.{holes_of, side_map}
 use Rattle.tib_grammar.specs.declared.Rule.{Rule}
-use Rattle.tib_hunt.specs.declared.place.Place.{Place}
-use Rattle.tib_hunt.specs.declared.place.Place.TheVariants.{Known, End}
+use Rattle.tib_hunt.specs.declared.place.Place.TheVariants.{End}
 use Rattle.tib_hunt.specs.EdgeLists.{IsWithin, IsEnd, Exceeds, AreListed, key_at as key_in}
 use Rattle.tib_apply.specs.KeyGrammars.{key_at}
 use Rattle.tib_apply.specs.Operations.{edge_parts}
 use Rattle.tib_apply.specs.KeyRules.{carried, places_of, read_places, end_at, Reads}
 use Rattle.tib_apply.specs.KeyLaws.{side_same}
-use Rattle.tib_apply.specs.Listing.{all_ends, AddsEdge, PassesEdge, IsNext, IsTooMuch, IsWithinBudget, IsAlike, IsListed, Overruns, AreListedFrom}
+use Rattle.tib_apply.specs.Listing.{all_ends, AddsEdge, IsNext, IsTooMuch, IsWithinBudget, IsAlike, IsListed, Overruns, AreListedFrom}
 use Rattle.tib_apply.specs.declared.edge_list.EdgeList.{EdgeList}
 
 -- one more pair of partners

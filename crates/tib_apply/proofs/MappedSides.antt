@@ -1,6 +1,6 @@
 -- What sides carry, their sizes, and sides that are mapped twice.
-use Rattle.std.specs.Prelude.{◌≡◌, ℕ, ◌+◌, ◌<◌, ◌≤◌, List, [], ◌∷◌, ◌++◌, length, map, refl}
-use Rattle.std.proofs.Common.{suc, arith, ap, sym, ◌∙◌}
+use Rattle.std.specs.Prelude.{◌≡◌, ℕ, ◌<◌, ◌≤◌, List, [], ◌∷◌, ◌++◌, length, map, refl}
+use Rattle.std.proofs.Common.{arith, ap, sym, ◌∙◌}
 use Rattle.std.proofs.lemmas.List.{map-append, length-append}
 use Rattle.tib_lex.specs.Lists.{Each}
 use Rattle.tib_tree.specs.Trees.{Trees, none, tree, only, relabel, size, sizes, preorder, preorder_of}
@@ -11,8 +11,7 @@ use Rattle.tib_grammar.specs.declared.Item.TheVariants.{Label, Hole}
 use Rattle.tib_grammar.proofs.ItemsAt.{length-pairs}
 use Rattle.tib_grammar.specs.declared.Rule.{Rule}
 use Rattle.tib_grammar.specs.GrammarOf.{named_rule}
-use Rattle.tib_hunt.specs.declared.place.Place.{Place}
-use Rattle.tib_hunt.specs.declared.place.Place.TheVariants.{Known, End}
+use Rattle.tib_hunt.specs.declared.place.Place.TheVariants.{End}
 use Rattle.tib_hunt.specs.EdgeLists.{IsWithin, position_of}
 use Rattle.std.specs.Prelude.{slice_index}
 use Rattle.tib_apply.specs.KeyRules.{carried, places_of, read_places, positions_of}

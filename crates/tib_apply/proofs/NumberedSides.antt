@@ -1,16 +1,16 @@
 -- Sides with numbers in place of what they carry, item by item.
-use Rattle.std.specs.Prelude.{◌≡◌, ℕ, ◌+◌, ◌-◌, ◌<◌, ◌≤◌, List, [], ◌∷◌, ◌++◌, length, map, take, drop, nat_eq, slice_set, if◌then◌else◌, refl}
+use Rattle.std.specs.Prelude.{◌≡◌, ℕ, ◌+◌, ◌-◌, ◌<◌, ◌≤◌, List, [], ◌∷◌, ◌++◌, length, map, take, drop, slice_set, refl}
 use Rattle.std.proofs.Common.{zero, suc, arith, ap, sym, ◌∙◌, subst, inl, inr, get_or, append_assoc, add-one}
-use Rattle.std.proofs.lemmas.List.{map-append, map_more, drop_more, get_or-set_same, get_or-set_other, take_all}
+use Rattle.std.proofs.lemmas.List.{map-append, map_more, get_or-set_same, get_or-set_other, take_all}
 use Rattle.tib_lex.specs.Lists.{Each}
 use Rattle.tib_lex.proofs.Numbers.{nat_eq_cases}
-use Rattle.tib_tree.specs.Trees.{Trees, none, tree, count, only, preorder, preorder_of, relabel}
-use Rattle.tib_grammar.specs.Sides.{Symbol, label, hole, Side as SideFor, side_map, symbol_map, holes_of}
+use Rattle.tib_tree.specs.Trees.{Trees, none, tree, count, preorder, preorder_of, relabel}
+use Rattle.tib_grammar.specs.Sides.{label, hole, Side as SideFor, side_map, symbol_map, holes_of}
 use Rattle.tib_grammar.specs.Items.{pairs_of, holes_in}
 use Rattle.tib_grammar.specs.declared.Item.{Item}
 use Rattle.tib_grammar.specs.declared.Item.TheVariants.{Label, Hole}
 use Rattle.tib_grammar.proofs.Renamed.{preorder-relabel}
-use Rattle.tib_grammar.proofs.Holes.{holes_of_items, side_same}
+use Rattle.tib_grammar.proofs.Holes.{holes_of_items}
 use Rattle.tib_transducer.specs.declared.Pair.{Pair}
 use Rattle.tib_apply.specs.Backward.{states_at}
 use Rattle.tib_apply.specs.BackwardLists.{item_with}

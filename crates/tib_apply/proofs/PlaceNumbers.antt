@@ -1,7 +1,7 @@
 -- The place of a label among distinct ones, as a search finds it.
-use Rattle.std.specs.Prelude.{◌≡◌, ℕ, ◌+◌, ◌≤◌, nat_eq, nat_lt, Bool, true, false, not, cond, List, [], ◌∷◌, length, Option, None, Some, position, refl}
+use Rattle.std.specs.Prelude.{◌≡◌, ℕ, ◌≤◌, nat_eq, nat_lt, Bool, true, false, cond, List, [], ◌∷◌, length, None, Some, position, refl}
 use Rattle.std.specs.List.{position_or_len}
-use Rattle.std.proofs.Common.{suc, arith, ap, sym, ◌∙◌, inl, inr}
+use Rattle.std.proofs.Common.{arith, sym, ◌∙◌, inl, inr}
 use Rattle.tib_lex.proofs.Numbers.{nat_eq_cases}
 use Rattle.tib_apply.specs.Restrictions.{place_of}
 

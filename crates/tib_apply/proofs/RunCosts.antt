@@ -1,11 +1,10 @@
 -- The least costs of runs, looked up and put together.
-use Rattle.std.specs.Prelude.{◌≡◌, ℕ, ◌+◌, ◌-◌, ◌<◌, ◌≤◌, ◌&&◌, nat_eq, List, [], ◌∷◌, length, map, drop, Bool, true, false, cond, refl, Option, None, Some, if◌then◌else◌}
+use Rattle.std.specs.Prelude.{◌≡◌, ℕ, ◌+◌, ◌-◌, ◌<◌, ◌≤◌, ◌&&◌, nat_eq, List, [], ◌∷◌, length, map, drop, Bool, true, false, cond, refl, Option, Some, if◌then◌else◌}
 use Rattle.std.specs.HashMap.{get}
 use Rattle.std.proofs.Common.{zero, suc, arith, ap, sym, ◌∙◌, subst, get_or, inl, inr, add-one}
-use Rattle.std.proofs.lemmas.List.{get_or_read}
 use Rattle.tib_lex.proofs.Numbers.{nat_eq_cases}
 use Rattle.tib_grammar.specs.Sides.{label, holes, is_label}
-use Rattle.tib_grammar.specs.Run.{rule_at, no_rule}
+use Rattle.tib_grammar.specs.Run.{rule_at}
 use Rattle.tib_grammar.specs.Range.{AreInRange}
 use Rattle.tib_grammar.specs.declared.Rule.{Rule}
 use Rattle.tib_grammar.proofs.Best.{fits}
@@ -16,7 +15,7 @@ use Rattle.tib_inside.specs.Inside.{AreInsides}
 use Rattle.tib_transducer.specs.declared.Variable.{Variable}
 use Rattle.tib_apply.specs.Forward.{IsAskedCost, IsDeletedCost}
 use Rattle.tib_apply.specs.ForwardPlans.{asked_at}
-use Rattle.tib_apply.specs.LeastRuns.{same_start, inside_total, begun_by, AreBegun, Lowers, AreLeastRuns}
+use Rattle.tib_apply.specs.LeastRuns.{same_start, inside_total, begun_by, AreLeastRuns}
 use Rattle.tib_apply.specs.declared.deleting.LeastRuns.{LeastRuns}
 use Rattle.tib_apply.proofs.DeletedCosts.{inside_is, asked_is}
 

@@ -1,6 +1,6 @@
 -- What holds of all edges of backward application.
-use Rattle.std.specs.Prelude.{◌≡◌, ℕ, ◌<◌, List, [], ◌∷◌, ◌++◌, length, map, take, drop, Option, Some, refl}
-use Rattle.std.proofs.Common.{zero, suc, arith, ap, sym, ◌∙◌, subst, inl, inr}
+use Rattle.std.specs.Prelude.{◌≡◌, ℕ, ◌<◌, List, [], ◌∷◌, length, map, take, drop, Option, Some, refl}
+use Rattle.std.proofs.Common.{zero, suc, ap, sym, ◌∙◌, subst, inl, inr}
 use Rattle.tib_lex.specs.Lists.{Has, Each}
 use Rattle.tib_tree.specs.Trees.{Trees, none, tree, only}
 use Rattle.tib_grammar.specs.Sides.{Symbol, label, hole, holes, holes_of}
@@ -8,7 +8,7 @@ use Rattle.tib_grammar.specs.Run.{rule_at}
 use Rattle.tib_grammar.proofs.Sides.{holes-relabel}
 use Rattle.tib_grammar.specs.declared.Rule.{Rule}
 use Rattle.tib_cost.proofs.Least.{IsLeast-unique}
-use Rattle.tib_lex.proofs.Members.{each_has, has_left, has_right, has_either}
+use Rattle.tib_lex.proofs.Members.{has_left}
 use Rattle.tib_lex.proofs.Numbers.{nat_eq_cases}
 use Rattle.tib_hunt.specs.Lawful.{IsLawful}
 use Rattle.tib_transducer.specs.Rules.{transducer_rule}

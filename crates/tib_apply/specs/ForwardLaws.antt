@@ -1,18 +1,17 @@
 -- What holds of all edges of forward application over tables, and of all rules that stand for them.
-use Rattle.std.specs.Prelude.{◌≡◌, ℕ, ◌+◌, ◌<◌, ◌⊎◌, List, [], ◌∷◌, ◌++◌, length, map, take, drop, refl, Option, Some}
+use Rattle.std.specs.Prelude.{◌≡◌, ℕ, ◌+◌, ◌<◌, ◌⊎◌, List, [], ◌∷◌, length, map, take, drop, refl, Option, Some}
 use Rattle.std.proofs.Common.{zero, suc, arith, ap, sym, ◌∙◌, subst, get_or, inl, inr}
-use Rattle.tib_lex.specs.Lists.{Has, Each}
+use Rattle.tib_lex.specs.Lists.{Has}
 use Rattle.tib_lex.proofs.Members.{each_has, has_at}
 use Rattle.tib_lex.proofs.Lists.{has_mapped}
 use Rattle.tib_tree.specs.Trees.{Trees, none, tree, only}
-use Rattle.tib_grammar.specs.Sides.{Symbol, label, hole, holes, holes_of, side_map}
+use Rattle.tib_grammar.specs.Sides.{Symbol, label, hole, holes, holes_of}
 use Rattle.tib_grammar.specs.Run.{rule_at}
 use Rattle.tib_grammar.specs.declared.Rule.{Rule}
 use Rattle.tib_grammar.proofs.Sides.{holes-relabel, holes_of-label}
 use Rattle.tib_cost.proofs.Least.{IsLeast-unique}
 use Rattle.tib_hunt.specs.Lawful.{IsLawful}
-use Rattle.tib_transducer.specs.Rules.{transducer_rule, variables_of, variables_in}
-use Rattle.tib_transducer.specs.declared.Pair.{Pair}
+use Rattle.tib_transducer.specs.Rules.{transducer_rule}
 use Rattle.tib_transducer.specs.declared.TransducerRule.{TransducerRule}
 use Rattle.tib_match.specs.Matches.{IsMatchCost}
 use Rattle.tib_apply.specs.Restrictions.{restricted_labels}

@@ -1,5 +1,5 @@
 -- The edges of a key, listed one after another.
-use Rattle.std.specs.Prelude.{◌≡◌, ℕ, ◌+◌, ◌<◌, ◌≤◌, List, [], ◌∷◌, ◌++◌, length, map}
+use Rattle.std.specs.Prelude.{◌≡◌, ℕ, ◌+◌, ◌<◌, ◌≤◌, List, [], ◌∷◌, ◌++◌, length}
 use Rattle.tib_lex.specs.Lists.{Has, Distinct, Along, total}
 use Rattle.tib_tree.specs.Trees.{size}
 use Rattle.tib_grammar.specs.Sides.{Side as SideFor, holes_of}

@@ -1,5 +1,5 @@
 -- Edges over places whose side is that of a transducer's rule, and how they are read.
-use Rattle.std.specs.Prelude.{◌≡◌, ℕ, ◌+◌, List, [], ◌∷◌, ◌++◌, map, length}
+use Rattle.std.specs.Prelude.{◌≡◌, ℕ, ◌+◌, List, [], ◌∷◌, ◌++◌, length}
 use Rattle.std.proofs.Common.{zero, suc}
 use Rattle.tib_lex.specs.Lists.{Each}
 use Rattle.tib_tree.specs.Trees.{Trees, none, tree, only}

@@ -1,4 +1,4 @@
-use Rattle.std.proofs.Common.{◌≡◌, ap, sym, ◌∙◌, Some}
+use Rattle.std.proofs.Common.{ap, sym, ◌∙◌, Some}
 use Rattle.std.specs.HashMap.{get}
 use Rattle.tib_cost.specs.Least.{times, lesser}
 use Rattle.tib_apply.specs.LeastRuns.{same_start, inside_total}

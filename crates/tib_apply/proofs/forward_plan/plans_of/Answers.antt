@@ -1,4 +1,4 @@
-use Rattle.std.proofs.Common.{subst, sym, length}
+use Rattle.std.proofs.Common.{subst, sym}
 use Rattle.std.proofs.lemmas.List.{get_or_read}
 use Rattle.tib_transducer.specs.Rules.{no_rule}
 use Rattle.tib_apply.specs.ForwardPlans.{ArePlans}

@@ -1,4 +1,4 @@
-use Rattle.std.proofs.Common.{◌≡◌, ◌<◌, ℕ, arith, ap, sym, ◌∙◌, subst, length}
+use Rattle.std.proofs.Common.{◌<◌, arith, ap, sym, ◌∙◌, subst, length}
 use Rattle.std.specs.Prelude.{slice_index}
 use Rattle.tib_grammar.specs.Sides.{side_map}
 use Rattle.tib_grammar.proofs.Holes.{holes_of_items}

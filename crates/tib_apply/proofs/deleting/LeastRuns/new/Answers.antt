@@ -1,9 +1,8 @@
-use Rattle.std.proofs.Common.{ℕ, List, ◌≡◌, ap, sym, ◌∙◌, subst, length}
-use Rattle.std.specs.HashMap.{get}
+use Rattle.std.proofs.Common.{◌≡◌, ap, sym, ◌∙◌, subst, length}
 use Rattle.tib_grammar.specs.Range.{AreInRange}
 use Rattle.tib_grammar.specs.GrammarOf.{GrammarOf}
 use Rattle.tib_inside.specs.Inside.{AreInsides}
-use Rattle.tib_apply.specs.LeastRuns.{same_start, begun_by, AreBegun}
+use Rattle.tib_apply.specs.LeastRuns.{AreBegun}
 use Rattle.tib_apply.proofs.RunCosts.{least_runs}
 use Rattle.tib_apply.proofs.deleting.LeastRuns.new.Goals as goal
 

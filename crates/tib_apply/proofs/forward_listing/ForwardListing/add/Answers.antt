@@ -1,4 +1,4 @@
-use Rattle.std.proofs.Common.{arith, ap, sym, ◌∙◌, refl, length, map}
+use Rattle.std.proofs.Common.{arith, ap, refl, length, map}
 use Rattle.std.proofs.lemmas.List.{length-append}
 use Rattle.tib_apply.specs.ForwardPlans.{end_at}
 use Rattle.tib_apply.proofs.ForwardListed.{items_size, holes_within, lengths_map}

@@ -1,8 +1,6 @@
-use Rattle.std.proofs.Common.{◌≡◌, ◌<◌, ℕ, false, length, map, get_or, ap, sym, ◌∙◌, subst, arith}
+use Rattle.std.proofs.Common.{false, length, map, get_or, ap, sym, ◌∙◌}
 use Rattle.std.specs.Prelude.{nat_eq}
 use Rattle.std.specs.List.{list_any}
-use Rattle.tib_lex.specs.Lists.{Each}
-use Rattle.tib_apply.specs.ForwardPlans.{end_of, unmarked_of}
 use Rattle.tib_apply.proofs.ForwardPlanned.{pairs_below, ends_below, variables_below, is_plan}
 use Rattle.tib_apply.proofs.forward_plan.Plan.new.Goals as goal
 
