@@ -1,0 +1,6 @@
+//! Determinization of a weighted tree grammar by residuals. The vectors that are reached from the labels over no state, with their
+//! rules, are a grammar in deterministic form that has the series of the input. It stands on `tib_grammar` and `tib_hunt`.
+#![tactic(auto)]
+
+pub mod examples;
+pub mod laws;
