@@ -2,5 +2,17 @@
 //! rules, are a grammar in deterministic form that has the series of the input. It stands on `tib_grammar` and `tib_hunt`.
 #![tactic(auto)]
 
+mod alive;
 pub mod examples;
 pub mod laws;
+mod listing;
+mod residuals;
+mod settling;
+mod shapes;
+mod vector;
+mod vector_rule;
+mod walk;
+
+pub use residuals::Residuals;
+pub use vector::Vector;
+pub use vector_rule::VectorRule;

@@ -1,0 +1,172 @@
+-- The loop of a walk over its levels.
+use Rattle.std.specs.Prelude.{◌≡◌, ℕ, ◌+◌, ◌-◌, ◌^◌, ◌<◌, ◌≤◌, List, [], ◌∷◌, ◌++◌, length, map, Option, None, Some, refl}
+use Rattle.std.proofs.Common.{zero, suc, arith, ap, sym, ◌∙◌, subst, append_assoc, append-nil}
+use Rattle.tib_lex.specs.Lists.{Has, Each}
+use Rattle.tib_grammar.specs.declared.Rule.{Rule}
+use Rattle.tib_determinize.specs.declared.walk.Level.{Level}
+use Rattle.tib_determinize.specs.declared.listing.Listing.{Listing}
+use Rattle.tib_determinize.specs.Vectors.{VectorOf}
+use Rattle.tib_determinize.specs.Tries.{first_at, many_at, span, under, behind_label}
+use Rattle.tib_determinize.specs.Levels.{IsLevel, copies, level_list, past, pending, pending_below, steps_at, steps_of, tries_of}
+use Rattle.tib_determinize.specs.Stepped.{IsUnderway, StepsOverrun}
+use Rattle.tib_determinize.proofs.Underway.{underway_begins, underway_goes_on, overrun_next}
+use Rattle.tib_determinize.proofs.Visits.{tries_fresh}
+use Rattle.tib_determinize.specs.Alive.{AreAlive}
+
+-- lists behind a label, one after another
+pub labelled_append : (f : ℕ) (xs ys : List (List ℕ)) → behind_label f (xs ++ ys) ≡ behind_label f xs ++ behind_label f ys
+labelled_append f [] ys = refl
+labelled_append f (x ∷ xs) ys = ap (λ (zs : List (ℕ × List ℕ)). (f, x) ∷ zs) (labelled_append f xs ys)
+
+-- what is pending of one level more
+pub pending_more : (n j : ℕ) (ls : List Level) (l : Level) → pending n j (ls ++ l ∷ []) ≡ tries_of n j l ++ pending n j ls
+pending_more n j [] l = sym (append-nil (tries_of n j l))
+pending_more n j (x ∷ ls) l = ap (λ (xs : List (List ℕ)). xs ++ tries_of n j x) (pending_more n j ls l) ∙ append_assoc (tries_of n j l) (pending n j ls) (tries_of n j x)
+
+-- and of a level with one below it
+pub pending_pushed : (n j : ℕ) (ls : List Level) (l : Level) (below : Option Level) → pending n j (ls ++ l ∷ level_list below) ≡ pending_below n j below ++ (tries_of n j l ++ pending n j ls)
+pending_pushed n j ls l None = pending_more n j ls l
+pending_pushed n j ls l (Some b) =
+    ap (pending n j) (sym (append_assoc ls (l ∷ []) (b ∷ []))) ∙ pending_more n j (ls ++ l ∷ []) b ∙ ap (λ (xs : List (List ℕ)). tries_of n j b ++ xs) (pending_more n j ls l)
+
+-- the next position of a level, and the others
+pub tries_split : (n j : ℕ) (l : Level) → l.next < l.end → tries_of n j l ≡ under n j l.place (l.next ∷ l.behind.items) ++ tries_of n j (past l)
+tries_split n j l h =
+    let one : l.end - l.next ≡ suc (l.end - (l.next + 1)) = omega (arith, h) in
+    let next : suc l.next ≡ l.next + 1 = omega arith in
+    ap (span (λ p. under n j l.place (p ∷ l.behind.items)) l.next) one
+    ∙ ap (λ m. under n j l.place (l.next ∷ l.behind.items) ++ span (λ p. under n j l.place (p ∷ l.behind.items)) m (l.end - (l.next + 1))) next
+
+-- a level that is done has none
+pub tries_done : (n j : ℕ) (l : Level) → l.end ≤ l.next → tries_of n j l ≡ []
+tries_done n j l h = let none : l.end - l.next ≡ 0 = omega (arith, h) in ap (span (λ p. under n j l.place (p ∷ l.behind.items)) l.next) none
+
+each_append : {A : Type 0} (P : A → Type 0) (xs ys : List A) → Each P xs → Each P ys → Each P (xs ++ ys)
+each_append P [] ys a b = b
+each_append P (x ∷ xs) ys a b = (a.0, each_append P xs ys a.1 b)
+
+each_front : {A : Type 0} (P : A → Type 0) (xs ys : List A) → Each P (xs ++ ys) → Each P xs × Each P ys
+each_front P [] ys a = (tt, a)
+each_front P (x ∷ xs) ys a = let r = each_front P xs ys a.1 in ((a.0, r.0), r.1)
+
+-- the steps of more levels
+pub steps_append : (many : ℕ) (ls ms : List Level) → steps_of many (ls ++ ms) ≡ steps_of many ls + steps_of many ms
+steps_append many [] ms = omega arith
+steps_append many (l ∷ ls) ms = let r = steps_append many ls ms in omega (arith, r)
+
+copies_more : (c d x : ℕ) → c ≤ d → copies c x ≤ copies d x
+copies_more zero d x h = omega arith
+copies_more (suc c) zero x h = absurd (omega arith)
+copies_more (suc c) (suc d) x h = let r = copies_more c d x (omega arith) in omega (arith, r)
+
+steps_some : (many i : ℕ) → 0 < steps_at many i
+steps_some many zero = omega arith
+steps_some many (suc i) = omega arith
+
+-- the level below and a level behind its next position take fewer steps
+pub steps_fewer :
+    (many : ℕ) (ls : List Level) (l : Level) (below : Option Level) → l.next < l.end → ((b : Level) → below ≡ Some b → (suc b.place ≡ l.place) × (b.end - b.next ≤ many)) →
+    steps_of many (ls ++ past l ∷ level_list below) < steps_of many (ls ++ l ∷ [])
+steps_fewer many ls l None next f =
+    let one : l.end - l.next ≡ suc (l.end - (l.next + 1)) = omega (arith, next) in
+    let a = steps_append many ls (past l ∷ []) in
+    let b = steps_append many ls (l ∷ []) in
+    let c : copies (l.end - l.next) (steps_at many l.place) ≡ steps_at many l.place + copies (l.end - (l.next + 1)) (steps_at many l.place) = ap (λ m. copies m (steps_at many l.place)) one in
+    let s = steps_some many l.place in
+    omega (arith, a, b, c, s)
+steps_fewer many ls l (Some m) next f =
+    let one : l.end - l.next ≡ suc (l.end - (l.next + 1)) = omega (arith, next) in
+    let a = steps_append many ls (past l ∷ m ∷ []) in
+    let b = steps_append many ls (l ∷ []) in
+    let c : copies (l.end - l.next) (steps_at many l.place) ≡ steps_at many l.place + copies (l.end - (l.next + 1)) (steps_at many l.place) = ap (λ x. copies x (steps_at many l.place)) one in
+    let few = f m refl in
+    let d : steps_at many l.place ≡ suc (suc (copies many (steps_at many m.place))) = ap (steps_at many) (sym few.0) in
+    let e = copies_more (m.end - m.next) many (steps_at many m.place) few.1 in
+    omega (arith, a, b, c, d, e)
+
+-- a level that is done takes a step
+pub steps_done : (many : ℕ) (ls : List Level) (l : Level) → steps_of many ls < steps_of many (ls ++ l ∷ [])
+steps_done many ls l = let a = steps_append many ls (l ∷ []) in omega (arith, a)
+
+module _ (product : ℕ → ℕ → ℕ) (rules : List (Rule ℕ)) (order : List VectorOf) (f k n j : ℕ) (all : List (ℕ × List ℕ)) (old : Listing) where
+  -- between two steps of the loop
+  pub record IsWalking (ls : List Level) (now : Listing) : Type 0 where
+    pub listed : IsUnderway product rules order all (behind_label f (pending n j ls)) old now
+    pub levels : Each (IsLevel product rules order f k) ls
+    pub few : Each (λ l. l.end - l.next ≤ length order) ls
+
+  -- the level of the last place alone
+  pub walking_begins :
+      (l : Level) → suc l.place ≡ k → l.behind.items ≡ [] → AreAlive product rules order f k k [] l.alive.items → l.next ≡ first_at n j l.place → l.end ≡ first_at n j l.place + many_at n j l.place →
+      l.end ≤ length order → l.end ≤ 2 ^ 32 → all ≡ behind_label f (under n j k []) → IsWalking (l ∷ []) old
+  walking_begins l place behind alive next end within fits is = record {
+    listed = subst (λ (xs : List (ℕ × List ℕ)). IsUnderway product rules order all xs old old)
+        (is ∙ ap (behind_label f) (sym (tries_fresh n j l.place l [] refl behind next end ∙ ap (λ m. under n j m []) place))) (underway_begins product rules order all old);
+    levels = (
+      record {
+        place = ap (λ (xs : List ℕ). suc l.place + length xs) behind ∙ (let z : suc l.place + 0 ≡ suc l.place = omega arith in z) ∙ place;
+        alive = subst (λ m. AreAlive product rules order f k m l.behind.items l.alive.items) (sym place) (subst (λ (xs : List ℕ). AreAlive product rules order f k k xs l.alive.items) (sym behind) alive);
+        within = within;
+        fits = fits;
+      },
+      tt,
+    );
+    few = ((let e = within in omega (arith, e)), tt);
+  }
+
+  -- a level that is done is left out
+  pub walking_done : (ls : List Level) (l : Level) (now : Listing) → l.end ≤ l.next → IsWalking (ls ++ l ∷ []) now → IsWalking ls now
+  walking_done ls l now h w = record {
+    listed = subst (λ (xs : List (List ℕ)). IsUnderway product rules order all (behind_label f xs) old now)
+        (pending_more n j ls l ∙ ap (λ (xs : List (List ℕ)). xs ++ pending n j ls) (tries_done n j l h)) w.listed;
+    levels = (each_front (IsLevel product rules order f k) ls (l ∷ []) w.levels).0;
+    few = (each_front (λ (m : Level). m.end - m.next ≤ length order) ls (l ∷ []) w.few).0;
+  }
+
+  -- what is pending, the next position of the last level first
+  next_first : (ls : List Level) (l : Level) → l.next < l.end →
+      behind_label f (pending n j (ls ++ l ∷ [])) ≡ behind_label f (under n j l.place (l.next ∷ l.behind.items)) ++ behind_label f (tries_of n j (past l) ++ pending n j ls)
+  next_first ls l h =
+      ap (behind_label f) (pending_more n j ls l ∙ ap (λ (xs : List (List ℕ)). xs ++ pending n j ls) (tries_split n j l h)
+      ∙ append_assoc (under n j l.place (l.next ∷ l.behind.items)) (tries_of n j (past l)) (pending n j ls))
+      ∙ labelled_append f (under n j l.place (l.next ∷ l.behind.items)) (tries_of n j (past l) ++ pending n j ls)
+
+  -- the last level of those between two steps
+  pub last_level : (ls : List Level) (l : Level) (now : Listing) → IsWalking (ls ++ l ∷ []) now → IsLevel product rules order f k l
+  last_level ls l now w = (each_front (IsLevel product rules order f k) ls (l ∷ []) w.levels).1.0
+
+  -- its next position was tried
+  pub walking_next :
+      (ls : List Level) (l : Level) (below : Option Level) (mid now : Listing) → l.next < l.end → IsWalking (ls ++ l ∷ []) mid →
+      IsUnderway product rules order (behind_label f (under n j l.place (l.next ∷ l.behind.items))) (behind_label f (pending_below n j below)) mid now →
+      ((b : Level) → below ≡ Some b → IsLevel product rules order f k b) → ((b : Level) → below ≡ Some b → b.end - b.next ≤ length order) → IsWalking (ls ++ past l ∷ level_list below) now
+  walking_next ls l below mid now h w u is few =
+      let level = last_level ls l mid w in
+      let old_few = (each_front (λ (m : Level). m.end - m.next ≤ length order) ls (l ∷ []) w.few) in
+      let past_few : l.end - (l.next + 1) ≤ length order = (let o = old_few.1.0 in omega (arith, o)) in
+      record {
+        listed = subst (λ (xs : List (ℕ × List ℕ)). IsUnderway product rules order all xs old now)
+            (sym (labelled_append f (pending_below n j below) (tries_of n j (past l) ++ pending n j ls)) ∙ ap (behind_label f) (sym (pending_pushed n j ls (past l) below)))
+            (underway_goes_on product rules order all old mid now (behind_label f (under n j l.place (l.next ∷ l.behind.items))) (behind_label f (pending_below n j below))
+            (behind_label f (tries_of n j (past l) ++ pending n j ls))
+            (subst (λ (xs : List (ℕ × List ℕ)). IsUnderway product rules order all xs old mid) (next_first ls l h) w.listed) u);
+        levels = each_append (IsLevel product rules order f k) ls (past l ∷ level_list below) (each_front (IsLevel product rules order f k) ls (l ∷ []) w.levels).0
+            (record { place = level.place; alive = level.alive; within = level.within; fits = level.fits }, below_levels below is);
+        few = each_append (λ (m : Level). m.end - m.next ≤ length order) ls (past l ∷ level_list below) old_few.0 (past_few, below_few below few);
+      }
+    where
+      below_levels : (o : Option Level) → ((b : Level) → o ≡ Some b → IsLevel product rules order f k b) → Each (IsLevel product rules order f k) (level_list o)
+      below_levels None g = tt
+      below_levels (Some b) g = (g b refl, tt)
+
+      below_few : (o : Option Level) → ((b : Level) → o ≡ Some b → b.end - b.next ≤ length order) → Each (λ (m : Level). m.end - m.next ≤ length order) (level_list o)
+      below_few None g = tt
+      below_few (Some b) g = (g b refl, tt)
+
+  -- its next position has too many parts
+  pub walking_overruns :
+      (ls : List Level) (l : Level) (mid : Listing) → l.next < l.end → old.budget ≡ mid.budget → IsWalking (ls ++ l ∷ []) mid →
+      StepsOverrun product rules order (behind_label f (under n j l.place (l.next ∷ l.behind.items))) mid → StepsOverrun product rules order all old
+  walking_overruns ls l mid h same w o =
+      overrun_next product rules order all old mid (behind_label f (under n j l.place (l.next ∷ l.behind.items))) (behind_label f (tries_of n j (past l) ++ pending n j ls)) same
+      (subst (λ (xs : List (ℕ × List ℕ)). IsUnderway product rules order all xs old mid) (next_first ls l h) w.listed) o

@@ -1,0 +1,104 @@
+//! The rules that are alive on a walk over child places, with the products of their residuals.
+
+ghost use Rattle.std.specs.Prelude.{◌≡◌, ◌<◌, Some, length, IfOk};
+ghost use Rattle.tib_lex.specs.Lists.{Each};
+ghost use Rattle.tib_grammar.specs.Forms.{AreNormal};
+ghost use Rattle.tib_determinize.specs.Alive.{HasPlace, begun, cost_with, costs_of, narrowed, weight_with};
+
+use crate::vector::Vector;
+use std::alloc::{AllocError, Global};
+use tib_cost::{Cost, Semiring};
+use tib_grammar::Rule;
+
+/// A rule whose states behind a place stand in the vectors there, with the product of their residuals.
+#[derive(Drop)]
+pub(crate) struct Alive {
+    pub rule: u32,
+    pub weight: Cost,
+}
+
+/// Each of these rules, with the product of nothing.
+pub(crate) fn begin<S: Semiring>(alloc: Global, positions: &[u32]) -> Result<Vec<Alive>, AllocError>
+    ensures { IfOk result (λ alive. alive.items ≡ begun positions.now) }
+{
+    let mut alive = Vec::with_capacity(alloc, positions.len())?;
+    for rule in positions {
+        alive.push(Alive {
+            rule: *rule,
+            weight: S::one(),
+        })?;
+    }
+    Ok(alive)
+}
+
+// The weight of a rule that is alive, where a vector stands at the place before.
+fn weight<S: Semiring>(
+    rules: &[Rule<u32>],
+    place: usize,
+    vector: &Vector,
+    alive: &Alive,
+) -> Option<Cost>
+    requires normal { AreNormal rules.now }
+    requires place { HasPlace rules.now place alive.now }
+    ensures { result ≡ weight_with S.product rules.now place vector.now alive.now }
+{
+    let states = rules[alive.rule as usize].states_below();
+    match vector.residual(states[place].state()) {
+        Some(residual) => S::times(residual, alive.weight),
+        None => None,
+    }
+}
+
+/// The rules that are alive still, where a vector stands at the place before.
+pub(crate) fn narrow<S: Semiring>(
+    alloc: Global,
+    rules: &[Rule<u32>],
+    place: usize,
+    vector: &Vector,
+    alive: &[Alive],
+) -> Result<Vec<Alive>, AllocError>
+    requires normal { AreNormal rules.now }
+    requires place { Each (HasPlace rules.now place) alive.now }
+    ensures { IfOk result (λ left. left.items ≡ narrowed S.product rules.now place vector.now alive.now) }
+{
+    let mut left = Vec::new(alloc);
+    for one in alive {
+        if let Some(weight) = weight::<S>(rules, place, vector, one) {
+            left.push(Alive {
+                rule: one.rule,
+                weight,
+            })?;
+        }
+    }
+    Ok(left)
+}
+
+// The left state of a rule that is alive at its cost, none where that is above the greatest.
+fn cost<S: Semiring>(rules: &[Rule<u32>], alive: &Alive) -> Option<(u32, Cost)>
+    requires { alive.now.rule < length rules.now }
+    ensures { result ≡ cost_with S.product rules.now alive.now }
+{
+    let rule = &rules[alive.rule as usize];
+    match S::times(rule.cost, alive.weight) {
+        Some(cost) => Some((rule.left, cost)),
+        None => None,
+    }
+}
+
+/// The left states of the rules that are alive, at their costs.
+pub(crate) fn costs<S: Semiring>(
+    alloc: Global,
+    rules: &[Rule<u32>],
+    alive: &[Alive],
+) -> Result<Vec<(u32, Cost)>, AllocError>
+    requires { Each (λ a. a.rule < length rules.now) alive.now }
+    ensures { IfOk result (λ costs. costs.items ≡ costs_of S.product rules.now alive.now) }
+{
+    let mut costs = Vec::with_capacity(alloc, alive.len())?;
+    for one in alive {
+        if let Some(cost) = cost::<S>(rules, one) {
+            costs.push(cost)?;
+        }
+    }
+    Ok(costs)
+}

@@ -1,0 +1,229 @@
+//! The walk over child places that lists the edges of a label and a rank, of those lists of positions in which a position stands
+//! last at one place.
+
+ghost use Rattle.std.specs.Prelude.{◌≡◌, ◌+◌, ◌-◌, ◌<◌, ◌≤◌, ◌^◌, ◌∷◌, ◌++◌, [], length, map, IfOk, IfSome, OnOk, Err};
+ghost use Rattle.std.proofs.Common.{suc};
+ghost use Rattle.tib_lex.specs.Lists.{Each};
+ghost use Rattle.tib_cost.specs.Semiring.{most};
+ghost use Rattle.tib_grammar.specs.Forms.{AreNormal};
+ghost use Rattle.tib_determinize.specs.Alive.{AreAlive};
+ghost use Rattle.tib_determinize.specs.Levels.{IsLevel, level_list, past, pending_below};
+ghost use Rattle.tib_determinize.specs.Stepped.{AddsSteps, IsUnderway, IsWithinBudget, StepsOverrun};
+ghost use Rattle.tib_determinize.specs.Tries.{behind_label, first_at, many_at, under};
+ghost use Rattle.tib_determinize.specs.Vectors.{Rises};
+
+use crate::alive::{Alive, costs, narrow};
+use crate::listing::Listing;
+use crate::settling::settle;
+use crate::vector::Vector;
+use std::alloc::{AllocError, Global};
+use tib_cost::Semiring;
+use tib_grammar::Rule;
+use tib_hunt::ExpandError;
+use tib_tree::Label;
+
+/// What a walk goes over: the edges of a label over a number of vectors of an order, at whose last place of them a position stands.
+#[derive(Clone, Copy)]
+pub(crate) struct Walk<'w> {
+    pub rules: &'w [Rule<u32>],
+    pub order: &'w [Vector],
+    pub label: Label,
+    pub rank: u32,
+    pub position: u32,
+    pub last: u32,
+}
+
+/// The positions that are to be tried at a place, with those behind it and the rules that are alive there.
+#[derive(Drop)]
+pub(crate) struct Level {
+    place: u32,
+    behind: Vec<u32>,
+    alive: Vec<Alive>,
+    next: usize,
+    end: usize,
+}
+
+impl Level {
+    /// The level of a place.
+    pub fn new(walk: &Walk<'_>, place: u32, behind: Vec<u32>, alive: Vec<Alive>) -> Level
+        requires { walk.now.position < length walk.now.order.now }
+        ensures place { result.place ≡ place }
+        ensures behind { result.behind ≡ behind }
+        ensures alive { result.alive ≡ alive }
+        ensures next { result.next ≡ first_at walk.now.position walk.now.last place }
+        ensures end { result.end ≡ first_at walk.now.position walk.now.last place + many_at walk.now.position walk.now.last place }
+        ensures within { result.end ≤ length walk.now.order.now }
+        ensures fits { result.end ≤ 2 ^ 32 }
+    {
+        let position = walk.position as usize;
+        let (next, end) = if place == walk.last {
+            (position, position + 1)
+        } else if walk.last < place {
+            (0, position)
+        } else {
+            (0, position + 1)
+        };
+        Level {
+            place,
+            behind,
+            alive,
+            next,
+            end,
+        }
+    }
+}
+
+// A position before others.
+fn put_before(alloc: Global, position: u32, behind: &[u32]) -> Result<Vec<u32>, AllocError>
+    ensures { IfOk result (λ positions. positions.items ≡ position ∷ behind.now) }
+{
+    let mut positions = Vec::new(alloc);
+    positions.push(position)?;
+    positions.extend_from_slice(behind)?;
+    Ok(positions)
+}
+
+// Lists the edge of the label over the vectors at these positions, if it has a step.
+pub(crate) fn list<S: Semiring>(
+    alloc: Global,
+    walk: &Walk<'_>,
+    positions: &[u32],
+    alive: &[Alive],
+    listing: &mut Listing,
+) -> Result<(), ExpandError>
+    requires alive { AreAlive S.product walk.now.rules.now walk.now.order.now walk.now.label walk.now.rank 0 positions.now alive.now }
+    requires normal { AreNormal walk.now.rules.now }
+    requires rank { length positions.now ≡ walk.now.rank }
+    requires within { IsWithinBudget listing.old }
+    ensures added { OnOk result (AddsSteps S.product walk.now.rules.now walk.now.order.now ((walk.now.label, positions.now) ∷ []) listing.old listing.new) }
+    ensures more { result ≡ Err ExpandError.More →
+        StepsOverrun S.product walk.now.rules.now walk.now.order.now ((walk.now.label, positions.now) ∷ []) listing.old }
+    ensures within { OnOk result (IsWithinBudget listing.new) }
+    ensures budget { listing.new.budget ≡ listing.old.budget }
+{
+    let Ok(costs) = costs::<S>(alloc, walk.rules, alive) else {
+        return Err(ExpandError::OutOfMemory);
+    };
+    match settle::<S>(alloc, costs) {
+        Ok(Some(step)) => listing.add(alloc, walk.label, positions, step),
+        Ok(None) => Ok(()),
+        Err(_) => Err(ExpandError::OutOfMemory),
+    }
+}
+
+// Tries the next position of a level: lists the edge of a whole list, or answers the level of the place before.
+fn visit<S: Semiring>(
+    alloc: Global,
+    walk: &Walk<'_>,
+    level: &Level,
+    listing: &mut Listing,
+) -> Result<Option<Level>, ExpandError>
+    requires normal { AreNormal walk.now.rules.now }
+    requires rise { Each (λ v. Rises v) walk.now.order.now }
+    requires position { walk.now.position < length walk.now.order.now }
+    requires level { IsLevel S.product walk.now.rules.now walk.now.order.now walk.now.label walk.now.rank level.now }
+    requires next { level.now.next < level.now.end }
+    requires within { IsWithinBudget listing.old }
+    ensures underway { IfOk result (λ below.
+        IsUnderway S.product walk.now.rules.now walk.now.order.now
+        (behind_label walk.now.label (under walk.now.position walk.now.last level.now.place (level.now.next ∷ level.now.behind.items)))
+        (behind_label walk.now.label (pending_below walk.now.position walk.now.last below)) listing.old listing.new) }
+    ensures level { IfOk result (λ below. IfSome below (IsLevel S.product walk.now.rules.now walk.now.order.now walk.now.label walk.now.rank)) }
+    ensures few { IfOk result (λ below. IfSome below (λ l. (suc l.place ≡ level.now.place) × (l.end - l.next ≤ length walk.now.order.now))) }
+    ensures more { result ≡ Err ExpandError.More →
+        StepsOverrun S.product walk.now.rules.now walk.now.order.now
+        (behind_label walk.now.label (under walk.now.position walk.now.last level.now.place (level.now.next ∷ level.now.behind.items))) listing.old }
+    ensures within { OnOk result (IsWithinBudget listing.new) }
+    ensures budget { listing.new.budget ≡ listing.old.budget }
+{
+    let place = level.place as usize;
+    let vector = &walk.order[level.next];
+    let Ok(alive) = narrow::<S>(alloc, walk.rules, place, vector, &level.alive) else {
+        return Err(ExpandError::OutOfMemory);
+    };
+    if alive.is_empty() {
+        return Ok(None);
+    }
+    let Ok(positions) = put_before(alloc, level.next as u32, &level.behind) else {
+        return Err(ExpandError::OutOfMemory);
+    };
+    if place == 0 {
+        match list::<S>(alloc, walk, &positions, &alive, listing) {
+            Ok(()) => {}
+            Err(fault) => return Err(fault),
+        }
+        return Ok(None);
+    }
+    Ok(Some(Level::new(walk, level.place - 1, positions, alive)))
+}
+
+// Puts a level back behind its next position, and the one below on top of it.
+fn push_levels(
+    levels: &mut Vec<Level>,
+    level: Level,
+    below: Option<Level>,
+) -> Result<(), AllocError>
+    requires { level.next < 2 ^ 63 }
+    ensures { OnOk result (levels.new.items ≡ levels.old.items ++ (past level ∷ level_list below)) }
+{
+    let Level {
+        place,
+        behind,
+        alive,
+        next,
+        end,
+    } = level;
+    levels.push(Level {
+        place,
+        behind,
+        alive,
+        next: next + 1,
+        end,
+    })?;
+    if let Some(below) = below {
+        levels.push(below)?;
+    }
+    Ok(())
+}
+
+/// Lists the edges of a walk, of which these rules are alive behind the last place. `More` comes exactly where they have more parts
+/// than the budget leaves. Cost: for each list of positions that some rule matches from some place on, the rules that match it there,
+/// with one look into a vector for each of them and each position that is tried before it.
+pub(crate) fn list_all<S: Semiring>(
+    alloc: Global,
+    walk: &Walk<'_>,
+    alive: Vec<Alive>,
+    listing: &mut Listing,
+) -> Result<(), ExpandError>
+    requires normal { AreNormal walk.now.rules.now }
+    requires rise { Each (λ v. Rises v) walk.now.order.now }
+    requires position { walk.now.position < length walk.now.order.now }
+    requires rank { 1 ≤ walk.now.rank }
+    requires alive { AreAlive S.product walk.now.rules.now walk.now.order.now walk.now.label walk.now.rank walk.now.rank [] alive.items }
+    requires within { IsWithinBudget listing.old }
+    ensures added { OnOk result (AddsSteps S.product walk.now.rules.now walk.now.order.now
+        (behind_label walk.now.label (under walk.now.position walk.now.last walk.now.rank [])) listing.old listing.new) }
+    ensures more { result ≡ Err ExpandError.More → StepsOverrun S.product walk.now.rules.now walk.now.order.now
+        (behind_label walk.now.label (under walk.now.position walk.now.last walk.now.rank [])) listing.old }
+    ensures within { OnOk result (IsWithinBudget listing.new) }
+    ensures budget { listing.new.budget ≡ listing.old.budget }
+{
+    let mut levels = Vec::new(alloc);
+    let Ok(()) = levels.push(Level::new(walk, walk.rank - 1, Vec::new(alloc), alive)) else {
+        return Err(ExpandError::OutOfMemory);
+    };
+    while let Some(level) = levels.pop() {
+        if level.next >= level.end {
+            continue;
+        }
+        let below = match visit::<S>(alloc, walk, &level, listing) {
+            Ok(below) => below,
+            Err(fault) => return Err(fault),
+        };
+        match push_levels(&mut levels, level, below) {
+            Ok(()) => {}
+            Err(_) => return Err(ExpandError::OutOfMemory),
+        }
+    }
+    Ok(())
+}
