@@ -210,15 +210,16 @@ pub along_step :
 along_step R xs i d ys y h r f rest a =
     subst (Along R xs) (sym (append_assoc ys (y ∷ []) rest)) (f (y ∷ rest) (subst (λ zs. Along R zs (y ∷ rest)) (sym (drop_at xs i d h)) (r, a)))
 
+-- nothing of a list is left behind its end
+pub drop_all : {A : Type 0} (xs : List A) (i : ℕ) → length xs ≤ i → drop i xs ≡ []
+drop_all [] zero h = refl
+drop_all [] (suc i) h = refl
+drop_all (x ∷ xs) zero h = absurd (omega arith)
+drop_all (x ∷ xs) (suc i) h = drop_all xs i (omega arith)
+
 -- and none left
 pub along_done : {A B : Type 0} (R : A → B → Type 0) (xs : List A) (i : ℕ) (ys : List B) → length xs ≤ i → ((rest : List B) → Along R (drop i xs) rest → Along R xs (ys ++ rest)) → Along R xs ys
 along_done R xs i ys h f = subst (Along R xs) (append-nil ys) (f [] (subst (λ zs. Along R zs []) (sym (drop_all xs i h)) tt))
-  where
-    drop_all : {A : Type 0} (xs : List A) (i : ℕ) → length xs ≤ i → drop i xs ≡ []
-    drop_all [] zero h = refl
-    drop_all [] (suc i) h = refl
-    drop_all (x ∷ xs) zero h = absurd (omega arith)
-    drop_all (x ∷ xs) (suc i) h = drop_all xs i (omega arith)
 
 -- the least costs are none of them below the least
 pub none_below : (costs kept : List (ℕ × ℕ)) (m : ℕ) → IsLeastCost costs (Some m) → AreLeastCosts costs kept → Each (λ x. m ≤ x.1) kept

@@ -74,3 +74,12 @@ module _ (product : ℕ → ℕ → ℕ) (rules : List (Rule ℕ)) (order : List
       (es : List Stepped) → IsListing old es →
       (done : List Stepped) × (remaining : List (ℕ × List ℕ)) × (old.budget < total stepped_parts (es ++ done))
       × ((rest : List Stepped) → AreSteps remaining rest → AreSteps all (done ++ rest))
+
+  -- the list has the edges of all that are tried
+  abbrev pub HasSteps : List (ℕ × List ℕ) → Listing → Type 0
+  HasSteps all l = (es : List Stepped) × IsListing l es × AreSteps all es
+
+  -- some first ones of these edges have more parts than the budget
+  abbrev pub StepsExceed : List (ℕ × List ℕ) → ℕ → Type 0
+  StepsExceed all budget =
+      (done : List Stepped) × (remaining : List (ℕ × List ℕ)) × (budget < total stepped_parts done) × ((rest : List Stepped) → AreSteps remaining rest → AreSteps all (done ++ rest))

@@ -6,15 +6,15 @@ ghost use Rattle.tib_hunt.specs.Reached.{most_parts};
 ghost use Rattle.tib_determinize.specs.Shapes.{shapes_in};
 ghost use Rattle.tib_determinize.specs.Determinization.{LeftsBelow};
 ghost use Rattle.tib_determinize.specs.Started.{finals, start_in, with_final};
-ghost use Rattle.tib_determinize.specs.Stepped.{AddsSteps, IsListing, IsWithinBudget, StepsOverrun};
-ghost use Rattle.tib_determinize.specs.Tries.{by_last, behind_label, leaf_tries, tries};
+ghost use Rattle.tib_determinize.specs.Stepped.{AddsSteps, HasSteps, IsWithinBudget, StepsExceed, StepsOverrun};
+ghost use Rattle.tib_determinize.specs.Tries.{by_last, behind_label, tries};
 ghost use Rattle.tib_determinize.specs.Vectors.{Rises};
 
 use crate::alive::begin;
 use crate::listing::Listing;
 use crate::shapes::shapes_of;
 use crate::vector::Vector;
-use crate::walk::{Walk, list, list_all};
+use crate::walk::{Walk, list_all};
 use std::alloc::{AllocError, Global};
 use tib_cost::{Cost, Semiring};
 use tib_hunt::ExpandError;
@@ -61,5 +61,76 @@ impl<'a, S: Semiring> Residuals<'a, S> {
             }
         }
         Ok(found)
+    }
+}
+
+impl<'a, S: Semiring> Residuals<'a, S> {
+    // Lists the edges of a label and a rank at a position, for each place at which the position stands last.
+    fn list_shape(
+        &self,
+        alloc: Global,
+        order: &[Vector],
+        position: u32,
+        shape: (Label, u32),
+        listing: &mut Listing,
+    ) -> Result<(), ExpandError>
+        requires rise { Each (λ v. Rises v) order.now }
+        requires position { position < length order.now }
+        requires within { IsWithinBudget listing.old }
+        ensures added { OnOk result (AddsSteps S.product self.now.normal.now.rules order.now (behind_label shape.0 (by_last position shape.1 0 shape.1)) listing.old listing.new) }
+        ensures more { result ≡ Err ExpandError.More → StepsOverrun S.product self.now.normal.now.rules order.now (behind_label shape.0 (by_last position shape.1 0 shape.1)) listing.old }
+        ensures within { OnOk result (IsWithinBudget listing.new) }
+        ensures budget { listing.new.budget ≡ listing.old.budget }
+    {
+        let (label, rank) = shape;
+        let normal = self.normal;
+        let rules = normal.grammar().rule_list();
+        let matching = normal.rules_with(label, rank);
+        for last in 0..rank {
+            let Ok(alive) = begin::<S>(alloc, matching) else {
+                return Err(ExpandError::OutOfMemory);
+            };
+            let walk = Walk {
+                rules,
+                order,
+                label,
+                rank,
+                position,
+                last,
+            };
+            match list_all::<S>(alloc, &walk, alive, listing) {
+                Ok(()) => {}
+                Err(fault) => return Err(fault),
+            }
+        }
+        Ok(())
+    }
+
+    /// The edges of a position of an order.
+    pub(crate) fn list_position(
+        &self,
+        alloc: Global,
+        order: &[Vector],
+        position: u32,
+        budget: u64,
+    ) -> Result<Listing, ExpandError>
+        requires rise { Each (λ v. Rises v) order.now }
+        requires position { position < length order.now }
+        requires budget { budget ≤ most_parts }
+        ensures listed { IfOk result (HasSteps S.product self.now.normal.now.rules order.now (tries position (shapes_in self.now.normal.now.rules))) }
+        ensures more { result ≡ Err ExpandError.More → StepsExceed S.product self.now.normal.now.rules order.now (tries position (shapes_in self.now.normal.now.rules)) budget }
+        ensures within { IfOk result IsWithinBudget }
+        ensures budget { IfOk result (λ l. l.budget ≡ budget) }
+    {
+        let mut listing = Listing::new(alloc, budget);
+        let shapes: &[(Label, u32)] = &self.shapes;
+        for i in 0..shapes.len() {
+            let shape = &shapes[i];
+            match self.list_shape(alloc, order, position, (shape.0, shape.1), &mut listing) {
+                Ok(()) => {}
+                Err(fault) => return Err(fault),
+            }
+        }
+        Ok(listing)
     }
 }
