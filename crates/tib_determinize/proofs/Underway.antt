@@ -2,9 +2,8 @@
 use Rattle.std.specs.Prelude.{◌≡◌, ◌⊎◌, ℕ, ◌+◌, ◌<◌, ◌≤◌, List, [], ◌∷◌, ◌++◌, length, map, refl}
 use Rattle.std.proofs.Common.{zero, suc, arith, ap, sym, ◌∙◌, subst, inl, inr, append_assoc, append-nil, length-append}
 use Rattle.tib_lex.specs.Lists.{Has, total}
-use Rattle.tib_grammar.specs.Sides.{over}
 use Rattle.tib_grammar.specs.declared.Rule.{Rule}
-use Rattle.tib_determinize.specs.declared.vector_rule.VectorRule.{VectorRule}
+use Rattle.tib_determinize.specs.VectorRules.{PlacedRule, placed_rule}
 use Rattle.tib_determinize.specs.declared.listing.Listing.{Listing}
 use Rattle.tib_determinize.specs.Vectors.{VectorOf, IsStep, vectors_at}
 use Rattle.tib_determinize.specs.Stepped.{Stepped, stepped_parts, rules_from, IsListing, IsAdded, HasNoStep, IsSteppedAt, AreSteps, IsUnderway, AddsSteps, StepsOverrun}
@@ -19,12 +18,12 @@ total_more [] e = omega arith
 total_more (x ∷ es) e = let n = total_more es e in omega (arith, n)
 
 rules_more : (i : ℕ) (es : List Stepped) (e : Stepped) →
-    rules_from i (es ++ e ∷ []) ≡ rules_from i es ++ record { end = i + length es; right = over e.label e.positions; cost = e.cost } ∷ []
-rules_more i [] e = let same : i ≡ i + 0 = omega arith in ap (λ n. record { end = n; right = over e.label e.positions; cost = e.cost } ∷ []) same
+    rules_from i (es ++ e ∷ []) ≡ rules_from i es ++ record { end = i + length es; label = e.label; positions = e.positions; cost = e.cost } ∷ []
+rules_more i [] e = let same : i ≡ i + 0 = omega arith in ap (λ n. record { end = n; label = e.label; positions = e.positions; cost = e.cost } ∷ []) same
 rules_more i (x ∷ es) e =
     let same : suc i + length es ≡ i + suc (length es) = omega arith in
-    ap (λ rs. record { end = i; right = over x.label x.positions; cost = x.cost } ∷ rs)
-    (rules_more (suc i) es e ∙ ap (λ n. rules_from (suc i) es ++ record { end = n; right = over e.label e.positions; cost = e.cost } ∷ []) same)
+    ap (λ rs. record { end = i; label = x.label; positions = x.positions; cost = x.cost } ∷ rs)
+    (rules_more (suc i) es e ∙ ap (λ n. rules_from (suc i) es ++ record { end = n; label = e.label; positions = e.positions; cost = e.cost } ∷ []) same)
 
 -- a list with one edge more
 pub listing_more :
@@ -35,8 +34,8 @@ listing_more old new es f ps c v l a =
     record {
       ends = a.ends ∙ ap (λ (vs : List VectorOf). vs ++ v ∷ []) l.ends ∙ sym (map_append (λ (x : Stepped). x.vector) es (e ∷ []));
       rules = a.rules
-          ∙ ap (λ rs. rs ++ record { end = length old.ends.items; right = over f ps; cost = c } ∷ []) l.rules
-          ∙ ap (λ n. rules_from 0 es ++ record { end = n; right = over f ps; cost = c } ∷ []) (ap length l.ends ∙ length-mapped es)
+          ∙ ap (λ rs. rs ++ record { end = length old.ends.items; label = f; positions = ps; cost = c } ∷ []) l.rules
+          ∙ ap (λ n. rules_from 0 es ++ record { end = n; label = f; positions = ps; cost = c } ∷ []) (ap length l.ends ∙ length-mapped es)
           ∙ sym (rules_more 0 es e);
       parts = a.parts ∙ ap (λ n. n + (2 + length ps)) l.parts ∙ sym (total_more es e);
     }
@@ -50,7 +49,7 @@ listing_more old new es f ps c v l a =
 
 -- an empty list has no edges
 pub listing_empty : (l : Listing) → length l.ends.items ≡ 0 → length l.rules.items ≡ 0 → l.parts ≡ 0 → IsListing l []
-listing_empty l e r p = record { ends = none l.ends.items e; rules = none l.rules.items r; parts = p }
+listing_empty l e r p = record { ends = none l.ends.items e; rules = ap (map placed_rule) (none l.rules.items r); parts = p }
   where
     none : {A : Type 0} (xs : List A) → length xs ≡ 0 → xs ≡ []
     none [] e = refl

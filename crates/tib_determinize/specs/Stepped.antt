@@ -2,11 +2,10 @@
 use Rattle.std.specs.Prelude.{◌≡◌, ℕ, ◌+◌, ◌<◌, ◌≤◌, ◌⊎◌, List, [], ◌∷◌, ◌++◌, length, map}
 use Rattle.std.proofs.Common.{suc}
 use Rattle.tib_lex.specs.Lists.{total}
-use Rattle.tib_grammar.specs.Sides.{over}
 use Rattle.tib_grammar.specs.declared.Rule.{Rule}
 use Rattle.tib_hunt.specs.Reached.{most_parts}
 use Rattle.tib_cost.specs.Semiring.{most}
-use Rattle.tib_determinize.specs.declared.vector_rule.VectorRule.{VectorRule}
+use Rattle.tib_determinize.specs.VectorRules.{PlacedRule, placed_rule}
 use Rattle.tib_determinize.specs.declared.listing.Listing.{Listing}
 use Rattle.tib_determinize.specs.Vectors.{VectorOf, IsStepCost, IsStep, vectors_at}
 
@@ -21,20 +20,20 @@ abbrev pub stepped_parts : Stepped → ℕ
 stepped_parts e = 2 + length e.positions
 
 -- the rules of some edges, of which the first has the end i
-abbrev pub rules_from : ℕ → List Stepped → List VectorRule
+abbrev pub rules_from : ℕ → List Stepped → List PlacedRule
 rules_from i [] = []
-rules_from i (e ∷ es) = record { end = i; right = over e.label e.positions; cost = e.cost } ∷ rules_from (suc i) es
+rules_from i (e ∷ es) = record { end = i; label = e.label; positions = e.positions; cost = e.cost } ∷ rules_from (suc i) es
 
 -- the list has these edges
 pub record IsListing (l : Listing) (es : List Stepped) : Type 0 where
   pub ends : l.ends.items ≡ map (λ e. e.vector) es
-  pub rules : l.rules.items ≡ rules_from 0 es
+  pub rules : map placed_rule l.rules.items ≡ rules_from 0 es
   pub parts : l.parts ≡ total stepped_parts es
 
 -- the list with one edge behind it
 pub record IsAdded (label : ℕ) (positions : List ℕ) (cost : ℕ) (vector : VectorOf) (old new : Listing) : Type 0 where
   pub ends : new.ends.items ≡ old.ends.items ++ vector ∷ []
-  pub rules : new.rules.items ≡ old.rules.items ++ record { end = length old.ends.items; right = over label positions; cost = cost } ∷ []
+  pub rules : map placed_rule new.rules.items ≡ map placed_rule old.rules.items ++ record { end = length old.ends.items; label = label; positions = positions; cost = cost } ∷ []
   pub parts : new.parts ≡ old.parts + (2 + length positions)
 
 -- the list and its size stay within the budget

@@ -1,6 +1,6 @@
 //! The edges of a position, listed one after another within a budget of parts.
 
-ghost use Rattle.std.specs.Prelude.{◌≡◌, ◌+◌, ◌<◌, ◌≤◌, ◌^◌, length, OnOk, Err};
+ghost use Rattle.std.specs.Prelude.{◌≡◌, ◌+◌, ◌<◌, ◌≤◌, ◌^◌, length, IfOk, OnOk, Err};
 ghost use Rattle.tib_hunt.specs.Reached.{most_parts};
 ghost use Rattle.tib_determinize.specs.Stepped.{IsAdded, IsWithinBudget};
 
@@ -8,9 +8,17 @@ use crate::settling::Step;
 use crate::vector::Vector;
 use crate::vector_rule::VectorRule;
 use std::alloc::{AllocError, Global};
-use tib_grammar::Side;
 use tib_hunt::{Edges, ExpandError};
 use tib_tree::Label;
+
+// The same positions.
+fn copied(alloc: Global, positions: &[u32]) -> Result<Vec<u32>, AllocError>
+    ensures { IfOk result (λ r. r.items ≡ positions.now) }
+{
+    let mut same = Vec::new(alloc);
+    same.extend_from_slice(positions)?;
+    Ok(same)
+}
 
 /// Edges, as far as they are listed.
 #[derive(Drop)]
@@ -56,7 +64,7 @@ impl Listing {
         if parts > self.budget {
             return Err(ExpandError::More);
         }
-        let Ok(right) = Side::over(alloc, label, positions) else {
+        let Ok(positions) = copied(alloc, positions) else {
             return Err(ExpandError::OutOfMemory);
         };
         let Step { cost, vector } = step;
@@ -64,7 +72,13 @@ impl Listing {
         let Ok(()) = self.ends.push(vector) else {
             return Err(ExpandError::OutOfMemory);
         };
-        let Ok(()) = self.rules.push(VectorRule { end, right, cost }) else {
+        let rule = VectorRule {
+            end,
+            label,
+            positions,
+            cost,
+        };
+        let Ok(()) = self.rules.push(rule) else {
             return Err(ExpandError::OutOfMemory);
         };
         self.parts = parts;

@@ -1,15 +1,17 @@
 //! An edge of determinization, over places.
 
 use tib_cost::Cost;
-use tib_grammar::Side;
+use tib_tree::Label;
 
 /// An edge over places: from an end, by a label over positions of the order.
 #[derive(Drop)]
 pub struct VectorRule {
     /// The number of the end that the edge leads from.
     pub end: u32,
-    /// The label over positions.
-    pub right: Side<u32>,
+    /// The label.
+    pub label: Label,
+    /// The positions, one for each child of the label.
+    pub positions: Vec<u32>,
     /// What the edge costs.
     pub cost: Cost,
 }

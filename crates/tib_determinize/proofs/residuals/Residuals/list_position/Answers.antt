@@ -1,5 +1,5 @@
 use Rattle.std.proofs.Common.{rules, arith, ◌≡◌, ℕ, ◌+◌, ◌-◌, ◌<◌, length, List, [], drop, get_or, ap, sym, ◌∙◌, subst, refl}
-use Rattle.tib_determinize.proofs.EdgesOf.{steps_listed}
+use Rattle.tib_determinize.proofs.Edges.{steps_there}
 use Rattle.std.proofs.lemmas.List.{get_or_read}
 use Rattle.tib_hunt.specs.declared.place.ExpandError.{ExpandError}
 use Rattle.tib_determinize.specs.Shapes.{shapes_in}
