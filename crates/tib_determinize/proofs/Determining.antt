@@ -16,7 +16,7 @@ use Rattle.tib_cost.proofs.Least.{IsLeast-dominated, IsLeast-one, at_least_right
 use Rattle.tib_determinize.specs.Vectors.{VectorOf, Rises, IsWeight, IsStepCost, IsStep, vectors_at, vector_at}
 use Rattle.tib_determinize.specs.VectorGrammar.{IsVectorGrammar, IsRead}
 use Rattle.tib_determinize.proofs.Runs.{open_cost, close_cost, mix, count-costs}
-use Rattle.tib_determinize.proofs.Vectors.{stands, one_residual}
+use Rattle.tib_determinize.specs.VectorLemmas.{stands, one_residual}
 
 module _
     {levelled weighted : Bool} {product : ℕ → ℕ → ℕ} (laws : ProductLaws levelled weighted product)

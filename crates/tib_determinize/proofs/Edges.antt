@@ -18,9 +18,10 @@ use Rattle.tib_determinize.specs.VectorRules.{PlacedRule, placed_rule, states_in
 use Rattle.tib_determinize.specs.Stepped.{Stepped, stepped_parts, rules_from, IsListing, IsWithinBudget, HasNoStep, IsSteppedAt, AreSteps, StepsExceed}
 use Rattle.tib_determinize.proofs.EdgesOf.{edge_of}
 use Rattle.tib_determinize.proofs.Stepping.{step_or_none, lefts_below}
-use Rattle.tib_determinize.proofs.Lists.{along_of, along_back}
+use Rattle.tib_determinize.specs.ListLemmas.{along_of, along_back}
 
-map_leaves : {K : Type 0} (g : ℕ → K) (qs : List ℕ) → relabel (symbol_map {A = ℕ} g) (leaves qs) ≡ leaves (map g qs)
+-- a renaming of leaves
+pub map_leaves : {K : Type 0} (g : ℕ → K) (qs : List ℕ) → relabel (symbol_map {A = ℕ} g) (leaves qs) ≡ leaves (map g qs)
 map_leaves g [] = refl
 map_leaves g (q ∷ qs) = ap (tree (hole (g q)) none) (map_leaves g qs)
 
@@ -93,7 +94,8 @@ mapped : (order : List VectorOf) (ps : List ℕ) → length (vectors_at order ps
 mapped order [] = refl
 mapped order (p ∷ ps) = ap suc (mapped order ps)
 
-parts_are : (order : List VectorOf) (es : List Stepped) → total edge_parts (map (edge_of order) es) ≡ total stepped_parts es
+-- the parts of edges over keys
+pub parts_are : (order : List VectorOf) (es : List Stepped) → total edge_parts (map (edge_of order) es) ≡ total stepped_parts es
 parts_are order [] = refl
 parts_are order (e ∷ es) =
     let r = parts_are order es in

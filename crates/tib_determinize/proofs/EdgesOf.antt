@@ -14,8 +14,8 @@ use Rattle.tib_determinize.specs.Vectors.{VectorOf, Rises, IsStepCost, IsStep, v
 use Rattle.tib_determinize.specs.Determinization.{IsVectorSeed, IsVectorEdge, ends_of, edge_parts}
 use Rattle.tib_determinize.specs.Candidates.{IsCandidate, AreCandidates}
 use Rattle.tib_determinize.specs.Stepped.{Stepped, stepped_parts, rules_from, IsListing, HasNoStep, IsSteppedAt, AreSteps}
-use Rattle.tib_determinize.proofs.OneStep.{one_step, rule_same}
-use Rattle.tib_determinize.proofs.Lists.{along_of, along_back}
+use Rattle.tib_determinize.specs.OneStep.{one_step, rule_same}
+use Rattle.tib_determinize.specs.ListLemmas.{along_of, along_back}
 
 -- the edge over keys
 abbrev pub edge_of : List VectorOf → Stepped → Rule VectorOf
@@ -84,4 +84,24 @@ module _ (product : ℕ → ℕ → ℕ) (rules : List (Rule ℕ)) (order : List
         stands = c.stands;
         step = is.step;
         right = ap (λ f. over f (vectors_at order e.positions)) is.label ∙ ap (λ (ps : List ℕ). over o.0 (vectors_at order ps)) is.positions;
+      }
+
+  -- the edges of the labels of rank 0 are those of the seeds
+  pub leaf_steps_listed :
+      (os : List (ℕ × List ℕ)) (es : List Stepped) → Distinct os → ((o : ℕ × List ℕ) → Has os o → o.1 ≡ []) → ((o : ℕ × List ℕ) (m : ℕ) (v : VectorOf) → o.1 ≡ [] → IsStep product rules o.0 [] m v → Has os o) →
+      AreSteps product rules order os es → Lists (IsVectorSeed product rules) (map (edge_of order) es)
+  leaf_steps_listed os es once empty whole a =
+      let r = origins_of os es once a in
+      record {
+        origins = r.0;
+        once = r.1.once;
+        given = along_map (IsVectorSeed product rules) r.0 es (λ o e h is. seed_is o e (empty o (r.1.among o h)) is) r.1.given;
+        whole = λ o e seed. r.1.whole o e.cost e.left (whole o e.cost e.left seed.none seed.step) (subst (λ (ps : List ℕ). IsStep product rules o.0 (vectors_at order ps) e.cost e.left) (sym seed.none) seed.step);
+      }
+    where
+      seed_is : (o : ℕ × List ℕ) (e : Stepped) → o.1 ≡ [] → IsSteppedAt product rules order o e → IsVectorSeed product rules o (edge_of order e)
+      seed_is o e empty_list is = record {
+        none = empty_list;
+        step = subst (λ (ps : List ℕ). IsStep product rules o.0 (vectors_at order ps) e.cost e.vector) empty_list is.step;
+        right = ap (λ f. over f (vectors_at order e.positions)) is.label ∙ ap (λ (ps : List ℕ). over o.0 (vectors_at order ps)) (is.positions ∙ empty_list);
       }

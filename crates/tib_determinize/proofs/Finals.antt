@@ -7,7 +7,7 @@ use Rattle.tib_grammar.specs.GrammarOf.{named_rule}
 use Rattle.tib_grammar.specs.declared.Rule.{Rule}
 use Rattle.tib_determinize.specs.Vectors.{VectorOf, vector_at}
 use Rattle.tib_determinize.specs.Started.{start_in, with_final, finals, chain_to, started}
-use Rattle.tib_determinize.proofs.Lists.{nat_eq_cases, get_left, get_right, get_map, length_map}
+use Rattle.tib_determinize.specs.ListLemmas.{nat_eq_cases, get_left, get_right, get_map, length_map}
 
 -- the residual of the start stands in the vector
 pub start_has : (v : VectorOf) (r : ℕ) → start_in v ≡ Some r → Has {A = ℕ × ℕ} v (0, r)

@@ -20,8 +20,8 @@ use Rattle.tib_hunt.proofs.Reaching.{apart}
 use Rattle.tib_determinize.specs.Vectors.{VectorOf, Rises, IsStep, vector_at, vectors_at}
 use Rattle.tib_determinize.specs.Determinization.{vector_cmp, IsVectorSeed, IsVectorEdge, determinization}
 use Rattle.tib_determinize.specs.VectorGrammar.{IsVectorGrammar, IsDeterminized}
-use Rattle.tib_determinize.proofs.Lists.{order_of, each_map, each_append, distinct_append, one_place, get_map, length_map, along_get, along_has, along_append, along_of}
-use Rattle.tib_determinize.proofs.OneStep.{vector_total}
+use Rattle.tib_determinize.specs.ListLemmas.{order_of, each_map, each_append, distinct_append, one_place, get_map, length_map, along_get, along_has, along_append, along_of}
+use Rattle.tib_determinize.specs.OneStep.{vector_total}
 use Rattle.tib_determinize.proofs.Stepping.{step_or_none, lefts_below}
 
 -- right sides over positions

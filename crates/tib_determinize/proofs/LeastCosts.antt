@@ -13,7 +13,7 @@ use Rattle.tib_grammar.proofs.Members.{each_has, each_of, has_at, at_has}
 use Rattle.tib_determinize.specs.Vectors.{Rises}
 use Rattle.tib_determinize.specs.Determinization.{pair_cmp}
 use Rattle.tib_determinize.specs.Settling.{firsts, lesser_with, least_from, IsLeastCost, IsOver, AreLeastCosts}
-use Rattle.tib_determinize.proofs.Lists.{nat_eq_cases, each_map}
+use Rattle.tib_determinize.specs.ListLemmas.{nat_eq_cases, each_map}
 
 pair_total : IsTotalOrder pair_cmp
 pair_total = then_total (on_total (λ (p : ℕ × ℕ). p.0) nat_cmp_total) (on_total (λ (p : ℕ × ℕ). p.1) nat_cmp_total)

@@ -14,8 +14,8 @@ use Rattle.tib_determinize.specs.Vectors.{VectorOf, Rises, IsWeight, IsStepCost,
 use Rattle.tib_determinize.specs.Settling.{IsLeastCost, IsOver, AreLeastCosts, AreResiduals}
 use Rattle.tib_determinize.specs.Alive.{states_of, at_cost, cost_with, with_cost, costs_of, IsAlive, AreAlive}
 use Rattle.tib_determinize.specs.Stepped.{HasNoStep}
-use Rattle.tib_determinize.proofs.Lists.{along_of, along_back}
-use Rattle.tib_determinize.proofs.Vectors.{one_residual}
+use Rattle.tib_determinize.specs.ListLemmas.{along_of, along_back}
+use Rattle.tib_determinize.specs.VectorLemmas.{one_residual}
 use Rattle.tib_determinize.proofs.Places.{IsRulePlace, place_has}
 use Rattle.tib_grammar.specs.Forms.{AreNormal}
 use Rattle.tib_grammar.proofs.Sides.{length-holes}

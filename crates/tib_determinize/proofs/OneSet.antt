@@ -7,8 +7,8 @@ use Rattle.tib_hunt.specs.Reached.{IsReached, AreEdges}
 use Rattle.tib_hunt.proofs.Reaching.{in_reached}
 use Rattle.tib_determinize.specs.Vectors.{VectorOf, vectors_at}
 use Rattle.tib_determinize.specs.Determinization.{determinization, IsOneSet}
-use Rattle.tib_determinize.proofs.Lists.{along_of, along_back}
-use Rattle.tib_determinize.proofs.OneStep.{one_step, rule_same, determinization_laws}
+use Rattle.tib_determinize.specs.ListLemmas.{along_of, along_back}
+use Rattle.tib_determinize.specs.OneStep.{one_step, rule_same, determinization_laws}
 use Rattle.tib_determinize.proofs.Found.{GivesBelow, edges_below, IsLabelStep, gives_step}
 
 module _ (product : ℕ → ℕ → ℕ) (rules : List (Rule ℕ)) where

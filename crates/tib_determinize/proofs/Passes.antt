@@ -1,5 +1,5 @@
 -- The walks for each place at which a position stands last, and for each label and rank.
-use Rattle.std.specs.Prelude.{◌≡◌, ℕ, ◌+◌, ◌-◌, ◌<◌, ◌≤◌, Bool, List, [], ◌∷◌, ◌++◌, length, drop, refl}
+use Rattle.std.specs.Prelude.{◌≡◌, ℕ, ◌+◌, ◌-◌, ◌<◌, ◌≤◌, Bool, List, [], ◌∷◌, ◌++◌, length, drop, nat_eq, if◌then◌else◌, refl}
 use Rattle.std.proofs.Common.{zero, suc, arith, ap, sym, ◌∙◌, subst, get_or, inl, inr, append-nil}
 use Rattle.tib_lex.specs.Lists.{Has, Each}
 use Rattle.tib_lex.proofs.Members.{each_of}
@@ -13,7 +13,7 @@ use Rattle.tib_determinize.specs.declared.listing.Listing.{Listing}
 use Rattle.tib_determinize.specs.Vectors.{VectorOf, IsWeight}
 use Rattle.tib_determinize.specs.Alive.{states_of, begun, IsAlive, AreAlive}
 use Rattle.tib_determinize.specs.Stepped.{Stepped, IsListing, AreSteps, AddsSteps, HasSteps, IsUnderway, StepsOverrun, StepsExceed}
-use Rattle.tib_determinize.specs.Tries.{span, under, by_last, behind_label, tries}
+use Rattle.tib_determinize.specs.Tries.{span, under, by_last, behind_label, leaf_try, leaf_tries, tries}
 use Rattle.tib_determinize.proofs.LeastCosts.{drop_at, drop_all}
 use Rattle.tib_determinize.proofs.Places.{IsRulePlace, has_rule_place}
 use Rattle.tib_determinize.proofs.Underway.{listing_empty}
@@ -76,6 +76,22 @@ shape_first n shapes i d s h e =
 -- none is left
 pub shapes_done : (n : ℕ) (shapes : List (ℕ × ℕ)) (i : ℕ) → length shapes ≤ i → tries n (drop i shapes) ≡ []
 shapes_done n shapes i h = ap (tries n) (drop_all shapes i h)
+
+-- a label of rank 0 is tried over no positions
+pub leaf_is : (s : ℕ × ℕ) → s.1 ≡ 0 → ◌≡◌ {A = List (ℕ × List ℕ)} ((s.0, []) ∷ []) (leaf_try s)
+leaf_is s e = sym (ap (λ k. if nat_eq k 0 then (s.0, []) ∷ [] else []) e)
+
+-- the try of a label of rank 0, and those of the later ones
+pub leaf_first : (shapes : List (ℕ × ℕ)) (i : ℕ) (d s : ℕ × ℕ) → i < length shapes → s ≡ get_or shapes i d → leaf_tries (drop i shapes) ≡ leaf_try s ++ leaf_tries (drop (i + 1) shapes)
+leaf_first shapes i d s h e =
+    let next : suc i ≡ i + 1 = omega arith in
+    ap leaf_tries (drop_at shapes i d h)
+    ∙ ap (λ (x : ℕ × ℕ). leaf_try x ++ leaf_tries (drop (suc i) shapes)) (sym e)
+    ∙ ap (λ m. leaf_try s ++ leaf_tries (drop m shapes)) next
+
+-- none is left
+pub leaves_done : (shapes : List (ℕ × ℕ)) (i : ℕ) → length shapes ≤ i → leaf_tries (drop i shapes) ≡ []
+leaves_done shapes i h = ap leaf_tries (drop_all shapes i h)
 
 module _ (product : ℕ → ℕ → ℕ) (rules : List (Rule ℕ)) (order : List VectorOf) (all : List (ℕ × List ℕ)) where
   -- from an empty list on

@@ -15,8 +15,8 @@ use Rattle.tib_cost.proofs.Least.{IsLeast-dominated}
 use Rattle.tib_determinize.specs.Vectors.{VectorOf, vector_at}
 use Rattle.tib_determinize.specs.VectorGrammar.{IsVectorGrammar}
 use Rattle.tib_determinize.specs.Started.{finals, chain_to, started}
-use Rattle.tib_determinize.proofs.Lists.{side_of}
-use Rattle.tib_determinize.proofs.Vectors.{one_residual}
+use Rattle.tib_determinize.specs.ListLemmas.{side_of}
+use Rattle.tib_determinize.specs.VectorLemmas.{one_residual}
 use Rattle.tib_determinize.proofs.Runs.{count-costs}
 use Rattle.tib_determinize.proofs.Finals.{start_has, has_start, IsFinal, final_is, is_final, all_long, chain_at, shifted_at}
 use Rattle.tib_determinize.proofs.Determining.{above, below, covered, one_state, rises_at}

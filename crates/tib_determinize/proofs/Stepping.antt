@@ -12,8 +12,8 @@ use Rattle.tib_cost.specs.Least.{IsLeast, Products, times, lesser}
 use Rattle.tib_cost.proofs.Least.{IsLeast-one, IsLeast-none, IsLeast-same, IsLeast-scaled, IsLeast-either, IsLeast-either_none}
 use Rattle.tib_determinize.specs.Vectors.{VectorOf, Rises, IsWeight, IsStepCost, IsStep}
 use Rattle.tib_determinize.specs.Determinization.{LeftsBelow}
-use Rattle.tib_determinize.proofs.Lists.{nat_same, order_of, each_map}
-use Rattle.tib_determinize.proofs.Vectors.{stands, one_residual}
+use Rattle.tib_determinize.specs.ListLemmas.{nat_same, order_of, each_map}
+use Rattle.tib_determinize.specs.VectorLemmas.{stands, one_residual}
 
 below_cases : (n m : ℕ) → n < suc m → (n < m) ⊎ (n ≡ m)
 below_cases n m h = grind arith

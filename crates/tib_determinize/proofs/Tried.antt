@@ -5,7 +5,7 @@ use Rattle.tib_lex.specs.Lists.{Has, Each, Distinct}
 use Rattle.tib_lex.proofs.Members.{has_either, has_left, has_right}
 use Rattle.tib_determinize.specs.Tries.{first_at, many_at, span, under, by_last, behind_label, tries}
 use Rattle.tib_determinize.specs.Candidates.{IsCandidate}
-use Rattle.tib_determinize.proofs.Lists.{each_append, distinct_append}
+use Rattle.tib_determinize.specs.ListLemmas.{each_append, distinct_append}
 use Rattle.tib_determinize.proofs.Walked.{span_has, labelled_has}
 
 -- p may stand at the place i, where n stands last at j

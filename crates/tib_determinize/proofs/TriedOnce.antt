@@ -10,7 +10,7 @@ use Rattle.tib_cost.specs.Semiring.{most}
 use Rattle.tib_determinize.specs.Vectors.{VectorOf, IsWeight, IsStepCost, IsSomeCost, vectors_at}
 use Rattle.tib_determinize.specs.Tries.{first_at, many_at, span, under, by_last, behind_label, tries}
 use Rattle.tib_determinize.specs.Candidates.{IsCandidate, AreCandidates, AreShapes}
-use Rattle.tib_determinize.proofs.Lists.{distinct_append}
+use Rattle.tib_determinize.specs.ListLemmas.{distinct_append}
 use Rattle.tib_determinize.proofs.Walked.{span_has, labelled_has}
 use Rattle.tib_determinize.proofs.Tried.{under_is, is_under, span_at, AreAllowed, allowed_long, allowed_up_to, allowed_stands, one_last, some_last, last_same}
 

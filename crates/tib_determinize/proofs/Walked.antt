@@ -17,8 +17,8 @@ use Rattle.tib_determinize.specs.Lookup.{residual_in}
 use Rattle.tib_determinize.specs.Alive.{states_of, with_alive, weight_with, narrowed, HasPlace, IsAlive, AreAlive}
 use Rattle.tib_determinize.specs.Tries.{first_at, many_at, span, under, behind_label}
 use Rattle.tib_determinize.specs.Stepped.{Stepped, HasNoStep, AreSteps}
-use Rattle.tib_determinize.proofs.Lists.{nat_eq_cases}
-use Rattle.tib_determinize.proofs.Vectors.{one_residual}
+use Rattle.tib_determinize.specs.ListLemmas.{nat_eq_cases}
+use Rattle.tib_determinize.specs.VectorLemmas.{one_residual}
 use Rattle.tib_determinize.proofs.LeastCosts.{drop_at}
 use Rattle.tib_determinize.proofs.Places.{IsRulePlace, has_rule_place}
 use Rattle.tib_determinize.proofs.Leaves.{cut_is, cut_within, rule_listed, part_within, weights_long}

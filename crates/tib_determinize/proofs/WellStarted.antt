@@ -14,7 +14,7 @@ use Rattle.tib_grammar.proofs.Renamed.{side_back}
 use Rattle.tib_determinize.specs.Vectors.{VectorOf}
 use Rattle.tib_determinize.specs.VectorGrammar.{IsVectorGrammar}
 use Rattle.tib_determinize.specs.Started.{finals, started, IsWellStarted}
-use Rattle.tib_determinize.proofs.Lists.{side_of}
+use Rattle.tib_determinize.specs.ListLemmas.{side_of}
 use Rattle.tib_determinize.proofs.Finals.{IsFinal, final_is, one_final, all_long, chain_at, shifted_at}
 
 -- sides with their states exchanged

@@ -13,7 +13,7 @@ use Rattle.tib_determinize.specs.Vectors.{VectorOf, IsWeight, IsStepCost, IsSome
 use Rattle.tib_determinize.specs.Determinization.{IsVectorSeed, IsVectorEdge, determinization}
 use Rattle.tib_determinize.specs.VectorGrammar.{IsDeterminized}
 use Rattle.tib_determinize.specs.Examples.{ambiguous, at_leaf, at_root, both, determinized}
-use Rattle.tib_determinize.proofs.OneStep.{one_step}
+use Rattle.tib_determinize.specs.OneStep.{one_step}
 
 label_is : (f g : ℕ) → ◌≡◌ {A = Symbol ℕ ℕ} (label f) (label g) → f ≡ g
 label_is f g e = cc

@@ -31,12 +31,14 @@ keys_tie = lists_ties pair_cmp (λ x y. both_tied (nat_eq x.0 y.0) (nat_eq x.1 y
 pub keys_po : IsPartialOrder same_vector (λ v w. Some (vector_cmp v w))
 keys_po = partial_order_from_agreeing_total vector_cmp keys_total (λ v w. refl) keys_tie
 
-entry_is : (x y : ℕ × ℕ) → same_entry x y ≡ true → x ≡ y
+-- entries that the test finds the same are the same
+pub entry_is : (x y : ℕ × ℕ) → same_entry x y ≡ true → x ≡ y
 entry_is x y e =
     ap (λ a. (a, x.1)) ((unsigned_Decides x.0 y.0).0 (first_so (nat_eq x.0 y.0) (nat_eq x.1 y.1) e))
     ∙ ap (λ b. (y.0, b)) ((unsigned_Decides x.1 y.1).0 (second_so (nat_eq x.0 y.0) (nat_eq x.1 y.1) e))
 
-is_entry : (x y : ℕ × ℕ) → x ≡ y → same_entry x y ≡ true
+-- and the other way round
+pub is_entry : (x y : ℕ × ℕ) → x ≡ y → same_entry x y ≡ true
 is_entry x y e = ap (same_entry x) (sym e) ∙ same_equiv_entry x
   where
     same_equiv_entry : (z : ℕ × ℕ) → same_entry z z ≡ true

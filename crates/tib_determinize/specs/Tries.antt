@@ -34,7 +34,11 @@ abbrev pub tries : ℕ → List (ℕ × ℕ) → List (ℕ × List ℕ)
 tries n [] = []
 tries n (s ∷ shapes) = behind_label s.0 (by_last n s.1 0 s.1) ++ tries n shapes
 
+-- a label over no positions, where its rank is 0
+abbrev pub leaf_try : ℕ × ℕ → List (ℕ × List ℕ)
+leaf_try s = if nat_eq s.1 0 then (s.0, []) ∷ [] else []
+
 -- the labels of rank 0, over no positions
 abbrev pub leaf_tries : List (ℕ × ℕ) → List (ℕ × List ℕ)
 leaf_tries [] = []
-leaf_tries (s ∷ shapes) = if nat_eq s.1 0 then (s.0, []) ∷ leaf_tries shapes else leaf_tries shapes
+leaf_tries (s ∷ shapes) = leaf_try s ++ leaf_tries shapes

@@ -4,8 +4,10 @@
 
 mod alive;
 pub mod examples;
+mod expand;
 pub mod laws;
 mod listing;
+mod origin;
 mod residuals;
 mod settling;
 mod shapes;
@@ -13,6 +15,7 @@ mod vector;
 mod vector_rule;
 mod walk;
 
+pub use origin::Origin;
 pub use residuals::Residuals;
 pub use vector::Vector;
 pub use vector_rule::VectorRule;

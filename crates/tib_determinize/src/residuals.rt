@@ -7,14 +7,14 @@ ghost use Rattle.tib_determinize.specs.Shapes.{shapes_in};
 ghost use Rattle.tib_determinize.specs.Determinization.{LeftsBelow};
 ghost use Rattle.tib_determinize.specs.Started.{finals, start_in, with_final};
 ghost use Rattle.tib_determinize.specs.Stepped.{AddsSteps, HasSteps, IsWithinBudget, StepsExceed, StepsOverrun};
-ghost use Rattle.tib_determinize.specs.Tries.{by_last, behind_label, tries};
+ghost use Rattle.tib_determinize.specs.Tries.{by_last, behind_label, leaf_tries, leaf_try, tries};
 ghost use Rattle.tib_determinize.specs.Vectors.{Rises};
 
 use crate::alive::begin;
 use crate::listing::Listing;
 use crate::shapes::shapes_of;
 use crate::vector::Vector;
-use crate::walk::{Walk, list_all};
+use crate::walk::{Walk, list, list_all};
 use std::alloc::{AllocError, Global};
 use tib_cost::{Cost, Semiring};
 use tib_hunt::ExpandError;
@@ -127,6 +127,61 @@ impl<'a, S: Semiring> Residuals<'a, S> {
         for i in 0..shapes.len() {
             let shape = &shapes[i];
             match self.list_shape(alloc, order, position, (shape.0, shape.1), &mut listing) {
+                Ok(()) => {}
+                Err(fault) => return Err(fault),
+            }
+        }
+        Ok(listing)
+    }
+}
+
+impl<'a, S: Semiring> Residuals<'a, S> {
+    // Lists the edge of a label over no vector, where its rank is 0.
+    fn list_leaf(
+        &self,
+        alloc: Global,
+        shape: (Label, u32),
+        listing: &mut Listing,
+    ) -> Result<(), ExpandError>
+        requires within { IsWithinBudget listing.old }
+        ensures added { OnOk result (AddsSteps S.product self.now.normal.now.rules [] (leaf_try shape) listing.old listing.new) }
+        ensures more { result ≡ Err ExpandError.More → StepsOverrun S.product self.now.normal.now.rules [] (leaf_try shape) listing.old }
+        ensures within { OnOk result (IsWithinBudget listing.new) }
+        ensures budget { listing.new.budget ≡ listing.old.budget }
+    {
+        let (label, rank) = shape;
+        if rank != 0 {
+            return Ok(());
+        }
+        let normal = self.normal;
+        let rules = normal.grammar().rule_list();
+        let Ok(alive) = begin::<S>(alloc, normal.rules_with(label, 0)) else {
+            return Err(ExpandError::OutOfMemory);
+        };
+        let walk = Walk {
+            rules,
+            order: &[],
+            label,
+            rank: 0,
+            position: 0,
+            last: 0,
+        };
+        list::<S>(alloc, &walk, &[], &alive, listing)
+    }
+
+    /// The edges of the labels over no vector.
+    pub(crate) fn list_leaves(&self, alloc: Global, budget: u64) -> Result<Listing, ExpandError>
+        requires budget { budget ≤ most_parts }
+        ensures listed { IfOk result (HasSteps S.product self.now.normal.now.rules [] (leaf_tries (shapes_in self.now.normal.now.rules))) }
+        ensures more { result ≡ Err ExpandError.More → StepsExceed S.product self.now.normal.now.rules [] (leaf_tries (shapes_in self.now.normal.now.rules)) budget }
+        ensures within { IfOk result IsWithinBudget }
+        ensures budget { IfOk result (λ l. l.budget ≡ budget) }
+    {
+        let mut listing = Listing::new(alloc, budget);
+        let shapes: &[(Label, u32)] = &self.shapes;
+        for i in 0..shapes.len() {
+            let shape = &shapes[i];
+            match self.list_leaf(alloc, (shape.0, shape.1), &mut listing) {
                 Ok(()) => {}
                 Err(fault) => return Err(fault),
             }

@@ -1,5 +1,7 @@
 //! An edge of determinization, over places.
 
+ghost use Rattle.std.specs.Prelude.{◌<◌, ◌^◌, length};
+
 use tib_cost::Cost;
 use tib_tree::Label;
 
@@ -14,4 +16,5 @@ pub struct VectorRule {
     pub positions: Vec<u32>,
     /// What the edge costs.
     pub cost: Cost,
+    pub ghost few: { length positions.items < 2 ^ 32 },
 }

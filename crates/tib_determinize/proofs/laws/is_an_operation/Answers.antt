@@ -1,4 +1,4 @@
-use Rattle.tib_determinize.proofs.OneStep.{keeps_its_laws}
+use Rattle.tib_determinize.specs.OneStep.{keeps_its_laws}
 use Rattle.tib_determinize.proofs.laws.is_an_operation.Goals as goal
 
 pub returns : goal.returns

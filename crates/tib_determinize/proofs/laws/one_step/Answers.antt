@@ -1,4 +1,4 @@
-use Rattle.tib_determinize.proofs.OneStep.{one_step}
+use Rattle.tib_determinize.specs.OneStep.{one_step}
 use Rattle.tib_determinize.proofs.laws.one_step.Goals as goal
 
 pub returns : goal.returns

@@ -12,8 +12,8 @@ use Rattle.tib_cost.proofs.Least.{IsLeast-unique}
 use Rattle.tib_hunt.proofs.Reaching.{Laws}
 use Rattle.tib_determinize.specs.Vectors.{VectorOf, Rises, IsStepCost, IsSomeCost, IsStep, vectors_at}
 use Rattle.tib_determinize.specs.Determinization.{vector_cmp, IsVectorSeed, IsVectorEdge, IsVector, determinization, KeepsItsLaws, LeftsBelow}
-use Rattle.tib_determinize.proofs.Lists.{each_map}
-use Rattle.tib_determinize.proofs.Vectors.{stands, vectors_stay, vectors_front}
+use Rattle.tib_determinize.specs.ListLemmas.{each_map}
+use Rattle.tib_determinize.specs.VectorLemmas.{stands, vectors_stay, vectors_front}
 
 -- vectors have a total order
 pub vector_total : IsTotalOrder vector_cmp

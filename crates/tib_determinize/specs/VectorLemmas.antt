@@ -3,7 +3,7 @@ use Rattle.std.specs.Prelude.{◌≡◌, ℕ, ◌+◌, ◌<◌, ◌⊎◌, List,
 use Rattle.std.proofs.Common.{zero, suc, arith, ap, sym, ◌∙◌, inl, inr, get_or}
 use Rattle.tib_lex.specs.Lists.{Has, Each}
 use Rattle.tib_determinize.specs.Vectors.{VectorOf, Rises, vector_at, vectors_at}
-use Rattle.tib_determinize.proofs.Lists.{nat_same, get_left}
+use Rattle.tib_determinize.specs.ListLemmas.{nat_same, get_left}
 
 -- whether a state stands in a vector
 pub stands : (q : ℕ) (v : VectorOf) → ((r : ℕ) × Has {A = ℕ × ℕ} v (q, r)) ⊎ ((r : ℕ) → Has {A = ℕ × ℕ} v (q, r) → ⊥)
