@@ -8,14 +8,18 @@ mod expand;
 pub mod laws;
 mod listing;
 mod origin;
+mod reached;
 mod residuals;
 mod settling;
 mod shapes;
+#[cfg(test)]
+mod tests;
 mod vector;
 mod vector_rule;
 mod walk;
 
 pub use origin::Origin;
+pub use reached::determinize;
 pub use residuals::Residuals;
 pub use vector::Vector;
 pub use vector_rule::VectorRule;

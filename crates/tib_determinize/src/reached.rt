@@ -1,0 +1,41 @@
+//! The vectors that are reached, with their rules.
+
+ghost use Rattle.std.specs.Prelude.{◌≤◌, length, IfOk, IfErr};
+ghost use Rattle.tib_hunt.specs.Reached.{most_parts, IfTooMany, IsBeyond};
+ghost use Rattle.tib_determinize.specs.Answered.{HasParts, IsAnswer};
+ghost use Rattle.tib_determinize.specs.Determinization.{determinization};
+
+use crate::residuals::Residuals;
+use crate::vector::Vector;
+use std::alloc::Global;
+use tib_cost::Semiring;
+use tib_grammar::Rule;
+use tib_hunt::{Found, Gate, HuntError, hunt_alone};
+use tib_normal::Normal;
+
+/// The vectors that are reached from the labels over no state, in the order by rounds, and the rules over their positions. A tree has
+/// at most one run to a vector, and its cost times the residual of a state is the series at that state. `TooMany` exactly where they
+/// have more parts than the limit, 1 to `MOST_PARTS` of tib_hunt; `OutOfMemory` if memory is refused. Calls `gate` once for each
+/// vector. Cost: for each vector the rules of each label and rank, the positions up to it at each place where some rule is alive
+/// still, and the edges that are made. Residuals are from Mohri, 1997, and May and Knight, 2006.
+pub fn determinize<S: Semiring, G: Gate>(
+    alloc: Global,
+    normal: &Normal<S>,
+    limit: u64,
+    gate: &G,
+) -> Result<Found<Vector, Rule<u32>>, HuntError>
+    requires some { 1 ≤ limit }
+    requires limit { limit ≤ most_parts }
+    ensures determinized { IfOk result (IsAnswer S.product normal.now.rules) }
+    ensures parts { IfOk result (HasParts S.product normal.now.rules) }
+    ensures within { IfOk result (λ f. f.parts ≤ limit) }
+    ensures few { IfOk result (λ f. length f.order.items ≤ limit) }
+    ensures few_rules { IfOk result (λ f. length f.rules.items ≤ limit) }
+    ensures more { let hunted = determinization S.product normal.now.rules in
+        IfErr result (IfTooMany limit (IsBeyond hunted limit)) }
+{
+    let Ok(residuals) = Residuals::new(alloc, normal) else {
+        return Err(HuntError::OutOfMemory);
+    };
+    hunt_alone(alloc, &residuals, limit, gate)
+}
