@@ -1,0 +1,7 @@
+-- The definitions of contexts and outside costs, of pruning, and of what is kept on the way.
+pub mod Contexts
+pub mod Outside
+pub mod Pruned
+pub mod Settling
+pub mod Examples
+pub mod Laws

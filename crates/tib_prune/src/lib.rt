@@ -1,0 +1,4 @@
+//! Outside costs of the states of a grammar, and the rules within a beam of its cheapest run.
+#![tactic(auto)]
+
+pub mod laws;
