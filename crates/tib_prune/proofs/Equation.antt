@@ -16,7 +16,7 @@ use Rattle.tib_prune.specs.Outside.{IsContextCost, IsOutside}
 use Rattle.tib_prune.specs.Pruned.{AreCosts}
 use Rattle.tib_prune.specs.Settling.{without, told, IsOffered}
 use Rattle.tib_prune.proofs.Contexts.{out_of_second, out_below}
-use Rattle.tib_prune.proofs.Settling.{told_context, total_below}
+use Rattle.tib_prune.proofs.Crossing.{told_context, total_below}
 
 abbrev alone : List ℕ
 alone = 0 ∷ []

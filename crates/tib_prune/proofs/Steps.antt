@@ -13,7 +13,7 @@ use Rattle.tib_inside.specs.Settling.{HasOrWaits}
 use Rattle.tib_prune.specs.Contexts.{gap}
 use Rattle.tib_prune.specs.Outside.{IsContextCost, IsOutside}
 use Rattle.tib_prune.specs.Settling.{without, told, AreSettling, Settles, IsTold, Tells}
-use Rattle.tib_prune.proofs.Settling.{told_context, popped}
+use Rattle.tib_prune.proofs.Crossing.{told_context, popped}
 
 apart : (p q : ℕ) → (p ≡ q) ⊎ (p ≡ q → ⊥)
 apart p q = grind arith

@@ -5,16 +5,15 @@ use Rattle.tib_tree.specs.Trees.{Tree, Trees, only}
 use Rattle.tib_grammar.specs.Sides.{holes_of}
 use Rattle.tib_grammar.specs.Forms.{AreNormal}
 use Rattle.tib_grammar.specs.Run.{rule_at, AreRuns, cost}
-use Rattle.tib_grammar.specs.Series.{IsSeries}
 use Rattle.tib_grammar.specs.declared.Rule.{Rule}
 use Rattle.tib_cost.specs.Semiring.{most}
-use Rattle.tib_cost.specs.Least.{IsLeast, IsNoGreater, AtMost}
+use Rattle.tib_cost.specs.Least.{IsLeast, AtMost}
 use Rattle.tib_inside.specs.Inside.{IsInside}
 use Rattle.tib_normal.specs.Entries.{TakesLeast}
 use Rattle.tib_prune.specs.Contexts.{Context, plug, AreRunsAround, cost_around, Stands, IsCut}
 use Rattle.tib_prune.specs.Outside.{IsContextCost, IsOutside, IsThrough, through}
 use Rattle.tib_prune.specs.Pruned.{IsKept, ArePruned, AreCosts, KeepsCheapTrees, MakesNoneCheaper, HadNoGreaterCosts, StandInCheapRuns}
-use Rattle.tib_prune.specs.Settling.{told, AreSettling, Settles, Tells, IsOffered}
+use Rattle.tib_prune.specs.Settling.{told, AreSettling, IsOffered}
 
 -- a run in place of what a context run leaves out makes a run, at the product of both costs
 abbrev pub PluggingMakesRuns : (ℕ → ℕ → ℕ) → Type 0

@@ -5,3 +5,5 @@ pub mod Pruned
 pub mod Settling
 pub mod Examples
 pub mod Laws
+pub mod Telling
+pub mod Loop

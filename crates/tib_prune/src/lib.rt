@@ -2,3 +2,8 @@
 #![tactic(auto)]
 
 pub mod laws;
+mod products;
+mod settling;
+mod telling;
+
+pub use settling::outside;

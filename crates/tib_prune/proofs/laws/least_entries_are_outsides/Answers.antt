@@ -1,4 +1,4 @@
-use Rattle.tib_prune.proofs.Settling.{popped}
+use Rattle.tib_prune.proofs.Crossing.{popped}
 use Rattle.tib_prune.proofs.laws.least_entries_are_outsides.Goals as goal
 
 pub returns : goal.returns

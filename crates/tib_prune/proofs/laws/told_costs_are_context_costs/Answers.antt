@@ -1,4 +1,4 @@
-use Rattle.tib_prune.proofs.Settling.{told_context}
+use Rattle.tib_prune.proofs.Crossing.{told_context}
 use Rattle.tib_prune.proofs.laws.told_costs_are_context_costs.Goals as goal
 
 pub returns : goal.returns

@@ -1,0 +1,14 @@
+use Rattle.std.proofs.Common.{◌≡◌, ◌≤◌, length, drop, map}
+use Rattle.tib_grammar.specs.Items.{state_in}
+use Rattle.tib_inside.specs.Inside.{total}
+use Rattle.tib_inside.specs.Settling.{costs_in}
+use Rattle.tib_prune.proofs.products.product_of.Given as goal
+
+abbrev pub invariant-loop-n : goal.invariant-loop-n
+invariant-loop-n g l = record {
+  within : l.n ≤ length l.states;
+  product : l.product ≡ total g.S.Semiring.product (costs_in l.costs) (drop l.n (map state_in l.states));
+}
+
+abbrev pub decreases-loop-n : goal.decreases-loop-n
+decreases-loop-n g l = l.n

@@ -1,0 +1,34 @@
+// Products of costs, none where one is missing or the product is above the greatest cost.
+ghost use Rattle.std.specs.Prelude.{◌≡◌, ℕ, ◌<◌, ◌≤◌, length, map};
+ghost use Rattle.tib_cost.specs.Least.{times};
+ghost use Rattle.tib_grammar.specs.Items.{state_in};
+ghost use Rattle.tib_grammar.specs.Range.{AllBelow};
+ghost use Rattle.tib_inside.specs.Inside.{total};
+ghost use Rattle.tib_inside.specs.Settling.{costs_in};
+
+use tib_cost::{Cost, Semiring};
+use tib_grammar::Item;
+
+/// The product of two costs.
+pub fn times<S: Semiring>(a: &Option<Cost>, b: &Option<Cost>) -> Option<Cost>
+    ensures { result ≡ times S.product a.now b.now }
+{
+    match (a, b) {
+        (Some(x), Some(y)) => S::times(*x, *y),
+        _ => None,
+    }
+}
+
+/// The product of the costs of some states.
+pub fn product_of<S: Semiring>(states: &[Item<u32>], costs: &[Option<Cost>]) -> Option<Cost>
+    requires { AllBelow (length costs.now) (map state_in states.now) }
+    ensures { result ≡ total S.product (costs_in costs.now) (map state_in states.now) }
+{
+    let mut product = Some(S::one());
+    let mut n = states.len();
+    while n > 0 {
+        n -= 1;
+        product = times::<S>(&costs[states[n].state() as usize], &product);
+    }
+    product
+}
