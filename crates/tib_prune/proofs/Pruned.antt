@@ -99,10 +99,10 @@ module _ {levelled weighted : Bool} {product : ℕ → ℕ → ℕ} (laws : Prod
     abbrev old_position : ℕ → ℕ
     old_position j = get_or pruned.positions j 0
 
-    as_many : length new ≡ length pruned.positions
+    pub as_many : length new ≡ length pruned.positions
     as_many = ap length pruned.are_rules ∙ length-map pruned.positions (rule_at rules)
 
-    same_rule : (j : ℕ) → j < length new → rule_at new j ≡ rule_at rules (old_position j)
+    pub same_rule : (j : ℕ) → j < length new → rule_at new j ≡ rule_at rules (old_position j)
     same_rule j h =
         ap (λ rs. rule_at rs j) pruned.are_rules ∙ get_or-map (rule_at rules) pruned.positions j 0 no_rule (omega (arith, h, as_many))
 

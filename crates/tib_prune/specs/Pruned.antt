@@ -1,7 +1,8 @@
 -- A grammar without the rules that stand in no run within a beam of the cheapest one.
-use Rattle.std.specs.Prelude.{◌≡◌, ◌↔◌, ℕ, ◌+◌, ◌<◌, ◌≤◌, List, [], ◌∷◌, length, map, Option, Some}
+use Rattle.std.specs.Prelude.{◌≡◌, ◌↔◌, ℕ, ◌+◌, ◌<◌, ◌≤◌, List, [], ◌∷◌, length, map, nat_le, Bool, false, Option, None, Some}
 use Rattle.tib_lex.specs.Lists.{Has, Ascends}
 use Rattle.tib_tree.specs.Trees.{Tree, Trees}
+use Rattle.tib_grammar.specs.GrammarOf.{GrammarOf}
 use Rattle.tib_grammar.specs.Series.{IsSeries}
 use Rattle.tib_cost.specs.Least.{IsNoGreater}
 use Rattle.tib_grammar.specs.Run.{rule_at, AreRuns, cost}
@@ -35,6 +36,16 @@ pub record StandsInCheapRun (product : ℕ → ℕ → ℕ) (rules : List (Rule 
   pub are_runs : AreRuns new (0 ∷ []) runs
   pub stands : Stands n runs
   pub within_beam : IsWithinBeam product rules beam (cost product new runs)
+
+-- whether v is a cost of at most n
+abbrev pub is_at_most : Option ℕ → ℕ → Bool
+is_at_most None n = false
+is_at_most (Some c) n = nat_le c n
+
+-- the new grammar has the states of the old one, and those of its rules that are kept
+pub record IsPruned (product : ℕ → ℕ → ℕ) (beam : ℕ) (old new : GrammarOf) : Type 0 where
+  pub names : new.names ≡ old.names
+  pub rules : ArePruned product old.rules beam new.rules
 
 -- each tree whose cost is not above the bound has the same cost by the new rules
 abbrev pub KeepsCheapTrees : (ℕ → ℕ → ℕ) → List (Rule ℕ) → ℕ → List (Rule ℕ) → Type 0

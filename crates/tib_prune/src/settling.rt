@@ -92,6 +92,19 @@ pub fn outside_costs<S: Semiring>(
     Ok(outsides)
 }
 
+/// The inside costs of the states.
+pub fn inside_costs<S: Semiring>(
+    alloc: Global,
+    normal: &Normal<S>,
+) -> Result<Vec<Option<Cost>>, AllocError>
+    ensures length { IfOk result (λ costs. length costs.items ≡ length normal.now.names) }
+    ensures insides { IfOk result (λ costs.
+        AreInsidesOfAll S.product normal.now.rules costs.items) }
+{
+    normal.grammar().is_sound();
+    inside::<S>(alloc, normal.grammar())
+}
+
 /// Each state's outside cost: the least cost of a run from the start in which one sub-run from the
 /// state is left out, none where no such run costs at most the greatest cost. The states get their
 /// costs in ascending order (Dijkstra 1959), once their inside costs are known; each rule is looked
@@ -106,7 +119,6 @@ pub fn outside<S: Semiring>(
     ensures length { IfOk result (λ costs. length costs.items ≡ length normal.now.names) }
     ensures outsides { IfOk result (λ costs. AreOutsides S.product normal.now.rules costs.items) }
 {
-    normal.grammar().is_sound();
-    let insides = inside::<S>(alloc, normal.grammar())?;
+    let insides = inside_costs::<S>(alloc, normal)?;
     outside_costs::<S>(alloc, normal, &insides)
 }
