@@ -66,7 +66,7 @@ module _ {levelled weighted : Bool} {product : ℕ → ℕ → ℕ} (laws : Prod
             is_outside = o.1;
             insides = k.values;
             are_insides = k.are;
-            is_product = refl;
+            is_product = refl {a = product o.0 (product weight (product_of product k.values))};
             within = omega (arith, through, whole, m);
           };
           within_beam = closer (product o.0 (product weight (product_of product k.values))) (cost product rules runs) (omega (arith, through, whole)) w;

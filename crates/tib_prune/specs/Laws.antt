@@ -9,11 +9,10 @@ use Rattle.tib_grammar.specs.declared.Rule.{Rule}
 use Rattle.tib_cost.specs.Semiring.{most}
 use Rattle.tib_cost.specs.Least.{IsLeast, AtMost}
 use Rattle.tib_inside.specs.Inside.{IsInside}
-use Rattle.tib_normal.specs.Entries.{TakesLeast}
 use Rattle.tib_prune.specs.Contexts.{Context, plug, AreRunsAround, cost_around, Stands, IsCut}
 use Rattle.tib_prune.specs.Outside.{IsContextCost, IsOutside, IsThrough, through}
 use Rattle.tib_prune.specs.Pruned.{IsKept, ArePruned, AreCosts, KeepsCheapTrees, MakesNoneCheaper, HadNoGreaterCosts, StandInCheapRuns}
-use Rattle.tib_prune.specs.Settling.{told, AreSettling, IsOffered}
+use Rattle.tib_prune.specs.Settling.{told, IsOffered}
 
 -- a run in place of what a context run leaves out makes a run, at the product of both costs
 abbrev pub PluggingMakesRuns : (ℕ → ℕ → ℕ) → Type 0
@@ -83,10 +82,3 @@ abbrev pub NothingIsKeptWithoutRuns : (ℕ → ℕ → ℕ) → Type 0
 NothingIsKeptWithoutRuns product =
     (rules : List (Rule ℕ)) (insides outsides : ℕ → Option ℕ) (beam n : ℕ) → AreCosts product rules insides outsides → insides 0 ≡ None →
     IsKept product rules beam n → ⊥
-
--- the least cost that waits for a state without a cost is the outside cost of the state
-abbrev pub LeastEntriesAreOutsides : (ℕ → ℕ → ℕ) → Type 0
-LeastEntriesAreOutsides product =
-    (rules : List (Rule ℕ)) (insides outsides : ℕ → Option ℕ) (entries : List (ℕ × ℕ)) → ((q : ℕ) → IsInside product rules q (insides q)) →
-    AreSettling product rules insides outsides entries → (e : ℕ × ℕ) (rest : List (ℕ × ℕ)) → TakesLeast entries e rest → outsides e.1 ≡ None →
-    IsOutside product rules e.1 (Some e.0)

@@ -10,6 +10,8 @@ mod products;
 mod pruning;
 mod settling;
 mod telling;
+#[cfg(test)]
+mod tests;
 
 pub use pruning::prune;
 pub use settling::outside;
