@@ -1,14 +1,3 @@
-pub mod Filling
-pub mod Permuted
-pub mod Moving
-pub mod Translating
-pub mod Exact
-pub mod Composed
-pub mod Worked
-pub mod Standing
-pub mod Choosing
-pub mod EdgeList
-pub mod Numbered
-pub mod Flattened
-pub mod Searching
-pub mod Leasts
+mod Buckets
+mod Reading
+mod Meeting

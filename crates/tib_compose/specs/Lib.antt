@@ -1,11 +1,5 @@
-pub mod Named
-pub mod Plain
-pub mod Translations
-pub mod Composing
-pub mod Composition
-pub mod Completions
-pub mod Leasts
-pub mod Flat
-pub mod Numbering
-pub mod Choices
-pub mod Examples
+pub mod Readers
+pub mod IsIndex
+pub mod ChoiceView
+pub mod EdgeLaws
+pub mod Answered

@@ -1,6 +1,12 @@
-//! The composition of two transducers, as laws: the composite transducer has the series of the composition. It stands on
-//! `tib_transducer` and `tib_keyed`.
+//! The composition of two transducers: the pairs of their states that are reached, with the rules of the composite
+//! transducer. It stands on `tib_compose_laws`, `tib_classes` and `tib_hunt`.
 #![tactic(auto)]
 
-pub mod examples;
-pub mod laws;
+mod choice;
+mod composite;
+mod index;
+mod key;
+
+pub use choice::Choice;
+pub use composite::Composite;
+pub use key::Key;

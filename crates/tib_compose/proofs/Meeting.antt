@@ -1,0 +1,36 @@
+-- What the demanded classes of the second transducer give.
+use Rattle.std.specs.Prelude.{ℕ, ◌<◌, List, [], ◌∷◌, true, refl}
+use Rattle.tib_lex.specs.Lists.{Has}
+use Rattle.tib_grammar.specs.Range.{AllBelow}
+use Rattle.std.proofs.Common.{subst, inl, inr}
+use Rattle.tib_transducer.specs.Rules.{transducer_rule, states_in}
+use Rattle.tib_transducer.specs.Range.{AreShaped, AreWithin}
+use Rattle.tib_transducer.specs.declared.TransducerRule.{TransducerRule}
+use Rattle.tib_classes.specs.Outside.{demands, AllMeet}
+use Rattle.tib_compose_laws.specs.Plain.{ArePlain}
+use Rattle.tib_compose_laws.proofs.Translating.{is_over}
+use Rattle.tib_compose.specs.Readers.{AreFlat}
+use Rattle.tib_compose.specs.EdgeLaws.{StatesBelow}
+
+-- rules of all four classes are plain
+pub plain_from : (rules : List (TransducerRule ℕ)) → AllMeet (demands true true true true) rules → ArePlain rules
+plain_from rules all n h = record {
+  linear = (all n h).linear refl;
+  nondeleting = (all n h).nondeleting refl;
+  one_label = (all n h).one_label refl;
+  unlabelled = (all n h).unlabelled refl;
+}
+
+-- plain rules have one label over variables
+pub flat_from : (rules : List (TransducerRule ℕ)) → AreShaped rules → AllMeet (demands true true true true) rules → AreFlat rules
+flat_from rules shaped all n h =
+    let over = is_over rules shaped (plain_from rules all) n h in
+    record { root = over.0; is_root = over.1.root; variables = over.1.variables }
+
+all_below : (n : ℕ) (qs : List ℕ) (q : ℕ) → AllBelow n qs → Has qs q → q < n
+all_below n [] q a h = absurd h
+all_below n (x ∷ qs) q a h = elim h [ inl e ↦ subst (λ z. z < n) e a.0 | inr k ↦ all_below n qs q a.1 k ]
+
+-- states in range, told by functions
+pub below_from : (n : ℕ) (rules : List (TransducerRule ℕ)) → AreWithin n rules → StatesBelow n rules
+below_from n rules w = (λ m h. (w m h).0, λ m q h has. all_below n (states_in (transducer_rule rules m).right) q (w m h).1 has)

@@ -1,0 +1,11 @@
+pub mod Named
+pub mod Plain
+pub mod Translations
+pub mod Composing
+pub mod Composition
+pub mod Completions
+pub mod Leasts
+pub mod Flat
+pub mod Numbering
+pub mod Choices
+pub mod Examples
