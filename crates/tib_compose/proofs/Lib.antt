@@ -1,3 +1,4 @@
 mod Buckets
 mod Reading
 mod Meeting
+mod Settled

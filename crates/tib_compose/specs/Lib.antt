@@ -3,3 +3,4 @@ pub mod IsIndex
 pub mod ChoiceView
 pub mod EdgeLaws
 pub mod Answered
+pub mod NamedItems

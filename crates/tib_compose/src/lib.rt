@@ -6,6 +6,7 @@ mod choice;
 mod composite;
 mod index;
 mod key;
+mod settling;
 
 pub use choice::Choice;
 pub use composite::Composite;

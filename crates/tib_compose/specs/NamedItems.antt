@@ -1,0 +1,23 @@
+-- Items of a right side with their states exchanged.
+use Rattle.std.specs.Prelude.{ℕ, ◌<◌, List, length}
+use Rattle.std.proofs.Common.{get_or}
+use Rattle.tib_grammar.specs.declared.Item.{Item}
+use Rattle.tib_grammar.specs.declared.Item.TheVariants.{Label, Hole}
+use Rattle.tib_hunt.specs.declared.place.Place.{Place}
+use Rattle.tib_hunt.specs.EdgeLists.{IsWithin}
+use Rattle.tib_transducer.specs.declared.Pair.{Pair}
+use Rattle.tib_compose_laws.specs.Named.{named_pair}
+
+-- an item with its state exchanged for what g gives of it
+abbrev pub named_item : {P Q : Type 0} → (P → Q) → Item (Pair P) → Item (Pair Q)
+named_item g (Label f rank) = Label f rank
+named_item g (Hole x) = Hole (named_pair g x)
+
+-- the place of an item is within
+abbrev pub IsItemWithin : ℕ → ℕ → Item (Pair Place) → Type 0
+IsItemWithin known ends (Label f rank) = Unit {0}
+IsItemWithin known ends (Hole x) = IsWithin known ends x.state
+
+-- the place of each item is
+abbrev pub HolesAreWithin : ℕ → ℕ → List (Item (Pair Place)) → Type 0
+HolesAreWithin known ends items = (i : ℕ) → i < length items → IsItemWithin known ends (get_or items i (Label 0 0))
