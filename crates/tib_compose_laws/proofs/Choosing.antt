@@ -66,7 +66,8 @@ join_front (tree f kids none) (tree g ks none) d e m n h =
     let belows : kids ≡ ks = cc h in
     ap (λ z. tree z kids none) labels ∙ ap (λ z. tree g z none) belows
 
-has_joins : {A : Type 0} (cs ds : List (Trees A)) (x : Trees A) → Has (all_joins cs ds) x → (c : Trees A) × (d : Trees A) × Has cs c × Has ds d × (join c d ≡ x)
+-- what is joined is a first and a second
+pub has_joins : {A : Type 0} (cs ds : List (Trees A)) (x : Trees A) → Has (all_joins cs ds) x → (c : Trees A) × (d : Trees A) × Has cs c × Has ds d × (join c d ≡ x)
 has_joins [] ds x h = absurd h
 has_joins (c ∷ cs) ds x h = elim (has_either (map (join c) ds) (all_joins cs ds) x h) [
   | inl k ↦ let r = has_mapped (join c) ds x k in (c, r.0, inl refl, r.1, r.2)

@@ -12,3 +12,4 @@ pub mod Numbered
 pub mod Flattened
 pub mod Searching
 pub mod Leasts
+pub mod Pieces

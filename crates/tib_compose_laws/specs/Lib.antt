@@ -9,3 +9,4 @@ pub mod Flat
 pub mod Numbering
 pub mod Choices
 pub mod Examples
+pub mod Pieces

@@ -4,6 +4,7 @@ ghost use Rattle.tib_compose_laws.specs.Composition.{EndsAreInRange, IsOneSet, R
 ghost use Rattle.tib_compose_laws.specs.Completions.{SearchIsWhole, SearchPutsOut};
 ghost use Rattle.tib_compose_laws.specs.Leasts.{LeastsAreLeast};
 ghost use Rattle.tib_compose_laws.specs.Flat.{TranslatesInPreorder, TranslationsEndInHoles};
+ghost use Rattle.tib_compose_laws.specs.Pieces.{SearchGoesByPieces};
 ghost use Rattle.tib_compose_laws.specs.Numbering.{NumberedSeries};
 ghost use Rattle.tib_compose_laws.specs.Choices.{ChoicesAreAll, EdgesAreListed};
 
@@ -83,6 +84,11 @@ pub fn search_is_whole<S: Semiring>()
 /// Such a search puts out the preorder of each translation from left to right.
 pub fn search_puts_out()
     ensures { SearchPutsOut }
+{}
+
+/// A search that puts out one piece after another finds what comes of all choices, in their order.
+pub fn search_goes_by_pieces<S: Semiring>()
+    ensures { SearchGoesByPieces S.product }
 {}
 
 /// The least cost of a choice that translates a side goes by recursion on the side.
