@@ -2,3 +2,5 @@ mod Buckets
 mod Reading
 mod Meeting
 mod Settled
+mod Skipping
+mod Taking

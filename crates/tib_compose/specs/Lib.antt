@@ -4,3 +4,5 @@ pub mod ChoiceView
 pub mod EdgeLaws
 pub mod Answered
 pub mod NamedItems
+pub mod Ends
+pub mod Branches

@@ -2,8 +2,10 @@
 //! transducer. It stands on `tib_compose_laws`, `tib_classes` and `tib_hunt`.
 #![tactic(auto)]
 
+mod branch;
 mod choice;
 mod composite;
+mod ends;
 mod index;
 mod key;
 mod settling;
