@@ -1,12 +1,15 @@
 -- What comes of right sides that are translated in part.
-use Rattle.std.specs.Prelude.{◌≡◌, ℕ, ◌+◌, List, [], ◌∷◌, map, length, reverse, drop, Option, None, Some}
-use Rattle.tib_tree.specs.Trees.{Trees, parse, first_of, first_trees}
+use Rattle.std.specs.Prelude.{◌≡◌, ℕ, ◌+◌, ◌<◌, List, [], ◌∷◌, ◌++◌, map, length, reverse, drop, Option, None, Some}
+use Rattle.std.proofs.Common.{get_or}
+use Rattle.tib_tree.specs.Trees.{Trees, parse, first_of, first_trees, other_trees}
 use Rattle.tib_grammar.specs.Sides.{Symbol, label, Side as SideFor}
 use Rattle.tib_grammar.specs.Items.{pairs_of}
 use Rattle.tib_grammar.specs.declared.Item.{Item}
+use Rattle.tib_grammar.specs.declared.Item.TheVariants.{Label, Hole}
 use Rattle.tib_transducer.specs.declared.Pair.{Pair}
 use Rattle.tib_transducer.specs.declared.TransducerRule.{TransducerRule}
-use Rattle.tib_compose_laws.specs.Pieces.{Piece as PieceOf, put, read, Result, results, results_by, GoesByPieces}
+use Rattle.tib_compose_laws.specs.Pieces.{Piece as PieceOf, put, read, Result, pieces_of, results, results_by, GoesByPieces}
+use Rattle.tib_compose.specs.Ends.{AreEnds}
 use Rattle.tib_compose.specs.declared.branch.Piece.{Piece}
 use Rattle.tib_compose.specs.declared.branch.Piece.TheVariants.{Put, Read}
 use Rattle.tib_compose.specs.declared.branch.Reading.{Reading}
@@ -27,6 +30,26 @@ piece_of pairs (Read i p) = read (side_there pairs i) p
 -- pieces of which the last is the next
 abbrev pub stack_of : List (Symbol ℕ (Pair ℕ) × ℕ) → List Piece → List PieceOf
 stack_of pairs ws = reverse (map (piece_of pairs) ws)
+
+-- what an item of a rule's right side stands for below a node
+abbrev pub piece_below : List (Symbol ℕ (Pair ℕ) × ℕ) → ℕ → Item (Pair ℕ) → PieceOf
+piece_below pairs node (Label f n) = put f n
+piece_below pairs node (Hole x) = read (first_of (label 0) (other_trees x.variable (parse (drop (node + 1) pairs)))) x.state
+
+-- the variable of an item is below a rank
+abbrev pub IsKnown : ℕ → Item (Pair ℕ) → Type 0
+IsKnown rank (Label f n) = Unit {0}
+IsKnown rank (Hole x) = x.variable < rank
+
+-- that of each item is
+abbrev pub AreKnown : ℕ → List (Item (Pair ℕ)) → Type 0
+AreKnown rank items = (i : ℕ) → i < length items → IsKnown rank (get_or items i (Label 0 0))
+
+-- the pieces of a right side below a node stand before what was left
+abbrev pub PutsPieces : List (Item (Pair ℕ)) → List ℕ → ℕ → List Piece → List Piece → Type 0
+PutsPieces right ends node old new =
+    (pairs : List (Symbol ℕ (Pair ℕ) × ℕ)) → length pairs ≡ length ends → AreEnds pairs ends 0 → (rank : ℕ) → AreKnown rank right →
+    stack_of pairs new ≡ pieces_of (pairs_of right) (kids_there pairs node rank) ++ stack_of pairs old
 
 -- what comes of a branch
 abbrev pub branch_results : (ℕ → ℕ → ℕ) → List (TransducerRule ℕ) → List (Item (Pair ℕ)) → Branch → List Result

@@ -37,7 +37,8 @@ each_right : {A : Type 0} (Q : A → Type 0) (xs ys : List A) → Each Q (xs ++ 
 each_right Q [] ys h = h
 each_right Q (x ∷ xs) ys h = each_right Q xs ys h.1
 
-sides_same : {P Q : Type 0} (f g : P → Q) (s : Trees (Symbol ℕ (Pair P))) → Each (λ p. f p ≡ g p) (all_states s) → relabel (symbol_map (named_pair f)) s ≡ relabel (symbol_map (named_pair g)) s
+sides_same : {P Q : Type 0} (f g : P → Q) (s : Trees (Symbol ℕ (Pair P))) →
+    Each (λ p. f p ≡ g p) (all_states s) → relabel (symbol_map (named_pair f)) s ≡ relabel (symbol_map (named_pair g)) s
 sides_same f g none h = refl
 sides_same f g (tree (label x) kids rest) h =
     ap (λ ks. tree (label x) ks (relabel (symbol_map (named_pair f)) rest)) (sides_same f g kids (each_left (λ p. f p ≡ g p) (all_states kids) (all_states rest) h))
@@ -75,7 +76,8 @@ IsKey m n k = (k.0 < m) × (k.1 < n)
 
 -- the ends of an edge of a pair within are within
 pub ends_within :
-    (product : ℕ → ℕ → ℕ) (one two : List (TransducerRule ℕ)) (m n : ℕ) (order : List (ℕ × ℕ)) (i : ℕ) (o : ℕ × Trees (Option ℕ)) (e : TransducerRule (ℕ × ℕ)) (k : ℕ × ℕ) → StatesBelow m one → StatesBelow n two →
+    (product : ℕ → ℕ → ℕ) (one two : List (TransducerRule ℕ)) (m n : ℕ) (order : List (ℕ × ℕ)) (i : ℕ) (o : ℕ × Trees (Option ℕ)) (e : TransducerRule (ℕ × ℕ)) (k : ℕ × ℕ) →
+    StatesBelow m one → StatesBelow n two →
     Each (IsKey m n) order → i < length order → IsComposeEdge product one two (key_at order i) o e → Has (ends_of e) k → IsKey m n k
 ends_within product one two m n order i o e k a b all low edge has =
     let here : IsKey m n (key_at order i) = each_has (IsKey m n) order (key_at order i) all (has_at order i (0, 0) low) in

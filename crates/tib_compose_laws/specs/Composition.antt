@@ -48,4 +48,5 @@ IsOneSet product =
 abbrev pub EndsAreInRange : (ℕ → ℕ → ℕ) → Type 0
 EndsAreInRange product =
     (one two : List (TransducerRule ℕ)) (m n : ℕ) → AreWithin m one → AreWithin n two →
-    (key : ℕ × ℕ) (o : ℕ × Trees (Option ℕ)) (e : TransducerRule (ℕ × ℕ)) (k : ℕ × ℕ) → key.1 < n → IsComposeEdge product one two key o e → Has (ends_of e) k → (k.0 < m) × (k.1 < n)
+    (key : ℕ × ℕ) (o : ℕ × Trees (Option ℕ)) (e : TransducerRule (ℕ × ℕ)) (k : ℕ × ℕ) → key.1 < n →
+    IsComposeEdge product one two key o e → Has (ends_of e) k → (k.0 < m) × (k.1 < n)

@@ -78,7 +78,11 @@ module _ (product : ℕ → ℕ → ℕ) (two : List (TransducerRule ℕ)) where
         results cost done (read (record { label = label f; kids = kids }) p ∷ ws) ≡ results_by cost done f kids p ws (length two)
     pub at_start :
         (cost p : ℕ) (s : SideFor ℕ (Pair ℕ)) →
-        results cost [] (read s p ∷ []) ≡ map (λ c. (product cost (choice_cost product two c), substituted {P = Pair ℕ} ((hole (record { state = p; variable = 0 }), 0) ∷ []) (translated two (p ∷ []) (only s) c))) (choices_of two p s)
+        results cost [] (read s p ∷ [])
+        ≡ map (λ c. (
+          product cost (choice_cost product two c),
+          substituted {P = Pair ℕ} ((hole (record { state = p; variable = 0 }), 0) ∷ []) (translated two (p ∷ []) (only s) c),
+        )) (choices_of two p s)
 
 -- the search by pieces finds what comes of all choices, in their order
 abbrev pub SearchGoesByPieces : (ℕ → ℕ → ℕ) → Type 0
