@@ -2,22 +2,22 @@
 // right h 4, k 5 and c 6.
 ghost use Rattle.std.specs.Prelude.{◌≤◌};
 
-use crate::{ApplyError, apply_backward};
+use crate::{ApplyError, Key, apply_backward};
 use std::alloc::{AllocError, Global};
 use std::test::Fail;
 use tib_cost::{Cost, MOST, MinPlus};
 use tib_grammar::{Grammar, Item, Names, Rule, Side};
-use tib_hunt::Open;
+use tib_hunt::{Found, Open};
 use tib_normal::Normal;
 use tib_transducer::{Pair, Transducer, TransducerRule, Variable};
 use tib_tree::Label;
 
-// An item of a left side: a label over so many children, a variable, or one that asks for a label.
+// An item of a left side: a label over so many children, a variable of this number, or one that asks for a label.
 #[derive(Clone, Copy)]
 enum Left {
     Over(Label, u32),
-    Plain,
-    Asks(Label),
+    Plain(u32),
+    Asks(u32, Label),
 }
 
 // An item of a right side: a label over so many children, or a pair of a state and a variable.
@@ -46,18 +46,18 @@ fn names(alloc: Global) -> Result<Names, Fail> {
 
 fn left_side(alloc: Global, left: &[Left]) -> Result<Side<Variable>, Fail> {
     let mut items = Vec::new(alloc);
-    let mut number = 0;
-    for item in left.iter().take(99) {
-        let label = match *item {
-            Left::Over(label, rank) => {
-                items.push(Item::Label { label, rank })?;
-                continue;
-            }
-            Left::Plain => None,
-            Left::Asks(label) => Some(label),
-        };
-        items.push(Item::Hole(Variable { number, label }))?;
-        number += 1;
+    for item in left {
+        items.push(match *item {
+            Left::Over(label, rank) => Item::Label { label, rank },
+            Left::Plain(number) => Item::Hole(Variable {
+                number,
+                label: None,
+            }),
+            Left::Asks(number, label) => Item::Hole(Variable {
+                number,
+                label: Some(label),
+            }),
+        })?;
     }
     if items.len() > 99 {
         return Err("too many items".into());
@@ -146,26 +146,20 @@ fn write_rule(text: &mut String, rule: &Rule<u32>) -> Result<(), AllocError> {
     text.push_str("; ")
 }
 
-// The keys, the rules and the parts, or the error.
-fn preimage(alloc: Global, moves: &[Move], rows: &[Row], limit: u64) -> Result<String, Fail>
-    requires some { 1 ≤ limit }
-    requires limit { limit ≤ 20000000 }
-{
-    let transducer = transducer(alloc, moves)?;
-    let grammar = normal(alloc, rows)?;
+fn write_key(text: &mut String, key: Key) -> Result<(), AllocError> {
+    write_number(text, key.first() as u64)?;
+    text.push_str(".")?;
+    write_number(text, key.second() as u64)?;
+    text.push_str(".")?;
+    write_number(text, key.restriction() as u64)?;
+    text.push_str(" ")
+}
+
+// The keys, the rules and the parts.
+fn write_found(alloc: Global, found: &Found<Key, Rule<u32>>) -> Result<String, AllocError> {
     let mut text = String::new(alloc);
-    let found = match apply_backward(alloc, &transducer, &grammar, limit, &Open) {
-        Ok(found) => found,
-        Err(ApplyError::OutOfMemory) => return Err("no memory".into()),
-        Err(error) => return Ok(error.to_string(alloc)?),
-    };
     for key in &found.order {
-        write_number(&mut text, key.first() as u64)?;
-        text.push_str(".")?;
-        write_number(&mut text, key.second() as u64)?;
-        text.push_str(".")?;
-        write_number(&mut text, key.restriction() as u64)?;
-        text.push_str(" ")?;
+        write_key(&mut text, *key)?;
     }
     text.push_str("| ")?;
     for rule in &found.rules {
@@ -175,18 +169,48 @@ fn preimage(alloc: Global, moves: &[Move], rows: &[Row], limit: u64) -> Result<S
     Ok(text)
 }
 
+// What was found, or the error.
+fn write_answer(
+    alloc: Global,
+    answer: Result<Found<Key, Rule<u32>>, ApplyError>,
+) -> Result<String, Fail> {
+    match answer {
+        Ok(found) => Ok(write_found(alloc, &found)?),
+        Err(ApplyError::OutOfMemory) => Err("no memory".into()),
+        Err(error) => Ok(error.to_string(alloc)?),
+    }
+}
+
+// What backward application answers, as text.
+fn preimage(alloc: Global, moves: &[Move], rows: &[Row], limit: u64) -> Result<String, Fail>
+    requires some { 1 ≤ limit }
+    requires limit { limit ≤ 20000000 }
+{
+    let transducer = transducer(alloc, moves)?;
+    let grammar = normal(alloc, rows)?;
+    write_answer(
+        alloc,
+        apply_backward(alloc, &transducer, &grammar, limit, &Open),
+    )
+}
+
 // f(g(x) y) to h(y x), a to c, and g(x) to x
 static TURNS: [Move; 3] = [
     (
         0,
-        &[Left::Over(0, 2), Left::Over(1, 1), Left::Plain, Left::Plain],
+        &[
+            Left::Over(0, 2),
+            Left::Over(1, 1),
+            Left::Plain(0),
+            Left::Plain(1),
+        ],
         &[Right::Over(4, 2), Right::Reads(0, 1), Right::Reads(0, 0)],
         1,
     ),
     (0, &[Left::Over(2, 0)], &[Right::Over(6, 0)], 2),
     (
         0,
-        &[Left::Over(1, 1), Left::Plain],
+        &[Left::Over(1, 1), Left::Plain(0)],
         &[Right::Reads(0, 0)],
         3,
     ),
@@ -214,7 +238,7 @@ fn pairs_give_their_states_to_their_variables(rt: HostRuntime) -> Result<(), Fai
 static ASKS: [Move; 3] = [
     (
         0,
-        &[Left::Over(1, 1), Left::Asks(2)],
+        &[Left::Over(1, 1), Left::Asks(0, 2)],
         &[Right::Over(5, 1), Right::Reads(0, 0)],
         1,
     ),
@@ -247,13 +271,13 @@ static OUTSIDE: [Move; 3] = [
     (0, &[Left::Over(2, 0)], &[Right::Over(6, 0)], 1),
     (
         0,
-        &[Left::Over(0, 2), Left::Plain, Left::Plain],
+        &[Left::Over(0, 2), Left::Plain(0), Left::Plain(1)],
         &[Right::Over(4, 2), Right::Reads(0, 0), Right::Reads(0, 0)],
         1,
     ),
     (
         0,
-        &[Left::Over(0, 2), Left::Plain, Left::Plain],
+        &[Left::Over(0, 2), Left::Plain(0), Left::Plain(1)],
         &[Right::Over(5, 1), Right::Reads(0, 1)],
         1,
     ),
