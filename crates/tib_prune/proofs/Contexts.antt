@@ -9,12 +9,14 @@ use Rattle.tib_cost.specs.Semiring.{ProductLaws}
 use Rattle.tib_prune.specs.Contexts.{Context, gap, below, later, plug, extend, AreRunsAround, cost_around, Stands, IsCut}
 
 module _ (rules : List (Rule ℕ)) where
+  -- a run plugged into a context run makes a run
   pub plugged : (c : Context ℕ) (q : ℕ) (qs : List ℕ) (t : Tree ℕ) → AreRunsAround rules q qs c → AreRuns rules (q ∷ []) (only t) → AreRuns rules qs (plug c t)
   plugged c q [] t a r = absurd a
   plugged (gap rest) q (p ∷ qs) t a r = (r.0, r.1 ∙ sym a.0, r.2, a.1)
   plugged (below n c rest) q (p ∷ qs) t a r = (a.0, a.1, plugged c q (holes_of (rule_at rules n).right) t a.2 r, a.3)
   plugged (later n runs c) q (p ∷ qs) t a r = (a.0, a.1, a.2, plugged c q qs t a.3 r)
 
+  -- a context run with a rule and a context of its right side in place of what is left out
   pub extended :
       (c : Context ℕ) (n q : ℕ) (qs : List ℕ) (inner : Context ℕ) → n < length rules → AreRunsAround rules (rule_at rules n).left qs c →
       AreRunsAround rules q (holes_of (rule_at rules n).right) inner → AreRunsAround rules q qs (extend c n inner)
@@ -23,6 +25,7 @@ module _ (rules : List (Rule ℕ)) where
   extended (below m c rest) n q (p ∷ qs) inner h a b = (a.0, a.1, extended c n q (holes_of (rule_at rules m).right) inner h a.2 b, a.3)
   extended (later m runs c) n q (p ∷ qs) inner h a b = (a.0, a.1, a.2, extended c n q qs inner h a.3 b)
 
+  -- runs are cut at a rule that stands in them
   pub cut_at : (runs : Trees ℕ) (qs : List ℕ) (n : ℕ) → AreRuns rules qs runs → Stands n runs → IsCut rules qs runs n
   cut_at none qs n a s = absurd s
   cut_at (tree m runs rest) [] n a s = absurd a
@@ -66,6 +69,7 @@ stands_plugged (below m c rest) n inner = inr (inl (stands_plugged c n inner))
 stands_plugged (later m runs c) n inner = inr (inr (stands_plugged c n inner))
 
 module _ {levelled weighted : Bool} {product : ℕ → ℕ → ℕ} (laws : ProductLaws levelled weighted product) where
+  -- 0 changes no product
   pub zero_right : (a : ℕ) → product a 0 ≡ a
   zero_right a = laws.commutes a 0 ∙ laws.neutral a
 
@@ -76,10 +80,12 @@ module _ {levelled weighted : Bool} {product : ℕ → ℕ → ℕ} (laws : Prod
   out_of_first : (a e x : ℕ) → product (product a x) e ≡ product (product a e) x
   out_of_first a e x = laws.regroups a x e ∙ ap (product a) (laws.commutes x e) ∙ sym (laws.regroups a e x)
 
+  -- a factor is taken out of the second place below
   pub out_below : (w e x r : ℕ) → product (product w (product e x)) r ≡ product (product (product w e) r) x
   out_below w e x r = ap (λ z. product z r) (out_of_second w e x) ∙ out_of_first (product w e) r x
 
   module _ (rules : List (Rule ℕ)) where
+    -- and it costs the product of both
     pub plugged_cost : (c : Context ℕ) (t : Tree ℕ) → cost product rules (plug c t) ≡ product (cost_around product rules c) (cost product rules (only t))
     plugged_cost (gap rest) t =
         laws.commutes (product (rule_at rules t.label).cost (cost product rules t.kids)) (cost product rules rest)
@@ -91,6 +97,7 @@ module _ {levelled weighted : Bool} {product : ℕ → ℕ → ℕ} (laws : Prod
         ap (product (product (rule_at rules n).cost (cost product rules runs))) (plugged_cost c t)
         ∙ out_of_second (product (rule_at rules n).cost (cost product rules runs)) (cost_around product rules c) (cost product rules (only t))
 
+    -- and it costs the product of all three
     pub extended_cost :
         (c : Context ℕ) (n : ℕ) (inner : Context ℕ) →
         cost_around product rules (extend c n inner) ≡ product (cost_around product rules c) (product (rule_at rules n).cost (cost_around product rules inner))

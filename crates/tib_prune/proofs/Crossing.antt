@@ -24,6 +24,7 @@ pub record RunsBeside (product : ℕ → ℕ → ℕ) (rules : List (Rule ℕ)) 
   pub around : AreRunsAround rules (get_or qs i 0) qs context
   pub costs : cost_around product rules context ≡ c
 
+-- runs from all states but one are a context around that one
 pub beside : (product : ℕ → ℕ → ℕ) (rules : List (Rule ℕ)) (qs : List ℕ) (i : ℕ) (runs : Trees ℕ) → i < length qs → AreRuns rules (without i qs) runs → RunsBeside product rules qs i (cost product rules runs)
 beside product rules [] i runs h a = absurd (omega arith)
 beside product rules (q ∷ qs) zero runs h a = record { context = gap runs; around = (refl, a); costs = refl }
@@ -50,6 +51,7 @@ module _
       go (Some c) e = (c, e, (inside_is q c e).lower n r b)
       go None e = let is : IsInside product rules q None = subst (IsInside product rules q) e (are_insides q) in absurd (is.lower n r b)
 
+  -- the product of the inside costs of some states is no greater than what runs from them cost
   pub total_below : (runs : Trees ℕ) (qs : List ℕ) → AreRuns rules qs runs → cost product rules runs ≤ most → (z : ℕ) × (total product insides qs ≡ Some z) × (z ≤ cost product rules runs)
   total_below none [] a m = (0, refl, le_refl 0)
   total_below none (q ∷ qs) a m = absurd a

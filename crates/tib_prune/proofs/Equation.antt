@@ -153,5 +153,6 @@ module _ {levelled weighted : Bool} {product : ℕ → ℕ → ℕ} (laws : Prod
           )
     ]
 
+    -- the outside cost is the least of what is offered
     pub meets : (q : ℕ) → IsLeast (IsOffered product rules insides outsides q) (outsides q)
     meets q = IsLeast-dominated (offered_below q) (λ n s b. (n, offered_context q n s, le_refl n)) (costs.are_outsides q)

@@ -43,6 +43,7 @@ are_outsides zero = record {
 }
 are_outsides (suc q) = IsLeast-none (λ n r. let l = around_zero r.context (suc q) (0 ∷ []) (omega arith, tt) r.are_runs in omega (arith, l))
 
+-- these are the inside and outside costs
 pub costs : AreCosts ◌+◌ branching insides outsides
 costs = record { are_insides = are_insides; are_outsides = are_outsides }
 
@@ -56,6 +57,7 @@ narrow_to zero h = elim h [ inl e ↦ absurd (omega (arith, e)) | inr e ↦ absu
 narrow_to (suc zero) h = kept_to sum_laws branching insides outsides costs 2 2 1 refl (omega arith) (omega arith)
 narrow_to (suc (suc n)) h = elim h [ inl e ↦ absurd (omega (arith, e)) | inr e ↦ absurd e ]
 
+-- a beam of 2 keeps the second rule
 pub narrow : ArePruned ◌+◌ branching 2 (rule_at branching 1 ∷ [])
 narrow = record {
   positions = 1 ∷ [];
@@ -74,6 +76,7 @@ wide_to zero h = kept_to sum_laws branching insides outsides costs 3 2 0 refl (o
 wide_to (suc zero) h = kept_to sum_laws branching insides outsides costs 3 2 1 refl (omega arith) (omega arith)
 wide_to (suc (suc n)) h = elim h [ inl e ↦ absurd (omega (arith, e)) | inr k ↦ elim k [ inl e ↦ absurd (omega (arith, e)) | inr e ↦ absurd e ] ]
 
+-- a beam of 3 keeps both
 pub wide : ArePruned ◌+◌ branching 3 branching
 wide = record {
   positions = 0 ∷ 1 ∷ [];

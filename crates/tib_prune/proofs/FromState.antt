@@ -54,6 +54,7 @@ pub record IsOf (rules : List (Rule ℕ)) (q : ℕ) (r : Rule ℕ) : Type 0 wher
   pub here : rule_at rules position ≡ r
   pub left : r.left ≡ q
 
+-- what stands among the rules of a state is one of the rules
 pub is_of : (rules : List (Rule ℕ)) (q : ℕ) (r : Rule ℕ) → Has (rules_from q rules) r → IsOf rules q r
 is_of rules q r h =
     let f = filtered_has (λ (s : Rule ℕ). nat_eq s.left q) rules r h in
@@ -63,9 +64,11 @@ is_of rules q r h =
 rule_of : (rules : List (Rule ℕ)) (q m : ℕ) → m < length (rules_from q rules) → IsOf rules q (rule_at (rules_from q rules) m)
 rule_of rules q m h = is_of rules q (rule_at (rules_from q rules) m) (has_at (rules_from q rules) m no_rule h)
 
+-- they are in normal form where all rules are
 pub normal_from : (rules some : List (Rule ℕ)) (q : ℕ) → some ≡ rules_from q rules → AreNormal rules → AreNormal some
 normal_from rules some q e a = subst AreNormal (sym e) (λ m h. let o = rule_of rules q m h in subst (λ (r : Rule ℕ). IsNormalSide r.right) o.here (a o.position o.below))
 
+-- and in range
 pub range_from : (n : ℕ) (rules some : List (Rule ℕ)) (q : ℕ) → some ≡ rules_from q rules → AreInRange n rules → AreInRange n some
 range_from n rules some q e a = subst (AreInRange n) (sym e) (λ m h. let o = rule_of rules q m h in subst (IsInRange n) o.here (a o.position o.below))
 

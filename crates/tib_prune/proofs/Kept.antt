@@ -52,6 +52,7 @@ by_positions test rules (suc n) h =
     one : map (rule_at rules) positions ++ filter test (rule_at rules n ∷ []) ≡ map (rule_at rules) (chosen (λ i. test (rule_at rules i)) (suc n))
     one = by (test (rule_at rules n))
 
+-- no more pass a test than there are
 pub filter_few : {A : Type 0} (test : A → Bool) (xs : List A) → length (filter test xs) ≤ length xs
 filter_few test [] = omega arith
 filter_few test (x ∷ xs) = elim (bool_cases (test x)) [
@@ -59,6 +60,7 @@ filter_few test (x ∷ xs) = elim (bool_cases (test x)) [
   | inr f ↦ subst (λ b. length (cond b (x ∷ filter test xs) (filter test xs)) ≤ length (x ∷ xs)) (sym f) (omega (arith, filter_few test xs))
 ]
 
+-- the costs of all states from their lists
 pub costs_of : (product : ℕ → ℕ → ℕ) (rules : List (Rule ℕ)) (insides outsides : List (Option ℕ)) → AreInsidesOfAll product rules insides → AreOutsides product rules outsides → AreCosts product rules (costs_in insides) (costs_in outsides)
 costs_of product rules insides outsides i o = record { are_insides = i; are_outsides = o }
 
@@ -87,6 +89,7 @@ module _
       test : ℕ → Bool
       test i = is_at_most (through product (costs_in insides) (costs_in outsides) (rule_at rules i)) (best + beam)
 
+  -- the same from what the code reads and adds
   pub filtered_by :
       (best bound : ℕ) (d : Option ℕ) (new : List (Rule ℕ)) → 0 < length insides → get_or insides 0 d ≡ Some best → bound ≡ best + beam →
       new ≡ filter (λ r. is_at_most (through product (costs_in insides) (costs_in outsides) r) bound) rules → ArePruned product rules beam new
@@ -103,9 +106,11 @@ module _
     are_rules = e;
   }
 
+  -- no cheap tree is lost or changes its cost
   pub cheap : (new : List (Rule ℕ)) → ArePruned product rules beam new → KeepsCheapTrees product rules beam new
   cheap new pruned = keeps_cost laws rules beam new pruned (costs_in insides) (costs_in outsides) costs
 
+  -- each rule that is kept stands in a cheap run of kept rules
   pub stand : (new : List (Rule ℕ)) → ArePruned product rules beam new → StandInCheapRuns product rules beam new
   stand new pruned = stands_cheap laws rules beam new pruned (costs_in insides) (costs_in outsides) costs
 
@@ -120,12 +125,15 @@ module _ (rules taken rest others : List (Rule ℕ)) (r : Rule ℕ) (whole : rul
   here : rule_at rules (length taken) ≡ r
   here = ap (λ xs. rule_at xs (length taken)) parts ∙ get_or_at taken r others no_rule (length taken) refl
 
+  -- it is in normal form where all are
   pub normal_here : AreNormal rules → IsNormalSide r.right
   normal_here a = subst (λ (s : Rule ℕ). IsNormalSide s.right) here (a (length taken) here_below)
 
+  -- and in range
   pub range_here : (n : ℕ) → AreInRange n rules → IsInRange n r
   range_here n a = subst (IsInRange n) here (a (length taken) here_below)
 
+  -- the list is whole with one more taken
   pub whole_on : rules ≡ (taken ++ r ∷ []) ++ others
   whole_on = parts ∙ again taken
     where
@@ -137,9 +145,11 @@ module _ (rules taken rest others : List (Rule ℕ)) (r : Rule ℕ) (whole : rul
 pub kept_on : (test : Rule ℕ → Bool) (taken : List (Rule ℕ)) (r : Rule ℕ) (kept new : List (Rule ℕ)) → kept ≡ filter test taken → test r ≡ true → new ≡ kept ++ r ∷ [] → new ≡ filter test (taken ++ r ∷ [])
 kept_on test taken r kept new e t n = n ∙ ap (λ xs. xs ++ r ∷ []) e ∙ ap (λ b. filter test taken ++ cond b (r ∷ []) []) (sym t) ∙ sym (filter-append test taken (r ∷ []))
 
+-- or it is left out
 pub left_out : (test : Rule ℕ → Bool) (taken : List (Rule ℕ)) (r : Rule ℕ) (kept : List (Rule ℕ)) → kept ≡ filter test taken → test r ≡ false → kept ≡ filter test (taken ++ r ∷ [])
 left_out test taken r kept e t = e ∙ sym (append_nil (filter test taken)) ∙ ap (λ b. filter test taken ++ cond b (r ∷ []) []) (sym t) ∙ sym (filter-append test taken (r ∷ []))
 
+-- where none is left, all were filtered
 pub all_taken : (test : Rule ℕ → Bool) (rules taken rest kept : List (Rule ℕ)) → rules ≡ taken ++ rest → rest ≡ [] → kept ≡ filter test taken → kept ≡ filter test rules
 all_taken test rules taken rest kept whole empty e = e ∙ ap (filter test) (sym (whole ∙ ap (λ xs. taken ++ xs) empty ∙ append_nil taken))
 
@@ -156,6 +166,7 @@ module _ {levelled weighted : Bool} {product : ℕ → ℕ → ℕ} (laws : Prod
   old_before : (i j : ℕ) → i < j → j < length new → old_at i < old_at j
   old_before i j h k = ascends_at ◌<◌ pruned.positions 0 pruned.ascend i j h (omega (arith, k, as_many laws rules beam new pruned))
 
+  -- what is kept is in range
   pub still_in_range : (n : ℕ) → AreInRange n rules → AreInRange n new
   still_in_range n a j h = subst (IsInRange n) (sym (old_rule j h)) (a (old_at j) (old_below j h))
 
@@ -177,6 +188,7 @@ module _ {levelled weighted : Bool} {product : ℕ → ℕ → ℕ} (laws : Prod
         (sym (ap (λ (r : Rule ℕ). r.right) one) ∙ right ∙ ap (λ (r : Rule ℕ). r.right) two));
   }
 
+  -- what costs something did before
   pub had : IsNormal rules → HadNoGreaterCosts product rules new
   had a = had_cost laws rules beam new pruned a.normal
 

@@ -31,10 +31,12 @@ length_none : (n : ℕ) → length (replicate n no_cost_at) ≡ n
 length_none zero = refl
 length_none (suc n) = omega (arith, length_none n)
 
+-- a list without costs is as long as was asked for
 pub as_long : (count : ℕ) (xs : List (Option ℕ)) → xs ≡ replicate count None → length xs ≡ count
 as_long count xs e = ap length e ∙ length_none count
 
 module _ {levelled weighted : Bool} {product : ℕ → ℕ → ℕ} (laws : ProductLaws levelled weighted product) (rules : List (Rule ℕ)) where
+  -- a state gets its cost, and its rules tell theirs
   pub goes :
       (insides outsides : List (Option ℕ)) (e : ℕ × ℕ) (rest after : List (ℕ × ℕ)) → AreInsidesOfAll product rules insides → e.1 < length outsides → IsTaken product rules insides outsides e rest →
       get_or outsides e.1 None ≡ None → Tells product rules (costs_in insides) (costs_in (slice_set outsides e.1 (Some e.0))) e.1 rest after →
@@ -44,11 +46,13 @@ module _ {levelled weighted : Bool} {product : ℕ → ℕ → ℕ} (laws : Prod
       (record { here = get_or-set_same outsides e.1 (Some e.0) None inside; others = λ p k. get_or-set_other outsides e.1 p (Some e.0) None k })
       tells
 
+  -- an entry of a state that has its cost is dropped
   pub drops :
       (insides outsides : List (Option ℕ)) (e : ℕ × ℕ) (rest : List (ℕ × ℕ)) (d : ℕ) → IsTaken product rules insides outsides e rest → get_or outsides e.1 None ≡ Some d →
       AreSettling product rules (costs_in insides) (costs_in outsides) rest
   drops insides outsides e rest d t known = dropped product rules (costs_in insides) (costs_in outsides) t.entries rest e d t.settling t.takes known
 
+  -- where no entry is left, these are the outside costs
   pub finishes : (insides outsides : List (Option ℕ)) (entries : List (ℕ × ℕ)) → entries ≡ [] → AreInsidesOfAll product rules insides → AreSettling product rules (costs_in insides) (costs_in outsides) entries → AreOutsides product rules outsides
   finishes insides outsides entries empty are s = ended laws rules (costs_in insides) are (costs_in outsides) entries s empty
 
@@ -59,6 +63,7 @@ module _ {levelled weighted : Bool} {product : ℕ → ℕ → ℕ} (laws : Prod
   within count range (below n c rest) q (p ∷ qs) b a = within count range c q (holes_of (rule_at rules n).right) ((range n a.0).1) a.2
   within count range (later n runs c) q (p ∷ qs) b a = within count range c q qs b.1 a.3
 
+  -- a state with a context run around it is in range
   pub context_below : (count q c : ℕ) → 0 < count → AreInRange count rules → IsContextCost product rules q c → q < count
   context_below count q c some range h = within count range h.context q (0 ∷ []) (some, tt) h.are_runs
 

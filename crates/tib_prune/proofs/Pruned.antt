@@ -79,6 +79,7 @@ module _ {levelled weighted : Bool} {product : ℕ → ℕ → ℕ} (laws : Prod
       pub stands : Stands n runs
       pub costs_are : cost product rules runs ≡ c
 
+    -- a rule with a through cost stands in a run that costs it
     pub through_run : (n c : ℕ) → IsThrough product rules n c → RunsThrough n c
     through_run n c t =
         let inner = known_runs laws rules insides costs.are_insides (holes_of (rule_at rules n).right) t.insides t.are_insides in
@@ -99,13 +100,16 @@ module _ {levelled weighted : Bool} {product : ℕ → ℕ → ℕ} (laws : Prod
     abbrev old_position : ℕ → ℕ
     old_position j = get_or pruned.positions j 0
 
+    -- there is a new rule for each position
     pub as_many : length new ≡ length pruned.positions
     as_many = ap length pruned.are_rules ∙ length-map pruned.positions (rule_at rules)
 
+    -- each new rule is the old one at its position
     pub same_rule : (j : ℕ) → j < length new → rule_at new j ≡ rule_at rules (old_position j)
     same_rule j h =
         ap (λ rs. rule_at rs j) pruned.are_rules ∙ get_or-map (rule_at rules) pruned.positions j 0 no_rule (omega (arith, h, as_many))
 
+    -- and that one is kept
     pub was_kept : (j : ℕ) → j < length new → IsKept product rules beam (old_position j)
     was_kept j h = (pruned.are_kept (old_position j)).0 (has_at pruned.positions j 0 (omega (arith, h, as_many)))
 
@@ -121,6 +125,7 @@ module _ {levelled weighted : Bool} {product : ℕ → ℕ → ℕ} (laws : Prod
       old_runs rest qs a.3,
     )
 
+    -- they yield the same
     pub old_yields : (runs : Trees ℕ) (qs : List ℕ) → AreRuns new qs runs → yields rules (relabel old_position runs) ≡ yields new runs
     old_yields none qs a = refl
     old_yields (tree j inner rest) [] a = absurd a
@@ -129,6 +134,7 @@ module _ {levelled weighted : Bool} {product : ℕ → ℕ → ℕ} (laws : Prod
         ∙ ap (λ ts. join (fill (only (rule_at new j).right) ts) (yields rules (relabel old_position rest))) (old_yields inner (holes_of (rule_at new j).right) a.2)
         ∙ ap (join (fill (only (rule_at new j).right) (yields new inner))) (old_yields rest qs a.3)
 
+    -- and cost the same
     pub old_cost : (runs : Trees ℕ) (qs : List ℕ) → AreRuns new qs runs → cost product rules (relabel old_position runs) ≡ cost product new runs
     old_cost none qs a = refl
     old_cost (tree j inner rest) [] a = absurd a
@@ -137,6 +143,7 @@ module _ {levelled weighted : Bool} {product : ℕ → ℕ → ℕ} (laws : Prod
         ∙ ap (λ c. product (product (rule_at new j).cost c) (cost product rules (relabel old_position rest))) (old_cost inner (holes_of (rule_at new j).right) a.2)
         ∙ ap (product (product (rule_at new j).cost (cost product new inner))) (old_cost rest qs a.3)
 
+    -- so each cost by the new rules is one by the old rules
     pub to_old : (qs : List ℕ) (ts : Trees ℕ) (c : ℕ) → IsCost product new qs ts c → IsCost product rules qs ts c
     to_old qs ts c h = record {
       runs = relabel old_position h.runs;
@@ -151,6 +158,7 @@ module _ {levelled weighted : Bool} {product : ℕ → ℕ → ℕ} (laws : Prod
       pub are_runs : AreRuns new qs others
       pub same : relabel old_position others ≡ runs
 
+    -- the new runs of old ones
     pub to_new : (runs : Trees ℕ) (qs : List ℕ) → AreRuns rules qs runs → ((n : ℕ) → Stands n runs → IsKept product rules beam n) → AreNew qs runs
     to_new none [] a k = record { others = none; are_runs = tt; same = refl }
     to_new none (q ∷ qs) a k = absurd a
@@ -186,6 +194,7 @@ module _ {levelled weighted : Bool} {product : ℕ → ℕ → ℕ} (laws : Prod
       ]
     ]
 
+    -- no tree costs less by the new rules
     pub not_cheaper : (t : Tree ℕ) (v w : Option ℕ) → IsSeries product rules t v → IsSeries product new t w → IsNoGreater v w
     not_cheaper t v None h k = tt
     not_cheaper t v (Some c) h k = h.lower c (to_old (0 ∷ []) (only t) c k.attained.0) k.attained.1
@@ -199,6 +208,7 @@ module _ {levelled weighted : Bool} {product : ℕ → ℕ → ℕ} (laws : Prod
         go None k = absurd (not_cheaper t None (Some c) k h)
 
     module _ (insides outsides : ℕ → Option ℕ) (costs : AreCosts product rules insides outsides) where
+      -- a cheap tree keeps its cost
       pub keeps_cost : (t : Tree ℕ) (c : ℕ) → IsSeries product rules t (Some c) → IsWithinBeam product rules beam c → IsSeries product new t (Some c)
       keeps_cost t c h w =
           let r = h.attained.0 in
@@ -216,6 +226,7 @@ module _ {levelled weighted : Bool} {product : ℕ → ℕ → ℕ} (laws : Prod
             lower = λ m k b. h.lower m (to_old (0 ∷ []) (only t) m k) b;
           }
 
+      -- each new rule stands in a cheap run
       pub stands_cheap : (n : ℕ) → n < length new → StandsInCheapRun product rules beam new n
       stands_cheap n h =
           let kept = was_kept n h in

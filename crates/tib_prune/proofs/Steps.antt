@@ -29,6 +29,7 @@ one_entry e x h = by h.0 h.1 h.2
     by (suc i) b k = absurd (omega arith)
 
 module _ (product : ℕ → ℕ → ℕ) (rules : List (Rule ℕ)) (insides : ℕ → Option ℕ) where
+  -- at first no state has a cost, and 0 waits for the start
   pub begins : AreSettling product rules insides (λ _. None) ((0, 0) ∷ [])
   begins = record {
     exact = λ q d e. absurd (cc);

@@ -48,6 +48,7 @@ module _
         product_is = ap (product parts.0.0) rest.product_is ∙ (cut-some (product parts.0.0 parts.1.0) d whole).0;
       }
 
+  -- what is computed is the through cost
   pub through_to : (n c : ℕ) → n < length rules → through product insides outsides (rule_at rules n) ≡ Some c → IsThrough product rules n c
   through_to n c h e =
       let w : ℕ = (rule_at rules n).cost in
@@ -71,6 +72,7 @@ module _
         within = omega (arith, s.0, s.1);
       }
 
+  -- and the through cost is what is computed
   pub through_from : (n c : ℕ) → IsThrough product rules n c → through product insides outsides (rule_at rules n) ≡ Some c
   through_from n c t =
       let w : ℕ = (rule_at rules n).cost in
@@ -85,6 +87,7 @@ module _
       ∙ cut-within (product t.outside (product w x)) fits
       ∙ ap Some t.is_product
 
+  -- a rule within the bound is kept
   pub kept_to : (beam best n : ℕ) → insides 0 ≡ Some best → n < length rules → AtMost (through product insides outsides (rule_at rules n)) (best + beam) → IsKept product rules beam n
   kept_to beam best n b h k = go (through product insides outsides (rule_at rules n)) refl k
     where
@@ -99,10 +102,12 @@ module _
   some_same : (a b : ℕ) → Some a ≡ Some b → a ≡ b
   some_same a b e = cc
 
+  -- and a rule that is kept is within the bound
   pub kept_from : (beam best n : ℕ) → insides 0 ≡ Some best → IsKept product rules beam n → AtMost (through product insides outsides (rule_at rules n)) (best + beam)
   kept_from beam best n b k =
       let same : k.within_beam.best ≡ best = some_same k.within_beam.best best (IsLeast-unique k.within_beam.is_best (costs.are_insides 0) ∙ b) in
       subst (λ v. AtMost v (best + beam)) (sym (through_from n k.cost k.through)) (omega (arith, same, k.within_beam.close))
 
+  -- without an inside cost of the start none is kept
   pub none_kept : (beam n : ℕ) → insides 0 ≡ None → IsKept product rules beam n → ⊥
   none_kept beam n b k = let bad : Some k.within_beam.best ≡ None = IsLeast-unique k.within_beam.is_best (costs.are_insides 0) ∙ b in cc bad

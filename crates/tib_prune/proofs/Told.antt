@@ -22,6 +22,7 @@ use Rattle.tib_prune.specs.Telling.{rests_of, IsToldFrom, IsToldBy, places_of, A
 pub total_back : (product : ℕ → ℕ → ℕ) (costs : ℕ → Option ℕ) (qs : List ℕ) (n : ℕ) → n < length qs → total product costs (drop n qs) ≡ times product (costs (get_or qs n 0)) (total product costs (drop (n + 1) qs))
 total_back product costs qs n h = at_drop_more (total product costs) qs n 0 h
 
+-- the same of the products behind each
 pub rests_back : (product : ℕ → ℕ → ℕ) (costs : ℕ → Option ℕ) (qs : List ℕ) (n : ℕ) → n < length qs → rests_of product costs (drop n qs) ≡ rests_of product costs (drop (n + 1) qs) ++ total product costs (drop (n + 1) qs) ∷ []
 rests_back product costs qs n h = at_drop_more (rests_of product costs) qs n 0 h
 
@@ -34,6 +35,7 @@ below_at n [] a i h = absurd (omega arith)
 below_at n (q ∷ qs) a zero h = a.0
 below_at n (q ∷ qs) a (suc i) h = below_at n qs a.1 i (omega arith)
 
+-- it is below n where all are
 pub state_below : (n : ℕ) (states : List (Item ℕ)) (i q : ℕ) (d : Item ℕ) → AllBelow n (map state_in states) → i < length states → q ≡ state_in (get_or states i d) → q < n
 state_below n states i q d a h e = let b = below_at n (map state_in states) a i (omega (arith, h, length-map states state_in)) in omega (arith, b, state_here states i q d h e)
 
@@ -75,6 +77,7 @@ pub record IsTakenBack (product : ℕ → ℕ → ℕ) (costs : ℕ → Option �
   pub rest_is : rest ≡ total product costs (drop (n + 1) qs)
   pub rests_are : rests ≡ rests_of product costs (drop (n + 1) qs)
 
+-- what is taken from the back is the product behind the state n
 pub taken_back :
     (product : ℕ → ℕ → ℕ) (costs : ℕ → Option ℕ) (qs : List ℕ) (n : ℕ) (rest : Option ℕ) (rests before : List (Option ℕ)) → before ≡ rests ++ rest ∷ [] → before ≡ rests_of product costs (drop n qs) →
     IsTakenBack product costs qs n rest rests
@@ -173,6 +176,7 @@ module _ (outsides : ℕ → Option ℕ) where
     pub told_last : (v : Option ℕ) (qs : List ℕ) (entries : List (ℕ × ℕ)) → qs ≡ [] → Adds outsides (IsToldFrom product costs v qs) (length qs) entries entries
     told_last v qs entries e = adds_none (IsToldFrom product costs v qs) (length qs) entries (λ x h. absurd (subst (λ xs. IsToldFrom product costs v xs x) e h))
 
+    -- the same of rules
     pub told_end : (d : ℕ) (rules : List (Rule ℕ)) (entries : List (ℕ × ℕ)) → rules ≡ [] → Adds outsides (IsToldBy product costs d rules) (places_of rules) entries entries
     told_end d rules entries e = adds_none (IsToldBy product costs d rules) (places_of rules) entries (λ x h. absurd (subst (λ xs. IsToldBy product costs d xs x) e h))
 
@@ -184,6 +188,7 @@ pub record IsToldAt (product : ℕ → ℕ → ℕ) (costs : ℕ → Option ℕ)
   pub cost : times product v (total product costs (without place qs)) ≡ Some e.0
 
 module _ {levelled weighted : Bool} {product : ℕ → ℕ → ℕ} (laws : ProductLaws levelled weighted product) (costs : ℕ → Option ℕ) where
+  -- what is told from the front is told at a place
   pub told_at : (v : Option ℕ) (qs : List ℕ) (e : ℕ × ℕ) → IsToldFrom product costs v qs e → IsToldAt product costs v qs e
   told_at v [] e h = absurd h
   told_at v (q ∷ qs) e (inl h) = record { place = 0; within = omega arith; state = h.0; cost = h.1 }
@@ -196,17 +201,21 @@ module _ {levelled weighted : Bool} {product : ℕ → ℕ → ℕ} (laws : Prod
         cost = sym (times_regroups laws v (costs q) (total product costs (without t.place qs))) ∙ t.cost;
       }
 
+  -- and the other way round
   pub at_told : (v : Option ℕ) (qs : List ℕ) (e : ℕ × ℕ) (i : ℕ) → i < length qs → get_or qs i 0 ≡ e.1 → times product v (total product costs (without i qs)) ≡ Some e.0 → IsToldFrom product costs v qs e
   at_told v [] e i h s c = absurd (omega arith)
   at_told v (q ∷ qs) e zero h s c = inl (s, c)
   at_told v (q ∷ qs) e (suc i) h s c = inr (at_told (times product v (costs q)) qs e i (omega arith) s (times_regroups laws v (costs q) (total product costs (without i qs)) ∙ c))
 
+-- a number that is at most 0 is 0
 pub same_from : (n : ℕ) → n ≤ 0 → n ≡ 0
 same_from n h = omega arith
 
+-- there are as many items as states
 pub places_left : (states : List (Item ℕ)) (n : ℕ) → n < length (map state_in states) → n < length states
 places_left states n h = omega (arith, h, length-map states state_in)
 
+-- a list of length 0 is empty
 pub nil_of : {A : Type 0} (xs : List A) → length xs ≡ 0 → xs ≡ []
 nil_of [] e = refl
 nil_of (x ∷ xs) e = absurd (omega (arith, e))

@@ -10,24 +10,28 @@ use Rattle.tib_prune.specs.Contexts.{Context, gap, below, later}
 abbrev pub branching : List (Rule ℕ)
 branching = record { left = 0; right = over 0 (0 ∷ 0 ∷ []); cost = 1 } ∷ record { left = 0; right = over 1 []; cost = 2 } ∷ []
 
--- the inside and the outside costs of its states by least sum
+-- the inside cost of its state by least sum
 abbrev pub insides : ℕ → Option ℕ
 insides zero = Some 2
 insides (suc q) = None
 
+-- its outside costs by least sum
 abbrev pub outsides : ℕ → Option ℕ
 outsides zero = Some 0
 outsides (suc q) = None
 
--- the run 1, the run 0(1 1), and the latter without its first sub-run and without its second one
+-- the run 1
 abbrev pub leaf : Tree ℕ
 leaf = record { label = 1; kids = none }
 
+-- the run 0(1 1)
 abbrev pub fork : Trees ℕ
 fork = tree 0 (tree 1 none (tree 1 none none)) none
 
+-- the same without its first sub-run
 abbrev pub without_first : Context ℕ
 without_first = below 0 (gap (tree 1 none none)) none
 
+-- and without its second one
 abbrev pub without_second : Context ℕ
 without_second = below 0 (later 1 none (gap none)) none
