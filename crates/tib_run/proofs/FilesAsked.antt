@@ -5,7 +5,7 @@ use Rattle.std.proofs.Common.{ap, ◌∙◌, subst, arith}
 use Rattle.tib_command.specs.Words.{Text, reads, values_of, mode, depth, workers, limit, place}
 use Rattle.tib_lex.proofs.Spelled.{and_true}
 use Rattle.std.proofs.lemmas.Bool.Decides.{nat_tests}
-use Rattle.tib_command.specs.Jobs.{numeral_in, within, Asked, Task, job_of, asked_by, once, mode_in, number_in, task_in, files_in, are_files, operation_in, word_count}
+use Rattle.tib_command.specs.Jobs.{numeral_in, within, Asked, Task, job_of, asked_by, once, mode_in, number_in, task_in, files_in, are_files, operation_in, word_count, most_parts, most_trees}
 use Rattle.tib_command.specs.declared.job.Mode.TheVariants.{MinPlus}
 use Rattle.tib_command.specs.declared.job.Operation.{Operation}
 use Rattle.tib_command.specs.declared.job.Operation.TheVariants as operations
@@ -55,9 +55,9 @@ pub files_asked : (words : List Text) (asked : Asked) → job_of words ≡ Some 
 files_asked words asked e =
     let items = then_some asked_by (reads words None) asked e in
     let md = then_some _ (once MinPlus mode_in (values_of mode items.0)) asked items.1 in
-    let k = then_some _ (once 1 (number_in 1 10000) (values_of depth items.0)) asked md.1 in
+    let k = then_some _ (once 1 (number_in 1 most_trees) (values_of depth items.0)) asked md.1 in
     let w = then_some _ (once 1 (number_in 1 16) (values_of workers items.0)) asked k.1 in
-    let l = then_some _ (once 20000000 (number_in 1 20000000) (values_of limit items.0)) asked w.1 in
+    let l = then_some _ (once most_parts (number_in 1 most_parts) (values_of limit items.0)) asked w.1 in
     let t = map_some _ (task_in (values_of place items.0)) asked l.1 in
     subst HasItsFiles (ap (λ (a : Asked). a.task) t.2) (task_many (values_of place items.0) t.0 t.1)
 
@@ -70,27 +70,27 @@ then_from f (Some x) y e = (x, refl, e)
 some_number : (m n : ℕ) → (let o : Option ℕ = Some m in o ≡ Some n) → m ≡ n
 some_number m n e = cc e
 
-low_test : (n : ℕ) → nat_le 1 n && nat_le n 20000000 ≡ true → n ≤ 20000000
-low_test n e = let both = and_true (nat_le 1 n) (nat_le n 20000000) e in grind (arith, nat_tests)
+low_test : (n : ℕ) → nat_le 1 n && nat_le n most_parts ≡ true → n ≤ most_parts
+low_test n e = let both = and_true (nat_le 1 n) (nat_le n most_parts) e in grind (arith, nat_tests)
 
-within_low : (n m : ℕ) → within 1 20000000 n ≡ Some m → m ≤ 20000000
-within_low n m e = by (nat_le 1 n && nat_le n 20000000) refl e
+within_low : (n m : ℕ) → within 1 most_parts n ≡ Some m → m ≤ most_parts
+within_low n m e = by (nat_le 1 n && nat_le n most_parts) refl e
   where
-    by : (b : Bool) → nat_le 1 n && nat_le n 20000000 ≡ b → (if b then Some n else None) ≡ Some m → m ≤ 20000000
+    by : (b : Bool) → nat_le 1 n && nat_le n most_parts ≡ b → (if b then Some n else None) ≡ Some m → m ≤ most_parts
     by false t e = absurd (cc e)
-    by true t e = subst (λ k. k ≤ 20000000) (some_number n m e) (low_test n t)
+    by true t e = subst (λ k. k ≤ most_parts) (some_number n m e) (low_test n t)
 
-once_low : (values : List Text) (m : ℕ) → once 20000000 (number_in 1 20000000) values ≡ Some m → m ≤ 20000000
-once_low [] m e = let same : 20000000 ≡ m = some_number 20000000 m e in omega (arith, same)
-once_low (v ∷ []) m e = let n = then_from (within 1 20000000) (numeral_in v) m e in within_low n.0 m n.2
+once_low : (values : List Text) (m : ℕ) → once most_parts (number_in 1 most_parts) values ≡ Some m → m ≤ most_parts
+once_low [] m e = let same : most_parts ≡ m = some_number most_parts m e in omega (arith, same)
+once_low (v ∷ []) m e = let n = then_from (within 1 most_parts) (numeral_in v) m e in within_low n.0 m n.2
 once_low (v ∷ (w ∷ rest)) m e = absurd (cc e)
 
-pub limit_asked : (words : List Text) (asked : Asked) → job_of words ≡ Some asked → asked.limit ≤ 20000000
+pub limit_asked : (words : List Text) (asked : Asked) → job_of words ≡ Some asked → asked.limit ≤ most_parts
 limit_asked words asked e =
     let items = then_some asked_by (reads words None) asked e in
     let md = then_some _ (once MinPlus mode_in (values_of mode items.0)) asked items.1 in
-    let k = then_some _ (once 1 (number_in 1 10000) (values_of depth items.0)) asked md.1 in
+    let k = then_some _ (once 1 (number_in 1 most_trees) (values_of depth items.0)) asked md.1 in
     let w = then_some _ (once 1 (number_in 1 16) (values_of workers items.0)) asked k.1 in
-    let l = then_from _ (once 20000000 (number_in 1 20000000) (values_of limit items.0)) asked w.1 in
+    let l = then_from _ (once most_parts (number_in 1 most_parts) (values_of limit items.0)) asked w.1 in
     let t = map_some _ (task_in (values_of place items.0)) asked l.2 in
-    subst (λ n. n ≤ 20000000) (ap (λ (a : Asked). a.limit) t.2) (once_low (values_of limit items.0) l.0 l.1)
+    subst (λ n. n ≤ most_parts) (ap (λ (a : Asked). a.limit) t.2) (once_low (values_of limit items.0) l.0 l.1)

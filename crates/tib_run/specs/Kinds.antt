@@ -1,4 +1,5 @@
 -- What the files of a job hold.
+pub use Rattle.tib_io.specs.Reads.{most_bytes}
 use Rattle.tib_cost.specs.declared.Scale.{Scale}
 use Rattle.std.specs.Prelude.{◌≡◌, ℕ, ◌<◌, ◌≤◌, List, [], ◌∷◌, length, Option, Some, None, IfSome, IsSome, slice_get}
 use Rattle.std.proofs.Common.{zero, suc}
@@ -61,10 +62,7 @@ OfFile job n P = OfName (file_at job n) P
 abbrev pub Told : (List ℕ → Option (List ℕ)) → (List ℕ → Type 0) → List ℕ → Type 0
 Told held P name = IfSome (held name) P
 
--- a file that is read is not longer than this
-abbrev pub most_bytes : ℕ
-most_bytes = 8388608
-
+-- a file that is read is not longer than `most_bytes`
 abbrev pub IsShort : List ℕ → Type 0
 IsShort bytes = length bytes ≤ most_bytes
 

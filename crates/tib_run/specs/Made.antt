@@ -1,15 +1,12 @@
 -- What an operation makes, and the limit on its parts.
 use Rattle.std.specs.Prelude.{◌≡◌, ◌≤◌, ℕ, ◌⊎◌, length}
+pub use Rattle.tib_hunt.specs.Reached.{most_parts}
 use Rattle.tib_grammar.specs.GrammarOf.{GrammarOf}
 use Rattle.tib_normal.specs.Rows.{HasMoreParts, HasFormWithin}
 use Rattle.tib_hunt.specs.Reached.{IsBeyond}
 use Rattle.tib_canon.specs.Constructions.{Construction, HasReachedWithin}
 use Rattle.tib_run.specs.declared.status.Status.{Status}
 use Rattle.tib_run.specs.declared.status.Status.TheVariants as statuses
-
--- the greatest limit that a command may have
-abbrev pub most_parts : ℕ
-most_parts = 20000000
 
 -- a limit that a command may have
 abbrev pub IsLimit : ℕ → Type 0

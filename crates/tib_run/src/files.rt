@@ -1,5 +1,6 @@
 // The values of a command's files.
 ghost use Rattle.std.specs.Prelude.{◌≡◌, ◌≤◌, ◌<◌, ◌+◌, ◌-◌, ◌^◌, ℕ, List, length, Some, IfOk, IfErr};
+ghost use Rattle.tib_io.specs.Reads.{most_bytes};
 ghost use Rattle.tib_io.specs.Causes.{GoesOn};
 ghost use Rattle.tib_command.specs.Jobs.{meaning};
 ghost use Rattle.tib_run.specs.Causes.{HasCause, IsAbout, scale_of};
@@ -63,8 +64,8 @@ pub(crate) fn grammar_in<S: Semiring, F: Files>(
     requires to { file ≤ length job.now.files.items }
     requires kind { kind_at (Some (meaning job.now)) file ≡ Some of_grammar }
     requires mode { S.SCALE ≡ scale_of job.now.mode }
-    requires room { length labels.old + 8388608 < 2 ^ 32 - 1 }
-    ensures few { length labels.new ≤ length labels.old + 8388608 }
+    requires room { length labels.old + most_bytes < 2 ^ 32 - 1 }
+    ensures few { length labels.new ≤ length labels.old + most_bytes }
     ensures text { IfOk result (λ g. OfFile (Some (meaning job.now)) file (Told (F.held files.old) (IsRead S.SCALE labels.new g))) }
     ensures printable { IfOk result (λ g. ArePrintable S.SCALE labels.new g.rules) }
     ensures grows { Grows labels.old labels.new }
@@ -99,8 +100,8 @@ pub(crate) fn trees_in<F: Files>(
     requires from { 1 ≤ file }
     requires to { file ≤ length job.now.files.items }
     requires kind { kind_at (Some (meaning job.now)) file ≡ Some of_trees }
-    requires room { length labels.old + 8388608 < 2 ^ 32 - 1 }
-    ensures few { length labels.new ≤ length labels.old + 8388608 }
+    requires room { length labels.old + most_bytes < 2 ^ 32 - 1 }
+    ensures few { length labels.new ≤ length labels.old + most_bytes }
     ensures text { IfOk result (λ ts. OfFile (Some (meaning job.now)) file (Told (F.held files.old) (ListsTrees labels.new ts.items))) }
     ensures distinct { IfOk result (λ ts. AreDistinct labels.new) }
     ensures grows { Grows labels.old labels.new }
@@ -137,8 +138,8 @@ pub(crate) fn transducer_in<S: Semiring, F: Files>(
     requires to { file ≤ length job.now.files.items }
     requires kind { kind_at (Some (meaning job.now)) file ≡ Some of_transducer }
     requires mode { S.SCALE ≡ scale_of job.now.mode }
-    requires room { length labels.old + 8388608 < 2 ^ 32 - 1 }
-    ensures few { length labels.new ≤ length labels.old + 8388608 }
+    requires room { length labels.old + most_bytes < 2 ^ 32 - 1 }
+    ensures few { length labels.new ≤ length labels.old + most_bytes }
     ensures text { IfOk result (λ t. OfFile (Some (meaning job.now)) file (Told (F.held files.old) (IsTransducerRead S.SCALE labels.new t))) }
     ensures plain { IfOk result (λ t. ArePlainMoves S.SCALE labels.new t.rules) }
     ensures grows { Grows labels.old labels.new }
