@@ -5,7 +5,7 @@ use Rattle.std.proofs.Common.{ap, ◌∙◌, subst, arith}
 use Rattle.tib_command.specs.Words.{Text, reads, values_of, mode, depth, workers, limit, place}
 use Rattle.tib_lex.proofs.Spelled.{and_true}
 use Rattle.std.proofs.lemmas.Bool.Decides.{nat_tests}
-use Rattle.tib_command.specs.Jobs.{numeral_in, within, Asked, Task, job_of, asked_by, once, mode_in, number_in, task_in, files_in, are_files, operation_in, word_count, most_parts, most_trees}
+use Rattle.tib_command.specs.Jobs.{numeral_in, within, Asked, Task, job_of, asked_by, once, mode_in, number_in, task_in, files_in, are_files, operation_in, word_count, most_parts, most_trees, most_workers}
 use Rattle.tib_command.specs.declared.job.Mode.TheVariants.{MinPlus}
 use Rattle.tib_command.specs.declared.job.Operation.{Operation}
 use Rattle.tib_command.specs.declared.job.Operation.TheVariants as operations
@@ -56,7 +56,7 @@ files_asked words asked e =
     let items = then_some asked_by (reads words None) asked e in
     let md = then_some _ (once MinPlus mode_in (values_of mode items.0)) asked items.1 in
     let k = then_some _ (once 1 (number_in 1 most_trees) (values_of depth items.0)) asked md.1 in
-    let w = then_some _ (once 1 (number_in 1 16) (values_of workers items.0)) asked k.1 in
+    let w = then_some _ (once 1 (number_in 1 most_workers) (values_of workers items.0)) asked k.1 in
     let l = then_some _ (once most_parts (number_in 1 most_parts) (values_of limit items.0)) asked w.1 in
     let t = map_some _ (task_in (values_of place items.0)) asked l.1 in
     subst HasItsFiles (ap (λ (a : Asked). a.task) t.2) (task_many (values_of place items.0) t.0 t.1)
@@ -90,7 +90,7 @@ limit_asked words asked e =
     let items = then_some asked_by (reads words None) asked e in
     let md = then_some _ (once MinPlus mode_in (values_of mode items.0)) asked items.1 in
     let k = then_some _ (once 1 (number_in 1 most_trees) (values_of depth items.0)) asked md.1 in
-    let w = then_some _ (once 1 (number_in 1 16) (values_of workers items.0)) asked k.1 in
+    let w = then_some _ (once 1 (number_in 1 most_workers) (values_of workers items.0)) asked k.1 in
     let l = then_from _ (once most_parts (number_in 1 most_parts) (values_of limit items.0)) asked w.1 in
     let t = map_some _ (task_in (values_of place items.0)) asked l.2 in
     subst (λ n. n ≤ most_parts) (ap (λ (a : Asked). a.limit) t.2) (once_low (values_of limit items.0) l.0 l.1)
