@@ -1,6 +1,7 @@
 -- The text of a canonical grammar reads back as this grammar.
 use Rattle.tib_cost.specs.declared.Scale.{Scale}
 use Rattle.std.proofs.Common.{◌≡◌, ◌⊎◌, ℕ, ◌<◌, ◌≤◌, Bool, List, [], ◌∷◌, length, get_or, ap, sym, ◌∙◌, subst, arith, inl, inr, refl}
+use Rattle.std.specs.Option.{option_cmp}
 use Rattle.std.specs.Ordering.{nat_cmp, ordering_then}
 use Rattle.std.specs.declared.cmp.Ordering.{Ordering}
 use Rattle.std.specs.declared.cmp.Ordering.TheVariants.{Less, Equal, Greater}
@@ -24,13 +25,15 @@ use Rattle.tib_normal.proofs.Forming.{form_range}
 use Rattle.tib_inside.specs.Trimmed.{IsTrimmed}
 use Rattle.tib_inside.proofs.Keeping.{as_many, named_at}
 use Rattle.tib_canon.specs.Canonical.{rule_cmp, IsCanonical}
-use Rattle.tib_canon.specs.Keys.{IsBegun, IsCanonicalOverKeys, without_rules}
+use Rattle.tib_canon.specs.Keys.{IsOverKeys, IsBegun, IsCanonicalOverKeys, without_rules, behind_fresh, started_rules, begun_rules}
 use Rattle.tib_canon.specs.declared.begin.Begin.{Begin}
-use Rattle.tib_canon.specs.declared.begin.Begin.TheVariants.{At, Empty}
+use Rattle.tib_canon.specs.declared.begin.Begin.TheVariants.{At, Fresh, Empty}
+use Rattle.tib_canon.proofs.BehindFresh.{behind_long}
 use Rattle.tib_canon.proofs.KeysOnce.{leaves_over}
 use Rattle.tib_canon.proofs.NormalForms.{form_leaves}
 use Rattle.tib_canon.proofs.Inhabited.{few_states, some_states, states_have_rules}
 use Rattle.tib_canon.proofs.PrintableRules.{canonical_printable, form_printable, over_printable}
+use Rattle.tib_canon.proofs.Started.{started_leaves}
 use Rattle.tib_canon.proofs.StateNames.{length-names_of, are_state_names}
 use Rattle.tib_canon.proofs.TrimmedOnce.{leaves_back, names_long}
 use Rattle.tib_lex.proofs.Members.{has_at, at_has, each_has, each_of}
@@ -121,18 +124,31 @@ normal_text {product = product} laws scale labels g m h some few range leaves pr
 
 -- and of a grammar over keys
 
+module _ {levelled weighed : Bool} {product : ℕ → ℕ → ℕ} (laws : ProductLaws levelled weighed product) {K : Type 0} (cmp : K → K → Ordering) (scale : Scale) (labels : List (List ℕ)) where
+  over_text :
+      (order : List K) (rules : List (Rule ℕ)) (start : ℕ) (g h : GrammarOf) → length order ≤ 4294967296 → SidesEndInHoles rules → ArePrintable scale labels rules → IsOverKeys cmp order rules start g →
+      IsCanonical product scale labels g h → GrammarText scale labels (grammar_text scale labels h) h
+  over_text order rules start g h few leaves printable over canonical =
+      let long : length g.names ≡ length order = ap length over.names ∙ length-names_of (length order) in
+      let stands : Has over.states start = subst (λ (qs : List ℕ). Has qs start) (sym over.by_keys.first) (inl refl) in
+      let within : start < length order = (over.by_keys.all start).0 stands in
+      canonical_text laws scale labels g h canonical (omega (arith, long, within)) (subst (λ n. AreInRange n g.rules) (sym long) over.in_range) (omega (arith, long, few))
+      (leaves_over cmp order start rules g over leaves) (over_printable scale labels cmp order rules start g over printable)
+
+  pub at_text :
+      (order : List K) (rules : List (Rule ℕ)) (start : ℕ) (h : GrammarOf) → length order ≤ 4294967296 → SidesEndInHoles rules → ArePrintable scale labels rules →
+      IsCanonicalOverKeys product scale labels cmp order rules (At start) h → GrammarText scale labels (grammar_text scale labels h) h
+  at_text order rules start h few leaves printable c = over_text order rules start c.over h few leaves printable c.begun c.canonical
+
 pub keys_text :
     {levelled weighed : Bool} {product : ℕ → ℕ → ℕ} → ProductLaws levelled weighed product → {K : Type 0} (cmp : K → K → Ordering) (scale : Scale) (labels : List (List ℕ)) (order : List K) (rules : List (Rule ℕ)) (begin : Begin) (h : GrammarOf) →
-    length order ≤ 4294967296 → SidesEndInHoles rules → ArePrintable scale labels rules → IsCanonicalOverKeys product scale labels cmp order rules begin h → GrammarText scale labels (grammar_text scale labels h) h
-keys_text {product = product} laws cmp scale labels order rules begin h few leaves printable c = by begin c.over c.begun c.canonical
+    length order < 4294967296 → SidesEndInHoles rules → ArePrintable scale labels (begun_rules begin rules) → IsCanonicalOverKeys product scale labels cmp order rules begin h → GrammarText scale labels (grammar_text scale labels h) h
+keys_text {product = product} laws cmp scale labels order rules begin h few leaves printable c = by begin printable c.over c.begun c.canonical
   where
-    by : (begin : Begin) (g : GrammarOf) → IsBegun cmp order rules begin g → IsCanonical product scale labels g h → GrammarText scale labels (grammar_text scale labels h) h
-    by (At start) g over canonical =
-        let long : length g.names ≡ length order = ap length over.names ∙ length-names_of (length order) in
-        let stands : Has over.states start = subst (λ (qs : List ℕ). Has qs start) (sym over.by_keys.first) (inl refl) in
-        let within : start < length order = (over.by_keys.all start).0 stands in
-        canonical_text laws scale labels g h canonical (omega (arith, long, within)) (subst (λ n. AreInRange n g.rules) (sym long) over.in_range) (omega (arith, long, few))
-        (leaves_over cmp order start rules g over leaves) (over_printable scale labels cmp order rules start g over printable)
-    by Empty g e canonical =
+    by : (begin : Begin) → ArePrintable scale labels (begun_rules begin rules) → (g : GrammarOf) → IsBegun cmp order rules begin g → IsCanonical product scale labels g h → GrammarText scale labels (grammar_text scale labels h) h
+    by (At start) printable g over canonical = over_text laws cmp scale labels order rules start g h (omega arith) leaves printable over canonical
+    by (Fresh finals) printable g over canonical =
+        over_text laws (option_cmp cmp) scale labels (behind_fresh order) (started_rules finals rules) 0 g h (omega (arith, few, behind_long order)) (started_leaves finals rules leaves) printable over canonical
+    by Empty printable g e canonical =
         canonical_text laws scale labels without_rules h (subst (λ (k : GrammarOf). IsCanonical product scale labels k h) e canonical) (omega (arith, length-names_of 1)) (λ m b. absurd (omega arith)) (omega (arith, length-names_of 1))
         (λ m b. absurd (omega arith)) (λ m b. absurd (omega arith))

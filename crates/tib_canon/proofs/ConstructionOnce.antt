@@ -1,11 +1,13 @@
 -- The canonical text of a construction does not hang on the numbers of labels.
 use Rattle.tib_cost.specs.declared.Scale.{Scale}
-use Rattle.std.proofs.Common.{◌≡◌, ℕ, ◌<◌, List, [], length, map, get_or, ap, sym, ◌∙◌, subst}
+use Rattle.std.proofs.Common.{◌≡◌, ℕ, ◌<◌, List, [], ◌∷◌, ◌++◌, length, map, get_or, suc, refl, ap, sym, ◌∙◌, subst}
+use Rattle.std.proofs.lemmas.List.{map-append}
+use Rattle.std.specs.Option.{option_cmp}
 use Rattle.std.proofs.lemmas.Option.{get_or_from_slice_get}
 use Rattle.std.specs.declared.cmp.Ordering.{Ordering}
 use Rattle.tib_lex.specs.Lists.{Has, Distinct}
-use Rattle.tib_tree.specs.Trees.{Trees, none, tree, only}
-use Rattle.tib_grammar.specs.Sides.{Symbol, label, hole}
+use Rattle.tib_tree.specs.Trees.{Trees, none, tree, only, relabel}
+use Rattle.tib_grammar.specs.Sides.{Symbol, label, hole, symbol_map}
 use Rattle.tib_grammar.specs.GrammarOf.{GrammarOf, named_rule}
 use Rattle.tib_grammar.specs.Range.{AreInRange, SidesEndInHoles}
 use Rattle.tib_grammar.specs.Run.{rule_at, no_rule}
@@ -17,15 +19,16 @@ use Rattle.tib_grammar_file.proofs.Renumbering.{Renumbers}
 use Rattle.tib_hunt.specs.Reached.{IsReachedSet}
 use Rattle.tib_hunt.proofs.Reaching.{Laws}
 use Rattle.tib_canon.specs.Constructions.{Construction, edges_over, AreRulesOver, IsCanonicalOf}
-use Rattle.tib_canon.specs.Keys.{IsBegun}
+use Rattle.tib_canon.specs.Keys.{IsOverKeys, IsBegun, behind_fresh, chain_to, started_rules}
 use Rattle.tib_canon.specs.declared.begin.Begin.{Begin}
-use Rattle.tib_canon.specs.declared.begin.Begin.TheVariants.{At, Empty}
+use Rattle.tib_canon.specs.declared.begin.Begin.TheVariants.{At, Fresh, Empty}
 use Rattle.tib_canon.proofs.CanonicalByText.{labels_back, canonical_labels, canonical_with}
 use Rattle.tib_canon.proofs.EdgesByText.{edge_with, edges_commute, leaves_with}
 use Rattle.tib_canon.proofs.InOrder.{mapped_has}
 use Rattle.tib_canon.proofs.KeysOnce.{begun_once, rule_over}
 use Rattle.tib_canon.proofs.ReachedOnce.{one_set, order_once}
-use Rattle.tib_canon.proofs.TrimmedByText.{grammar_with, EachLabel, EachLabelIn, KeepsText, range_with, over_with, grammar_printed}
+use Rattle.tib_canon.proofs.Started.{started_each}
+use Rattle.tib_canon.proofs.TrimmedByText.{grammar_with, EachLabel, EachLabelIn, KeepsText, range_with, over_with, rules_commute, grammar_printed}
 use Rattle.tib_canon.proofs.TrimmedOnce.{Fit, fit_from, place_in, rule_told}
 use Rattle.tib_inside.proofs.Chosen.{distinct_at}
 use Rattle.tib_lex.proofs.Members.{at_has}
@@ -55,20 +58,48 @@ rules_stand {K} spare order once xs ys range leaves reach ends stand r h =
     let its = fit_rules (length order) ys reach ends s.0 s.1 in
     subst (Has ys) (rule_told (length order) p (λ i j l m e. distinct_at order i j spare once l m e) s.0 r its.left mine.left its.right mine.right s.2) s.1
 
+-- started rules under the other numbers
+
+chains_with : (f : ℕ → ℕ) (finals : List (ℕ × ℕ)) → map (rule_with f) (map chain_to finals) ≡ map chain_to finals
+chains_with f [] = refl
+chains_with f (p ∷ finals) = ap (λ (rs : List (Rule ℕ)). chain_to p ∷ rs) (chains_with f finals)
+
+started_with : (f : ℕ → ℕ) (finals : List (ℕ × ℕ)) (rules : List (Rule ℕ)) → rules_with f (started_rules finals rules) ≡ started_rules finals (rules_with f rules)
+started_with f finals rules =
+    map-append (rule_with f) (map chain_to finals) (map (named_rule suc) rules)
+    ∙ ap (λ (rs : List (Rule ℕ)). rs ++ rules_with f (map (named_rule suc) rules)) (chains_with f finals)
+    ∙ ap (λ (rs : List (Rule ℕ)). map chain_to finals ++ rs) (sym (rules_commute suc f rules))
+
 -- a grammar that begins there begins there under the other numbers
 begun_with :
     {K : Type 0} (cmp : K → K → Ordering) (order : List K) (rules : List (Rule ℕ)) (begin : Begin) (g : GrammarOf) (f : ℕ → ℕ) → IsBegun cmp order rules begin g →
     IsBegun cmp order (rules_with f rules) begin (grammar_with f g)
 begun_with cmp order rules (At start) g f o = over_with cmp order rules start g f o
+begun_with cmp order rules (Fresh finals) g f o =
+    subst (λ (rs : List (Rule ℕ)). IsOverKeys (option_cmp cmp) (behind_fresh order) rs 0 (grammar_with f g)) (started_with f finals rules)
+    (over_with (option_cmp cmp) (behind_fresh order) (started_rules finals rules) 0 g f o)
 begun_with cmp order rules Empty g f e = ap (grammar_with f) e
 
 -- what holds of each label of the rules holds of each label of the grammar over keys
+
+labels_on : (P : ℕ → Type 0) (f : ℕ → ℕ) (ts : Trees (Symbol ℕ ℕ)) → EachLabel P ts → EachLabel P (relabel (symbol_map f) ts)
+labels_on P f none h = tt
+labels_on P f (tree (label g) kids rest) h = (h.0, labels_on P f kids h.1, labels_on P f rest h.2)
+labels_on P f (tree (hole q) kids rest) h = (labels_on P f kids h.0, labels_on P f rest h.1)
+
+over_labels :
+    (P : ℕ → Type 0) {K : Type 0} (cmp : K → K → Ordering) (order : List K) (rules : List (Rule ℕ)) (start : ℕ) (g : GrammarOf) → IsOverKeys cmp order rules start g → EachLabelIn P rules → EachLabelIn P g.rules
+over_labels P cmp order rules start g o all r h =
+    labels_back P (place_in o.states) (only r.right) (all (named_rule (place_in o.states) r) (rule_over cmp order start rules g o r h))
+
 begun_labels :
     (P : ℕ → Type 0) {K : Type 0} (cmp : K → K → Ordering) (order : List K) (rules : List (Rule ℕ)) (begin : Begin) (g : GrammarOf) → IsBegun cmp order rules begin g → EachLabelIn P rules →
     EachLabelIn P g.rules
-begun_labels P cmp order rules (At start) g o all r h =
-    labels_back P (place_in o.states) (only r.right) (all (named_rule (place_in o.states) r) (rule_over cmp order start rules g o r h))
-begun_labels P cmp order rules Empty g e all r h = absurd (subst (λ (k : GrammarOf). Has k.rules r) e h)
+begun_labels P cmp order rules (At start) g o all = over_labels P cmp order rules start g o all
+begun_labels P cmp order rules (Fresh finals) g o all =
+    over_labels P (option_cmp cmp) (behind_fresh order) (started_rules finals rules) 0 g o
+    (started_each finals (λ r. EachLabel P (only r.right)) rules (λ p h. (tt, tt)) (λ s h. labels_on P suc (only s.right) (all s h)))
+begun_labels P cmp order rules Empty g e all = λ r h. absurd (subst (λ (k : GrammarOf). Has k.rules r) e h)
 
 module _ (labels others : List (List ℕ)) (f : ℕ → ℕ) (n : Renumbers labels others f) where
   text_kept : (i : ℕ) → f i < length others → KeepsText labels others f i

@@ -112,6 +112,13 @@ by_the_keys true true Greater p e f h = refl
 by_the_keys true false o p e f h = absurd (true≢false (sym f))
 by_the_keys false b o p e f h = absurd (true≢false (sym e))
 
+-- all positions of the order, each once, ascending by their keys
+pub record AreAllByKeys {K : Type 0} (cmp : K → K → Ordering) (order : List K) (places : List ℕ) : Type 0 where
+  pub ascend : Ascends (StandBefore cmp order) places
+  pub all : (p : ℕ) → (Has places p → p < length order) × (p < length order → Has places p)
+  pub once : Distinct places
+  pub many : length places ≡ length order
+
 less_turned : (o p : Ordering) → o ≡ ordering_reverse p → is_lt p ≡ false → (is_eq p ≡ true → ⊥) → o ≡ Less
 less_turned o Less e h n = absurd (true≢false h)
 less_turned o Equal e h n = absurd (n refl)
@@ -131,7 +138,7 @@ module _ {K : Type 0} (cmp : K → K → Ordering) (total : IsTotalOrder cmp) (e
   marks_ascend : (ms : List (Mark K)) → IsSorted mark_cmp ms → Ascends NotAbove ms
   marks_ascend ms s = sorted_ascends NotAbove ms (λ i j d h k. sorted_far (λ x y. is_lt (mark_cmp x y)) (ranks_by mark_total (λ x. x)) ms s i j d (omega arith) k)
 
-  module _ (order : List K) (start : ℕ) (within : start < length order) (apart : Distinct order) where
+  module _ (order : List K) (start : ℕ) (apart : Distinct order) where
     key_of : (m : Mark K) → IsMark start 0 order m → slice_get order m.2 ≡ Some m.1
     key_of m a = let e : m.2 - 0 ≡ m.2 = omega arith in subst (λ i. slice_get order i ≡ Some m.1) e a.key
 
@@ -190,8 +197,8 @@ module _ {K : Type 0} (cmp : K → K → Ordering) (total : IsTotalOrder cmp) (e
       places_many : length (map (λ (m : Mark K). m.2) now) ≡ length order
       places_many = length-map now (λ (m : Mark K). m.2) ∙ length_permutation (marked start 0 order) now permuted ∙ length_marked start 0 order
 
-      first_is : (m : Mark K) (ms : List (Mark K)) → now ≡ m ∷ ms → m.2 ≡ start
-      first_is m ms e =
+      first_is : start < length order → (m : Mark K) (ms : List (Mark K)) → now ≡ m ∷ ms → m.2 ≡ start
+      first_is within m ms e =
           let s = of_place now start ((places_all start).1 within) in
           let up : Ascends NotAbove (m ∷ ms) = subst (Ascends NotAbove) e (marks_ascend now sorted) in
           let own : IsMark start 0 order m = are_marks m (subst (λ (l : List (Mark K)). Has l m) (sym e) (inl refl)) in
@@ -207,9 +214,9 @@ module _ {K : Type 0} (cmp : K → K → Ordering) (total : IsTotalOrder cmp) (e
           ]
 
       -- the positions by their keys
-      begun_by : (m : Mark K) (ms : List (Mark K)) → now ≡ m ∷ ms → AreByKeys cmp order start (map (λ (m : Mark K). m.2) now)
-      begun_by m ms e =
-          let first : m.2 ≡ start = first_is m ms e in
+      begun_by : start < length order → (m : Mark K) (ms : List (Mark K)) → now ≡ m ∷ ms → AreByKeys cmp order start (map (λ (m : Mark K). m.2) now)
+      begun_by within m ms e =
+          let first : m.2 ≡ start = first_is within m ms e in
           let once : Distinct (map (λ (m : Mark K). m.2) (m ∷ ms)) = subst (λ (l : List (Mark K)). Distinct (map (λ (m : Mark K). m.2) l)) e places_once in
           let up : Ascends NotAbove (m ∷ ms) = subst (Ascends NotAbove) e (marks_ascend now sorted) in
           record {
@@ -221,10 +228,31 @@ module _ {K : Type 0} (cmp : K → K → Ordering) (total : IsTotalOrder cmp) (e
             many = places_many;
           }
 
-      by_keys : (ms : List (Mark K)) → ms ≡ now → AreByKeys cmp order start (map (λ (m : Mark K). m.2) now)
-      by_keys [] e = let none : 0 ≡ length order = ap (λ (l : List (Mark K)). length (map (λ (m : Mark K). m.2) l)) e ∙ places_many in absurd (omega arith)
-      by_keys (m ∷ ms) e = begun_by m ms (sym e)
+      by_keys : start < length order → (ms : List (Mark K)) → ms ≡ now → AreByKeys cmp order start (map (λ (m : Mark K). m.2) now)
+      by_keys within [] e = let none : 0 ≡ length order = ap (λ (l : List (Mark K)). length (map (λ (m : Mark K). m.2) l)) e ∙ places_many in absurd (omega arith)
+      by_keys within (m ∷ ms) e = begun_by within m ms (sym e)
 
-    pub sorted_by_keys : (marks now : List (Mark K)) → marks ≡ marked start 0 order → IsPermutation marks now → IsSorted mark_cmp now → (part : List (Mark K)) → part ≡ now → (states : List ℕ) → states ≡ map (λ (m : Mark K). m.2) part → AreByKeys cmp order start states
-    sorted_by_keys marks now e p s part f states k =
-        subst (AreByKeys cmp order start) (sym (k ∙ ap (map (λ (m : Mark K). m.2)) f)) (by_keys now (subst (λ (l : List (Mark K)). IsPermutation l now) e p) s now refl)
+      -- where no key is the start, all positions ascend by their keys
+      all_ascend : length order ≤ start → Ascends (StandBefore cmp order) (map (λ (m : Mark K). m.2) now)
+      all_ascend outside = others_ascend now are_marks (λ m h e. let low = (are_marks m h).below in omega (arith, low, outside, e)) places_once (marks_ascend now sorted)
+
+    pub sorted_by_keys :
+        start < length order → (marks now : List (Mark K)) → marks ≡ marked start 0 order → IsPermutation marks now → IsSorted mark_cmp now → (part : List (Mark K)) → part ≡ now → (states : List ℕ) →
+        states ≡ map (λ (m : Mark K). m.2) part → AreByKeys cmp order start states
+    sorted_by_keys within marks now e p s part f states k =
+        subst (AreByKeys cmp order start) (sym (k ∙ ap (map (λ (m : Mark K). m.2)) f)) (by_keys now (subst (λ (l : List (Mark K)). IsPermutation l now) e p) s within now refl)
+
+    -- the marks are of positions of the order
+    pub sorted_below : (marks now : List (Mark K)) → marks ≡ marked start 0 order → IsPermutation marks now → (m : Mark K) → Has now m → m.2 < length order
+    sorted_below marks now e p m h =
+        let a = marked_is start 0 order m (has_permuted now (marked start 0 order) m (IsPermutation-sym (marked start 0 order) now (subst (λ (l : List (Mark K)). IsPermutation l now) e p)) h) in
+        omega (arith, a.below)
+
+    pub sorted_many : (marks now : List (Mark K)) → marks ≡ marked start 0 order → IsPermutation marks now → length now ≡ length order
+    sorted_many marks now e p = length_permutation marks now p ∙ ap length e ∙ length_marked start 0 order
+
+    -- all positions, where no key is the start
+    pub sorted_all : (marks now : List (Mark K)) → marks ≡ marked start 0 order → IsPermutation marks now → IsSorted mark_cmp now → length order ≤ start → AreAllByKeys cmp order (map (λ (m : Mark K). m.2) now)
+    sorted_all marks now e p s outside =
+        let permuted : IsPermutation (marked start 0 order) now = subst (λ (l : List (Mark K)). IsPermutation l now) e p in
+        record { ascend = all_ascend now permuted s outside; all = places_all now permuted s; once = places_once now permuted s; many = places_many now permuted s }

@@ -1,6 +1,7 @@
 -- A grammar over keys has the series of the rules over their positions.
 use Rattle.tib_cost.specs.declared.Scale.{Scale}
 use Rattle.std.specs.Prelude.{◌≡◌, ℕ, ◌<◌, ◌↔◌, List, [], ◌∷◌, length, map, refl, Option}
+use Rattle.std.specs.Option.{option_cmp}
 use Rattle.std.specs.declared.cmp.Ordering.{Ordering}
 use Rattle.std.proofs.Common.{zero, suc, arith, ap, sym, ◌∙◌, subst, get_or}
 use Rattle.std.proofs.lemmas.List.{get_or-map, length-map}
@@ -15,8 +16,8 @@ use Rattle.tib_grammar.specs.declared.Rule.{Rule}
 use Rattle.tib_grammar.proofs.Sides.{holes-relabel, fill-relabel}
 use Rattle.tib_cost.proofs.Least.{IsLeast-same}
 use Rattle.tib_inside.proofs.Chosen.{distinct_at}
-use Rattle.tib_canon.specs.Keys.{IsOverKeys, IsCanonicalOverKeys}
-use Rattle.tib_canon.specs.declared.begin.Begin.TheVariants.{At}
+use Rattle.tib_canon.specs.Keys.{IsOverKeys, IsCanonicalOverKeys, behind_fresh, started_rules}
+use Rattle.tib_canon.specs.declared.begin.Begin.TheVariants.{At, Fresh}
 
 module _ (product : ℕ → ℕ → ℕ) (old new : List (Rule ℕ)) (states : List ℕ) (once : Distinct states) (range : AreInRange (length states) new) (named : map (named_rule (λ i. get_or states i 0)) new ≡ old) where
   as_many : length old ≡ length new
@@ -125,4 +126,12 @@ pub canonical_series :
     IsCanonicalOverKeys product scale labels cmp order rules (At start) h → (t : Tree ℕ) (v : Option ℕ) → IsSeriesAt product rules start t v ↔ IsSeries product h.rules t v
 canonical_series cmp product scale labels order rules start h c t v =
     let a = over_series cmp product order rules start c.over c.begun t v in
+    let b = c.series t v in (λ x. b.0 (a.0 x), λ x. a.1 (b.1 x))
+
+-- the same behind a fresh start
+pub fresh_series :
+    {K : Type 0} (cmp : K → K → Ordering) (product : ℕ → ℕ → ℕ) (scale : Scale) (labels : List (List ℕ)) (order : List K) (rules : List (Rule ℕ)) (finals : List (ℕ × ℕ)) (h : GrammarOf) →
+    IsCanonicalOverKeys product scale labels cmp order rules (Fresh finals) h → (t : Tree ℕ) (v : Option ℕ) → IsSeries product (started_rules finals rules) t v ↔ IsSeries product h.rules t v
+fresh_series cmp product scale labels order rules finals h c t v =
+    let a = over_series (option_cmp cmp) product (behind_fresh order) (started_rules finals rules) 0 c.over c.begun t v in
     let b = c.series t v in (λ x. b.0 (a.0 x), λ x. a.1 (b.1 x))

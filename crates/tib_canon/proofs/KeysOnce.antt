@@ -4,6 +4,8 @@ use Rattle.std.proofs.Common.{◌≡◌, ℕ, ◌<◌, List, [], ◌∷◌, leng
 use Rattle.std.proofs.lemmas.Option.{slice_get-get_or}
 use Rattle.std.specs.Prelude.{Some}
 use Rattle.std.specs.Cmp.{IsTotalOrder}
+use Rattle.std.specs.Cmp.Lexicographic.{options_total}
+use Rattle.std.specs.Option.{option_cmp}
 use Rattle.std.specs.declared.cmp.Ordering.{Ordering}
 use Rattle.std.specs.declared.cmp.Ordering.TheVariants.{Less}
 use Rattle.tib_lex.specs.Lists.{Has, Ascends, Distinct}
@@ -15,11 +17,12 @@ use Rattle.tib_grammar.specs.Run.{rule_at, no_rule}
 use Rattle.tib_grammar.specs.declared.Rule.{Rule}
 use Rattle.tib_inside.proofs.Chosen.{distinct_at}
 use Rattle.tib_canon.specs.Canonical.{IsCanonical}
-use Rattle.tib_canon.specs.Keys.{StandBefore, AreByKeys, IsOverKeys, IsBegun, IsCanonicalOverKeys, without_rules}
+use Rattle.tib_canon.specs.Keys.{StandBefore, AreByKeys, IsOverKeys, IsBegun, IsCanonicalOverKeys, without_rules, behind_fresh, started_rules}
 use Rattle.tib_canon.specs.declared.begin.Begin.{Begin}
-use Rattle.tib_canon.specs.declared.begin.Begin.TheVariants.{At, Empty}
+use Rattle.tib_canon.specs.declared.begin.Begin.TheVariants.{At, Fresh, Empty}
 use Rattle.tib_canon.proofs.Alike.{alike_self}
 use Rattle.tib_canon.proofs.One.{ascending_same, one_less}
+use Rattle.tib_canon.proofs.Started.{started_to, started_leaves}
 use Rattle.tib_canon.proofs.TrimmedOnce.{Fit, fit_from, leaves_back, place_in, rule_told, one_canonical_of}
 use Rattle.tib_lex.proofs.Members.{has_at, at_has, each_has, each_of}
 use Rattle.tib_lex.proofs.Lists.{has_mapped}
@@ -118,17 +121,27 @@ module _ {K : Type 0} (cmp : K → K → Ordering) (order : List K) (start : ℕ
 no_leaves : SidesEndInHoles []
 no_leaves m h = absurd (omega arith)
 
-pub begun_once :
-    {K : Type 0} (cmp : K → K → Ordering) → IsTotalOrder cmp → (product : ℕ → ℕ → ℕ) (scale : Scale) (labels : List (List ℕ)) (order : List K) (xs ys : List (Rule ℕ)) (begin : Begin) (g k h i : GrammarOf) →
-    ((r : Rule ℕ) → Has xs r → Has ys r) → ((r : Rule ℕ) → Has ys r → Has xs r) → SidesEndInHoles xs → SidesEndInHoles ys → IsBegun cmp order xs begin g → IsBegun cmp order ys begin k →
+over_once :
+    {K : Type 0} (cmp : K → K → Ordering) → IsTotalOrder cmp → (product : ℕ → ℕ → ℕ) (scale : Scale) (labels : List (List ℕ)) (order : List K) (xs ys : List (Rule ℕ)) (start : ℕ) (g k h i : GrammarOf) →
+    ((r : Rule ℕ) → Has xs r → Has ys r) → ((r : Rule ℕ) → Has ys r → Has xs r) → SidesEndInHoles xs → SidesEndInHoles ys → IsOverKeys cmp order xs start g → IsOverKeys cmp order ys start k →
     IsCanonical product scale labels g h → IsCanonical product scale labels k i → h ≡ i
-begun_once cmp total product scale labels order xs ys (At start) g k h i to from leaves others c d a b =
+over_once cmp total product scale labels order xs ys start g k h i to from leaves others c d a b =
     let same = by_keys_once cmp total order start c.states d.states c.by_keys d.by_keys in
     one_canonical_of product scale labels g k h i (leaves_over cmp order start xs g c leaves) (leaves_over cmp order start ys k d others)
     (record {
       to = stands_over cmp order start xs ys g k c d same leaves others to;
       from = stands_over cmp order start ys xs k g d c (sym same) others leaves from;
     }) a b
+
+pub begun_once :
+    {K : Type 0} (cmp : K → K → Ordering) → IsTotalOrder cmp → (product : ℕ → ℕ → ℕ) (scale : Scale) (labels : List (List ℕ)) (order : List K) (xs ys : List (Rule ℕ)) (begin : Begin) (g k h i : GrammarOf) →
+    ((r : Rule ℕ) → Has xs r → Has ys r) → ((r : Rule ℕ) → Has ys r → Has xs r) → SidesEndInHoles xs → SidesEndInHoles ys → IsBegun cmp order xs begin g → IsBegun cmp order ys begin k →
+    IsCanonical product scale labels g h → IsCanonical product scale labels k i → h ≡ i
+begun_once cmp total product scale labels order xs ys (At start) g k h i to from leaves others c d a b =
+    over_once cmp total product scale labels order xs ys start g k h i to from leaves others c d a b
+begun_once cmp total product scale labels order xs ys (Fresh finals) g k h i to from leaves others c d a b =
+    over_once (option_cmp cmp) (options_total total) product scale labels (behind_fresh order) (started_rules finals xs) (started_rules finals ys) 0 g k h i (started_to finals xs ys to) (started_to finals ys xs from)
+    (started_leaves finals xs leaves) (started_leaves finals ys others) c d a b
 begun_once cmp total product scale labels order xs ys Empty g k h i to from leaves others c d a b =
     one_canonical_of product scale labels without_rules without_rules h i no_leaves no_leaves (alike_self [])
     (subst (λ (z : GrammarOf). IsCanonical product scale labels z h) c a) (subst (λ (z : GrammarOf). IsCanonical product scale labels z i) d b)

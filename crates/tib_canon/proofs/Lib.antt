@@ -15,6 +15,8 @@ pub mod TrimmedOnce
 pub mod NormalForms
 pub mod SameRules
 pub mod KeyOrder
+pub mod Started
+pub mod BehindFresh
 pub mod OverKeys
 pub mod KeySeries
 pub mod KeysOnce
@@ -38,3 +40,5 @@ pub mod ReachedAlike
 pub mod EdgesByText
 pub mod ConstructionOnce
 pub mod ConstructionExists
+pub mod DeterministicKept
+pub mod DeterministicForms

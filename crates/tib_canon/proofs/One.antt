@@ -47,7 +47,7 @@ rule_total scale names labels = then_total (on_total (λ (r : Rule ℕ). r.left)
 pub one_less : (o : Ordering) → o ≡ Less → Less ≡ ordering_reverse o → ⊥
 one_less o e f = let bad : Less ≡ Greater = f ∙ ap ordering_reverse e in absurd (cc)
 
-rules_one_way : (scale : Scale) (names labels : List (List ℕ)) (r s : Rule ℕ) → rule_cmp scale names labels r s ≡ Less → rule_cmp scale names labels s r ≡ Less → ⊥
+pub rules_one_way : (scale : Scale) (names labels : List (List ℕ)) (r s : Rule ℕ) → rule_cmp scale names labels r s ≡ Less → rule_cmp scale names labels s r ≡ Less → ⊥
 rules_one_way scale names labels r s e f = one_less (rule_cmp scale names labels s r) f (sym e ∙ (rule_total scale names labels).antisymm r s)
 
 rule_same : (r s : Rule ℕ) → AgreeInSides r s → r.cost ≡ s.cost → r ≡ s

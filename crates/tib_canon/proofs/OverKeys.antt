@@ -1,9 +1,9 @@
 -- The grammar over the keys, put together.
-use Rattle.std.proofs.Common.{◌≡◌, ℕ, ◌<◌, List, [], ◌∷◌, ◌++◌, length, map, take, drop, get_or, append-nil, refl, ap, sym, ◌∙◌, subst, arith, suc, inl, inr}
+use Rattle.std.proofs.Common.{◌≡◌, ℕ, ◌-◌, ◌<◌, List, [], ◌∷◌, ◌++◌, length, map, take, drop, get_or, append-nil, refl, ap, sym, ◌∙◌, subst, arith, suc, inl, inr}
 use Rattle.std.proofs.lemmas.List.{get_or-map, length-map}
 use Rattle.std.proofs.Math.Seq.{take-length, drop-length}
 use Rattle.std.specs.declared.cmp.Ordering.{Ordering}
-use Rattle.tib_lex.specs.Lists.{Has}
+use Rattle.tib_lex.specs.Lists.{Has, Each}
 use Rattle.tib_tree.specs.Trees.{Trees, none, tree, only, relabel}
 use Rattle.tib_grammar.specs.Sides.{Symbol, label, hole, symbol_map, holes_of}
 use Rattle.tib_grammar.specs.Range.{AllBelow, IsInRange, AreInRange, SidesEndInHoles, AreBelow}
@@ -16,15 +16,14 @@ use Rattle.tib_grammar.specs.Renaming.{number_in}
 use Rattle.tib_inside.specs.Renaming.{AreNumbersOf}
 use Rattle.tib_grammar.proofs.Renamed.{rule_back}
 use Rattle.tib_canon.specs.Canonical.{names_of}
-use Rattle.tib_canon.specs.Keys.{AreByKeys, IsOverKeys, IsBegun}
+use Rattle.tib_canon.specs.Keys.{AreByKeys, IsOverKeys, IsBegun, behind_fresh, chain_in, started_rules}
 use Rattle.tib_canon.specs.declared.begin.Begin.{Begin}
-use Rattle.tib_canon.specs.declared.begin.Begin.TheVariants.{At, Empty}
+use Rattle.tib_canon.specs.declared.begin.Begin.TheVariants.{At, Fresh, Empty}
+use Rattle.std.specs.Option.{option_cmp}
 use Rattle.tib_canon.proofs.Permuting.{distinct_at}
+use Rattle.tib_canon.proofs.Started.{all_mapped, started_named, started_leaves, started_labelled, started_range}
+use Rattle.tib_canon.proofs.BehindFresh.{behind_long}
 use Rattle.tib_lex.proofs.Members.{has_at, at_has}
-
-all_mapped : (n k : ℕ) (f : ℕ → ℕ) (qs : List ℕ) → ((q : ℕ) → q < k → f q < n) → AllBelow k qs → AllBelow n (map f qs)
-all_mapped n k f [] h b = tt
-all_mapped n k f (q ∷ qs) h b = (h q b.0, all_mapped n k f qs h b.1)
 
 below_has : (n : ℕ) (qs : List ℕ) (q : ℕ) → AllBelow n qs → Has qs q → q < n
 below_has n [] q b h = absurd h
@@ -90,13 +89,18 @@ labels_from n f (tree (label g) kids rest) h = (h.0, labels_from n f kids h.1, l
 labels_from n f (tree (hole q) kids rest) h = labels_from n f rest h
 
 -- labels stay in the table
-pub labelled_begun : {K : Type 0} (cmp : K → K → Ordering) (order : List K) (rules : List (Rule ℕ)) (begin : Begin) (g : GrammarOf) (n : ℕ) → IsBegun cmp order rules begin g → AreLabelled n rules → AreLabelled n g.rules
-labelled_begun cmp order rules (At start) g n over labelled m h =
+
+labelled_over : {K : Type 0} (cmp : K → K → Ordering) (order : List K) (rules : List (Rule ℕ)) (start : ℕ) (g : GrammarOf) (n : ℕ) → IsOverKeys cmp order rules start g → AreLabelled n rules → AreLabelled n g.rules
+labelled_over cmp order rules start g n over labelled m h =
     let f : ℕ → ℕ = λ i. get_or over.states i 0 in
     let long : length g.rules ≡ length rules = sym (length-map g.rules (named_rule f)) ∙ ap length over.named in
     let at : named_rule f (rule_at g.rules m) ≡ rule_at rules m = sym (get_or-map (named_rule f) g.rules m no_rule no_rule h) ∙ ap (λ (rs : List (Rule ℕ)). get_or rs m no_rule) over.named in
     labels_from n f (only (rule_at g.rules m).right) (subst (λ (r : Rule ℕ). LabelsBelow n (only r.right)) (sym at) (labelled m (omega arith)))
-labelled_begun cmp order rules Empty g n e labelled m h = let long : length g.rules ≡ 0 = ap (λ (x : GrammarOf). length x.rules) e in absurd (omega arith)
+
+pub labelled_begun : {K : Type 0} (cmp : K → K → Ordering) (order : List K) (rules : List (Rule ℕ)) (begin : Begin) (g : GrammarOf) (n : ℕ) → IsBegun cmp order rules begin g → AreLabelled n rules → AreLabelled n g.rules
+labelled_begun cmp order rules (At start) g n over labelled = labelled_over cmp order rules start g n over labelled
+labelled_begun cmp order rules (Fresh finals) g n over labelled = labelled_over (option_cmp cmp) (behind_fresh order) (started_rules finals rules) 0 g n over (started_labelled finals n rules labelled)
+labelled_begun cmp order rules Empty g n e labelled = λ m h. (let long : length g.rules ≡ 0 = ap (λ (x : GrammarOf). length x.rules) e in absurd (omega arith))
 
 -- the grammar over the keys has as many rules
 pub as_many_over : {K : Type 0} (cmp : K → K → Ordering) (order : List K) (rules : List (Rule ℕ)) (start : ℕ) (g : GrammarOf) → IsOverKeys cmp order rules start g → length g.rules ≡ length rules
@@ -116,3 +120,40 @@ rules_over cmp order start states by part numbers few rules lent new n s are f r
     let is : new ≡ map (named_rule (number_in numbers)) rules = e ∙ ap (map (named_rule (number_in few))) l ∙ ap (λ (xs : List ℕ). map (named_rule (number_in xs)) rules) f in
     over_keys cmp order start states by numbers (subst (λ (xs : List ℕ). AreNumbersOf xs numbers) s are) rules range leaves (record { names = names_of (length order); rules = take n (new ++ drop (length new) rules) }) (ap names_of (sym by.many))
     (refilled rules new n many (ap length is ∙ length-map rules (named_rule (number_in numbers))) ∙ is)
+
+-- the same behind a fresh start, whose chain rules come first
+pub rules_behind :
+    {K : Type 0} (cmp : K → K → Ordering) (order : List K) (states : List ℕ) (by : AreByKeys (option_cmp cmp) (behind_fresh order) 0 states) (numbers : List ℕ) (finals : List (ℕ × ℕ)) (rules new : List (Rule ℕ)) → AreNumbersOf states numbers →
+    Each (λ p. p.0 < length order) finals → AreInRange (length order) rules → SidesEndInHoles rules → new ≡ map (chain_in (drop 1 numbers)) finals ++ map (named_rule (number_in (drop 1 numbers))) rules →
+    IsOverKeys (option_cmp cmp) (behind_fresh order) (started_rules finals rules) 0 (record { names = names_of (length (behind_fresh order)); rules = new })
+rules_behind cmp order states by numbers finals rules new are within range leaves e =
+    let begins : get_or states 0 0 ≡ 0 = ap (λ (l : List ℕ). get_or l 0 0) by.first in
+    let some : 0 < length states = omega (arith, by.many, behind_long order) in
+    let first : number_in numbers 0 ≡ 0 = ap (number_in numbers) (sym begins) ∙ are 0 some in
+    over_keys (option_cmp cmp) (behind_fresh order) 0 states by numbers are (started_rules finals rules)
+    (subst (λ n. AreInRange n (started_rules finals rules)) (sym (behind_long order)) (started_range finals (length order) within rules range)) (started_leaves finals rules leaves)
+    (record { names = names_of (length (behind_fresh order)); rules = new }) (ap names_of (sym by.many)) (e ∙ started_named numbers first finals rules)
+
+drop_one : (xs : List ℕ) → length (drop 1 xs) ≡ length xs - 1
+drop_one [] = refl
+drop_one (x ∷ xs) = omega arith
+
+-- the numbers behind that of the fresh start are as many as the positions
+pub behind_many :
+    {K : Type 0} (cmp : K → K → Ordering) (order : List K) (states : List ℕ) (by : AreByKeys (option_cmp cmp) (behind_fresh order) 0 states) (part numbers few behind : List ℕ) → part ≡ states → length numbers ≡ length part → few ≡ numbers →
+    behind ≡ drop 1 few → length behind ≡ length order
+behind_many cmp order states by part numbers few behind s long f e = omega (arith, ap length e, drop_one few, ap length f, long, ap length s, by.many, behind_long order)
+
+-- the same where the rules stand, and the chain rules before them
+pub rules_behind_of :
+    {K : Type 0} (cmp : K → K → Ordering) (order : List K) (states : List ℕ) (by : AreByKeys (option_cmp cmp) (behind_fresh order) 0 states) (part numbers few behind : List ℕ) (finals pairs : List (ℕ × ℕ)) (rules lent new chains all : List (Rule ℕ)) (n : ℕ) →
+    part ≡ states → AreNumbersOf part numbers → few ≡ numbers → behind ≡ drop 1 few → Each (λ p. p.0 < length order) finals → AreInRange (length order) rules → SidesEndInHoles rules → lent ≡ rules →
+    new ≡ map (named_rule (number_in behind)) lent → n ≡ length rules → pairs ≡ finals → chains ≡ map (chain_in behind) pairs → all ≡ chains ++ take n (new ++ drop (length new) rules) →
+    IsOverKeys (option_cmp cmp) (behind_fresh order) (started_rules finals rules) 0 (record { names = names_of (length (behind_fresh order)); rules = all })
+rules_behind_of cmp order states by part numbers few behind finals pairs rules lent new chains all n s are f b within range leaves l e many p c a =
+    let numbered : behind ≡ drop 1 numbers = b ∙ ap (drop 1) f in
+    let is : new ≡ map (named_rule (number_in (drop 1 numbers))) rules = e ∙ ap (map (named_rule (number_in behind))) l ∙ ap (λ (xs : List ℕ). map (named_rule (number_in xs)) rules) numbered in
+    let stays : take n (new ++ drop (length new) rules) ≡ new = refilled rules new n many (ap length is ∙ length-map rules (named_rule (number_in (drop 1 numbers)))) in
+    let linked : chains ≡ map (chain_in (drop 1 numbers)) finals = c ∙ ap (map (chain_in behind)) p ∙ ap (λ (xs : List ℕ). map (chain_in xs) finals) numbered in
+    rules_behind cmp order states by numbers finals rules all (subst (λ (xs : List ℕ). AreNumbersOf xs numbers) s are) within range leaves
+    (a ∙ ap (λ (xs : List (Rule ℕ)). chains ++ xs) (stays ∙ is) ∙ ap (λ (xs : List (Rule ℕ)). xs ++ map (named_rule (number_in (drop 1 numbers))) rules) linked)

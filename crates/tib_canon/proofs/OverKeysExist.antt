@@ -7,7 +7,10 @@ use Rattle.std.specs.declared.cmp.Ordering.TheVariants.{Less, Equal}
 use Rattle.std.proofs.lemmas.Cmp.{on_total}
 use Rattle.std.proofs.lemmas.List.{get_or-map, length-map}
 use Rattle.std.proofs.lemmas.Option.{get_or_from_slice_get}
-use Rattle.tib_lex.specs.Lists.{Has, Distinct, Ascends}
+use Rattle.std.specs.Prelude.{None}
+use Rattle.std.specs.Cmp.Lexicographic.{options_total}
+use Rattle.std.specs.Option.{option_cmp}
+use Rattle.tib_lex.specs.Lists.{Has, Each, Distinct, Ascends}
 use Rattle.tib_tree.specs.Trees.{only}
 use Rattle.tib_grammar.specs.Sides.{holes_of, HolesAreLeaves}
 use Rattle.tib_grammar.specs.GrammarOf.{GrammarOf, named_rule}
@@ -18,8 +21,10 @@ use Rattle.tib_grammar_file.specs.Printable.{ArePrintable}
 use Rattle.tib_cost.specs.Semiring.{ProductLaws}
 use Rattle.tib_inside.proofs.Occurring.{below_has}
 use Rattle.tib_canon.specs.Canonical.{names_of}
-use Rattle.tib_canon.specs.Keys.{StandBefore, AreByKeys, IsOverKeys, IsCanonicalOverKeys}
-use Rattle.tib_canon.specs.declared.begin.Begin.TheVariants.{At}
+use Rattle.tib_canon.specs.Keys.{StandBefore, AreByKeys, IsOverKeys, IsCanonicalOverKeys, BeginsWithin, without_rules, behind_fresh, started_rules, begun_rules}
+use Rattle.tib_canon.specs.declared.begin.Begin.{Begin}
+use Rattle.tib_canon.specs.declared.begin.Begin.TheVariants.{At, Fresh, Empty}
+use Rattle.tib_canon.proofs.BehindFresh.{behind_long, behind_once, behind_same}
 use Rattle.tib_canon.proofs.CanonicalExists.{canonical_there}
 use Rattle.tib_canon.proofs.KeysOnce.{leaves_over}
 use Rattle.tib_canon.proofs.One.{one_less}
@@ -27,6 +32,7 @@ use Rattle.tib_canon.proofs.OrderExists.{AreSortedOf, sorted_there, ascends_with
 use Rattle.tib_canon.proofs.Permuting.{distinct_at}
 use Rattle.tib_canon.proofs.PlacesIn.{place_in, placed_in_range, placed_back, map_itself}
 use Rattle.tib_canon.proofs.PrintableRules.{over_printable}
+use Rattle.tib_canon.proofs.Started.{started_leaves, started_range}
 use Rattle.tib_canon.proofs.StateNames.{length-names_of}
 use Rattle.tib_canon.proofs.TrimmedExist.{AreThose, with_last, without_last}
 use Rattle.tib_lex.proofs.Members.{has_at, at_has, each_has}
@@ -71,7 +77,7 @@ others_of start (suc n) =
       | inr other ↦ (o.0 ++ n ∷ [], one_other start n o.0 o.1 other)
     ]
 
-ascends_once : {A : Type 0} (R : A → A → Type 0) → ((x : A) → R x x → ⊥) → (xs : List A) → Ascends R xs → Distinct xs
+pub ascends_once : {A : Type 0} (R : A → A → Type 0) → ((x : A) → R x x → ⊥) → (xs : List A) → Ascends R xs → Distinct xs
 ascends_once R f [] a = tt
 ascends_once R f (x ∷ xs) a = (λ h. f x (each_has (R x) xs x a.0 h), ascends_once R f xs a.1)
 
@@ -174,3 +180,31 @@ module _
         canonical_there laws scale labels o.0 (omega (arith, long, within)) (omega (arith, long, few)) (subst (λ n. AreInRange n o.0.rules) (sym long) o.1.in_range)
         (leaves_over cmp order start rules o.0 o.1 leaves) apart (over_printable scale labels cmp order rules start o.0 o.1 printable)
         (λ h canonical series. k h (record { over = o.0; begun = o.1; canonical = canonical; series = series }))
+
+-- the same behind a fresh start
+module _
+    {K : Type 0} (cmp : K → K → Ordering) (total : IsTotalOrder cmp) (same : (x y : K) → cmp x y ≡ Equal → x ≡ y) (order : List K) (once : Distinct order) (finals : List (ℕ × ℕ))
+    (within : Each (λ p. p.0 < length order) finals) (rules : List (Rule ℕ)) (range : AreInRange (length order) rules) (leaves : SidesEndInHoles rules) where
+  pub fresh_keys_there :
+      {levelled weighed : Bool} {product : ℕ → ℕ → ℕ} → ProductLaws levelled weighed product → (scale : Scale) (labels : List (List ℕ)) → length order < 4294967296 → Distinct labels →
+      ArePrintable scale labels (started_rules finals rules) → ((h : GrammarOf) → IsCanonicalOverKeys product scale labels cmp order rules (Fresh finals) h → ⊥) → ⊥
+  fresh_keys_there laws scale labels few apart printable k =
+      keys_there (option_cmp cmp) (options_total total) (behind_same cmp same) (behind_fresh order) (behind_once order once) None 0 (omega (arith, behind_long order)) (started_rules finals rules)
+      (subst (λ n. AreInRange n (started_rules finals rules)) (sym (behind_long order)) (started_range finals (length order) within rules range)) (started_leaves finals rules leaves) laws scale labels
+      (omega (arith, few, behind_long order)) apart printable
+      (λ h c. k h (record { over = c.over; begun = c.begun; canonical = c.canonical; series = c.series }))
+
+-- whatever the start is
+pub begun_keys_there :
+    {levelled weighed : Bool} {product : ℕ → ℕ → ℕ} → ProductLaws levelled weighed product → {K : Type 0} (cmp : K → K → Ordering) → IsTotalOrder cmp → ((x y : K) → cmp x y ≡ Equal → x ≡ y) →
+    (scale : Scale) (labels : List (List ℕ)) (order : List K) (rules : List (Rule ℕ)) (begin : Begin) → length order < 4294967296 → BeginsWithin (length order) begin → Distinct order →
+    AreInRange (length order) rules → SidesEndInHoles rules → Distinct labels → ArePrintable scale labels (begun_rules begin rules) →
+    ((h : GrammarOf) → IsCanonicalOverKeys product scale labels cmp order rules begin h → ⊥) → ⊥
+begun_keys_there laws cmp total same scale labels order rules (At start) few within once range leaves apart printable k =
+    keys_there cmp total same order once (some_key order start within) start within rules range leaves laws scale labels (omega arith) apart printable k
+begun_keys_there laws cmp total same scale labels order rules (Fresh finals) few within once range leaves apart printable k =
+    fresh_keys_there cmp total same order once finals within rules range leaves laws scale labels few apart printable k
+begun_keys_there laws cmp total same scale labels order rules Empty few within once range leaves apart printable k =
+    let one : length without_rules.names ≡ 1 = length-names_of 1 in
+    canonical_there laws scale labels without_rules (omega arith) (omega arith) (λ m h. absurd (omega arith)) (λ m h. absurd (omega arith)) apart (λ m h. absurd (omega arith))
+    (λ h canonical series. k h (record { over = without_rules; begun = refl; canonical = canonical; series = series }))

@@ -3,6 +3,7 @@ use Rattle.tib_cost.specs.declared.Scale.{Scale}
 use Rattle.tib_cost.specs.declared.Scale.TheVariants as scales
 use Rattle.std.proofs.Common.{◌≡◌, ℕ, ◌+◌, ◌<◌, ◌≤◌, List, [], ◌∷◌, length, get_or, refl, ap, sym, ◌∙◌, subst, arith, suc, inl, inr}
 use Rattle.std.proofs.lemmas.List.{length-map, get_or-map}
+use Rattle.std.specs.Option.{option_cmp}
 use Rattle.std.specs.declared.cmp.Ordering.{Ordering}
 use Rattle.tib_lex.specs.Lists.{Has}
 use Rattle.tib_tree.specs.Trees.{Trees, none, tree, only, relabel}
@@ -17,7 +18,9 @@ use Rattle.tib_normal.proofs.Normalizing.{below_or_after}
 use Rattle.tib_inside.specs.Trimmed.{IsTrimmed}
 use Rattle.tib_inside.proofs.Keeping.{as_many, named_at}
 use Rattle.tib_canon.specs.Canonical.{IsCanonical}
-use Rattle.tib_canon.specs.Keys.{IsOverKeys}
+use Rattle.tib_canon.specs.Keys.{IsOverKeys, IsBegun, behind_fresh, started_rules, begun_rules}
+use Rattle.tib_canon.specs.declared.begin.Begin.{Begin}
+use Rattle.tib_canon.specs.declared.begin.Begin.TheVariants.{At, Fresh, Empty}
 use Rattle.tib_lex.proofs.Members.{has_at, at_has, has_either}
 
 -- a rule can be printed if it can with other states
@@ -55,6 +58,13 @@ module _ (scale : Scale) (labels : List (List ℕ)) where
       let long : length g.rules ≡ length rules = sym (length-map g.rules (named_rule f)) ∙ ap length over.named in
       let at : named_rule f (rule_at g.rules m) ≡ rule_at rules m = sym (get_or-map (named_rule f) g.rules m no_rule no_rule h) ∙ ap (λ (rs : List (Rule ℕ)). rule_at rs m) over.named in
       rule_back f (rule_at g.rules m) (subst (IsPrintable scale labels) (sym at) (p m (omega arith)))
+
+  pub begun_printable :
+      {K : Type 0} (cmp : K → K → Ordering) (order : List K) (rules : List (Rule ℕ)) (begin : Begin) (g : GrammarOf) → IsBegun cmp order rules begin g → ArePrintable scale labels (begun_rules begin rules) →
+      ArePrintable scale labels g.rules
+  begun_printable cmp order rules (At start) g over p = over_printable cmp order rules start g over p
+  begun_printable cmp order rules (Fresh finals) g over p = over_printable (option_cmp cmp) (behind_fresh order) (started_rules finals rules) 0 g over p
+  begun_printable cmp order rules Empty g e p = λ m h. absurd (let none : length g.rules ≡ 0 = ap (λ (k : GrammarOf). length k.rules) e in omega (arith, h, none))
 
 -- normal forms
 

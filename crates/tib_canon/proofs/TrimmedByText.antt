@@ -58,7 +58,7 @@ side_commutes p f s =
     ap (λ (x : Symbol ℕ ℕ). record { label = x; kids = relabel (symbol_map p) (trees_with f s.kids) }) (symbol_commutes p f s.label)
     ∙ ap (λ (x : Trees (Symbol ℕ ℕ)). record { label = symbol_with f (symbol_map p s.label); kids = x }) (trees_commute p f s.kids)
 
-rules_commute : (p f : ℕ → ℕ) (rules : List (Rule ℕ)) → map (named_rule p) (rules_with f rules) ≡ rules_with f (map (named_rule p) rules)
+pub rules_commute : (p f : ℕ → ℕ) (rules : List (Rule ℕ)) → map (named_rule p) (rules_with f rules) ≡ rules_with f (map (named_rule p) rules)
 rules_commute p f [] = refl
 rules_commute p f (r ∷ rules) =
     ap (λ (x : Side ℕ ℕ). record { left = p r.left; right = x; cost = r.cost } ∷ map (named_rule p) (rules_with f rules)) (side_commutes p f r.right)

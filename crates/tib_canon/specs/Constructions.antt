@@ -11,7 +11,7 @@ use Rattle.tib_grammar_file.specs.Printed.{grammar_text}
 use Rattle.tib_hunt.specs.Reached.{Operation, IsReachedSet, parts_of}
 use Rattle.tib_canon.specs.Keys.{IsCanonicalOverKeys}
 use Rattle.tib_canon.specs.declared.begin.Begin.{Begin}
-use Rattle.tib_canon.specs.declared.begin.Begin.TheVariants.{At}
+use Rattle.tib_canon.specs.declared.begin.Begin.TheVariants.{At, Fresh}
 
 -- A construction: what it hunts, where edges are rules over keys; a key that stands for each place behind the end of an
 -- order; and what the start over an order is.
@@ -23,6 +23,10 @@ pub record Construction (K O : Type 0) : Type 1 where
 -- the start is the first key of the order
 abbrev pub at_first : {K : Type 0} → List K → Begin → Type 0
 at_first order begin = begin ≡ At 0
+
+-- the start is a fresh one with these finals
+abbrev pub fresh_with : {K : Type 0} → (List K → List (ℕ × ℕ)) → List K → Begin → Type 0
+fresh_with finals order begin = begin ≡ Fresh (finals order)
 
 -- the edges for which rules over the positions of an order stand
 abbrev pub edges_over : {K : Type 0} → K → List K → List (Rule ℕ) → List (Rule K)

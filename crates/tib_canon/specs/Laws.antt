@@ -3,6 +3,7 @@ use Rattle.tib_cost.specs.declared.Scale.{Scale}
 use Rattle.std.specs.Prelude.{◌≡◌, ◌<◌, ◌^◌, ◌↔◌, ℕ, List, Option, length}
 use Rattle.tib_lex.specs.Lists.{Has, Distinct, IsReordering}
 use Rattle.tib_grammar.specs.GrammarOf.{GrammarOf}
+use Rattle.tib_grammar.specs.Forms.{IsDeterministic}
 use Rattle.tib_grammar.specs.Series.{IsSeriesAt, IsSeries, HasSameSeries}
 use Rattle.tib_tree.specs.Trees.{Tree}
 use Rattle.tib_grammar.specs.Range.{AreInRange, SidesEndInHoles}
@@ -15,10 +16,10 @@ use Rattle.tib_grammar_file.specs.ByText.{AgreeByText}
 use Rattle.tib_inside.specs.Inside.{AreInsides}
 use Rattle.tib_inside.specs.Trimmed.{IsTrimmed}
 use Rattle.tib_canon.specs.Canonical.{IsInOrder, IsCanonical}
-use Rattle.tib_canon.specs.Keys.{IsOverKeys, IsCanonicalOverKeys}
+use Rattle.tib_canon.specs.Keys.{BeginsWithin, IsBegun, IsCanonicalOverKeys, begun_rules, started_rules}
 use Rattle.tib_canon.specs.TrimmedForms.{IsTrimmedForm}
 use Rattle.tib_canon.specs.declared.begin.Begin.{Begin}
-use Rattle.tib_canon.specs.declared.begin.Begin.TheVariants.{At}
+use Rattle.tib_canon.specs.declared.begin.Begin.TheVariants.{At, Fresh}
 use Rattle.std.specs.declared.cmp.Ordering.{Ordering}
 
 -- a grammar has at most one form with canonical names in canonical order
@@ -57,6 +58,39 @@ KeysKeepSeries {K} cmp =
     IsCanonicalOverKeys product scale labels cmp order rules (At start) h →
     (t : Tree ℕ) (v : Option ℕ) → IsSeriesAt product rules start t v ↔ IsSeries product h.rules t v
 
+-- a canonical grammar over keys behind a fresh start has the series of the rules with its chain rules
+abbrev pub FreshKeepsSeries : {K : Type 0} → (K → K → Ordering) → Type 0
+FreshKeepsSeries {K} cmp =
+    (product : ℕ → ℕ → ℕ) (scale : Scale) (labels : List (List ℕ)) (order : List K) (rules : List (Rule ℕ)) (finals : List (ℕ × ℕ)) (h : GrammarOf) →
+    IsCanonicalOverKeys product scale labels cmp order rules (Fresh finals) h →
+    (t : Tree ℕ) (v : Option ℕ) → IsSeries product (started_rules finals rules) t v ↔ IsSeries product h.rules t v
+
+-- trimming keeps deterministic form
+abbrev pub TrimmingKeepsDeterministic : Type 0
+TrimmingKeepsDeterministic =
+    (product : ℕ → ℕ → ℕ) (g h : GrammarOf) → IsTrimmed product g h → IsDeterministic g.rules →
+    IsDeterministic h.rules
+
+-- canonical names and canonical order keep deterministic form
+abbrev pub OrderKeepsDeterministic : Type 0
+OrderKeepsDeterministic =
+    (scale : Scale) (labels : List (List ℕ)) (g h : GrammarOf) → IsInOrder scale labels g h →
+    IsDeterministic g.rules → IsDeterministic h.rules
+
+-- the canonical form of a grammar in deterministic form is in deterministic form
+abbrev pub CanonicalKeepsDeterministic : Type 0
+CanonicalKeepsDeterministic =
+    (product : ℕ → ℕ → ℕ) (scale : Scale) (labels : List (List ℕ)) (g h : GrammarOf) →
+    IsCanonical product scale labels g h → IsDeterministic g.rules → IsDeterministic h.rules
+
+-- a canonical grammar over keys behind a fresh start is in deterministic form where the rules with its
+-- chain rules are
+abbrev pub FreshKeepsDeterministic : {K : Type 0} → (K → K → Ordering) → Type 0
+FreshKeepsDeterministic {K} cmp =
+    (product : ℕ → ℕ → ℕ) (scale : Scale) (labels : List (List ℕ)) (order : List K) (rules : List (Rule ℕ)) (finals : List (ℕ × ℕ)) (h : GrammarOf) →
+    IsCanonicalOverKeys product scale labels cmp order rules (Fresh finals) h →
+    IsDeterministic (started_rules finals rules) → IsDeterministic h.rules
+
 -- all trimmed normal forms of a grammar have the same rules, each once
 abbrev pub TrimmedFormsHaveSameRules : Type 0
 TrimmedFormsHaveSameRules =
@@ -93,11 +127,11 @@ CanonicalIsPrintable =
     IsCanonical product scale labels g h → ArePrintable scale labels g.rules →
     ArePrintable scale labels h.rules
 
--- a grammar over keys can be printed where the rules over positions can
+-- a grammar over keys can be printed where the rules over positions with its start can
 abbrev pub OverKeysArePrintable : {K : Type 0} → (K → K → Ordering) → Type 0
 OverKeysArePrintable {K} cmp =
-    (scale : Scale) (labels : List (List ℕ)) (order : List K) (rules : List (Rule ℕ)) (start : ℕ) (g : GrammarOf) →
-    IsOverKeys cmp order rules start g → ArePrintable scale labels rules →
+    (scale : Scale) (labels : List (List ℕ)) (order : List K) (rules : List (Rule ℕ)) (begin : Begin) (g : GrammarOf) →
+    IsBegun cmp order rules begin g → ArePrintable scale labels (begun_rules begin rules) →
     ArePrintable scale labels g.rules
 
 -- the text of a canonical form is the text of this very grammar: its states keep their numbers,
@@ -122,7 +156,7 @@ FormTextsAreRead product =
 abbrev pub OverKeysTextsAreRead : {K : Type 0} → (ℕ → ℕ → ℕ) → (K → K → Ordering) → Type 0
 OverKeysTextsAreRead {K} product cmp =
     (scale : Scale) (labels : List (List ℕ)) (order : List K) (rules : List (Rule ℕ)) (begin : Begin) (h : GrammarOf) →
-    length order < 2 ^ 32 → SidesEndInHoles rules → ArePrintable scale labels rules →
+    length order < 2 ^ 32 → SidesEndInHoles rules → ArePrintable scale labels (begun_rules begin rules) →
     IsCanonicalOverKeys product scale labels cmp order rules begin h →
     GrammarText scale labels (grammar_text scale labels h) h
 
@@ -157,9 +191,9 @@ CanonicalFormsExist product =
 -- have no canonical grammar over these keys
 abbrev pub OverKeysHaveCanonical : {K : Type 0} → (ℕ → ℕ → ℕ) → (K → K → Ordering) → Type 0
 OverKeysHaveCanonical {K} product cmp =
-    (scale : Scale) (labels : List (List ℕ)) (order : List K) (rules : List (Rule ℕ)) (start : ℕ) →
-    length order < 2 ^ 32 → start < length order → Distinct order →
+    (scale : Scale) (labels : List (List ℕ)) (order : List K) (rules : List (Rule ℕ)) (begin : Begin) →
+    length order < 2 ^ 32 → BeginsWithin (length order) begin → Distinct order →
     AreInRange (length order) rules → SidesEndInHoles rules → Distinct labels →
-    ArePrintable scale labels rules →
-    ((h : GrammarOf) → IsCanonicalOverKeys product scale labels cmp order rules (At start) h → ⊥) →
+    ArePrintable scale labels (begun_rules begin rules) →
+    ((h : GrammarOf) → IsCanonicalOverKeys product scale labels cmp order rules begin h → ⊥) →
     ⊥

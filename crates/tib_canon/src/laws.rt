@@ -1,5 +1,5 @@
 // What holds of canonical forms.
-ghost use Rattle.tib_canon.specs.Laws.{OrderIsOne, CanonicalIsOne, FormsHaveOneCanonical, OrderKeepsSeries, KeysKeepSeries, TrimmedFormsHaveSameRules, KeysHaveOneCanonical, FormsArePrintable, TrimmedIsPrintable, CanonicalIsPrintable, OverKeysArePrintable, CanonicalTextsAreRead, FormTextsAreRead, OverKeysTextsAreRead, CanonicalTextIsOne, InsidesAreOneByText, CanonicalFormsExist, OverKeysHaveCanonical};
+ghost use Rattle.tib_canon.specs.Laws.{FreshKeepsSeries, TrimmingKeepsDeterministic, OrderKeepsDeterministic, CanonicalKeepsDeterministic, FreshKeepsDeterministic, OrderIsOne, CanonicalIsOne, FormsHaveOneCanonical, OrderKeepsSeries, KeysKeepSeries, TrimmedFormsHaveSameRules, KeysHaveOneCanonical, FormsArePrintable, TrimmedIsPrintable, CanonicalIsPrintable, OverKeysArePrintable, CanonicalTextsAreRead, FormTextsAreRead, OverKeysTextsAreRead, CanonicalTextIsOne, InsidesAreOneByText, CanonicalFormsExist, OverKeysHaveCanonical};
 
 use tib_cost::Semiring;
 use tib_table::TableKey;
@@ -30,6 +30,31 @@ pub fn keys_keep_the_series<K: TableKey>()
     ensures { KeysKeepSeries K.cmp }
 {}
 
+/// A canonical grammar over keys behind a fresh start has the series of the rules with its chain rules.
+pub fn fresh_start_keeps_the_series<K: TableKey>()
+    ensures { FreshKeepsSeries K.cmp }
+{}
+
+/// Trimming keeps deterministic form.
+pub fn trimming_keeps_deterministic_form()
+    ensures { TrimmingKeepsDeterministic }
+{}
+
+/// Canonical names and canonical order keep deterministic form.
+pub fn order_keeps_deterministic_form()
+    ensures { OrderKeepsDeterministic }
+{}
+
+/// The canonical form of a grammar in deterministic form is in deterministic form.
+pub fn canonical_keeps_deterministic_form()
+    ensures { CanonicalKeepsDeterministic }
+{}
+
+/// A canonical grammar over keys behind a fresh start is in deterministic form where the rules with its chain rules are.
+pub fn fresh_start_keeps_deterministic_form<K: TableKey>()
+    ensures { FreshKeepsDeterministic K.cmp }
+{}
+
 /// All trimmed normal forms of a grammar have the same rules, each once.
 pub fn trimmed_forms_have_the_same_rules()
     ensures { TrimmedFormsHaveSameRules }
@@ -56,7 +81,7 @@ pub fn canonical_is_printable()
     ensures { CanonicalIsPrintable }
 {}
 
-/// A grammar over keys can be printed where the rules over positions can.
+/// A grammar over keys can be printed where the rules over positions with its start can.
 pub fn over_keys_are_printable<K: TableKey>()
     ensures { OverKeysArePrintable K.cmp }
 {}
@@ -95,7 +120,7 @@ pub fn canonical_forms_exist<S: Semiring>()
 {}
 
 /// Nor can it be that rules which can be printed, over the positions of an order of distinct keys, have no canonical grammar
-/// over these keys.
+/// over these keys with a start.
 pub fn canonical_over_keys_exists<S: Semiring, K: TableKey>()
     ensures { OverKeysHaveCanonical S.product K.cmp }
 {}

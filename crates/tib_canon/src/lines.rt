@@ -16,7 +16,7 @@ use tib_tree::Labels;
 
 /// What the rule at a position is ordered by: its left state, its line, and the position itself.
 #[derive(PartialEq, Eq, PartialOrd, Ord, Drop)]
-pub(crate) struct Line<'a> {
+pub struct Line<'a> {
     /// The left state.
     pub left: u32,
     /// The line of the rule, without the line feed.

@@ -17,7 +17,7 @@ fn numbered_name(alloc: Global, number: u32) -> Result<Vec<u8>, AllocError>
 }
 
 /// The names of this number of states: q0, q1, q2 and so on.
-pub(crate) fn numbered_names(alloc: Global, count: u32) -> Result<Names, AllocError>
+pub fn numbered_names(alloc: Global, count: u32) -> Result<Names, AllocError>
     ensures { IfOk result (λ names. names ≡ names_of count) }
 {
     let mut texts = Vec::with_capacity(alloc, count as usize)?;
