@@ -1,6 +1,6 @@
 -- What `seeds` and `expand` answer.
-use Rattle.std.specs.Prelude.{◌≡◌, ◌⊎◌, ◌↔◌, ℕ, ◌+◌, ◌<◌, ◌≤◌, nat_eq, Bool, true, false, List, [], ◌∷◌, ◌++◌, length, map, if◌then◌else◌, refl}
-use Rattle.std.proofs.Common.{zero, suc, arith, ap, sym, ◌∙◌, subst, inl, inr}
+use Rattle.std.specs.Prelude.{◌≡◌, ◌↔◌, ℕ, ◌+◌, ◌<◌, ◌≤◌, Bool, List, [], ◌∷◌, ◌++◌, length, map, refl}
+use Rattle.std.proofs.Common.{arith, ap, sym, ◌∙◌, subst, inl, inr}
 use Rattle.tib_lex.specs.Lists.{Has, Each, Distinct, total}
 use Rattle.tib_lex.proofs.Members.{has_either, has_left, has_right}
 use Rattle.tib_grammar.specs.Sides.{holes, over}
@@ -11,14 +11,14 @@ use Rattle.tib_cost.specs.Semiring.{ProductLaws}
 use Rattle.tib_hunt.specs.EdgeLists.{Lists, AreListed, Exceeds, IsEnd}
 use Rattle.tib_determinize.specs.declared.vector_rule.VectorRule.{VectorRule}
 use Rattle.tib_determinize.specs.declared.listing.Listing.{Listing}
-use Rattle.tib_determinize.specs.Vectors.{VectorOf, Rises, IsWeight, IsStepCost, IsStep, vectors_at}
+use Rattle.tib_determinize.specs.Vectors.{VectorOf, Rises, IsWeight, IsStepCost, IsStep}
 use Rattle.tib_determinize.specs.Determinization.{IsSeed, IsVectorSeed, IsVectorEdge, ends_of, edge_parts}
 use Rattle.tib_determinize.specs.VectorRules.{places_of, read_places}
-use Rattle.tib_determinize.specs.Candidates.{IsCandidate, AreShapes}
+use Rattle.tib_determinize.specs.Candidates.{IsCandidate}
 use Rattle.tib_determinize.specs.Shapes.{shapes_in}
 use Rattle.tib_determinize.specs.Tries.{leaf_try, leaf_tries, tries}
-use Rattle.tib_determinize.specs.Stepped.{Stepped, stepped_parts, IsListing, IsWithinBudget, IsSteppedAt, AreSteps, HasSteps, StepsExceed}
-use Rattle.tib_determinize.specs.ListLemmas.{along_of, distinct_append, nat_eq_cases}
+use Rattle.tib_determinize.specs.Stepped.{Stepped, stepped_parts, IsWithinBudget, AreSteps, HasSteps, StepsExceed}
+use Rattle.tib_determinize.specs.ListLemmas.{along_of, nat_eq_cases}
 use Rattle.tib_determinize.specs.OneStep.{determinization_laws}
 use Rattle.tib_determinize.proofs.Edges.{IsInOrder, is_listed, ends_are, steps_there, parts_are}
 use Rattle.tib_determinize.proofs.EdgesOf.{edge_of, steps_listed, leaf_steps_listed}

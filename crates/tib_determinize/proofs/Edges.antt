@@ -1,21 +1,19 @@
 -- The list of edges that `expand` answers.
-use Rattle.std.specs.Prelude.{◌≡◌, ◌⊎◌, ◌↔◌, ℕ, ◌+◌, ◌<◌, ◌≤◌, ◌^◌, Bool, List, [], ◌∷◌, ◌++◌, length, map, refl, Option, None, Some}
+use Rattle.std.specs.Prelude.{◌≡◌, ◌↔◌, ℕ, ◌+◌, ◌<◌, ◌≤◌, Bool, List, [], ◌∷◌, ◌++◌, length, map, refl}
 use Rattle.std.proofs.Common.{zero, suc, arith, ap, sym, ◌∙◌, subst, get_or, inl, inr, append_assoc, append-nil, length-append}
-use Rattle.tib_lex.specs.Lists.{Has, Each, Distinct, Along, total}
-use Rattle.tib_tree.specs.Trees.{Trees, none, tree, only, size, sizes, relabel}
-use Rattle.tib_grammar.specs.Sides.{hole, label, symbol_map, side_map, over, leaves}
+use Rattle.tib_lex.specs.Lists.{Has, Each, total}
+use Rattle.tib_tree.specs.Trees.{none, tree, only, sizes, relabel}
+use Rattle.tib_grammar.specs.Sides.{hole, symbol_map, over, leaves}
 use Rattle.tib_grammar.specs.declared.Rule.{Rule}
 use Rattle.tib_cost.specs.Semiring.{ProductLaws}
-use Rattle.tib_hunt.specs.EdgeLists.{Lists, AreListed, Exceeds, IsEnd, IsWithin, key_at}
-use Rattle.tib_hunt.specs.Reached.{most_parts}
-use Rattle.tib_hunt.specs.declared.place.Place.{Place}
+use Rattle.tib_hunt.specs.EdgeLists.{Lists, AreListed, IsEnd, IsWithin, key_at}
 use Rattle.tib_hunt.specs.declared.place.Place.TheVariants.{Known, End}
 use Rattle.tib_determinize.specs.declared.vector_rule.VectorRule.{VectorRule}
 use Rattle.tib_determinize.specs.declared.listing.Listing.{Listing}
-use Rattle.tib_determinize.specs.Vectors.{VectorOf, Rises, IsStep, vector_at, vectors_at}
-use Rattle.tib_determinize.specs.Determinization.{LeftsBelow, ends_of, edge_parts}
+use Rattle.tib_determinize.specs.Vectors.{VectorOf, Rises, vector_at, vectors_at}
+use Rattle.tib_determinize.specs.Determinization.{ends_of, edge_parts}
 use Rattle.tib_determinize.specs.VectorRules.{PlacedRule, placed_rule, states_in, places_in, places_of, read_placed, read_places}
-use Rattle.tib_determinize.specs.Stepped.{Stepped, stepped_parts, rules_from, IsListing, IsWithinBudget, HasNoStep, IsSteppedAt, AreSteps, StepsExceed}
+use Rattle.tib_determinize.specs.Stepped.{Stepped, stepped_parts, rules_from, IsListing, IsWithinBudget, AreSteps}
 use Rattle.tib_determinize.proofs.EdgesOf.{edge_of}
 use Rattle.tib_determinize.proofs.Stepping.{step_or_none, lefts_below}
 use Rattle.tib_determinize.specs.ListLemmas.{along_of, along_back}

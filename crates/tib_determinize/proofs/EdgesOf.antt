@@ -1,21 +1,14 @@
 -- The edges that were listed are those of the position.
-use Rattle.std.specs.Prelude.{◌≡◌, ◌⊎◌, ◌↔◌, ℕ, ◌+◌, ◌<◌, ◌≤◌, ◌^◌, Bool, List, [], ◌∷◌, ◌++◌, length, map, slice_index_or, refl, Option, None, Some}
-use Rattle.std.proofs.Common.{zero, suc, arith, ap, sym, ◌∙◌, subst, get_or, inl, inr, append_assoc, append-nil, length-append}
-use Rattle.tib_lex.specs.Lists.{Has, Each, Distinct, Along, total}
-use Rattle.tib_tree.specs.Trees.{Trees, none, tree, size}
-use Rattle.tib_grammar.specs.Sides.{over, leaves}
+use Rattle.std.specs.Prelude.{◌≡◌, ℕ, List, [], ◌∷◌, map, refl}
+use Rattle.std.proofs.Common.{ap, sym, ◌∙◌, subst, inl, inr}
+use Rattle.tib_lex.specs.Lists.{Has, Each, Distinct, Along}
+use Rattle.tib_grammar.specs.Sides.{over}
 use Rattle.tib_grammar.specs.declared.Rule.{Rule}
-use Rattle.tib_cost.specs.Semiring.{ProductLaws}
-use Rattle.tib_hunt.specs.EdgeLists.{Lists, AreListed, Exceeds, IsEnd, IsWithin, key_at}
-use Rattle.tib_hunt.specs.declared.place.Place.{Place}
-use Rattle.tib_determinize.specs.declared.vector_rule.VectorRule.{VectorRule}
-use Rattle.tib_determinize.specs.declared.listing.Listing.{Listing}
-use Rattle.tib_determinize.specs.Vectors.{VectorOf, Rises, IsStepCost, IsStep, vector_at, vectors_at}
-use Rattle.tib_determinize.specs.Determinization.{IsVectorSeed, IsVectorEdge, ends_of, edge_parts}
+use Rattle.tib_hunt.specs.EdgeLists.{Lists}
+use Rattle.tib_determinize.specs.Vectors.{VectorOf, IsStep, vectors_at}
+use Rattle.tib_determinize.specs.Determinization.{IsVectorSeed, IsVectorEdge}
 use Rattle.tib_determinize.specs.Candidates.{IsCandidate, AreCandidates}
-use Rattle.tib_determinize.specs.Stepped.{Stepped, stepped_parts, rules_from, IsListing, HasNoStep, IsSteppedAt, AreSteps}
-use Rattle.tib_determinize.specs.OneStep.{one_step, rule_same}
-use Rattle.tib_determinize.specs.ListLemmas.{along_of, along_back}
+use Rattle.tib_determinize.specs.Stepped.{Stepped, HasNoStep, IsSteppedAt, AreSteps}
 
 -- the edge over keys
 abbrev pub edge_of : List VectorOf → Stepped → Rule VectorOf

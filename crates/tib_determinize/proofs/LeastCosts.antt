@@ -12,7 +12,7 @@ use Rattle.tib_lex.specs.Lists.{Has, Each, Ascends, Along}
 use Rattle.tib_grammar.proofs.Members.{each_has, each_of, has_at, at_has}
 use Rattle.tib_determinize.specs.Vectors.{Rises}
 use Rattle.tib_determinize.specs.Determinization.{pair_cmp}
-use Rattle.tib_determinize.specs.Settling.{firsts, lesser_with, least_from, IsLeastCost, IsOver, AreLeastCosts}
+use Rattle.tib_determinize.specs.Settling.{firsts, lesser_with, least_from, IsLeastCost, AreLeastCosts}
 use Rattle.tib_determinize.specs.ListLemmas.{nat_eq_cases, each_map}
 
 pair_total : IsTotalOrder pair_cmp

@@ -1,22 +1,20 @@
 -- The step of a label over vectors, by the rules that are alive at all places.
-use Rattle.std.specs.Prelude.{◌≡◌, ◌⊎◌, ℕ, ◌+◌, ◌<◌, ◌≤◌, nat_le, Bool, true, false, List, [], ◌∷◌, ◌++◌, length, drop, Option, None, Some, refl, if◌then◌else◌}
-use Rattle.std.proofs.Common.{zero, suc, arith, ap, sym, ◌∙◌, subst, get_or, inl, inr}
-use Rattle.tib_lex.specs.Lists.{Has, Each, Ascends, Along}
-use Rattle.tib_grammar.specs.Sides.{label, holes}
+use Rattle.std.specs.Prelude.{◌≡◌, ℕ, ◌<◌, ◌≤◌, nat_le, Bool, true, false, List, [], ◌∷◌, length, Option, None, Some, refl}
+use Rattle.std.proofs.Common.{suc, arith, ap, sym, ◌∙◌, subst, inl, inr}
+use Rattle.tib_lex.specs.Lists.{Has, Each, Along}
+use Rattle.tib_grammar.specs.Sides.{label}
 use Rattle.tib_grammar.specs.Run.{rule_at}
 use Rattle.tib_grammar.specs.declared.Rule.{Rule}
 use Rattle.tib_normal.specs.Rules.{positions_with}
-use Rattle.tib_cost.specs.Semiring.{most, cut, ProductLaws, IsResidual}
-use Rattle.tib_cost.specs.Least.{IsLeast, times}
+use Rattle.tib_cost.specs.Semiring.{most, cut, ProductLaws}
 use Rattle.tib_lex.proofs.Members.{each_has, each_of}
 use Rattle.tib_determinize.specs.declared.alive.Alive.{Alive}
-use Rattle.tib_determinize.specs.Vectors.{VectorOf, Rises, IsWeight, IsStepCost, IsSomeCost, IsStep, vectors_at}
-use Rattle.tib_determinize.specs.Settling.{IsLeastCost, IsOver, AreLeastCosts, AreResiduals}
+use Rattle.tib_determinize.specs.Vectors.{VectorOf, Rises, IsWeight, IsStepCost, IsStep, vectors_at}
+use Rattle.tib_determinize.specs.Settling.{IsOver, AreResiduals}
 use Rattle.tib_determinize.specs.Alive.{states_of, at_cost, cost_with, with_cost, costs_of, IsAlive, AreAlive}
-use Rattle.tib_determinize.specs.Stepped.{HasNoStep}
 use Rattle.tib_determinize.specs.ListLemmas.{along_of, along_back}
 use Rattle.tib_determinize.specs.VectorLemmas.{one_residual}
-use Rattle.tib_determinize.proofs.Places.{IsRulePlace, place_has}
+use Rattle.tib_determinize.proofs.Places.{place_has}
 use Rattle.tib_grammar.specs.Forms.{AreNormal}
 use Rattle.tib_grammar.proofs.Sides.{length-holes}
 

@@ -1,8 +1,7 @@
 -- The walks for each place at which a position stands last, and for each label and rank.
-use Rattle.std.specs.Prelude.{◌≡◌, ℕ, ◌+◌, ◌-◌, ◌<◌, ◌≤◌, Bool, List, [], ◌∷◌, ◌++◌, length, drop, nat_eq, if◌then◌else◌, refl}
-use Rattle.std.proofs.Common.{zero, suc, arith, ap, sym, ◌∙◌, subst, get_or, inl, inr, append-nil}
+use Rattle.std.specs.Prelude.{◌≡◌, ℕ, ◌+◌, ◌-◌, ◌<◌, ◌≤◌, List, [], ◌∷◌, ◌++◌, length, drop, Option, None, Some, nat_eq, if◌then◌else◌, refl}
+use Rattle.std.proofs.Common.{suc, arith, ap, sym, ◌∙◌, subst, get_or, inl, inr, append-nil}
 use Rattle.tib_lex.specs.Lists.{Has, Each}
-use Rattle.tib_lex.proofs.Members.{each_of}
 use Rattle.tib_grammar.specs.Run.{rule_at}
 use Rattle.tib_grammar.specs.Forms.{AreNormal}
 use Rattle.tib_grammar.specs.declared.Rule.{Rule}
@@ -12,12 +11,11 @@ use Rattle.tib_determinize.specs.declared.alive.Alive.{Alive}
 use Rattle.tib_determinize.specs.declared.listing.Listing.{Listing}
 use Rattle.tib_determinize.specs.Vectors.{VectorOf, IsWeight}
 use Rattle.tib_determinize.specs.Alive.{states_of, begun, IsAlive, AreAlive}
-use Rattle.tib_determinize.specs.Stepped.{Stepped, IsListing, AreSteps, AddsSteps, HasSteps, IsUnderway, StepsOverrun, StepsExceed}
-use Rattle.tib_determinize.specs.Tries.{span, under, by_last, behind_label, leaf_try, leaf_tries, tries}
+use Rattle.tib_determinize.specs.Stepped.{IsListing, AreSteps, AddsSteps, HasSteps, StepsOverrun, StepsExceed}
+use Rattle.tib_determinize.specs.Tries.{under, by_last, behind_label, leaf_try, leaf_tries, tries}
 use Rattle.tib_determinize.proofs.LeastCosts.{drop_at, drop_all}
-use Rattle.tib_determinize.proofs.Places.{IsRulePlace, has_rule_place}
-use Rattle.tib_determinize.proofs.Underway.{listing_empty}
-use Rattle.tib_determinize.proofs.WalkLoop.{labelled_append}
+use Rattle.tib_determinize.proofs.Places.{has_rule_place}
+use Rattle.tib_determinize.proofs.Skipping.{labelled_append}
 
 begun_has : (ms : List ℕ) (m : ℕ) → Has ms m → Has (begun ms) (record { rule = m; weight = 0 })
 begun_has [] m h = absurd h

@@ -1,6 +1,6 @@
 -- The positions of the rules of a label and a rank.
-use Rattle.std.specs.Prelude.{◌≡◌, ℕ, ◌+◌, ◌-◌, ◌<◌, ◌≤◌, Bool, true, false, List, [], ◌∷◌, length, if◌then◌else◌, refl, ◌&&◌, nat_eq}
-use Rattle.std.proofs.Common.{zero, suc, ap, ◌∙◌, arith, get_or, inl, inr, subst}
+use Rattle.std.specs.Prelude.{◌≡◌, ℕ, ◌+◌, ◌-◌, ◌<◌, ◌≤◌, Bool, true, false, List, [], ◌∷◌, length, if◌then◌else◌, refl, nat_eq}
+use Rattle.std.proofs.Common.{zero, suc, arith, get_or, inl, inr, subst}
 use Rattle.std.proofs.lemmas.Bool.Decides.{nat_tests}
 use Rattle.tib_lex.specs.Lists.{Has}
 use Rattle.tib_lex.proofs.Booleans.{and-true}

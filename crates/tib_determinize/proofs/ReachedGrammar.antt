@@ -1,6 +1,6 @@
 -- The reached set as rules over the positions of its order.
-use Rattle.std.specs.Prelude.{◌≡◌, ℕ, ◌+◌, ◌<◌, ◌≤◌, List, [], ◌∷◌, ◌++◌, length, map, IfOk, refl}
-use Rattle.std.proofs.Common.{arith, ap, subst, Result, Ok, Err}
+use Rattle.std.specs.Prelude.{◌≡◌, ℕ, ◌<◌, ◌≤◌, List, [], ◌∷◌, ◌++◌, length, map, IfOk}
+use Rattle.std.proofs.Common.{arith, subst, Result, Ok, Err}
 use Rattle.tib_lex.specs.Lists.{Each, total}
 use Rattle.tib_lex.proofs.Members.{each_has}
 use Rattle.tib_tree.specs.Trees.{Trees, none, tree, only}

@@ -1,12 +1,11 @@
 -- The labels and ranks of rules, each once.
-use Rattle.std.specs.Prelude.{◌≡◌, ◌⊎◌, ℕ, ◌<◌, ◌||◌, Bool, true, false, List, [], ◌∷◌, ◌++◌, length, map, if◌then◌else◌, refl}
-use Rattle.std.proofs.Common.{zero, suc, arith, ap, sym, ◌∙◌, subst, get_or, inl, inr}
+use Rattle.std.specs.Prelude.{◌≡◌, ℕ, ◌<◌, ◌||◌, Bool, true, false, List, [], ◌∷◌, ◌++◌, length, map, if◌then◌else◌, refl}
+use Rattle.std.proofs.Common.{zero, suc, arith, ap, sym, ◌∙◌, subst, inl, inr}
 use Rattle.std.specs.List.{list_any}
 use Rattle.indexmap.specs.IndexSet.{insert_key, insert_all}
 use Rattle.tib_lex.specs.Lists.{Has, Distinct}
-use Rattle.tib_lex.proofs.Members.{has_either, has_left, has_right}
-use Rattle.tib_grammar.specs.Sides.{label, holes}
-use Rattle.tib_grammar.specs.Run.{rule_at, no_rule}
+use Rattle.tib_lex.proofs.Members.{has_left, has_right}
+use Rattle.tib_grammar.specs.Run.{rule_at}
 use Rattle.tib_grammar.specs.Forms.{AreNormal}
 use Rattle.tib_grammar.specs.declared.Rule.{Rule}
 use Rattle.tib_grammar.proofs.Sides.{length-holes}

@@ -1,15 +1,14 @@
 -- The lists that are tried for a position are its candidates.
 use Rattle.std.specs.Prelude.{◌≡◌, ◌⊎◌, ℕ, ◌+◌, ◌<◌, ◌≤◌, nat_eq, nat_lt, Bool, true, false, List, [], ◌∷◌, ◌++◌, length, if◌then◌else◌, refl}
-use Rattle.std.proofs.Common.{zero, suc, arith, ap, sym, ◌∙◌, subst, inl, inr, append_assoc, append-nil, length-append}
-use Rattle.tib_lex.specs.Lists.{Has, Each, Distinct}
+use Rattle.std.proofs.Common.{zero, suc, arith, ap, sym, ◌∙◌, subst, inl, inr, append_assoc, length-append}
+use Rattle.tib_lex.specs.Lists.{Has, Each}
 use Rattle.tib_lex.proofs.Members.{has_either, has_left, has_right}
-use Rattle.tib_determinize.specs.Tries.{first_at, many_at, span, under, by_last, behind_label, tries}
-use Rattle.tib_determinize.specs.Candidates.{IsCandidate}
-use Rattle.tib_determinize.specs.ListLemmas.{each_append, distinct_append}
-use Rattle.tib_determinize.proofs.Walked.{span_has, labelled_has}
+use Rattle.tib_determinize.specs.Tries.{first_at, many_at, span, under}
+use Rattle.tib_determinize.specs.ListLemmas.{each_append}
+use Rattle.tib_determinize.proofs.Walked.{span_has}
 
 -- p may stand at the place i, where n stands last at j
-abbrev IsAllowed : ℕ → ℕ → ℕ → ℕ → Type 0
+abbrev pub IsAllowed : ℕ → ℕ → ℕ → ℕ → Type 0
 IsAllowed n j i p = (first_at n j i ≤ p) × (p < first_at n j i + many_at n j i)
 
 -- the positions at i places, from the last on
@@ -20,7 +19,7 @@ AreAllowed n j (suc i) front = (before : List ℕ) × (p : ℕ) × (front ≡ be
 first_or_later : (p q : ℕ) → p ≤ q → (p ≡ q) ⊎ (suc p ≤ q)
 first_or_later p q l = grind arith
 
-where_is : (j i : ℕ) → j < suc i → (j ≡ i) ⊎ (j < i)
+pub where_is : (j i : ℕ) → j < suc i → (j ≡ i) ⊎ (j < i)
 where_is j i l = grind arith
 
 head_same : (x y : ℕ) (xs ys : List ℕ) → ◌≡◌ {A = List ℕ} (x ∷ xs) (y ∷ ys) → x ≡ y
@@ -59,7 +58,7 @@ allowed_long n j zero front e = ap length e
 allowed_long n j (suc i) front (before, p, e, allowed, rest) = (let r = allowed_long n j i before rest in let l = length-append before (p ∷ []) in let m = ap length e in omega (arith, r, l, m))
 
 -- what is allowed at a place
-at_last : (n j p : ℕ) → IsAllowed n j j p → p ≡ n
+pub at_last : (n j p : ℕ) → IsAllowed n j j p → p ≡ n
 at_last n j p h = by (nat_eq j j) (same j) h.0 h.1
   where
     same : (m : ℕ) → nat_eq m m ≡ true

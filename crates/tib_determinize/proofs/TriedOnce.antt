@@ -1,18 +1,17 @@
 -- The lists that are tried for a position, each once.
-use Rattle.std.specs.Prelude.{◌≡◌, ◌⊎◌, ℕ, ◌+◌, ◌<◌, ◌≤◌, Bool, List, [], ◌∷◌, ◌++◌, length, map, refl}
-use Rattle.std.proofs.Common.{zero, suc, arith, ap, sym, ◌∙◌, subst, inl, inr, append_assoc, append-nil}
-use Rattle.tib_lex.specs.Lists.{Has, Each, Distinct}
+use Rattle.std.specs.Prelude.{◌≡◌, ℕ, ◌+◌, ◌<◌, ◌≤◌, List, [], ◌∷◌, ◌++◌, length, refl}
+use Rattle.std.proofs.Common.{zero, suc, arith, ap, sym, ◌∙◌, subst, inl, inr, append-nil}
+use Rattle.tib_lex.specs.Lists.{Has, Distinct}
 use Rattle.tib_lex.proofs.Members.{has_either, has_left, has_right, each_of}
-use Rattle.tib_grammar.specs.Sides.{label, holes}
+use Rattle.tib_grammar.specs.Sides.{holes}
 use Rattle.tib_grammar.specs.Run.{rule_at}
 use Rattle.tib_grammar.specs.declared.Rule.{Rule}
-use Rattle.tib_cost.specs.Semiring.{most}
-use Rattle.tib_determinize.specs.Vectors.{VectorOf, IsWeight, IsStepCost, IsSomeCost, vectors_at}
+use Rattle.tib_determinize.specs.Vectors.{VectorOf, IsWeight, IsStepCost, vectors_at}
 use Rattle.tib_determinize.specs.Tries.{first_at, many_at, span, under, by_last, behind_label, tries}
 use Rattle.tib_determinize.specs.Candidates.{IsCandidate, AreCandidates, AreShapes}
 use Rattle.tib_determinize.specs.ListLemmas.{distinct_append}
 use Rattle.tib_determinize.proofs.Walked.{span_has, labelled_has}
-use Rattle.tib_determinize.proofs.Tried.{under_is, is_under, span_at, AreAllowed, allowed_long, allowed_up_to, allowed_stands, one_last, some_last, last_same}
+use Rattle.tib_determinize.proofs.Tried.{under_is, is_under, span_at, AreAllowed, allowed_long, allowed_up_to, allowed_stands, one_last, some_last}
 
 labelled_to : (f : ℕ) (pss : List (List ℕ)) (ps : List ℕ) → Has pss ps → Has {A = ℕ × List ℕ} (behind_label f pss) (f, ps)
 labelled_to f [] ps h = absurd h

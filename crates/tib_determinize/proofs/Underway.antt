@@ -1,12 +1,12 @@
 -- Edges that are listed one after another.
-use Rattle.std.specs.Prelude.{◌≡◌, ◌⊎◌, ℕ, ◌+◌, ◌<◌, ◌≤◌, List, [], ◌∷◌, ◌++◌, length, map, refl}
-use Rattle.std.proofs.Common.{zero, suc, arith, ap, sym, ◌∙◌, subst, inl, inr, append_assoc, append-nil, length-append}
+use Rattle.std.specs.Prelude.{◌≡◌, ℕ, ◌+◌, ◌<◌, List, [], ◌∷◌, ◌++◌, length, map, refl}
+use Rattle.std.proofs.Common.{suc, arith, ap, sym, ◌∙◌, subst, inl, inr, append_assoc, append-nil}
 use Rattle.tib_lex.specs.Lists.{Has, total}
 use Rattle.tib_grammar.specs.declared.Rule.{Rule}
-use Rattle.tib_determinize.specs.VectorRules.{PlacedRule, placed_rule}
+use Rattle.tib_determinize.specs.VectorRules.{placed_rule}
 use Rattle.tib_determinize.specs.declared.listing.Listing.{Listing}
 use Rattle.tib_determinize.specs.Vectors.{VectorOf, IsStep, vectors_at}
-use Rattle.tib_determinize.specs.Stepped.{Stepped, stepped_parts, rules_from, IsListing, IsAdded, HasNoStep, IsSteppedAt, AreSteps, IsUnderway, AddsSteps, StepsOverrun}
+use Rattle.tib_determinize.specs.Stepped.{Stepped, stepped_parts, rules_from, IsListing, IsAdded, HasNoStep, AreSteps, IsUnderway, AddsSteps, StepsOverrun}
 
 map_append : {A B : Type 0} (g : A → B) (xs ys : List A) → map g (xs ++ ys) ≡ map g xs ++ map g ys
 map_append g [] ys = refl

@@ -1,7 +1,7 @@
 -- One visit of a walk.
-use Rattle.std.specs.Prelude.{◌≡◌, ℕ, ◌+◌, ◌-◌, ◌^◌, ◌<◌, ◌≤◌, Bool, List, [], ◌∷◌, ◌++◌, length, refl}
-use Rattle.std.proofs.Common.{zero, suc, arith, ap, sym, ◌∙◌, subst, append-nil}
-use Rattle.tib_lex.specs.Lists.{Has, Each}
+use Rattle.std.specs.Prelude.{◌≡◌, ℕ, ◌+◌, ◌-◌, ◌^◌, ◌<◌, ◌≤◌, nat_eq, nat_lt, Bool, true, false, if◌then◌else◌, List, [], ◌∷◌, length, refl}
+use Rattle.std.proofs.Common.{suc, arith, ap, sym, ◌∙◌, subst, append-nil}
+use Rattle.tib_lex.specs.Lists.{Each}
 use Rattle.tib_lex.proofs.Members.{each_has}
 use Rattle.tib_grammar.proofs.Members.{has_at}
 use Rattle.tib_grammar.specs.Forms.{AreNormal}
@@ -11,19 +11,31 @@ use Rattle.tib_determinize.specs.declared.alive.Alive.{Alive}
 use Rattle.tib_determinize.specs.declared.walk.Level.{Level}
 use Rattle.tib_determinize.specs.declared.listing.Listing.{Listing}
 use Rattle.tib_determinize.specs.Vectors.{VectorOf, Rises, vector_at}
-use Rattle.tib_determinize.specs.Alive.{narrowed, HasPlace, AreAlive}
+use Rattle.tib_determinize.specs.Alive.{narrowed, HasPlace, AreLeft}
 use Rattle.tib_determinize.specs.Tries.{first_at, many_at, span, under, behind_label}
-use Rattle.tib_determinize.specs.Levels.{IsLevel, tries_of}
-use Rattle.tib_determinize.specs.Stepped.{IsListing, AreSteps, IsUnderway, AddsSteps, StepsOverrun}
-use Rattle.tib_determinize.proofs.Walked.{narrowed_are, have_place, under_none}
+use Rattle.tib_determinize.specs.Levels.{IsLevel, IsWanted, tries_of}
+use Rattle.tib_determinize.specs.Stepped.{IsListing, AreSteps, AddsSteps}
+use Rattle.tib_determinize.proofs.Remaining.{under_none}
+use Rattle.tib_determinize.proofs.Walked.{narrowed_left, have_place}
+
+-- at its last place n stands alone
+pub only_one : (n j i next end : ℕ) → next ≡ first_at n j i → end ≡ first_at n j i + many_at n j i → i ≡ j → (n ≤ next) × (end ≤ suc n)
+only_one n j i next end a b e = by (nat_eq i j) (same i j e) a b
+  where
+    same : (i j : ℕ) → i ≡ j → nat_eq i j ≡ true
+    same i j e = grind arith
+
+    by : (t : Bool) → t ≡ true → next ≡ (if t then n else 0) → end ≡ (if t then n else 0) + (if t then 1 else (if nat_lt j i then n else suc n)) → (n ≤ next) × (end ≤ suc n)
+    by true x a b = (omega (arith, a), omega (arith, b))
+    by false x a b = absurd (cc)
 
 -- what adds no edges
 pub adds_nothing : (product : ℕ → ℕ → ℕ) (rules : List (Rule ℕ)) (order : List VectorOf) (all : List (ℕ × List ℕ)) (old : Listing) → AreSteps product rules order all [] → AddsSteps product rules order all old old
 adds_nothing product rules order all old none es l = ([], subst (IsListing old) (sym (append-nil es)) l, λ rest e. subst (AreSteps product rules order all) (sym e) none)
 
 module _
-    (product : ℕ → ℕ → ℕ) {levelled weighted : Bool} (laws : ProductLaws levelled weighted product) (rules : List (Rule ℕ)) (normal : AreNormal rules) (order : List VectorOf) (f k : ℕ)
-    (rise : Each (λ v. Rises v) order) (l : Level) (level : IsLevel product rules order f k l) where
+    (product : ℕ → ℕ → ℕ) {levelled weighted : Bool} (laws : ProductLaws levelled weighted product) (rules : List (Rule ℕ)) (normal : AreNormal rules) (order : List VectorOf) (f k n j : ℕ)
+    (rise : Each (λ v. Rises v) order) (l : Level) (level : IsLevel product rules order f k n j l) where
   pub low : l.place < k
   low = let p = level.place in omega (arith, p)
 
@@ -40,28 +52,34 @@ module _
 
     -- the rules that are alive at the next position
     pub alive_next : (v : VectorOf) (alive : List Alive) → v ≡ vector_at order l.next → alive ≡ narrowed product rules l.place v l.alive.items →
-        AreAlive product rules order f k l.place (l.next ∷ l.behind.items) alive
+        AreLeft product rules order f k j (vector_at order n) l.place (l.next ∷ l.behind.items) alive
     alive_next v alive at e =
-        subst (AreAlive product rules order f k l.place (l.next ∷ l.behind.items)) (sym (e ∙ ap (λ (w : VectorOf). narrowed product rules l.place w l.alive.items) at))
-        (narrowed_are product laws rules normal order f k l.place l.next l.behind.items low (each_has (λ v. Rises v) order (vector_at order l.next) rise (has_at order l.next [] in_order)) l.alive.items level.alive)
+        subst (AreLeft product rules order f k j (vector_at order n) l.place (l.next ∷ l.behind.items)) (sym (e ∙ ap (λ (w : VectorOf). narrowed product rules l.place w l.alive.items) at))
+        (narrowed_left product laws rules normal order f k l.place l.next l.behind.items low (each_has (λ v. Rises v) order (vector_at order l.next) rise (has_at order l.next [] in_order))
+        j (vector_at order n) (λ s. ap (vector_at order) (the_only s)) l.alive.items level.alive)
+      where
+        the_only : l.place ≡ j → l.next ≡ n
+        the_only s = let r = level.last s in let from = r.0 in let to = r.1 in omega (arith, from, to, next)
 
     pub long : l.place + length (l.next ∷ l.behind.items) ≡ k
     long = let p = level.place in omega (arith, p)
 
     -- where none is, there is no edge
-    pub nothing_next : (n j : ℕ) (alive : List Alive) → AreAlive product rules order f k l.place (l.next ∷ l.behind.items) alive → alive ≡ [] →
+    pub nothing_next : (alive : List Alive) → AreLeft product rules order f k j (vector_at order n) l.place (l.next ∷ l.behind.items) alive → alive ≡ [] →
         AreSteps product rules order (behind_label f (under n j l.place (l.next ∷ l.behind.items))) []
-    nothing_next n j alive h e = under_none product laws rules normal order f k n j l.place (l.next ∷ l.behind.items) long (subst (AreAlive product rules order f k l.place (l.next ∷ l.behind.items)) e h)
+    nothing_next alive h e = under_none product laws rules normal order f k n j l.place (l.next ∷ l.behind.items) long (subst (AreLeft product rules order f k j (vector_at order n) l.place (l.next ∷ l.behind.items)) e h)
 
   -- the level of the place before
   pub level_below :
-      (n j i : ℕ) (b : Level) (ps : List ℕ) (alive : List Alive) → suc i ≡ l.place → AreAlive product rules order f k l.place ps alive → l.place + length ps ≡ k → b.place ≡ i → b.behind.items ≡ ps →
-      b.alive.items ≡ alive → b.end ≤ length order → b.end ≤ 2 ^ 32 → IsLevel product rules order f k b
-  level_below n j i b ps alive at h total place behind is within fits = record {
+      (i : ℕ) (b : Level) (ps : List ℕ) (alive : List Alive) → suc i ≡ l.place → AreLeft product rules order f k j (vector_at order n) l.place ps alive → l.place + length ps ≡ k → b.place ≡ i →
+      b.behind.items ≡ ps → b.alive.items ≡ alive → b.next ≡ first_at n j i → b.end ≡ first_at n j i + many_at n j i → IsWanted rules order b → b.end ≤ length order → b.end ≤ 2 ^ 32 → IsLevel product rules order f k n j b
+  level_below i b ps alive at h total place behind is next end wanted within fits = record {
     place = ap (λ m. suc m + length b.behind.items) place ∙ ap (λ (xs : List ℕ). suc i + length xs) behind ∙ ap (λ m. m + length ps) at ∙ total;
-    alive = subst (λ m. AreAlive product rules order f k (suc m) b.behind.items b.alive.items) (sym place)
-        (subst (λ (xs : List ℕ). AreAlive product rules order f k (suc i) xs b.alive.items) (sym behind)
-        (subst (λ (ms : List Alive). AreAlive product rules order f k (suc i) ps ms) (sym is) (subst (λ m. AreAlive product rules order f k m ps alive) (sym at) h)));
+    alive = subst (λ m. AreLeft product rules order f k j (vector_at order n) (suc m) b.behind.items b.alive.items) (sym place)
+        (subst (λ (xs : List ℕ). AreLeft product rules order f k j (vector_at order n) (suc i) xs b.alive.items) (sym behind)
+        (subst (λ (ms : List Alive). AreLeft product rules order f k j (vector_at order n) (suc i) ps ms) (sym is) (subst (λ m. AreLeft product rules order f k j (vector_at order n) m ps alive) (sym at) h)));
+    last = λ e. only_one n j i b.next b.end next end (sym place ∙ e);
+    wanted = wanted;
     within = within;
     fits = fits;
   }

@@ -1,28 +1,24 @@
 -- The steps of a walk over child places.
-use Rattle.std.specs.Prelude.{◌≡◌, ◌⊎◌, ℕ, ◌+◌, ◌-◌, ◌<◌, ◌≤◌, nat_eq, Bool, List, [], ◌∷◌, ◌++◌, length, drop, map, Option, None, Some, refl}
+use Rattle.std.specs.Prelude.{◌≡◌, ◌⊎◌, ℕ, ◌+◌, ◌<◌, ◌≤◌, Bool, List, [], ◌∷◌, ◌++◌, length, drop, Option, None, Some, refl}
 use Rattle.std.proofs.Common.{zero, suc, arith, ap, sym, ◌∙◌, subst, get_or, inl, inr, append_assoc, length-append}
 use Rattle.tib_lex.specs.Lists.{Has, Each}
-use Rattle.tib_lex.proofs.Members.{each_has, has_either}
-use Rattle.tib_grammar.specs.Sides.{label, holes}
+use Rattle.tib_lex.proofs.Members.{has_either}
 use Rattle.tib_grammar.specs.Run.{rule_at}
 use Rattle.tib_grammar.specs.Forms.{AreNormal}
 use Rattle.tib_grammar.specs.declared.Rule.{Rule}
 use Rattle.tib_grammar.proofs.Sides.{length-holes}
-use Rattle.tib_normal.specs.Rules.{positions_with}
 use Rattle.tib_cost.specs.Semiring.{most, cut, ProductLaws}
 use Rattle.tib_cost.specs.Least.{times}
 use Rattle.tib_determinize.specs.declared.alive.Alive.{Alive}
-use Rattle.tib_determinize.specs.Vectors.{VectorOf, Rises, IsWeight, IsStepCost, vector_at, vectors_at}
+use Rattle.tib_determinize.specs.Vectors.{VectorOf, Rises, IsWeight, vector_at, vectors_at}
 use Rattle.tib_determinize.specs.Lookup.{residual_in}
-use Rattle.tib_determinize.specs.Alive.{states_of, with_alive, weight_with, narrowed, HasPlace, IsAlive, AreAlive}
+use Rattle.tib_determinize.specs.Alive.{states_of, with_alive, weight_with, narrowed, HasPlace, Stands, IsAlive, AreLeft}
 use Rattle.tib_determinize.specs.Tries.{first_at, many_at, span, under, behind_label}
-use Rattle.tib_determinize.specs.Stepped.{Stepped, HasNoStep, AreSteps}
 use Rattle.tib_determinize.specs.ListLemmas.{nat_eq_cases}
 use Rattle.tib_determinize.specs.VectorLemmas.{one_residual}
 use Rattle.tib_determinize.proofs.LeastCosts.{drop_at}
-use Rattle.tib_determinize.proofs.Places.{IsRulePlace, has_rule_place}
-use Rattle.tib_determinize.proofs.Leaves.{cut_is, cut_within, rule_listed, part_within, weights_long}
-use Rattle.tib_determinize.proofs.Underway.{steps_none}
+use Rattle.tib_determinize.proofs.Places.{has_rule_place}
+use Rattle.tib_determinize.proofs.Leaves.{cut_is, cut_within, part_within}
 
 some_same : {A : Type 0} (a b : A) → Some a ≡ Some b → a ≡ b
 some_same a b e = cc
@@ -35,7 +31,7 @@ residual_has (x ∷ v) q r e = elim (nat_eq_cases x.0 q) [
   | inr k ↦ inr (residual_has v q r (rw k.1 at e))
 ]
 
-some_residual : (v : VectorOf) (q r : ℕ) → Has {A = ℕ × ℕ} v (q, r) → (s : ℕ) × (residual_in q v ≡ Some s)
+pub some_residual : (v : VectorOf) (q r : ℕ) → Has {A = ℕ × ℕ} v (q, r) → (s : ℕ) × (residual_in q v ≡ Some s)
 some_residual [] q r h = absurd h
 some_residual (x ∷ v) q r h = elim (nat_eq_cases x.0 q) [
   | inl k ↦ (x.1, rw k.1 refl)
@@ -50,6 +46,9 @@ pub has_residual : (v : VectorOf) (q r : ℕ) → Rises v → Has {A = ℕ × �
 has_residual v q r rises h =
     let s = some_residual v q r h in
     s.1 ∙ ap Some (one_residual v q s.0 r rises (residual_has v q s.0 s.1) h)
+
+here_or_before : (j i : ℕ) → j < suc i → (j ≡ i) ⊎ (j < i)
+here_or_before j i h = grind arith
 
 -- what is listed for some positions is listed for one of them
 pub span_has : {A : Type 0} (g : ℕ → List A) (p c : ℕ) (x : A) → Has (span g p c) x → (q : ℕ) × (p ≤ q) × (q < p + c) × Has (g q) x
@@ -137,58 +136,41 @@ module _ (product : ℕ → ℕ → ℕ) {levelled weighted : Bool} (laws : Prod
         other None r = r
         other (Some x) r = inr r
 
-    -- the rules that are alive still
-    pub narrowed_are : (alive : List Alive) → AreAlive product rules order f k (suc i) ps alive → AreAlive product rules order f k i (p ∷ ps) (narrowed product rules i (vector_at order p) alive)
-    narrowed_are alive h = record {
+    -- the rules that are left, where the vector at p is that of the place j if i is that place
+    pub narrowed_left :
+        (j : ℕ) (v : VectorOf) → (i ≡ j → vector_at order p ≡ v) → (alive : List Alive) → AreLeft product rules order f k j v (suc i) ps alive →
+        AreLeft product rules order f k j v i (p ∷ ps) (narrowed product rules i (vector_at order p) alive)
+    narrowed_left j v at_j alive h = record {
       sound = sound_still alive h.sound;
-      whole = λ m w has weight low_weight.
+      whole = λ m w has weight low_weight stands.
           let at = has_rule_place rules f k m has in
           let place : i < length (states_of rules m) = (let e = length-holes (rule_at rules m).right.kids (normal m at.below).are_holes in let r = at.many in omega (arith, low, e, r)) in
           let first = subst (λ (qs : List ℕ). IsWeight product qs (vectors_at order (p ∷ ps)) w) (drop_at (states_of rules m) i 0 place) weight in
           still_has alive (record { rule = m; weight = first.others }) w
-          (h.whole m first.others has first.are (part_within product laws rules normal order f k first.residual first.others w first.is low_weight))
+          (h.whole m first.others has first.are (part_within product laws rules normal order f k first.residual first.others w first.is low_weight) (λ before. here m first.residual first.stands stands before))
           (ap (λ o. times product o (Some first.others)) (has_residual (vector_at order p) (get_or (states_of rules m) i 0) first.residual rises first.stands)
           ∙ ap cut first.is ∙ cut_within w low_weight);
     }
+      where
+        here : (m r : ℕ) → Has {A = ℕ × ℕ} (vector_at order p) (get_or (states_of rules m) i 0, r) → (j < i → Stands rules j v m) → j < suc i → Stands rules j v m
+        here m r has stands before = elim (here_or_before j i before) [
+          | inl e ↦ (
+            r,
+            subst (λ (u : VectorOf). Has {A = ℕ × ℕ} u (get_or (states_of rules m) j 0, r)) (at_j (sym e))
+                (subst (λ (q : ℕ). Has {A = ℕ × ℕ} (vector_at order p) (get_or (states_of rules m) q 0, r)) (sym e) has),
+          )
+          | inr l ↦ stands l
+        ]
 
   -- each rule that is alive has a state at the place before
   pub have_place : (i : ℕ) (ps : List ℕ) (alive : List Alive) → i < k → Each (IsAlive product rules order f k (suc i) ps) alive → Each (HasPlace rules i) alive
   have_place i ps [] low h = tt
   have_place i ps (a ∷ alive) low h = ((h.0.below, (let r = h.0.rank in omega (arith, low, r))), have_place i ps alive low h.1)
 
-  weight_behind :
+  -- the states behind some positions have a weight
+  pub weight_behind :
       (front ps : List ℕ) (qs : List ℕ) (w : ℕ) → IsWeight product qs (vectors_at order (front ++ ps)) w → w ≤ most →
       (v : ℕ) × IsWeight product (drop (length front) qs) (vectors_at order ps) v × (v ≤ most)
   weight_behind [] ps qs w h low = (w, h, low)
   weight_behind (p ∷ front) ps [] w h low = absurd h
   weight_behind (p ∷ front) ps (q ∷ qs) w h low = weight_behind front ps qs h.others h.are (part_within product laws rules normal order f k h.residual h.others w h.is low)
-
-  -- where no rule is alive, no list that ends in the positions has a step
-  pub none_alive :
-      (i : ℕ) (ps front : List ℕ) → length front ≡ i → i + length ps ≡ k → AreAlive product rules order f k i ps [] → HasNoStep product rules order (f, front ++ ps)
-  none_alive i ps front long total h = λ q u is low.
-      let within = part_within product laws rules normal order f k (rule_at rules is.rule).cost is.weight u is.costs low in
-      let behind = weight_behind front ps (states_of rules is.rule) is.weight is.is_weight within in
-      let all : length (states_of rules is.rule) ≡ k =
-      weights_long product laws rules f (vectors_at order (front ++ ps)) (states_of rules is.rule) (vectors_at order (front ++ ps)) is.weight is.is_weight
-      ∙ mapped (front ++ ps) ∙ length-append front ps ∙ ap (λ n. n + length ps) long ∙ total
-      in
-      h.whole is.rule behind.0 (rule_listed product laws rules normal order f k is.rule is.below is.root all)
-      (subst (λ n. IsWeight product (drop n (states_of rules is.rule)) (vectors_at order ps) behind.0) long behind.1) behind.2
-    where
-      mapped : (xs : List ℕ) → length (vectors_at order xs) ≡ length xs
-      mapped [] = refl
-      mapped (x ∷ xs) = ap suc (mapped xs)
-
-  -- so they add no edges
-  pub under_none :
-      (n j i : ℕ) (ps : List ℕ) → i + length ps ≡ k → AreAlive product rules order f k i ps [] → AreSteps product rules order (behind_label f (under n j i ps)) []
-  under_none n j i ps total h =
-      steps_none product rules order (behind_label f (under n j i ps))
-      (λ o has.
-      let b = labelled_has f (under n j i ps) o has in
-      let e = under_ends n j i ps o.1 b.1 in
-      subst (HasNoStep product rules order) (same o f (e.0 ++ ps) b.0 e.1) (none_alive i ps e.0 e.2 total h))
-    where
-      same : (o : ℕ × List ℕ) (g : ℕ) (qs : List ℕ) → o.0 ≡ g → o.1 ≡ qs → ◌≡◌ {A = ℕ × List ℕ} (g, qs) o
-      same o g qs a b = sym (ap (λ x. (x, o.1)) a ∙ ap (λ (y : List ℕ). (g, y)) b)

@@ -9,7 +9,7 @@ use Rattle.tib_normal.specs.Rules.{positions_with}
 use Rattle.tib_cost.specs.Semiring.{most, cut}
 use Rattle.tib_cost.specs.Least.{times}
 use Rattle.tib_determinize.specs.declared.alive.Alive.{Alive}
-use Rattle.tib_determinize.specs.Vectors.{VectorOf, IsWeight, vectors_at}
+use Rattle.tib_determinize.specs.Vectors.{VectorOf, IsWeight, vector_at, vectors_at}
 use Rattle.tib_determinize.specs.Lookup.{residual_in}
 
 -- the states below the root of the rule at a position
@@ -51,6 +51,23 @@ abbrev pub begun : List ℕ → List Alive
 begun [] = []
 begun (m ∷ ms) = record { rule = m; weight = 0 } ∷ begun ms
 
+-- the rule at the position has a state at the place
+abbrev pub HasState : List (Rule ℕ) → ℕ → ℕ → Type 0
+HasState rules i m = (m < length rules) × (i < length (states_of rules m))
+
+-- the state of the rule at the place stands in the vector
+abbrev pub Stands : List (Rule ℕ) → ℕ → List (ℕ × ℕ) → ℕ → Type 0
+Stands rules i v m = (r : ℕ) × Has {A = ℕ × ℕ} v (get_or (states_of rules m) i 0, r)
+
+-- the positions, of those that may stand at the place i where n stands last at j, at which one of the rules has its state
+abbrev pub HasWanted : List (Rule ℕ) → List VectorOf → ℕ → ℕ → ℕ → List Alive → List ℕ → Type 0
+HasWanted rules order n j i alive wanted =
+    (p r : ℕ) (a : Alive) → p ≤ n → (i ≡ j → p ≡ n) → Has alive a → Has {A = ℕ × ℕ} (vector_at order p) (get_or (states_of rules a.rule) i 0, r) → Has wanted p
+
+-- each of the positions is at most those behind it
+abbrev pub AreAscending : List ℕ → Type 0
+AreAscending ps = (i m : ℕ) → i < m → m < length ps → get_or ps i 0 ≤ get_or ps m 0
+
 -- the rule has a state at the place
 abbrev pub HasPlace : List (Rule ℕ) → ℕ → Alive → Type 0
 HasPlace rules i a = (a.rule < length rules) × (i < length (states_of rules a.rule))
@@ -69,3 +86,11 @@ module _ (product : ℕ → ℕ → ℕ) (rules : List (Rule ℕ)) (order : List
     pub whole :
         (m w : ℕ) → Has (positions_with f k rules) m → IsWeight product (drop from (states_of rules m)) (vectors_at order ps) w → w ≤ most →
         Has alive (record { rule = m; weight = w })
+
+  -- The same of a walk whose lists have a vector at the place j: as long as j is to come, all those whose state there stands in the
+  -- vector.
+  pub record AreLeft (j : ℕ) (vector : VectorOf) (from : ℕ) (ps : List ℕ) (alive : List Alive) : Type 0 where
+    pub sound : Each (IsAlive from ps) alive
+    pub whole :
+        (m w : ℕ) → Has (positions_with f k rules) m → IsWeight product (drop from (states_of rules m)) (vectors_at order ps) w → w ≤ most →
+        (j < from → Stands rules j vector m) → Has alive (record { rule = m; weight = w })

@@ -1,7 +1,7 @@
 -- What determinization owes of all its vectors, edges and rules.
-use Rattle.std.specs.Prelude.{◌≡◌, ℕ, ◌+◌, ◌<◌, List, [], ◌∷◌, ◌++◌, map, length, refl}
-use Rattle.std.proofs.Common.{ap, ◌∙◌, inl, inr}
-use Rattle.tib_lex.specs.Lists.{Has, Each}
+use Rattle.std.specs.Prelude.{◌≡◌, ℕ, List, [], ◌∷◌, ◌++◌, map, length, refl}
+use Rattle.std.proofs.Common.{ap, ◌∙◌}
+use Rattle.tib_lex.specs.Lists.{Each}
 use Rattle.tib_tree.specs.Trees.{Trees, none, tree, relabel}
 use Rattle.tib_grammar.specs.Sides.{Symbol, label, hole, side_map, symbol_map, over}
 use Rattle.tib_grammar.specs.GrammarOf.{named_rule}
@@ -10,9 +10,8 @@ use Rattle.tib_hunt.specs.Lawful.{IsLawful}
 use Rattle.tib_hunt.specs.declared.place.Place.{Place}
 use Rattle.tib_hunt.specs.declared.place.Place.TheVariants.{Known, End}
 use Rattle.tib_determinize.specs.declared.vector_rule.VectorRule.{VectorRule}
-use Rattle.tib_determinize.specs.Vectors.{VectorOf}
 use Rattle.tib_determinize.specs.Determinization.{vector_cmp, determinization, IsVector, KeepsItsLaws, LeftsBelow}
-use Rattle.tib_determinize.specs.VectorRules.{states_in, placed_rule, places_of, read_places, positions_of, vector_reading}
+use Rattle.tib_determinize.specs.VectorRules.{states_in, places_of, read_places, positions_of, vector_reading}
 use Rattle.tib_determinize.specs.OneStep.{keeps_its_laws}
 
 -- functions that agree along a list have the same map

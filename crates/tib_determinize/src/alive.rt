@@ -1,14 +1,19 @@
 //! The rules that are alive on a walk over child places, with the products of their residuals.
 
-ghost use Rattle.std.specs.Prelude.{◌≡◌, ◌<◌, Some, length, IfOk};
+ghost use Rattle.std.specs.Prelude.{◌≡◌, ◌<◌, Some, length, IfOk, IsTrue};
 ghost use Rattle.tib_lex.specs.Lists.{Each};
 ghost use Rattle.tib_grammar.specs.Forms.{AreNormal};
-ghost use Rattle.tib_determinize.specs.Alive.{HasPlace, begun, cost_with, costs_of, narrowed, weight_with};
+ghost use Rattle.std.proofs.Common.{get_or};
+ghost use Rattle.tib_determinize.specs.Alive.{HasPlace, HasState, begun, cost_with, costs_of, narrowed, states_of, weight_with};
+ghost use Rattle.tib_determinize.specs.Lookup.{residual_in};
+ghost use Rattle.tib_determinize.specs.Occurrences.{BeginAll, IsBegun, fresh};
 
+use crate::occurrences::Occurrence;
 use crate::vector::Vector;
 use std::alloc::{AllocError, Global};
 use tib_cost::{Cost, Semiring};
 use tib_grammar::Rule;
+use tib_tree::Label;
 
 /// A rule whose states behind a place stand in the vectors there, with the product of their residuals.
 #[derive(Drop)]
@@ -31,6 +36,66 @@ pub(crate) fn begin<S: Semiring>(alloc: Global, positions: &[u32]) -> Result<Vec
     Ok(alive)
 }
 
+/// The state of a rule at a place.
+pub(crate) fn state_at(rules: &[Rule<u32>], place: usize, rule: u32) -> u32
+    requires normal { AreNormal rules.now }
+    requires place { HasState rules.now place rule }
+    ensures { result ≡ get_or (states_of rules.now rule) place 0 }
+{
+    let states = rules[rule as usize].states_below();
+    states[place].state()
+}
+
+// The residual of the state of a rule at a place, if that stands in a vector.
+fn residual_at(rules: &[Rule<u32>], place: usize, vector: &Vector, rule: u32) -> Option<Cost>
+    requires normal { AreNormal rules.now }
+    requires place { HasState rules.now place rule }
+    ensures { result ≡ residual_in (get_or (states_of rules.now rule) place 0) vector.now }
+{
+    vector.residual(state_at(rules, place, rule))
+}
+
+// Whether a place is this one, of a rule that has a label and a rank.
+fn is_place_of(rules: &[Rule<u32>], label: Label, rank: u32, place: u32, one: &Occurrence) -> bool
+    requires normal { AreNormal rules.now }
+    ensures sound { IsTrue result → IsBegun rules.now label rank (fresh one.now.rule) }
+    ensures whole { one.now.place ≡ place → IsBegun rules.now label rank (fresh one.now.rule) → IsTrue result }
+{
+    if one.place != place {
+        return false;
+    }
+    if one.rule as usize >= rules.len() {
+        return false;
+    }
+    let (own, many) = rules[one.rule as usize].root();
+    own == label && many == rank
+}
+
+/// Of some places of rules the rules of a label and a rank whose place is this one, each with the product of nothing.
+pub(crate) fn begin_at<S: Semiring>(
+    alloc: Global,
+    rules: &[Rule<u32>],
+    label: Label,
+    rank: u32,
+    place: u32,
+    places: &[Occurrence],
+) -> Result<Vec<Alive>, AllocError>
+    requires normal { AreNormal rules.now }
+    ensures sound { IfOk result (λ alive. Each (IsBegun rules.now label rank) alive.items) }
+    ensures whole { IfOk result (λ alive. BeginAll rules.now label rank place places.now alive.items) }
+{
+    let mut alive = Vec::new(alloc);
+    for one in places {
+        if is_place_of(rules, label, rank, place, one) {
+            alive.push(Alive {
+                rule: one.rule,
+                weight: S::one(),
+            })?;
+        }
+    }
+    Ok(alive)
+}
+
 // The weight of a rule that is alive, where a vector stands at the place before.
 fn weight<S: Semiring>(
     rules: &[Rule<u32>],
@@ -42,8 +107,7 @@ fn weight<S: Semiring>(
     requires place { HasPlace rules.now place alive.now }
     ensures { result ≡ weight_with S.product rules.now place vector.now alive.now }
 {
-    let states = rules[alive.rule as usize].states_below();
-    match vector.residual(states[place].state()) {
+    match residual_at(rules, place, vector, alive.rule) {
         Some(residual) => S::times(residual, alive.weight),
         None => None,
     }

@@ -5,8 +5,10 @@
 mod alive;
 pub mod examples;
 mod expand;
+mod holders;
 pub mod laws;
 mod listing;
+mod occurrences;
 mod origin;
 mod reached;
 mod residuals;
@@ -17,6 +19,8 @@ mod tests;
 mod vector;
 mod vector_rule;
 mod walk;
+mod wanted;
+mod wide;
 
 pub use origin::Origin;
 pub use reached::determinize;

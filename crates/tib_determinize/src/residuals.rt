@@ -1,6 +1,7 @@
 //! The vectors of residuals over a grammar, as what is hunted.
 
-ghost use Rattle.std.specs.Prelude.{◌≡◌, ℕ, ◌+◌, ◌<◌, ◌≤◌, ◌^◌, [], length, IfOk, OnOk, Err};
+ghost use Rattle.std.specs.Prelude.{◌≡◌, ℕ, ◌+◌, ◌<◌, ◌≤◌, ◌^◌, [], length, IfOk, IfSome, OnOk, Err};
+ghost use Rattle.tib_determinize.specs.Holders.{HoldAll};
 ghost use Rattle.tib_lex.specs.Lists.{Each};
 ghost use Rattle.tib_hunt.specs.Reached.{most_parts};
 ghost use Rattle.tib_determinize.specs.Shapes.{shapes_in};
@@ -8,13 +9,17 @@ ghost use Rattle.tib_determinize.specs.Determinization.{LeftsBelow};
 ghost use Rattle.tib_determinize.specs.Started.{finals, start_in, with_final};
 ghost use Rattle.tib_determinize.specs.Stepped.{AddsSteps, HasSteps, IsWithinBudget, StepsExceed, StepsOverrun};
 ghost use Rattle.tib_determinize.specs.Tries.{by_last, behind_label, leaf_tries, leaf_try, tries};
-ghost use Rattle.tib_determinize.specs.Vectors.{Rises};
+ghost use Rattle.tib_determinize.specs.Occurrences.{HaveStanding, LackNone};
+ghost use Rattle.tib_determinize.specs.Vectors.{Rises, vector_at};
 
-use crate::alive::begin;
+use crate::alive::{begin, begin_at};
+use crate::holders::Holders;
 use crate::listing::Listing;
+use crate::occurrences::{Occurrence, Occurrences};
 use crate::shapes::shapes_of;
 use crate::vector::Vector;
 use crate::walk::{Walk, list, list_all};
+use crate::wide::wide_states;
 use std::alloc::{AllocError, Global};
 use tib_cost::{Cost, Semiring};
 use tib_hunt::ExpandError;
@@ -27,7 +32,10 @@ pub struct Residuals<'a, S> {
     /// The grammar.
     pub normal: &'a Normal<S>,
     shapes: Vec<(Label, u32)>,
+    wide: Vec<bool>,
+    occurrences: Occurrences,
     pub ghost listed: { shapes.items ≡ shapes_in normal.now.rules },
+    pub ghost lack_none: { LackNone normal.now.rules occurrences.many occurrences.lists.items },
     pub ghost left_range: { LeftsBelow (length normal.now.names) normal.now.rules },
 }
 
@@ -39,13 +47,26 @@ fn final_of(vector: &Vector) -> Option<Cost>
 }
 
 impl<'a, S: Semiring> Residuals<'a, S> {
-    /// The vectors over a grammar. Err only if memory is refused. Cost: a sort of the labels and ranks of its rules.
+    /// The vectors over a grammar. Err only if memory is refused. Cost: a sort of the labels and ranks of its rules, and one step for
+    /// each place of each rule.
     pub fn new(alloc: Global, normal: &'a Normal<S>) -> Result<Residuals<'a, S>, AllocError>
         ensures { IfOk result (λ r. r.normal.now ≡ normal.now) }
     {
         normal.grammar().is_sound();
         let shapes = shapes_of(alloc, normal.grammar().rule_list())?;
-        Ok(Residuals { normal, shapes })
+        let wide = wide_states(alloc, normal.grammar().rule_list())?;
+        let many = if shapes.len() < 65536 {
+            shapes.len() as u32
+        } else {
+            65536
+        };
+        let occurrences = Occurrences::new(alloc, normal.grammar().rule_list(), many)?;
+        Ok(Residuals {
+            normal,
+            shapes,
+            wide,
+            occurrences,
+        })
     }
 
     /// The positions whose vectors have the start, each with the start's residual. Err only if memory is refused. Worst case: one
@@ -72,8 +93,12 @@ impl<'a, S: Semiring> Residuals<'a, S> {
         order: &[Vector],
         position: u32,
         shape: (Label, u32),
+        places: &[Occurrence],
+        holders: Option<&Holders>,
         listing: &mut Listing,
     ) -> Result<(), ExpandError>
+        requires standing { HaveStanding self.now.normal.now.rules self.now.occurrences.many shape.0 shape.1 (vector_at order.now position) places.now }
+        requires holders { IfSome holders (λ h. HoldAll order.now (position + 1) h.now.lists.items) }
         requires rise { Each (λ v. Rises v) order.now }
         requires position { position < length order.now }
         requires within { IsWithinBudget listing.old }
@@ -85,9 +110,8 @@ impl<'a, S: Semiring> Residuals<'a, S> {
         let (label, rank) = shape;
         let normal = self.normal;
         let rules = normal.grammar().rule_list();
-        let matching = normal.rules_with(label, rank);
         for last in 0..rank {
-            let Ok(alive) = begin::<S>(alloc, matching) else {
+            let Ok(alive) = begin_at::<S>(alloc, rules, label, rank, last, places) else {
                 return Err(ExpandError::OutOfMemory);
             };
             let walk = Walk {
@@ -98,12 +122,41 @@ impl<'a, S: Semiring> Residuals<'a, S> {
                 position,
                 last,
             };
-            match list_all::<S>(alloc, &walk, alive, listing) {
+            match list_all::<S>(alloc, &walk, holders, alive, listing) {
                 Ok(()) => {}
                 Err(fault) => return Err(fault),
             }
         }
         Ok(())
+    }
+
+    // The positions up to one by the states of their vectors, if its vector has a state of a rule of more than one child.
+    fn holders_up_to(
+        &self,
+        alloc: Global,
+        order: &[Vector],
+        position: u32,
+    ) -> Result<Option<Holders>, AllocError>
+        requires { position < length order.now }
+        ensures { IfOk result (λ holders. IfSome holders (λ h. HoldAll order.now (position + 1) h.lists.items)) }
+    {
+        if !self.is_wide(&order[position as usize]) {
+            return Ok(None);
+        }
+        Ok(Some(Holders::new(alloc, order, position)?))
+    }
+
+    // Whether a vector has a state that stands in a rule beside another one.
+    fn is_wide(&self, vector: &Vector) -> bool {
+        let entries = vector.entries();
+        for i in 0..entries.len() {
+            if let Some(wide) = self.wide.get(entries[i].0 as usize) {
+                if *wide {
+                    return true;
+                }
+            }
+        }
+        false
     }
 
     /// The edges of a position of an order.
@@ -122,11 +175,28 @@ impl<'a, S: Semiring> Residuals<'a, S> {
         ensures within { IfOk result IsWithinBudget }
         ensures budget { IfOk result (λ l. l.budget ≡ budget) }
     {
+        let Ok(holders) = self.holders_up_to(alloc, order, position) else {
+            return Err(ExpandError::OutOfMemory);
+        };
+        let held = holders.as_ref();
+        let vector = &order[position as usize];
+        let Ok(found) = self.occurrences.standing(alloc, vector) else {
+            return Err(ExpandError::OutOfMemory);
+        };
         let mut listing = Listing::new(alloc, budget);
         let shapes: &[(Label, u32)] = &self.shapes;
         for i in 0..shapes.len() {
             let shape = &shapes[i];
-            match self.list_shape(alloc, order, position, (shape.0, shape.1), &mut listing) {
+            let places = self.occurrences.of_label(&found, shape.0);
+            match self.list_shape(
+                alloc,
+                order,
+                position,
+                (shape.0, shape.1),
+                places,
+                held,
+                &mut listing,
+            ) {
                 Ok(()) => {}
                 Err(fault) => return Err(fault),
             }

@@ -1,21 +1,24 @@
 //! The walk over child places that lists the edges of a label and a rank, of those lists of positions in which a position stands
 //! last at one place.
 
-ghost use Rattle.std.specs.Prelude.{◌≡◌, ◌+◌, ◌-◌, ◌<◌, ◌≤◌, ◌^◌, ◌∷◌, ◌++◌, [], length, map, IfOk, IfSome, OnOk, Err};
+ghost use Rattle.std.specs.Prelude.{◌≡◌, ℕ, ◌+◌, ◌-◌, ◌<◌, ◌≤◌, ◌^◌, ◌∷◌, ◌++◌, [], length, map, IfOk, IfSome, OnOk, Err};
 ghost use Rattle.std.proofs.Common.{suc};
-ghost use Rattle.tib_lex.specs.Lists.{Each};
+ghost use Rattle.tib_lex.specs.Lists.{Each, Has};
 ghost use Rattle.tib_cost.specs.Semiring.{most};
 ghost use Rattle.tib_grammar.specs.Forms.{AreNormal};
-ghost use Rattle.tib_determinize.specs.Alive.{AreAlive};
-ghost use Rattle.tib_determinize.specs.Levels.{IsLevel, level_list, past, pending_below};
+ghost use Rattle.tib_determinize.specs.Alive.{AreAlive, AreAscending, AreLeft, HasPlace};
+ghost use Rattle.tib_determinize.specs.Holders.{HoldAll};
+ghost use Rattle.tib_determinize.specs.Levels.{IsLevel, IsWanted, level_list, moved, past, pending_below};
 ghost use Rattle.tib_determinize.specs.Stepped.{AddsSteps, IsUnderway, IsWithinBudget, StepsOverrun};
 ghost use Rattle.tib_determinize.specs.Tries.{behind_label, first_at, many_at, under};
-ghost use Rattle.tib_determinize.specs.Vectors.{Rises};
+ghost use Rattle.tib_determinize.specs.Vectors.{Rises, vector_at};
 
 use crate::alive::{Alive, costs, narrow};
+use crate::holders::Holders;
 use crate::listing::Listing;
 use crate::settling::settle;
 use crate::vector::Vector;
+use crate::wanted::{next_wanted, wanted_at};
 use std::alloc::{AllocError, Global};
 use tib_cost::Semiring;
 use tib_grammar::Rule;
@@ -39,34 +42,86 @@ pub(crate) struct Level {
     place: u32,
     behind: Vec<u32>,
     alive: Vec<Alive>,
+    wanted: Vec<u32>,
     next: usize,
     end: usize,
 }
 
+// The first position at a place, and the one behind the last.
+fn range_at(walk: &Walk<'_>, place: u32) -> (usize, usize)
+    requires { walk.now.position < length walk.now.order.now }
+    ensures next { result.0 ≡ first_at walk.now.position walk.now.last place }
+    ensures end { result.1 ≡ first_at walk.now.position walk.now.last place + many_at walk.now.position walk.now.last place }
+    ensures within { result.1 ≤ length walk.now.order.now }
+    ensures fits { result.1 ≤ 2 ^ 32 }
+{
+    let position = walk.position as usize;
+    if place == walk.last {
+        (position, position + 1)
+    } else if walk.last < place {
+        (0, position)
+    } else {
+        (0, position + 1)
+    }
+}
+
 impl Level {
-    /// The level of a place.
-    pub fn new(walk: &Walk<'_>, place: u32, behind: Vec<u32>, alive: Vec<Alive>) -> Level
-        requires { walk.now.position < length walk.now.order.now }
-        ensures place { result.place ≡ place }
-        ensures behind { result.behind ≡ behind }
-        ensures alive { result.alive ≡ alive }
-        ensures next { result.next ≡ first_at walk.now.position walk.now.last place }
-        ensures end { result.end ≡ first_at walk.now.position walk.now.last place + many_at walk.now.position walk.now.last place }
-        ensures within { result.end ≤ length walk.now.order.now }
-        ensures fits { result.end ≤ 2 ^ 32 }
+    /// The level of a place. Err only if memory is refused.
+    pub fn new(
+        alloc: Global,
+        walk: &Walk<'_>,
+        holders: Option<&Holders>,
+        place: u32,
+        behind: Vec<u32>,
+        alive: Vec<Alive>,
+    ) -> Result<Level, AllocError>
+        requires position { walk.now.position < length walk.now.order.now }
+        requires normal { AreNormal walk.now.rules.now }
+        requires places { Each (HasPlace walk.now.rules.now place) alive.items }
+        requires holders { IfSome holders (λ h. HoldAll walk.now.order.now (walk.now.position + 1) h.now.lists.items) }
+        ensures place { IfOk result (λ l. l.place ≡ place) }
+        ensures behind { IfOk result (λ l. l.behind ≡ behind) }
+        ensures alive { IfOk result (λ l. l.alive ≡ alive) }
+        ensures wanted { IfOk result (IsWanted walk.now.rules.now walk.now.order.now) }
+        ensures next { IfOk result (λ l. l.next ≡ first_at walk.now.position walk.now.last place) }
+        ensures end { IfOk result (λ l. l.end ≡ first_at walk.now.position walk.now.last place + many_at walk.now.position walk.now.last place) }
+        ensures within { IfOk result (λ l. l.end ≤ length walk.now.order.now) }
+        ensures fits { IfOk result (λ l. l.end ≤ 2 ^ 32) }
     {
-        let position = walk.position as usize;
-        let (next, end) = if place == walk.last {
-            (position, position + 1)
-        } else if walk.last < place {
-            (0, position)
-        } else {
-            (0, position + 1)
-        };
+        let wanted = wanted_at(alloc, walk, holders, place, &alive)?;
+        let (next, end) = range_at(walk, place);
+        Ok(Level {
+            place,
+            behind,
+            alive,
+            wanted,
+            next,
+            end,
+        })
+    }
+
+    // The level at the next of its positions that is wanted, or behind the last one.
+    fn skip(self) -> Level
+        requires { AreAscending self.wanted.items }
+        ensures level { result ≡ moved self result.next }
+        ensures from { self.next ≤ result.next }
+        ensures to { self.next ≤ self.end → result.next ≤ self.end }
+        ensures between { (p : ℕ) → self.next ≤ p → p < result.next → Has self.wanted.items p → ⊥ }
+    {
+        let Level {
+            place,
+            behind,
+            alive,
+            wanted,
+            next,
+            end,
+        } = self;
+        let next = next_wanted(&wanted, next, end);
         Level {
             place,
             behind,
             alive,
+            wanted,
             next,
             end,
         }
@@ -115,20 +170,22 @@ pub(crate) fn list<S: Semiring>(
 fn visit<S: Semiring>(
     alloc: Global,
     walk: &Walk<'_>,
+    holders: Option<&Holders>,
     level: &Level,
     listing: &mut Listing,
 ) -> Result<Option<Level>, ExpandError>
     requires normal { AreNormal walk.now.rules.now }
     requires rise { Each (λ v. Rises v) walk.now.order.now }
     requires position { walk.now.position < length walk.now.order.now }
-    requires level { IsLevel S.product walk.now.rules.now walk.now.order.now walk.now.label walk.now.rank level.now }
+    requires level { IsLevel S.product walk.now.rules.now walk.now.order.now walk.now.label walk.now.rank walk.now.position walk.now.last level.now }
     requires next { level.now.next < level.now.end }
+    requires holders { IfSome holders (λ h. HoldAll walk.now.order.now (walk.now.position + 1) h.now.lists.items) }
     requires within { IsWithinBudget listing.old }
     ensures underway { IfOk result (λ below.
         IsUnderway S.product walk.now.rules.now walk.now.order.now
         (behind_label walk.now.label (under walk.now.position walk.now.last level.now.place (level.now.next ∷ level.now.behind.items)))
         (behind_label walk.now.label (pending_below walk.now.position walk.now.last below)) listing.old listing.new) }
-    ensures level { IfOk result (λ below. IfSome below (IsLevel S.product walk.now.rules.now walk.now.order.now walk.now.label walk.now.rank)) }
+    ensures level { IfOk result (λ below. IfSome below (IsLevel S.product walk.now.rules.now walk.now.order.now walk.now.label walk.now.rank walk.now.position walk.now.last)) }
     ensures few { IfOk result (λ below. IfSome below (λ l. (suc l.place ≡ level.now.place) × (l.end - l.next ≤ length walk.now.order.now))) }
     ensures more { result ≡ Err ExpandError.More →
         StepsOverrun S.product walk.now.rules.now walk.now.order.now
@@ -154,7 +211,10 @@ fn visit<S: Semiring>(
         }
         return Ok(None);
     }
-    Ok(Some(Level::new(walk, level.place - 1, positions, alive)))
+    match Level::new(alloc, walk, holders, level.place - 1, positions, alive) {
+        Ok(below) => Ok(Some(below)),
+        Err(_) => Err(ExpandError::OutOfMemory),
+    }
 }
 
 // Puts a level back behind its next position, and the one below on top of it.
@@ -170,6 +230,7 @@ fn push_levels(
         place,
         behind,
         alive,
+        wanted,
         next,
         end,
     } = level;
@@ -177,6 +238,7 @@ fn push_levels(
         place,
         behind,
         alive,
+        wanted,
         next: next + 1,
         end,
     })?;
@@ -188,10 +250,11 @@ fn push_levels(
 
 /// Lists the edges of a walk, of which these rules are alive behind the last place. `More` comes exactly where they have more parts
 /// than the budget leaves. Cost: for each list of positions that some rule matches from some place on, the rules that match it there,
-/// with one look into a vector for each of them and each position that is tried before it.
+/// with one look into a vector for each of them and each position that is wanted before it.
 pub(crate) fn list_all<S: Semiring>(
     alloc: Global,
     walk: &Walk<'_>,
+    holders: Option<&Holders>,
     alive: Vec<Alive>,
     listing: &mut Listing,
 ) -> Result<(), ExpandError>
@@ -199,7 +262,9 @@ pub(crate) fn list_all<S: Semiring>(
     requires rise { Each (λ v. Rises v) walk.now.order.now }
     requires position { walk.now.position < length walk.now.order.now }
     requires rank { 1 ≤ walk.now.rank }
-    requires alive { AreAlive S.product walk.now.rules.now walk.now.order.now walk.now.label walk.now.rank walk.now.rank [] alive.items }
+    requires holders { IfSome holders (λ h. HoldAll walk.now.order.now (walk.now.position + 1) h.now.lists.items) }
+    requires alive { AreLeft S.product walk.now.rules.now walk.now.order.now walk.now.label walk.now.rank
+        walk.now.last (vector_at walk.now.order.now walk.now.position) walk.now.rank [] alive.items }
     requires within { IsWithinBudget listing.old }
     ensures added { OnOk result (AddsSteps S.product walk.now.rules.now walk.now.order.now
         (behind_label walk.now.label (under walk.now.position walk.now.last walk.now.rank [])) listing.old listing.new) }
@@ -209,14 +274,18 @@ pub(crate) fn list_all<S: Semiring>(
     ensures budget { listing.new.budget ≡ listing.old.budget }
 {
     let mut levels = Vec::new(alloc);
-    let Ok(()) = levels.push(Level::new(walk, walk.rank - 1, Vec::new(alloc), alive)) else {
+    let Ok(first) = Level::new(alloc, walk, holders, walk.rank - 1, Vec::new(alloc), alive) else {
         return Err(ExpandError::OutOfMemory);
     };
-    while let Some(level) = levels.pop() {
+    let Ok(()) = levels.push(first) else {
+        return Err(ExpandError::OutOfMemory);
+    };
+    while let Some(whole) = levels.pop() {
+        let level = whole.skip();
         if level.next >= level.end {
             continue;
         }
-        let below = match visit::<S>(alloc, walk, &level, listing) {
+        let below = match visit::<S>(alloc, walk, holders, &level, listing) {
             Ok(below) => below,
             Err(fault) => return Err(fault),
         };

@@ -1,4 +1,4 @@
-use Rattle.std.proofs.Common.{rules, ◌≡◌, ℕ, ◌+◌, List, [], ◌∷◌, ◌++◌, None, Some, Option, drop, suc, arith, ap, sym, ◌∙◌, subst, append_assoc, length, ◌<◌, get_or}
+use Rattle.std.proofs.Common.{rules, ◌≡◌, ℕ, ◌+◌, List, [], ◌∷◌, ◌++◌, None, Some, Option, drop, suc, arith, ap, sym, ◌∙◌, append_assoc, length, ◌<◌, get_or}
 use Rattle.std.proofs.lemmas.List.{get_or_read}
 use Rattle.tib_grammar.specs.declared.Rule.{Rule}
 use Rattle.tib_determinize.specs.declared.alive.Alive.{Alive}

@@ -1,4 +1,4 @@
-use Rattle.std.proofs.Common.{rules, ◌≡◌, ◌++◌, [], refl, subst, sym, ap, ◌∙◌, None, append-nil, List, ℕ}
+use Rattle.std.proofs.Common.{rules, ◌≡◌, ◌++◌, [], sym, ap, ◌∙◌, None, append-nil, List, ℕ}
 use Rattle.std.specs.Vec.Iter.{into_iter_items}
 use Rattle.tib_determinize.specs.Settling.{firsts}
 use Rattle.tib_determinize.proofs.LeastCosts.{least_costs, none_left}

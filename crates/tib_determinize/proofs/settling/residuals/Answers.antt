@@ -1,4 +1,4 @@
-use Rattle.std.proofs.Common.{◌≡◌, refl, ℕ, List, ◌++◌, ◌+◌, drop, suc, arith, ap, sym, subst}
+use Rattle.std.proofs.Common.{◌≡◌, refl, ℕ, List, ◌++◌, ◌+◌, drop, suc, arith, sym, subst}
 use Rattle.std.proofs.lemmas.List.{get_or_read}
 use Rattle.tib_lex.specs.Lists.{Along}
 use Rattle.tib_determinize.specs.Settling.{IsOver}

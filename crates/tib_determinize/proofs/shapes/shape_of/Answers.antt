@@ -1,6 +1,4 @@
-use Rattle.std.proofs.Common.{◌≡◌, ℕ, ap, sym, ◌∙◌}
-use Rattle.tib_grammar.specs.Sides.{Symbol, label}
-use Rattle.tib_tree.specs.Trees.{count}
+use Rattle.std.proofs.Common.{◌≡◌, ap, sym, ◌∙◌}
 use Rattle.tib_determinize.specs.Shapes.{root_label}
 use Rattle.tib_determinize.proofs.shapes.shape_of.Goals as goal
 

@@ -1,7 +1,6 @@
-use Rattle.std.proofs.Common.{rules, ◌≡◌, ℕ, List, [], ap, sym, ◌∙◌, subst, Result, Ok, Err}
-use Rattle.std.specs.Prelude.{OnOk, IfSome, IfNone}
-use Rattle.tib_determinize.specs.Alive.{costs_of}
-use Rattle.tib_determinize.specs.Vectors.{vectors_at, IsStep}
+use Rattle.std.proofs.Common.{◌≡◌, [], sym, subst}
+use Rattle.std.specs.Prelude.{IfSome, IfNone}
+use Rattle.tib_determinize.specs.Vectors.{vectors_at}
 use Rattle.tib_determinize.specs.Settling.{AreResiduals}
 use Rattle.tib_determinize.proofs.Underway.{adds_one, adds_none, overrun_one}
 use Rattle.tib_determinize.proofs.Leaves.{AreCosts, costs_are, step_of, nothing_of}

@@ -1,4 +1,4 @@
-use Rattle.std.proofs.Common.{◌≡◌, ap, ◌∙◌, Err, List, ℕ}
+use Rattle.std.proofs.Common.{ap, ◌∙◌, Err, List, ℕ}
 use Rattle.tib_lex.specs.Lists.{Each}
 use Rattle.tib_determinize.specs.Vectors.{Rises, VectorOf}
 use Rattle.tib_determinize.specs.Determinization.{IsVector}

@@ -1,4 +1,4 @@
-use Rattle.std.proofs.Common.{◌≡◌, ap, ◌∙◌, Err}
+use Rattle.std.proofs.Common.{ap, ◌∙◌, Err}
 use Rattle.tib_determinize.proofs.Answering.{seed_edges_listed, seed_ends, seeds_exceed}
 use Rattle.tib_determinize.proofs.expand.ResidualsExpand.seeds.Goals as goal
 

@@ -1,9 +1,6 @@
 use Rattle.std.proofs.Common.{ap, ◌∙◌, ℕ, List}
 use Rattle.tib_grammar.specs.Sides.{over}
 use Rattle.tib_determinize.proofs.Settled.{settled_reads, settled_positions}
-use Rattle.tib_determinize.proofs.ShapesOf.{shapes_are}
-use Rattle.tib_determinize.proofs.Fewer.{total_fewer}
-use Rattle.tib_determinize.proofs.EdgesOf.{leaf_steps_listed}
 use Rattle.tib_determinize.proofs.expand.ResidualsExpand.settle.Goals as goal
 
 pub returns-clause-read : goal.returns-clause-read

@@ -5,7 +5,6 @@ use Rattle.tib_grammar.specs.declared.Rule.{Rule}
 use Rattle.tib_determinize.specs.declared.alive.Alive.{Alive}
 use Rattle.tib_determinize.specs.Alive.{AreAlive}
 use Rattle.tib_determinize.specs.Stepped.{AddsSteps, StepsOverrun}
-use Rattle.tib_determinize.specs.Tries.{leaf_try}
 use Rattle.tib_determinize.proofs.Passes.{begun_are, leaf_is}
 use Rattle.tib_determinize.proofs.residuals.Residuals.list_leaf.Goals as goal
 

@@ -1,9 +1,7 @@
-use Rattle.std.proofs.Common.{rules, arith, ◌≡◌, ℕ, ◌+◌, ◌-◌, ◌<◌, length, List, [], drop, get_or, ap, sym, ◌∙◌, subst, refl}
-use Rattle.tib_determinize.proofs.Edges.{steps_there}
-use Rattle.std.proofs.lemmas.List.{get_or_read}
+use Rattle.std.proofs.Common.{◌≡◌, ℕ, ◌+◌, List, [], drop, get_or, sym, ◌∙◌, subst, refl}
 use Rattle.tib_hunt.specs.declared.place.ExpandError.{ExpandError}
 use Rattle.tib_determinize.specs.Shapes.{shapes_in}
-use Rattle.tib_determinize.specs.Stepped.{AddsSteps, HasSteps, IsUnderway, StepsExceed, StepsOverrun}
+use Rattle.tib_determinize.specs.Stepped.{HasSteps, IsUnderway, StepsExceed}
 use Rattle.tib_determinize.specs.Tries.{leaf_try, leaf_tries}
 use Rattle.tib_determinize.proofs.Results.{err_is}
 use Rattle.tib_determinize.proofs.Underway.{underway_next, overrun_next, listing_empty}

@@ -1,13 +1,24 @@
-use Rattle.std.proofs.Common.{rules, arith, ◌≡◌, ℕ, ◌+◌, ◌-◌, ◌<◌, length, List, [], drop, get_or, ap, sym, ◌∙◌, subst, refl}
-use Rattle.tib_determinize.proofs.Edges.{steps_there}
-use Rattle.std.proofs.lemmas.List.{get_or_read}
+use Rattle.std.proofs.Common.{◌≡◌, ℕ, ◌+◌, List, drop, get_or, sym, ◌∙◌, subst, refl}
 use Rattle.tib_hunt.specs.declared.place.ExpandError.{ExpandError}
 use Rattle.tib_determinize.specs.Shapes.{shapes_in}
-use Rattle.tib_determinize.specs.Stepped.{AddsSteps, HasSteps, IsUnderway, StepsExceed, StepsOverrun}
+use Rattle.tib_determinize.specs.Stepped.{HasSteps, IsUnderway, StepsExceed}
 use Rattle.tib_determinize.specs.Tries.{tries, by_last, behind_label}
 use Rattle.tib_determinize.proofs.Results.{err_is}
 use Rattle.tib_determinize.proofs.Underway.{underway_next, overrun_next, listing_empty}
 use Rattle.tib_determinize.proofs.Passes.{shape_first, shapes_done, has_steps, steps_exceed}
+use Rattle.std.proofs.Common.{Bor, Option, None, Some}
+use Rattle.std.specs.Prelude.{IfSome}
+use Rattle.std.specs.Option.{option_copied}
+use Rattle.tib_determinize.specs.Holders.{HoldAll}
+use Rattle.tib_determinize.specs.declared.holders.Holders.{Holders}
+use Rattle.std.specs.Global.{Vec}
+use Rattle.std.proofs.Common.{[], ap}
+use Rattle.std.proofs.lemmas.List.{get_or_read}
+use Rattle.tib_determinize.specs.declared.occurrences.Occurrence.{Occurrence}
+use Rattle.tib_determinize.specs.Holders.{held}
+use Rattle.tib_determinize.specs.Occurrences.{AreFound, bucket}
+use Rattle.tib_determinize.specs.Vectors.{VectorOf, vector_at}
+use Rattle.tib_determinize.proofs.Occurring.{have_standing}
 use Rattle.tib_determinize.proofs.residuals.Residuals.list_position.Goals as goal
 
 pub returns-in-Err-clause-more : goal.returns-in-Err-clause-more
@@ -41,8 +52,8 @@ loop-i-preserved g c =
     let others = tries c.args.position (drop (c.loop-i.i + 1) shapes) in
     let listed = subst (λ (xs : List (ℕ × List ℕ)). IsUnderway product rules c.args.order.now all xs c.new-listing.result c.loop-i.listing) (shape_first c.args.position shapes c.loop-i.i (0, 0) s low refl) c.loop-i.invariant.listed in
     record {
-      listed = underway_next product rules c.args.order.now all c.new-listing.result c.loop-i.listing c.list_shape.new.listing first others listed c.in-Ok.ensures.added;
-      within = c.in-Ok.ensures.within;
+      listed = underway_next product rules c.args.order.now all c.new-listing.result c.loop-i.listing c.list_shape.new.listing first others listed c.in-Ok-list_shape.ensures.added;
+      within = c.in-Ok-list_shape.ensures.within;
       budget = c.list_shape.ensures.budget ∙ c.loop-i.invariant.budget;
     }
 
@@ -57,3 +68,25 @@ returns-clause-listed g c =
     (has_steps product rules c.args.order.now (tries c.args.position shapes) c.new-listing.result c.loop-i.listing empty
     (subst (λ (left : List (ℕ × List ℕ)). IsUnderway product rules c.args.order.now (tries c.args.position shapes) left c.new-listing.result c.loop-i.listing)
     (shapes_done c.args.position shapes c.loop-i.i c.loop-i-test.false) c.loop-i.invariant.listed))
+
+copied_holds : (o : Option (Bor Holders)) (x : Option Holders) (P : Holders → Type 0) → option_copied o ≡ x → IfSome x P → IfSome o (λ h. P h.now)
+copied_holds None x P e h = tt
+copied_holds (Some b) x P e h = subst (λ (y : Option Holders). IfSome y P) (sym e) h
+
+pub list_shape-requires-clause-holders : goal.list_shape-requires-clause-holders
+list_shape-requires-clause-holders g c =
+    copied_holds c.as_ref-held.result c.in-Ok.holders (λ h. HoldAll c.args.order.now (c.args.position + 1) h.lists.items) c.as_ref-held.ensures.value c.in-Ok.ensures
+
+pub list_shape-requires-clause-standing : goal.list_shape-requires-clause-standing
+list_shape-requires-clause-standing g c =
+    let s = get_or c.deref-shapes.result.now c.loop-i.i (0, 0) in
+    let order = c.args.order.now in
+    let own = c.args.self.now.occurrences in
+    let at = get_or_read order c.args.position c.index-order-position.result c.requires.position c.index-order-position.is [] in
+    let are : AreFound (vector_at order c.args.position) own.lists.items c.in-Ok-standing.found.items =
+    subst (λ (v : VectorOf). AreFound v own.lists.items c.in-Ok-standing.found.items) at c.in-Ok-standing.ensures
+    in
+    let is : c.of_label-places.result.now ≡ held c.in-Ok-standing.found.items (bucket s.0 own.many) =
+    c.of_label-places.ensures ∙ ap (λ (xs : List (Vec Occurrence)). held xs (bucket s.0 own.many)) c.deref.ensures.value
+    in
+    have_standing c.args.self.now.normal.now.rules own.many s.0 s.1 (vector_at order c.args.position) own.lists.items c.in-Ok-standing.found.items c.of_label-places.result.now c.args.self.now.lack_none are is

@@ -1,24 +1,31 @@
-use Rattle.std.proofs.Common.{rules, ◌≡◌, ℕ, ◌+◌, ◌-◌, List, [], ap, sym, ◌∙◌, subst}
-use Rattle.tib_grammar.specs.Forms.{AreNormal}
+use Rattle.std.proofs.Common.{◌≡◌, ℕ, ◌+◌, ◌-◌, List, [], ap, sym, ◌∙◌, subst}
 use Rattle.tib_grammar.specs.GrammarOf.{GrammarOf}
 use Rattle.tib_grammar.specs.declared.Rule.{Rule}
-use Rattle.tib_normal.specs.Rules.{positions_with}
 use Rattle.tib_hunt.specs.declared.place.ExpandError.{ExpandError}
-use Rattle.tib_determinize.specs.Alive.{AreAlive}
+use Rattle.tib_lex.specs.Lists.{Each}
+use Rattle.tib_determinize.specs.Vectors.{vector_at}
+use Rattle.tib_determinize.specs.Alive.{AreLeft}
+use Rattle.tib_determinize.specs.Occurrences.{BeginAll, IsBegun}
 use Rattle.tib_determinize.specs.Stepped.{AddsSteps, IsUnderway, StepsOverrun}
 use Rattle.tib_determinize.specs.Tries.{under, by_last, behind_label}
 use Rattle.tib_determinize.proofs.Results.{err_is}
 use Rattle.tib_determinize.proofs.Underway.{underway_next, overrun_next}
-use Rattle.tib_determinize.proofs.Passes.{begun_are, last_first, last_done}
+use Rattle.tib_determinize.proofs.Occurring.{begun_left}
+use Rattle.tib_determinize.proofs.Passes.{last_first}
 use Rattle.tib_determinize.proofs.residuals.Residuals.list_shape.Goals as goal
 
 pub list_all-requires-clause-alive : goal.list_all-requires-clause-alive
 list_all-requires-clause-alive g c =
     let w = c.args.self.now.normal.now in
     let s = c.args.shape in
+    let order = c.args.order.now in
+    let vector = vector_at order c.args.position in
     let rules_are : c.rule_list-rules.result.now ≡ w.rules = c.rule_list-rules.ensures ∙ ap (λ (h : GrammarOf). h.rules) c.grammar.ensures.same in
-    subst (λ (rs : List (Rule ℕ)). AreAlive g.S.Semiring.product rs c.args.order.now s.0 s.1 s.1 [] c.in-Ok.alive.items) (sym rules_are)
-    (begun_are g.S.Semiring.product w.rules c.grammar.ensures.normal.normal c.args.order.now s.0 s.1 c.in-Ok.alive.items c.rules_with-matching.result.now c.rules_with-matching.ensures c.in-Ok.ensures)
+    let sound = subst (λ (rs : List (Rule ℕ)). Each (IsBegun rs s.0 s.1) c.in-Ok.alive.items) rules_are c.in-Ok.ensures.sound in
+    let whole = subst (λ (rs : List (Rule ℕ)). BeginAll rs s.0 s.1 c.loop-last.last c.args.places.now c.in-Ok.alive.items) rules_are c.in-Ok.ensures.whole in
+    subst (λ (rs : List (Rule ℕ)). AreLeft g.S.Semiring.product rs order s.0 s.1 c.loop-last.last vector s.1 [] c.in-Ok.alive.items) (sym rules_are)
+    (begun_left g.S.Semiring.product w.rules c.grammar.ensures.normal.normal order c.args.self.now.occurrences.many s.0 s.1 c.loop-last.last vector c.args.places.now c.in-Ok.alive.items c.loop-last-test.true
+    c.requires.standing sound whole)
 
 pub returns-in-Err-clause-more : goal.returns-in-Err-clause-more
 returns-in-Err-clause-more g c = λ e.
