@@ -4,3 +4,13 @@ mod Meeting
 mod Settled
 mod Skipping
 mod Taking
+mod Left
+mod Advance
+mod Listed
+mod Walking
+mod Steps
+mod Bucketing
+mod Whole
+mod Expanded
+mod Hunted
+mod Bounded

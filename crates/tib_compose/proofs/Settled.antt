@@ -44,11 +44,11 @@ preorder-named g s items e =
 pub one_tree : {P : Type 0} (xs : List (Symbol ℕ P × ℕ)) (s : SideFor ℕ P) → xs ≡ preorder_of s → IsOneTree xs
 one_tree xs s e = subst IsOneTree (sym e) (IsOneTree-preorder_of s)
 
-each_left : {A : Type 0} (Q : A → Type 0) (xs ys : List A) → Each Q (xs ++ ys) → Each Q xs
+pub each_left : {A : Type 0} (Q : A → Type 0) (xs ys : List A) → Each Q (xs ++ ys) → Each Q xs
 each_left Q [] ys h = tt
 each_left Q (x ∷ xs) ys h = (h.0, each_left Q xs ys h.1)
 
-each_right : {A : Type 0} (Q : A → Type 0) (xs ys : List A) → Each Q (xs ++ ys) → Each Q ys
+pub each_right : {A : Type 0} (Q : A → Type 0) (xs ys : List A) → Each Q (xs ++ ys) → Each Q ys
 each_right Q [] ys h = h
 each_right Q (x ∷ xs) ys h = each_right Q xs ys h.1
 

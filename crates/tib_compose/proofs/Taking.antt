@@ -11,9 +11,9 @@ use Rattle.tib_grammar.specs.declared.Item.TheVariants.{Label, Hole}
 use Rattle.tib_transducer.specs.declared.Pair.{Pair}
 use Rattle.tib_transducer.specs.declared.TransducerRule.{TransducerRule}
 use Rattle.tib_compose_laws.specs.Pieces.{Piece as PieceOf, put, read, pieces_of, results, results_by, GoesByPieces}
-use Rattle.tib_compose.specs.declared.branch.Piece.{Piece}
-use Rattle.tib_compose.specs.declared.branch.Piece.TheVariants.{Read}
-use Rattle.tib_compose.specs.Branches.{side_there, kids_there, piece_of, stack_of, piece_below, IsKnown, AreKnown}
+use Rattle.tib_compose.specs.declared.pending.Piece.{Piece}
+use Rattle.tib_compose.specs.declared.pending.Piece.TheVariants.{Read}
+use Rattle.tib_compose.specs.PieceViews.{side_there, kids_there, piece_of, piece_below, IsKnown, AreKnown}
 use Rattle.tib_compose.specs.Ends.{IsSkipped, AreEnds}
 
 -- the side at a node, by its item
@@ -29,11 +29,6 @@ side_by_item items i x d h e =
 -- one item more is one more of its preorder
 pub pairs_more : {P : Type 0} (items new : List (Item P)) (x : Item P) → new ≡ items ++ x ∷ [] → pairs_of new ≡ pairs_of items ++ pair_of x ∷ []
 pairs_more items new x e = ap pairs_of e ∙ map-append pair_of items (x ∷ [])
-
--- the last piece is the next
-pub stack_next : (pairs : List (Symbol ℕ (Pair ℕ) × ℕ)) (old ws : List Piece) (w : Piece) → old ≡ ws ++ w ∷ [] → stack_of pairs old ≡ piece_of pairs w ∷ stack_of pairs ws
-stack_next pairs old ws w e =
-    ap (stack_of pairs) e ∙ ap reverse (map-append (piece_of pairs) ws (w ∷ [])) ∙ reverse-append (map (piece_of pairs) ws) (piece_of pairs w ∷ [])
 
 module _ (product : ℕ → ℕ → ℕ) (two : List (TransducerRule ℕ)) (goes : GoesByPieces product two) (items : List (Item (Pair ℕ))) (cost : ℕ) (ws : List PieceOf) where
   -- a label is put out
@@ -88,20 +83,15 @@ piece_known pairs node rank (Hole x) xs h =
 
 -- one item more, from the back
 pub one_piece :
-    (pairs : List (Symbol ℕ (Pair ℕ) × ℕ)) (right : List (Item (Pair ℕ))) (node rank i : ℕ) (old work new : List Piece) (w : Piece) → i < length right → AreKnown rank right →
-    stack_of pairs work ≡ pieces_of (drop (i + 1) (pairs_of right)) (kids_there pairs node rank) ++ stack_of pairs old →
-    new ≡ work ++ w ∷ [] → piece_of pairs w ≡ piece_below pairs node (get_or right i (Label 0 0)) →
-    stack_of pairs new ≡ pieces_of (drop i (pairs_of right)) (kids_there pairs node rank) ++ stack_of pairs old
-one_piece pairs right node rank i old work new w h known before e is =
+    (pairs : List (Symbol ℕ (Pair ℕ) × ℕ)) (right : List (Item (Pair ℕ))) (node rank i : ℕ) → i < length right → AreKnown rank right →
+    piece_below pairs node (get_or right i (Label 0 0)) ∷ pieces_of (drop (i + 1) (pairs_of right)) (kids_there pairs node rank) ≡ pieces_of (drop i (pairs_of right)) (kids_there pairs node rank)
+one_piece pairs right node rank i h known =
     let x : Item (Pair ℕ) = get_or right i (Label 0 0) in
     let low : i < length (pairs_of right) = omega (arith, h, length-map right pair_of) in
     let at : get_or (pairs_of right) i (label 0, 0) ≡ pair_of x = get_or-map pair_of right i (Label 0 0) (label 0, 0) h in
-    stack_next pairs new work w e
-    ∙ ap (λ z. z ∷ stack_of pairs work) is
-    ∙ ap (λ zs. piece_below pairs node x ∷ zs) before
-    ∙ ap (λ zs. zs ++ stack_of pairs old) (piece_known pairs node rank x (drop (i + 1) (pairs_of right)) (known i h)
+    piece_known pairs node rank x (drop (i + 1) (pairs_of right)) (known i h)
     ∙ ap (λ y. pieces_of (y ∷ drop (i + 1) (pairs_of right)) (kids_there pairs node rank)) (sym at)
-    ∙ ap (λ ys. pieces_of ys (kids_there pairs node rank)) (sym (drop_more (pairs_of right) i (label 0, 0) low)))
+    ∙ ap (λ ys. pieces_of ys (kids_there pairs node rank)) (sym (drop_more (pairs_of right) i (label 0, 0) low))
 
 -- past the last item there are no pieces
 pub no_pieces : {P : Type 0} (right : List (Item P)) → drop (length right) (pairs_of right) ≡ []

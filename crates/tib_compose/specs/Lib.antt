@@ -5,4 +5,15 @@ pub mod EdgeLaws
 pub mod Answered
 pub mod NamedItems
 pub mod Ends
+pub mod PieceViews
+pub mod Pending
 pub mod Branches
+pub mod Bounds
+pub mod Sources
+pub mod Listing
+pub mod Searches
+pub mod Walk
+pub mod Moves
+pub mod KeyEdges
+pub mod Composed
+pub mod Bounding

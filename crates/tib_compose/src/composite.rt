@@ -5,8 +5,10 @@ ghost use Rattle.tib_classes.specs.Outside.{demands, AllMeet};
 ghost use Rattle.tib_compose.specs.Answered.{IsClassFault};
 ghost use Rattle.tib_compose.specs.EdgeLaws.{StatesBelow};
 ghost use Rattle.tib_compose.specs.IsIndex.{IsIndex};
+ghost use Rattle.tib_compose.specs.Moves.{IsMoves};
 
 use crate::index::Index;
+use crate::moves::Moves;
 use std::alloc::Global;
 use tib_classes::{ClassError, first_outside};
 use tib_transducer::Transducer;
@@ -18,8 +20,10 @@ pub struct Composite<'a, S> {
     pub first: &'a Transducer<S>,
     /// The second transducer.
     pub second: &'a Transducer<S>,
-    index: Index,
+    pub(crate) index: Index,
+    pub(crate) moves: Moves,
     pub ghost indexed: { IsIndex second.now.rules index },
+    pub ghost moved: { IsMoves first.now.rules moves },
     pub ghost first_start: { 0 < length first.now.names },
     pub ghost second_start: { 0 < length second.now.names },
     pub ghost first_range: { StatesBelow (length first.now.names) first.now.rules },
@@ -29,8 +33,8 @@ pub struct Composite<'a, S> {
 impl<'a, S> Composite<'a, S> {
     /// The pairs of two transducers, of which the second is linear, nondeleting, not extended and not labelled. `Class`
     /// exactly where it is not, with its first rule outside and the first class that this rule is outside of;
-    /// `OutOfMemory` if memory is refused. Cost: one look-up by hash for each rule of the second transducer, beside
-    /// `first_outside`.
+    /// `OutOfMemory` if memory is refused. Cost: one look-up by hash for each rule of the second transducer, and a pass over
+    /// the states and the rules of the first, beside `first_outside`.
     pub fn new(
         alloc: Global,
         first: &'a Transducer<S>,
@@ -46,11 +50,15 @@ impl<'a, S> Composite<'a, S> {
         }
         first.is_sound();
         second.is_sound();
+        let Ok(moves) = Moves::new(alloc, first) else {
+            return Err(ClassError::OutOfMemory);
+        };
         match Index::new(alloc, second.rule_list()) {
             Ok(index) => Ok(Composite {
                 first,
                 second,
                 index,
+                moves,
             }),
             Err(_) => Err(ClassError::OutOfMemory),
         }

@@ -2,14 +2,29 @@
 //! transducer. It stands on `tib_compose_laws`, `tib_classes` and `tib_hunt`.
 #![tactic(auto)]
 
+mod bounding;
+mod bounds;
 mod branch;
 mod choice;
+mod composing;
 mod composite;
+mod edges;
 mod ends;
+mod error;
+mod expand;
 mod index;
 mod key;
+mod listing;
+mod moves;
+mod pending;
+mod putting;
+mod search;
 mod settling;
+mod source;
+mod translating;
 
 pub use choice::Choice;
+pub use composing::compose;
 pub use composite::Composite;
+pub use error::ComposeError;
 pub use key::Key;

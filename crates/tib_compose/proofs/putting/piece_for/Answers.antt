@@ -1,7 +1,7 @@
 use Rattle.std.proofs.Common.{◌+◌, ap, sym, ◌∙◌}
-use Rattle.tib_compose.specs.Branches.{piece_below}
+use Rattle.tib_compose.specs.PieceViews.{piece_below}
 use Rattle.tib_compose.proofs.Taking.{hole_below, ends_from}
-use Rattle.tib_compose.proofs.branch.piece_for.Goals as goal
+use Rattle.tib_compose.proofs.putting.piece_for.Goals as goal
 
 pub returns-in-Hole : goal.returns-in-Hole
 returns-in-Hole c = λ pairs long known.

@@ -1,0 +1,66 @@
+use Rattle.std.proofs.Common.{◌≡◌, ◌++◌, ◌∷◌, [], ◌<◌, ◌≤◌, length, get_or, List, ℕ, refl, sym, ap, ◌∙◌, subst, true, false, Bool, Err}
+use Rattle.std.specs.Global.{Vec}
+use Rattle.std.specs.declared.result.Result.{Result}
+use Rattle.tib_hunt.specs.declared.place.ExpandError.{ExpandError}
+use Rattle.tib_compose.specs.Readers.{readers_with}
+use Rattle.tib_compose.specs.Walk.{IsRead}
+use Rattle.tib_compose.specs.Searches.{tried_more}
+use Rattle.tib_compose.specs.declared.search.Turn.{Turn}
+use Rattle.tib_compose.proofs.Left.{beyond}
+use Rattle.tib_compose.proofs.Steps.{turn_ends, turn_alive, turn_dead}
+use Rattle.tib_compose.proofs.composite.Composite.step.Goals as goal
+
+same_fault : (f : ExpandError) → ◌≡◌ {A = Result Bool ExpandError} (Err f) (Err ExpandError.More) → ◌≡◌ {A = Result (Unit {0}) ExpandError} (Err f) (Err ExpandError.More)
+same_fault f e = let is : f ≡ ExpandError.More = cc in ap Err is
+
+pub returns-in_default-get-clause-steps : goal.returns-in_default-get-clause-steps
+returns-in_default-get-clause-steps g c = λ ready known order key all h.
+    let two = c.args.self.now.second.now.rules in
+    let t = c.in-Some.turn in
+    turn_ends c.args.source.now c.args.left.now g.S.Semiring.product two ready known order key all c.args.search.now c.args.listing.now h c.pop.new.self.items t c.in-Some.ensures.items
+    (record { branch = c.args.search.now.branch; turns = c.pop.new.self }) refl refl
+    (beyond c.find-readers.result.now (readers_with (t.reading.state, t.reading.label, t.reading.rank) two) t.tried (c.find-readers.ensures two c.args.self.now.indexed) c.in_default-get.ensures.lookup.0)
+
+pub returns-then-not-alive-clause-steps : goal.returns-then-not-alive-clause-steps
+returns-then-not-alive-clause-steps g c = λ ready known order key all h.
+    let two = c.args.self.now.second.now.rules in
+    let t = c.in-Some.turn in
+    let rs : List ℕ = readers_with (t.reading.state, t.reading.label, t.reading.rank) two in
+    let are : c.find-readers.result.now ≡ rs = c.find-readers.ensures two c.args.self.now.indexed in
+    let look = c.in-Some-get.ensures.lookup in
+    turn_dead c.args.source.now c.args.left.now g.S.Semiring.product two ready known order key all c.args.search.now c.args.listing.now h c.pop.new.self.items t c.in-Some.ensures.items
+    c.in-Some-get.position.now (subst (λ (xs : List ℕ). t.tried < length xs) are look.3.0) (ap (λ (xs : List ℕ). get_or xs t.tried 0) (sym are) ∙ sym (look.3.1 0))
+    c.back_to.new.self.branch c.read.new.branch c.back_to.ensures.done c.back_to.ensures.tasks c.back_to.ensures.next
+    c.again.new.self c.in-Ok-again.ensures.again.branch
+    (c.in-Ok-again.ensures.again.turns ∙ ap (λ (v : Vec Turn). v.items ++ tried_more t ∷ []) c.back_to.ensures.turns)
+    (subst (IsRead g.S.Semiring.product two c.args.source.now t c.in-Some-get.position.now c.back_to.new.self.branch c.read.new.branch) c.if-not-alive.true c.in-Ok.ensures.read)
+
+pub returns-in-Ok-go_on-clause-steps : goal.returns-in-Ok-go_on-clause-steps
+returns-in-Ok-go_on-clause-steps g c = λ ready known order key all h.
+    let two = c.args.self.now.second.now.rules in
+    let t = c.in-Some.turn in
+    let rs : List ℕ = readers_with (t.reading.state, t.reading.label, t.reading.rank) two in
+    let are : c.find-readers.result.now ≡ rs = c.find-readers.ensures two c.args.self.now.indexed in
+    let look = c.in-Some-get.ensures.lookup in
+    c.in-Ok-go_on.ensures.goes g.S.Semiring.product two ready known order key all
+    (turn_alive c.args.source.now c.args.left.now g.S.Semiring.product two ready known order key all c.args.search.now c.args.listing.now h c.pop.new.self.items t c.in-Some.ensures.items
+    c.in-Some-get.position.now (subst (λ (xs : List ℕ). t.tried < length xs) are look.3.0) (ap (λ (xs : List ℕ). get_or xs t.tried 0) (sym are) ∙ sym (look.3.1 0))
+    c.back_to.new.self.branch c.read.new.branch c.back_to.ensures.done c.back_to.ensures.tasks c.back_to.ensures.next
+    c.again.new.self c.in-Ok-again.ensures.again.branch
+    (c.in-Ok-again.ensures.again.turns ∙ ap (λ (v : Vec Turn). v.items ++ tried_more t ∷ []) c.back_to.ensures.turns)
+    (subst (IsRead g.S.Semiring.product two c.args.source.now t c.in-Some-get.position.now c.back_to.new.self.branch c.read.new.branch) c.if-not-alive.false c.in-Ok.ensures.read))
+
+pub returns-in-Err-clause-more : goal.returns-in-Err-clause-more
+returns-in-Err-clause-more g c = λ e ready known order key all h.
+    let two = c.args.self.now.second.now.rules in
+    let t = c.in-Some.turn in
+    let rs : List ℕ = readers_with (t.reading.state, t.reading.label, t.reading.rank) two in
+    let are : c.find-readers.result.now ≡ rs = c.find-readers.ensures two c.args.self.now.indexed in
+    let look = c.in-Some-get.ensures.lookup in
+    c.go_on.ensures.more (c.in-Err.is ∙ same_fault c.in-Err.fault e) g.S.Semiring.product two ready known order key all
+    (turn_alive c.args.source.now c.args.left.now g.S.Semiring.product two ready known order key all c.args.search.now c.args.listing.now h c.pop.new.self.items t c.in-Some.ensures.items
+    c.in-Some-get.position.now (subst (λ (xs : List ℕ). t.tried < length xs) are look.3.0) (ap (λ (xs : List ℕ). get_or xs t.tried 0) (sym are) ∙ sym (look.3.1 0))
+    c.back_to.new.self.branch c.read.new.branch c.back_to.ensures.done c.back_to.ensures.tasks c.back_to.ensures.next
+    c.again.new.self c.in-Ok-again.ensures.again.branch
+    (c.in-Ok-again.ensures.again.turns ∙ ap (λ (v : Vec Turn). v.items ++ tried_more t ∷ []) c.back_to.ensures.turns)
+    (subst (IsRead g.S.Semiring.product two c.args.source.now t c.in-Some-get.position.now c.back_to.new.self.branch c.read.new.branch) c.if-not-alive.false c.in-Ok.ensures.read))

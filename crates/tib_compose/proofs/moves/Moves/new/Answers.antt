@@ -1,0 +1,36 @@
+use Rattle.std.proofs.Common.{ℕ, List, [], ◌∷◌, ◌++◌, ◌<◌, arith, ap, length, subst, sym, ◌∙◌}
+use Rattle.std.specs.Global.{Vec}
+use Rattle.std.proofs.lemmas.List.{get_or_read, get_or-map, length-set, take_all}
+use Rattle.tib_transducer.specs.Rules.{transducer_rule, no_rule}
+use Rattle.tib_transducer.specs.declared.TransducerRule.{TransducerRule}
+use Rattle.tib_compose.specs.Moves.{moves_of}
+use Rattle.tib_compose.proofs.Bucketing.{held_next, state_below}
+use Rattle.tib_compose.proofs.moves.Moves.new.Goals as goal
+
+pub index_mut-requires : goal.index_mut-requires
+index_mut-requires g c =
+    let same = c.rule_list-rule-items.ensures in
+    let at = get_or_read c.rule_list-rule-items.result.now c.loop-n.n c.rule-item.result c.loop-n-test.true c.rule-item.is no_rule in
+    let low = subst (λ (rs : List (TransducerRule ℕ)). c.loop-n.n < length rs) same c.loop-n-test.true in
+    let is = at ∙ ap (λ (rs : List (TransducerRule ℕ)). transducer_rule rs c.loop-n.n) same in
+    omega (arith, state_below c.args.transducer.now.rules c.loop-n.n (length c.args.transducer.now.names) c.rule-item.result c.is_sound.ensures.range low is, c.loop-n.invariant.long)
+
+pub loop-n-preserved : goal.loop-n-preserved
+loop-n-preserved g c =
+    let same = c.rule_list-rule-items.ensures in
+    let at = get_or_read c.rule_list-rule-items.result.now c.loop-n.n c.rule-item.result c.loop-n-test.true c.rule-item.is no_rule in
+    let low = subst (λ (rs : List (TransducerRule ℕ)). c.loop-n.n < length rs) same c.loop-n-test.true in
+    let is = at ∙ ap (λ (rs : List (TransducerRule ℕ)). transducer_rule rs c.loop-n.n) same in
+    let below = state_below c.args.transducer.now.rules c.loop-n.n (length c.args.transducer.now.names) c.rule-item.result c.is_sound.ensures.range low is in
+    let fits : c.rule-item.result.state < length c.loop-n.buckets.items = omega (arith, below, c.loop-n.invariant.long) in
+    record {
+      long = length-set c.loop-n.buckets.items c.rule-item.result.state c.push.new.self ∙ c.loop-n.invariant.long;
+      held = held_next c.args.transducer.now.rules c.loop-n.n low c.rule-item.result c.loop-n.buckets.items c.push.new.self is fits
+          (c.in_ok-push.ensures.items ∙ ap (λ (xs : List ℕ). xs ++ c.loop-n.n ∷ [])
+          (ap (λ (b : Vec ℕ). b.items) c.index_mut.ensures.value ∙ sym (get_or-map (λ (b : Vec ℕ). b.items) c.loop-n.buckets.items c.rule-item.result.state c.index_mut.result.now [] fits)))
+          c.loop-n.invariant.held;
+    }
+
+pub returns : goal.returns
+returns g c q =
+    c.loop-n.invariant.held q ∙ ap (moves_of q) (take_all c.loop-n.n c.args.transducer.now.rules (omega (arith, c.loop-n-test.false, ap (λ (rs : List (TransducerRule ℕ)). length rs) c.rule_list-rule-items.ensures)))

@@ -1,0 +1,25 @@
+use Rattle.std.proofs.Common.{◌≡◌, Err, refl, sym, ap, ◌∙◌, subst, Some, None, arith}
+use Rattle.tib_compose.specs.Branches.{IsAdvanced}
+use Rattle.tib_compose.specs.Listing.{IsTooMuch, IsAdded}
+use Rattle.tib_compose.specs.declared.search.Search.{Search}
+use Rattle.tib_compose.proofs.Steps.{on_to_label, on_to_end, on_too_far}
+use Rattle.tib_compose.proofs.translating.go_on.Goals as goal
+
+pub returns-in-Ok-meet-clause-goes : goal.returns-in-Ok-meet-clause-goes
+returns-in-Ok-meet-clause-goes c = λ product two ready known order key all h.
+    on_to_label c.args.source.now c.args.left.now product two ready known order key all c.args.search.now c.meet.new.self c.advance.new.self c.in-Some.reading c.args.listing.now
+    (subst (IsAdvanced c.args.source.now.items.now c.args.search.now.branch c.advance.new.self) c.in-Some.is c.in-Ok.ensures.advanced) c.in-Ok-meet.ensures.meets h
+
+pub returns-in-Ok-add-clause-goes : goal.returns-in-Ok-add-clause-goes
+returns-in-Ok-add-clause-goes c = λ product two ready known order key all h.
+    let a = subst (IsAdvanced c.args.source.now.items.now c.args.search.now.branch c.advance.new.self) c.in-None.is c.in-Ok.ensures.advanced in
+    let new : Search = record { branch = c.advance.new.self; turns = c.args.search.now.turns } in
+    on_to_end c.args.source.now c.args.left.now product two ready known order key all c.args.search.now new c.args.listing.now a (omega (arith, c.get.ensures.same, c.get.ensures.within)) h c.add.new.self refl
+    (subst (λ d. IsAdded c.args.left.now d c.advance.new.self.cost c.args.listing.now c.add.new.self) c.deref.ensures.value c.in-Ok-add.ensures.added)
+
+pub returns-in-Err-add-clause-more : goal.returns-in-Err-add-clause-more
+returns-in-Err-add-clause-more c = λ e product two ready known order key all h.
+    let a = subst (IsAdvanced c.args.source.now.items.now c.args.search.now.branch c.advance.new.self) c.in-None.is c.in-Ok.ensures.advanced in
+    let new : Search = record { branch = c.advance.new.self; turns = c.args.search.now.turns } in
+    on_too_far c.args.source.now c.args.left.now product two ready known order key all c.args.search.now new c.args.listing.now a (omega (arith, c.get.ensures.same, c.get.ensures.within)) h
+    (subst (λ d. IsTooMuch c.args.left.now d c.args.listing.now) c.deref.ensures.value (c.add.ensures.more (c.in-Err-add.is ∙ e)))

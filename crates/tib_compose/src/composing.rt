@@ -1,0 +1,57 @@
+//! The composition of two transducers: the pairs that are reached, with their rules.
+
+ghost use Rattle.std.specs.Prelude.{◌≤◌, length, IfOk, IfErr, true};
+ghost use Rattle.tib_classes.specs.Outside.{demands, AllMeet};
+ghost use Rattle.tib_hunt.specs.Reached.{most_parts, IsBeyond};
+ghost use Rattle.tib_transducer.specs.Range.{AreShaped};
+ghost use Rattle.tib_compose_laws.specs.Composition.{composition};
+ghost use Rattle.tib_compose.specs.Composed.{AreOverOrder, HasPartsOf, IsComposeFault, IsReachedBy};
+
+use crate::composite::Composite;
+use crate::error::ComposeError;
+use crate::key::Key;
+use std::alloc::Global;
+use tib_classes::ClassError;
+use tib_cost::Semiring;
+use tib_hunt::{Found, Gate, HuntError, hunt_alone};
+use tib_transducer::{Transducer, TransducerRule};
+
+/// The pairs of states that composition reaches from the pair of the starts, in the order by rounds, and the rules over their
+/// positions. As a transducer whose start is position 0 they turn each tree into each other at the least cost over all trees
+/// between (`composes_series` of tib_compose_laws). `Class` exactly where the second transducer is not linear, nondeleting, not
+/// extended and not labelled; `TooMany` exactly where they have more parts than the limit, 1 to `MOST_PARTS` of tib_hunt;
+/// `OutOfMemory` if memory is refused. Calls `gate` once for each pair. Cost: that of `Composite::new`, and for each pair and
+/// each rule of its state of the first transducer a search of the translations of the rule's right side, beside the hunt's own
+/// (`hunt_alone`). The construction is from Engelfriet, 1975, and with weights from Maletti, 2006.
+pub fn compose<S: Semiring, G: Gate>(
+    alloc: Global,
+    first: &Transducer<S>,
+    second: &Transducer<S>,
+    limit: u64,
+    gate: &G,
+) -> Result<Found<Key, TransducerRule<u32>>, ComposeError>
+    requires some { 1 ≤ limit }
+    requires limit { limit ≤ most_parts }
+    ensures class { IfOk result (λ _. AllMeet (demands true true true true) second.now.rules) }
+    ensures reached { IfOk result (IsReachedBy S.product first.now.rules second.now.rules) }
+    ensures range { IfOk result AreOverOrder }
+    ensures shaped { IfOk result (λ f. AreShaped f.rules.items) }
+    ensures parts { IfOk result (HasPartsOf S.product first.now.rules second.now.rules) }
+    ensures within { IfOk result (λ f. f.parts ≤ limit) }
+    ensures few { IfOk result (λ f. length f.order.items ≤ limit) }
+    ensures few_rules { IfOk result (λ f. length f.rules.items ≤ limit) }
+    ensures fault { let hunted = composition S.product first.now.rules second.now.rules in
+        IfErr result (IsComposeFault second.now.rules limit (IsBeyond hunted limit)) }
+{
+    first.is_sound();
+    let composite = match Composite::new(alloc, first, second) {
+        Ok(composite) => composite,
+        Err(ClassError::Class { rule, fault }) => return Err(ComposeError::Class { rule, fault }),
+        Err(ClassError::OutOfMemory) => return Err(ComposeError::OutOfMemory),
+    };
+    match hunt_alone(alloc, &composite, limit, gate) {
+        Ok(found) => Ok(found),
+        Err(HuntError::TooMany { limit }) => Err(ComposeError::TooMany { limit }),
+        Err(HuntError::OutOfMemory) => Err(ComposeError::OutOfMemory),
+    }
+}

@@ -1,0 +1,108 @@
+//! The edges of a pair: for each rule of its state of the first transducer, and each translation of the rule's right side.
+
+ghost use Rattle.std.specs.Prelude.{◌≡◌, ◌<◌, ◌≤◌, length, IfOk, OnOk, Err};
+ghost use Rattle.tib_hunt.specs.Reached.{most_parts};
+ghost use Rattle.tib_compose.specs.KeyEdges.{IsSourceOf, KeyOverruns, ListsKey, ListsRule, RuleOverruns};
+ghost use Rattle.tib_compose.specs.Listing.{IsWithinBudget};
+
+use crate::bounds::Bounds;
+use crate::composite::Composite;
+use crate::ends::ends_of;
+use crate::key::Key;
+use crate::listing::Listing;
+use crate::search::Search;
+use crate::source::Source;
+use crate::translating::go_on;
+use std::alloc::{AllocError, Global};
+use tib_cost::Semiring;
+use tib_hunt::ExpandError;
+use tib_transducer::TransducerRule;
+
+impl<'a, S: Semiring> Composite<'a, S> {
+    /// The right side of a rule of the first transducer, as what is to be translated by a state of the second, with the bounds of
+    /// what a search comes to. Err only if memory is refused.
+    fn source_of<'b>(
+        &self,
+        alloc: Global,
+        rule: &'b TransducerRule<u32>,
+        state: u32,
+    ) -> Result<Source<'b>, AllocError>
+        ensures { IfOk result (IsSourceOf S.product self.now.second.now.rules rule.now) }
+    {
+        let items = rule.right.items();
+        if items.len() > 4_000_000_000 {
+            return Err(AllocError);
+        }
+        let ends = ends_of(alloc, items)?;
+        let bounds = Bounds::new(alloc);
+        let mut source = Source {
+            items,
+            ends,
+            bounds,
+        };
+        self.set_bounds(alloc, &mut source, state)?;
+        Ok(source)
+    }
+
+    /// Lists the edges of a pair along the rule of the first transducer at a position. `More` exactly where they have more
+    /// parts than the budget leaves.
+    fn list_rule(
+        &self,
+        alloc: Global,
+        key: Key,
+        position: u32,
+        listing: &mut Listing,
+    ) -> Result<(), ExpandError>
+        requires below { position < length self.now.first.now.rules }
+        requires within { IsWithinBudget listing.old }
+        ensures listed { OnOk result (ListsRule S.product self.now.first.now.rules self.now.second.now.rules key position listing.old listing.new) }
+        ensures more { result ≡ Err ExpandError.More → RuleOverruns S.product self.now.first.now.rules self.now.second.now.rules key position listing.old }
+        ensures within { OnOk result (IsWithinBudget listing.new) }
+        ensures budget { OnOk result (listing.new.budget ≡ listing.old.budget) }
+    {
+        self.second.is_sound();
+        let rule = &self.first.rule_list()[position as usize];
+        let Ok(source) = self.source_of(alloc, rule, key.second()) else {
+            return Err(ExpandError::OutOfMemory);
+        };
+        let Ok(mut search) = Search::new::<S>(alloc, rule.cost, key.second()) else {
+            return Err(ExpandError::OutOfMemory);
+        };
+        match go_on(alloc, &source, &rule.left, &mut search, listing) {
+            Ok(()) => {}
+            Err(fault) => return Err(fault),
+        }
+        for _ in 0..u64::MAX {
+            match self.step(alloc, &source, &rule.left, &mut search, listing) {
+                Ok(true) => {}
+                Ok(false) => return Ok(()),
+                Err(fault) => return Err(fault),
+            }
+        }
+        Err(ExpandError::OutOfMemory)
+    }
+
+    /// The edges of a pair that stands at a position. `More` exactly where they have more parts than the budget.
+    pub(crate) fn list_edges(
+        &self,
+        alloc: Global,
+        key: Key,
+        position: u32,
+        budget: u64,
+    ) -> Result<Listing, ExpandError>
+        requires budget { budget ≤ most_parts }
+        ensures listed { IfOk result (ListsKey S.product self.now.first.now.rules self.now.second.now.rules key position) }
+        ensures more { result ≡ Err ExpandError.More → KeyOverruns S.product self.now.first.now.rules self.now.second.now.rules key position budget }
+        ensures within { IfOk result IsWithinBudget }
+        ensures budget { IfOk result (λ l. l.budget ≡ budget) }
+    {
+        let mut listing = Listing::new(alloc, position, budget);
+        for rule_position in self.moves.of(key.first()) {
+            match self.list_rule(alloc, key, *rule_position, &mut listing) {
+                Ok(()) => {}
+                Err(fault) => return Err(fault),
+            }
+        }
+        Ok(listing)
+    }
+}

@@ -1,0 +1,74 @@
+//! Composition as an operation of the hunt: its seed, its edges, and the rules that stand for these.
+
+use crate::choice::Choice;
+use crate::composite::Composite;
+use crate::key::Key;
+use crate::settling::settled_rule;
+use std::alloc::{AllocError, Global};
+use tib_cost::Semiring;
+use tib_hunt::{Edges, Expand, ExpandError, Place};
+use tib_transducer::TransducerRule;
+
+impl<'a, S: Semiring> Expand for Composite<'a, S> {
+    ghost use Rattle.std.specs.Prelude.{◌<◌, length};
+    ghost use Rattle.tib_compose_laws.specs.Composition.{composition};
+    ghost use Rattle.tib_compose.specs.EdgeLaws.{compose_reading, composition_is_lawful};
+
+    type Key = Key;
+
+    type Over = TransducerRule<Place>;
+
+    type Rule = TransducerRule<u32>;
+
+    type Origin = (u32, Choice);
+
+    type Edge = TransducerRule<Key>;
+
+    ghost hunted = { λ c. composition S.product c.first.now.rules c.second.now.rules };
+
+    ghost admits = { λ c k. (k.0 < length c.first.now.names) × (k.1 < length c.second.now.names) };
+
+    ghost reading = { compose_reading };
+
+    fn seeds(
+        &self,
+        alloc: Global,
+        budget: u64,
+    ) -> Result<Edges<Key, TransducerRule<Place>>, ExpandError> {
+        let _budget = budget;
+        let Ok(ends) = Vec::from_array(alloc, [Key::new(0, 0)]) else {
+            return Err(ExpandError::OutOfMemory);
+        };
+        Ok(Edges {
+            ends,
+            rules: Vec::new(alloc),
+            parts: 0,
+        })
+    }
+
+    fn expand(
+        &self,
+        alloc: Global,
+        order: &[Key],
+        n: u32,
+        budget: u64,
+    ) -> Result<Edges<Key, TransducerRule<Place>>, ExpandError> {
+        self.second.is_sound();
+        match self.list_edges(alloc, order[n as usize], n, budget) {
+            Ok(listing) => Ok(listing.into_edges()),
+            Err(fault) => Err(fault),
+        }
+    }
+
+    fn settle(
+        &self,
+        alloc: Global,
+        rule: &TransducerRule<Place>,
+        ends: &[u32],
+    ) -> Result<TransducerRule<u32>, AllocError> {
+        settled_rule(alloc, rule, ends)
+    }
+
+    ghost lawful = { λ c. composition_is_lawful S.product c.first.now.rules c.second.now.rules
+        (length c.first.now.names) (length c.second.now.names) c.first_start c.second_start c.first_range c.second_range };
+}

@@ -1,0 +1,162 @@
+//! The edges of a pair, listed one after another within a budget of parts.
+
+ghost use Rattle.std.specs.Prelude.{◌≡◌, ℕ, ◌+◌, ◌<◌, ◌≤◌, ◌++◌, ◌^◌, length, IfOk, OnOk, Err, []};
+ghost use Rattle.tib_grammar.specs.Items.{pairs_of};
+ghost use Rattle.tib_tree.specs.Trees.{preorder_of};
+ghost use Rattle.tib_hunt.specs.Reached.{most_parts};
+ghost use Rattle.tib_compose.specs.Listing.{IsAdded, IsPlacedRule, IsTooMuch, IsWithinBudget, keys_in, placed};
+
+use crate::key::Key;
+use crate::settling::copied_left;
+use std::alloc::{AllocError, Global};
+use tib_cost::Cost;
+use tib_grammar::{Item, Side};
+use tib_hunt::{Edges, ExpandError, Place};
+use tib_transducer::{Pair, TransducerRule, Variable};
+
+/// The side of some items. Err also where they are no side, or too many to be counted.
+fn placed_side(items: Vec<Item<Pair<Place>>>) -> Result<Side<Pair<Place>>, AllocError>
+    ensures { IfOk result (λ s. preorder_of s ≡ pairs_of items.items) }
+{
+    if items.len() > 4_000_000_000 {
+        return Err(AllocError);
+    }
+    match Side::from_preorder(items) {
+        Ok(side) => Ok(side),
+        Err(_) => Err(AllocError),
+    }
+}
+
+/// The items with a new end in place of the key of each pair.
+fn place_items(
+    alloc: Global,
+    items: &[Item<Pair<Key>>],
+    ends: &mut Vec<Key>,
+) -> Result<Vec<Item<Pair<Place>>>, AllocError>
+    requires few { length ends.old.items + length items.now < 2 ^ 32 }
+    ensures items { IfOk result (λ v. v.items ≡ placed (length ends.old.items) items.now) }
+    ensures ends { OnOk result (ends.new.items ≡ ends.old.items ++ keys_in items.now) }
+{
+    let mut done = Vec::with_capacity(alloc, items.len())?;
+    for item in items {
+        match item {
+            Item::Label { label, rank } => {
+                done.push(Item::Label {
+                    label: *label,
+                    rank: *rank,
+                })?;
+            }
+            Item::Hole(pair) => {
+                done.push(Item::Hole(Pair {
+                    state: Place::End(ends.len() as u32),
+                    variable: pair.variable,
+                }))?;
+                ends.push(pair.state)?;
+            }
+        }
+    }
+    Ok(done)
+}
+
+/// The edges of the pair at a position, as far as they are listed, within a budget of parts.
+#[derive(Drop)]
+pub struct Listing {
+    /// The ends, one after another.
+    pub ends: Vec<Key>,
+    /// The rules over places.
+    pub rules: Vec<TransducerRule<Place>>,
+    /// The parts of the rules.
+    pub parts: u64,
+    /// The position.
+    pub position: u32,
+    /// The budget.
+    pub budget: u64,
+}
+
+impl Listing {
+    /// The empty list of edges of the pair at a position.
+    pub fn new(alloc: Global, position: u32, budget: u64) -> Listing
+        ensures position { result.position ≡ position }
+        ensures budget { result.budget ≡ budget }
+        ensures ends { result.ends.items ≡ [] }
+        ensures rules { result.rules.items ≡ [] }
+        ensures parts { result.parts ≡ 0 }
+    {
+        Listing {
+            ends: Vec::new(alloc),
+            rules: Vec::new(alloc),
+            parts: 0,
+            position,
+            budget,
+        }
+    }
+
+    /// The rule over places that reads a left side and puts out some items at a cost, where each pair leads to a new end.
+    fn placed_rule(
+        &mut self,
+        alloc: Global,
+        left: &Side<Variable>,
+        done: &[Item<Pair<Key>>],
+        cost: Cost,
+    ) -> Result<TransducerRule<Place>, AllocError>
+        requires few { length self.old.ends.items < 20000001 }
+        ensures rule { IfOk result (IsPlacedRule left.now done.now cost self.old self.new) }
+    {
+        if done.len() > 4_000_000_000 {
+            return Err(AllocError);
+        }
+        let items = place_items(alloc, done, &mut self.ends)?;
+        let right = placed_side(items)?;
+        let left = copied_left(alloc, left)?;
+        Ok(TransducerRule {
+            state: Place::Known(self.position),
+            left,
+            right,
+            cost,
+        })
+    }
+
+    /// Lists an edge that reads a left side and puts out some items at a cost. `More` comes exactly where it has more parts
+    /// than the budget leaves.
+    pub fn add(
+        &mut self,
+        alloc: Global,
+        left: &Side<Variable>,
+        done: &[Item<Pair<Key>>],
+        cost: Cost,
+    ) -> Result<(), ExpandError>
+        requires within { IsWithinBudget self.old }
+        ensures added { OnOk result (IsAdded left.now done.now cost self.old self.new) }
+        ensures more { result ≡ Err ExpandError.More → IsTooMuch left.now done.now self.old }
+        ensures within { OnOk result (IsWithinBudget self.new) }
+    {
+        let Ok(rule) = self.placed_rule(alloc, left, done, cost) else {
+            return Err(ExpandError::OutOfMemory);
+        };
+        let parts = self.parts + 1 + left.items().len() as u64 + rule.right.items().len() as u64;
+        if parts > self.budget {
+            return Err(ExpandError::More);
+        }
+        match self.rules.push(rule) {
+            Ok(()) => {}
+            Err(_) => return Err(ExpandError::OutOfMemory),
+        }
+        self.parts = parts;
+        Ok(())
+    }
+
+    /// The ends, the rules and their parts.
+    pub fn into_edges(self) -> Edges<Key, TransducerRule<Place>>
+        ensures ends { result.ends.items ≡ self.ends.items }
+        ensures rules { result.rules.items ≡ self.rules.items }
+        ensures parts { result.parts ≡ self.parts }
+    {
+        let Listing {
+            ends,
+            rules,
+            parts,
+            ..
+        } = self;
+        Edges { ends, rules, parts }
+    }
+}

@@ -1,0 +1,118 @@
+//! All translations of a right side of the first transducer, one after another.
+
+ghost use Rattle.std.specs.Prelude.{◌≡◌, IfOk, OnOk, Err};
+ghost use Rattle.tib_compose.specs.Listing.{IsWithinBudget};
+ghost use Rattle.tib_compose.specs.Walk.{GoesOn, GoesTooFar, IsRead, Steps, StepsTooFar};
+
+use crate::branch::Branch;
+use crate::composite::Composite;
+use crate::listing::Listing;
+use crate::pending::product_of;
+use crate::putting::push_pieces;
+use crate::search::{Search, Turn};
+use crate::source::Source;
+use std::alloc::{AllocError, Global};
+use tib_cost::Semiring;
+use tib_grammar::Side;
+use tib_hunt::ExpandError;
+use tib_transducer::Variable;
+
+/// Goes on with the branch of a search up to the next label that is read, and turns there; where none is left, lists the
+/// edge that reads the left side and puts out what the branch put out. `More` exactly where the budget has no room for it.
+pub(crate) fn go_on(
+    alloc: Global,
+    source: &Source,
+    left: &Side<Variable>,
+    search: &mut Search,
+    listing: &mut Listing,
+) -> Result<(), ExpandError>
+    requires within { IsWithinBudget listing.old }
+    ensures goes { OnOk result (GoesOn source.now left.now search.old search.new listing.old listing.new) }
+    ensures more { result ≡ Err ExpandError.More → GoesTooFar source.now left.now search.old listing.old }
+    ensures within { OnOk result (IsWithinBudget listing.new) }
+    ensures budget { OnOk result (listing.new.budget ≡ listing.old.budget) }
+{
+    let Ok(reading) = search.branch.advance(source.items) else {
+        return Err(ExpandError::OutOfMemory);
+    };
+    search.branch.cost.get();
+    match reading {
+        Some(reading) => match search.meet(reading) {
+            Ok(()) => Ok(()),
+            Err(_) => Err(ExpandError::OutOfMemory),
+        },
+        None => match listing.add(alloc, left, &search.branch.done, search.branch.cost) {
+            Ok(()) => Ok(()),
+            Err(fault) => Err(fault),
+        },
+    }
+}
+
+impl<'a, S: Semiring> Composite<'a, S> {
+    /// Reads the label of a turn by the rule of the second transducer at a position, and answers whether a translation
+    /// within the greatest cost can come of it.
+    fn read(
+        &self,
+        source: &Source,
+        branch: &mut Branch,
+        turn: &Turn,
+        position: u32,
+    ) -> Result<bool, AllocError>
+        ensures read { IfOk result (IsRead S.product self.now.second.now.rules source.now turn.now position branch.old branch.new) }
+    {
+        let Some(rule) = self.second.rule_list().get(position as usize) else {
+            return Err(AllocError);
+        };
+        let Some(cost) = S::times(turn.cost, rule.cost) else {
+            return Ok(false);
+        };
+        branch.cost = cost;
+        push_pieces::<S>(
+            &mut branch.pending,
+            rule.right.items(),
+            source,
+            turn.reading.node,
+        )?;
+        Ok(product_of::<S>(Some(cost), branch.pending.bound()).is_some())
+    }
+
+    /// Takes the next rule at the last turn of a search; the answer is whether there is a turn.
+    pub(crate) fn step(
+        &self,
+        alloc: Global,
+        source: &Source,
+        left: &Side<Variable>,
+        search: &mut Search,
+        listing: &mut Listing,
+    ) -> Result<bool, ExpandError>
+        requires within { IsWithinBudget listing.old }
+        ensures steps { IfOk result (Steps S.product self.now.second.now.rules source.now left.now search.old search.new listing.old listing.new) }
+        ensures more { result ≡ Err ExpandError.More → StepsTooFar S.product self.now.second.now.rules source.now left.now search.old listing.old }
+        ensures within { OnOk result (IsWithinBudget listing.new) }
+        ensures budget { OnOk result (listing.new.budget ≡ listing.old.budget) }
+    {
+        let Some(turn) = search.turns.pop() else {
+            return Ok(false);
+        };
+        let readers = self
+            .index
+            .find(turn.reading.state, turn.reading.label, turn.reading.rank);
+        let Some(position) = readers.get(turn.tried) else {
+            return Ok(true);
+        };
+        search.back_to(&turn);
+        let Ok(alive) = self.read(source, &mut search.branch, &turn, *position) else {
+            return Err(ExpandError::OutOfMemory);
+        };
+        let Ok(()) = search.again(turn) else {
+            return Err(ExpandError::OutOfMemory);
+        };
+        if !alive {
+            return Ok(true);
+        }
+        match go_on(alloc, source, left, search, listing) {
+            Ok(()) => Ok(true),
+            Err(fault) => Err(fault),
+        }
+    }
+}
