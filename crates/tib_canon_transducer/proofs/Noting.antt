@@ -1,0 +1,160 @@
+-- States and sides in a table that tests them item by item.
+use Rattle.std.proofs.Common.{◌≡◌, ℕ, ◌+◌, ◌<◌, List, [], ◌∷◌, ◌++◌, length, map, get_or, Bool, true, false, not, cond, refl, suc, arith, ap, sym, ◌∙◌, subst, true≢false, inl, inr, Option}
+use Rattle.std.specs.Prelude.{nat_eq, ◌&&◌, if◌then◌else◌, Some, None}
+use Rattle.std.specs.List.{list_any, position_or_len}
+use Rattle.std.specs.Cmp.Lexicographic.{pointwise}
+use Rattle.std.proofs.lemmas.List.{map-append}
+use Rattle.tib_lex.proofs.Numbers.{nat_eq-true, nat_eq-itself}
+use Rattle.tib_lex.proofs.Booleans.{and-true, or-either, or-neither}
+use Rattle.tib_lex.specs.Lists.{Has}
+use Rattle.tib_grammar.specs.declared.Item.{Item}
+use Rattle.tib_grammar.specs.declared.Item.TheVariants.{Label, Hole}
+use Rattle.tib_transducer.specs.declared.Variable.{Variable}
+use Rattle.tib_transducer.specs.declared.Pair.{Pair}
+use Rattle.tib_canon_transducer.specs.Merging.{Sides, no_sides}
+
+-- a test that tells values apart
+pub record Tells {A : Type 0} (t : A → A → Bool) : Type 0 where
+  pub same : (x y : A) → t x y ≡ true → x ≡ y
+  pub itself : (x : A) → t x x ≡ true
+
+module _ {A : Type 0} (t : A → A → Bool) (tells : Tells t) where
+  lists_same : (xs ys : List A) → pointwise t xs ys ≡ true → xs ≡ ys
+  lists_same [] [] e = refl
+  lists_same [] (y ∷ ys) e = absurd (cc)
+  lists_same (x ∷ xs) [] e = absurd (cc)
+  lists_same (x ∷ xs) (y ∷ ys) e =
+      let parts = and-true (t x y) (pointwise t xs ys) e in
+      ap (λ z. z ∷ xs) (tells.same x y parts.0) ∙ ap (λ zs. y ∷ zs) (lists_same xs ys parts.1)
+
+  lists_themselves : (xs : List A) → pointwise t xs xs ≡ true
+  lists_themselves [] = refl
+  lists_themselves (x ∷ xs) = rw (tells.itself x, lists_themselves xs) refl
+
+-- a test of items by their fields, where T tests what holes carry
+pub record IsItemTest {P : Type 0} (E : Item P → Item P → Bool) (T : P → P → Bool) : Type 0 where
+  pub labels : (f r g s : ℕ) → E (Label f r) (Label g s) ≡ (nat_eq f g && nat_eq r s)
+  pub label_hole : (f r : ℕ) (q : P) → E (Label f r) (Hole q) ≡ false
+  pub hole_label : (p : P) (g s : ℕ) → E (Hole p) (Label g s) ≡ false
+  pub holes : (p q : P) → E (Hole p) (Hole q) ≡ T p q
+
+pub items_tell : {P : Type 0} (E : Item P → Item P → Bool) (T : P → P → Bool) → IsItemTest E T → Tells T → Tells E
+items_tell {P} E T test tells = record { same = same; itself = itself }
+  where
+    same : (x y : Item P) → E x y ≡ true → x ≡ y
+    same (Label f r) (Label g s) e =
+        let parts = and-true (nat_eq f g) (nat_eq r s) (sym (test.labels f r g s) ∙ e) in
+        let labels : f ≡ g = nat_eq-true f g parts.0 in
+        let ranks : r ≡ s = nat_eq-true r s parts.1 in
+        cc
+    same (Label f r) (Hole q) e = absurd (true≢false (sym e ∙ test.label_hole f r q))
+    same (Hole p) (Label g s) e = absurd (true≢false (sym e ∙ test.hole_label p g s))
+    same (Hole p) (Hole q) e = ap Hole (tells.same p q (sym (test.holes p q) ∙ e))
+
+    itself : (x : Item P) → E x x ≡ true
+    itself (Label f r) = test.labels f r f r ∙ rw (nat_eq-itself f, nat_eq-itself r) refl
+    itself (Hole p) = test.holes p p ∙ tells.itself p
+
+-- a test of labels that variables may ask for
+pub record IsAskedTest (O : Option ℕ → Option ℕ → Bool) : Type 0 where
+  pub neither : O None None ≡ true
+  pub first : (f : ℕ) → O (Some f) None ≡ false
+  pub second : (g : ℕ) → O None (Some g) ≡ false
+  pub both : (f g : ℕ) → O (Some f) (Some g) ≡ nat_eq f g
+
+asked_tell : (O : Option ℕ → Option ℕ → Bool) → IsAskedTest O → Tells O
+asked_tell O test = record { same = same; itself = itself }
+  where
+    same : (x y : Option ℕ) → O x y ≡ true → x ≡ y
+    same None None e = refl
+    same None (Some g) e = absurd (true≢false (sym e ∙ test.second g))
+    same (Some f) None e = absurd (true≢false (sym e ∙ test.first f))
+    same (Some f) (Some g) e = ap (λ (n : ℕ). Some n) (nat_eq-true f g (sym (test.both f g) ∙ e))
+
+    itself : (x : Option ℕ) → O x x ≡ true
+    itself None = test.neither
+    itself (Some f) = test.both f f ∙ nat_eq-itself f
+
+pub variables_tell : (T : Variable → Variable → Bool) (O : Option ℕ → Option ℕ → Bool) → IsAskedTest O → ((x y : Variable) → T x y ≡ (nat_eq x.number y.number && O x.label y.label)) → Tells T
+variables_tell T O test is = record { same = same; itself = itself }
+  where
+    same : (x y : Variable) → T x y ≡ true → x ≡ y
+    same x y e =
+        let parts = and-true (nat_eq x.number y.number) (O x.label y.label) (sym (is x y) ∙ e) in
+        ap (λ (n : ℕ). record { number = n; label = x.label }) (nat_eq-true x.number y.number parts.0)
+        ∙ ap (λ (a : Option ℕ). record { number = y.number; label = a }) ((asked_tell O test).same x.label y.label parts.1)
+
+    itself : (x : Variable) → T x x ≡ true
+    itself x = is x x ∙ rw (nat_eq-itself x.number, (asked_tell O test).itself x.label) refl
+
+pub pairs_tell : (T : Pair ℕ → Pair ℕ → Bool) → ((x y : Pair ℕ) → T x y ≡ (nat_eq x.state y.state && nat_eq x.variable y.variable)) → Tells T
+pairs_tell T is = record { same = same; itself = itself }
+  where
+    same : (x y : Pair ℕ) → T x y ≡ true → x ≡ y
+    same x y e =
+        let parts = and-true (nat_eq x.state y.state) (nat_eq x.variable y.variable) (sym (is x y) ∙ e) in
+        ap (λ (n : ℕ). record { state = n; variable = x.variable }) (nat_eq-true x.state y.state parts.0)
+        ∙ ap (λ (n : ℕ). record { state = y.state; variable = n }) (nat_eq-true x.variable y.variable parts.1)
+
+    itself : (x : Pair ℕ) → T x x ≡ true
+    itself x = is x x ∙ rw (nat_eq-itself x.state, nat_eq-itself x.variable) refl
+
+module _ (E : Item Variable → Item Variable → Bool) (F : Item (Pair ℕ) → Item (Pair ℕ) → Bool) (one : Tells E) (two : Tells F) where
+  -- the test of three parts tells them
+  pub sides_same : (j k : Sides) → ((nat_eq j.0 k.0 && pointwise E j.1 k.1) && pointwise F j.2 k.2) ≡ true → k ≡ j
+  sides_same j k e =
+      let outer = and-true (nat_eq j.0 k.0 && pointwise E j.1 k.1) (pointwise F j.2 k.2) e in
+      let parts = and-true (nat_eq j.0 k.0) (pointwise E j.1 k.1) outer.0 in
+      let state : j.0 ≡ k.0 = nat_eq-true j.0 k.0 parts.0 in
+      let left : j.1 ≡ k.1 = lists_same E one j.1 k.1 parts.1 in
+      let right : j.2 ≡ k.2 = lists_same F two j.2 k.2 outer.1 in
+      sym (ap (λ x. (x, j.1, j.2)) state ∙ ap (λ x. (k.0, x, j.2)) left ∙ ap (λ x. (k.0, k.1, x)) right)
+
+  pub sides_themselves : (j k : Sides) → k ≡ j → ((nat_eq j.0 k.0 && pointwise E j.1 k.1) && pointwise F j.2 k.2) ≡ true
+  sides_themselves j k e =
+      subst (λ (l : Sides). ((nat_eq j.0 l.0 && pointwise E j.1 l.1) && pointwise F j.2 l.2) ≡ true) (sym e)
+      (rw (nat_eq-itself j.0, lists_themselves E one j.1, lists_themselves F two j.2) refl)
+
+module _ {K : Type 0} (v : K → Sides) (t : K → Bool) (x : K) where
+  absent : ((k : K) → v k ≡ v x → t k ≡ true) → (keys : List K) → list_any t keys ≡ false → Has (map v keys) (v x) → ⊥
+  absent told [] f h = h
+  absent told (k ∷ keys) f h =
+      let parts = or-neither (t k) (list_any t keys) f in
+      elim h [ inl e ↦ true≢false (sym (told k e) ∙ parts.0) | inr m ↦ absent told keys parts.1 m ]
+
+  found : ((k : K) → t k ≡ true → v k ≡ v x) → (keys : List K) → list_any t keys ≡ true → (position_or_len t keys < length (map v keys)) × (get_or (map v keys) (position_or_len t keys) no_sides ≡ v x)
+  found tells [] e = absurd (cc)
+  found tells (k ∷ keys) e = elim (or-either (t k) (list_any t keys) e) [
+    | inl h ↦ here k keys (t k) h (tells k h)
+    | inr m ↦ there k keys (t k) m.0 (position_or_len t keys) (found tells keys m.1)
+  ]
+    where
+      here : (k : K) (keys : List K) (b : Bool) → b ≡ true → v k ≡ v x → (cond (not b) (1 + position_or_len t keys) 0 < length (v k ∷ map v keys)) × (get_or (v k ∷ map v keys) (cond (not b) (1 + position_or_len t keys) 0) no_sides ≡ v x)
+      here k keys true h e = (omega arith, e)
+      here k keys false h e = absurd (cc)
+
+      there : (k : K) (keys : List K) (b : Bool) → b ≡ false → (i : ℕ) → (i < length (map v keys)) × (get_or (map v keys) i no_sides ≡ v x) → (cond (not b) (1 + i) 0 < length (v k ∷ map v keys)) × (get_or (v k ∷ map v keys) (cond (not b) (1 + i) 0) no_sides ≡ v x)
+      there k keys true h i p = absurd (cc)
+      there k keys false h i p =
+          let e : suc i ≡ 1 + i = omega arith in
+          subst (λ n. (n < length (v k ∷ map v keys)) × (get_or (v k ∷ map v keys) n no_sides ≡ v x)) e (omega (arith, p.0), p.1)
+
+  kept : (b : Bool) (keys : List K) → b ≡ true → (if b then keys else keys ++ x ∷ []) ≡ keys
+  kept true keys e = refl
+  kept false keys e = absurd (cc)
+
+  grown : (b : Bool) (keys : List K) → b ≡ false → (if b then keys else keys ++ x ∷ []) ≡ keys ++ x ∷ []
+  grown true keys e = absurd (cc)
+  grown false keys e = refl
+
+  pub noted_new :
+      ((k : K) → v k ≡ v x → t k ≡ true) → (keys now : List K) → list_any t keys ≡ false → now ≡ (if list_any t keys then keys else keys ++ x ∷ []) →
+      (Has (map v keys) (v x) → ⊥) × (map v now ≡ map v keys ++ v x ∷ [])
+  noted_new told keys now f e = (absent told keys f, ap (map v) (e ∙ grown (list_any t keys) keys f) ∙ map-append v keys (x ∷ []))
+
+  pub noted_before :
+      ((k : K) → t k ≡ true → v k ≡ v x) → (keys now : List K) (place : ℕ) → list_any t keys ≡ true → place ≡ position_or_len t keys →
+      now ≡ (if list_any t keys then keys else keys ++ x ∷ []) → (place < length (map v keys)) × (get_or (map v keys) place no_sides ≡ v x) × (map v now ≡ map v keys)
+  noted_before tells keys now place h p e =
+      let at = subst (λ n. (n < length (map v keys)) × (get_or (map v keys) n no_sides ≡ v x)) (sym p) (found tells keys h) in
+      (at.0, at.1, ap (map v) (e ∙ kept (list_any t keys) keys h))
