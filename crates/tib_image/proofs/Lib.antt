@@ -1,0 +1,8 @@
+pub mod Matching
+pub mod Reaching
+pub mod Meaning
+pub mod Walking
+pub mod Positions
+pub mod Listed
+pub mod Edging
+pub mod Answering

@@ -1,0 +1,73 @@
+//! The image of a tree as an operation: its seed, its edges, and the rules that stand for these.
+
+use crate::key::Key;
+use crate::operation::Image;
+use crate::settling::settle_rule;
+use std::alloc::{AllocError, Global};
+use tib_apply::ForwardRule;
+use tib_cost::Semiring;
+use tib_grammar::Rule;
+use tib_hunt::{Edges, Expand, ExpandError};
+
+impl<'a, S: Semiring> Expand for Image<'a, S> {
+    ghost use Rattle.std.specs.Prelude.{◌<◌};
+    ghost use Rattle.tib_tree.specs.Trees.{size};
+    ghost use Rattle.tib_image.specs.Image.{image_of};
+    ghost use Rattle.tib_image.specs.Laws.{image_reading, image_is_lawful};
+
+    type Key = Key;
+
+    type Over = ForwardRule<'a>;
+
+    type Rule = Rule<u32>;
+
+    type Origin = u32;
+
+    type Edge = Rule<Key>;
+
+    ghost hunted = { λ i. image_of i.transducer.now.rules i.tree.now };
+
+    ghost admits = { λ i k. k.1 < size i.tree.now };
+
+    ghost reading = { image_reading };
+
+    fn seeds(
+        &self,
+        alloc: Global,
+        budget: u64,
+    ) -> Result<Edges<Key, ForwardRule<'a>>, ExpandError> {
+        let _budget = budget;
+        let Ok(ends) = Vec::from_array(alloc, [Key::new(0, 0)]) else {
+            return Err(ExpandError::OutOfMemory);
+        };
+        Ok(Edges {
+            ends,
+            rules: Vec::new(alloc),
+            parts: 0,
+        })
+    }
+
+    fn expand(
+        &self,
+        alloc: Global,
+        order: &[Key],
+        n: u32,
+        budget: u64,
+    ) -> Result<Edges<Key, ForwardRule<'a>>, ExpandError> {
+        match self.list_edges(alloc, order[n as usize], n, budget) {
+            Ok(listing) => Ok(listing.into_edges()),
+            Err(fault) => Err(fault),
+        }
+    }
+
+    fn settle(
+        &self,
+        alloc: Global,
+        rule: &ForwardRule<'a>,
+        ends: &[u32],
+    ) -> Result<Rule<u32>, AllocError> {
+        settle_rule(alloc, rule, ends)
+    }
+
+    ghost lawful = { λ i. image_is_lawful i.transducer.now.rules i.tree.now };
+}

@@ -1,0 +1,23 @@
+//! All outputs of a transducer on one tree: keys of a state of the transducer and a node of the tree, reached along the rules
+//! whose left sides match at the node. The transducer may copy, delete, be extended and be labelled. `Image` is this as an
+//! operation for `tib_hunt`, and `image` answers the keys that are reached, with their rules. It stands on `tib_transducer`,
+//! `tib_hunt` and `tib_keyed`; the index of its rules is kept as `tib_intersect` keeps one, and its edges over places are those
+//! of `tib_apply`.
+#![tactic(auto)]
+
+pub mod examples;
+mod expand;
+mod index;
+mod key;
+pub mod laws;
+mod listing;
+mod operation;
+mod reached;
+mod settling;
+#[cfg(test)]
+mod tests;
+mod walk;
+
+pub use key::Key;
+pub use operation::Image;
+pub use reached::image;
