@@ -1,0 +1,2 @@
+-- Heaps, as lists.
+pub mod Heaps

@@ -1,0 +1,6 @@
+-- The definitions of trees by numbers.
+pub mod Numbers
+pub mod Ranked
+pub mod Kept
+pub mod ShapeList
+pub mod TextOrder

@@ -1,0 +1,17 @@
+//! Trees that share what stands below them. Each tree is kept once, as its label and the numbers of
+//! its children, so equal numbers are equal trees; two trees are compared by going down where their
+//! numbers differ, and a number's tree is built on demand.
+#![tactic(auto)]
+
+mod building;
+mod comparing;
+mod kept;
+mod laws;
+mod ranks;
+mod shape_set;
+#[cfg(test)]
+mod tests;
+
+pub use kept::Trees;
+pub use laws::numbers_name_trees;
+pub use ranks::label_ranks;

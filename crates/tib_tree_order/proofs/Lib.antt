@@ -1,0 +1,4 @@
+pub mod Orderings
+pub mod Relabelling
+pub mod TreeOrder
+pub mod ByNodes

@@ -1,0 +1,2 @@
+-- The order of trees.
+pub mod Order

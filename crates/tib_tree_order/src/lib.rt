@@ -1,0 +1,10 @@
+//! The order of trees over numbered labels, by the texts of their labels.
+#![tactic(auto)]
+
+mod comparing;
+mod laws;
+#[cfg(test)]
+mod tests;
+
+pub use comparing::compare;
+pub use laws::trees_are_ordered;
