@@ -1,0 +1,4 @@
+pub mod Waited
+pub mod Beginning
+pub mod Queueing
+pub mod Settled

@@ -1,0 +1,4 @@
+-- What is kept while the states get their first trees.
+pub mod QueueOf
+pub mod Queues
+pub mod Causes

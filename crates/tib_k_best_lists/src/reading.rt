@@ -1,0 +1,90 @@
+// Reading lists, candidates and rules.
+ghost use Rattle.std.specs.Prelude.{◌≡◌, ◌<◌, [], length, map, replicate, IfOk};
+ghost use Rattle.std.proofs.Common.{get_or};
+ghost use Rattle.tib_grammar.specs.Run.{rule_at};
+ghost use Rattle.tib_k_best_laws.specs.Levels.{states_of};
+ghost use Rattle.tib_k_best_lists.specs.ListsOf.{items_of};
+ghost use Rattle.tib_k_best_lists.specs.Held.{candidate_at, empty_lists, list_of, IsSound};
+
+use crate::lists::{Candidate, Entry, Lists};
+use crate::shared::Shared;
+use std::alloc::{AllocError, Global};
+use tib_grammar::Rule;
+use tib_tree::Labels;
+
+// As many lists without an entry.
+fn no_entries(alloc: Global, states: usize) -> Result<Vec<Vec<Entry>>, AllocError>
+    ensures { IfOk result (λ v. map items_of v.items ≡ replicate states []) }
+{
+    let mut lists = Vec::with_capacity(alloc, states)?;
+    for _state in 0..states {
+        lists.push(Vec::new(alloc))?;
+    }
+    Ok(lists)
+}
+
+impl<'a> Lists<'a> {
+    /// Lists over some rules, for this number of states, while no tree is known. `label_ranks` has
+    /// the place of each label's text in order.
+    pub fn new(
+        alloc: Global,
+        rules: &'a [Rule<u32>],
+        labels: &'a Labels,
+        label_ranks: &'a [u32],
+        states: usize,
+    ) -> Result<Lists<'a>, AllocError>
+        ensures { IfOk result (λ x. x ≡ empty_lists rules.now labels.now label_ranks.now states) }
+    {
+        Ok(Lists {
+            rules,
+            labels,
+            label_ranks,
+            trees: Shared::new(alloc),
+            lists: no_entries(alloc, states)?,
+            candidates: Vec::new(alloc),
+            ranks: Vec::new(alloc),
+        })
+    }
+
+    /// How many rules.
+    pub fn rules(&self) -> usize
+        ensures { result ≡ length self.now.rules }
+    {
+        self.rules.len()
+    }
+
+    /// A candidate by its number.
+    pub fn candidate(&self, number: u32) -> &Candidate
+        requires { number < length self.now.candidates }
+        ensures { result.now ≡ candidate_at self.now number }
+    {
+        &self.candidates[number as usize]
+    }
+
+    /// The left state of a rule.
+    pub fn left(&self, rule: u32) -> u32
+        requires { rule < length self.now.rules }
+        ensures { result ≡ (rule_at self.now.rules rule).left }
+    {
+        self.rules[rule as usize].left
+    }
+
+    /// The i-th state below a rule.
+    pub fn state(&self, rule: u32, i: usize) -> u32
+        requires sound { IsSound self.now }
+        requires rule { rule < length self.now.rules }
+        requires below { i < length (states_of (rule_at self.now.rules rule)) }
+        ensures same { result ≡ get_or (states_of (rule_at self.now.rules rule)) i 0 }
+        ensures there { result < length self.now.lists }
+    {
+        self.rules[rule as usize].states_below()[i].state()
+    }
+
+    /// How many entries a state has.
+    pub fn len(&self, state: u32) -> usize
+        requires { state < length self.now.lists }
+        ensures { result ≡ length (list_of self.now state) }
+    {
+        self.lists[state as usize].len()
+    }
+}

@@ -1,0 +1,87 @@
+// Trees by numbers, as the list of them.
+ghost use Rattle.std.specs.Prelude.{◌≡◌, ℕ, ◌<◌, ◌≤◌, [], length, min, IfOk};
+ghost use Rattle.tib_tree.specs.Trees.{only, size};
+ghost use Rattle.tib_tree.specs.Growth.{LabelsBelow};
+ghost use Rattle.tib_tree.specs.Grows.{AreDistinct};
+ghost use Rattle.tib_tree_order.specs.Order.{tree_cmp_by};
+ghost use Rattle.tib_shared_trees.specs.Numbers.{NumbersBelow, told_size, most_size};
+ghost use Rattle.tib_shared_trees.specs.Ranked.{AreRanksOf};
+ghost use Rattle.tib_k_best_lists.specs.Seen.{Inserts, tree_at};
+
+use std::alloc::{AllocError, Global};
+use std::cmp::Ordering;
+use std::marker::Model;
+use tib_shared_trees::{Trees, numbers_name_trees};
+use tib_tree::{Label, Labels};
+
+/// Distinct trees by numbers.
+#[derive(Drop)]
+pub struct Shared {
+    trees: Trees,
+}
+
+impl Model for Shared {
+    ghost use Rattle.std.specs.Prelude.{ℕ, List};
+    ghost use Rattle.tib_tree.specs.Trees.{Tree};
+    ghost use Rattle.tib_k_best_lists.specs.Seen.{seen, AreShapes};
+    ghost use Rattle.tib_k_best_lists.specs.ListsOf.{trees_code};
+
+    ghost Value = { List (Tree ℕ) };
+
+    ghost coded = { trees_code };
+
+    ghost view = { λ s. seen s.trees };
+
+    ghost invariant = { λ s. AreShapes s.trees };
+}
+
+impl Shared {
+    /// No trees. Takes no memory.
+    pub fn new(alloc: Global) -> Shared
+        ensures { result ≡ [] }
+    {
+        Shared {
+            trees: Trees::new(alloc),
+        }
+    }
+
+    /// Distinct numbers are distinct trees. It computes nothing.
+    pub fn is_distinct(&self)
+        ensures once { (m n : ℕ) → m < length self.now → n < length self.now →
+            tree_at self.now m ≡ tree_at self.now n → m ≡ n }
+    {
+        numbers_name_trees();
+        let _ = self.trees.len();
+    }
+
+    /// How many nodes a tree has, where they are fewer than 2^32 - 1. Takes no memory.
+    pub fn size(&self, tree: u32) -> u32
+        requires { tree < length self.now }
+        ensures { result ≡ told_size (tree_at self.now tree) }
+    {
+        numbers_name_trees();
+        self.trees.size(tree)
+    }
+
+    /// The number of a tree, which goes last where it is new. Only want of memory is an error.
+    pub fn insert(&mut self, label: Label, children: &[u32]) -> Result<u32, AllocError>
+        requires { NumbersBelow (length self.old) children.now }
+        ensures { IfOk result (λ n. Inserts self.old label children.now n self.new) }
+    {
+        self.trees.insert(label, children)
+    }
+
+    /// The order of two trees, of which the first has fewer than 2^32 - 1 nodes. Takes no memory.
+    pub fn compare(&self, labels: &Labels, ranks: &[u32], one: u32, other: u32) -> Ordering
+        requires one { one < length self.now }
+        requires other { other < length self.now }
+        requires ranks { AreRanksOf labels.now ranks.now }
+        requires distinct { AreDistinct labels.now }
+        requires labelled { (n : ℕ) → n < length self.now →
+            LabelsBelow (length labels.now) (only (tree_at self.now n)) }
+        requires small { size (tree_at self.now one) < most_size }
+        ensures { result ≡ tree_cmp_by labels.now (tree_at self.now one) (tree_at self.now other) }
+    {
+        self.trees.compare(ranks, one, other)
+    }
+}
