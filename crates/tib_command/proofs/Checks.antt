@@ -6,7 +6,7 @@ use Rattle.clap.specs.Simple.{entered, matches_of, built}
 use Rattle.clap.specs.Kinds.{Kinds, or_else}
 use Rattle.clap.specs.Faults.{entered_fault, check_fault, default_fault, defaults_fault, walk_fault, fault_of}
 use Rattle.tib_command.specs.Command.{app, takes}
-use Rattle.tib_command.specs.Words.{Text, Part, mode, depth, workers, limit, place}
+use Rattle.tib_command.specs.Words.{Text, Part, mode, depth, workers, limit, beam, place}
 use Rattle.tib_command.proofs.Setting.{top, rules, held_at, rule_at, quiet}
 use Rattle.tib_command.proofs.Places.{at}
 use Rattle.tib_command.proofs.Walks.{end_of, total, last_rows, Agrees, AllUtf8, carried, agree}
@@ -20,6 +20,7 @@ no_default_fault mode rows = either_way (has_row (codes "m") rows || true) []
 no_default_fault depth rows = either_way (has_row (codes "k") rows || true) []
 no_default_fault workers rows = either_way (has_row (codes "w") rows || true) []
 no_default_fault limit rows = either_way (has_row (codes "limit") rows || true) []
+no_default_fault beam rows = either_way (has_row (codes "beam") rows || true) []
 no_default_fault place rows = either_way (has_row (codes "places") rows || true) []
 
 pub no_default : (p : Part) (rows : List Row) → with_default rows (rule_at p) ≡ rows
@@ -27,6 +28,7 @@ no_default mode rows = either_way (has_row (codes "m") rows) rows
 no_default depth rows = either_way (has_row (codes "k") rows) rows
 no_default workers rows = either_way (has_row (codes "w") rows) rows
 no_default limit rows = either_way (has_row (codes "limit") rows) rows
+no_default beam rows = either_way (has_row (codes "beam") rows) rows
 no_default place rows = either_way (has_row (codes "places") rows) rows
 
 pub no_default_faults : (ps : List Part) (rows : List Row) → defaults_fault rows (map rule_at ps) ≡ []
@@ -39,7 +41,7 @@ no_defaults [] rows = refl
 no_defaults (p ∷ ps) rows = ap (λ r. fold with_default r (map rule_at ps)) (no_default p rows) ∙ no_defaults ps rows
 
 abbrev pub parts : List Part
-parts = mode ∷ depth ∷ workers ∷ limit ∷ place ∷ []
+parts = mode ∷ depth ∷ workers ∷ limit ∷ beam ∷ place ∷ []
 
 abbrev pub start : Walk
 start = at idle false (held_at [] None)

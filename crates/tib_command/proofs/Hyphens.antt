@@ -6,16 +6,16 @@ use Rattle.std.specs.Str.{bytes_eq}
 use Rattle.std.proofs.lemmas.Slice.Eq.{bytes_eq-Decides}
 use Rattle.tib_command.specs.declared.job.Mode.{Mode}
 use Rattle.tib_command.specs.declared.job.Mode.TheVariants.{MinPlus}
-use Rattle.tib_command.specs.Words.{Text, Part, mode, depth, workers, limit, place, said, begins, reads, then_reads, Item, and_item, values_of, same_part}
+use Rattle.tib_command.specs.Words.{Text, Part, mode, depth, workers, limit, beam, place, said, begins, reads, then_reads, Item, and_item, values_of, same_part}
 use Rattle.tib_command.specs.Command.{takes, then_takes}
-use Rattle.tib_command.specs.Jobs.{most_parts, most_trees, most_workers, Asked, Task, asked_by, mode_in, number_in, once, task_in}
+use Rattle.tib_command.specs.Jobs.{most_parts, most_trees, most_workers, Asked, Task, asked_by, beam_in, count_in, mode_in, once, task_in}
 use Rattle.tib_command.proofs.Views.{View, plain_view, ends_view, option_view, refused_view, view, is_option}
 use Rattle.tib_command.proofs.Walks.{AllUtf8, not_waited}
 
-abbrev pub asked_from : Option Mode → Option ℕ → Option ℕ → Option ℕ → Option Task → Option Asked
-asked_from md k w l t =
-    option_and_then (λ md. option_and_then (λ k. option_and_then (λ w. option_and_then (λ l.
-    option_map (λ t. record { mode = md; k = k; workers = w; limit = l; task = t }) t) l) w) k) md
+abbrev pub asked_from : Option Mode → Option ℕ → Option ℕ → Option ℕ → Option ℕ → Option Task → Option Asked
+asked_from md k w l b t =
+    option_and_then (λ md. option_and_then (λ k. option_and_then (λ w. option_and_then (λ l. option_and_then (λ b.
+    option_map (λ t. record { mode = md; k = k; workers = w; limit = l; beam = b; task = t }) t) b) l) w) k) md
 
 abbrev is_hyphen : Text → Bool
 is_hyphen text = bytes_eq text (45 ∷ [])
@@ -51,6 +51,7 @@ same_self mode = refl
 same_self depth = refl
 same_self workers = refl
 same_self limit = refl
+same_self beam = refl
 same_self place = refl
 
 hyphen_item : (p : Part) (v : Text) (b : Option (List Item)) → is_option p ≡ true → v ≡ 45 ∷ [] → Differs None (and_item p v b)
@@ -99,42 +100,53 @@ no_once default read (v ∷ []) none e = ap read ((bytes_eq-Decides v (45 ∷ []
     first false h = h
 no_once default read (v ∷ w ∷ rest) none e = refl
 
-no_k : (md : Option Mode) (w l : Option ℕ) (t : Option Task) → asked_from md None w l t ≡ None
-no_k None w l t = refl
-no_k (Some md) w l t = refl
+no_k : (md : Option Mode) (w l b : Option ℕ) (t : Option Task) → asked_from md None w l b t ≡ None
+no_k None w l b t = refl
+no_k (Some md) w l b t = refl
 
-no_w : (md : Option Mode) (k l : Option ℕ) (t : Option Task) → asked_from md k None l t ≡ None
-no_w None k l t = refl
-no_w (Some md) None l t = refl
-no_w (Some md) (Some k) l t = refl
+no_w : (md : Option Mode) (k l b : Option ℕ) (t : Option Task) → asked_from md k None l b t ≡ None
+no_w None k l b t = refl
+no_w (Some md) None l b t = refl
+no_w (Some md) (Some k) l b t = refl
 
-no_l : (md : Option Mode) (k w : Option ℕ) (t : Option Task) → asked_from md k w None t ≡ None
-no_l None k w t = refl
-no_l (Some md) None w t = refl
-no_l (Some md) (Some k) None t = refl
-no_l (Some md) (Some k) (Some w) t = refl
+no_l : (md : Option Mode) (k w b : Option ℕ) (t : Option Task) → asked_from md k w None b t ≡ None
+no_l None k w b t = refl
+no_l (Some md) None w b t = refl
+no_l (Some md) (Some k) None b t = refl
+no_l (Some md) (Some k) (Some w) b t = refl
+
+no_b : (md : Option Mode) (k w l : Option ℕ) (t : Option Task) → asked_from md k w l None t ≡ None
+no_b None k w l t = refl
+no_b (Some md) None w l t = refl
+no_b (Some md) (Some k) None l t = refl
+no_b (Some md) (Some k) (Some w) None t = refl
+no_b (Some md) (Some k) (Some w) (Some l) t = refl
 
 module _ (items : List Item) where
   abbrev md : Option Mode
   md = once MinPlus mode_in (values_of mode items)
 
   abbrev k : Option ℕ
-  k = once 1 (number_in 1 most_trees) (values_of depth items)
+  k = once 1 (count_in most_trees) (values_of depth items)
 
   abbrev w : Option ℕ
-  w = once 1 (number_in 1 most_workers) (values_of workers items)
+  w = once 1 (count_in most_workers) (values_of workers items)
 
   abbrev l : Option ℕ
-  l = once most_parts (number_in 1 most_parts) (values_of limit items)
+  l = once most_parts (count_in most_parts) (values_of limit items)
+
+  abbrev b : Option ℕ
+  b = once 0 beam_in (values_of beam items)
 
   abbrev t : Option Task
   t = task_in (values_of place items)
 
   no_job : (p : Part) → is_option p ≡ true → list_any is_hyphen (values_of p items) ≡ true → asked_by items ≡ None
-  no_job mode o e = ap (λ m. asked_from m k w l t) (no_once MinPlus mode_in (values_of mode items) refl e)
-  no_job depth o e = ap (λ n. asked_from md n w l t) (no_once 1 (number_in 1 most_trees) (values_of depth items) refl e) ∙ no_k md w l t
-  no_job workers o e = ap (λ n. asked_from md k n l t) (no_once 1 (number_in 1 most_workers) (values_of workers items) refl e) ∙ no_w md k l t
-  no_job limit o e = ap (λ n. asked_from md k w n t) (no_once most_parts (number_in 1 most_parts) (values_of limit items) refl e) ∙ no_l md k w t
+  no_job mode o e = ap (λ m. asked_from m k w l b t) (no_once MinPlus mode_in (values_of mode items) refl e)
+  no_job depth o e = ap (λ n. asked_from md n w l b t) (no_once 1 (count_in most_trees) (values_of depth items) refl e) ∙ no_k md w l b t
+  no_job workers o e = ap (λ n. asked_from md k n l b t) (no_once 1 (count_in most_workers) (values_of workers items) refl e) ∙ no_w md k l b t
+  no_job limit o e = ap (λ n. asked_from md k w n b t) (no_once most_parts (count_in most_parts) (values_of limit items) refl e) ∙ no_l md k w b t
+  no_job beam o e = ap (λ n. asked_from md k w l n t) (no_once 0 beam_in (values_of beam items) refl e) ∙ no_b md k w l t
   no_job place o e = absurd (true≢false (sym o))
 
 asked_same : (a b : Option (List Item)) → Differs a b → option_and_then asked_by a ≡ option_and_then asked_by b

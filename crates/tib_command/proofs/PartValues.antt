@@ -13,7 +13,7 @@ use Rattle.clap.specs.Simple.{matches_of}
 use Rattle.clap.specs.Kinds.{Kinds}
 use Rattle.clap.specs.Faults.{fault_of}
 use Rattle.tib_command.specs.Command.{app, id_of, all_values, takes}
-use Rattle.tib_command.specs.Words.{Text, Part, mode, depth, workers, limit, place, Item, values_of, same_part}
+use Rattle.tib_command.specs.Words.{Text, Part, mode, depth, workers, limit, beam, place, Item, values_of, same_part}
 use Rattle.tib_command.proofs.Setting.{used_with, run}
 use Rattle.tib_command.proofs.Walks.{Agrees, AllUtf8}
 use Rattle.tib_command.proofs.Checks.{clap_agrees}
@@ -49,6 +49,7 @@ used_is mode v rows = refl
 used_is depth v rows = refl
 used_is workers v rows = refl
 used_is limit v rows = refl
+used_is beam v rows = refl
 used_is place v rows = refl
 
 pub ids_tell : (q p : Part) → bytes_eq (id_of q) (id_of p) ≡ same_part q p
@@ -56,26 +57,37 @@ ids_tell mode mode = refl
 ids_tell mode depth = refl
 ids_tell mode workers = refl
 ids_tell mode limit = refl
+ids_tell mode beam = refl
 ids_tell mode place = refl
 ids_tell depth mode = refl
 ids_tell depth depth = refl
 ids_tell depth workers = refl
 ids_tell depth limit = refl
+ids_tell depth beam = refl
 ids_tell depth place = refl
 ids_tell workers mode = refl
 ids_tell workers depth = refl
 ids_tell workers workers = refl
 ids_tell workers limit = refl
+ids_tell workers beam = refl
 ids_tell workers place = refl
 ids_tell limit mode = refl
 ids_tell limit depth = refl
 ids_tell limit workers = refl
 ids_tell limit limit = refl
+ids_tell limit beam = refl
 ids_tell limit place = refl
+ids_tell beam mode = refl
+ids_tell beam depth = refl
+ids_tell beam workers = refl
+ids_tell beam limit = refl
+ids_tell beam beam = refl
+ids_tell beam place = refl
 ids_tell place mode = refl
 ids_tell place depth = refl
 ids_tell place workers = refl
 ids_tell place limit = refl
+ids_tell place beam = refl
 ids_tell place place = refl
 
 pub part_step : (p q : Part) (v : Text) (rows : List Row) (vs : List Text) → all_values (id_of p) (used_with q v rows) ++ vs ≡ all_values (id_of p) rows ++ cond (same_part q p) (v ∷ vs) vs

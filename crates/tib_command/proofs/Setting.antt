@@ -4,8 +4,8 @@ use Rattle.clap.specs.Walk.{Held, Row, Rule, used}
 use Rattle.clap.specs.Simple.{is_simple, Shape, built, filled, with_index}
 use Rattle.clap.specs.Kinds.{Kinds}
 use Rattle.clap.specs.Faults.{settle_fault, is_simple_and_free}
-use Rattle.tib_command.specs.Command.{letter_rule, limit_rule, place_rule, app}
-use Rattle.tib_command.specs.Words.{Text, Part, mode, depth, workers, limit, place, Item}
+use Rattle.tib_command.specs.Command.{letter_rule, limit_rule, beam_rule, place_rule, app}
+use Rattle.tib_command.specs.Words.{Text, Part, mode, depth, workers, limit, beam, place, Item}
 
 abbrev pub top : Shape
 top = (built app).top
@@ -27,6 +27,7 @@ rule_at mode = filled (letter_rule (codes "m") 109)
 rule_at depth = filled (letter_rule (codes "k") 107)
 rule_at workers = filled (letter_rule (codes "w") 119)
 rule_at limit = filled limit_rule
+rule_at beam = filled beam_rule
 rule_at place = with_index 1 (filled place_rule)
 
 -- the rows after a use of a part with one value

@@ -1,6 +1,6 @@
 -- What one word is to clap, beside what it says in the word language.
 use Rattle.std.proofs.Common.{◌≡◌, ◌∙◌, ◌<◌, ◌||◌, ◌==◌, ℕ, Bool, cond, codes, true, false, refl, sym, ap, subst, arith, List, [], ◌∷◌, Option, Some, None, true≢false, eqb-true, ne_eqb, eq-eqb}
-use Rattle.std.specs.Prelude.{slice_get, unwrap_or}
+use Rattle.std.specs.Prelude.{slice_get, unwrap_or, option_map}
 use Rattle.std.specs.Char.{encode_utf8}
 use Rattle.std.proofs.lemmas.Str.{encodes-chars, byte_from_char}
 use Rattle.std.specs.Str.{encode_utf8_all}
@@ -11,7 +11,7 @@ use Rattle.clap.specs.Walk.{Row, Waiting, plain_word, trailing, after_flag, opti
 use Rattle.clap.specs.declared.error.kind.ErrorKind.TheVariants as kind
 use Rattle.clap.specs.Faults.{other_fault, option_fault, long_fault, flags_fault}
 use Rattle.std.proofs.lemmas.Str.{IsUtf8-drop, IsCharBoundary-after_ascii}
-use Rattle.tib_command.specs.Words.{Text, Part, mode, depth, workers, limit, place, Said, gives, waits, ends, refused, said, begins, letter_says, part_of_letter}
+use Rattle.tib_command.specs.Words.{Text, Part, mode, depth, workers, limit, beam, place, Said, gives, waits, ends, refused, said, begins, letter_says, part_of_letter, name_says}
 use Rattle.tib_command.proofs.Setting.{top, rules, held_at, rule_at}
 use Rattle.tib_command.proofs.Places.{at}
 
@@ -74,6 +74,7 @@ module _ (rows : List Row) (pending : Option (Text × List Text)) where
   letter_fault workers [] e = refl
   letter_fault workers (z ∷ zs) e = refl
   letter_fault limit ys e = absurd (true≢false (sym e))
+  letter_fault beam ys e = absurd (true≢false (sym e))
   letter_fault place ys e = absurd (true≢false (sym e))
 
   pub letter_met : (p : Part) (ys : Text) (wt : Waiting) → has_letter p ≡ true
@@ -87,6 +88,7 @@ module _ (rows : List Row) (pending : Option (Text × List Text)) where
   letter_met workers [] wt e = refl
   letter_met workers (z ∷ zs) wt e = refl
   letter_met limit ys wt e = absurd (true≢false (sym e))
+  letter_met beam ys wt e = absurd (true≢false (sym e))
   letter_met place ys wt e = absurd (true≢false (sym e))
 
   -- a word with another letter, whose first character is c
@@ -159,31 +161,51 @@ module _ (x : ℕ) (xs : Text) where
   abbrev pub is_limit : Bool
   is_limit = bytes_eq (codes "limit") name
 
+  abbrev pub is_beam : Bool
+  is_beam = bytes_eq (codes "beam") name
+
   abbrev pub long_value : Option Text
   long_value = cond (list_any (λ c. c == 61) (x ∷ xs)) (Some (after_first (λ c. c == 61) (x ∷ xs))) None
 
-  pub long_arg : arg_by_long rules name ≡ cond is_limit (Some (rule_at limit)) None
-  long_arg = go is_limit
+  -- the part of the name, by both comparisons
+  abbrev pub named : Bool → Bool → Option Part
+  named l b = cond l (Some limit) (cond b (Some beam) None)
+
+  pub long_arg : arg_by_long rules name ≡ option_map rule_at (named is_limit is_beam)
+  long_arg = go is_limit is_beam
     where
-      go : (b : Bool) → cond (b || false) (Some (rule_at limit)) None ≡ cond b (Some (rule_at limit)) None
-      go true = refl
-      go false = refl
+      go : (l b : Bool) → cond (l || false) (Some (rule_at limit)) (cond (b || false) (Some (rule_at beam)) None) ≡ option_map rule_at (named l b)
+      go true b = refl
+      go false true = refl
+      go false false = refl
+
+  value_says : (p : Part) (b : Bool) (v : Text) → cond b (gives p v) (waits p) ≡ says_of p (cond b (Some v) None)
+  value_says p true v = refl
+  value_says p false v = refl
 
   pub long_view : View (45 ∷ 45 ∷ x ∷ xs)
-  long_view = go is_limit refl
+  long_view = go is_limit is_beam refl refl
     where
-      value_says : (b : Bool) (v : Text) → cond b (gives limit v) (waits limit) ≡ says_of limit (cond b (Some v) None)
-      value_says true v = refl
-      value_says false v = refl
+      in_limit : named is_limit is_beam ≡ Some limit → View (45 ∷ 45 ∷ x ∷ xs)
+      in_limit e = option_view limit long_value refl
+          (ap (λ q. name_says q (x ∷ xs)) e ∙ value_says limit _ _) refl
+          (λ rows pending. ap (λ r. long_fault rules false r long_value (held_at rows pending)) (long_arg ∙ ap (option_map rule_at) e))
+          (λ wt rows pending. ap (λ r. after_flag rules wt (45 ∷ 45 ∷ x ∷ xs) (long_met rules r long_value (held_at rows pending)).0 (long_met rules r long_value (held_at rows pending)).1) (long_arg ∙ ap (option_map rule_at) e))
 
-      go : (b : Bool) → is_limit ≡ b → View (45 ∷ 45 ∷ x ∷ xs)
-      go true e = option_view limit long_value refl
-          (ap (λ b. cond b (cond (list_any (λ c. c == 61) (x ∷ xs)) (gives limit (after_first (λ c. c == 61) (x ∷ xs))) (waits limit)) refused) e ∙ value_says _ _) refl
-          (λ rows pending. ap (λ o. long_fault rules false o long_value (held_at rows pending)) (long_arg ∙ ap (λ b. cond b (Some (rule_at limit)) None) e))
-          (λ wt rows pending. ap (λ o. after_flag rules wt (45 ∷ 45 ∷ x ∷ xs) (long_met rules o long_value (held_at rows pending)).0 (long_met rules o long_value (held_at rows pending)).1) (long_arg ∙ ap (λ b. cond b (Some (rule_at limit)) None) e))
-      go false e = refused_view
-          (ap (λ b. cond b (cond (list_any (λ c. c == 61) (x ∷ xs)) (gives limit (after_first (λ c. c == 61) (x ∷ xs))) (waits limit)) refused) e) refl
-          (λ rows pending. ap (λ o. long_fault rules false o long_value (held_at rows pending)) (long_arg ∙ ap (λ b. cond b (Some (rule_at limit)) None) e))
+      in_beam : named is_limit is_beam ≡ Some beam → View (45 ∷ 45 ∷ x ∷ xs)
+      in_beam e = option_view beam long_value refl
+          (ap (λ q. name_says q (x ∷ xs)) e ∙ value_says beam _ _) refl
+          (λ rows pending. ap (λ r. long_fault rules false r long_value (held_at rows pending)) (long_arg ∙ ap (option_map rule_at) e))
+          (λ wt rows pending. ap (λ r. after_flag rules wt (45 ∷ 45 ∷ x ∷ xs) (long_met rules r long_value (held_at rows pending)).0 (long_met rules r long_value (held_at rows pending)).1) (long_arg ∙ ap (option_map rule_at) e))
+
+      go : (l b : Bool) → is_limit ≡ l → is_beam ≡ b → View (45 ∷ 45 ∷ x ∷ xs)
+      go true b e f = in_limit (ap (λ l. named l is_beam) e)
+      go false true e f = in_beam (λ i. named (e i) (f i))
+      go false false e f =
+          let none : named is_limit is_beam ≡ None = λ i. named (e i) (f i) in
+          refused_view
+          (ap (λ q. name_says q (x ∷ xs)) none) refl
+          (λ rows pending. ap (λ r. long_fault rules false r long_value (held_at rows pending)) (long_arg ∙ ap (option_map rule_at) none))
 
 -- each word
 

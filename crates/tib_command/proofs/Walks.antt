@@ -7,7 +7,7 @@ use Rattle.clap.specs.Kinds.{Kinds, or_else}
 use Rattle.clap.specs.declared.error.kind.ErrorKind.{ErrorKind}
 use Rattle.clap.specs.Faults.{use_fault, walk_fault, turn_fault, word_fault, step_fault, other_fault, option_fault}
 use Rattle.tib_command.specs.Command.{id_of, takes, then_takes}
-use Rattle.tib_command.specs.Words.{Text, Part, mode, depth, workers, limit, place, Said, said, Item, and_item, places}
+use Rattle.tib_command.specs.Words.{Text, Part, mode, depth, workers, limit, beam, place, Said, said, Item, and_item, places}
 use Rattle.tib_command.proofs.Setting.{top, rules, held_at, rule_at, used_with, run, quiet}
 use Rattle.tib_command.proofs.Pending.{settles_one, settled_one, fails_empty, left_none}
 use Rattle.tib_command.proofs.Places.{at, no_subcommand, placed, place_fault, place_walk}
@@ -66,6 +66,7 @@ trails_bad (w ∷ rest) wt rows p e = step_bad (at wt true (held_at rows (Some (
     clear depth = refl
     clear workers = refl
     clear limit = refl
+    clear beam = refl
     clear place = refl
 
 -- before it
@@ -124,6 +125,7 @@ rule_id mode = refl
 rule_id depth = refl
 rule_id workers = refl
 rule_id limit = refl
+rule_id beam = refl
 rule_id place = refl
 
 pub use_one : (p : Part) (v : Text) (rows : List Row) → use_fault false (rule_at p) (v ∷ []) rows ≡ []
@@ -131,6 +133,7 @@ use_one mode v rows = refl
 use_one depth v rows = refl
 use_one workers v rows = refl
 use_one limit v rows = refl
+use_one beam v rows = refl
 use_one place v rows = refl
 
 pub waited : (p : Part) (word : Text) (rows : List Row) → plain_word rules (option (id_of p)) word (held_at rows (Some (id_of p, []))) ≡ (held_at rows (Some (id_of p, word ∷ [])), next idle)
@@ -138,6 +141,7 @@ waited mode word rows = refl
 waited depth word rows = refl
 waited workers word rows = refl
 waited limit word rows = refl
+waited beam word rows = refl
 waited place word rows = refl
 
 pub option_asks : (q : Part) (o : Option Text) (h : Held) → option_fault rules false (rule_at q) o h ≡ [] → quiet h ≡ []
@@ -153,6 +157,8 @@ not_waited p workers None rest more e = refl
 not_waited p workers (Some v) rest more e = refl
 not_waited p limit None rest more e = refl
 not_waited p limit (Some v) rest more e = refl
+not_waited p beam None rest more e = refl
+not_waited p beam (Some v) rest more e = refl
 not_waited p place o rest more e = absurd (true≢false (sym e))
 
 module _ (w : Text) (rest : List Text) (ahead : (m : Option Part) → Claim m rest) where

@@ -12,7 +12,7 @@ use Rattle.tib_command.specs.declared.job.Operation.TheVariants as o
 use Rattle.tib_command.specs.declared.job.Job.{Job}
 use Rattle.tib_command.specs.declared.values.Task.{Task as Read}
 use Rattle.std.specs.Borrow.{Bor}
-use Rattle.tib_command.specs.Words.{Text, Item, reads, values_of, mode, depth, workers, limit, place}
+use Rattle.tib_command.specs.Words.{Text, Item, reads, values_of, mode, depth, workers, limit, beam, place}
 
 abbrev pub mode_in : Text → Option Mode
 mode_in text = if bytes_eq text (codes "minplus") then Some m.MinPlus
@@ -20,19 +20,23 @@ mode_in text = if bytes_eq text (codes "minplus") then Some m.MinPlus
     else (if bytes_eq text (codes "widest") then Some m.Widest
     else (if bytes_eq text (codes "boolean") then Some m.Boolean else None)))
 
--- one to twelve decimal digits
-abbrev pub is_numeral : Text → Bool
-is_numeral text = nat_le 1 (length text) && (nat_le (length text) 12 && all_ascii_digits text)
+-- decimal digits, at least one and at most so many
+abbrev pub is_numeral : ℕ → Text → Bool
+is_numeral digits text = nat_le 1 (length text) && (nat_le (length text) digits && all_ascii_digits text)
 
-abbrev pub numeral_in : Text → Option ℕ
-numeral_in text = if is_numeral text then Some (digits_value 10 text) else None
+abbrev pub numeral_in : ℕ → Text → Option ℕ
+numeral_in digits text = if is_numeral digits text then Some (digits_value 10 text) else None
 
 abbrev pub within : ℕ → ℕ → ℕ → Option ℕ
 within least most n = if nat_le least n && nat_le n most then Some n else None
 
 -- their value, where it lies within the bounds
-abbrev pub number_in : ℕ → ℕ → Text → Option ℕ
-number_in least most text = option_and_then (within least most) (numeral_in text)
+abbrev pub number_in : ℕ → ℕ → ℕ → Text → Option ℕ
+number_in digits least most text = option_and_then (within least most) (numeral_in digits text)
+
+-- a count from 1 on, in one to twelve digits
+abbrev pub count_in : ℕ → Text → Option ℕ
+count_in most text = number_in 12 1 most text
 
 -- an option that stands at most once, read from its values
 abbrev pub once : {X : Type 0} → X → (Text → Option X) → List Text → Option X
@@ -47,7 +51,10 @@ operation_in text = if bytes_eq text (codes "weigh") then Some o.Weigh
     else (if bytes_eq text (codes "intersect") then Some o.Intersect
     else (if bytes_eq text (codes "forward") then Some o.Forward
     else (if bytes_eq text (codes "backward") then Some o.Backward
-    else (if bytes_eq text (codes "check") then Some o.Check else None))))))
+    else (if bytes_eq text (codes "compose") then Some o.Compose
+    else (if bytes_eq text (codes "determinize") then Some o.Determinize
+    else (if bytes_eq text (codes "check") then Some o.Check
+    else (if bytes_eq text (codes "prune") then Some o.Prune else None)))))))))
 
 -- how many words follow the operation
 abbrev pub word_count : Operation → ℕ
@@ -57,7 +64,10 @@ word_count o.Normal = 1
 word_count o.Intersect = 2
 word_count o.Forward = 2
 word_count o.Backward = 2
+word_count o.Compose = 2
+word_count o.Determinize = 1
 word_count o.Check = 1
+word_count o.Prune = 1
 
 -- what the positional words say: the operation and its files
 pub record Task : Type 0 where
@@ -79,6 +89,14 @@ most_workers = 16
 abbrev pub most_parts : ℕ
 most_parts = 20000000
 
+-- the greatest beam
+abbrev pub most_beam : ℕ
+most_beam = 1000000000000000
+
+-- a beam, in one to sixteen digits
+abbrev pub beam_in : Text → Option ℕ
+beam_in text = number_in 16 0 most_beam text
+
 -- as many file names as the operation takes, none of them empty
 abbrev pub files_in : Operation → List Text → Option Task
 files_in op files =
@@ -93,16 +111,18 @@ pub record Asked : Type 0 where
   pub k : ℕ
   pub workers : ℕ
   pub limit : ℕ
+  pub beam : ℕ
   pub task : Task
 
 abbrev pub asked_by : List Item → Option Asked
 asked_by items =
-    option_and_then (λ md. option_and_then (λ k. option_and_then (λ w. option_and_then (λ l.
-    option_map (λ t. record { mode = md; k = k; workers = w; limit = l; task = t })
+    option_and_then (λ md. option_and_then (λ k. option_and_then (λ w. option_and_then (λ l. option_and_then (λ b.
+    option_map (λ t. record { mode = md; k = k; workers = w; limit = l; beam = b; task = t })
     (task_in (values_of place items)))
-    (once most_parts (number_in 1 most_parts) (values_of limit items)))
-    (once 1 (number_in 1 most_workers) (values_of workers items)))
-    (once 1 (number_in 1 most_trees) (values_of depth items)))
+    (once 0 beam_in (values_of beam items)))
+    (once most_parts (count_in most_parts) (values_of limit items)))
+    (once 1 (count_in most_workers) (values_of workers items)))
+    (once 1 (count_in most_trees) (values_of depth items)))
     (once m.MinPlus mode_in (values_of mode items))
 
 -- what the words ask for, where they are of the language
@@ -115,6 +135,7 @@ meaning job = record {
   k = job.k;
   workers = job.workers;
   limit = job.limit;
+  beam = job.beam;
   task = record {
     operation = job.operation;
     files = map (λ s. string_bytes s) job.files.items;

@@ -35,8 +35,14 @@ pub enum Operation {
     /// The canonical grammar of the trees that a transducer turns into those of a grammar, at the
     /// least products of both costs.
     Backward,
+    /// The canonical transducer that does what the first and then the second does, at the least products of both costs.
+    Compose,
+    /// The canonical grammar in deterministic form with the series of a grammar.
+    Determinize,
     /// Which classes a transducer is of, and which rule decides.
     Check,
+    /// The canonical form of the part of a grammar that stays within a beam of its cheapest tree.
+    Prune,
 }
 
 /// What the words ask for.
@@ -49,6 +55,8 @@ pub struct Job {
     pub workers: u32,
     /// How many parts a constructed object may have, from 1 to 20,000,000.
     pub limit: u64,
+    /// How far above the cheapest tree what is kept may cost, at most 10^15.
+    pub beam: u64,
     pub operation: Operation,
     /// The names of the files, as many as the operation takes, none empty.
     pub files: Vec<String>,

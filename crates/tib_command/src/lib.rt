@@ -1,4 +1,4 @@
-//! The word language of the command line: options `-m`, `-k`, `-w` and `--limit` in all their
+//! The word language of the command line: options `-m`, `-k`, `-w`, `--limit` and `--beam` in all their
 //! forms, anywhere among the words and each at most once, then the operation and the names of its
 //! files. `read_words` answers a job exactly where the words are of the language, for all lists of
 //! words. `clap` tells what each word belongs to, and takes each value as a text; this crate reads
@@ -8,7 +8,7 @@
 ghost use Rattle.std.specs.Prelude.{◌≡◌, ◌≤◌, IfOk, IfErr, None, Some, length, map};
 ghost use Rattle.std.specs.String.{string_bytes};
 ghost use Rattle.tib_command.specs.declared.job.CommandError.TheVariants.{Usage};
-ghost use Rattle.tib_command.specs.Jobs.{job_of, meaning, most_parts, most_trees, most_workers, word_count};
+ghost use Rattle.tib_command.specs.Jobs.{job_of, meaning, most_beam, most_parts, most_trees, most_workers, word_count};
 
 mod job;
 mod options;
@@ -19,7 +19,7 @@ mod values;
 pub use job::{CommandError, Job, Mode, Operation};
 use options::matches_of;
 use std::alloc::Global;
-use values::{mode_once, number_once, read_task};
+use values::{beam_once, mode_once, number_once, read_task};
 
 /// The greatest number of trees that may be asked for (`-k`).
 pub const MOST_TREES: u64 = 10_000;
@@ -30,11 +30,15 @@ pub const MOST_WORKERS: u64 = 16;
 /// The greatest limit on parts (`--limit`), which holds where none is given.
 pub const MOST_PARTS: u64 = 20_000_000;
 
+/// The greatest beam (`--beam`), which is the greatest cost.
+pub const MOST_BEAM: u64 = 1_000_000_000_000_000;
+
 /// The limits that clauses cite are these constants.
 pub fn words_have_limits()
     ensures trees { MOST_TREES ≡ most_trees }
     ensures workers { MOST_WORKERS ≡ most_workers }
     ensures parts { MOST_PARTS ≡ most_parts }
+    ensures beam { MOST_BEAM ≡ most_beam }
 {}
 
 /// The job that the words ask for, which are those behind the program's name. `Usage` comes exactly
@@ -46,6 +50,7 @@ pub fn read_words(alloc: Global, words: &[String]) -> Result<Job, CommandError>
     ensures k { IfOk result (λ job. (1 ≤ job.k) × (job.k ≤ most_trees)) }
     ensures workers { IfOk result (λ job. (1 ≤ job.workers) × (job.workers ≤ most_workers)) }
     ensures limit { IfOk result (λ job. (1 ≤ job.limit) × (job.limit ≤ most_parts)) }
+    ensures beam { IfOk result (λ job. job.beam ≤ most_beam) }
     ensures files { IfOk result (λ job. length job.files.items ≡ word_count job.operation) }
     ensures err { IfErr result (λ e. e ≡ Usage →
         job_of (map (λ s. string_bytes s) words.now) ≡ None) }
@@ -63,6 +68,9 @@ pub fn read_words(alloc: Global, words: &[String]) -> Result<Job, CommandError>
     let Some(limit) = number_once(matches.get_strs("limit"), MOST_PARTS, MOST_PARTS) else {
         return Err(CommandError::Usage);
     };
+    let Some(beam) = beam_once(matches.get_strs("beam")) else {
+        return Err(CommandError::Usage);
+    };
     let Some(task) = read_task(alloc, matches.get_strs("places"))? else {
         return Err(CommandError::Usage);
     };
@@ -71,6 +79,7 @@ pub fn read_words(alloc: Global, words: &[String]) -> Result<Job, CommandError>
         k: k as u32,
         workers: workers as u32,
         limit,
+        beam,
         operation: task.operation,
         files: task.files,
     })

@@ -4,7 +4,7 @@ ghost use Rattle.std.specs.String.{string_bytes};
 ghost use Rattle.clap.specs.Words.{app_of, found_of, rows_of, rule_of};
 ghost use Rattle.tib_command.specs.declared.job.CommandError.TheVariants.{Usage};
 ghost use Rattle.tib_command.specs.Words.{Item, Part, values_of};
-ghost use Rattle.tib_command.specs.Command.{all_values, app, id_of, letter_rule, takes};
+ghost use Rattle.tib_command.specs.Command.{all_values, app, id_of, letter_rule, long_rule, place_rule, takes};
 ghost use Rattle.tib_command.specs.Jobs.{job_of};
 
 use crate::CommandError;
@@ -20,14 +20,26 @@ fn letter<'a>(alloc: Global, id: &'a str, letter: char) -> Arg<'a>
     Arg::new(alloc, id).short(letter).action(ArgAction::Append)
 }
 
+// An option of a whole word, which keeps each value that it is given.
+fn long<'a>(alloc: Global, name: &'a str) -> Arg<'a>
+    ensures rule { rule_of result ≡ long_rule name.now }
+    ensures local { result.global ≡ false }
+{
+    Arg::new(alloc, name).long(name).action(ArgAction::Append)
+}
+
+// What stands by its place: the operation and its files.
+fn places<'a>(alloc: Global) -> Arg<'a>
+    ensures rule { rule_of result ≡ place_rule }
+    ensures local { result.global ≡ false }
+{
+    Arg::new(alloc, "places").action(ArgAction::Append)
+}
+
 // The command, whose arguments are taken as texts.
 fn command<'a>(alloc: Global) -> Result<Command<'a>, AllocError>
     ensures { IfOk result (λ c. app_of c ≡ app) }
 {
-    let limit = Arg::new(alloc, "limit")
-        .long("limit")
-        .action(ArgAction::Append);
-    let places = Arg::new(alloc, "places").action(ArgAction::Append);
     Command::new(alloc, "tiburon")
         .no_binary_name(true)
         .disable_help_flag(true)
@@ -35,8 +47,9 @@ fn command<'a>(alloc: Global) -> Result<Command<'a>, AllocError>
         .arg(letter(alloc, "m", 'm'))?
         .arg(letter(alloc, "k", 'k'))?
         .arg(letter(alloc, "w", 'w'))?
-        .arg(limit)?
-        .arg(places)
+        .arg(long(alloc, "limit"))?
+        .arg(long(alloc, "beam"))?
+        .arg(places(alloc))
 }
 
 /// The values that the words give.

@@ -21,7 +21,7 @@ type Accepted = (
     &'static [&'static str],
 );
 
-static ACCEPTED: [Accepted; 27] = [
+static ACCEPTED: [Accepted; 29] = [
     (
         &["-k5", "weigh", "g", "t"],
         Mode::MinPlus,
@@ -257,6 +257,24 @@ static ACCEPTED: [Accepted; 27] = [
         &["t", "g"],
     ),
     (
+        &["compose", "-mboolean", "t", "--limit=5", "u"],
+        Mode::Boolean,
+        Operation::Compose,
+        1,
+        1,
+        5,
+        &["t", "u"],
+    ),
+    (
+        &["-m", "bottleneck", "determinize", "--limit", "13", "g"],
+        Mode::Bottleneck,
+        Operation::Determinize,
+        1,
+        1,
+        13,
+        &["g"],
+    ),
+    (
         &["check", "t"],
         Mode::MinPlus,
         Operation::Check,
@@ -267,7 +285,28 @@ static ACCEPTED: [Accepted; 27] = [
     ),
 ];
 
-static REFUSED: [&[&str]; 73] = [
+// Words on one file, and the beam that they give.
+static BEAMS: [(&[&str], u64); 5] = [
+    (&["prune", "g"], 0),
+    (&["--beam", "3", "prune", "g"], 3),
+    (&["prune", "g", "--beam=0000000000000012"], 12),
+    (&["prune", "--beam=1000000000000000", "g"], 1000000000000000),
+    (&["normal", "--beam", "7", "--limit=9", "--", "g"], 7),
+];
+
+static REFUSED: [&[&str]; 92] = [
+    &["prune"],
+    &["prune", "g", "h"],
+    &["Prune", "g"],
+    &["--beam=1000000000000001", "prune", "g"],
+    &["--beam=00000000000000001", "prune", "g"],
+    &["--beam", "-1", "prune", "g"],
+    &["--beam=", "prune", "g"],
+    &["prune", "g", "--beam"],
+    &["--beam=1", "--beam=1", "prune", "g"],
+    &["--bea=1", "prune", "g"],
+    &["-beam", "1", "prune", "g"],
+    &["--beam1", "prune", "g"],
     &[],
     &["--"],
     &["weigh"],
@@ -293,6 +332,13 @@ static REFUSED: [&[&str]; 73] = [
     &["backward", "t"],
     &["backward", "t", "g", "h"],
     &["backwards", "t", "g"],
+    &["compose"],
+    &["compose", "t"],
+    &["compose", "t", "u", "v"],
+    &["Compose", "t", "u"],
+    &["determinize"],
+    &["determinize", "g", "h"],
+    &["determinise", "g"],
     &["check"],
     &["check", "t", "u"],
     &["Check", "t"],
@@ -353,6 +399,14 @@ fn words_of_the_language_give_their_job(rt: HostRuntime) -> Result<(), Fail> {
         for at in 0..files.len() {
             assert!(rt; job.files[at].as_str() == files[at]);
         }
+    }
+    Ok(())
+}
+
+#[test]
+fn beams_are_read(rt: HostRuntime) -> Result<(), Fail> {
+    for (words, beam) in &BEAMS {
+        assert_eq!(rt; job(rt.alloc(), words)?.beam, *beam);
     }
     Ok(())
 }

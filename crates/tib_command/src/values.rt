@@ -3,9 +3,9 @@ ghost use Rattle.std.specs.Prelude.{◌≡◌, ◌≤◌, ◌==◌, ℕ, IfOk, I
 ghost use Rattle.std.specs.List.{list_any};
 ghost use Rattle.std.specs.String.{string_bytes};
 ghost use Rattle.tib_command.specs.declared.job.Mode.TheVariants.{MinPlus};
-ghost use Rattle.tib_command.specs.Jobs.{are_files, mode_in, number_in, numeral_in, once, operation_in, task_in, task_meaning, texts_of, word_count};
+ghost use Rattle.tib_command.specs.Jobs.{are_files, beam_in, count_in, mode_in, most_beam, number_in, numeral_in, once, operation_in, task_in, task_meaning, texts_of, word_count};
 
-use crate::{Mode, Operation};
+use crate::{MOST_BEAM, Mode, Operation};
 use std::alloc::{AllocError, Global};
 
 /// The mode that has this name.
@@ -32,42 +32,59 @@ fn operation_in(text: &str) -> Option<Operation>
         "intersect" => Some(Operation::Intersect),
         "forward" => Some(Operation::Forward),
         "backward" => Some(Operation::Backward),
+        "compose" => Some(Operation::Compose),
+        "determinize" => Some(Operation::Determinize),
         "check" => Some(Operation::Check),
+        "prune" => Some(Operation::Prune),
         _ => None,
     }
 }
 
-/// The number that one to twelve digits write.
-fn numeral_in(text: &str) -> Option<u64>
-    ensures { result ≡ numeral_in text.now }
+/// The number that digits write, at least one and at most so many.
+fn numeral_in(text: &str, digits: usize) -> Option<u64>
+    requires { digits ≤ 16 }
+    ensures { result ≡ numeral_in digits text.now }
 {
-    if text.len() > 12 || text.starts_with('+') {
+    if text.len() > digits || text.starts_with('+') {
         return None;
     }
     text.parse::<u64>().ok()
 }
 
-/// The number that one to twelve digits write, where it lies from `least` to `most`.
-fn number_in(text: &str, least: u64, most: u64) -> Option<u64>
-    ensures { result ≡ number_in least most text.now }
+/// The number that at most so many digits write, where it lies from `least` to `most`.
+fn number_in(text: &str, digits: usize, least: u64, most: u64) -> Option<u64>
+    requires { digits ≤ 16 }
+    ensures { result ≡ number_in digits least most text.now }
 {
-    match numeral_in(text) {
+    match numeral_in(text, digits) {
         Some(n) if least <= n && n <= most => Some(n),
         _ => None,
     }
 }
 
-/// The number of an option that stands at most once.
+/// The count of an option that stands at most once.
 pub(crate) fn number_once(values: Option<&[&str]>, default: u64, most: u64) -> Option<u64>
     requires least { 1 ≤ default }
     requires most { default ≤ most }
     ensures least { IfSome result (λ n. 1 ≤ n) }
     ensures bound { IfSome result (λ n. n ≤ most) }
-    ensures value { result ≡ once default (number_in 1 most) (texts_of values.entry) }
+    ensures value { result ≡ once default (count_in most) (texts_of values.entry) }
 {
     match values {
         None | Some([]) => Some(default),
-        Some([value]) => number_in(value, 1, most),
+        Some([value]) => number_in(value, 12, 1, most),
+        Some(_) => None,
+    }
+}
+
+/// The beam, which stands at most once.
+pub(crate) fn beam_once(values: Option<&[&str]>) -> Option<u64>
+    ensures bound { IfSome result (λ n. n ≤ most_beam) }
+    ensures value { result ≡ once 0 beam_in (texts_of values.entry) }
+{
+    match values {
+        None | Some([]) => Some(0),
+        Some([value]) => number_in(value, 16, 0, MOST_BEAM),
         Some(_) => None,
     }
 }
@@ -108,8 +125,16 @@ fn word_count(operation: Operation) -> usize
     ensures { result ≡ word_count operation }
 {
     match operation {
-        Operation::Inside | Operation::Normal | Operation::Check => 1,
-        Operation::Weigh | Operation::Intersect | Operation::Forward | Operation::Backward => 2,
+        Operation::Inside
+        | Operation::Normal
+        | Operation::Determinize
+        | Operation::Check
+        | Operation::Prune => 1,
+        Operation::Weigh
+        | Operation::Intersect
+        | Operation::Forward
+        | Operation::Backward
+        | Operation::Compose => 2,
     }
 }
 

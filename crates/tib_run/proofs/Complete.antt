@@ -3,9 +3,10 @@ use Rattle.std.specs.Prelude.{◌≡◌, ℕ, ◌⊎◌, List, Option, Some, Non
 use Rattle.std.proofs.Common.{arith, subst, inl, inr}
 use Rattle.tib_lex.specs.declared.fault.FileFault.{FileFault}
 use Rattle.tib_command.specs.Jobs.{Asked}
-use Rattle.tib_run.specs.declared.status.Status.{Status}
-use Rattle.tib_run.specs.declared.status.Status.TheVariants as statuses
-use Rattle.tib_run.specs.Kinds.{Kind, kind_at, file_at, OfName, OfFile, Told, IsShort, IsLong, IsOfKind, HasFault, KindsHaveNoFault}
+use Rattle.tib_operations.specs.declared.status.Status.{Status}
+use Rattle.tib_operations.specs.declared.status.Status.TheVariants as statuses
+use Rattle.tib_run.specs.Kinds.{Kind, kind_at, file_at, OfName, OfFile, Told, IsOfKind, HasFault, KindsHaveNoFault}
+use Rattle.tib_operations.specs.FileTexts.{IsShort, IsLong}
 use Rattle.tib_run.specs.Causes.{HasCause, HasTooMany, scale_of, bytes_of}
 use Rattle.tib_run.specs.Answers.{IsAnswerable, IsCalm, IsComplete, WithinIsNotTooMuch}
 use Rattle.tib_run.proofs.Faults.{told_both}

@@ -1,7 +1,7 @@
 -- The values of the files of a job, over tables of labels.
 use Rattle.tib_cost.specs.declared.Scale.{Scale}
 use Rattle.std.specs.Prelude.{◌≡◌, ℕ, List, [], ◌∷◌, Option, Some, None, IfSome, IsSome, slice_get, refl}
-use Rattle.std.proofs.Common.{zero, suc, subst}
+use Rattle.std.proofs.Common.{length, zero, suc, subst}
 use Rattle.tib_lex.specs.Lists.{Along}
 use Rattle.tib_tree.specs.Grows.{Grows, AreDistinct}
 use Rattle.tib_tree.proofs.Growing.{grows_not, grows_twice}
@@ -11,12 +11,14 @@ use Rattle.tib_grammar_file.proofs.TreesByText.{trees_by_text}
 use Rattle.tib_run.specs.Kinds.{Kind, of_grammar, of_trees, of_transducer, OfName, ValueOf, IsTextOf, IsOfKind, ValuesOf, AreTextsOf, AreTexts, AreOfKinds, AreAllTold}
 use Rattle.tib_grammar_file.specs.Printable.{ArePrintable}
 use Rattle.tib_grammar_file.proofs.Plain.{read_plain}
-use Rattle.tib_run.proofs.PlainMoves.{IsSoundTransducer, transducer_sound}
-use Rattle.tib_run.proofs.ReadSound.{IsSound, read_sound}
+use Rattle.tib_operations.proofs.PlainMoves.{IsSoundTransducer, transducer_sound}
+use Rattle.tib_operations.proofs.OfCompose.{read_moves}
+use Rattle.tib_canon_transducer.specs.Keys.{AreMovesOver}
+use Rattle.tib_operations.proofs.ReadSound.{IsSound, read_sound}
 use Rattle.tib_transducer_file.specs.ByText.{AreOneTransducer}
 use Rattle.tib_transducer_file.proofs.OneByText.{one_by_text as one_transducer}
-use Rattle.tib_run.proofs.TransducerTables.{transducer_over, transducer_grown}
-use Rattle.tib_run.proofs.Tables.{none_distinct, read_over, lists_over, reads_grown, lists_grown}
+use Rattle.tib_operations.proofs.TransducerTables.{transducer_over, transducer_grown}
+use Rattle.tib_operations.proofs.Tables.{none_distinct, read_over, lists_over, reads_grown, lists_grown}
 
 -- a value of a file, where its bytes are told, over a table to which another has grown
 record IsTextOver (scale : Scale) (early : List (List ℕ)) (kind : Kind) (bytes : Option (List ℕ)) : Type 0 where
@@ -129,7 +131,7 @@ kinds_told scale labels (k ∷ kinds) bytes values t (suc n) kind e = kinds_told
 abbrev pub IsSoundValue : Scale → List (List ℕ) → (kind : Kind) → ValueOf kind → Type 0
 IsSoundValue scale labels of_grammar g = IsSound g × ArePrintable scale labels g.rules
 IsSoundValue scale labels of_trees trees = Unit {0}
-IsSoundValue scale labels of_transducer t = IsSoundTransducer scale labels t
+IsSoundValue scale labels of_transducer t = IsSoundTransducer scale labels t × AreMovesOver scale labels (length t.names) t.rules
 
 abbrev pub AllSound : Scale → List (List ℕ) → (kinds : List Kind) → ValuesOf kinds → Type 0
 AllSound scale labels [] values = Unit {0}
@@ -139,7 +141,7 @@ sound_value : (scale : Scale) (labels : List (List ℕ)) (kind : Kind) (value : 
 sound_value scale labels kind value None told t = absurd (cc told)
 sound_value scale labels of_grammar g (Some bytes) told r = (read_sound scale labels bytes g r.1.text, read_plain scale labels bytes g r.1.text)
 sound_value scale labels of_trees trees (Some bytes) told l = tt
-sound_value scale labels of_transducer t (Some bytes) told r = transducer_sound scale labels bytes t r.1
+sound_value scale labels of_transducer t (Some bytes) told r = (transducer_sound scale labels bytes t r.1, read_moves scale labels bytes t r.1)
 
 pub all_sound :
     (scale : Scale) (labels : List (List ℕ)) (kinds : List Kind) (bytes : ℕ → Option (List ℕ)) (values : ValuesOf kinds) → AreAllTold kinds bytes → AreTextsOf scale labels bytes kinds values →

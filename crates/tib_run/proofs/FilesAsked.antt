@@ -2,10 +2,10 @@
 use Rattle.std.specs.Prelude.{◌≡◌, ℕ, ◌≤◌, nat_le, ◌==◌, ◌&&◌, Bool, true, false, not, List, [], ◌∷◌, length, Option, Some, None, option_map, option_and_then, if◌then◌else◌, refl}
 use Rattle.std.specs.List.{list_any}
 use Rattle.std.proofs.Common.{ap, ◌∙◌, subst, arith}
-use Rattle.tib_command.specs.Words.{Text, reads, values_of, mode, depth, workers, limit, place}
+use Rattle.tib_command.specs.Words.{Text, reads, values_of, mode, depth, workers, limit, beam, place}
 use Rattle.tib_lex.proofs.Spelled.{and_true}
 use Rattle.std.proofs.lemmas.Bool.Decides.{nat_tests}
-use Rattle.tib_command.specs.Jobs.{numeral_in, within, Asked, Task, job_of, asked_by, once, mode_in, number_in, task_in, files_in, are_files, operation_in, word_count, most_parts, most_trees, most_workers}
+use Rattle.tib_command.specs.Jobs.{numeral_in, within, Asked, Task, job_of, asked_by, once, mode_in, number_in, count_in, beam_in, task_in, files_in, are_files, operation_in, word_count, most_parts, most_trees, most_workers}
 use Rattle.tib_command.specs.declared.job.Mode.TheVariants.{MinPlus}
 use Rattle.tib_command.specs.declared.job.Operation.{Operation}
 use Rattle.tib_command.specs.declared.job.Operation.TheVariants as operations
@@ -33,7 +33,10 @@ as_many_kinds operations.Normal = refl
 as_many_kinds operations.Intersect = refl
 as_many_kinds operations.Forward = refl
 as_many_kinds operations.Backward = refl
+as_many_kinds operations.Compose = refl
+as_many_kinds operations.Determinize = refl
 as_many_kinds operations.Check = refl
+as_many_kinds operations.Prune = refl
 
 first_test : (m n : ℕ) (b : Bool) → (m == n) && b ≡ true → m ≡ n
 first_test m n b e = grind arith
@@ -55,10 +58,11 @@ pub files_asked : (words : List Text) (asked : Asked) → job_of words ≡ Some 
 files_asked words asked e =
     let items = then_some asked_by (reads words None) asked e in
     let md = then_some _ (once MinPlus mode_in (values_of mode items.0)) asked items.1 in
-    let k = then_some _ (once 1 (number_in 1 most_trees) (values_of depth items.0)) asked md.1 in
-    let w = then_some _ (once 1 (number_in 1 most_workers) (values_of workers items.0)) asked k.1 in
-    let l = then_some _ (once most_parts (number_in 1 most_parts) (values_of limit items.0)) asked w.1 in
-    let t = map_some _ (task_in (values_of place items.0)) asked l.1 in
+    let k = then_some _ (once 1 (count_in most_trees) (values_of depth items.0)) asked md.1 in
+    let w = then_some _ (once 1 (count_in most_workers) (values_of workers items.0)) asked k.1 in
+    let l = then_some _ (once most_parts (count_in most_parts) (values_of limit items.0)) asked w.1 in
+    let b = then_some _ (once 0 beam_in (values_of beam items.0)) asked l.1 in
+    let t = map_some _ (task_in (values_of place items.0)) asked b.1 in
     subst HasItsFiles (ap (λ (a : Asked). a.task) t.2) (task_many (values_of place items.0) t.0 t.1)
 
 -- and a limit of at most 20,000,000
@@ -80,17 +84,18 @@ within_low n m e = by (nat_le 1 n && nat_le n most_parts) refl e
     by false t e = absurd (cc e)
     by true t e = subst (λ k. k ≤ most_parts) (some_number n m e) (low_test n t)
 
-once_low : (values : List Text) (m : ℕ) → once most_parts (number_in 1 most_parts) values ≡ Some m → m ≤ most_parts
+once_low : (values : List Text) (m : ℕ) → once most_parts (count_in most_parts) values ≡ Some m → m ≤ most_parts
 once_low [] m e = let same : most_parts ≡ m = some_number most_parts m e in omega (arith, same)
-once_low (v ∷ []) m e = let n = then_from (within 1 most_parts) (numeral_in v) m e in within_low n.0 m n.2
+once_low (v ∷ []) m e = let n = then_from (within 1 most_parts) (numeral_in 12 v) m e in within_low n.0 m n.2
 once_low (v ∷ (w ∷ rest)) m e = absurd (cc e)
 
 pub limit_asked : (words : List Text) (asked : Asked) → job_of words ≡ Some asked → asked.limit ≤ most_parts
 limit_asked words asked e =
     let items = then_some asked_by (reads words None) asked e in
     let md = then_some _ (once MinPlus mode_in (values_of mode items.0)) asked items.1 in
-    let k = then_some _ (once 1 (number_in 1 most_trees) (values_of depth items.0)) asked md.1 in
-    let w = then_some _ (once 1 (number_in 1 most_workers) (values_of workers items.0)) asked k.1 in
-    let l = then_from _ (once most_parts (number_in 1 most_parts) (values_of limit items.0)) asked w.1 in
-    let t = map_some _ (task_in (values_of place items.0)) asked l.2 in
+    let k = then_some _ (once 1 (count_in most_trees) (values_of depth items.0)) asked md.1 in
+    let w = then_some _ (once 1 (count_in most_workers) (values_of workers items.0)) asked k.1 in
+    let l = then_from _ (once most_parts (count_in most_parts) (values_of limit items.0)) asked w.1 in
+    let b = then_some _ (once 0 beam_in (values_of beam items.0)) asked l.2 in
+    let t = map_some _ (task_in (values_of place items.0)) asked b.1 in
     subst (λ n. n ≤ most_parts) (ap (λ (a : Asked). a.limit) t.2) (once_low (values_of limit items.0) l.0 l.1)

@@ -12,10 +12,10 @@ use Rattle.tib_command.specs.declared.job.Operation.TheVariants as operations
 use Rattle.tib_run.specs.Kinds.{kinds_of, file_at, bytes_at, OfName, IsOfKind, AreOfKinds, AreAllTold}
 use Rattle.tib_classes.specs.declared.error.ClassFault.{ClassFault}
 use Rattle.tib_run.specs.Causes.{scale_of, product_of, demanded, BreaksClass, MeetsClass, StaysInClass, IsInClass, IsOutOfClass, MakesTooMuch, StaysWithin, IsTooMuch, IsWithin, bytes_of}
-use Rattle.tib_run.specs.Answers.{IsAnswerOf, IsAnswer, AreTold, AreOfTheirKinds, MeetsLaws, NeedsOf}
+use Rattle.tib_run.specs.Answers.{Numbers, numbers_of, IsAnswerOf, IsAnswer, AreTold, AreOfTheirKinds, MeetsLaws, NeedsOf}
 use Rattle.tib_run.proofs.FileValues.{values_there, values_agree, all_sound}
 use Rattle.tib_run.proofs.FilesAsked.{limit_asked}
-use Rattle.tib_run.proofs.ClassesByText.{met_by_text, broken_once, not_both, met_or_broken}
+use Rattle.tib_operations.proofs.ClassesByText.{met_by_text, broken_once, not_both, met_or_broken}
 use Rattle.tib_run.proofs.OfOperations.{one_demand, makes_either, makes_by_text, result_once, result_there}
 
 -- told files are told
@@ -54,46 +54,46 @@ module _ (o : Operation) (scale : Scale) (bytes : ℕ → Option (List ℕ)) whe
       (λ met. inside (class_told (all_told scale o bytes are) (record { labels = v.0; values = v.1; texts = v.2; met = met })))
       (λ file x broken. outside file x (record { labels = v.0; values = v.1; texts = v.2; broken = broken }))
 
-module _ (o : Operation) (scale : Scale) (product : ℕ → ℕ → ℕ) (limit : ℕ) (bytes : ℕ → Option (List ℕ)) where
+module _ (o : Operation) (scale : Scale) (product : ℕ → ℕ → ℕ) (numbers : Numbers) (bytes : ℕ → Option (List ℕ)) where
   -- one text
-  pub one_answer : (text other : List ℕ) → AreAllTold (kinds_of o) bytes → IsAnswerOf o scale product limit bytes text → IsAnswerOf o scale product limit bytes other → text ≡ other
+  pub one_answer : (text other : List ℕ) → AreAllTold (kinds_of o) bytes → IsAnswerOf o scale product numbers bytes text → IsAnswerOf o scale product numbers bytes other → text ≡ other
   one_answer text other told a b =
-      result_once scale product limit a.labels b.labels (distinct_texts a.labels a.texts.distinct) (distinct_texts b.labels b.texts.distinct) o a.values b.values text other
+      result_once scale product numbers a.labels b.labels (distinct_texts a.labels a.texts.distinct) (distinct_texts b.labels b.texts.distinct) o a.values b.values text other
       (values_agree scale a.labels b.labels (kinds_of o) bytes a.values b.values told a.texts.texts b.texts.texts) a.result_is b.result_is
 
   -- within the limit or too much: not both
-  pub made_apart : StaysWithin o scale product limit bytes → MakesTooMuch o scale product limit bytes → ⊥
-  made_apart small large = (makes_either scale product limit o large.values).apart (small large.labels large.values large.texts) large.more
+  pub made_apart : StaysWithin o scale product numbers.limit bytes → MakesTooMuch o scale product numbers.limit bytes → ⊥
+  made_apart small large = (makes_either scale product numbers.limit o large.values).apart (small large.labels large.values large.texts) large.more
 
   -- and that neither holds cannot be
-  pub made_either : AreOfKinds scale (kinds_of o) bytes → (StaysWithin o scale product limit bytes → ⊥) → (MakesTooMuch o scale product limit bytes → ⊥) → ⊥
+  pub made_either : AreOfKinds scale (kinds_of o) bytes → (StaysWithin o scale product numbers.limit bytes → ⊥) → (MakesTooMuch o scale product numbers.limit bytes → ⊥) → ⊥
   made_either are small large =
       let v = values_there scale (kinds_of o) bytes are in
-      (makes_either scale product limit o v.1).either
+      (makes_either scale product numbers.limit o v.1).either
       (λ w. small (λ labels values texts.
-      makes_by_text scale product limit v.0 labels (distinct_texts v.0 v.2.distinct) (distinct_texts labels texts.distinct) o v.1 values
+      makes_by_text scale product numbers.limit v.0 labels (distinct_texts v.0 v.2.distinct) (distinct_texts labels texts.distinct) o v.1 values
       (values_agree scale v.0 labels (kinds_of o) bytes v.1 values (all_told scale o bytes are) v.2.texts texts.texts) w))
       (λ m. large (record { labels = v.0; values = v.1; texts = v.2; more = m }))
 
   -- an answer is within the limit
-  pub answer_stays : (text : List ℕ) → AreAllTold (kinds_of o) bytes → IsAnswerOf o scale product limit bytes text → StaysWithin o scale product limit bytes
+  pub answer_stays : (text : List ℕ) → AreAllTold (kinds_of o) bytes → IsAnswerOf o scale product numbers bytes text → StaysWithin o scale product numbers.limit bytes
   answer_stays text told a labels values texts =
-      makes_by_text scale product limit a.labels labels (distinct_texts a.labels a.texts.distinct) (distinct_texts labels texts.distinct) o a.values values
+      makes_by_text scale product numbers.limit a.labels labels (distinct_texts a.labels a.texts.distinct) (distinct_texts labels texts.distinct) o a.values values
       (values_agree scale a.labels labels (kinds_of o) bytes a.values values told a.texts.texts texts.texts) a.within
 
   -- of files of the class that is demanded
-  pub answer_class : (text : List ℕ) → AreAllTold (kinds_of o) bytes → IsAnswerOf o scale product limit bytes text → StaysInClass o scale bytes
+  pub answer_class : (text : List ℕ) → AreAllTold (kinds_of o) bytes → IsAnswerOf o scale product numbers bytes text → StaysInClass o scale bytes
   answer_class text told a = class_told o scale bytes told (record { labels = a.labels; values = a.values; texts = a.texts; met = a.met })
 
   -- what is within the limit and of that class has an answer: that it has none cannot be
   pub answer_there :
-      NeedsOf o product limit → AreOfKinds scale (kinds_of o) bytes → StaysInClass o scale bytes → StaysWithin o scale product limit bytes →
-      ((text : List ℕ) → IsAnswerOf o scale product limit bytes text → ⊥) → ⊥
+      NeedsOf o product numbers.limit → AreOfKinds scale (kinds_of o) bytes → StaysInClass o scale bytes → StaysWithin o scale product numbers.limit bytes →
+      ((text : List ℕ) → IsAnswerOf o scale product numbers bytes text → ⊥) → ⊥
   answer_there needs are inside small never =
       let v = values_there scale (kinds_of o) bytes are in
       let w = small v.0 v.1 v.2 in
       let met = inside v.0 v.1 v.2 in
-      result_there scale product limit v.0 (distinct_texts v.0 v.2.distinct) o needs v.1 (all_sound scale v.0 (kinds_of o) bytes v.1 (all_told scale o bytes are) v.2.texts) met w (λ text is.
+      result_there scale product numbers v.0 (distinct_texts v.0 v.2.distinct) o needs v.1 (all_sound scale v.0 (kinds_of o) bytes v.1 (all_told scale o bytes are) v.2.texts) met w (λ text is.
       never text (record { labels = v.0; values = v.1; texts = v.2; met = met; within = w; result_is = is }))
 
 -- the product of each mode meets its laws
@@ -110,7 +110,10 @@ needs_met operations.Normal product limit m = m
 needs_met operations.Intersect product limit m = m
 needs_met operations.Forward product limit m = m
 needs_met operations.Backward product limit m = m
+needs_met operations.Compose product limit m = m
+needs_met operations.Determinize product limit m = m
 needs_met operations.Check product limit m = tt
+needs_met operations.Prune product limit m = m
 
 -- the same of jobs
 
@@ -122,7 +125,7 @@ module _ (asked : Asked) (held : List ℕ → Option (List ℕ)) where
   kinds_bytes are n kind e = are (suc n) kind e
 
   pub one_job_answer : (text other : List ℕ) → AreTold asked held → IsAnswer asked held text → IsAnswer asked held other → text ≡ other
-  one_job_answer text other told a b = one_answer asked.task.operation (scale_of asked.mode) (product_of asked.mode) asked.limit (bytes_of asked held) text other (told_bytes told) a b
+  one_job_answer text other told a b = one_answer asked.task.operation (scale_of asked.mode) (product_of asked.mode) (numbers_of asked) (bytes_of asked held) text other (told_bytes told) a b
 
   pub outside_apart : (file : ℕ) (x : ℕ × ClassFault) → IsInClass asked held → IsOutOfClass asked held file x → ⊥
   outside_apart file x inside outside = class_apart asked.task.operation (scale_of asked.mode) (bytes_of asked held) file x inside outside
@@ -138,16 +141,16 @@ module _ (asked : Asked) (held : List ℕ → Option (List ℕ)) where
   inside_or_not are inside outside = class_either asked.task.operation (scale_of asked.mode) (bytes_of asked held) (kinds_bytes are) inside outside
 
   pub answer_inside : (text : List ℕ) → AreTold asked held → IsAnswer asked held text → IsInClass asked held
-  answer_inside text told a = answer_class asked.task.operation (scale_of asked.mode) (product_of asked.mode) asked.limit (bytes_of asked held) text (told_bytes told) a
+  answer_inside text told a = answer_class asked.task.operation (scale_of asked.mode) (product_of asked.mode) (numbers_of asked) (bytes_of asked held) text (told_bytes told) a
 
   pub within_apart : IsWithin asked held → IsTooMuch asked held → ⊥
-  within_apart small large = made_apart asked.task.operation (scale_of asked.mode) (product_of asked.mode) asked.limit (bytes_of asked held) small large
+  within_apart small large = made_apart asked.task.operation (scale_of asked.mode) (product_of asked.mode) (numbers_of asked) (bytes_of asked held) small large
 
   pub within_or_more : AreOfTheirKinds asked held → (IsWithin asked held → ⊥) → (IsTooMuch asked held → ⊥) → ⊥
-  within_or_more are small large = made_either asked.task.operation (scale_of asked.mode) (product_of asked.mode) asked.limit (bytes_of asked held) (kinds_bytes are) small large
+  within_or_more are small large = made_either asked.task.operation (scale_of asked.mode) (product_of asked.mode) (numbers_of asked) (bytes_of asked held) (kinds_bytes are) small large
 
   pub answer_within : (text : List ℕ) → AreTold asked held → IsAnswer asked held text → IsWithin asked held
-  answer_within text told a = answer_stays asked.task.operation (scale_of asked.mode) (product_of asked.mode) asked.limit (bytes_of asked held) text (told_bytes told) a
+  answer_within text told a = answer_stays asked.task.operation (scale_of asked.mode) (product_of asked.mode) (numbers_of asked) (bytes_of asked held) text (told_bytes told) a
 
   pub answer_apart : (text : List ℕ) → AreTold asked held → IsAnswer asked held text → IsTooMuch asked held → ⊥
   answer_apart text told a large = within_apart (answer_within text told a) large
@@ -164,7 +167,7 @@ module _ (asked : Asked) (held : List ℕ → Option (List ℕ)) where
   module _ (words : List (List ℕ)) (of_words : job_of words ≡ Some asked) (are : AreOfTheirKinds asked held) where
     pub job_answered : IsInClass asked held → IsWithin asked held → ((text : List ℕ) → IsAnswer asked held text → ⊥) → ⊥
     job_answered inside small never =
-        answer_there asked.task.operation (scale_of asked.mode) (product_of asked.mode) asked.limit (bytes_of asked held) (needs_met asked.task.operation (product_of asked.mode) asked.limit (laws_of asked.mode asked.limit (omega (arith, limit_asked words asked of_words))))
+        answer_there asked.task.operation (scale_of asked.mode) (product_of asked.mode) (numbers_of asked) (bytes_of asked held) (needs_met asked.task.operation (product_of asked.mode) asked.limit (laws_of asked.mode asked.limit (omega (arith, limit_asked words asked of_words))))
         (kinds_bytes are) inside small never
 
     -- so it has an answer, a rule outside the class or too many parts: that it has none of them cannot be

@@ -7,25 +7,31 @@ use Rattle.tib_command.specs.declared.job.Operation.{Operation}
 use Rattle.tib_command.specs.declared.job.Operation.TheVariants as operations
 use Rattle.tib_run.specs.Kinds.{kinds_of, ValuesOf}
 use Rattle.tib_run.specs.Causes.{makes, demanded}
-use Rattle.tib_run.specs.Classes.{IsMet}
-use Rattle.tib_run.specs.Answers.{IsResultOf, NeedsOf}
-use Rattle.tib_run.specs.Made.{normal_form, and_then, reached_set}
-use Rattle.tib_run.specs.Intersect.{AreTrimmedForms, intersecting}
-use Rattle.tib_run.specs.Forward.{forwarding}
-use Rattle.tib_run.specs.Backward.{inverting}
+use Rattle.tib_operations.specs.Classes.{IsMet}
+use Rattle.tib_run.specs.Answers.{Numbers, IsResultOf, NeedsOf}
+use Rattle.tib_operations.specs.Made.{normal_form, and_then, reached_set}
+use Rattle.tib_operations.specs.Intersect.{AreTrimmedForms, intersecting}
+use Rattle.tib_operations.specs.Forward.{forwarding}
+use Rattle.tib_operations.specs.Backward.{inverting}
+use Rattle.tib_operations.specs.Determinize.{determinizing}
 use Rattle.tib_canon.specs.TrimmedForms.{IsTrimmedForm}
-use Rattle.tib_run.proofs.AppliedByText.{forward_by_text, backward_by_text}
-use Rattle.tib_run.proofs.ClassesByText.{IsOneDemand}
+use Rattle.tib_operations.proofs.AppliedByText.{forward_by_text, backward_by_text}
+use Rattle.tib_operations.proofs.ClassesByText.{IsOneDemand}
 use Rattle.tib_run.proofs.FileValues.{AllAgree, AllSound}
-use Rattle.tib_run.proofs.FormsByText.{within_by_text, pairs_by_text}
-use Rattle.tib_run.proofs.MadeParts.{IsEither, nothing_either, both_either, form_either, reached_either}
-use Rattle.tib_run.proofs.OfWeigh.{weighed_once, weighed_there}
-use Rattle.tib_run.proofs.OfInside.{insides_once, insides_there}
-use Rattle.tib_run.proofs.OfNormal.{normal_once, normal_there}
-use Rattle.tib_run.proofs.OfIntersect.{intersection_once, intersection_there}
-use Rattle.tib_run.proofs.OfForward.{forward_once, forward_there}
-use Rattle.tib_run.proofs.OfBackward.{backward_once, backward_there}
-use Rattle.tib_run.proofs.OfCheck.{classes_once, classes_there}
+use Rattle.tib_operations.proofs.FormsByText.{within_by_text, pairs_by_text}
+use Rattle.tib_operations.proofs.MadeParts.{IsEither, nothing_either, both_either, form_either, reached_either}
+use Rattle.tib_operations.proofs.OfWeigh.{weighed_once, weighed_there}
+use Rattle.tib_operations.proofs.OfInside.{insides_once, insides_there}
+use Rattle.tib_operations.proofs.OfNormal.{normal_once, normal_there}
+use Rattle.tib_operations.proofs.OfIntersect.{intersection_once, intersection_there}
+use Rattle.tib_operations.proofs.OfForward.{forward_once, forward_there}
+use Rattle.tib_operations.proofs.OfBackward.{backward_once, backward_there}
+use Rattle.tib_canon_transducer.proofs.ComposeByText.{compose_once}
+use Rattle.tib_operations.proofs.OfCompose.{compose_by_text, compose_either, composed_there}
+use Rattle.tib_operations.proofs.OfCheck.{classes_once, classes_there}
+use Rattle.tib_operations.proofs.OfPrune.{prune_once, prune_there}
+use Rattle.tib_operations.proofs.OfDeterminize.{determinized_once, determinized_there}
+use Rattle.tib_operations.proofs.VectorsByText.{vectors_by_text}
 
 -- what is demanded is one over each table of labels
 pub one_demand : (labels others : List (List ℕ)) (o : Operation) (values more : ValuesOf (kinds_of o)) → AllAgree labels others (kinds_of o) values more → IsOneDemand labels others (demanded o values) (demanded o more)
@@ -35,7 +41,10 @@ one_demand labels others operations.Normal values more a = tt
 one_demand labels others operations.Intersect values more a = tt
 one_demand labels others operations.Forward values more a = (refl, refl, a.1.0.rules)
 one_demand labels others operations.Backward values more a = (refl, refl, a.0.rules)
+one_demand labels others operations.Compose values more a = (refl, refl, a.1.0.rules)
+one_demand labels others operations.Determinize values more a = tt
 one_demand labels others operations.Check values more a = tt
+one_demand labels others operations.Prune values more a = tt
 
 module _ (scale : Scale) (product : ℕ → ℕ → ℕ) (limit : ℕ) where
   -- what is made is within the limit, or has more parts
@@ -54,7 +63,12 @@ module _ (scale : Scale) (product : ℕ → ℕ → ℕ) (limit : ℕ) where
   makes_either operations.Backward values =
       both_either (normal_form product limit values.1.0) (reached_set limit (IsTrimmedForm product values.1.0) (inverting product values.0)) (form_either product limit values.1.0)
       (reached_either limit (IsTrimmedForm product values.1.0) (inverting product values.0))
+  makes_either operations.Compose values = compose_either product limit values.0 values.1.0
+  makes_either operations.Determinize values =
+      both_either (normal_form product limit values.0) (reached_set limit (IsTrimmedForm product values.0) (determinizing product)) (form_either product limit values.0)
+      (reached_either limit (IsTrimmedForm product values.0) (determinizing product))
   makes_either operations.Check values = nothing_either
+  makes_either operations.Prune values = form_either product limit values.0
 
   module _ (labels others : List (List ℕ)) (apart : Distinct labels) (different : Distinct others) where
     -- it is within the limit over each table of labels
@@ -77,31 +91,46 @@ module _ (scale : Scale) (product : ℕ → ℕ → ℕ) (limit : ℕ) where
       within_by_text product limit labels others apart different values.1.0 more.1.0 a.1.0 w.0,
       backward_by_text product limit labels others apart different values.1.0 more.1.0 values.0 more.0 a.1.0 a.0 w.1,
     )
+    makes_by_text operations.Compose values more a w = compose_by_text product limit labels others apart different values.0 values.1.0 more.0 more.1.0 a.0 a.1.0 w
+    makes_by_text operations.Determinize values more a w = (
+      within_by_text product limit labels others apart different values.0 more.0 a.0 w.0,
+      vectors_by_text product limit labels others apart different values.0 more.0 a.0 w.1,
+    )
     makes_by_text operations.Check values more a w = tt
+    makes_by_text operations.Prune values more a w = within_by_text product limit labels others apart different values.0 more.0 a.0 w
 
-    -- and the text is one
+module _ (scale : Scale) (product : ℕ → ℕ → ℕ) (numbers : Numbers) where
+  module _ (labels others : List (List ℕ)) (apart : Distinct labels) (different : Distinct others) where
+    -- the text is one over each table of labels
     pub result_once :
-        (o : Operation) (values more : ValuesOf (kinds_of o)) (text other : List ℕ) → AllAgree labels others (kinds_of o) values more → IsResultOf o scale product limit labels values text →
-        IsResultOf o scale product limit others more other → text ≡ other
+        (o : Operation) (values more : ValuesOf (kinds_of o)) (text other : List ℕ) → AllAgree labels others (kinds_of o) values more → IsResultOf o scale product numbers labels values text →
+        IsResultOf o scale product numbers others more other → text ≡ other
     result_once operations.Weigh values more text other a b c = weighed_once scale product labels others values.0 more.0 apart different a.0 values.1.0 more.1.0 text other a.1.0 b c
     result_once operations.Inside values more text other a b c = insides_once scale product labels others values.0 more.0 text other a.0 b c
-    result_once operations.Normal values more text other a b c = normal_once scale product limit labels others values.0 more.0 text other apart different a.0 b c
-    result_once operations.Intersect values more text other a b c = intersection_once scale product limit labels others values.0 values.1.0 more.0 more.1.0 text other apart different a.0 a.1.0 b c
-    result_once operations.Forward values more text other a b c = forward_once scale product limit labels others values.0 more.0 values.1.0 more.1.0 text other apart different a.0 a.1.0 b c
-    result_once operations.Backward values more text other a b c = backward_once scale product limit labels others values.1.0 more.1.0 values.0 more.0 text other apart different a.1.0 a.0 b c
+    result_once operations.Normal values more text other a b c = normal_once scale product numbers.limit labels others values.0 more.0 text other apart different a.0 b c
+    result_once operations.Intersect values more text other a b c = intersection_once scale product numbers.limit labels others values.0 values.1.0 more.0 more.1.0 text other apart different a.0 a.1.0 b c
+    result_once operations.Forward values more text other a b c = forward_once scale product numbers.limit labels others values.0 more.0 values.1.0 more.1.0 text other apart different a.0 a.1.0 b c
+    result_once operations.Backward values more text other a b c = backward_once scale product numbers.limit labels others values.1.0 more.1.0 values.0 more.0 text other apart different a.1.0 a.0 b c
+    result_once operations.Compose values more text other a b c = compose_once scale product numbers.limit labels others values.0 values.1.0 more.0 more.1.0 text other apart different a.0 a.1.0 b c
+    result_once operations.Determinize values more text other a b c = determinized_once scale product numbers.limit labels others values.0 more.0 text other apart different a.0 b c
     result_once operations.Check values more text other a b c = classes_once labels others values.0 more.0 text other a.0 b c
+    result_once operations.Prune values more text other a b c = prune_once scale product numbers.beam labels others values.0 more.0 text other apart different a.0 b c
 
   -- where it is within the limit, that there is no text cannot be
   pub result_there :
-      (labels : List (List ℕ)) → Distinct labels → (o : Operation) → NeedsOf o product limit → (values : ValuesOf (kinds_of o)) → AllSound scale labels (kinds_of o) values →
-      IsMet (demanded o values) → (makes o product limit values).within → ((text : List ℕ) → IsResultOf o scale product limit labels values text → ⊥) → ⊥
+      (labels : List (List ℕ)) → Distinct labels → (o : Operation) → NeedsOf o product numbers.limit → (values : ValuesOf (kinds_of o)) → AllSound scale labels (kinds_of o) values →
+      IsMet (demanded o values) → (makes o product numbers.limit values).within → ((text : List ℕ) → IsResultOf o scale product numbers labels values text → ⊥) → ⊥
   result_there labels apart operations.Weigh needs values s met w never = weighed_there scale product labels values.0 values.1.0 never
   result_there labels apart operations.Inside needs values s met w never = insides_there scale product values.0 never
-  result_there labels apart operations.Normal m values s met w never = normal_there m.laws scale limit m.low labels apart values.0 s.0.0 s.0.1 w never
+  result_there labels apart operations.Normal m values s met w never = normal_there m.laws scale numbers.limit m.low labels apart values.0 s.0.0 s.0.1 w never
   result_there labels apart operations.Intersect m values s met w never =
-      intersection_there m.laws scale limit m.low labels apart values.0 values.1.0 s.0.0 s.1.0.0 s.0.1 s.1.0.1 w.1.1 never
+      intersection_there m.laws scale numbers.limit m.low labels apart values.0 values.1.0 s.0.0 s.1.0.0 s.0.1 s.1.0.1 w.1.1 never
   result_there labels apart operations.Forward m values s met w never =
-      forward_there m.laws scale limit m.low labels apart values.0 values.1.0 s.0.0 s.0.1 s.1.0 met w.1 never
+      forward_there m.laws scale numbers.limit m.low labels apart values.0 values.1.0 s.0.0 s.0.1 s.1.0.0 met w.1 never
   result_there labels apart operations.Backward m values s met w never =
-      backward_there m.laws scale limit m.low labels apart values.1.0 values.0 s.1.0.0 s.1.0.1 s.0 met w.1 never
+      backward_there m.laws scale numbers.limit m.low labels apart values.1.0 values.0 s.1.0.0 s.1.0.1 s.0.0 met w.1 never
+  result_there labels apart operations.Compose m values s met w never =
+      composed_there m.laws scale numbers.limit m.low labels apart values.0 values.1.0 s.0.1 s.1.0.1 met w never
+  result_there labels apart operations.Determinize m values s met w never = determinized_there m.laws scale numbers.limit m.low labels apart values.0 s.0.0 s.0.1 w.1 never
   result_there labels apart operations.Check needs values s met w never = classes_there values.0 never
+  result_there labels apart operations.Prune m values s met w never = prune_there m.laws scale numbers.limit numbers.beam m.low labels apart values.0 s.0.0 s.0.1 w never

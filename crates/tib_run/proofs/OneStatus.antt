@@ -4,9 +4,10 @@ use Rattle.std.specs.Prelude.{◌≡◌, ℕ, ◌+◌, ◌<◌, ◌⊎◌, List,
 use Rattle.std.proofs.Common.{arith, ap, sym, ◌∙◌, subst, zero, suc, inl, inr}
 use Rattle.tib_lex.specs.declared.fault.FileFault.{FileFault}
 use Rattle.tib_command.specs.Jobs.{Asked}
-use Rattle.tib_run.specs.declared.status.Status.{Status}
-use Rattle.tib_run.specs.declared.status.Status.TheVariants as statuses
-use Rattle.tib_run.specs.Kinds.{Kind, of_grammar, of_trees, of_transducer, kinds_of, kind_at, file_at, bytes_at, OfName, OfFile, Told, IsShort, IsLong, IsOfKind, HasFault}
+use Rattle.tib_operations.specs.declared.status.Status.{Status}
+use Rattle.tib_operations.specs.declared.status.Status.TheVariants as statuses
+use Rattle.tib_run.specs.Kinds.{Kind, of_grammar, of_trees, of_transducer, kinds_of, kind_at, file_at, bytes_at, OfName, OfFile, Told, IsOfKind, HasFault}
+use Rattle.tib_operations.specs.FileTexts.{IsShort, IsLong}
 use Rattle.tib_run.specs.Causes.{IsInClass, IsOutOfClass, IsTooMuch, scale_of, bytes_of}
 use Rattle.tib_run.specs.Answers.{IsAnswer, AreTold, EndsCalmly, AreOneStatus}
 use Rattle.tib_run.proofs.Faults.{faulty_kind, one_fault}

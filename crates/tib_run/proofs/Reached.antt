@@ -1,26 +1,21 @@
 -- From a file of a job to the answer of the run.
 use Rattle.tib_cost.specs.declared.Scale.{Scale}
 use Rattle.std.specs.Prelude.{◌≡◌, ℕ, ◌+◌, ◌-◌, ◌≤◌, ◌<◌, ◌⊎◌, List, length, Option, Some, None, IfSome, slice_get}
-use Rattle.std.specs.List.{AllZip}
 use Rattle.std.proofs.Common.{subst, sym, ◌∙◌, arith, ap, zero, suc, inl, inr, map, get_or, [], ◌∷◌}
 use Rattle.tib_io.specs.Causes.{Rose}
 use Rattle.tib_lex.specs.declared.fault.FileFault.{FileFault}
-use Rattle.tib_tree.specs.Trees.{Tree}
 use Rattle.tib_tree.specs.Grows.{Grows, AreDistinct}
-use Rattle.tib_grammar.specs.GrammarOf.{GrammarOf}
-use Rattle.tib_grammar.specs.Series.{IsSeries, KeepsSeries, HasSameSeries, HaveSameSeries}
-use Rattle.tib_grammar.specs.declared.Rule.{Rule}
 use Rattle.tib_command.specs.Jobs.{Asked}
 use Rattle.tib_command.specs.declared.job.Operation.{Operation}
-use Rattle.tib_run.specs.declared.status.Status.{Status}
-use Rattle.tib_run.specs.declared.status.Status.TheVariants as statuses
-use Rattle.tib_run.specs.Kinds.{Kind, kind_at, kinds_of, file_at, bytes_at, OfName, OfFile, Told, IsShort, ValueOf, IsTextOf, IsOfKind, ValuesOf, AreTexts, HasFault}
-use Rattle.tib_run.specs.Answers.{IsResultOf, IsAnswer, IsAnswerOf}
-use Rattle.tib_run.specs.Made.{IsMadeFault}
-use Rattle.tib_run.specs.Causes.{HasCause, AreBefore, HasEarlier, IsAbout, IsEarly, BreaksClass, MeetsClass, MakesTooMuch, makes, demanded, bytes_of, file_count, scale_of, product_of, scale_by}
-use Rattle.tib_run.specs.Classes.{Demanded, IsMet, IsClassFault}
+use Rattle.tib_operations.specs.declared.status.Status.{Status}
+use Rattle.tib_operations.specs.declared.status.Status.TheVariants as statuses
+use Rattle.tib_run.specs.Kinds.{Kind, kind_at, kinds_of, file_at, bytes_at, OfName, OfFile, Told, ValueOf, IsTextOf, IsOfKind, ValuesOf, AreTexts, HasFault}
+use Rattle.tib_operations.specs.FileTexts.{IsShort}
+use Rattle.tib_run.specs.Answers.{numbers_of, IsResultOf, IsAnswer, IsAnswerOf}
+use Rattle.tib_operations.specs.Made.{IsMadeFault}
+use Rattle.tib_run.specs.Causes.{HasCause, AreBefore, HasEarlier, HasClass, IsAbout, IsEarly, BreaksClass, MeetsClass, MakesTooMuch, makes, demanded, bytes_of, file_count, scale_of, product_of, scale_by}
+use Rattle.tib_operations.specs.Classes.{Demanded, IsMet, IsClassFault}
 use Rattle.tib_run.proofs.FileValues.{told_grown, kinds_told}
-use Rattle.tib_run.proofs.MadeParts.{made_earlier}
 
 -- the name of a file by its place among the job's files
 pub name_at : {A : Type 0} (f : A → List ℕ) (xs : List A) (i : ℕ) (x : A) → i < length xs → x ≡ get_or xs i x → slice_get (map f xs) i ≡ Some (f x)
@@ -121,6 +116,18 @@ class_early demanded (statuses.ReadFault n) h = absurd h
 class_early demanded statuses.WriteFault h = absurd h
 class_early demanded (statuses.TooLong n) h = absurd h
 class_early demanded statuses.OutOfMemory h = absurd h
+
+-- a fault of what is made comes only where all files are of their kinds and no class is broken
+made_earlier : (P : Type 0) (limit : ℕ) (job : Option Asked) (held : List ℕ → Option (List ℕ)) (s : Status) → IsMadeFault P limit s → AreBefore job held (file_count job + 1) → HasClass job held → HasEarlier job held s
+made_earlier P limit job held statuses.Done h b c = tt
+made_earlier P limit job held statuses.Usage h b c = tt
+made_earlier P limit job held (statuses.BadInput n fault) h b c = absurd h
+made_earlier P limit job held (statuses.Class n rule fault) h b c = absurd h
+made_earlier P limit job held (statuses.TooMany n) h b c = (b, c)
+made_earlier P limit job held (statuses.ReadFault n) h b c = absurd h
+made_earlier P limit job held statuses.WriteFault h b c = tt
+made_earlier P limit job held (statuses.TooLong n) h b c = absurd h
+made_earlier P limit job held statuses.OutOfMemory h b c = tt
 
 pub about_earlier : (job : Option Asked) (held : List ℕ → Option (List ℕ)) (file : ℕ) (s : Status) → IsAbout file s → AreBefore job held file → HasEarlier job held s
 about_earlier job held file statuses.Done h b = tt
@@ -227,26 +234,9 @@ module _
   class_first statuses.OutOfMemory h = absurd h
 
   -- and the result on them is an answer
-  pub made_answer : (text : List ℕ) → IsMet (demanded o values) → (makes o product asked.limit values).within → IsResultOf o scale product asked.limit labels values text → IsAnswer asked held text
+  pub made_answer : (text : List ℕ) → IsMet (demanded o values) → (makes o product asked.limit values).within → IsResultOf o scale product (numbers_of asked) labels values text → IsAnswer asked held text
   made_answer text met within is =
-      let answers : IsAnswerOf o scale product asked.limit (bytes_of asked held) text = record { labels = labels; values = values; texts = texts; met = met; within = within; result_is = is } in
-      subst (λ (q : Operation). IsAnswerOf q (scale_of asked.mode) (product_of asked.mode) asked.limit (bytes_of asked held) text) (sym op)
-      (subst (λ (p : ℕ → ℕ → ℕ). IsAnswerOf o (scale_of asked.mode) p asked.limit (bytes_of asked held) text) pe
-      (subst (λ (w : Scale). IsAnswerOf o w product asked.limit (bytes_of asked held) text) we answers))
-
--- weights by rules that keep the series are weights by the rules that they were made of
-pub weights_kept :
-    (product : ℕ → ℕ → ℕ) (states : ℕ) (rules new : List (Rule ℕ)) (ts : List (Tree ℕ)) (vs : List (Option ℕ)) → 0 < states → KeepsSeries product states rules new →
-    AllZip (λ t v. IsSeries product new t v) ts vs → AllZip (λ t v. IsSeries product rules t v) ts vs
-weights_kept product states rules new [] [] h k a = tt
-weights_kept product states rules new [] (v ∷ vs) h k a = absurd a
-weights_kept product states rules new (t ∷ ts) [] h k a = absurd a
-weights_kept product states rules new (t ∷ ts) (v ∷ vs) h k a = ((k 0 h t v).1 a.0, weights_kept product states rules new ts vs h k a.1)
-
--- what has the series of a normal form has that of its grammar
-pub same_by_form :
-    (product : ℕ → ℕ → ℕ) (g m form h : GrammarOf) → 0 < length g.names → form ≡ m → KeepsSeries product (length g.names) g.rules m.rules → HasSameSeries product form h →
-    HaveSameSeries product g.rules h.rules
-same_by_form product g m form h some same kept series t v =
-    let own : HasSameSeries product m h = subst (λ (n : GrammarOf). HasSameSeries product n h) same series in
-    (λ x. (own t v).0 ((kept 0 some t v).0 x), λ x. (kept 0 some t v).1 ((own t v).1 x))
+      let answers : IsAnswerOf o scale product (numbers_of asked) (bytes_of asked held) text = record { labels = labels; values = values; texts = texts; met = met; within = within; result_is = is } in
+      subst (λ (q : Operation). IsAnswerOf q (scale_of asked.mode) (product_of asked.mode) (numbers_of asked) (bytes_of asked held) text) (sym op)
+      (subst (λ (p : ℕ → ℕ → ℕ). IsAnswerOf o (scale_of asked.mode) p (numbers_of asked) (bytes_of asked held) text) pe
+      (subst (λ (w : Scale). IsAnswerOf o w product (numbers_of asked) (bytes_of asked held) text) we answers))

@@ -6,8 +6,8 @@ use Rattle.tib_io.specs.Pieces.{front_whole}
 use Rattle.tib_io.specs.Writes.{Takes, TakesFront, Calm}
 use Rattle.tib_tree.specs.Wrote.{Wrote}
 use Rattle.tib_command.specs.Jobs.{Asked}
-use Rattle.tib_run.specs.declared.status.Status.{Status}
-use Rattle.tib_run.specs.declared.status.Status.TheVariants as statuses
+use Rattle.tib_operations.specs.declared.status.Status.{Status}
+use Rattle.tib_operations.specs.declared.status.Status.TheVariants as statuses
 use Rattle.tib_run.specs.Answers.{IsAnswer, StandsStill, WithinIsNotTooMuch}
 use Rattle.tib_run.specs.Causes.{HasCause, HasEarlier, IsEarly}
 use Rattle.tib_run.specs.Kinds.{KindsHaveNoFault}

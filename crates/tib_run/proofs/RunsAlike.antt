@@ -2,7 +2,7 @@
 use Rattle.std.specs.Prelude.{ℕ, List, Option, Some}
 use Rattle.std.proofs.Common.{subst}
 use Rattle.tib_command.specs.Jobs.{Asked}
-use Rattle.tib_run.specs.declared.status.Status.{Status}
+use Rattle.tib_operations.specs.declared.status.Status.{Status}
 use Rattle.tib_run.specs.Answers.{IsCalm, EndsCalmly}
 use Rattle.tib_run.specs.Run.{FilesSeen, SinkSeen, IsRunOf, RunsEndAlike}
 use Rattle.tib_run.proofs.FilesAsked.{files_asked}

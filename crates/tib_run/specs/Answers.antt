@@ -6,39 +6,54 @@ use Rattle.tib_io.specs.Causes.{Rose, last_count}
 use Rattle.tib_command.specs.Jobs.{Asked}
 use Rattle.tib_command.specs.declared.job.Operation.{Operation}
 use Rattle.tib_command.specs.declared.job.Operation.TheVariants as operations
-use Rattle.tib_run.specs.declared.status.Status.{Status}
-use Rattle.tib_run.specs.declared.status.Status.TheVariants as statuses
-use Rattle.tib_run.specs.Kinds.{Kind, kind_at, kinds_of, file_at, bytes_at, OfName, IsShort, IsOfKind, ValuesOf, AreTexts}
+use Rattle.tib_operations.specs.declared.status.Status.{Status}
+use Rattle.tib_operations.specs.declared.status.Status.TheVariants as statuses
+use Rattle.tib_run.specs.Kinds.{Kind, kind_at, kinds_of, file_at, bytes_at, OfName, IsOfKind, ValuesOf, AreTexts}
+use Rattle.tib_operations.specs.FileTexts.{IsShort}
 use Rattle.tib_run.specs.Causes.{scale_of, product_of, makes, demanded, bytes_of, HasCause, HasEarlier, IsTooMuch, IsWithin, IsInClass}
-use Rattle.tib_run.specs.Classes.{IsMet}
-use Rattle.tib_run.specs.Weigh.{IsWeighed}
-use Rattle.tib_run.specs.Inside.{HasInsides}
-use Rattle.tib_run.specs.Normal.{HasNormalText}
-use Rattle.tib_run.specs.Intersect.{HasIntersectionText}
-use Rattle.tib_run.specs.Forward.{HasForwardText}
-use Rattle.tib_run.specs.Backward.{HasBackwardText}
-use Rattle.tib_run.specs.Check.{HasClasses}
+use Rattle.tib_operations.specs.Classes.{IsMet}
+use Rattle.tib_operations.specs.Weigh.{IsWeighed}
+use Rattle.tib_operations.specs.Inside.{HasInsides}
+use Rattle.tib_operations.specs.Normal.{HasNormalText}
+use Rattle.tib_operations.specs.Intersect.{HasIntersectionText}
+use Rattle.tib_operations.specs.Forward.{HasForwardText}
+use Rattle.tib_operations.specs.Backward.{HasBackwardText}
+use Rattle.tib_operations.specs.Compose.{HasComposeText}
+use Rattle.tib_operations.specs.Determinize.{HasDeterminizedText}
+use Rattle.tib_operations.specs.Check.{HasClasses}
+use Rattle.tib_operations.specs.Prune.{HasPruneText}
+
+-- what the words say in numbers that an answer hangs on: how many parts are within the limit, and how wide the beam is
+pub record Numbers : Type 0 where
+  pub limit : ℕ
+  pub beam : ℕ
+
+abbrev pub numbers_of : Asked → Numbers
+numbers_of asked = record { limit = asked.limit; beam = asked.beam }
 
 -- the text answers the operation on these values of its files
-abbrev pub IsResultOf : (operation : Operation) → Scale → (ℕ → ℕ → ℕ) → ℕ → List (List ℕ) → ValuesOf (kinds_of operation) → List ℕ → Type 0
-IsResultOf operations.Weigh scale product limit labels values text = IsWeighed scale product labels values.0 values.1.0 text
-IsResultOf operations.Inside scale product limit labels values text = HasInsides scale product values.0 text
-IsResultOf operations.Normal scale product limit labels values text = HasNormalText scale product limit labels values.0 text
-IsResultOf operations.Intersect scale product limit labels values text = HasIntersectionText scale product limit labels values.0 values.1.0 text
-IsResultOf operations.Forward scale product limit labels values text = HasForwardText scale product limit labels values.0 values.1.0 text
-IsResultOf operations.Backward scale product limit labels values text = HasBackwardText scale product limit labels values.0 values.1.0 text
-IsResultOf operations.Check scale product limit labels values text = HasClasses values.0 text
+abbrev pub IsResultOf : (operation : Operation) → Scale → (ℕ → ℕ → ℕ) → Numbers → List (List ℕ) → ValuesOf (kinds_of operation) → List ℕ → Type 0
+IsResultOf operations.Weigh scale product numbers labels values text = IsWeighed scale product labels values.0 values.1.0 text
+IsResultOf operations.Inside scale product numbers labels values text = HasInsides scale product values.0 text
+IsResultOf operations.Normal scale product numbers labels values text = HasNormalText scale product numbers.limit labels values.0 text
+IsResultOf operations.Intersect scale product numbers labels values text = HasIntersectionText scale product numbers.limit labels values.0 values.1.0 text
+IsResultOf operations.Forward scale product numbers labels values text = HasForwardText scale product numbers.limit labels values.0 values.1.0 text
+IsResultOf operations.Backward scale product numbers labels values text = HasBackwardText scale product numbers.limit labels values.0 values.1.0 text
+IsResultOf operations.Compose scale product numbers labels values text = HasComposeText scale product numbers.limit labels values.0 values.1.0 text
+IsResultOf operations.Determinize scale product numbers labels values text = HasDeterminizedText scale product numbers.limit labels values.0 text
+IsResultOf operations.Check scale product numbers labels values text = HasClasses values.0 text
+IsResultOf operations.Prune scale product numbers labels values text = HasPruneText scale product numbers.beam labels values.0 text
 
 -- The text answers the operation on files with these bytes: they are the texts of values, which are of the class that is
 -- demanded, what is made of these is within the limit, and the text answers the operation on them. Nothing is said of a file
 -- whose bytes are not told.
-pub record IsAnswerOf (operation : Operation) (scale : Scale) (product : ℕ → ℕ → ℕ) (limit : ℕ) (bytes : ℕ → Option (List ℕ)) (text : List ℕ) : Type 0 where
+pub record IsAnswerOf (operation : Operation) (scale : Scale) (product : ℕ → ℕ → ℕ) (numbers : Numbers) (bytes : ℕ → Option (List ℕ)) (text : List ℕ) : Type 0 where
   pub labels : List (List ℕ)
   pub values : ValuesOf (kinds_of operation)
   pub texts : AreTexts scale labels bytes (kinds_of operation) values
   pub met : IsMet (demanded operation values)
-  pub within : (makes operation product limit values).within
-  pub result_is : IsResultOf operation scale product limit labels values text
+  pub within : (makes operation product numbers.limit values).within
+  pub result_is : IsResultOf operation scale product numbers labels values text
 
 -- the product meets its laws, and the limit is below 2 ^ 32
 pub record MeetsLaws (product : ℕ → ℕ → ℕ) (limit : ℕ) : Type 0 where
@@ -55,12 +70,15 @@ NeedsOf operations.Normal product limit = MeetsLaws product limit
 NeedsOf operations.Intersect product limit = MeetsLaws product limit
 NeedsOf operations.Forward product limit = MeetsLaws product limit
 NeedsOf operations.Backward product limit = MeetsLaws product limit
+NeedsOf operations.Compose product limit = MeetsLaws product limit
+NeedsOf operations.Determinize product limit = MeetsLaws product limit
 NeedsOf operations.Check product limit = Unit {0}
+NeedsOf operations.Prune product limit = MeetsLaws product limit
 
 -- the text answers the job
 abbrev pub IsAnswer : Asked → (List ℕ → Option (List ℕ)) → List ℕ → Type 0
 IsAnswer asked held text =
-    IsAnswerOf asked.task.operation (scale_of asked.mode) (product_of asked.mode) asked.limit (bytes_of asked held) text
+    IsAnswerOf asked.task.operation (scale_of asked.mode) (product_of asked.mode) (numbers_of asked) (bytes_of asked held) text
 
 -- the bytes of each file of the job are told
 abbrev pub AreTold : Asked → (List ℕ → Option (List ℕ)) → Type 0

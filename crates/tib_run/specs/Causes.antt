@@ -10,18 +10,22 @@ use Rattle.tib_command.specs.declared.job.Mode.{Mode}
 use Rattle.tib_command.specs.declared.job.Mode.TheVariants as modes
 use Rattle.tib_command.specs.declared.job.Operation.{Operation}
 use Rattle.tib_command.specs.declared.job.Operation.TheVariants as operations
-use Rattle.tib_run.specs.Kinds.{kind_at, kinds_of, file_at, bytes_at, OfFile, Told, IsShort, IsLong, IsOfKind, HasFault, Kind, ValuesOf, AreTexts}
-use Rattle.tib_run.specs.Made.{Made}
-use Rattle.tib_run.specs.Weigh.{weigh_makes}
-use Rattle.tib_run.specs.Inside.{inside_makes}
-use Rattle.tib_run.specs.Normal.{normal_makes}
-use Rattle.tib_run.specs.Intersect.{intersect_makes}
-use Rattle.tib_run.specs.Forward.{forward_makes, forward_demands}
-use Rattle.tib_run.specs.Backward.{backward_makes, backward_demands}
-use Rattle.tib_run.specs.Check.{check_makes}
-use Rattle.tib_run.specs.Classes.{Demanded, IsMet, IsBroken}
-use Rattle.tib_run.specs.declared.status.Status.{Status}
-use Rattle.tib_run.specs.declared.status.Status.TheVariants as statuses
+use Rattle.tib_run.specs.Kinds.{kind_at, kinds_of, file_at, bytes_at, OfFile, Told, IsOfKind, HasFault, Kind, ValuesOf, AreTexts}
+use Rattle.tib_operations.specs.FileTexts.{IsShort, IsLong}
+use Rattle.tib_operations.specs.Made.{Made}
+use Rattle.tib_operations.specs.Weigh.{weigh_makes}
+use Rattle.tib_operations.specs.Inside.{inside_makes}
+use Rattle.tib_operations.specs.Normal.{normal_makes}
+use Rattle.tib_operations.specs.Intersect.{intersect_makes}
+use Rattle.tib_operations.specs.Forward.{forward_makes, forward_demands}
+use Rattle.tib_operations.specs.Compose.{compose_makes, compose_demands}
+use Rattle.tib_operations.specs.Backward.{backward_makes, backward_demands}
+use Rattle.tib_operations.specs.Determinize.{determinize_makes}
+use Rattle.tib_operations.specs.Check.{check_makes}
+use Rattle.tib_operations.specs.Prune.{prune_makes}
+use Rattle.tib_operations.specs.Classes.{Demanded, IsMet, IsBroken}
+use Rattle.tib_operations.specs.declared.status.Status.{Status}
+use Rattle.tib_operations.specs.declared.status.Status.TheVariants as statuses
 
 -- how the weights of a mode stand for costs
 abbrev pub scale_of : Mode → Scale
@@ -49,7 +53,10 @@ makes operations.Normal product limit values = normal_makes product limit values
 makes operations.Intersect product limit values = intersect_makes product limit values.0 values.1.0
 makes operations.Forward product limit values = forward_makes product limit values.0 values.1.0
 makes operations.Backward product limit values = backward_makes product limit values.0 values.1.0
+makes operations.Compose product limit values = compose_makes product limit values.0 values.1.0
+makes operations.Determinize product limit values = determinize_makes product limit values.0
 makes operations.Check product limit values = check_makes
+makes operations.Prune product limit values = prune_makes product limit values.0
 
 -- what class an operation demands of which file
 abbrev pub demanded : (operation : Operation) → ValuesOf (kinds_of operation) → Option Demanded
@@ -59,7 +66,10 @@ demanded operations.Normal values = None
 demanded operations.Intersect values = None
 demanded operations.Forward values = forward_demands values.1.0
 demanded operations.Backward values = backward_demands values.0
+demanded operations.Compose values = compose_demands values.1.0
+demanded operations.Determinize values = None
 demanded operations.Check values = None
+demanded operations.Prune values = None
 
 -- Files are the texts of values of which an operation makes something with more parts than the limit.
 pub record MakesTooMuch (operation : Operation) (scale : Scale) (product : ℕ → ℕ → ℕ) (limit : ℕ) (bytes : ℕ → Option (List ℕ)) : Type 0 where

@@ -1,20 +1,17 @@
 -- What the files of a job hold.
-pub use Rattle.tib_io.specs.Reads.{most_bytes}
 use Rattle.tib_cost.specs.declared.Scale.{Scale}
-use Rattle.std.specs.Prelude.{◌≡◌, ℕ, ◌<◌, ◌≤◌, List, [], ◌∷◌, length, Option, Some, None, IfSome, IsSome, slice_get}
+use Rattle.std.specs.Prelude.{◌≡◌, ℕ, List, [], ◌∷◌, Option, Some, None, IfSome, IsSome, slice_get}
 use Rattle.std.proofs.Common.{zero, suc}
-use Rattle.tib_lex.specs.Lists.{Each}
 use Rattle.tib_lex.specs.declared.fault.FileFault.{FileFault}
 use Rattle.tib_tree.specs.Grows.{AreDistinct}
 use Rattle.tib_tree.specs.Trees.{Tree}
-use Rattle.tib_tree.specs.TreesText.{TreesText, IsSmall, IsFirstFault as IsFirstTreeFault}
+use Rattle.tib_tree.specs.TreesText.{IsFirstFault as IsFirstTreeFault}
 use Rattle.tib_grammar.specs.GrammarOf.{GrammarOf}
-use Rattle.tib_grammar_file.specs.Read.{ReadsAs}
 use Rattle.tib_grammar_file.specs.Faults.{IsFirstFault}
 use Rattle.tib_transducer.specs.TransducerOf.{TransducerOf}
-use Rattle.tib_transducer_file.specs.TransducerText.{ReadsAs as ReadsAsTransducer}
 use Rattle.tib_transducer_file.specs.Faults.{IsFirstFault as IsFirstTransducerFault}
 use Rattle.tib_command.specs.Jobs.{Asked}
+use Rattle.tib_operations.specs.FileTexts.{IsRead, ListsTrees, IsTransducerRead}
 use Rattle.tib_command.specs.declared.job.Operation.{Operation}
 use Rattle.tib_command.specs.declared.job.Operation.TheVariants as operations
 
@@ -31,7 +28,10 @@ kinds_of operations.Normal = of_grammar ∷ []
 kinds_of operations.Intersect = of_grammar ∷ of_grammar ∷ []
 kinds_of operations.Forward = of_grammar ∷ of_transducer ∷ []
 kinds_of operations.Backward = of_transducer ∷ of_grammar ∷ []
+kinds_of operations.Compose = of_transducer ∷ of_transducer ∷ []
+kinds_of operations.Determinize = of_grammar ∷ []
 kinds_of operations.Check = of_transducer ∷ []
+kinds_of operations.Prune = of_grammar ∷ []
 
 -- what the n-th file of a job holds, from 1 on
 abbrev pub kind_at : Option Asked → ℕ → Option Kind
@@ -61,25 +61,6 @@ OfFile job n P = OfName (file_at job n) P
 -- where the bytes of a file are told, P holds of them
 abbrev pub Told : (List ℕ → Option (List ℕ)) → (List ℕ → Type 0) → List ℕ → Type 0
 Told held P name = IfSome (held name) P
-
--- a file that is read is not longer than `most_bytes`
-abbrev pub IsShort : List ℕ → Type 0
-IsShort bytes = length bytes ≤ most_bytes
-
-abbrev pub IsLong : List ℕ → Type 0
-IsLong bytes = most_bytes < length bytes
-
--- the grammar of the text, with no right side too large
-abbrev pub IsRead : Scale → List (List ℕ) → GrammarOf → List ℕ → Type 0
-IsRead scale labels g bytes = IsShort bytes × ReadsAs scale labels bytes g
-
--- the trees of the text, none of them too large
-abbrev pub ListsTrees : List (List ℕ) → List (Tree ℕ) → List ℕ → Type 0
-ListsTrees labels trees bytes = IsShort bytes × TreesText labels bytes trees × Each IsSmall trees
-
--- the transducer of the text, with no side too large
-abbrev pub IsTransducerRead : Scale → List (List ℕ) → TransducerOf → List ℕ → Type 0
-IsTransducerRead scale labels t bytes = IsShort bytes × ReadsAsTransducer scale labels bytes t
 
 -- what the text of a file of the kind stands for
 abbrev pub ValueOf : Kind → Type 0

@@ -6,24 +6,24 @@ use Rattle.tib_command.specs.Jobs.{Asked, job_of}
 use Rattle.tib_command.specs.declared.job.Operation.{Operation}
 use Rattle.tib_run.specs.Kinds.{kinds_of, AreOfKinds, AreAllTold}
 use Rattle.tib_run.specs.Causes.{StaysInClass, StaysWithin, IsInClass, IsOutOfClass, IsTooMuch, IsWithin}
-use Rattle.tib_run.specs.Answers.{IsAnswerOf, NeedsOf, IsAnswer, AreTold, AreOfTheirKinds, EndsCalmly, AreOneStatus}
-use Rattle.tib_run.specs.declared.status.Status.{Status}
+use Rattle.tib_run.specs.Answers.{Numbers, IsAnswerOf, NeedsOf, IsAnswer, AreTold, AreOfTheirKinds, EndsCalmly, AreOneStatus}
+use Rattle.tib_operations.specs.declared.status.Status.{Status}
 
 -- over told files the text of each operation is one
 abbrev pub TextsAreOne : Type 0
 TextsAreOne =
-    (operation : Operation) (scale : Scale) (product : ℕ → ℕ → ℕ) (limit : ℕ) (bytes : ℕ → Option (List ℕ)) (text other : List ℕ) →
-    AreAllTold (kinds_of operation) bytes → IsAnswerOf operation scale product limit bytes text →
-    IsAnswerOf operation scale product limit bytes other → text ≡ other
+    (operation : Operation) (scale : Scale) (product : ℕ → ℕ → ℕ) (numbers : Numbers) (bytes : ℕ → Option (List ℕ)) (text other : List ℕ) →
+    AreAllTold (kinds_of operation) bytes → IsAnswerOf operation scale product numbers bytes text →
+    IsAnswerOf operation scale product numbers bytes other → text ≡ other
 
 -- where the files of an operation are of their kinds and of the class that it demands, and what it makes of them is within the
 -- limit, that no text answers cannot be
 abbrev pub TextsExist : Type 0
 TextsExist =
-    (operation : Operation) (scale : Scale) (product : ℕ → ℕ → ℕ) (limit : ℕ) (bytes : ℕ → Option (List ℕ)) →
-    NeedsOf operation product limit → AreOfKinds scale (kinds_of operation) bytes → StaysInClass operation scale bytes →
-    StaysWithin operation scale product limit bytes →
-    ((text : List ℕ) → IsAnswerOf operation scale product limit bytes text → ⊥) → ⊥
+    (operation : Operation) (scale : Scale) (product : ℕ → ℕ → ℕ) (numbers : Numbers) (bytes : ℕ → Option (List ℕ)) →
+    NeedsOf operation product numbers.limit → AreOfKinds scale (kinds_of operation) bytes → StaysInClass operation scale bytes →
+    StaysWithin operation scale product numbers.limit bytes →
+    ((text : List ℕ) → IsAnswerOf operation scale product numbers bytes text → ⊥) → ⊥
 
 -- where the files of a job are told, one text answers it
 abbrev pub AnswersAreOne : Type 0

@@ -1,17 +1,5 @@
-pub mod Codes
 pub mod Log
 pub mod Kinds
-pub mod Text
-pub mod Made
-pub mod Weigh
-pub mod Inside
-pub mod Normal
-pub mod Classes
-pub mod Moves
-pub mod Intersect
-pub mod Forward
-pub mod Backward
-pub mod Check
 pub mod Causes
 pub mod Answers
 pub mod Run

@@ -5,8 +5,8 @@ use Rattle.tib_lex.specs.declared.fault.FaultKind.TheVariants as kinds
 use Rattle.tib_lex.specs.declared.fault.FileFault.{FileFault}
 use Rattle.tib_classes.specs.declared.error.ClassFault.{ClassFault}
 use Rattle.tib_classes.specs.declared.error.ClassFault.TheVariants as classes
-use Rattle.tib_run.specs.declared.status.Status.{Status}
-use Rattle.tib_run.specs.declared.status.Status.TheVariants as statuses
+use Rattle.tib_operations.specs.declared.status.Status.{Status}
+use Rattle.tib_operations.specs.declared.status.Status.TheVariants as statuses
 
 -- the words of a fault, with the end of their line
 unfoldable pub kind_words : FaultKind → List ℕ
@@ -37,7 +37,7 @@ class_line file rule fault = (codes "tiburon: file " ++ decimal file ++ codes ":
 
 -- the line of a status that names no number
 unfoldable pub plain_line_of : Status → List ℕ
-plain_line_of statuses.Usage = codes "tiburon: usage: tiburon [-m MODE] [-k N] [-w N] [--limit N] OPERATION FILE...\n"
+plain_line_of statuses.Usage = codes "tiburon: usage: tiburon [-m MODE] [-k N] [-w N] [--limit N] [--beam N] OPERATION FILE...\n"
 plain_line_of statuses.WriteFault = codes "tiburon: cannot write\n"
 plain_line_of statuses.OutOfMemory = codes "tiburon: out of memory\n"
 plain_line_of _ = []

@@ -3,8 +3,8 @@ use Rattle.std.specs.Prelude.{◌≡◌, ℕ, ◌<◌, ◌≤◌, Bool, true, fa
 use Rattle.tib_io.specs.Causes.{GoesOn, last_count}
 use Rattle.tib_io.specs.Writes.{Takes, TakesFront, Calm}
 use Rattle.tib_command.specs.Jobs.{Asked, job_of}
-use Rattle.tib_run.specs.declared.status.Status.{Status}
-use Rattle.tib_run.specs.declared.status.Status.TheVariants as statuses
+use Rattle.tib_operations.specs.declared.status.Status.{Status}
+use Rattle.tib_operations.specs.declared.status.Status.TheVariants as statuses
 use Rattle.tib_run.specs.Answers.{IsAnswer, IsComplete, StandsStill, AreTold, IsCalm, AreOneStatus}
 use Rattle.tib_run.specs.Causes.{HasCause, HasEarlier}
 

@@ -1,20 +1,23 @@
 // The answer of a job: its whole text, and the writing of it.
-ghost use Rattle.std.specs.Prelude.{◌≡◌, ◌≤◌, Some, length, IfErr, IfOk};
+ghost use Rattle.std.specs.Prelude.{◌≡◌, Some, length, IfErr, IfOk};
 ghost use Rattle.tib_io.specs.Causes.{GoesOn};
 ghost use Rattle.tib_command.specs.Jobs.{meaning, word_count};
 ghost use Rattle.tib_run.specs.Answers.{IsAnswer};
 ghost use Rattle.tib_run.specs.Causes.{HasCause, HasEarlier, IsEarly, scale_of, product_of};
 ghost use Rattle.tib_run.specs.Run.{IsRunOf, files_seen, sink_seen};
-ghost use Rattle.tib_run.specs.Made.{IsLimit};
+ghost use Rattle.tib_operations.specs.Made.{IsLimit};
+ghost use Rattle.tib_operations.specs.Prune.{IsBeam};
 
 use crate::backward::backward_files;
 use crate::check::check_file;
+use crate::compose::compose_files;
+use crate::determinize::determinize_file;
 use crate::forward::forward_files;
 use crate::inside::inside_of_file;
 use crate::intersect::intersect_files;
 use crate::laws::{files_have_no_fault, within_or_too_many};
 use crate::normal::normal_of_file;
-use crate::status::Status;
+use crate::prune::prune_of_file;
 use crate::weigh::weigh_files;
 use std::alloc::Global;
 use std::thread::Threads;
@@ -22,6 +25,7 @@ use tib_command::{Job, Operation};
 use tib_cost::Semiring;
 use tib_hunt::Gate;
 use tib_io::{Failed, Files, GrowingSink, Sink, write_and_finish};
+use tib_operations::Status;
 
 // The whole text, before any of it is written, or the status with which the run ends.
 fn text_of<S: Semiring + Sync + Drop, R: Threads + Sync, F: Files, G: Gate>(
@@ -33,6 +37,7 @@ fn text_of<S: Semiring + Sync + Drop, R: Threads + Sync, F: Files, G: Gate>(
 ) -> Result<GrowingSink, Status>
     requires files { length job.now.files.items ≡ word_count job.now.operation }
     requires limit { IsLimit job.now.limit }
+    requires beam { IsBeam job.now.beam }
     requires mode { S.SCALE ≡ scale_of job.now.mode }
     requires product { S.product ≡ product_of job.now.mode }
     ensures text { IfOk result (λ text. IsAnswer (meaning job.now) (F.held files.old) text.bytes) }
@@ -50,7 +55,10 @@ fn text_of<S: Semiring + Sync + Drop, R: Threads + Sync, F: Files, G: Gate>(
         Operation::Intersect => intersect_files::<S, F, G>(alloc, job, files, gate),
         Operation::Forward => forward_files::<S, F, G>(alloc, job, files, gate),
         Operation::Backward => backward_files::<S, F, G>(alloc, job, files, gate),
+        Operation::Compose => compose_files::<S, F, G>(alloc, job, files, gate),
+        Operation::Determinize => determinize_file::<S, F, G>(alloc, job, files, gate),
         Operation::Check => check_file::<S, F>(alloc, job, files),
+        Operation::Prune => prune_of_file::<S, F>(alloc, job, files),
     }
 }
 
@@ -65,6 +73,7 @@ pub(crate) fn answer_job<S: Semiring + Sync + Drop, R: Threads + Sync, F: Files,
 ) -> Status
     requires files { length job.now.files.items ≡ word_count job.now.operation }
     requires limit { IsLimit job.now.limit }
+    requires beam { IsBeam job.now.beam }
     requires mode { S.SCALE ≡ scale_of job.now.mode }
     requires product { S.product ≡ product_of job.now.mode }
     ensures { IsRunOf (Some (meaning job.now))

@@ -1,20 +1,21 @@
 // The run of a command.
-ghost use Rattle.std.specs.Prelude.{◌≡◌, ◌≤◌, Some, length, map, string_bytes};
+ghost use Rattle.std.specs.Prelude.{◌≡◌, Some, length, map, string_bytes};
 ghost use Rattle.tib_command.specs.Jobs.{job_of, meaning, word_count};
 ghost use Rattle.tib_run.specs.Log.{line_of};
 ghost use Rattle.tib_run.specs.Run.{IsRunOf, IsLogged, files_seen, sink_seen};
-ghost use Rattle.tib_run.specs.Made.{IsLimit};
+ghost use Rattle.tib_operations.specs.Made.{IsLimit};
+ghost use Rattle.tib_operations.specs.Prune.{IsBeam};
 
 use crate::answer::answer_job;
 use crate::laws::{files_have_no_fault, within_or_too_many};
 use crate::log::tell;
-use crate::status::Status;
 use std::alloc::Global;
 use std::thread::Threads;
 use tib_command::{CommandError, Job, Mode, read_words};
 use tib_cost::{Boolean, Bottleneck, MinPlus, Widest};
 use tib_hunt::Gate;
 use tib_io::{Files, Sink};
+use tib_operations::Status;
 
 // Does a job.
 fn perform_job<R: Threads + Sync, F: Files, O: Sink, G: Gate>(
@@ -27,6 +28,7 @@ fn perform_job<R: Threads + Sync, F: Files, O: Sink, G: Gate>(
 ) -> Status
     requires files { length job.now.files.items ≡ word_count job.now.operation }
     requires limit { IsLimit job.now.limit }
+    requires beam { IsBeam job.now.beam }
     ensures { IsRunOf (Some (meaning job.now))
         (files_seen F.held F.sure F.faults files.old) (files_seen F.held F.sure F.faults files.new)
         (sink_seen O.written O.free O.faults O.finished out.old) (sink_seen O.written O.free O.faults O.finished out.new) result }

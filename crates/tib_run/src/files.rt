@@ -1,17 +1,18 @@
 // The values of a command's files.
-ghost use Rattle.std.specs.Prelude.{◌≡◌, ◌≤◌, ◌<◌, ◌+◌, ◌-◌, ◌^◌, ℕ, List, length, Some, IfOk, IfErr};
+ghost use Rattle.std.specs.Prelude.{◌≡◌, ◌≤◌, ◌<◌, ◌+◌, ◌-◌, ◌^◌, length, Some, IfOk, IfErr};
 ghost use Rattle.tib_io.specs.Reads.{most_bytes};
 ghost use Rattle.tib_io.specs.Causes.{GoesOn};
 ghost use Rattle.tib_command.specs.Jobs.{meaning};
 ghost use Rattle.tib_run.specs.Causes.{HasCause, IsAbout, scale_of};
-ghost use Rattle.tib_run.specs.Moves.{ArePlainMoves};
-ghost use Rattle.tib_run.specs.Kinds.{file_at, kind_at, OfFile, Told, IsShort, IsRead, ListsTrees, IsTransducerRead, of_grammar, of_trees, of_transducer};
+ghost use Rattle.tib_operations.specs.Moves.{ArePlainMoves};
+ghost use Rattle.tib_canon_transducer.specs.Keys.{AreMovesOver};
+ghost use Rattle.tib_run.specs.Kinds.{file_at, kind_at, OfFile, Told, of_grammar, of_trees, of_transducer};
+ghost use Rattle.tib_operations.specs.FileTexts.{IsShort, IsRead, ListsTrees, IsTransducerRead};
 ghost use Rattle.tib_grammar_file.specs.Printable.{ArePrintable};
 ghost use Rattle.tib_tree.specs.Grows.{AreDistinct, Grows};
 ghost use Rattle.tib_lex.specs.Lists.{Each};
 ghost use Rattle.tib_tree.specs.Growth.{HasLabels};
 
-use crate::status::Status;
 use std::alloc::Global;
 use tib_command::Job;
 use tib_cost::Semiring;
@@ -19,6 +20,7 @@ use tib_grammar::Grammar;
 use tib_grammar_file::{read_grammar, read_grammars_are_printable};
 use tib_io::{FileError, Files, read_file};
 use tib_lex::ReadError;
+use tib_operations::Status;
 use tib_transducer::Transducer;
 use tib_transducer_file::read_transducer;
 use tib_tree::{Labels, Tree, read_trees};
@@ -142,6 +144,7 @@ pub(crate) fn transducer_in<S: Semiring, F: Files>(
     ensures few { length labels.new ≤ length labels.old + most_bytes }
     ensures text { IfOk result (λ t. OfFile (Some (meaning job.now)) file (Told (F.held files.old) (IsTransducerRead S.SCALE labels.new t))) }
     ensures plain { IfOk result (λ t. ArePlainMoves S.SCALE labels.new t.rules) }
+    ensures moves { IfOk result (λ t. AreMovesOver S.SCALE labels.new (length t.names) t.rules) }
     ensures grows { Grows labels.old labels.new }
     ensures cause { IfErr result (HasCause (Some (meaning job.now)) (F.held files.old) (F.faults files.old) (F.faults files.new) 0 0) }
     ensures about { IfErr result (IsAbout file) }

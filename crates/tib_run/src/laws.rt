@@ -1,22 +1,7 @@
 // What holds of the answers of jobs.
 ghost use Rattle.tib_run.specs.Kinds.{KindsHaveNoFault};
 ghost use Rattle.tib_run.specs.Answers.{WithinIsNotTooMuch};
-ghost use Rattle.tib_run.specs.Laws.{
-  AnswersAreInClass,
-  InClassIsNotOutside,
-  IsInClassOrOutside,
-  JobsHaveNotOutside,
-  TextsAreOne,
-  TextsExist,
-  AnswersAreOne,
-  AnswersAreWithin,
-  AnswersAreNotTooMuch,
-  IsWithinOrTooMuch,
-  JobsAreAnswered,
-  JobsHaveOne,
-  JobsHaveNotBoth,
-  StatusesAreOne,
-};
+ghost use Rattle.tib_run.specs.Laws.{AnswersAreInClass, InClassIsNotOutside, IsInClassOrOutside, JobsHaveNotOutside, TextsAreOne, TextsExist, AnswersAreOne, AnswersAreWithin, AnswersAreNotTooMuch, IsWithinOrTooMuch, JobsAreAnswered, JobsHaveOne, JobsHaveNotBoth, StatusesAreOne};
 ghost use Rattle.tib_run.specs.Run.{RunsEndAlike};
 
 use tib_grammar_file::faults_have_no_text;

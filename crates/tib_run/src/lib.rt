@@ -6,20 +6,19 @@
 mod answer;
 mod backward;
 mod check;
-mod classes;
 mod command;
+mod compose;
+mod determinize;
 mod files;
-mod forms;
 mod forward;
 mod inside;
 mod intersect;
 mod laws;
 mod log;
 mod normal;
-mod status;
+mod prune;
 #[cfg(test)]
 mod tests;
-mod text;
 mod weigh;
 
 pub use command::{run, run_alone};
@@ -29,4 +28,4 @@ pub use laws::{
     within_or_too_many,
 };
 pub use log::tell;
-pub use status::Status;
+pub use tib_operations::Status;

@@ -3,47 +3,11 @@ ghost use Rattle.std.specs.Prelude.{◌≡◌, ◌++◌, decimal};
 ghost use Rattle.tib_tree.specs.Wrote.{Wrote};
 ghost use Rattle.tib_run.specs.Log.{class_words, kind_words, line_of, plain_line_of};
 
-use crate::status::Status;
 use itoa::Buffer;
 use tib_classes::ClassFault;
-use tib_io::{Failed, Sink, write_whole};
+use tib_io::{Failed, Sink};
 use tib_lex::FaultKind;
-
-// Writes a piece.
-fn write_piece<W: Sink>(out: &mut W, piece: &[u8]) -> Result<(), Failed>
-    ensures { Wrote (W.written out.old) (W.written out.new) (W.free out.old) (W.free out.new) (W.faults out.old) (W.faults out.new)
-        piece.now result }
-{
-    write_whole(out, piece)
-}
-
-// Writes two pieces.
-fn write_both<W: Sink>(out: &mut W, first: &[u8], second: &[u8]) -> Result<(), Failed>
-    ensures { Wrote (W.written out.old) (W.written out.new) (W.free out.old) (W.free out.new) (W.faults out.old) (W.faults out.new)
-        (first.now ++ second.now) result }
-{
-    match write_piece(out, first) {
-        Ok(()) => write_piece(out, second),
-        Err(Failed) => Err(Failed),
-    }
-}
-
-/// Writes a number between two pieces. It takes no memory.
-pub(crate) fn write_about<W: Sink>(
-    out: &mut W,
-    first: &[u8],
-    number: u64,
-    last: &[u8],
-) -> Result<(), Failed>
-    ensures { Wrote (W.written out.old) (W.written out.new) (W.free out.old) (W.free out.new) (W.faults out.old) (W.faults out.new)
-        (first.now ++ decimal number ++ last.now) result }
-{
-    let mut buffer = Buffer::new();
-    match write_both(out, first, buffer.format(number).as_bytes()) {
-        Ok(()) => write_piece(out, last),
-        Err(Failed) => Err(Failed),
-    }
-}
+use tib_operations::{Status, write_about, write_both, write_piece};
 
 // The words of a fault, with the end of their line.
 #[tactic(auto, unfolding(crate::specs::Log::kind_words))]
@@ -165,7 +129,7 @@ fn plain_line(status: &Status) -> &'static [u8]
 {
     match *status {
         Status::Usage =>
-            b"tiburon: usage: tiburon [-m MODE] [-k N] [-w N] [--limit N] OPERATION FILE...\n",
+            b"tiburon: usage: tiburon [-m MODE] [-k N] [-w N] [--limit N] [--beam N] OPERATION FILE...\n",
         Status::WriteFault => b"tiburon: cannot write\n",
         Status::OutOfMemory => b"tiburon: out of memory\n",
         _ => b"",

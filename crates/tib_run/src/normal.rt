@@ -1,53 +1,18 @@
 // `normal`: the canonical form of a grammar's normal form.
-ghost use Rattle.std.specs.Prelude.{◌≡◌, ◌≤◌, Some, length, IfErr, IfOk};
+ghost use Rattle.std.specs.Prelude.{◌≡◌, Some, length, IfErr, IfOk};
 ghost use Rattle.tib_io.specs.Causes.{GoesOn};
 ghost use Rattle.tib_command.specs.Jobs.{meaning};
-ghost use Rattle.tib_grammar_file.specs.Printable.{ArePrintable};
 ghost use Rattle.tib_run.specs.Answers.{IsAnswer};
 ghost use Rattle.tib_run.specs.Causes.{HasCause, HasEarlier, IsEarly, scale_of, product_of};
-ghost use Rattle.tib_run.specs.Made.{IsLimit, IsMadeFault};
-ghost use Rattle.tib_run.specs.Normal.{HasNormalText, normal_makes};
+ghost use Rattle.tib_operations.specs.Made.{IsLimit};
 
 use crate::files::grammar_in;
-use crate::forms::normal_of;
-use crate::status::Status;
 use std::alloc::Global;
-use tib_canon::{Printed, canonical, normal_forms_are_printable, normal_texts_are_read};
 use tib_command::{Job, Operation};
 use tib_cost::Semiring;
-use tib_grammar::Grammar;
-use tib_grammar_file::printable_is_labelled;
 use tib_io::{Files, GrowingSink};
+use tib_operations::{Status, canonical_normal};
 use tib_tree::Labels;
-
-// The canonical form of the grammar's normal form.
-fn canonical_normal<S: Semiring + Drop>(
-    alloc: Global,
-    grammar: &Grammar<S>,
-    labels: &Labels,
-    limit: u64,
-) -> Result<Printed<S>, Status>
-    requires printable { ArePrintable S.SCALE labels.now grammar.now.rules }
-    requires limit { IsLimit limit }
-    ensures text { IfOk result (λ h. HasNormalText S.SCALE S.product limit labels.now grammar.now h.text.bytes) }
-    ensures within { IfOk result (λ _. (normal_makes S.product limit grammar.now).within) }
-    ensures err { IfErr result (IsMadeFault (normal_makes S.product limit grammar.now).more limit) }
-{
-    grammar.is_sound();
-    let normal = match normal_of::<S>(alloc, grammar, limit) {
-        Ok(normal) => normal,
-        Err(status) => return Err(status),
-    };
-    let form = normal.into_grammar();
-    form.is_sound();
-    normal_forms_are_printable::<S>();
-    printable_is_labelled();
-    normal_texts_are_read::<S>();
-    match canonical::<S>(alloc, form, labels) {
-        Ok(canonical) => Ok(canonical),
-        Err(_) => Err(Status::OutOfMemory),
-    }
-}
 
 /// The whole text of a job that asks for a normal form, or the status with which the run ends.
 pub(crate) fn normal_of_file<S: Semiring + Drop, F: Files>(

@@ -1,11 +1,13 @@
 // The run over memory: words and files, and what is answered, written and told.
-use crate::status::Status;
 use std::alloc::{AllocError, Global};
 use std::test::Fail;
 use std::thread::Threads;
 use tib_lex::{FaultKind, FileFault};
+use tib_operations::Status;
 
 mod applied_rows;
+mod composed_rows;
+mod determinized_rows;
 mod large;
 mod rows;
 mod running;
@@ -13,6 +15,8 @@ mod transducer_rows;
 mod watched;
 
 use applied_rows::{BACKWARD, DELETED_FROM, DELETING, FORWARD, SWAPPED_FROM, SWAPPING};
+use composed_rows::COMPOSED;
+use determinized_rows::{AMBIGUOUS, DETERMINIZED};
 use rows::{BINARY, INTERSECTED, ONE_FILE, RIGHT, Row, WEIGHED, WIDEST};
 use running::{Outside, Ran, SOUND, run_words};
 use transducer_rows::CHECKED;
@@ -224,6 +228,18 @@ fn inputs_of_a_transducer_are_as_worked_out(rt: HostRuntime) -> Result<(), Fail>
 }
 
 #[test]
+fn compositions_are_as_worked_out(rt: HostRuntime) -> Result<(), Fail> {
+    assert_eq!(rt; first_wrong(&rt, rt.alloc(), &COMPOSED)?, None);
+    Ok(())
+}
+
+#[test]
+fn determinizations_are_as_worked_out(rt: HostRuntime) -> Result<(), Fail> {
+    assert_eq!(rt; first_wrong(&rt, rt.alloc(), &DETERMINIZED)?, None);
+    Ok(())
+}
+
+#[test]
 fn classes_are_told_as_worked_out(rt: HostRuntime) -> Result<(), Fail> {
     assert_eq!(rt; first_wrong(&rt, rt.alloc(), &CHECKED)?, None);
     Ok(())
@@ -295,6 +311,41 @@ fn an_application_is_refused_below_its_parts(rt: HostRuntime) -> Result<(), Fail
     Ok(())
 }
 
+// Whether a determinization in a mode is refused below this number of parts, and answered with it.
+fn is_determinized_from<R: Threads + Sync>(
+    rt: &R,
+    alloc: Global,
+    mode: &str,
+    parts: u64,
+) -> Result<bool, AllocError> {
+    for limit in 1..=parts {
+        let option = format!(in alloc; "--limit={limit}")?;
+        let words = ["-m", mode, option.as_str(), "determinize", "G"];
+        let grammar = AMBIGUOUS.as_bytes().to_vec(alloc)?;
+        let none = b"".to_vec(alloc)?;
+        let ran = run_words(rt, alloc, &words, grammar, none, SOUND)?;
+        let told = if limit < parts {
+            Status::TooMany { limit }
+        } else {
+            Status::Done
+        };
+        if ran.status != told {
+            return Ok(false);
+        }
+    }
+    Ok(true)
+}
+
+#[test]
+fn a_determinization_is_refused_below_its_parts(rt: HostRuntime) -> Result<(), Fail> {
+    let alloc = rt.alloc();
+    // The normal form has 13 parts, and the reached set 10.
+    for mode in ["minplus", "bottleneck", "widest", "boolean"] {
+        assert!(rt; is_determinized_from(&rt, alloc, mode, 13)?, "{mode}");
+    }
+    Ok(())
+}
+
 const fn fault(file: u32, kind: FaultKind) -> Status {
     Status::BadInput {
         file,
@@ -311,7 +362,11 @@ fn status_of<R: Threads + Sync>(
 ) -> Result<Status, AllocError> {
     let file = vec![in alloc; b'%'; length]?;
     let other = b"a".to_vec(alloc)?;
-    if operation == "inside" || operation == "normal" || operation == "check" {
+    if operation == "inside"
+        || operation == "normal"
+        || operation == "determinize"
+        || operation == "check"
+    {
         let ran = run_words(rt, alloc, &[operation, "G"], file, other, SOUND)?;
         return Ok(ran.status);
     }
@@ -331,6 +386,8 @@ fn files_are_as_long_as_they_may_be(rt: HostRuntime) -> Result<(), Fail> {
         ("intersect", 8_388_609, Status::TooLong { file: 1 }),
         ("forward", 8_388_609, Status::TooLong { file: 1 }),
         ("backward", 8_388_609, Status::TooLong { file: 1 }),
+        ("compose", 8_388_609, Status::TooLong { file: 1 }),
+        ("determinize", 8_388_609, Status::TooLong { file: 1 }),
         ("check", 8_388_609, Status::TooLong { file: 1 }),
     ] {
         let ended = status_of(&rt, alloc, operation, length)?;

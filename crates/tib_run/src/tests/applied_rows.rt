@@ -1,8 +1,8 @@
 // The worked rows on `forward` and `backward`.
-use crate::status::Status;
 use crate::tests::rows::{BINARY, Row};
 use tib_classes::ClassFault;
 use tib_lex::{FaultKind, FileFault};
+use tib_operations::Status;
 
 pub const DELETED_FROM: &str = "q\nq -> A(r s) # 0\nr -> b # 1\ns -> c # 4\ns -> d # 2\n";
 
@@ -317,6 +317,6 @@ pub static BACKWARD: [Row; 13] = [
         SWAPPED_FROM,
         Status::Usage,
         "",
-        "tiburon: usage: tiburon [-m MODE] [-k N] [-w N] [--limit N] OPERATION FILE...\n",
+        "tiburon: usage: tiburon [-m MODE] [-k N] [-w N] [--limit N] [--beam N] OPERATION FILE...\n",
     ),
 ];

@@ -1,8 +1,8 @@
 // A grammar of more rules than 16 bits count.
 use super::running::{SOUND, run_words};
-use crate::status::Status;
 use std::alloc::{AllocError, Global};
 use std::test::Fail;
+use tib_operations::Status;
 
 const RULES: u32 = 66_000;
 

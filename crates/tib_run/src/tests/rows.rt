@@ -1,6 +1,6 @@
 // The worked rows.
-use crate::status::Status;
 use tib_lex::{FaultKind, FileFault};
+use tib_operations::Status;
 
 // The words, the files `G` and `T`, and what the run answers, writes and tells.
 pub type Row = (
@@ -30,6 +30,8 @@ const UNUSED: &str = "q\nq -> A(r s) # 0\nr -> b # 1\ns -> c # 4\ns -> d # 2\nu 
 const NESTED: &str = "q\nq -> f(g(a) q) # 3\nq -> r # 1\nr -> b # 2\n";
 
 const NESTED_NORMAL: &str = "q0\nq0 -> b # 3\nq0 -> f(q1 q0) # 3\nq1 -> g(q2) # 0\nq2 -> a # 0\n";
+
+const TWO_WAYS: &str = "q\nq -> f(r) # 1\nq -> f(s) # 3\nr -> a # 2\ns -> a # 1\n";
 
 // The worked rows on `weigh`, and words that are no command.
 pub static WEIGHED: [Row; 27] = [
@@ -300,7 +302,7 @@ pub static WEIGHED: [Row; 27] = [
         "a\n",
         Status::Usage,
         "",
-        "tiburon: usage: tiburon [-m MODE] [-k N] [-w N] [--limit N] OPERATION FILE...\n",
+        "tiburon: usage: tiburon [-m MODE] [-k N] [-w N] [--limit N] [--beam N] OPERATION FILE...\n",
     ),
     // a file too many
     (
@@ -309,12 +311,12 @@ pub static WEIGHED: [Row; 27] = [
         "a\n",
         Status::Usage,
         "",
-        "tiburon: usage: tiburon [-m MODE] [-k N] [-w N] [--limit N] OPERATION FILE...\n",
+        "tiburon: usage: tiburon [-m MODE] [-k N] [-w N] [--limit N] [--beam N] OPERATION FILE...\n",
     ),
 ];
 
 // Those on `inside` and `normal`.
-pub static ONE_FILE: [Row; 22] = [
+pub static ONE_FILE: [Row; 38] = [
     // one grammar alone
     // each state, one without a run among them
     (
@@ -376,7 +378,7 @@ pub static ONE_FILE: [Row; 22] = [
         "",
         Status::Usage,
         "",
-        "tiburon: usage: tiburon [-m MODE] [-k N] [-w N] [--limit N] OPERATION FILE...\n",
+        "tiburon: usage: tiburon [-m MODE] [-k N] [-w N] [--limit N] [--beam N] OPERATION FILE...\n",
     ),
     // a place has a state of its own, chains are followed, and rules are sorted
     (
@@ -526,7 +528,151 @@ pub static ONE_FILE: [Row; 22] = [
         "",
         Status::Usage,
         "",
-        "tiburon: usage: tiburon [-m MODE] [-k N] [-w N] [--limit N] OPERATION FILE...\n",
+        "tiburon: usage: tiburon [-m MODE] [-k N] [-w N] [--limit N] [--beam N] OPERATION FILE...\n",
+    ),
+    // what costs no more than the cheapest tree
+    (
+        &["prune", "G"],
+        TWO_WAYS,
+        "",
+        Status::Done,
+        "q0\nq0 -> f(q1) # 1\nq1 -> a # 2\n",
+        "",
+    ),
+    // a beam of what the other one costs more
+    (
+        &["--beam", "1", "prune", "G"],
+        TWO_WAYS,
+        "",
+        Status::Done,
+        "q0\nq0 -> f(q1) # 1\nq0 -> f(q2) # 3\nq1 -> a # 2\nq2 -> a # 1\n",
+        "",
+    ),
+    // a rule whose cheapest run costs 5 beside the cheapest tree of 2
+    (
+        &["--beam", "2", "prune", "G"],
+        BINARY,
+        "",
+        Status::Done,
+        "q0\nq0 -> a # 2\n",
+        "",
+    ),
+    // a beam that just reaches it
+    (
+        &["prune", "--beam=3", "G"],
+        BINARY,
+        "",
+        Status::Done,
+        "q0\nq0 -> S(q0 q0) # 1\nq0 -> a # 2\n",
+        "",
+    ),
+    // no tree at all
+    (
+        &["prune", "G"],
+        "q\nq -> f(q)\n",
+        "",
+        Status::Done,
+        "q0\n",
+        "",
+    ),
+    // the same in bottleneck, where a run costs its dearest rule
+    (
+        &["-mbottleneck", "prune", "G"],
+        TWO_WAYS,
+        "",
+        Status::Done,
+        "q0\nq0 -> f(q1) # 1\nq1 -> a # 2\n",
+        "",
+    ),
+    // both in bottleneck
+    (
+        &["-mbottleneck", "--beam=1", "prune", "G"],
+        TWO_WAYS,
+        "",
+        Status::Done,
+        "q0\nq0 -> f(q1) # 1\nq0 -> f(q2) # 3\nq1 -> a # 2\nq2 -> a # 1\n",
+        "",
+    ),
+    // in widest both trees have the weight 1
+    (
+        &["-mwidest", "prune", "G"],
+        TWO_WAYS,
+        "",
+        Status::Done,
+        "q0\nq0 -> f(q1) # 1\nq0 -> f(q2) # 3\nq1 -> a # 2\nq2 -> a # 1\n",
+        "",
+    ),
+    // weights of 5 and 3, and a beam below their difference
+    (
+        &["-mwidest", "--beam=1", "prune", "G"],
+        "q\nq -> a # 5\nq -> b # 3\n",
+        "",
+        Status::Done,
+        "q0\nq0 -> a # 5\n",
+        "",
+    ),
+    // and one that reaches it
+    (
+        &["-mwidest", "--beam=2", "prune", "G"],
+        "q\nq -> a # 5\nq -> b # 3\n",
+        "",
+        Status::Done,
+        "q0\nq0 -> a # 5\nq0 -> b # 3\n",
+        "",
+    ),
+    // a bound above the greatest cost
+    (
+        &["-mwidest", "--beam=1000000000000000", "prune", "G"],
+        "q\nq -> a # 5\nq -> b # 0\n",
+        "",
+        Status::Done,
+        "q0\nq0 -> a # 5\nq0 -> b # 0\n",
+        "",
+    ),
+    // in Boolean each tree costs 0
+    (
+        &["-mboolean", "prune", "G"],
+        TWO_WAYS,
+        "",
+        Status::Done,
+        "q0\nq0 -> f(q1)\nq0 -> f(q2)\nq1 -> a\nq2 -> a\n",
+        "",
+    ),
+    // a grammar that is not in normal form
+    (
+        &["prune", "G"],
+        NESTED,
+        "",
+        Status::Done,
+        "q0\nq0 -> b # 3\n",
+        "",
+    ),
+    // all of it
+    (
+        &["prune", "G", "--beam", "3"],
+        NESTED,
+        "",
+        Status::Done,
+        NESTED_NORMAL,
+        "",
+    ),
+    // a normal form above the limit
+    (
+        &["--limit", "1", "prune", "G"],
+        BINARY,
+        "",
+        Status::TooMany { limit: 1 },
+        "",
+        "tiburon: more than 1 parts\n",
+    ),
+    // a beam that is too wide
+    (
+        &["--beam=1000000000000001", "prune", "G"],
+        BINARY,
+        "",
+        Status::Usage,
+        "",
+        "tiburon: usage: tiburon [-m MODE] [-k N] [-w N] [--limit N] [--beam N] OPERATION FILE...\n",
     ),
 ];
 
@@ -722,7 +868,7 @@ pub static INTERSECTED: [Row; 20] = [
         RIGHT,
         Status::Usage,
         "",
-        "tiburon: usage: tiburon [-m MODE] [-k N] [-w N] [--limit N] OPERATION FILE...\n",
+        "tiburon: usage: tiburon [-m MODE] [-k N] [-w N] [--limit N] [--beam N] OPERATION FILE...\n",
     ),
 ];
 

@@ -1,12 +1,12 @@
 // A run over memory, and what is seen of it.
 use super::watched::Watched;
 use crate::command::run;
-use crate::status::Status;
 use std::alloc::{AllocError, Global};
 use std::sync::atomic::{AtomicU64, Ordering};
 use std::thread::Threads;
 use tib_hunt::Gate;
 use tib_io::{MemoryFiles, MemorySink};
+use tib_operations::Status;
 
 /// The number of the read that fails, and of the call of the output that fails, the room of the output, and how many
 /// bytes go over at a time.

@@ -1,7 +1,7 @@
 // The worked rows on transducers.
-use crate::status::Status;
 use crate::tests::rows::Row;
 use tib_lex::{FaultKind, FileFault};
+use tib_operations::Status;
 
 const PLAIN: &str = "linear yes\nnondeleting yes\nextended no\n";
 
@@ -261,7 +261,7 @@ pub static CHECKED: [Row; 24] = [
         "",
         Status::Usage,
         "",
-        "tiburon: usage: tiburon [-m MODE] [-k N] [-w N] [--limit N] OPERATION FILE...\n",
+        "tiburon: usage: tiburon [-m MODE] [-k N] [-w N] [--limit N] [--beam N] OPERATION FILE...\n",
     ),
     (
         &["check"],
@@ -269,7 +269,7 @@ pub static CHECKED: [Row; 24] = [
         "",
         Status::Usage,
         "",
-        "tiburon: usage: tiburon [-m MODE] [-k N] [-w N] [--limit N] OPERATION FILE...\n",
+        "tiburon: usage: tiburon [-m MODE] [-k N] [-w N] [--limit N] [--beam N] OPERATION FILE...\n",
     ),
     // a weight of widest
     (

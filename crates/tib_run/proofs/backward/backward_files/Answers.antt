@@ -4,8 +4,8 @@ use Rattle.tib_io.proofs.Counts.{goes_on_again}
 use Rattle.tib_command.specs.Jobs.{meaning}
 use Rattle.tib_command.specs.declared.job.Operation.TheVariants as operations
 use Rattle.tib_run.specs.Kinds.{of_grammar, of_transducer}
-use Rattle.tib_run.specs.Backward.{backward_demands}
-use Rattle.tib_run.proofs.PlainMoves.{moves_grown}
+use Rattle.tib_operations.specs.Backward.{backward_demands}
+use Rattle.tib_operations.proofs.PlainMoves.{moves_grown}
 use Rattle.tib_run.proofs.Reached.{about_earlier, before_second, two_files, made_first, made_cause, made_answer, class_cause, class_first, class_early}
 use Rattle.tib_run.proofs.backward.backward_files.Goals as goal
 

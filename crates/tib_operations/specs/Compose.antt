@@ -1,0 +1,24 @@
+-- `compose`: the transducer that does what the first and then the second does.
+use Rattle.std.specs.Prelude.{ℕ, Option, true}
+use Rattle.tib_hunt.specs.Reached.{IsBeyond}
+use Rattle.tib_transducer.specs.TransducerOf.{TransducerOf}
+use Rattle.tib_classes.specs.Outside.{Demands, demands}
+use Rattle.tib_canon.specs.Constructions.{HasReachedWithin}
+use Rattle.tib_compose_laws.specs.Composition.{composition}
+pub use Rattle.tib_canon_transducer.specs.Composing.{composing, HasComposeSeries, HasComposeText}
+use Rattle.tib_operations.specs.Classes.{Demanded, demanded_of}
+use Rattle.tib_operations.specs.Made.{Made}
+
+-- the second transducer is to be linear, nondeleting, not extended and not labelled
+abbrev pub plain : Demands
+plain = demands true true true true
+
+abbrev pub compose_demands : TransducerOf → Option Demanded
+compose_demands u = demanded_of 2 plain u.rules
+
+-- the reached set of the pairs of states; no normal form is made
+abbrev pub compose_makes : (ℕ → ℕ → ℕ) → ℕ → TransducerOf → TransducerOf → Made
+compose_makes product limit t u = record {
+  within = HasReachedWithin (composition product t.rules u.rules) limit;
+  more = IsBeyond (composition product t.rules u.rules) limit;
+}

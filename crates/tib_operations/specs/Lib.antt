@@ -1,0 +1,17 @@
+pub mod Codes
+pub mod Text
+pub mod FileTexts
+pub mod Made
+pub mod Weigh
+pub mod Inside
+pub mod Normal
+pub mod Classes
+pub mod Moves
+pub mod Intersect
+pub mod Forward
+pub mod Backward
+pub mod Image
+pub mod Determinize
+pub mod Check
+pub mod Prune
+pub mod Compose

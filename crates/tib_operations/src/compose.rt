@@ -1,0 +1,59 @@
+// `compose`: the canonical transducer that does what the first and then the second does.
+ghost use Rattle.std.specs.Prelude.{length, IfErr, IfOk};
+ghost use Rattle.tib_classes.specs.Outside.{AllMeet};
+ghost use Rattle.tib_canon_transducer.specs.Keys.{AreMovesOver};
+ghost use Rattle.tib_operations.specs.Classes.{demanded_of, IsClassFault};
+ghost use Rattle.tib_operations.specs.Compose.{plain, compose_makes, HasComposeText};
+ghost use Rattle.tib_operations.specs.Made.{IsLimit, IsMadeFault};
+
+use crate::status::Status;
+use std::alloc::{AllocError, Global};
+use tib_canon_transducer::{PrintedTransducer, to_transducer};
+use tib_classes::first_outside;
+use tib_compose::{ComposeError, Key, compose};
+use tib_cost::Semiring;
+use tib_hunt::Gate;
+use tib_transducer::Transducer;
+use tib_tree::Labels;
+
+/// Answers Ok where each rule of the transducer of a file, counted from 1, is linear, nondeleting, not extended and not labelled;
+/// otherwise the status that names the first rule that is not. It takes no memory.
+pub fn demand_plain<S>(transducer: &Transducer<S>, file: u32) -> Result<(), Status>
+    ensures met { IfOk result (λ _. AllMeet plain transducer.now.rules) }
+    ensures broken { IfErr result (IsClassFault (demanded_of file plain transducer.now.rules)) }
+{
+    match first_outside(transducer, true, true, true, true) {
+        None => Ok(()),
+        Some((rule, fault)) => Err(Status::Class { file, rule, fault }),
+    }
+}
+
+/// The canonical composition of two transducers, of which the second is linear, nondeleting, not extended and not labelled; or the
+/// status with which the run ends: too many parts, or want of memory. The time is that of the edges of the pairs that are reached.
+pub fn composition_of<S: Semiring + Drop, G: Gate>(
+    alloc: Global,
+    first: &Transducer<S>,
+    second: &Transducer<S>,
+    labels: &Labels,
+    limit: u64,
+    gate: &G,
+) -> Result<PrintedTransducer<S>, Status>
+    requires first { AreMovesOver S.SCALE labels.now (length first.now.names) first.now.rules }
+    requires second { AreMovesOver S.SCALE labels.now (length second.now.names) second.now.rules }
+    requires class { AllMeet plain second.now.rules }
+    requires limit { IsLimit limit }
+    ensures text { IfOk result (λ h. HasComposeText S.SCALE S.product limit labels.now first.now second.now h.text.bytes) }
+    ensures within { IfOk result (λ _. (compose_makes S.product limit first.now second.now).within) }
+    ensures err { IfErr result (IsMadeFault (compose_makes S.product limit first.now second.now).more limit) }
+{
+    let found = match compose::<S, G>(alloc, first, second, limit, gate) {
+        Ok(found) => found,
+        Err(ComposeError::TooMany { .. }) => return Err(Status::TooMany { limit }),
+        Err(ComposeError::OutOfMemory) => return Err(Status::OutOfMemory),
+        Err(ComposeError::Class { .. }) => unreachable!(),
+    };
+    match to_transducer::<S, Key>(alloc, found, 0, labels) {
+        Ok(canonical) => Ok(canonical),
+        Err(AllocError) => Err(Status::OutOfMemory),
+    }
+}

@@ -1,0 +1,61 @@
+// The normal forms of grammars of files, within the limit of a job.
+ghost use Rattle.std.specs.Prelude.{◌≤◌, ℕ, List, length, IfErr, IfOk};
+ghost use Rattle.tib_grammar_file.specs.Printable.{ArePrintable};
+ghost use Rattle.tib_inside.specs.Trimmed.{HasSameSeries};
+ghost use Rattle.tib_normal.specs.NormalForm.{IsNormalForm, KeepsSeries, normal_parts};
+ghost use Rattle.tib_canon.specs.TrimmedForms.{IsTrimmedForm};
+ghost use Rattle.tib_operations.specs.Made.{IsLimit, normal_form, IsMadeFault};
+
+use crate::status::Status;
+use std::alloc::Global;
+use tib_canon::{normal_forms_are_printable, trimmed_is_printable};
+use tib_cost::Semiring;
+use tib_grammar::Grammar;
+use tib_inside::trim_normal;
+use tib_normal::{Normal, NormalError, normalize};
+
+/// The normal form of a grammar, or the status with which the run ends.
+pub fn normal_of<S: Semiring + Drop>(
+    alloc: Global,
+    grammar: &Grammar<S>,
+    limit: u64,
+) -> Result<Normal<S>, Status>
+    requires limit { IsLimit limit }
+    ensures form { IfOk result (λ m. IsNormalForm S.product (length grammar.now.names) grammar.now.rules (length m.names) m.rules) }
+    ensures series { IfOk result (λ m. KeepsSeries S.product (length grammar.now.names) grammar.now.rules m.rules) }
+    ensures parts { IfOk result (λ m. normal_parts (length m.names) m.rules ≤ limit) }
+    ensures within { IfOk result (λ _. (normal_form S.product limit grammar.now).within) }
+    ensures err { IfErr result (IsMadeFault (normal_form S.product limit grammar.now).more limit) }
+{
+    match normalize::<S>(alloc, grammar, limit) {
+        Ok(normal) => Ok(normal),
+        Err(NormalError::TooMany { .. }) => Err(Status::TooMany { limit }),
+        Err(NormalError::OutOfMemory) => Err(Status::OutOfMemory),
+    }
+}
+
+/// The trimmed normal form of a grammar, or the status with which the run ends.
+pub fn trimmed_form<S: Semiring + Drop>(
+    alloc: Global,
+    grammar: &Grammar<S>,
+    limit: u64,
+) -> Result<Normal<S>, Status>
+    requires limit { IsLimit limit }
+    ensures form { IfOk result (λ m. IsTrimmedForm S.product grammar.now m) }
+    ensures within { IfOk result (λ _. (normal_form S.product limit grammar.now).within) }
+    ensures series { IfOk result (λ m. HasSameSeries S.product grammar.now m) }
+    ensures printable { IfOk result (λ m. (labels : List (List ℕ)) → ArePrintable S.SCALE labels grammar.now.rules → ArePrintable S.SCALE labels m.rules) }
+    ensures err { IfErr result (IsMadeFault (normal_form S.product limit grammar.now).more limit) }
+{
+    grammar.is_sound();
+    let normal = match normal_of::<S>(alloc, grammar, limit) {
+        Ok(normal) => normal,
+        Err(status) => return Err(status),
+    };
+    normal_forms_are_printable::<S>();
+    trimmed_is_printable();
+    match trim_normal::<S>(alloc, normal) {
+        Ok(trimmed) => Ok(trimmed),
+        Err(_) => Err(Status::OutOfMemory),
+    }
+}

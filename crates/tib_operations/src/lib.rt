@@ -1,0 +1,38 @@
+//! What each operation of the program makes of the values of its files: the text of trees with their weights, of inside costs, of
+//! the classes of a transducer, or of a grammar in canonical form; or the status with which the run ends. It stands on all
+//! crates below it, and knows neither words nor files.
+#![tactic(auto)]
+
+mod backward;
+mod check;
+mod classes;
+mod compose;
+mod determinize;
+mod forms;
+mod forward;
+mod image;
+mod inside;
+mod intersect;
+mod normal;
+mod pieces;
+mod prune;
+mod status;
+mod text;
+mod weigh;
+
+pub use backward::preimage_of;
+pub use check::classes_text;
+pub use classes::demand;
+pub use compose::{composition_of, demand_plain};
+pub use determinize::determinization_of;
+pub use forms::{normal_of, trimmed_form};
+pub use forward::image_of;
+pub use image::outputs_of;
+pub use inside::inside_text;
+pub use intersect::intersection_of;
+pub use normal::canonical_normal;
+pub use pieces::{write_about, write_both, write_piece};
+pub use prune::canonical_pruned;
+pub use status::Status;
+pub use text::weighed_text;
+pub use weigh::costs_of;

@@ -1,0 +1,42 @@
+// The writing of a text in pieces.
+ghost use Rattle.std.specs.Prelude.{◌++◌, decimal};
+ghost use Rattle.tib_tree.specs.Wrote.{Wrote};
+
+use itoa::Buffer;
+use tib_io::{Failed, Sink, write_whole};
+
+/// Writes a piece. It takes no memory. After a failure a front of the piece was written.
+pub fn write_piece<W: Sink>(out: &mut W, piece: &[u8]) -> Result<(), Failed>
+    ensures { Wrote (W.written out.old) (W.written out.new) (W.free out.old) (W.free out.new) (W.faults out.old) (W.faults out.new)
+        piece.now result }
+{
+    write_whole(out, piece)
+}
+
+/// Writes two pieces. It takes no memory. After a failure a front of both was written.
+pub fn write_both<W: Sink>(out: &mut W, first: &[u8], second: &[u8]) -> Result<(), Failed>
+    ensures { Wrote (W.written out.old) (W.written out.new) (W.free out.old) (W.free out.new) (W.faults out.old) (W.faults out.new)
+        (first.now ++ second.now) result }
+{
+    match write_piece(out, first) {
+        Ok(()) => write_piece(out, second),
+        Err(Failed) => Err(Failed),
+    }
+}
+
+/// Writes a number between two pieces. It takes no memory. After a failure a front of the three was written.
+pub fn write_about<W: Sink>(
+    out: &mut W,
+    first: &[u8],
+    number: u64,
+    last: &[u8],
+) -> Result<(), Failed>
+    ensures { Wrote (W.written out.old) (W.written out.new) (W.free out.old) (W.free out.new) (W.faults out.old) (W.faults out.new)
+        (first.now ++ decimal number ++ last.now) result }
+{
+    let mut buffer = Buffer::new();
+    match write_both(out, first, buffer.format(number).as_bytes()) {
+        Ok(()) => write_piece(out, last),
+        Err(Failed) => Err(Failed),
+    }
+}

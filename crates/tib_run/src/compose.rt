@@ -1,0 +1,58 @@
+// `compose`: the canonical transducer that does what the first and then the second does, at the least products of costs.
+ghost use Rattle.std.specs.Prelude.{◌≡◌, Some, length, IfErr, IfOk};
+ghost use Rattle.tib_io.specs.Causes.{GoesOn};
+ghost use Rattle.tib_command.specs.Jobs.{meaning};
+ghost use Rattle.tib_run.specs.Answers.{IsAnswer};
+ghost use Rattle.tib_run.specs.Causes.{HasCause, HasEarlier, IsEarly, scale_of, product_of};
+ghost use Rattle.tib_operations.specs.Made.{IsLimit};
+
+use crate::files::transducer_in;
+use std::alloc::Global;
+use tib_command::{Job, Operation};
+use tib_cost::Semiring;
+use tib_hunt::Gate;
+use tib_io::{Files, GrowingSink};
+use tib_operations::{Status, composition_of, demand_plain};
+use tib_tree::Labels;
+
+/// The whole text of a job that asks for the composition of two transducers, or the status with which the run ends.
+pub(crate) fn compose_files<S: Semiring + Drop, F: Files, G: Gate>(
+    alloc: Global,
+    job: &Job,
+    files: &mut F,
+    gate: &G,
+) -> Result<GrowingSink, Status>
+    requires operation { job.now.operation ≡ Operation.Compose }
+    requires files { length job.now.files.items ≡ 2 }
+    requires limit { IsLimit job.now.limit }
+    requires mode { S.SCALE ≡ scale_of job.now.mode }
+    requires product { S.product ≡ product_of job.now.mode }
+    ensures text { IfOk result (λ text. IsAnswer (meaning job.now) (F.held files.old) text.bytes) }
+    ensures cause { IfErr result (HasCause (Some (meaning job.now)) (F.held files.old) (F.faults files.old) (F.faults files.new) 0 0) }
+    ensures earlier { IfErr result (HasEarlier (Some (meaning job.now)) (F.held files.old)) }
+    ensures early { IfErr result IsEarly }
+    ensures held { F.held files.new ≡ F.held files.old }
+    ensures sure { F.sure files.new ≡ F.sure files.old }
+    ensures counts { GoesOn (F.sure files.old) (F.faults files.old) (F.faults files.new) }
+{
+    let mut labels = Labels::new(alloc);
+    let first = match transducer_in::<S, F>(alloc, job, 1, files, &mut labels) {
+        Ok(first) => first,
+        Err(status) => return Err(status),
+    };
+    let second = match transducer_in::<S, F>(alloc, job, 2, files, &mut labels) {
+        Ok(second) => second,
+        Err(status) => return Err(status),
+    };
+    labels.len();
+    match demand_plain::<S>(&second, 2) {
+        Ok(()) => {}
+        Err(status) => return Err(status),
+    }
+    let limit = job.limit;
+    let canonical = match composition_of::<S, G>(alloc, &first, &second, &labels, limit, gate) {
+        Ok(canonical) => canonical,
+        Err(status) => return Err(status),
+    };
+    Ok(canonical.text)
+}
