@@ -313,6 +313,7 @@ def main(program):
     row("read a trie of 250,000 rules (a fault in its last line)", measure(program, "inside", write("trie.faulty", lines + ["t0 -> ("])), size, "MB/s")
     row("inside of that trie", measure(program, "inside", grammar), size, "MB/s")
     row("normal of that trie", measure(program, "normal", grammar), size, "MB/s")
+    row("prune of that trie", measure(program, "prune", grammar), size, "MB/s")
     row("inside of 18,000 rules over 700 states", measure(program, "inside", path("weigh.grammar")), 18000 / 1e6, "million rules/s")
     row("normal of 18,000 rules over 700 states", measure(program, "normal", path("weigh.grammar")), 18000 / 1e6, "million rules/s")
 
@@ -330,13 +331,20 @@ def main(program):
         applied = subprocess.run([program, *words], capture_output=True, check=False).stdout.splitlines()
         row("%s, 800 states and 100 of the transducer: %d rules" % (words[0], len(applied) - 1), measure(program, *words), (len(applied) - 1) / 1e6, "million rules/s")
 
+    for size in (10, 13, 16):
+        grammar = write("chain%d.grammar" % size, chain_family(size))
+        made = subprocess.run([program, "determinize", grammar], capture_output=True, check=False).stdout.splitlines()
+        row("determinize the sets of positions, %d states: %d rules" % (size + 1, len(made) - 1), measure(program, "determinize", grammar), (len(made) - 1) / 1e6, "million rules/s")
+
     print("\nhow time grows over three doublings (the exponent is about 1 where it grows as the input)")
     for name, sizes, words in (
         ("grammar read and brought into normal form", (1, 2, 4, 8), lambda n: ("weigh", write("grow%d.grammar" % n, flat_grammar(n * (MEGABYTE - 4096))), one)),
         ("trees read, weighed and printed", (1, 2, 4, 8), lambda n: ("weigh", tiny, write("grow%d.trees" % n, some_trees(n * (MEGABYTE - 4096))))),
         ("inside of a trie", (1, 2, 4, 8), lambda n: ("inside", write("trie%d.grammar" % n, trie(n * 31250)))),
         ("intersect, by the pairs of states", (1, 2, 4, 8), lambda n: ("intersect", *[write("monadic%d-%d.grammar" % (n, seed), monadic(round(800 * math.sqrt(n / 8)), seed)) for seed in (11, 12)])),
+        ("determinize, by the vectors that are reached", (1, 2, 4, 8), lambda n: ("determinize", write("chain%d.grammar" % n, chain_family(10 + round(math.log2(n)))))),
         ("normal of one chain of 200,000 states", (1, 2, 4, 8), lambda n: ("normal", write("one_chain%d.grammar" % n, one_chain(n * 25000)))),
+        ("prune of a trie", (1, 2, 4, 8), lambda n: ("prune", write("trie%d.grammar" % n, trie(n * 31250)))),
         ("normal of a trie", (1, 2, 4, 8), lambda n: ("normal", write("trie%d.grammar" % n, trie(n * 31250)))),
     ):
         seconds = [measure(program, *words(n))[0] for n in sizes]

@@ -1,7 +1,7 @@
 # Completion of tiburon's options, modes, operations and files for bash. `make install` puts it where bash-completion looks.
 _tiburon() {
     local current=${COMP_WORDS[COMP_CWORD]} before=${COMP_WORDS[COMP_CWORD - 1]} operation='' word place skip=0 only_words=0
-    local operations='weigh inside normal intersect check forward backward'
+    local operations='weigh inside normal intersect check forward backward compose determinize prune'
     COMPREPLY=()
     # The words in front of this one: which operation stands there, and whether `--` has ended the options.
     for ((place = 1; place < COMP_CWORD; place++)); do
@@ -13,14 +13,14 @@ _tiburon() {
         else
             case $word in
                 --) only_words=1 ;;
-                -m | -k | -w | --limit) skip=1 ;;
+                -m | -k | -w | --limit | --beam) skip=1 ;;
             esac
         fi
     done
     if ((skip)); then
         [[ $before == -m ]] && mapfile -t COMPREPLY < <(compgen -W 'minplus bottleneck widest boolean' -- "$current")
     elif ((!only_words)) && [[ $current == -* ]]; then
-        mapfile -t COMPREPLY < <(compgen -W '-m -k -w --limit --' -- "$current")
+        mapfile -t COMPREPLY < <(compgen -W '-m -k -w --limit --beam --' -- "$current")
     elif [[ -z $operation ]]; then
         mapfile -t COMPREPLY < <(compgen -W "$operations" -- "$current")
     else
