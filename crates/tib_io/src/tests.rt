@@ -1,4 +1,6 @@
 // Files and sinks in memory, read and written at each of their limits.
+ghost use Rattle.std.specs.Prelude.{◌<◌};
+
 use crate::{
     Failed, FileError, Files, GrowingSink, MemoryFiles, MemorySink, Sink, read_file,
     write_and_finish, write_whole,
@@ -70,5 +72,28 @@ fn sinks_take_what_they_have_room_for(rt: HostRuntime) -> Result<(), Fail> {
     let mut growing = GrowingSink::new(alloc);
     assert_eq!(rt; write_and_finish(&mut growing, b"abc"), Ok(()));
     assert_eq!(rt; growing.bytes(), b"abc".as_slice());
+    Ok(())
+}
+
+// The bytes "abcdefg", read and written back in pieces of at most `most` bytes.
+fn passed_on(alloc: Global, most: u32) -> Result<MemorySink, Fail>
+    requires { 0 < most }
+{
+    let mut held = Vec::new(alloc);
+    held.push((String::from_str(alloc, "f")?, b"abcdefg".to_vec(alloc)?))?;
+    let mut files = MemoryFiles::short(held, Vec::new(alloc), most);
+    let bytes = read_file(alloc, &mut files, "f")?;
+    let mut sink = MemorySink::short(alloc, Vec::new(alloc), 7, most)?;
+    write_and_finish(&mut sink, &bytes)?;
+    Ok(sink)
+}
+
+#[test]
+fn short_pieces_change_nothing(rt: HostRuntime) -> Result<(), Fail> {
+    let alloc = rt.alloc();
+    for most in [1, 2, 7] {
+        let sink = passed_on(alloc, most)?;
+        assert_eq!(rt; sink.bytes(), b"abcdefg".as_slice());
+    }
     Ok(())
 }
