@@ -7,9 +7,8 @@ use Rattle.std.specs.declared.cmp.Ordering.TheVariants.{Less, Equal}
 use Rattle.std.proofs.lemmas.List.{length-map}
 use Rattle.std.proofs.lemmas.Option.{none-some, slice_get-map}
 use Rattle.tib_lex.specs.Lists.{Has, Distinct}
-use Rattle.tib_lex.proofs.Lists.{some_same, has_mapped}
+use Rattle.tib_lex.proofs.Lists.{some_same, has_mapped, mapped_has}
 use Rattle.tib_canon.specs.Keys.{StandBefore, AreByKeys, behind_fresh}
-use Rattle.tib_canon.proofs.InOrder.{mapped_has}
 use Rattle.tib_canon.proofs.KeyOrder.{AreAllByKeys}
 use Rattle.tib_canon.proofs.NormalByText.{ascends_mapped}
 

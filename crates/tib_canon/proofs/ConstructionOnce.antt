@@ -24,15 +24,14 @@ use Rattle.tib_canon.specs.declared.begin.Begin.{Begin}
 use Rattle.tib_canon.specs.declared.begin.Begin.TheVariants.{At, Fresh, Empty}
 use Rattle.tib_canon.proofs.CanonicalByText.{labels_back, canonical_labels, canonical_with}
 use Rattle.tib_canon.proofs.EdgesByText.{edge_with, edges_commute, leaves_with}
-use Rattle.tib_canon.proofs.InOrder.{mapped_has}
 use Rattle.tib_canon.proofs.KeysOnce.{begun_once, rule_over}
-use Rattle.tib_canon.proofs.ReachedOnce.{one_set, order_once}
+use Rattle.tib_canon.proofs.ReachedOnce.{one_set, reached_apart}
 use Rattle.tib_canon.proofs.Started.{started_each}
 use Rattle.tib_canon.proofs.TrimmedByText.{grammar_with, EachLabel, EachLabelIn, KeepsText, range_with, over_with, rules_commute, grammar_printed}
 use Rattle.tib_canon.proofs.TrimmedOnce.{Fit, fit_from, place_in, rule_told}
 use Rattle.tib_inside.proofs.Chosen.{distinct_at}
 use Rattle.tib_lex.proofs.Members.{at_has}
-use Rattle.tib_lex.proofs.Lists.{has_mapped}
+use Rattle.tib_lex.proofs.Lists.{has_mapped, mapped_has}
 
 -- a rule over the positions of an order, with nothing below a state
 record IsFit (n : ℕ) (r : Rule ℕ) : Type 0 where
@@ -145,7 +144,7 @@ module _
       subst IsOverSame same (record { reached = b.reached; rules_over = b.rules_over; begins = b.begun; begun = b.canonical.begun })
 
   once : Distinct a.order
-  once = order_once d.problem laws over_same.reached.0.0 over_same.reached.0.1 a.order over_same.reached.0.2
+  once = reached_apart d.problem laws over_same.reached.0
 
   range : AreInRange (length a.order) (rules_with f a.rules)
   range = range_with f (length a.order) a.rules a.rules_over.in_range

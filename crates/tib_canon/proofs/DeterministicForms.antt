@@ -6,13 +6,13 @@ use Rattle.std.proofs.lemmas.List.{get_or-map, length-map}
 use Rattle.std.specs.Option.{option_cmp}
 use Rattle.std.specs.declared.cmp.Ordering.{Ordering}
 use Rattle.std.specs.declared.cmp.Ordering.TheVariants.{Less}
-use Rattle.tib_lex.specs.Lists.{Has, Distinct, Ascends}
+use Rattle.tib_lex.specs.Lists.{Has, Distinct}
 use Rattle.tib_grammar.specs.Sides.{holes_of}
 use Rattle.tib_grammar.specs.Run.{rule_at, no_rule}
 use Rattle.tib_grammar.specs.Forms.{IsNormalSide, StandsInSide, IsShaped, IsDeterministic}
 use Rattle.tib_grammar.specs.GrammarOf.{GrammarOf, named_rule}
 use Rattle.tib_grammar.specs.declared.Rule.{Rule}
-use Rattle.tib_lex.proofs.Members.{each_has, has_at, at_has}
+use Rattle.tib_lex.proofs.Members.{has_at, at_has, least_first}
 use Rattle.tib_inside.specs.Trimmed.{IsTrimmed}
 use Rattle.tib_inside.proofs.Chosen.{distinct_at}
 use Rattle.tib_inside.proofs.Keeping.{as_many, named_at}
@@ -25,13 +25,6 @@ use Rattle.tib_canon.proofs.OverKeysExist.{ascends_once}
 use Rattle.tib_canon.proofs.TrimmedOnce.{place_told}
 
 -- trimming
-
-least_first : (xs : List ℕ) → Ascends ◌<◌ xs → Has xs 0 → (0 < length xs) × (get_or xs 0 0 ≡ 0)
-least_first [] a h = absurd h
-least_first (x ∷ xs) a h = elim h [
-  | inl e ↦ (omega arith, e)
-  | inr k ↦ let low : x < 0 = each_has (λ y. x < y) xs 0 a.0 k in absurd (omega arith)
-]
 
 module _ (product : ℕ → ℕ → ℕ) (g h : GrammarOf) (t : IsTrimmed product g h) where
   some_of_trimmed : AreSomeOf (λ i. get_or t.states i 0) (λ j. get_or t.rules j 0) g.rules h.rules

@@ -2,6 +2,7 @@
 use Rattle.std.specs.Prelude.{◌≡◌, ℕ, ◌<◌, List, length, map, refl}
 use Rattle.std.proofs.Common.{ap, sym, ◌∙◌, subst, inl, inr}
 use Rattle.tib_lex.specs.Lists.{Has}
+use Rattle.tib_lex.proofs.Lists.{mapped_has}
 use Rattle.tib_tree.specs.Trees.{Trees, none, tree, relabel, only}
 use Rattle.tib_grammar.specs.Sides.{Symbol, label, hole, Side as SideFor, symbol_map, side_map, holes_of, AreHoles, Lone}
 use Rattle.tib_grammar.specs.Run.{rule_at}
@@ -9,7 +10,6 @@ use Rattle.tib_grammar.specs.Forms.{IsLabel, IsNormalSide, IsLoneState, StandsIn
 use Rattle.tib_grammar.specs.GrammarOf.{named_rule}
 use Rattle.tib_grammar.specs.declared.Rule.{Rule}
 use Rattle.tib_grammar.proofs.Sides.{holes-relabel}
-use Rattle.tib_canon.proofs.InOrder.{mapped_has}
 
 -- sides, back from what they are with their states exchanged
 

@@ -1,5 +1,5 @@
 -- Sorted lines give a grammar in canonical order.
-use Rattle.tib_lex.proofs.Lists.{Each-from, Ascends-from, has_mapped}
+use Rattle.tib_lex.proofs.Lists.{Each-from, Ascends-from, has_mapped, mapped_has}
 use Rattle.tib_cost.specs.declared.Scale.{Scale}
 use Rattle.std.proofs.Common.{◌≡◌, ℕ, ◌<◌, ◌≤◌, List, [], ◌∷◌, length, map, get_or, refl, ap, sym, ◌∙◌, subst, arith, suc, inl, inr, ◌⊎◌}
 use Rattle.std.specs.Prelude.{IsPermutation, IsSorted}
@@ -32,10 +32,6 @@ cheapest_permuted rules xs ys p c =
       apart = λ q r h k e. c.apart q r (has_permuted ys xs q back h) (has_permuted ys xs r back k) e;
       whole = λ m h. let w = c.whole m h in record { position = w.position; stands = has_permuted xs ys w.position p w.stands; agrees = w.agrees; costs = w.costs };
     }
-
-pub mapped_has : {A B : Type 0} (f : A → B) (xs : List A) (x : A) → Has xs x → Has (map f xs) (f x)
-mapped_has f [] x h = absurd h
-mapped_has f (y ∷ xs) x h = elim h [ inl e ↦ inl (ap f e) | inr k ↦ inr (mapped_has f xs x k) ]
 
 pub agree_back : (r s : Rule ℕ) → AgreeInSides r s → AgreeInSides s r
 agree_back r s a = record { left = sym a.left; right = sym a.right }

@@ -21,9 +21,9 @@ use Rattle.tib_inside.specs.Useful as useful
 use Rattle.tib_inside.proofs.Chosen.{ascends_at}
 use Rattle.tib_inside.proofs.Keeping.{as_many, named_at}
 use Rattle.tib_inside.proofs.Living.{insides_all, live_by_runs}
-use Rattle.tib_inside.proofs.Occurring.{below_has}
 use Rattle.tib_canon.proofs.TrimmedOnce.{place_told}
 use Rattle.tib_lex.proofs.Members.{has_at, at_has}
+use Rattle.tib_grammar.proofs.Below.{below_has}
 
 module _ (product : ℕ → ℕ → ℕ) (rules : List (Rule ℕ)) where
   insides_more : (costs : List (Option ℕ)) (v : Option ℕ) → AreInsides product rules costs → IsInside product rules (length costs) v → AreInsides product rules (costs ++ v ∷ [])

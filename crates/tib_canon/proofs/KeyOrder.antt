@@ -1,5 +1,5 @@
 -- The positions of an order, sorted by their keys.
-use Rattle.std.proofs.Common.{◌≡◌, ℕ, ◌+◌, ◌-◌, ◌<◌, ◌≤◌, List, [], ◌∷◌, length, map, get_or, slice_get, refl, ap, sym, ◌∙◌, subst, arith, zero, suc, inl, inr, ◌⊎◌, Bool, true, false, not, Some, true≢false}
+use Rattle.std.proofs.Common.{◌≡◌, ℕ, ◌+◌, ◌-◌, ◌<◌, ◌≤◌, List, [], ◌∷◌, length, map, slice_get, refl, ap, sym, ◌∙◌, subst, arith, zero, suc, inl, inr, ◌⊎◌, Bool, true, false, not, Some, true≢false}
 use Rattle.std.specs.Prelude.{nat_eq, IsPermutation, IsSorted}
 use Rattle.std.specs.Cmp.{IsTotalOrder, bool_cmp_total}
 use Rattle.std.specs.Ordering.{nat_cmp, bool_cmp, ordering_then, ordering_reverse, is_lt, is_eq}
@@ -12,7 +12,8 @@ use Rattle.std.proofs.lemmas.List.Sorted.{ranks_by, sorted_far, length_permutati
 use Rattle.tib_lex.specs.Lists.{Has, Ascends, Distinct}
 use Rattle.tib_canon.specs.Keys.{marked, StandBefore, AreByKeys}
 use Rattle.tib_canon.proofs.Permuting.{has_permuted, distinct_permuted}
-use Rattle.tib_lex.proofs.Members.{at_has, each_has, each_of}
+use Rattle.tib_lex.proofs.Members.{each_has, each_of}
+use Rattle.tib_lex.proofs.Lists.{Ascends-from}
 
 -- a key with its position, and whether it is another than the start
 abbrev Mark : Type 0 → Type 0
@@ -29,13 +30,6 @@ is_other p start h = grind (arith, nat_tests)
 
 start_or_other : (p start : ℕ) → (p ≡ start) ⊎ (p ≡ start → ⊥)
 start_or_other p start = grind arith
-
-sorted_ascends : {A : Type 0} (R : A → A → Type 0) (xs : List A) → ((i j : ℕ) (d : A) → i < j → j < length xs → R (get_or xs i d) (get_or xs j d)) → Ascends R xs
-sorted_ascends R [] f = tt
-sorted_ascends R (x ∷ xs) f = (
-  each_of (R x) xs (λ y h. let a = at_has xs y x h in subst (R x) a.2 (f 0 (suc a.0) x (omega arith) (omega (arith, a.1)))),
-  sorted_ascends R xs (λ i j d h k. f (suc i) (suc j) d (omega arith) (omega arith)),
-)
 
 -- what a key at a position is marked with
 record IsMark {K : Type 0} (start first : ℕ) (ks : List K) (m : Mark K) : Type 0 where
@@ -136,7 +130,9 @@ module _ {K : Type 0} (cmp : K → K → Ordering) (total : IsTotalOrder cmp) (e
   mark_total = then_total (then_total (on_total (λ (m : Mark K). m.0) bool_cmp_total) (on_total (λ (m : Mark K). m.1) total)) (on_total (λ (m : Mark K). m.2) nat_cmp_total)
 
   marks_ascend : (ms : List (Mark K)) → IsSorted mark_cmp ms → Ascends NotAbove ms
-  marks_ascend ms s = sorted_ascends NotAbove ms (λ i j d h k. sorted_far (λ x y. is_lt (mark_cmp x y)) (ranks_by mark_total (λ x. x)) ms s i j d (omega arith) k)
+  marks_ascend [] s = tt
+  marks_ascend (m ∷ ms) s =
+      Ascends-from NotAbove (m ∷ ms) m (λ i j h k. sorted_far (λ x y. is_lt (mark_cmp x y)) (ranks_by mark_total (λ x. x)) (m ∷ ms) s i j m (omega arith) k)
 
   module _ (order : List K) (start : ℕ) (apart : Distinct order) where
     key_of : (m : Mark K) → IsMark start 0 order m → slice_get order m.2 ≡ Some m.1

@@ -42,3 +42,5 @@ pub mod ConstructionOnce
 pub mod ConstructionExists
 pub mod DeterministicKept
 pub mod DeterministicForms
+pub mod Chosen
+pub mod CheapestExist

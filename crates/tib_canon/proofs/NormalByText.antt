@@ -11,8 +11,7 @@ use Rattle.tib_grammar_file.proofs.Relabelled.{symbol_with, trees_with, side_wit
 use Rattle.tib_cost.specs.Least.{IsLeast}
 use Rattle.tib_cost.proofs.Least.{IsLeast-same}
 use Rattle.tib_normal.specs.NormalForm.{IsChain, chain_cost, heads, inner_rules, all_inner, first_inner, Reaches, IsNormalCost, IsNormalForm}
-use Rattle.tib_canon.proofs.InOrder.{mapped_has}
-use Rattle.tib_lex.proofs.Lists.{has_mapped}
+use Rattle.tib_lex.proofs.Lists.{has_mapped, mapped_has}
 
 pub each_mapped : {A B : Type 0} (R : A → Type 0) (S : B → Type 0) (f : A → B) (xs : List A) → ((x : A) → Has xs x → R x → S (f x)) → Each R xs → Each S (map f xs)
 each_mapped R S f [] moves e = tt

@@ -11,7 +11,7 @@ use Rattle.tib_lex.specs.Lists.{Has}
 use Rattle.tib_grammar.specs.declared.Item.{Item}
 use Rattle.tib_grammar.specs.declared.Item.TheVariants.{Label, Hole}
 use Rattle.tib_grammar.proofs.RightSides.{IsItemTest, items_same, items_themselves}
-use Rattle.tib_canon.specs.Merging.{Sides, no_sides}
+use Rattle.tib_canon.specs.Merging.{Sides}
 
 module _ (E : Item ℕ → Item ℕ → Bool) (test : IsItemTest E) where
   -- the test of and-true sides tells them
@@ -25,29 +25,29 @@ module _ (E : Item ℕ → Item ℕ → Bool) (test : IsItemTest E) where
   pub sides_themselves : (j k : Sides) → k ≡ j → (nat_eq j.0 k.0 && pointwise E j.1 k.1) ≡ true
   sides_themselves j k e = subst (λ (l : Sides). (nat_eq j.0 l.0 && pointwise E j.1 l.1) ≡ true) (sym e) (rw (nat_eq-itself j.0, items_themselves E test j.1) refl)
 
-module _ {K : Type 0} (v : K → Sides) (t : K → Bool) (x : K) where
+module _ {K S : Type 0} (blank : S) (v : K → S) (t : K → Bool) (x : K) where
   absent : ((k : K) → v k ≡ v x → t k ≡ true) → (keys : List K) → list_any t keys ≡ false → Has (map v keys) (v x) → ⊥
   absent told [] f h = h
   absent told (k ∷ keys) f h =
       let parts = or-neither (t k) (list_any t keys) f in
       elim h [ inl e ↦ true≢false (sym (told k e) ∙ parts.0) | inr m ↦ absent told keys parts.1 m ]
 
-  found : ((k : K) → t k ≡ true → v k ≡ v x) → (keys : List K) → list_any t keys ≡ true → (position_or_len t keys < length (map v keys)) × (get_or (map v keys) (position_or_len t keys) no_sides ≡ v x)
+  found : ((k : K) → t k ≡ true → v k ≡ v x) → (keys : List K) → list_any t keys ≡ true → (position_or_len t keys < length (map v keys)) × (get_or (map v keys) (position_or_len t keys) blank ≡ v x)
   found tells [] e = absurd (cc)
   found tells (k ∷ keys) e = elim (or-either (t k) (list_any t keys) e) [
     | inl h ↦ here k keys (t k) h (tells k h)
     | inr m ↦ there k keys (t k) m.0 (position_or_len t keys) (found tells keys m.1)
   ]
     where
-      here : (k : K) (keys : List K) (b : Bool) → b ≡ true → v k ≡ v x → (cond (not b) (1 + position_or_len t keys) 0 < length (v k ∷ map v keys)) × (get_or (v k ∷ map v keys) (cond (not b) (1 + position_or_len t keys) 0) no_sides ≡ v x)
+      here : (k : K) (keys : List K) (b : Bool) → b ≡ true → v k ≡ v x → (cond (not b) (1 + position_or_len t keys) 0 < length (v k ∷ map v keys)) × (get_or (v k ∷ map v keys) (cond (not b) (1 + position_or_len t keys) 0) blank ≡ v x)
       here k keys true h e = (omega arith, e)
       here k keys false h e = absurd (cc)
 
-      there : (k : K) (keys : List K) (b : Bool) → b ≡ false → (i : ℕ) → (i < length (map v keys)) × (get_or (map v keys) i no_sides ≡ v x) → (cond (not b) (1 + i) 0 < length (v k ∷ map v keys)) × (get_or (v k ∷ map v keys) (cond (not b) (1 + i) 0) no_sides ≡ v x)
+      there : (k : K) (keys : List K) (b : Bool) → b ≡ false → (i : ℕ) → (i < length (map v keys)) × (get_or (map v keys) i blank ≡ v x) → (cond (not b) (1 + i) 0 < length (v k ∷ map v keys)) × (get_or (v k ∷ map v keys) (cond (not b) (1 + i) 0) blank ≡ v x)
       there k keys true h i p = absurd (cc)
       there k keys false h i p =
           let e : suc i ≡ 1 + i = omega arith in
-          subst (λ n. (n < length (v k ∷ map v keys)) × (get_or (v k ∷ map v keys) n no_sides ≡ v x)) e (omega (arith, p.0), p.1)
+          subst (λ n. (n < length (v k ∷ map v keys)) × (get_or (v k ∷ map v keys) n blank ≡ v x)) e (omega (arith, p.0), p.1)
 
   kept : (b : Bool) (keys : List K) → b ≡ true → (if b then keys else keys ++ x ∷ []) ≡ keys
   kept true keys e = refl
@@ -57,14 +57,16 @@ module _ {K : Type 0} (v : K → Sides) (t : K → Bool) (x : K) where
   grown true keys e = absurd (cc)
   grown false keys e = refl
 
+  -- what no key was told to be is noted behind the others
   pub noted_new :
       ((k : K) → v k ≡ v x → t k ≡ true) → (keys now : List K) → list_any t keys ≡ false → now ≡ (if list_any t keys then keys else keys ++ x ∷ []) →
       (Has (map v keys) (v x) → ⊥) × (map v now ≡ map v keys ++ v x ∷ [])
   noted_new told keys now f e = (absent told keys f, ap (map v) (e ∙ grown (list_any t keys) keys f) ∙ map-append v keys (x ∷ []))
 
+  -- and what was noted before stands at the place that was told
   pub noted_before :
       ((k : K) → t k ≡ true → v k ≡ v x) → (keys now : List K) (place : ℕ) → list_any t keys ≡ true → place ≡ position_or_len t keys →
-      now ≡ (if list_any t keys then keys else keys ++ x ∷ []) → (place < length (map v keys)) × (get_or (map v keys) place no_sides ≡ v x) × (map v now ≡ map v keys)
+      now ≡ (if list_any t keys then keys else keys ++ x ∷ []) → (place < length (map v keys)) × (get_or (map v keys) place blank ≡ v x) × (map v now ≡ map v keys)
   noted_before tells keys now place h p e =
-      let at = subst (λ n. (n < length (map v keys)) × (get_or (map v keys) n no_sides ≡ v x)) (sym p) (found tells keys h) in
+      let at = subst (λ n. (n < length (map v keys)) × (get_or (map v keys) n blank ≡ v x)) (sym p) (found tells keys h) in
       (at.0, at.1, ap (map v) (e ∙ kept (list_any t keys) keys h))

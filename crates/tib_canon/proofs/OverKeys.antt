@@ -1,9 +1,9 @@
 -- The grammar over the keys, put together.
-use Rattle.std.proofs.Common.{◌≡◌, ℕ, ◌-◌, ◌<◌, List, [], ◌∷◌, ◌++◌, length, map, take, drop, get_or, append-nil, refl, ap, sym, ◌∙◌, subst, arith, suc, inl, inr}
+use Rattle.std.proofs.Common.{◌≡◌, ℕ, ◌-◌, ◌<◌, List, [], ◌∷◌, ◌++◌, length, map, take, drop, get_or, append-nil, refl, ap, sym, ◌∙◌, subst, arith, suc}
 use Rattle.std.proofs.lemmas.List.{get_or-map, length-map}
 use Rattle.std.proofs.Math.Seq.{take-length, drop-length}
 use Rattle.std.specs.declared.cmp.Ordering.{Ordering}
-use Rattle.tib_lex.specs.Lists.{Has, Each}
+use Rattle.tib_lex.specs.Lists.{Each}
 use Rattle.tib_tree.specs.Trees.{Trees, none, tree, only, relabel}
 use Rattle.tib_grammar.specs.Sides.{Symbol, label, hole, symbol_map, holes_of}
 use Rattle.tib_grammar.specs.Range.{AllBelow, IsInRange, AreInRange, SidesEndInHoles, AreBelow}
@@ -24,10 +24,7 @@ use Rattle.tib_canon.proofs.Permuting.{distinct_at}
 use Rattle.tib_canon.proofs.Started.{all_mapped, started_named, started_leaves, started_labelled, started_range}
 use Rattle.tib_canon.proofs.BehindFresh.{behind_long}
 use Rattle.tib_lex.proofs.Members.{has_at, at_has}
-
-below_has : (n : ℕ) (qs : List ℕ) (q : ℕ) → AllBelow n qs → Has qs q → q < n
-below_has n [] q b h = absurd h
-below_has n (p ∷ qs) q b h = elim h [ inl e ↦ omega (arith, b.0, e) | inr k ↦ below_has n qs q b.1 k ]
+use Rattle.tib_grammar.proofs.Below.{below_has}
 
 rules_back : (f g : ℕ → ℕ) (rules : List (Rule ℕ)) → ((m : ℕ) → m < length rules → named_rule g (named_rule f (rule_at rules m)) ≡ rule_at rules m) → map (named_rule g) (map (named_rule f) rules) ≡ rules
 rules_back f g [] h = refl
@@ -53,7 +50,7 @@ module _ {K : Type 0} (cmp : K → K → Ordering) (order : List K) (start : ℕ
         let e : number_in numbers q ≡ at.0 = ap (number_in numbers) (sym at.2) ∙ are at.0 at.1 in
         omega (arith, at.1, by.many)
 
-    number_back : (q : ℕ) → q < length order → get_or states (number_in numbers q) 0 ≡ q
+    pub number_back : (q : ℕ) → q < length order → get_or states (number_in numbers q) 0 ≡ q
     number_back q h =
         let at = at_has states q 0 ((by.all q).1 h) in
         let e : number_in numbers q ≡ at.0 = ap (number_in numbers) (sym at.2) ∙ are at.0 at.1 in

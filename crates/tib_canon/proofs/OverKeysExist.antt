@@ -19,7 +19,6 @@ use Rattle.tib_grammar.specs.Run.{rule_at, no_rule}
 use Rattle.tib_grammar.specs.declared.Rule.{Rule}
 use Rattle.tib_grammar_file.specs.Printable.{ArePrintable}
 use Rattle.tib_cost.specs.Semiring.{ProductLaws}
-use Rattle.tib_inside.proofs.Occurring.{below_has}
 use Rattle.tib_canon.specs.Canonical.{names_of}
 use Rattle.tib_canon.specs.Keys.{StandBefore, AreByKeys, IsOverKeys, IsCanonicalOverKeys, BeginsWithin, without_rules, behind_fresh, started_rules, begun_rules}
 use Rattle.tib_canon.specs.declared.begin.Begin.{Begin}
@@ -37,6 +36,7 @@ use Rattle.tib_canon.proofs.StateNames.{length-names_of}
 use Rattle.tib_canon.proofs.TrimmedExist.{AreThose, with_last, without_last}
 use Rattle.tib_lex.proofs.Members.{has_at, at_has, each_has}
 use Rattle.tib_lex.proofs.Numbers.{same_or_other}
+use Rattle.tib_grammar.proofs.Below.{below_has}
 
 -- the numbers below n but one
 record AreOthers (start n : ℕ) (others : List ℕ) : Type 0 where

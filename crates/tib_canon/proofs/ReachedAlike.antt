@@ -4,10 +4,9 @@ use Rattle.std.proofs.lemmas.List.{map-append}
 use Rattle.std.specs.declared.cmp.Ordering.{Ordering}
 use Rattle.std.specs.declared.cmp.Ordering.TheVariants.{Less}
 use Rattle.tib_lex.specs.Lists.{Has, Ascends, Along, Distinct}
-use Rattle.tib_lex.proofs.Lists.{has_mapped}
+use Rattle.tib_lex.proofs.Lists.{has_mapped, mapped_has}
 use Rattle.tib_hunt.specs.EdgeLists.{Lists}
 use Rattle.tib_hunt.specs.Reached.{Operation, IsNew, AreAscending, AfterRounds, AreEdges, IsReachedSet}
-use Rattle.tib_canon.proofs.InOrder.{mapped_has}
 
 -- The edges that `Gives` gives and those that `Tells` tells correspond under f: an edge of the one goes to one of the other, with
 -- the same origin, and each of the other comes from one.

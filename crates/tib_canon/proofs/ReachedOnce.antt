@@ -87,6 +87,10 @@ module _ {K O E : Type 0} (p : Operation K O E) (laws : Laws p) where
   order_once (suc rounds) expanded order (old, first, new, before, is, at, made) =
       subst Distinct (sym made) (distinct_append old new (order_once rounds first old before) (ascending_once new is.0) (λ k h m. ((is.1 k).0 m).1 h))
 
+  -- nor in the order of a reached set
+  pub reached_apart : {order : List K} → IsReached p order → Distinct order
+  reached_apart {order} r = order_once r.0 r.1 order r.2
+
   -- keys are told apart
   module _ (equal : (x y : K) → p.cmp x y ≡ Equal → x ≡ y) where
     not_equal : (x y : K) (o : Ordering) → p.cmp x y ≡ o → (o ≡ Equal → ⊥) → x ≡ y → ⊥

@@ -8,10 +8,9 @@ use Rattle.tib_inside.specs.Trimmed.{IsTrimmed}
 use Rattle.tib_inside.proofs.Chosen.{ascends_at}
 use Rattle.tib_inside.proofs.Keeping.{as_many, named_at}
 use Rattle.tib_canon.specs.TrimmedForms.{IsTrimmedForm}
-use Rattle.tib_canon.proofs.Choosing.{distinct_from}
 use Rattle.tib_canon.proofs.NormalForms.{form_leaves, forms_alike}
 use Rattle.tib_canon.proofs.TrimmedOnce.{place_told, trimmed_alike}
-use Rattle.tib_lex.proofs.Members.{has_at}
+use Rattle.tib_lex.proofs.Members.{has_at, distinct_from}
 
 abbrev Differ : Rule ℕ → Rule ℕ → Type 0
 Differ r s = r.left ≡ s.left → r.right ≡ s.right → ⊥

@@ -25,11 +25,6 @@ line_total : IsTotalOrder line_cmp
 line_total =
     then_total (on_total (λ (x : Line). x.left) nat_cmp_total) (then_total (on_total (λ (x : Line). x.text.now) nat_list_cmp_total) (on_total (λ (x : Line). x.position) nat_cmp_total))
 
-pub any : (o : Ordering) → (o ≡ Less) ⊎ ((o ≡ Equal) ⊎ (o ≡ Greater))
-any Less = inl refl
-any Equal = inr (inl refl)
-any Greater = inr (inr refl)
-
 pub turned : (o : Ordering) → Greater ≡ ordering_reverse o → o ≡ Less
 turned Less e = refl
 turned Equal e = absurd (cc)
@@ -60,16 +55,15 @@ less_goes_on Greater b c e = absurd (cc)
 
 -- of two lines in order the first is less, or they are the same
 in_turn : (x y : Line) → is_lt (line_cmp y x) ≡ false → (text_cmp x y ≡ Less) ⊎ ((x.left ≡ y.left) × (x.text.now ≡ y.text.now))
-in_turn x y h = elim (any (text_cmp x y)) [
-  | inl e ↦ inl e
-  | inr k ↦ elim k [
-    | inl e ↦ let t = both_equal (nat_cmp x.left y.left) (slice_cmp nat_cmp x.text.now y.text.now) e in inr (number_same x.left y.left t.0, text_same x.text.now y.text.now t.1)
-    | inr e ↦
+in_turn x y h = by (text_cmp x y) refl
+  where
+    by : (o : Ordering) → text_cmp x y ≡ o → (text_cmp x y ≡ Less) ⊎ ((x.left ≡ y.left) × (x.text.now ≡ y.text.now))
+    by Less e = inl e
+    by Equal e = let t = both_equal (nat_cmp x.left y.left) (slice_cmp nat_cmp x.text.now y.text.now) e in inr (number_same x.left y.left t.0, text_same x.text.now y.text.now t.1)
+    by Greater e =
         let back : text_cmp y x ≡ Less = turned (text_cmp y x) (sym e ∙ text_total.antisymm x y) in
         let bad : true ≡ false = sym (less_goes_on (nat_cmp y.left x.left) (slice_cmp nat_cmp y.text.now x.text.now) (nat_cmp y.position x.position) back) ∙ h in
         absurd (cc)
-  ]
-]
 
 pub sorted_apart : (lines : List Line) (i j : ℕ) (d : Line) → IsSorted line_cmp lines → i ≤ j → j < length lines → let x = get_or lines i d in let y = get_or lines j d in (text_cmp x y ≡ Less) ⊎ ((x.left ≡ y.left) × (x.text.now ≡ y.text.now))
 sorted_apart lines i j d s h k =

@@ -7,7 +7,7 @@ use Rattle.std.proofs.Common.{◌≡◌, ℕ, ◌+◌, ◌<◌, Err, length-appe
 use Rattle.std.proofs.lemmas.List.{length-map, map-append}
 use Rattle.tib_lex.specs.Lists.{Has, Each}
 use Rattle.tib_lex.proofs.Members.{has_at, at_has, each_has, has_left, has_right, has_either}
-use Rattle.tib_lex.proofs.Lists.{has_mapped}
+use Rattle.tib_lex.proofs.Lists.{has_mapped, mapped_has}
 use Rattle.tib_tree.specs.Trees.{Trees, none, tree, only, relabel}
 use Rattle.tib_grammar.specs.Sides.{Symbol, label, hole, Side, symbol_map, side_map, holes_of, HolesAreLeaves}
 use Rattle.tib_grammar.specs.GrammarOf.{named_rule}
@@ -19,7 +19,6 @@ use Rattle.tib_grammar.proofs.Sides.{holes-relabel}
 use Rattle.tib_grammar_file.specs.Printed.{LabelsBelow, AreLabelled}
 use Rattle.tib_grammar_file.specs.Printable.{HavePlainLabels, IsPlainCost, IsPrintable, ArePrintable}
 use Rattle.tib_canon.specs.Keys.{chain_to, chain_in, started_rules}
-use Rattle.tib_canon.proofs.InOrder.{mapped_has}
 
 -- sides under other states
 

@@ -20,11 +20,10 @@ use Rattle.tib_inside.specs.Trimmed.{IsTrimmed}
 use Rattle.tib_inside.specs.Useful.{IsLive, IsUseful}
 use Rattle.tib_canon.specs.Canonical.{line_of, rule_cmp, AgreeInSides, HasSides, IsInOrder}
 use Rattle.tib_canon.specs.Keys.{IsOverKeys}
-use Rattle.tib_canon.proofs.InOrder.{mapped_has}
 use Rattle.tib_canon.proofs.InsidesByText.{live_kept, useful_kept}
 use Rattle.tib_canon.proofs.NormalByText.{ascends_mapped}
 use Rattle.tib_lex.proofs.Members.{each_of}
-use Rattle.tib_lex.proofs.Lists.{has_mapped}
+use Rattle.tib_lex.proofs.Lists.{has_mapped, mapped_has}
 
 -- a grammar under other numbers of labels
 abbrev pub grammar_with : (ℕ → ℕ) → GrammarOf → GrammarOf

@@ -47,10 +47,12 @@ leaves_back f (tree (label g) kids rest) h = (leaves_back f kids h.0, leaves_bac
 leaves_back f (tree (hole q) none rest) h = leaves_back f rest h
 leaves_back f (tree (hole q) (tree s kids more) rest) h = absurd h
 
-label_is : {Q : Type 0} {g h : ℕ} {us bs cs ds : Trees (Symbol ℕ Q)} → tree (label g) us bs ≡ tree (label h) cs ds → (g ≡ h) × (us ≡ cs) × (bs ≡ ds)
+-- trees that begin with labels and are the same begin with the same
+pub label_is : {Q : Type 0} {g h : ℕ} {us bs cs ds : Trees (Symbol ℕ Q)} → tree (label g) us bs ≡ tree (label h) cs ds → (g ≡ h) × (us ≡ cs) × (bs ≡ ds)
 label_is e = (cc, cc, cc)
 
-hole_is : {Q : Type 0} {p q : Q} {us bs cs ds : Trees (Symbol ℕ Q)} → tree (hole p) us bs ≡ tree (hole q) cs ds → (p ≡ q) × (bs ≡ ds)
+-- and with the same holes
+pub hole_is : {Q : Type 0} {p q : Q} {us bs cs ds : Trees (Symbol ℕ Q)} → tree (hole p) us bs ≡ tree (hole q) cs ds → (p ≡ q) × (bs ≡ ds)
 hole_is e = (cc, cc)
 
 module _ {Q : Type 0} (n : ℕ) (f : ℕ → Q) (tells : (i j : ℕ) → i < n → j < n → f i ≡ f j → i ≡ j) where

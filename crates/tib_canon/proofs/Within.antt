@@ -4,7 +4,6 @@ use Rattle.std.proofs.Common.{◌≡◌, ℕ, ◌<◌, ◌≤◌, List, [], ◌�
 use Rattle.std.specs.Prelude.{IsPermutation, IsSorted, Some, slice_get}
 use Rattle.std.proofs.lemmas.Option.{slice_get-get_or, get_or_from_slice_get}
 use Rattle.tib_tree.specs.Grows.{AreDistinct}
-use Rattle.tib_canon.proofs.Choosing.{distinct_from}
 use Rattle.std.proofs.lemmas.List.{length-map}
 use Rattle.std.proofs.lemmas.List.Sorted.{IsPermutation-map, IsPermutation-sym}
 use Rattle.tib_lex.specs.Lists.{Has, Each, Distinct}
@@ -27,7 +26,7 @@ use Rattle.tib_canon.proofs.Sorting.{line_cmp}
 use Rattle.tib_canon.proofs.Telling.{IsSafe}
 use Rattle.tib_canon.proofs.LinesText.{lines_grammar}
 use Rattle.tib_canon.proofs.InOrder.{AreSorted, cheapest_permuted, kept, in_order}
-use Rattle.tib_lex.proofs.Members.{has_at, at_has, each_has, each_of}
+use Rattle.tib_lex.proofs.Members.{has_at, at_has, each_has, each_of, distinct_from}
 
 -- no text of a table stands twice
 pub distinct_texts : (texts : List (List ℕ)) → AreDistinct texts → Distinct texts

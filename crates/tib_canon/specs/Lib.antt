@@ -5,3 +5,4 @@ pub mod Keys
 pub mod TrimmedForms
 pub mod Constructions
 pub mod Laws
+pub mod Choosing

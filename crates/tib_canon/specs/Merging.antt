@@ -8,6 +8,7 @@ use Rattle.tib_grammar.specs.Run.{rule_at}
 use Rattle.tib_grammar.specs.declared.Item.{Item}
 use Rattle.tib_grammar.specs.declared.Rule.{Rule}
 use Rattle.tib_canon.specs.Canonical.{AgreeInSides}
+use Rattle.tib_canon.specs.Choosing.{IsChosenOf, AreChosen}
 
 -- both sides of a rule: the left state, and the items of the right side
 abbrev pub Sides : Type 0
@@ -47,16 +48,9 @@ pub record AreCheapest (rules : List (Rule ℕ)) (positions : List ℕ) : Type 0
   pub whole : (m : ℕ) → m < length rules → HasCheaperAt rules positions (rule_at rules m)
 
 -- sides i are those of rule m, and the rule at position i costs no more
-pub record IsChosenFor (rules : List (Rule ℕ)) (sides : List Sides) (best : List ℕ) (m i : ℕ) : Type 0 where
-  pub below : i < length best
-  pub sides_are : AreSidesOf (get_or sides i no_sides) (rule_at rules m)
-  pub costs : (rule_at rules (get_or best i 0)).cost ≤ (rule_at rules m).cost
+abbrev pub IsChosenFor : List (Rule ℕ) → List Sides → List ℕ → ℕ → ℕ → Type 0
+IsChosenFor rules sides best m i = IsChosenOf no_sides (λ k p. AreSidesOf k (rule_at rules p)) (λ p. (rule_at rules p).cost) sides best m i
 
 -- For each of the distinct sides of the first n rules, the position of the cheapest rule that has them.
-pub record IsChoosing (rules : List (Rule ℕ)) (n : ℕ) (sides : List Sides) (best : List ℕ) : Type 0 where
-  pub long : length sides ≡ length best
-  pub few : length best ≤ n
-  pub distinct : (i j : ℕ) → i < length sides → j < length sides → get_or sides i no_sides ≡ get_or sides j no_sides → i ≡ j
-  pub below : (i : ℕ) → i < length best → get_or best i 0 < n
-  pub are : (i : ℕ) → i < length best → AreSidesOf (get_or sides i no_sides) (rule_at rules (get_or best i 0))
-  pub whole : (m : ℕ) → m < n → (i : ℕ) × IsChosenFor rules sides best m i
+abbrev pub IsChoosing : List (Rule ℕ) → ℕ → List Sides → List ℕ → Type 0
+IsChoosing rules n sides best = AreChosen no_sides (λ k p. AreSidesOf k (rule_at rules p)) (λ p. (rule_at rules p).cost) n sides best

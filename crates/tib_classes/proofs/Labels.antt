@@ -33,11 +33,6 @@ labels_of_items items s e =
     let same : labels_in (parse (pairs_of items)) ≡ labels_in (only s) = ap labels_in (ap parse e ∙ parse_of s) in
     omega (arith, same, labels-parse items)
 
-pub holes_fit : {P : Type 0} (items : List (Item P)) → length (holes_in items) ≤ length items
-holes_fit [] = omega arith
-holes_fit (Label f rank ∷ items) = omega (arith, holes_fit items)
-holes_fit (Hole p ∷ items) = omega (arith, holes_fit items)
-
 -- a label among some variables
 pub label_first : (x : Variable) (xs : List Variable) (f : ℕ) → x.label ≡ Some f → HaveLabel (x ∷ xs)
 label_first x xs f e = record { variable = x; stands = inl refl; root = f; labelled = e }

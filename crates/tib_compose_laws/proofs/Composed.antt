@@ -8,17 +8,19 @@ use Rattle.tib_grammar.specs.Range.{AllBelow}
 use Rattle.tib_cost.specs.Semiring.{ProductLaws, most}
 use Rattle.tib_cost.specs.Least.{IsLeast, Products, AtMost, times}
 use Rattle.tib_cost.proofs.Least.{IsLeast-dominated, IsLeast-products, at_least_right}
+use Rattle.tib_cost.proofs.Times.{product-zero}
+use Rattle.tib_keyed.specs.Ends.{key_at}
 use Rattle.tib_transducer.specs.Rules.{transducer_rule, states_in, variables_in}
 use Rattle.tib_transducer.specs.Run.{tree_at, pick, AreTransducerRuns, AreBound, Reads, outputs, transducer_cost}
 use Rattle.tib_transducer.specs.Series.{IsTransducerCost, IsTransducerSeries}
-use Rattle.tib_compose_laws.specs.Named.{named_pair, named_transducer_rule}
+use Rattle.tib_compose_laws.specs.Named.{named_transducer_rule}
 use Rattle.tib_compose_laws.specs.Composing.{Moves}
 use Rattle.tib_compose_laws.specs.Translations.{AreTranslations, translated, choice_cost}
-use Rattle.tib_compose_laws.specs.Composing.{IsComposeEdge, key_at, HasTriple, AreComposed}
+use Rattle.tib_compose_laws.specs.Composing.{IsComposeEdge, HasTriple, AreComposed}
 use Rattle.tib_transducer.specs.declared.Pair.{Pair}
 use Rattle.tib_transducer.specs.declared.TransducerRule.{TransducerRule}
+use Rattle.tib_transducer.specs.NamedPairs.{named_pair}
 use Rattle.tib_compose_laws.proofs.Filling.{AllOf, Filled, one_of, collect, spread, count-filled, filled_named, filled_unnamed, filled_to}
-use Rattle.tib_transducer.proofs.Products.{neutral_right}
 use Rattle.tib_compose_laws.proofs.Moving.{target, targets, targets_below, all_mapped, one_output, moves_over, moves_all}
 use Rattle.tib_compose_laws.proofs.Exact.{IsExact, exact}
 use Rattle.tib_compose_laws.proofs.Translating.{Between, count-translated, translations_read, translations_chosen}
@@ -69,7 +71,7 @@ module _ {levelled weighted : Bool} {product : ℕ → ℕ → ℕ} (laws : Prod
   only_one : (x : ℕ × Trees ℕ) (u : Tree ℕ) (us : Trees ℕ) (a c : ℕ) → us ≡ only u → a ≡ c → AllOf product R (x ∷ []) us a → R x u c
   only_one x u us a c e d all =
       let h : AllOf product R (x ∷ []) (only u) c = subst (λ z. AllOf product R (x ∷ []) z c) e (subst (AllOf product R (x ∷ []) us) d all) in
-      let same : h.0 ≡ c = sym (neutral_right laws h.0) ∙ ap (product h.0) (sym h.3) ∙ h.4 in
+      let same : h.0 ≡ c = sym (product-zero laws h.0) ∙ ap (product h.0) (sym h.3) ∙ h.4 in
       subst (R x u) same h.2
 
 module _

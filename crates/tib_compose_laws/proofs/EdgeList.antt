@@ -1,11 +1,10 @@
 -- The edges of a pair, each as often as origins give it.
-use Rattle.std.specs.Prelude.{◌≡◌, ℕ, ◌<◌, ◌≤◌, ◌⊎◌, List, [], ◌∷◌, map, length, true, false, nat_eq, nat_le, if◌then◌else◌, Option, refl}
+use Rattle.std.specs.Prelude.{◌≡◌, ℕ, ◌<◌, ◌≤◌, List, [], ◌∷◌, map, length, nat_eq, if◌then◌else◌, Option, refl}
 use Rattle.std.proofs.Common.{zero, suc, arith, ap, sym, subst, inl, inr}
-use Rattle.std.proofs.lemmas.Bool.Decides.{nat_tests}
 use Rattle.tib_lex.specs.Lists.{Has, Distinct, Along}
 use Rattle.tib_tree.specs.Trees.{Trees, none, tree, only, count, first_of}
 use Rattle.tib_grammar.specs.Sides.{label}
-use Rattle.tib_lex.proofs.Numbers.{nat_eq_cases, nat_eq-true}
+use Rattle.tib_lex.proofs.Numbers.{nat_eq_cases, nat_eq-true, nat_le_cases}
 use Rattle.tib_lex.proofs.Members.{has_left, has_right, has_either}
 use Rattle.tib_cost.specs.Semiring.{most}
 use Rattle.tib_hunt.specs.EdgeLists.{Lists}
@@ -18,9 +17,6 @@ use Rattle.tib_transducer.specs.declared.TransducerRule.{TransducerRule}
 use Rattle.tib_compose_laws.proofs.Translating.{count-translated}
 use Rattle.tib_hunt.proofs.Members.{distinct_append}
 use Rattle.tib_compose_laws.proofs.Choosing.{has_if, if_has, if_once, number_same, choices_once, choices_are}
-
-nat_le_cases : (a b : ℕ) → ((a ≤ b) × (nat_le a b ≡ true)) ⊎ ((b < a) × (nat_le a b ≡ false))
-nat_le_cases a b = grind (arith, nat_tests)
 
 only_first : {A : Type 0} (d : A) (ts : Trees A) → count ts ≡ 1 → only (first_of d ts) ≡ ts
 only_first d none e = absurd (omega arith)

@@ -1,25 +1,24 @@
 -- The rules of the composite transducer are edges, and each edge is a rule.
 use Rattle.std.specs.Prelude.{◌≡◌, ℕ, ◌<◌, List, length, map, Option}
 use Rattle.std.proofs.Common.{arith, ap, sym, ◌∙◌, subst}
-use Rattle.std.specs.Cmp.{IsTotalOrder}
-use Rattle.std.proofs.lemmas.Cmp.{then_total, on_total, nat_cmp_total}
 use Rattle.std.proofs.lemmas.List.{length-map, get_or-map}
 use Rattle.tib_lex.specs.Lists.{Has}
+use Rattle.tib_lex.specs.PairOrder.{pair_cmp}
+use Rattle.tib_lex.proofs.Alongs.{along_at, along_has}
+use Rattle.tib_lex.proofs.Places.{distinct_at}
+use Rattle.tib_lex.proofs.PairOrder.{pair_total}
 use Rattle.tib_tree.specs.Trees.{Trees, only}
 use Rattle.tib_hunt.specs.Reached.{IsReachedSet}
 use Rattle.tib_hunt.specs.Numbered.{key_parts}
 use Rattle.tib_hunt.proofs.Reaching.{Laws}
+use Rattle.tib_keyed.specs.Ends.{key_at}
 use Rattle.tib_transducer.specs.Rules.{transducer_rule, no_rule}
 use Rattle.tib_compose_laws.specs.Named.{named_transducer_rule}
 use Rattle.tib_transducer.specs.Range.{AreWithin}
-use Rattle.tib_compose_laws.specs.Composing.{key_at, IsComposeEdge, GivesEdge, IsComposite}
-use Rattle.tib_compose_laws.specs.Composition.{pair_cmp, ends_of, edge_parts, composition}
+use Rattle.tib_compose_laws.specs.Composing.{IsComposeEdge, GivesEdge, IsComposite}
+use Rattle.tib_compose_laws.specs.Composition.{ends_of, edge_parts, composition}
 use Rattle.tib_transducer.specs.declared.TransducerRule.{TransducerRule}
 use Rattle.tib_keyed.proofs.KeyOrders.{op_laws, one_set, order_once, order_begins, edges_below}
-use Rattle.tib_keyed.proofs.Partners.{along_at, along_has, distinct_at}
-
-pair_total : IsTotalOrder pair_cmp
-pair_total = then_total (on_total (λ (p : ℕ × ℕ). p.0) nat_cmp_total) (on_total (λ (p : ℕ × ℕ). p.1) nat_cmp_total)
 
 module _ (product : ℕ → ℕ → ℕ) (one two : List (TransducerRule ℕ)) where
   -- an origin gives one edge of a key

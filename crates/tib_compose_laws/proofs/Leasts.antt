@@ -7,6 +7,7 @@ use Rattle.tib_grammar.specs.Sides.{Symbol, label, hole, Side as SideFor, holes_
 use Rattle.tib_cost.specs.Semiring.{ProductLaws}
 use Rattle.tib_cost.specs.Least.{IsLeast, Products, lesser, times}
 use Rattle.tib_cost.proofs.Least.{IsLeast-same, IsLeast-none, IsLeast-either, IsLeast-products, IsLeast-scaled}
+use Rattle.tib_cost.proofs.Times.{product-zero}
 use Rattle.tib_transducer.specs.Rules.{transducer_rule, states_in, variables_in}
 use Rattle.tib_transducer.specs.Run.{tree_at, pick}
 use Rattle.tib_transducer.specs.Range.{AreShaped}
@@ -17,7 +18,6 @@ use Rattle.tib_transducer.specs.declared.Pair.{Pair}
 use Rattle.tib_transducer.specs.declared.TransducerRule.{TransducerRule}
 use Rattle.tib_compose_laws.proofs.Filling.{one_of}
 use Rattle.tib_compose_laws.proofs.Permuted.{tree_at-one}
-use Rattle.tib_transducer.proofs.Products.{neutral_right}
 use Rattle.tib_compose_laws.proofs.Choosing.{choice_join, choice_split, reads_over, over_reads, within_sides}
 use Rattle.tib_compose_laws.proofs.Searching.{cost_join}
 
@@ -120,7 +120,7 @@ module _ {levelled weighted : Bool} {product : ℕ → ℕ → ℕ} (laws : Prod
           let o = reads_over p f (count kids) (transducer_rule two b.rule) b.reads in (
             tree (Some b.rule) b.has.0 none,
             (b.below, o.0, o.1, b.has.1, tt),
-            neutral_right laws (product (transducer_rule two b.rule).cost (choice_cost product two b.has.0)) ∙ ap (product (transducer_rule two b.rule).cost) b.has.2 ∙ b.costs,
+            product-zero laws (product (transducer_rule two b.rule).cost (choice_cost product two b.has.0)) ∙ ap (product (transducer_rule two b.rule).cost) b.has.2 ∙ b.costs,
           )
 
       back : (n : ℕ) (c : Trees (Option ℕ)) → AreTranslations two (p ∷ []) (tree (label f) kids none) c → choice_cost product two c ≡ n → ByRule p f kids (length two) n
@@ -133,7 +133,7 @@ module _ {levelled weighted : Bool} {product : ℕ → ℕ → ℕ} (laws : Prod
         reads = over_reads p f (count kids) (transducer_rule two m) t.1 t.2;
         inner = choice_cost product two below;
         has = (below, t.3, refl);
-        costs = sym (neutral_right laws (product (transducer_rule two m).cost (choice_cost product two below))) ∙ e;
+        costs = sym (product-zero laws (product (transducer_rule two m).cost (choice_cost product two below))) ∙ e;
       }
 
   at_pair : (p : ℕ) (x : Pair ℕ) (kids : Trees (Symbol ℕ (Pair ℕ))) → IsLeast (HasChoiceCost product two (tree (hole x) kids none) (p ∷ [])) (Some 0)

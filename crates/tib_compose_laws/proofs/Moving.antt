@@ -11,9 +11,9 @@ use Rattle.tib_transducer.specs.Series.{IsTransducerCost}
 use Rattle.tib_transducer.specs.declared.Pair.{Pair}
 use Rattle.tib_transducer.specs.declared.TransducerRule.{TransducerRule}
 use Rattle.tib_grammar.proofs.Sides.{count-fill}
-use Rattle.tib_transducer.proofs.Products.{neutral_right}
 use Rattle.tib_transducer.proofs.Itemizing.{count-outputs}
 use Rattle.std.proofs.lemmas.List.{length-map}
+use Rattle.tib_cost.proofs.Times.{product-zero}
 use Rattle.tib_compose_laws.proofs.Filling.{AllOf, one_of}
 use Rattle.tib_compose_laws.proofs.Permuted.{pick-within, pick-count}
 
@@ -101,7 +101,7 @@ module _ {levelled weighted : Bool} {product : ℕ → ℕ → ℕ} (laws : Prod
           output = ap (join (fill (only (transducer_rule rules n).right) (outputs rules runs))) k.output
               ∙ ap (λ z. join z vs) (sym (join-none (fill (only (transducer_rule rules n).right) (outputs rules runs))) ∙ o);
           costs = ap (product (product (transducer_rule rules n).cost (transducer_cost product rules runs))) k.costs
-              ∙ ap (λ z. product z b) (sym (neutral_right laws (product (transducer_rule rules n).cost (transducer_cost product rules runs))) ∙ c);
+              ∙ ap (λ z. product z b) (sym (product-zero laws (product (transducer_rule rules n).cost (transducer_cost product rules runs))) ∙ c);
         }
 
     -- a rule over runs
@@ -115,7 +115,7 @@ module _ {levelled weighted : Bool} {product : ℕ → ℕ → ℕ} (laws : Prod
       are_runs = (h, s, k.are_runs, tt);
       reads = (record { args = args; bound = bound; filled = filled; below = k.reads }, tt);
       output = join-none (fill (only (transducer_rule rules n).right) (outputs rules k.runs)) ∙ ap (fill (only (transducer_rule rules n).right)) k.output;
-      costs = neutral_right laws (product (transducer_rule rules n).cost (transducer_cost product rules k.runs)) ∙ ap (product (transducer_rule rules n).cost) k.costs;
+      costs = product-zero laws (product (transducer_rule rules n).cost (transducer_cost product rules k.runs)) ∙ ap (product (transducer_rule rules n).cost) k.costs;
     }
 
     -- runs for the pairs of a right side, each reading the tree of its pair's variable

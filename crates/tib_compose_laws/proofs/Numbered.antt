@@ -9,13 +9,14 @@ use Rattle.tib_cost.proofs.Least.{IsLeast-same}
 use Rattle.tib_transducer.specs.Rules.{transducer_rule, no_rule, states_in, variables_in}
 use Rattle.tib_transducer.specs.Run.{pick, AreTransducerRuns, AreBound, Reads, outputs, transducer_cost}
 use Rattle.tib_transducer.specs.Series.{IsTransducerCost}
-use Rattle.tib_compose_laws.specs.Named.{named_pair, named_transducer_rule}
+use Rattle.tib_compose_laws.specs.Named.{named_transducer_rule}
 use Rattle.tib_transducer.specs.Series.{IsTransducerSeriesAt}
 use Rattle.tib_compose_laws.specs.Numbering.{AreRenumbered}
 use Rattle.tib_transducer.specs.declared.Pair.{Pair}
 use Rattle.tib_transducer.specs.declared.TransducerRule.{TransducerRule}
 use Rattle.std.proofs.lemmas.List.{length-map, get_or-map}
-use Rattle.tib_keyed.proofs.Partners.{distinct_at}
+use Rattle.tib_lex.proofs.Places.{distinct_at}
+use Rattle.tib_transducer.specs.NamedPairs.{named_pair}
 
 states_named : (g : ℕ → ℕ) (xs : List (Pair ℕ)) → map (λ x. x.state) (map (named_pair g) xs) ≡ map g (map (λ x. x.state) xs)
 states_named g [] = refl

@@ -1,18 +1,18 @@
 -- A search that puts out one piece after another finds what comes of all choices.
 use Rattle.std.specs.Prelude.{◌≡◌, ℕ, ◌<◌, ◌≤◌, List, [], ◌∷◌, ◌++◌, map, length, Bool, true, false, if◌then◌else◌, Option, None, Some, refl}
 use Rattle.std.proofs.Common.{zero, suc, arith, ap, sym, ◌∙◌, subst, inl, inr, append_assoc}
-use Rattle.std.proofs.lemmas.List.{length-map}
+use Rattle.std.proofs.lemmas.List.{length-map, map-append}
 use Rattle.tib_lex.specs.Lists.{Has, Each}
 use Rattle.tib_lex.proofs.Lists.{append_nil}
 use Rattle.tib_tree.specs.Trees.{Trees, none, tree, only, count, join, first_trees, other_trees, preorder, preorder_of, first_of}
 use Rattle.tib_grammar.specs.Sides.{Symbol, label, hole, holes, holes_of, HolesAreLeaves}
 use Rattle.tib_cost.specs.Semiring.{ProductLaws}
+use Rattle.tib_cost.proofs.Times.{product-zero}
 use Rattle.tib_transducer.specs.Rules.{transducer_rule, states_in, variables_in}
 use Rattle.tib_transducer.specs.Run.{tree_at, pick}
 use Rattle.tib_transducer.specs.Range.{AreShaped}
 use Rattle.tib_transducer.specs.declared.Pair.{Pair}
 use Rattle.tib_transducer.specs.declared.TransducerRule.{TransducerRule}
-use Rattle.tib_transducer.proofs.Products.{neutral_right}
 use Rattle.tib_compose_laws.specs.Translations.{AreTranslations, translated, choice_cost}
 use Rattle.tib_compose_laws.specs.Choices.{choices_at, reads_label}
 use Rattle.tib_compose_laws.specs.Completions.{completions, under, rule_by_rule}
@@ -22,10 +22,6 @@ use Rattle.tib_compose_laws.proofs.Permuted.{tree_at-one, pick-count}
 use Rattle.tib_compose_laws.proofs.Choosing.{has_joins, choice_join, tell_all, within_sides, reads_over}
 use Rattle.tib_compose_laws.proofs.Searching.{search_goes}
 use Rattle.tib_compose_laws.proofs.Flattened.{search_puts_out}
-
-map_append : {A B : Type 0} (g : A → B) (xs ys : List A) → map g (xs ++ ys) ≡ map g xs ++ map g ys
-map_append g [] ys = refl
-map_append g (x ∷ xs) ys = ap (λ z. g x ∷ z) (map_append g xs ys)
 
 map_same : {A B : Type 0} (f g : A → B) (xs : List A) → ((x : A) → Has xs x → f x ≡ g x) → map f xs ≡ map g xs
 map_same f g [] h = refl
@@ -119,7 +115,7 @@ module _ (two : List (TransducerRule ℕ)) (shaped : AreShaped two) where
 module _ {levelled weighted : Bool} {product : ℕ → ℕ → ℕ} (laws : ProductLaws levelled weighted product)
     (two : List (TransducerRule ℕ)) (shaped : AreShaped two) (leaves : (m : ℕ) → m < length two → HolesAreLeaves (only (transducer_rule two m).right)) where
   at_end : (cost : ℕ) (done : List (Symbol ℕ (Pair (ℕ × ℕ)) × ℕ)) → results product two cost done [] ≡ (cost, done) ∷ []
-  at_end cost done = ap (λ z. (z, done ++ []) ∷ []) (neutral_right laws cost) ∙ ap (λ z. (cost, z) ∷ []) (append_nil done)
+  at_end cost done = ap (λ z. (z, done ++ []) ∷ []) (product-zero laws cost) ∙ ap (λ z. (cost, z) ∷ []) (append_nil done)
 
   at_put : (cost : ℕ) (done : List (Symbol ℕ (Pair (ℕ × ℕ)) × ℕ)) (f n : ℕ) (ws : List Piece) → results product two cost done (put f n ∷ ws) ≡ results product two cost (done ++ (label f, n) ∷ []) ws
   at_put cost done f n ws =
@@ -205,7 +201,7 @@ module _ {levelled weighted : Bool} {product : ℕ → ℕ → ℕ} (laws : Prod
     by_rules_done : (m : ℕ) → m ≤ length two → map (result_of product two cost done here) (rule_by_rule two p f kids (sides_of ws) (states_of ws) m) ≡ results_by product two cost done f kids p ws m
     by_rules_done zero h = refl
     by_rules_done (suc m) h =
-        map_append (result_of product two cost done here) (rule_by_rule two p f kids (sides_of ws) (states_of ws) m)
+        map-append (result_of product two cost done here) (rule_by_rule two p f kids (sides_of ws) (states_of ws) m)
         (if reads_label p f (count kids) (transducer_rule two m)
         then map (under m (length (states_in (transducer_rule two m).right))) (completions two (join (pick kids (variables_in (transducer_rule two m).right)) (sides_of ws)) (states_in (transducer_rule two m).right ++ states_of ws))
         else [])

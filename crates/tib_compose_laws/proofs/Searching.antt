@@ -15,7 +15,7 @@ use Rattle.tib_transducer.specs.declared.Pair.{Pair}
 use Rattle.tib_transducer.specs.declared.TransducerRule.{TransducerRule}
 use Rattle.tib_compose_laws.proofs.Filling.{one_of}
 use Rattle.tib_compose_laws.proofs.Permuted.{tree_at-one, pick-count}
-use Rattle.std.proofs.lemmas.List.{length-map}
+use Rattle.std.proofs.lemmas.List.{length-map, map-append}
 use Rattle.tib_compose_laws.proofs.Choosing.{tell_all, tell_joined, within_sides}
 
 -- joins
@@ -23,10 +23,6 @@ use Rattle.tib_compose_laws.proofs.Choosing.{tell_all, tell_joined, within_sides
 joins_append : {A : Type 0} (cs ds es : List (Trees A)) → all_joins (cs ++ ds) es ≡ all_joins cs es ++ all_joins ds es
 joins_append [] ds es = refl
 joins_append (c ∷ cs) ds es = ap (λ z. map (join c) es ++ z) (joins_append cs ds es) ∙ sym (append_assoc (map (join c) es) (all_joins cs es) (all_joins ds es))
-
-map_append : {A B : Type 0} (g : A → B) (xs ys : List A) → map g (xs ++ ys) ≡ map g xs ++ map g ys
-map_append g [] ys = refl
-map_append g (x ∷ xs) ys = ap (λ z. g x ∷ z) (map_append g xs ys)
 
 join_again : {A : Type 0} (b c d : Trees A) → join (join b c) d ≡ join b (join c d)
 join_again none c d = refl
@@ -41,7 +37,7 @@ joins_map b [] es = refl
 joins_map b (c ∷ cs) es =
     ap (λ z. z ++ all_joins (map (join b) cs) es) (map_join b c es)
     ∙ ap (λ z. map (join b) (map (join c) es) ++ z) (joins_map b cs es)
-    ∙ sym (map_append (join b) (map (join c) es) (all_joins cs es))
+    ∙ sym (map-append (join b) (map (join c) es) (all_joins cs es))
 
 joins_again : {A : Type 0} (bs cs es : List (Trees A)) → all_joins (all_joins bs cs) es ≡ all_joins bs (all_joins cs es)
 joins_again [] cs es = refl
@@ -112,7 +108,7 @@ under_joins m k [] es long = refl
 under_joins m k (c ∷ cs) es long =
     ap (λ z. map (join (tree (Some m) c none)) es ++ z) (under_joins m k cs es (λ d h. long d (inr h)))
     ∙ ap (λ z. z ++ map (under m k) (all_joins cs es)) (each es)
-    ∙ sym (map_append (under m k) (map (join c) es) (all_joins cs es))
+    ∙ sym (map-append (under m k) (map (join c) es) (all_joins cs es))
   where
     one : (e : Trees (Option ℕ)) → tree (Some m) c e ≡ under m k (join c e)
     one e =

@@ -1,44 +1,37 @@
 -- The composite transducer's rules have their shape, and their states are in range.
-use Rattle.std.specs.Prelude.{ℕ, ◌<◌, List, [], ◌∷◌, ◌++◌, length, map, Option, None, Some}
+use Rattle.std.specs.Prelude.{ℕ, ◌<◌, List, [], ◌∷◌, length, map, Option, None, Some}
 use Rattle.std.proofs.Common.{zero, suc, ap, sym, ◌∙◌, subst, inl, inr}
 use Rattle.tib_lex.specs.Lists.{Has, Each}
-use Rattle.tib_lex.proofs.Lists.{each_append}
+use Rattle.tib_lex.proofs.Lists.{each_append, each_left, each_right}
 use Rattle.tib_tree.specs.Trees.{Trees, none, tree, join, only, first_trees, other_trees}
 use Rattle.tib_grammar.specs.Sides.{Symbol, label, hole, holes, holes_of}
 use Rattle.tib_grammar.proofs.Sides.{holes-relabel}
 use Rattle.tib_grammar.specs.Range.{AllBelow}
+use Rattle.tib_keyed.specs.Ends.{key_at}
 use Rattle.tib_transducer.specs.Rules.{transducer_rule, states_in, variables_in}
 use Rattle.tib_transducer.specs.Run.{tree_at, pick}
-use Rattle.tib_compose_laws.specs.Named.{named_pair}
 use Rattle.tib_transducer.specs.Range.{AreNumbered, AreShaped, AreWithin}
 use Rattle.tib_compose_laws.specs.Translations.{plug, AreTranslations, translated}
-use Rattle.tib_compose_laws.specs.Composing.{key_at, IsComposeEdge, IsComposite}
+use Rattle.tib_compose_laws.specs.Composing.{IsComposeEdge, IsComposite}
 use Rattle.tib_compose_laws.specs.Composition.{ends_of}
 use Rattle.tib_transducer.specs.declared.Pair.{Pair}
 use Rattle.tib_transducer.specs.declared.TransducerRule.{TransducerRule}
+use Rattle.tib_transducer.specs.NamedPairs.{named_pair}
 use Rattle.tib_compose_laws.proofs.Exact.{exact}
 
 module _ {A : Type 0} (Q : A → Type 0) where
-  each_front : (xs ys : List A) → Each Q (xs ++ ys) → Each Q xs
-  each_front [] ys e = tt
-  each_front (x ∷ xs) ys e = (e.0, each_front xs ys e.1)
-
-  each_back : (xs ys : List A) → Each Q (xs ++ ys) → Each Q ys
-  each_back [] ys e = e
-  each_back (x ∷ xs) ys e = each_back xs ys e.1
-
   -- what holds of the holes of sides
 
   holes_join : (s t : Trees (Symbol ℕ A)) → Each Q (holes s) → Each Q (holes t) → Each Q (holes (join s t))
   holes_join none t a b = b
-  holes_join (tree (label f) kids rest) t a b = each_append Q (holes kids) (holes (join rest t)) (each_front (holes kids) (holes rest) a) (holes_join rest t (each_back (holes kids) (holes rest) a) b)
+  holes_join (tree (label f) kids rest) t a b = each_append Q (holes kids) (holes (join rest t)) (each_left Q (holes kids) (holes rest) a) (holes_join rest t (each_right Q (holes kids) (holes rest) a) b)
   holes_join (tree (hole x) kids rest) t a b = (a.0, holes_join rest t a.1 b)
 
   holes_at : (s : Trees (Symbol ℕ A)) (i : ℕ) → Each Q (holes s) → Each Q (holes (tree_at s i))
   holes_at none i a = tt
-  holes_at (tree (label f) kids rest) zero a = each_append Q (holes kids) [] (each_front (holes kids) (holes rest) a) tt
+  holes_at (tree (label f) kids rest) zero a = each_append Q (holes kids) [] (each_left Q (holes kids) (holes rest) a) tt
   holes_at (tree (hole x) kids rest) zero a = (a.0, tt)
-  holes_at (tree (label f) kids rest) (suc i) a = holes_at rest i (each_back (holes kids) (holes rest) a)
+  holes_at (tree (label f) kids rest) (suc i) a = holes_at rest i (each_right Q (holes kids) (holes rest) a)
   holes_at (tree (hole x) kids rest) (suc i) a = holes_at rest i a.1
 
   holes_pick : (s : Trees (Symbol ℕ A)) (is : List ℕ) → Each Q (holes s) → Each Q (holes (pick s is))
@@ -48,13 +41,13 @@ module _ {A : Type 0} (Q : A → Type 0) where
   holes_first : (n : ℕ) (s : Trees (Symbol ℕ A)) → Each Q (holes s) → Each Q (holes (first_trees n s))
   holes_first zero s a = tt
   holes_first (suc n) none a = tt
-  holes_first (suc n) (tree (label f) kids rest) a = each_append Q (holes kids) (holes (first_trees n rest)) (each_front (holes kids) (holes rest) a) (holes_first n rest (each_back (holes kids) (holes rest) a))
+  holes_first (suc n) (tree (label f) kids rest) a = each_append Q (holes kids) (holes (first_trees n rest)) (each_left Q (holes kids) (holes rest) a) (holes_first n rest (each_right Q (holes kids) (holes rest) a))
   holes_first (suc n) (tree (hole x) kids rest) a = (a.0, holes_first n rest a.1)
 
   holes_other : (n : ℕ) (s : Trees (Symbol ℕ A)) → Each Q (holes s) → Each Q (holes (other_trees n s))
   holes_other zero s a = a
   holes_other (suc n) none a = tt
-  holes_other (suc n) (tree (label f) kids rest) a = holes_other n rest (each_back (holes kids) (holes rest) a)
+  holes_other (suc n) (tree (label f) kids rest) a = holes_other n rest (each_right Q (holes kids) (holes rest) a)
   holes_other (suc n) (tree (hole x) kids rest) a = holes_other n rest a.1
 
   holes_plug : {P : Type 0} (s : Trees (Symbol ℕ P)) (us : Trees (Symbol ℕ A)) → Each Q (holes us) → Each Q (holes (plug s us))
@@ -64,11 +57,11 @@ module _ {A : Type 0} (Q : A → Type 0) where
       (holes_plug kids (first_trees (length (holes kids)) us) (holes_first (length (holes kids)) us a))
       (holes_plug rest (other_trees (length (holes kids)) us) (holes_other (length (holes kids)) us a))
   holes_plug (tree (hole p) kids rest) none a = tt
-  holes_plug (tree (hole p) kids rest) (tree (label f) below us) a = each_append Q (holes below) (holes (plug rest us)) (each_front (holes below) (holes us) a) (holes_plug rest us (each_back (holes below) (holes us) a))
+  holes_plug (tree (hole p) kids rest) (tree (label f) below us) a = each_append Q (holes below) (holes (plug rest us)) (each_left Q (holes below) (holes us) a) (holes_plug rest us (each_right Q (holes below) (holes us) a))
   holes_plug (tree (hole p) kids rest) (tree (hole x) below us) a = (a.0, holes_plug rest us a.1)
 
--- the variables of translations are those of the sides
-variables_translated :
+-- what holds of the variables of sides holds of those of their translations
+pub variables_translated :
     {P : Type 0} (Q : ℕ → Type 0) (two : List (TransducerRule ℕ)) (choice : Trees (Option ℕ)) (ps : List ℕ) (sides : Trees (Symbol ℕ (Pair P))) →
     Each (λ x. Q x.variable) (holes sides) → Each (λ x. Q x.variable) (holes (translated two ps sides choice))
 variables_translated Q two none ps sides a = tt
@@ -83,14 +76,16 @@ variables_translated {P} Q two (tree (Some n) below more) (p ∷ ps) (tree (labe
     (holes_plug (λ x. Q x.variable) (only (transducer_rule two n).right)
     (translated two (states_in (transducer_rule two n).right) (pick kids (variables_in (transducer_rule two n).right)) below)
     (variables_translated Q two below (states_in (transducer_rule two n).right) (pick kids (variables_in (transducer_rule two n).right))
-    (holes_pick (λ (x : Pair P). Q x.variable) kids (variables_in (transducer_rule two n).right) (each_front (λ (x : Pair P). Q x.variable) (holes kids) (holes rest) a))))
-    (variables_translated Q two more ps rest (each_back (λ (x : Pair P). Q x.variable) (holes kids) (holes rest) a))
+    (holes_pick (λ (x : Pair P). Q x.variable) kids (variables_in (transducer_rule two n).right) (each_left (λ (x : Pair P). Q x.variable) (holes kids) (holes rest) a))))
+    (variables_translated Q two more ps rest (each_right (λ (x : Pair P). Q x.variable) (holes kids) (holes rest) a))
 
-variables_each : {P : Type 0} (Q : ℕ → Type 0) (xs : List (Pair P)) → Each Q (map (λ x. x.variable) xs) → Each (λ x. Q x.variable) xs
+-- what holds of each variable of pairs holds of each pair by its variable
+pub variables_each : {P : Type 0} (Q : ℕ → Type 0) (xs : List (Pair P)) → Each Q (map (λ x. x.variable) xs) → Each (λ x. Q x.variable) xs
 variables_each Q [] a = tt
 variables_each Q (x ∷ xs) a = (a.0, variables_each Q xs a.1)
 
-each_named : {P R : Type 0} (Q : ℕ → Type 0) (g : P → R) (xs : List (Pair P)) → Each (λ x. Q x.variable) (map (named_pair g) xs) → Each Q (map (λ x. x.variable) xs)
+-- and of the variables of named pairs
+pub each_named : {P R : Type 0} (Q : ℕ → Type 0) (g : P → R) (xs : List (Pair P)) → Each (λ x. Q x.variable) (map (named_pair g) xs) → Each Q (map (λ x. x.variable) xs)
 each_named Q g [] a = tt
 each_named Q g (x ∷ xs) a = (a.0, each_named Q g xs a.1)
 
@@ -137,8 +132,8 @@ states_translated m n two range (tree (Some r) below more) (p ∷ ps) (tree (lab
     (holes_plug (λ x. (x.state.0 < m) × (x.state.1 < n)) (only (transducer_rule two r).right)
     (translated two (states_in (transducer_rule two r).right) (pick kids (variables_in (transducer_rule two r).right)) below)
     (states_translated m n two range below (states_in (transducer_rule two r).right) (pick kids (variables_in (transducer_rule two r).right)) t.3 (range r t.0).1
-    (holes_pick (λ (x : Pair ℕ). x.state < m) kids (variables_in (transducer_rule two r).right) (each_front (λ (x : Pair ℕ). x.state < m) (holes kids) (holes rest) a))))
-    (states_translated m n two range more ps rest t.4 b.1 (each_back (λ (x : Pair ℕ). x.state < m) (holes kids) (holes rest) a))
+    (holes_pick (λ (x : Pair ℕ). x.state < m) kids (variables_in (transducer_rule two r).right) (each_left (λ (x : Pair ℕ). x.state < m) (holes kids) (holes rest) a))))
+    (states_translated m n two range more ps rest t.4 b.1 (each_right (λ (x : Pair ℕ). x.state < m) (holes kids) (holes rest) a))
 
 ends_each : {K : Type 0} (Q : K → Type 0) (xs : List (Pair K)) (k : K) → Each (λ x. Q x.state) xs → Has (map (λ x. x.state) xs) k → Q k
 ends_each Q [] k a h = absurd h

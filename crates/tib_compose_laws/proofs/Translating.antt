@@ -19,8 +19,9 @@ use Rattle.tib_transducer.specs.declared.Variable.{Variable}
 use Rattle.tib_transducer.specs.declared.TransducerRule.{TransducerRule}
 use Rattle.tib_compose_laws.proofs.Filling.{Filled, fill_label, count-plug, count-filled, mix, filled_join, filled_split, unplug, plugged}
 use Rattle.tib_compose_laws.proofs.Permuted.{IsPermutation, picked, restored}
-use Rattle.tib_transducer.proofs.Products.{swap_first, neutral_right}
+use Rattle.tib_transducer.proofs.Products.{swap_first}
 use Rattle.std.proofs.lemmas.List.{length-map}
+use Rattle.tib_cost.proofs.Times.{product-zero}
 use Rattle.tib_compose_laws.proofs.Moving.{one_output, moves_join, moves_over}
 
 -- a choice translates each side to one side
@@ -276,7 +277,7 @@ module _
           are_runs = (r.0, r.1, r.2, tt);
           reads = (d.0, tt);
           output = join-none (fill (only (transducer_rule two n).right) (outputs two runs)) ∙ v.1;
-          costs = neutral_right laws (product (transducer_rule two n).cost (transducer_cost product two runs));
+          costs = product-zero laws (product (transducer_rule two n).cost (transducer_cost product two runs));
         }
         in
         record {

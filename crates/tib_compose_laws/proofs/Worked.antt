@@ -5,11 +5,12 @@ use Rattle.tib_lex.specs.Lists.{Has}
 use Rattle.tib_tree.specs.Trees.{Trees, none, tree, only}
 use Rattle.tib_grammar.specs.Sides.{Symbol, label, hole}
 use Rattle.tib_grammar.specs.Range.{AllBelow}
+use Rattle.tib_keyed.specs.Ends.{key_at}
 use Rattle.tib_transducer.specs.Rules.{transducer_rule, states_in}
 use Rattle.tib_compose_laws.specs.Named.{named_transducer_rule}
 use Rattle.tib_transducer.specs.Range.{AreShaped, IsShaped}
 use Rattle.tib_compose_laws.specs.Translations.{AreTranslations}
-use Rattle.tib_compose_laws.specs.Composing.{key_at, GivesEdge, IsComposite}
+use Rattle.tib_compose_laws.specs.Composing.{GivesEdge, IsComposite}
 use Rattle.tib_compose_laws.specs.Examples.{copying, turning, composite, at_pair, at_leaf}
 use Rattle.tib_transducer.specs.declared.TransducerRule.{TransducerRule}
 

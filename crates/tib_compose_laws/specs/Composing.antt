@@ -1,11 +1,11 @@
 -- Composition of two transducers: edges of pairs of states, the composite transducer, and what it means.
 use Rattle.std.specs.Prelude.{◌≡◌, ℕ, ◌<◌, ◌≤◌, ◌↔◌, List, [], ◌∷◌, length, map, Option, Some}
-use Rattle.std.proofs.Common.{get_or}
 use Rattle.tib_lex.specs.Lists.{Distinct}
 use Rattle.tib_tree.specs.Trees.{Tree, Trees, only}
 use Rattle.tib_cost.specs.Semiring.{most}
 use Rattle.tib_cost.specs.Least.{IsLeast, Products, times}
 use Rattle.tib_hunt.specs.EdgeLists.{Lists}
+use Rattle.tib_keyed.specs.Ends.{key_at}
 use Rattle.tib_transducer.specs.Rules.{transducer_rule}
 use Rattle.tib_transducer.specs.Series.{IsTransducerCost, IsTransducerSeries}
 use Rattle.tib_compose_laws.specs.Named.{named_transducer_rule}
@@ -30,10 +30,6 @@ pub record IsComposeEdge (product : ℕ → ℕ → ℕ) (one two : List (Transd
   pub right : only e.right ≡ translated two (key.1 ∷ []) (only (transducer_rule one origin.0).right) origin.1
   pub costs : e.cost ≡ product (transducer_rule one origin.0).cost (choice_cost product two origin.1)
   pub within : e.cost ≤ most
-
--- the pair at a position of an order
-abbrev pub key_at : List (ℕ × ℕ) → ℕ → ℕ × ℕ
-key_at order n = get_or order n (0, 0)
 
 module _ (product : ℕ → ℕ → ℕ) (one two : List (TransducerRule ℕ)) where
   -- the edge of a position of the order, by that position and its origin

@@ -1,21 +1,17 @@
 -- The composition of two transducers, as what is hunted.
 use Rattle.std.specs.Prelude.{◌≡◌, ℕ, ◌+◌, ◌<◌, List, length, map, Option}
-use Rattle.std.specs.Ordering.{nat_cmp, ordering_then}
-use Rattle.std.specs.declared.cmp.Ordering.{Ordering}
 use Rattle.tib_lex.specs.Lists.{Has}
+use Rattle.tib_lex.specs.PairOrder.{pair_cmp}
 use Rattle.tib_tree.specs.Trees.{Trees, size}
 use Rattle.tib_hunt.specs.Reached.{Operation, IsReachedSet}
 use Rattle.tib_keyed.specs.Keyed.{keyed}
 use Rattle.tib_hunt.specs.Numbered.{key_parts}
+use Rattle.tib_keyed.specs.Ends.{key_at}
 use Rattle.tib_transducer.specs.Rules.{states_in}
 use Rattle.tib_compose_laws.specs.Named.{named_transducer_rule}
 use Rattle.tib_transducer.specs.Range.{AreWithin}
-use Rattle.tib_compose_laws.specs.Composing.{key_at, IsComposeEdge, IsComposite}
+use Rattle.tib_compose_laws.specs.Composing.{IsComposeEdge, IsComposite}
 use Rattle.tib_transducer.specs.declared.TransducerRule.{TransducerRule}
-
--- by the first state, then the second
-abbrev pub pair_cmp : ℕ × ℕ → ℕ × ℕ → Ordering
-pair_cmp x y = ordering_then (nat_cmp x.0 y.0) (nat_cmp x.1 y.1)
 
 -- the pairs at which an edge ends
 abbrev pub ends_of : TransducerRule (ℕ × ℕ) → List (ℕ × ℕ)

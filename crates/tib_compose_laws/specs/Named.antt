@@ -1,11 +1,7 @@
 -- Rules of a transducer with their states exchanged.
 use Rattle.tib_grammar.specs.Sides.{side_map}
-use Rattle.tib_transducer.specs.declared.Pair.{Pair}
 use Rattle.tib_transducer.specs.declared.TransducerRule.{TransducerRule}
-
--- a pair with its state exchanged for what g gives of it
-abbrev pub named_pair : {P Q : Type 0} → (P → Q) → Pair P → Pair Q
-named_pair g x = record { state = g x.state; variable = x.variable }
+use Rattle.tib_transducer.specs.NamedPairs.{named_pair}
 
 -- a rule with each state exchanged so
 abbrev pub named_transducer_rule : {P Q : Type 0} → (P → Q) → TransducerRule P → TransducerRule Q

@@ -20,6 +20,10 @@ none_absorbs product None = refl
 none_absorbs product (Some a) = refl
 
 module _ {levelled weighted : Bool} {product : ℕ → ℕ → ℕ} (laws : ProductLaws levelled weighted product) where
+  -- 0 is the cost of nothing on the right side too
+  pub product-zero : (a : ℕ) → product a 0 ≡ a
+  product-zero a = laws.commutes a 0 ∙ laws.neutral a
+
   pub times_commutes : (v w : Option ℕ) → times product v w ≡ times product w v
   times_commutes None None = refl
   times_commutes None (Some b) = refl

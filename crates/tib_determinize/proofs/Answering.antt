@@ -8,6 +8,8 @@ use Rattle.tib_grammar.specs.Run.{rule_at}
 use Rattle.tib_grammar.specs.Forms.{AreNormal}
 use Rattle.tib_grammar.specs.declared.Rule.{Rule}
 use Rattle.tib_cost.specs.Semiring.{ProductLaws}
+use Rattle.tib_lex.proofs.Alongs.{along_of, total_fewer}
+use Rattle.tib_lex.proofs.Numbers.{nat_eq_cases}
 use Rattle.tib_hunt.specs.EdgeLists.{Lists, AreListed, Exceeds, IsEnd}
 use Rattle.tib_determinize.specs.declared.vector_rule.VectorRule.{VectorRule}
 use Rattle.tib_determinize.specs.declared.listing.Listing.{Listing}
@@ -18,11 +20,9 @@ use Rattle.tib_determinize.specs.Candidates.{IsCandidate}
 use Rattle.tib_determinize.specs.Shapes.{shapes_in}
 use Rattle.tib_determinize.specs.Tries.{leaf_try, leaf_tries, tries}
 use Rattle.tib_determinize.specs.Stepped.{Stepped, stepped_parts, IsWithinBudget, AreSteps, HasSteps, StepsExceed}
-use Rattle.tib_determinize.specs.ListLemmas.{along_of, nat_eq_cases}
 use Rattle.tib_determinize.specs.OneStep.{determinization_laws}
 use Rattle.tib_determinize.proofs.Edges.{IsInOrder, is_listed, ends_are, steps_there, parts_are}
 use Rattle.tib_determinize.proofs.EdgesOf.{edge_of, steps_listed, leaf_steps_listed}
-use Rattle.tib_determinize.proofs.Fewer.{total_fewer}
 use Rattle.tib_determinize.proofs.ShapesOf.{shapes_are}
 use Rattle.tib_determinize.proofs.TriedOnce.{tries_are_candidates}
 

@@ -9,13 +9,15 @@ use Rattle.tib_grammar.specs.Series.{IsSeriesAt}
 use Rattle.tib_grammar.specs.Forms.{AreNormal}
 use Rattle.tib_grammar.specs.Range.{AllBelow}
 use Rattle.tib_grammar.specs.declared.Rule.{Rule}
-use Rattle.tib_grammar.proofs.NormalRuns.{none_to, IsLeast-no_states}
-use Rattle.tib_grammar.proofs.Best.{no_trees, no_states}
+use Rattle.tib_grammar.proofs.NormalRuns.{none_to, IsLeast-no_states, no_states}
+use Rattle.tib_grammar.proofs.Best.{no_trees}
 use Rattle.tib_cost.specs.Semiring.{ProductLaws, most}
 use Rattle.tib_cost.proofs.Least.{IsLeast-dominated, IsLeast-one, at_least_right, grows_both}
+use Rattle.tib_cost.proofs.Times.{product-zero}
+use Rattle.tib_grammar.proofs.Opening.{open_cost, close_cost}
 use Rattle.tib_determinize.specs.Vectors.{VectorOf, Rises, IsWeight, IsStepCost, IsStep, vectors_at, vector_at}
 use Rattle.tib_determinize.specs.VectorGrammar.{IsVectorGrammar, IsRead}
-use Rattle.tib_determinize.proofs.Runs.{open_cost, close_cost, mix, count-costs}
+use Rattle.tib_determinize.proofs.Runs.{mix, count-costs}
 use Rattle.tib_determinize.specs.VectorLemmas.{stands, one_residual}
 
 module _
@@ -24,9 +26,6 @@ module _
     (vectors : IsVectorGrammar product rules order new) where
   swap : (a b c : ℕ) → product (product a b) c ≡ product (product a c) b
   swap a b c = laws.regroups a b c ∙ ap (product a) (laws.commutes b c) ∙ sym (laws.regroups a c b)
-
-  product-zero : (a : ℕ) → product a 0 ≡ a
-  product-zero a = laws.commutes a 0 ∙ laws.neutral a
 
   -- the products of a run to a vector, with the step's cost m, and those of a rule w with the least cost u of its state
   regroup : (m r u w x c d y : ℕ) → product m r ≡ u → product w x ≡ u → product (product (product m c) d) (product r y) ≡ product (product w (product c x)) (product d y)
@@ -40,12 +39,12 @@ module _
       (w : ℕ) × IsWeight product qs (vectors_at order ks) w × (product d w ≤ n)
   above none [] d h [] n k m =
       let e : d ≡ 0 = none_to laws new d h in
-      let z : product d 0 ≡ 0 = product-zero d ∙ e in
+      let z : product d 0 ≡ 0 = product-zero laws d ∙ e in
       (0, refl, omega arith)
   above none [] d h (q ∷ qs) n k m = absurd (no_trees laws rules normal q qs n k)
   above none (p ∷ ps) d h qs n k m = absurd (no_trees laws new vectors.normal p ps d h)
-  above (tree f kids rest) [] d h qs n k m = absurd (no_states laws new vectors.normal f kids rest d h)
-  above (tree f kids rest) (p ∷ ps) d h [] n k m = absurd (no_states laws rules normal f kids rest n k)
+  above (tree f kids rest) [] d h qs n k m = absurd (no_states new f kids rest d h)
+  above (tree f kids rest) (p ∷ ps) d h [] n k m = absurd (no_states rules f kids rest n k)
   above (tree f kids rest) (p ∷ ps) d h (q ∷ qs) n k m =
       let a = open_cost laws new vectors.normal p ps f kids rest d h in
       let b = open_cost laws rules normal q qs f kids rest n k in
@@ -109,7 +108,7 @@ module _
   below none [] d h [] w k m = (0, (IsLeast-no_states laws rules).attained.0, omega arith)
   below none [] d h (q ∷ qs) w k m = absurd k
   below none (p ∷ ps) d h qs w k m = absurd (no_trees laws new vectors.normal p ps d h)
-  below (tree f kids rest) [] d h qs w k m = absurd (no_states laws new vectors.normal f kids rest d h)
+  below (tree f kids rest) [] d h qs w k m = absurd (no_states new f kids rest d h)
   below (tree f kids rest) (p ∷ ps) d h [] w k m = absurd k
   below (tree f kids rest) (p ∷ ps) d h (q ∷ qs) w k m =
       let a = open_cost laws new vectors.normal p ps f kids rest d h in
@@ -169,7 +168,7 @@ module _
     where
       to : (q r : ℕ) → Has {A = ℕ × ℕ} (vector_at order k) (q, r) → (n : ℕ) → n ≡ product d r → n ≤ most → (m : ℕ) × IsCost product rules (q ∷ []) (only t) m × (m ≤ n)
       to q r s n e b =
-          let z : product r 0 ≡ r = product-zero r in
+          let z : product r 0 ≡ r = product-zero laws r in
           let same : product d (product r 0) ≡ product d r = ap (product d) z in
           let x = below (only t) (k ∷ []) d h (q ∷ []) (product r 0) (record { residual = r; stands = s; others = 0; are = refl; is = refl }) (omega arith) in
           (x.0, x.1, omega (arith, x.2))
@@ -178,7 +177,7 @@ module _
       from q r s n c b =
           let w = above (only t) (k ∷ []) d h (q ∷ []) n c b in
           let same : w.1.residual ≡ r = one_residual (vector_at order k) q w.1.residual r (rises_at k t d h) w.1.stands s in
-          let z : w.0 ≡ r = sym w.1.is ∙ ap (product w.1.residual) w.1.are ∙ product-zero w.1.residual ∙ same in
+          let z : w.0 ≡ r = sym w.1.is ∙ ap (product w.1.residual) w.1.are ∙ product-zero laws w.1.residual ∙ same in
           let le : product d r ≤ n = subst (λ v. product d v ≤ n) z w.2 in
           (product d r, refl, le)
 
@@ -188,7 +187,7 @@ module _
       (ks : List ℕ) × AllBelow (length order) ks × ((d : ℕ) × IsCost product new ks ts d)
   covered none [] n h m = ([], tt, (0, (IsLeast-no_states laws new).attained.0))
   covered none (q ∷ qs) n h m = absurd (no_trees laws rules normal q qs n h)
-  covered (tree f kids rest) [] n h m = absurd (no_states laws rules normal f kids rest n h)
+  covered (tree f kids rest) [] n h m = absurd (no_states rules f kids rest n h)
   covered (tree f kids rest) (q ∷ qs) n h m =
       let b = open_cost laws rules normal q qs f kids rest n h in
       let w : ℕ = (rule_at rules b.rule).cost in
@@ -235,7 +234,7 @@ module _
 
   -- a run from several states that yields one tree has one state
   pub one_state : (t : Tree ℕ) (ks : List ℕ) (d : ℕ) → IsCost product new ks (only t) d → (k : ℕ) × IsCost product new (k ∷ []) (only t) d
-  one_state t [] d h = absurd (no_states laws new vectors.normal t.label t.kids none d h)
+  one_state t [] d h = absurd (no_states new t.label t.kids none d h)
   one_state t (k ∷ []) d h = (k, h)
   one_state t (k ∷ (l ∷ ks)) d h = absurd (omega (arith, count-costs laws new (k ∷ (l ∷ ks)) (only t) d h))
 

@@ -6,17 +6,19 @@ use Rattle.tib_tree.specs.Trees.{none, tree, only, sizes, relabel}
 use Rattle.tib_grammar.specs.Sides.{hole, symbol_map, over, leaves}
 use Rattle.tib_grammar.specs.declared.Rule.{Rule}
 use Rattle.tib_cost.specs.Semiring.{ProductLaws}
+use Rattle.tib_lex.proofs.Alongs.{along_of}
+use Rattle.tib_grammar.specs.Positions.{states_in}
 use Rattle.tib_hunt.specs.EdgeLists.{Lists, AreListed, IsEnd, IsWithin, key_at}
 use Rattle.tib_hunt.specs.declared.place.Place.TheVariants.{Known, End}
 use Rattle.tib_determinize.specs.declared.vector_rule.VectorRule.{VectorRule}
 use Rattle.tib_determinize.specs.declared.listing.Listing.{Listing}
 use Rattle.tib_determinize.specs.Vectors.{VectorOf, Rises, vector_at, vectors_at}
 use Rattle.tib_determinize.specs.Determinization.{ends_of, edge_parts}
-use Rattle.tib_determinize.specs.VectorRules.{PlacedRule, placed_rule, states_in, places_in, places_of, read_placed, read_places}
+use Rattle.tib_determinize.specs.VectorRules.{PlacedRule, placed_rule, places_in, places_of, read_placed, read_places}
 use Rattle.tib_determinize.specs.Stepped.{Stepped, stepped_parts, rules_from, IsListing, IsWithinBudget, AreSteps}
 use Rattle.tib_determinize.proofs.EdgesOf.{edge_of}
 use Rattle.tib_determinize.proofs.Stepping.{step_or_none, lefts_below}
-use Rattle.tib_determinize.specs.ListLemmas.{along_of, along_back}
+use Rattle.tib_determinize.specs.ListLemmas.{along_back}
 
 -- a renaming of leaves
 pub map_leaves : {K : Type 0} (g : ℕ → K) (qs : List ℕ) → relabel (symbol_map {A = ℕ} g) (leaves qs) ≡ leaves (map g qs)

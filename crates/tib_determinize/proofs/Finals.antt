@@ -2,12 +2,15 @@
 use Rattle.std.specs.Prelude.{◌≡◌, ℕ, ◌+◌, ◌<◌, List, [], ◌∷◌, length, map, refl, Option, None, Some}
 use Rattle.std.proofs.Common.{zero, suc, arith, ap, ◌∙◌, inl, inr, get_or, length-append}
 use Rattle.tib_lex.specs.Lists.{Has}
+use Rattle.tib_lex.proofs.Numbers.{nat_eq_cases}
+use Rattle.tib_lex.proofs.Places.{get_map}
+use Rattle.tib_lex.proofs.Lists.{length_map}
 use Rattle.tib_grammar.specs.Run.{rule_at, no_rule}
 use Rattle.tib_grammar.specs.GrammarOf.{named_rule}
 use Rattle.tib_grammar.specs.declared.Rule.{Rule}
 use Rattle.tib_determinize.specs.Vectors.{VectorOf, vector_at}
 use Rattle.tib_determinize.specs.Started.{start_in, with_final, finals, chain_to, started}
-use Rattle.tib_determinize.specs.ListLemmas.{nat_eq_cases, get_left, get_right, get_map, length_map}
+use Rattle.tib_determinize.specs.ListLemmas.{get_left, get_right}
 
 -- the residual of the start stands in the vector
 pub start_has : (v : VectorOf) (r : ℕ) → start_in v ≡ Some r → Has {A = ℕ × ℕ} v (0, r)

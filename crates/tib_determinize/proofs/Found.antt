@@ -14,13 +14,16 @@ use Rattle.tib_grammar.specs.declared.Rule.{Rule}
 use Rattle.tib_grammar.proofs.Members.{each_has, each_of, has_at, has_left, has_right}
 use Rattle.tib_grammar.proofs.Sides.{holes_of-label, holes-leaves, holes-relabel}
 use Rattle.tib_cost.specs.Semiring.{ProductLaws}
+use Rattle.tib_lex.proofs.Lists.{each_append, length_map}
+use Rattle.tib_lex.proofs.Places.{distinct_at, get_map}
+use Rattle.tib_lex.proofs.Alongs.{along_has, along_append, along_of}
 use Rattle.tib_hunt.specs.EdgeLists.{Lists}
 use Rattle.tib_hunt.specs.Reached.{AfterRounds, AreEdges}
 use Rattle.tib_hunt.proofs.Reaching.{apart}
 use Rattle.tib_determinize.specs.Vectors.{VectorOf, Rises, IsStep, vector_at, vectors_at}
 use Rattle.tib_determinize.specs.Determinization.{vector_cmp, IsVectorSeed, IsVectorEdge, determinization}
 use Rattle.tib_determinize.specs.VectorGrammar.{IsVectorGrammar, IsDeterminized}
-use Rattle.tib_determinize.specs.ListLemmas.{order_of, each_map, each_append, distinct_append, one_place, get_map, length_map, along_get, along_has, along_append, along_of}
+use Rattle.tib_determinize.specs.ListLemmas.{order_of, each_map, distinct_append, along_get}
 use Rattle.tib_determinize.specs.OneStep.{vector_total}
 use Rattle.tib_determinize.proofs.Stepping.{step_or_none, lefts_below}
 
@@ -214,7 +217,7 @@ module _ (product : ℕ → ℕ → ℕ) (rules : List (Rule ℕ)) where
       same_positions (p ∷ ps) (q ∷ qs) a b e =
           let first : vector_at order p ≡ vector_at order q = cc in
           let others : vectors_at order ps ≡ vectors_at order qs = cc in
-          let one : p ≡ q = one_place order p q [] once a.0 b.0 first in
+          let one : p ≡ q = distinct_at order p q [] once a.0 b.0 first in
           cc (one, same_positions ps qs a.1 b.1 others)
 
       edges : Lists (GivesBelow (length order)) (map (named_rule (vector_at order)) new)
@@ -294,7 +297,7 @@ module _ (product : ℕ → ℕ → ℕ) (rules : List (Rule ℕ)) where
             let root : o.0 ≡ u.0 = same_label o.0 u.0 (rule_at new i).right.label x.1.is_label (ap (λ t. t.label) e ∙ y.1.is_label) in
             let kids : o.1 ≡ u.1 = sym x.1.holes_are ∙ ap (λ t. holes t.kids) e ∙ y.1.holes_are in
             let same : o ≡ u = ap (λ (a : ℕ). (a, o.1)) root ∙ ap (λ (b : List ℕ). (u.0, b)) kids in
-            one_place edges.origins i j (0, []) edges.once x.0 y.0 same;
+            distinct_at edges.origins i j (0, []) edges.once x.0 y.0 same;
         complete = λ f ps b.
             let bound = lefts_below rules in
             elim (step_or_none laws rules bound.0 bound.1 f (vectors_at order ps) (vectors_rise ps b)) [

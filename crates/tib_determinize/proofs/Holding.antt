@@ -5,7 +5,7 @@ use Rattle.std.proofs.Common.{zero, suc, arith, sym, ◌∙◌, subst, set, get_
 use Rattle.std.proofs.lemmas.List.{get_or-set_same, get_or-set_other, map-set, length-map}
 use Rattle.tib_lex.specs.Lists.{Has}
 use Rattle.tib_lex.proofs.Members.{has_left, has_right}
-use Rattle.tib_determinize.specs.ListLemmas.{nat_eq_cases}
+use Rattle.tib_lex.proofs.Numbers.{nat_eq_cases}
 use Rattle.tib_determinize.specs.Holders.{held, HoldMore}
 
 -- one list more

@@ -2,21 +2,21 @@
 use Rattle.std.specs.Prelude.{◌≡◌, ◌⊎◌, ℕ, ◌<◌, ◌≤◌, nat_eq, nat_lt, Bool, true, false, List, [], ◌∷◌, ◌++◌, length, drop, Contains, IsPermutation, IsSorted, Option, None, Some, if◌then◌else◌, refl}
 use Rattle.std.specs.Option.{option_eq}
 use Rattle.std.proofs.Common.{zero, suc, arith, ap, sym, ◌∙◌, subst, get_or, inl, inr, append_assoc, append-nil}
-use Rattle.std.specs.Cmp.{IsTotalOrder}
 use Rattle.std.specs.Ordering.{MatchOrdering, nat_cmp, ordering_then, is_lt}
 use Rattle.std.specs.declared.cmp.Ordering.{Ordering}
 use Rattle.std.specs.declared.cmp.Ordering.TheVariants.{Less, Equal, Greater}
-use Rattle.std.proofs.lemmas.Cmp.{ranked, on_total, then_total, nat_cmp_total}
+use Rattle.std.proofs.lemmas.Cmp.{ranked}
 use Rattle.std.proofs.lemmas.List.Sorted.{ranks_by, sorted_far, Contains-permutation, IsPermutation-sym}
 use Rattle.tib_lex.specs.Lists.{Has, Each, Ascends, Along}
+use Rattle.tib_lex.specs.PairOrder.{pair_cmp}
+use Rattle.tib_lex.proofs.Numbers.{nat_eq_cases}
+use Rattle.tib_lex.proofs.Places.{drop_whole}
+use Rattle.tib_lex.proofs.PairOrder.{pair_total}
+use Rattle.tib_lex.proofs.Lists.{Ascends-from}
 use Rattle.tib_grammar.proofs.Members.{each_has, each_of, has_at, at_has}
 use Rattle.tib_determinize.specs.Vectors.{Rises}
-use Rattle.tib_determinize.specs.Determinization.{pair_cmp}
 use Rattle.tib_determinize.specs.Settling.{firsts, lesser_with, least_from, IsLeastCost, AreLeastCosts}
-use Rattle.tib_determinize.specs.ListLemmas.{nat_eq_cases, each_map}
-
-pair_total : IsTotalOrder pair_cmp
-pair_total = then_total (on_total (λ (p : ℕ × ℕ). p.0) nat_cmp_total) (on_total (λ (p : ℕ × ℕ). p.1) nat_cmp_total)
+use Rattle.tib_determinize.specs.ListLemmas.{each_map}
 
 -- x may stand before y: its state is lesser, or the same at no greater cost
 abbrev IsInTurn : ℕ × ℕ → ℕ × ℕ → Type 0
@@ -34,17 +34,10 @@ in_turn x y h = by (nat_cmp y.0 x.0) (nat_cmp y.1 x.1) (ranked y.0 x.0 (nat_cmp 
     by Equal Greater r s e = inr (sym r, omega (arith, s))
     by Greater b r s e = inl r
 
-sorted_ascends : {A : Type 0} (R : A → A → Type 0) (xs : List A) → ((i j : ℕ) (d : A) → i < j → j < length xs → R (get_or xs i d) (get_or xs j d)) → Ascends R xs
-sorted_ascends R [] f = tt
-sorted_ascends R (x ∷ xs) f = (
-  each_of (R x) xs (λ y h. let a = at_has xs y x h in subst (R x) a.2 (f 0 (suc a.0) x (omega arith) (omega (arith, a.1)))),
-  sorted_ascends R xs (λ i j d h k. f (suc i) (suc j) d (omega arith) (omega arith)),
-)
-
 all_in_turn : (xs : List (ℕ × ℕ)) → IsSorted pair_cmp xs → Ascends IsInTurn xs
 all_in_turn xs s =
-    sorted_ascends IsInTurn xs
-    (λ i j d h k. in_turn (get_or xs i d) (get_or xs j d) (sorted_far (λ x y. is_lt (pair_cmp x y)) (ranks_by pair_total (λ x. x)) xs s i j d (omega arith) k))
+    Ascends-from IsInTurn xs (0, 0)
+    (λ i j h k. in_turn (get_or xs i (0, 0)) (get_or xs j (0, 0)) (sorted_far (λ x y. is_lt (pair_cmp x y)) (ranks_by pair_total (λ x. x)) xs s i j (0, 0) (omega arith) k))
 
 has_permuted : (xs ys : List (ℕ × ℕ)) (x : ℕ × ℕ) → IsPermutation xs ys → Has xs x → Has ys x
 has_permuted xs ys x p h =
@@ -210,16 +203,9 @@ pub along_step :
 along_step R xs i d ys y h r f rest a =
     subst (Along R xs) (sym (append_assoc ys (y ∷ []) rest)) (f (y ∷ rest) (subst (λ zs. Along R zs (y ∷ rest)) (sym (drop_at xs i d h)) (r, a)))
 
--- nothing of a list is left behind its end
-pub drop_all : {A : Type 0} (xs : List A) (i : ℕ) → length xs ≤ i → drop i xs ≡ []
-drop_all [] zero h = refl
-drop_all [] (suc i) h = refl
-drop_all (x ∷ xs) zero h = absurd (omega arith)
-drop_all (x ∷ xs) (suc i) h = drop_all xs i (omega arith)
-
 -- and none left
 pub along_done : {A B : Type 0} (R : A → B → Type 0) (xs : List A) (i : ℕ) (ys : List B) → length xs ≤ i → ((rest : List B) → Along R (drop i xs) rest → Along R xs (ys ++ rest)) → Along R xs ys
-along_done R xs i ys h f = subst (Along R xs) (append-nil ys) (f [] (subst (λ zs. Along R zs []) (sym (drop_all xs i h)) tt))
+along_done R xs i ys h f = subst (Along R xs) (append-nil ys) (f [] (subst (λ zs. Along R zs []) (sym (drop_whole xs i h)) tt))
 
 -- the least costs are none of them below the least
 pub none_below : (costs kept : List (ℕ × ℕ)) (m : ℕ) → IsLeastCost costs (Some m) → AreLeastCosts costs kept → Each (λ x. m ≤ x.1) kept

@@ -8,18 +8,17 @@ use Rattle.tib_grammar.specs.declared.Rule.{Rule}
 use Rattle.tib_normal.specs.Rules.{positions_with}
 use Rattle.tib_cost.specs.Semiring.{most, cut, ProductLaws}
 use Rattle.tib_lex.proofs.Members.{each_has, each_of}
+use Rattle.tib_lex.proofs.Alongs.{along_of}
+use Rattle.tib_lex.proofs.Lists.{some_same}
 use Rattle.tib_determinize.specs.declared.alive.Alive.{Alive}
 use Rattle.tib_determinize.specs.Vectors.{VectorOf, Rises, IsWeight, IsStepCost, IsStep, vectors_at}
 use Rattle.tib_determinize.specs.Settling.{IsOver, AreResiduals}
 use Rattle.tib_determinize.specs.Alive.{states_of, at_cost, cost_with, with_cost, costs_of, IsAlive, AreAlive}
-use Rattle.tib_determinize.specs.ListLemmas.{along_of, along_back}
+use Rattle.tib_determinize.specs.ListLemmas.{along_back}
 use Rattle.tib_determinize.specs.VectorLemmas.{one_residual}
-use Rattle.tib_determinize.proofs.Places.{place_has}
 use Rattle.tib_grammar.specs.Forms.{AreNormal}
 use Rattle.tib_grammar.proofs.Sides.{length-holes}
-
-some_same : {A : Type 0} (a b : A) → Some a ≡ Some b → a ≡ b
-some_same a b e = cc
+use Rattle.tib_normal.proofs.RulePlaces.{place_has}
 
 -- what is cut is the number, within the greatest cost
 pub cut_is : (n u : ℕ) → cut n ≡ Some u → (n ≡ u) × (u ≤ most)

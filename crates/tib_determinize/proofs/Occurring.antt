@@ -4,6 +4,8 @@ use Rattle.std.specs.Global.{Vec}
 use Rattle.std.proofs.Common.{zero, suc, arith, ap, sym, ◌∙◌, subst, get_or, inl, inr}
 use Rattle.tib_lex.specs.Lists.{Has, Each}
 use Rattle.tib_lex.proofs.Members.{each_has, has_left, has_right}
+use Rattle.tib_lex.proofs.Lists.{each_append}
+use Rattle.tib_lex.proofs.Places.{drop_whole}
 use Rattle.tib_tree.specs.Trees.{count}
 use Rattle.tib_grammar.specs.Sides.{label}
 use Rattle.tib_grammar.specs.Run.{rule_at}
@@ -11,16 +13,15 @@ use Rattle.tib_grammar.specs.Forms.{AreNormal}
 use Rattle.tib_grammar.specs.declared.Rule.{Rule}
 use Rattle.tib_grammar.proofs.Sides.{length-holes}
 use Rattle.tib_normal.specs.Rules.{positions_with}
+use Rattle.tib_normal.proofs.RulePlaces.{has_rule_place}
 use Rattle.tib_determinize.specs.declared.alive.Alive.{Alive}
 use Rattle.tib_determinize.specs.declared.occurrences.Occurrence.{Occurrence}
-use Rattle.tib_determinize.specs.ListLemmas.{nat_same, each_append}
+use Rattle.tib_determinize.specs.ListLemmas.{nat_same}
 use Rattle.tib_determinize.specs.Alive.{states_of, Stands, IsAlive, AreLeft}
 use Rattle.tib_determinize.specs.Holders.{held, HoldMore}
 use Rattle.tib_determinize.specs.Occurrences.{bucket, occurrence, IsHeld, HoldPlaces, LackNone, AreFound, HaveStanding, IsBegun, fresh, BeginAll}
 use Rattle.tib_determinize.specs.Shapes.{root_label}
 use Rattle.tib_determinize.specs.Vectors.{VectorOf, IsWeight}
-use Rattle.tib_determinize.proofs.LeastCosts.{drop_all}
-use Rattle.tib_determinize.proofs.Places.{has_rule_place}
 use Rattle.tib_determinize.proofs.PositionsTried.{taken_more}
 
 same_or_below : (j i : ℕ) → i < j + 1 → (j ≡ i) ⊎ (i < j)
@@ -153,7 +154,7 @@ begun_left product rules normal order many f k j v places alive low have sound w
 }
   where
     none : (m : ℕ) → length (states_of rules m) ≡ k → drop k (states_of rules m) ≡ []
-    none m l = drop_all (states_of rules m) k (omega (arith, l))
+    none m l = drop_whole (states_of rules m) k (omega (arith, l))
 
     one : (a : Alive) → IsBegun rules f k a → IsAlive product rules order f k k [] a
     one a b = record {

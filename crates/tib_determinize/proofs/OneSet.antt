@@ -2,12 +2,13 @@
 use Rattle.std.specs.Prelude.{◌≡◌, ℕ, ◌+◌, List, [], ◌∷◌, ◌++◌, length, refl}
 use Rattle.std.proofs.Common.{arith, ap, sym, ◌∙◌, subst, length-append, append-nil}
 use Rattle.tib_lex.specs.Lists.{Has}
+use Rattle.tib_lex.proofs.Alongs.{along_of}
 use Rattle.tib_grammar.specs.declared.Rule.{Rule}
 use Rattle.tib_hunt.specs.Reached.{IsReached, AreEdges}
 use Rattle.tib_hunt.proofs.Reaching.{in_reached}
 use Rattle.tib_determinize.specs.Vectors.{VectorOf, vectors_at}
 use Rattle.tib_determinize.specs.Determinization.{determinization, IsOneSet}
-use Rattle.tib_determinize.specs.ListLemmas.{along_of, along_back}
+use Rattle.tib_determinize.specs.ListLemmas.{along_back}
 use Rattle.tib_determinize.specs.OneStep.{one_step, rule_same, determinization_laws}
 use Rattle.tib_determinize.proofs.Found.{GivesBelow, edges_below, IsLabelStep, gives_step}
 

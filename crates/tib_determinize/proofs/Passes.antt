@@ -2,19 +2,20 @@
 use Rattle.std.specs.Prelude.{◌≡◌, ℕ, ◌+◌, ◌-◌, ◌<◌, ◌≤◌, List, [], ◌∷◌, ◌++◌, length, drop, Option, None, Some, nat_eq, if◌then◌else◌, refl}
 use Rattle.std.proofs.Common.{suc, arith, ap, sym, ◌∙◌, subst, get_or, inl, inr, append-nil}
 use Rattle.tib_lex.specs.Lists.{Has, Each}
+use Rattle.tib_lex.proofs.Places.{drop_whole}
 use Rattle.tib_grammar.specs.Run.{rule_at}
 use Rattle.tib_grammar.specs.Forms.{AreNormal}
 use Rattle.tib_grammar.specs.declared.Rule.{Rule}
 use Rattle.tib_grammar.proofs.Sides.{length-holes}
 use Rattle.tib_normal.specs.Rules.{positions_with}
+use Rattle.tib_normal.proofs.RulePlaces.{has_rule_place}
 use Rattle.tib_determinize.specs.declared.alive.Alive.{Alive}
 use Rattle.tib_determinize.specs.declared.listing.Listing.{Listing}
 use Rattle.tib_determinize.specs.Vectors.{VectorOf, IsWeight}
 use Rattle.tib_determinize.specs.Alive.{states_of, begun, IsAlive, AreAlive}
 use Rattle.tib_determinize.specs.Stepped.{IsListing, AreSteps, AddsSteps, HasSteps, StepsOverrun, StepsExceed}
 use Rattle.tib_determinize.specs.Tries.{under, by_last, behind_label, leaf_try, leaf_tries, tries}
-use Rattle.tib_determinize.proofs.LeastCosts.{drop_at, drop_all}
-use Rattle.tib_determinize.proofs.Places.{has_rule_place}
+use Rattle.tib_determinize.proofs.LeastCosts.{drop_at}
 use Rattle.tib_determinize.proofs.Skipping.{labelled_append}
 
 begun_has : (ms : List ℕ) (m : ℕ) → Has ms m → Has (begun ms) (record { rule = m; weight = 0 })
@@ -48,7 +49,7 @@ begun_are product rules normal order f k alive ms are e =
     long m h = let at = has_rule_place rules f k m h in length-holes (rule_at rules m).right.kids (normal m at.below).are_holes ∙ at.many
 
     none : (m : ℕ) → Has (positions_with f k rules) m → drop k (states_of rules m) ≡ []
-    none m h = let l = long m h in drop_all (states_of rules m) k (omega (arith, l))
+    none m h = let l = long m h in drop_whole (states_of rules m) k (omega (arith, l))
 
 -- the walk for a last place, and those for the later ones
 pub last_first : (f n k j : ℕ) → j < k → behind_label f (by_last n k j (k - j)) ≡ behind_label f (under n j k []) ++ behind_label f (by_last n k (j + 1) (k - (j + 1)))
@@ -73,7 +74,7 @@ shape_first n shapes i d s h e =
 
 -- none is left
 pub shapes_done : (n : ℕ) (shapes : List (ℕ × ℕ)) (i : ℕ) → length shapes ≤ i → tries n (drop i shapes) ≡ []
-shapes_done n shapes i h = ap (tries n) (drop_all shapes i h)
+shapes_done n shapes i h = ap (tries n) (drop_whole shapes i h)
 
 -- a label of rank 0 is tried over no positions
 pub leaf_is : (s : ℕ × ℕ) → s.1 ≡ 0 → ◌≡◌ {A = List (ℕ × List ℕ)} ((s.0, []) ∷ []) (leaf_try s)
@@ -89,7 +90,7 @@ leaf_first shapes i d s h e =
 
 -- none is left
 pub leaves_done : (shapes : List (ℕ × ℕ)) (i : ℕ) → length shapes ≤ i → leaf_tries (drop i shapes) ≡ []
-leaves_done shapes i h = ap leaf_tries (drop_all shapes i h)
+leaves_done shapes i h = ap leaf_tries (drop_whole shapes i h)
 
 module _ (product : ℕ → ℕ → ℕ) (rules : List (Rule ℕ)) (order : List VectorOf) (all : List (ℕ × List ℕ)) where
   -- from an empty list on

@@ -12,6 +12,7 @@ use Rattle.tib_grammar.specs.declared.Rule.{Rule}
 use Rattle.tib_grammar.proofs.Sides.{holes-relabel, fill-relabel}
 use Rattle.tib_cost.specs.Semiring.{ProductLaws, most}
 use Rattle.tib_cost.proofs.Least.{IsLeast-dominated}
+use Rattle.tib_cost.proofs.Times.{product-zero}
 use Rattle.tib_determinize.specs.Vectors.{VectorOf, vector_at}
 use Rattle.tib_determinize.specs.VectorGrammar.{IsVectorGrammar}
 use Rattle.tib_determinize.specs.Started.{finals, chain_to, started}
@@ -25,9 +26,6 @@ module _
     {levelled weighted : Bool} {product : ℕ → ℕ → ℕ} (laws : ProductLaws levelled weighted product)
     (rules : List (Rule ℕ)) (normal : AreNormal rules) (order : List VectorOf) (new : List (Rule ℕ))
     (vectors : IsVectorGrammar product rules order new) where
-  product-zero : (a : ℕ) → product a 0 ≡ a
-  product-zero a = laws.commutes a 0 ∙ laws.neutral a
-
   abbrev ups : List ℕ → List ℕ
   ups ks = map suc ks
 
@@ -111,7 +109,7 @@ module _
       let is : rule_at (started order new) f.0 ≡ chain_to (s.0, r.0) = chain_at order new f.0 f.1 ∙ ap chain_to final in
       let x = forth s.1.runs (s.0 ∷ []) s.1.are_runs in
       let whole : product w.1.residual w.1.others ≡ w.0 = w.1.is in
-      let is_w : w.0 ≡ r.0 = sym w.1.is ∙ ap (product w.1.residual) w.1.are ∙ product-zero w.1.residual ∙ same in
+      let is_w : w.0 ≡ r.0 = sym w.1.is ∙ ap (product w.1.residual) w.1.are ∙ product-zero laws w.1.residual ∙ same in
       let le : product c.2.0 r.0 ≤ n = subst (λ z. product c.2.0 z ≤ n) is_w w.2 in
       let turn : product r.0 c.2.0 ≡ product c.2.0 r.0 = laws.commutes r.0 c.2.0 in (
         product r.0 c.2.0,
@@ -119,7 +117,7 @@ module _
           runs = tree f.0 x.runs none;
           are_runs = (omega (arith, all_long order new, f.1), ap (λ z. z.left) is, subst (λ z. AreRuns (started order new) (holes_of z.right) x.runs) (sym is) x.are_runs, tt);
           yielded = join-none _ ∙ ap (λ z. fill (only z.right) (yields (started order new) x.runs)) is ∙ ap (fill (only (Lone (suc s.0)))) (x.yielded ∙ s.1.yielded);
-          costs = product-zero _ ∙ ap (λ z. product z.cost (cost product (started order new) x.runs)) is ∙ ap (product r.0) (x.costs ∙ s.1.costs);
+          costs = product-zero laws _ ∙ ap (λ z. product z.cost (cost product (started order new) x.runs)) is ∙ ap (product r.0) (x.costs ∙ s.1.costs);
         },
         omega arith,
       )
@@ -160,8 +158,8 @@ module _
             subst (λ k. Has {A = ℕ × ℕ} (vector_at order k) (0, p.1)) (sym position) (start_has (vector_at order f.position) p.1 f.residual)
             in
             let d : ℕ = cost product (started order new) runs in
-            let total : product p.1 d ≡ n = ap (λ r. product r.cost d) (sym is) ∙ sym (product-zero _) ∙ c in
-            let turn : product d (product p.1 0) ≡ product p.1 d = ap (product d) (product-zero p.1) ∙ laws.commutes d p.1 in
+            let total : product p.1 d ≡ n = ap (λ r. product r.cost d) (sym is) ∙ sym (product-zero laws _) ∙ c in
+            let turn : product d (product p.1 0) ≡ product p.1 d = ap (product d) (product-zero laws p.1) ∙ laws.commutes d p.1 in
             let b =
             below laws rules normal order new vectors (only t) (p.0 ∷ []) d run (0 ∷ []) (product p.1 0) (record { residual = p.1; stands = stands; others = 0; are = refl; is = refl }) (omega arith)
             in

@@ -3,8 +3,8 @@ use Rattle.std.specs.Prelude.{◌≡◌, ◌⊎◌, ℕ, ◌+◌, ◌<◌, ◌�
 use Rattle.std.proofs.Common.{zero, suc, arith, ap, sym, ◌∙◌, subst, inl, inr, append_assoc, length-append}
 use Rattle.tib_lex.specs.Lists.{Has, Each}
 use Rattle.tib_lex.proofs.Members.{has_either, has_left, has_right}
+use Rattle.tib_lex.proofs.Lists.{each_append}
 use Rattle.tib_determinize.specs.Tries.{first_at, many_at, span, under}
-use Rattle.tib_determinize.specs.ListLemmas.{each_append}
 use Rattle.tib_determinize.proofs.Walked.{span_has}
 
 -- p may stand at the place i, where n stands last at j

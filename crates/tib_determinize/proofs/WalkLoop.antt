@@ -15,6 +15,7 @@ use Rattle.tib_determinize.proofs.Skipping.{labelled_append, is_skipped}
 use Rattle.tib_determinize.proofs.Underway.{underway_skips}
 use Rattle.tib_grammar.specs.Forms.{AreNormal}
 use Rattle.tib_cost.specs.Semiring.{ProductLaws}
+use Rattle.tib_lex.proofs.Lists.{each_append}
 use Rattle.tib_determinize.specs.Alive.{AreLeft}
 
 -- what is pending of one level more
@@ -39,10 +40,6 @@ tries_split n j l h =
 -- a level that is done has none
 pub tries_done : (n j : ℕ) (l : Level) → l.end ≤ l.next → tries_of n j l ≡ []
 tries_done n j l h = let none : l.end - l.next ≡ 0 = omega (arith, h) in ap (span (λ p. under n j l.place (p ∷ l.behind.items)) l.next) none
-
-each_append : {A : Type 0} (P : A → Type 0) (xs ys : List A) → Each P xs → Each P ys → Each P (xs ++ ys)
-each_append P [] ys a b = b
-each_append P (x ∷ xs) ys a b = (a.0, each_append P xs ys a.1 b)
 
 each_front : {A : Type 0} (P : A → Type 0) (xs ys : List A) → Each P (xs ++ ys) → Each P xs × Each P ys
 each_front P [] ys a = (tt, a)

@@ -9,19 +9,17 @@ use Rattle.tib_grammar.specs.declared.Rule.{Rule}
 use Rattle.tib_grammar.proofs.Sides.{length-holes}
 use Rattle.tib_cost.specs.Semiring.{most, cut, ProductLaws}
 use Rattle.tib_cost.specs.Least.{times}
+use Rattle.tib_lex.proofs.Numbers.{nat_eq_cases}
+use Rattle.tib_lex.proofs.Lists.{some_same}
+use Rattle.tib_normal.proofs.RulePlaces.{has_rule_place}
 use Rattle.tib_determinize.specs.declared.alive.Alive.{Alive}
 use Rattle.tib_determinize.specs.Vectors.{VectorOf, Rises, IsWeight, vector_at, vectors_at}
 use Rattle.tib_determinize.specs.Lookup.{residual_in}
 use Rattle.tib_determinize.specs.Alive.{states_of, with_alive, weight_with, narrowed, HasPlace, Stands, IsAlive, AreLeft}
 use Rattle.tib_determinize.specs.Tries.{first_at, many_at, span, under, behind_label}
-use Rattle.tib_determinize.specs.ListLemmas.{nat_eq_cases}
 use Rattle.tib_determinize.specs.VectorLemmas.{one_residual}
 use Rattle.tib_determinize.proofs.LeastCosts.{drop_at}
-use Rattle.tib_determinize.proofs.Places.{has_rule_place}
 use Rattle.tib_determinize.proofs.Leaves.{cut_is, cut_within, part_within}
-
-some_same : {A : Type 0} (a b : A) → Some a ≡ Some b → a ≡ b
-some_same a b e = cc
 
 -- a residual that is found stands in the vector
 pub residual_has : (v : VectorOf) (q r : ℕ) → residual_in q v ≡ Some r → Has {A = ℕ × ℕ} v (q, r)

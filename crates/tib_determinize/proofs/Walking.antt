@@ -3,13 +3,15 @@ use Rattle.std.specs.Prelude.{◌≡◌, ℕ, ◌<◌, ◌≤◌, ◌⊎◌, Lis
 use Rattle.std.proofs.Common.{zero, suc, arith, ap, sym, ◌∙◌, subst, inl, inr}
 use Rattle.std.proofs.lemmas.Bool.{cases_lt}
 use Rattle.tib_lex.specs.Lists.{Has, Each, Distinct}
+use Rattle.tib_lex.proofs.Numbers.{nat_eq_cases}
+use Rattle.tib_lex.proofs.Lists.{has_mapped, mapped_has}
 use Rattle.tib_grammar.specs.Sides.{Symbol, label, hole, holes}
 use Rattle.tib_grammar.specs.Run.{rule_at}
 use Rattle.tib_grammar.specs.declared.Rule.{Rule}
 use Rattle.tib_grammar.proofs.Members.{each_of, has_left, has_right, has_either}
 use Rattle.tib_determinize.specs.Vectors.{VectorOf, vector_at, vectors_at}
 use Rattle.tib_determinize.specs.Candidates.{AreHeld, HasMatch, IsCandidate, AreMatched, holds, alive, at_each, at_last, walks, is_root, states_over, tagged, candidates, walks_first, walks_by_first, candidates_by_first, AreShapes}
-use Rattle.tib_determinize.specs.ListLemmas.{nat_eq_cases, distinct_append}
+use Rattle.tib_determinize.specs.ListLemmas.{distinct_append}
 
 -- lists
 
@@ -19,17 +21,9 @@ head_is p q ps qs e = cc
 tail_is : (p q : ℕ) (ps qs : List ℕ) → ◌≡◌ {A = List ℕ} (p ∷ ps) (q ∷ qs) → ps ≡ qs
 tail_is p q ps qs e = cc
 
-has_map : {A B : Type 0} (f : A → B) (xs : List A) (y : B) → Has (map f xs) y → (x : A) × Has xs x × (f x ≡ y)
-has_map f [] y h = absurd h
-has_map f (x ∷ xs) y h = elim h [ inl e ↦ (x, inl refl, e) | inr k ↦ let r = has_map f xs y k in (r.0, inr r.1, r.2) ]
-
-map_has : {A B : Type 0} (f : A → B) (xs : List A) (x : A) → Has xs x → Has (map f xs) (f x)
-map_has f [] x h = absurd h
-map_has f (y ∷ xs) x h = elim h [ inl e ↦ inl (ap f e) | inr k ↦ inr (map_has f xs x k) ]
-
 map_once : {A B : Type 0} (f : A → B) → ((x y : A) → f x ≡ f y → x ≡ y) → (xs : List A) → Distinct xs → Distinct (map f xs)
 map_once f apart [] d = tt
-map_once f apart (x ∷ xs) d = (λ h. let r = has_map f xs (f x) h in d.0 (subst (Has xs) (apart r.0 x r.2) r.1), map_once f apart xs d.1)
+map_once f apart (x ∷ xs) d = (λ h. let r = has_mapped f xs (f x) h in d.0 (subst (Has xs) (apart r.0 x r.2) r.1), map_once f apart xs d.1)
 
 -- the rules that are alive
 
@@ -91,7 +85,7 @@ at_each_back : (g : ℕ → List (List ℕ)) (m : ℕ) (ps : List ℕ) → Has (
 at_each_back g zero ps h = absurd h
 at_each_back g (suc m) ps h = elim (has_either (at_each g m) (map (λ (l : List ℕ). m ∷ l) (g m)) ps h) [
   | inl k ↦ let a = at_each_back g m ps k in record { first = a.first; rest = a.rest; is = a.is; below = (let low = a.below in omega arith); stands = a.stands }
-  | inr k ↦ let r = has_map (λ (l : List ℕ). m ∷ l) (g m) ps k in record { first = m; rest = r.0; is = sym r.2; below = omega arith; stands = r.1 }
+  | inr k ↦ let r = has_mapped (λ (l : List ℕ). m ∷ l) (g m) ps k in record { first = m; rest = r.0; is = sym r.2; below = omega arith; stands = r.1 }
 ]
 
 at_each_to : (g : ℕ → List (List ℕ)) (m p : ℕ) (ps : List ℕ) → p < m → Has (g p) ps → Has (at_each g m) (p ∷ ps)
@@ -101,7 +95,7 @@ at_each_to g (suc m) p ps h k = elim (cases_lt p m) [
   | inr high ↦
       let same : m ≡ p = omega arith in
       has_right (at_each g m) (map (λ (l : List ℕ). m ∷ l) (g m)) (p ∷ ps)
-      (subst (λ (z : ℕ). Has (map (λ (l : List ℕ). m ∷ l) (g m)) (z ∷ ps)) same (map_has (λ (l : List ℕ). m ∷ l) (g m) ps (subst (λ (z : ℕ). Has (g z) ps) (sym same) k)))
+      (subst (λ (z : ℕ). Has (map (λ (l : List ℕ). m ∷ l) (g m)) (z ∷ ps)) same (mapped_has (λ (l : List ℕ). m ∷ l) (g m) ps (subst (λ (z : ℕ). Has (g z) ps) (sym same) k)))
 ]
 
 at_each_once : (g : ℕ → List (List ℕ)) (m : ℕ) → ((p : ℕ) → Distinct (g p)) → Distinct (at_each g m)
@@ -110,7 +104,7 @@ at_each_once g (suc m) d =
     distinct_append (at_each g m) (map (λ (l : List ℕ). m ∷ l) (g m)) (at_each_once g m d) (map_once (λ (l : List ℕ). m ∷ l) (λ x y e. tail_is m m x y e) (g m) (d m))
     (λ ps h k.
     let a = at_each_back g m ps h in
-    let r = has_map (λ (l : List ℕ). m ∷ l) (g m) ps k in
+    let r = has_mapped (λ (l : List ℕ). m ∷ l) (g m) ps k in
     let same : a.first ≡ m = head_is a.first m a.rest r.0 (sym a.is ∙ sym r.2) in
     let low = a.below in
     omega arith)
@@ -327,7 +321,7 @@ module _ (order : List VectorOf) (n : ℕ) where
   walk_first_back : (k j : ℕ) (rules : List (List ℕ)) (ps : List ℕ) → AreLong k rules → Has (walks_first order n k j rules) ps → IsWalk k true rules ps × FirstAt j ps
   walk_first_back zero j rules ps long h = absurd h
   walk_first_back (suc k) zero rules ps long h =
-      let r = has_map (λ (l : List ℕ). n ∷ l) (walks order n k true (alive (vector_at order n) rules)) ps h in
+      let r = has_mapped (λ (l : List ℕ). n ∷ l) (walks order n k true (alive (vector_at order n) rules)) ps h in
       let w = walk_back k true (alive (vector_at order n) rules) r.0 (alive_long k (vector_at order n) rules long) r.1 in
       subst (λ (l : List ℕ). IsWalk (suc k) true rules l × FirstAt zero l) r.2 (place_before k n true rules r.0 (omega arith) w, refl)
   walk_first_back (suc k) (suc j) rules ps long h =
@@ -342,7 +336,7 @@ module _ (order : List VectorOf) (n : ℕ) where
       let here : Has (walks order n k true (alive (vector_at order p) rules)) ps = walk_to k true (alive (vector_at order p) rules) ps (place_behind k p rules ps w) in
       let there : Has (walks order n k true (alive (vector_at order n) rules)) ps = subst (λ (z : ℕ). Has (walks order n k true (alive (vector_at order z) rules)) ps) f here in
       subst (λ (z : ℕ). Has (map (λ (l : List ℕ). n ∷ l) (walks order n k true (alive (vector_at order n) rules))) (z ∷ ps)) (sym f)
-      (map_has (λ (l : List ℕ). n ∷ l) (walks order n k true (alive (vector_at order n) rules)) ps there)
+      (mapped_has (λ (l : List ℕ). n ∷ l) (walks order n k true (alive (vector_at order n) rules)) ps there)
   walk_first_to (suc k) (suc j) rules (p ∷ ps) w f =
       at_each_to (λ z. walks_first order n k j (alive (vector_at order z) rules)) n p ps f.0
       (walk_first_to k j (alive (vector_at order p) rules) ps (place_behind k p rules ps w) f.1)
@@ -410,7 +404,7 @@ module _ (order : List VectorOf) (n : ℕ) where
 
     of_shape : (s : ℕ × ℕ) (o : ℕ × List ℕ) → Has (map (tag s) (walks_of s)) o → (s.0 ≡ o.0) × IsWalk s.1 false (states_over rules s.0 s.1) o.1
     of_shape s o h =
-        let r = has_map (tag s) (walks_of s) o h in (
+        let r = has_mapped (tag s) (walks_of s) o h in (
           ap (λ (x : ℕ × List ℕ). x.0) r.2,
           subst (IsWalk s.1 false (states_over rules s.0 s.1)) (ap (λ (x : ℕ × List ℕ). x.1) r.2) (back s r.0 r.1),
         )
@@ -428,7 +422,7 @@ module _ (order : List VectorOf) (n : ℕ) where
     candidate_to [] f ps k h w = absurd h
     candidate_to (s ∷ shapes) f ps k h w = elim h [
       | inl e ↦
-          let here : Has {A = ℕ × List ℕ} (map (tag (f, k)) (walks_of (f, k))) (f, ps) = map_has (tag (f, k)) (walks_of (f, k)) ps (to (f, k) ps w) in
+          let here : Has {A = ℕ × List ℕ} (map (tag (f, k)) (walks_of (f, k))) (f, ps) = mapped_has (tag (f, k)) (walks_of (f, k)) ps (to (f, k) ps w) in
           has_left (map (tag s) (walks_of s)) (tagged walks_of shapes) (f, ps) (subst (λ (z : ℕ × ℕ). Has {A = ℕ × List ℕ} (map (tag z) (walks_of z)) (f, ps)) (sym e) here)
       | inr m ↦ has_right (map (tag s) (walks_of s)) (tagged walks_of shapes) (f, ps) (candidate_to shapes f ps k m w)
     ]

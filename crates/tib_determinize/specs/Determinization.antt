@@ -1,9 +1,9 @@
 -- Determinization by residuals, as what is hunted.
 use Rattle.std.specs.Prelude.{◌≡◌, ◌≢◌, ℕ, ◌+◌, ◌<◌, ◌≤◌, List, [], ◌∷◌, length, take}
-use Rattle.std.specs.Ordering.{nat_cmp, ordering_then}
 use Rattle.std.specs.Cmp.Lexicographic.{slice_cmp}
 use Rattle.std.specs.declared.cmp.Ordering.{Ordering}
 use Rattle.tib_lex.specs.Lists.{Has, Each}
+use Rattle.tib_lex.specs.PairOrder.{pair_cmp}
 use Rattle.tib_tree.specs.Trees.{size}
 use Rattle.tib_grammar.specs.Sides.{over}
 use Rattle.tib_grammar.specs.Run.{rule_at}
@@ -11,10 +11,6 @@ use Rattle.tib_grammar.specs.declared.Rule.{Rule}
 use Rattle.tib_hunt.specs.Reached.{Operation, operation, IsReachedSet}
 use Rattle.tib_hunt.specs.Numbered.{key_parts}
 use Rattle.tib_determinize.specs.Vectors.{VectorOf, Rises, IsStep, vectors_at}
-
--- by the state, then the residual; vectors as lists of these, a proper prefix first
-abbrev pub pair_cmp : ℕ × ℕ → ℕ × ℕ → Ordering
-pair_cmp x y = ordering_then (nat_cmp x.0 y.0) (nat_cmp x.1 y.1)
 
 abbrev pub vector_cmp : VectorOf → VectorOf → Ordering
 vector_cmp v w = slice_cmp pair_cmp v w

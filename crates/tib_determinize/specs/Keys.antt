@@ -4,8 +4,9 @@ use Rattle.std.proofs.Common.{arith, ap, sym, ◌∙◌, get_or, mod-lt}
 use Rattle.std.specs.Ordering.{nat_cmp, eq_by_cmp}
 use Rattle.std.specs.Cmp.{IsEquivalence, IsPartialOrder, IsTotalOrder, and_equiv, on_equiv, on_total, then_total, both_tied, nat_eq_equiv, nat_cmp_total, unsigned_ties, unsigned_Decides, first_so, second_so, partial_order_from_agreeing_total}
 use Rattle.std.specs.Cmp.Lexicographic.{pointwise, pointwise_decides, lists_equiv, lists_total, lists_ties}
+use Rattle.tib_lex.specs.PairOrder.{pair_cmp}
 use Rattle.tib_determinize.specs.Vectors.{VectorOf}
-use Rattle.tib_determinize.specs.Determinization.{pair_cmp, vector_cmp}
+use Rattle.tib_determinize.specs.Determinization.{vector_cmp}
 
 -- whether two entries are the same
 abbrev pub same_entry : ℕ × ℕ → ℕ × ℕ → Bool

@@ -1,9 +1,8 @@
 -- Lists, and lists side by side.
-use Rattle.std.specs.Prelude.{◌≡◌, ℕ, ◌+◌, ◌<◌, ◌≤◌, ◌⊎◌, List, [], ◌∷◌, ◌++◌, length, map, true, false, nat_eq, refl}
-use Rattle.std.proofs.Common.{zero, suc, arith, ap, sym, subst, inl, inr, get_or}
-use Rattle.std.proofs.lemmas.Bool.Decides.{nat_tests}
+use Rattle.std.specs.Prelude.{◌≡◌, ℕ, ◌+◌, ◌<◌, ◌≤◌, ◌⊎◌, List, [], ◌∷◌, ◌++◌, length, refl}
+use Rattle.std.proofs.Common.{zero, suc, arith, ap, subst, inl, inr, get_or}
 use Rattle.tib_lex.specs.Lists.{Has, Each, Distinct, Along}
-use Rattle.tib_grammar.proofs.Members.{has_at, has_either}
+use Rattle.tib_grammar.proofs.Members.{has_either}
 
 -- two numbers are the same or not
 pub nat_same : (a b : ℕ) → (a ≡ b) ⊎ (a ≡ b → ⊥)
@@ -13,19 +12,10 @@ nat_same a b = grind arith
 pub order_of : (a b : ℕ) → (a ≤ b) ⊎ (b ≤ a)
 order_of a b = grind arith
 
--- what the test of two numbers tells
-pub nat_eq_cases : (g f : ℕ) → ((g ≡ f) × (nat_eq g f ≡ true)) ⊎ ((g ≡ f → ⊥) × (nat_eq g f ≡ false))
-nat_eq_cases g f = grind (arith, nat_tests)
-
 -- a weaker fact holds of each
 pub each_map : {A : Type 0} (P Q : A → Type 0) → ((x : A) → P x → Q x) → (xs : List A) → Each P xs → Each Q xs
 each_map P Q f [] e = tt
 each_map P Q f (x ∷ xs) e = (f x e.0, each_map P Q f xs e.1)
-
--- what holds of each in two lists holds of each in both
-pub each_append : {A : Type 0} (P : A → Type 0) (xs ys : List A) → Each P xs → Each P ys → Each P (xs ++ ys)
-each_append P [] ys e d = d
-each_append P (x ∷ xs) ys e d = (e.0, each_append P xs ys e.1 d)
 
 -- lists without a common member have none twice together
 pub distinct_append : {A : Type 0} (xs ys : List A) → Distinct xs → Distinct ys → ((x : A) → Has xs x → Has ys x → ⊥) → Distinct (xs ++ ys)
@@ -34,25 +24,6 @@ distinct_append (x ∷ xs) ys d e n = (
   λ h. elim (has_either xs ys x h) [ inl k ↦ d.0 k | inr k ↦ n x (inl refl) k ],
   distinct_append xs ys d.1 e (λ y h. n y (inr h)),
 )
-
--- a list in which nothing stands twice has a value at one place
-pub one_place : {A : Type 0} (xs : List A) (i j : ℕ) (d : A) → Distinct xs → i < length xs → j < length xs → get_or xs i d ≡ get_or xs j d → i ≡ j
-one_place [] i j d u h k e = absurd (omega arith)
-one_place (x ∷ xs) zero zero d u h k e = refl
-one_place (x ∷ xs) zero (suc j) d u h k e = absurd (u.0 (subst (Has xs) (sym e) (has_at xs j d (omega arith))))
-one_place (x ∷ xs) (suc i) zero d u h k e = absurd (u.0 (subst (Has xs) e (has_at xs i d (omega arith))))
-one_place (x ∷ xs) (suc i) (suc j) d u h k e = ap suc (one_place xs i j d u.1 (omega arith) (omega arith) e)
-
--- a member of a mapped list
-pub get_map : {A B : Type 0} (g : A → B) (xs : List A) (j : ℕ) (d : B) (c : A) → j < length xs → get_or (map g xs) j d ≡ g (get_or xs j c)
-get_map g [] j d c h = absurd (omega arith)
-get_map g (x ∷ xs) zero d c h = refl
-get_map g (x ∷ xs) (suc j) d c h = get_map g xs j d c (omega arith)
-
--- a mapped list is as long
-pub length_map : {A B : Type 0} (g : A → B) (xs : List A) → length (map g xs) ≡ length xs
-length_map g [] = refl
-length_map g (x ∷ xs) = ap suc (length_map g xs)
 
 -- a member of the first of two lists
 pub get_left : {A : Type 0} (xs ys : List A) (i : ℕ) (d : A) → i < length xs → get_or (xs ++ ys) i d ≡ get_or xs i d
@@ -80,31 +51,6 @@ along_get R [] (y ∷ ys) j c d a h = absurd a
 along_get R (x ∷ xs) [] j c d a h = absurd a
 along_get R (x ∷ xs) (y ∷ ys) zero c d a h = (omega arith, a.0)
 along_get R (x ∷ xs) (y ∷ ys) (suc j) c d a h = let r = along_get R xs ys j c d a.1 (omega arith) in (omega (arith, r.0), r.1)
-
--- a member has its partner at some place
-pub along_has : {A B : Type 0} (R : A → B → Type 0) (xs : List A) (ys : List B) (x : A) (d : B) → Along R xs ys → Has xs x → (j : ℕ) × (j < length ys) × R x (get_or ys j d)
-along_has R [] ys x d a h = absurd h
-along_has R (z ∷ xs) [] x d a h = absurd a
-along_has R (z ∷ xs) (y ∷ ys) x d a h = elim h [
-  | inl e ↦ (0, omega arith, subst (λ w. R w y) e a.0)
-  | inr k ↦ let r = along_has R xs ys x d a.1 k in (suc r.0, omega (arith, r.1), r.2)
-]
-
--- two relations side by side, one behind the other
-pub along_append : {A B : Type 0} (R : A → B → Type 0) (xs zs : List A) (ys ws : List B) → Along R xs ys → Along R zs ws → Along R (xs ++ zs) (ys ++ ws)
-along_append R [] zs [] ws a b = b
-along_append R [] zs (y ∷ ys) ws a b = absurd a
-along_append R (x ∷ xs) zs [] ws a b = absurd a
-along_append R (x ∷ xs) zs (y ∷ ys) ws a b = (a.0, along_append R xs zs ys ws a.1 b)
-
--- for each value of a list there is an origin, and the other way round
-pub along_of : {A B : Type 0} (R : A → B → Type 0) (xs : List A) (ys : List B) (x : A) → Along R xs ys → Has xs x → (y : B) × R x y × Has ys y
-along_of R [] ys x a h = absurd h
-along_of R (z ∷ xs) [] x a h = absurd a
-along_of R (z ∷ xs) (y ∷ ys) x a h = elim h [
-  | inl e ↦ (y, subst (λ w. R w y) e a.0, inl refl)
-  | inr k ↦ let r = along_of R xs ys x a.1 k in (r.0, r.1, inr r.2)
-]
 
 -- a member of the second list has its partner
 pub along_back : {A B : Type 0} (R : A → B → Type 0) (xs : List A) (ys : List B) (y : B) → Along R xs ys → Has ys y → (x : A) × R x y × Has xs x

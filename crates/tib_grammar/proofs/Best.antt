@@ -5,7 +5,7 @@ use Rattle.tib_tree.specs.Trees.{Trees, none, tree, count}
 use Rattle.tib_grammar.specs.Sides.{label, holes, is_label}
 use Rattle.tib_grammar.specs.Run.{rule_at, IsCost}
 use Rattle.tib_grammar.specs.Forms.{AreNormal}
-use Rattle.tib_grammar.proofs.NormalRuns.{count-yields, BeginsBelow, IsLeast-no_states, IsLeast-one_more, IsLeast-no_rules, IsLeast-rule, IsLeast-no_rule, IsLeast-all_rules}
+use Rattle.tib_grammar.proofs.NormalRuns.{count-yields, BeginsBelow, IsLeast-no_states, IsLeast-one_more, IsLeast-no_rules, IsLeast-rule, IsLeast-no_rule, IsLeast-all_rules, no_states}
 use Rattle.tib_grammar.specs.declared.Rule.{Rule}
 use Rattle.tib_cost.specs.Semiring.{ProductLaws}
 use Rattle.tib_cost.specs.Least.{IsLeast, times, lesser}
@@ -58,14 +58,11 @@ module _ {levelled weighted : Bool} {product : ℕ → ℕ → ℕ} (laws : Prod
   pub no_trees : (q : ℕ) (qs : List ℕ) (c : ℕ) → IsCost product rules (q ∷ qs) none c → ⊥
   no_trees q qs c h = let e = ap count h.yielded in omega (arith, e, count-yields rules (q ∷ qs) h.runs h.are_runs)
 
-  pub no_states : (f : ℕ) (kids rest : Trees ℕ) (c : ℕ) → IsCost product rules [] (tree f kids rest) c → ⊥
-  no_states f kids rest c h = let e = ap count h.yielded in omega (arith, e, count-yields rules [] h.runs h.are_runs)
-
   -- the recursion gives the least cost
   pub best-is_least : (ts : Trees ℕ) (qs : List ℕ) → IsLeast (IsCost product rules qs ts) (best product rules ts qs)
   best-is_least none [] = IsLeast-no_states laws rules
   best-is_least none (q ∷ qs) = IsLeast-none (no_trees q qs)
-  best-is_least (tree f kids rest) [] = IsLeast-none (no_states f kids rest)
+  best-is_least (tree f kids rest) [] = IsLeast-none (no_states rules f kids rest)
   best-is_least (tree f kids rest) (q ∷ qs) =
       IsLeast-one_more laws rules q qs f kids rest
       (IsLeast-all_rules laws rules normal q f kids (best_rule-is_least (best product rules kids) q f kids (best-is_least kids) (length rules)))

@@ -10,6 +10,7 @@ use Rattle.tib_grammar.proofs.Sides.{count-fill, holes_of-label, fill-normal}
 use Rattle.tib_cost.specs.Semiring.{ProductLaws}
 use Rattle.tib_cost.specs.Least.{IsLeast, Products, times, lesser}
 use Rattle.tib_cost.proofs.Least.{IsLeast-same, IsLeast-products, IsLeast-one, IsLeast-none, IsLeast-scaled, IsLeast-either, IsLeast-either_none}
+use Rattle.tib_cost.proofs.Times.{product-zero}
 use Rattle.tib_lex.proofs.Numbers.{below_cases}
 
 pub label_named : (s : Symbol ℕ ℕ) → IsLabel s → (f : ℕ) × (s ≡ label f)
@@ -56,9 +57,6 @@ module _ {levelled weighted : Bool} {product : ℕ → ℕ → ℕ} (laws : Prod
   one_tree : (n : ℕ) (runs : Trees ℕ) → AreRuns rules (holes_of (rule_at rules n).right) runs → count (fill (only (rule_at rules n).right) (yields rules runs)) ≡ 1
   one_tree n runs a = count-fill (only (rule_at rules n).right) (yields rules runs) (count-yields rules (holes_of (rule_at rules n).right) runs a)
 
-  product-zero : (a : ℕ) → product a 0 ≡ a
-  product-zero a = laws.commutes a 0 ∙ laws.neutral a
-
   -- the run of the first state, and those of the others
   split :
       (q : ℕ) (qs : List ℕ) (f : ℕ) (kids rest runs : Trees ℕ) → AreRuns rules (q ∷ qs) runs →
@@ -76,7 +74,7 @@ module _ {levelled weighted : Bool} {product : ℕ → ℕ → ℕ} (laws : Prod
           costs = refl;
         },
         record { runs = more; are_runs = a.3; yielded = parts.1; costs = refl },
-        ap (λ x. product x (cost product rules more)) (product-zero _),
+        ap (λ x. product x (cost product rules more)) (product-zero laws _),
       )
 
   merge :
@@ -89,7 +87,7 @@ module _ {levelled weighted : Bool} {product : ℕ → ℕ → ℕ} (laws : Prod
     runs = tree n runs others;
     are_runs = (a.0, a.1, a.2, b);
     yielded = rw (sym (join-none _) ∙ y, z);
-    costs = ap (λ x. product x (cost product rules others)) (sym (product-zero _));
+    costs = ap (λ x. product x (cost product rules others)) (sym (product-zero laws _));
   }
 
   pub split_all :
@@ -178,7 +176,7 @@ module _ {levelled weighted : Bool} {product : ℕ → ℕ → ℕ} (laws : Prod
             cost product rules runs,
             refl,
             record { runs = runs; are_runs = inner; yielded = cc whole; costs = refl },
-            sym (product-zero laws rules _),
+            sym (product-zero laws _),
           );
         },
       )
@@ -193,7 +191,7 @@ module _ {levelled weighted : Bool} {product : ℕ → ℕ → ℕ} (laws : Prod
     yielded = join-none _
         ∙ fill-normal (rule_at rules n).right.label (rule_at rules n).right.kids f (yields rules runs) root (normal n h).are_holes (count-yields rules (holes (rule_at rules n).right.kids) runs a)
         ∙ ap (λ ks. tree f ks none) y;
-    costs = product-zero laws rules _;
+    costs = product-zero laws _;
   }
 
   pub finish : AreNormal rules → (q f : ℕ) (kids : Trees ℕ) (c n : ℕ) → n < length rules → Begins product rules q f kids n c → IsCost product rules (q ∷ []) (tree f kids none) c
@@ -211,3 +209,7 @@ module _ {levelled weighted : Bool} {product : ℕ → ℕ → ℕ} (laws : Prod
       (λ c b. finish normal q f kids c b.0 b.1 b.2)
       (λ c r. subst (BeginsBelow product rules q f kids (length rules)) r.costs (begin normal q f kids r.runs r.are_runs r.yielded))
       h
+
+-- no runs from no states yield a tree
+pub no_states : {product : ℕ → ℕ → ℕ} (rules : List (Rule ℕ)) (f : ℕ) (kids rest : Trees ℕ) (c : ℕ) → IsCost product rules [] (tree f kids rest) c → ⊥
+no_states rules f kids rest c h = let e = ap count h.yielded in omega (arith, e, count-yields rules [] h.runs h.are_runs)

@@ -1,11 +1,12 @@
 -- Sides and rules under new numbers.
 use Rattle.std.specs.Prelude.{◌≡◌, ℕ, ◌<◌, List, [], ◌∷◌, ◌++◌, length, take, drop, map, refl}
 use Rattle.std.specs.List.{refill}
-use Rattle.std.proofs.Common.{arith, suc, ap, sym, ◌∙◌, inl, inr, get_or}
+use Rattle.std.proofs.Common.{arith, ap, sym, ◌∙◌, inl, inr, get_or}
 use Rattle.std.proofs.lemmas.List.{map-append, length-map, length-take, drop_more, get_or_at, append-nil}
 use Rattle.std.proofs.Math.Seq.{take-length, drop-length}
 use Rattle.tib_lex.specs.Lists.{Has}
 use Rattle.tib_tree.specs.Trees.{Trees, none, tree, count, only, preorder, preorder_of, relabel, first_of, parse, parse_of}
+use Rattle.tib_tree.proofs.Counts.{count-relabel}
 use Rattle.tib_grammar.specs.Sides.{Symbol, label, hole, Side, holes, holes_of, side_map, symbol_map, HolesAreLeaves}
 use Rattle.tib_grammar.specs.Items.{pairs_of, holes_in}
 use Rattle.tib_grammar.specs.Range.{AllBelow}
@@ -15,10 +16,6 @@ use Rattle.tib_grammar.specs.declared.Item.{Item}
 use Rattle.tib_grammar.specs.declared.Item.TheVariants.{Label, Hole}
 use Rattle.tib_grammar.specs.Renaming.{item_map}
 use Rattle.tib_grammar.proofs.Holes.{IsBelow}
-
-count-relabel : {A B : Type 0} (g : A → B) (ts : Trees A) → count (relabel g ts) ≡ count ts
-count-relabel g none = refl
-count-relabel g (tree f kids rest) = ap suc (count-relabel g rest)
 
 pub preorder-relabel : {A B : Type 0} (g : A → B) (ts : Trees A) → preorder (relabel g ts) ≡ map (λ p. (g p.0, p.1)) (preorder ts)
 preorder-relabel g none = refl

@@ -8,18 +8,6 @@ along_changes R S [] (y ∷ ys) f h = absurd h
 along_changes R S (x ∷ xs) [] f h = absurd h
 along_changes R S (x ∷ xs) (y ∷ ys) f h = (f x y h.0, along_changes R S xs ys f h.1)
 
-pub along_more : {X Y : Type 0} (R : X → Y → Type 0) (xs : List X) (ys : List Y) (x : X) (y : Y) → Along R xs ys → R x y → Along R (xs ++ x ∷ []) (ys ++ y ∷ [])
-along_more R [] [] x y h k = (k, tt)
-along_more R [] (z ∷ ys) x y h k = absurd h
-along_more R (z ∷ xs) [] x y h k = absurd h
-along_more R (u ∷ xs) (v ∷ ys) x y h k = (h.0, along_more R xs ys x y h.1 k)
-
-pub along_append : {X Y : Type 0} (R : X → Y → Type 0) (xs us : List X) (ys vs : List Y) → Along R xs ys → Along R us vs → Along R (xs ++ us) (ys ++ vs)
-along_append R [] us [] vs h k = k
-along_append R [] us (y ∷ ys) vs h k = absurd h
-along_append R (x ∷ xs) us [] vs h k = absurd h
-along_append R (x ∷ xs) us (y ∷ ys) vs h k = (h.0, along_append R xs us ys vs h.1 k)
-
 pub along_long : {X Y : Type 0} (R : X → Y → Type 0) (xs : List X) (ys : List Y) → Along R xs ys → length xs ≡ length ys
 along_long R [] [] h = refl
 along_long R [] (y ∷ ys) h = absurd h

@@ -4,12 +4,13 @@ use Rattle.std.specs.Prelude.{slice_get, Some, None, Contains, Bool}
 use Rattle.std.proofs.lemmas.List.{take-append-drop}
 use Rattle.std.proofs.lemmas.Option.{slice_get_within, get_or_from_slice_get}
 use Rattle.tib_lex.specs.Lists.{Along}
+use Rattle.tib_lex.proofs.Alongs.{along_append}
 use Rattle.tib_tree.specs.Trees.{Tree, Trees, none, tree, only, preorder, preorder_of, parse, parse_of_preorder, count as count_trees}
 use Rattle.tib_tree.specs.Written.{Written, item, end, leaf, head, items, count}
 use Rattle.tib_grammar.specs.Sides.{Symbol, label, hole}
 use Rattle.tib_grammar_file.specs.GrammarText.{IsLeaf, IsHead, Means}
 use Rattle.tib_grammar_file.specs.Value.{IsSymbol, IsNode}
-use Rattle.tib_grammar_file.proofs.Alongs.{along_append, along_front, along_back}
+use Rattle.tib_grammar_file.proofs.Alongs.{along_front, along_back}
 
 -- a text with a number is held
 pub contains_at : (names : List (List ℕ)) (n : ℕ) (text : List ℕ) → slice_get names n ≡ Some text → Contains names text

@@ -94,8 +94,8 @@ no_rule_line scale line ts us s = line_parts scale line ts us None s
 pub bad_cost_line : (scale : Scale) (line : List ℕ) (ts us : List Token) (p : Parts) (kind : FaultKind) → SomeLine line ts us (Some p) → cost_of scale p.weight ≡ Err kind → rule_line scale line ≡ Err kind
 bad_cost_line scale line ts us p kind s e = line_parts scale line ts us (Some p) s ∙ ap (with_cost p.left p.nodes) e
 
--- a tree has no more nodes than tokens, and so a rule's line
-nodes_few : (f : Written) → length (items f) ≤ length (spell f)
+-- a side has no more items than words
+pub nodes_few : (f : Written) → length (items f) ≤ length (spell f)
 nodes_few end = omega arith
 nodes_few (leaf q t rest) = omega (arith, nodes_few rest)
 nodes_few (head q t kids rest) = omega (arith, nodes_few kids, nodes_few rest, length-append (items kids) (items rest), length-append (spell kids) (close ∷ spell rest))

@@ -26,6 +26,7 @@ use Rattle.tib_grammar_file.specs.Printed.{LabelsBelow, AreLabelled}
 use Rattle.tib_grammar_file.specs.Rule.{weight_words}
 use Rattle.tib_grammar_file.specs.Weight.{IsWeighed, IsCostOf}
 use Rattle.tib_cost.specs.Semiring.{most}
+use Rattle.tib_lex.proofs.Lists.{each_parts}
 
 pub labels_below : (labels : List (List ℕ)) (ts : Trees (Symbol ℕ ℕ)) → HavePlainLabels labels ts → LabelsBelow (length labels) ts
 labels_below labels none h = tt
@@ -53,10 +54,12 @@ stays scale early labels rules p g m h = record { right = labels_stay early labe
 
 -- no token of a line has a line feed
 
-free_parts : (xs ys : List ℕ) → HasNoFeed (xs ++ ys) → HasNoFeed xs × HasNoFeed ys
+-- each of two texts that have no line feed in one has none
+pub free_parts : (xs ys : List ℕ) → HasNoFeed (xs ++ ys) → HasNoFeed xs × HasNoFeed ys
 free_parts xs ys h = let t = and_true (list_all not_feed xs) (list_all not_feed ys) (sym (list_all-append not_feed xs ys) ∙ h) in (t.0, t.1)
 
-free_front : (c : Bool) (x : ℕ) (xs : List ℕ) → HasNoFeed (cond c (92 ∷ (x ∷ xs)) (x ∷ xs)) → HasNoFeed (x ∷ xs)
+-- what follows a byte that was escaped has no line feed
+pub free_front : (c : Bool) (x : ℕ) (xs : List ℕ) → HasNoFeed (cond c (92 ∷ (x ∷ xs)) (x ∷ xs)) → HasNoFeed (x ∷ xs)
 free_front true x xs h = h
 free_front false x xs h = h
 
@@ -82,7 +85,8 @@ words_free (word ∷ words) line f h =
     let parts = free_parts (spelling word) h.are.0 (subst (λ (l : List ℕ). HasNoFeed l) h.are.1.spelled own) in
     (word_free word parts.0, words_free words h.are.0 parts.1 h.are.2)
 
-lines_free : (lines : List (List ℕ)) (bytes : List ℕ) → HasLines lines bytes → Each HasNoFeed lines
+-- no line of a file has a line feed
+pub lines_free : (lines : List (List ℕ)) (bytes : List ℕ) → HasLines lines bytes → Each HasNoFeed lines
 lines_free [] bytes h = tt
 lines_free (line ∷ lines) bytes (f, inl e) = (f, subst (λ (ls : List (List ℕ)). Each HasNoFeed ls) (sym e.last) tt)
 lines_free (line ∷ lines) bytes (f, inr (rest, e, more)) = (f, lines_free lines rest more)
@@ -95,11 +99,8 @@ rows_free (line ∷ lines) rows (inr (word, words, more, has, e, t)) f =
 
 -- the labels of trees that are written in such tokens
 
-each_parts : {A : Type 0} (P : A → Type 0) (xs ys : List A) → Each P (xs ++ ys) → Each P xs × Each P ys
-each_parts P [] ys h = (tt, h)
-each_parts P (x ∷ xs) ys h = let t = each_parts P xs ys h.1 in ((h.0, t.0), t.1)
-
-text_free : (quoted : Bool) (text : List ℕ) → IsFree (word_for quoted text) → HasNoFeed text
+-- the text of a word without line feed has none
+pub text_free : (quoted : Bool) (text : List ℕ) → IsFree (word_for quoted text) → HasNoFeed text
 text_free true text h = h
 text_free false text h = h
 
@@ -116,10 +117,12 @@ trees_plain names labels (tree (symbol_label f) kids rest) (head quoted text bel
     (own.0, own.1, trees_plain names labels kids below m.1 parts.0, trees_plain names labels rest more m.2 parts.1.1)
 trees_plain names labels (tree (hole q) kids rest) (head quoted text below more) m e = absurd m.0
 
-weighed_within : (scale : Scale) (text : List ℕ) (cost : ℕ) → IsWeighed scale text cost → cost ≤ most
+-- a weight that was read is within the greatest
+pub weighed_within : (scale : Scale) (text : List ℕ) (cost : ℕ) → IsWeighed scale text cost → cost ≤ most
 weighed_within scale text cost h = subst (λ (c : ℕ). c ≤ most) (sym h.cost_is) (cost_within scale h.weight h.within)
 
-plain_cost : (scale : Scale) (weight : Option (List ℕ)) (cost : ℕ) → IsCostOf scale weight cost → IsPlainCost scale cost
+-- a cost that was read can be printed
+pub plain_cost : (scale : Scale) (weight : Option (List ℕ)) (cost : ℕ) → IsCostOf scale weight cost → IsPlainCost scale cost
 plain_cost scales.Unweighted None cost h = h
 plain_cost scales.Plain None cost h = omega arith
 plain_cost scales.Reversed None cost h = omega arith

@@ -92,7 +92,8 @@ small_same : (number : ℕ → ℕ) (rules : List (Rule ℕ)) → AreSmallRules 
 small_same number [] s = tt
 small_same number (r ∷ rules) s = (omega (arith, count_same (symbol_map number) r.right.kids, s.0), small_same number rules s.1)
 
-start_read : (text : List ℕ) → IsStateName text → HasWords (name text ∷ []) text
+-- the name of a state is read as one word
+pub start_read : (text : List ℕ) → IsStateName text → HasWords (name text ∷ []) text
 start_read text is = subst (λ (l : List ℕ). HasWords (name text ∷ []) l) (append-nil text) (has_first_word (name text) [] [] is.is_name refl no_words)
 
 -- the rows of what is printed of a grammar

@@ -33,13 +33,16 @@ no_feed_by : (p : ℕ → Bool) → p 10 ≡ false → (b : ℕ) (c : Bool) → 
 no_feed_by p ten b false e h = refl
 no_feed_by p ten b true e h = let bad : p 10 ≡ true = subst (λ (x : ℕ). p x ≡ true) (is_ten b e) h in cc
 
-free_from : (p : ℕ → Bool) → p 10 ≡ false → (xs : List ℕ) → list_all p xs ≡ true → HasNoFeed xs
+-- bytes of a kind to which the line feed does not belong have none
+pub free_from : (p : ℕ → Bool) → p 10 ≡ false → (xs : List ℕ) → list_all p xs ≡ true → HasNoFeed xs
 free_from p ten xs h = all_changes p not_feed xs (λ b k. no_feed_by p ten b (b == 10) refl k) h
 
-free_append : (xs ys : List ℕ) → HasNoFeed xs → HasNoFeed ys → HasNoFeed (xs ++ ys)
+-- two texts without line feed have none in one
+pub free_append : (xs ys : List ℕ) → HasNoFeed xs → HasNoFeed ys → HasNoFeed (xs ++ ys)
 free_append xs ys h k = list_all-append not_feed xs ys ∙ rw h k
 
-free_escape : (xs : List ℕ) → HasNoFeed xs → HasNoFeed (escape xs)
+-- a text without line feed has none once it is escaped
+pub free_escape : (xs : List ℕ) → HasNoFeed xs → HasNoFeed (escape xs)
 free_escape [] h = refl
 free_escape (x ∷ xs) h = let t = and_true (not_feed x) (list_all not_feed xs) h in by (x == 34 || x == 92) t.0 (free_escape xs t.1)
   where
@@ -57,7 +60,8 @@ free_choice false xs ys h k = k
 free_label : (names : List (List ℕ)) (text : List ℕ) → HasNoFeed text → HasNoFeed (label_text names text)
 free_label names text h = free_choice (is_name text && not (is_held names text)) text (spelling (label text)) h (free_quoted text h)
 
-free_at : (texts : List (List ℕ)) (n : ℕ) → Each HasNoFeed texts → HasNoFeed (get_or texts n [])
+-- a text of a table has no line feed
+pub free_at : (texts : List (List ℕ)) (n : ℕ) → Each HasNoFeed texts → HasNoFeed (get_or texts n [])
 free_at [] n e = refl
 free_at (x ∷ xs) zero e = e.0
 free_at (x ∷ xs) (suc n) e = free_at xs n e.1
@@ -66,15 +70,18 @@ pub names_free : (names : List (List ℕ)) → Each IsStateName names → Each H
 names_free [] e = tt
 names_free (x ∷ xs) e = (free_from is_name_byte refl x e.0.is_name.bytes, names_free xs e.1)
 
-free_space : (k : ℕ) → HasNoFeed (space k)
+-- nor have a space,
+pub free_space : (k : ℕ) → HasNoFeed (space k)
 free_space zero = refl
 free_space (suc k) = refl
 
-free_opening : (k : ℕ) → HasNoFeed (opening k)
+-- an opening bracket,
+pub free_opening : (k : ℕ) → HasNoFeed (opening k)
 free_opening zero = refl
 free_opening (suc k) = refl
 
-free_closing : (k : ℕ) → HasNoFeed (closing k)
+-- closing brackets,
+pub free_closing : (k : ℕ) → HasNoFeed (closing k)
 free_closing zero = refl
 free_closing (suc k) = refl
 
@@ -95,7 +102,8 @@ free_trees names labels (tree (symbol_label f) kids rest) k n l =
     free_tree names labels (symbol_label f) kids rest k (free_label names (get_or labels f []) l.1) (free_trees names labels kids 0 n l.2) (free_trees names labels rest (suc k) n l.3)
 free_trees names labels (tree (hole q) kids rest) k n l = free_tree names labels (hole q) kids rest k (free_at names q n) (free_trees names labels kids 0 n l.0) (free_trees names labels rest (suc k) n l.1)
 
-free_cost : (scale : Scale) (cost : ℕ) → IsPlainCost scale cost → HasNoFeed (cost_text scale cost)
+-- and a printed weight
+pub free_cost : (scale : Scale) (cost : ℕ) → IsPlainCost scale cost → HasNoFeed (cost_text scale cost)
 free_cost scales.Unweighted cost h = refl
 free_cost scales.Plain cost h = free_from is_digit refl (printed cost) (digits_are cost h)
 free_cost scales.Reversed cost h = free_from is_digit refl (printed (weight_in scales.Reversed cost)) (digits_are (weight_in scales.Reversed cost) (weight_within scales.Reversed cost h))

@@ -35,36 +35,43 @@ use Rattle.tib_cost.specs.Semiring.{most}
 
 -- the digits of a cost are a whole weight
 
-digit_range : (c : ℕ) → is_digit c ≡ true → IsInRange 48 57 c
+-- digits are the bytes from 48 to 57
+pub digit_range : (c : ℕ) → is_digit c ≡ true → IsInRange 48 57 c
 digit_range c h = let t = and_true (nat_lt 47 c) (nat_lt c 58) h in grind (arith, nat_tests)
 
-range_digit : (c : ℕ) → IsInRange 48 57 c → is_digit c ≡ true
+-- and the other way round
+pub range_digit : (c : ℕ) → IsInRange 48 57 c → is_digit c ≡ true
 range_digit c h = let a : nat_lt 47 c ≡ true = grind (arith, nat_tests) in let b : nat_lt c 58 ≡ true = grind (arith, nat_tests) in rw (a, b) refl
 
-tells : IsDigitsTest (λ ds. list_all is_digit ds ≡ true)
+-- texts of digits by their bytes
+pub tells : IsDigitsTest (λ ds. list_all is_digit ds ≡ true)
 tells = record {
   empty = refl;
   parts = λ c cs h. let t = and_true (is_digit c) (list_all is_digit cs) h in (digit_range c t.0, t.1);
   more = λ c cs h k. rw (range_digit c h) k;
 }
 
-folds : FoldsDigits decimal_from
+-- their values digit by digit
+pub folds : FoldsDigits decimal_from
 folds = record { empty = λ n. refl; more = λ n c cs h. ap (λ (m : ℕ). decimal_from m cs) (omega arith) }
 
-numerals : IsNumeralModel (λ ds. list_all is_digit ds ≡ true) (decimal_from 0)
+-- texts of digits are numerals
+pub numerals : IsNumeralModel (λ ds. list_all is_digit ds ≡ true) (decimal_from 0)
 numerals = numerals_by_fold (λ ds. list_all is_digit ds ≡ true) tells decimal_from folds
 
 pub digits_are : (n : ℕ) → n ≤ most → list_all is_digit (printed n) ≡ true
 digits_are n h = digits_decimal numerals n (omega arith)
 
-name_byte : (c : ℕ) → is_digit c ≡ true → is_name_byte c ≡ true
+-- a digit may stand in a name
+pub name_byte : (c : ℕ) → is_digit c ≡ true → is_name_byte c ≡ true
 name_byte c h = let t = digit_range c h in grind (arith, nat_tests)
 
 pub all_changes : (p q : ℕ → Bool) (xs : List ℕ) → ((x : ℕ) → p x ≡ true → q x ≡ true) → list_all p xs ≡ true → list_all q xs ≡ true
 all_changes p q [] f h = refl
 all_changes p q (x ∷ xs) f h = let t = and_true (p x) (list_all p xs) h in rw (f x t.0) (all_changes p q xs f t.1)
 
-no_arrow : (b : Bool) (ds : List ℕ) → bytes_eq ds (45 ∷ 62 ∷ []) ≡ b → list_all is_digit ds ≡ true → b ≡ false
+-- digits are no arrow
+pub no_arrow : (b : Bool) (ds : List ℕ) → bytes_eq ds (45 ∷ 62 ∷ []) ≡ b → list_all is_digit ds ≡ true → b ≡ false
 no_arrow false ds e h = refl
 no_arrow true ds e h =
     let d : Decides (bytes_eq ds (45 ∷ 62 ∷ [])) (ds ≡ 45 ∷ 62 ∷ []) = bytes_eq-Decides ds (45 ∷ 62 ∷ []) in
@@ -88,11 +95,12 @@ cost_is_whole n h = record {
   value = sym (digits_value-decimal numerals n (omega arith));
 }
 
--- the weight of a rule as it is printed
+-- a weight as a text, where weights are kept
 abbrev pub weight_if : Bool → ℕ → Option (List ℕ)
 weight_if true weight = Some (printed weight)
 weight_if false weight = None
 
+-- the weight of a cost, where the scale has weights
 abbrev pub weight_of : Scale → ℕ → Option (List ℕ)
 weight_of scale cost = weight_if (is_weighted scale) (weight_in scale cost)
 
@@ -105,18 +113,22 @@ words_if true cost within =
     let behind : HasWords (name (printed cost) ∷ []) (32 ∷ printed cost) = after_space (name (printed cost) ∷ []) (printed cost) alone in
     after_space (hash ∷ (name (printed cost) ∷ [])) (35 ∷ (32 ∷ printed cost)) (has_first_word hash (name (printed cost) ∷ []) (32 ∷ printed cost) tt tt behind)
 
-plain_within : (w : Bool) (cost : ℕ) → IsPlainIf w cost → w ≡ true → cost ≤ most
+-- a cost that is printed is within the greatest
+pub plain_within : (w : Bool) (cost : ℕ) → IsPlainIf w cost → w ≡ true → cost ≤ most
 plain_within true cost h e = h
 plain_within false cost h e = absurd (cc)
 
-weight_read : (scale : Scale) (cost : ℕ) → IsPlainCost scale cost → HasWords (weight_words (weight_of scale cost)) (cost_text scale cost)
+-- a printed weight is read as its words
+pub weight_read : (scale : Scale) (cost : ℕ) → IsPlainCost scale cost → HasWords (weight_words (weight_of scale cost)) (cost_text scale cost)
 weight_read scale cost h = words_if (is_weighted scale) (weight_in scale cost) (λ e. weight_within scale cost (plain_within (is_weighted scale) cost h e))
 
-begins_if : (w : Bool) (cost : ℕ) → begins_name (weight_text w cost) ≡ false
+-- a printed weight begins no name
+pub begins_if : (w : Bool) (cost : ℕ) → begins_name (weight_text w cost) ≡ false
 begins_if false cost = refl
 begins_if true cost = refl
 
-weight_begins : (scale : Scale) (cost : ℕ) → begins_name (cost_text scale cost) ≡ false
+-- the same by the scale
+pub weight_begins : (scale : Scale) (cost : ℕ) → begins_name (cost_text scale cost) ≡ false
 weight_begins scale cost = begins_if (is_weighted scale) (weight_in scale cost)
 
 cost_read : (scale : Scale) (cost : ℕ) → cost ≤ most → IsWeighed scale (printed (weight_in scale cost)) cost
@@ -127,7 +139,8 @@ cost_read scale cost h = record {
   cost_is = sym (cost_of_weight scale cost h);
 }
 
-weight_is : (scale : Scale) (cost : ℕ) → IsPlainCost scale cost → IsCostOf scale (weight_of scale cost) cost
+-- the cost of a printed weight is the cost
+pub weight_is : (scale : Scale) (cost : ℕ) → IsPlainCost scale cost → IsCostOf scale (weight_of scale cost) cost
 weight_is scales.Unweighted cost h = h
 weight_is scales.Plain cost h = cost_read scales.Plain cost h
 weight_is scales.Reversed cost h = cost_read scales.Reversed cost h

@@ -22,14 +22,7 @@ use Rattle.tib_grammar_file.proofs.PrintedStates.{contains_has}
 use Rattle.tib_grammar.specs.Range.{IsLeftIn}
 use Rattle.tib_grammar.proofs.Sides.{symbol_itself}
 use Rattle.tib_lex.proofs.Members.{has_contains}
-
--- distinct names stand at one place each
-one_place : (xs : List (List ℕ)) (i j : ℕ) → Distinct xs → i < length xs → j < length xs → get_or xs i [] ≡ get_or xs j [] → i ≡ j
-one_place [] i j d h k e = absurd (omega arith)
-one_place (x ∷ xs) zero zero d h k e = refl
-one_place (x ∷ xs) zero (suc j) d h k e = absurd (d.0 (subst (Has xs) (sym e) (has_at xs j [] (omega arith))))
-one_place (x ∷ xs) (suc i) zero d h k e = absurd (d.0 (subst (Has xs) e (has_at xs i [] (omega arith))))
-one_place (x ∷ xs) (suc i) (suc j) d h k e = ap suc (one_place xs i j d.1 (omega arith) (omega arith) e)
+use Rattle.tib_lex.proofs.Places.{distinct_at}
 
 abbrev AscendLeft : Rule ℕ → Rule ℕ → Type 0
 AscendLeft r s = r.left ≤ s.left
@@ -57,6 +50,20 @@ first_least r rules q a (suc n, h, e) =
     let later : r.left ≤ (rule_at rules n).left = each_has (AscendLeft r) rules (rule_at rules n) a.0 (has_at rules n no_rule (omega arith)) in
     omega arith
 
+-- a name before the k-th is among the first k
+pub held : (names : List (List ℕ)) (q k : ℕ) → q < k → k ≤ length names → Contains (take k names) (get_or names q [])
+held names q k h few =
+    let within : q < length (take k names) = omega (arith, length-take k names) in
+    has_contains (take k names) (get_or names q []) (subst (Has (take k names)) (get_or-take k names q [] h) (has_at (take k names) q [] within))
+
+-- the k-th is not
+pub is_new : (names : List (List ℕ)) → Distinct names → (k : ℕ) → k < length names → Contains (take k names) (get_or names k []) → ⊥
+is_new names apart k h c =
+    let at = at_has (take k names) (get_or names k []) [] (contains_has (take k names) (get_or names k []) c) in
+    let low : at.0 < k = omega (arith, at.1, length-take k names) in
+    let same : at.0 ≡ k = distinct_at names at.0 k [] apart (omega arith) h (sym (get_or-take k names at.0 [] low) ∙ at.2) in
+    omega (arith, low, same)
+
 module _ (names : List (List ℕ)) (apart : Distinct names) where
   abbrev name_at : ℕ → List ℕ
   name_at q = get_or names q []
@@ -75,18 +82,6 @@ module _ (names : List (List ℕ)) (apart : Distinct names) where
       let own : r.left < length names = s.range.0 in
       let least : r.left ≤ k = first_least r rules k s.ascend (s.all k (omega arith) (omega arith)) in
       omega arith
-
-  held : (q k : ℕ) → q < k → k ≤ length names → Contains (take k names) (name_at q)
-  held q k h few =
-      let within : q < length (take k names) = omega (arith, length-take k names) in
-      has_contains (take k names) (name_at q) (subst (Has (take k names)) (get_or-take k names q [] h) (has_at (take k names) q [] within))
-
-  is_new : (k : ℕ) → k < length names → Contains (take k names) (name_at k) → ⊥
-  is_new k h c =
-      let at = at_has (take k names) (name_at k) [] (contains_has (take k names) (name_at k) c) in
-      let low : at.0 < k = omega (arith, at.1, length-take k names) in
-      let same : at.0 ≡ k = one_place names at.0 k apart (omega arith) h (sym (get_or-take k names at.0 [] low) ∙ at.2) in
-      omega (arith, low, same)
 
   seen_more : (r : Rule ℕ) (rules : List (Rule ℕ)) (k : ℕ) → IsSeen names (r ∷ rules) k → r.left ≡ k → IsSeen names rules (k + 1)
   seen_more r rules k s e = record {
@@ -107,12 +102,12 @@ module _ (names : List (List ℕ)) (apart : Distinct names) where
     added : (rules : List (Rule ℕ)) (k : ℕ) → IsSeen names rules k → AddsAll (take k names) (map first_text (rows_in scale names labels rules)) names
     added [] k s = all_seen k s
     added (r ∷ rules) k s = elim (seen_or_next r.left k s.late.0) [
-      | inl low ↦ (take k names, inl (held r.left k low s.few, refl), added rules k (seen_again r rules k s low))
+      | inl low ↦ (take k names, inl (held names r.left k low s.few, refl), added rules k (seen_again r rules k s low))
       | inr high ↦
           let e : r.left ≡ k = next_is r rules k s high in
           let within : k < length names = omega (arith, s.range.0) in
           let grown : take (k + 1) names ≡ take k names ++ name_at r.left ∷ [] = take_more names k [] within ∙ ap (λ (q : ℕ). take k names ++ name_at q ∷ []) (sym e) in
-          (take (k + 1) names, inr (λ c. is_new k within (subst (λ (q : ℕ). Contains (take k names) (name_at q)) e c), grown), added rules (k + 1) (seen_more r rules k s e))
+          (take (k + 1) names, inr (λ c. is_new names apart k within (subst (λ (q : ℕ). Contains (take k names) (name_at q)) e c), grown), added rules (k + 1) (seen_more r rules k s e))
     ]
 
     all_added : (rules : List (Rule ℕ)) → 0 < length names → IsSeen names rules 1 → AddsAll [] (name_at 0 ∷ map first_text (rows_in scale names labels rules)) names
@@ -131,7 +126,8 @@ rules_own : (rules : List (Rule ℕ)) → map (named_rule (λ (q : ℕ). q)) rul
 rules_own [] = refl
 rules_own (r ∷ rules) = ap (λ (x : Rule ℕ). x ∷ map (named_rule (λ (q : ℕ). q)) rules) (rule_own r) ∙ ap (λ (rs : List (Rule ℕ)). r ∷ rs) (rules_own rules)
 
-names_own : (names : List (List ℕ)) → Renames names names (λ q. q)
+-- names are their own new names
+pub names_own : (names : List (List ℕ)) → Renames names names (λ q. q)
 names_own names = record { to = λ q h. slice_get-get_or names q [] h; back = λ text c. c }
 
 pub reads_sorted : (scale : Scale) (labels : List (List ℕ)) (g : GrammarOf) → HasText scale labels g → Ascends (λ r s. r.left ≤ s.left) g.rules → GrammarText scale labels (grammar_text scale labels g) g

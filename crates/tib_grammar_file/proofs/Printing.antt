@@ -30,6 +30,8 @@ use Rattle.tib_io.proofs.Pieces.{takes_more, front_first, front_later}
 use Rattle.tib_grammar_file.specs.Prints.{Prints}
 use Rattle.tib_lex.proofs.Booleans.{or-true}
 use Rattle.tib_lex.proofs.Lists.{each_append}
+use Rattle.tib_lex.proofs.Places.{any_default}
+use Rattle.tib_grammar.proofs.Below.{below_split}
 use Rattle.tib_grammar_file.proofs.Common.{cons_same}
 
 nothing_appended : (old : Option (List ℕ)) → Appends old old []
@@ -425,10 +427,6 @@ module _ {X : Type 0} (w : X → Option (List ℕ)) (f : X → Option ℕ) (n : 
 pub no_rules : {X : Type 0} (w : X → Option (List ℕ)) (f : X → Option ℕ) (n : X → ℕ) (a : X) (scale : Scale) (names labels : List (List ℕ)) (rules : List (Rule ℕ)) → HalfRules w f n a a scale names labels rules 0
 no_rules w f n a scale names labels rules = record { done = []; text = refl; prints = prints_nothing (Unit {0}) Failed (w a) (f a) (n a) tt }
 
-below_split : (n : ℕ) (ps qs : List ℕ) → AllBelow n (ps ++ qs) → AllBelow n ps × AllBelow n qs
-below_split n [] qs h = (tt, h)
-below_split n (p ∷ ps) qs h = let s = below_split n ps qs h.1 in ((h.0, s.0), s.1)
-
 trees_within : (names labels : List (List ℕ)) (ts : Trees (Symbol ℕ ℕ)) → HolesAreLeaves ts → LabelsBelow (length labels) ts → AllBelow (length names) (holes ts) → Each (λ p. IsSymbolWithin names labels p.0) (preorder ts)
 trees_within names labels none l b q = tt
 trees_within names labels (tree (symbol_label f) kids rest) l b q =
@@ -442,11 +440,6 @@ rule_within names labels rule r l b = record {
   left = r.0;
   right = subst (λ (xs : List (Symbol ℕ ℕ × ℕ)). Each (λ p. IsSymbolWithin names labels p.0) xs) (ap (λ (xs : List (Symbol ℕ ℕ × ℕ)). (rule.right.label, count rule.right.kids) ∷ xs) (append-nil (preorder rule.right.kids))) (trees_within names labels (only rule.right) l b r.1);
 }
-
-any_default : {A : Type 0} (xs : List A) (n : ℕ) (d e : A) → n < length xs → get_or xs n d ≡ get_or xs n e
-any_default [] n d e h = absurd (omega arith)
-any_default (x ∷ xs) zero d e h = refl
-any_default (x ∷ xs) (suc n) d e h = any_default xs n d e (omega arith)
 
 pub rules_within : (names labels : List (List ℕ)) (rules : List (Rule ℕ)) → AreInRange (length names) rules → SidesEndInHoles rules → AreLabelled (length labels) rules → All (IsRuleWithin names labels) rules
 rules_within names labels rules r l b k d h =

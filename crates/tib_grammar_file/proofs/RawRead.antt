@@ -14,6 +14,7 @@ use Rattle.tib_lex.specs.declared.fault.LineError.{LineError}
 use Rattle.tib_lex.specs.declared.fault.LineError.TheVariants as line_errors
 use Rattle.tib_lex.proofs.NoFeeds.{line_plain}
 use Rattle.tib_lex.proofs.LinesRead.{front_none, front_more, line_read, none_left}
+use Rattle.tib_lex.proofs.Alongs.{along_more, along_append}
 use Rattle.tib_tree.specs.Grows.{Grows, Adds, AddsAll}
 use Rattle.tib_tree.specs.Written.{Item}
 use Rattle.tib_tree.specs.Shape.{item_at, items_back}
@@ -26,7 +27,7 @@ use Rattle.tib_grammar_file.specs.Value.{left_of}
 use Rattle.tib_grammar_file.specs.declared.raw.RawItem.{RawItem}
 use Rattle.tib_grammar_file.specs.declared.raw.RawRule.{RawRule}
 use Rattle.tib_grammar_file.specs.declared.raw.RawRules.{RawRules}
-use Rattle.tib_grammar_file.proofs.Alongs.{along_changes, along_more, along_append, along_long}
+use Rattle.tib_grammar_file.proofs.Alongs.{along_changes, along_long}
 
 pub item_grows : (a b : List (List ℕ)) → Grows a b → (s : RawItem) (i : Item) → IsRaw a s i → IsRaw b s i
 item_grows a b g s i h = (g.kept s.text i.text h.0, h.1, h.2)
@@ -98,7 +99,11 @@ starts names texts raw wanted e f = record {
   same = front_none wanted;
 }
 
-step : (one : List ℕ → Result (Option RuleLine) FaultKind) (wanted : Result (List RuleLine) FileFault) (done : List RuleLine) (n at : ℕ) (bytes : List ℕ) (line : Line) (r : Result (Option RuleLine) FaultKind) → IsNextLine bytes n at line → one (slice_range bytes line.start line.end) ≡ r → front done (each_line one n (lines_of (drop at bytes))) ≡ wanted → front done (with_line n r (each_line one (n + 1) (lines_of (drop line.next bytes)))) ≡ wanted
+-- what is read of the lines from here, by what is read of the next one
+pub step :
+    {R : Type 0} (one : List ℕ → Result (Option R) FaultKind) (wanted : Result (List R) FileFault) (done : List R) (n at : ℕ) (bytes : List ℕ) (line : Line) (r : Result (Option R) FaultKind) →
+    IsNextLine bytes n at line → one (slice_range bytes line.start line.end) ≡ r → front done (each_line one n (lines_of (drop at bytes))) ≡ wanted →
+    front done (with_line n r (each_line one (n + 1) (lines_of (drop line.next bytes)))) ≡ wanted
 step one wanted done n at bytes line r is e w = ap (front done) (ap (λ x. with_line n x (each_line one (n + 1) (lines_of (drop line.next bytes)))) (sym e) ∙ sym (line_read one bytes n at line is)) ∙ w
 
 pub goes : (one : List ℕ → Result (Option RuleLine) FaultKind) (z a b t u : List (List ℕ)) (old now : RawRules) (n at : ℕ) (line : Line) (bytes : List ℕ) (wanted : Result (List RuleLine) FileFault) → IsNextLine bytes n at line → Grows a b → Grows t u → AddsLine a b u old now (Ok tt) (one (slice_range bytes line.start line.end)) → SoFar z a t old (each_line one n (lines_of (drop at bytes))) wanted → SoFar z b u now (each_line one (n + 1) (lines_of (drop line.next bytes))) wanted

@@ -6,6 +6,7 @@ use Rattle.std.specs.List.{All}
 use Rattle.std.proofs.lemmas.List.{map-append, length-append, length-drop, length-take, drop-drop, take_all}
 use Rattle.std.proofs.lemmas.Option.{slice_get_within}
 use Rattle.tib_lex.specs.Lists.{Along, Each}
+use Rattle.tib_lex.proofs.Alongs.{along_more}
 use Rattle.tib_tree.specs.Grows.{Grows}
 use Rattle.tib_tree.specs.Nodes.{rank_of}
 use Rattle.tib_tree.specs.Trees.{Tree, Trees, none, tree, only, preorder, preorder_of, count as count_trees}
@@ -22,7 +23,7 @@ use Rattle.tib_grammar_file.specs.declared.raw.RawRule.{RawRule}
 use Rattle.tib_grammar_file.specs.declared.raw.RawRules.{RawRules}
 use Rattle.tib_grammar.specs.declared.Rule.{Rule}
 use Rattle.tib_grammar_file.proofs.Meanings.{grown}
-use Rattle.tib_grammar_file.proofs.Alongs.{along_changes, along_more, along_front, along_back, along_last, along_long}
+use Rattle.tib_grammar_file.proofs.Alongs.{along_changes, along_front, along_back, along_last, along_long}
 
 same_text : (texts : List (List ℕ)) (n : ℕ) (t u : List ℕ) → slice_get texts n ≡ Some t → slice_get texts n ≡ Some u → t ≡ u
 same_text texts n t u e f = let g : Some t ≡ Some u = sym e ∙ f in cc

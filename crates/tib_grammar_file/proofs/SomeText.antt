@@ -29,7 +29,7 @@ use Rattle.tib_grammar_file.proofs.TextRead.{all_small, text_back, small_back}
 use Rattle.tib_lex.proofs.Members.{has_contains}
 
 -- a text of a table has a number
-numbered : (xs : List (List ℕ)) (t : List ℕ) → Has xs t → (n : ℕ) × (slice_get xs n ≡ Some t)
+pub numbered : (xs : List (List ℕ)) (t : List ℕ) → Has xs t → (n : ℕ) × (slice_get xs n ≡ Some t)
 numbered xs t h = let a = at_has xs t [] h in (a.0, slice_get-get_or xs a.0 [] a.1 ∙ ap Some a.2)
 
 -- a node stands for a state or a label
@@ -100,11 +100,13 @@ each_left : (names : List (List ℕ)) (lines : List RuleLine) → ((t : List ℕ
 each_left names [] f = tt
 each_left names (l ∷ lines) f = (f l.left (inl refl), each_left names lines (λ t h. f t (inr h)))
 
-one_distinct : (before : List (List ℕ)) (text : List ℕ) (now : List (List ℕ)) → Adds before text now → Distinct before → Distinct now
+-- a table without double texts stays so when a text is added
+pub one_distinct : (before : List (List ℕ)) (text : List ℕ) (now : List (List ℕ)) → Adds before text now → Distinct before → Distinct now
 one_distinct before text now (inl (held, same)) d = subst (λ (ts : List (List ℕ)). Distinct ts) (sym same) d
 one_distinct before text now (inr (new, same)) d = subst (λ (ts : List (List ℕ)). Distinct ts) (sym same) (distinct_more before text d (λ h. new (has_contains before text h)))
 
-all_distinct : (before texts now : List (List ℕ)) → AddsAll before texts now → Distinct before → Distinct now
+-- and when many are
+pub all_distinct : (before texts now : List (List ℕ)) → AddsAll before texts now → Distinct before → Distinct now
 all_distinct before [] now same d = subst (λ (ts : List (List ℕ)). Distinct ts) (sym same) d
 all_distinct before (text ∷ texts) now (middle, adds, more) d = all_distinct middle texts now more (one_distinct before text middle adds d)
 

@@ -33,13 +33,15 @@ start_in (Some (word ∷ words)) = plain_start (start_of (word ∷ words))
 unfoldable pub start_line : List ℕ → Result (Option (List ℕ)) FaultKind
 start_line line = start_in (words_of line)
 
-abbrev pub started : List ℕ → Result (List RuleLine) FileFault →
-    Result (List ℕ × List RuleLine) FileFault
+-- a start before rules that were read
+abbrev pub started : {R : Type 0} → List ℕ → Result (List R) FileFault →
+    Result (List ℕ × List R) FileFault
 started start (Ok rules) = Ok (start, rules)
 started start (Err fault) = Err fault
 
-abbrev pub with_start : ℕ → Result (Option (List ℕ)) FaultKind → Result (List RuleLine) FileFault →
-    Result (List ℕ × List RuleLine) FileFault → Result (List ℕ × List RuleLine) FileFault
+-- what is read of a file, by what is read of its first line in the start's place
+abbrev pub with_start : {R : Type 0} → ℕ → Result (Option (List ℕ)) FaultKind → Result (List R) FileFault →
+    Result (List ℕ × List R) FileFault → Result (List ℕ × List R) FileFault
 with_start n (Err kind) rules more = Err (fault_at n kind)
 with_start n (Ok None) rules more = more
 with_start n (Ok (Some start)) rules more = started start rules

@@ -2,7 +2,7 @@
 use Rattle.std.specs.Prelude.{◌≡◌, ℕ, ◌<◌, ◌≤◌, ◌↔◌, List, [], ◌∷◌, length, map, Bool, refl, Option}
 use Rattle.std.proofs.Common.{arith, ap, sym, ◌∙◌, subst, inl, inr, get_or}
 use Rattle.std.proofs.lemmas.List.{get_or-map, length-map}
-use Rattle.tib_lex.specs.Lists.{Has, Each, Distinct, Ascends}
+use Rattle.tib_lex.specs.Lists.{Has, Each, Distinct}
 use Rattle.tib_tree.specs.Trees.{Tree, Trees, none, tree, join, only}
 use Rattle.tib_grammar.specs.Sides.{holes, holes_of, fill}
 use Rattle.tib_grammar.specs.Run.{rule_at, no_rule, AreRuns, yields, cost, IsCost}
@@ -11,21 +11,15 @@ use Rattle.tib_grammar.specs.Range.{AllBelow}
 use Rattle.tib_grammar.specs.GrammarOf.{GrammarOf, named_rule}
 use Rattle.tib_grammar.specs.declared.Rule.{Rule}
 use Rattle.tib_grammar.proofs.Sides.{holes-relabel, fill-relabel}
-use Rattle.tib_grammar.proofs.Members.{has_at, at_has, each_has, each_of}
+use Rattle.tib_grammar.proofs.Members.{has_at, at_has, each_of}
 use Rattle.tib_cost.specs.Semiring.{ProductLaws, most}
 use Rattle.tib_cost.proofs.Least.{IsLeast-dominated, at_least_right}
+use Rattle.tib_lex.proofs.Members.{least_first}
 use Rattle.tib_inside.specs.Inside.{IsInside}
 use Rattle.tib_inside.specs.Useful.{IsLive, IsUseful, below}
 use Rattle.tib_inside.specs.Trimmed.{IsTrimmed}
 use Rattle.tib_inside.proofs.Chosen.{distinct_at, ascending_distinct}
 use Rattle.tib_inside.proofs.Living.{live_by_runs, useful_left}
-
-least_first : (xs : List ℕ) → Ascends ◌<◌ xs → Has xs 0 → (0 < length xs) × (get_or xs 0 0 ≡ 0)
-least_first [] a h = absurd h
-least_first (x ∷ xs) a h = elim h [
-  | inl e ↦ (omega arith, e)
-  | inr k ↦ let low : x < 0 = each_has (λ y. x < y) xs 0 a.0 k in absurd (omega arith)
-]
 
 module _ (product : ℕ → ℕ → ℕ) (old new : GrammarOf) (trimmed : IsTrimmed product old new) where
   pub as_many : length new.rules ≡ length trimmed.rules

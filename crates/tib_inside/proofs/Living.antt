@@ -46,8 +46,9 @@ module _
   AreKnown : List ℕ → List ℕ → Type 0
   AreKnown qs ds = Along (λ q c. IsInside product rules q (Some c)) qs ds
 
+  -- the product of known inside costs is what is computed
   -- the product of the inside costs, as it is computed
-  total_known : (qs ds : List ℕ) → Along (λ q c. IsInside product rules q (Some c)) qs ds → product_of product ds ≤ most → total product costs qs ≡ Some (product_of product ds)
+  pub total_known : (qs ds : List ℕ) → Along (λ q c. IsInside product rules q (Some c)) qs ds → product_of product ds ≤ most → total product costs qs ≡ Some (product_of product ds)
   total_known [] [] a b = refl
   total_known [] (d ∷ ds) a b = absurd a
   total_known (q ∷ qs) [] a b = absurd a
@@ -57,12 +58,14 @@ module _
       ∙ ap (times product (Some d)) (total_known qs ds a.1 (omega arith))
       ∙ cut-within (product d (product_of product ds)) b
 
-  record Known (qs : List ℕ) (d : ℕ) : Type 0 where
-    values : List ℕ
-    are : Along (λ q c. IsInside product rules q (Some c)) qs values
-    product_is : product_of product values ≡ d
+  -- inside costs of states whose product is d
+  pub record Known (qs : List ℕ) (d : ℕ) : Type 0 where
+    pub values : List ℕ
+    pub are : Along (λ q c. IsInside product rules q (Some c)) qs values
+    pub product_is : product_of product values ≡ d
 
-  known_total : (qs : List ℕ) (d : ℕ) → total product costs qs ≡ Some d → Known qs d
+  -- and what is computed is the product of inside costs
+  pub known_total : (qs : List ℕ) (d : ℕ) → total product costs qs ≡ Some d → Known qs d
   known_total [] d e = record { values = []; are = tt; product_is = cc }
   known_total (q ∷ qs) d e = go (costs q) (total product costs qs) refl (λ y k. known_total qs y k) e
     where

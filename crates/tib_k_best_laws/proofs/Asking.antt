@@ -10,7 +10,7 @@ use Rattle.tib_grammar.specs.Run.{rule_at}
 use Rattle.tib_grammar.specs.declared.Rule.{Rule}
 use Rattle.tib_lex.proofs.Members.{each_has, at_has, has_at}
 use Rattle.tib_k_best_laws.specs.First.{NoLater, IsNext}
-use Rattle.tib_k_best_laws.specs.Best.{Cheaper, IsTreeAt}
+use Rattle.tib_k_best_laws.specs.Best.{Cheaper, IsTreeAt, NotAfter}
 use Rattle.tib_k_best_laws.specs.Levels.{made, states_of}
 use Rattle.tib_k_best_laws.specs.Pass.{Entries, no_entry, entry_at, picked, AreRanks, zeros, offer, HasTree, IsKnown}
 use Rattle.tib_k_best_laws.specs.Lazy.{IsWhole, IsReady, AskingListsBest}
@@ -27,9 +27,6 @@ module _ {levelled weighted : Bool} {product : ℕ → ℕ → ℕ} (laws : Prod
   abbrev At : ℕ → Tree ℕ × ℕ → Type 0
   At q a = IsTreeAt product rules q a
 
-  abbrev NotAfter : Tree ℕ × ℕ → Tree ℕ × ℕ → Type 0
-  NotAfter a b = NoLater (Cheaper labels) a b
-
   -- the rank at which a state lists a tree, or its last rank where it lacks the tree
   abbrev AreTargets : List ℕ → List ℕ → List (Tree ℕ × ℕ) → Type 0
   AreTargets [] [] [] = Unit {0}
@@ -44,7 +41,7 @@ module _ {levelled weighted : Bool} {product : ℕ → ℕ → ℕ} (laws : Prod
     ranks : List ℕ
     are_targets : AreTargets ps ranks zs
     are_ranks : AreRanks entries ps ranks
-    low : Along NotAfter (picked entries ps ranks) zs
+    low : Along (NotAfter labels) (picked entries ps ranks) zs
 
   last_of : (n : ℕ) → 0 < n → (m : ℕ) × (suc m ≡ n)
   last_of zero h = absurd (omega arith)
@@ -102,12 +99,12 @@ module _ {levelled weighted : Bool} {product : ℕ → ℕ → ℕ} (laws : Prod
     rule : ℕ
     ranks : List ℕ
     stands : Has held (rule, ranks)
-    low : NotAfter (offer product rules entries rule ranks) y
+    low : NotAfter labels (offer product rules entries rule ranks) y
 
   -- the candidates reach ranks that name a tree no later than y
   reached :
       (y : Tree ℕ × ℕ) → y.1 ≤ most → (n : ℕ) → n < length rules → (rule_at rules n).left ≡ u → (js : List ℕ) →
-      AreRanks entries (states_of (rule_at rules n)) js → NotAfter (offer product rules entries n js) y → (HasTree (entries u) (offer product rules entries n js).0 → ⊥) → IsCovered y
+      AreRanks entries (states_of (rule_at rules n)) js → NotAfter labels (offer product rules entries n js) y → (HasTree (entries u) (offer product rules entries n js).0 → ⊥) → IsCovered y
   reached y b n h left js r low new =
       elim (plain_walk laws labels rules orderly entries ready.fronts taken held n (ready.kept.followed n h left) [] [] (states_of (rule_at rules n)) js refl refl r fits
       (ready.kept.begun n h left (fits (zeros (states_of (rule_at rules n))) (zeros_lower entries (states_of (rule_at rules n)) js r)))) [
@@ -135,8 +132,8 @@ module _ {levelled weighted : Bool} {product : ℕ → ℕ → ℕ} (laws : Prod
       let r : Rule ℕ = rule_at rules o.rule in
       let started = ready.kept.started o.rule o.below o.left in
       let t = targets (states_of r) o.kids o.along started in
-      let low : NotAfter (offer product rules entries o.rule t.ranks) y =
-      subst (NotAfter (offer product rules entries o.rule t.ranks)) o.is_made
+      let low : NotAfter labels (offer product rules entries o.rule t.ranks) y =
+      subst (NotAfter labels (offer product rules entries o.rule t.ranks)) o.is_made
       (grows_along labels laws (IsTreeAt product rules) orderly r (states_of r) [] (picked entries (states_of r) t.ranks) o.kids
       (along_picked product labels rules entries ready.fronts (states_of r) t.ranks t.are_ranks) o.along t.low)
       in
@@ -178,8 +175,8 @@ module _ {levelled weighted : Bool} {product : ℕ → ℕ → ℕ} (laws : Prod
                     let is_row : offer product rules entries o.rule ranks ≡ made product r (f.before ++ x.0 ∷ f.after) =
                     ap (made product r) (f.picks at.0 ∙ ap (λ z. f.before ++ z ∷ f.after) at.2)
                     in
-                    let down : NotAfter (offer product rules entries o.rule ranks) y =
-                    subst (NotAfter (offer product rules entries o.rule ranks)) o.is_made
+                    let down : NotAfter labels (offer product rules entries o.rule ranks) y =
+                    subst (NotAfter labels (offer product rules entries o.rule ranks)) o.is_made
                     (grows_along labels laws (IsTreeAt product rules) orderly r (states_of r) [] (picked entries (states_of r) ranks) o.kids
                     (along_picked product labels rules entries ready.fronts (states_of r) ranks (f.ranks at.0 at.1)) o.along (f.low at.0 at.1))
                     in
@@ -202,7 +199,7 @@ module _ {levelled weighted : Bool} {product : ℕ → ℕ → ℕ} (laws : Prod
       let range = ready.kept.in_range n js stands in
       let c = closed laws rules normal n range.0 (picked entries (states_of (rule_at rules n)) js) (along_picked product labels rules entries ready.fronts (states_of (rule_at rules n)) js range.2) range.3 in
       let is_tree : At u (x.0, c.cost) = subst (λ q. At q (x.0, c.cost)) range.1 c.is_tree in
-      let first : (y : Tree ℕ × ℕ) → At u y → (Has (entries u) y → ⊥) → NotAfter x y =
+      let first : (y : Tree ℕ × ℕ) → At u y → (Has (entries u) y → ⊥) → NotAfter labels x y =
       λ y a out. let v = covered few y a out in no_later_trans (cheaper_strict labels) x (offer product rules entries v.rule v.ranks) y (least v.rule v.ranks v.stands) v.low
       in
       let up : x.1 ≤ c.cost = no_later_cost labels x (x.0, c.cost) (first (x.0, c.cost) is_tree (λ h. new (c.cost, h))) in

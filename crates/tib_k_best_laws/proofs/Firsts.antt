@@ -10,7 +10,7 @@ use Rattle.tib_grammar.specs.Run.{rule_at}
 use Rattle.tib_grammar.specs.declared.Rule.{Rule}
 use Rattle.tib_lex.proofs.Members.{each_has, at_has, has_at}
 use Rattle.tib_k_best_laws.specs.First.{NoLater, IsFront, IsNext}
-use Rattle.tib_k_best_laws.specs.Best.{Cheaper, IsTreeAt}
+use Rattle.tib_k_best_laws.specs.Best.{Cheaper, IsTreeAt, NotAfter}
 use Rattle.tib_k_best_laws.specs.Levels.{IsOrderly, trees_of, made, states_of}
 use Rattle.tib_k_best_laws.specs.Pass.{Entries, no_entry, entry_at, picked, AreRanks, zeros}
 use Rattle.tib_k_best_laws.specs.Firsts.{IsReady, first_offer, NoLarger, FirstsAreBest}
@@ -18,11 +18,11 @@ use Rattle.tib_k_best_laws.proofs.Fronts.{no_later_trans}
 use Rattle.tib_k_best_laws.proofs.Ranks.{cheaper_strict}
 use Rattle.tib_k_best_laws.proofs.Opening.{opened, closed, orderly, AreOrderly}
 use Rattle.tib_tree_order.proofs.Orderings.{nat_less}
-use Rattle.tib_tree_order.proofs.Relabelling.{sizes-relabel}
 use Rattle.tib_k_best_laws.proofs.Growing.{grows_along, size-trees_of, cost-total, no_smaller}
 use Rattle.tib_k_best_laws.proofs.Telling.{has_or}
 use Rattle.tib_k_best_laws.proofs.Walking.{along_picked, no_later_cost, no_later_at}
 use Rattle.tib_cost.proofs.Least.{at_least_right}
+use Rattle.tib_tree.proofs.Counts.{sizes-relabel}
 
 -- a is smaller: it costs less, or as much and has fewer nodes
 abbrev IsSmaller : Tree ℕ × ℕ → Tree ℕ × ℕ → Type 0
@@ -60,9 +60,6 @@ module _ {levelled weighted : Bool} {product : ℕ → ℕ → ℕ} (laws : Prod
   abbrev At : ℕ → Tree ℕ × ℕ → Type 0
   At q a = IsTreeAt product rules q a
 
-  abbrev NotAfter : Tree ℕ × ℕ → Tree ℕ × ℕ → Type 0
-  NotAfter a b = NoLater (Cheaper labels) a b
-
   -- a child whose state has no tree yet
   record IsOpen (zs : List (Tree ℕ × ℕ)) : Type 0 where
     state : ℕ
@@ -88,7 +85,7 @@ module _ {levelled weighted : Bool} {product : ℕ → ℕ → ℕ} (laws : Prod
   ]
 
   -- the first entries are no later than any trees
-  firsts_low : (qs : List ℕ) (zs : List (Tree ℕ × ℕ)) → Along (IsTreeAt product rules) qs zs → AreRanks entries qs (zeros qs) → Along NotAfter (picked entries qs (zeros qs)) zs
+  firsts_low : (qs : List ℕ) (zs : List (Tree ℕ × ℕ)) → Along (IsTreeAt product rules) qs zs → AreRanks entries qs (zeros qs) → Along (NotAfter labels) (picked entries qs (zeros qs)) zs
   firsts_low [] [] a r = tt
   firsts_low [] (z ∷ zs) a r = absurd a
   firsts_low (q ∷ qs) [] a r = absurd a
@@ -96,7 +93,7 @@ module _ {levelled weighted : Bool} {product : ℕ → ℕ → ℕ} (laws : Prod
     elim (has_or (entries q) z) [
       | inl h ↦
           let at = at_has (entries q) z no_entry h in
-          subst (NotAfter (entry_at entries q 0)) at.2 (no_later_at (Cheaper labels) no_entry (entries q) (fronts q).ascends 0 at.0 (omega arith) at.1)
+          subst (NotAfter labels (entry_at entries q 0)) at.2 (no_later_at (Cheaper labels) no_entry (entries q) (fronts q).ascends 0 at.0 (omega arith) at.1)
       | inr n ↦ inr (each_has (λ x. Cheaper labels x z) (entries q) (entry_at entries q 0) ((fronts q).others z a.0 n) (has_at (entries q) 0 no_entry r.0))
     ],
     firsts_low qs zs a.1 r.1,
@@ -106,7 +103,7 @@ module _ {levelled weighted : Bool} {product : ℕ → ℕ → ℕ} (laws : Prod
   record IsCovered (q : ℕ) (y : Tree ℕ × ℕ) : Type 0 where
     rule : ℕ
     ready : IsReady product rules entries rule
-    low : (((rule_at rules rule).left ≡ q) × NotAfter (first_offer product rules entries rule) y) ⊎ IsSmaller (first_offer product rules entries rule) y
+    low : (((rule_at rules rule).left ≡ q) × NotAfter labels (first_offer product rules entries rule) y) ⊎ IsSmaller (first_offer product rules entries rule) y
 
   no_larger : (q : ℕ) (y : Tree ℕ × ℕ) (c : IsCovered q y) → NoLarger (first_offer product rules entries c.rule) y
   no_larger q y c = elim c.low [ inl h ↦ no_later_no_larger labels (first_offer product rules entries c.rule) y h.1 | inr h ↦ smaller_larger (first_offer product rules entries c.rule) y h ]
@@ -137,8 +134,8 @@ module _ {levelled weighted : Bool} {product : ℕ → ℕ → ℕ} (laws : Prod
             let up : IsSmaller p.child y = subst (IsSmaller p.child) o.is_made (child_smaller r o.kids p.child p.stands) in
             record { rule = c.rule; ready = c.ready; low = inr (larger_smaller (first_offer product rules entries c.rule) p.child y (no_larger p.state p.child c) up) }
         | inr all ↦
-            let low : NotAfter (first_offer product rules entries o.rule) y =
-            subst (NotAfter (first_offer product rules entries o.rule)) o.is_made
+            let low : NotAfter labels (first_offer product rules entries o.rule) y =
+            subst (NotAfter labels (first_offer product rules entries o.rule)) o.is_made
             (grows_along labels laws (IsTreeAt product rules) orderly r (states_of r) [] (picked entries (states_of r) (zeros (states_of r))) o.kids
             (along_picked product labels rules entries fronts (states_of r) (zeros (states_of r)) all) o.along (firsts_low (states_of r) o.kids o.along all))
             in
@@ -159,7 +156,7 @@ module _ {levelled weighted : Bool} {product : ℕ → ℕ → ℕ} (laws : Prod
       let q : ℕ = (rule_at rules n).left in
       let x : Tree ℕ × ℕ = first_offer product rules entries n in
       let c = closed laws rules normal n ready.below (picked entries (states_of (rule_at rules n)) (zeros (states_of (rule_at rules n)))) (along_picked product labels rules entries fronts (states_of (rule_at rules n)) (zeros (states_of (rule_at rules n))) ready.ranks) ready.fits in
-      let first : (y : Tree ℕ × ℕ) → At q y → NotAfter x y =
+      let first : (y : Tree ℕ × ℕ) → At q y → NotAfter labels x y =
       λ y a.
       let v = covered (size y.0) q y (le_refl (size y.0)) a ready.open_state in
       elim v.low [

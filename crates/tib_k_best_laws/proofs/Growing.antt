@@ -13,6 +13,7 @@ use Rattle.tib_tree.specs.Trees.{Tree, Trees, count, sizes, size, relabel}
 use Rattle.tib_tree.specs.Growth.{text_at}
 use Rattle.tib_cost.specs.Semiring.{ProductLaws}
 use Rattle.tib_cost.proofs.Least.{at_least_right}
+use Rattle.tib_tree.proofs.Counts.{sizes-relabel}
 use Rattle.tib_grammar.specs.declared.Rule.{Rule}
 use Rattle.tib_tree_order.specs.Order.{trees_cmp, tree_cmp_by}
 use Rattle.tib_k_best_laws.specs.First.{NoLater}
@@ -20,7 +21,6 @@ use Rattle.tib_k_best_laws.specs.Best.{Cheaper}
 use Rattle.tib_k_best_laws.specs.Levels.{root_of, trees_of, total, made}
 use Rattle.tib_tree_order.proofs.TreeOrder.{trees_total}
 use Rattle.tib_tree_order.proofs.Orderings.{nat_itself, nat_less}
-use Rattle.tib_tree_order.proofs.Relabelling.{sizes-relabel}
 use Rattle.tib_k_best_laws.proofs.Fronts.{no_later_trans}
 use Rattle.tib_k_best_laws.proofs.Ranks.{cheaper_strict}
 

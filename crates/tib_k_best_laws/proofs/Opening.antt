@@ -10,8 +10,8 @@ use Rattle.tib_grammar.specs.Sides.{Symbol, label, hole, holes}
 use Rattle.tib_grammar.specs.Run.{rule_at, AreRuns, cost, IsCost}
 use Rattle.tib_grammar.specs.Forms.{IsLabel, AreNormal}
 use Rattle.tib_grammar.specs.declared.Rule.{Rule}
-use Rattle.tib_grammar.proofs.NormalRuns.{none_to, split_all, merge_all, BeginsBelow, begin, finish}
-use Rattle.tib_grammar.proofs.Best.{best, best-is_least, no_trees, no_states}
+use Rattle.tib_grammar.proofs.NormalRuns.{none_to, split_all, merge_all, BeginsBelow, begin, finish, no_states}
+use Rattle.tib_grammar.proofs.Best.{best, best-is_least, no_trees}
 use Rattle.tib_k_best_laws.specs.Best.{IsTreeAt}
 use Rattle.tib_k_best_laws.specs.Levels.{IsOrderly, root_of, trees_of, total, made, states_of}
 
@@ -48,7 +48,7 @@ module _ {levelled weighted : Bool} {product : ℕ → ℕ → ℕ} (laws : Prod
       let e : c ≡ 0 = none_to laws rules c h in
       record { kids = []; along = tt; trees = refl; low = omega arith; cost_is = record { runs = none; are_runs = tt; yielded = refl; costs = refl } }
   children none (q ∷ qs) c h b = absurd (no_trees laws rules normal q qs c h)
-  children (tree f ks rest) [] c h b = absurd (no_states laws rules normal f ks rest c h)
+  children (tree f ks rest) [] c h b = absurd (no_states rules f ks rest c h)
   children (tree f ks rest) (q ∷ qs) c h b =
       let p = split_all laws rules q qs f ks rest c h in
       let left : p.0 ≤ most = omega (arith, laws.at_least p.0 p.1, p.4, b) in

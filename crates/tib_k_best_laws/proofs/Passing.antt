@@ -8,8 +8,8 @@ use Rattle.tib_grammar.specs.Forms.{AreNormal}
 use Rattle.tib_grammar.specs.Run.{rule_at}
 use Rattle.tib_grammar.specs.declared.Rule.{Rule}
 use Rattle.tib_lex.proofs.Members.{at_has}
-use Rattle.tib_k_best_laws.specs.First.{NoLater, IsNext}
-use Rattle.tib_k_best_laws.specs.Best.{Cheaper, IsTreeAt}
+use Rattle.tib_k_best_laws.specs.First.{IsNext}
+use Rattle.tib_k_best_laws.specs.Best.{Cheaper, IsTreeAt, NotAfter}
 use Rattle.tib_k_best_laws.specs.Levels.{trees_of, made, states_of}
 use Rattle.tib_k_best_laws.specs.Pass.{Entries, no_entry, picked, AreRanks, offer, HasTree, IsPass, IsLeastHeld, PassListsBest}
 use Rattle.tib_k_best_laws.proofs.Fronts.{no_later_trans}
@@ -25,10 +25,7 @@ module _ {levelled weighted : Bool} {product : ℕ → ℕ → ℕ} (laws : Prod
   abbrev At : ℕ → Tree ℕ × ℕ → Type 0
   At q a = IsTreeAt product rules q a
 
-  abbrev NotAfter : Tree ℕ × ℕ → Tree ℕ × ℕ → Type 0
-  NotAfter a b = NoLater (Cheaper labels) a b
-
-  trans : (x y z : Tree ℕ × ℕ) → NotAfter x y → NotAfter y z → NotAfter x z
+  trans : (x y z : Tree ℕ × ℕ) → NotAfter labels x y → NotAfter labels y z → NotAfter labels x z
   trans x y z = no_later_trans (cheaper_strict labels) x y z
 
   -- a child that a list which is not full lacks
@@ -63,12 +60,12 @@ module _ {levelled weighted : Bool} {product : ℕ → ℕ → ℕ} (laws : Prod
     pub rule : ℕ
     pub ranks : List ℕ
     pub stands : Has held (rule, ranks)
-    pub low : NotAfter (offer product rules entries rule ranks) y
+    pub low : NotAfter labels (offer product rules entries rule ranks) y
 
   -- the candidates reach ranks that name a tree no later than y
   reached :
       (q : ℕ) (y : Tree ℕ × ℕ) → y.1 ≤ most → length (entries q) < k → (n : ℕ) → n < length rules → (rule_at rules n).left ≡ q → (js : List ℕ) →
-      AreRanks entries (states_of (rule_at rules n)) js → NotAfter (offer product rules entries n js) y → (HasTree (entries q) (offer product rules entries n js).0 → ⊥) → IsCovered y
+      AreRanks entries (states_of (rule_at rules n)) js → NotAfter labels (offer product rules entries n js) y → (HasTree (entries q) (offer product rules entries n js).0 → ⊥) → IsCovered y
   reached q y b few n h left js r low new =
       elim (reach laws labels rules orderly entries pass.fronts taken held k pass n h js r (omega (arith, b, no_later_cost labels (offer product rules entries n js) y low))) [
         | inl w ↦ record {
@@ -94,7 +91,7 @@ module _ {levelled weighted : Bool} {product : ℕ → ℕ → ℕ} (laws : Prod
             let inside : size p.child.0 ≤ sizes (trees_of o.kids) = size-trees_of o.kids p.child p.stands in
             let whole : sizes (trees_of o.kids) ≡ sizes y.0.kids = ap (λ (x : Tree ℕ × ℕ). sizes x.0.kids) o.is_made in
             let c = covered s p.state p.child (omega (arith, inside, whole, small)) p.at p.new p.few in
-            let up : NotAfter p.child y = inr (subst (Cheaper labels p.child) o.is_made (child_before labels laws r o.kids p.child p.stands)) in
+            let up : NotAfter labels p.child y = inr (subst (Cheaper labels p.child) o.is_made (child_before labels laws r o.kids p.child p.stands)) in
             record { rule = c.rule; ranks = c.ranks; stands = c.stands; low = trans (offer product rules entries c.rule c.ranks) p.child y c.low up }
         | inr all ↦
             let st = settle product labels rules k entries pass.fronts (omega arith) (states_of r) o.kids o.along all in
@@ -117,8 +114,8 @@ module _ {levelled weighted : Bool} {product : ℕ → ℕ → ℕ} (laws : Prod
                     let is_row : offer product rules entries o.rule ranks ≡ made product r (f.before ++ x.0 ∷ f.after) =
                     ap (made product r) (f.picks at.0 ∙ ap (λ z. f.before ++ z ∷ f.after) at.2)
                     in
-                    let low : NotAfter (offer product rules entries o.rule ranks) y =
-                    subst (NotAfter (offer product rules entries o.rule ranks)) o.is_made
+                    let low : NotAfter labels (offer product rules entries o.rule ranks) y =
+                    subst (NotAfter labels (offer product rules entries o.rule ranks)) o.is_made
                     (grows_along labels laws (IsTreeAt product rules) orderly r (states_of r) [] (picked entries (states_of r) ranks) o.kids
                     (along_picked product labels rules entries pass.fronts (states_of r) ranks (f.ranks at.0 at.1)) o.along (f.low at.0 at.1))
                     in
@@ -138,7 +135,7 @@ module _ {levelled weighted : Bool} {product : ℕ → ℕ → ℕ} (laws : Prod
       let x : Tree ℕ × ℕ = offer product rules entries n js in
       let range = pass.in_range n js l.stands in
       let c = closed laws rules normal n range.0 (picked entries (states_of (rule_at rules n)) js) (along_picked product labels rules entries pass.fronts (states_of (rule_at rules n)) js range.1) range.2 in
-      let first : (y : Tree ℕ × ℕ) → At q y → (Has (entries q) y → ⊥) → NotAfter x y =
+      let first : (y : Tree ℕ × ℕ) → At q y → (Has (entries q) y → ⊥) → NotAfter labels x y =
       λ y a out. let v = covered (size y.0) q y (le_refl (size y.0)) a out few in trans x (offer product rules entries v.rule v.ranks) y (l.least v.rule v.ranks v.stands) v.low
       in
       let up : x.1 ≤ c.cost = no_later_cost labels x (x.0, c.cost) (first (x.0, c.cost) c.is_tree (λ h. new (c.cost, h))) in

@@ -1,9 +1,10 @@
 -- The order of trees with costs is strict and total, and so there is one list of the k best trees.
-use Rattle.std.specs.Prelude.{◌≡◌, ℕ, ◌<◌, ◌⊎◌, List, [], ◌∷◌, length, refl}
+use Rattle.std.specs.Prelude.{◌≡◌, ℕ, ◌⊎◌, List, [], ◌∷◌, length, refl}
 use Rattle.std.proofs.Common.{zero, suc, arith, ap, sym, ◌∙◌, subst, inl, inr}
 use Rattle.std.specs.declared.cmp.Ordering.{Ordering}
 use Rattle.std.specs.declared.cmp.Ordering.TheVariants.{Less, Equal, Greater}
 use Rattle.std.specs.Ordering.{ordering_reverse}
+use Rattle.tib_lex.proofs.Numbers.{nat_three}
 use Rattle.tib_tree.specs.Trees.{Tree, Trees, none, tree, only, join, first_trees, other_trees, relabel_tree}
 use Rattle.tib_tree.specs.Growth.{text_at, LabelsBelow}
 use Rattle.tib_tree.specs.Grows.{AreDistinct}
@@ -49,9 +50,6 @@ yields-below n rules l (q ∷ qs) (tree m runs rest) a =
     join-below n _ _ (fill-below n (only (rule_at rules m).right) (yields rules runs) (l m a.0) (yields-below n rules l (holes_of (rule_at rules m).right) runs a.2)) (yields-below n rules l qs rest a.3)
 
 -- of two trees with costs one is cheaper, or they are the same
-
-nat_three : (a b : ℕ) → (a < b) ⊎ ((a ≡ b) ⊎ (b < a))
-nat_three a b = grind arith
 
 three : (o : Ordering) → (o ≡ Less) ⊎ ((o ≡ Equal) ⊎ (o ≡ Greater))
 three Less = inl refl

@@ -6,8 +6,8 @@ use Rattle.tib_tree.specs.Trees.{Tree}
 use Rattle.tib_cost.proofs.Least.{IsLeast-unique}
 use Rattle.tib_grammar.specs.declared.Rule.{Rule}
 use Rattle.tib_lex.proofs.Members.{each_has, each_of, at_has}
-use Rattle.tib_k_best_laws.specs.First.{NoLater, IsFront}
-use Rattle.tib_k_best_laws.specs.Best.{Cheaper, IsTreeAt}
+use Rattle.tib_k_best_laws.specs.First.{IsFront}
+use Rattle.tib_k_best_laws.specs.Best.{Cheaper, IsTreeAt, NotAfter}
 use Rattle.tib_k_best_laws.specs.Levels.{trees_of, made}
 use Rattle.tib_k_best_laws.specs.Pass.{Entries, no_entry, entry_at, picked, AreRanks, HasTree}
 use Rattle.tib_k_best_laws.proofs.Fronts.{not_itself}
@@ -25,9 +25,6 @@ row_tells (f ∷ fs) bs x y e = let r : trees_of (fs ++ x ∷ bs) ≡ trees_of (
 module _ (product : ℕ → ℕ → ℕ) (labels : List (List ℕ)) (rules : List (Rule ℕ)) (k : ℕ) (entries : Entries) (fronts : (q : ℕ) → IsFront (IsTreeAt product rules q) (Cheaper labels) (entries q)) where
   abbrev pub At : ℕ → Tree ℕ × ℕ → Type 0
   At q a = IsTreeAt product rules q a
-
-  abbrev pub NotAfter : Tree ℕ × ℕ → Tree ℕ × ℕ → Type 0
-  NotAfter a b = NoLater (Cheaper labels) a b
 
   -- a tree has one cost at a state
   pub one_cost : (q : ℕ) (t : Tree ℕ) (c d : ℕ) → At q (t, c) → At q (t, d) → c ≡ d
@@ -53,12 +50,12 @@ module _ (product : ℕ → ℕ → ℕ) (labels : List (List ℕ)) (rules : Lis
     pub after : List (Tree ℕ × ℕ)
     pub ranks : (m : ℕ) → m < length (entries state) → AreRanks entries qs (front ++ m ∷ back)
     pub picks : (m : ℕ) → picked entries qs (front ++ m ∷ back) ≡ before ++ entry_at entries state m ∷ after
-    pub low : (m : ℕ) → m < length (entries state) → Along NotAfter (picked entries qs (front ++ m ∷ back)) zs
+    pub low : (m : ℕ) → m < length (entries state) → Along (NotAfter labels) (picked entries qs (front ++ m ∷ back)) zs
 
   pub record IsSettled (qs : List ℕ) (zs : List (Tree ℕ × ℕ)) : Type 0 where
     pub ranks : List ℕ
     pub are_ranks : AreRanks entries qs ranks
-    pub low : Along NotAfter (picked entries qs ranks) zs
+    pub low : Along (NotAfter labels) (picked entries qs ranks) zs
     pub which : (picked entries qs ranks ≡ zs) ⊎ IsFull qs zs
 
   pub settle : 0 < k → (qs : List ℕ) (zs : List (Tree ℕ × ℕ)) → Along (IsTreeAt product rules) qs zs → AreClosed qs zs → IsSettled qs zs
@@ -70,7 +67,7 @@ module _ (product : ℕ → ℕ → ℕ) (labels : List (List ℕ)) (rules : Lis
       elim c.0 [
         | inl h ↦
             let at = at_has (entries q) z no_entry h in
-            let head : NotAfter (entry_at entries q at.0) z = inl at.2 in
+            let head : NotAfter labels (entry_at entries q at.0) z = inl at.2 in
             record {
               ranks = at.0 ∷ rest.ranks;
               are_ranks = (at.1, rest.are_ranks);
@@ -91,7 +88,7 @@ module _ (product : ℕ → ℕ → ℕ) (labels : List (List ℕ)) (rules : Lis
               ];
             }
         | inr n ↦
-            let under : (m : ℕ) → m < length (entries q) → NotAfter (entry_at entries q m) z =
+            let under : (m : ℕ) → m < length (entries q) → NotAfter labels (entry_at entries q m) z =
             λ m b. inr (each_has (λ x. Cheaper labels x z) (entries q) (entry_at entries q m) ((fronts q).others z a.0 n.0) (Rattle.tib_lex.proofs.Members.has_at (entries q) m no_entry b))
             in
             let here : 0 < length (entries q) = omega (arith, n.1) in

@@ -111,3 +111,7 @@ LargeIsListed product =
     (labels : List (List ℕ)) (rules : List (Rule ℕ)) (k q : ℕ) (xs : List Costed) →
     IsFirstAt product labels rules q k xs → (h : HasLarge product labels rules k q) →
     Has xs h.tree
+
+-- a comes before b, or is b
+abbrev pub NotAfter : List (List ℕ) → Costed → Costed → Type 0
+NotAfter labels a b = NoLater (Cheaper labels) a b

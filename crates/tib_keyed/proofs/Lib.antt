@@ -1,3 +1,4 @@
-pub mod Partners
 pub mod Tagged
 pub mod KeyOrders
+pub mod Ends
+pub mod Limits

@@ -42,3 +42,8 @@ or-true false = refl
 -- what follows from each of two cases that exclude one another can't fail
 pub either_way : (A : Type 0) → (A ⊎ (A → ⊥) → ⊥) → ⊥
 either_way A k = k (inr (λ a. k (inl a)))
+
+-- a conjunction fails where its second part does
+pub and-false : (b : Bool) → (b && false) ≡ false
+and-false true = refl
+and-false false = refl

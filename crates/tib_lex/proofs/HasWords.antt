@@ -46,7 +46,8 @@ black_name : (text rest : List ℕ) → IsName text → begins_blank (text ++ re
 black_name [] rest w = absurd (omega (arith, w.some))
 black_name (b ∷ text) rest w = name_black b (and_true (is_name_byte b) (list_all is_name_byte text) w.bytes).0
 
-black_word : (word : Word) (rest : List ℕ) → IsWord word → begins_blank (spelling word ++ rest) ≡ false
+-- a word begins with no blank
+pub black_word : (word : Word) (rest : List ℕ) → IsWord word → begins_blank (spelling word ++ rest) ≡ false
 black_word open_ rest w = refl
 black_word close rest w = refl
 black_word hash rest w = refl
@@ -231,7 +232,8 @@ means bytes at lexed.End black e = quiet_alone bytes at e
 means bytes at (lexed.BadToken p) black e = record { loud = loud_of bytes at p e; black = black; no_word = no_word_of bytes at p e }
 means bytes at (lexed.Token t) black e = found bytes at t e
 
-same_token : (t : Token) (word : Word) (at : ℕ) → lexed.Token t ≡ span (kind_of word) at (length (spelling word)) → t ≡ token_of word at
+-- a token that is told like a word is the token of the word
+pub same_token : (t : Token) (word : Word) (at : ℕ) → lexed.Token t ≡ span (kind_of word) at (length (spelling word)) → t ≡ token_of word at
 same_token t word at e = cc
 
 -- the word that was read, in front of what is read behind it

@@ -1,8 +1,8 @@
--- Laws of lists: their parts, their appending, and what holds of each member.
+-- Laws of lists: their parts, their appending, their mapping, and what holds of each member.
 use Rattle.std.specs.Prelude.{◌≡◌, ◌<◌, ◌+◌, ℕ, Bool, not, cond, List, [], ◌∷◌, ◌++◌, length, map, Some, None, nat_lt, refl}
 use Rattle.std.specs.Global.{Vec}
 use Rattle.std.specs.List.{prefix_len}
-use Rattle.std.proofs.Common.{suc, arith, ap, sym, ◌∙◌, get_or, position, inl, inr}
+use Rattle.std.proofs.Common.{suc, arith, ap, sym, ◌∙◌, get_or, position, inl, inr, length-append}
 use Rattle.std.proofs.lemmas.List.{length-map}
 use Rattle.tib_lex.specs.Lists.{Has, Each, Ascends, total}
 
@@ -16,6 +16,10 @@ tail_is e = cc
 -- values that are there and the same are the same
 pub some_same : {A : Type 0} (x y : A) → Some x ≡ Some y → x ≡ y
 some_same x y e = cc
+
+-- the same where the equation names the values
+pub some_is : {A : Type 0} {x y : A} → Some x ≡ Some y → x ≡ y
+some_is e = cc
 
 -- nothing behind a list is the list
 pub append_nil : {A : Type 0} (xs : List A) → xs ++ [] ≡ xs
@@ -68,3 +72,51 @@ position-map p keys =
 pub total_append : {A : Type 0} (f : A → ℕ) (xs ys : List A) → total f (xs ++ ys) ≡ total f xs + total f ys
 total_append f [] ys = omega arith
 total_append f (x ∷ xs) ys = omega (arith, total_append f xs ys)
+
+-- the total with one more member
+pub total_more : {E : Type 0} (parts : E → ℕ) (es : List E) (e : E) → total parts (es ++ e ∷ []) ≡ total parts es + parts e
+total_more parts [] e = omega arith
+total_more parts (x ∷ es) e = omega (arith, total_more parts es e)
+
+-- functions that agree on each member make the same list
+pub map_same : {A B : Type 0} (f g : A → B) (xs : List A) → Each (λ x. f x ≡ g x) xs → map f xs ≡ map g xs
+map_same f g [] h = refl
+map_same f g (x ∷ xs) h = ap (λ y. y ∷ map f xs) h.0 ∙ ap (λ ys. g x ∷ ys) (map_same f g xs h.1)
+
+-- what holds of each member of two lists in one holds of each of the first
+pub each_left : {A : Type 0} (P : A → Type 0) (xs ys : List A) → Each P (xs ++ ys) → Each P xs
+each_left P [] ys h = tt
+each_left P (x ∷ xs) ys h = (h.0, each_left P xs ys h.1)
+
+-- and of each of the second
+pub each_right : {A : Type 0} (P : A → Type 0) (xs ys : List A) → Each P (xs ++ ys) → Each P ys
+each_right P [] ys h = h
+each_right P (x ∷ xs) ys h = each_right P xs ys h.1
+
+-- and so of each of both
+pub each_parts : {A : Type 0} (P : A → Type 0) (xs ys : List A) → Each P (xs ++ ys) → Each P xs × Each P ys
+each_parts P [] ys h = (tt, h)
+each_parts P (x ∷ xs) ys h = let t = each_parts P xs ys h.1 in ((h.0, t.0), t.1)
+
+-- what holds of each member of a mapped list holds of what the function gives for each member
+pub each_mapped : {A B : Type 0} (Q : B → Type 0) (f : A → B) (xs : List A) → Each Q (map f xs) → Each (λ x. Q (f x)) xs
+each_mapped Q f [] h = tt
+each_mapped Q f (x ∷ xs) h = (h.0, each_mapped Q f xs h.1)
+
+-- a list that is mapped twice is mapped by both functions at once
+pub map_twice : {A B C : Type 0} (g : B → C) (h : A → B) (xs : List A) → map g (map h xs) ≡ map (λ x. g (h x)) xs
+map_twice g h [] = refl
+map_twice g h (x ∷ xs) = ap (λ z. g (h x) ∷ z) (map_twice g h xs)
+
+-- a member stands in the mapped list as what the function gives for it
+pub mapped_has : {A B : Type 0} (f : A → B) (xs : List A) (x : A) → Has xs x → Has (map f xs) (f x)
+mapped_has f [] x h = absurd h
+mapped_has f (y ∷ xs) x h = elim h [ inl e ↦ inl (ap f e) | inr k ↦ inr (mapped_has f xs x k) ]
+
+-- a mapped list is as long as the list
+pub length_map : {A B : Type 0} (f : A → B) (xs : List A) → length (map f xs) ≡ length xs
+length_map f xs = length-map xs f
+
+-- a list with one more member is longer by one
+pub length-more : {A : Type 0} (xs : List A) (x : A) → length (xs ++ x ∷ []) ≡ length xs + 1
+length-more xs x = length-append xs (x ∷ [])

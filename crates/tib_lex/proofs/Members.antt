@@ -1,6 +1,7 @@
 -- Members of lists: where they stand, of what lists they are, and what holds of each.
-use Rattle.std.proofs.Common.{◌≡◌, ℕ, ◌<◌, ◌⊎◌, List, [], ◌∷◌, ◌++◌, length, get_or, Contains, refl, sym, subst, arith, zero, suc, inl, inr}
-use Rattle.tib_lex.specs.Lists.{Has, Each, Distinct}
+use Rattle.std.specs.Prelude.{◌≡◌, ℕ, ◌<◌, List, [], ◌∷◌, length}
+use Rattle.std.proofs.Common.{◌⊎◌, ◌++◌, get_or, Contains, refl, sym, subst, arith, zero, suc, inl, inr}
+use Rattle.tib_lex.specs.Lists.{Has, Each, Distinct, Ascends}
 
 pub each_has : {A : Type 0} (P : A → Type 0) (xs : List A) (x : A) → Each P xs → Has xs x → P x
 each_has P [] x e h = absurd h
@@ -56,3 +57,19 @@ each_more P (x ∷ xs) y e p = (e.0, each_more P xs y e.1 p)
 -- a member is contained, and the other way round
 pub has_contains : {A : Type 0} (xs : List A) (x : A) → Has xs x → Contains xs x
 has_contains xs x h = at_has xs x x h
+
+-- a list has no member twice where equal members have one place
+pub distinct_from : {A : Type 0} (xs : List A) (d : A) → ((i j : ℕ) → i < length xs → j < length xs → get_or xs i d ≡ get_or xs j d → i ≡ j) → Distinct xs
+distinct_from [] d h = tt
+distinct_from (x ∷ xs) d h = (
+  λ k. let a = at_has xs x d k in let bad : 0 ≡ suc a.0 = h 0 (suc a.0) (omega arith) (omega (arith, a.1)) (sym a.2) in omega (arith, bad),
+  distinct_from xs d (λ i j a b e. let next : suc i ≡ suc j = h (suc i) (suc j) (omega arith) (omega arith) e in omega (arith, next)),
+)
+
+-- a list of numbers that ascends and has 0 begins with it
+pub least_first : (xs : List ℕ) → Ascends ◌<◌ xs → Has xs 0 → (0 < length xs) × (get_or xs 0 0 ≡ 0)
+least_first [] a h = absurd h
+least_first (x ∷ xs) a h = elim h [
+  | inl e ↦ (omega arith, e)
+  | inr k ↦ let low : x < 0 = each_has (λ y. x < y) xs 0 a.0 k in absurd (omega arith)
+]

@@ -35,7 +35,8 @@ unescape_step true b c rest h e f =
     and-both (not_feed c) (list_all not_feed (unescape rest)) (and-true (not_feed c) (list_all not_feed rest) more).0 e
 unescape_step false b c rest h e f = and-both (not_feed b) (list_all not_feed (unescape (c ∷ rest))) (and-true (not_feed b) (list_all not_feed (c ∷ rest)) h).0 f
 
-unescaped : (xs : List ℕ) → HasNoFeed xs → HasNoFeed (unescape xs)
+-- a text without line feed has none once its escapes are taken out
+pub unescaped : (xs : List ℕ) → HasNoFeed xs → HasNoFeed (unescape xs)
 unescaped [] h = refl
 unescaped (b ∷ []) h = h
 unescaped (b ∷ (c ∷ rest)) h =

@@ -1,5 +1,5 @@
 -- Laws of whole numbers and of the tests that compare them.
-use Rattle.std.specs.Prelude.{◌≡◌, ◌<◌, ◌+◌, ◌⊎◌, ℕ, true, false, nat_eq, ◌==◌}
+use Rattle.std.specs.Prelude.{◌≡◌, ◌<◌, ◌+◌, ◌⊎◌, ℕ, true, false, nat_eq, ◌==◌, ◌≤◌, nat_le}
 use Rattle.std.proofs.Common.{suc, arith, inl, inr}
 use Rattle.std.proofs.lemmas.Bool.Decides.{nat_tests, eqb_tells}
 
@@ -30,3 +30,11 @@ below_cases i n h = grind arith
 -- the same where the bound is a successor
 pub below_suc_cases : (m n : ℕ) → m < suc n → (m < n) ⊎ (m ≡ n)
 below_suc_cases m n h = grind arith
+
+-- of two numbers the first is at most the second and passes the test, or is above it and fails it
+pub nat_le_cases : (a b : ℕ) → ((a ≤ b) × (nat_le a b ≡ true)) ⊎ ((b < a) × (nat_le a b ≡ false))
+nat_le_cases a b = grind (arith, nat_tests)
+
+-- of two numbers the one is below the other, or they are the same
+pub nat_three : (a b : ℕ) → (a < b) ⊎ ((a ≡ b) ⊎ (b < a))
+nat_three a b = grind arith

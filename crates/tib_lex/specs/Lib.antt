@@ -10,3 +10,5 @@ pub mod NextLine
 pub mod FaultOf
 pub mod Lists
 pub mod FirstFault
+pub mod PairOrder
+pub mod Limits

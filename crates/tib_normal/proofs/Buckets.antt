@@ -3,9 +3,10 @@ use Rattle.std.specs.Prelude.{◌≡◌, ℕ, ◌+◌, ◌<◌, ◌⊎◌, nat_e
 use Rattle.std.specs.Global.{Vec}
 use Rattle.std.proofs.Common.{get_or, ap, sym, ◌∙◌, arith, inl, inr, set}
 use Rattle.std.proofs.lemmas.List.{get_or-set_same, get_or-set_other, map-set, length-map}
-use Rattle.tib_normal.specs.Index.{same_shape, bucket_at, lists_of}
+use Rattle.tib_normal.specs.Index.{same_shape}
 use Rattle.tib_lex.proofs.Numbers.{nat_eq_cases}
 use Rattle.tib_lex.proofs.Booleans.{and-both, and-first, and-second}
+use Rattle.tib_grammar.specs.ShapeBuckets.{bucket_at, lists_of}
 
 pub same_shape_cases : (s t : ℕ × ℕ) → ((s ≡ t) × (same_shape s t ≡ true)) ⊎ ((s ≡ t → ⊥) × (same_shape s t ≡ false))
 same_shape_cases s t = elim (nat_eq_cases s.0 t.0) [

@@ -5,8 +5,8 @@ use Rattle.tib_tree.specs.Trees.{Trees, none, tree, count, join, first_trees, ot
 use Rattle.tib_grammar.specs.Run.{IsCost}
 use Rattle.tib_grammar.specs.Forms.{AreNormal}
 use Rattle.tib_grammar.specs.declared.Rule.{Rule}
-use Rattle.tib_grammar.proofs.NormalRuns.{split_all, merge_all, none_to, IsLeast-no_states}
-use Rattle.tib_grammar.proofs.Best.{no_trees, no_states}
+use Rattle.tib_grammar.proofs.NormalRuns.{split_all, merge_all, none_to, IsLeast-no_states, no_states}
+use Rattle.tib_grammar.proofs.Best.{no_trees}
 use Rattle.tib_cost.specs.Semiring.{ProductLaws}
 
 -- c is the product of the costs of runs for the first n trees and of runs for the others
@@ -31,7 +31,7 @@ module _
     costs = laws.neutral c;
   }
   cut_costs (suc n) qs none c h k = absurd (omega arith)
-  cut_costs (suc n) [] (tree f kids rest) c h k = absurd (no_states laws rules normal f kids rest c k)
+  cut_costs (suc n) [] (tree f kids rest) c h k = absurd (no_states rules f kids rest c k)
   cut_costs (suc n) (q ∷ qs) (tree f kids rest) c h k =
       let p = split_all laws rules q qs f kids rest c k in
       let r = cut_costs n qs rest p.1 (omega arith) p.3 in
@@ -51,7 +51,7 @@ module _
       let e : a ≡ 0 = none_to laws rules a x in
       subst (IsCost product rules rs us) (sym (ap (λ z. product z b) e ∙ laws.neutral b)) y
   join_costs (q ∷ qs) rs none us a b x y = absurd (no_trees laws rules normal q qs a x)
-  join_costs [] rs (tree f kids rest) us a b x y = absurd (no_states laws rules normal f kids rest a x)
+  join_costs [] rs (tree f kids rest) us a b x y = absurd (no_states rules f kids rest a x)
   join_costs (q ∷ qs) rs (tree f kids rest) us a b x y =
       let p = split_all laws rules q qs f kids rest a x in
       merge_all laws rules q (qs ++ rs) f kids (join rest us) (product a b) (

@@ -18,3 +18,4 @@ pub mod Counting
 pub mod Lengths
 pub mod PlaceNames
 pub mod Existing
+pub mod RulePlaces

@@ -12,10 +12,11 @@ use Rattle.tib_grammar.specs.Forms.{AreNormal, IsNormalSide}
 use Rattle.tib_grammar.specs.declared.Rule.{Rule}
 use Rattle.tib_grammar.proofs.Members.{has_at, at_has, has_left, has_right, has_either}
 use Rattle.tib_grammar.proofs.Sides.{first_all, holes_of-label}
-use Rattle.tib_grammar.proofs.NormalRuns.{split_all, merge_all, finish, none_to, IsLeast-no_states, count-yields}
-use Rattle.tib_grammar.proofs.Best.{no_trees, no_states}
+use Rattle.tib_grammar.proofs.NormalRuns.{split_all, merge_all, finish, none_to, IsLeast-no_states, count-yields, no_states}
+use Rattle.tib_grammar.proofs.Best.{no_trees}
 use Rattle.tib_cost.specs.Semiring.{ProductLaws, most}
 use Rattle.tib_cost.proofs.Least.{IsLeast-dominated, at_least_right, grows_both}
+use Rattle.tib_cost.proofs.Times.{product-zero}
 use Rattle.tib_lex.specs.Lists.{Has}
 use Rattle.tib_normal.specs.NormalForm.{IsChain, chain_cost, heads, inner_rules, all_inner, first_inner, Reaches, IsNormalCost, IsNormalForm}
 use Rattle.tib_grammar.proofs.Sides.{one_label}
@@ -151,9 +152,6 @@ module _
     {levelled weighted : Bool} {product : ℕ → ℕ → ℕ} (laws : ProductLaws levelled weighted product)
     (states : ℕ) (rules : List (Rule ℕ)) (range : AreInRange states rules) (lone : AreLone rules)
     (more : ℕ) (new : List (Rule ℕ)) (form : IsNormalForm product states rules more new) where
-  product-zero : (a : ℕ) → product a 0 ≡ a
-  product-zero a = laws.commutes a 0 ∙ laws.neutral a
-
   free : (c a b d : ℕ) → c ≡ 0 → product (product c a) b ≡ d → product a b ≡ d
   free c a b d e h = ap (λ z. product z b) (sym (ap (λ z. product z a) e ∙ laws.neutral a)) ∙ h
 
@@ -247,7 +245,7 @@ module _
       (s : ℕ) (k : Trees (Symbol ℕ ℕ)) → states ≤ s → ((r : Rule ℕ) → Has (inner_rules s k) r → Has (all_inner states rules) r) →
       (ts : Trees ℕ) (m : ℕ) → IsCost product new (holes (heads s k)) ts m → Unwrapped k ts m
   unwrap s none low all none m h = record { args = none; counted = refl; filled = refl; is_cost = h; small = omega arith }
-  unwrap s none low all (tree f us ts) m h = absurd (no_states laws new normal f us ts m h)
+  unwrap s none low all (tree f us ts) m h = absurd (no_states new f us ts m h)
   unwrap s (tree (hole p) kids rest) low all none m h = absurd (no_trees laws new normal p (holes (heads s rest)) m h)
   unwrap s (tree (hole p) kids rest) low all (tree f us ts) m h =
       let parts = split_all laws new p (holes (heads s rest)) f us ts m h in
@@ -295,7 +293,7 @@ module _
       let o = open_cost laws new normal p [] f kids none m h in
       let c : ℕ = (rule_at new o.rule).cost in
       let empty : o.outer ≡ 0 = none_to laws new o.outer o.rest_cost in
-      let is_m : product c o.inner ≡ m = sym (product-zero (product c o.inner)) ∙ ap (product (product c o.inner)) (sym empty) ∙ o.costs in
+      let is_m : product c o.inner ≡ m = sym (product-zero laws (product c o.inner)) ∙ ap (product (product c o.inner)) (sym empty) ∙ o.costs in
       let all : product (product w c) o.inner ≡ product w m = laws.regroups w c o.inner ∙ ap (product w) is_m in
       let le : product w c ≤ product (product w c) o.inner = laws.at_least (product w c) o.inner in
       let reach : Reaches product states rules q (rule_at new o.rule).right (product w c) = elim (attained o.rule o.below) [
@@ -413,7 +411,7 @@ module _
         runs = tree n x.runs none;
         are_runs = (h.0, h.1, subst (λ r. AreRuns rules (holes_of r) x.runs) (sym h.2.1) x.are_runs, tt);
         yielded = join-none _ ∙ ap (λ r. fill (only r) (yields rules x.runs)) h.2.1 ∙ ap (fill (only (Lone h.2.0))) (x.yielded ∙ t.2) ∙ sym t.2;
-        costs = product-zero _ ∙ ap (product (rule_at rules n).cost) x.costs ∙ sym (laws.regroups (rule_at rules n).cost (chain_cost product rules ns) c);
+        costs = product-zero laws _ ∙ ap (product (rule_at rules n).cost) x.costs ∙ sym (laws.regroups (rule_at rules n).cost (chain_cost product rules ns) c);
       }
 
   -- a run that begins with a rule that is no chain rule
@@ -430,7 +428,7 @@ module _
       tt,
     );
     yielded = join-none _ ∙ ap (fill (only (rule_at rules n).right)) c.yielded ∙ filled_label f (rule_at rules n).right args e counted;
-    costs = product-zero _ ∙ ap (product (rule_at rules n).cost) c.costs;
+    costs = product-zero laws _ ∙ ap (product (rule_at rules n).cost) c.costs;
   }
 
   -- the costs of runs of the normal form are costs of runs of the grammar
@@ -439,7 +437,7 @@ module _
       IsCost product rules qs ts c
   from_normal fuel none [] c h r g = subst (IsCost product rules [] none) (sym (none_to laws new c g)) (IsLeast-no_states laws rules).attained.0
   from_normal fuel none (q ∷ qs) c h r g = absurd (no_trees laws new normal q qs c g)
-  from_normal fuel (tree f kids rest) [] c h r g = absurd (no_states laws new normal f kids rest c g)
+  from_normal fuel (tree f kids rest) [] c h r g = absurd (no_states new f kids rest c g)
   from_normal zero (tree f kids rest) (q ∷ qs) c h r g = absurd (omega arith)
   from_normal (suc fuel) (tree f kids rest) (q ∷ qs) c h r g =
       let o = open_cost laws new normal q qs f kids rest c g in

@@ -19,7 +19,6 @@ use Rattle.tib_grammar.specs.declared.Item.{Item}
 use Rattle.tib_grammar.specs.declared.Item.TheVariants.{Label}
 use Rattle.tib_grammar.specs.declared.Rule.{Rule}
 use Rattle.tib_normal.specs.NormalForm.{heads, first_inner}
-use Rattle.tib_normal.specs.Index.{lists_of}
 use Rattle.tib_normal.specs.Offers.{no_side}
 use Rattle.tib_normal.specs.Places.{head_states, below_root, rule_labels}
 use Rattle.tib_normal.specs.Rows.{side_of, HasSide, AreSides}
@@ -27,6 +26,7 @@ use Rattle.tib_normal.specs.Numbering.{AreApart, GetsNumber, IsNumbered}
 use Rattle.tib_normal.proofs.Placing.{heads-leaves, sum-more, below-kids}
 use Rattle.tib_normal.proofs.LoneSides.{root_of}
 use Rattle.tib_lex.proofs.Booleans.{bool_cases}
+use Rattle.tib_grammar.specs.ShapeBuckets.{lists_of}
 use Rattle.tib_grammar.proofs.Sides.{same_label}
 
 -- whether two lists of numbers are the same

@@ -10,9 +10,9 @@ use Rattle.tib_cost.proofs.Least.{IsLeast-same}
 use Rattle.tib_grammar.specs.declared.Rule.{Rule}
 use Rattle.tib_grammar.specs.Run.{rule_at}
 use Rattle.tib_grammar.specs.Sides.{Symbol, label, hole, leaves, Side as SideFor}
+use Rattle.tib_grammar.specs.ShapeBuckets.{lists_of}
 use Rattle.tib_grammar.proofs.Members.{each_of, each_has}
 use Rattle.tib_normal.specs.declared.row.Row.{Row}
-use Rattle.tib_normal.specs.Index.{lists_of}
 use Rattle.tib_normal.specs.NormalForm.{chain_cost, Reaches, rule_parts}
 use Rattle.tib_normal.specs.Rows.{side_of, side_at, HasSide, AreSides, AreRows, AreOwn, AreTooMany}
 use Rattle.tib_normal.specs.Offers.{IsOffer, no_side}

@@ -1,10 +1,11 @@
 -- What an index of rules holds.
-use Rattle.std.specs.Prelude.{◌≡◌, ℕ, ◌<◌, ◌≤◌, ◌&&◌, nat_eq, Bool, List, [], length, map, Option, None, Some}
+use Rattle.std.specs.Prelude.{◌≡◌, ℕ, ◌<◌, ◌≤◌, ◌&&◌, nat_eq, Bool, List, length, Some}
 use Rattle.std.specs.Global.{Vec}
 use Rattle.std.specs.HashMap.{HashMap, get}
 use Rattle.std.proofs.Common.{get_or}
 use Rattle.tib_grammar.specs.declared.Rule.{Rule}
 use Rattle.tib_grammar.specs.Run.{rule_at}
+use Rattle.tib_grammar.specs.ShapeBuckets.{bucket_at, lists_of}
 
 -- p rules stand before all whose left state is q or more
 pub record IsStart (rules : List (Rule ℕ)) (q p : ℕ) : Type 0 where
@@ -20,14 +21,6 @@ pub record AreStarts (rules : List (Rule ℕ)) (n : ℕ) (starts : List ℕ) : T
 -- whether two pairs of a label and a rank are the same
 abbrev pub same_shape : ℕ × ℕ → ℕ × ℕ → Bool
 same_shape s t = nat_eq s.0 t.0 && nat_eq s.1 t.1
-
--- the bucket of a number, empty where there is none
-abbrev pub bucket_at : List (List ℕ) → Option ℕ → List ℕ
-bucket_at buckets None = []
-bucket_at buckets (Some i) = get_or buckets i []
-
-abbrev pub lists_of : List (Vec ℕ) → List (List ℕ)
-lists_of buckets = map (λ b. b.items) buckets
 
 -- what an index holds for a label and a rank
 abbrev pub held : {S : Type 0} → HashMap (ℕ × ℕ) ℕ S → List (Vec ℕ) → ℕ × ℕ → List ℕ

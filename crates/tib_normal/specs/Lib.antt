@@ -17,3 +17,4 @@ pub mod Arranging
 pub mod Places
 pub mod Numbering
 pub mod PlaceNames
+pub mod RulePlaces

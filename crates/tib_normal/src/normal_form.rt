@@ -1,13 +1,14 @@
 // The normal form of a grammar.
 ghost use Rattle.tib_grammar.specs.Series.{KeepsSeries};
 ghost use Rattle.tib_lex.specs.Lists.{total};
+ghost use Rattle.tib_lex.specs.Limits.{most_parts};
 ghost use Rattle.tib_grammar.specs.Sides.{labels_in};
 ghost use Rattle.std.specs.Prelude.{◌≡◌, ℕ, ◌+◌, ◌<◌, ◌≤◌, ◌^◌, List, [], ◌∷◌, length, OnOk, IfErr, IfOk, None, Some, Option, IfSome, IfNone, sum_by, reverse, ◌++◌};
 ghost use Rattle.tib_normal.specs.NormalForm.{all_inner, IsNormalForm, rule_parts, normal_parts};
-ghost use Rattle.tib_normal.specs.Index.{lists_of};
 ghost use Rattle.tib_normal.specs.Rows.{AreSides, AreOwn, AreTooMany, IfTooMany, HasMoreParts};
 ghost use Rattle.tib_normal.specs.Rules.{IsNormal};
 ghost use Rattle.tib_grammar.specs.Range.{AreInRange};
+ghost use Rattle.tib_grammar.specs.ShapeBuckets.{lists_of};
 ghost use Rattle.tib_normal.specs.Places.{below_root, parts_below, rule_labels};
 
 use crate::error::NormalError;
@@ -32,7 +33,7 @@ impl Places {
     /// Counts the labels below a root, where the parts stay within the limit.
     fn count_side(self, items: &[Item<u32>], limit: u64) -> Option<Places>
         requires items { 0 < length items.now }
-        requires limit { limit ≤ 20000000 }
+        requires limit { limit ≤ most_parts }
         requires parts { self.parts ≤ limit }
         requires states { self.states ≤ self.parts }
         ensures within { IfSome result (λ p. p.parts ≤ limit) }
@@ -62,7 +63,7 @@ impl Places {
 /// The inner states of some rules, and the parts of these states and of their rules, beside the
 /// parts of the grammar's states; none where there are more than the limit.
 fn count_places(rules: &[Rule<u32>], states: u32, limit: u64) -> Option<Places>
-    requires { limit ≤ 20000000 }
+    requires { limit ≤ most_parts }
     ensures within { IfSome result (λ p. p.parts ≤ limit) }
     ensures states { IfSome result (λ p. p.states + states ≤ p.parts) }
     ensures counted { IfSome result (λ p. p.states ≡ sum_by rule_labels rules.now) }
@@ -105,7 +106,7 @@ pub fn normalize<S: Semiring + Drop>(
     limit: u64,
 ) -> Result<Normal<S>, NormalError>
     requires from { 1 ≤ limit }
-    requires to { limit ≤ 20000000 }
+    requires to { limit ≤ most_parts }
     ensures form { IfOk result (λ n. IsNormalForm S.product (length grammar.now.names)
         grammar.now.rules (length n.names) n.rules) }
     ensures names { IfOk result (λ n. (rest : List (List ℕ))
@@ -142,7 +143,7 @@ fn list_rules<S: Semiring>(
     states: u32,
     limit: u64,
 ) -> Result<Listed, NormalError>
-    requires limit { limit ≤ 20000000 }
+    requires limit { limit ≤ most_parts }
     requires few { length rules.now < 2 ^ 32 }
     requires range { AreInRange states rules.now }
     ensures form { IfOk result (λ l. IsNormalForm S.product states rules.now (states + l.places)
@@ -177,7 +178,7 @@ fn list_own<S: Semiring>(
     parts: u64,
     limit: u64,
 ) -> Result<Vec<Rule<u32>>, NormalError>
-    requires limit { limit ≤ 20000000 }
+    requires limit { limit ≤ most_parts }
     requires parts { parts ≤ limit }
     requires few { length rules.now < 2 ^ 32 }
     requires range { AreInRange states rules.now }
@@ -230,7 +231,7 @@ fn assemble<S: Drop>(
     requires start { 0 < length names.now }
     requires few_places { places < 100000000 }
     requires few_states { length names.now + places < 2 ^ 32 }
-    requires few_rules { length rules.items ≤ 20000000 }
+    requires few_rules { length rules.items ≤ most_parts }
     requires range { AreInRange (length names.now + places) rules.items }
     requires normal { IsNormal rules.items }
     ensures rules { IfOk result (λ n. n.rules ≡ rules.items) }

@@ -1,6 +1,7 @@
 // The rules of the states of the grammar in its normal form, as they are gathered and arranged.
 ghost use Rattle.std.specs.Prelude.{◌≡◌, ℕ, ◌+◌, ◌<◌, ◌≤◌, ◌^◌, List, [], ◌∷◌, ◌++◌, length, OnOk, IfOk, IfErr};
-ghost use Rattle.tib_normal.specs.Index.{lists_of};
+ghost use Rattle.tib_lex.specs.Limits.{most_parts};
+ghost use Rattle.tib_grammar.specs.ShapeBuckets.{lists_of};
 ghost use Rattle.tib_normal.specs.Rows.{IfTooMany, side_of};
 ghost use Rattle.tib_normal.specs.Links.{AreLinks};
 ghost use Rattle.tib_normal.specs.Gathered.{AreFull, AreReady, rule_of, row_parts};
@@ -21,7 +22,7 @@ pub struct Made {
     pub parts: u64,
     pub limit: u64,
     ghost within: { parts ≤ limit },
-    ghost small: { limit ≤ 20000000 },
+    ghost small: { limit ≤ most_parts },
     ghost few: { length rows.items ≤ parts },
 }
 

@@ -3,7 +3,7 @@ ghost use Rattle.tib_lex.specs.Lists.{total};
 ghost use Rattle.std.specs.Prelude.{◌≡◌, ℕ, ◌+◌, ◌<◌, ◌≤◌, ◌^◌, ◌⊎◌, List, [], ◌∷◌, ◌++◌, length, slice_set, OnOk, IfOk, IfErr, None, Some};
 ghost use Rattle.std.proofs.Common.{get_or};
 ghost use Rattle.tib_grammar.specs.Range.{AreBelow, AreInRange};
-ghost use Rattle.tib_normal.specs.Index.{lists_of};
+ghost use Rattle.tib_grammar.specs.ShapeBuckets.{lists_of};
 ghost use Rattle.tib_normal.specs.Rows.{IfTooMany};
 ghost use Rattle.tib_normal.specs.Links.{AreLinks};
 ghost use Rattle.tib_normal.specs.Ways.{AreWays};

@@ -1,7 +1,6 @@
 -- Through costs and kept rules, as they are computed.
-use Rattle.std.specs.Prelude.{◌≡◌, ℕ, ◌+◌, ◌<◌, ◌≤◌, List, [], ◌∷◌, length, Bool, Option, None, Some, refl}
+use Rattle.std.specs.Prelude.{◌≡◌, ℕ, ◌+◌, ◌<◌, ◌≤◌, List, length, Bool, Option, None, Some, refl}
 use Rattle.std.proofs.Common.{arith, ap, sym, ◌∙◌, subst}
-use Rattle.tib_lex.specs.Lists.{Along}
 use Rattle.tib_grammar.specs.Sides.{holes_of}
 use Rattle.tib_grammar.specs.Run.{rule_at}
 use Rattle.tib_grammar.specs.declared.Rule.{Rule}
@@ -13,41 +12,13 @@ use Rattle.tib_inside.specs.Inside.{IsInside, total}
 use Rattle.tib_inside.specs.Useful.{product_of}
 use Rattle.tib_inside.specs.Settling.{rule_total}
 use Rattle.tib_inside.proofs.Totals.{both_some}
+use Rattle.tib_inside.proofs.Living.{total_known, known_total}
 use Rattle.tib_prune.specs.Outside.{IsOutside, IsThrough, through}
 use Rattle.tib_prune.specs.Pruned.{IsKept, AreCosts}
 
 module _
     {levelled weighted : Bool} {product : ℕ → ℕ → ℕ} (laws : ProductLaws levelled weighted product) (rules : List (Rule ℕ)) (insides outsides : ℕ → Option ℕ)
     (costs : AreCosts product rules insides outsides) where
-  total_known : (qs ds : List ℕ) → Along (λ q c. IsInside product rules q (Some c)) qs ds → product_of product ds ≤ most → total product insides qs ≡ Some (product_of product ds)
-  total_known [] [] a b = refl
-  total_known [] (d ∷ ds) a b = absurd a
-  total_known (q ∷ qs) [] a b = absurd a
-  total_known (q ∷ qs) (d ∷ ds) a b =
-      let right : product_of product ds ≤ product d (product_of product ds) = at_least_right laws d (product_of product ds) in
-      ap (λ v. times product v (total product insides qs)) (IsLeast-unique (costs.are_insides q) a.0)
-      ∙ ap (times product (Some d)) (total_known qs ds a.1 (omega arith))
-      ∙ cut-within (product d (product_of product ds)) b
-
-  record Known (qs : List ℕ) (d : ℕ) : Type 0 where
-    values : List ℕ
-    are : Along (λ q c. IsInside product rules q (Some c)) qs values
-    product_is : product_of product values ≡ d
-
-  known_total : (qs : List ℕ) (d : ℕ) → total product insides qs ≡ Some d → Known qs d
-  known_total [] d e = record { values = []; are = tt; product_is = cc }
-  known_total (q ∷ qs) d e =
-      let parts = both_some product (insides q) (total product insides qs) d e in
-      let rest = known_total qs parts.1.0 parts.1.1 in
-      let whole : times product (Some parts.0.0) (Some parts.1.0) ≡ Some d =
-      sym (ap (times product (Some parts.0.0)) parts.1.1) ∙ sym (ap (λ v. times product v (total product insides qs)) parts.0.1) ∙ e
-      in
-      record {
-        values = parts.0.0 ∷ rest.values;
-        are = (subst (IsInside product rules q) parts.0.1 (costs.are_insides q), rest.are);
-        product_is = ap (product parts.0.0) rest.product_is ∙ (cut-some (product parts.0.0 parts.1.0) d whole).0;
-      }
-
   -- what is computed is the through cost
   pub through_to : (n c : ℕ) → n < length rules → through product insides outsides (rule_at rules n) ≡ Some c → IsThrough product rules n c
   through_to n c h e =
@@ -55,7 +26,7 @@ module _
       let qs : List ℕ = holes_of (rule_at rules n).right in
       let parts = both_some product (outsides (rule_at rules n).left) (rule_total product insides (rule_at rules n)) c e in
       let inner = both_some product (Some w) (total product insides qs) parts.1.0 parts.1.1 in
-      let known = known_total qs inner.1.0 inner.1.1 in
+      let known = known_total laws rules insides costs.are_insides qs inner.1.0 inner.1.1 in
       let outer_whole : times product (Some parts.0.0) (Some parts.1.0) ≡ Some c =
       sym (ap (times product (Some parts.0.0)) parts.1.1) ∙ sym (ap (λ v. times product v (rule_total product insides (rule_at rules n))) parts.0.1) ∙ e
       in
@@ -82,7 +53,7 @@ module _
       let le2 : product w x ≤ product t.outside (product w x) = at_least_right laws t.outside (product w x) in
       let fits : product t.outside (product w x) ≤ most = omega (arith, t.is_product, t.within) in
       ap (λ v. times product v (rule_total product insides (rule_at rules n))) (IsLeast-unique (costs.are_outsides (rule_at rules n).left) t.is_outside)
-      ∙ ap (λ v. times product (Some t.outside) (times product (Some w) v)) (total_known qs t.insides t.are_insides (omega arith))
+      ∙ ap (λ v. times product (Some t.outside) (times product (Some w) v)) (total_known laws rules insides costs.are_insides qs t.insides t.are_insides (omega arith))
       ∙ ap (times product (Some t.outside)) (cut-within (product w x) (omega arith))
       ∙ cut-within (product t.outside (product w x)) fits
       ∙ ap Some t.is_product

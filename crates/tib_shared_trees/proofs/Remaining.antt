@@ -7,6 +7,7 @@ use Rattle.tib_lex.proofs.Lists.{append_nil}
 use Rattle.tib_lex.specs.Lists.{Has}
 use Rattle.tib_lex.proofs.Members.{has_either}
 use Rattle.tib_tree.specs.Trees.{Tree, Trees, none, tree, only, size, sizes, count, join, preorder, preorder_of, preorder-join, parse_of, most_nodes}
+use Rattle.tib_tree.proofs.Counts.{length-preorder}
 use Rattle.tib_tree_order.proofs.TreeOrder.{only_same}
 use Rattle.tib_shared_trees.specs.Numbers.{AreNamed, IsNamed, NumbersBelow, label_at, children_at, back}
 use Rattle.tib_shared_trees.proofs.Descending.{read_shape, count_named}
@@ -88,10 +89,6 @@ remains_next shapes t stack rest now nodes more n label rank children r e f k lo
               ∙ ap (λ xs. nodes ++ (g, count kids) ∷ xs) (preorder-join kids others)
               ∙ w;
         }
-
-length-preorder : (ts : Trees ℕ) → length (preorder ts) ≡ sizes ts
-length-preorder none = refl
-length-preorder (tree f kids rest) = omega (arith, length-append (preorder kids) (preorder rest), length-preorder kids, length-preorder rest)
 
 -- while the stack has a number, fewer nodes are listed than the tree has
 pub remains_few : (shapes : List (List ℕ)) (t : Tree ℕ) (stack rest : List ℕ) (nodes : List (ℕ × ℕ)) (n : ℕ) → Remains shapes t stack nodes → stack ≡ rest ++ n ∷ [] → length nodes < size t

@@ -8,13 +8,13 @@ use Rattle.tib_grammar.proofs.Sides.{count-fill}
 use Rattle.std.proofs.lemmas.List.{length-map}
 use Rattle.tib_grammar.specs.Run.{rule_at, yields, cost, IsCost}
 use Rattle.tib_grammar.specs.declared.Rule.{Rule}
-use Rattle.tib_grammar.proofs.NormalRuns.{split_all, merge_all, none_to, IsLeast-no_states, count-yields}
+use Rattle.tib_grammar.proofs.NormalRuns.{split_all, merge_all, none_to, IsLeast-no_states, count-yields, no_states}
 use Rattle.tib_cost.specs.Semiring.{ProductLaws}
+use Rattle.tib_cost.proofs.Times.{product-zero}
 use Rattle.tib_transducer.specs.Rules.{transducer_rule, variables_of, states_in, variables_in}
 use Rattle.tib_transducer.specs.Run.{AreTransducerRuns, Reads, AreBound, outputs, transducer_cost, pick}
 use Rattle.tib_transducer.specs.Series.{IsTransducerCost}
 use Rattle.tib_transducer.specs.declared.TransducerRule.{TransducerRule}
-use Rattle.tib_transducer.proofs.Products.{neutral_right}
 use Rattle.tib_transducer.proofs.Selecting.{Item, keys_of, trees_of, product_of, others, all_named, assemble, picked_same, keys_long, trees_long}
 
 -- the cost of an item is that of a run from its key that yields its tree
@@ -33,12 +33,9 @@ module _ {levelled weighted : Bool} {product : ℕ → ℕ → ℕ} (laws : Prod
     no_trees : (q : ℕ) (qs : List ℕ) (c : ℕ) → IsCost product rules (q ∷ qs) none c → ⊥
     no_trees q qs c h = let e = ap count h.yielded in omega (arith, e, count-yields rules (q ∷ qs) h.runs h.are_runs)
 
-    no_states : (f : ℕ) (kids rest : Trees ℕ) (c : ℕ) → IsCost product rules [] (tree f kids rest) c → ⊥
-    no_states f kids rest c h = let e = ap count h.yielded in omega (arith, e, count-yields rules [] h.runs h.are_runs)
-
     pub itemize : (qs : List ℕ) (ts : Trees ℕ) (c : ℕ) → IsCost product rules qs ts c → Itemized product rules qs ts c
     itemize [] none c h = record { items = []; each = tt; keys = refl; trees = refl; costs = sym (none_to laws rules c h) }
-    itemize [] (tree f kids rest) c h = absurd (no_states f kids rest c h)
+    itemize [] (tree f kids rest) c h = absurd (no_states rules f kids rest c h)
     itemize (q ∷ qs) none c h = absurd (no_trees q qs c h)
     itemize (q ∷ qs) (tree f kids rest) c h =
         let p = split_all laws rules q qs f kids rest c h in
@@ -69,7 +66,7 @@ module _ {levelled weighted : Bool} {product : ℕ → ℕ → ℕ} (laws : Prod
         let same : trees_of z.items ≡ ts =
         picked_same vars (trees_of z.items) ts counted (each_to (counted ∙ long) vars e) (λ i b. h i (omega (arith, b, counted, long))) (z.picked ∙ x.trees)
         in
-        let costs : product_of product z.items ≡ c = z.costs ∙ neutral_right laws (product_of product x.items) ∙ x.costs in
+        let costs : product_of product z.items ≡ c = z.costs ∙ product-zero laws (product_of product x.items) ∙ x.costs in
         subst (λ n. IsCost product rules ks ts n) costs
         (subst (λ us. IsCost product rules ks us (product_of product z.items)) same
         (subst (λ qs. IsCost product rules qs (trees_of z.items) (product_of product z.items)) z.keys (cost_of z.items z.each)))
@@ -94,7 +91,7 @@ module _ {levelled weighted : Bool} {product : ℕ → ℕ → ℕ} (laws : Prod
         are_runs = (r.0, r.1, r.2, k.are_runs);
         reads = (d.0, k.reads);
         output = ap (λ x. join x (outputs moves k.runs)) (sym (join-none (fill (only (transducer_rule moves n).right) (outputs moves below))) ∙ o) ∙ ap (join one) k.output;
-        costs = ap (λ x. product x (transducer_cost product moves k.runs)) (sym (neutral_right laws (product (transducer_rule moves n).cost (transducer_cost product moves below))) ∙ c) ∙ ap (product a) k.costs;
+        costs = ap (λ x. product x (transducer_cost product moves k.runs)) (sym (product-zero laws (product (transducer_rule moves n).cost (transducer_cost product moves below))) ∙ c) ∙ ap (product a) k.costs;
       }
 
   -- a run of a transducer by its rule
@@ -108,7 +105,7 @@ module _ {levelled weighted : Bool} {product : ℕ → ℕ → ℕ} (laws : Prod
     are_runs = (below, state, h.are_runs, tt);
     reads = (record { args = args; bound = bound; filled = filled; below = h.reads }, tt);
     output = join-none (fill (only (transducer_rule moves n).right) (outputs moves h.runs)) ∙ ap (fill (only (transducer_rule moves n).right)) h.output;
-    costs = neutral_right laws (product (transducer_rule moves n).cost (transducer_cost product moves h.runs)) ∙ ap (product (transducer_rule moves n).cost) h.costs;
+    costs = product-zero laws (product (transducer_rule moves n).cost (transducer_cost product moves h.runs)) ∙ ap (product (transducer_rule moves n).cost) h.costs;
   }
 
 -- as many trees are put out as there are states

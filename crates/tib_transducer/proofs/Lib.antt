@@ -4,3 +4,5 @@ pub mod FirstParts
 pub mod Products
 pub mod Selecting
 pub mod Itemizing
+pub mod Moves
+pub mod NamedItems

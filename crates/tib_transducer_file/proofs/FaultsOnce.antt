@@ -9,23 +9,23 @@ use Rattle.tib_lex.specs.declared.fault.FaultKind.{FaultKind}
 use Rattle.tib_lex.specs.declared.fault.FaultKind.TheVariants as kinds
 use Rattle.tib_lex.specs.declared.fault.FileFault.{FileFault}
 use Rattle.tib_lex.proofs.FirstFaults.{fault_is}
+use Rattle.tib_lex.proofs.Results.{err_same}
 use Rattle.tib_tree.specs.Trees.{preorder_of, most_nodes}
-use Rattle.tib_grammar.specs.Sides.{Symbol}
 use Rattle.tib_grammar_file.specs.Faults.{FirstFaultFromStart}
-use Rattle.tib_grammar_file.specs.Reading.{fault_at, start_line}
+use Rattle.tib_grammar_file.specs.Reading.{fault_at, start_line, started, with_start}
 use Rattle.tib_grammar_file.proofs.Alongs.{along_long}
 use Rattle.tib_grammar_file.proofs.FaultyLines.{start_fault_read}
 use Rattle.tib_grammar_file.proofs.RowsRead.{start_forth, no_start_forth}
 use Rattle.tib_transducer.specs.TransducerOf.{TransducerOf}
-use Rattle.tib_transducer.specs.declared.Variable.{Variable}
 use Rattle.tib_transducer.specs.declared.TransducerRule.{TransducerRule}
-use Rattle.tib_transducer_file.specs.Rule.{Parts, RuleLine, rule_line, has_many, numbers_in}
-use Rattle.tib_transducer_file.specs.Reading.{started, with_start, rules_from, transducer_from, transducer_in}
-use Rattle.tib_transducer_file.specs.Value.{IsLeftNode, IsLeftSide, IsRightNode, IsRule}
+use Rattle.tib_transducer_file.specs.Rule.{RuleLine, rule_line, has_many, numbers_in}
+use Rattle.tib_transducer_file.specs.Reading.{rules_from, transducer_from, transducer_in}
+use Rattle.tib_transducer_file.specs.Value.{IsRightNode, IsRule}
 use Rattle.tib_transducer_file.specs.TransducerText.{HaveRules, HaveStart, IsSmallRule, ReadsAs}
 use Rattle.tib_transducer_file.specs.Faults.{HasRuleFault, HoldsRule, IsFirstFault}
 use Rattle.tib_transducer_file.proofs.FirstFaults.{fault_is_first}
 use Rattle.tib_transducer_file.proofs.LinesHeld.{few_read, blank_read, fault_read, held_read}
+use Rattle.tib_transducer_file.proofs.FileText.{left_long}
 
 abbrev Whole : Type 0
 Whole = Result (List ℕ × List RuleLine) FileFault
@@ -49,19 +49,12 @@ pub faults_exact : (scale : Scale) (bytes : List ℕ) (fault : FileFault) → (t
 unfolding transducer_in
 faults_exact scale bytes fault = (fault_is_first scale bytes fault, there scale 1 (lines_of bytes) fault)
 
-err_same : (f g : FileFault) → (let r : Whole = Err f in r ≡ Err g) → f ≡ g
-err_same f g e = cc
-
 pub fault_once : (scale : Scale) (bytes : List ℕ) (fault other : FileFault) → IsFirstFault scale bytes fault → IsFirstFault scale bytes other → fault ≡ other
 fault_once scale bytes fault other h k = err_same fault other (sym (there scale 1 (lines_of bytes) fault h) ∙ there scale 1 (lines_of bytes) other k)
 
 -- the lines of small rules have few nodes
 abbrev IsFew : RuleLine → Type 0
 IsFew line = has_many line.parts ≡ false
-
-left_long : (labels : List (List ℕ)) (ss : List (Symbol ℕ Variable × ℕ)) (p : Parts) → IsLeftSide labels ss p → length ss ≡ length p.below + 1
-left_long labels [] p h = absurd h
-left_long labels (s ∷ ss) p h = omega (arith, along_long (IsLeftNode labels) ss p.below h.1)
 
 few_parts : (m n : ℕ) → m ≤ most_nodes → n ≤ most_nodes → (nat_lt most_nodes m || nat_lt most_nodes n) ≡ false
 few_parts m n h k =

@@ -2,7 +2,7 @@
 use Rattle.std.proofs.Common.{◌≡◌, ℕ, ◌+◌, ◌≤◌, inl, inr, List, [], ◌∷◌, ◌++◌, length, drop, refl, ap, sym, ◌∙◌, subst, arith, append_assoc, append-nil, Option}
 use Rattle.std.specs.Prelude.{slice_range, Some, None, Result, Ok, Err}
 use Rattle.std.proofs.lemmas.List.{length-append}
-use Rattle.tib_lex.specs.Lines.{lines_of, front, with_line, each_line}
+use Rattle.tib_lex.specs.Lines.{lines_of, front, each_line}
 use Rattle.tib_lex.specs.NextLine.{IsNextLine}
 use Rattle.tib_lex.specs.FaultOf.{file_error_of}
 use Rattle.tib_lex.specs.Lists.{Along}
@@ -12,10 +12,12 @@ use Rattle.tib_lex.specs.declared.fault.FileFault.{FileFault}
 use Rattle.tib_lex.specs.declared.fault.ReadError.{ReadError}
 use Rattle.tib_lex.specs.declared.fault.LineError.{LineError}
 use Rattle.tib_lex.specs.declared.fault.LineError.TheVariants as line_errors
-use Rattle.tib_lex.proofs.LinesRead.{front_none, front_more, line_read, none_left}
+use Rattle.tib_lex.proofs.LinesRead.{front_none, front_more, none_left}
+use Rattle.tib_lex.proofs.Alongs.{along_more}
 use Rattle.tib_tree.specs.Grows.{Grows, AddsAll}
 use Rattle.tib_tree.specs.Trees.{preorder_of}
-use Rattle.tib_grammar_file.proofs.Alongs.{along_changes, along_more}
+use Rattle.tib_grammar_file.proofs.Alongs.{along_changes}
+use Rattle.tib_grammar_file.proofs.RawRead.{step}
 use Rattle.tib_transducer.specs.declared.TransducerRule.{TransducerRule}
 use Rattle.tib_transducer_file.specs.Rule.{RuleLine, numbers_in, state_of}
 use Rattle.tib_transducer_file.specs.Value.{IsRule, IsRightNode, states_in, states_of}
@@ -52,9 +54,6 @@ starts names labels rules wanted e = record {
   added = refl;
   same = front_none wanted;
 }
-
-step : (one : List ℕ → Result (Option RuleLine) FaultKind) (wanted : Result (List RuleLine) FileFault) (done : List RuleLine) (n at : ℕ) (bytes : List ℕ) (line : Line) (r : Result (Option RuleLine) FaultKind) → IsNextLine bytes n at line → one (slice_range bytes line.start line.end) ≡ r → front done (each_line one n (lines_of (drop at bytes))) ≡ wanted → front done (with_line n r (each_line one (n + 1) (lines_of (drop line.next bytes)))) ≡ wanted
-step one wanted done n at bytes line r is e w = ap (front done) (ap (λ x. with_line n x (each_line one (n + 1) (lines_of (drop line.next bytes)))) (sym e) ∙ sym (line_read one bytes n at line is)) ∙ w
 
 pub goes : (one : List ℕ → Result (Option RuleLine) FaultKind) (z a b t u : List (List ℕ)) (old now : List (TransducerRule ℕ)) (n at : ℕ) (line : Line) (bytes : List ℕ) (wanted : Result (List RuleLine) FileFault) → IsNextLine bytes n at line → Grows a b → Grows t u → AddsLine a b u old now (Ok tt) (one (slice_range bytes line.start line.end)) → SoFar z a t old (each_line one n (lines_of (drop at bytes))) wanted → SoFar z b u now (each_line one (n + 1) (lines_of (drop line.next bytes))) wanted
 goes one z a b t u old now n at line bytes wanted next g h (inl (none, names, same)) so = record {

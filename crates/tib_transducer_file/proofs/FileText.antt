@@ -16,7 +16,7 @@ use Rattle.tib_tree.specs.Grows.{Adds, AddsAll}
 use Rattle.tib_tree.specs.Trees.{preorder_of, most_nodes}
 use Rattle.tib_tree.specs.Written.{Item}
 use Rattle.tib_grammar.specs.StateName.{IsStateName, AreStateNames}
-use Rattle.tib_grammar_file.specs.Reading.{start_line}
+use Rattle.tib_grammar_file.specs.Reading.{start_line, started, with_start}
 use Rattle.tib_grammar_file.proofs.Alongs.{along_long}
 use Rattle.tib_grammar_file.proofs.TextRead.{all_names, some_name}
 use Rattle.tib_transducer.specs.declared.TransducerRule.{TransducerRule}
@@ -37,7 +37,7 @@ use Rattle.tib_grammar_file.proofs.RowsRead.{start_back, no_start_back}
 use Rattle.tib_transducer_file.specs.Forms.{stop_at, before_stop, behind_stop, is_root, is_number, number_of, leaf_text, pair_of, pair_if, pair_in}
 use Rattle.tib_transducer_file.specs.Rule.{Parts, RuleLine, rule_line, has_many, has_state, state_of, numbers_in}
 use Rattle.tib_transducer_file.specs.Value.{IsLeftNode, IsLeftSide, IsRightNode, IsRule, states_in, states_of, state_before}
-use Rattle.tib_transducer_file.specs.Reading.{started, with_start, rules_from, transducer_from}
+use Rattle.tib_transducer_file.specs.Reading.{rules_from, transducer_from}
 use Rattle.tib_transducer_file.specs.TransducerText.{HaveRules, HaveStart, IsSmallRule, ReadsAs}
 use Rattle.tib_transducer_file.proofs.TextRead.{LineHolds, line_holds}
 
@@ -157,8 +157,8 @@ file_held scale n [] start rules e = absurd (whole_err _ (start, rules) e)
 file_held scale n (line ∷ lines) start rules e =
     begun scale n line lines start rules (start_line line) (rules_from scale (suc n) lines) (transducer_from scale (suc n) lines) refl (rules_held scale (suc n) lines) (file_held scale (suc n) lines start rules) e
 
--- within the limit
-left_long : (labels : List (List ℕ)) (ss : List (Symbol ℕ Variable × ℕ)) (p : Parts) → IsLeftSide labels ss p → length ss ≡ length p.below + 1
+-- a left side has one node more than are below its root
+pub left_long : (labels : List (List ℕ)) (ss : List (Symbol ℕ Variable × ℕ)) (p : Parts) → IsLeftSide labels ss p → length ss ≡ length p.below + 1
 left_long labels [] p h = absurd h
 left_long labels (s ∷ ss) p h = omega (arith, along_long (IsLeftNode labels) ss p.below h.1)
 

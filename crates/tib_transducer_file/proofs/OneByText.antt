@@ -39,11 +39,12 @@ all_added : (before texts now : List (List ℕ)) → AddsAll before texts now �
 all_added before [] now same d = subst (λ (ts : List (List ℕ)). AreDistinct ts) (sym same) d
 all_added before (text ∷ texts) now (middle, one, more) d = all_added middle texts now more (one_added before text middle one d)
 
-none_distinct : AreDistinct []
+-- no labels are distinct
+pub none_distinct : AreDistinct []
 none_distinct = record { once = λ m n text e f. absurd (cc) }
 
--- nor does a number on a left side
-any_has : (xs : List ℕ) (n : ℕ) → Has xs n → list_any (nat_eq n) xs ≡ false → ⊥
+-- a member is found
+pub any_has : (xs : List ℕ) (n : ℕ) → Has xs n → list_any (nat_eq n) xs ≡ false → ⊥
 any_has [] n h e = absurd h
 any_has (x ∷ xs) n (inl same) e =
     let apart = or_false (nat_eq n x) (list_any (nat_eq n) xs) e in
@@ -51,14 +52,16 @@ any_has (x ∷ xs) n (inl same) e =
     let bad : true ≡ false = sym equal ∙ apart.0 in cc
 any_has (x ∷ xs) n (inr h) e = any_has xs n h (or_false (nat_eq n x) (list_any (nat_eq n) xs) e).1
 
-apart_from : (before ns : List ℕ) → repeats before ns ≡ false → (n : ℕ) → Has ns n → Has before n → ⊥
+-- where no number repeats, no later one stands before
+pub apart_from : (before ns : List ℕ) → repeats before ns ≡ false → (n : ℕ) → Has ns n → Has before n → ⊥
 apart_from before [] e n h k = absurd h
 apart_from before (m ∷ ns) e n (inl same) k =
     any_has before n k (subst (λ (x : ℕ). list_any (nat_eq x) before ≡ false) same (or_false (list_any (nat_eq m) before) (repeats (before ++ m ∷ []) ns) e).0)
 apart_from before (m ∷ ns) e n (inr h) k =
     apart_from (before ++ m ∷ []) ns (or_false (list_any (nat_eq m) before) (repeats (before ++ m ∷ []) ns) e).1 n h (has_left before (m ∷ []) n k)
 
-once_each : (before ns : List ℕ) → repeats before ns ≡ false → Distinct ns
+-- and no number stands twice
+pub once_each : (before ns : List ℕ) → repeats before ns ≡ false → Distinct ns
 once_each before [] e = tt
 once_each before (m ∷ ns) e =
     let more : repeats (before ++ m ∷ []) ns ≡ false = (or_false (list_any (nat_eq m) before) (repeats (before ++ m ∷ []) ns) e).1 in
@@ -239,3 +242,7 @@ one_by_text scale labels others bytes t u r q =
       rules = rules_agree labels others u.names (all_added [] (q.text.start ∷ states_of q.text.lines) u.names q.text.states none_distinct) q.text.lines t.rules u.rules
           (lines_once scale (lines_of bytes) q.text.start q.text.lines q.text.written) mine q.text.rules;
     }
+
+-- pairs of the same state and variable are the same
+pub pair_same : (x y : Pair ℕ) → x.state ≡ y.state → x.variable ≡ y.variable → x ≡ y
+pair_same x y e f = ap (λ (q : ℕ). record { state = q; variable = x.variable }) e ∙ ap (λ (n : ℕ). record { state = y.state; variable = n }) f

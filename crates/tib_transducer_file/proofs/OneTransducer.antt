@@ -13,7 +13,7 @@ use Rattle.tib_transducer.specs.declared.Pair.{Pair}
 use Rattle.tib_transducer.specs.declared.TransducerRule.{TransducerRule}
 use Rattle.tib_transducer_file.specs.TransducerText.{ReadsAs}
 use Rattle.tib_transducer_file.specs.ByText.{AskForOneText, AreOneVariable, AgreeOnLeft, AgreeOnRight, AreOneTransducerRule}
-use Rattle.tib_transducer_file.proofs.OneByText.{one_by_text}
+use Rattle.tib_transducer_file.proofs.OneByText.{one_by_text, pair_same}
 
 -- trees of one shape whose nodes are the same are the same
 shape_same : {A : Type 0} (R : A → A → Type 0) → ((x y : A) → R x y → x ≡ y) → (ts us : Trees A) → HaveOneShape R ts us → ts ≡ us
@@ -52,10 +52,6 @@ module _ (labels : List (List ℕ)) (apart : Distinct labels) where
   left_same (label f) (hole y) h = absurd h
   left_same (hole x) (label g) h = absurd h
   left_same (hole x) (hole y) h = ap hole (variable_same x y h)
-
-  pair_same : (x y : Pair ℕ) → x.state ≡ y.state → x.variable ≡ y.variable → x ≡ y
-  pair_same x y e f =
-      ap (λ (q : ℕ). record { state = q; variable = x.variable }) e ∙ ap (λ (n : ℕ). record { state = y.state; variable = n }) f
 
   right_same : (r s : Symbol ℕ (Pair ℕ)) → AgreeOnRight labels labels r s → r ≡ s
   right_same (label f) (label g) h = ap label (label_same f g h)

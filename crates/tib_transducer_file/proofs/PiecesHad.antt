@@ -2,17 +2,14 @@
 use Rattle.std.proofs.Common.{◌≡◌, ℕ, ◌+◌, List, [], ◌∷◌, ◌++◌, length, drop, refl, ap, sym, ◌∙◌, subst, Option, zero, suc}
 use Rattle.std.specs.Prelude.{option_map, slice_range, Some, None, not}
 use Rattle.tib_lex.specs.Grammar.{Word, begins_blank, spelling, Begins, HasBadToken}
-use Rattle.tib_lex.specs.Next.{next, span}
-use Rattle.tib_lex.specs.Laws.{kind_of, Found}
+use Rattle.tib_lex.specs.Next.{next}
+use Rattle.tib_lex.specs.Laws.{Found}
 use Rattle.tib_lex.specs.Line.{words_of, words_in, words_after, word_of}
 use Rattle.tib_lex.specs.declared.token.Token.{Token}
 use Rattle.tib_lex.specs.declared.token.Lexed.{Lexed}
 use Rattle.tib_lex.specs.declared.token.Lexed.TheVariants as lexed
-use Rattle.tib_lex.proofs.HasWords.{Blanks, split_blanks, Means, means_of, token_word, token_of, behind, slice_there, bad_had}
+use Rattle.tib_lex.proofs.HasWords.{Blanks, split_blanks, Means, means_of, token_word, behind, slice_there, bad_had, same_token}
 use Rattle.tib_transducer_file.specs.Pieces.{Piece, piece, meaning, meanings, HasPieces, pieces_after, pieces_in, pieces_of}
-
-same_token : (t : Token) (word : Word) (at : ℕ) → lexed.Token t ≡ span (kind_of word) at (length (spelling word)) → t ≡ token_of word at
-same_token t word at e = cc
 
 -- the bytes of the token that was read
 token_bytes : (bytes bl back : List ℕ) (t : Token) (f : Found back (length bl) (lexed.Token t)) → bytes ≡ bl ++ back → slice_range bytes t.start t.end ≡ spelling f.word

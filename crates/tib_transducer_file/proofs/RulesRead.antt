@@ -10,11 +10,12 @@ use Rattle.tib_lex.proofs.Spelled.{and_true}
 use Rattle.std.proofs.lemmas.List.Sums.{prefix_len_stops}
 use Rattle.tib_lex.specs.declared.token.Kind.{Kind}
 use Rattle.tib_lex.specs.declared.token.Kind.TheVariants as token_kinds
-use Rattle.tib_tree.specs.Written.{Written, Item, end, leaf, head, word_for, spell, items}
+use Rattle.tib_tree.specs.Written.{Written, Item, end, leaf, head, word_for, spell}
 use Rattle.tib_tree.specs.Machine.{nodes_of, IsTree}
 use Rattle.tib_tree.proofs.Read.{tree_back, tree_forth}
 use Rattle.tib_grammar_file.specs.Rule.{weight_words, right_parts, Parts as RightParts, parts as right_of, parts_of as right_read}
 use Rattle.tib_grammar_file.proofs.RulesRead.{rule_back, rule_forth}
+use Rattle.tib_grammar_file.proofs.PartsRead.{nodes_few}
 use Rattle.tib_transducer_file.specs.Pieces.{Piece, piece, meaning, meanings}
 use Rattle.tib_transducer_file.specs.Forms.{is_stray, is_kind, takes_next, joins, left_words}
 use Rattle.tib_transducer_file.specs.Rule.{Parts, parts, has_state, SpellsRule, is_no_arrow, arrow_at, with_right, with_left, parts_at, parts_of}
@@ -218,12 +219,6 @@ parts_forth pieces p s =
     ∙ ap (λ (o : Option (List Item)). with_left o (right_parts [] (meanings s.back))) left
     ∙ ap (λ (o : Option RightParts). with_left (Some (p.root ∷ p.below)) o) right
     ∙ rw (state, leaves) refl)
-
--- a rule has no more items than tokens
-nodes_few : (f : Written) → length (items f) ≤ length (spell f)
-nodes_few end = omega arith
-nodes_few (leaf q t rest) = omega (arith, nodes_few rest)
-nodes_few (head q t kids rest) = omega (arith, nodes_few kids, nodes_few rest, length-append (items kids) (items rest), length-append (spell kids) (close ∷ spell rest))
 
 tree_few : (words : List Word) (is : List Item) → IsTree words is → length is ≤ length words
 tree_few words is t = omega (arith, nodes_few t.tree, ap length t.spelled, ap length t.nodes)

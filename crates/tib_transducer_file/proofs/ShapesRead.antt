@@ -32,12 +32,13 @@ pair_rank true k t v e = let bad : None ≡ Some v = e in absurd (cc)
 pair_rank false None t v e = refl
 pair_rank false (Some n) t v e = let bad : None ≡ Some v = e in absurd (cc)
 
--- the items of a preorder
-abbrev item_from : {P : Type 0} → Symbol ℕ P × ℕ → SideItem P
+-- a symbol with its rank as an item
+abbrev pub item_from : {P : Type 0} → Symbol ℕ P × ℕ → SideItem P
 item_from (label f, rank) = Label f rank
 item_from (hole p, rank) = Hole p
 
-abbrev items_from : {P : Type 0} → List (Symbol ℕ P × ℕ) → List (SideItem P)
+-- and each of a list
+abbrev pub items_from : {P : Type 0} → List (Symbol ℕ P × ℕ) → List (SideItem P)
 items_from [] = []
 items_from (s ∷ ss) = item_from s ∷ items_from ss
 

@@ -3,6 +3,7 @@ use Rattle.std.proofs.Common.{◌≡◌, ℕ, ◌+◌, ◌-◌, ◌<◌, ◌≤�
 use Rattle.std.specs.Prelude.{Some, None}
 use Rattle.std.proofs.lemmas.List.{drop_all, map-append, length-append}
 use Rattle.tib_lex.specs.Lists.{Along}
+use Rattle.tib_lex.proofs.Alongs.{along_more}
 use Rattle.tib_tree.specs.Grows.{Grows, AddsAll}
 use Rattle.tib_tree.specs.Written.{Item}
 use Rattle.tib_tree.specs.Shape.{items_back, item_at}
@@ -12,7 +13,7 @@ use Rattle.tib_grammar.specs.Sides.{Symbol, label, hole}
 use Rattle.tib_grammar.specs.Items.{pair_of, pairs_of, holes_in}
 use Rattle.tib_grammar.specs.declared.Item.{Item as SideItem}
 use Rattle.tib_grammar.specs.declared.Item.TheVariants.{Label, Hole}
-use Rattle.tib_grammar_file.proofs.Alongs.{along_changes, along_more}
+use Rattle.tib_grammar_file.proofs.Alongs.{along_changes}
 use Rattle.tib_transducer.specs.Range.{AreNumbered}
 use Rattle.tib_transducer.specs.declared.Variable.{Variable}
 use Rattle.tib_transducer.specs.declared.Pair.{Pair}
@@ -96,8 +97,8 @@ pub pushing_ends : (labels : List (List ℕ)) (line : List ℕ) (places : List P
 pushing_ends labels line places old now number zero h p = record { more = p.more; last = p.last; are = p.are; numbered = p.numbered }
 pushing_ends labels line places old now number (suc i) h p = absurd (omega arith)
 
--- the items of a right side, from the last place on
-states_append : (xs ys : List Item) → states_in (xs ++ ys) ≡ states_in xs ++ states_in ys
+-- the states of two lists of items in one
+pub states_append : (xs ys : List Item) → states_in (xs ++ ys) ≡ states_in xs ++ states_in ys
 states_append [] ys = refl
 states_append (x ∷ xs) ys = by (pair_in x) (states_append xs ys)
   where

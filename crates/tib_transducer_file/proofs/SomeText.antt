@@ -4,14 +4,12 @@ use Rattle.std.proofs.Common.{◌≡◌, ℕ, ◌⊎◌, inl, inr, Bool, true, f
 use Rattle.std.specs.Prelude.{Some, None, Result, Ok, Err, slice_get, nat_eq, not, ◌||◌}
 use Rattle.std.specs.List.{list_any}
 use Rattle.std.proofs.lemmas.Bool.Decides.{nat_tests}
-use Rattle.std.proofs.lemmas.Option.{slice_get-get_or}
 use Rattle.tib_lex.specs.Grammar.{Word}
 use Rattle.tib_lex.specs.Lines.{lines_of}
-use Rattle.tib_lex.specs.Lists.{Along, Each, Has, Distinct}
+use Rattle.tib_lex.specs.Lists.{Along, Each, Has}
 use Rattle.tib_lex.specs.declared.fault.FileFault.{FileFault}
-use Rattle.tib_lex.proofs.Members.{at_has, has_left, has_right, has_contains, distinct_more}
+use Rattle.tib_lex.proofs.Members.{has_left, has_right}
 use Rattle.tib_lex.proofs.Spelled.{or_false}
-use Rattle.tib_tree.specs.Grows.{Adds, AddsAll}
 use Rattle.tib_tree.specs.Machine.{IsTree, nodes_of}
 use Rattle.tib_tree.specs.Nodes.{rank_of}
 use Rattle.tib_tree.specs.Trees.{preorder_of, parse, first_of, preorder-first, IsOneTree}
@@ -24,6 +22,7 @@ use Rattle.tib_grammar.specs.declared.Item.TheVariants.{Label, Hole}
 use Rattle.tib_grammar.proofs.Holes.{holes_of_items}
 use Rattle.tib_grammar_file.proofs.Alongs.{along_changes}
 use Rattle.tib_grammar_file.proofs.PrintedStates.{gathered, all_added}
+use Rattle.tib_grammar_file.proofs.SomeText.{numbered, all_distinct}
 use Rattle.tib_transducer.specs.Range.{AreNumbered}
 use Rattle.tib_transducer.specs.TransducerOf.{TransducerOf}
 use Rattle.tib_transducer.specs.declared.Variable.{Variable}
@@ -45,10 +44,6 @@ use Rattle.tib_transducer_file.proofs.SideTrees.{HasRank, are_one}
 -- a table has all of some texts
 abbrev HasAll : List (List ℕ) → List (List ℕ) → Type 0
 HasAll table texts = (t : List ℕ) → Has texts t → Has table t
-
--- a text of a table has a number
-numbered : (xs : List (List ℕ)) (t : List ℕ) → Has xs t → (n : ℕ) × (slice_get xs n ≡ Some t)
-numbered xs t h = let a = at_has xs t [] h in (a.0, slice_get-get_or xs a.0 [] a.1 ∙ ap Some a.2)
 
 -- a number that is among others has a place
 placed : (ns : List ℕ) (v : ℕ) → list_any (nat_eq v) ns ≡ true → (n : ℕ) × (slice_get ns n ≡ Some v)
@@ -213,14 +208,6 @@ some_rules scale names labels (line ∷ lines) spelled h s =
     let more = some_rules scale names labels lines spelled.1 (λ t k. h t (has_right (rule_texts line.parts) (file_texts lines) t k))
     (λ t k. s t (has_right (state_of line.parts ∷ states_in line.parts.right) (states_of lines) t k)) in
     (r.0 ∷ more.0, (r.1, more.1))
-
-one_distinct : (before : List (List ℕ)) (text : List ℕ) (now : List (List ℕ)) → Adds before text now → Distinct before → Distinct now
-one_distinct before text now (inl (held, same)) d = subst (λ (ts : List (List ℕ)). Distinct ts) (sym same) d
-one_distinct before text now (inr (new, same)) d = subst (λ (ts : List (List ℕ)). Distinct ts) (sym same) (distinct_more before text d (λ h. new (has_contains before text h)))
-
-all_distinct : (before texts now : List (List ℕ)) → AddsAll before texts now → Distinct before → Distinct now
-all_distinct before [] now same d = subst (λ (ts : List (List ℕ)). Distinct ts) (sym same) d
-all_distinct before (text ∷ texts) now (middle, adds, more) d = all_distinct middle texts now more (one_distinct before text middle adds d)
 
 some_text : (scale : Scale) (bytes start : List ℕ) (lines : List RuleLine) → transducer_in scale bytes ≡ Ok (start, lines) → IsSomeText scale bytes
 unfolding transducer_in

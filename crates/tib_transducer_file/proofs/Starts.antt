@@ -13,9 +13,9 @@ use Rattle.tib_lex.specs.declared.fault.LineError.{LineError}
 use Rattle.tib_lex.specs.declared.fault.LineError.TheVariants as line_errors
 use Rattle.tib_tree.specs.Grows.{Adds}
 use Rattle.tib_grammar_file.specs.RawGrammar.{IsStartLine}
-use Rattle.tib_grammar_file.specs.Reading.{fault_at, start_line}
+use Rattle.tib_grammar_file.specs.Reading.{fault_at, start_line, with_start}
 use Rattle.tib_transducer_file.specs.Begins.{Began, IsBegun}
-use Rattle.tib_transducer_file.specs.Reading.{with_start, rules_from, transducer_from}
+use Rattle.tib_transducer_file.specs.Reading.{rules_from, transducer_from}
 
 line_there : (scale : Scale) (n at : ℕ) (bytes : List ℕ) (line : Line) → IsNextLine bytes n at line → transducer_from scale n (lines_of (drop at bytes)) ≡ with_start n (start_line (slice_range bytes line.start line.end)) (rules_from scale (n + 1) (lines_of (drop line.next bytes))) (transducer_from scale (n + 1) (lines_of (drop line.next bytes)))
 line_there scale n at bytes line is =

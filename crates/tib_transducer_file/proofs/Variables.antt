@@ -1,11 +1,12 @@
 -- What a token is, by its bytes.
 use Rattle.std.proofs.Common.{◌≡◌, ℕ, ◌+◌, ◌<◌, ◌≤◌, List, [], ◌∷◌, length, get_or, take, drop, refl, ap, sym, ◌∙◌, subst, arith, Bool, true, false, Option, zero, suc}
-use Rattle.std.specs.Prelude.{Some, None, slice_range, nat_lt, ◌==◌, ◌&&◌, not, cond}
+use Rattle.std.specs.Prelude.{Some, None, slice_range, nat_lt, ◌==◌, not, cond}
 use Rattle.std.specs.List.{list_all}
 use Rattle.std.proofs.lemmas.Bool.Decides.{nat_tests}
 use Rattle.std.proofs.lemmas.List.Sums.{prefix_len-le-length}
 use Rattle.tib_lex.specs.Grammar.{is_name}
 use Rattle.tib_lex.proofs.Quotes.{ne-eqb}
+use Rattle.tib_lex.proofs.Booleans.{and-false}
 use Rattle.tib_grammar_file.specs.Weight.{is_digit}
 use Rattle.tib_transducer_file.specs.Forms.{digits, some_digits, number_size, number_of, behind_number, is_colon, ending, label_behind, variable_of, stop_at, before_stop, behind_stop, is_number, pair_of, is_root, ends_with_colon}
 use Rattle.tib_transducer_file.proofs.Numbers.{front_digits}
@@ -84,18 +85,13 @@ pub colon_variable : (line : List ℕ) (start end n behind number : ℕ) (text :
 colon_variable line start end n behind number text w o e h b s c v t =
     sym (some_behind line start end n behind w o e h b s ∙ rw (c, t, v) refl)
 
--- pairs
-and_false : (b : Bool) → (b && false) ≡ false
-and_false true = refl
-and_false false = refl
-
 no_name : (text : List ℕ) → is_name (before_stop text) ≡ false → None ≡ pair_of text
 unfolding pair_of
 no_name text e = rw e refl
 
 no_number : (text : List ℕ) → is_number (behind_stop text) ≡ false → None ≡ pair_of text
 unfolding pair_of
-no_number text e = rw (e, and_false (is_name (before_stop text))) refl
+no_number text e = rw (e, and-false (is_name (before_stop text))) refl
 
 a_pair : (text : List ℕ) → is_name (before_stop text) ≡ true → is_number (behind_stop text) ≡ true → Some (before_stop text, number_of (behind_stop text)) ≡ pair_of text
 unfolding pair_of
@@ -161,7 +157,7 @@ no_root_name text front stop r s f i e = let n = front_is text front stop r s f 
 pub no_root_label : (text : List ℕ) (stop : ℕ) → stop ≡ stop_at text → length text ≤ stop + 1 → false ≡ is_root text
 no_root_label text stop s h =
     let e : behind_stop text ≡ [] = ap (λ (n : ℕ). drop (n + 1) text) (sym s) ∙ drop_past text (stop + 1) h in
-    rw (e, and_false (is_name (before_stop text))) refl
+    rw (e, and-false (is_name (before_stop text))) refl
 
 drop_long : (xs : List ℕ) (n : ℕ) → n < length xs → 0 < length (drop n xs)
 drop_long [] n h = absurd (omega arith)
@@ -190,7 +186,7 @@ label_at line text start end stop t s o =
 no_colon_behind : (xs : List ℕ) (k : ℕ) → k ≤ length xs → (length xs ≡ k + 1 → ⊥) → is_colon (drop k xs) ≡ false
 no_colon_behind [] zero h n = refl
 no_colon_behind [] (suc k) h n = refl
-no_colon_behind (x ∷ xs) zero h n = let e : (length xs == 0) ≡ false = ne-eqb (length xs) 0 (λ z. n (omega (arith, z))) in rw (e, and_false (x == 58)) refl
+no_colon_behind (x ∷ xs) zero h n = let e : (length xs == 0) ≡ false = ne-eqb (length xs) 0 (λ z. n (omega (arith, z))) in rw (e, and-false (x == 58)) refl
 no_colon_behind (x ∷ xs) (suc k) h n = no_colon_behind xs k (omega arith) (λ z. n (omega (arith, z)))
 
 pub not_colon : (text : List ℕ) (n : ℕ) → n ≡ number_size text → (n ≡ 0 → ⊥) → (length text ≡ n + 2 → ⊥) → ends_with_colon text ≡ false
@@ -198,4 +194,4 @@ not_colon text n e z h =
     let i = number_in text n e (omega (arith, z)) in
     let c : is_colon (drop (n + 1) text) ≡ false = no_colon_behind text (n + 1) i.within (λ k. h (omega (arith, k))) in
     let d : is_colon (behind_number text) ≡ false = ap (λ (m : ℕ). is_colon (drop (m + 1) text)) (sym e) ∙ c in
-    rw (d, and_false (not (number_size text == 0))) refl
+    rw (d, and-false (not (number_size text == 0))) refl

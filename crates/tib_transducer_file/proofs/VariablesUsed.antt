@@ -4,6 +4,7 @@ use Rattle.std.specs.Prelude.{Some, None, nat_eq, ◌||◌, not, map}
 use Rattle.std.specs.List.{list_any}
 use Rattle.std.proofs.lemmas.List.{take-append-drop, drop_all, map-append, reverse-append}
 use Rattle.indexmap.specs.IndexSet.{insert_key}
+use Rattle.tib_lex.proofs.Booleans.{or-true}
 use Rattle.tib_tree.specs.Written.{Item}
 use Rattle.tib_tree.specs.Shape.{items_back, item_at}
 use Rattle.tib_tree.specs.declared.shape.Place.{Place}
@@ -96,7 +97,7 @@ back_split line places i =
 pub reading_fails : (line : List ℕ) (places : List Place) (keys after : List ℕ) (i : ℕ) (d : Place) (v : ℕ × Option (List ℕ)) (r : Bool) → 0 < i → Some v ≡ variable_in (item_at line (get_or places (i - 1) d)) → r ≡ not (list_any (nat_eq v.0) keys) → r ≡ false → Reading line places keys i → AreNumbers false after (numbers_in (items_back line places))
 reading_fails line places keys after i d v r h e n f g =
     let old : list_any (nat_eq v.0) keys ≡ true = not_back (list_any (nat_eq v.0) keys) (sym n ∙ f) in
-    let part : repeats [] (keys ++ v.0 ∷ []) ≡ true = repeats_more [] keys v.0 ∙ ap (λ (b : Bool). repeats [] keys || b) old ∙ or_true (repeats [] keys) in
+    let part : repeats [] (keys ++ v.0 ∷ []) ≡ true = repeats_more [] keys v.0 ∙ ap (λ (b : Bool). repeats [] keys || b) old ∙ or-true (repeats [] keys) in
     ap (λ (is : List Item). repeats [] (numbers_in is)) (back_split line places (i - 1))
     ∙ ap (repeats []) (numbers_append (items_back line (drop (i - 1) places)) (items_back line (take (i - 1) places)))
     ∙ repeats_front [] (numbers_in (items_back line (drop (i - 1) places))) (numbers_in (items_back line (take (i - 1) places)))
@@ -105,10 +106,6 @@ reading_fails line places keys after i d v r h e n f g =
     not_back : (b : Bool) → not b ≡ false → b ≡ true
     not_back true e = refl
     not_back false e = cc
-
-    or_true : (b : Bool) → (b || true) ≡ true
-    or_true true = refl
-    or_true false = refl
 
 pub reading_ends : (line : List ℕ) (places : List Place) (keys : List ℕ) (i : ℕ) → i ≤ 0 → Reading line places keys i → AreNumbers true keys (numbers_in (items_back line places))
 reading_ends line places keys zero h r = (r.numbers, ap (repeats []) (sym r.numbers) ∙ r.once)

@@ -5,7 +5,8 @@ use Rattle.tib_lex.specs.Lines.{lines_of}
 use Rattle.tib_lex.specs.declared.fault.ReadError.{ReadError}
 use Rattle.tib_lex.specs.declared.fault.ReadError.TheVariants as errors
 use Rattle.tib_tree.specs.Grows.{Adds}
-use Rattle.tib_transducer_file.specs.Reading.{transducer_from, started, rules_from}
+use Rattle.tib_grammar_file.specs.Reading.{started}
+use Rattle.tib_transducer_file.specs.Reading.{transducer_from, rules_from}
 use Rattle.tib_transducer_file.specs.declared.start.Begun.{Begun}
 
 -- the start was found, and the rules begin at a place

@@ -4,6 +4,7 @@ use Rattle.std.specs.Prelude.{◌≡◌, ◌+◌, ◌≤◌, ℕ, List, length, 
 use Rattle.tib_lex.specs.declared.fault.LineError.{LineError}
 use Rattle.tib_lex.specs.declared.fault.LineError.TheVariants as errors
 use Rattle.tib_tree.specs.Shape.{items_back}
+use Rattle.tib_tree.specs.Trees.{most_nodes}
 use Rattle.tib_tree.specs.declared.shape.Place.{Place}
 use Rattle.tib_grammar_file.specs.Found.{text_at}
 use Rattle.tib_transducer_file.specs.Rule.{Parts, has_unknown, numbers_in, checked, rule_line, rule_line_of}
@@ -35,8 +36,8 @@ pub record GoodRule (scale : Scale) (p : Parts) (numbers : List ℕ) (left right
   pub read : checked scale p ≡ Ok (Some (rule_line_of p cost))
   pub numbers_are : numbers ≡ numbers_in p.below
   pub known : has_unknown p ≡ false
-  pub few_left : length left ≤ 10000
-  pub few_right : length right ≤ 10000
+  pub few_left : length left ≤ most_nodes
+  pub few_right : length right ≤ most_nodes
 
 abbrev pub IsGood : Scale → Parts → List ℕ → List Place → List Place → Result ℕ LineError → Type 0
 IsGood scale p numbers left right (Ok cost) = GoodRule scale p numbers left right cost

@@ -1,25 +1,15 @@
 -- What is read of a file: its start and its rules, or its first fault.
 use Rattle.tib_cost.specs.declared.Scale.{Scale}
-use Rattle.std.specs.Prelude.{ℕ, List, [], ◌∷◌, Option, None, Some, Result, Ok, Err, suc}
+use Rattle.std.specs.Prelude.{ℕ, List, [], ◌∷◌, Result, Err, suc}
 use Rattle.tib_lex.specs.Lines.{lines_of, each_line}
-use Rattle.tib_lex.specs.declared.fault.FaultKind.{FaultKind}
 use Rattle.tib_lex.specs.declared.fault.FaultKind.TheVariants as kinds
 use Rattle.tib_lex.specs.declared.fault.FileFault.{FileFault}
-use Rattle.tib_grammar_file.specs.Reading.{fault_at, start_line}
+use Rattle.tib_grammar_file.specs.Reading.{fault_at, start_line, with_start}
 use Rattle.tib_transducer_file.specs.Rule.{RuleLine, rule_line}
 
 -- the rules of the lines from a number on
 abbrev pub rules_from : Scale → ℕ → List (List ℕ) → Result (List RuleLine) FileFault
 rules_from scale n lines = each_line (rule_line scale) n lines
-
-abbrev pub started : List ℕ → Result (List RuleLine) FileFault → Result (List ℕ × List RuleLine) FileFault
-started start (Ok rules) = Ok (start, rules)
-started start (Err fault) = Err fault
-
-abbrev pub with_start : ℕ → Result (Option (List ℕ)) FaultKind → Result (List RuleLine) FileFault → Result (List ℕ × List RuleLine) FileFault → Result (List ℕ × List RuleLine) FileFault
-with_start n (Err kind) rules more = Err (fault_at n kind)
-with_start n (Ok None) rules more = more
-with_start n (Ok (Some start)) rules more = started start rules
 
 abbrev pub transducer_from : Scale → ℕ → List (List ℕ) → Result (List ℕ × List RuleLine) FileFault
 transducer_from scale n [] = Err (fault_at 1 kinds.NoStart)

@@ -1,14 +1,12 @@
 -- What is printed of a transducer is the text of the same transducer, states by their names.
 use Rattle.tib_cost.specs.declared.Scale.{Scale}
-use Rattle.std.proofs.Common.{◌≡◌, ℕ, ◌<◌, inl, inr, List, [], ◌∷◌, ◌++◌, length, get_or, length-append, append-nil, refl, ap, sym, ◌∙◌, subst, arith, zero, suc}
+use Rattle.std.proofs.Common.{◌≡◌, ℕ, ◌<◌, inl, inr, List, [], ◌∷◌, ◌++◌, length, get_or, length-append, refl, ap, sym, ◌∙◌, subst, arith, zero, suc}
 use Rattle.std.specs.Prelude.{map}
 use Rattle.std.proofs.lemmas.List.{map-append}
 use Rattle.std.proofs.lemmas.Option.{get_or_from_slice_get}
-use Rattle.tib_lex.specs.Grammar.{name, HasWords}
 use Rattle.tib_lex.specs.Lines.{lines_of}
 use Rattle.tib_lex.specs.Lists.{Along, Each, Has}
 use Rattle.tib_lex.proofs.HasLines.{lines_read}
-use Rattle.tib_lex.proofs.HasWords.{has_first_word, no_words}
 use Rattle.tib_lex.proofs.Members.{has_at, at_has, has_either, has_contains}
 use Rattle.tib_tree.specs.Grows.{AddsAll}
 use Rattle.tib_tree.specs.Trees.{Trees, none, tree, preorder, relabel}
@@ -18,15 +16,17 @@ use Rattle.tib_grammar.specs.StateName.{IsStateName}
 use Rattle.tib_grammar_file.proofs.PrintedRules.{Renames}
 use Rattle.tib_grammar_file.proofs.PrintedStates.{contains_has, gathered, all_added, all_from, starts_with, SameNames, number_by, renames}
 use Rattle.tib_grammar_file.proofs.PrintedTrees.{name_at_is}
+use Rattle.tib_grammar_file.proofs.PrintedBack.{start_read}
 use Rattle.tib_transducer.specs.Rules.{states_in}
 use Rattle.tib_transducer.specs.TransducerOf.{TransducerOf}
 use Rattle.tib_transducer.specs.declared.Pair.{Pair}
 use Rattle.tib_transducer.specs.declared.TransducerRule.{TransducerRule}
+use Rattle.tib_transducer.specs.NamedPairs.{named_pair}
 use Rattle.tib_transducer_file.specs.Rule.{RuleLine}
 use Rattle.tib_transducer_file.specs.TransducerText.{HaveRules, HaveStart, TransducerText, IsSmallRule, ReadsAs}
 use Rattle.tib_transducer_file.specs.Value.{IsRule, states_in as states_on_right, states_of as states_written}
 use Rattle.tib_transducer_file.proofs.FaultsOnce.{no_text}
-use Rattle.tib_transducer_print.specs.ByName.{named_pair, named_rule, states_of, HasText, PrintsBack}
+use Rattle.tib_transducer_print.specs.ByName.{named_rule, states_of, HasText, PrintsBack}
 use Rattle.tib_transducer_print.specs.Printed.{transducer_text}
 use Rattle.tib_transducer_print.proofs.Fitting.{IsGood, are_good, LineOf, rule_line, rule_fits}
 use Rattle.tib_transducer_print.proofs.Forests.{FitsSymbol}
@@ -56,9 +56,6 @@ rules_lines scale names labels (r ∷ rules) e g =
           ∙ ap (λ (ts : List (List ℕ)). get_or names r.state [] ∷ (map (λ q. get_or names q []) (states_in r.right) ++ ts)) more.states
           ∙ ap (λ (ts : List (List ℕ)). get_or names r.state [] ∷ ts) (sym (map-append (λ q. get_or names q []) (states_in r.right) (states_of rules)));
     }
-
-start_read : (text : List ℕ) → IsStateName text → HasWords (name text ∷ []) text
-start_read text is = subst (λ (l : List ℕ). HasWords (name text ∷ []) l) (append-nil text) (has_first_word (name text) [] [] is.is_name refl no_words)
 
 abbrev pub start_of : TransducerOf → List ℕ
 start_of t = get_or t.names 0 []

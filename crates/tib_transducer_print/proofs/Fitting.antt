@@ -3,7 +3,7 @@ use Rattle.tib_cost.specs.declared.Scale.{Scale}
 use Rattle.std.proofs.Common.{◌≡◌, ℕ, ◌+◌, ◌<◌, ◌≤◌, List, [], ◌∷◌, ◌++◌, length, get_or, refl, ap, sym, ◌∙◌, subst, arith, suc}
 use Rattle.std.specs.Prelude.{map}
 use Rattle.tib_lex.specs.Lists.{Each}
-use Rattle.tib_lex.proofs.Lists.{append_nil}
+use Rattle.tib_lex.proofs.Lists.{append_nil, each_parts}
 use Rattle.tib_tree.specs.Trees.{Trees, none, tree, only, preorder}
 use Rattle.tib_grammar.specs.Range.{AllBelow}
 use Rattle.tib_grammar.specs.Sides.{Symbol, Side, label as symbol_label, hole, holes, HolesAreLeaves}
@@ -27,10 +27,6 @@ use Rattle.tib_transducer_print.proofs.LeftTokens.{IsVariablePlain}
 use Rattle.tib_transducer_print.proofs.RightTokens.{IsPairPlain}
 use Rattle.tib_transducer_print.proofs.RuleTokens.{parts_of, FitsRule, line_spelled}
 use Rattle.tib_transducer_print.proofs.RuleMeaning.{rule_with, rule_meant, states_printed}
-
-pub each_parts : {A : Type 0} (P : A → Type 0) (xs ys : List A) → Each P (xs ++ ys) → Each P xs × Each P ys
-each_parts P [] ys h = (tt, h)
-each_parts P (x ∷ xs) ys h = let t = each_parts P xs ys h.1 in ((h.0, t.0), t.1)
 
 module _ {P : Type 0} (IsLabel : ℕ → Type 0) (IsLeaf : P → Type 0) (On : Symbol ℕ P → Type 0) (Q : P → Type 0) (labelled : (f : ℕ) → On (symbol_label f) → IsLabel f) (held : (p : P) → On (hole p) → Q p → IsLeaf p) where
   fits_of : (ts : Trees (Symbol ℕ P)) → HolesAreLeaves ts → Each (λ s. On s.0) (preorder ts) → Each Q (holes ts) → Fits IsLabel IsLeaf ts

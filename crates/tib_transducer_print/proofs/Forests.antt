@@ -4,10 +4,10 @@ use Rattle.std.specs.Prelude.{not, ◌&&◌, ◌==◌, ◌||◌}
 use Rattle.std.specs.List.{list_all}
 use Rattle.std.proofs.lemmas.Bool.Decides.{eqb_tells}
 use Rattle.tib_lex.specs.Bytes.{is_blank, is_name_byte}
-use Rattle.tib_lex.specs.Grammar.{Word, open_, close, hash, arrow, name, label, spelling, IsName, IsWord, MayPrecede, begins_name, begins_blank, Begins}
+use Rattle.tib_lex.specs.Grammar.{Word, open_, close, name, spelling, IsName, IsWord, MayPrecede, begins_name, begins_blank, Begins}
 use Rattle.tib_lex.specs.Laws.{kind_of}
 use Rattle.tib_lex.specs.declared.token.Kind.TheVariants as kinds
-use Rattle.tib_lex.proofs.HasWords.{word_again}
+use Rattle.tib_lex.proofs.HasWords.{word_again, black_word}
 use Rattle.tib_lex.proofs.Spelled.{and_true}
 use Rattle.tib_tree.specs.Trees.{Trees, none, tree}
 use Rattle.tib_tree.specs.Written.{Written, end, leaf, head, word_for, spell}
@@ -39,14 +39,6 @@ black_byte b true e h = by (b == 32) (b == 9) (b == 13) refl refl refl e
 black_name : (text rest : List ℕ) → IsName text → begins_blank (text ++ rest) ≡ false
 black_name [] rest w = absurd (omega (arith, w.some))
 black_name (b ∷ text) rest w = black_byte b (is_blank b) refl (and_true (is_name_byte b) (list_all is_name_byte text) w.bytes).0
-
-black_word : (word : Word) (rest : List ℕ) → IsWord word → begins_blank (spelling word ++ rest) ≡ false
-black_word open_ rest w = refl
-black_word close rest w = refl
-black_word hash rest w = refl
-black_word arrow rest w = refl
-black_word (name text) rest w = black_name text rest w
-black_word (label text) rest w = refl
 
 -- the token of a word that follows directly
 abbrev pub token : Word → Piece

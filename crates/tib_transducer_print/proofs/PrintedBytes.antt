@@ -1,24 +1,17 @@
 -- The lines of what is printed of a transducer.
-use Rattle.tib_cost.specs.Scale.{weight_in, weight_within}
 use Rattle.tib_cost.specs.declared.Scale.TheVariants as scales
 use Rattle.tib_cost.specs.declared.Scale.{Scale}
-use Rattle.std.proofs.Common.{◌≡◌, ℕ, ◌<◌, inl, inr, Bool, true, false, Option, List, [], ◌∷◌, ◌++◌, length, get_or, refl, ap, sym, ◌∙◌, subst, append_assoc, zero, suc}
-use Rattle.std.specs.Prelude.{Some, None, not, cond, ◌==◌, ◌||◌, decimal as printed}
-use Rattle.std.specs.List.{list_all}
-use Rattle.std.proofs.lemmas.Bool.Decides.{eqb_tells}
-use Rattle.std.proofs.lemmas.List.Folds.{list_all-append}
+use Rattle.std.proofs.Common.{◌≡◌, ℕ, ◌<◌, inr, Bool, true, false, Option, List, [], ◌∷◌, ◌++◌, length, get_or, refl, ap, sym, ◌∙◌, subst, append_assoc, suc}
+use Rattle.std.specs.Prelude.{Some, None, cond, decimal as printed}
 use Rattle.tib_lex.specs.Grammar.{label, escape, spelling}
-use Rattle.tib_lex.specs.Lines.{not_feed, HasNoFeed, HasLines}
+use Rattle.tib_lex.specs.Lines.{HasNoFeed, HasLines}
 use Rattle.tib_lex.specs.Lists.{Each}
-use Rattle.tib_lex.proofs.Spelled.{and_true}
 use Rattle.tib_tree.specs.Trees.{Trees, none, tree, only, count}
 use Rattle.tib_grammar.specs.Sides.{Symbol, Side, label as symbol_label, hole}
 use Rattle.tib_grammar.specs.StateName.{IsStateName}
-use Rattle.tib_grammar_file.specs.Printable.{IsPlainCost}
 use Rattle.tib_grammar_file.specs.Printed.{space, opening, closing, cost_text}
 use Rattle.tib_grammar_file.specs.Weight.{is_digit}
-use Rattle.tib_grammar_file.proofs.PrintedLines.{names_free}
-use Rattle.tib_grammar_file.proofs.PrintedRules.{all_changes, digits_are}
+use Rattle.tib_grammar_file.proofs.PrintedLines.{names_free, free_from, free_append, free_escape, free_at, free_space, free_opening, free_closing, free_cost}
 use Rattle.tib_transducer.specs.TransducerOf.{TransducerOf}
 use Rattle.tib_transducer.specs.declared.Variable.{Variable}
 use Rattle.tib_transducer.specs.declared.Pair.{Pair}
@@ -32,27 +25,6 @@ use Rattle.tib_transducer_print.proofs.Numerals.{is_numeral}
 use Rattle.tib_transducer_print.proofs.RightTokens.{IsPairPlain}
 
 -- no byte of a number, a name or a label in quotes is a line feed
-
-is_ten : (b : ℕ) → (b == 10) ≡ true → b ≡ 10
-is_ten b e = elim (eqb_tells b 10) [ inl h ↦ h.1 | inr h ↦ cc ]
-
-no_feed_by : (p : ℕ → Bool) → p 10 ≡ false → (b : ℕ) (c : Bool) → (b == 10) ≡ c → p b ≡ true → not c ≡ true
-no_feed_by p ten b false e h = refl
-no_feed_by p ten b true e h = let bad : p 10 ≡ true = subst (λ (x : ℕ). p x ≡ true) (is_ten b e) h in cc
-
-free_from : (p : ℕ → Bool) → p 10 ≡ false → (xs : List ℕ) → list_all p xs ≡ true → HasNoFeed xs
-free_from p ten xs h = all_changes p not_feed xs (λ b k. no_feed_by p ten b (b == 10) refl k) h
-
-free_append : (xs ys : List ℕ) → HasNoFeed xs → HasNoFeed ys → HasNoFeed (xs ++ ys)
-free_append xs ys h k = list_all-append not_feed xs ys ∙ rw h k
-
-free_escape : (xs : List ℕ) → HasNoFeed xs → HasNoFeed (escape xs)
-free_escape [] h = refl
-free_escape (x ∷ xs) h = let t = and_true (not_feed x) (list_all not_feed xs) h in by (x == 34 || x == 92) t.0 (free_escape xs t.1)
-  where
-    by : (c : Bool) → not_feed x ≡ true → HasNoFeed (escape xs) → HasNoFeed (cond c (92 ∷ (x ∷ escape xs)) (x ∷ escape xs))
-    by true e k = rw e k
-    by false e k = rw e k
 
 free_label : (text : List ℕ) → HasNoFeed text → HasNoFeed (label_text text)
 free_label text h = by (is_plain text)
@@ -71,25 +43,8 @@ free_number n h = free_from is_digit refl (printed n) (is_numeral n h).digits
 free_variable : (names labels : List (List ℕ)) (x : Variable) → IsVariablePlain labels x → HasNoFeed (variable_text names labels x)
 free_variable names labels x h = free_append (printed x.number) (58 ∷ asked_text labels x.label) (free_number x.number h.0) (free_asked labels x.label h.1)
 
-free_at : (texts : List (List ℕ)) (n : ℕ) → Each HasNoFeed texts → HasNoFeed (get_or texts n [])
-free_at [] n e = refl
-free_at (x ∷ xs) zero e = e.0
-free_at (x ∷ xs) (suc n) e = free_at xs n e.1
-
 free_pair : (names labels : List (List ℕ)) (m : ℕ) (x : Pair ℕ) → Each HasNoFeed names → IsPairPlain (length names) m x → HasNoFeed (pair_text names labels x)
 free_pair names labels m x e h = free_append (get_or names x.state []) (46 ∷ (120 ∷ printed x.variable)) (free_at names x.state e) (free_number x.variable h.2)
-
-free_space : (k : ℕ) → HasNoFeed (space k)
-free_space zero = refl
-free_space (suc k) = refl
-
-free_opening : (k : ℕ) → HasNoFeed (opening k)
-free_opening zero = refl
-free_opening (suc k) = refl
-
-free_closing : (k : ℕ) → HasNoFeed (closing k)
-free_closing zero = refl
-free_closing (suc k) = refl
 
 module _ {P : Type 0} (labels : List (List ℕ)) (IsLeaf : P → Type 0) (show : P → List ℕ) (free : (p : P) → IsLeaf p → HasNoFeed (show p)) where
   free_symbol : (s : Symbol ℕ P) (kids : Trees (Symbol ℕ P)) → FitsSymbol (IsPlainLabel labels) IsLeaf s kids → HasNoFeed (symbol_text show labels s)
@@ -108,11 +63,6 @@ module _ {P : Type 0} (labels : List (List ℕ)) (IsLeaf : P → Type 0) (show :
       let opened : HasNoFeed (opening (count kids) ++ (below ++ (closing (count kids) ++ others))) = free_append (opening (count kids)) (below ++ (closing (count kids) ++ others)) (free_opening (count kids)) inside in
       let named : HasNoFeed (symbol ++ (opening (count kids) ++ (below ++ (closing (count kids) ++ others)))) = free_append symbol (opening (count kids) ++ (below ++ (closing (count kids) ++ others))) (free_symbol s kids h.0) opened in
       free_append (space k) (symbol ++ (opening (count kids) ++ (below ++ (closing (count kids) ++ others)))) (free_space k) named
-
-free_cost : (scale : Scale) (cost : ℕ) → IsPlainCost scale cost → HasNoFeed (cost_text scale cost)
-free_cost scales.Unweighted cost h = refl
-free_cost scales.Plain cost h = free_from is_digit refl (printed cost) (digits_are cost h)
-free_cost scales.Reversed cost h = free_from is_digit refl (printed (weight_in scales.Reversed cost)) (digits_are (weight_in scales.Reversed cost) (weight_within scales.Reversed cost h))
 
 -- a left side with its root's label
 free_left : (names labels : List (List ℕ)) (s : Side ℕ Variable) (f : ℕ) → s.label ≡ symbol_label f → IsPlainLabel labels f → FitsLeft labels s.kids → HasNoFeed (side_text (variable_text names labels) labels s)

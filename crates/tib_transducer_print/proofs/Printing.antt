@@ -8,6 +8,7 @@ use Rattle.std.proofs.Math.Seq.{drop-append_seam, drop-cons}
 use Rattle.tib_lex.specs.Lists.{Each}
 use Rattle.tib_tree.specs.Trees.{Tree, Trees, none, tree, only, preorder, preorder_of, count}
 use Rattle.tib_io.specs.declared.files.Failed.{Failed}
+use Rattle.tib_lex.proofs.Places.{any_default}
 use Rattle.tib_grammar.specs.Sides.{Symbol, label, hole, holes, HolesAreLeaves}
 use Rattle.tib_grammar.specs.Range.{AllBelow}
 use Rattle.tib_grammar.specs.Items.{pair_of, pairs_of}
@@ -193,9 +194,6 @@ all_printed {X} {P} T w f n old now show items ts ys at k many next t h half =
 pub rank_is : {P : Type 0} {rank : ℕ} {p q : Symbol ℕ P × ℕ} → rank ≡ p.1 → p ≡ q → q.1 ≡ rank
 rank_is {P} {rank} {p} {q} e same = sym (e ∙ ap (λ (x : Symbol ℕ P × ℕ). x.1) same)
 
-pub closing_as : {T E : Type 0} {w y : Option (List ℕ)} {f h : Option ℕ} {a c : ℕ} {m k : ℕ} {r : Result T E} → m ≡ k → Prints w y f h a c (closing m) r → Prints w y f h a c (closing k) r
-closing_as {T} {E} {w} {y} {f} {h} {a} {c} {m} {k} {r} e p = subst (λ (i : ℕ). Prints w y f h a c (closing i) r) e p
-
 -- the place behind a tree is in the list, and it goes on
 pub behind_within : {P : Type 0} (items : List (Item P)) (next behind : ℕ) (left : Trees (Symbol ℕ P)) (ys : List (Symbol ℕ P × ℕ)) (item : Item P) → next < length items → (h : Here items next left ys item) → behind ≡ next + 1 + length (preorder h.kids) → (behind ≤ length items) × (next < behind)
 behind_within items next behind left ys item w h e =
@@ -250,10 +248,6 @@ module _ {X : Type 0} (w : X → Option (List ℕ)) (f : X → Option ℕ) (n : 
 pub no_rules : {X : Type 0} (w : X → Option (List ℕ)) (f : X → Option ℕ) (n : X → ℕ) (a : X) (scale : Scale) (names labels : List (List ℕ)) (rules : List (TransducerRule ℕ)) → HalfRules w f n a a scale names labels rules 0
 no_rules w f n a scale names labels rules = record { done = []; text = refl; prints = prints_nothing (Unit {0}) Failed (w a) (f a) (n a) tt }
 
-below_split : (n : ℕ) (ps qs : List ℕ) → AllBelow n (ps ++ qs) → AllBelow n ps × AllBelow n qs
-below_split n [] qs h = (tt, h)
-below_split n (p ∷ ps) qs h = let s = below_split n ps qs h.1 in ((h.0, s.0), s.1)
-
 -- a left side needs its labels alone
 left_symbol : (names labels : List (List ℕ)) (s : Symbol ℕ Variable) → IsBelowOnLeft (length labels) s → IsSymbolWithin (IsVariableWithin names labels) (length labels) s
 left_symbol names labels (label f) h = h
@@ -306,11 +300,6 @@ rule_within names labels rule r l b = record {
   left = left_within names labels (preorder_of rule.left) b.left;
   right = right_within names labels (preorder_of rule.right) b.right (subst (λ (qs : List ℕ). AllBelow (length names) qs) (sym (ap states (sym (one_tree rule.right)) ∙ states_are (only rule.right) l.1)) r.1);
 }
-
-any_default : {A : Type 0} (xs : List A) (n : ℕ) (d e : A) → n < length xs → get_or xs n d ≡ get_or xs n e
-any_default [] n d e h = absurd (omega arith)
-any_default (x ∷ xs) zero d e h = refl
-any_default (x ∷ xs) (suc n) d e h = any_default xs n d e (omega arith)
 
 each_at : {A : Type 0} (P : A → Type 0) (xs : List A) (n : ℕ) (d : A) → Each P xs → n < length xs → P (get_or xs n d)
 each_at P [] n d e h = absurd (omega arith)

@@ -1,6 +1,4 @@
 -- The labels of a transducer that was read have no line feed, and its rules can be printed.
-use Rattle.tib_cost.specs.Scale.{cost_within}
-use Rattle.tib_cost.specs.Semiring.{most}
 use Rattle.tib_cost.specs.declared.Scale.TheVariants as scales
 use Rattle.tib_cost.specs.declared.Scale.{Scale}
 use Rattle.std.proofs.Common.{◌≡◌, ℕ, ◌+◌, ◌-◌, ◌≤◌, inl, inr, Bool, true, false, Option, List, [], ◌∷◌, ◌++◌, length, drop, length-append, refl, sym, ◌∙◌, subst, arith, zero, suc}
@@ -11,13 +9,13 @@ use Rattle.std.proofs.lemmas.List.Folds.{list_all-append}
 use Rattle.std.proofs.lemmas.Option.{slice_get_within, get_or_from_slice_get}
 use Rattle.tib_lex.specs.Grammar.{Word, name, spelling}
 use Rattle.tib_lex.specs.Line.{text_of, unescape, word_of}
-use Rattle.tib_lex.specs.Lines.{lines_of, not_feed, HasNoFeed, HasLines}
+use Rattle.tib_lex.specs.Lines.{lines_of, not_feed, HasNoFeed}
 use Rattle.tib_lex.specs.Lists.{Along, Each}
 use Rattle.tib_lex.specs.declared.token.Kind.{Kind}
 use Rattle.tib_lex.specs.declared.token.Kind.TheVariants as kinds
 use Rattle.tib_lex.specs.declared.token.Token.{Token}
 use Rattle.tib_lex.proofs.HasLines.{lines_split}
-use Rattle.tib_lex.proofs.Lists.{each_append}
+use Rattle.tib_lex.proofs.Lists.{each_append, each_parts}
 use Rattle.tib_lex.proofs.NoFeeds.{text_plain}
 use Rattle.tib_lex.proofs.Spelled.{and_true}
 use Rattle.tib_tree.specs.Machine.{IsTree}
@@ -26,7 +24,7 @@ use Rattle.tib_tree.specs.Written.{Written, end, leaf, head, word_for, spell, It
 use Rattle.tib_grammar.specs.Sides.{Symbol, label as symbol_label, hole, holes}
 use Rattle.tib_grammar_file.specs.Printable.{IsPlainCost}
 use Rattle.tib_grammar_file.specs.Rule.{weight_words}
-use Rattle.tib_grammar_file.specs.Weight.{IsWeighed, IsCostOf}
+use Rattle.tib_grammar_file.proofs.Plain.{plain_cost, free_parts, lines_free}
 use Rattle.tib_transducer.specs.Rules.{variables_of}
 use Rattle.tib_transducer.specs.declared.Variable.{Variable}
 use Rattle.tib_transducer.specs.declared.Pair.{Pair}
@@ -37,12 +35,8 @@ use Rattle.tib_transducer_file.specs.Rule.{Parts, RuleLine, label_of, numbers_in
 use Rattle.tib_transducer_file.specs.TransducerText.{HasParts, SpellsLine, HaveRules, HaveStart, IsSmallRule}
 use Rattle.tib_transducer_file.specs.Value.{IsAsked, IsLeftSymbol, IsLeftNode, IsRootItem, IsLeftSide, IsRightSymbol, IsRightNode, IsRule}
 use Rattle.tib_transducer_print.specs.ByName.{IsPlainLabel, IsPlainAsked, IsPlainOnLeft, IsPlainOnRight, IsPrintable}
-use Rattle.tib_transducer_print.proofs.Fitting.{each_parts}
 
 -- parts of what has no line feed
-
-free_parts : (xs ys : List ℕ) → HasNoFeed (xs ++ ys) → HasNoFeed xs × HasNoFeed ys
-free_parts xs ys h = let t = and_true (list_all not_feed xs) (list_all not_feed ys) (sym (list_all-append not_feed xs ys) ∙ h) in (t.0, t.1)
 
 free_both : (xs ys : List ℕ) → HasNoFeed xs → HasNoFeed ys → HasNoFeed (xs ++ ys)
 free_both xs ys h k = list_all-append not_feed xs ys ∙ rw h k
@@ -199,18 +193,6 @@ rights_plain names labels numbers [] is h f = tt
 rights_plain names labels numbers (s ∷ ss) [] h f = absurd h
 rights_plain names labels numbers (s ∷ ss) (i ∷ is) h f = (right_plain names labels numbers s.0 (pair_in i) i.text h.0.0 f.0, rights_plain names labels numbers ss is h.1 f.1)
 
--- costs
-weighed_within : (scale : Scale) (text : List ℕ) (cost : ℕ) → IsWeighed scale text cost → cost ≤ most
-weighed_within scale text cost h = subst (λ (c : ℕ). c ≤ most) (sym h.cost_is) (cost_within scale h.weight h.within)
-
-plain_cost : (scale : Scale) (weight : Option (List ℕ)) (cost : ℕ) → IsCostOf scale weight cost → IsPlainCost scale cost
-plain_cost scales.Unweighted None cost h = h
-plain_cost scales.Plain None cost h = omega arith
-plain_cost scales.Reversed None cost h = omega arith
-plain_cost scales.Unweighted (Some text) cost h = h
-plain_cost scales.Plain (Some text) cost h = weighed_within scales.Plain text cost h
-plain_cost scales.Reversed (Some text) cost h = weighed_within scales.Reversed text cost h
-
 -- there are no more variables than nodes
 holes_few : {P : Type 0} (ts : Trees (Symbol ℕ P)) → length (holes ts) ≤ length (preorder ts)
 holes_few none = omega arith
@@ -233,11 +215,6 @@ rule_printable scale names labels bytes r line f h is small =
     }
 
 -- the lines of a file
-
-lines_free : (lines : List (List ℕ)) (bytes : List ℕ) → HasLines lines bytes → Each HasNoFeed lines
-lines_free [] bytes h = tt
-lines_free (line ∷ lines) bytes (f, inl e) = (f, subst (λ (ls : List (List ℕ)). Each HasNoFeed ls) (sym e.last) tt)
-lines_free (line ∷ lines) bytes (f, inr (rest, e, more)) = (f, lines_free lines rest more)
 
 abbrev IsHeld : Scale → RuleLine → Type 0
 IsHeld scale rule = (line : List ℕ) × HasNoFeed line × SpellsLine scale line rule

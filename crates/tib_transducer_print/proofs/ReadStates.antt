@@ -3,12 +3,13 @@ use Rattle.std.proofs.Common.{◌≡◌, ◌⊎◌, ℕ, ◌+◌, ◌<◌, ◌�
 use Rattle.std.specs.Prelude.{Some, None, slice_get, map, Contains}
 use Rattle.std.proofs.lemmas.Option.{slice_get-get_or, slice_get_within, get_or_from_slice_get}
 use Rattle.tib_lex.specs.Lists.{Along, Each, Has, Distinct}
-use Rattle.tib_lex.proofs.Lists.{append_nil}
+use Rattle.tib_lex.proofs.Lists.{append_nil, each_parts}
+use Rattle.tib_lex.proofs.Alongs.{along_append}
+use Rattle.tib_lex.proofs.Places.{distinct_at}
 use Rattle.tib_tree.specs.Grows.{Adds, AddsAll}
 use Rattle.tib_tree.specs.Trees.{Trees, none, tree, only, count, preorder, preorder_of}
 use Rattle.tib_tree.specs.Written.{Item}
 use Rattle.tib_grammar.specs.Sides.{Symbol, Side, label, hole, holes, HolesAreLeaves}
-use Rattle.tib_grammar_file.proofs.Alongs.{along_append}
 use Rattle.tib_transducer.specs.Range.{EndsInHoles}
 use Rattle.tib_transducer.specs.Rules.{states_in}
 use Rattle.tib_transducer.specs.declared.Pair.{Pair}
@@ -18,8 +19,6 @@ use Rattle.tib_transducer_file.specs.Rule.{RuleLine, numbers_in}
 use Rattle.tib_transducer_file.specs.Value.{IsRightSymbol, IsRightNode, IsRule, state_before, states_in as states_on_right, states_of as states_written}
 use Rattle.tib_transducer_file.proofs.ShapesRead.{pair_rank, left_ends}
 use Rattle.tib_transducer_print.specs.ByName.{states_of, ComeInOrder}
-use Rattle.tib_transducer_print.proofs.Fitting.{each_parts}
-use Rattle.tib_transducer_print.proofs.FileOrdered.{one_place}
 
 -- nothing stands below a leaf
 abbrev IsBare : {P : Type 0} → Symbol ℕ P × ℕ → Type 0
@@ -137,7 +136,7 @@ Come names k qs = ComeInOrder k qs × ((q : ℕ) → k ≤ q → q < length name
 module _ (names : List (List ℕ)) (apart : Distinct names) where
   -- the number of a text is its place
   at_place : (q n : ℕ) (text : List ℕ) → slice_get names q ≡ Some text → n < length names → get_or names n [] ≡ text → q ≡ n
-  at_place q n text e h k = one_place names q n apart (slice_get_within names q text e) h (get_or_from_slice_get names q text [] e ∙ sym k)
+  at_place q n text e h k = distinct_at names q n [] apart (slice_get_within names q text e) h (get_or_from_slice_get names q text [] e ∙ sym k)
 
   -- a text that is there already
   held_at : (before texts : List (List ℕ)) (text : List ℕ) (q : ℕ) → slice_get names q ≡ Some text → Contains before text → AddsAll before texts names → q < length before

@@ -13,11 +13,12 @@ use Rattle.tib_grammar_file.specs.Printable.{IsPlainCost}
 use Rattle.tib_grammar_file.specs.Printed.{cost_text}
 use Rattle.tib_grammar_file.specs.Rule.{weight_words}
 use Rattle.tib_grammar_file.proofs.PrintedTrees.{name_at_is}
+use Rattle.tib_grammar_file.proofs.PrintedRules.{weight_of, weight_read, weight_begins}
 use Rattle.tib_transducer.specs.declared.Pair.{Pair}
 use Rattle.tib_transducer_file.specs.Pieces.{Piece, piece, meaning, meanings, HasPieces}
 use Rattle.tib_transducer_print.specs.ByName.{IsPlainLabel}
 use Rattle.tib_transducer_print.specs.Printed.{pair_text, symbol_text, trees_text, side_text}
-use Rattle.tib_transducer_print.proofs.Numerals.{is_numeral, weight_of, weight_read, weight_begins}
+use Rattle.tib_transducer_print.proofs.Numerals.{is_numeral}
 use Rattle.tib_transducer_print.proofs.Tokens.{pair_name}
 use Rattle.tib_transducer_print.proofs.Forests.{token, means, first_had, Fits, forest, written, forest_had, forest_means}
 

@@ -6,22 +6,24 @@ use Rattle.std.proofs.lemmas.Option.{slice_get-get_or}
 use Rattle.std.proofs.lemmas.List.{map-append}
 use Rattle.tib_lex.specs.Lists.{Along, Each}
 use Rattle.tib_lex.proofs.Lists.{append_nil}
+use Rattle.tib_lex.proofs.Alongs.{along_append}
 use Rattle.tib_tree.specs.Nodes.{rank_of}
 use Rattle.tib_tree.specs.Trees.{Trees, none, tree, only, count, preorder, preorder_of, relabel}
 use Rattle.tib_tree.specs.Written.{Item, item, items, count as count_written}
 use Rattle.tib_grammar.specs.Sides.{Symbol, Side, label as symbol_label, hole, holes, symbol_map, side_map}
 use Rattle.tib_grammar.specs.StateName.{IsStateName}
-use Rattle.tib_grammar_file.proofs.Alongs.{along_append}
 use Rattle.tib_grammar_file.proofs.PrintedRules.{Renames}
 use Rattle.tib_grammar_file.proofs.PrintedTrees.{name_at_is}
 use Rattle.tib_transducer.specs.Range.{AreNumbered}
 use Rattle.tib_transducer.specs.declared.Variable.{Variable}
 use Rattle.tib_transducer.specs.declared.Pair.{Pair}
 use Rattle.tib_transducer.specs.declared.TransducerRule.{TransducerRule}
+use Rattle.tib_transducer.specs.NamedPairs.{named_pair}
 use Rattle.tib_transducer_file.specs.Forms.{variable_in, pair_in, written_label}
 use Rattle.tib_transducer_file.specs.Rule.{rule_line_of, label_of, numbers_in}
-use Rattle.tib_transducer_file.specs.Value.{IsAsked, IsLeftSymbol, IsLeftNode, IsRightSymbol, IsRightNode, IsRule, state_before, states_in}
-use Rattle.tib_transducer_print.specs.ByName.{IsPlainAsked, named_pair, named_rule}
+use Rattle.tib_transducer_file.specs.Value.{IsAsked, IsLeftSymbol, IsLeftNode, IsRightSymbol, IsRightNode, IsRule, states_in}
+use Rattle.tib_transducer_file.proofs.SidesRead.{states_append}
+use Rattle.tib_transducer_print.specs.ByName.{IsPlainAsked, named_rule}
 use Rattle.tib_transducer_print.specs.Printed.{label_text, asked_text, variable_text, pair_text}
 use Rattle.tib_transducer_print.proofs.Numerals.{is_numeral}
 use Rattle.tib_transducer_print.proofs.Tokens.{quotes, label_again, label_behind_stop, state_before as state_again, variable_again, asked_again, asked_of}
@@ -136,14 +138,6 @@ rule_meant scale names others labels number state f kids right cost e n r =
   where
     append_nil_pairs : (s : Side ℕ (Pair ℕ)) → preorder (relabel (symbol_map (named_pair number)) (only s)) ≡ preorder_of (side_map (named_pair number) s)
     append_nil_pairs s = ap (λ (ns : List (Symbol ℕ (Pair ℕ) × ℕ)). (symbol_map (named_pair number) s.label, count (relabel (symbol_map (named_pair number)) s.kids)) ∷ ns) (append_nil (preorder (relabel (symbol_map (named_pair number)) s.kids)))
-
-states_append : (xs ys : List Item) → states_in (xs ++ ys) ≡ states_in xs ++ states_in ys
-states_append [] ys = refl
-states_append (x ∷ xs) ys = by (pair_in x) (states_append xs ys)
-  where
-    by : (o : Option (List ℕ × ℕ)) → states_in (xs ++ ys) ≡ states_in xs ++ states_in ys → state_before o (states_in (xs ++ ys)) ≡ state_before o (states_in xs) ++ states_in ys
-    by None e = e
-    by (Some q) e = ap (λ (ss : List (List ℕ)). q.0 ∷ ss) e
 
 -- the states of a right side, by their names
 pub states_printed : (names labels : List (List ℕ)) (m : ℕ) (ts : Trees (Symbol ℕ (Pair ℕ))) → Each IsStateName names → FitsRight (length names) m labels ts → states_in (items (right_written names labels ts)) ≡ map (λ x. get_or names x.state []) (holes ts)

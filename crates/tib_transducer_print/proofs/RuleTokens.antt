@@ -7,6 +7,7 @@ use Rattle.std.proofs.lemmas.Bool.Decides.{nat_tests}
 use Rattle.std.proofs.lemmas.List.Folds.{list_any-append}
 use Rattle.tib_lex.specs.Grammar.{arrow}
 use Rattle.tib_lex.specs.Lists.{Each}
+use Rattle.tib_lex.proofs.Booleans.{and-false}
 use Rattle.tib_tree.specs.Trees.{Trees, none, tree, only}
 use Rattle.tib_tree.specs.Written.{spell, Item, item, items, count}
 use Rattle.tib_grammar.specs.Sides.{Symbol, Side, label as symbol_label, hole, holes}
@@ -22,8 +23,9 @@ use Rattle.tib_transducer_file.specs.Rule.{Parts, parts, numbers_in, repeats, is
 use Rattle.tib_transducer_file.specs.TransducerText.{HasParts, SpellsLine}
 use Rattle.tib_transducer_file.proofs.VariablesUsed.{numbers_append}
 use Rattle.tib_grammar_file.proofs.PrintedTrees.{name_at_is}
+use Rattle.tib_grammar_file.proofs.PrintedRules.{weight_of, weight_is}
 use Rattle.tib_transducer_print.specs.Printed.{is_plain, label_text, asked_text, pair_text, side_text}
-use Rattle.tib_transducer_print.proofs.Numerals.{is_numeral, weight_of, weight_is}
+use Rattle.tib_transducer_print.proofs.Numerals.{is_numeral}
 use Rattle.tib_transducer_print.proofs.Tokens.{IsPlain, plain_is, quotes, label_some, label_no_variable, label_behind_stop, variable_again, pair_again, plain_no_pair, root_again}
 use Rattle.tib_transducer_print.proofs.Forests.{token, first_had, behind, behind_had, written}
 use Rattle.tib_transducer_print.proofs.LeftTokens.{FitsLeft, left_written, left_side, front_of, front_had, front_tree, root_item, kids_of}
@@ -205,10 +207,6 @@ line_parts scale names labels state f kids right cost e r =
       };
     }
 
-and_false : (b : Bool) → (b && false) ≡ false
-and_false true = refl
-and_false false = refl
-
 pub line_spelled : (scale : Scale) (names labels : List (List ℕ)) (state f : ℕ) (kids : Trees (Symbol ℕ Variable)) (right : Side ℕ (Pair ℕ)) (cost : ℕ) → Each IsStateName names → FitsRule scale names labels state f kids right cost →
     SpellsLine scale (line_of scale names labels state f kids right cost) (rule_line_of (parts_of scale names labels state f kids right cost) cost)
 line_spelled scale names labels state f kids right cost e r =
@@ -220,7 +218,7 @@ line_spelled scale names labels state f kids right cost e r =
     let numbers : numbers_in (items (left_written names labels kids)) ≡ upto 0 (length (holes kids)) = numbers_printed names labels kids r.left ∙ numbered_upto 0 (holes kids) r.numbered in
     record {
       parts = line_parts scale names labels state f kids right cost e r;
-      some = ap (λ (l : List ℕ). is_leaf root_kids && is_some (variable_of l)) (label_behind_stop q (label_text text) w.no_stop) ∙ ap (λ (b : Bool). is_leaf root_kids && b) alone ∙ and_false (is_leaf root_kids);
+      some = ap (λ (l : List ℕ). is_leaf root_kids && is_some (variable_of l)) (label_behind_stop q (label_text text) w.no_stop) ∙ ap (λ (b : Bool). is_leaf root_kids && b) alone ∙ and-false (is_leaf root_kids);
       once = ap (repeats []) numbers ∙ upto_once (length (holes kids));
       known = no_unknown names labels (length (holes kids)) e (numbers_in (items (left_written names labels kids))) numbers (only right) r.right_fits;
       cost = weight_is scale cost r.cost_is;

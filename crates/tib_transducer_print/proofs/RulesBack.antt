@@ -2,18 +2,18 @@
 use Rattle.tib_cost.specs.declared.Scale.{Scale}
 use Rattle.std.proofs.Common.{◌≡◌, ℕ, List, [], ◌∷◌, refl, ap, ◌∙◌, subst}
 use Rattle.std.specs.Prelude.{map}
-use Rattle.std.proofs.lemmas.Option.{slice_get-get_or}
 use Rattle.tib_lex.specs.Lists.{Each}
 use Rattle.tib_tree.specs.Trees.{Trees, none, tree, relabel}
 use Rattle.tib_grammar.specs.Sides.{Symbol, label as symbol_label, hole, symbol_map}
 use Rattle.tib_grammar.specs.StateName.{IsStateName}
-use Rattle.tib_grammar_file.proofs.PrintedRules.{Renames}
+use Rattle.tib_grammar_file.proofs.PrintedSorted.{names_own}
 use Rattle.tib_transducer.specs.declared.Pair.{Pair}
 use Rattle.tib_transducer.specs.declared.TransducerRule.{TransducerRule}
+use Rattle.tib_transducer.specs.NamedPairs.{named_pair}
 use Rattle.tib_transducer_file.specs.Rule.{RuleLine}
 use Rattle.tib_transducer_file.specs.TransducerText.{SpellsLine}
 use Rattle.tib_transducer_file.specs.Value.{IsRule}
-use Rattle.tib_transducer_print.specs.ByName.{named_pair, named_rule, line_text, PrintsRules}
+use Rattle.tib_transducer_print.specs.ByName.{named_rule, line_text, PrintsRules}
 use Rattle.tib_transducer_print.proofs.Fitting.{IsGood, are_good, LineOf, rule_line}
 
 -- rules whose states keep their numbers
@@ -34,9 +34,6 @@ rule_own r =
 pub rules_own : (rules : List (TransducerRule ℕ)) → map (named_rule (λ (q : ℕ). q)) rules ≡ rules
 rules_own [] = refl
 rules_own (r ∷ rules) = ap (λ (x : TransducerRule ℕ). x ∷ map (named_rule (λ (q : ℕ). q)) rules) (rule_own r) ∙ ap (λ (rs : List (TransducerRule ℕ)). r ∷ rs) (rules_own rules)
-
-pub names_own : (names : List (List ℕ)) → Renames names names (λ q. q)
-names_own names = record { to = λ q h. slice_get-get_or names q [] h; back = λ text c. c }
 
 rules_back : (scale : Scale) (names labels : List (List ℕ)) (rules : List (TransducerRule ℕ)) → Each IsStateName names → Each (IsGood scale names labels) rules →
     Each (λ r. (line : RuleLine) × SpellsLine scale (line_text scale names labels r) line × IsRule names labels r line) rules

@@ -20,11 +20,8 @@ use Rattle.tib_transducer_file.specs.Rule.{RuleLine}
 use Rattle.tib_transducer_file.specs.TransducerText.{SpellsLine, TransducerText, IsSmallRule, ReadsAs}
 use Rattle.tib_transducer_file.specs.Value.{IsRule}
 use Rattle.tib_grammar_file.specs.Printed.{cost_text}
+use Rattle.tib_transducer.specs.NamedPairs.{named_pair}
 use Rattle.tib_transducer_print.specs.Printed.{variable_text, pair_text, side_text, transducer_text}
-
--- a pair, and a rule, with each state exchanged for what g gives of it
-abbrev pub named_pair : {P Q : Type 0} → (P → Q) → Pair P → Pair Q
-named_pair g x = record { state = g x.state; variable = x.variable }
 
 abbrev pub named_rule : {P Q : Type 0} → (P → Q) → TransducerRule P → TransducerRule Q
 named_rule g r = record {

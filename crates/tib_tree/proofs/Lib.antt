@@ -19,3 +19,4 @@ pub mod Adding
 pub mod PlainTexts
 pub mod Keys
 pub mod Shaping
+pub mod Counts

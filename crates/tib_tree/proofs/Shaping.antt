@@ -14,8 +14,8 @@ use Rattle.tib_tree.specs.declared.shape.Reader.{Reader}
 use Rattle.tib_tree.proofs.Fill.{only_tree}
 use Rattle.tib_tree.proofs.Placing.{same_ends}
 
--- as many nodes as the trees have
-length-nodes_at : (d : ℕ) (ts : Trees ℕ) → length (nodes_at d ts) ≡ sizes ts
+-- a list of nodes with their depths has an entry for each node
+pub length-nodes_at : (d : ℕ) (ts : Trees ℕ) → length (nodes_at d ts) ≡ sizes ts
 length-nodes_at d none = refl
 length-nodes_at d (tree f kids rest) =
     omega (arith, length-append (nodes_at (suc d) kids) (nodes_at d rest), length-nodes_at (suc d) kids, length-nodes_at d rest)

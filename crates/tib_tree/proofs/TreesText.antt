@@ -1,5 +1,5 @@
 -- The function that says what a file holds, and the text of trees.
-use Rattle.std.proofs.Common.{◌≡◌, ℕ, ◌<◌, ◌≤◌, inl, inr, Bool, true, false, List, [], ◌∷◌, ◌++◌, length, refl, ap, sym, ◌∙◌, subst, arith, Option, suc, length-append}
+use Rattle.std.proofs.Common.{◌≡◌, ℕ, ◌<◌, ◌≤◌, inl, inr, Bool, true, false, List, [], ◌∷◌, ◌++◌, length, refl, ap, sym, ◌∙◌, subst, arith, Option, suc}
 use Rattle.std.specs.Prelude.{Some, None, Result, Ok, Err, nat_lt, cond}
 use Rattle.std.specs.Global.{Vec}
 use Rattle.std.proofs.lemmas.Bool.Decides.{nat_tests}
@@ -13,7 +13,7 @@ use Rattle.tib_lex.specs.declared.fault.FileFault.{FileFault}
 use Rattle.tib_lex.specs.declared.fault.ReadError.{ReadError}
 use Rattle.tib_lex.specs.declared.fault.ReadError.TheVariants as errors
 use Rattle.tib_lex.proofs.HasWords.{words_read, words_had, bad_read, bad_had, words_once}
-use Rattle.tib_tree.specs.Trees.{Tree, Trees, none, tree, only, sizes, size, preorder, preorder_of, parse, parse_of_preorder, first_of, count as trees_count}
+use Rattle.tib_tree.specs.Trees.{Tree, Trees, none, tree, only, size, preorder, preorder_of, parse, parse_of_preorder, first_of, count as trees_count}
 use Rattle.tib_tree.specs.Written.{Written, end, leaf, head, spell, count, Item, items}
 use Rattle.tib_tree.specs.Machine.{nodes_of, IsTree}
 use Rattle.tib_tree.specs.Nodes.{AreNodes}
@@ -31,6 +31,7 @@ use Rattle.tib_tree.proofs.Read.{tree_back, tree_forth}
 use Rattle.tib_tree.proofs.Values.{count_said, said}
 use Rattle.tib_lex.proofs.Lists.{append_nil, some_same}
 use Rattle.tib_tree.specs.Trees.{most_nodes}
+use Rattle.tib_tree.proofs.Counts.{length-preorder}
 
 -- one line
 held_tree : (line : List ℕ) (is : List Item) (b : Bool) → HasNodes line is → nat_lt most_nodes (length is) ≡ b → LineHolds line (cond b (Err kinds.TooManyNodes) (Ok (Some is)))
@@ -114,11 +115,6 @@ fault_found n lines fault = found_first tree_line IsGood HasFault (λ line. fits
 
 pub fault_is : (n : ℕ) (lines : List (List ℕ)) (fault : FileFault) → FirstFault IsGood HasFault n lines fault → each_line tree_line n lines ≡ Err fault
 fault_is n lines fault = first_found tree_line IsGood HasFault (λ line h. (h.0, line_is line (Ok h.0) h.1)) (λ line kind h. line_is line (Err kind) h) n lines fault
-
--- trees
-length-preorder : (ts : Trees ℕ) → length (preorder ts) ≡ sizes ts
-length-preorder none = refl
-length-preorder (tree f kids rest) = omega (arith, length-append (preorder kids) (preorder rest), length-preorder kids, length-preorder rest)
 
 same_length : (labels : List (List ℕ)) (ns : List (ℕ × ℕ)) (is : List Item) → AreNodes labels ns is → length ns ≡ length is
 same_length labels [] [] h = refl

@@ -13,9 +13,9 @@ use Rattle.tib_tree.specs.Trees.{Tree, Trees, none, tree, count, sizes, only, re
 use Rattle.tib_tree.specs.Growth.{text_at, LabelsBelow}
 use Rattle.tib_tree.specs.Filled.{nodes_at, nodes_of_tree}
 use Rattle.tib_tree.specs.declared.preorder.Node.{Node}
+use Rattle.tib_tree.proofs.Counts.{count-relabel, sizes-relabel}
 use Rattle.tib_tree_order.specs.Order.{trees_cmp, tree_cmp_by, node_cmp}
 use Rattle.tib_tree_order.proofs.Orderings.{nat_itself, nat_equal, nat_suc, then_assoc, then_decided}
-use Rattle.tib_tree_order.proofs.Relabelling.{count-relabel, sizes-relabel}
 
 -- what stands behind a node decides only where the nodes are equal
 regroup :

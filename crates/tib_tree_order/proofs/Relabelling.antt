@@ -1,17 +1,10 @@
 -- What stays when labels are exchanged, and when it tells trees apart.
 use Rattle.std.specs.Prelude.{◌≡◌, ℕ, ◌<◌, List, [], ◌∷◌, length, slice_get, Some, refl}
 use Rattle.std.proofs.Common.{zero, suc, arith, ap, sym, ◌∙◌, get_or}
-use Rattle.tib_tree.specs.Trees.{Trees, none, tree, count, sizes, relabel}
+use Rattle.tib_tree.specs.Trees.{Trees, none, tree, relabel}
 use Rattle.tib_tree.specs.Growth.{text_at, LabelsBelow}
 use Rattle.tib_tree.specs.Grows.{AreDistinct}
-
-pub count-relabel : {A B : Type 0} (g : A → B) (ts : Trees A) → count (relabel g ts) ≡ count ts
-count-relabel g none = refl
-count-relabel g (tree f ks rest) = ap suc (count-relabel g rest)
-
-pub sizes-relabel : {A B : Type 0} (g : A → B) (ts : Trees A) → sizes (relabel g ts) ≡ sizes ts
-sizes-relabel g none = refl
-sizes-relabel g (tree f ks rest) = omega (arith, sizes-relabel g ks, sizes-relabel g rest)
+pub use Rattle.tib_tree.proofs.Counts.{sizes-relabel}
 
 pub got : (xs : List (List ℕ)) (n : ℕ) → n < length xs → slice_get xs n ≡ Some (get_or xs n [])
 got [] n h = absurd (omega arith)

@@ -51,7 +51,7 @@ then_chained a b c a' b' c' h k = by a b c refl refl refl h
     by Greater Less z i j l m = record { less = λ p q. absurd (cc); left = λ p. absurd (cc); right = λ p. absurd (cc) }
     by Greater Greater z i j l m = record { less = λ p q. absurd (cc); left = λ p. absurd (cc); right = λ p. absurd (cc) }
 
-then_reverse : (a b c d : Ordering) → a ≡ ordering_reverse b → c ≡ ordering_reverse d → ordering_then a c ≡ ordering_reverse (ordering_then b d)
+pub then_reverse : (a b c d : Ordering) → a ≡ ordering_reverse b → c ≡ ordering_reverse d → ordering_then a c ≡ ordering_reverse (ordering_then b d)
 then_reverse a Less c d e k = rw e
 then_reverse a Equal c d e k = rw (e, k)
 then_reverse a Greater c d e k = rw e

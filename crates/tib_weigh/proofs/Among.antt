@@ -15,12 +15,12 @@ use Rattle.tib_normal.specs.Rules.{positions_with}
 use Rattle.tib_weigh.specs.declared.vector.Entry.{Entry}
 use Rattle.tib_weigh.specs.Entries.{cost_in}
 use Rattle.tib_weigh.specs.Vectors.{times_all, Weighed}
-use Rattle.tib_weigh.specs.RulePlaces.{IsRulePlace}
-use Rattle.tib_weigh.proofs.Places.{places_below, place_has}
 use Rattle.tib_weigh.proofs.Stacks.{times-none}
 use Rattle.tib_weigh.proofs.Members.{has_first, has_last, has_or_last}
 use Rattle.tib_lex.proofs.Numbers.{nat_eq_cases}
 use Rattle.tib_grammar.proofs.Sides.{length-holes}
+use Rattle.tib_normal.specs.RulePlaces.{IsRulePlace}
+use Rattle.tib_normal.proofs.RulePlaces.{places_below, place_has}
 
 -- c is the cost of a run from q that begins with one of the rules at these positions and yields f over kids
 abbrev pub BeginsAmong : (ℕ → ℕ → ℕ) → List (Rule ℕ) → ℕ → ℕ → Trees ℕ → List ℕ → ℕ → Type 0

@@ -1,48 +1,13 @@
 -- The positions of the rules of a label and a rank.
-use Rattle.std.specs.Prelude.{◌≡◌, ℕ, ◌+◌, ◌-◌, ◌<◌, ◌≤◌, Bool, true, false, List, [], ◌∷◌, length, if◌then◌else◌, refl}
-use Rattle.std.proofs.Common.{zero, suc, ap, ◌∙◌, arith, get_or, inl, inr, subst}
-use Rattle.tib_lex.specs.Lists.{Has, Ascends}
+use Rattle.std.specs.Prelude.{◌≡◌, ℕ, ◌<◌, ◌≤◌, Bool, true, false, List, [], ◌∷◌, length, if◌then◌else◌, refl}
+use Rattle.std.proofs.Common.{zero, suc, ap, ◌∙◌, arith, get_or, subst}
+use Rattle.tib_lex.specs.Lists.{Ascends}
 use Rattle.tib_grammar.specs.declared.Rule.{Rule}
 use Rattle.tib_grammar.specs.Run.{rule_at, no_rule}
-use Rattle.std.specs.Prelude.{◌&&◌, nat_eq}
-use Rattle.std.proofs.lemmas.Bool.Decides.{nat_tests}
-use Rattle.tib_tree.specs.Trees.{count}
-use Rattle.tib_grammar.specs.Sides.{label, is_label}
-use Rattle.tib_grammar.proofs.Sides.{is_label-true, is_label_cases}
-use Rattle.tib_lex.proofs.Booleans.{and-true}
-use Rattle.tib_lex.proofs.Numbers.{nat_eq-true}
+use Rattle.std.specs.Prelude.{◌&&◌}
 use Rattle.tib_normal.specs.Rules.{is_over, positions_from, positions_with}
 use Rattle.tib_normal.proofs.Pairwise.{Ascends-at}
-use Rattle.tib_weigh.specs.RulePlaces.{IsRulePlace}
-use Rattle.tib_lex.proofs.Members.{at_has}
-
--- p, counted from k, is the position of a rule of the label f and the rank n
-pub record IsPlace (rules : List (Rule ℕ)) (k f n p : ℕ) : Type 0 where
-  pub from : k ≤ p
-  pub below : p < k + length rules
-  pub over : is_over f n (get_or rules (p - k) no_rule) ≡ true
-
-shift : (r : Rule ℕ) (rules : List (Rule ℕ)) (k f n p : ℕ) → IsPlace rules (suc k) f n p → IsPlace (r ∷ rules) k f n p
-shift r rules k f n p h =
-    let e : p - k ≡ suc (p - suc k) = omega (arith, h.from) in
-    record {
-      from = omega (arith, h.from);
-      below = omega (arith, h.below);
-      over = rw e h.over;
-    }
-
-place_step :
-    (r : Rule ℕ) (rules : List (Rule ℕ)) (k f n : ℕ) (ps : List ℕ) → ((j : ℕ) → j < length ps → IsPlace rules (suc k) f n (get_or ps j 0)) →
-    (b : Bool) → is_over f n r ≡ b → (j : ℕ) → j < length (if b then k ∷ ps else ps) → IsPlace (r ∷ rules) k f n (get_or (if b then k ∷ ps else ps) j 0)
-place_step r rules k f n ps ih true e zero h =
-    let z : k - k ≡ 0 = omega arith in
-    record { from = omega arith; below = omega arith; over = rw z e }
-place_step r rules k f n ps ih true e (suc j) h = shift r rules k f n (get_or ps j 0) (ih j (omega arith))
-place_step r rules k f n ps ih false e j h = shift r rules k f n (get_or ps j 0) (ih j h)
-
-pub place_at : (rules : List (Rule ℕ)) (k f n j : ℕ) → j < length (positions_from k f n rules) → IsPlace rules k f n (get_or (positions_from k f n rules) j 0)
-place_at [] k f n j h = absurd (omega arith)
-place_at (r ∷ rules) k f n j h = place_step r rules k f n (positions_from (suc k) f n rules) (place_at rules (suc k) f n) (is_over f n r) refl j h
+use Rattle.tib_normal.proofs.RulePlaces.{place_at}
 
 ascend_step :
     (k : ℕ) (ps : List ℕ) → ((i j : ℕ) → i < j → j < length ps → get_or ps i 0 < get_or ps j 0) → ((j : ℕ) → j < length ps → k < get_or ps j 0) →
@@ -58,31 +23,6 @@ places_ascend (r ∷ rules) k f n i j h l =
     ascend_step k (positions_from (suc k) f n rules) (places_ascend rules (suc k) f n)
     (λ m b. omega (arith, (place_at rules (suc k) f n m b).from)) (is_over f n r) i j h l
 
-has_step : (k p : ℕ) (ps : List ℕ) (b : Bool) → Has ps p → Has (if b then k ∷ ps else ps) p
-has_step k p ps true h = inr h
-has_step k p ps false h = h
-
--- the rules of the label and the rank have their positions there
-pub has_place : (rules : List (Rule ℕ)) (k f n m : ℕ) → m < length rules → is_over f n (get_or rules m no_rule) ≡ true → Has (positions_from k f n rules) (k + m)
-has_place [] k f n m h e = absurd (omega arith)
-has_place (r ∷ rules) k f n zero h e =
-    let z : k ≡ k + 0 = omega arith in
-    rw e (inl z)
-has_place (r ∷ rules) k f n (suc m) h e =
-    let s : suc k + m ≡ k + suc m = omega arith in
-    has_step k (k + suc m) (positions_from (suc k) f n rules) (is_over f n r) (subst (Has (positions_from (suc k) f n rules)) s (has_place rules (suc k) f n m (omega arith) e))
-
-below_step : (k p m : ℕ) (ps : List ℕ) → (Has ps p → p < m) → k < m → (b : Bool) → Has (if b then k ∷ ps else ps) p → p < m
-below_step k p m ps ih l true (inl e) = omega arith
-below_step k p m ps ih l true (inr h) = ih h
-below_step k p m ps ih l false h = ih h
-
-pub places_below : (rules : List (Rule ℕ)) (k f n p : ℕ) → Has (positions_from k f n rules) p → p < k + length rules
-places_below [] k f n p h = absurd h
-places_below (r ∷ rules) k f n p h =
-    let e : suc k + length rules ≡ k + suc (length rules) = omega arith in
-    below_step k p (k + suc (length rules)) (positions_from (suc k) f n rules) (λ x. omega (arith, places_below rules (suc k) f n p x)) (omega arith) (is_over f n r) h
-
 -- of two such rules the later one has no lesser left state
 pub lefts_ascend :
     (rules : List (Rule ℕ)) (f n i j : ℕ) → Ascends (λ r s. r.left ≤ s.left) rules → i < j → j < length (positions_with f n rules) →
@@ -91,21 +31,6 @@ lefts_ascend rules f n i j a h l =
     let at = place_at rules 0 f n j l in
     let b : get_or (positions_with f n rules) j 0 < length rules = omega (arith, at.below) in
     Ascends-at (λ r s. r.left ≤ s.left) rules no_rule a (get_or (positions_with f n rules) i 0) (get_or (positions_with f n rules) j 0) (places_ascend rules 0 f n i j h l) b
-
-pub rule_place : (rules : List (Rule ℕ)) (ps : List ℕ) (f n i : ℕ) → ps ≡ positions_with f n rules → i < length ps → IsRulePlace rules f n (get_or ps i 0)
-rule_place rules ps f n i e h =
-    rw e (from_place (place_at rules 0 f n i (subst (λ (xs : List ℕ). i < length xs) e h)))
-  where
-    from_place : {p : ℕ} → IsPlace rules 0 f n p → IsRulePlace rules f n p
-    from_place {p} at =
-        let z : p - 0 ≡ p = omega arith in
-        let over : is_over f n (rule_at rules p) ≡ true = subst (λ j. is_over f n (get_or rules j no_rule) ≡ true) z at.over in
-        let both = and-true _ _ over in
-        record {
-          below = omega (arith, at.below);
-          root = is_label-true f (rule_at rules p).right.label both.0;
-          many = nat_eq-true (count (rule_at rules p).right.kids) n both.1;
-        }
 
 pub rule_here : (rules : List (Rule ℕ)) (p : ℕ) (r : Rule ℕ) → p < length rules → r ≡ get_or rules p r → r ≡ rule_at rules p
 rule_here rules p r h e = e ∙ any rules p r no_rule h
@@ -119,22 +44,3 @@ pub later_left :
     (rules : List (Rule ℕ)) (ps : List ℕ) (f n i j : ℕ) → ps ≡ positions_with f n rules → Ascends (λ r s. r.left ≤ s.left) rules → i < j → j < length ps →
     (rule_at rules (get_or ps i 0)).left ≤ (rule_at rules (get_or ps j 0)).left
 later_left rules ps f n i j e a h l = rw e (lefts_ascend rules f n i j a h (subst (λ (xs : List ℕ). j < length xs) e l))
-
-is_over-same : (r : Rule ℕ) (f k : ℕ) → r.right.label ≡ label f → count r.right.kids ≡ k → is_over f k r ≡ true
-is_over-same r f k root many =
-    let same : nat_eq (count r.right.kids) k ≡ true = grind (arith, nat_tests) in
-    let root_same : is_label f r.right.label ≡ true =
-    elim (is_label_cases r.right.label f) [ inl y ↦ y.1 | inr n ↦ absurd (n.0 root) ]
-    in
-    rw (root_same, same) refl
-
--- a rule of the label and the rank is among those that are listed, and the other way round
-pub place_has : (rules : List (Rule ℕ)) (f n p : ℕ) → IsRulePlace rules f n p → Has (positions_with f n rules) p
-place_has rules f n p at =
-    let z : 0 + p ≡ p = omega arith in
-    subst (Has (positions_with f n rules)) z (has_place rules 0 f n p at.below (is_over-same (rule_at rules p) f n at.root at.many))
-
-pub has_rule_place : (rules : List (Rule ℕ)) (f n p : ℕ) → Has (positions_with f n rules) p → IsRulePlace rules f n p
-has_rule_place rules f n p h =
-    let at = at_has (positions_with f n rules) p 0 h in
-    subst (IsRulePlace rules f n) at.2 (rule_place rules (positions_with f n rules) f n at.0 refl at.1)

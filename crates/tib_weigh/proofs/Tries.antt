@@ -25,16 +25,16 @@ use Rattle.tib_weigh.specs.Entries.{cost_in, IsAscending}
 use Rattle.tib_weigh.specs.Vectors.{times_all, vectors, Weighed, IsVectorOf}
 use Rattle.tib_weigh.specs.Buckets.{state_below, IsRuleOver, IsReady, Stands}
 use Rattle.tib_weigh.specs.Tables.{bucket, IsTable}
-use Rattle.tib_weigh.specs.RulePlaces.{IsRulePlace}
 use Rattle.tib_weigh.specs.Worth.{times_beside, rest_worth, worth, IsWorth, HasTried, HasTriedAll}
 use Rattle.tib_weigh.proofs.Members.{has_last, has_or_last}
-use Rattle.tib_weigh.proofs.Places.{has_rule_place}
 use Rattle.tib_weigh.proofs.Stacks.{times-none, slot, length-vectors}
 use Rattle.tib_weigh.proofs.Among.{BeginsAmong, among_all, rule_least, times_all-none_at}
 use Rattle.tib_grammar.specs.Items.{state_in}
 use Rattle.tib_lex.proofs.Numbers.{nat_eq_cases}
 use Rattle.tib_lex.proofs.Members.{has_left, has_at}
 use Rattle.tib_grammar.proofs.Sides.{length-holes}
+use Rattle.tib_normal.specs.RulePlaces.{IsRulePlace}
+use Rattle.tib_normal.proofs.RulePlaces.{has_rule_place}
 
 -- a cost that is not greater than one of two that are lesser
 lesser_lowers : (v w x : Option ℕ) → IsNoGreater v x → IsNoGreater (lesser v w) x

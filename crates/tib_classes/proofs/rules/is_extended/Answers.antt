@@ -1,5 +1,6 @@
 use Rattle.std.proofs.Common.{arith}
-use Rattle.tib_classes.proofs.Labels.{holes_fit, extended_from, extended_not}
+use Rattle.tib_grammar.proofs.Holes.{holes_fit}
+use Rattle.tib_classes.proofs.Labels.{extended_from, extended_not}
 use Rattle.tib_classes.proofs.rules.is_extended.Goals as goal
 
 pub overflow_sub-result : goal.overflow_sub-result

@@ -1,9 +1,10 @@
 use Rattle.std.proofs.Common.{[], subst}
 use Rattle.std.proofs.lemmas.Result.{IfOk-weaker, IfErr-weaker}
+use Rattle.tib_lex.proofs.Results.{ok_both}
 use Rattle.tib_hunt.proofs.Reaching.{IfTooMany-weaker}
 use Rattle.tib_determinize.specs.Answered.{HasParts}
 use Rattle.tib_grammar.specs.GrammarOf.{GrammarOf}
-use Rattle.tib_determinize.proofs.ReachedGrammar.{determinized, beyond_of, few_vectors, few_rules, ok_both}
+use Rattle.tib_determinize.proofs.ReachedGrammar.{determinized, beyond_of, few_vectors, few_rules}
 use Rattle.tib_determinize.proofs.reached.determinize.Goals as goal
 
 pub returns-clause-determinized : goal.returns-clause-determinized

@@ -2,9 +2,9 @@ use Rattle.std.proofs.Common.{ℕ, arith, sym, subst, length, []}
 use Rattle.std.specs.Global.{Vec}
 use Rattle.std.proofs.lemmas.List.{length-map}
 use Rattle.tib_lex.specs.Lists.{Has}
+use Rattle.tib_grammar.specs.ShapeBuckets.{lists_of}
 use Rattle.tib_normal.specs.Arranging.{AreArranged}
 use Rattle.tib_normal.specs.Gathered.{HaveMoreParts}
-use Rattle.tib_normal.specs.Index.{lists_of}
 use Rattle.tib_normal.specs.Rows.{AreTooMany}
 use Rattle.tib_normal.proofs.Forming.{if_many}
 use Rattle.tib_normal.proofs.Rowing.{own-many, own-made, own-parts, parts-within}

@@ -1,4 +1,4 @@
-use Rattle.tib_normal.specs.Index.{lists_of}
+use Rattle.tib_grammar.specs.ShapeBuckets.{lists_of}
 use Rattle.tib_normal.proofs.Arranging.{arranging-none, arranging-next, arranged}
 use Rattle.tib_normal.proofs.rows.arrange.Goals as goal
 

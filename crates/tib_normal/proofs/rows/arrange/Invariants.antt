@@ -1,5 +1,5 @@
+use Rattle.tib_grammar.specs.ShapeBuckets.{lists_of}
 use Rattle.tib_normal.specs.Arranging.{IsArranging}
-use Rattle.tib_normal.specs.Index.{lists_of}
 use Rattle.tib_normal.proofs.rows.arrange.Given as goal
 
 abbrev pub invariant-loop-state : goal.invariant-loop-state

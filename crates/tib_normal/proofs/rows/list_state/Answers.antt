@@ -1,9 +1,9 @@
 use Rattle.std.proofs.Common.{arith, ap, sym, subst, ◌≡◌, ◌∙◌, get_or, length, ◌+◌, ◌<◌}
 use Rattle.std.proofs.lemmas.List.{get_or_read}
+use Rattle.tib_grammar.specs.ShapeBuckets.{lists_of}
 use Rattle.tib_grammar.proofs.Members.{has_at}
 use Rattle.tib_normal.specs.Arranging.{states_of, row_at, IsArranging}
 use Rattle.tib_normal.specs.Gathered.{row_parts, rule_of}
-use Rattle.tib_normal.specs.Index.{lists_of}
 use Rattle.tib_normal.specs.Links.{IsNext, no_key}
 use Rattle.tib_normal.proofs.Arranging.{state_at, states_long, arranging-start, arranging-more, arranging-all}
 use Rattle.tib_normal.proofs.rows.list_state.Goals as goal

@@ -1,6 +1,6 @@
 use Rattle.std.proofs.Common.{length, ◌-◌, ◌<◌, ◌≤◌, ◌≡◌}
+use Rattle.tib_grammar.specs.ShapeBuckets.{lists_of}
 use Rattle.tib_normal.specs.Arranging.{row_at, IsArranging}
-use Rattle.tib_normal.specs.Index.{lists_of}
 use Rattle.tib_normal.proofs.rows.list_state.Given as goal
 
 abbrev pub invariant-loop-n : goal.invariant-loop-n

@@ -1,13 +1,13 @@
 use Rattle.std.proofs.Common.{arith, ap, refl, [], sym, subst, ◌≡◌, ◌∙◌, length, ◌+◌, ◌-◌}
 use Rattle.tib_grammar.specs.Range.{AreInRange}
 use Rattle.tib_normal.specs.Gathered.{AreGathered, HaveMoreParts, row_parts}
-use Rattle.tib_normal.specs.Index.{lists_of}
 use Rattle.tib_normal.specs.Rows.{IfTooMany}
 use Rattle.tib_normal.specs.Ways.{AreWays}
 use Rattle.tib_normal.proofs.Forming.{if_many}
 use Rattle.tib_normal.proofs.Gathering.{gathered-none, more-in-all}
 use Rattle.tib_normal.proofs.spread.gather.Goals as goal
 use Rattle.tib_lex.specs.Lists.{total}
+use Rattle.tib_grammar.specs.ShapeBuckets.{lists_of}
 
 pub loop-side-init : goal.loop-side-init
 loop-side-init g c = record {

@@ -1,9 +1,9 @@
 use Rattle.std.proofs.Common.{length, ◌+◌, ◌≤◌, ◌≡◌}
 use Rattle.tib_normal.specs.Closure.{IsClear}
 use Rattle.tib_normal.specs.Gathered.{AreGathered, row_parts}
-use Rattle.tib_normal.specs.Index.{lists_of}
 use Rattle.tib_normal.proofs.spread.gather.Given as goal
 use Rattle.tib_lex.specs.Lists.{total}
+use Rattle.tib_grammar.specs.ShapeBuckets.{lists_of}
 
 abbrev pub invariant-loop-side : goal.invariant-loop-side
 invariant-loop-side g l = record {

@@ -1,9 +1,10 @@
 use Rattle.std.proofs.Common.{arith, ◌<◌, ◌-◌, ◌+◌, length, ℕ, ◌++◌, subst, sym}
 use Rattle.tib_tree.specs.Trees.{preorder}
 use Rattle.tib_grammar.specs.declared.Item.{Item}
+use Rattle.tib_grammar_file.proofs.Printing.{closing_as}
 use Rattle.tib_transducer_print.specs.Within.{IsWithin}
 use Rattle.tib_transducer_print.specs.Printed.{symbol_text}
-use Rattle.tib_transducer_print.proofs.Printing.{half_none, next_in, next_here, all_placed, all_printed, head_failed, kids_failed, close_failed, one_more, rank_is, closing_as, behind_within}
+use Rattle.tib_transducer_print.proofs.Printing.{half_none, next_in, next_here, all_placed, all_printed, head_failed, kids_failed, close_failed, one_more, rank_is, behind_within}
 use Rattle.tib_transducer_print.proofs.print.+put_trees.Goals as goal
 
 pub loop-k-init : goal.loop-k-init

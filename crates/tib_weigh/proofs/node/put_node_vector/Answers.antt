@@ -5,11 +5,12 @@ use Rattle.tib_cost.specs.Least.{IsLeast}
 use Rattle.tib_grammar.specs.Run.{rule_at}
 use Rattle.tib_grammar.specs.Forms.{IsNormalSide}
 use Rattle.tib_grammar.specs.declared.Rule.{Rule}
+use Rattle.tib_normal.proofs.RulePlaces.{rule_place}
 use Rattle.tib_weigh.specs.Entries.{cost_in, EndsBy}
 use Rattle.tib_weigh.specs.Vectors.{vectors}
 use Rattle.tib_weigh.proofs.EntryLemmas.{EndsBy-more}
 use Rattle.tib_weigh.proofs.Stacks.{length-vectors}
-use Rattle.tib_weigh.proofs.Places.{rule_here, rule_place, later_left}
+use Rattle.tib_weigh.proofs.Places.{rule_here, later_left}
 use Rattle.tib_weigh.proofs.Among.{BeginsAmong, among_step, among_all, count-Weighed}
 use Rattle.tib_weigh.proofs.node.put_node_vector.Goals as goal
 

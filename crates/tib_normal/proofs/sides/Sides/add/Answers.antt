@@ -3,11 +3,11 @@ use Rattle.std.specs.Prelude.{reverse}
 use Rattle.std.specs.Global.{Vec}
 use Rattle.tib_grammar.specs.declared.Rule.{Rule}
 use Rattle.tib_normal.specs.NormalForm.{inner_rules}
-use Rattle.tib_normal.specs.Index.{lists_of}
 use Rattle.tib_normal.proofs.Numbering.{numbered-own}
 use Rattle.tib_normal.proofs.Placing.{below-kids, nested-kids}
 use Rattle.tib_normal.proofs.sides.Sides.add.Goals as goal
 use Rattle.tib_grammar.specs.Sides.{labels_in}
+use Rattle.tib_grammar.specs.ShapeBuckets.{lists_of}
 
 pub place-requires-clause-nested : goal.place-requires-clause-nested
 place-requires-clause-nested c = nested-kids c.items-items.result.now c.args.rule.now.right c.items-items.ensures.items

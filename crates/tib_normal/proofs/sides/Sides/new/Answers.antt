@@ -2,7 +2,7 @@ use Rattle.std.proofs.Common.{arith, ℕ, ◌-◌, ◌+◌, ◌<◌, ◌≡◌, 
 use Rattle.std.specs.Prelude.{sum_by, reverse}
 use Rattle.std.proofs.lemmas.List.{get_or_read}
 use Rattle.tib_grammar.specs.Run.{no_rule}
-use Rattle.tib_normal.specs.Index.{lists_of}
+use Rattle.tib_grammar.specs.ShapeBuckets.{lists_of}
 use Rattle.tib_normal.specs.NormalForm.{all_inner}
 use Rattle.tib_normal.specs.Places.{rule_labels}
 use Rattle.tib_normal.proofs.Numbering.{AreNumberedFrom, counted-more, numbered-more, numbered-all}

@@ -1,6 +1,6 @@
 use Rattle.std.proofs.Common.{◌+◌, ◌≤◌, ◌≡◌, [], take, drop, length}
 use Rattle.std.specs.Prelude.{sum_by, reverse}
-use Rattle.tib_normal.specs.Index.{lists_of}
+use Rattle.tib_grammar.specs.ShapeBuckets.{lists_of}
 use Rattle.tib_normal.specs.NormalForm.{all_inner}
 use Rattle.tib_normal.specs.Places.{rule_labels}
 use Rattle.tib_normal.proofs.Numbering.{AreNumberedFrom}

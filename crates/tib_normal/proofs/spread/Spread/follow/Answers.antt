@@ -2,7 +2,6 @@ use Rattle.std.proofs.Common.{arith, sym, subst, ◌∙◌, refl, get_or, length
 use Rattle.std.specs.Prelude.{None}
 use Rattle.tib_normal.specs.Closure.{IsClosing, Spreads}
 use Rattle.tib_normal.specs.Gathered.{HaveMoreParts}
-use Rattle.tib_normal.specs.Index.{lists_of}
 use Rattle.tib_normal.specs.Links.{AreLinks}
 use Rattle.tib_normal.specs.Rows.{IfTooMany}
 use Rattle.tib_normal.proofs.Forming.{if_many}
@@ -11,6 +10,7 @@ use Rattle.tib_normal.proofs.Gathering.{entry-below, following-start, followed, 
 use Rattle.tib_normal.proofs.Rowing.{key-parts}
 use Rattle.tib_normal.proofs.spread.Spread.follow.Goals as goal
 use Rattle.tib_grammar.specs.Range.{AreBelow}
+use Rattle.tib_grammar.specs.ShapeBuckets.{lists_of}
 
 pub add_lefts-requires : goal.add_lefts-requires
 add_lefts-requires g c = record {

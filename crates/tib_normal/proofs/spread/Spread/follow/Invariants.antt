@@ -1,6 +1,6 @@
 use Rattle.std.proofs.Common.{length, ◌+◌, ◌*◌, ◌≡◌}
 use Rattle.std.specs.Prelude.{sum_by}
-use Rattle.tib_normal.specs.Index.{lists_of}
+use Rattle.tib_grammar.specs.ShapeBuckets.{lists_of}
 use Rattle.tib_normal.specs.Entries.{unset}
 use Rattle.tib_normal.proofs.Gathering.{IsFollowing}
 use Rattle.tib_normal.proofs.spread.Spread.follow.Given as goal

@@ -1,8 +1,8 @@
 use Rattle.std.proofs.Common.{◌≡◌, ℕ, List, get_or, ap, ◌∙◌, sym, subst}
 use Rattle.tib_grammar.specs.GrammarOf.{GrammarOf}
 use Rattle.tib_grammar.specs.declared.Rule.{Rule}
+use Rattle.tib_normal.proofs.RulePlaces.{rule_place}
 use Rattle.tib_weigh.specs.Buckets.{IsRuleOver}
-use Rattle.tib_weigh.proofs.Places.{rule_place}
 use Rattle.tib_weigh.proofs.index.Shape.new.Goals as goal
 
 pub tables_of-requires-clause-rules : goal.tables_of-requires-clause-rules

@@ -1,8 +1,7 @@
 -- Lists side by side, member by member.
-use Rattle.std.specs.Prelude.{◌≡◌, ℕ, ◌+◌, ◌<◌, ◌≤◌, ◌⊎◌, List, [], ◌∷◌, ◌++◌, length, refl}
-use Rattle.std.proofs.Common.{zero, suc, arith, ap, sym, ◌∙◌, subst, get_or, inl, inr}
-use Rattle.tib_lex.specs.Lists.{Has, Distinct, Along, total}
-use Rattle.tib_lex.proofs.Members.{has_at}
+use Rattle.std.specs.Prelude.{List, [], ◌∷◌, refl, ℕ, ◌<◌, length, ◌++◌, ◌≡◌, ◌+◌, ◌⊎◌, ◌≤◌}
+use Rattle.std.proofs.Common.{subst, inl, inr, zero, suc, arith, get_or, ap, sym, ◌∙◌}
+use Rattle.tib_lex.specs.Lists.{Has, Along, total, Distinct}
 
 -- the partner of a member of the first list
 pub along_of : {A B : Type 0} (R : A → B → Type 0) (xs : List A) (ys : List B) (x : A) → Along R xs ys → Has xs x → (y : B) × R x y × Has ys y
@@ -60,19 +59,6 @@ along_map R S f [] [] a = tt
 along_map R S f [] (y ∷ ys) a = absurd a
 along_map R S f (x ∷ xs) [] a = absurd a
 along_map R S f (x ∷ xs) (y ∷ ys) a = (f x y a.0, along_map R S f xs ys a.1)
-
--- equal elements of a list of distinct ones have one index
-pub distinct_at : {A : Type 0} (xs : List A) (i j : ℕ) (d : A) → Distinct xs → i < length xs → j < length xs → get_or xs i d ≡ get_or xs j d → i ≡ j
-distinct_at [] i j d s h k e = absurd (omega arith)
-distinct_at (x ∷ xs) zero zero d s h k e = refl
-distinct_at (x ∷ xs) zero (suc j) d s h k e = absurd (s.0 (subst (Has xs) (sym e) (has_at xs j d (omega arith))))
-distinct_at (x ∷ xs) (suc i) zero d s h k e = absurd (s.0 (subst (Has xs) e (has_at xs i d (omega arith))))
-distinct_at (x ∷ xs) (suc i) (suc j) d s h k e = ap suc (distinct_at xs i j d s.1 (omega arith) (omega arith) e)
-
--- the total with one more element
-pub total_more : {E : Type 0} (parts : E → ℕ) (es : List E) (e : E) → total parts (es ++ e ∷ []) ≡ total parts es + parts e
-total_more parts [] e = omega arith
-total_more parts (x ∷ es) e = omega (arith, total_more parts es e)
 
 -- the list without one origin and its edge
 record Without {O E : Type 0} (edge : O → E → Type 0) (parts : E → ℕ) (os : List O) (es : List E) (o : O) : Type 0 where

@@ -1,25 +1,20 @@
--- The positions of the rules of a label and a rank.
-use Rattle.std.specs.Prelude.{◌≡◌, ℕ, ◌+◌, ◌-◌, ◌<◌, ◌≤◌, Bool, true, false, List, [], ◌∷◌, length, if◌then◌else◌, refl, nat_eq}
-use Rattle.std.proofs.Common.{zero, suc, arith, get_or, inl, inr, subst}
+-- The places of the rules of one label and rank, as positions that were listed.
+use Rattle.std.specs.Prelude.{◌≡◌, ℕ, ◌+◌, ◌-◌, ◌<◌, ◌≤◌, true, List, length, ◌∷◌, Bool, false, if◌then◌else◌, [], refl, nat_eq}
+use Rattle.std.proofs.Common.{get_or, suc, arith, zero, inr, inl, subst}
 use Rattle.std.proofs.lemmas.Bool.Decides.{nat_tests}
 use Rattle.tib_lex.specs.Lists.{Has}
 use Rattle.tib_lex.proofs.Booleans.{and-true}
-use Rattle.tib_lex.proofs.Members.{at_has}
 use Rattle.tib_lex.proofs.Numbers.{nat_eq-true}
+use Rattle.tib_lex.proofs.Members.{at_has}
 use Rattle.tib_tree.specs.Trees.{count}
-use Rattle.tib_grammar.specs.Sides.{label, is_label}
-use Rattle.tib_grammar.specs.Run.{rule_at, no_rule}
 use Rattle.tib_grammar.specs.declared.Rule.{Rule}
+use Rattle.tib_grammar.specs.Run.{no_rule, rule_at}
+use Rattle.tib_grammar.specs.Sides.{label, is_label}
 use Rattle.tib_grammar.proofs.Sides.{is_label-true, is_label_cases}
 use Rattle.tib_normal.specs.Rules.{is_over, positions_from, positions_with}
+use Rattle.tib_normal.specs.RulePlaces.{IsRulePlace}
 
--- the rule at p has the label f over n states
-pub record IsRulePlace (rules : List (Rule ℕ)) (f n p : ℕ) : Type 0 where
-  pub below : p < length rules
-  pub root : (rule_at rules p).right.label ≡ label f
-  pub many : count (rule_at rules p).right.kids ≡ n
-
--- p, counted from k, is the position of a rule of the label f and the rank n
+-- p is the position, counted from k, of a rule of the label f over n states
 pub record IsPlace (rules : List (Rule ℕ)) (k f n p : ℕ) : Type 0 where
   pub from : k ≤ p
   pub below : p < k + length rules
@@ -43,6 +38,7 @@ place_step r rules k f n ps ih true e zero h =
 place_step r rules k f n ps ih true e (suc j) h = shift r rules k f n (get_or ps j 0) (ih j (omega arith))
 place_step r rules k f n ps ih false e j h = shift r rules k f n (get_or ps j 0) (ih j h)
 
+-- what stands at a place of the positions is such a position
 pub place_at : (rules : List (Rule ℕ)) (k f n j : ℕ) → j < length (positions_from k f n rules) → IsPlace rules k f n (get_or (positions_from k f n rules) j 0)
 place_at [] k f n j h = absurd (omega arith)
 place_at (r ∷ rules) k f n j h = place_step r rules k f n (positions_from (suc k) f n rules) (place_at rules (suc k) f n) (is_over f n r) refl j h
@@ -51,7 +47,7 @@ has_step : (k p : ℕ) (ps : List ℕ) (b : Bool) → Has ps p → Has (if b the
 has_step k p ps true h = inr h
 has_step k p ps false h = h
 
--- the rules of the label and the rank have their positions there
+-- and each such position stands there
 pub has_place : (rules : List (Rule ℕ)) (k f n m : ℕ) → m < length rules → is_over f n (get_or rules m no_rule) ≡ true → Has (positions_from k f n rules) (k + m)
 has_place [] k f n m h e = absurd (omega arith)
 has_place (r ∷ rules) k f n zero h e =
@@ -66,12 +62,14 @@ below_step k p m ps ih l true (inl e) = omega arith
 below_step k p m ps ih l true (inr h) = ih h
 below_step k p m ps ih l false h = ih h
 
+-- positions are within the rules
 pub places_below : (rules : List (Rule ℕ)) (k f n p : ℕ) → Has (positions_from k f n rules) p → p < k + length rules
 places_below [] k f n p h = absurd h
 places_below (r ∷ rules) k f n p h =
     let e : suc k + length rules ≡ k + suc (length rules) = omega arith in
     below_step k p (k + suc (length rules)) (positions_from (suc k) f n rules) (λ x. omega (arith, places_below rules (suc k) f n p x)) (omega arith) (is_over f n r) h
 
+-- a position that was listed is the place of a rule of the label and rank
 pub rule_place : (rules : List (Rule ℕ)) (ps : List ℕ) (f n i : ℕ) → ps ≡ positions_with f n rules → i < length ps → IsRulePlace rules f n (get_or ps i 0)
 rule_place rules ps f n i e h =
     rw e (from_place (place_at rules 0 f n i (subst (λ (xs : List ℕ). i < length xs) e h)))
@@ -95,12 +93,13 @@ is_over-same r f k root many =
     in
     rw (root_same, same) refl
 
--- a rule of the label and the rank is among those that are listed, and the other way round
+-- each such place is listed
 pub place_has : (rules : List (Rule ℕ)) (f n p : ℕ) → IsRulePlace rules f n p → Has (positions_with f n rules) p
 place_has rules f n p at =
     let z : 0 + p ≡ p = omega arith in
     subst (Has (positions_with f n rules)) z (has_place rules 0 f n p at.below (is_over-same (rule_at rules p) f n at.root at.many))
 
+-- and what is listed is such a place
 pub has_rule_place : (rules : List (Rule ℕ)) (f n p : ℕ) → Has (positions_with f n rules) p → IsRulePlace rules f n p
 has_rule_place rules f n p h =
     let at = at_has (positions_with f n rules) p 0 h in

@@ -1,0 +1,6 @@
+-- Limits that crates share which do not stand on each other.
+use Rattle.std.specs.Prelude.{ℕ}
+
+-- the most parts that a constructed object may have
+abbrev pub most_parts : ℕ
+most_parts = 20000000
