@@ -10,7 +10,7 @@ use Rattle.std.specs.Cmp.Lexicographic.{slice_cmp}
 use Rattle.std.specs.declared.cmp.Ordering.{Ordering}
 use Rattle.std.specs.declared.cmp.Ordering.TheVariants.{Less}
 use Rattle.tib_lex.specs.Lists.{Has, Distinct, Ascends}
-use Rattle.tib_lex.proofs.Lists.{has_mapped}
+use Rattle.tib_lex.proofs.Lists.{has_mapped, mapped_has}
 use Rattle.tib_lex.proofs.Members.{each_has, each_of}
 use Rattle.tib_tree.specs.Trees.{Tree, Trees, none, tree, only, relabel, relabel_tree}
 use Rattle.tib_grammar.specs.Range.{AllBelow}
@@ -23,11 +23,11 @@ use Rattle.tib_transducer.specs.TransducerOf.{TransducerOf}
 use Rattle.tib_transducer.specs.declared.Variable.{Variable}
 use Rattle.tib_transducer.specs.declared.Pair.{Pair}
 use Rattle.tib_transducer.specs.declared.TransducerRule.{TransducerRule}
+use Rattle.tib_transducer.specs.NamedPairs.{named_pair}
 use Rattle.tib_transducer_file.specs.ByText.{AskForOneText, AgreeOnLeft, AgreeOnRight, AreOneTransducerRule}
 use Rattle.tib_transducer_print.specs.ByName.{line_text}
 use Rattle.tib_transducer_print.specs.Printed.{rule_text, rules_text, transducer_text}
-use Rattle.tib_canon.proofs.InOrder.{mapped_has}
-use Rattle.tib_compose_laws.specs.Named.{named_pair, named_transducer_rule}
+use Rattle.tib_compose_laws.specs.Named.{named_transducer_rule}
 use Rattle.tib_canon_transducer.specs.Keys.{IsTransducerOverKeys, IsCanonicalTransducer}
 use Rattle.tib_canon_transducer.specs.Laws.{AreOneByText}
 use Rattle.tib_canon_transducer.specs.Ordered.{move_cmp, AgreeInSides, HasSides, IsTransducerInOrder}

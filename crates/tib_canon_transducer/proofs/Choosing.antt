@@ -1,10 +1,6 @@
 -- The positions of the cheapest rules, rule by rule.
-use Rattle.std.proofs.Common.{◌≡◌, ℕ, ◌+◌, ◌<◌, ◌≤◌, List, [], ◌∷◌, ◌++◌, length, set, get_or, refl, suc, arith, ap, sym, ◌∙◌, subst, inl, inr, ◌⊎◌, length-append, length-set, le_refl}
-use Rattle.std.specs.Prelude.{◌≢◌, Option, None, Some}
-use Rattle.std.proofs.lemmas.List.{get_or_append_left, get_or-set_same, get_or-set_other}
-use Rattle.std.proofs.Math.Seq.{get_or-append_seam}
-use Rattle.tib_lex.proofs.Numbers.{below_cases}
-use Rattle.tib_lex.specs.Lists.{Has, Distinct}
+use Rattle.std.proofs.Common.{◌≡◌, ℕ, ◌+◌, ◌<◌, List, [], ◌∷◌, ◌++◌, length, set, get_or, refl, arith, ap, sym, ◌∙◌, subst}
+use Rattle.std.specs.Prelude.{Option, None, Some}
 use Rattle.tib_tree.specs.Trees.{preorder_of}
 use Rattle.tib_transducer.specs.Rules.{transducer_rule}
 use Rattle.tib_grammar.specs.Items.{pair_of, pairs_of}
@@ -15,7 +11,8 @@ use Rattle.tib_transducer.specs.declared.TransducerRule.{TransducerRule}
 use Rattle.tib_canon_transducer.proofs.Telling.{side_same}
 use Rattle.tib_canon_transducer.specs.Ordered.{AgreeInSides}
 use Rattle.tib_canon_transducer.specs.Merging.{Sides, no_sides, AreSidesOf, IsCheaper, HasCheaperAt, AreCheapest, IsChosenFor, IsChoosing, IsNoted}
-use Rattle.tib_lex.proofs.Members.{has_at, at_has}
+use Rattle.tib_lex.proofs.Members.{has_at, at_has, distinct_from}
+use Rattle.tib_canon.proofs.Chosen.{chosen_new, chosen_before}
 
 -- items with the same pairs are the same
 pairs_same : {P : Type 0} (xs ys : List (Item P)) → pairs_of xs ≡ pairs_of ys → xs ≡ ys
@@ -48,15 +45,6 @@ sides_from j k r s a b e =
     let right : j.2 ≡ k.2 = pairs_same j.2 k.2 (a.2 ∙ ap preorder_of e.right ∙ sym b.2) in
     ap (λ x. (x, j.1, j.2)) state ∙ ap (λ x. (k.0, x, j.2)) left ∙ ap (λ x. (k.0, k.1, x)) right
 
-same_or_other : (i n : ℕ) → (i ≡ n) ⊎ (i ≢ n)
-same_or_other i n = grind arith
-
-length-more : {A : Type 0} (xs : List A) (x : A) → length (xs ++ x ∷ []) ≡ length xs + 1
-length-more xs x = length-append xs (x ∷ [])
-
-last_is : {A : Type 0} (xs : List A) (x d : A) (i : ℕ) → i ≡ length xs → get_or (xs ++ x ∷ []) i d ≡ x
-last_is xs x d i e = ap (λ n. get_or (xs ++ x ∷ []) n d) e ∙ get_or-append_seam xs x [] d
-
 pub nothing_chosen : (rules : List (TransducerRule ℕ)) → IsChoosing rules 0 [] []
 nothing_chosen rules = record {
   long = refl;
@@ -66,132 +54,6 @@ nothing_chosen rules = record {
   are = λ i h. absurd (omega arith);
   whole = λ m h. absurd (omega arith);
 }
-
-module _ (rules : List (TransducerRule ℕ)) (n : ℕ) (sides : List Sides) (best : List ℕ) (k : Sides) (c : IsChoosing rules n sides best) (own : AreSidesOf k (transducer_rule rules n)) where
-  -- sides that were not there
-  pub chosen_new : (Has sides k → ⊥) → IsChoosing rules (n + 1) (sides ++ k ∷ []) (best ++ n ∷ [])
-  chosen_new new = record {
-    long = omega (arith, length-more sides k, length-more best n, c.long);
-    few = omega (arith, length-more best n, c.few);
-    distinct = λ i j h l e. apart i j (below_cases i (length sides) (omega (arith, length-more sides k))) (below_cases j (length sides) (omega (arith, length-more sides k))) e;
-    below = λ i h. low i (below_cases i (length best) (omega (arith, length-more best n)));
-    are = λ i h. are i (below_cases i (length best) (omega (arith, length-more best n)));
-    whole = λ m h. whole m (below_cases m n h);
-  }
-    where
-      old_side : (i : ℕ) → i < length sides → get_or (sides ++ k ∷ []) i no_sides ≡ get_or sides i no_sides
-      old_side i h = get_or_append_left sides (k ∷ []) no_sides i h
-
-      old_best : (i : ℕ) → i < length best → get_or (best ++ n ∷ []) i 0 ≡ get_or best i 0
-      old_best i h = get_or_append_left best (n ∷ []) 0 i h
-
-      strange : (i : ℕ) → i < length sides → get_or sides i no_sides ≡ k → ⊥
-      strange i h e = new (subst (Has sides) e (has_at sides i no_sides h))
-
-      apart : (i j : ℕ) → (i < length sides) ⊎ (i ≡ length sides) → (j < length sides) ⊎ (j ≡ length sides) → get_or (sides ++ k ∷ []) i no_sides ≡ get_or (sides ++ k ∷ []) j no_sides → i ≡ j
-      apart i j (inl h) (inl l) e = c.distinct i j h l (sym (old_side i h) ∙ e ∙ old_side j l)
-      apart i j (inl h) (inr l) e = absurd (strange i h (sym (old_side i h) ∙ e ∙ last_is sides k no_sides j l))
-      apart i j (inr h) (inl l) e = absurd (strange j l (sym (old_side j l) ∙ sym e ∙ last_is sides k no_sides i h))
-      apart i j (inr h) (inr l) e = h ∙ sym l
-
-      low : (i : ℕ) → (i < length best) ⊎ (i ≡ length best) → get_or (best ++ n ∷ []) i 0 < n + 1
-      low i (inl h) = omega (arith, old_best i h, c.below i h)
-      low i (inr h) = omega (arith, last_is best n 0 i h)
-
-      are : (i : ℕ) → (i < length best) ⊎ (i ≡ length best) → AreSidesOf (get_or (sides ++ k ∷ []) i no_sides) (transducer_rule rules (get_or (best ++ n ∷ []) i 0))
-      are i (inl h) =
-          let same : i < length sides = omega (arith, c.long) in
-          subst (λ s. AreSidesOf s (transducer_rule rules (get_or (best ++ n ∷ []) i 0))) (sym (old_side i same)) (subst (λ p. AreSidesOf (get_or sides i no_sides) (transducer_rule rules p)) (sym (old_best i h)) (c.are i h))
-      are i (inr h) =
-          let same : i ≡ length sides = omega (arith, c.long) in
-          subst (λ s. AreSidesOf s (transducer_rule rules (get_or (best ++ n ∷ []) i 0))) (sym (last_is sides k no_sides i same)) (subst (λ p. AreSidesOf k (transducer_rule rules p)) (sym (last_is best n 0 i h)) own)
-
-      whole : (m : ℕ) → (m < n) ⊎ (m ≡ n) → (i : ℕ) × IsChosenFor rules (sides ++ k ∷ []) (best ++ n ∷ []) m i
-      whole m (inl h) =
-          let w = c.whole m h in
-          let same : w.0 < length sides = omega (arith, c.long, w.1.below) in (
-            w.0,
-            record {
-              below = omega (arith, w.1.below, length-more best n);
-              sides_are = subst (λ s. AreSidesOf s (transducer_rule rules m)) (sym (old_side w.0 same)) w.1.sides_are;
-              costs = subst (λ p. (transducer_rule rules p).cost ≤ (transducer_rule rules m).cost) (sym (old_best w.0 w.1.below)) w.1.costs;
-            },
-          )
-      whole m (inr h) =
-          let at : get_or (best ++ n ∷ []) (length best) 0 ≡ n = last_is best n 0 (length best) refl in (
-            length best,
-            record {
-              below = omega (arith, length-more best n);
-              sides_are = subst (λ s. AreSidesOf s (transducer_rule rules m)) (sym (last_is sides k no_sides (length best) (sym c.long))) (subst (λ p. AreSidesOf k (transducer_rule rules p)) (sym h) own);
-              costs = subst (λ p. (transducer_rule rules p).cost ≤ (transducer_rule rules m).cost) (sym (at ∙ sym h)) (le_refl (transducer_rule rules m).cost);
-            },
-          )
-
-  -- sides that were there: the cheaper rule stays
-  pub chosen_before : (place p : ℕ) → place < length sides → get_or sides place no_sides ≡ k → IsCheaper rules (get_or best place 0) n p → IsChoosing rules (n + 1) sides (set best place p)
-  chosen_before place p within is cheaper = record {
-    long = c.long ∙ sym (length-set best place p);
-    few = omega (arith, length-set best place p, c.few);
-    distinct = c.distinct;
-    below = λ i h. low i (same_or_other i place) (omega (arith, length-set best place p));
-    are = λ i h. are i (same_or_other i place) (omega (arith, length-set best place p));
-    whole = λ m h. whole m (below_cases m n h);
-  }
-    where
-      inside : place < length best
-      inside = omega (arith, c.long)
-
-      at_place : get_or (set best place p) place 0 ≡ p
-      at_place = get_or-set_same best place p 0 inside
-
-      at_other : (i : ℕ) → i ≢ place → get_or (set best place p) i 0 ≡ get_or best i 0
-      at_other i h = get_or-set_other best place i p 0 h
-
-      new_low : (p ≡ get_or best place 0) ⊎ (p ≡ n) → p < n + 1
-      new_low (inl e) = omega (arith, e, c.below place inside)
-      new_low (inr e) = omega (arith, e)
-
-      low : (i : ℕ) → (i ≡ place) ⊎ (i ≢ place) → i < length best → get_or (set best place p) i 0 < n + 1
-      low i (inl e) h = subst (λ j. get_or (set best place p) j 0 < n + 1) (sym e) (omega (arith, at_place, new_low cheaper.either))
-      low i (inr e) h = omega (arith, at_other i e, c.below i h)
-
-      chosen : (p ≡ get_or best place 0) ⊎ (p ≡ n) → AreSidesOf k (transducer_rule rules p)
-      chosen (inl e) = subst (λ q. AreSidesOf k (transducer_rule rules q)) (sym e) (subst (λ s. AreSidesOf s (transducer_rule rules (get_or best place 0))) is (c.are place inside))
-      chosen (inr e) = subst (λ q. AreSidesOf k (transducer_rule rules q)) (sym e) own
-
-      are : (i : ℕ) → (i ≡ place) ⊎ (i ≢ place) → i < length best → AreSidesOf (get_or sides i no_sides) (transducer_rule rules (get_or (set best place p) i 0))
-      are i (inl e) h =
-          subst (λ j. AreSidesOf (get_or sides j no_sides) (transducer_rule rules (get_or (set best place p) j 0))) (sym e)
-          (subst (λ q. AreSidesOf (get_or sides place no_sides) (transducer_rule rules q)) (sym at_place) (subst (λ s. AreSidesOf s (transducer_rule rules p)) (sym is) (chosen cheaper.either)))
-      are i (inr e) h = subst (λ q. AreSidesOf (get_or sides i no_sides) (transducer_rule rules q)) (sym (at_other i e)) (c.are i h)
-
-      costs : (i m : ℕ) → (i ≡ place) ⊎ (i ≢ place) → (transducer_rule rules (get_or best i 0)).cost ≤ (transducer_rule rules m).cost → (transducer_rule rules (get_or (set best place p) i 0)).cost ≤ (transducer_rule rules m).cost
-      costs i m (inl e) h =
-          let old : (transducer_rule rules (get_or best place 0)).cost ≤ (transducer_rule rules m).cost = subst (λ j. (transducer_rule rules (get_or best j 0)).cost ≤ (transducer_rule rules m).cost) e h in
-          let less : (transducer_rule rules p).cost ≤ (transducer_rule rules m).cost = omega (arith, old, cheaper.first) in
-          subst (λ j. (transducer_rule rules (get_or (set best place p) j 0)).cost ≤ (transducer_rule rules m).cost) (sym e) (subst (λ q. (transducer_rule rules q).cost ≤ (transducer_rule rules m).cost) (sym at_place) less)
-      costs i m (inr e) h = subst (λ q. (transducer_rule rules q).cost ≤ (transducer_rule rules m).cost) (sym (at_other i e)) h
-
-      whole : (m : ℕ) → (m < n) ⊎ (m ≡ n) → (i : ℕ) × IsChosenFor rules sides (set best place p) m i
-      whole m (inl h) =
-          let w = c.whole m h in
-          (w.0, record { below = omega (arith, w.1.below, length-set best place p); sides_are = w.1.sides_are; costs = costs w.0 m (same_or_other w.0 place) w.1.costs })
-      whole m (inr h) = (
-        place,
-        record {
-          below = omega (arith, length-set best place p);
-          sides_are = subst (λ s. AreSidesOf s (transducer_rule rules m)) (sym is) (subst (λ q. AreSidesOf k (transducer_rule rules q)) (sym h) own);
-          costs = subst (λ q. (transducer_rule rules q).cost ≤ (transducer_rule rules m).cost) (sym at_place) (subst (λ q. (transducer_rule rules p).cost ≤ (transducer_rule rules q).cost) (sym h) cheaper.second);
-        },
-      )
-
--- values at different places differ
-pub distinct_from : {A : Type 0} (xs : List A) (d : A) → ((i j : ℕ) → i < length xs → j < length xs → get_or xs i d ≡ get_or xs j d → i ≡ j) → Distinct xs
-distinct_from [] d h = tt
-distinct_from (x ∷ xs) d h = (
-  λ k. let a = at_has xs x d k in let bad : 0 ≡ suc a.0 = h 0 (suc a.0) (omega arith) (omega (arith, a.1)) (sym a.2) in omega (arith, bad),
-  distinct_from xs d (λ i j a b e. let next : suc i ≡ suc j = h (suc i) (suc j) (omega arith) (omega arith) e in omega (arith, next)),
-)
 
 -- all rules were looked at
 pub all_chosen : (rules : List (TransducerRule ℕ)) (n : ℕ) (sides : List Sides) (best : List ℕ) → n ≡ length rules → IsChoosing rules n sides best → AreCheapest rules best
@@ -226,7 +88,7 @@ pub step_new :
     (rules : List (TransducerRule ℕ)) (n : ℕ) (sides now : List Sides) (best after : List ℕ) (k : Sides) (o : Option ℕ) → IsChoosing rules n sides best → AreSidesOf k (transducer_rule rules n) → IsNoted sides k o now → o ≡ None →
     after ≡ best ++ n ∷ [] → IsChoosing rules (n + 1) now after
 step_new rules n sides now best after k None c own noted e is =
-    subst (λ (b : List ℕ). IsChoosing rules (n + 1) now b) (sym is) (subst (λ (s : List Sides). IsChoosing rules (n + 1) s (best ++ n ∷ [])) (sym noted.1) (chosen_new rules n sides best k c own noted.0))
+    subst (λ (b : List ℕ). IsChoosing rules (n + 1) now b) (sym is) (subst (λ (s : List Sides). IsChoosing rules (n + 1) s (best ++ n ∷ [])) (sym noted.1) (chosen_new no_sides (λ s p. AreSidesOf s (transducer_rule rules p)) (λ p. (transducer_rule rules p).cost) n sides best k c own noted.0))
 step_new rules n sides now best after k (Some i) c own noted e is = absurd (cc)
 
 pub step_before :
@@ -237,4 +99,5 @@ step_before rules n sides now best after k (Some i) place p c own noted e cheape
     let same : i ≡ place = cc in
     subst (λ (b : List ℕ). IsChoosing rules (n + 1) now b) (sym is)
     (subst (λ (s : List Sides). IsChoosing rules (n + 1) s (set best place p)) (sym noted.2)
-    (chosen_before rules n sides best k c own place p (omega (arith, same, noted.0)) (ap (λ j. get_or sides j no_sides) (sym same) ∙ noted.1) cheaper))
+    (chosen_before no_sides (λ s q. AreSidesOf s (transducer_rule rules q)) (λ q. (transducer_rule rules q).cost) n sides best k c own place p (omega (arith, same, noted.0)) (ap (λ j. get_or sides j no_sides) (sym same) ∙ noted.1)
+    cheaper.either cheaper.first cheaper.second))

@@ -1,15 +1,16 @@
 -- The composition of two transducers as a construction.
 use Rattle.tib_cost.specs.declared.Scale.{Scale}
 use Rattle.tib_cost.specs.declared.Scale.TheVariants as scales
-use Rattle.std.proofs.Common.{◌≡◌, ℕ, ◌<◌, ◌≤◌, Bool, List, [], ◌∷◌, ◌++◌, length, map, get_or, refl, ap, sym, ◌∙◌, subst, arith, inl, inr, zero, suc, Option, append-nil}
+use Rattle.std.proofs.Common.{◌≡◌, ℕ, ◌<◌, ◌≤◌, Bool, List, [], ◌∷◌, length, map, get_or, refl, ap, sym, ◌∙◌, subst, arith, inl, inr, zero, suc, Option, append-nil}
 use Rattle.std.specs.Prelude.{Some, None}
 use Rattle.std.specs.Ordering.{nat_cmp}
 use Rattle.std.specs.declared.cmp.Ordering.TheVariants.{Equal}
 use Rattle.tib_lex.specs.Lists.{Has, Each, Distinct}
-use Rattle.tib_lex.proofs.Lists.{each_append}
+use Rattle.tib_lex.proofs.Lists.{each_append, each_parts}
 use Rattle.tib_lex.proofs.Members.{has_at, each_has}
 use Rattle.tib_tree.specs.Trees.{Trees, none, tree, join, only, count, preorder, preorder_of, first_trees, other_trees}
 use Rattle.tib_cost.specs.Semiring.{ProductLaws}
+use Rattle.tib_lex.specs.PairOrder.{pair_cmp}
 use Rattle.tib_grammar.specs.Sides.{Symbol, label, hole, holes, holes_of, HolesAreLeaves}
 use Rattle.tib_grammar_file.specs.Printable.{IsPlainCost}
 use Rattle.tib_hunt.specs.Numbered.{key_parts}
@@ -17,108 +18,29 @@ use Rattle.tib_hunt.specs.Reached.{IsReached, IsReachedSet}
 use Rattle.tib_keyed.proofs.KeyOrders.{order_begins}
 use Rattle.tib_transducer.specs.Range.{AreNumbered, IsShaped, AreShaped}
 use Rattle.tib_transducer.specs.Rules.{transducer_rule, no_rule, states_in, variables_in, variables_of}
-use Rattle.tib_transducer.specs.Run.{tree_at, pick}
+use Rattle.tib_transducer.specs.Run.{pick}
 use Rattle.tib_transducer.specs.TransducerOf.{TransducerOf}
 use Rattle.tib_transducer.specs.declared.Variable.{Variable}
 use Rattle.tib_transducer.specs.declared.Pair.{Pair}
 use Rattle.tib_transducer.specs.declared.TransducerRule.{TransducerRule}
 use Rattle.tib_transducer_print.specs.ByName.{IsPlainLabel, IsPlainOnLeft, IsPlainOnRight, IsPrintable}
 use Rattle.tib_transducer_print.specs.Printed.{transducer_text}
-use Rattle.tib_transducer_print.proofs.Fitting.{each_parts}
 use Rattle.tib_canon.specs.Constructions.{HasReachedWithin}
 use Rattle.tib_canon.proofs.ReachedOnce.{edge_given, ends_stand}
 use Rattle.tib_canon.proofs.Sorting.{both_equal, number_same}
-use Rattle.tib_compose_laws.specs.Named.{named_pair}
 use Rattle.tib_compose_laws.specs.Plain.{ArePlain}
 use Rattle.tib_compose_laws.specs.Translations.{plug, AreTranslations, translated, choice_cost}
 use Rattle.tib_compose_laws.specs.Composing.{IsComposeEdge, IsComposite}
-use Rattle.tib_compose_laws.specs.Composition.{pair_cmp, ends_of, edge_parts, composition}
+use Rattle.tib_compose_laws.specs.Composition.{ends_of, edge_parts, composition}
 use Rattle.tib_compose_laws.proofs.Composed.{is_composed}
 use Rattle.tib_compose_laws.proofs.Exact.{composition_laws, reached_is_composite}
 use Rattle.tib_compose_laws.proofs.Flattened.{translations_end_in_holes}
+use Rattle.tib_compose_laws.proofs.Standing.{variables_translated, variables_each}
 use Rattle.tib_canon_transducer.specs.Composing.{composing, HasComposeSeries, HasComposeText}
 use Rattle.tib_canon_transducer.specs.Constructions.{IsCanonicalTransducerOf}
 use Rattle.tib_canon_transducer.specs.Keys.{AreMovesOver}
 use Rattle.tib_canon_transducer.proofs.Construct.{IsPlainOn, IsMoveOverKeys, IsPlainTransducerConstruction, transducer_construction_there}
 use Rattle.tib_canon_transducer.proofs.OverKeys.{canonical_series}
-
--- what holds of the holes of translations
-
-module _ {A : Type 0} (Q : A → Type 0) where
-  each_front : (xs ys : List A) → Each Q (xs ++ ys) → Each Q xs
-  each_front [] ys e = tt
-  each_front (x ∷ xs) ys e = (e.0, each_front xs ys e.1)
-
-  each_back : (xs ys : List A) → Each Q (xs ++ ys) → Each Q ys
-  each_back [] ys e = e
-  each_back (x ∷ xs) ys e = each_back xs ys e.1
-
-  -- what holds of the holes of sides
-
-  holes_join : (s t : Trees (Symbol ℕ A)) → Each Q (holes s) → Each Q (holes t) → Each Q (holes (join s t))
-  holes_join none t a b = b
-  holes_join (tree (label f) kids rest) t a b = each_append Q (holes kids) (holes (join rest t)) (each_front (holes kids) (holes rest) a) (holes_join rest t (each_back (holes kids) (holes rest) a) b)
-  holes_join (tree (hole x) kids rest) t a b = (a.0, holes_join rest t a.1 b)
-
-  holes_at : (s : Trees (Symbol ℕ A)) (i : ℕ) → Each Q (holes s) → Each Q (holes (tree_at s i))
-  holes_at none i a = tt
-  holes_at (tree (label f) kids rest) zero a = each_append Q (holes kids) [] (each_front (holes kids) (holes rest) a) tt
-  holes_at (tree (hole x) kids rest) zero a = (a.0, tt)
-  holes_at (tree (label f) kids rest) (suc i) a = holes_at rest i (each_back (holes kids) (holes rest) a)
-  holes_at (tree (hole x) kids rest) (suc i) a = holes_at rest i a.1
-
-  holes_pick : (s : Trees (Symbol ℕ A)) (is : List ℕ) → Each Q (holes s) → Each Q (holes (pick s is))
-  holes_pick s [] a = tt
-  holes_pick s (i ∷ is) a = holes_join (tree_at s i) (pick s is) (holes_at s i a) (holes_pick s is a)
-
-  holes_first : (n : ℕ) (s : Trees (Symbol ℕ A)) → Each Q (holes s) → Each Q (holes (first_trees n s))
-  holes_first zero s a = tt
-  holes_first (suc n) none a = tt
-  holes_first (suc n) (tree (label f) kids rest) a = each_append Q (holes kids) (holes (first_trees n rest)) (each_front (holes kids) (holes rest) a) (holes_first n rest (each_back (holes kids) (holes rest) a))
-  holes_first (suc n) (tree (hole x) kids rest) a = (a.0, holes_first n rest a.1)
-
-  holes_other : (n : ℕ) (s : Trees (Symbol ℕ A)) → Each Q (holes s) → Each Q (holes (other_trees n s))
-  holes_other zero s a = a
-  holes_other (suc n) none a = tt
-  holes_other (suc n) (tree (label f) kids rest) a = holes_other n rest (each_back (holes kids) (holes rest) a)
-  holes_other (suc n) (tree (hole x) kids rest) a = holes_other n rest a.1
-
-  holes_plug : {P : Type 0} (s : Trees (Symbol ℕ P)) (us : Trees (Symbol ℕ A)) → Each Q (holes us) → Each Q (holes (plug s us))
-  holes_plug none us a = tt
-  holes_plug (tree (label f) kids rest) us a =
-      each_append Q (holes (plug kids (first_trees (length (holes kids)) us))) (holes (plug rest (other_trees (length (holes kids)) us)))
-      (holes_plug kids (first_trees (length (holes kids)) us) (holes_first (length (holes kids)) us a))
-      (holes_plug rest (other_trees (length (holes kids)) us) (holes_other (length (holes kids)) us a))
-  holes_plug (tree (hole p) kids rest) none a = tt
-  holes_plug (tree (hole p) kids rest) (tree (label f) below us) a = each_append Q (holes below) (holes (plug rest us)) (each_front (holes below) (holes us) a) (holes_plug rest us (each_back (holes below) (holes us) a))
-  holes_plug (tree (hole p) kids rest) (tree (hole x) below us) a = (a.0, holes_plug rest us a.1)
-
--- the variables of translations are those of the sides
-variables_translated :
-    {P : Type 0} (Q : ℕ → Type 0) (two : List (TransducerRule ℕ)) (choice : Trees (Option ℕ)) (ps : List ℕ) (sides : Trees (Symbol ℕ (Pair P))) →
-    Each (λ x. Q x.variable) (holes sides) → Each (λ x. Q x.variable) (holes (translated two ps sides choice))
-variables_translated Q two none ps sides a = tt
-variables_translated Q two (tree c below more) [] sides a = tt
-variables_translated Q two (tree c below more) (p ∷ ps) none a = tt
-variables_translated Q two (tree None below more) (p ∷ ps) (tree (label f) kids rest) a = tt
-variables_translated Q two (tree c below more) (p ∷ ps) (tree (hole x) kids rest) a = (a.0, variables_translated Q two more ps rest a.1)
-variables_translated {P} Q two (tree (Some n) below more) (p ∷ ps) (tree (label f) kids rest) a =
-    holes_join (λ x. Q x.variable)
-    (plug (only (transducer_rule two n).right) (translated two (states_in (transducer_rule two n).right) (pick kids (variables_in (transducer_rule two n).right)) below))
-    (translated two ps rest more)
-    (holes_plug (λ x. Q x.variable) (only (transducer_rule two n).right)
-    (translated two (states_in (transducer_rule two n).right) (pick kids (variables_in (transducer_rule two n).right)) below)
-    (variables_translated Q two below (states_in (transducer_rule two n).right) (pick kids (variables_in (transducer_rule two n).right))
-    (holes_pick (λ (x : Pair P). Q x.variable) kids (variables_in (transducer_rule two n).right) (each_front (λ (x : Pair P). Q x.variable) (holes kids) (holes rest) a))))
-    (variables_translated Q two more ps rest (each_back (λ (x : Pair P). Q x.variable) (holes kids) (holes rest) a))
-
-variables_each : {P : Type 0} (Q : ℕ → Type 0) (xs : List (Pair P)) → Each Q (map (λ x. x.variable) xs) → Each (λ x. Q x.variable) xs
-variables_each Q [] a = tt
-variables_each Q (x ∷ xs) a = (a.0, variables_each Q xs a.1)
-
-each_named : {P R : Type 0} (Q : ℕ → Type 0) (g : P → R) (xs : List (Pair P)) → Each (λ x. Q x.variable) (map (named_pair g) xs) → Each Q (map (λ x. x.variable) xs)
-each_named Q g [] a = tt
-each_named Q g (x ∷ xs) a = (a.0, each_named Q g xs a.1)
 
 -- labels that are plain
 

@@ -5,6 +5,7 @@ use Rattle.std.specs.Prelude.{Some, None}
 use Rattle.std.proofs.lemmas.List.{length-map, get_or-map}
 use Rattle.tib_lex.specs.Lists.{Along, Distinct}
 use Rattle.tib_tree.specs.Trees.{Tree, Trees, none, tree, join, only, count, first_trees, other_trees, relabel, relabel_tree, first_of}
+use Rattle.tib_tree.proofs.Counts.{count-relabel}
 use Rattle.tib_grammar.specs.Sides.{Symbol, label, hole, Side, holes, AreHoles}
 use Rattle.tib_grammar_file.proofs.Renumbering.{Renumbers, renumbering}
 use Rattle.tib_hunt.specs.Reached.{IsReachedSet}
@@ -23,10 +24,6 @@ use Rattle.tib_compose_laws.proofs.Exact.{composition_laws, same_edge}
 use Rattle.tib_canon_transducer.specs.Composing.{composing, HasComposeText}
 use Rattle.tib_canon_transducer.proofs.Construct.{transducer_construction_once}
 use Rattle.tib_canon_transducer.proofs.Relabelled.{left_with, right_with, move_with, moves_with, pairs_kept, move_given}
-
-count_with : {A B : Type 0} (g : A → B) (ts : Trees A) → count (relabel g ts) ≡ count ts
-count_with g none = refl
-count_with g (tree s kids rest) = ap suc (count_with g rest)
 
 join_with : {A B : Type 0} (g : A → B) (ts us : Trees A) → relabel g (join ts us) ≡ join (relabel g ts) (relabel g us)
 join_with g none us = refl
@@ -85,10 +82,10 @@ module _ (f : ℕ → ℕ) (apart : (i j : ℕ) → f i ≡ f j → i ≡ j) whe
   label_back (hole x) g e = absurd (cc e)
 
   over_to : (left : Side ℕ Variable) (g n k : ℕ) → n ≡ k → IsOver left g n → IsOver (relabel_tree (left_with f) left) (f g) k
-  over_to left g n k e o = record { root = ap (left_with f) o.root; variables = holes_are left.kids o.variables; rank = count_with (left_with f) left.kids ∙ o.rank ∙ e }
+  over_to left g n k e o = record { root = ap (left_with f) o.root; variables = holes_are left.kids o.variables; rank = count-relabel (left_with f) left.kids ∙ o.rank ∙ e }
 
   over_from : (left : Side ℕ Variable) (g n k : ℕ) → n ≡ k → IsOver (relabel_tree (left_with f) left) (f g) k → IsOver left g n
-  over_from left g n k e o = record { root = label_back left.label g o.root; variables = holes_back left.kids o.variables; rank = sym (count_with (left_with f) left.kids) ∙ o.rank ∙ sym e }
+  over_from left g n k e o = record { root = label_back left.label g o.root; variables = holes_back left.kids o.variables; rank = sym (count-relabel (left_with f) left.kids) ∙ o.rank ∙ sym e }
 
   module _ (two : List (TransducerRule ℕ)) where
     rule_with : (n : ℕ) → n < length two → transducer_rule (moves_with f two) n ≡ move_with f (transducer_rule two n)
@@ -121,7 +118,7 @@ module _ (f : ℕ → ℕ) (apart : (i j : ℕ) → f i ≡ f j → i ≡ j) whe
     choice_to {P} (tree (Some r) below more) (p ∷ ps) (tree (label g) kids rest) t = (
       omega (arith, t.0, as_long),
       ap (λ (z : TransducerRule ℕ). z.state) (rule_with r t.0) ∙ t.1,
-      subst (λ (z : TransducerRule ℕ). IsOver z.left (f g) (count (relabel (right_with f) kids))) (sym (rule_with r t.0)) (over_to (transducer_rule two r).left g (count kids) (count (relabel (right_with f) kids)) (sym (count_with (right_with f) kids)) t.2),
+      subst (λ (z : TransducerRule ℕ). IsOver z.left (f g) (count (relabel (right_with f) kids))) (sym (rule_with r t.0)) (over_to (transducer_rule two r).left g (count kids) (count (relabel (right_with f) kids)) (sym (count-relabel (right_with f) kids)) t.2),
       subst (λ (qs : List ℕ). AreTranslations (moves_with f two) qs (pick (relabel (right_with f) kids) (variables_in (transducer_rule (moves_with f two) r).right)) below) (sym (states_same r t.0))
           (subst (λ (z : Trees (Symbol ℕ (Pair P))). AreTranslations (moves_with f two) (states_in (transducer_rule two r).right) z below) (sym (picked_same r t.0 kids))
           (choice_to below (states_in (transducer_rule two r).right) (pick kids (variables_in (transducer_rule two r).right)) t.3)),
@@ -144,7 +141,7 @@ module _ (f : ℕ → ℕ) (apart : (i j : ℕ) → f i ≡ f j → i ≡ j) whe
         let low : r < length two = omega (arith, t.0, as_long) in (
           low,
           sym (ap (λ (z : TransducerRule ℕ). z.state) (rule_with r low)) ∙ t.1,
-          over_from (transducer_rule two r).left g (count kids) (count (relabel (right_with f) kids)) (sym (count_with (right_with f) kids))
+          over_from (transducer_rule two r).left g (count kids) (count (relabel (right_with f) kids)) (sym (count-relabel (right_with f) kids))
               (subst (λ (z : TransducerRule ℕ). IsOver z.left (f g) (count (relabel (right_with f) kids))) (rule_with r low) t.2),
           choice_from below (states_in (transducer_rule two r).right) (pick kids (variables_in (transducer_rule two r).right))
               (subst (λ (z : Trees (Symbol ℕ (Pair P))). AreTranslations (moves_with f two) (states_in (transducer_rule two r).right) z below) (picked_same r low kids)

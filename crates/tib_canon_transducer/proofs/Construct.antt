@@ -7,17 +7,18 @@ use Rattle.std.proofs.lemmas.Option.{get_or_from_slice_get}
 use Rattle.std.specs.declared.cmp.Ordering.{Ordering}
 use Rattle.std.specs.declared.cmp.Ordering.TheVariants.{Equal}
 use Rattle.tib_lex.specs.Lists.{Has, Each, Distinct}
-use Rattle.tib_lex.proofs.Lists.{has_mapped}
+use Rattle.tib_lex.proofs.Lists.{has_mapped, each_parts, mapped_has}
 use Rattle.tib_lex.proofs.Members.{has_at, has_left, has_right, has_either, each_has, each_of}
 use Rattle.tib_lex.proofs.Numbers.{below_cases}
+use Rattle.tib_lex.proofs.Alongs.{along_of}
 use Rattle.tib_tree.specs.Trees.{Trees, none, tree, only, count, preorder, preorder_of, relabel}
 use Rattle.tib_grammar.specs.Range.{AllBelow}
 use Rattle.tib_grammar.specs.Sides.{Symbol, label, hole, symbol_map, side_map}
+use Rattle.tib_grammar.proofs.Below.{below_has}
 use Rattle.tib_grammar_file.specs.Printable.{IsPlainCost}
 use Rattle.tib_grammar_file.proofs.Renumbering.{Renumbers}
 use Rattle.tib_hunt.specs.Reached.{Operation, AfterRounds, IsReached, AreEdges, IsReachedSet, parts_of}
 use Rattle.tib_hunt.proofs.Reaching.{Laws}
-use Rattle.tib_keyed.proofs.Partners.{along_of}
 use Rattle.tib_inside.proofs.Chosen.{distinct_at}
 use Rattle.tib_transducer.specs.Range.{IsWithin, AreWithin, IsShaped, EndsInHoles, EndInHoles}
 use Rattle.tib_transducer.specs.Rules.{transducer_rule, no_rule, variables_of, states_in}
@@ -27,19 +28,18 @@ use Rattle.tib_transducer.specs.declared.Pair.{Pair}
 use Rattle.tib_transducer.specs.declared.TransducerRule.{TransducerRule}
 use Rattle.tib_transducer_print.specs.ByName.{IsPlainLabel, IsPlainOnLeft, IsPlainOnRight, IsPrintable, states_of, ReadsBack}
 use Rattle.tib_transducer_print.specs.Printed.{transducer_text}
-use Rattle.tib_transducer_print.proofs.Fitting.{each_parts}
 use Rattle.tib_canon.specs.Constructions.{HasReachedWithin}
 use Rattle.tib_canon.proofs.ConstructionExists.{few_keys}
-use Rattle.tib_canon.proofs.InOrder.{mapped_has}
 use Rattle.tib_canon.proofs.PlacesIn.{place_in, stands_at, map_itself}
-use Rattle.tib_canon.proofs.ReachedOnce.{one_set, order_once, key_same}
-use Rattle.tib_compose_laws.specs.Named.{named_pair, named_transducer_rule}
+use Rattle.tib_canon.proofs.ReachedOnce.{one_set, order_once, key_same, reached_apart}
+use Rattle.tib_transducer.specs.NamedPairs.{named_pair}
+use Rattle.tib_compose_laws.specs.Named.{named_transducer_rule}
 use Rattle.tib_canon_transducer.specs.Constructions.{TransducerConstruction, moves_over, IsCanonicalTransducerOf}
 use Rattle.tib_canon_transducer.specs.Keys.{IsCanonicalTransducer, AreMovesOver}
 use Rattle.tib_canon_transducer.proofs.ByText.{text_once}
 use Rattle.tib_canon_transducer.proofs.Exists.{transducer_there}
 use Rattle.tib_canon_transducer.proofs.KeysOnce.{member_is, move_told}
-use Rattle.tib_canon_transducer.proofs.Named.{states_named, shaped_named, shaped_back, ends_named, ends_back, move_back, preorder_named, below_has}
+use Rattle.tib_canon_transducer.proofs.Named.{states_named, shaped_named, shaped_back, ends_named, ends_back, move_back, preorder_named}
 use Rattle.tib_canon_transducer.proofs.Relabelled.{left_with, right_with, move_with, moves_with, moves_commute, ends_with, pairs_kept, KeepsText, KeepsAsked, KeepOnLeft, KeepOnRight, KeepsTexts}
 use Rattle.tib_canon_transducer.proofs.Texts.{transducer_read, stands}
 
@@ -116,7 +116,7 @@ module _
       subst IsOverSame same (record { reached = b.reached; over = b.over; canonical = b.canonical })
 
   once : Distinct a.order
-  once = order_once d.problem laws over_same.reached.0.0 over_same.reached.0.1 a.order over_same.reached.0.2
+  once = reached_apart d.problem laws over_same.reached.0
 
   range : AreWithin (length a.order) (moves_with f a.rules)
   range m k =

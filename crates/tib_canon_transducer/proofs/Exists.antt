@@ -1,6 +1,6 @@
 -- Rules over positions have a canonical transducer: that they have none cannot be.
 use Rattle.tib_cost.specs.declared.Scale.{Scale}
-use Rattle.std.proofs.Common.{◌≡◌, ◌⊎◌, ℕ, ◌<◌, ◌≤◌, List, [], ◌∷◌, length, map, get_or, refl, ap, sym, ◌∙◌, subst, arith, inl, inr}
+use Rattle.std.proofs.Common.{◌≡◌, ℕ, ◌<◌, ◌≤◌, List, [], length, map, get_or, refl, ap, sym, ◌∙◌, subst, arith}
 use Rattle.std.proofs.lemmas.List.{get_or-map}
 use Rattle.std.specs.Cmp.{IsTotalOrder}
 use Rattle.std.specs.Cmp.Lexicographic.{slice_cmp}
@@ -8,8 +8,7 @@ use Rattle.std.specs.Ordering.{nat_cmp}
 use Rattle.std.specs.declared.cmp.Ordering.{Ordering}
 use Rattle.std.specs.declared.cmp.Ordering.TheVariants.{Equal}
 use Rattle.tib_lex.specs.Lists.{Has, Each, Distinct, Ascends}
-use Rattle.tib_lex.proofs.Booleans.{either_way}
-use Rattle.tib_lex.proofs.Members.{has_at, each_has, each_of}
+use Rattle.tib_lex.proofs.Members.{has_at, each_has}
 use Rattle.tib_lex.proofs.Numbers.{same_or_other}
 use Rattle.tib_grammar.specs.StateName.{AreStateNames}
 use Rattle.tib_inside.specs.Renaming.{AreNumbersOf}
@@ -28,137 +27,26 @@ use Rattle.tib_canon.proofs.OverKeysExist.{over_there}
 use Rattle.tib_canon.proofs.PlacesIn.{place_in, stands_at}
 use Rattle.tib_canon.proofs.Sorting.{both_equal, number_same, text_same}
 use Rattle.tib_canon.proofs.StateNames.{length-names_of, are_state_names}
+use Rattle.tib_canon.proofs.CheapestExist.{least_there}
 use Rattle.tib_canon_transducer.specs.Keys.{IsTransducerOverKeys, IsCanonicalTransducer, AreMovesOver}
 use Rattle.tib_canon_transducer.specs.Lines.{up_to}
-use Rattle.tib_canon_transducer.specs.Ordered.{move_cmp, AgreeInSides, HasSides, Differ, AreMerged, IsTransducerInOrder, over_numbers}
+use Rattle.tib_canon_transducer.specs.Ordered.{move_cmp, AgreeInSides, Differ, AreMerged, IsTransducerInOrder, over_numbers}
 use Rattle.tib_canon_transducer.proofs.Merged.{agree_back, agree_on, same_sides}
 use Rattle.tib_canon_transducer.proofs.One.{moves_total}
 use Rattle.tib_canon_transducer.proofs.OverKeys.{over_keys, moves_over}
 use Rattle.tib_canon_transducer.proofs.Sorted.{all_good, length-up, up_at}
 use Rattle.tib_canon_transducer.proofs.Telling.{told_by_line}
 
-same_cost : (r s : TransducerRule ℕ) → r ≡ s → r.cost ≤ s.cost
-same_cost r s e = omega (arith, ap (λ (x : TransducerRule ℕ). x.cost) e)
-
--- a rule with sides of its own is put before the others
-module _ (r : TransducerRule ℕ) (rules merged : List (TransducerRule ℕ)) (m : AreMerged rules merged) (absent : HasSides merged r → ⊥) where
-  new_least : (x s : TransducerRule ℕ) → Has (r ∷ merged) x → Has (r ∷ rules) s → AgreeInSides x s → x.cost ≤ s.cost
-  new_least x s (inl e) (inl d) a = same_cost x s (sym e ∙ d)
-  new_least x s (inl e) (inr k) a =
-      let w = m.whole s k in
-      absurd (absent (record { rule = w.rule; stands = w.stands; agrees = agree_on w.rule s r w.agrees (agree_on s x r (agree_back x s a) (same_sides x r (sym e))) }))
-  new_least x s (inr h) (inl d) a = absurd (absent (record { rule = x; stands = h; agrees = agree_on x s r a (same_sides s r (sym d)) }))
-  new_least x s (inr h) (inr k) a = m.least x s h k a
-
-  new_whole : (x : TransducerRule ℕ) → Has (r ∷ rules) x → HasSides (r ∷ merged) x
-  new_whole x (inl e) = record { rule = r; stands = inl refl; agrees = same_sides r x e }
-  new_whole x (inr h) = let w = m.whole x h in record { rule = w.rule; stands = inr w.stands; agrees = w.agrees }
-
-  merged_new : AreMerged (r ∷ rules) (r ∷ merged)
-  merged_new = record {
-    kept = λ x h. elim h [ inl e ↦ inl e | inr k ↦ inr (m.kept x k) ];
-    least = new_least;
-    whole = new_whole;
-    apart = (each_of (Differ r) merged (λ x h a. absent (record { rule = x; stands = h; agrees = agree_back r x a })), m.apart);
-  }
-
--- a rule that is no cheaper than one with its sides is left out
-module _ (r : TransducerRule ℕ) (rules merged : List (TransducerRule ℕ)) (m : AreMerged rules merged) (w : HasSides merged r) (dear : w.rule.cost ≤ r.cost) where
-  old_least : (x s : TransducerRule ℕ) → Has merged x → Has (r ∷ rules) s → AgreeInSides x s → x.cost ≤ s.cost
-  old_least x s h (inl d) a =
-      let low : x.cost ≤ w.rule.cost =
-      m.least x w.rule h (m.kept w.rule w.stands) (agree_on x r w.rule (agree_on x s r a (same_sides s r (sym d))) (agree_back w.rule r w.agrees)) in
-      omega (arith, low, dear, same_cost r s d)
-  old_least x s h (inr k) a = m.least x s h k a
-
-  old_whole : (x : TransducerRule ℕ) → Has (r ∷ rules) x → HasSides merged x
-  old_whole x (inl e) = record { rule = w.rule; stands = w.stands; agrees = agree_on w.rule r x w.agrees (same_sides r x e) }
-  old_whole x (inr h) = m.whole x h
-
-  merged_old : AreMerged (r ∷ rules) merged
-  merged_old = record { kept = λ x h. inr (m.kept x h); least = old_least; whole = old_whole; apart = m.apart }
-
--- the rules but one, from which the others differ
-record AreWithout (rules : List (TransducerRule ℕ)) (t : TransducerRule ℕ) (rest : List (TransducerRule ℕ)) : Type 0 where
-  pub stand : (x : TransducerRule ℕ) → Has rest x → Has rules x
-  pub all : (x : TransducerRule ℕ) → Has rules x → (t ≡ x) ⊎ Has rest x
-  pub apart : Ascends Differ rest
-  pub differ : (x : TransducerRule ℕ) → Has rest x → Differ x t
-
-without_more : (y t : TransducerRule ℕ) (rules rest : List (TransducerRule ℕ)) → Each (Differ y) rules → Has rules t → AreWithout rules t rest → AreWithout (y ∷ rules) t (y ∷ rest)
-without_more y t rules rest own k w = record {
-  stand = λ x h. elim h [ inl e ↦ inl e | inr l ↦ inr (w.stand x l) ];
-  all = all;
-  apart = (each_of (Differ y) rest (λ x l. each_has (Differ y) rules x own (w.stand x l)), w.apart);
-  differ = differ;
-}
-  where
-    all : (x : TransducerRule ℕ) → Has (y ∷ rules) x → (t ≡ x) ⊎ Has (y ∷ rest) x
-    all x (inl e) = inr (inl e)
-    all x (inr h) = elim (w.all x h) [ inl e ↦ inl e | inr l ↦ inr (inr l) ]
-
-    differ : (x : TransducerRule ℕ) → Has (y ∷ rest) x → Differ x t
-    differ x (inl e) a = each_has (Differ y) rules t own k (agree_on y x t (same_sides y x e) a)
-    differ x (inr l) a = w.differ x l a
-
-without : (rules : List (TransducerRule ℕ)) (t : TransducerRule ℕ) → Ascends Differ rules → Has rules t → (rest : List (TransducerRule ℕ)) × AreWithout rules t rest
-without [] t a h = absurd h
-without (y ∷ rules) t a (inl e) = (
-  rules,
-  record {
-    stand = λ x h. inr h;
-    all = λ x h. elim h [ inl d ↦ inl (sym e ∙ d) | inr l ↦ inr l ];
-    apart = a.1;
-    differ = λ x h d. each_has (Differ y) rules x a.0 h (agree_on y t x (same_sides y t e) (agree_back x t d));
-  },
-)
-without (y ∷ rules) t a (inr k) = let w = without rules t a.1 k in (y ∷ w.0, without_more y t rules w.0 a.0 k w.1)
-
--- and one that is cheaper stands in its stead
-module _ (r : TransducerRule ℕ) (rules merged : List (TransducerRule ℕ)) (m : AreMerged rules merged) (w : HasSides merged r) (cheap : r.cost ≤ w.rule.cost) (rest : List (TransducerRule ℕ)) (o : AreWithout merged w.rule rest) where
-  to_old : (x : TransducerRule ℕ) → r ≡ x → AgreeInSides w.rule x
-  to_old x e = agree_on w.rule r x w.agrees (same_sides r x e)
-
-  instead_least : (x s : TransducerRule ℕ) → Has (r ∷ rest) x → Has (r ∷ rules) s → AgreeInSides x s → x.cost ≤ s.cost
-  instead_least x s (inl e) (inl d) a = same_cost x s (sym e ∙ d)
-  instead_least x s (inl e) (inr k) a =
-      let low : w.rule.cost ≤ s.cost = m.least w.rule s w.stands k (agree_on w.rule x s (to_old x e) a) in
-      omega (arith, low, cheap, same_cost x r (sym e))
-  instead_least x s (inr h) (inl d) a = absurd (o.differ x h (agree_on x s w.rule a (agree_back w.rule s (to_old s d))))
-  instead_least x s (inr h) (inr k) a = m.least x s (o.stand x h) k a
-
-  instead_whole : (x : TransducerRule ℕ) → Has (r ∷ rules) x → HasSides (r ∷ rest) x
-  instead_whole x (inl e) = record { rule = r; stands = inl refl; agrees = same_sides r x e }
-  instead_whole x (inr h) = by (m.whole x h)
-    where
-      by : HasSides merged x → HasSides (r ∷ rest) x
-      by v = elim (o.all v.rule v.stands) [
-        | inl e ↦ record { rule = r; stands = inl refl; agrees = agree_on r w.rule x (agree_back w.rule r w.agrees) (agree_on w.rule v.rule x (same_sides w.rule v.rule e) v.agrees) }
-        | inr l ↦ record { rule = v.rule; stands = inr l; agrees = v.agrees }
-      ]
-
-  merged_instead : AreMerged (r ∷ rules) (r ∷ rest)
-  merged_instead = record {
-    kept = λ x h. elim h [ inl e ↦ inl e | inr k ↦ inr (m.kept x (o.stand x k)) ];
-    least = instead_least;
-    whole = instead_whole;
-    apart = (each_of (Differ r) rest (λ x h a. o.differ x h (agree_on x r w.rule (agree_back r x a) (agree_back w.rule r w.agrees))), o.apart);
-  }
-
-lower_or_not : (m n : ℕ) → (m ≤ n) ⊎ (n ≤ m)
-lower_or_not m n = grind arith
-
+-- of rules that agree one of the cheapest can be listed
 merged_there : (rules : List (TransducerRule ℕ)) → ((merged : List (TransducerRule ℕ)) → AreMerged rules merged → ⊥) → ⊥
-merged_there [] k = k [] (record { kept = λ r h. absurd h; least = λ r s h. absurd h; whole = λ r h. absurd h; apart = tt })
-merged_there (r ∷ rules) k =
-    merged_there rules (λ merged m.
-    either_way (HasSides merged r) (λ d. elim d [
-      | inl w ↦ elim (lower_or_not w.rule.cost r.cost) [
-        | inl dear ↦ k merged (merged_old r rules merged m w dear)
-        | inr cheap ↦ let o = without merged w.rule m.apart w.stands in k (r ∷ o.0) (merged_instead r rules merged m w cheap o.0 o.1)
-      ]
-      | inr absent ↦ k (r ∷ merged) (merged_new r rules merged m absent)
-    ]))
+merged_there rules k =
+    least_there (λ (r : TransducerRule ℕ). r.cost) AgreeInSides agree_back agree_on same_sides rules
+    (λ merged m. k merged (record {
+      kept = m.kept;
+      least = m.least;
+      whole = λ r h. let w = m.whole r h in record { rule = w.value; stands = w.stands; agrees = w.agrees };
+      apart = m.apart;
+    }))
 
 module _ (scale : Scale) (labels : List (List ℕ)) (t : TransducerOf) where
   abbrev names : List (List ℕ)

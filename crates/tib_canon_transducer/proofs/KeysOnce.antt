@@ -18,7 +18,9 @@ use Rattle.tib_transducer.specs.TransducerOf.{TransducerOf}
 use Rattle.tib_transducer.specs.declared.Pair.{Pair}
 use Rattle.tib_transducer.specs.declared.TransducerRule.{TransducerRule}
 use Rattle.tib_canon.proofs.KeysOnce.{by_keys_once}
-use Rattle.tib_compose_laws.specs.Named.{named_pair, named_transducer_rule}
+use Rattle.tib_canon.proofs.TrimmedOnce.{label_is, hole_is}
+use Rattle.tib_transducer.specs.NamedPairs.{named_pair}
+use Rattle.tib_compose_laws.specs.Named.{named_transducer_rule}
 use Rattle.tib_canon_transducer.specs.Keys.{IsTransducerOverKeys, IsCanonicalTransducer}
 use Rattle.tib_canon_transducer.proofs.Named.{ends_back}
 use Rattle.tib_canon_transducer.proofs.One.{AreAlike, one_order_of}
@@ -40,12 +42,6 @@ fit_from n (tree (label f) kids rest) b h =
     )
 fit_from n (tree (hole x) none rest) b h = (b.0, fit_from n rest b.1 h)
 fit_from n (tree (hole x) (tree s kids more) rest) b h = absurd h
-
-label_is : {Q : Type 0} {g h : ℕ} {us bs cs ds : Trees (Symbol ℕ Q)} → tree (label g) us bs ≡ tree (label h) cs ds → (g ≡ h) × (us ≡ cs) × (bs ≡ ds)
-label_is e = (cc, cc, cc)
-
-hole_is : {Q : Type 0} {p q : Q} {us bs cs ds : Trees (Symbol ℕ Q)} → tree (hole p) us bs ≡ tree (hole q) cs ds → (p ≡ q) × (bs ≡ ds)
-hole_is e = (cc, cc)
 
 module _ {Q : Type 0} (n : ℕ) (f : ℕ → Q) (tells : (i j : ℕ) → i < n → j < n → f i ≡ f j → i ≡ j) where
   pair_told : (x y : Pair ℕ) → x.state < n → y.state < n → named_pair f x ≡ named_pair f y → x ≡ y

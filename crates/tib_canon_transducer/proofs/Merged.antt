@@ -2,9 +2,8 @@
 use Rattle.std.proofs.Common.{◌≡◌, ℕ, ◌<◌, ◌≤◌, List, [], ◌∷◌, length, map, get_or, refl, ap, sym, ◌∙◌, subst, arith, inl, inr}
 use Rattle.std.proofs.lemmas.List.{length-map}
 use Rattle.tib_lex.specs.Lists.{Has, Distinct, Ascends}
-use Rattle.tib_lex.proofs.Lists.{has_mapped}
+use Rattle.tib_lex.proofs.Lists.{has_mapped, mapped_has}
 use Rattle.tib_lex.proofs.Members.{has_at, at_has, each_of}
-use Rattle.tib_canon.proofs.InOrder.{mapped_has}
 use Rattle.tib_transducer.specs.Range.{IsWithin, AreWithin, IsShaped, AreShaped, EndsInHoles, EndInHoles}
 use Rattle.tib_transducer.specs.Rules.{transducer_rule, no_rule}
 use Rattle.tib_transducer.specs.declared.TransducerRule.{TransducerRule}

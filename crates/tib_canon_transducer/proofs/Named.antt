@@ -1,5 +1,5 @@
 -- Rules with their states exchanged.
-use Rattle.std.proofs.Common.{◌≡◌, ℕ, ◌<◌, List, [], ◌∷◌, ◌++◌, length, map, refl, ap, sym, ◌∙◌, subst, arith, inl, inr, suc}
+use Rattle.std.proofs.Common.{◌≡◌, ℕ, ◌<◌, List, [], ◌∷◌, ◌++◌, length, map, refl, ap, sym, ◌∙◌, subst, inl, inr, suc}
 use Rattle.std.proofs.lemmas.List.{map-append}
 use Rattle.tib_lex.specs.Lists.{Has, Each}
 use Rattle.tib_lex.proofs.Members.{has_left, has_right}
@@ -12,7 +12,8 @@ use Rattle.tib_transducer.specs.Range.{IsShaped, EndsInHoles}
 use Rattle.tib_transducer.specs.Rules.{variables_of, states_in, variables_in}
 use Rattle.tib_transducer.specs.declared.Pair.{Pair}
 use Rattle.tib_transducer.specs.declared.TransducerRule.{TransducerRule}
-use Rattle.tib_compose_laws.specs.Named.{named_pair, named_transducer_rule}
+use Rattle.tib_transducer.specs.NamedPairs.{named_pair}
+use Rattle.tib_compose_laws.specs.Named.{named_transducer_rule}
 
 module _ {P Q : Type 0} (f : P → Q) where
   pairs_states : (xs : List (Pair P)) → map (λ x. x.state) (map (named_pair f) xs) ≡ map f (map (λ x. x.state) xs)
@@ -104,7 +105,3 @@ preorder_named f s =
 pub below_mapped : (n m : ℕ) (f : ℕ → ℕ) (qs : List ℕ) → ((q : ℕ) → q < m → f q < n) → AllBelow m qs → AllBelow n (map f qs)
 below_mapped n m f [] h b = tt
 below_mapped n m f (q ∷ qs) h b = (h q b.0, below_mapped n m f qs h b.1)
-
-pub below_has : (n : ℕ) (qs : List ℕ) (q : ℕ) → AllBelow n qs → Has qs q → q < n
-below_has n [] q b h = absurd h
-below_has n (p ∷ qs) q b h = elim h [ inl e ↦ omega (arith, b.0, e) | inr k ↦ below_has n qs q b.1 k ]

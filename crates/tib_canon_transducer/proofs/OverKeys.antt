@@ -10,6 +10,7 @@ use Rattle.tib_cost.specs.Semiring.{ProductLaws}
 use Rattle.tib_grammar.specs.Range.{AllBelow}
 use Rattle.tib_grammar.specs.Renaming.{number_in}
 use Rattle.tib_grammar.specs.Sides.{Symbol, label, hole, symbol_map}
+use Rattle.tib_grammar.proofs.Below.{below_has}
 use Rattle.tib_inside.specs.Renaming.{AreNumbersOf}
 use Rattle.tib_transducer.specs.Range.{IsWithin, AreWithin, IsShaped, EndsInHoles, EndInHoles}
 use Rattle.tib_transducer.specs.Rules.{transducer_rule, no_rule, states_in}
@@ -21,11 +22,13 @@ use Rattle.tib_transducer_file.specs.Labelled.{AreLabelled}
 use Rattle.tib_transducer_print.specs.ByName.{IsPrintable, IsPlainOnRight}
 use Rattle.tib_canon.specs.Keys.{AreByKeys}
 use Rattle.tib_canon.proofs.StateNames.{length-names_of}
-use Rattle.tib_compose_laws.specs.Named.{named_pair, named_transducer_rule}
+use Rattle.tib_canon.proofs.OverKeys.{number_back}
+use Rattle.tib_transducer.specs.NamedPairs.{named_pair}
+use Rattle.tib_compose_laws.specs.Named.{named_transducer_rule}
 use Rattle.tib_compose_laws.proofs.Numbered.{numbered_series}
 use Rattle.tib_canon_transducer.specs.Keys.{IsTransducerOverKeys, IsCanonicalTransducer, HasSeriesFrom, AreMovesOver}
 use Rattle.tib_canon_transducer.specs.Ordered.{over_numbers, IsTransducerInOrder}
-use Rattle.tib_canon_transducer.proofs.Named.{states_named, shaped_back, ends_back, move_back, preorder_named, below_mapped, below_has}
+use Rattle.tib_canon_transducer.proofs.Named.{states_named, shaped_back, ends_back, move_back, preorder_named, below_mapped}
 use Rattle.tib_canon_transducer.proofs.One.{series_kept, kept_printable}
 use Rattle.tib_canon_transducer.proofs.Sorted.{all_labelled}
 
@@ -42,12 +45,6 @@ module _ {K : Type 0} (cmp : K → K → Ordering) (order : List K) (start : ℕ
       let at = at_has states q 0 ((by.all q).1 h) in
       let e : number_in numbers q ≡ at.0 = ap (number_in numbers) (sym at.2) ∙ are at.0 at.1 in
       omega (arith, at.1, e)
-
-  number_back : (q : ℕ) → q < length order → get_or states (number_in numbers q) 0 ≡ q
-  number_back q h =
-      let at = at_has states q 0 ((by.all q).1 h) in
-      let e : number_in numbers q ≡ at.0 = ap (number_in numbers) (sym at.2) ∙ are at.0 at.1 in
-      ap (λ i. get_or states i 0) e ∙ at.2
 
   module _ (rules : List (TransducerRule ℕ)) (range : AreWithin (length order) rules) (leaves : EndInHoles rules) (new : List (TransducerRule ℕ)) (e : new ≡ map (named_transducer_rule (number_in numbers)) rules) where
     new_within : AreWithin (length states) new
@@ -69,8 +66,8 @@ module _ {K : Type 0} (cmp : K → K → Ordering) (order : List K) (start : ℕ
         once = by.once;
         in_range = new_within;
         named = ap (map (named_transducer_rule (λ i. get_or states i 0))) e ∙ moves_back (number_in numbers) (λ i. get_or states i 0) rules (λ m h.
-            move_back (number_in numbers) (λ i. get_or states i 0) (transducer_rule rules m) (number_back (transducer_rule rules m).state (range m h).0)
-            (λ q k. number_back q (below_has (length order) (states_in (transducer_rule rules m).right) q (range m h).1 k)) (leaves m h));
+            move_back (number_in numbers) (λ i. get_or states i 0) (transducer_rule rules m) (number_back cmp order start states by numbers are (transducer_rule rules m).state (range m h).0)
+            (λ q k. number_back cmp order start states by numbers are q (below_has (length order) (states_in (transducer_rule rules m).right) q (range m h).1 k)) (leaves m h));
       };
     }
 

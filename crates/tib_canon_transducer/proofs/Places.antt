@@ -1,7 +1,7 @@
 -- Rules taken from their places.
 use Rattle.std.proofs.Common.{◌≡◌, ℕ, ◌+◌, ◌<◌, ◌≤◌, List, [], ◌∷◌, ◌++◌, length, map, take, set, get_or, ap, sym, ◌∙◌, arith, Option}
 use Rattle.std.specs.Prelude.{Some, None}
-use Rattle.std.proofs.lemmas.List.{get_or-map, get_or-set_other}
+use Rattle.std.proofs.lemmas.List.{ext_get_or, get_or-map, get_or-set_other, length-map}
 use Rattle.tib_lex.specs.Lists.{Distinct}
 use Rattle.tib_transducer.specs.Rules.{transducer_rule, no_rule}
 use Rattle.tib_transducer.specs.declared.TransducerRule.{TransducerRule}
@@ -40,3 +40,11 @@ module _ (rules : List (TransducerRule ℕ)) (positions : List ℕ) (below : (i 
   -- and there is one
   pub never_none : (places : List (Option (TransducerRule ℕ))) (k : ℕ) (o : Option (TransducerRule ℕ)) → AreThere rules positions places k → k < length positions → o ≡ get_or places (get_or positions k 0) None → o ≡ None → ⊥
   never_none places k o there h e n = let bad : None ≡ Some (transducer_rule rules (get_or positions k 0)) = sym n ∙ e ∙ there k (omega arith) h in cc
+
+-- rules whose positions are the first ones, each in its place, are taken as they stand
+pub in_place :
+    (rules : List (TransducerRule ℕ)) (positions : List ℕ) → length positions ≡ length rules → ((i : ℕ) → i < length rules → get_or positions i 0 ≡ i) →
+    rules ≡ map (transducer_rule rules) positions
+in_place rules positions many each =
+    ext_get_or no_rule rules (map (transducer_rule rules) positions) (omega (arith, many, length-map positions (transducer_rule rules)))
+    (λ i h. sym (get_or-map (transducer_rule rules) positions i 0 no_rule (omega (arith, many, h)) ∙ ap (transducer_rule rules) (each i h)))

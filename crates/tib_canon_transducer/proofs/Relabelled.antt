@@ -2,7 +2,8 @@
 use Rattle.std.proofs.Common.{◌≡◌, ℕ, List, [], ◌∷◌, ◌++◌, map, get_or, refl, ap, sym, ◌∙◌, suc, Option}
 use Rattle.std.specs.Prelude.{Some, None, option_map, decimal}
 use Rattle.tib_cost.specs.declared.Scale.{Scale}
-use Rattle.tib_tree.specs.Trees.{Tree, Trees, none, tree, only, count, relabel, relabel_tree}
+use Rattle.tib_tree.specs.Trees.{Trees, none, tree, only, count, relabel, relabel_tree}
+use Rattle.tib_tree.proofs.Counts.{tree_same}
 use Rattle.tib_grammar.specs.Sides.{Symbol, label, hole, Side, holes, holes_of, symbol_map, side_map, HolesAreLeaves}
 use Rattle.tib_grammar_file.specs.Printed.{space, opening, closing, cost_text}
 use Rattle.tib_grammar_file.proofs.Renumbering.{Renumbers}
@@ -12,10 +13,11 @@ use Rattle.tib_transducer.specs.TransducerOf.{TransducerOf}
 use Rattle.tib_transducer.specs.declared.Variable.{Variable}
 use Rattle.tib_transducer.specs.declared.Pair.{Pair}
 use Rattle.tib_transducer.specs.declared.TransducerRule.{TransducerRule}
+use Rattle.tib_transducer.specs.NamedPairs.{named_pair}
 use Rattle.tib_transducer_file.specs.ByText.{AskForOneText, AreOneVariable, AgreeOnLeft, AgreeOnRight, AreOneTransducerRule}
 use Rattle.tib_transducer_print.specs.ByName.{line_text}
 use Rattle.tib_transducer_print.specs.Printed.{label_text, asked_text, variable_text, pair_text, symbol_text, trees_text, side_text}
-use Rattle.tib_compose_laws.specs.Named.{named_pair, named_transducer_rule}
+use Rattle.tib_compose_laws.specs.Named.{named_transducer_rule}
 
 -- a rule with each label exchanged for another
 
@@ -90,32 +92,25 @@ ends_with f r h = (trees_end f (variable_with f) (only r.left) h.0, trees_end f 
 
 -- rules that agree by the texts of their labels are one under the numbers of the other table
 
-tree_same : {A : Type 0} (s t : Tree A) → only s ≡ only t → s ≡ t
-tree_same {A} s t e =
-    let o : tree s.label s.kids none ≡ tree t.label t.kids none = e in
-    let a : s.label ≡ t.label = cc in
-    let b : s.kids ≡ t.kids = cc in
-    ap (λ (l : A). record { label = l; kids = s.kids }) a ∙ ap (λ (k : Trees A). record { label = t.label; kids = k }) b
-
 module _ (labels others : List (List ℕ)) (f : ℕ → ℕ) (n : Renumbers labels others f) where
-  asked_given : (a b : Option ℕ) → AskForOneText labels others a b → option_map f a ≡ b
+  pub asked_given : (a b : Option ℕ) → AskForOneText labels others a b → option_map f a ≡ b
   asked_given None None h = refl
   asked_given None (Some g) h = absurd h
   asked_given (Some g) None h = absurd h
   asked_given (Some g) (Some k) h = ap (λ (m : ℕ). Some m) (n.gives g k h)
 
-  variable_given : (x y : Variable) → AreOneVariable labels others x y → variable_with f x ≡ y
+  pub variable_given : (x y : Variable) → AreOneVariable labels others x y → variable_with f x ≡ y
   variable_given x y h =
       ap (λ (m : ℕ). record { number = m; label = option_map f x.label }) h.0
       ∙ ap (λ (a : Option ℕ). record { number = y.number; label = a }) (asked_given x.label y.label h.1)
 
-  left_given : (s t : Symbol ℕ Variable) → AgreeOnLeft labels others s t → left_with f s ≡ t
+  pub left_given : (s t : Symbol ℕ Variable) → AgreeOnLeft labels others s t → left_with f s ≡ t
   left_given (label g) (label k) h = ap label (n.gives g k h)
   left_given (label g) (hole y) h = absurd h
   left_given (hole x) (label k) h = absurd h
   left_given (hole x) (hole y) h = ap hole (variable_given x y h)
 
-  right_given : (s t : Symbol ℕ (Pair ℕ)) → AgreeOnRight labels others s t → right_with f s ≡ t
+  pub right_given : (s t : Symbol ℕ (Pair ℕ)) → AgreeOnRight labels others s t → right_with f s ≡ t
   right_given (label g) (label k) h = ap label (n.gives g k h)
   right_given (label g) (hole y) h = absurd h
   right_given (hole x) (label k) h = absurd h

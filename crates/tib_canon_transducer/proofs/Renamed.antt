@@ -1,40 +1,17 @@
 -- Rules under new numbers of their states.
-use Rattle.std.proofs.Common.{◌≡◌, ℕ, ◌<◌, ◌++◌, List, [], ◌∷◌, length, map, get_or, refl, ap, sym, ◌∙◌, subst, arith, zero, suc, append_assoc, append-nil}
-use Rattle.tib_tree.specs.Trees.{Trees, none, tree, count, preorder, preorder_of, relabel, IsOneTree, IsOneTree-preorder_of}
-use Rattle.tib_grammar.specs.Sides.{Symbol, label, hole, Side as SideFor, side_map, symbol_map}
+use Rattle.std.proofs.Common.{◌≡◌, ℕ, ◌<◌, ◌++◌, List, [], ◌∷◌, length, map, get_or, ap, sym, ◌∙◌, subst, arith, zero, suc, append_assoc, append-nil}
+use Rattle.tib_tree.specs.Trees.{preorder_of}
+use Rattle.tib_grammar.specs.Sides.{Side as SideFor}
 use Rattle.tib_grammar.specs.Items.{pairs_of}
 use Rattle.tib_grammar.specs.Range.{AllBelow}
 use Rattle.tib_grammar.specs.declared.Item.{Item}
 use Rattle.tib_grammar.specs.declared.Item.TheVariants.{Label, Hole}
 use Rattle.tib_grammar.proofs.Holes.{holes_of_items}
-use Rattle.tib_grammar.proofs.Renamed.{preorder-relabel}
 use Rattle.tib_transducer.specs.Range.{IsWithin, AreWithin}
 use Rattle.tib_transducer.specs.Rules.{states_in}
 use Rattle.tib_transducer.specs.declared.Pair.{Pair}
 use Rattle.tib_transducer.specs.declared.TransducerRule.{TransducerRule}
-use Rattle.tib_compose_laws.specs.Named.{named_pair}
-use Rattle.tib_canon_transducer.specs.Items.{named_item, states_among}
-
-count-relabel : {A B : Type 0} (g : A → B) (ts : Trees A) → count (relabel g ts) ≡ count ts
-count-relabel g none = refl
-count-relabel g (tree f kids rest) = ap suc (count-relabel g rest)
-
-pairs-named : {P Q : Type 0} (g : P → Q) (items : List (Item (Pair P))) → pairs_of (map (named_item g) items) ≡ map (λ p. (symbol_map (named_pair g) p.0, p.1)) (pairs_of items)
-pairs-named g [] = refl
-pairs-named g (Label f rank ∷ items) = ap (λ xs. (label f, rank) ∷ xs) (pairs-named g items)
-pairs-named g (Hole x ∷ items) = ap (λ xs. (hole (named_pair g x), 0) ∷ xs) (pairs-named g items)
-
--- named items are the preorder of the named side
-pub preorder-named : {P Q : Type 0} (g : P → Q) (s : SideFor ℕ (Pair P)) (items : List (Item (Pair P))) → pairs_of items ≡ preorder_of s → pairs_of (map (named_item g) items) ≡ preorder_of (side_map (named_pair g) s)
-preorder-named g s items e =
-    pairs-named g items
-    ∙ ap (map (λ p. (symbol_map (named_pair g) p.0, p.1))) e
-    ∙ ap (λ xs. (symbol_map (named_pair g) s.label, count s.kids) ∷ xs) (sym (preorder-relabel (symbol_map (named_pair g)) s.kids))
-    ∙ ap (λ n. (symbol_map (named_pair g) s.label, n) ∷ preorder (relabel (symbol_map (named_pair g)) s.kids)) (sym (count-relabel (symbol_map (named_pair g)) s.kids))
-
--- the items of a side are those of one tree
-pub one_tree : {P : Type 0} (xs : List (Symbol ℕ P × ℕ)) (s : SideFor ℕ P) → xs ≡ preorder_of s → IsOneTree xs
-one_tree xs s e = subst IsOneTree (sym e) (IsOneTree-preorder_of s)
+use Rattle.tib_canon_transducer.specs.Items.{states_among}
 
 -- the states among the items of a side are those of its pairs
 pub states_are : (n : ℕ) (items : List (Item (Pair ℕ))) (s : SideFor ℕ (Pair ℕ)) → pairs_of items ≡ preorder_of s → AllBelow n (states_in s) → AllBelow n (states_among items)

@@ -11,7 +11,7 @@ use Rattle.std.proofs.lemmas.List.Sorted.{IsPermutation-map, IsPermutation-sym, 
 use Rattle.std.proofs.lemmas.Option.{get_or_from_slice_get}
 use Rattle.tib_lex.specs.Lines.{HasNoFeed, HasLines}
 use Rattle.tib_lex.specs.Lists.{Has, Each, Distinct, Ascends}
-use Rattle.tib_lex.proofs.Lists.{Ascends-from, has_mapped}
+use Rattle.tib_lex.proofs.Lists.{Ascends-from, has_mapped, mapped_has}
 use Rattle.tib_lex.proofs.Members.{has_at, at_has, each_has, each_of, has_either, has_left, has_right, distinct_more}
 use Rattle.tib_lex.proofs.Numbers.{below_cases}
 use Rattle.tib_tree.specs.Grows.{AreDistinct}
@@ -31,7 +31,6 @@ use Rattle.tib_transducer_print.proofs.Fitting.{IsGood}
 use Rattle.tib_transducer_print.proofs.PrintedBytes.{lines_in, transducer_lines}
 use Rattle.tib_canon.specs.Lines.{lines_text}
 use Rattle.tib_canon.specs.declared.lines.Line.{Line}
-use Rattle.tib_canon.proofs.InOrder.{mapped_has}
 use Rattle.tib_canon.proofs.Permuting.{has_permuted, distinct_permuted, distinct_at}
 use Rattle.tib_canon.proofs.Sorting.{text_cmp, line_cmp, sorted_apart}
 use Rattle.tib_canon.proofs.Within.{distinct_texts}

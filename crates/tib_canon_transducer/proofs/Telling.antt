@@ -1,12 +1,8 @@
 -- Rules of one state are told by their lines.
 use Rattle.tib_cost.specs.declared.Scale.{Scale}
-use Rattle.std.proofs.Common.{◌≡◌, ℕ, List, [], ◌∷◌, ◌++◌, get_or, refl, ap, sym, ◌∙◌, subst, arith, zero, suc, inl, inr, append_assoc, append-nil, Option, true, false}
-use Rattle.std.specs.Prelude.{Some, None, slice_get, nat_eq}
-use Rattle.std.specs.List.{list_any}
-use Rattle.std.proofs.lemmas.Bool.Decides.{nat_tests}
+use Rattle.std.proofs.Common.{◌≡◌, ℕ, List, [], ◌∷◌, ◌++◌, get_or, refl, ap, sym, ◌∙◌, subst, zero, suc, inl, inr, append_assoc, append-nil, Option}
+use Rattle.std.specs.Prelude.{Some, None, slice_get}
 use Rattle.tib_lex.proofs.Lists.{head_is}
-use Rattle.tib_lex.proofs.Members.{has_left, has_right}
-use Rattle.tib_lex.proofs.Spelled.{or_false}
 use Rattle.tib_lex.specs.Lists.{Has, Along, Distinct}
 use Rattle.tib_tree.specs.Trees.{Trees, none, tree, only, count, preorder, preorder_of, parse, parse_of}
 use Rattle.tib_tree.specs.Written.{Item}
@@ -14,20 +10,22 @@ use Rattle.tib_grammar.specs.Sides.{Symbol, Side, label, hole, holes, holes_of, 
 use Rattle.tib_grammar.specs.StateName.{AreStateNames}
 use Rattle.tib_grammar_file.specs.Printed.{cost_text}
 use Rattle.tib_grammar_file.proofs.OneGrammar.{number_same}
+use Rattle.tib_grammar_file.proofs.PrintedSorted.{names_own}
 use Rattle.tib_transducer.specs.Range.{AreNumbered}
 use Rattle.tib_transducer.specs.declared.Variable.{Variable}
 use Rattle.tib_transducer.specs.declared.Pair.{Pair}
 use Rattle.tib_transducer.specs.declared.TransducerRule.{TransducerRule}
 use Rattle.tib_transducer_file.specs.Forms.{variable_in, pair_in}
-use Rattle.tib_transducer_file.specs.Rule.{Parts, numbers_in, parts_of, label_of, repeats}
+use Rattle.tib_transducer_file.specs.Rule.{Parts, numbers_in, parts_of, label_of}
 use Rattle.tib_transducer_file.specs.TransducerText.{HasParts}
 use Rattle.tib_transducer_file.specs.Value.{IsAsked, IsLeftSymbol, IsLeftNode, IsRootItem, IsLeftSide, IsRightSymbol, IsRightNode, IsRule}
 use Rattle.tib_transducer_file.proofs.PiecesRead.{pieces_read}
 use Rattle.tib_transducer_file.proofs.RulesRead.{parts_forth}
+use Rattle.tib_transducer_file.proofs.OneByText.{once_each, pair_same}
 use Rattle.tib_transducer_print.specs.ByName.{named_rule, line_text}
 use Rattle.tib_transducer_print.specs.Printed.{variable_text, pair_text, side_text, rule_text}
 use Rattle.tib_transducer_print.proofs.Fitting.{IsGood, LineOf, rule_line}
-use Rattle.tib_transducer_print.proofs.RulesBack.{rules_own, names_own}
+use Rattle.tib_transducer_print.proofs.RulesBack.{rules_own}
 
 -- a rule is printed as its line and a line feed
 
@@ -56,29 +54,6 @@ place_once (x ∷ xs) zero zero v d e f = refl
 place_once (x ∷ xs) zero (suc j) v d e f = let s : v ≡ x = cc e in absurd (d.0 (subst (Has xs) s (has_slice xs j v f)))
 place_once (x ∷ xs) (suc i) zero v d e f = let s : v ≡ x = cc f in absurd (d.0 (subst (Has xs) s (has_slice xs i v e)))
 place_once (x ∷ xs) (suc i) (suc j) v d e f = ap suc (place_once xs i j v d.1 e f)
-
--- no number stands twice where none repeats
-
-any_has : (xs : List ℕ) (n : ℕ) → Has xs n → list_any (nat_eq n) xs ≡ false → ⊥
-any_has [] n h e = absurd h
-any_has (x ∷ xs) n (inl same) e =
-    let apart = or_false (nat_eq n x) (list_any (nat_eq n) xs) e in
-    let equal : nat_eq n x ≡ true = grind (arith, nat_tests) in
-    let bad : true ≡ false = sym equal ∙ apart.0 in cc
-any_has (x ∷ xs) n (inr h) e = any_has xs n h (or_false (nat_eq n x) (list_any (nat_eq n) xs) e).1
-
-apart_from : (before ns : List ℕ) → repeats before ns ≡ false → (n : ℕ) → Has ns n → Has before n → ⊥
-apart_from before [] e n h k = absurd h
-apart_from before (m ∷ ns) e n (inl same) k =
-    any_has before n k (subst (λ (x : ℕ). list_any (nat_eq x) before ≡ false) same (or_false (list_any (nat_eq m) before) (repeats (before ++ m ∷ []) ns) e).0)
-apart_from before (m ∷ ns) e n (inr h) k =
-    apart_from (before ++ m ∷ []) ns (or_false (list_any (nat_eq m) before) (repeats (before ++ m ∷ []) ns) e).1 n h (has_left before (m ∷ []) n k)
-
-once_each : (before ns : List ℕ) → repeats before ns ≡ false → Distinct ns
-once_each before [] e = tt
-once_each before (m ∷ ns) e =
-    let more : repeats (before ++ m ∷ []) ns ≡ false = (or_false (list_any (nat_eq m) before) (repeats (before ++ m ∷ []) ns) e).1 in
-    ((λ h. apart_from (before ++ m ∷ []) ns more m h (has_right before (m ∷ []) m (inl refl))), once_each (before ++ m ∷ []) ns more)
 
 -- the holes of a preorder
 
@@ -165,9 +140,6 @@ module _ (names labels : List (List ℕ)) (apart : Distinct labels) where
       let root = root_same s t (label_of p) p.root.kids h.0 k.0 in
       node_same s t ps qs root.0 root.1
       (left_lists 0 ps qs p.below h.1 k.1 (subst (AreNumbered 0) (root_holes s ps (label_of p) p.root.kids h.0) a) (subst (AreNumbered 0) (root_holes t qs (label_of p) p.root.kids k.0) b))
-
-  pair_same : (x y : Pair ℕ) → x.state ≡ y.state → x.variable ≡ y.variable → x ≡ y
-  pair_same x y e f = ap (λ (q : ℕ). record { state = q; variable = x.variable }) e ∙ ap (λ (n : ℕ). record { state = y.state; variable = n }) f
 
   module _ (numbers : List ℕ) (once : Distinct numbers) (named : Distinct names) where
     right_same : (p q : Symbol ℕ (Pair ℕ)) (o : Option (List ℕ × ℕ)) (text : List ℕ) → IsRightSymbol names labels numbers p o text → IsRightSymbol names labels numbers q o text → p ≡ q

@@ -6,6 +6,7 @@ use Rattle.tib_lex.specs.Lists.{Has}
 use Rattle.tib_lex.proofs.Lists.{has_mapped}
 use Rattle.tib_lex.proofs.Members.{has_at, has_left, has_right, has_either}
 use Rattle.tib_grammar.specs.StateName.{AreStateNames}
+use Rattle.tib_grammar.proofs.Below.{below_has}
 use Rattle.tib_inside.proofs.Chosen.{distinct_at}
 use Rattle.tib_transducer.specs.Range.{IsWithin, AreWithin}
 use Rattle.tib_transducer.specs.Rules.{states_in}
@@ -19,7 +20,7 @@ use Rattle.tib_compose_laws.specs.Named.{named_transducer_rule}
 use Rattle.tib_canon_transducer.specs.Keys.{IsCanonicalTransducer, AreMovesOver}
 use Rattle.tib_canon_transducer.proofs.KeysOnce.{member_is}
 use Rattle.tib_canon_transducer.proofs.Merged.{kept_within, kept_shaped, kept_leaves}
-use Rattle.tib_canon_transducer.proofs.Named.{states_named, below_has}
+use Rattle.tib_canon_transducer.proofs.Named.{states_named}
 use Rattle.tib_canon_transducer.proofs.One.{kept_printable}
 use Rattle.tib_canon_transducer.proofs.OverKeys.{moves_over, start_within, many_names}
 

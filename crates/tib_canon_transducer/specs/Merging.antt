@@ -5,6 +5,7 @@ use Rattle.tib_lex.specs.Lists.{Has, Distinct}
 use Rattle.tib_tree.specs.Trees.{preorder_of}
 use Rattle.tib_grammar.specs.Items.{pairs_of}
 use Rattle.tib_grammar.specs.declared.Item.{Item}
+use Rattle.tib_canon.specs.Choosing.{IsChosenOf, AreChosen}
 use Rattle.tib_transducer.specs.Rules.{transducer_rule}
 use Rattle.tib_transducer.specs.declared.Variable.{Variable}
 use Rattle.tib_transducer.specs.declared.Pair.{Pair}
@@ -49,16 +50,9 @@ pub record AreCheapest (rules : List (TransducerRule ℕ)) (positions : List ℕ
   pub whole : (m : ℕ) → m < length rules → HasCheaperAt rules positions (transducer_rule rules m)
 
 -- sides i are those of rule m, and the rule at position i costs no more
-pub record IsChosenFor (rules : List (TransducerRule ℕ)) (sides : List Sides) (best : List ℕ) (m i : ℕ) : Type 0 where
-  pub below : i < length best
-  pub sides_are : AreSidesOf (get_or sides i no_sides) (transducer_rule rules m)
-  pub costs : (transducer_rule rules (get_or best i 0)).cost ≤ (transducer_rule rules m).cost
+abbrev pub IsChosenFor : List (TransducerRule ℕ) → List Sides → List ℕ → ℕ → ℕ → Type 0
+IsChosenFor rules sides best m i = IsChosenOf no_sides (λ k p. AreSidesOf k (transducer_rule rules p)) (λ p. (transducer_rule rules p).cost) sides best m i
 
 -- For each of the distinct sides of the first n rules, the position of the cheapest rule that has them.
-pub record IsChoosing (rules : List (TransducerRule ℕ)) (n : ℕ) (sides : List Sides) (best : List ℕ) : Type 0 where
-  pub long : length sides ≡ length best
-  pub few : length best ≤ n
-  pub distinct : (i j : ℕ) → i < length sides → j < length sides → get_or sides i no_sides ≡ get_or sides j no_sides → i ≡ j
-  pub below : (i : ℕ) → i < length best → get_or best i 0 < n
-  pub are : (i : ℕ) → i < length best → AreSidesOf (get_or sides i no_sides) (transducer_rule rules (get_or best i 0))
-  pub whole : (m : ℕ) → m < n → (i : ℕ) × IsChosenFor rules sides best m i
+abbrev pub IsChoosing : List (TransducerRule ℕ) → ℕ → List Sides → List ℕ → Type 0
+IsChoosing rules n sides best = AreChosen no_sides (λ k p. AreSidesOf k (transducer_rule rules p)) (λ p. (transducer_rule rules p).cost) n sides best

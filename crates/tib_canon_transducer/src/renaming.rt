@@ -8,8 +8,9 @@ ghost use Rattle.tib_grammar.specs.Sides.{side_map};
 ghost use Rattle.tib_tree.specs.Trees.{preorder_of};
 ghost use Rattle.tib_transducer.specs.Range.{IsWithin, AreWithin};
 ghost use Rattle.tib_transducer.specs.Rules.{states_in};
-ghost use Rattle.tib_compose_laws.specs.Named.{named_pair, named_transducer_rule};
-ghost use Rattle.tib_canon_transducer.specs.Items.{named_item, states_among};
+ghost use Rattle.tib_transducer.specs.NamedPairs.{named_pair, named_item};
+ghost use Rattle.tib_compose_laws.specs.Named.{named_transducer_rule};
+ghost use Rattle.tib_canon_transducer.specs.Items.{states_among};
 
 use std::alloc::{AllocError, Global};
 use tib_grammar::{Item, Side};

@@ -1,5 +1,5 @@
 // Rules taken out in another order.
-ghost use Rattle.std.specs.Prelude.{◌≡◌, ◌<◌, ℕ, Some, None, length, map, set, IfOk};
+ghost use Rattle.std.specs.Prelude.{IsTrue, ◌≡◌, ◌<◌, ℕ, Some, None, length, map, set, IfOk};
 ghost use Rattle.std.proofs.Common.{get_or};
 ghost use Rattle.tib_lex.specs.Lists.{Distinct};
 ghost use Rattle.tib_transducer.specs.Rules.{transducer_rule};
@@ -33,9 +33,8 @@ fn take_from(
     places[position as usize].take()
 }
 
-/// The rules at some positions, in the order of the positions. They are moved, and the others are
-/// dropped.
-pub(crate) fn rules_at(
+// The rules at some positions, in the order of the positions. Each is moved to its new place.
+fn moved_rules(
     alloc: Global,
     rules: Vec<TransducerRule<u32>>,
     positions: &[u32],
@@ -53,4 +52,37 @@ pub(crate) fn rules_at(
         }
     }
     Ok(taken)
+}
+
+// Whether the positions are the first ones, each in its place.
+fn are_in_place(positions: &[u32], count: usize) -> bool
+    ensures many { IsTrue result → length positions.now ≡ count }
+    ensures each { IsTrue result → (i : ℕ) → i < count → get_or positions.now i 0 ≡ i }
+{
+    if positions.len() != count {
+        return false;
+    }
+    for n in 0..count {
+        if positions[n] as usize != n {
+            return false;
+        }
+    }
+    true
+}
+
+/// The rules at some positions, in the order of the positions. They are moved, and the others are
+/// dropped. Where each rule stands in its place already, nothing is done.
+pub(crate) fn rules_at(
+    alloc: Global,
+    rules: Vec<TransducerRule<u32>>,
+    positions: &[u32],
+) -> Result<Vec<TransducerRule<u32>>, AllocError>
+    requires below { (i : ℕ) → i < length positions.now → get_or positions.now i 0 < length rules.items }
+    requires apart { Distinct positions.now }
+    ensures { IfOk result (λ v. v.items ≡ map (transducer_rule rules.items) positions.now) }
+{
+    if are_in_place(positions, rules.len()) {
+        return Ok(rules);
+    }
+    moved_rules(alloc, rules, positions)
 }

@@ -32,6 +32,7 @@ use Rattle.tib_compose.specs.declared.source.Source.{Source}
 use Rattle.tib_compose.proofs.Left.{product_bounds}
 use Rattle.tib_compose.proofs.Walking.{known_from, kids_count}
 use Rattle.tib_cost.specs.Least.{times}
+use Rattle.tib_lex.proofs.Members.{has_right, has_left}
 use Rattle.tib_grammar.specs.Items.{pairs_of}
 use Rattle.tib_grammar.specs.declared.Item.{Item}
 use Rattle.tib_grammar.specs.declared.Item.TheVariants.{Label}
@@ -39,14 +40,6 @@ use Rattle.tib_grammar.specs.declared.Item.TheVariants.{Label}
 has_either : {A : Type 0} (xs ys : List A) (x : A) → Has (xs ++ ys) x → Has xs x ⊎ Has ys x
 has_either [] ys x a = inr a
 has_either (z ∷ xs) ys x a = elim a [ inl e ↦ inl (inl e) | inr b ↦ elim (has_either xs ys x b) [ inl c ↦ inl (inr c) | inr c ↦ inr c ] ]
-
-pub has_right : {A : Type 0} (xs ys : List A) (x : A) → Has ys x → Has (xs ++ ys) x
-has_right [] ys x h = h
-has_right (z ∷ xs) ys x h = inr (has_right xs ys x h)
-
-pub has_left : {A : Type 0} (xs ys : List A) (x : A) → Has xs x → Has (xs ++ ys) x
-has_left [] ys x h = absurd h
-has_left (z ∷ xs) ys x h = elim h [ inl e ↦ inl e | inr k ↦ inr (has_left xs ys x k) ]
 
 module _ (product : ℕ → ℕ → ℕ) (two : List (TransducerRule ℕ)) (f p : ℕ) (kids : Trees (Symbol ℕ (Pair ℕ))) where
   abbrev pieces_here : ℕ → List PieceOf

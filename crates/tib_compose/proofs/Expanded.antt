@@ -1,15 +1,17 @@
 -- What the list of all edges of a pair says.
-use Rattle.std.specs.Prelude.{◌≡◌, ℕ, ◌+◌, ◌<◌, ◌≤◌, ◌⊎◌, ◌↔◌, ◌^◌, List, [], ◌∷◌, ◌++◌, length, map, Option, refl}
+use Rattle.std.specs.Prelude.{◌≡◌, ℕ, ◌<◌, ◌≤◌, ◌↔◌, ◌^◌, List, [], ◌∷◌, ◌++◌, length, map, Option, refl}
 use Rattle.std.proofs.Common.{zero, suc, arith, ap, sym, ◌∙◌, subst, get_or, inl, inr}
-use Rattle.tib_lex.specs.Lists.{Has, Each, Distinct, Along, total}
+use Rattle.tib_lex.specs.Lists.{Has, Each, total}
 use Rattle.tib_lex.proofs.Members.{has_left, has_right, has_either}
+use Rattle.tib_lex.proofs.Alongs.{along_of, along_back, total_fewer}
 use Rattle.tib_tree.specs.Trees.{Trees}
 use Rattle.tib_hunt.specs.EdgeLists.{Lists, AreListed, IsEnd, Exceeds}
 use Rattle.tib_hunt.specs.declared.place.Place.{Place}
+use Rattle.tib_keyed.specs.Ends.{key_at}
 use Rattle.tib_transducer.specs.Range.{AreShaped}
 use Rattle.tib_transducer.specs.declared.TransducerRule.{TransducerRule}
 use Rattle.tib_compose_laws.specs.Choices.{edges_of}
-use Rattle.tib_compose_laws.specs.Composing.{key_at, IsComposeEdge}
+use Rattle.tib_compose_laws.specs.Composing.{IsComposeEdge}
 use Rattle.tib_compose_laws.specs.Composition.{ends_of, edge_parts}
 use Rattle.tib_compose_laws.specs.Named.{named_transducer_rule}
 use Rattle.tib_compose_laws.proofs.EdgeList.{edges_are_listed}
@@ -17,75 +19,6 @@ use Rattle.tib_compose_laws.proofs.Exact.{same_edge}
 use Rattle.tib_compose.specs.EdgeLaws.{places_of}
 use Rattle.tib_compose.specs.Listing.{IsListing, IsWithinBudget, all_ends}
 use Rattle.tib_compose.specs.declared.listing.Listing.{Listing}
-
-along_of : {A B : Type 0} (R : A → B → Type 0) (xs : List A) (ys : List B) (x : A) → Along R xs ys → Has xs x → (y : B) × R x y × Has ys y
-along_of R [] ys x a h = absurd h
-along_of R (z ∷ xs) [] x a h = absurd a
-along_of R (z ∷ xs) (y ∷ ys) x a h = elim h [
-  | inl e ↦ (y, subst (λ w. R w y) e a.0, inl refl)
-  | inr k ↦ let r = along_of R xs ys x a.1 k in (r.0, r.1, inr r.2)
-]
-
-along_back : {A B : Type 0} (R : A → B → Type 0) (xs : List A) (ys : List B) (y : B) → Along R xs ys → Has ys y → (x : A) × R x y
-along_back R [] [] y a h = absurd h
-along_back R [] (z ∷ ys) y a h = absurd a
-along_back R (x ∷ xs) [] y a h = absurd h
-along_back R (x ∷ xs) (z ∷ ys) y a h = elim h [
-  | inl e ↦ (x, subst (R x) e a.0)
-  | inr k ↦ along_back R xs ys y a.1 k
-]
-
--- the list without one origin and its edge
-record Without {O E : Type 0} (edge : O → E → Type 0) (parts : E → ℕ) (os : List O) (es : List E) (o : O) : Type 0 where
-  others : List O
-  edges : List E
-  given : Along edge others edges
-  e : E
-  is : edge o e
-  parts_are : total parts es ≡ parts e + total parts edges
-  stays : (x : O) → Has os x → (o ≡ x) ⊎ Has others x
-
-module _ {O E : Type 0} (edge : O → E → Type 0) (parts : E → ℕ) where
-  without : (os : List O) (es : List E) (o : O) → Along edge os es → Has os o → Without edge parts os es o
-  without [] es o a h = absurd h
-  without (y ∷ os) [] o a h = absurd a
-  without (y ∷ os) (e ∷ es) o a h = elim h [
-    | inl same ↦ record {
-      others = os;
-      edges = es;
-      given = a.1;
-      e = e;
-      is = subst (λ z. edge z e) same a.0;
-      parts_are = refl;
-      stays = λ x k. elim k [ inl m ↦ inl (sym same ∙ m) | inr m ↦ inr m ];
-    }
-    | inr k ↦
-        let w = without os es o a.1 k in
-        record {
-          others = y ∷ w.others;
-          edges = e ∷ w.edges;
-          given = (a.0, w.given);
-          e = w.e;
-          is = w.is;
-          parts_are = omega (arith, w.parts_are);
-          stays = λ x m. elim m [ inl s ↦ inr (inl s) | inr s ↦ elim (w.stays x s) [ inl t ↦ inl t | inr t ↦ inr (inr t) ] ];
-        }
-  ]
-
-  -- edges of distinct origins that are all among others have no more parts
-  total_fewer :
-      ((o : O) (e f : E) → edge o e → edge o f → e ≡ f) → (os : List O) (es : List E) (ps : List O) (fs : List E) → Distinct os → Along edge os es → Along edge ps fs →
-      ((o : O) → Has os o → Has ps o) → total parts es ≤ total parts fs
-  total_fewer one [] [] ps fs d a b among = omega arith
-  total_fewer one [] (e ∷ es) ps fs d a b among = absurd a
-  total_fewer one (o ∷ os) [] ps fs d a b among = absurd a
-  total_fewer one (o ∷ os) (e ∷ es) ps fs d a b among =
-      let w = without ps fs o b (among o (inl refl)) in
-      let same : parts w.e ≡ parts e = ap parts (one o w.e e w.is a.0) in
-      let rest : total parts es ≤ total parts w.edges = total_fewer one os es w.others w.edges d.1 a.1 w.given
-      (λ x h. elim (w.stays x (among x (inr h))) [ inl s ↦ absurd (d.0 (subst (Has os) (sym s) h)) | inr k ↦ k ])
-      in
-      omega (arith, w.parts_are)
 
 has_end : (es : List (TransducerRule (ℕ × ℕ))) (k : ℕ × ℕ) → Has (all_ends es) k → (e : TransducerRule (ℕ × ℕ)) × Has es e × Has (ends_of e) k
 has_end [] k h = absurd h

@@ -4,26 +4,24 @@ use Rattle.std.proofs.Common.{arith, subst, sym, ap, ◌∙◌}
 use Rattle.std.proofs.lemmas.List.{length-map}
 use Rattle.tib_lex.specs.Lists.{Each, total}
 use Rattle.tib_lex.proofs.Members.{each_has, has_at}
+use Rattle.tib_lex.proofs.Lists.{each_left, each_right}
 use Rattle.tib_tree.specs.Trees.{Trees, none, tree, only}
 use Rattle.tib_grammar.specs.Sides.{Symbol, label, hole, holes}
 use Rattle.tib_grammar.specs.Range.{AllBelow}
-use Rattle.tib_hunt.specs.Reached.{IsReachedSet, IsBeyond, IfTooMany, parts_of}
+use Rattle.tib_hunt.specs.Reached.{IsReachedSet, IsBeyond, parts_of}
 use Rattle.tib_hunt.specs.Rows.{AreBelow}
 use Rattle.tib_hunt.specs.Numbered.{key_parts}
-use Rattle.tib_hunt.specs.declared.found.HuntError.{HuntError}
-use Rattle.tib_hunt.specs.declared.found.HuntError.TheVariants.{TooMany}
+use Rattle.tib_keyed.specs.Ends.{key_at}
 use Rattle.tib_transducer.specs.Rules.{transducer_rule, no_rule, states_in}
 use Rattle.tib_transducer.specs.Range.{AreShaped, AreWithin}
 use Rattle.tib_transducer.specs.TransducerOf.{TransducerOf}
 use Rattle.tib_transducer.specs.declared.Pair.{Pair}
 use Rattle.tib_transducer.specs.declared.TransducerRule.{TransducerRule}
-use Rattle.tib_compose_laws.specs.Composing.{key_at}
 use Rattle.tib_compose_laws.specs.Composition.{composition, edge_parts}
 use Rattle.tib_compose_laws.specs.Named.{named_transducer_rule}
 use Rattle.tib_compose_laws.proofs.Exact.{reached_is_composite}
 use Rattle.tib_compose_laws.proofs.Standing.{composite_is_shaped}
 use Rattle.tib_compose.specs.EdgeLaws.{places_of, all_states}
-use Rattle.tib_compose.proofs.Settled.{each_left, each_right}
 
 below_append : (n : ℕ) (xs ys : List ℕ) → AllBelow n xs → AllBelow n ys → AllBelow n (xs ++ ys)
 below_append n [] ys a b = b
@@ -85,7 +83,3 @@ pub rules_shaped :
     (product : ℕ → ℕ → ℕ) (one two : List (TransducerRule ℕ)) (order : List (ℕ × ℕ)) (rules : List (TransducerRule ℕ)) → AreShaped one →
     IsReachedSet (composition product one two) order (map (named_transducer_rule (key_at order)) rules) → AreWithin (length order) rules → AreShaped rules
 rules_shaped product one two order rules shaped h within = composite_is_shaped product one two order rules shaped (reached_is_composite product one two order rules h within)
-
--- where the error is that of a limit, it says that this is the limit
-pub too_many : (limit n : ℕ) (P : Type 0) (e : HuntError) → e ≡ TooMany n → IfTooMany limit P e → (n ≡ limit) × P
-too_many limit n P e is h = subst (IfTooMany limit P) is h

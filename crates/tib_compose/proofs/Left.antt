@@ -1,6 +1,6 @@
 -- What is left, piece by piece.
-use Rattle.std.specs.Prelude.{◌≡◌, ℕ, ◌+◌, ◌-◌, ◌<◌, ◌≤◌, Bool, List, [], ◌∷◌, ◌++◌, length, take, Option, None, Some, refl, nat_le, true, false}
-use Rattle.std.proofs.Common.{zero, suc, arith, ap, sym, ◌∙◌, subst, get_or, le_refl, inl, inr, ◌⊎◌, append-nil, append_assoc, ltb}
+use Rattle.std.specs.Prelude.{◌≡◌, ℕ, ◌+◌, ◌-◌, ◌<◌, ◌≤◌, Bool, List, [], ◌∷◌, ◌++◌, length, take, Option, None, Some, refl, false}
+use Rattle.std.proofs.Common.{zero, suc, arith, ap, sym, ◌∙◌, subst, get_or, le_refl, inl, inr, append-nil, append_assoc, ltb}
 use Rattle.std.specs.Global.{Vec}
 use Rattle.std.proofs.lemmas.Bool.Decides.{nat_tests}
 use Rattle.std.proofs.lemmas.List.{length-append}
@@ -9,6 +9,7 @@ use Rattle.tib_tree.specs.Trees.{Trees, none, tree, only, join}
 use Rattle.tib_grammar.specs.Sides.{Symbol, label, hole, Side as SideFor}
 use Rattle.tib_cost.specs.Semiring.{most, cut, ProductLaws}
 use Rattle.tib_cost.specs.Least.{times}
+use Rattle.tib_lex.proofs.Numbers.{nat_le_cases}
 use Rattle.tib_transducer.specs.declared.Pair.{Pair}
 use Rattle.tib_transducer.specs.declared.TransducerRule.{TransducerRule}
 use Rattle.tib_compose_laws.specs.Translations.{choice_cost}
@@ -24,9 +25,6 @@ use Rattle.tib_compose.specs.declared.pending.Task.{Task}
 use Rattle.tib_compose.specs.declared.pending.Pending.{Pending}
 use Rattle.tib_compose.specs.declared.branch.Branch.{Branch}
 use Rattle.tib_compose.specs.Branches.{OnlyPutsOut}
-
-nat_le_cases : (a b : ℕ) → ((a ≤ b) × (nat_le a b ≡ true)) ⊎ ((b < a) × (nat_le a b ≡ false))
-nat_le_cases a b = grind (arith, nat_tests)
 
 -- the choices of a side do not hang on what stands behind it
 choices_first : (two : List (TransducerRule ℕ)) (s : Symbol ℕ (Pair ℕ)) (kids rest : Trees (Symbol ℕ (Pair ℕ))) (p : ℕ) → choices_at two (tree s kids rest) 0 p ≡ choices_at two (tree s kids none) 0 p

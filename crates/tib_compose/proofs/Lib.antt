@@ -1,4 +1,3 @@
-mod Buckets
 mod Reading
 mod Meeting
 mod Settled
@@ -9,7 +8,6 @@ mod Advance
 mod Listed
 mod Walking
 mod Steps
-mod Bucketing
 mod Whole
 mod Expanded
 mod Hunted

@@ -1,10 +1,12 @@
 -- One edge more in a list of edges.
 use Rattle.std.specs.Prelude.{◌≡◌, ℕ, ◌+◌, ◌<◌, ◌≤◌, List, [], ◌∷◌, ◌++◌, length, map, refl, slice_index_or}
-use Rattle.std.proofs.Common.{zero, suc, arith, ap, sym, ◌∙◌, subst, get_or, append_assoc, append-nil}
+use Rattle.std.proofs.Common.{suc, arith, ap, sym, ◌∙◌, subst, get_or, append_assoc, append-nil}
 use Rattle.std.proofs.lemmas.List.{length-append, length-map}
 use Rattle.tib_lex.specs.Lists.{Each, total}
 use Rattle.tib_lex.proofs.Lists.{each_weaker}
-use Rattle.tib_tree.specs.Trees.{Trees, none, tree, only, count, sizes, size, preorder, preorder_of, first_of, parse, parse_of}
+use Rattle.tib_lex.proofs.Places.{index_get}
+use Rattle.tib_tree.specs.Trees.{Trees, none, tree, only, count, size, preorder, preorder_of, first_of, parse, parse_of}
+use Rattle.tib_tree.proofs.Counts.{length-preorder}
 use Rattle.tib_grammar.specs.Sides.{Symbol, label, hole, Side as SideFor, holes_of, side_map}
 use Rattle.tib_grammar.specs.Items.{pairs_of, pair_of, holes_in}
 use Rattle.tib_grammar.specs.declared.Item.{Item}
@@ -12,24 +14,20 @@ use Rattle.tib_grammar.specs.declared.Item.TheVariants.{Label, Hole}
 use Rattle.tib_grammar.proofs.Holes.{holes_of_items}
 use Rattle.tib_hunt.specs.EdgeLists.{IsWithin, key_at}
 use Rattle.tib_hunt.specs.declared.place.Place.{Place}
-use Rattle.tib_hunt.specs.declared.place.Place.TheVariants.{Known, End}
+use Rattle.tib_keyed.proofs.Ends.{within_wider, place_stays}
 use Rattle.tib_transducer.specs.Rules.{states_in}
 use Rattle.tib_transducer.specs.declared.Pair.{Pair}
 use Rattle.tib_transducer.specs.declared.Variable.{Variable}
 use Rattle.tib_transducer.specs.declared.TransducerRule.{TransducerRule}
+use Rattle.tib_transducer.specs.NamedPairs.{named_pair, named_item}
+use Rattle.tib_transducer.proofs.NamedItems.{preorder-named}
 use Rattle.tib_compose_laws.specs.Composition.{ends_of, edge_parts}
-use Rattle.tib_compose_laws.specs.Named.{named_pair, named_transducer_rule}
+use Rattle.tib_compose_laws.specs.Named.{named_transducer_rule}
 use Rattle.tib_compose.specs.EdgeLaws.{places_of, all_states, reads_rule}
-use Rattle.tib_compose.specs.NamedItems.{named_item}
 use Rattle.tib_compose.specs.Listing.{placed, keys_in, all_ends, edge_of, IsAdded, IsTooMuch, IsListing}
 use Rattle.tib_compose.specs.declared.listing.Listing.{Listing}
-use Rattle.tib_compose.proofs.Settled.{preorder-named}
 
 -- sizes
-
-length-preorder : {A : Type 0} (ts : Trees A) → length (preorder ts) ≡ sizes ts
-length-preorder none = refl
-length-preorder (tree f kids rest) = omega (arith, length-append (preorder kids) (preorder rest), length-preorder kids, length-preorder rest)
 
 -- a side has as many nodes as its preorder has places
 pub size_is : {A : Type 0} (s : SideFor ℕ A) → size s ≡ length (preorder_of s)
@@ -55,27 +53,9 @@ few_ends items n s e = omega (arith, keys_few items, size_is s, ap length e, len
 
 -- places of a list that goes on
 
-index_append : {K : Type 0} (xs ys : List K) (i : ℕ) (d : K) → i < length xs → slice_index_or (xs ++ ys) i d ≡ slice_index_or xs i d
-index_append [] ys i d h = absurd (omega arith)
-index_append (x ∷ xs) ys zero d h = refl
-index_append (x ∷ xs) ys (suc i) d h = index_append xs ys i d (omega arith)
-
 index_seam : {K : Type 0} (xs : List K) (y : K) (ys : List K) (d : K) → slice_index_or (xs ++ y ∷ ys) (length xs) d ≡ y
 index_seam [] y ys d = refl
 index_seam (x ∷ xs) y ys d = index_seam xs y ys d
-
-index_get : {K : Type 0} (xs : List K) (i : ℕ) (d c : K) → i < length xs → slice_index_or xs i d ≡ get_or xs i c
-index_get [] i d c h = absurd (omega arith)
-index_get (x ∷ xs) zero d c h = refl
-index_get (x ∷ xs) (suc i) d c h = index_get xs i d c (omega arith)
-
-place_stays : {K : Type 0} (d : K) (order xs ys : List K) (p : Place) → IsWithin (length order) (length xs) p → key_at d order (xs ++ ys) p ≡ key_at d order xs p
-place_stays d order xs ys (Known p) h = refl
-place_stays d order xs ys (End i) h = index_append xs ys i d h
-
-within_wider : (n m l : ℕ) → m ≤ l → (p : Place) → IsWithin n m p → IsWithin n l p
-within_wider n m l h (Known p) k = k
-within_wider n m l h (End i) k = omega arith
 
 module _ (d : ℕ × ℕ) (order : List (ℕ × ℕ)) where
   -- placed items read back

@@ -1,8 +1,6 @@
 -- What the demanded classes of the second transducer give.
-use Rattle.std.specs.Prelude.{ℕ, ◌<◌, List, [], ◌∷◌, true, refl}
-use Rattle.tib_lex.specs.Lists.{Has}
-use Rattle.tib_grammar.specs.Range.{AllBelow}
-use Rattle.std.proofs.Common.{subst, inl, inr}
+use Rattle.std.specs.Prelude.{ℕ, List, true, refl}
+use Rattle.tib_grammar.proofs.Below.{below_has}
 use Rattle.tib_transducer.specs.Rules.{transducer_rule, states_in}
 use Rattle.tib_transducer.specs.Range.{AreShaped, AreWithin}
 use Rattle.tib_transducer.specs.declared.TransducerRule.{TransducerRule}
@@ -27,10 +25,6 @@ flat_from rules shaped all n h =
     let over = is_over rules shaped (plain_from rules all) n h in
     record { root = over.0; is_root = over.1.root; variables = over.1.variables }
 
-all_below : (n : ℕ) (qs : List ℕ) (q : ℕ) → AllBelow n qs → Has qs q → q < n
-all_below n [] q a h = absurd h
-all_below n (x ∷ qs) q a h = elim h [ inl e ↦ subst (λ z. z < n) e a.0 | inr k ↦ all_below n qs q a.1 k ]
-
 -- states in range, told by functions
 pub below_from : (n : ℕ) (rules : List (TransducerRule ℕ)) → AreWithin n rules → StatesBelow n rules
-below_from n rules w = (λ m h. (w m h).0, λ m q h has. all_below n (states_in (transducer_rule rules m).right) q (w m h).1 has)
+below_from n rules w = (λ m h. (w m h).0, λ m q h has. below_has n (states_in (transducer_rule rules m).right) q (w m h).1 has)

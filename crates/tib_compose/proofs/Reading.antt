@@ -7,10 +7,11 @@ use Rattle.tib_grammar.specs.Sides.{Symbol, label, Side as SideFor}
 use Rattle.tib_grammar.specs.Items.{pairs_of, pair_of}
 use Rattle.tib_grammar.specs.declared.Item.{Item}
 use Rattle.tib_grammar.specs.declared.Item.TheVariants.{Label}
+use Rattle.tib_grammar.specs.ShapeBuckets.{same_shape}
 use Rattle.tib_transducer.specs.Rules.{transducer_rule}
 use Rattle.tib_transducer.specs.declared.TransducerRule.{TransducerRule}
 use Rattle.tib_compose_laws.specs.Choices.{reads_label}
-use Rattle.tib_compose.specs.Readers.{readers, same_shape, IsFlat}
+use Rattle.tib_compose.specs.Readers.{readers, IsFlat}
 use Rattle.tib_compose_laws.proofs.Choosing.{are_holes_of}
 
 -- the first item of a side that has a label at its root

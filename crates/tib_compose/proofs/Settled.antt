@@ -2,55 +2,27 @@
 use Rattle.std.specs.Prelude.{◌≡◌, ℕ, List, [], ◌∷◌, ◌++◌, map, refl}
 use Rattle.std.proofs.Common.{zero, suc, arith, ap, sym, ◌∙◌, subst}
 use Rattle.tib_lex.specs.Lists.{Each}
-use Rattle.tib_tree.specs.Trees.{Trees, none, tree, count, only, preorder, preorder_of, relabel, first_of, parse, parse_of, IsOneTree, IsOneTree-preorder_of}
+use Rattle.tib_lex.proofs.Lists.{each_left, each_right}
+use Rattle.tib_tree.specs.Trees.{Trees, none, tree, only, preorder_of, relabel, first_of, parse, parse_of}
 use Rattle.tib_grammar.specs.Sides.{Symbol, label, hole, Side as SideFor, holes, side_map, symbol_map}
 use Rattle.tib_grammar.specs.Items.{pairs_of, holes_in}
 use Rattle.tib_grammar.specs.declared.Item.{Item}
 use Rattle.tib_grammar.specs.declared.Item.TheVariants.{Label, Hole}
 use Rattle.tib_grammar.proofs.Holes.{holes_of_items}
-use Rattle.tib_grammar.proofs.Renamed.{preorder-relabel}
 use Rattle.tib_hunt.specs.declared.place.Place.{Place}
 use Rattle.tib_hunt.specs.EdgeLists.{IsWithin, position_of}
 use Rattle.tib_hunt.specs.Reading.{ReadsAlike, HasPositions}
 use Rattle.tib_transducer.specs.declared.Pair.{Pair}
 use Rattle.tib_transducer.specs.declared.TransducerRule.{TransducerRule}
-use Rattle.tib_compose_laws.specs.Named.{named_pair, named_transducer_rule}
+use Rattle.tib_transducer.specs.NamedPairs.{named_pair}
+use Rattle.tib_compose_laws.specs.Named.{named_transducer_rule}
 use Rattle.tib_compose.specs.EdgeLaws.{all_states, places_of, compose_reading}
-use Rattle.tib_compose.specs.NamedItems.{named_item, HolesAreWithin}
+use Rattle.tib_compose.specs.NamedItems.{HolesAreWithin}
 
 -- two trees of one preorder are the same
 pub tree_same : {P : Type 0} (s t : SideFor ℕ P) → preorder_of s ≡ preorder_of t → s ≡ t
 tree_same s t e =
     ap (first_of (label 0)) (sym (parse_of s)) ∙ ap (λ xs. first_of (label 0) (parse xs)) e ∙ ap (first_of (label 0)) (parse_of t)
-
-count-relabel : {A B : Type 0} (g : A → B) (ts : Trees A) → count (relabel g ts) ≡ count ts
-count-relabel g none = refl
-count-relabel g (tree f kids rest) = ap suc (count-relabel g rest)
-
-pairs-named : {P Q : Type 0} (g : P → Q) (items : List (Item (Pair P))) → pairs_of (map (named_item g) items) ≡ map (λ p. (symbol_map (named_pair g) p.0, p.1)) (pairs_of items)
-pairs-named g [] = refl
-pairs-named g (Label f rank ∷ items) = ap (λ xs. (label f, rank) ∷ xs) (pairs-named g items)
-pairs-named g (Hole x ∷ items) = ap (λ xs. (hole (named_pair g x), 0) ∷ xs) (pairs-named g items)
-
--- named items are the preorder of the named side
-pub preorder-named : {P Q : Type 0} (g : P → Q) (s : SideFor ℕ (Pair P)) (items : List (Item (Pair P))) → pairs_of items ≡ preorder_of s → pairs_of (map (named_item g) items) ≡ preorder_of (side_map (named_pair g) s)
-preorder-named g s items e =
-    pairs-named g items
-    ∙ ap (map (λ p. (symbol_map (named_pair g) p.0, p.1))) e
-    ∙ ap (λ xs. (symbol_map (named_pair g) s.label, count s.kids) ∷ xs) (sym (preorder-relabel (symbol_map (named_pair g)) s.kids))
-    ∙ ap (λ n. (symbol_map (named_pair g) s.label, n) ∷ preorder (relabel (symbol_map (named_pair g)) s.kids)) (sym (count-relabel (symbol_map (named_pair g)) s.kids))
-
--- the items of a side are those of one tree
-pub one_tree : {P : Type 0} (xs : List (Symbol ℕ P × ℕ)) (s : SideFor ℕ P) → xs ≡ preorder_of s → IsOneTree xs
-one_tree xs s e = subst IsOneTree (sym e) (IsOneTree-preorder_of s)
-
-pub each_left : {A : Type 0} (Q : A → Type 0) (xs ys : List A) → Each Q (xs ++ ys) → Each Q xs
-each_left Q [] ys h = tt
-each_left Q (x ∷ xs) ys h = (h.0, each_left Q xs ys h.1)
-
-pub each_right : {A : Type 0} (Q : A → Type 0) (xs ys : List A) → Each Q (xs ++ ys) → Each Q ys
-each_right Q [] ys h = h
-each_right Q (x ∷ xs) ys h = each_right Q xs ys h.1
 
 each_both : {A : Type 0} (Q : A → Type 0) (xs ys : List A) → Each Q xs → Each Q ys → Each Q (xs ++ ys)
 each_both Q [] ys a b = b

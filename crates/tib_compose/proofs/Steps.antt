@@ -1,14 +1,14 @@
 -- The walk through all translations, step by step.
-use Rattle.std.specs.Prelude.{◌≡◌, ℕ, ◌+◌, ◌<◌, ◌≤◌, Bool, true, false, List, [], ◌∷◌, ◌++◌, length, map, reverse, take, drop, Option, None, Some, refl, nat_le, ◌⊎◌, if◌then◌else◌}
+use Rattle.std.specs.Prelude.{◌≡◌, ℕ, ◌+◌, ◌<◌, ◌≤◌, Bool, true, false, List, [], ◌∷◌, ◌++◌, length, map, reverse, take, drop, Option, None, Some, refl, if◌then◌else◌}
 use Rattle.std.specs.Option.{is_some}
 use Rattle.std.proofs.Common.{zero, suc, arith, ap, sym, ◌∙◌, subst, get_or, append-nil, append_assoc, inl, inr}
-use Rattle.std.proofs.lemmas.Bool.Decides.{nat_tests}
 use Rattle.std.proofs.lemmas.List.{drop_more}
 use Rattle.std.specs.Global.{Vec}
 use Rattle.tib_lex.specs.Lists.{Has, total}
 use Rattle.tib_tree.specs.Trees.{Trees, preorder_of, count}
 use Rattle.tib_cost.specs.Semiring.{most, cut, ProductLaws}
 use Rattle.tib_cost.specs.Least.{times}
+use Rattle.tib_lex.proofs.Numbers.{nat_le_cases}
 use Rattle.tib_grammar.specs.Sides.{Symbol, Side as SideFor}
 use Rattle.tib_grammar.specs.Items.{pairs_of}
 use Rattle.tib_grammar.specs.declared.Item.{Item}
@@ -36,9 +36,6 @@ use Rattle.tib_compose.specs.declared.search.Search.{Search}
 use Rattle.tib_compose.specs.declared.source.Source.{Source}
 use Rattle.tib_compose.proofs.Listed.{listing_added, listing_overruns}
 use Rattle.tib_compose.proofs.Walking.{affordable_one, dear_branch, dear_rest, by_readers, is_reader, known_from, kids_count, turns_longer, turn_tried, turn_new, turns_reverse, turn_over, drop_past, has_there, total_front}
-
-nat_le_cases : (a b : ℕ) → ((a ≤ b) × (nat_le a b ≡ true)) ⊎ ((b < a) × (nat_le a b ≡ false))
-nat_le_cases a b = grind (arith, nat_tests)
 
 not_some : (c : ℕ) → ◌≡◌ {A = Option ℕ} None (Some c) → ⊥
 not_some c e = cc

@@ -1,12 +1,13 @@
 -- What comes of branches and turns, up to the greatest cost.
 use Rattle.std.specs.Prelude.{◌≡◌, ℕ, ◌+◌, ◌-◌, ◌<◌, ◌≤◌, ◌⊎◌, Bool, true, false, List, [], ◌∷◌, ◌++◌, length, map, reverse, take, drop, nat_le, if◌then◌else◌, Option, None, Some, refl}
 use Rattle.std.proofs.Common.{zero, suc, arith, ap, sym, ◌∙◌, subst, get_or, inl, inr, append-nil, append_assoc}
-use Rattle.std.proofs.lemmas.Bool.Decides.{nat_tests}
 use Rattle.std.proofs.lemmas.List.{length-append, length-map, reverse-append, drop_more, get_or-map}
 use Rattle.tib_lex.specs.Lists.{Has, Each, total}
 use Rattle.tib_tree.specs.Trees.{Trees, none, tree, only, count, preorder_of, first_trees, parse, count-first, HasChildren, HasChildren-drop}
 use Rattle.tib_cost.specs.Semiring.{most, cut, ProductLaws}
 use Rattle.tib_cost.specs.Least.{times}
+use Rattle.tib_lex.proofs.Places.{take_drop}
+use Rattle.tib_lex.proofs.Numbers.{nat_le_cases}
 use Rattle.tib_grammar.specs.Sides.{Symbol, label, Side as SideFor, holes_of}
 use Rattle.tib_grammar.specs.Items.{pairs_of, pair_of, holes_in}
 use Rattle.tib_grammar.specs.declared.Item.{Item}
@@ -31,9 +32,6 @@ use Rattle.tib_compose.specs.Searches.{affordable, all_of, reader_results, turn_
 use Rattle.tib_compose.specs.Walk.{result_edges}
 use Rattle.tib_compose.specs.declared.pending.Task.{Task}
 use Rattle.tib_compose.specs.declared.search.Turn.{Turn}
-
-nat_le_cases : (a b : ℕ) → ((a ≤ b) × (nat_le a b ≡ true)) ⊎ ((b < a) × (nat_le a b ≡ false))
-nat_le_cases a b = grind (arith, nat_tests)
 
 -- results up to the greatest cost
 
@@ -244,11 +242,6 @@ module _ (product : ℕ → ℕ → ℕ) (two : List (TransducerRule ℕ)) (pair
 -- the last turn comes first
 pub turns_reverse : (ts us : List Turn) (t : Turn) → us ≡ ts ++ t ∷ [] → reverse us ≡ t ∷ reverse ts
 turns_reverse ts us t e = ap (λ xs. reverse xs) e ∙ reverse-append ts (t ∷ [])
-
-take_drop : {A : Type 0} (n : ℕ) (xs : List A) → take n xs ++ drop n xs ≡ xs
-take_drop zero xs = refl
-take_drop (suc n) [] = refl
-take_drop (suc n) (x ∷ xs) = ap (λ zs. x ∷ zs) (take_drop n xs)
 
 -- a turn with no rule left is dropped
 pub turn_over :

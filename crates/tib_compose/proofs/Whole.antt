@@ -2,14 +2,18 @@
 use Rattle.std.specs.Prelude.{◌≡◌, ℕ, ◌+◌, ◌<◌, ◌≤◌, ◌⊎◌, Bool, true, false, nat_le, nat_eq, if◌then◌else◌, List, [], ◌∷◌, ◌++◌, length, map, take, drop, reverse, Option, refl}
 use Rattle.std.proofs.Common.{zero, suc, arith, ap, sym, ◌∙◌, subst, get_or, inl, inr, append-nil, append_assoc, add-one}
 use Rattle.std.proofs.lemmas.Bool.Decides.{nat_tests}
+use Rattle.std.proofs.lemmas.List.{map-append}
 use Rattle.tib_lex.specs.Lists.{Has, total}
 use Rattle.tib_tree.specs.Trees.{Trees, none, tree, only, count, preorder, preorder_of, first_of, parse, parse_of, parse-preorder, first-join, first_trees}
 use Rattle.tib_grammar.specs.Sides.{Symbol, label, hole, Side as SideFor}
 use Rattle.tib_grammar.specs.Items.{pairs_of}
 use Rattle.tib_cost.specs.Semiring.{most}
+use Rattle.tib_lex.proofs.Places.{take_drop}
 use Rattle.tib_transducer.specs.Rules.{transducer_rule}
 use Rattle.tib_transducer.specs.declared.Pair.{Pair}
 use Rattle.tib_transducer.specs.declared.TransducerRule.{TransducerRule}
+use Rattle.tib_transducer.specs.Moves.{moves_of}
+use Rattle.tib_transducer.proofs.Moves.{moves_next, own}
 use Rattle.tib_compose_laws.specs.Translations.{translated, choice_cost}
 use Rattle.tib_compose_laws.specs.Choices.{choices_of, cheap, edge_from, edges_of, origins_of}
 use Rattle.tib_compose_laws.specs.Composition.{edge_parts}
@@ -17,7 +21,6 @@ use Rattle.tib_compose_laws.specs.Flat.{substituted}
 use Rattle.tib_compose_laws.specs.Pieces.{Result, results, read, put}
 use Rattle.tib_compose.specs.KeyEdges.{rule_edges}
 use Rattle.tib_compose.specs.Listing.{edge_of, IsListing}
-use Rattle.tib_compose.specs.Moves.{moves_of}
 use Rattle.tib_compose.specs.PieceViews.{side_there}
 use Rattle.tib_compose.specs.Searches.{affordable, all_of, AreTurns, Begins}
 use Rattle.tib_compose.specs.Sources.{IsSource}
@@ -26,7 +29,6 @@ use Rattle.tib_compose.specs.declared.listing.Listing.{Listing}
 use Rattle.tib_compose.specs.declared.search.Turn.{Turn}
 use Rattle.tib_compose.specs.declared.search.Search.{Search}
 use Rattle.tib_compose.specs.declared.source.Source.{Source}
-use Rattle.tib_compose.proofs.Bucketing.{moves_next, own}
 use Rattle.tib_compose.proofs.Walking.{total_front, all_append}
 
 -- the first tree of what is put out in place of a hole
@@ -100,15 +102,6 @@ take_more xs i x h e = ap (λ k. take k xs) (add-one i) ∙ go xs i x h e
     go (y ∷ xs) zero x h e = ap (λ z. z ∷ []) (sym e)
     go (y ∷ xs) (suc i) x h e = ap (λ zs. y ∷ zs) (go xs i x (omega arith) e)
 
-map_append : {A B : Type 0} (g : A → B) (xs ys : List A) → map g (xs ++ ys) ≡ map g xs ++ map g ys
-map_append g [] ys = refl
-map_append g (x ∷ xs) ys = ap (λ z. g x ∷ z) (map_append g xs ys)
-
-take_drop : {A : Type 0} (n : ℕ) (xs : List A) → take n xs ++ drop n xs ≡ xs
-take_drop zero xs = refl
-take_drop (suc n) [] = refl
-take_drop (suc n) (x ∷ xs) = ap (λ zs. x ∷ zs) (take_drop n xs)
-
 take_past : {A : Type 0} (n : ℕ) (xs : List A) → length xs ≤ n → take n xs ≡ xs
 take_past zero [] h = refl
 take_past zero (x ∷ xs) h = absurd (omega arith)
@@ -127,7 +120,7 @@ module _ (product : ℕ → ℕ → ℕ) (one two : List (TransducerRule ℕ)) (
   by_moves : (m : ℕ) → m ≤ length one → map (edge_from product one two key) (origins_of product one two key m) ≡ of_rules (moves_of key.0 (take m one))
   by_moves zero h = refl
   by_moves (suc m) h =
-      map_append (edge_from product one two key) (origins_of product one two key m) (if nat_eq (transducer_rule one m).state key.0 then cheap product one two m (choices_of two key.1 (transducer_rule one m).right) else [])
+      map-append (edge_from product one two key) (origins_of product one two key m) (if nat_eq (transducer_rule one m).state key.0 then cheap product one two m (choices_of two key.1 (transducer_rule one m).right) else [])
       ∙ ap (λ zs. zs ++ map (edge_from product one two key) (if nat_eq (transducer_rule one m).state key.0 then cheap product one two m (choices_of two key.1 (transducer_rule one m).right) else [])) (by_moves m (omega arith))
       ∙ ap (λ zs. of_rules (moves_of key.0 (take m one)) ++ zs) (own_edges (nat_eq (transducer_rule one m).state key.0) m)
       ∙ sym (all_append (rule_edges product one two key) (moves_of key.0 (take m one)) (own m key.0 (transducer_rule one m)))

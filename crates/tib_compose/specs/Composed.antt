@@ -4,11 +4,11 @@ use Rattle.tib_lex.specs.Lists.{Each}
 use Rattle.tib_cost.specs.Semiring.{most}
 use Rattle.tib_hunt.specs.Reached.{IsReachedSet, parts_of}
 use Rattle.tib_hunt.specs.declared.found.Found.{Found}
+use Rattle.tib_keyed.specs.Ends.{key_at}
 use Rattle.tib_transducer.specs.Range.{AreShaped, AreWithin}
 use Rattle.tib_transducer.specs.Rules.{transducer_rule}
 use Rattle.tib_transducer.specs.declared.TransducerRule.{TransducerRule}
 use Rattle.tib_classes.specs.Outside.{demands, IsFirstOutside}
-use Rattle.tib_compose_laws.specs.Composing.{key_at}
 use Rattle.tib_compose_laws.specs.Composition.{composition}
 use Rattle.tib_compose_laws.specs.Named.{named_transducer_rule}
 use Rattle.tib_compose.specs.declared.error.ComposeError.{ComposeError}

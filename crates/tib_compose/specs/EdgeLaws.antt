@@ -1,22 +1,27 @@
 -- What composition owes of all its pairs, edges and rules.
 use Rattle.std.specs.Prelude.{◌≡◌, ℕ, ◌+◌, ◌<◌, List, [], ◌∷◌, ◌++◌, length, take, Option, refl}
-use Rattle.std.proofs.Common.{zero, suc, arith, ap, sym, ◌∙◌, subst, get_or, inl, inr}
+use Rattle.std.proofs.Common.{suc, arith, ap, sym, ◌∙◌, subst, get_or, inl, inr}
 use Rattle.tib_lex.specs.Lists.{Has, Each}
+use Rattle.tib_lex.specs.PairOrder.{pair_cmp}
+use Rattle.tib_lex.proofs.Lists.{each_left, each_right}
+use Rattle.tib_lex.proofs.Places.{take_at}
 use Rattle.tib_tree.specs.Trees.{Trees, none, tree, only, relabel}
 use Rattle.tib_grammar.specs.Sides.{Symbol, label, hole, symbol_map, side_map}
 use Rattle.tib_grammar.specs.Range.{AllBelow}
 use Rattle.tib_grammar.proofs.Members.{each_has, has_at}
 use Rattle.tib_transducer.specs.Rules.{transducer_rule, states_in}
-use Rattle.tib_compose_laws.specs.Named.{named_pair, named_transducer_rule}
+use Rattle.tib_compose_laws.specs.Named.{named_transducer_rule}
 use Rattle.tib_transducer.specs.Range.{AreWithin}
-use Rattle.tib_compose_laws.specs.Composing.{key_at, IsComposeEdge}
+use Rattle.tib_compose_laws.specs.Composing.{IsComposeEdge}
 use Rattle.tib_hunt.specs.Lawful.{IsLawful}
 use Rattle.tib_hunt.specs.Reading.{Reading}
 use Rattle.tib_hunt.specs.declared.place.Place.{Place}
-use Rattle.tib_compose_laws.specs.Composition.{ends_of, pair_cmp, composition}
+use Rattle.tib_keyed.specs.Ends.{key_at}
+use Rattle.tib_compose_laws.specs.Composition.{ends_of, composition}
 use Rattle.tib_compose_laws.proofs.Exact.{same_edge}
 use Rattle.tib_transducer.specs.declared.Pair.{Pair}
 use Rattle.tib_transducer.specs.declared.TransducerRule.{TransducerRule}
+use Rattle.tib_transducer.specs.NamedPairs.{named_pair}
 use Rattle.tib_compose_laws.proofs.Standing.{ends_are_in_range}
 
 -- the states that stand anywhere in some sides
@@ -28,14 +33,6 @@ all_states (tree (hole x) kids rest) = x.state ∷ (all_states kids ++ all_state
 -- the places in a rule, that of its state first
 abbrev pub places_of : {P : Type 0} → TransducerRule P → List P
 places_of r = r.state ∷ all_states (only r.right)
-
-each_left : {A : Type 0} (Q : A → Type 0) (xs ys : List A) → Each Q (xs ++ ys) → Each Q xs
-each_left Q [] ys h = tt
-each_left Q (x ∷ xs) ys h = (h.0, each_left Q xs ys h.1)
-
-each_right : {A : Type 0} (Q : A → Type 0) (xs ys : List A) → Each Q (xs ++ ys) → Each Q ys
-each_right Q [] ys h = h
-each_right Q (x ∷ xs) ys h = each_right Q xs ys h.1
 
 sides_same : {P Q : Type 0} (f g : P → Q) (s : Trees (Symbol ℕ (Pair P))) →
     Each (λ p. f p ≡ g p) (all_states s) → relabel (symbol_map (named_pair f)) s ≡ relabel (symbol_map (named_pair g)) s
@@ -82,12 +79,6 @@ pub ends_within :
 ends_within product one two m n order i o e k a b all low edge has =
     let here : IsKey m n (key_at order i) = each_has (IsKey m n) order (key_at order i) all (has_at order i (0, 0) low) in
     ends_are_in_range product one two m n (in_range m one a) (in_range n two b) (key_at order i) o e k here.1 edge has
-
-take_at : {A : Type 0} (xs : List A) (n : ℕ) (d : A) → get_or (take (suc n) xs) n d ≡ get_or xs n d
-take_at [] zero d = refl
-take_at [] (suc n) d = refl
-take_at (x ∷ xs) zero d = refl
-take_at (x ∷ xs) (suc n) d = take_at xs n d
 
 -- two orders that agree up to a position have the same pair there
 pub key_stays : (xs ys : List (ℕ × ℕ)) (n : ℕ) → take (n + 1) xs ≡ take (n + 1) ys → key_at xs n ≡ key_at ys n

@@ -6,12 +6,6 @@ use Rattle.tib_grammar.specs.declared.Item.TheVariants.{Label, Hole}
 use Rattle.tib_hunt.specs.declared.place.Place.{Place}
 use Rattle.tib_hunt.specs.EdgeLists.{IsWithin}
 use Rattle.tib_transducer.specs.declared.Pair.{Pair}
-use Rattle.tib_compose_laws.specs.Named.{named_pair}
-
--- an item with its state exchanged for what g gives of it
-abbrev pub named_item : {P Q : Type 0} → (P → Q) → Item (Pair P) → Item (Pair Q)
-named_item g (Label f rank) = Label f rank
-named_item g (Hole x) = Hole (named_pair g x)
 
 -- the place of an item is within
 abbrev pub IsItemWithin : ℕ → ℕ → Item (Pair Place) → Type 0

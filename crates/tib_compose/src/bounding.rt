@@ -63,6 +63,16 @@ fn ask_rule(
     Ok(())
 }
 
+/// Whether a label stands below the root of a right side.
+fn has_label_below(items: &[Item<Pair<u32>>]) -> bool {
+    for i in 1..items.len() {
+        if let Item::Label { .. } = &items[i] {
+            return true;
+        }
+    }
+    false
+}
+
 impl<'a, S: Semiring> Composite<'a, S> {
     /// Asks for what the rules that read the label at a node by a state ask for.
     fn ask_below(
@@ -163,8 +173,9 @@ impl<'a, S: Semiring> Composite<'a, S> {
         Ok(())
     }
 
-    /// Sets the bounds of all nodes and states that a search from the root by a state may come to. Cost: for each of them
-    /// and each rule that reads the label there one pass over the rule's right side.
+    /// Sets the bounds of all nodes and states that a search from the root by a state may come to. A side of one label needs
+    /// none: each rule that reads it gives a translation. Cost: for each of them and each rule that reads the label there one
+    /// pass over the rule's right side.
     pub(crate) fn set_bounds(
         &self,
         alloc: Global,
@@ -173,6 +184,9 @@ impl<'a, S: Semiring> Composite<'a, S> {
     ) -> Result<(), AllocError>
         ensures { OnOk result (KeepsSource S.product self.now.second.now.rules source.old source.new) }
     {
+        if !has_label_below(source.items) {
+            return Ok(());
+        }
         let mut asked = self.asked_by(alloc, source, state)?;
         while let Some((node, state)) = asked.pop() {
             self.set_bound(alloc, source, node, state)?;

@@ -1,10 +1,11 @@
 //! The rules of the second transducer by their states and by the labels and ranks that they read.
 
 ghost use Rattle.std.specs.Prelude.{◌≡◌, ℕ, ◌+◌, ◌<◌, ◌≤◌, ◌^◌, IfOk, OnOk, length, List};
+ghost use Rattle.tib_grammar.specs.ShapeBuckets.{AddsPosition, AreNumbered, same_shape};
 ghost use Rattle.tib_transducer.specs.declared.TransducerRule.{TransducerRule as RuleOf};
 ghost use Rattle.tib_compose_laws.specs.Choices.{reads_label};
 ghost use Rattle.tib_compose.specs.IsIndex.{IsIndex};
-ghost use Rattle.tib_compose.specs.Readers.{AddsPosition, AreFlat, AreNumbered, IsFlat, readers_with, same_shape};
+ghost use Rattle.tib_compose.specs.Readers.{AreFlat, IsFlat, readers_with};
 
 use std::alloc::{AllocError, Global};
 use std::collections::HashMap;

@@ -99,7 +99,7 @@ impl Listing {
         done: &[Item<Pair<Key>>],
         cost: Cost,
     ) -> Result<TransducerRule<Place>, AllocError>
-        requires few { length self.old.ends.items < 20000001 }
+        requires few { length self.old.ends.items ≤ most_parts }
         ensures rule { IfOk result (IsPlacedRule left.now done.now cost self.old self.new) }
     {
         if done.len() > 4_000_000_000 {

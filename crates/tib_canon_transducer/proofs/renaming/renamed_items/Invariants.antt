@@ -1,6 +1,6 @@
 use Rattle.std.proofs.Common.{◌≡◌, take, map}
 use Rattle.tib_grammar.specs.Renaming.{number_in}
-use Rattle.tib_canon_transducer.specs.Items.{named_item}
+use Rattle.tib_transducer.specs.NamedPairs.{named_item}
 use Rattle.tib_canon_transducer.proofs.renaming.renamed_items.Given as goal
 
 abbrev pub invariant-loop-item : goal.invariant-loop-item

@@ -3,9 +3,10 @@ use Rattle.std.proofs.lemmas.Result.{IfOk-weaker}
 use Rattle.tib_grammar.specs.Items.{pairs_of}
 use Rattle.tib_grammar.specs.Renaming.{number_in}
 use Rattle.tib_grammar.specs.Sides.{side_map}
-use Rattle.tib_compose_laws.specs.Named.{named_pair}
+use Rattle.tib_transducer.specs.NamedPairs.{named_pair}
+use Rattle.tib_transducer.proofs.NamedItems.{one_tree, preorder-named}
 use Rattle.tib_canon_transducer.proofs.Telling.{side_same}
-use Rattle.tib_canon_transducer.proofs.Renamed.{one_tree, preorder-named, states_are}
+use Rattle.tib_canon_transducer.proofs.Renamed.{states_are}
 use Rattle.tib_canon_transducer.proofs.renaming.renamed_side.Goals as goal
 
 pub renamed_items-requires : goal.renamed_items-requires

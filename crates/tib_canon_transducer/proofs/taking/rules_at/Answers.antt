@@ -1,14 +1,9 @@
-use Rattle.std.proofs.Common.{ap, sym, ◌∙◌, length}
-use Rattle.std.specs.Prelude.{None}
-use Rattle.std.proofs.lemmas.List.{length-set}
-use Rattle.tib_canon_transducer.proofs.Places.{others_there, taken_on}
+use Rattle.std.proofs.Common.{◌≡◌, ◌<◌, length, arith}
+use Rattle.tib_canon_transducer.proofs.Places.{in_place}
 use Rattle.tib_canon_transducer.proofs.taking.rules_at.Goals as goal
 
-pub loop-position-preserved : goal.loop-position-preserved
-loop-position-preserved c = record {
-  taken = taken_on c.args.rules.items c.args.positions.now c.requires.below c.requires.apart c.loop-position.places.items c.loop-position.position-index c.loop-position.taken.items c.push.new.self.items c.in-Some.rule
-      c.loop-position.invariant.there c.loop-position-test.true c.loop-position.invariant.taken (sym c.take_from.ensures.value ∙ c.in-Some.is) c.in_ok-push-in-Some.ensures.items;
-  many = ap length c.take_from.ensures.after ∙ length-set c.loop-position.places.items _ None ∙ c.loop-position.invariant.many;
-  there = others_there c.args.rules.items c.args.positions.now c.requires.below c.requires.apart c.loop-position.places.items c.take_from.new.places.items c.loop-position.position-index c.loop-position.invariant.there c.loop-position-test.true
-      c.take_from.ensures.after;
-}
+pub returns-then-are_in_place : goal.returns-then-are_in_place
+returns-then-are_in_place c =
+    let many : c.len.result ≡ length c.args.rules.items = omega (arith, c.len.ensures, c.args.rules.ok.0) in
+    in_place c.args.rules.items c.args.positions.now (omega (arith, many, c.are_in_place.ensures.many c.if-are_in_place.true))
+    (λ i h. c.are_in_place.ensures.each c.if-are_in_place.true i (omega (arith, many, h)))

@@ -1,8 +1,9 @@
 use Rattle.std.proofs.Common.{◌≡◌, sym, subst}
+use Rattle.tib_keyed.proofs.Limits.{too_many}
 use Rattle.tib_transducer.specs.Range.{AreShaped}
 use Rattle.tib_transducer.specs.TransducerOf.{TransducerOf}
 use Rattle.tib_classes.specs.Outside.{demands, AllMeet}
-use Rattle.tib_compose.proofs.Hunted.{reached_of, beyond_of, rules_within, few_keys, few_rules, rules_shaped, too_many}
+use Rattle.tib_compose.proofs.Hunted.{reached_of, beyond_of, rules_within, few_keys, few_rules, rules_shaped}
 use Rattle.tib_compose.proofs.composing.compose.Goals as goal
 
 pub returns-in-Ok-hunt_alone-clause-reached : goal.returns-in-Ok-hunt_alone-clause-reached

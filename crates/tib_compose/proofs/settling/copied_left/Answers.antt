@@ -1,7 +1,8 @@
 use Rattle.std.proofs.Common.{arith, ap, ◌∙◌}
 use Rattle.std.proofs.lemmas.Result.{IfOk-weaker}
 use Rattle.tib_grammar.specs.Items.{pairs_of}
-use Rattle.tib_compose.proofs.Settled.{one_tree, tree_same}
+use Rattle.tib_transducer.proofs.NamedItems.{one_tree}
+use Rattle.tib_compose.proofs.Settled.{tree_same}
 use Rattle.tib_compose.proofs.settling.copied_left.Goals as goal
 
 pub side_of-requires : goal.side_of-requires

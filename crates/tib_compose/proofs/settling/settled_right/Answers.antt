@@ -3,8 +3,9 @@ use Rattle.std.proofs.lemmas.Result.{IfOk-weaker}
 use Rattle.tib_grammar.specs.Items.{pairs_of}
 use Rattle.tib_grammar.specs.Sides.{side_map}
 use Rattle.tib_hunt.specs.EdgeLists.{position_of}
-use Rattle.tib_compose_laws.specs.Named.{named_pair}
-use Rattle.tib_compose.proofs.Settled.{one_tree, tree_same, preorder-named, right_within}
+use Rattle.tib_transducer.specs.NamedPairs.{named_pair}
+use Rattle.tib_transducer.proofs.NamedItems.{one_tree, preorder-named}
+use Rattle.tib_compose.proofs.Settled.{tree_same, right_within}
 use Rattle.tib_compose.proofs.settling.settled_right.Goals as goal
 
 pub settled_items-requires : goal.settled_items-requires

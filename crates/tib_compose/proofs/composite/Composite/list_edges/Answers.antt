@@ -2,13 +2,13 @@ use Rattle.std.proofs.Common.{◌≡◌, ◌+◌, ◌<◌, ◌++◌, Err, zero, 
 use Rattle.std.specs.declared.result.Result.{Result}
 use Rattle.tib_hunt.specs.declared.place.ExpandError.{ExpandError}
 use Rattle.tib_lex.specs.Lists.{Has, total}
+use Rattle.tib_transducer.specs.Moves.{moves_of}
+use Rattle.tib_transducer.proofs.Moves.{move_is}
 use Rattle.tib_compose_laws.specs.Composition.{edge_parts}
 use Rattle.tib_compose.specs.KeyEdges.{rule_edges}
 use Rattle.tib_compose.specs.Listing.{IsListing}
-use Rattle.tib_compose.specs.Moves.{moves_of}
 use Rattle.tib_compose.specs.Searches.{all_of}
 use Rattle.tib_compose.specs.declared.listing.Listing.{Listing}
-use Rattle.tib_compose.proofs.Bucketing.{move_is}
 use Rattle.tib_compose.proofs.Walking.{has_there}
 use Rattle.tib_compose.proofs.Whole.{rule_more, rules_all, rules_front}
 use Rattle.tib_compose.proofs.composite.Composite.list_edges.Goals as goal

@@ -1,8 +1,8 @@
-use Rattle.tib_compose.specs.Readers.{bucket_at, lists_of, same_shape}
 use Rattle.std.specs.Global.{Vec}
 use Rattle.std.specs.HashMap.{get}
 use Rattle.std.proofs.Common.{sym, ap, ◌∙◌, arith, ◌≡◌, ◌<◌, length, Some, ℕ, []}
 use Rattle.std.proofs.lemmas.List.{get_or-map}
+use Rattle.tib_grammar.specs.ShapeBuckets.{bucket_at, lists_of, same_shape}
 use Rattle.tib_compose.proofs.index.Index.find.Goals as goal
 
 pub returns-then-number-len : goal.returns-then-number-len

@@ -1,6 +1,6 @@
 use Rattle.std.proofs.lemmas.List.{get_or_read}
+use Rattle.tib_grammar.specs.ShapeBuckets.{same_shape}
 use Rattle.tib_transducer.specs.Rules.{no_rule}
-use Rattle.tib_compose.specs.Readers.{same_shape}
 use Rattle.tib_compose.proofs.Reading.{one_reader}
 use Rattle.tib_compose.proofs.index.Index.new.Goals as goal
 

@@ -1,5 +1,6 @@
 use Rattle.std.proofs.Common.{◌≤◌, length}
-use Rattle.tib_compose.specs.Readers.{AreNumbered, HoldsReaders}
+use Rattle.tib_grammar.specs.ShapeBuckets.{AreNumbered}
+use Rattle.tib_compose.specs.Readers.{HoldsReaders}
 use Rattle.tib_compose.proofs.index.Index.new.Given as goal
 
 abbrev pub invariant-loop-n : goal.invariant-loop-n

@@ -1,7 +1,7 @@
 use Rattle.std.proofs.Common.{◌≡◌, take, map, length}
 use Rattle.tib_transducer.specs.Rules.{transducer_rule}
 use Rattle.tib_canon_transducer.proofs.Places.{AreThere}
-use Rattle.tib_canon_transducer.proofs.taking.rules_at.Given as goal
+use Rattle.tib_canon_transducer.proofs.taking.moved_rules.Given as goal
 
 abbrev pub invariant-loop-position : goal.invariant-loop-position
 invariant-loop-position l = record {
