@@ -1,6 +1,3 @@
-mod Totals
-pub mod Occurrences
-mod ClaimSteps
 pub mod Runs
 pub mod Rounds
 pub mod EdgeLemmas
@@ -17,3 +14,4 @@ mod Placed
 mod Underway
 mod Taken
 mod FreshKeys
+mod GatheredRows

@@ -18,12 +18,13 @@ use Rattle.tib_hunt.proofs.Sights.{along_snoc, get_left}
 use Rattle.tib_lex.proofs.Lists.{total_append}
 use Rattle.tib_lex.proofs.Members.{has_left}
 
-module _ {K : Type 0} (eq : K → K → Bool) (same : (x y : K) → eq x y ≡ true → x ≡ y) (self : (x : K) → eq x x ≡ true) where
-  got_has : (ks : List K) (p : ℕ) (k : K) → slice_get ks p ≡ Some k → Has ks k
-  got_has [] p k e = grind (arith, e)
-  got_has (x ∷ xs) zero k e = inl (grind (arith, e))
-  got_has (x ∷ xs) (suc p) k e = inr (got_has xs p k e)
+-- what stands at a place stands in the list
+pub got_has : {K : Type 0} (ks : List K) (p : ℕ) (k : K) → slice_get ks p ≡ Some k → Has ks k
+got_has [] p k e = grind (arith, e)
+got_has (x ∷ xs) zero k e = inl (grind (arith, e))
+got_has (x ∷ xs) (suc p) k e = inr (got_has xs p k e)
 
+module _ {K : Type 0} (eq : K → K → Bool) (same : (x y : K) → eq x y ≡ true → x ≡ y) (self : (x : K) → eq x x ≡ true) where
   got_last : (ks : List K) (p : ℕ) (k : K) → slice_get (ks ++ k ∷ []) p ≡ Some k → (Has ks k → ⊥) → p ≡ length ks
   got_last [] zero k e n = refl
   got_last [] (suc p) k e n = grind (arith, e)

@@ -18,11 +18,12 @@ use Rattle.tib_lex.proofs.Members.{has_left, has_right}
 use Rattle.tib_lex.proofs.Lists.{total_append}
 
 -- m after n
-abbrev later : ℕ → ℕ → ℕ
+abbrev pub later : ℕ → ℕ → ℕ
 later zero n = n
 later (suc m) n = suc (later m n)
 
-later_is : (m n k : ℕ) → k ≡ m + n → k ≡ later m n
+-- a sum as that
+pub later_is : (m n k : ℕ) → k ≡ m + n → k ≡ later m n
 later_is zero n k e = (let d : k ≡ n = omega arith in d)
 later_is (suc m) n zero e = absurd (omega arith)
 later_is (suc m) n (suc k) e = ap suc (later_is m n k (omega arith))
@@ -108,7 +109,7 @@ module _ {K O E : Type 0} (p : Operation K O E) (laws : Laws p) where
       omega arith
 
   -- the edges of one position more than those
-  more_parts : (order : List K) (n m : ℕ) (es fs : List E) (budget : ℕ) → AreEdges p order n es → Exceeds (p.edge order n) p.edge_parts budget → AreEdges p order (later m (suc n)) fs → total p.edge_parts es + budget < total p.edge_parts fs
+  pub more_parts : (order : List K) (n m : ℕ) (es fs : List E) (budget : ℕ) → AreEdges p order n es → Exceeds (p.edge order n) p.edge_parts budget → AreEdges p order (later m (suc n)) fs → total p.edge_parts es + budget < total p.edge_parts fs
   more_parts order n zero es fs budget a x (front, last, is, before, l) =
       let b = fewer_parts order n 0 es front a before in
       let c = x last l in

@@ -1,5 +1,3 @@
-pub mod Claims
-pub mod ClaimRule
 pub mod EdgeLists
 pub mod Reached
 pub mod Reading
@@ -13,4 +11,5 @@ pub mod RoundModel
 pub mod RoundLaw
 pub mod Shelved
 pub mod States
+pub mod Jobs
 pub mod Answers

@@ -3,13 +3,10 @@ use Rattle.std.specs.Prelude.{◌≡◌, ◌↔◌, ℕ, zero, suc, ◌+◌, ◌
 use Rattle.std.specs.declared.cmp.Ordering.{Ordering}
 use Rattle.std.specs.declared.cmp.Ordering.TheVariants.{Less}
 use Rattle.tib_lex.specs.Lists.{Has, Ascends, total}
+pub use Rattle.tib_lex.specs.Limits.{most_parts}
 use Rattle.tib_hunt.specs.EdgeLists.{Lists, IsEnd}
 use Rattle.tib_hunt.specs.declared.found.HuntError.{HuntError}
 use Rattle.tib_hunt.specs.declared.found.HuntError.TheVariants.{TooMany, OutOfMemory}
-
--- the greatest limit of parts
-abbrev pub most_parts : ℕ
-most_parts = 20000000
 
 -- What an operation hunts: the order of keys, the seeds, the edges of the seeds and of each position of an order, each by its origin, the
 -- keys at which an edge ends, and the parts of a key and of an edge.

@@ -1,8 +1,8 @@
 -- The keys on the shelves of a round, and the rows of its items, whose ends have numbers on the shelves.
 use Rattle.std.specs.Prelude.{◌≡◌, ◌↔◌, ◌⊎◌, ℕ, ◌+◌, ◌-◌, ◌<◌, ◌≤◌, Bool, List, [], ◌∷◌, ◌++◌, length, map, slice_index, slice_index_or}
 use Rattle.tib_lex.specs.Lists.{Has, Each, Along, total}
-use Rattle.tib_table.specs.Known.{Names}
 use Rattle.tib_table.specs.declared.number.Number.{Number}
+pub use Rattle.tib_crew.specs.Rows.{NameOn}
 use Rattle.tib_hunt.specs.EdgeLists.{AreListed, Exceeds, IsEnd, IsWithin, key_at}
 use Rattle.tib_hunt.specs.Reached.{Operation, AreEdges}
 use Rattle.tib_hunt.specs.Reading.{Reading}
@@ -22,10 +22,6 @@ module _ {K : Type 0} where
   abbrev pub with_keys : (K → K → Bool) → (K → ℕ) → Core K → List K → Core K
   with_keys eq shelf_of s [] = s
   with_keys eq shelf_of s (k ∷ ks) = with_keys eq shelf_of (with_key eq shelf_of s k) ks
-
-  -- each number names its key on the shelves
-  abbrev pub NameOn : List (List K) → List K → List Number → Type 0
-  NameOn shelves ends numbers = Along (λ k (n : Number). Names shelves n.shelf n.place k) ends numbers
 
   -- with some of the ends the keys on the shelves alone have more parts than the limit
   abbrev pub ShelvesHaveMore : (K → K → Bool) → (K → ℕ) → (K → ℕ) → Core K → (K → Type 0) → ℕ → Type 0

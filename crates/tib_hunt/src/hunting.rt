@@ -7,16 +7,16 @@ ghost use Rattle.tib_hunt.specs.Reached.{IfTooMany, IsBeyond, most_parts};
 ghost use Rattle.tib_hunt.specs.Numbered.{key_parts, HaveMore, AddsParts, placed, keys_of};
 ghost use Rattle.tib_hunt.specs.Rows.{IsRowBelow};
 ghost use Rattle.tib_hunt.specs.Shelved.{all_on};
-ghost use Rattle.tib_hunt.specs.States.{AddsEdges, AreSettled, IsBetweenRounds, IsExpanded, shelves_of, AreShelved, ArePlaced};
+ghost use Rattle.tib_hunt.specs.States.{AddsEdges, AreSettled, IsBetweenRounds, IsExpanded, WorksRound, shelves_of, AreShelved, ArePlaced};
 
 use crate::expand::Expand;
-use crate::found::{Gate, HuntError};
+use crate::found::HuntError;
 use crate::fresh::{find_shelves, put_fresh};
 use crate::numbering::{number_ends, sort_new};
 use crate::place::{Edges, ExpandError};
 use crate::placing::place_rows;
 use crate::row::{Row, settle_rows};
-use crate::working::{Worked, work_round};
+use crate::working::Worked;
 use indexmap::IndexSet;
 use std::alloc::{AllocError, Global};
 use tib_table::TableKey;
@@ -161,29 +161,26 @@ pub(crate) fn list_keys<K: TableKey + Drop>(
 }
 
 impl<E: Expand> HuntState<E> {
-    /// Expands the positions of the order from `first` on. Answers the fresh keys, each with its index among them, or `TooMany` where the
-    /// reached set passes the limit.
-    pub fn expand_all<G: Gate>(
+    /// Takes in what a round made. Answers the fresh keys, each with its index among them, or `TooMany` where the reached set passes the
+    /// limit.
+    pub fn take_round(
         &mut self,
         alloc: Global,
         problem: &E,
         limit: u64,
-        gate: &G,
         first: u32,
+        worked: Worked<E::Key, E::Over>,
     ) -> Result<Vec<(E::Key, u32)>, HuntError>
         requires limit { limit ≤ most_parts }
         requires between { IsBetweenRounds (E.hunted problem.now) (E.admits problem.now) E.reading first limit self.old }
-        requires rows { self.old.rows.items ≡ [] }
+        requires worked { WorksRound (E.hunted problem.now) E.reading E.Key.eq E.Key.shelf_of self.old.keys.keys first self.old.parts limit worked }
         ensures order { OnOk result (self.new.keys.keys ≡ self.old.keys.keys) }
         ensures placed { IfOk result (λ r. r.items ≡ placed 0 (keys_of r.items)) }
         ensures within { IfOk result (λ r. IsExpanded (E.hunted problem.now) (E.admits problem.now) E.reading self.old.keys.keys first limit (self.old.keys.keys ++ keys_of r.items) self.new) }
         ensures more { IfErr result (IfTooMany limit (IsBeyond (E.hunted problem.now) limit)) }
     {
-        let order = self.keys.as_slice();
-        let worked = match work_round(alloc, problem, order, first, self.parts, limit, gate) {
-            Ok(worked) => worked,
-            Err(error) => return Err(error),
-        };
+        let _problem = problem;
+        let _first = first;
         match self.take_in(alloc, limit, worked) {
             Ok(fresh) => Ok(fresh),
             Err(error) => Err(error),
@@ -219,23 +216,23 @@ impl<E: Expand> HuntState<E> {
         Ok(state)
     }
 
-    /// Expands the positions from `first` on, on shelves, and appends their new ends in ascending order.
-    pub fn round<G: Gate>(
+    /// Ends a round: takes in what it made, and appends the new ends in ascending order.
+    pub fn end_round(
         &mut self,
         alloc: Global,
         problem: &E,
         limit: u64,
-        gate: &G,
         first: u32,
+        worked: Worked<E::Key, E::Over>,
     ) -> Result<(), HuntError>
         requires limit { limit ≤ most_parts }
         requires between { IsBetweenRounds (E.hunted problem.now) (E.admits problem.now) E.reading first limit self.old }
-        requires rows { self.old.rows.items ≡ [] }
+        requires worked { WorksRound (E.hunted problem.now) E.reading E.Key.eq E.Key.shelf_of self.old.keys.keys first self.old.parts limit worked }
         ensures between { OnOk result (IsBetweenRounds (E.hunted problem.now) (E.admits problem.now) E.reading (length self.old.keys.keys) limit self.new) }
         ensures rows { OnOk result (self.new.rows.items ≡ []) }
         ensures more { IfErr result (IfTooMany limit (IsBeyond (E.hunted problem.now) limit)) }
     {
-        let fresh = match self.expand_all(alloc, problem, limit, gate, first) {
+        let fresh = match self.take_round(alloc, problem, limit, first, worked) {
             Ok(fresh) => fresh,
             Err(error) => return Err(error),
         };

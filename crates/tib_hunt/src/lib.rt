@@ -1,9 +1,8 @@
 //! What an operation hunts, and how. Keys are reached from seeds along edges, in rounds. The core of a round is a machine over events, and
-//! every complete run of it leaves the same keys and the same edges, whatever the order of its events. The workers of a round draw
-//! their items from a counter, from which no number is drawn twice. It stands on `tib_table` and on `atomic_table`.
+//! every complete run of it leaves the same keys and the same edges, whatever the order of its events. One worker finds the reached set, or
+//! several, who find the same whatever the order of their steps. It stands on `tib_crew` and on `tib_table`.
 #![tactic(auto)]
 
-mod claim;
 mod event;
 mod expand;
 mod few;
@@ -11,7 +10,7 @@ mod found;
 mod fresh;
 mod hunting;
 mod itemized;
-mod items;
+mod job;
 pub mod laws;
 mod numbering;
 mod place;
@@ -24,13 +23,14 @@ mod shelved_row;
 mod shelving;
 #[cfg(test)]
 mod tests;
+mod together;
 mod working;
+mod works;
 
 pub use event::{Answer, Event};
 pub use expand::Expand;
 pub use found::{Found, Gate, HuntError, Open};
 pub use itemized::Itemized;
-pub use items::{Items, Seat};
 pub use place::{Edges, ExpandError, Place};
 pub use reach::{MOST_PARTS, hunt, hunt_alone, hunts_have_a_limit};
 pub use round::Round;

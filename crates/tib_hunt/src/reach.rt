@@ -1,15 +1,17 @@
-//! The reached set of an operation, found round by round by one worker.
+//! The reached set of an operation, found round by round.
 
-ghost use Rattle.std.specs.Prelude.{◌≡◌, ◌≤◌, [], length, IfOk, IfErr, OnOk};
+ghost use Rattle.std.specs.Prelude.{◌≡◌, ◌≤◌, ℕ, [], length, IfOk, IfErr};
 ghost use Rattle.tib_hunt.specs.Found.{IsFound, AreWithinOrder, HasParts};
 ghost use Rattle.tib_hunt.specs.Reached.{IfTooMany, IsBeyond, most_parts};
 ghost use Rattle.tib_hunt.specs.States.{IsBetweenRounds};
 
 use crate::expand::Expand;
-use crate::few::round_of_few;
 use crate::found::{Found, Gate, HuntError};
 use crate::hunting::{HuntState, list_keys};
-use std::alloc::Global;
+use crate::works::{round_alone, round_together};
+use std::alloc::{AllocError, Global};
+use std::sync::Wait;
+use std::thread::Threads;
 
 /// The greatest limit of parts.
 pub const MOST_PARTS: u64 = 20_000_000;
@@ -22,32 +24,36 @@ pub fn hunts_have_a_limit()
 /// A round of as many items as this opens shelves. There are as many shelves.
 const MANY: usize = 16;
 
-// Works one round: on shelves if it has at least `many` items, and else on one list. The outcome is the same.
-fn next_round<E: Expand, G: Gate>(
-    state: &mut HuntState<E>,
+// What was found, once each position is expanded. Err if memory is refused.
+fn found_in<E: Expand>(
     alloc: Global,
     problem: &E,
-    limit: u64,
-    many: usize,
-    gate: &G,
-    first: u32,
-) -> Result<(), HuntError>
-    requires limit { limit ≤ most_parts }
-    requires between { IsBetweenRounds (E.hunted problem.now) (E.admits problem.now) E.reading first limit state.old }
-    requires rows { state.old.rows.items ≡ [] }
-    ensures between { OnOk result (IsBetweenRounds (E.hunted problem.now) (E.admits problem.now) E.reading (length state.old.keys.keys) limit state.new) }
-    ensures rows { OnOk result (state.new.rows.items ≡ []) }
-    ensures more { IfErr result (IfTooMany limit (IsBeyond (E.hunted problem.now) limit)) }
+    state: HuntState<E>,
+) -> Result<Found<E::Key, E::Rule>, AllocError>
+    requires between { (limit : ℕ) × IsBetweenRounds (E.hunted problem.now) (E.admits problem.now) E.reading (length state.keys.keys) limit state }
+    ensures reached { IfOk result (IsFound (E.hunted problem.now) E.reading) }
+    ensures positions { IfOk result (AreWithinOrder E.reading) }
+    ensures parts { IfOk result (HasParts (E.hunted problem.now) E.reading) }
+    ensures total { IfOk result (λ found. found.parts ≡ state.parts) }
 {
-    if state.keys.len() - (first as usize) < many {
-        round_of_few(state, alloc, problem, limit, gate, first)
-    } else {
-        state.round(alloc, problem, limit, gate, first)
-    }
+    let _problem = problem;
+    let HuntState {
+        keys,
+        rules,
+        rows,
+        parts,
+    } = state;
+    drop(rows);
+    let order = list_keys(alloc, keys)?;
+    Ok(Found {
+        order,
+        rules,
+        parts,
+    })
 }
 
-/// The reached set of an operation, where each round of at least `many` items is worked on shelves, and each other on one list. `TooMany`
-/// exactly where the reached set has more parts than the limit.
+/// The reached set of an operation, found by one worker, where each round of at least `many` items is worked on shelves, and each other on one
+/// list. `TooMany` exactly where the reached set has more parts than the limit.
 pub(crate) fn hunt_by<E: Expand, G: Gate>(
     alloc: Global,
     problem: &E,
@@ -70,27 +76,57 @@ pub(crate) fn hunt_by<E: Expand, G: Gate>(
     let mut first = 0;
     while (first as usize) < state.keys.len() {
         let next = state.keys.len() as u32;
-        match next_round(&mut state, alloc, problem, limit, many, gate, first) {
+        match round_alone(&mut state, alloc, problem, limit, many, gate, first) {
             Ok(()) => {}
             Err(error) => return Err(error),
         }
         first = next;
     }
-    let HuntState {
-        keys,
-        rules,
-        rows,
-        parts,
-    } = state;
-    drop(rows);
-    let Ok(order) = list_keys(alloc, keys) else {
+    let Ok(found) = found_in(alloc, problem, state) else {
         return Err(HuntError::OutOfMemory);
     };
-    Ok(Found {
-        order,
-        rules,
-        parts,
-    })
+    Ok(found)
+}
+
+// The reached set of an operation, found by several workers.
+fn hunt_together<R: Threads + Wait + Sync, E: Expand + Sync, G: Gate + Sync>(
+    rt: &R,
+    alloc: Global,
+    problem: &E,
+    workers: u32,
+    limit: u64,
+    gate: &G,
+) -> Result<Found<E::Key, E::Rule>, HuntError>
+where
+    E::Key: Send + Sync,
+    E::Over: Send,
+    E::Rule: Send,
+    requires workers { (1 ≤ workers) × (workers ≤ 16) }
+    requires some { 1 ≤ limit }
+    requires limit { limit ≤ most_parts }
+    ensures reached { IfOk result (IsFound (E.hunted problem.now) E.reading) }
+    ensures positions { IfOk result (AreWithinOrder E.reading) }
+    ensures parts { IfOk result (HasParts (E.hunted problem.now) E.reading) }
+    ensures within { IfOk result (λ found. found.parts ≤ limit) }
+    ensures more { IfErr result (IfTooMany limit (IsBeyond (E.hunted problem.now) limit)) }
+{
+    let mut state = match HuntState::begin(alloc, problem, limit) {
+        Ok(state) => state,
+        Err(error) => return Err(error),
+    };
+    let mut first = 0;
+    while (first as usize) < state.keys.len() {
+        let after = state.keys.len() as u32;
+        match round_together(rt, &mut state, alloc, problem, limit, workers, gate, first) {
+            Ok(()) => {}
+            Err(error) => return Err(error),
+        }
+        first = after;
+    }
+    let Ok(found) = found_in(alloc, problem, state) else {
+        return Err(HuntError::OutOfMemory);
+    };
+    Ok(found)
 }
 
 /// The reached set of an operation, found by one worker, as its keys in the order by rounds and its rules over their positions, with the parts
@@ -114,16 +150,25 @@ pub fn hunt_alone<E: Expand, G: Gate>(
     hunt_by(alloc, problem, limit, MANY, gate)
 }
 
-/// The reached set as `hunt_alone` answers it, found by this number of workers. So far there is
-/// one. Errors and cost are those of `hunt_alone`.
-pub fn hunt<E: Expand, G: Gate>(
+/// The reached set as `hunt_alone` answers it, found by this number of workers, 1 to 16. A round of one item is worked as by one worker. In any
+/// other the workers draw the items, no more of them than there are items, and each number of an end takes one turn of one shelf. An item is
+/// expanded again, by the caller, where a worker has too small a share of what the limit leaves, or finds no memory; `TooMany` is answered by
+/// the caller alone, and so doesn't depend on the order of the workers' steps. Calls `gate` for each key before it is expanded, with the number
+/// of the worker that does it. It may wait for ever: while a turn of a shelf is held. Errors are those of `hunt_alone`, and so is the cost, but
+/// for the keys that are expanded again, and threads that are started for each round.
+pub fn hunt<R: Threads + Wait + Sync, E: Expand + Sync, G: Gate + Sync>(
+    rt: &R,
     alloc: Global,
     problem: &E,
     workers: u32,
     limit: u64,
     gate: &G,
 ) -> Result<Found<E::Key, E::Rule>, HuntError>
-    requires workers { workers ≡ 1 }
+where
+    E::Key: Send + Sync,
+    E::Over: Send,
+    E::Rule: Send,
+    requires workers { (1 ≤ workers) × (workers ≤ 16) }
     requires some { 1 ≤ limit }
     requires limit { limit ≤ most_parts }
     ensures reached { IfOk result (IsFound (E.hunted problem.now) E.reading) }
@@ -132,6 +177,8 @@ pub fn hunt<E: Expand, G: Gate>(
     ensures within { IfOk result (λ found. found.parts ≤ limit) }
     ensures more { IfErr result (IfTooMany limit (IsBeyond (E.hunted problem.now) limit)) }
 {
-    let _workers = workers;
-    hunt_alone(alloc, problem, limit, gate)
+    if workers == 1 {
+        return hunt_alone(alloc, problem, limit, gate);
+    }
+    hunt_together(rt, alloc, problem, workers, limit, gate)
 }

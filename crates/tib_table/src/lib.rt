@@ -4,9 +4,9 @@
 //! closed table, and no key has two numbers. It stands on `tib_turn` and on `indexmap`.
 #![tactic(auto)]
 
+mod board;
 mod key;
 mod number;
-mod on_shelf;
 mod problem;
 mod shelf;
 mod shelves;

@@ -1,18 +1,18 @@
 // The shelves of a table that is closed.
-ghost use Rattle.std.specs.Prelude.{◌≡◌, ◌<◌, [], ◌∷◌, ◌++◌, map, length, slice_get, slice_set, option_copied, MatchOption};
+ghost use Rattle.std.specs.Prelude.{◌≡◌, ◌<◌, [], ◌∷◌, ◌++◌, map, length, slice_get, slice_set, option_copied, MatchOption, IfOk};
 ghost use Rattle.tib_table.specs.Known.{on};
 ghost use Rattle.tib_table.specs.Kept.{keys_of};
 
+use crate::board::Board;
 use crate::number::Number;
-use crate::on_shelf::OnShelf;
 use crate::problem::Problem;
-use crate::shelf::Shelf;
+use std::alloc::{AllocError, Global};
 use std::marker::Model;
 
 /// The sixteen shelves of a closed table.
 #[derive(Drop)]
 pub struct Shelves<P: Problem> {
-    shelves: Vec<Shelf<OnShelf<P>>>,
+    shelves: Vec<Board<P>>,
 }
 
 impl<P: Problem> Model for Shelves<P> {
@@ -28,7 +28,7 @@ impl<P: Problem> Model for Shelves<P> {
 
 impl<P: Problem> Shelves<P> {
     /// The shelves of a list of sixteen.
-    pub(crate) fn from_list(shelves: Vec<Shelf<OnShelf<P>>>) -> Shelves<P>
+    pub(crate) fn from_list(shelves: Vec<Board<P>>) -> Shelves<P>
         requires { length shelves.items ≡ 16 }
         ensures { result ≡ map keys_of shelves.items }
     {
@@ -57,4 +57,28 @@ impl<P: Problem> Shelves<P> {
     {
         self.shelves[shelf as usize].take_last()
     }
+
+    /// The keys of the shelves, each shelf in the order of first sight. It fails only for want of
+    /// memory, and then they are gone. Each key is moved once.
+    pub fn into_lists(self, alloc: Global) -> Result<Vec<Vec<P::Key>>, AllocError>
+        ensures { IfOk result (λ r. map (λ v. v.items) r.items ≡ self) }
+    {
+        let Shelves { shelves } = self;
+        list_shelves(alloc, shelves)
+    }
+}
+
+// The keys of shelves.
+fn list_shelves<P: Problem>(
+    alloc: Global,
+    shelves: Vec<Board<P>>,
+) -> Result<Vec<Vec<P::Key>>, AllocError>
+    ensures { IfOk result (λ r. map (λ v. v.items) r.items ≡ map keys_of shelves.items) }
+{
+    let mut lists = Vec::with_capacity(alloc, shelves.len())?;
+    for shelf in shelves {
+        let keys = shelf.into_keys(alloc)?;
+        lists.push(keys)?;
+    }
+    Ok(lists)
 }

@@ -2,11 +2,10 @@
 ghost use Rattle.std.specs.Prelude.{◌≡◌, [], replicate, length, IfOk, IfErr};
 ghost use Rattle.tib_table.specs.Known.{Names, GoOn, KeepNames, longest, IsNumbering, AreShelves};
 
+use crate::board::Board;
 use crate::key::TableKey;
 use crate::number::Number;
-use crate::on_shelf::OnShelf;
 use crate::problem::Problem;
-use crate::shelf::Shelf;
 use crate::shelves::Shelves;
 use crate::turns::{SHELVES, close_locks, number_in_turn, open_locks};
 use std::alloc::{AllocError, Global};
@@ -18,9 +17,9 @@ use tib_turn::{Pass, TurnLock};
 #[derive(Drop)]
 pub struct Table<P: Problem + Copy> {
     problem: P,
-    locks: Vec<TurnLock<Shelf<OnShelf<P>>>>,
+    locks: Vec<TurnLock<Board<P>>>,
     // Where `close` puts the shelves.
-    room: Vec<Shelf<OnShelf<P>>>,
+    room: Vec<Board<P>>,
 }
 
 impl<P: Problem + Copy> Model for Table<P> {
@@ -39,7 +38,7 @@ impl<P: Problem + Copy> Model for Table<P> {
 #[derive(Drop)]
 pub struct Seats<P: Problem + Copy> {
     problem: P,
-    passes: Vec<Pass<Shelf<OnShelf<P>>>>,
+    passes: Vec<Pass<Board<P>>>,
 }
 
 impl<P: Problem + Copy> Model for Seats<P> {

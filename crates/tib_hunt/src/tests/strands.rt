@@ -1,11 +1,14 @@
-//! Hunts of more keys than 65,536, in many rounds of two items and in a few of many, with the passes of their gate.
+//! Hunts of more keys than 65,536, in many rounds of two items and in a few of many, with the passes of their gate; and hunts that must agree:
+//! on shelves and on one list, by one worker and by several.
 ghost use Rattle.std.specs.Prelude.{◌≡◌, ◌<◌, ◌≤◌, ◌+◌, ◌*◌, [], ◌∷◌, IfOk, IfErr};
 ghost use Rattle.tib_hunt.specs.declared.place.Place.{Place};
 ghost use Rattle.std.proofs.Common.{◌∙◌, sym};
 
 use super::{Node, position_at};
 use crate::reach::hunt_by;
-use crate::{Edges, Expand, ExpandError, Gate, MOST_PARTS, Open, Place, hunt_alone};
+use crate::{
+    Edges, Expand, ExpandError, Found, Gate, HuntError, MOST_PARTS, Open, Place, hunt, hunt_alone,
+};
 use std::alloc::{AllocError, Global};
 use std::sync::atomic::{AtomicU64, Ordering};
 use std::test::Fail;
@@ -174,6 +177,31 @@ fn many_strands_are_found_and_each_item_passes_once(rt: HostRuntime) -> Result<(
     Ok(())
 }
 
+// Whether two hunts gave the same answer.
+fn agree(
+    one: &Result<Found<Node, (u32, u32)>, HuntError>,
+    other: &Result<Found<Node, (u32, u32)>, HuntError>,
+) -> bool {
+    match one {
+        Ok(found) => match other {
+            Ok(plain) => are_same(found, plain),
+            Err(_) => false,
+        },
+        Err(error) => match other {
+            Ok(_) => false,
+            Err(plain) => error == plain,
+        },
+    }
+}
+
+// Whether two reached sets have the same keys, the same rules and as many parts.
+fn are_same(one: &Found<Node, (u32, u32)>, other: &Found<Node, (u32, u32)>) -> bool {
+    if &one.order[..] != &other.order[..] {
+        return false;
+    }
+    &one.rules[..] == &other.rules[..] && one.parts == other.parts
+}
+
 #[test]
 fn shelves_and_one_list_find_the_same_strands(rt: HostRuntime) -> Result<(), Fail> {
     let strands = Strands {
@@ -182,19 +210,23 @@ fn shelves_and_one_list_find_the_same_strands(rt: HostRuntime) -> Result<(), Fai
     };
     for limit in 1..210 {
         let plain = hunt_by(rt.alloc(), &strands, limit, usize::MAX, &Open);
-        match hunt_alone(rt.alloc(), &strands, limit, &Open) {
-            Ok(found) => match plain {
-                Ok(plain) => {
-                    assert_eq!(rt; &found.order[..], &plain.order[..]);
-                    assert_eq!(rt; &found.rules[..], &plain.rules[..]);
-                    assert_eq!(rt; found.parts, plain.parts);
-                }
-                Err(_) => assert!(rt; false),
-            },
-            Err(error) => match plain {
-                Ok(_) => assert!(rt; false),
-                Err(plain) => assert_eq!(rt; error, plain),
-            },
+        let found = hunt_alone(rt.alloc(), &strands, limit, &Open);
+        assert!(rt; agree(&found, &plain));
+    }
+    Ok(())
+}
+
+#[test]
+fn crews_find_the_strands_that_one_worker_finds(rt: HostRuntime) -> Result<(), Fail> {
+    let strands = Strands {
+        times: 2,
+        length: 40,
+    };
+    for workers in [2, 3, 16] {
+        for limit in 1..210 {
+            let plain = hunt_alone(rt.alloc(), &strands, limit, &Open);
+            let found = hunt(&rt, rt.alloc(), &strands, workers, limit, &Open);
+            assert!(rt; agree(&found, &plain));
         }
     }
     Ok(())

@@ -1,7 +1,7 @@
-use Rattle.std.proofs.Common.{arith}
+use Rattle.std.proofs.Common.{◌≡◌, length, subst, arith}
+use Rattle.tib_hunt.specs.Held.{IsBetween}
 use Rattle.tib_hunt.proofs.Reaching.{hunt_of}
 use Rattle.tib_hunt.proofs.Advancing.{few_keys}
-use Rattle.tib_hunt.proofs.Finding.{all_found, all_counted}
 use Rattle.tib_hunt.proofs.reach.hunt_by.Goals as goal
 
 pub overflow_cast-next : goal.overflow_cast-next
@@ -20,8 +20,16 @@ loop-first-smaller g c =
     let t = c.loop-first-test.true in
     omega arith
 
-pub returns-clause-reached : goal.returns-clause-reached
-returns-clause-reached g c = all_found (hunt_of (g.met.E.Expand.lawful c.args.problem.now) g.met.E.Key.Ord.total g.met.E.Key.TableKey.same g.met.E.Key.Eq.laws.refl) c.loop-first.first c.loop-first.state.keys.keys c.loop-first.state.rules.items c.loop-first.state.parts c.args.limit c.loop-first.invariant.between (let m = c.len.ensures.len in let t = c.loop-first-test.false in omega arith) c.in-Ok-list_keys.order.items c.in-Ok-list_keys.ensures
+pub found_in-requires : goal.found_in-requires
+found_in-requires g c =
+    let m = c.len.ensures.len in
+    let t = c.loop-first-test.false in
+    let low = c.loop-first.invariant.between.low in
+    let all : c.loop-first.first ≡ length c.loop-first.state.keys.keys = omega arith in
+    record { between = (c.args.limit, subst (λ n. IsBetween (g.E.Expand.hunted c.args.problem.now) (g.E.Expand.admits c.args.problem.now) g.E.Expand.reading n c.loop-first.state.keys.keys c.loop-first.state.rules.items c.loop-first.state.parts c.args.limit) all c.loop-first.invariant.between) }
 
-pub returns-clause-parts : goal.returns-clause-parts
-returns-clause-parts g c = all_counted (hunt_of (g.met.E.Expand.lawful c.args.problem.now) g.met.E.Key.Ord.total g.met.E.Key.TableKey.same g.met.E.Key.Eq.laws.refl) c.loop-first.first c.loop-first.state.keys.keys c.loop-first.state.rules.items c.loop-first.state.parts c.args.limit c.loop-first.invariant.between c.in-Ok-list_keys.order.items c.in-Ok-list_keys.ensures
+pub returns-clause-within : goal.returns-clause-within
+returns-clause-within g c =
+    let t = c.in-Ok-found_in.ensures.total in
+    let w = c.loop-first.invariant.between.held.within in
+    omega arith

@@ -1,4 +1,4 @@
-use Rattle.std.proofs.Common.{arith, [], ◌∷◌, List, length, length-append, reverse, sym, ap, subst, append-nil}
+use Rattle.std.proofs.Common.{ℕ, ◌≡◌, arith, [], ◌∷◌, List, length, length-append, reverse, sym, ap, subst, append-nil}
 use Rattle.std.specs.List.{AllZip}
 use Rattle.tib_table.specs.Kept.{Kept}
 use Rattle.tib_table.specs.Seated.{Closes}
@@ -10,7 +10,7 @@ loop-lock-init g c = (
   (
     [],
     sym (append-nil c.args.passes.items),
-    subst (λ (ks : List (Kept g.row.P-Data.Denot g.row.P-Key.Denot)). AllZip (Closes g.P.Problem.may_hold g.P.Key.PartialEq.eq) [] (reverse ks)) (sym c.requires.room.0) tt,
+    subst (λ (ks : List (Kept (g.row.P-Data.Denot × ℕ) g.row.P-Key.Denot)). AllZip (Closes (λ x k. g.P.Problem.may_hold x.0 k × (g.P.Key.TableKey.shelf_of k ≡ x.1)) g.P.Key.PartialEq.eq) [] (reverse ks)) (sym c.requires.room.0) tt,
   ),
   c.requires.locks,
   c.requires.outside,
@@ -28,7 +28,7 @@ pub loop-lock-preserved : goal.loop-lock-preserved
 loop-lock-preserved g c =
     let p = c.push_reserved.ensures in
     let i = c.loop-lock.invariant in (
-      close_step g.P.Problem.may_hold g.P.Key.PartialEq.eq c.args.passes.items c.loop-lock.passes.items c.pop-in-Some.new.self.items i.0.0 c.loop-lock.room.items c.push_reserved.new.self.items c.in-Some-pop.pass c.close_lock.result i.0.1 c.in-Some-pop.ensures.items p.items i.0.2 c.close_lock.ensures,
+      close_step (λ x k. g.P.Problem.may_hold x.0 k × (g.P.Key.TableKey.shelf_of k ≡ x.1)) g.P.Key.PartialEq.eq c.args.passes.items c.loop-lock.passes.items c.pop-in-Some.new.self.items i.0.0 c.loop-lock.room.items c.push_reserved.new.self.items c.in-Some-pop.pass c.close_lock.result i.0.1 c.in-Some-pop.ensures.items p.items i.0.2 c.close_lock.ensures,
       (locks_less c.loop-lock.passes.items c.pop-in-Some.new.self.items c.in-Some-pop.pass c.loop-lock.locks.items c.pop.new.self.items c.in-Some.lock c.in-Some-pop.ensures.items c.in-Some.ensures.items i.1).0,
       (out_less c.loop-lock.passes.items c.pop-in-Some.new.self.items c.in-Some-pop.pass c.in-Some-pop.ensures.items i.2).0,
       (

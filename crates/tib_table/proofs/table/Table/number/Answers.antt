@@ -12,12 +12,10 @@ number_in_turn-requires-clause-key g c = (
   (g.P.Problem.about c.seats.inside.problem, c.shelf-shelf.result),
   its_log c.args.seats.now c.args.self.now (g.P.Problem.about c.seats.inside.problem) (g.P.Problem.about c.self.inside.problem) c.self.inside.locks.items c.seats.inside.passes.items c.self.view_is c.seats.view_is c.requires.table
       c.shelf-shelf.result c.index.result.now c.index_mut.result.now c.index_mut.result.now c.seats.invariant.1 c.seats.invariant.0 c.shelf-shelf.ensures.below c.index.ensures c.index_mut.ensures.value,
-  (
-    subst (λ d. g.P.Problem.may_hold d c.args.key)
-        (is_about c.args.seats.now c.args.self.now (g.P.Problem.about c.seats.inside.problem) (g.P.Problem.about c.self.inside.problem) c.self.inside.locks.items c.seats.inside.passes.items c.self.view_is c.seats.view_is c.requires.table)
-        c.requires.key,
-    sym c.shelf-shelf.ensures.named,
-  ),
+  subst (λ d. g.P.Problem.may_hold d c.args.key)
+      (is_about c.args.seats.now c.args.self.now (g.P.Problem.about c.seats.inside.problem) (g.P.Problem.about c.self.inside.problem) c.self.inside.locks.items c.seats.inside.passes.items c.self.view_is c.seats.view_is c.requires.table)
+      c.requires.key,
+  sym c.shelf-shelf.ensures.named,
 )
 
 pub invariant_of-seats : goal.invariant_of-seats

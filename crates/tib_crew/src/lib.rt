@@ -1,0 +1,20 @@
+//! Workers that perform the items of a task. They draw the items from a counter, from which no number is drawn twice, number the keys at
+//! which the items end in one table, and hand over rows. Whatever the order of their steps, the rows are those of all items, in order, and
+//! each names its item's ends on the shelves. It stands on `tib_table` and on `atomic_table`.
+#![tactic(auto)]
+
+mod claim;
+mod crew;
+mod gather;
+mod hand;
+mod items;
+mod row;
+mod task;
+#[cfg(test)]
+mod tests;
+mod work;
+
+pub use gather::{Gathered, perform_all};
+pub use items::{Items, Seat};
+pub use row::Row;
+pub use task::{Performed, Task, Unperformed};

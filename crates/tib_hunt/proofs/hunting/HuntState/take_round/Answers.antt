@@ -1,0 +1,27 @@
+use Rattle.std.proofs.Common.{◌++◌, length, map, sym, subst}
+use Rattle.tib_hunt.specs.Numbered.{keys_of}
+use Rattle.tib_hunt.specs.Held.{IsWithinRound}
+use Rattle.tib_hunt.proofs.Reaching.{hunt_of}
+use Rattle.tib_hunt.proofs.Advancing.{end_admitted}
+use Rattle.tib_hunt.proofs.Taken.{sights_there, once_there, enough_there, told_new, within_round}
+use Rattle.tib_hunt.proofs.hunting.HuntState.take_round.Goals as goal
+
+pub take_in-requires-clause-counted : goal.take_in-requires-clause-counted
+take_in-requires-clause-counted g c = enough_there (hunt_of (g.met.E.Expand.lawful c.args.problem.now) g.met.E.Key.Ord.total g.met.E.Key.TableKey.same g.met.E.Key.Eq.laws.refl) g.E.Key.TableKey.shelf_of (λ x. g.met.E.Key.TableKey.low x) c.args.self.now.keys.keys c.args.first c.args.self.now.rules.items c.args.self.now.parts c.args.limit c.requires.between c.requires.worked.0 c.args.worked.rows.items c.args.worked.parts c.requires.worked.2 (map (λ v. v.items) c.args.worked.shelves.items) c.requires.worked.1
+
+pub take_in-requires-clause-rows : goal.take_in-requires-clause-rows
+take_in-requires-clause-rows g c = sights_there (hunt_of (g.met.E.Expand.lawful c.args.problem.now) g.met.E.Key.Ord.total g.met.E.Key.TableKey.same g.met.E.Key.Eq.laws.refl) g.E.Key.TableKey.shelf_of (λ x. g.met.E.Key.TableKey.low x) c.args.self.now.keys.keys c.args.first c.args.self.now.rules.items c.args.self.now.parts c.args.limit c.requires.between c.requires.worked.0 c.args.worked.rows.items c.args.worked.parts c.requires.worked.2 (map (λ v. v.items) c.args.worked.shelves.items) c.requires.worked.1
+
+pub take_in-requires-clause-once : goal.take_in-requires-clause-once
+take_in-requires-clause-once g c = once_there (hunt_of (g.met.E.Expand.lawful c.args.problem.now) g.met.E.Key.Ord.total g.met.E.Key.TableKey.same g.met.E.Key.Eq.laws.refl) g.E.Key.TableKey.shelf_of (λ x. g.met.E.Key.TableKey.low x) c.args.self.now.keys.keys c.args.first c.args.self.now.rules.items c.args.self.now.parts c.args.limit c.requires.between c.requires.worked.0 c.args.worked.rows.items c.args.worked.parts c.requires.worked.2 (map (λ v. v.items) c.args.worked.shelves.items) c.requires.worked.1
+
+pub returns-in-Ok-clause-within : goal.returns-in-Ok-clause-within
+returns-in-Ok-clause-within g c =
+    let r = c.in-Ok.ensures.rows in
+    subst (λ rules. IsWithinRound (g.E.Expand.hunted c.args.problem.now) (g.E.Expand.admits c.args.problem.now) g.E.Expand.reading c.args.self.now.keys.keys c.args.first (length c.args.self.now.keys.keys) (c.args.self.now.keys.keys ++ keys_of c.in-Ok.fresh.items) rules.items c.take_in.new.self.rows.items c.take_in.new.self.parts c.args.limit) (sym c.in-Ok.ensures.rules)
+    (within_round (hunt_of (g.met.E.Expand.lawful c.args.problem.now) g.met.E.Key.Ord.total g.met.E.Key.TableKey.same g.met.E.Key.Eq.laws.refl) g.E.Key.TableKey.shelf_of (λ x. g.met.E.Key.TableKey.low x) c.args.self.now.keys.keys c.args.first c.args.self.now.rules.items c.args.self.now.parts c.args.limit c.requires.between c.requires.worked.0 c.args.worked.rows.items c.args.worked.parts c.requires.worked.2 (map (λ v. v.items) c.args.worked.shelves.items) c.requires.worked.1
+    (λ i k below e. end_admitted ((g.E.Expand.hunted c.args.problem.now).edge c.args.self.now.keys.keys i) (g.E.Expand.hunted c.args.problem.now).ends_of (g.E.Expand.admits c.args.problem.now) (λ o e k is h. (g.met.E.Expand.lawful c.args.problem.now).ends_admitted c.args.self.now.keys.keys i o e k c.requires.between.held.admitted below is h) k e)
+    (c.args.self.now.keys.keys ++ keys_of c.in-Ok.fresh.items) c.in-Ok.ensures.keys r.0 r.1 c.take_in.new.self.rows.items r.2 c.take_in.new.self.parts c.in-Ok.ensures.parts c.in-Ok.ensures.within)
+
+pub returns-in-Err-clause-more : goal.returns-in-Err-clause-more
+returns-in-Err-clause-more g c = told_new (hunt_of (g.met.E.Expand.lawful c.args.problem.now) g.met.E.Key.Ord.total g.met.E.Key.TableKey.same g.met.E.Key.Eq.laws.refl) g.E.Key.TableKey.shelf_of (λ x. g.met.E.Key.TableKey.low x) c.args.self.now.keys.keys c.args.first c.args.self.now.rules.items c.args.self.now.parts c.args.limit c.requires.between c.requires.worked.0 c.args.worked.rows.items c.args.worked.parts c.requires.worked.2 (map (λ v. v.items) c.args.worked.shelves.items) c.requires.worked.1 c.in-Err.error c.in-Err.ensures.more
