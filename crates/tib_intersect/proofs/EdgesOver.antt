@@ -1,12 +1,13 @@
 -- The edges of every position of an order, as one list by position and origin.
 use Rattle.std.specs.Prelude.{ℕ, ◌<◌, List}
+use Rattle.tib_lex.specs.PairOrder.{pair_cmp}
 use Rattle.tib_grammar.specs.declared.Rule.{Rule}
 use Rattle.tib_hunt.specs.EdgeLists.{Lists}
 use Rattle.tib_hunt.specs.Reached.{AreEdges}
 use Rattle.tib_hunt.specs.Numbered.{key_parts}
 use Rattle.tib_keyed.proofs.KeyOrders.{edges_below as keyed_edges}
 use Rattle.tib_intersect.specs.PairEdges.{pair_at, IsPairEdge, ends_of, edge_parts}
-use Rattle.tib_intersect.specs.Intersection.{pair_cmp, intersection}
+use Rattle.tib_intersect.specs.Intersection.{intersection}
 
 -- edges position by position are a list by position and origin
 pub edges_below :

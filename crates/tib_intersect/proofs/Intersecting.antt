@@ -1,6 +1,6 @@
 -- The grammar of the pairs has the product of the series.
 use Rattle.std.specs.Prelude.{◌≡◌, ℕ, ◌<◌, ◌≤◌, ◌↔◌, List, [], ◌∷◌, length, Bool, map, zip, refl, Option}
-use Rattle.std.proofs.Common.{zero, suc, arith, ap, sym, ◌∙◌, subst, get_or}
+use Rattle.std.proofs.Common.{arith, ap, sym, ◌∙◌, subst}
 use Rattle.tib_lex.specs.Lists.{Has}
 use Rattle.tib_tree.specs.Trees.{Trees, Tree, none, tree, relabel, only}
 use Rattle.tib_grammar.specs.Sides.{Symbol, label, hole, holes, AreHoles, symbol_map, leaves, over}
@@ -11,16 +11,18 @@ use Rattle.tib_grammar.specs.Range.{AllBelow}
 use Rattle.tib_grammar.specs.GrammarOf.{named_rule}
 use Rattle.tib_grammar.specs.declared.Rule.{Rule}
 use Rattle.tib_grammar.proofs.Sides.{holes-relabel, holes-leaves, holes_of-label, one_label}
-use Rattle.tib_grammar.proofs.NormalRuns.{none_to, IsLeast-no_states}
-use Rattle.tib_grammar.proofs.Best.{no_trees, no_states}
+use Rattle.tib_grammar.proofs.NormalRuns.{none_to, IsLeast-no_states, no_states}
+use Rattle.tib_grammar.proofs.Best.{no_trees}
 use Rattle.tib_cost.specs.Semiring.{ProductLaws, most}
 use Rattle.tib_cost.specs.Least.{IsLeast, Products, times}
 use Rattle.tib_cost.proofs.Least.{IsLeast-dominated, IsLeast-products, IsLeast-unique, at_least_right}
+use Rattle.tib_lex.proofs.Places.{distinct_at, get_map}
+use Rattle.tib_lex.proofs.Alongs.{along_at, along_has}
+use Rattle.tib_lex.proofs.Lists.{length_map}
 use Rattle.tib_intersect.specs.PairEdges.{pair_at, IsPairEdge}
 use Rattle.tib_intersect.specs.PairGrammar.{IsPairGrammar, GivesEdge}
 use Rattle.tib_intersect.specs.PairLaws.{same_edge}
 use Rattle.tib_intersect.proofs.Steps.{mix, count-costs}
-pub use Rattle.tib_keyed.proofs.Partners.{distinct_at, along_at, along_has}
 use Rattle.tib_grammar.proofs.Opening.{open_cost, close_cost}
 
 -- what becomes holes by new names was holes
@@ -142,7 +144,7 @@ module _
   project none [] c h =
       let e : c ≡ 0 = none_to laws rules c h in (0, 0, (IsLeast-no_states laws one).attained.0, (IsLeast-no_states laws two).attained.0, laws.neutral 0 ∙ sym e)
   project none (k ∷ ks) c h = absurd (no_trees laws rules rules_normal k ks c h)
-  project (tree f kids rest) [] c h = absurd (no_states laws rules rules_normal f kids rest c h)
+  project (tree f kids rest) [] c h = absurd (no_states rules f kids rest c h)
   project (tree f kids rest) (k ∷ ks) c h =
       let p = open_cost laws rules rules_normal k ks f kids rest c h in
       let s = pairs.sound p.rule p.below in
@@ -192,7 +194,7 @@ module _
       let d : b ≡ 0 = none_to laws two b k in
       subst (IsCost product rules [] none) (sym (ap (λ x. product x b) e ∙ laws.neutral b ∙ d)) (IsLeast-no_states laws rules).attained.0
   pair_up none (q ∷ ks) a b r h k m = absurd (no_trees laws one one_normal (pair_at order q).0 (firsts order ks) a h)
-  pair_up (tree f kids rest) [] a b r h k m = absurd (no_states laws one one_normal f kids rest a h)
+  pair_up (tree f kids rest) [] a b r h k m = absurd (no_states one f kids rest a h)
   pair_up (tree f kids rest) (q ∷ ks) a b r h k m =
       let p = open_cost laws one one_normal (pair_at order q).0 (firsts order ks) f kids rest a h in
       let t = open_cost laws two two_normal (pair_at order q).1 (seconds order ks) f kids rest b k in
@@ -287,17 +289,6 @@ module _
           (omega (arith, p.4)))
 
 -- from lists of edges by their origins
-
--- the element of a map at an index
-pub get_map : {A B : Type 0} (g : A → B) (xs : List A) (j : ℕ) (d : B) (c : A) → j < length xs → get_or (map g xs) j d ≡ g (get_or xs j c)
-get_map g [] j d c h = absurd (omega arith)
-get_map g (x ∷ xs) zero d c h = refl
-get_map g (x ∷ xs) (suc j) d c h = get_map g xs j d c (omega arith)
-
--- a map keeps the length
-pub length_map : {A B : Type 0} (g : A → B) (xs : List A) → length (map g xs) ≡ length xs
-length_map g [] = refl
-length_map g (x ∷ xs) = ap suc (length_map g xs)
 
 sound_from : (product : ℕ → ℕ → ℕ) (one two : List (Rule ℕ)) (order : List (ℕ × ℕ)) (rules : List (Rule ℕ)) → IsPairGrammar product one two order rules → IsSound product one two order rules
 sound_from product one two order rules found =

@@ -1,11 +1,9 @@
 pub mod Steps
 pub mod Intersecting
-pub mod Buckets
 pub mod Positions
 pub mod Lists
 pub mod Listed
 pub mod Matches
-pub mod Below
 pub mod Settled
 pub mod Whole
 pub mod PairOrders

@@ -1,6 +1,6 @@
 -- One edge more, and what whole lists of edges say.
 use Rattle.std.specs.Prelude.{◌≡◌, ℕ, ◌+◌, ◌<◌, ◌≤◌, List, [], ◌∷◌, ◌++◌, length, map, take, zip, refl, slice_index_or}
-use Rattle.std.proofs.Common.{zero, suc, arith, ap, sym, ◌∙◌, subst, get_or, inl, inr, append_assoc}
+use Rattle.std.proofs.Common.{suc, arith, ap, sym, ◌∙◌, subst, get_or, inl, inr, append_assoc}
 use Rattle.std.proofs.lemmas.List.{length-append, map_more}
 use Rattle.tib_lex.specs.Lists.{Has, Each, Distinct, Along}
 use Rattle.tib_tree.specs.Trees.{sizes}
@@ -11,40 +11,25 @@ use Rattle.tib_grammar.specs.Forms.{IsNormalSide}
 use Rattle.tib_grammar.proofs.NormalRuns.{label_named}
 use Rattle.tib_grammar.specs.declared.Rule.{Rule}
 use Rattle.tib_grammar.proofs.Sides.{holes_of-over}
-use Rattle.tib_hunt.specs.declared.place.Place.{Place}
-use Rattle.tib_hunt.specs.declared.place.Place.TheVariants.{Known, End}
 use Rattle.tib_hunt.specs.EdgeLists.{IsWithin, key_at}
 use Rattle.tib_intersect.specs.declared.listing.Listing.{Listing}
 use Rattle.tib_intersect.specs.declared.pair_rule.PairRule.{PairRule}
 use Rattle.tib_intersect.specs.PairEdges.{pair_at, IsPairEdge, ends_of, edge_parts}
-use Rattle.tib_intersect.specs.PairRules.{ends_from, places_of, Reads}
+use Rattle.tib_intersect.specs.PairRules.{places_of, Reads}
 use Rattle.tib_intersect.specs.Listing.{states_of, pairs_of, all_ends, Agree, IsAdded, IsPassed, IsNext, IsTooMuch, IsListed, Overruns, Stands}
 use Rattle.tib_intersect.specs.PairLaws.{reads_places}
-use Rattle.tib_intersect.proofs.Lists.{along_more, along_map, total_more}
 use Rattle.tib_lex.proofs.Members.{distinct_more, each_has, has_at, has_left, has_right, has_either}
-use Rattle.tib_lex.proofs.Lists.{each_weaker}
+use Rattle.tib_lex.proofs.Lists.{each_weaker, total_more}
+use Rattle.tib_lex.proofs.Places.{not_before, index_get}
+use Rattle.tib_lex.proofs.Alongs.{along_more, along_map}
+use Rattle.tib_keyed.specs.Ends.{ends_from}
+use Rattle.tib_keyed.proofs.Ends.{within_wider, place_stays, ends_within}
 
 module _ {K : Type 0} where
-  -- a key that stands in a list stands there too where the list goes on
-  pub index_append : (xs ys : List K) (i : ℕ) (d : K) → i < length xs → slice_index_or (xs ++ ys) i d ≡ slice_index_or xs i d
-  index_append [] ys i d h = absurd (omega arith)
-  index_append (x ∷ xs) ys zero d h = refl
-  index_append (x ∷ xs) ys (suc i) d h = index_append xs ys i d (omega arith)
-
   -- the element behind the first list
   pub index_seam : (xs : List K) (y : K) (ys : List K) (d : K) → slice_index_or (xs ++ y ∷ ys) (length xs) d ≡ y
   index_seam [] y ys d = refl
   index_seam (x ∷ xs) y ys d = index_seam xs y ys d
-
-  -- an index in range reads the element
-  pub index_get : (xs : List K) (i : ℕ) (d c : K) → i < length xs → slice_index_or xs i d ≡ get_or xs i c
-  index_get [] i d c h = absurd (omega arith)
-  index_get (x ∷ xs) zero d c h = refl
-  index_get (x ∷ xs) (suc i) d c h = index_get xs i d c (omega arith)
-
-  place_stays : (d : K) (order xs ys : List K) (p : Place) → IsWithin (length order) (length xs) p → key_at d order (xs ++ ys) p ≡ key_at d order xs p
-  place_stays d order xs ys (Known p) h = refl
-  place_stays d order xs ys (End i) h = index_append xs ys i d h
 
   -- the ends behind a list are read in order
   pub reads_ends : (d : K) (order xs zs : List K) (n : ℕ) → n ≡ length xs → map (key_at d order (xs ++ zs)) (ends_from n (length zs)) ≡ zs
@@ -54,14 +39,6 @@ module _ {K : Type 0} where
       ∙ ap (λ ks. z ∷ ks)
       (ap (λ ys. map (key_at d order ys) (ends_from (suc n) (length zs))) (sym (append_assoc xs (z ∷ []) zs))
       ∙ reads_ends d order (xs ++ z ∷ []) zs (suc n) (omega (arith, e, length-append xs (z ∷ []))))
-
-within_wider : (n m l : ℕ) → m ≤ l → (p : Place) → IsWithin n m p → IsWithin n l p
-within_wider n m l h (Known p) k = k
-within_wider n m l h (End i) k = omega arith
-
-ends_within : (n m i k : ℕ) → i + k ≤ m → Each (IsWithin n m) (ends_from i k)
-ends_within n m i zero h = tt
-ends_within n m i (suc k) h = (omega arith, ends_within n m (suc i) k (omega arith))
 
 -- a rule reads the same where the ends go on
 pub reads_longer : (order xs ys : List (ℕ × ℕ)) (r : PairRule) (e : Rule (ℕ × ℕ)) → Reads order xs r e → Reads order (xs ++ ys) r e
@@ -212,15 +189,6 @@ module _ (product : ℕ → ℕ → ℕ) (ones twos : List (Rule ℕ)) (order : 
           given = along_more (IsPairEdge product ones twos (pair_at order n)) listed.origins listed.edges (i, j) e listed.given (edge_of i j root one two are is much.within);
           more = omega (arith, much.more, listed.counted, total_more edge_parts listed.edges e, parts-of root one two (pair_at order n) (product one.cost two.cost) are.agree);
         }
-
--- an element does not stand among those before it
-pub not_before : {A : Type 0} (xs : List A) (i : ℕ) (d : A) → Distinct xs → i < length xs → Has (take i xs) (get_or xs i d) → ⊥
-not_before [] i d s h k = omega arith
-not_before (x ∷ xs) zero d s h k = k
-not_before (x ∷ xs) (suc i) d s h k = elim k [
-  | inl e ↦ s.0 (subst (Has xs) (sym e) (has_at xs i d (omega arith)))
-  | inr m ↦ not_before xs i d s.1 (omega arith) m
-]
 
 has_second : (i j : ℕ) (js : List ℕ) → Has {A = ℕ × ℕ} (map (λ j. (i, j)) js) (i, j) → Has js j
 has_second i j [] h = h

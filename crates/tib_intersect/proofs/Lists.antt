@@ -2,7 +2,6 @@
 use Rattle.std.specs.Prelude.{◌≡◌, ℕ, ◌+◌, ◌<◌, ◌≤◌, List, [], ◌∷◌, ◌++◌, length, map, take, zip, refl}
 use Rattle.std.proofs.Common.{zero, suc, arith, ap, sym, ◌∙◌, get_or, append_assoc}
 use Rattle.std.proofs.lemmas.List.{take_all}
-pub use Rattle.tib_keyed.proofs.Partners.{along_more, along_map, total_more, total_fewer}
 
 -- one pair more of two lists side by side
 pub zip_at :

@@ -15,10 +15,10 @@ use Rattle.tib_intersect.specs.PairEdges.{pair_at, IsPairEdge}
 use Rattle.tib_intersect.specs.PairRules.{Reads}
 use Rattle.tib_intersect.specs.Matching.{positions_from, positions_with, has_shape}
 use Rattle.tib_intersect.specs.Listing.{states_of, Agree, IsListed, Stands, AreListedFrom}
-use Rattle.tib_intersect.proofs.Listed.{not_before}
 use Rattle.tib_lex.proofs.Booleans.{and-true, and-both}
 use Rattle.tib_lex.proofs.Numbers.{nat_eq-true}
 use Rattle.tib_lex.proofs.Members.{each_of, has_at, has_left, has_right, has_either}
+use Rattle.tib_lex.proofs.Places.{not_before}
 use Rattle.tib_grammar.proofs.Sides.{length-holes, one_label, is_label-true, is_label_cases}
 
 -- p, counted from k, is the position of a rule that passes the test

@@ -12,11 +12,11 @@ use Rattle.tib_intersect.specs.PairEdges.{pair_at, IsPairEdge}
 use Rattle.tib_intersect.specs.PairGrammar.{GivesEdge}
 use Rattle.tib_intersect.specs.PairLaws.{same_edge}
 use Rattle.tib_intersect.specs.Intersection.{intersection, OrderIsFree, IsOneSet}
-use Rattle.tib_intersect.proofs.Intersecting.{distinct_at}
-use Rattle.tib_intersect.proofs.Whole.{along_of, along_back}
 use Rattle.tib_intersect.proofs.PairOrders.{pair_laws}
 use Rattle.tib_intersect.proofs.EdgesOver.{edges_below}
 use Rattle.tib_lex.proofs.Members.{has_at, at_has}
+use Rattle.tib_lex.proofs.Places.{distinct_at}
+use Rattle.tib_lex.proofs.Alongs.{along_of, along_back}
 
 -- lists of rules that differ in their order
 

@@ -1,8 +1,8 @@
 -- The order of the pairs by rounds: it begins with the pair of the starts, and has no pair twice.
 use Rattle.std.specs.Prelude.{◌≡◌, ℕ, List, ◌∷◌}
-use Rattle.std.specs.Cmp.{IsTotalOrder}
-use Rattle.std.proofs.lemmas.Cmp.{then_total, on_total, nat_cmp_total}
 use Rattle.tib_lex.specs.Lists.{Distinct}
+use Rattle.tib_lex.specs.PairOrder.{pair_cmp}
+use Rattle.tib_lex.proofs.PairOrder.{pair_total}
 use Rattle.tib_grammar.specs.declared.Rule.{Rule}
 use Rattle.tib_hunt.specs.Reached.{AfterRounds}
 use Rattle.tib_hunt.specs.Numbered.{key_parts}
@@ -10,11 +10,7 @@ use Rattle.tib_hunt.proofs.Reaching.{Laws}
 use Rattle.tib_keyed.proofs.KeyOrders.{order_begins as keyed_begins, order_once as keyed_once, op_laws}
 use Rattle.tib_intersect.specs.PairEdges.{IsPairEdge, ends_of, edge_parts}
 use Rattle.tib_intersect.specs.PairLaws.{same_edge}
-use Rattle.tib_intersect.specs.Intersection.{pair_cmp, intersection}
-
--- pairs have a total order
-pub pair_total : IsTotalOrder pair_cmp
-pair_total = then_total (on_total (λ (p : ℕ × ℕ). p.0) nat_cmp_total) (on_total (λ (p : ℕ × ℕ). p.1) nat_cmp_total)
+use Rattle.tib_intersect.specs.Intersection.{intersection}
 
 module _ (product : ℕ → ℕ → ℕ) (one two : List (Rule ℕ)) where
   -- the laws of the intersection

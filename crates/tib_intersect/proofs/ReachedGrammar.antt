@@ -1,47 +1,27 @@
 -- The reached set of the pairs as a grammar over the positions of its order.
-use Rattle.std.specs.Prelude.{◌≡◌, ℕ, ◌<◌, ◌≤◌, List, [], ◌∷◌, ◌++◌, length, map, zip, refl, IfOk}
-use Rattle.std.proofs.Common.{suc, arith, ap, sym, ◌∙◌, subst, Ok, Err}
-use Rattle.std.specs.declared.result.Result.{Result}
-use Rattle.tib_lex.specs.Lists.{Each, total}
-use Rattle.tib_tree.specs.Trees.{Trees, none, tree, relabel, only}
+use Rattle.std.specs.Prelude.{◌≡◌, ℕ, ◌<◌, ◌≤◌, List, [], ◌∷◌, length, map, zip, refl}
+use Rattle.std.proofs.Common.{suc, arith, ap, sym, ◌∙◌, subst}
+use Rattle.tib_lex.specs.Lists.{total}
+use Rattle.tib_tree.specs.Trees.{Trees, none, tree, relabel}
 use Rattle.tib_grammar.specs.Sides.{Symbol, label, hole, holes, symbol_map, leaves}
 use Rattle.tib_grammar.specs.Run.{rule_at, no_rule}
-use Rattle.tib_grammar.specs.Range.{AllBelow, AreInRange}
-use Rattle.tib_grammar.proofs.Below.{below_append}
 use Rattle.tib_grammar.specs.GrammarOf.{GrammarOf, named_rule}
 use Rattle.tib_grammar.specs.declared.Rule.{Rule}
 use Rattle.tib_hunt.specs.Reached.{IsReachedSet, IsBeyond, parts_of}
 use Rattle.tib_hunt.specs.Rows.{AreBelow}
 use Rattle.tib_hunt.specs.Numbered.{key_parts}
 use Rattle.tib_intersect.specs.PairEdges.{pair_at, IsPairEdge, edge_parts}
-use Rattle.tib_intersect.specs.PairRules.{states_in, positions_of}
 use Rattle.tib_intersect.specs.PairGrammar.{IsPairGrammar, GivesEdge}
 use Rattle.tib_intersect.specs.Intersection.{intersection, HasRootOf}
-use Rattle.tib_intersect.proofs.Intersecting.{label-relabel, firsts-zip, along_at, get_map, length_map}
+use Rattle.tib_intersect.proofs.Intersecting.{label-relabel, firsts-zip}
 use Rattle.tib_intersect.proofs.PairOrders.{order_once, order_begins}
 use Rattle.tib_intersect.proofs.EdgesOver.{edges_below}
-use Rattle.tib_lex.proofs.Members.{each_has, has_at}
-
--- range
-
-each_left : (n : ℕ) (xs ys : List ℕ) → Each (λ q. q < n) (xs ++ ys) → Each (λ q. q < n) xs
-each_left n [] ys h = tt
-each_left n (x ∷ xs) ys h = (h.0, each_left n xs ys h.1)
-
-each_right : (n : ℕ) (xs ys : List ℕ) → Each (λ q. q < n) (xs ++ ys) → Each (λ q. q < n) ys
-each_right n [] ys h = h
-each_right n (x ∷ xs) ys h = each_right n xs ys h.1
-
-holes_below : (n : ℕ) (ts : Trees (Symbol ℕ ℕ)) → Each (λ q. q < n) (states_in ts) → AllBelow n (holes ts)
-holes_below n none h = tt
-holes_below n (tree (label x) kids rest) h =
-    below_append n (holes kids) (holes rest) (holes_below n kids (each_left n (states_in kids) (states_in rest) h)) (holes_below n rest (each_right n (states_in kids) (states_in rest) h))
-holes_below n (tree (hole q) kids rest) h = (h.0, holes_below n rest (each_right n (states_in kids) (states_in rest) h.1))
-
-rules_in_range : (n : ℕ) (rules : List (Rule ℕ)) → AreBelow positions_of n rules → AreInRange n rules
-rules_in_range n rules below m h =
-    let here : Each (λ q. q < n) (positions_of (rule_at rules m)) = each_has (λ rule. Each (λ q. q < n) (positions_of rule)) rules (rule_at rules m) below (has_at rules m no_rule h) in
-    (here.0, holes_below n (only (rule_at rules m).right) here.1)
+use Rattle.tib_lex.proofs.Places.{get_map}
+use Rattle.tib_lex.proofs.Lists.{length_map}
+use Rattle.tib_lex.proofs.Alongs.{along_at}
+use Rattle.tib_grammar.specs.Positions.{positions_of}
+use Rattle.tib_grammar.proofs.Positions.{rules_in_range}
+use Rattle.tib_keyed.proofs.Limits.{each_counts}
 
 -- right sides
 
@@ -102,10 +82,6 @@ pairs_least : (order : List (ℕ × ℕ)) → length order ≤ total (key_parts 
 pairs_least [] = omega arith
 pairs_least (k ∷ order) = omega (arith, pairs_least order)
 
-edges_least : (es : List (Rule (ℕ × ℕ))) → length es ≤ total edge_parts es
-edges_least [] = omega arith
-edges_least (e ∷ es) = omega (arith, edges_least es)
-
 module _ (product : ℕ → ℕ → ℕ) (one two : List (Rule ℕ)) (order : List (ℕ × ℕ)) (rules : List (Rule ℕ)) (parts limit : ℕ)
     (counted : parts ≡ parts_of (intersection product one two) order (map (named_rule (pair_at order)) rules)) (within : parts ≤ limit) where
   -- there are no more pairs than the limit
@@ -114,7 +90,7 @@ module _ (product : ℕ → ℕ → ℕ) (one two : List (Rule ℕ)) (order : Li
 
   -- there are no more rules than the limit
   pub few_rules : length rules ≤ limit
-  few_rules = omega (arith, edges_least (map (named_rule (pair_at order)) rules), length_map (named_rule (pair_at order)) rules, counted, within)
+  few_rules = omega (arith, each_counts edge_parts (λ e. omega arith) (map (named_rule (pair_at order)) rules), length_map (named_rule (pair_at order)) rules, counted, within)
 
 -- the same grammars under other names
 
@@ -128,8 +104,3 @@ module _ (product : ℕ → ℕ → ℕ) (near far left right : GrammarOf) (same
   pub beyond_of : (limit : ℕ) → IsBeyond (intersection product near.rules far.rules) limit → IsBeyond (intersection product left.rules right.rules) limit
   beyond_of limit h =
       subst (λ (x : GrammarOf). IsBeyond (intersection product left.rules x.rules) limit) same_right (subst (λ (x : GrammarOf). IsBeyond (intersection product x.rules far.rules) limit) same_left h)
-
--- what follows from two clauses of one answer
-pub ok_both : {T E : Type 0} (r : Result T E) (P Q R : T → Type 0) → ((x : T) → P x → Q x → R x) → IfOk r P → IfOk r Q → IfOk r R
-ok_both (Ok x) P Q R f h k = f x h k
-ok_both (Err e) P Q R f h k = tt

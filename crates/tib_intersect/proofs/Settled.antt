@@ -1,15 +1,16 @@
 -- Rules over positions.
 use Rattle.std.specs.Prelude.{◌≡◌, ℕ, ◌+◌, ◌<◌, ◌≤◌, List, [], ◌∷◌, ◌++◌, length, map, take, drop, refl, slice_index}
 use Rattle.std.proofs.Common.{zero, suc, arith, ap, ◌∙◌}
-use Rattle.tib_lex.specs.Lists.{Each}
 use Rattle.tib_tree.specs.Trees.{none, tree, relabel}
 use Rattle.tib_grammar.specs.Sides.{label, hole, symbol_map, leaves, over}
 use Rattle.tib_grammar.specs.GrammarOf.{named_rule}
 use Rattle.tib_grammar.specs.declared.Rule.{Rule}
+use Rattle.tib_grammar.specs.Positions.{states_in, positions_of}
 use Rattle.tib_hunt.specs.declared.place.Place.{Place}
-use Rattle.tib_hunt.specs.EdgeLists.{IsWithin, position_of}
+use Rattle.tib_hunt.specs.EdgeLists.{position_of}
+use Rattle.tib_keyed.specs.Ends.{ends_from}
 use Rattle.tib_intersect.specs.declared.pair_rule.PairRule.{PairRule}
-use Rattle.tib_intersect.specs.PairRules.{ends_from, places_of, read_places, states_in, positions_of}
+use Rattle.tib_intersect.specs.PairRules.{places_of, read_places}
 
 -- the positions of ends that stand side by side
 drop_at : (ends : List ℕ) (i : ℕ) → i < length ends → drop i ends ≡ slice_index ends i ∷ drop (suc i) ends
@@ -22,12 +23,6 @@ pub positions_are : (ends : List ℕ) (i k : ℕ) → i + k ≤ length ends → 
 positions_are ends i zero h = refl
 positions_are ends i (suc k) h =
     ap (λ xs. take (suc k) xs) (drop_at ends i (omega arith)) ∙ ap (λ xs. slice_index ends i ∷ xs) (positions_are ends (suc i) k (omega arith))
-
--- the ends of a rule are a slice of the list
-pub ends_fit : (known m i k : ℕ) → Each (IsWithin known m) (ends_from i k) → 0 < k → i + k ≤ m
-ends_fit known m i zero h p = absurd (omega arith)
-ends_fit known m i (suc zero) h p = omega (arith, h.0)
-ends_fit known m i (suc (suc k)) h p = omega (arith, ends_fit known m (suc i) (suc k) h.1 (omega arith))
 
 length-ends : (f : Place → ℕ) (i k : ℕ) → length (map f (ends_from i k)) ≡ k
 length-ends f i zero = refl

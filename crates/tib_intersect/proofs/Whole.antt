@@ -11,8 +11,8 @@ use Rattle.tib_intersect.specs.PairEdges.{pair_at, IsPairEdge, ends_of, edge_par
 use Rattle.tib_intersect.specs.PairRules.{places_of, read_places, Reads}
 use Rattle.tib_intersect.specs.Listing.{all_ends, IsWithinBudget, AreListedFrom, Overruns}
 use Rattle.tib_intersect.specs.PairLaws.{same_edge}
-pub use Rattle.tib_keyed.proofs.Partners.{along_of, along_back, total_fewer}
 use Rattle.tib_lex.proofs.Members.{has_left, has_right, has_either}
+use Rattle.tib_lex.proofs.Alongs.{along_of, along_back, total_fewer}
 
 reads_within : (order ends : List (ℕ × ℕ)) (rules : List PairRule) (es : List (Rule (ℕ × ℕ))) → Along (Reads order ends) rules es → Each (λ r. Each (IsWithin (length order) (length ends)) (places_of r)) rules
 reads_within order ends [] es a = tt

@@ -1,19 +1,14 @@
 -- The intersection of two grammars, as what is hunted.
 use Rattle.std.specs.Prelude.{◌≡◌, ℕ, ◌<◌, List, length}
-use Rattle.std.specs.Ordering.{nat_cmp, ordering_then}
-use Rattle.std.specs.declared.cmp.Ordering.{Ordering}
 use Rattle.tib_grammar.specs.Sides.{label, holes, over}
 use Rattle.tib_grammar.specs.Run.{rule_at}
 use Rattle.tib_grammar.specs.declared.Rule.{Rule}
 use Rattle.tib_lex.specs.Lists.{Has, IsReordering}
+use Rattle.tib_lex.specs.PairOrder.{pair_cmp}
 use Rattle.tib_hunt.specs.Reached.{Operation, IsReachedSet}
 use Rattle.tib_keyed.specs.Keyed.{keyed}
 use Rattle.tib_hunt.specs.Numbered.{key_parts}
 use Rattle.tib_intersect.specs.PairEdges.{IsPairEdge, ends_of, edge_parts}
-
--- by the first state, then the second
-abbrev pub pair_cmp : ℕ × ℕ → ℕ × ℕ → Ordering
-pair_cmp x y = ordering_then (nat_cmp x.0 y.0) (nat_cmp x.1 y.1)
 
 -- From the pair of the starts each pair leads on along each two rules that agree in label and rank. A pair has three
 -- parts, and an edge one and the nodes of its right side.

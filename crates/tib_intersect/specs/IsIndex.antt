@@ -1,7 +1,8 @@
 -- What an index of rules holds.
 use Rattle.std.specs.Prelude.{◌≡◌, ℕ, List}
 use Rattle.tib_grammar.specs.declared.Rule.{Rule}
-use Rattle.tib_intersect.specs.Matching.{AreNumbered, held, positions_with}
+use Rattle.tib_grammar.specs.ShapeBuckets.{AreNumbered, held}
+use Rattle.tib_intersect.specs.Matching.{positions_with}
 use Rattle.tib_intersect.specs.declared.index.Index.{Index}
 
 -- for each shape the positions of its rules

@@ -1,7 +1,6 @@
 -- The edges of pairs of states (the product construction of tree automata, Comon et al. 2007).
 use Rattle.std.specs.Prelude.{◌≡◌, ℕ, ◌<◌, ◌≤◌, ◌+◌, List, length, zip}
 use Rattle.std.proofs.Common.{get_or}
-use Rattle.tib_lex.specs.Lists.{Has}
 use Rattle.tib_tree.specs.Trees.{size}
 use Rattle.tib_grammar.specs.Sides.{label, holes, holes_of, over}
 use Rattle.tib_grammar.specs.Run.{rule_at}
@@ -27,10 +26,6 @@ pub record IsPairEdge (product : ℕ → ℕ → ℕ) (one two : List (Rule ℕ)
   pub right : e.right ≡ over root (zip (holes (rule_at one origin.0).right.kids) (holes (rule_at two origin.1).right.kids))
   pub costs : e.cost ≡ product (rule_at one origin.0).cost (rule_at two origin.1).cost
   pub within : e.cost ≤ most
-
--- the states in the right sides of the rules are below a number
-abbrev pub StatesBelow : ℕ → List (Rule ℕ) → Type 0
-StatesBelow n rules = (m q : ℕ) → m < length rules → Has (holes_of (rule_at rules m).right) q → q < n
 
 -- the pairs at which an edge ends
 abbrev pub ends_of : Rule (ℕ × ℕ) → List (ℕ × ℕ)

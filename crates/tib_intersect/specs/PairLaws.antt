@@ -1,20 +1,24 @@
 -- What holds of all edges of pairs and of all rules that stand for them.
-use Rattle.std.specs.Prelude.{◌≡◌, ℕ, ◌+◌, ◌<◌, List, [], ◌∷◌, ◌++◌, map, take, zip, refl}
-use Rattle.std.proofs.Common.{zero, suc, arith, ap, sym, ◌∙◌, subst, get_or, inl, inr}
+use Rattle.std.specs.Prelude.{◌≡◌, ℕ, ◌+◌, ◌<◌, List, [], ◌∷◌, map, take, zip, refl}
+use Rattle.std.proofs.Common.{suc, arith, ap, sym, ◌∙◌, subst, get_or, inl, inr}
 use Rattle.tib_lex.specs.Lists.{Has, Each}
-use Rattle.tib_tree.specs.Trees.{Trees, none, tree, relabel}
-use Rattle.tib_grammar.specs.Sides.{Symbol, label, hole, symbol_map, holes, holes_of, over, side_map}
-use Rattle.tib_grammar.specs.GrammarOf.{named_rule}
+use Rattle.tib_lex.specs.PairOrder.{pair_cmp}
+use Rattle.tib_lex.proofs.Lists.{map_same}
+use Rattle.tib_lex.proofs.Places.{take_at}
+use Rattle.tib_grammar.specs.Sides.{label, holes, holes_of, over}
 use Rattle.tib_grammar.specs.Run.{rule_at}
 use Rattle.tib_grammar.specs.declared.Rule.{Rule}
+use Rattle.tib_grammar.specs.Range.{StatesBelow}
 use Rattle.tib_grammar.proofs.Sides.{holes_of-label, holes_of-over, one_label}
+use Rattle.tib_grammar.proofs.Positions.{reads_positions}
 use Rattle.tib_hunt.specs.declared.place.Place.{Place}
 use Rattle.tib_hunt.specs.declared.place.Place.TheVariants.{Known}
 use Rattle.tib_intersect.specs.declared.pair_rule.PairRule.{PairRule}
-use Rattle.tib_intersect.specs.PairEdges.{pair_at, IsPairEdge, StatesBelow, ends_of}
+use Rattle.tib_intersect.specs.PairEdges.{pair_at, IsPairEdge, ends_of}
 use Rattle.tib_hunt.specs.Lawful.{IsLawful}
-use Rattle.tib_intersect.specs.Intersection.{intersection, pair_cmp}
-use Rattle.tib_intersect.specs.PairRules.{ends_from, places_of, read_places, states_in, positions_of, pair_reading}
+use Rattle.tib_keyed.specs.Ends.{ends_from}
+use Rattle.tib_intersect.specs.Intersection.{intersection}
+use Rattle.tib_intersect.specs.PairRules.{places_of, read_places, pair_reading}
 
 -- an origin gives one edge
 pub same_edge : (product : ℕ → ℕ → ℕ) (one two : List (Rule ℕ)) (key o : ℕ × ℕ) (e d : Rule (ℕ × ℕ)) →
@@ -29,51 +33,11 @@ same_edge product one two key o e d h k =
     ∙ ap (λ r. record { left = d.left; right = r; cost = e.cost }) right
     ∙ ap (λ c. record { left = d.left; right = d.right; cost = c }) costs
 
--- functions that agree along a list have the same map
-pub map_same : {A B : Type 0} (f g : A → B) (xs : List A) → Each (λ x. f x ≡ g x) xs → map f xs ≡ map g xs
-map_same f g [] h = refl
-map_same f g (x ∷ xs) h = ap (λ y. y ∷ map f xs) h.0 ∙ ap (λ ys. g x ∷ ys) (map_same f g xs h.1)
-
 -- what a rule stands for depends on the keys at its places alone
 pub reads_places : {K : Type 0} (r : PairRule) (f g : Place → K) → Each (λ p. f p ≡ g p) (places_of r) → read_places f r ≡ read_places g r
 reads_places r f g h =
     ap (λ k. record { left = k; right = over r.label (map f (ends_from r.first_end r.rank)); cost = r.cost }) h.0
     ∙ ap (λ ks. record { left = g (Known r.position); right = over r.label ks; cost = r.cost }) (map_same f g (ends_from r.first_end r.rank) h.1)
-
-each_left : {A : Type 0} (P : A → Type 0) (xs ys : List A) → Each P (xs ++ ys) → Each P xs
-each_left P [] ys h = tt
-each_left P (x ∷ xs) ys h = (h.0, each_left P xs ys h.1)
-
-each_right : {A : Type 0} (P : A → Type 0) (xs ys : List A) → Each P (xs ++ ys) → Each P ys
-each_right P [] ys h = h
-each_right P (x ∷ xs) ys h = each_right P xs ys h.1
-
-relabel_same : {K : Type 0} (f g : ℕ → K) (ts : Trees (Symbol ℕ ℕ)) → Each (λ q. f q ≡ g q) (states_in ts) → relabel (symbol_map f) ts ≡ relabel (symbol_map g) ts
-relabel_same f g none h = refl
-relabel_same f g (tree (label x) kids rest) h =
-    ap (λ ks. tree (label x) ks (relabel (symbol_map f) rest)) (relabel_same f g kids (each_left (λ q. f q ≡ g q) (states_in kids) (states_in rest) h))
-    ∙ ap (λ rs. tree (label x) (relabel (symbol_map g) kids) rs) (relabel_same f g rest (each_right (λ q. f q ≡ g q) (states_in kids) (states_in rest) h))
-relabel_same f g (tree (hole q) kids rest) h =
-    ap (λ k. tree (hole k) (relabel (symbol_map f) kids) (relabel (symbol_map f) rest)) h.0
-    ∙ ap (λ ks. tree (hole (g q)) ks (relabel (symbol_map f) rest)) (relabel_same f g kids (each_left (λ q. f q ≡ g q) (states_in kids) (states_in rest) h.1))
-    ∙ ap (λ rs. tree (hole (g q)) (relabel (symbol_map g) kids) rs) (relabel_same f g rest (each_right (λ q. f q ≡ g q) (states_in kids) (states_in rest) h.1))
-
-symbol_same : {K : Type 0} (f g : ℕ → K) (s : Symbol ℕ ℕ) (kids : Trees (Symbol ℕ ℕ)) →
-    Each (λ q. f q ≡ g q) (states_in (tree s kids none)) → symbol_map {A = ℕ} f s ≡ symbol_map g s
-symbol_same f g (label x) kids h = refl
-symbol_same f g (hole q) kids h = ap hole h.0
-
-kids_same : {K : Type 0} (f g : ℕ → K) (s : Symbol ℕ ℕ) (kids : Trees (Symbol ℕ ℕ)) →
-    Each (λ q. f q ≡ g q) (states_in (tree s kids none)) → relabel (symbol_map f) kids ≡ relabel (symbol_map g) kids
-kids_same f g (label x) kids h = relabel_same f g kids (each_left (λ q. f q ≡ g q) (states_in kids) [] h)
-kids_same f g (hole q) kids h = relabel_same f g kids (each_left (λ q. f q ≡ g q) (states_in kids) [] h.1)
-
--- what a rule over positions stands for depends on the keys at these alone
-pub reads_positions : {K : Type 0} (r : Rule ℕ) (f g : ℕ → K) → Each (λ q. f q ≡ g q) (positions_of r) → named_rule f r ≡ named_rule g r
-reads_positions r f g h =
-    ap (λ k. record { left = k; right = side_map f r.right; cost = r.cost }) h.0
-    ∙ ap (λ s. record { left = g r.left; right = record { label = s; kids = relabel (symbol_map f) r.right.kids }; cost = r.cost }) (symbol_same f g r.right.label r.right.kids h.1)
-    ∙ ap (λ ks. record { left = g r.left; right = record { label = symbol_map g r.right.label; kids = ks }; cost = r.cost }) (kids_same f g r.right.label r.right.kids h.1)
 
 has_zip : (xs ys : List ℕ) (k : ℕ × ℕ) → Has {A = ℕ × ℕ} (zip xs ys) k → Has xs k.0 × Has ys k.1
 has_zip [] ys k h = absurd h
@@ -95,12 +59,6 @@ ends_below product ones twos a b key o e k one two is has =
       one o.0 k.0 is.first (subst (λ (xs : List ℕ). Has xs k.0) (sym (holes_of-label (rule_at ones o.0).right.label (rule_at ones o.0).right.kids is.root is.first_root)) both.0),
       two o.1 k.1 is.second (subst (λ (xs : List ℕ). Has xs k.1) (sym (holes_of-label (rule_at twos o.1).right.label (rule_at twos o.1).right.kids is.root is.second_root)) both.1),
     )
-
-take_at : {A : Type 0} (xs : List A) (n : ℕ) (d : A) → get_or (take (suc n) xs) n d ≡ get_or xs n d
-take_at [] zero d = refl
-take_at [] (suc n) d = refl
-take_at (x ∷ xs) zero d = refl
-take_at (x ∷ xs) (suc n) d = take_at xs n d
 
 -- two orders that agree up to a position have the same pair there
 pub pair_stays : (xs ys : List (ℕ × ℕ)) (n : ℕ) → take (n + 1) xs ≡ take (n + 1) ys → pair_at xs n ≡ pair_at ys n

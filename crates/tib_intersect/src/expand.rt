@@ -3,7 +3,8 @@
 ghost use Rattle.std.specs.Prelude.{◌≡◌, ℕ, ◌<◌, ◌^◌, length, map};
 ghost use Rattle.tib_lex.specs.Lists.{Each};
 ghost use Rattle.tib_hunt.specs.EdgeLists.{IsWithin, position_of};
-ghost use Rattle.tib_intersect.specs.PairRules.{ends_from, places_of};
+ghost use Rattle.tib_keyed.specs.Ends.{ends_from};
+ghost use Rattle.tib_intersect.specs.PairRules.{places_of};
 
 use crate::pair::Pair;
 use crate::pair_rule::PairRule;

@@ -3,7 +3,8 @@
 ghost use Rattle.std.specs.Prelude.{◌≡◌, ℕ, ◌+◌, ◌<◌, ◌≤◌, ◌^◌, IfOk, OnOk, length, List};
 ghost use Rattle.tib_grammar.specs.Forms.{AreNormal, IsNormalSide};
 ghost use Rattle.tib_grammar.specs.declared.Rule.{Rule};
-ghost use Rattle.tib_intersect.specs.Matching.{AddsPosition, AreNumbered, has_shape, positions_with, same_shape};
+ghost use Rattle.tib_grammar.specs.ShapeBuckets.{AddsPosition, AreNumbered, same_shape};
+ghost use Rattle.tib_intersect.specs.Matching.{has_shape, positions_with};
 ghost use Rattle.tib_intersect.specs.IsIndex.{IsIndex};
 
 use std::alloc::{AllocError, Global};

@@ -1,6 +1,6 @@
 //! The intersection of two grammars in normal form: pairs of states, reached along pairs of rules that agree in label
 //! and rank. `Pairs` is this as an operation for `tib_hunt`, and `intersect` answers the pairs that are reached, with
-//! their rules. It stands on `tib_cost`, `tib_grammar`, `tib_normal` and `tib_hunt`.
+//! their rules, as does `intersect_together` by several workers. It stands on `tib_cost`, `tib_grammar`, `tib_normal` and `tib_hunt`.
 #![tactic(auto)]
 
 mod expand;
@@ -17,4 +17,4 @@ mod tests;
 pub use pair::Pair;
 pub use pair_rule::PairRule;
 pub use pairs::Pairs;
-pub use reached::intersect;
+pub use reached::{intersect, intersect_together};

@@ -1,9 +1,9 @@
 //! The pairs of the states of two grammars, as what is hunted.
 
 ghost use Rattle.std.specs.Prelude.{◌≡◌, ℕ, ◌<◌, ◌≤◌, List, length, IfOk, Err};
+ghost use Rattle.tib_grammar.specs.Range.{StatesBelow};
 ghost use Rattle.tib_hunt.specs.Reached.{most_parts};
 ghost use Rattle.tib_intersect.specs.IsIndex.{IsIndex};
-ghost use Rattle.tib_intersect.specs.PairEdges.{StatesBelow};
 ghost use Rattle.tib_intersect.specs.Listing.{IsWithinBudget, ListsPair, PairOverruns};
 
 use crate::index::Index;

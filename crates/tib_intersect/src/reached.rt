@@ -8,9 +8,11 @@ ghost use Rattle.tib_intersect.specs.Intersection.{intersection};
 use crate::pair::Pair;
 use crate::pairs::Pairs;
 use std::alloc::Global;
+use std::sync::Wait;
+use std::thread::Threads;
 use tib_cost::Semiring;
 use tib_grammar::Rule;
-use tib_hunt::{Found, Gate, HuntError, hunt_alone};
+use tib_hunt::{Found, Gate, HuntError, hunt, hunt_alone};
 use tib_normal::Normal;
 
 /// The pairs that are reached from the pair of the starts, in the order by rounds, and the rules
@@ -43,4 +45,35 @@ pub fn intersect<S: Semiring, G: Gate>(
         return Err(HuntError::OutOfMemory);
     };
     hunt_alone(alloc, &pairs, limit, gate)
+}
+
+/// What `intersect` answers, found by this number of workers, 1 to 16, whatever the order of their
+/// steps. It may wait for ever, as the hunt by several workers (`hunt` of tib_hunt). Errors are those
+/// of `intersect`, and so is the cost, but for pairs that are expanded again.
+pub fn intersect_together<S: Semiring + Sync, R: Threads + Wait + Sync, G: Gate + Sync>(
+    rt: &R,
+    alloc: Global,
+    left: &Normal<S>,
+    right: &Normal<S>,
+    workers: u32,
+    limit: u64,
+    gate: &G,
+) -> Result<Found<Pair, Rule<u32>>, HuntError>
+    requires workers { (1 ≤ workers) × (workers ≤ 16) }
+    requires some { 1 ≤ limit }
+    requires limit { limit ≤ most_parts }
+    ensures reached { IfOk result (IsIntersection S.product left.now.rules right.now.rules) }
+    ensures grammar { IfOk result (IsGrammar S.product left.now.rules right.now.rules) }
+    ensures parts { IfOk result (HasParts S.product left.now.rules right.now.rules) }
+    ensures within { IfOk result (λ f. f.parts ≤ limit) }
+    ensures few { IfOk result (λ f. length f.order.items ≤ limit) }
+    ensures few_rules { IfOk result (λ f. length f.rules.items ≤ limit) }
+    ensures roots { IfOk result (HaveRootsOf left.now.rules) }
+    ensures more { let hunted = intersection S.product left.now.rules right.now.rules in
+        IfErr result (IfTooMany limit (IsBeyond hunted limit)) }
+{
+    let Ok(pairs) = Pairs::new(alloc, left, right) else {
+        return Err(HuntError::OutOfMemory);
+    };
+    hunt(rt, alloc, &pairs, workers, limit, gate)
 }

@@ -1,7 +1,7 @@
 // The edges of pairs of states of two small grammars, and their reached set, as text.
 ghost use Rattle.std.specs.Prelude.{◌≤◌};
 
-use crate::{Pair, PairRule, Pairs, intersect};
+use crate::{Pair, PairRule, Pairs, intersect, intersect_together};
 use std::alloc::{AllocError, Global};
 use std::test::Fail;
 use tib_cost::{Bottleneck, Cost, MOST, MinPlus, Semiring};
@@ -244,6 +244,23 @@ fn three_pairs_are_reached_by_four_rules(rt: HostRuntime) -> Result<(), Fail> {
     for (limit, want) in [(20_000_000, all), (19, all), (18, "more than 18")] {
         let text = reached_between(rt.alloc(), limit)?;
         assert_eq!(rt; text.as_str(), want);
+    }
+    Ok(())
+}
+
+#[test]
+fn every_number_of_workers_reaches_the_three_pairs(rt: HostRuntime) -> Result<(), Fail> {
+    let left: Normal<MinPlus> = normal(rt.alloc(), &LEFT)?;
+    let right = normal(rt.alloc(), &RIGHT)?;
+    for workers in 1..17 {
+        match intersect_together(&rt, rt.alloc(), &left, &right, workers, 19, &Open) {
+            Ok(found) => {
+                assert_eq!(rt; found.order.len(), 3);
+                assert_eq!(rt; found.rules.len(), 4);
+                assert_eq!(rt; found.parts, 19);
+            }
+            Err(_) => assert!(rt; false),
+        }
     }
     Ok(())
 }

@@ -1,6 +1,7 @@
 use Rattle.std.proofs.lemmas.Result.{IfOk-weaker, IfErr-weaker}
+use Rattle.tib_lex.proofs.Results.{ok_both}
 use Rattle.tib_hunt.proofs.Reaching.{IfTooMany-weaker}
-use Rattle.tib_intersect.proofs.ReachedGrammar.{pair_grammar, roots, few_pairs, few_rules, reached_of, beyond_of, ok_both}
+use Rattle.tib_intersect.proofs.ReachedGrammar.{pair_grammar, roots, few_pairs, few_rules, reached_of, beyond_of}
 use Rattle.tib_intersect.proofs.reached.intersect.Goals as goal
 
 pub returns-clause-reached : goal.returns-clause-reached

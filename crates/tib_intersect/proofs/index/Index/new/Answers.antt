@@ -1,6 +1,7 @@
 use Rattle.tib_grammar.specs.Run.{no_rule}
 use Rattle.std.proofs.lemmas.List.{get_or_read}
-use Rattle.tib_intersect.specs.Matching.{has_shape, same_shape}
+use Rattle.tib_grammar.specs.ShapeBuckets.{same_shape}
+use Rattle.tib_intersect.specs.Matching.{has_shape}
 use Rattle.tib_intersect.proofs.Positions.{positions-one}
 use Rattle.tib_intersect.proofs.index.Index.new.Goals as goal
 

@@ -1,5 +1,6 @@
 use Rattle.std.proofs.Common.{ℕ, ◌≤◌, ◌≡◌, length, take}
-use Rattle.tib_intersect.specs.Matching.{AreNumbered, held, positions_with}
+use Rattle.tib_grammar.specs.ShapeBuckets.{AreNumbered, held}
+use Rattle.tib_intersect.specs.Matching.{positions_with}
 use Rattle.tib_intersect.proofs.index.Index.new.Given as goal
 
 abbrev pub invariant-loop-n : goal.invariant-loop-n

@@ -1,6 +1,6 @@
 use Rattle.std.proofs.Common.{◌<◌, ap, subst, ◌∙◌, length}
+use Rattle.tib_grammar.proofs.Below.{states_below}
 use Rattle.tib_intersect.specs.IsIndex.{IsIndex}
-use Rattle.tib_intersect.proofs.Below.{states_below}
 use Rattle.tib_intersect.proofs.pairs.Pairs.new.Goals as goal
 
 pub invariant_of-result : goal.invariant_of-result
