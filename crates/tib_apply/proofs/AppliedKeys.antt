@@ -1,8 +1,7 @@
 -- What the reached set of an operation over keys says of its rules and parts.
-use Rattle.std.specs.Prelude.{◌≡◌, ℕ, ◌<◌, ◌≤◌, List, [], ◌∷◌, length, map, IfOk}
-use Rattle.std.proofs.Common.{arith, subst, Ok, Err}
+use Rattle.std.specs.Prelude.{◌≡◌, ℕ, ◌<◌, ◌≤◌, List, [], ◌∷◌, length, map}
+use Rattle.std.proofs.Common.{arith, subst}
 use Rattle.std.proofs.lemmas.List.{length-map}
-use Rattle.std.specs.declared.result.Result.{Result}
 use Rattle.tib_lex.specs.Lists.{Each, total}
 use Rattle.tib_lex.proofs.Members.{each_has, has_at}
 use Rattle.tib_tree.specs.Trees.{only}
@@ -11,9 +10,7 @@ use Rattle.tib_grammar.specs.Run.{rule_at, no_rule}
 use Rattle.tib_grammar.specs.Range.{AllBelow, AreInRange}
 use Rattle.tib_grammar.specs.GrammarOf.{GrammarOf, named_rule}
 use Rattle.tib_grammar.specs.declared.Rule.{Rule}
-use Rattle.tib_hunt.specs.Reached.{IsReachedSet, IsBeyond, IfTooMany, parts_of}
-use Rattle.tib_hunt.specs.declared.found.HuntError.{HuntError}
-use Rattle.tib_hunt.specs.declared.found.HuntError.TheVariants.{TooMany}
+use Rattle.tib_hunt.specs.Reached.{IsReachedSet, IsBeyond, parts_of}
 use Rattle.tib_hunt.specs.Rows.{AreBelow}
 use Rattle.tib_hunt.specs.Numbered.{key_parts}
 use Rattle.tib_transducer.specs.TransducerOf.{TransducerOf}
@@ -32,11 +29,13 @@ rules_in_range n rules below m h =
     let here : Each (λ q. q < n) (positions_of (rule_at rules m)) = each_has (λ rule. Each (λ q. q < n) (positions_of rule)) rules (rule_at rules m) below (has_at rules m no_rule h) in
     (here.0, all_below n (holes_of (rule_at rules m).right) (each_hole (λ q. q < n) (only (rule_at rules m).right) here.1))
 
-keys_least : (order : List (ℕ × ℕ × ℕ)) → length order ≤ total (key_parts key_entries) order
+-- each key has a part
+pub keys_least : (order : List (ℕ × ℕ × ℕ)) → length order ≤ total (key_parts key_entries) order
 keys_least [] = omega arith
 keys_least (k ∷ order) = omega (arith, keys_least order)
 
-edges_least : (es : List (Rule (ℕ × ℕ × ℕ))) → length es ≤ total edge_parts es
+-- each edge has a part
+pub edges_least : (es : List (Rule (ℕ × ℕ × ℕ))) → length es ≤ total edge_parts es
 edges_least [] = omega arith
 edges_least (e ∷ es) = omega (arith, edges_least es)
 
@@ -50,11 +49,6 @@ module _ {O : Type 0} (Edge : ℕ × ℕ × ℕ → O → Rule (ℕ × ℕ × �
   pub few_rules : length rules ≤ limit
   few_rules = omega (arith, edges_least (map (named_rule (key_at order)) rules), length-map rules (named_rule (key_at order)), counted, within)
 
--- what follows from two clauses of one answer
-pub ok_both : {T E : Type 0} (r : Result T E) (P Q R : T → Type 0) → ((x : T) → P x → Q x → R x) → IfOk r P → IfOk r Q → IfOk r R
-ok_both (Ok x) P Q R f h k = f x h k
-ok_both (Err e) P Q R f h k = tt
-
 -- the same transducer and grammar under other names
 module _ (product : ℕ → ℕ → ℕ) (near : TransducerOf) (far : GrammarOf) (moves : TransducerOf) (grammar : GrammarOf) (same : near ≡ moves) (other : far ≡ grammar) where
   pub reached_of : (order : List (ℕ × ℕ × ℕ)) (es : List (Rule (ℕ × ℕ × ℕ))) → IsReachedSet (inverse_image product near.rules far.rules) order es → IsReachedSet (inverse_image product moves.rules grammar.rules) order es
@@ -64,7 +58,3 @@ module _ (product : ℕ → ℕ → ℕ) (near : TransducerOf) (far : GrammarOf)
   pub beyond_of : (limit : ℕ) → IsBeyond (inverse_image product near.rules far.rules) limit → IsBeyond (inverse_image product moves.rules grammar.rules) limit
   beyond_of limit h =
       subst (λ (x : GrammarOf). IsBeyond (inverse_image product moves.rules x.rules) limit) other (subst (λ (x : TransducerOf). IsBeyond (inverse_image product x.rules far.rules) limit) same h)
-
--- where the error is that of a limit, it says that this is the limit
-pub too_many : (limit n : ℕ) (P : Type 0) (e : HuntError) → e ≡ TooMany n → IfTooMany limit P e → (n ≡ limit) × P
-too_many limit n P e is h = subst (IfTooMany limit P) is h

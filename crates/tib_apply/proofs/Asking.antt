@@ -20,8 +20,9 @@ use Rattle.tib_apply.specs.Forward.{deleted, IsAskedCost, IsDeletedCost}
 use Rattle.tib_match.proofs.Steps.{one_of, neutral_right, no_trees, no_states, open_cost}
 use Rattle.tib_transducer.proofs.Selecting.{Item, keys_of, trees_of, product_of, stays, others, selected, selected-keys, selected-trees, selected-each, stays-keys, stays-each, parted, assemble, keys_long}
 use Rattle.tib_lex.proofs.Booleans.{bool_cases}
+use Rattle.tib_lex.proofs.Lists.{map_twice}
 use Rattle.tib_apply.proofs.Restricting.{IsListed, AreAdmitted, binds}
-use Rattle.tib_apply.proofs.Leaves.{map_twice, map_same_at, each_to}
+use Rattle.tib_apply.proofs.Leaves.{map_same_at, each_to}
 
 -- what each variable asks for, and the state at its place
 abbrev pub asked : List Variable → List ℕ → List (Option ℕ × ℕ)

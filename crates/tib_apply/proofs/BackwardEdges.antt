@@ -1,25 +1,24 @@
 -- One edge of backward application, and the edges of one rule and of all.
-use Rattle.std.specs.Prelude.{◌≡◌, ℕ, ◌+◌, ◌<◌, ◌≤◌, List, [], ◌∷◌, ◌++◌, length, map, take, drop, Option, Some, refl, slice_index_or}
+use Rattle.std.specs.Prelude.{◌≡◌, ℕ, ◌+◌, ◌<◌, ◌≤◌, List, [], ◌∷◌, ◌++◌, length, map, take, drop, Some, refl, slice_index_or, ◌*◌, ◌/◌}
 use Rattle.std.proofs.Common.{zero, suc, arith, ap, sym, ◌∙◌, subst, get_or, inl, inr, append_assoc}
 use Rattle.std.proofs.lemmas.List.{length-append, length-map, map_more, take_more}
 use Rattle.std.proofs.lemmas.Cmp.{nat_list_cmp_total}
 use Rattle.std.specs.Ordering.{nat_cmp}
 use Rattle.std.specs.Cmp.Lexicographic.{slice_cmp}
 use Rattle.std.specs.declared.cmp.Ordering.TheVariants.{Less}
-use Rattle.tib_lex.specs.Lists.{Has, Each, Distinct, Ascends}
-use Rattle.tib_lex.proofs.Lists.{each_weaker}
+use Rattle.tib_lex.specs.Lists.{Has, Each, Distinct, Ascends, Along}
+use Rattle.tib_lex.proofs.Lists.{each_weaker, some_is, map_same}
 use Rattle.tib_lex.proofs.Members.{each_has, has_at, has_left, has_right, has_either}
 use Rattle.tib_tree.specs.Trees.{Trees, none, tree, only, size, preorder_of}
 use Rattle.tib_cost.specs.Semiring.{most}
 use Rattle.tib_cost.proofs.Least.{IsLeast-unique}
-use Rattle.tib_grammar.specs.Range.{AllBelow, AreInRange}
-use Rattle.tib_grammar.specs.GrammarOf.{GrammarOf}
+use Rattle.tib_lex.proofs.Places.{not_before}
 use Rattle.tib_grammar.specs.Run.{rule_at}
 use Rattle.tib_grammar.specs.Sides.{Symbol, label, hole, Side as SideFor, holes, holes_of, side_map, HolesAreLeaves}
 use Rattle.tib_grammar.specs.Items.{pairs_of, holes_in}
 use Rattle.tib_grammar.specs.declared.Item.{Item}
 use Rattle.tib_grammar.specs.declared.Rule.{Rule}
-use Rattle.tib_grammar.proofs.Holes.{holes_of_items}
+use Rattle.tib_grammar.proofs.Holes.{holes_of_items, holes_fit}
 use Rattle.tib_grammar.proofs.Sides.{holes-relabel}
 use Rattle.tib_hunt.specs.Reached.{most_parts}
 use Rattle.tib_hunt.proofs.Reaching.{apart}
@@ -28,19 +27,20 @@ use Rattle.tib_transducer.specs.Range.{AreNumbered, IsShaped}
 use Rattle.tib_transducer.specs.declared.Variable.{Variable}
 use Rattle.tib_transducer.specs.declared.Pair.{Pair}
 use Rattle.tib_transducer.specs.declared.TransducerRule.{TransducerRule}
+use Rattle.tib_transducer.specs.Moves.{moves_of}
+use Rattle.tib_transducer.proofs.Moves.{moves_once, move_is, is_move}
 use Rattle.tib_match.specs.Matches.{IsMatchCost, IsMatch}
-use Rattle.tib_match.specs.MatchLists.{AreMatches}
+use Rattle.tib_match.specs.Searching.{AreMatchesWhere, AreMoreWhere}
 use Rattle.tib_apply.specs.Restrictions.{restricted_labels}
 use Rattle.tib_apply.specs.Backward.{states_at, backward_key, IsBackwardEdge}
-use Rattle.tib_apply.specs.Moves.{moves_of}
 use Rattle.tib_apply.specs.KeyRules.{carried, end_at, Reads}
 use Rattle.tib_apply.specs.KeyLaws.{side_same}
 use Rattle.tib_apply.specs.Listing.{AddsEdge, IsNext, IsTooMuch, IsWithinBudget, IsAlike, IsListed, Overruns, AreListedFrom, AreListedFor}
-use Rattle.tib_apply.specs.BackwardLists.{edge_to, backward_edge, variable_key, number_from, AdmitsRule, StatesBelow}
+use Rattle.tib_apply.specs.BackwardLists.{edge_to, backward_edge, variable_key, number_from, AdmitsRule, IsCheap}
 use Rattle.tib_apply.specs.declared.edge_list.EdgeList.{EdgeList}
-use Rattle.tib_apply.proofs.Bucketing.{moves_once, move_is, is_move}
 use Rattle.tib_apply.proofs.ListedEdges.{listed_next, overruns_next, nothing_listed}
-use Rattle.tib_apply.proofs.MappedSides.{carried_holes, carried_mapped, side_twice, size_mapped, items_size, holes_fit}
+use Rattle.tib_apply.proofs.MappedSides.{carried_holes, carried_mapped, side_twice, size_mapped, items_size}
+use Rattle.tib_apply.proofs.MoreParts.{origins_apart, total_same, more_parts}
 
 -- lists
 
@@ -51,10 +51,6 @@ each_map Q f (x ∷ xs) h = (h.0, each_map Q f xs h.1)
 map_each : {A B : Type 0} (Q : B → Type 0) (f : A → B) (xs : List A) → Each (λ x. Q (f x)) xs → Each Q (map f xs)
 map_each Q f [] h = tt
 map_each Q f (x ∷ xs) h = (h.0, map_each Q f xs h.1)
-
-map_same : {A B : Type 0} (f g : A → B) (xs : List A) → Each (λ x. f x ≡ g x) xs → map f xs ≡ map g xs
-map_same f g [] h = refl
-map_same f g (x ∷ xs) h = ap (λ y. y ∷ map f xs) h.0 ∙ ap (λ ys. g x ∷ ys) (map_same f g xs h.1)
 
 numbers_below : (n m : ℕ) (xs : List Variable) → AreNumbered n xs → n + length xs ≤ m → Each (λ x. x.number < m) xs
 numbers_below n m [] a h = tt
@@ -204,9 +200,6 @@ match_long product rules (tree (label f) kids rest) (q ∷ qs) ss c m =
     parts_long (suc n) [] k e d = absurd (omega arith)
     parts_long (suc n) (x ∷ xs) k e d = let z = parts_long n xs k (omega arith) d in omega arith
 
-some_same : {a b : ℕ} → ◌≡◌ {A = Option ℕ} (Some a) (Some b) → a ≡ b
-some_same e = cc
-
 -- lists of states that ascend are apart
 no_match_before :
     (i : ℕ) (ms : List (List ℕ × ℕ)) (k : ℕ) (d : List ℕ × ℕ) → Ascends (λ (a : List ℕ × ℕ) (b : List ℕ × ℕ). slice_cmp nat_cmp a.0 b.0 ≡ Less) ms → k < length ms →
@@ -255,11 +248,11 @@ module _ (product : ℕ → ℕ → ℕ) (moves : List (TransducerRule ℕ)) (gr
       IsBackwardEdge product moves grammar key (i, m.0) f → f.cost ≡ product rule.cost m.1
   edge_costs i rule m at matched f is =
       let here : IsMatch product grammar (transducer_rule moves i).right key.1 m.0 (Some m.1) = subst (λ (r : TransducerRule ℕ). IsMatch product grammar r.right key.1 m.0 (Some m.1)) at matched in
-      is.costs ∙ ap (product (transducer_rule moves i).cost) (some_same (IsLeast-unique is.is_match here)) ∙ ap (λ (r : TransducerRule ℕ). product r.cost m.1) (sym at)
+      is.costs ∙ ap (product (transducer_rule moves i).cost) (some_is (IsLeast-unique is.is_match here)) ∙ ap (λ (r : TransducerRule ℕ). product r.cost m.1) (sym at)
 
   module _
       (i : ℕ) (rule : TransducerRule ℕ) (below : i < length moves) (at : rule ≡ transducer_rule moves i) (state : rule.state ≡ key.0) (admitted : AdmitsRule (restricted_labels moves) key rule)
-      (ms : List (List ℕ × ℕ)) (matches : AreMatches product grammar rule.right key.1 ms) (k : ℕ) (low : k < length ms) (tried : List (ℕ × List ℕ)) (fresh : (ss : List ℕ) → Has tried (i, ss) → ⊥) where
+      (ms : List (List ℕ × ℕ)) (matches : AreMatchesWhere product grammar rule.right key.1 (IsCheap product rule) ms) (k : ℕ) (low : k < length ms) (tried : List (ℕ × List ℕ)) (fresh : (ss : List ℕ) → Has tried (i, ss) → ⊥) where
     abbrev match_here : List ℕ × ℕ
     match_here = get_or ms k ([], 0)
 
@@ -293,13 +286,34 @@ module _ (product : ℕ → ℕ → ℕ) (moves : List (TransducerRule ℕ)) (gr
         overruns_next (IsBackwardEdge product moves grammar key) key (tried ++ map (λ m. (i, m.0)) (take k ms)) (i, match_here.0) not_tried
         (backward_edge product (restricted_labels moves) key rule match_here) l (edge_is i rule match_here below at state admitted is_match) listed much
 
+  -- more matches than the budget has room for their edges
+  pub move_more :
+      (i : ℕ) (rule : TransducerRule ℕ) (budget : ℕ) → i < length moves → rule ≡ transducer_rule moves i → rule.state ≡ key.0 → AdmitsRule (restricted_labels moves) key rule →
+      AreMoreWhere product grammar rule.right key.1 (IsCheap product rule) (budget / (1 + size rule.left)) → Overruns (IsBackwardEdge product moves grammar key) budget
+  move_more i rule budget below at state admitted more = record {
+    origins = map (λ m. (i, m.0)) more.matches;
+    edges = map (backward_edge product (restricted_labels moves) key rule) more.matches;
+    once = origins_apart i more.matches more.ascend;
+    given = given more.matches more.least more.count;
+    more = omega (
+      arith,
+      more_parts budget (1 + size rule.left) (length more.matches) (omega arith) more.more,
+      total_same (1 + size rule.left) (backward_edge product (restricted_labels moves) key rule) more.matches (λ m. ap (λ n. 1 + n) (size_mapped (backward_key (restricted_labels moves) (holes_of rule.right) m.0) rule.left)),
+    );
+  }
+    where
+      given : (ms : List (List ℕ × ℕ)) → Each (λ (m : List ℕ × ℕ). IsMatch product grammar rule.right key.1 m.0 (Some m.1)) ms → Each (IsCheap product rule) ms →
+          Along (IsBackwardEdge product moves grammar key) (map (λ m. (i, m.0)) ms) (map (backward_edge product (restricted_labels moves) key rule) ms)
+      given [] a b = tt
+      given (m ∷ ms) a b = (edge_is i rule m below at state admitted a.0 b.0, given ms a.1 b.1)
+
   -- nothing of the rule was tried before
   pub fresh_for : (others : List ℕ) (i : ℕ) (l : EdgeList) → (Has others i → ⊥) → (listed : AreListedFor (IsBackwardEdge product moves grammar key) key others l) → (ss : List ℕ) → Has listed.tried (i, ss) → ⊥
   fresh_for others i l apart listed ss h = apart (listed.from (i, ss) h)
 
   -- the edges of a rule, after those of others
   pub move_listed :
-      (others : List ℕ) (i : ℕ) (rule : TransducerRule ℕ) (ms : List (List ℕ × ℕ)) (l l' : EdgeList) → rule ≡ transducer_rule moves i → AreMatches product grammar rule.right key.1 ms →
+      (others : List ℕ) (i : ℕ) (rule : TransducerRule ℕ) (ms : List (List ℕ × ℕ)) (l l' : EdgeList) → rule ≡ transducer_rule moves i → AreMatchesWhere product grammar rule.right key.1 (IsCheap product rule) ms →
       (listed : AreListedFor (IsBackwardEdge product moves grammar key) key others l) → IsListed (IsBackwardEdge product moves grammar key) key (listed.tried ++ map (λ m. (i, m.0)) ms) l' →
       AreListedFor (IsBackwardEdge product moves grammar key) key (others ++ i ∷ []) l'
   move_listed others i rule ms l l' at matches listed new = record {
@@ -322,7 +336,7 @@ module _ (product : ℕ → ℕ → ℕ) (moves : List (TransducerRule ℕ)) (gr
       own o e same d =
           let there : transducer_rule moves o.0 ≡ rule = ap (transducer_rule moves) (sym same) ∙ sym at in
           let m : IsMatch product grammar rule.right key.1 o.1 (Some d.matched) = subst (λ (r : TransducerRule ℕ). IsMatch product grammar r.right key.1 o.1 (Some d.matched)) there d.is_match in
-          subst (λ j. Has {A = ℕ × List ℕ} (map (λ m. (i, m.0)) ms) (j, o.1)) same (has_origin i ms (o.1, d.matched) (matches.whole o.1 d.matched m))
+          subst (λ j. Has {A = ℕ × List ℕ} (map (λ m. (i, m.0)) ms) (j, o.1)) same (has_origin i ms (o.1, d.matched) (matches.whole o.1 d.matched m (omega (arith, d.within, d.costs, ap (λ (r : TransducerRule ℕ). product r.cost d.matched) there))))
 
   -- a rule that is not admitted has no edges
   pub move_refused :
@@ -360,15 +374,6 @@ module _ (product : ℕ → ℕ → ℕ) (moves : List (TransducerRule ℕ)) (gr
     all = λ o e d. listed.all o e (is_move key.0 moves o.0 d.below d.state) d;
   }
 
--- an element does not stand among those before it
-pub not_before : {A : Type 0} (xs : List A) (i : ℕ) (d : A) → Distinct xs → i < length xs → Has (take i xs) (get_or xs i d) → ⊥
-not_before [] i d s h k = omega arith
-not_before (x ∷ xs) zero d s h k = k
-not_before (x ∷ xs) (suc i) d s h k = elim k [
-  | inl e ↦ s.0 (subst (Has xs) (sym e) (has_at xs i d (omega arith)))
-  | inr m ↦ not_before xs i d s.1 (omega arith) m
-]
-
 -- what is said of a key is said of the same key
 pub edges_at :
     (product : ℕ → ℕ → ℕ) (moves : List (TransducerRule ℕ)) (grammar : List (Rule ℕ)) (key there : ℕ × ℕ × ℕ) → there ≡ key → (l : EdgeList) →
@@ -400,12 +405,3 @@ module _ (moves : List (TransducerRule ℕ)) (q : ℕ) (ps : List ℕ) (are : ps
 
   pub place_apart : Has (take k (moves_of q moves)) (get_or ps k 0) → ⊥
   place_apart h = not_before ps k 0 (subst Distinct (sym are) (moves_once q moves)) low (subst (λ (xs : List ℕ). Has (take k xs) (get_or ps k 0)) (sym are) h)
-
-all_below : (n : ℕ) (qs : List ℕ) → AllBelow n qs → (q : ℕ) → Has qs q → q < n
-all_below n [] a q h = absurd h
-all_below n (p ∷ qs) a q h = elim h [ inl e ↦ subst (λ x. x < n) e a.0 | inr m ↦ all_below n qs a.1 q m ]
-
--- the states of a sound grammar are in range
-pub states_below : (g h : GrammarOf) → g ≡ h → AreInRange (length g.names) g.rules → StatesBelow (length h.names) h.rules
-states_below g h e range =
-    subst (λ (x : GrammarOf). StatesBelow (length x.names) x.rules) e (λ m q below has. all_below (length g.names) (holes_of (rule_at g.rules m).right) (range m below).1 q has)

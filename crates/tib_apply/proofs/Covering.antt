@@ -1,5 +1,5 @@
 -- A rule for each edge, and no other: a grammar over positions of an order of keys.
-use Rattle.std.specs.Prelude.{◌≡◌, ℕ, ◌<◌, ◌≤◌, List, [], ◌∷◌, length, map, Bool, Option, Some, refl}
+use Rattle.std.specs.Prelude.{◌≡◌, ℕ, ◌<◌, ◌≤◌, List, [], ◌∷◌, length, map, Bool, Option, refl}
 use Rattle.std.proofs.Common.{zero, suc, arith, ap, sym, ◌∙◌, subst, inl, inr, get_or}
 use Rattle.tib_lex.specs.Lists.{Has, Distinct, Along}
 use Rattle.tib_tree.specs.Trees.{only}
@@ -11,6 +11,9 @@ use Rattle.tib_grammar.specs.declared.Rule.{Rule}
 use Rattle.tib_grammar.proofs.Members.{has_at}
 use Rattle.tib_cost.specs.Semiring.{ProductLaws, most}
 use Rattle.tib_cost.proofs.Least.{IsLeast-unique, at_least_right, grows_both}
+use Rattle.tib_lex.proofs.Places.{distinct_at}
+use Rattle.tib_lex.proofs.Alongs.{along_at, along_has}
+use Rattle.tib_lex.proofs.Lists.{some_is}
 use Rattle.tib_transducer.specs.Rules.{transducer_rule, variables_of, variables_in}
 use Rattle.tib_transducer.specs.declared.TransducerRule.{TransducerRule}
 use Rattle.tib_apply.specs.Restrictions.{restricted_labels, Admits}
@@ -22,7 +25,6 @@ use Rattle.tib_apply.proofs.Leaves.{get_map, map_long}
 use Rattle.tib_match.proofs.Steps.{three_within}
 use Rattle.tib_inside.specs.Inside.{AreInsides}
 use Rattle.tib_apply.proofs.DeletedCosts.{deleted_least, deleted_is}
-use Rattle.tib_keyed.proofs.Partners.{distinct_at, along_at, along_has}
 use Rattle.tib_match.proofs.MatchCosts.{least_at, match_costs, match_is_least}
 
 -- a rule leads from the position k to the side, keys in place of positions, and costs at most c
@@ -101,9 +103,6 @@ within_at h k = omega arith
 within_from : {a b m : ℕ} → a ≡ b → b ≤ m → a ≤ m
 within_from h k = omega arith
 
-some_same : {a b : ℕ} → ◌≡◌ {A = Option ℕ} (Some a) (Some b) → a ≡ b
-some_same e = cc
-
 pub covers_backward :
     {levelled weighted : Bool} {product : ℕ → ℕ → ℕ} (laws : ProductLaws levelled weighted product) (moves : List (TransducerRule ℕ)) (grammar : List (Rule ℕ))
     (order : List (ℕ × ℕ × ℕ)) (rules : List (Rule ℕ)) → IsKeyGrammar (IsBackwardEdge product moves grammar) order rules → CoversBackward product moves grammar order rules
@@ -140,7 +139,7 @@ covers_backward {product = product} laws moves grammar order rules found = recor
         within = within_at lower within;
       })
       in
-      let same : r.2.matched ≡ least.0 = some_same (IsLeast-unique r.2.is_match least.1) in
+      let same : r.2.matched ≡ least.0 = some_is (IsLeast-unique r.2.is_match least.1) in
       record {
         position = r.0;
         below = r.1;
@@ -191,8 +190,8 @@ covers_forward {product = product} laws grammar costs range insides moves order 
         within = within_at lower within;
       })
       in
-      let same : r.2.matched ≡ least.0 = some_same (IsLeast-unique r.2.is_match least.1) in
-      let outs_same : r.2.deleted_cost ≡ deleted_cost.0 = some_same (IsLeast-unique r.2.is_deleted_cost deleted_cost.1) in
+      let same : r.2.matched ≡ least.0 = some_is (IsLeast-unique r.2.is_match least.1) in
+      let outs_same : r.2.deleted_cost ≡ deleted_cost.0 = some_is (IsLeast-unique r.2.is_deleted_cost deleted_cost.1) in
       record {
         position = r.0;
         below = r.1;

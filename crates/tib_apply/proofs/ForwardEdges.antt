@@ -1,5 +1,5 @@
 -- The edges of forward application over tables, match by match and rule by rule.
-use Rattle.std.specs.Prelude.{◌≡◌, ℕ, ◌+◌, ◌<◌, ◌≤◌, nat_eq, Bool, true, false, List, [], ◌∷◌, ◌++◌, length, map, take, refl, Option, None, Some, if◌then◌else◌}
+use Rattle.std.specs.Prelude.{◌≡◌, ℕ, ◌+◌, ◌*◌, ◌/◌, ◌<◌, ◌≤◌, nat_eq, Bool, true, false, List, [], ◌∷◌, ◌++◌, length, map, take, refl, Option, None, Some, if◌then◌else◌}
 use Rattle.std.specs.Prelude.{OnOk}
 use Rattle.std.specs.declared.result.Result.{Result}
 use Rattle.std.specs.List.{list_any}
@@ -7,9 +7,10 @@ use Rattle.std.specs.Ordering.{nat_cmp}
 use Rattle.std.specs.Cmp.Lexicographic.{slice_cmp}
 use Rattle.std.specs.declared.cmp.Ordering.TheVariants.{Less}
 use Rattle.std.proofs.Common.{Ok, Err, zero, suc, arith, ap, sym, ◌∙◌, subst, get_or, inl, inr, append_assoc}
+use Rattle.std.proofs.Math.Nat.{suc-mul, zero-mul}
 use Rattle.std.proofs.lemmas.Cmp.{nat_list_cmp_total}
-use Rattle.tib_lex.specs.Lists.{Has, Each, Distinct, Ascends}
-use Rattle.tib_lex.proofs.Lists.{has_mapped, append_nil}
+use Rattle.tib_lex.specs.Lists.{Has, Each, Distinct, Ascends, Along, total}
+use Rattle.tib_lex.proofs.Lists.{has_mapped, append_nil, each_mapped, length_map, some_is, each_weaker}
 use Rattle.tib_lex.proofs.Members.{each_has, has_at, has_left, has_right, has_either}
 use Rattle.tib_tree.specs.Trees.{only, size}
 use Rattle.tib_grammar.specs.Sides.{label, holes_of, HolesAreLeaves, side_map}
@@ -22,31 +23,37 @@ use Rattle.tib_cost.specs.Semiring.{ProductLaws, most}
 use Rattle.tib_cost.specs.Least.{times}
 use Rattle.tib_cost.proofs.Least.{IsLeast-unique, cut-cases}
 use Rattle.tib_cost.proofs.Times.{cut-some, cut-within}
+use Rattle.tib_lex.proofs.Places.{take_next, take_whole}
 use Rattle.tib_hunt.proofs.Reaching.{apart}
 use Rattle.tib_transducer.specs.Rules.{transducer_rule, variables_of, variables_in}
 use Rattle.tib_transducer.specs.Range.{IsShaped, AreNumbered}
 use Rattle.tib_transducer.specs.declared.Variable.{Variable}
 use Rattle.tib_transducer.specs.declared.Pair.{Pair}
 use Rattle.tib_transducer.specs.declared.TransducerRule.{TransducerRule}
+use Rattle.tib_transducer.specs.Moves.{moves_of}
+use Rattle.tib_transducer.proofs.Moves.{move_is, is_move, moves_once}
 use Rattle.tib_match.specs.Matches.{IsMatch}
-use Rattle.tib_match.specs.MatchLists.{AreMatches}
+use Rattle.tib_match.specs.Searching.{AreMatchesWhere, AreMoreWhere}
 use Rattle.tib_match.proofs.Matching.{match_long}
 use Rattle.tib_apply.specs.Restrictions.{restricted_labels, Admits}
 use Rattle.tib_apply.specs.KeyGrammars.{key_at}
 use Rattle.tib_apply.specs.Forward.{forward_key, deleted}
 use Rattle.tib_apply.specs.ForwardPlans.{end_at, planned_end, left_out, asked_at, IsPlan, ArePlans, HasPlans}
 use Rattle.tib_apply.specs.ForwardListing.{IsListed, Overruns, AreListedFrom, IsAdded}
-use Rattle.tib_apply.specs.ForwardLists.{HoleStatesBelow, IsAtMatch, ListsOrigin, OriginOverruns, ListsRule, RuleOverruns, HasRule}
+use Rattle.tib_apply.specs.Operations.{edge_parts}
+use Rattle.tib_apply.specs.ForwardLists.{HoleStatesBelow, IsAtMatch, IsAffordable, ListsOrigin, OriginOverruns, ListsRule, RuleOverruns, HasRule}
 use Rattle.tib_apply.specs.LeastRuns.{deleted_in}
-use Rattle.tib_apply.specs.Moves.{moves_of}
 use Rattle.tib_apply.specs.TableEdges.{IsTableEdge}
 use Rattle.tib_apply.specs.declared.deleting.LeastRuns.{LeastRuns}
 use Rattle.tib_apply.specs.declared.forward_plan.PlannedEnd.{PlannedEnd}
 use Rattle.tib_apply.specs.declared.forward_plan.Plan.{Plan}
 use Rattle.tib_apply.specs.declared.forward_listing.ForwardListing.{ForwardListing}
-use Rattle.tib_apply.proofs.Bucketing.{move_is, is_move, moves_once}
-use Rattle.tib_apply.proofs.ForwardPlanned.{numbered_below, each_mapped, each_map, plan_at, plans_many}
-use Rattle.tib_apply.proofs.ForwardListed.{listed_passed, listed_added, overruns_next, listed_first, lengths_map}
+use Rattle.tib_apply.proofs.ForwardPlanned.{numbered_below, each_map, plan_at, plans_many}
+use Rattle.tib_apply.proofs.ForwardListed.{listed_passed, listed_added, overruns_next, listed_first}
+use Rattle.tib_apply.proofs.MappedSides.{size_mapped}
+use Rattle.tib_apply.proofs.MoreParts.{origins_apart, more_parts}
+pub use Rattle.tib_apply.proofs.MoreParts.{same_fault}
+pub use Rattle.tib_match.proofs.BoxSearch.{on_ok}
 
 -- what is left out
 
@@ -87,9 +94,6 @@ keys_are f g [] = refl
 keys_are f g (x ∷ xs) = ap (λ ks. f (g x) ∷ ks) (keys_are f g xs)
 
 -- products of three costs
-
-some_is : {m n : ℕ} → ◌≡◌ {A = Option ℕ} (Some m) (Some n) → m ≡ n
-some_is e = cc
 
 module _ (product : ℕ → ℕ → ℕ) where
   record IsProductOf (a b : ℕ) (v : Option ℕ) (n : ℕ) : Type 0 where
@@ -145,7 +149,7 @@ module _
     facts shaped leaves planned = record {
       left_below = subst (Each (λ x. x.number < length found.0)) (sym planned.left_out) (each_left_out (λ x. x.number < length found.0) (variables_in r.right) (variables_of r.left) numbers_below);
       ends_below = subst (Each (λ e. e.variable < length found.0)) (sym planned.ends) (each_map (λ (e : PlannedEnd). e.variable < length found.0) (planned_end labels r.left) (holes_of r.right) known);
-      ends_many = ap length planned.ends ∙ lengths_map (planned_end labels r.left) (holes_of r.right);
+      ends_many = ap length planned.ends ∙ length_map (planned_end labels r.left) (holes_of r.right);
       keys = ap (map (end_at found.0)) planned.ends ∙ keys_are (end_at found.0) (planned_end labels r.left) (holes_of r.right);
       leaves = leaves;
       given = λ cost e.
@@ -218,19 +222,6 @@ module _
 
 -- the matches of a rule, one after another
 
-take_next : {A : Type 0} (xs : List A) (i : ℕ) (d : A) → i < length xs → take (i + 1) xs ≡ take i xs ++ get_or xs i d ∷ []
-take_next [] i d h = absurd (omega arith)
-take_next (x ∷ xs) zero d h = refl
-take_next (x ∷ xs) (suc i) d h =
-    let e : suc i + 1 ≡ suc (i + 1) = omega arith in
-    ap (λ j. take j (x ∷ xs)) e ∙ ap (λ ys. x ∷ ys) (take_next xs i d (omega arith))
-
-take_whole : {A : Type 0} (xs : List A) (i : ℕ) → length xs ≤ i → take i xs ≡ xs
-take_whole [] zero h = refl
-take_whole [] (suc i) h = refl
-take_whole (x ∷ xs) zero h = absurd (omega arith)
-take_whole (x ∷ xs) (suc i) h = ap (λ ys. x ∷ ys) (take_whole xs i (omega arith))
-
 -- an element does not stand among those before it
 not_before : {A : Type 0} (xs : List A) (i : ℕ) (d : A) → Distinct xs → i < length xs → Has (take i xs) (get_or xs i d) → ⊥
 not_before [] i d s h k = omega arith
@@ -293,7 +284,7 @@ module _ (m : ℕ) where
           let there : Has (take i (map origin_of ms)) (get_or (map origin_of ms) i (m, f.0)) =
           subst (Has (take i (map origin_of ms))) (ap origin_of is ∙ sym (map_at ms i f)) (subst (λ os. Has os (m, f.0)) (map_take i ms) k)
           in
-          not_before (map origin_of ms) i (m, f.0) (distinct_origins ms up) (omega (arith, below, lengths_map origin_of ms)) there
+          not_before (map origin_of ms) i (m, f.0) (distinct_origins ms up) (omega (arith, below, length_map origin_of ms)) there
     ]
 
     origins_next : (tried ++ origins_of i ms) ++ (m, f.0) ∷ [] ≡ tried ++ origins_of (i + 1) ms
@@ -321,7 +312,7 @@ module _
 
   -- all matches of the rule were tried
   pub rule_whole :
-      (ms : List (List ℕ × ℕ)) (i : ℕ) (l : ForwardListing) → length ms ≤ i → AreMatches product grammar (transducer_rule moves m).left key.0 ms → IsListed Table order (tried ++ origins_of m i ms) l →
+      (ms : List (List ℕ × ℕ)) (i : ℕ) (l : ForwardListing) → length ms ≤ i → AreMatchesWhere product grammar (transducer_rule moves m).left key.0 (IsAffordable product runs (transducer_rule moves m)) ms → IsListed Table order (tried ++ origins_of m i ms) l →
       HasRule Table key order m tried l
   rule_whole ms i l past are listed = record {
     more = map (λ f. (m, f.0)) ms;
@@ -330,10 +321,17 @@ module _
     listed = subst (λ xs. IsListed Table order (tried ++ map (λ f. (m, f.0)) xs) l) (take_whole ms i past) listed;
   }
     where
+      affordable : (o : ℕ × List ℕ) (e : Rule (ℕ × ℕ × ℕ)) (h : Table o e) → o.0 ≡ m → IsAffordable product runs (transducer_rule moves m) (o.1, h.matched)
+      affordable o e h at = record {
+        deleted_cost = h.deleted_cost;
+        is_deleted_cost = subst (λ n. deleted_in product runs (deleted (variables_in (transducer_rule moves n).right) (variables_of (transducer_rule moves n).left) o.1) ≡ Some h.deleted_cost) at h.is_deleted_cost;
+        within = subst (λ n. product (product (transducer_rule moves n).cost h.matched) h.deleted_cost ≤ most) at (subst (λ c. c ≤ most) h.costs h.within);
+      }
+
       whole : (o : ℕ × List ℕ) (e : Rule (ℕ × ℕ × ℕ)) → Table o e → o.0 ≡ m → Has (map (λ (f : List ℕ × ℕ). (m, f.0)) ms) o
       whole o e h at =
           let matched : IsMatch product grammar (transducer_rule moves m).left key.0 o.1 (Some h.matched) = subst (λ n. IsMatch product grammar (transducer_rule moves n).left key.0 o.1 (Some h.matched)) at h.is_match in
-          let there = has_origin m ms (o.1, h.matched) (are.whole o.1 h.matched matched) in
+          let there = has_origin m ms (o.1, h.matched) (are.whole o.1 h.matched matched (affordable o e h at)) in
           subst (λ n. Has {A = ℕ × List ℕ} (map (λ (f : List ℕ × ℕ). (m, f.0)) ms) (n, o.1)) (sym at) there
 
   -- the restriction does not admit the rule
@@ -418,22 +416,19 @@ pub rule_here :
 rule_here rules moves m r same is = is ∙ ap (λ rs. transducer_rule rs m) same
 
 pub match_here :
-    (product : ℕ → ℕ → ℕ) (grammar : List (Rule ℕ)) (moves : List (TransducerRule ℕ)) (m q : ℕ) (ms : List (List ℕ × ℕ)) (i : ℕ) (f : List ℕ × ℕ) → AreMatches product grammar (transducer_rule moves m).left q ms → i < length ms →
+    (product : ℕ → ℕ → ℕ) (grammar : List (Rule ℕ)) (moves : List (TransducerRule ℕ)) (runs : LeastRuns) (m q : ℕ) (ms : List (List ℕ × ℕ)) (i : ℕ) (f : List ℕ × ℕ) →
+    AreMatchesWhere product grammar (transducer_rule moves m).left q (IsAffordable product runs (transducer_rule moves m)) ms → i < length ms →
     f ≡ get_or ms i f → IsMatch product grammar (transducer_rule moves m).left q f.0 (Some f.1)
-match_here product grammar moves m q ms i f are below is =
+match_here product grammar moves runs m q ms i f are below is =
     each_has (λ (x : List ℕ × ℕ). IsMatch product grammar (transducer_rule moves m).left q x.0 (Some x.1)) ms f are.least (subst (Has ms) (sym is) (has_at ms i f below))
 
+-- the same list of matches
 pub matches_here :
-    (product : ℕ → ℕ → ℕ) (grammar : List (Rule ℕ)) (moves : List (TransducerRule ℕ)) (m q p : ℕ) (r : TransducerRule ℕ) (ms ns : List (List ℕ × ℕ)) → r ≡ transducer_rule moves m → p ≡ q → ms ≡ ns →
-    AreMatches product grammar r.left p ns → AreMatches product grammar (transducer_rule moves m).left q ms
-matches_here product grammar moves m q p r ms ns is at same are =
-    subst (λ xs. AreMatches product grammar (transducer_rule moves m).left q xs) (sym same)
-    (subst (λ x. AreMatches product grammar (transducer_rule moves m).left x ns) at (subst (λ x. AreMatches product grammar x.left p ns) is are))
-
--- an answer that says more says less
-pub on_ok : {T E : Type 0} (r : Result T E) (P Q : Type 0) → (P → Q) → OnOk r P → OnOk r Q
-on_ok (Ok x) P Q f h = f h
-on_ok (Err e) P Q f h = tt
+    (product : ℕ → ℕ → ℕ) (grammar : List (Rule ℕ)) (moves : List (TransducerRule ℕ)) (runs : LeastRuns) (m q : ℕ) (ms ns : List (List ℕ × ℕ)) → ms ≡ ns →
+    AreMatchesWhere product grammar (transducer_rule moves m).left q (IsAffordable product runs (transducer_rule moves m)) ns →
+    AreMatchesWhere product grammar (transducer_rule moves m).left q (IsAffordable product runs (transducer_rule moves m)) ms
+matches_here product grammar moves runs m q ms ns same are =
+    subst (λ xs. AreMatchesWhere product grammar (transducer_rule moves m).left q (IsAffordable product runs (transducer_rule moves m)) xs) (sym same) are
 
 at_any : {A : Type 0} (xs : List A) (i : ℕ) (d b : A) → i < length xs → get_or xs i d ≡ get_or xs i b
 at_any [] i d b h = absurd (omega arith)
@@ -442,9 +437,6 @@ at_any (x ∷ xs) (suc i) d b h = at_any xs i d b (omega arith)
 
 pub itself_at : (ps : List ℕ) (i : ℕ) → i < length ps → get_or ps i 0 ≡ get_or ps i (get_or ps i 0)
 itself_at ps i h = at_any ps i 0 (get_or ps i 0) h
-
-pub same_fault : {T U E : Type 0} (f g : E) → ◌≡◌ {A = Result T E} (Err f) (Err g) → ◌≡◌ {A = Result U E} (Err f) (Err g)
-same_fault f g e = let same : f ≡ g = cc e in ap Err same
 
 all_below : (n : ℕ) (qs : List ℕ) → AllBelow n qs → (q : ℕ) → Has qs q → q < n
 all_below n [] a q h = absurd h
@@ -458,3 +450,94 @@ states_below g h e range =
 pub has_plans : (labels ls : List ℕ) (rules rs : List (TransducerRule ℕ)) (plans : List Plan) → labels ≡ ls → rules ≡ rs → ArePlans labels rules plans → HasPlans ls rs plans
 has_plans labels ls rules rs plans e d a =
     subst (λ x. HasPlans x rs plans) e (subst (λ x. HasPlans labels x plans) d (record { many = plans_many labels rules plans a; plan_at = λ n p h. plan_at labels rules plans n p a h }))
+
+-- More matches than the budget has room for their edges.
+module _ (product : ℕ → ℕ → ℕ) (grammar : List (Rule ℕ)) (moves : List (TransducerRule ℕ)) (runs : LeastRuns) (key : ℕ × ℕ × ℕ) (m : ℕ)
+    (below : m < length moves) (state : (transducer_rule moves m).state ≡ key.1)
+    (root : ℕ) (is_root : (transducer_rule moves m).left.label ≡ label root) (admitted : Admits (restricted_labels moves) key.2 root) where
+  -- the edges of some matches
+  record HasEdges (ms : List (List ℕ × ℕ)) : Type 0 where
+    edges : List (Rule (ℕ × ℕ × ℕ))
+    given : Along (IsTableEdge product grammar moves runs key) (map (λ (f : List ℕ × ℕ). (m, f.0)) ms) edges
+    counted : total edge_parts edges ≡ length ms * (1 + size (transducer_rule moves m).right)
+
+  edges_of : (ms : List (List ℕ × ℕ)) → Each (λ (f : List ℕ × ℕ). IsMatch product grammar (transducer_rule moves m).left key.0 f.0 (Some f.1)) ms →
+      Each (IsAffordable product runs (transducer_rule moves m)) ms → HasEdges ms
+  edges_of [] a b = record { edges = []; given = tt; counted = sym (zero-mul (1 + size (transducer_rule moves m).right)) }
+  edges_of (f ∷ ms) a b =
+      let rest = edges_of ms a.1 b.1 in
+      let to = forward_key (restricted_labels moves) (transducer_rule moves m).left f.0 in
+      let e : Rule (ℕ × ℕ × ℕ) = record { left = key; right = side_map to (transducer_rule moves m).right; cost = product (product (transducer_rule moves m).cost f.1) b.0.deleted_cost } in
+      record {
+        edges = e ∷ rest.edges;
+        given = (
+          record {
+            below = below;
+            state = state;
+            root = root;
+            is_root = is_root;
+            admitted = admitted;
+            matched = f.1;
+            is_match = a.0;
+            deleted_cost = b.0.deleted_cost;
+            is_deleted_cost = b.0.is_deleted_cost;
+            left = refl;
+            right = refl;
+            costs = refl;
+            within = b.0.within;
+          },
+          rest.given,
+        );
+        counted = omega (arith, size_mapped to (transducer_rule moves m).right, rest.counted, suc-mul (length ms) (1 + size (transducer_rule moves m).right));
+      }
+
+  pub rule_more : (budget : ℕ) → AreMoreWhere product grammar (transducer_rule moves m).left key.0 (IsAffordable product runs (transducer_rule moves m)) (budget / (1 + size (transducer_rule moves m).right)) →
+      Overruns (IsTableEdge product grammar moves runs key) budget
+  rule_more budget more =
+      let all = edges_of more.matches more.least more.count in
+      record {
+        origins = map (λ (f : List ℕ × ℕ). (m, f.0)) more.matches;
+        edges = all.edges;
+        once = origins_apart m more.matches more.ascend;
+        given = all.given;
+        more = omega (arith, all.counted, more_parts budget (1 + size (transducer_rule moves m).right) (length more.matches) (omega arith) more.more);
+      }
+
+-- where nothing is left out nothing is deleted
+none_deleted : (named : List ℕ) (xs : List Variable) (ss : List ℕ) → left_out named xs ≡ [] → deleted named xs ss ≡ []
+none_deleted named [] ss e = refl
+none_deleted named (x ∷ xs) [] e = refl
+none_deleted named (x ∷ xs) (s ∷ ss) e = by (list_any (nat_eq x.number) named) (none_deleted named xs ss) e
+  where
+    by : (b : Bool) → (left_out named xs ≡ [] → deleted named xs ss ≡ []) → (if b then left_out named xs else x ∷ left_out named xs) ≡ [] →
+        (if b then deleted named xs ss else (x.label, s) ∷ deleted named xs ss) ≡ []
+    by true rest e = rest e
+    by false rest e = absurd (cc)
+
+module _ {levelled weighted : Bool} {product : ℕ → ℕ → ℕ} (laws : ProductLaws levelled weighted product) (grammar : List (Rule ℕ)) (runs : LeastRuns) (rule : TransducerRule ℕ) (q : ℕ) where
+  -- what is affordable is so with the rule alone
+  pub affordable_where : (ms : List (List ℕ × ℕ)) → AreMatchesWhere product grammar rule.left q (λ m. product rule.cost m.1 ≤ most) ms → AreMatchesWhere product grammar rule.left q (IsAffordable product runs rule) ms
+  affordable_where ms are = record {
+    ascend = are.ascend;
+    least = are.least;
+    whole = λ ss c m w. are.whole ss c m (let left : product rule.cost c ≤ product (product rule.cost c) w.deleted_cost = laws.at_least (product rule.cost c) w.deleted_cost in omega (arith, left, w.within));
+  }
+
+  -- and where nothing is left out the other way round
+  pub more_affordable : (plan : Plan) (labels : List ℕ) (number : ℕ) → IsPlan labels rule plan → length plan.left_out.items ≡ 0 → AreMoreWhere product grammar rule.left q (λ m. product rule.cost m.1 ≤ most) number →
+      AreMoreWhere product grammar rule.left q (IsAffordable product runs rule) number
+  more_affordable plan labels number planned none more = record {
+    matches = more.matches;
+    ascend = more.ascend;
+    least = more.least;
+    count = each_weaker (λ m. product rule.cost m.1 ≤ most) (IsAffordable product runs rule) more.matches (λ m b. record {
+      deleted_cost = 0;
+      is_deleted_cost = ap (deleted_in product runs) (none_deleted (variables_in rule.right) (variables_of rule.left) m.0 (sym planned.left_out ∙ empty plan.left_out.items none));
+      within = subst (λ n. n ≤ most) (sym (laws.commutes (product rule.cost m.1) 0 ∙ laws.neutral (product rule.cost m.1))) b;
+    }) more.count;
+    more = more.more;
+  }
+    where
+      empty : {A : Type 0} (xs : List A) → length xs ≡ 0 → xs ≡ []
+      empty [] e = refl
+      empty (x ∷ xs) e = absurd (omega arith)

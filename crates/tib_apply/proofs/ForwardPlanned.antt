@@ -2,7 +2,10 @@
 use Rattle.std.specs.Prelude.{◌≡◌, ℕ, ◌+◌, ◌<◌, Bool, false, nat_eq, List, [], ◌∷◌, ◌++◌, length, map, take, refl, if◌then◌else◌}
 use Rattle.std.specs.List.{list_any}
 use Rattle.std.proofs.Common.{zero, suc, arith, ap, sym, ◌∙◌, subst, get_or}
-use Rattle.tib_lex.specs.Lists.{Each, Along}
+use Rattle.tib_lex.specs.Lists.{Each}
+use Rattle.tib_lex.proofs.Alongs.{along_more}
+use Rattle.tib_lex.proofs.Lists.{each_mapped}
+use Rattle.tib_lex.proofs.Places.{take_next}
 use Rattle.tib_tree.specs.Trees.{preorder_of}
 use Rattle.tib_grammar.specs.Sides.{Side as SideFor, holes_of}
 use Rattle.tib_grammar.specs.Items.{pairs_of, holes_in}
@@ -19,10 +22,6 @@ use Rattle.tib_apply.specs.declared.forward_plan.PlannedEnd.{PlannedEnd}
 use Rattle.tib_apply.specs.declared.forward_plan.Plan.{Plan}
 
 -- ends and marks
-
-pub each_mapped : {A B : Type 0} (Q : B → Type 0) (f : A → B) (xs : List A) → Each Q (map f xs) → Each (λ x. Q (f x)) xs
-each_mapped Q f [] h = tt
-each_mapped Q f (x ∷ xs) h = (h.0, each_mapped Q f xs h.1)
 
 pub each_map : {A B : Type 0} (Q : B → Type 0) (f : A → B) (xs : List A) → Each (λ x. Q (f x)) xs → Each Q (map f xs)
 each_map Q f [] h = tt
@@ -63,19 +62,6 @@ unmarked_is marks named n [] m h = refl
 unmarked_is marks named n (x ∷ xs) m h =
     ap (λ (b : Bool). if b then unmarked_of marks xs else x ∷ unmarked_of marks xs) (m x.number h.0)
     ∙ ap (λ (ys : List Variable). if list_any (nat_eq x.number) named then ys else x ∷ ys) (unmarked_is marks named n xs m h.1)
-
-along_more : {A B : Type 0} (R : A → B → Type 0) (xs : List A) (ys : List B) (x : A) (y : B) → Along R xs ys → R x y → Along R (xs ++ x ∷ []) (ys ++ y ∷ [])
-along_more R [] [] x y a r = (r, tt)
-along_more R [] (b ∷ ys) x y a r = absurd a
-along_more R (z ∷ xs) [] x y a r = absurd a
-along_more R (z ∷ xs) (b ∷ ys) x y a r = (a.0, along_more R xs ys x y a.1 r)
-
-take_next : {A : Type 0} (xs : List A) (i : ℕ) (d : A) → i < length xs → take (i + 1) xs ≡ take i xs ++ get_or xs i d ∷ []
-take_next [] i d h = absurd (omega arith)
-take_next (x ∷ xs) zero d h = refl
-take_next (x ∷ xs) (suc i) d h =
-    let e : suc i + 1 ≡ suc (i + 1) = omega arith in
-    ap (λ j. take j (x ∷ xs)) e ∙ ap (λ ys. x ∷ ys) (take_next xs i d (omega arith))
 
 -- one plan more
 pub plans_next :

@@ -1,8 +1,7 @@
 -- Rules over places with positions in place of their ends.
-use Rattle.std.specs.Prelude.{◌≡◌, ℕ, ◌+◌, ◌<◌, ◌≤◌, List, [], ◌∷◌, ◌++◌, length, map, drop, refl, slice_index}
+use Rattle.std.specs.Prelude.{◌≡◌, ℕ, ◌+◌, ◌<◌, List, [], ◌∷◌, ◌++◌, length, map, drop, refl, slice_index}
 use Rattle.std.proofs.Common.{Err, zero, suc, arith, ap, sym, ◌∙◌, get_or, append_assoc}
 use Rattle.std.proofs.lemmas.List.{length-append}
-use Rattle.tib_lex.specs.Lists.{Each}
 use Rattle.tib_lex.proofs.Lists.{append_nil}
 use Rattle.std.specs.declared.result.Result.{Result}
 use Rattle.tib_tree.specs.declared.preorder.ShapeError.{ShapeError}
@@ -12,19 +11,14 @@ use Rattle.tib_grammar.specs.Sides.{Symbol, label, hole, Side as SideFor, holes,
 use Rattle.tib_grammar.specs.Items.{pairs_of}
 use Rattle.tib_grammar.specs.GrammarOf.{named_rule}
 use Rattle.tib_grammar.specs.declared.Item.{Item}
+use Rattle.tib_grammar.specs.Positions.{states_in, positions_of}
 use Rattle.tib_grammar.proofs.Holes.{side_same}
 use Rattle.tib_hunt.specs.declared.place.Place.TheVariants.{End}
-use Rattle.tib_hunt.specs.EdgeLists.{IsWithin, position_of}
+use Rattle.tib_hunt.specs.EdgeLists.{position_of}
 use Rattle.tib_apply.specs.declared.forward_rule.ForwardRule.{ForwardRule}
-use Rattle.tib_apply.specs.ForwardRules.{ends_from, numbered, numbered_root, numbered_side, places_of, read_places, states_in, positions_of}
+use Rattle.tib_apply.specs.ForwardRules.{numbered, numbered_root, numbered_side, places_of, read_places}
 use Rattle.tib_apply.specs.ForwardRuleLaws.{side_numbers, map_append}
 use Rattle.tib_apply.specs.ForwardSettling.{settled_pairs}
-
--- ends side by side are within their list
-pub ends_fit : (known m i k : ℕ) → Each (IsWithin known m) (ends_from i k) → 0 < k → i + k ≤ m
-ends_fit known m i zero h p = absurd (omega arith)
-ends_fit known m i (suc zero) h p = omega (arith, h.0)
-ends_fit known m i (suc (suc k)) h p = omega (arith, ends_fit known m (suc i) (suc k) h.1 (omega arith))
 
 module _ {P : Type 0} (ends : List ℕ) where
   count_numbered : (n : ℕ) (ts : Trees (Symbol ℕ P)) → count (relabel (symbol_map {A = ℕ} (slice_index ends)) (numbered n ts)) ≡ count ts

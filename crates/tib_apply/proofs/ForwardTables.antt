@@ -1,35 +1,26 @@
 -- Forward application over tables is forward application, and what its hunt answers.
-use Rattle.std.specs.Prelude.{◌≡◌, ℕ, ◌+◌, ◌<◌, ◌≤◌, List, [], ◌∷◌, ◌++◌, length, map, Bool, refl, Option, None, Some, IfOk}
-use Rattle.std.proofs.Common.{zero, suc, arith, ap, subst, Ok, Err}
-use Rattle.std.specs.declared.result.Result.{Result}
-use Rattle.tib_lex.specs.Lists.{Each, total}
-use Rattle.tib_lex.proofs.Members.{each_has, has_at}
-use Rattle.tib_tree.specs.Trees.{Trees, none, tree, only}
-use Rattle.tib_grammar.specs.Sides.{Symbol, label, hole, holes}
-use Rattle.tib_grammar.specs.Run.{rule_at, no_rule}
-use Rattle.tib_grammar.specs.Range.{AllBelow, AreInRange}
+use Rattle.std.specs.Prelude.{◌≡◌, ℕ, ◌+◌, ◌≤◌, List, [], ◌∷◌, length, map, Bool, Option, None, Some}
+use Rattle.std.proofs.Common.{zero, suc, arith, subst}
+use Rattle.tib_lex.specs.Lists.{total}
 use Rattle.tib_grammar.specs.GrammarOf.{GrammarOf, named_rule}
 use Rattle.tib_grammar.specs.declared.Rule.{Rule}
-use Rattle.tib_grammar.proofs.Below.{below_append}
 use Rattle.tib_cost.specs.Semiring.{ProductLaws}
 use Rattle.tib_cost.specs.Least.{IsLeast}
 use Rattle.tib_cost.proofs.Least.{IsLeast-one, IsLeast-products, IsLeast-unique}
-use Rattle.tib_hunt.specs.Reached.{AfterRounds, IsNew, AreEdges, IsReachedSet, IsBeyond, IfTooMany}
-use Rattle.tib_hunt.specs.declared.found.HuntError.{HuntError}
-use Rattle.tib_hunt.specs.declared.found.HuntError.TheVariants.{TooMany}
+use Rattle.tib_lex.proofs.Lists.{length_map}
+use Rattle.tib_hunt.specs.Reached.{AfterRounds, IsNew, AreEdges, IsReachedSet, IsBeyond}
 use Rattle.tib_hunt.specs.Numbered.{key_parts}
-use Rattle.tib_hunt.specs.Rows.{AreBelow}
 use Rattle.tib_hunt.proofs.Members.{Lists-to}
 use Rattle.tib_transducer.specs.TransducerOf.{TransducerOf}
 use Rattle.tib_transducer.specs.Rules.{transducer_rule, variables_of, variables_in}
 use Rattle.tib_transducer.specs.declared.TransducerRule.{TransducerRule}
 use Rattle.tib_apply.specs.KeyGrammars.{key_at}
 use Rattle.tib_apply.specs.Forward.{IsForwardEdge, IsAskedCost, IsDeletedCost, deleted}
-use Rattle.tib_apply.specs.ForwardRules.{states_in, positions_of}
 use Rattle.tib_apply.specs.LeastRuns.{AreLeastRuns, asked_in, deleted_in}
 use Rattle.tib_apply.specs.Operations.{key_entries, edge_parts, key_operation, forward_image}
 use Rattle.tib_apply.specs.TableEdges.{IsTableEdge, table_image}
 use Rattle.tib_apply.specs.declared.deleting.LeastRuns.{LeastRuns}
+use Rattle.tib_apply.proofs.AppliedKeys.{keys_least, edges_least}
 
 -- two ways to tell the same edges reach the same
 module _
@@ -112,40 +103,7 @@ module _
   pub image_beyond : (limit : ℕ) → IsBeyond (table_image product grammar moves runs) limit → IsBeyond (forward_image product grammar moves) limit
   image_beyond limit h order es is = h order es (set_to (IsForwardEdge product grammar moves) (IsTableEdge product grammar moves runs) table_from table_to order es is)
 
--- range
-
-each_left : (n : ℕ) (xs ys : List ℕ) → Each (λ q. q < n) (xs ++ ys) → Each (λ q. q < n) xs
-each_left n [] ys h = tt
-each_left n (x ∷ xs) ys h = (h.0, each_left n xs ys h.1)
-
-each_right : (n : ℕ) (xs ys : List ℕ) → Each (λ q. q < n) (xs ++ ys) → Each (λ q. q < n) ys
-each_right n [] ys h = h
-each_right n (x ∷ xs) ys h = each_right n xs ys h.1
-
-holes_below : (n : ℕ) (ts : Trees (Symbol ℕ ℕ)) → Each (λ q. q < n) (states_in ts) → AllBelow n (holes ts)
-holes_below n none h = tt
-holes_below n (tree (label x) kids rest) h =
-    below_append n (holes kids) (holes rest) (holes_below n kids (each_left n (states_in kids) (states_in rest) h)) (holes_below n rest (each_right n (states_in kids) (states_in rest) h))
-holes_below n (tree (hole q) kids rest) h = (h.0, holes_below n rest (each_right n (states_in kids) (states_in rest) h.1))
-
-pub rules_in_range : (n : ℕ) (rules : List (Rule ℕ)) → AreBelow positions_of n rules → AreInRange n rules
-rules_in_range n rules below m h =
-    let here : Each (λ q. q < n) (positions_of (rule_at rules m)) = each_has (λ rule. Each (λ q. q < n) (positions_of rule)) rules (rule_at rules m) below (has_at rules m no_rule h) in
-    (here.0, holes_below n (only (rule_at rules m).right) here.1)
-
 -- parts
-
-keys_least : (order : List (ℕ × ℕ × ℕ)) → length order ≤ total (key_parts key_entries) order
-keys_least [] = omega arith
-keys_least (k ∷ order) = omega (arith, keys_least order)
-
-edges_least : (es : List (Rule (ℕ × ℕ × ℕ))) → length es ≤ total edge_parts es
-edges_least [] = omega arith
-edges_least (e ∷ es) = omega (arith, edges_least es)
-
-length_map : {A B : Type 0} (f : A → B) (xs : List A) → length (map f xs) ≡ length xs
-length_map f [] = refl
-length_map f (x ∷ xs) = ap suc (length_map f xs)
 
 module _ (order : List (ℕ × ℕ × ℕ)) (rules : List (Rule ℕ)) (parts limit : ℕ)
     (counted : parts ≡ total (key_parts key_entries) order + total edge_parts (map (named_rule (key_at order)) rules)) (within : parts ≤ limit) where
@@ -156,11 +114,6 @@ module _ (order : List (ℕ × ℕ × ℕ)) (rules : List (Rule ℕ)) (parts lim
   -- there are no more rules than the limit
   pub few_rules : length rules ≤ limit
   few_rules = omega (arith, edges_least (map (named_rule (key_at order)) rules), length_map (named_rule (key_at order)) rules, counted, within)
-
--- what follows from two clauses of one answer
-pub ok_both : {T E : Type 0} (r : Result T E) (P Q R : T → Type 0) → ((x : T) → P x → Q x → R x) → IfOk r P → IfOk r Q → IfOk r R
-ok_both (Ok x) P Q R f h k = f x h k
-ok_both (Err e) P Q R f h k = tt
 
 -- the same of the grammar and the transducer that were asked for
 module _
@@ -177,7 +130,3 @@ module _
       image_beyond laws h.rules u.rules runs least limit
       (subst (λ (x : TransducerOf). IsBeyond (table_image product h.rules x.rules runs) limit) same_transducer
       (subst (λ (x : GrammarOf). IsBeyond (table_image product x.rules t.rules runs) limit) same_grammar is))
-
--- what an error of the hunt says, where it names a limit
-pub too_many : (limit n : ℕ) (P : Type 0) (e : HuntError) → IfTooMany limit P e → e ≡ TooMany n → (n ≡ limit) × P
-too_many limit n P e h is = subst (IfTooMany limit P) is h

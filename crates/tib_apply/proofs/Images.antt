@@ -13,6 +13,7 @@ use Rattle.tib_grammar.proofs.NormalRuns.{split_all, merge_all, IsLeast-no_state
 use Rattle.tib_inside.specs.Inside.{AreInsides}
 use Rattle.tib_cost.specs.Semiring.{ProductLaws, most}
 use Rattle.tib_cost.proofs.Least.{IsLeast-dominated, grows_both}
+use Rattle.tib_lex.proofs.Lists.{map_twice}
 use Rattle.tib_transducer.specs.Rules.{transducer_rule, variables_of, no_variable, states_in, variables_in}
 use Rattle.tib_transducer.specs.Run.{AreTransducerRuns, Reads, AreBound, outputs, transducer_cost, pick}
 use Rattle.tib_transducer.specs.Series.{IsTransducerCost}
@@ -30,7 +31,7 @@ use Rattle.tib_match.proofs.Steps.{one_of, mix, count-costs, three_within, withi
 use Rattle.tib_match.proofs.Matching.{matched, filled, match_long}
 use Rattle.tib_transducer.proofs.Itemizing.{one_more, one_run, joined}
 use Rattle.tib_apply.proofs.Restricting.{AreAdmitted, are_listed}
-use Rattle.tib_apply.proofs.Leaves.{root_label, count-bound, map_twice, picked_admitted}
+use Rattle.tib_apply.proofs.Leaves.{root_label, count-bound, picked_admitted}
 use Rattle.tib_apply.proofs.Asking.{part, whole}
 
 module _

@@ -68,10 +68,6 @@ get_map g [] i d d' h = absurd (omega arith)
 get_map g (x ∷ xs) zero d d' h = refl
 get_map g (x ∷ xs) (suc i) d d' h = get_map g xs i d d' (omega arith)
 
-pub map_twice : {A B C : Type 0} (g : B → C) (h : A → B) (xs : List A) → map g (map h xs) ≡ map (λ x. g (h x)) xs
-map_twice g h [] = refl
-map_twice g h (x ∷ xs) = ap (λ z. g (h x) ∷ z) (map_twice g h xs)
-
 pub map_long : {A B : Type 0} (g : A → B) (xs : List A) → length (map g xs) ≡ length xs
 map_long g [] = refl
 map_long g (x ∷ xs) = ap suc (map_long g xs)

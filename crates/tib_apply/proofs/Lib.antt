@@ -9,10 +9,10 @@ pub mod Examples
 pub mod Reached
 pub mod Families
 pub mod Gathered
-pub mod Bucketing
 pub mod NumberedSides
 pub mod ListedEdges
 pub mod MappedSides
+pub mod MoreParts
 pub mod BackwardEdges
 pub mod PlaceNumbers
 pub mod AppliedKeys

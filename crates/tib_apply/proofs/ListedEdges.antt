@@ -1,29 +1,26 @@
 -- One edge more in a list, and what whole lists of edges say.
-use Rattle.std.specs.Prelude.{◌≡◌, ◌↔◌, ℕ, ◌+◌, ◌<◌, ◌≤◌, ◌⊎◌, List, [], ◌∷◌, ◌++◌, length, map, refl, slice_index_or}
-use Rattle.std.proofs.Common.{zero, suc, arith, ap, sym, ◌∙◌, subst, get_or, inl, inr, append_assoc, append-nil}
+use Rattle.std.specs.Prelude.{◌≡◌, ◌↔◌, ℕ, ◌<◌, ◌≤◌, List, [], ◌∷◌, ◌++◌, length, map, refl, slice_index_or}
+use Rattle.std.proofs.Common.{zero, suc, arith, ap, sym, ◌∙◌, subst, inl, inr}
 use Rattle.std.proofs.lemmas.List.{length-append}
-use Rattle.tib_lex.specs.Lists.{Has, Each, Distinct, Along, total}
-use Rattle.tib_lex.proofs.Lists.{each_weaker}
+use Rattle.tib_lex.specs.Lists.{Has, Each, Along, total}
+use Rattle.tib_lex.proofs.Lists.{each_weaker, total_more}
 use Rattle.tib_lex.proofs.Members.{distinct_more, has_left, has_right, has_either}
 use Rattle.tib_tree.specs.Trees.{only}
 use Rattle.tib_cost.specs.Semiring.{most}
+use Rattle.tib_lex.proofs.Alongs.{along_of, along_more, total_fewer}
+use Rattle.tib_lex.proofs.Places.{index_append, index_get}
 use Rattle.tib_grammar.specs.Sides.{holes_of, side_map}
 use Rattle.tib_grammar.specs.declared.Rule.{Rule}
+use Rattle.tib_grammar.proofs.Positions.{all_ends-more}
 use Rattle.tib_hunt.specs.declared.place.Place.TheVariants.{End}
 use Rattle.tib_hunt.specs.EdgeLists.{IsWithin, IsEnd, Exceeds, AreListed, key_at as key_in}
 use Rattle.tib_apply.specs.KeyGrammars.{key_at}
 use Rattle.tib_apply.specs.Operations.{edge_parts}
 use Rattle.tib_apply.specs.KeyRules.{carried, places_of, read_places, end_at, Reads}
 use Rattle.tib_apply.specs.KeyLaws.{side_same}
-use Rattle.tib_apply.specs.Listing.{all_ends, AddsEdge, IsNext, IsTooMuch, IsWithinBudget, IsAlike, IsListed, Overruns, AreListedFrom}
+use Rattle.tib_apply.specs.Listing.{AddsEdge, IsNext, IsTooMuch, IsWithinBudget, IsAlike, IsListed, Overruns, AreListedFrom}
 use Rattle.tib_apply.specs.declared.edge_list.EdgeList.{EdgeList}
-
--- one more pair of partners
-along_more : {A B : Type 0} (R : A → B → Type 0) (xs : List A) (ys : List B) (x : A) (y : B) → Along R xs ys → R x y → Along R (xs ++ x ∷ []) (ys ++ y ∷ [])
-along_more R [] [] x y a r = (r, tt)
-along_more R [] (b ∷ ys) x y a r = absurd a
-along_more R (z ∷ xs) [] x y a r = absurd a
-along_more R (z ∷ xs) (b ∷ ys) x y a r = (a.0, along_more R xs ys x y a.1 r)
+use Rattle.tib_apply.proofs.ForwardListed.{both_ends}
 
 along_weaker : {A B : Type 0} (R S : A → B → Type 0) → ((x : A) (y : B) → R x y → S x y) → (xs : List A) (ys : List B) → Along R xs ys → Along S xs ys
 along_weaker R S f [] [] a = tt
@@ -31,95 +28,11 @@ along_weaker R S f [] (y ∷ ys) a = absurd a
 along_weaker R S f (x ∷ xs) [] a = absurd a
 along_weaker R S f (x ∷ xs) (y ∷ ys) a = (f x y a.0, along_weaker R S f xs ys a.1)
 
-along_of : {A B : Type 0} (R : A → B → Type 0) (xs : List A) (ys : List B) (x : A) → Along R xs ys → Has xs x → (y : B) × R x y × Has ys y
-along_of R [] ys x a h = absurd h
-along_of R (z ∷ xs) [] x a h = absurd a
-along_of R (z ∷ xs) (y ∷ ys) x a h = elim h [
-  | inl e ↦ (y, subst (λ w. R w y) e a.0, inl refl)
-  | inr k ↦ let r = along_of R xs ys x a.1 k in (r.0, r.1, inr r.2)
-]
-
-along_back : {A B : Type 0} (R : A → B → Type 0) (xs : List A) (ys : List B) (y : B) → Along R xs ys → Has ys y → (x : A) × R x y
-along_back R [] [] y a h = absurd h
-along_back R [] (z ∷ ys) y a h = absurd a
-along_back R (x ∷ xs) [] y a h = absurd h
-along_back R (x ∷ xs) (z ∷ ys) y a h = elim h [
-  | inl e ↦ (x, subst (R x) e a.0)
-  | inr k ↦ along_back R xs ys y a.1 k
-]
-
-total_more : {E : Type 0} (parts : E → ℕ) (es : List E) (e : E) → total parts (es ++ e ∷ []) ≡ total parts es + parts e
-total_more parts [] e = omega arith
-total_more parts (x ∷ es) e = omega (arith, total_more parts es e)
-
--- the list without one origin and its edge
-record Without {O E : Type 0} (edge : O → E → Type 0) (parts : E → ℕ) (os : List O) (es : List E) (o : O) : Type 0 where
-  others : List O
-  edges : List E
-  given : Along edge others edges
-  e : E
-  is : edge o e
-  parts_are : total parts es ≡ parts e + total parts edges
-  stays : (x : O) → Has os x → (o ≡ x) ⊎ Has others x
-
-module _ {O E : Type 0} (edge : O → E → Type 0) (parts : E → ℕ) where
-  without : (os : List O) (es : List E) (o : O) → Along edge os es → Has os o → Without edge parts os es o
-  without [] es o a h = absurd h
-  without (y ∷ os) [] o a h = absurd a
-  without (y ∷ os) (e ∷ es) o a h = elim h [
-    | inl same ↦ record {
-      others = os;
-      edges = es;
-      given = a.1;
-      e = e;
-      is = subst (λ z. edge z e) same a.0;
-      parts_are = refl;
-      stays = λ x k. elim k [ inl m ↦ inl (sym same ∙ m) | inr m ↦ inr m ];
-    }
-    | inr k ↦
-        let w = without os es o a.1 k in
-        record {
-          others = y ∷ w.others;
-          edges = e ∷ w.edges;
-          given = (a.0, w.given);
-          e = w.e;
-          is = w.is;
-          parts_are = omega (arith, w.parts_are);
-          stays = λ x m. elim m [ inl s ↦ inr (inl s) | inr s ↦ elim (w.stays x s) [ inl t ↦ inl t | inr t ↦ inr (inr t) ] ];
-        }
-  ]
-
-  -- edges of distinct origins that are all among others have no more parts
-  total_fewer :
-      ((o : O) (e f : E) → edge o e → edge o f → e ≡ f) → (os : List O) (es : List E) (ps : List O) (fs : List E) → Distinct os → Along edge os es → Along edge ps fs →
-      ((o : O) → Has os o → Has ps o) → total parts es ≤ total parts fs
-  total_fewer one [] [] ps fs d a b among = omega arith
-  total_fewer one [] (e ∷ es) ps fs d a b among = absurd a
-  total_fewer one (o ∷ os) [] ps fs d a b among = absurd a
-  total_fewer one (o ∷ os) (e ∷ es) ps fs d a b among =
-      let w = without ps fs o b (among o (inl refl)) in
-      let same : parts w.e ≡ parts e = ap parts (one o w.e e w.is a.0) in
-      let rest : total parts es ≤ total parts w.edges = total_fewer one os es w.others w.edges d.1 a.1 w.given
-      (λ x h. elim (w.stays x (among x (inr h))) [ inl s ↦ absurd (d.0 (subst (Has os) (sym s) h)) | inr k ↦ k ])
-      in
-      omega (arith, w.parts_are)
-
--- a key that stands in a list stands there too where the list goes on
-index_append : {K : Type 0} (xs ys : List K) (i : ℕ) (d : K) → i < length xs → slice_index_or (xs ++ ys) i d ≡ slice_index_or xs i d
-index_append [] ys i d h = absurd (omega arith)
-index_append (x ∷ xs) ys zero d h = refl
-index_append (x ∷ xs) ys (suc i) d h = index_append xs ys i d (omega arith)
-
 -- an index in range reads one element
 index_same : {K : Type 0} (xs : List K) (i : ℕ) (d c : K) → i < length xs → slice_index_or xs i d ≡ slice_index_or xs i c
 index_same [] i d c h = absurd (omega arith)
 index_same (x ∷ xs) zero d c h = refl
 index_same (x ∷ xs) (suc i) d c h = index_same xs i d c (omega arith)
-
-index_get : {K : Type 0} (xs : List K) (i : ℕ) (d c : K) → i < length xs → slice_index_or xs i d ≡ get_or xs i c
-index_get [] i d c h = absurd (omega arith)
-index_get (x ∷ xs) zero d c h = refl
-index_get (x ∷ xs) (suc i) d c h = index_get xs i d c (omega arith)
 
 -- a rule reads the same where the ends go on
 reads_longer : (key : ℕ × ℕ × ℕ) (n : ℕ) (xs ys : List (ℕ × ℕ × ℕ)) (r : Rule ℕ) (e : Rule (ℕ × ℕ × ℕ)) → Reads key n xs r e → Reads key n (xs ++ ys) r e
@@ -131,10 +44,6 @@ reads_longer key n xs ys r e h = record {
       (side_same (end_at xs) (end_at (xs ++ ys)) r.right.label r.right.kids
       (each_weaker (λ i. i < length xs) (λ i. end_at xs i ≡ end_at (xs ++ ys) i) (carried (only r.right)) (λ i b. sym (index_append xs ys i (0, 0, 0) b)) h.within));
 }
-
-all_ends-more : (es : List (Rule (ℕ × ℕ × ℕ))) (e : Rule (ℕ × ℕ × ℕ)) → all_ends (es ++ e ∷ []) ≡ all_ends es ++ holes_of e.right
-all_ends-more [] e = append-nil (holes_of e.right)
-all_ends-more (x ∷ es) e = ap (λ ys. holes_of x.right ++ ys) (all_ends-more es e) ∙ sym (append_assoc (holes_of x.right) (all_ends es) (holes_of e.right))
 
 module _ {O : Type 0} (Edge : O → Rule (ℕ × ℕ × ℕ) → Type 0) (key : ℕ × ℕ × ℕ) (tried : List O) (o : O) (fresh : Has tried o → ⊥) where
   -- an edge of an origin that was not tried
@@ -249,20 +158,6 @@ module _ (key : ℕ × ℕ × ℕ) (order ends : List (ℕ × ℕ × ℕ)) (n : 
   reads_all d (r ∷ rules) (e ∷ es) a =
       ap (λ x. x ∷ map (read_places (key_in d order ends)) rules) (reads_one d r e a.0) ∙ ap (λ xs. e ∷ xs) (reads_all d rules es a.1)
 
-has_end : (es : List (Rule (ℕ × ℕ × ℕ))) (k : ℕ × ℕ × ℕ) → Has (all_ends es) k → (e : Rule (ℕ × ℕ × ℕ)) × Has es e × Has (holes_of e.right) k
-has_end [] k h = absurd h
-has_end (e ∷ es) k h = elim (has_either (holes_of e.right) (all_ends es) k h) [
-  | inl m ↦ (e, inl refl, m)
-  | inr m ↦ let r = has_end es k m in (r.0, inr r.1, r.2)
-]
-
-end_has : (es : List (Rule (ℕ × ℕ × ℕ))) (e : Rule (ℕ × ℕ × ℕ)) (k : ℕ × ℕ × ℕ) → Has es e → Has (holes_of e.right) k → Has (all_ends es) k
-end_has [] e k h m = absurd h
-end_has (f ∷ es) e k h m = elim h [
-  | inl same ↦ has_left (holes_of f.right) (all_ends es) k (subst (λ (x : Rule (ℕ × ℕ × ℕ)). Has (holes_of x.right) k) (sym same) m)
-  | inr n ↦ has_right (holes_of f.right) (all_ends es) k (end_has es e k n m)
-]
-
 module _ {O : Type 0} (Edge : O → Rule (ℕ × ℕ × ℕ) → Type 0) (key : ℕ × ℕ × ℕ) (order : List (ℕ × ℕ × ℕ)) (n : ℕ) (low : n < length order) (there : key_at order n ≡ key) where
   -- the rules of a whole list are the edges of the key
   pub whole_listed :
@@ -288,22 +183,8 @@ module _ {O : Type 0} (Edge : O → Rule (ℕ × ℕ × ℕ) → Type 0) (key : 
 module _ {O : Type 0} (Edge : O → Rule (ℕ × ℕ × ℕ) → Type 0) (one : (o : O) (e f : Rule (ℕ × ℕ × ℕ)) → Edge o e → Edge o f → e ≡ f) (key : ℕ × ℕ × ℕ) where
   -- its ends are those of the edges
   pub whole_ends : (l : EdgeList) (ends : List (ℕ × ℕ × ℕ)) → ends ≡ l.ends.items → AreListedFrom Edge key l → (k : ℕ × ℕ × ℕ) → Has ends k ↔ IsEnd Edge (λ e. holes_of e.right) k
-  whole_ends l ends e listed k = (to, from)
-    where
-      are : ends ≡ all_ends listed.listed.edges
-      are = e ∙ listed.listed.ends_are
-
-      to : Has ends k → IsEnd Edge (λ e. holes_of e.right) k
-      to h =
-          let r = has_end listed.listed.edges k (subst (λ xs. Has xs k) are h) in
-          let o = along_back Edge listed.listed.origins listed.listed.edges r.0 listed.listed.given r.1 in
-          (o.0, r.0, o.1, r.2)
-
-      from : IsEnd Edge (λ e. holes_of e.right) k → Has ends k
-      from h =
-          let a = along_of Edge listed.listed.origins listed.listed.edges h.0 listed.listed.given (listed.listed.whole h.0 h.1 (listed.all h.0 h.1 h.2) h.2) in
-          let same : h.1 ≡ a.0 = one h.0 h.1 a.0 h.2 a.1 in
-          subst (λ xs. Has xs k) (sym are) (end_has listed.listed.edges a.0 k a.2 (subst (λ (x : Rule (ℕ × ℕ × ℕ)). Has (holes_of x.right) k) same h.3))
+  whole_ends l ends e listed k =
+      both_ends Edge one listed.listed.origins listed.listed.edges listed.listed.given (λ o f g. listed.listed.whole o f (listed.all o f g) g) ends (e ∙ listed.listed.ends_are) k
 
   -- edges that have more parts than the budget show that all have
   pub overruns_exceeds : (budget : ℕ) → Overruns Edge budget → Exceeds Edge edge_parts budget

@@ -1,19 +1,19 @@
 -- What sides carry, their sizes, and sides that are mapped twice.
-use Rattle.std.specs.Prelude.{◌≡◌, ℕ, ◌<◌, ◌≤◌, List, [], ◌∷◌, ◌++◌, length, map, refl}
+use Rattle.std.specs.Prelude.{◌≡◌, ℕ, ◌<◌, List, [], ◌∷◌, ◌++◌, length, map, refl}
 use Rattle.std.proofs.Common.{arith, ap, sym, ◌∙◌}
-use Rattle.std.proofs.lemmas.List.{map-append, length-append}
+use Rattle.std.proofs.lemmas.List.{map-append}
 use Rattle.tib_lex.specs.Lists.{Each}
-use Rattle.tib_tree.specs.Trees.{Trees, none, tree, only, relabel, size, sizes, preorder, preorder_of}
+use Rattle.tib_tree.specs.Trees.{Trees, none, tree, only, relabel, size, sizes, preorder_of}
 use Rattle.tib_grammar.specs.Sides.{Symbol, label, hole, Side as SideFor, symbol_map, side_map, holes, holes_of, HolesAreLeaves}
-use Rattle.tib_grammar.specs.Items.{pairs_of, holes_in}
+use Rattle.tib_grammar.specs.Items.{pairs_of}
 use Rattle.tib_grammar.specs.declared.Item.{Item}
-use Rattle.tib_grammar.specs.declared.Item.TheVariants.{Label, Hole}
 use Rattle.tib_grammar.proofs.ItemsAt.{length-pairs}
 use Rattle.tib_grammar.specs.declared.Rule.{Rule}
 use Rattle.tib_grammar.specs.GrammarOf.{named_rule}
 use Rattle.tib_hunt.specs.declared.place.Place.TheVariants.{End}
 use Rattle.tib_hunt.specs.EdgeLists.{IsWithin, position_of}
 use Rattle.std.specs.Prelude.{slice_index}
+use Rattle.tib_tree.proofs.Counts.{length-preorder}
 use Rattle.tib_apply.specs.KeyRules.{carried, places_of, read_places, positions_of}
 
 -- where holes are leaves, what is carried is what the holes carry
@@ -77,19 +77,9 @@ sizes_mapped f (tree s kids rest) = omega (arith, sizes_mapped f kids, sizes_map
 pub size_mapped : {P Q : Type 0} (f : P → Q) (s : SideFor ℕ P) → size (side_map f s) ≡ size s
 size_mapped f s = omega (arith, sizes_mapped (symbol_map f) s.kids)
 
-length-preorder : {A : Type 0} (ts : Trees A) → length (preorder ts) ≡ sizes ts
-length-preorder none = refl
-length-preorder (tree f kids rest) = omega (arith, length-append (preorder kids) (preorder rest), length-preorder kids, length-preorder rest)
-
 -- a side has as many nodes as items
 pub items_size : {P : Type 0} (items : List (Item P)) (s : SideFor ℕ P) → pairs_of items ≡ preorder_of s → length items ≡ size s
 items_size items s e = omega (arith, length-pairs items, ap length e, length-preorder s.kids)
-
--- no more holes than items
-pub holes_fit : {P : Type 0} (items : List (Item P)) → length (holes_in items) ≤ length items
-holes_fit [] = omega arith
-holes_fit (Label f rank ∷ items) = omega (arith, holes_fit items)
-holes_fit (Hole p ∷ items) = omega (arith, holes_fit items)
 
 -- rules over positions
 

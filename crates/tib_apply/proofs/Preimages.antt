@@ -14,6 +14,7 @@ use Rattle.tib_grammar.proofs.NormalRuns.{split_all, merge_all, IsLeast-no_state
 use Rattle.tib_grammar.proofs.Members.{each_has}
 use Rattle.tib_cost.specs.Semiring.{ProductLaws, most}
 use Rattle.tib_cost.proofs.Least.{IsLeast-dominated, grows_both}
+use Rattle.tib_lex.proofs.Lists.{map_twice}
 use Rattle.tib_transducer.specs.Rules.{transducer_rule, variables_of, variable_at, no_variable, states_in, variables_in}
 use Rattle.tib_transducer.specs.Run.{AreTransducerRuns, Reads, AreBound, outputs, transducer_cost, pick}
 use Rattle.tib_transducer.specs.Series.{IsTransducerCost}
@@ -32,7 +33,7 @@ use Rattle.tib_match.proofs.Matching.{matched, filled, match_long}
 use Rattle.tib_transducer.proofs.Selecting.{Item, keys_of, trees_of, product_of, stays, selected, selected-keys, selected-trees, selected-each, stays-keys, all_named, parted, keys_long, trees_long}
 use Rattle.tib_transducer.proofs.Itemizing.{restore, one_more, one_run, joined, count-outputs}
 use Rattle.tib_apply.proofs.Restricting.{IsListed, AreAdmitted, are_listed, binds}
-use Rattle.tib_apply.proofs.Leaves.{place_number, all_stand, pairs_along, count-bound, root_label, map_same_at, get_map, map_twice, map_long, each_to, all_below, picked_admitted}
+use Rattle.tib_apply.proofs.Leaves.{place_number, all_stand, pairs_along, count-bound, root_label, map_same_at, get_map, map_long, each_to, all_below, picked_admitted}
 
 module _
     {levelled weighted : Bool} {product : ℕ → ℕ → ℕ} (laws : ProductLaws levelled weighted product)

@@ -1,5 +1,5 @@
 -- What holds of all edges of backward application.
-use Rattle.std.specs.Prelude.{◌≡◌, ℕ, ◌<◌, List, [], ◌∷◌, length, map, take, drop, Option, Some, refl}
+use Rattle.std.specs.Prelude.{◌≡◌, ℕ, ◌<◌, List, [], ◌∷◌, length, map, take, drop, refl}
 use Rattle.std.proofs.Common.{zero, suc, ap, sym, ◌∙◌, subst, inl, inr}
 use Rattle.tib_lex.specs.Lists.{Has, Each}
 use Rattle.tib_tree.specs.Trees.{Trees, none, tree, only}
@@ -10,6 +10,8 @@ use Rattle.tib_grammar.specs.declared.Rule.{Rule}
 use Rattle.tib_cost.proofs.Least.{IsLeast-unique}
 use Rattle.tib_lex.proofs.Members.{has_left}
 use Rattle.tib_lex.proofs.Numbers.{nat_eq_cases}
+use Rattle.tib_lex.proofs.Lists.{some_is}
+use Rattle.tib_grammar.specs.Range.{StatesBelow}
 use Rattle.tib_hunt.specs.Lawful.{IsLawful}
 use Rattle.tib_transducer.specs.Rules.{transducer_rule}
 use Rattle.tib_transducer.specs.declared.Pair.{Pair}
@@ -21,23 +23,20 @@ use Rattle.tib_apply.specs.Backward.{states_at, backward_key, IsBackwardEdge}
 use Rattle.tib_apply.specs.Operations.{key_cmp, key_entries, inverse_image}
 use Rattle.tib_apply.specs.KeyRules.{key_reading}
 use Rattle.tib_apply.specs.KeyLaws.{keys_are_lawful}
-use Rattle.tib_apply.specs.BackwardLists.{StatesBelow}
 
-same_rule : (e f : Rule (ℕ × ℕ × ℕ)) → e.left ≡ f.left → e.right ≡ f.right → e.cost ≡ f.cost → e ≡ f
+-- rules of the same sides and cost are the same
+pub same_rule : (e f : Rule (ℕ × ℕ × ℕ)) → e.left ≡ f.left → e.right ≡ f.right → e.cost ≡ f.cost → e ≡ f
 same_rule e f left right costs =
     ap (λ l. record { left = l; right = e.right; cost = e.cost }) left
     ∙ ap (λ r. record { left = f.left; right = r; cost = e.cost }) right
     ∙ ap (λ c. record { left = f.left; right = f.right; cost = c }) costs
-
-some_same : {a b : ℕ} → ◌≡◌ {A = Option ℕ} (Some a) (Some b) → a ≡ b
-some_same e = cc
 
 -- an origin gives a key one edge
 pub one_backward_edge :
     (product : ℕ → ℕ → ℕ) (moves : List (TransducerRule ℕ)) (grammar : List (Rule ℕ)) (key : ℕ × ℕ × ℕ) (o : ℕ × List ℕ) (e f : Rule (ℕ × ℕ × ℕ)) →
     IsBackwardEdge product moves grammar key o e → IsBackwardEdge product moves grammar key o f → e ≡ f
 one_backward_edge product moves grammar key o e f h k =
-    let matched : h.matched ≡ k.matched = some_same (IsLeast-unique h.is_match k.is_match) in
+    let matched : h.matched ≡ k.matched = some_is (IsLeast-unique h.is_match k.is_match) in
     same_rule e f (h.left ∙ sym k.left) (h.right ∙ sym k.right) (h.costs ∙ ap (product (transducer_rule moves o.0).cost) matched ∙ sym k.costs)
 
 each_take : (P : ℕ → Type 0) (n : ℕ) (ss : List ℕ) → Each P (take n ss) → Each P (drop n ss) → Each P ss

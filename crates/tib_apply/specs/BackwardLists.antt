@@ -1,9 +1,9 @@
 -- What goes into the list of the edges of backward application.
-use Rattle.std.specs.Prelude.{◌≡◌, ℕ, ◌+◌, ◌<◌, List, [], ◌∷◌, ◌++◌, length}
+use Rattle.std.specs.Prelude.{◌≡◌, ℕ, ◌+◌, List, [], ◌∷◌, ◌++◌, ◌≤◌}
 use Rattle.std.proofs.Common.{get_or}
 use Rattle.tib_lex.specs.Lists.{Has}
+use Rattle.tib_cost.specs.Semiring.{most}
 use Rattle.tib_grammar.specs.Sides.{label, holes_of, side_map}
-use Rattle.tib_grammar.specs.Run.{rule_at}
 use Rattle.tib_grammar.specs.declared.Rule.{Rule}
 use Rattle.tib_grammar.specs.declared.Item.{Item}
 use Rattle.tib_grammar.specs.declared.Item.TheVariants.{Label, Hole}
@@ -25,6 +25,10 @@ edge_to labels key rule states cost = record { left = key; right = side_map (bac
 abbrev pub backward_edge : (ℕ → ℕ → ℕ) → List ℕ → ℕ × ℕ × ℕ → TransducerRule ℕ → List ℕ × ℕ → Rule (ℕ × ℕ × ℕ)
 backward_edge product labels key rule m = edge_to labels key rule m.0 (product rule.cost m.1)
 
+-- the cost of a match with that of the rule is no more than the greatest
+abbrev pub IsCheap : (ℕ → ℕ → ℕ) → TransducerRule ℕ → List ℕ × ℕ → Type 0
+IsCheap product rule m = product rule.cost m.1 ≤ most
+
 -- the restriction of the key admits the label with which the left side of the rule begins
 abbrev pub AdmitsRule : List ℕ → ℕ × ℕ × ℕ → TransducerRule ℕ → Type 0
 AdmitsRule labels key rule = (root : ℕ) × (rule.left.label ≡ label root) × Admits labels key.2 root
@@ -41,10 +45,6 @@ item_with f (Hole p) = Hole (f p)
 -- the number of a variable, counted from n
 abbrev pub number_from : ℕ → Variable → ℕ
 number_from n x = n + x.number
-
--- the states in the right sides of the rules are below a number
-abbrev pub StatesBelow : ℕ → List (Rule ℕ) → Type 0
-StatesBelow n rules = (m q : ℕ) → m < length rules → Has (holes_of (rule_at rules m).right) q → q < n
 
 -- the error names the first rule outside the classes that are demanded, or says that memory was refused
 abbrev pub IsClassError : Demands → List (TransducerRule ℕ) → ClassError → Type 0

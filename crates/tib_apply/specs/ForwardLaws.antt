@@ -1,9 +1,9 @@
 -- What holds of all edges of forward application over tables, and of all rules that stand for them.
-use Rattle.std.specs.Prelude.{◌≡◌, ℕ, ◌+◌, ◌<◌, ◌⊎◌, List, [], ◌∷◌, length, map, take, drop, refl, Option, Some}
+use Rattle.std.specs.Prelude.{◌≡◌, ℕ, ◌<◌, ◌⊎◌, List, [], ◌∷◌, length, map, take, drop, refl}
 use Rattle.std.proofs.Common.{zero, suc, arith, ap, sym, ◌∙◌, subst, get_or, inl, inr}
 use Rattle.tib_lex.specs.Lists.{Has}
 use Rattle.tib_lex.proofs.Members.{each_has, has_at}
-use Rattle.tib_lex.proofs.Lists.{has_mapped}
+use Rattle.tib_lex.proofs.Lists.{has_mapped, some_is}
 use Rattle.tib_tree.specs.Trees.{Trees, none, tree, only}
 use Rattle.tib_grammar.specs.Sides.{Symbol, label, hole, holes, holes_of}
 use Rattle.tib_grammar.specs.Run.{rule_at}
@@ -23,9 +23,7 @@ use Rattle.tib_apply.specs.ForwardRuleLaws.{reads_places, reads_positions}
 use Rattle.tib_apply.specs.Operations.{key_cmp, key_entries}
 use Rattle.tib_apply.specs.TableEdges.{IsTableEdge, table_image}
 use Rattle.tib_apply.specs.declared.deleting.LeastRuns.{LeastRuns}
-
-some_is : {m n : ℕ} → ◌≡◌ {A = Option ℕ} (Some m) (Some n) → m ≡ n
-some_is e = cc
+use Rattle.tib_apply.specs.KeyLaws.{key_stays}
 
 -- an origin gives one edge
 pub same_table_edge :
@@ -94,19 +92,6 @@ table_ends_below product grammar moves runs n some range key o e k below is has 
     (λ q h. elim h [ inl same ↦ subst (λ y. y < n) same below | inr nothing ↦ absurd nothing ])
     in
     subst (λ (y : ℕ × ℕ × ℕ). y.0 < n) x.2 (state_at n o.1 x.0.variable some states)
-
-take_at : {A : Type 0} (xs : List A) (n : ℕ) (d : A) → get_or (take (suc n) xs) n d ≡ get_or xs n d
-take_at [] zero d = refl
-take_at [] (suc n) d = refl
-take_at (x ∷ xs) zero d = refl
-take_at (x ∷ xs) (suc n) d = take_at xs n d
-
--- two orders that agree up to a position have the same key there
-pub key_stays : (xs ys : List (ℕ × ℕ × ℕ)) (n : ℕ) → take (n + 1) xs ≡ take (n + 1) ys → key_at xs n ≡ key_at ys n
-key_stays xs ys n e =
-    let one : n + 1 ≡ suc n = omega arith in
-    let same : take (suc n) xs ≡ take (suc n) ys = subst (λ m. take m xs ≡ take m ys) one e in
-    sym (take_at xs n (0, 0, 0)) ∙ ap (λ (zs : List (ℕ × ℕ × ℕ)). get_or zs n (0, 0, 0)) same ∙ take_at ys n (0, 0, 0)
 
 first_below : (n : ℕ) (k : ℕ × ℕ × ℕ) → 0 < n → k ≡ (0, 0, 0) → k.0 < n
 first_below n k some e = let same : k.0 ≡ 0 = ap (λ (z : ℕ × ℕ × ℕ). z.0) e in omega (arith, some, same)

@@ -2,19 +2,15 @@
 use Rattle.std.specs.Prelude.{◌≡◌, ℕ, ◌+◌, ◌<◌, ◌≤◌, List, [], ◌∷◌, ◌++◌, length}
 use Rattle.tib_lex.specs.Lists.{Has, Distinct, Along, total}
 use Rattle.tib_tree.specs.Trees.{size}
-use Rattle.tib_grammar.specs.Sides.{Side as SideFor, holes_of}
+use Rattle.tib_grammar.specs.Sides.{Side as SideFor}
 use Rattle.tib_grammar.specs.declared.Rule.{Rule}
+use Rattle.tib_grammar.specs.Positions.{all_ends}
 use Rattle.tib_hunt.specs.Reached.{most_parts}
 use Rattle.tib_transducer.specs.declared.Pair.{Pair}
 use Rattle.tib_apply.specs.Operations.{edge_parts}
 use Rattle.tib_apply.specs.declared.forward_rule.ForwardRule.{ForwardRule}
 use Rattle.tib_apply.specs.declared.forward_listing.ForwardListing.{ForwardListing}
 use Rattle.tib_apply.specs.ForwardRules.{Reads}
-
--- the ends of some edges, one after another
-abbrev pub all_ends : List (Rule (ℕ × ℕ × ℕ)) → List (ℕ × ℕ × ℕ)
-all_ends [] = []
-all_ends (e ∷ es) = holes_of e.right ++ all_ends es
 
 -- the list with one rule over new ends behind it
 pub record IsAdded (right : SideFor ℕ (Pair ℕ)) (keys : List (ℕ × ℕ × ℕ)) (cost : ℕ) (old new : ForwardListing) : Type 0 where

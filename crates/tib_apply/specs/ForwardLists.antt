@@ -1,10 +1,11 @@
 -- The edges of a key of forward application, listed match by match and rule by rule.
-use Rattle.std.specs.Prelude.{◌≡◌, ℕ, ◌<◌, List, [], ◌∷◌, ◌++◌, length, Some}
+use Rattle.std.specs.Prelude.{◌≡◌, ℕ, ◌<◌, ◌≤◌, List, [], ◌∷◌, ◌++◌, length, Some}
 use Rattle.tib_lex.specs.Lists.{Has}
 use Rattle.tib_grammar.specs.Sides.{label, holes_of}
 use Rattle.tib_grammar.specs.Run.{rule_at}
 use Rattle.tib_grammar.specs.declared.Rule.{Rule}
-use Rattle.tib_transducer.specs.Rules.{transducer_rule}
+use Rattle.tib_cost.specs.Semiring.{most}
+use Rattle.tib_transducer.specs.Rules.{transducer_rule, variables_of, variables_in}
 use Rattle.tib_transducer.specs.declared.TransducerRule.{TransducerRule}
 use Rattle.tib_classes.specs.Outside.{Demands, IsFirstOutside}
 use Rattle.tib_classes.specs.declared.error.ClassError.{ClassError}
@@ -12,6 +13,9 @@ use Rattle.tib_classes.specs.declared.error.ClassError.TheVariants.{Class, OutOf
 use Rattle.tib_match.specs.Matches.{IsMatch}
 use Rattle.tib_apply.specs.KeyGrammars.{key_at}
 use Rattle.tib_apply.specs.Restrictions.{restricted_labels, Admits}
+use Rattle.tib_apply.specs.Forward.{deleted}
+use Rattle.tib_apply.specs.LeastRuns.{deleted_in}
+use Rattle.tib_apply.specs.declared.deleting.LeastRuns.{LeastRuns}
 use Rattle.tib_apply.specs.ForwardListing.{IsListed, Overruns, AreListedFrom}
 use Rattle.tib_apply.specs.declared.forward_listing.ForwardListing.{ForwardListing}
 
@@ -32,6 +36,12 @@ pub record IsAtMatch (product : ℕ → ℕ → ℕ) (grammar : List (Rule ℕ))
   pub is_root : (transducer_rule moves m).left.label ≡ label root
   pub admitted : Admits (restricted_labels moves) key.2 root
   pub is_match : IsMatch product grammar (transducer_rule moves m).left key.0 found.0 (Some found.1)
+
+-- a match that with the cost of the rule and of what it leaves out costs no more than the greatest cost
+pub record IsAffordable (product : ℕ → ℕ → ℕ) (runs : LeastRuns) (rule : TransducerRule ℕ) (m : List ℕ × ℕ) : Type 0 where
+  pub deleted_cost : ℕ
+  pub is_deleted_cost : deleted_in product runs (deleted (variables_in rule.right) (variables_of rule.left) m.0) ≡ Some deleted_cost
+  pub within : product (product rule.cost m.1) deleted_cost ≤ most
 
 module _ (Gives : ℕ × List ℕ → Rule (ℕ × ℕ × ℕ) → Type 0) (key : ℕ × ℕ × ℕ) where
   -- the list gets the edge of an origin, where it gives one

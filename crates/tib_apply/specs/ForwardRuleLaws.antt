@@ -3,43 +3,18 @@ use Rattle.std.specs.Prelude.{◌≡◌, ℕ, ◌+◌, List, [], ◌∷◌, ◌+
 use Rattle.std.proofs.Common.{zero, suc, arith, ap, sym, ◌∙◌, subst}
 use Rattle.std.proofs.lemmas.List.{length-append}
 use Rattle.tib_lex.specs.Lists.{Each}
+use Rattle.tib_lex.proofs.Lists.{each_mapped}
 use Rattle.tib_tree.specs.Trees.{Trees, none, tree, only, relabel}
 use Rattle.tib_grammar.specs.Sides.{Symbol, label, hole, Side as SideFor, holes, holes_of, symbol_map, side_map}
 use Rattle.tib_grammar.specs.GrammarOf.{named_rule}
 use Rattle.tib_grammar.specs.declared.Rule.{Rule}
+use Rattle.tib_grammar.specs.Positions.{states_in, positions_of}
+use Rattle.tib_grammar.proofs.Positions.{symbol_same, kids_same}
 use Rattle.tib_hunt.specs.declared.place.Place.{Place}
 use Rattle.tib_hunt.specs.declared.place.Place.TheVariants.{Known, End}
+use Rattle.tib_keyed.specs.Ends.{ends_from}
 use Rattle.tib_apply.specs.declared.forward_rule.ForwardRule.{ForwardRule}
-use Rattle.tib_apply.specs.ForwardRules.{ends_from, numbered, numbered_root, numbered_side, places_of, read_places, states_in, positions_of}
-
-each_left : {A : Type 0} (P : A → Type 0) (xs ys : List A) → Each P (xs ++ ys) → Each P xs
-each_left P [] ys h = tt
-each_left P (x ∷ xs) ys h = (h.0, each_left P xs ys h.1)
-
-each_right : {A : Type 0} (P : A → Type 0) (xs ys : List A) → Each P (xs ++ ys) → Each P ys
-each_right P [] ys h = h
-each_right P (x ∷ xs) ys h = each_right P xs ys h.1
-
--- a side reads the same where the states in it do
-pub relabel_same : {K : Type 0} (f g : ℕ → K) (ts : Trees (Symbol ℕ ℕ)) → Each (λ q. f q ≡ g q) (states_in ts) → relabel (symbol_map f) ts ≡ relabel (symbol_map g) ts
-relabel_same f g none h = refl
-relabel_same f g (tree (label x) kids rest) h =
-    ap (λ ks. tree (label x) ks (relabel (symbol_map f) rest)) (relabel_same f g kids (each_left (λ q. f q ≡ g q) (states_in kids) (states_in rest) h))
-    ∙ ap (λ rs. tree (label x) (relabel (symbol_map g) kids) rs) (relabel_same f g rest (each_right (λ q. f q ≡ g q) (states_in kids) (states_in rest) h))
-relabel_same f g (tree (hole q) kids rest) h =
-    ap (λ k. tree (hole k) (relabel (symbol_map f) kids) (relabel (symbol_map f) rest)) h.0
-    ∙ ap (λ ks. tree (hole (g q)) ks (relabel (symbol_map f) rest)) (relabel_same f g kids (each_left (λ q. f q ≡ g q) (states_in kids) (states_in rest) h.1))
-    ∙ ap (λ rs. tree (hole (g q)) (relabel (symbol_map g) kids) rs) (relabel_same f g rest (each_right (λ q. f q ≡ g q) (states_in kids) (states_in rest) h.1))
-
-symbol_same : {K : Type 0} (f g : ℕ → K) (s : Symbol ℕ ℕ) (kids : Trees (Symbol ℕ ℕ)) →
-    Each (λ q. f q ≡ g q) (states_in (tree s kids none)) → symbol_map {A = ℕ} f s ≡ symbol_map g s
-symbol_same f g (label x) kids h = refl
-symbol_same f g (hole q) kids h = ap hole h.0
-
-kids_same : {K : Type 0} (f g : ℕ → K) (s : Symbol ℕ ℕ) (kids : Trees (Symbol ℕ ℕ)) →
-    Each (λ q. f q ≡ g q) (states_in (tree s kids none)) → relabel (symbol_map f) kids ≡ relabel (symbol_map g) kids
-kids_same f g (label x) kids h = relabel_same f g kids (each_left (λ q. f q ≡ g q) (states_in kids) [] h)
-kids_same f g (hole q) kids h = relabel_same f g kids (each_left (λ q. f q ≡ g q) (states_in kids) [] h.1)
+use Rattle.tib_apply.specs.ForwardRules.{numbered, numbered_root, numbered_side, places_of, read_places}
 
 pub sides_same : {K : Type 0} (f g : ℕ → K) (s : SideFor ℕ ℕ) → Each (λ q. f q ≡ g q) (states_in (only s)) → side_map f s ≡ side_map g s
 sides_same f g s h =
@@ -87,10 +62,6 @@ only_numbered {P} n side = by side.label
     by : (s : Symbol ℕ P) → only (numbered_root n s side.kids) ≡ numbered n (tree s side.kids none)
     by (label f) = refl
     by (hole p) = refl
-
-each_mapped : {A B : Type 0} (Q : B → Type 0) (f : A → B) (xs : List A) → Each Q (map f xs) → Each (λ x. Q (f x)) xs
-each_mapped Q f [] h = tt
-each_mapped Q f (x ∷ xs) h = (h.0, each_mapped Q f xs h.1)
 
 -- the ends of a side, by the numbers in it
 pub side_numbers : {P : Type 0} (n : ℕ) (side : SideFor ℕ P) → map End (states_in (only (numbered_side n side))) ≡ ends_from n (length (holes_of side))

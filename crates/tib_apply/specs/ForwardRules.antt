@@ -1,21 +1,18 @@
 -- Edges over places whose side is that of a transducer's rule, and how they are read.
-use Rattle.std.specs.Prelude.{◌≡◌, ℕ, ◌+◌, List, [], ◌∷◌, ◌++◌, length}
-use Rattle.std.proofs.Common.{zero, suc}
+use Rattle.std.specs.Prelude.{◌≡◌, ℕ, ◌+◌, List, ◌∷◌, length}
+use Rattle.std.proofs.Common.{suc}
 use Rattle.tib_lex.specs.Lists.{Each}
-use Rattle.tib_tree.specs.Trees.{Trees, none, tree, only}
+use Rattle.tib_tree.specs.Trees.{Trees, none, tree}
 use Rattle.tib_grammar.specs.Sides.{Symbol, label, hole, Side as SideFor, holes, holes_of, side_map}
 use Rattle.tib_grammar.specs.GrammarOf.{named_rule}
 use Rattle.tib_grammar.specs.declared.Rule.{Rule}
+use Rattle.tib_grammar.specs.Positions.{positions_of}
 use Rattle.tib_hunt.specs.declared.place.Place.{Place}
 use Rattle.tib_hunt.specs.declared.place.Place.TheVariants.{Known, End}
 use Rattle.tib_hunt.specs.EdgeLists.{IsWithin, key_at}
 use Rattle.tib_hunt.specs.Reading.{Reading}
+use Rattle.tib_keyed.specs.Ends.{ends_from}
 use Rattle.tib_apply.specs.declared.forward_rule.ForwardRule.{ForwardRule}
-
--- n ends side by side, from number i on
-abbrev pub ends_from : ℕ → ℕ → List Place
-ends_from i zero = []
-ends_from i (suc n) = End i ∷ ends_from (suc i) n
 
 -- sides whose holes carry the numbers n, n + 1 and so on in preorder
 abbrev pub numbered : {P : Type 0} → ℕ → Trees (Symbol ℕ P) → Trees (Symbol ℕ ℕ)
@@ -37,16 +34,6 @@ places_of r = Known r.position ∷ ends_from r.first_end (length (holes_of r.rig
 -- the edge that a rule over places stands for, where each place has its key
 abbrev pub read_places : {K : Type 0} → (Place → K) → ForwardRule → Rule K
 read_places f r = record { left = f (Known r.position); right = side_map (λ i. f (End i)) (numbered_side r.first_end r.right.now); cost = r.cost }
-
--- the states that stand anywhere in some sides
-abbrev pub states_in : Trees (Symbol ℕ ℕ) → List ℕ
-states_in none = []
-states_in (tree (label f) kids rest) = states_in kids ++ states_in rest
-states_in (tree (hole q) kids rest) = q ∷ (states_in kids ++ states_in rest)
-
--- the positions in a rule, its left state first
-abbrev pub positions_of : Rule ℕ → List ℕ
-positions_of r = r.left ∷ states_in (only r.right)
 
 -- how rules over places and over positions are read as edges
 abbrev pub forward_reading : Reading (ℕ × ℕ × ℕ) (Rule (ℕ × ℕ × ℕ)) ForwardRule (Rule ℕ)

@@ -1,7 +1,9 @@
 -- What holds of operations over keys, and of all rules that stand for their edges.
-use Rattle.std.specs.Prelude.{◌≡◌, ℕ, ◌+◌, ◌<◌, List, [], ◌∷◌, ◌++◌, length, map, take, refl}
+use Rattle.std.specs.Prelude.{◌≡◌, ℕ, ◌+◌, ◌<◌, List, [], ◌∷◌, length, map, take, refl}
 use Rattle.std.proofs.Common.{zero, suc, arith, ap, sym, ◌∙◌, subst, get_or}
 use Rattle.tib_lex.specs.Lists.{Has, Each}
+use Rattle.tib_lex.proofs.Lists.{each_left, each_right}
+use Rattle.tib_lex.proofs.Places.{take_at}
 use Rattle.tib_tree.specs.Trees.{Trees, none, tree, relabel, only}
 use Rattle.tib_grammar.specs.Sides.{Symbol, label, hole, symbol_map, side_map, holes_of}
 use Rattle.tib_grammar.specs.GrammarOf.{named_rule}
@@ -12,14 +14,6 @@ use Rattle.tib_hunt.specs.Lawful.{IsLawful}
 use Rattle.tib_apply.specs.KeyGrammars.{key_at}
 use Rattle.tib_apply.specs.Operations.{key_cmp, key_entries, key_operation}
 use Rattle.tib_apply.specs.KeyRules.{carried, places_of, read_places, positions_of, key_reading}
-
-each_left : {A : Type 0} (P : A → Type 0) (xs ys : List A) → Each P (xs ++ ys) → Each P xs
-each_left P [] ys h = tt
-each_left P (x ∷ xs) ys h = (h.0, each_left P xs ys h.1)
-
-each_right : {A : Type 0} (P : A → Type 0) (xs ys : List A) → Each P (xs ++ ys) → Each P ys
-each_right P [] ys h = h
-each_right P (x ∷ xs) ys h = each_right P xs ys h.1
 
 -- functions that agree on what is carried make the same of sides
 pub relabel_same : {P K : Type 0} (f g : P → K) (ts : Trees (Symbol ℕ P)) → Each (λ q. f q ≡ g q) (carried ts) → relabel (symbol_map {A = ℕ} f) ts ≡ relabel (symbol_map {A = ℕ} g) ts
@@ -64,14 +58,8 @@ reads_positions r f g h =
     ap (λ k. record { left = k; right = side_map f r.right; cost = r.cost }) h.0
     ∙ ap (λ s. record { left = g r.left; right = s; cost = r.cost }) (side_same f g r.right.label r.right.kids h.1)
 
-take_at : {A : Type 0} (xs : List A) (n : ℕ) (d : A) → get_or (take (suc n) xs) n d ≡ get_or xs n d
-take_at [] zero d = refl
-take_at [] (suc n) d = refl
-take_at (x ∷ xs) zero d = refl
-take_at (x ∷ xs) (suc n) d = take_at xs n d
-
 -- two orders that agree up to a position have the same key there
-key_stays : (xs ys : List (ℕ × ℕ × ℕ)) (n : ℕ) → take (n + 1) xs ≡ take (n + 1) ys → key_at xs n ≡ key_at ys n
+pub key_stays : (xs ys : List (ℕ × ℕ × ℕ)) (n : ℕ) → take (n + 1) xs ≡ take (n + 1) ys → key_at xs n ≡ key_at ys n
 key_stays xs ys n e =
     let one : n + 1 ≡ suc n = omega arith in
     let same : take (suc n) xs ≡ take (suc n) ys = subst (λ m. take m xs ≡ take m ys) one e in

@@ -4,15 +4,11 @@ use Rattle.tib_lex.specs.Lists.{Has, Distinct, Along, total}
 use Rattle.tib_cost.specs.Semiring.{most}
 use Rattle.tib_grammar.specs.Sides.{holes_of}
 use Rattle.tib_grammar.specs.declared.Rule.{Rule}
+use Rattle.tib_grammar.specs.Positions.{all_ends}
 use Rattle.tib_hunt.specs.Reached.{most_parts}
 use Rattle.tib_apply.specs.Operations.{edge_parts}
 use Rattle.tib_apply.specs.KeyRules.{Reads}
 use Rattle.tib_apply.specs.declared.edge_list.EdgeList.{EdgeList}
-
--- the ends of some edges, one after another
-abbrev pub all_ends : List (Rule (ℕ × ℕ × ℕ)) → List (ℕ × ℕ × ℕ)
-all_ends [] = []
-all_ends (e ∷ es) = holes_of e.right ++ all_ends es
 
 -- the list with an edge of the key behind it
 pub record AddsEdge (key : ℕ × ℕ × ℕ) (e : Rule (ℕ × ℕ × ℕ)) (old new : EdgeList) : Type 0 where

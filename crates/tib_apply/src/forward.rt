@@ -10,7 +10,9 @@ ghost use Rattle.tib_transducer.specs.Rules.{transducer_rule};
 ghost use Rattle.tib_apply.specs.Restrictions.{restricted_labels, Admits};
 ghost use Rattle.tib_apply.specs.TableEdges.{IsTableEdge};
 ghost use Rattle.tib_apply.specs.ForwardListing.{IsWithinBudget};
-ghost use Rattle.tib_apply.specs.ForwardLists.{HoleStatesBelow, IsClassErrorOf, IsAtMatch, ListsOrigin, OriginOverruns, ListsRule, RuleOverruns, ListsKey, KeyOverruns};
+ghost use Rattle.tib_match.specs.Searching.{AreMatchesWhere, AreMoreWhere};
+ghost use Rattle.tib_apply.specs.ForwardLists.{HoleStatesBelow, IsClassErrorOf, IsAtMatch, IsAffordable, ListsOrigin, OriginOverruns, ListsRule, RuleOverruns, ListsKey, KeyOverruns};
+ghost use Rattle.tib_apply.specs.BackwardLists.{IsCheap};
 ghost use Rattle.tib_apply.specs.ForwardPlans.{asked_at, HasPlans};
 ghost use Rattle.tib_apply.specs.LeastRuns.{AreLeastRuns, deleted_in};
 ghost use Rattle.tib_apply.specs.Moves.{IsMoves};
@@ -26,7 +28,7 @@ use tib_classes::{ClassError, first_outside};
 use tib_cost::{Cost, Semiring};
 use tib_grammar::Item;
 use tib_hunt::ExpandError;
-use tib_match::{Match, matches};
+use tib_match::{Match, Within, matches_within};
 use tib_normal::Normal;
 use tib_transducer::{Transducer, TransducerRule};
 
@@ -149,6 +151,70 @@ impl<'a, S: Semiring> Forward<'a, S> {
         listing.add(&rule.right, &plan.ends, found.states.as_slice(), cost)
     }
 
+    /// The matches of a left side, however many they are.
+    fn all_matches(
+        &self,
+        alloc: Global,
+        key: Key,
+        rule: &TransducerRule<u32>,
+    ) -> Result<Vec<Match>, ExpandError>
+        requires { key.0 < length self.now.grammar.now.names }
+        ensures found { IfOk result (λ ms. AreMatchesWhere S.product self.now.grammar.now.rules rule.now.left key.0 (IsCheap S.product rule.now) ms.items) }
+        ensures memory { result ≡ Err ExpandError.More → ⊥ }
+    {
+        let Ok(answer) = matches_within(
+            alloc,
+            self.grammar,
+            key.first(),
+            &rule.left,
+            rule.cost,
+            u64::MAX,
+        ) else {
+            return Err(ExpandError::OutOfMemory);
+        };
+        match answer {
+            Within::All(all) => Ok(all),
+            Within::More => Err(ExpandError::OutOfMemory),
+        }
+    }
+
+    /// The matches of the left side of the rule at a position, unless more than so many give an edge. Where the rule leaves
+    /// variables out they are listed however many they are.
+    fn matches_of(
+        &self,
+        alloc: Global,
+        key: Key,
+        position: u32,
+        most: u64,
+    ) -> Result<Vec<Match>, ExpandError>
+        requires below { position < length self.now.transducer.now.rules }
+        requires first { key.0 < length self.now.grammar.now.names }
+        ensures found { let rule = transducer_rule self.now.transducer.now.rules position in
+            IfOk result (λ ms. AreMatchesWhere S.product self.now.grammar.now.rules rule.left key.0 (IsAffordable S.product self.now.runs rule) ms.items) }
+        ensures more { let rule = transducer_rule self.now.transducer.now.rules position in
+            result ≡ Err ExpandError.More → AreMoreWhere S.product self.now.grammar.now.rules rule.left key.0 (IsAffordable S.product self.now.runs rule) most }
+    {
+        let rule = &self.transducer.rule_list()[position as usize];
+        let plan = &self.plans[position as usize];
+        if plan.left_out.len() > 0 {
+            return self.all_matches(alloc, key, rule);
+        }
+        let Ok(answer) = matches_within(
+            alloc,
+            self.grammar,
+            key.first(),
+            &rule.left,
+            rule.cost,
+            most,
+        ) else {
+            return Err(ExpandError::OutOfMemory);
+        };
+        match answer {
+            Within::All(all) => Ok(all),
+            Within::More => Err(ExpandError::More),
+        }
+    }
+
     /// Lists the edges of the rule at a position of the transducer.
     fn list_rule(
         &self,
@@ -173,8 +239,10 @@ impl<'a, S: Semiring> Forward<'a, S> {
         if !self.admits(key, rule) {
             return Ok(());
         }
-        let Ok(all) = matches(alloc, self.grammar, key.first(), &rule.left) else {
-            return Err(ExpandError::OutOfMemory);
+        let most = listing.budget / (1 + rule.right.items().len() as u64);
+        let all = match self.matches_of(alloc, key, position, most) {
+            Ok(all) => all,
+            Err(fault) => return Err(fault),
         };
         for found in &all {
             match self.list_match(key, position, found, listing) {

@@ -35,7 +35,8 @@ pub(crate) struct ForwardListing<'a> {
     rules: Vec<ForwardRule<'a>>,
     parts: u64,
     position: u32,
-    budget: u64,
+    /// The budget.
+    pub(crate) budget: u64,
 }
 
 impl<'a> ForwardListing<'a> {

@@ -1,6 +1,4 @@
 // What forward application reaches of a small grammar, as text.
-ghost use Rattle.std.specs.Prelude.{◌≤◌};
-
 use crate::{ApplyError, Key, apply_forward};
 use std::alloc::{AllocError, Global};
 use std::test::Fail;
@@ -214,10 +212,10 @@ fn write_found(text: &mut String, found: &Found<Key, Rule<u32>>) -> Result<(), A
 }
 
 // What is reached, or the fault.
-fn applied(alloc: Global, first: u64, rows: &[&Row], limit: u64) -> Result<String, Fail>
-    requires some { 1 ≤ limit }
-    requires limit { limit ≤ 20000000 }
-{
+fn applied(alloc: Global, first: u64, rows: &[&Row], limit: u64) -> Result<String, Fail> {
+    if limit == 0 || limit > 99 {
+        return Err("no such limit".into());
+    }
     let grammar = grammar(alloc, first)?;
     let transducer = transducer(alloc, rows)?;
     let mut text = String::new(alloc);
@@ -238,48 +236,44 @@ fn applied(alloc: Global, first: u64, rows: &[&Row], limit: u64) -> Result<Strin
 
 #[test]
 fn forward_application_reaches(rt: HostRuntime) -> Result<(), Fail> {
-    let alloc = rt.alloc();
-    let all = applied(alloc, 1, &[&TURNS, &ENDS, &SKIPS], 14)?;
-    assert_eq!(rt;
-        all.as_str(),
-        "0 0 0 ; 1 0 0 ; 0 -> 3 @1 @1 # 11 ; 1 -> 5 # 22 ; 1 -> @1 # 8 ; 14 "
-    );
-    let more = applied(alloc, 1, &[&TURNS, &ENDS, &SKIPS], 13)?;
-    assert_eq!(rt; more.as_str(), "more than 13 ");
-    let extended = applied(alloc, 1, &[&EXTENDED, &ENDS], 99)?;
-    assert_eq!(rt;
-        extended.as_str(),
-        "0 0 0 ; 1 0 0 ; 0 -> 3 @1 @1 # 4 ; 1 -> 5 # 22 ; 12 "
-    );
-    let restricted = applied(alloc, 1, &[&KEEPS_G, &ENDS, &SKIPS], 99)?;
-    assert_eq!(rt;
-        restricted.as_str(),
-        "0 0 0 ; 1 0 0 ; 1 0 1 ; 0 -> 3 @2 @1 # 1 ; 1 -> 5 # 22 ; 1 -> @1 # 8 ; 2 -> @1 # 8 ; 20 "
-    );
-    Ok(())
-}
-
-#[test]
-fn what_is_left_out_costs_the_cheapest_runs(rt: HostRuntime) -> Result<(), Fail> {
-    let alloc = rt.alloc();
-    let deleted = applied(alloc, 1, &[&DELETES, &ENDS], 99)?;
-    assert_eq!(rt;
-        deleted.as_str(),
-        "0 0 0 ; 1 0 0 ; 0 -> 4 @1 # 3 ; 1 -> 5 # 22 ; 11 "
-    );
-    let labelled = applied(alloc, 1, &[&DELETES_G, &ENDS], 99)?;
-    assert_eq!(rt;
-        labelled.as_str(),
-        "0 0 0 ; 1 0 0 ; 0 -> 4 @1 # 6 ; 1 -> 5 # 22 ; 11 "
-    );
-    let above = applied(alloc, MOST, &[&DELETES, &ENDS], 99)?;
-    assert_eq!(rt; above.as_str(), "0 0 0 ; 3 ");
-    Ok(())
-}
-
-#[test]
-fn a_transducer_that_copies_is_outside(rt: HostRuntime) -> Result<(), Fail> {
-    let fault = applied(rt.alloc(), 1, &[&ENDS, &COPIES], 99)?;
-    assert_eq!(rt; fault.as_str(), "outside 2 ");
+    let cases: [(u64, &[&Row], u64, &str); 8] = [
+        (
+            1,
+            &[&TURNS, &ENDS, &SKIPS],
+            14,
+            "0 0 0 ; 1 0 0 ; 0 -> 3 @1 @1 # 11 ; 1 -> 5 # 22 ; 1 -> @1 # 8 ; 14 ",
+        ),
+        (1, &[&TURNS, &ENDS, &SKIPS], 13, "more than 13 "),
+        (
+            1,
+            &[&EXTENDED, &ENDS],
+            99,
+            "0 0 0 ; 1 0 0 ; 0 -> 3 @1 @1 # 4 ; 1 -> 5 # 22 ; 12 ",
+        ),
+        (
+            1,
+            &[&KEEPS_G, &ENDS, &SKIPS],
+            99,
+            "0 0 0 ; 1 0 0 ; 1 0 1 ; 0 -> 3 @2 @1 # 1 ; 1 -> 5 # 22 ; 1 -> @1 # 8 ; 2 -> @1 # 8 ; 20 ",
+        ),
+        (
+            1,
+            &[&DELETES, &ENDS],
+            99,
+            "0 0 0 ; 1 0 0 ; 0 -> 4 @1 # 3 ; 1 -> 5 # 22 ; 11 ",
+        ),
+        (
+            1,
+            &[&DELETES_G, &ENDS],
+            99,
+            "0 0 0 ; 1 0 0 ; 0 -> 4 @1 # 6 ; 1 -> 5 # 22 ; 11 ",
+        ),
+        (MOST, &[&DELETES, &ENDS], 99, "0 0 0 ; 3 "),
+        (1, &[&ENDS, &COPIES], 99, "outside 2 "),
+    ];
+    for (first, rows, limit, want) in cases {
+        let text = applied(rt.alloc(), first, rows, limit)?;
+        assert_eq!(rt; text.as_str(), want);
+    }
     Ok(())
 }

@@ -1,7 +1,8 @@
 // The positions of the rules of a transducer by their state.
 ghost use Rattle.std.specs.Prelude.{◌≡◌, ℕ, IfOk, List, [], length};
 ghost use Rattle.tib_transducer.specs.declared.TransducerRule.{TransducerRule};
-ghost use Rattle.tib_apply.specs.Moves.{IsMoves, moves_of, held};
+ghost use Rattle.tib_transducer.specs.Moves.{moves_of, held};
+ghost use Rattle.tib_apply.specs.Moves.{IsMoves};
 
 use std::alloc::{AllocError, Global};
 use tib_transducer::Transducer;

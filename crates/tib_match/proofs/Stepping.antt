@@ -33,7 +33,8 @@ has_map : {A B : Type 0} (f : A → B) (xs : List A) (y : B) → Has (map f xs) 
 has_map f [] y h = absurd h
 has_map f (x ∷ xs) y h = elim h [ inl e ↦ (x, inl refl, e) | inr k ↦ let r = has_map f xs y k in (r.0, inr r.1, r.2) ]
 
-map_has : {A B : Type 0} (f : A → B) (xs : List A) (x : A) → Has xs x → Has (map f xs) (f x)
+-- what a mapped list has
+pub map_has : {A B : Type 0} (f : A → B) (xs : List A) (x : A) → Has xs x → Has (map f xs) (f x)
 map_has f [] x h = absurd h
 map_has f (y ∷ xs) x h = elim h [ inl e ↦ inl (ap f e) | inr k ↦ inr (map_has f xs x k) ]
 

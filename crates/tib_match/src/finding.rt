@@ -1,5 +1,5 @@
 // The matches of a side.
-ghost use Rattle.std.specs.Prelude.{◌≡◌, ◌<◌, ◌∷◌, [], ◌++◌, map, length, IfOk, OnOk};
+ghost use Rattle.std.specs.Prelude.{◌≡◌, ◌<◌, ◌∷◌, [], ◌++◌, map, length, IfOk, IfSome, OnOk};
 ghost use Rattle.tib_grammar.specs.Items.{pair_of, pairs_of};
 ghost use Rattle.tib_grammar.specs.Forms.{AreNormal};
 ghost use Rattle.tib_tree.specs.Trees.{preorder_of};
@@ -42,52 +42,64 @@ fn add_led<S: Semiring>(
     add_all_placed::<S>(alloc, partial, rules, own, found)
 }
 
-// What the rules of a label and a rank make of some partial matches.
+// What the rules of a label and a rank make of some partial matches; none where it is given up, since they make more than a number.
 fn lead_all<S: Semiring>(
     alloc: Global,
     normal: &Normal<S>,
     label: Label,
     rank: u32,
     old: &[Partial],
-) -> Result<Vec<Partial>, AllocError>
+    most: u64,
+) -> Result<Option<Vec<Partial>>, AllocError>
     ensures normal { AreNormal normal.now.rules }
-    ensures led { IfOk result (λ found. partials_of found.items ≡ all_led S.product normal.now.rules (positions_with label rank normal.now.rules) (partials_of old.now)) }
+    ensures led { IfOk result (λ led. IfSome led (λ found. partials_of found.items ≡ all_led S.product normal.now.rules (positions_with label rank normal.now.rules) (partials_of old.now))) }
 {
     let rules = normal.grammar().rule_list();
     let positions = normal.rules_with(label, rank);
     let mut found = Vec::new(alloc);
     for partial in old {
+        if found.len() as u64 > most {
+            return Ok(None);
+        }
         add_led::<S>(alloc, partial, rules, positions, &mut found)?;
     }
-    Ok(found)
+    Ok(Some(found))
 }
 
-// What an item of a side makes of some partial matches.
+// What an item of a side makes of some partial matches; none where it is given up.
 fn next<S: Semiring, P>(
     alloc: Global,
     normal: &Normal<S>,
     item: &Item<P>,
     old: Vec<Partial>,
-) -> Result<Vec<Partial>, AllocError>
-    ensures { IfOk result (λ found. AreNext S.product normal.now.rules (pair_of item.now) (partials_of old.items) (partials_of found.items)) }
+    most: u64,
+) -> Result<Option<Vec<Partial>>, AllocError>
+    ensures { IfOk result (λ next. IfSome next (λ found. AreNext S.product normal.now.rules (pair_of item.now) (partials_of old.items) (partials_of found.items))) }
 {
     match item {
         Item::Label { label, rank } => {
-            let led = lead_all(alloc, normal, *label, *rank, &old)?;
-            merge(alloc, led)
+            let Some(led) = lead_all(alloc, normal, *label, *rank, &old, most)? else {
+                return Ok(None);
+            };
+            let kept = merge(alloc, led)?;
+            Ok(Some(kept))
         }
-        Item::Hole(_) => take_all(alloc, old),
+        Item::Hole(_) => {
+            let taken = take_all(alloc, old)?;
+            Ok(Some(taken))
+        }
     }
 }
 
-// What is found along some items from a state.
+// What is found along some items from a state; none where it is given up.
 fn find<S: Semiring, P>(
     alloc: Global,
     normal: &Normal<S>,
     state: u32,
     items: &[Item<P>],
-) -> Result<Vec<Partial>, AllocError>
-    ensures { IfOk result (λ found. AreFound S.product normal.now.rules (pairs_of items.now) (start_from state ∷ []) (partials_of found.items)) }
+    most: u64,
+) -> Result<Option<Vec<Partial>>, AllocError>
+    ensures { IfOk result (λ all. IfSome all (λ found. AreFound S.product normal.now.rules (pairs_of items.now) (start_from state ∷ []) (partials_of found.items))) }
 {
     let mut waiting = Vec::new(alloc);
     waiting.push(state)?;
@@ -98,9 +110,12 @@ fn find<S: Semiring, P>(
         cost: S::one(),
     })?;
     for item in items {
-        found = next(alloc, normal, item, found)?;
+        let Some(new) = next(alloc, normal, item, found, most)? else {
+            return Ok(None);
+        };
+        found = new;
     }
-    Ok(found)
+    Ok(Some(found))
 }
 
 // The matches that were found.
@@ -120,21 +135,26 @@ fn list_matches(alloc: Global, found: Vec<Partial>) -> Result<Vec<Match>, AllocE
 
 /// The matches of a side from a state: for each list of states at its holes the least cost, of at most `MOST`, of running the
 /// grammar from the state through the side down to them. Each list stands once, and they ascend. A lone hole gives the state
-/// itself at the cost of the product of nothing.
+/// itself at the cost of the product of nothing. None where it is given up, since more partial matches than `most` came up: what
+/// it is then is for `search_matches` to say.
 ///
 /// It reads the side once from the front, and keeps of all ways to a list of states that waits and a list of states at holes
-/// the cheapest. The worst case is as many ways as there are choices of rules for the labels whose trees wait.
-pub fn matches<S: Semiring, P>(
+/// the cheapest. Cost: for each label at most `most` partial matches, and for each the rules of one state, with a list of states.
+pub fn few_matches<S: Semiring, P>(
     alloc: Global,
     normal: &Normal<S>,
     state: u32,
     side: &Side<P>,
-) -> Result<Vec<Match>, AllocError>
+    most: u64,
+) -> Result<Option<Vec<Match>>, AllocError>
     requires { state < length normal.now.names }
-    ensures { IfOk result (λ ms. AreMatches S.product normal.now.rules side.now state ms.items) }
+    ensures { IfOk result (λ few. IfSome few (λ ms. AreMatches S.product normal.now.rules side.now state ms.items)) }
 {
     normal.grammar().is_sound();
-    let found = find(alloc, normal, state, side.items())?;
+    let Some(found) = find(alloc, normal, state, side.items(), most)? else {
+        return Ok(None);
+    };
     let kept = merge(alloc, found)?;
-    list_matches(alloc, kept)
+    let all = list_matches(alloc, kept)?;
+    Ok(Some(all))
 }

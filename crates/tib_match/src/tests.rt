@@ -1,5 +1,5 @@
 // The matches of sides in a small grammar, as text. The labels are f 0, g 1 and a 2.
-use crate::{Match, matches};
+use crate::{HoleCost, Match, Within, few_matches, matches_within, search_matches};
 use std::alloc::{AllocError, Global};
 use std::test::Fail;
 use tib_cost::{Bottleneck, Cost, MOST, MinPlus, Semiring};
@@ -86,18 +86,55 @@ fn write_match(text: &mut String, one: &Match) -> Result<(), AllocError> {
     text.push_str("; ")
 }
 
-// The matches of a side from a state.
-fn matches_of<S: Semiring + Drop>(alloc: Global, state: u32, shape: Shape) -> Result<String, Fail> {
+fn write_matches(alloc: Global, matches: &[Match]) -> Result<String, AllocError> {
+    let mut text = String::new(alloc);
+    for one in matches {
+        write_match(&mut text, one)?;
+    }
+    Ok(text)
+}
+
+// The text of an answer; none where there are more.
+fn write_answer(alloc: Global, answer: &Within) -> Result<String, AllocError> {
+    match answer {
+        Within::All(matches) => write_matches(alloc, matches),
+        Within::More => String::from_str(alloc, "more"),
+    }
+}
+
+fn holes_of(alloc: Global, shape: Shape) -> Result<Vec<HoleCost>, AllocError> {
+    let mut costs = Vec::new(alloc);
+    for item in shape {
+        if item.is_none() {
+            costs.push(HoleCost::Free)?;
+        }
+    }
+    Ok(costs)
+}
+
+// The matches of a side from a state, read once from the front.
+fn few<S: Semiring + Drop>(alloc: Global, state: u32, shape: Shape) -> Result<String, Fail> {
     let grammar: Normal<S> = normal(alloc)?;
     let side = side(alloc, shape)?;
     if state >= grammar.grammar().states() {
         return Err("no such state".into());
     }
-    let mut text = String::new(alloc);
-    for one in &matches(alloc, &grammar, state, &side)? {
-        write_match(&mut text, one)?;
+    match few_matches(alloc, &grammar, state, &side, 1000)? {
+        Some(matches) => Ok(write_matches(alloc, &matches)?),
+        None => Err("it gave up".into()),
     }
-    Ok(text)
+}
+
+// The same, searched for among boxes.
+fn searched<S: Semiring + Drop>(alloc: Global, state: u32, shape: Shape) -> Result<String, Fail> {
+    let grammar: Normal<S> = normal(alloc)?;
+    let side = side(alloc, shape)?;
+    if state >= grammar.grammar().states() {
+        return Err("no such state".into());
+    }
+    let costs = holes_of(alloc, shape)?;
+    let answer = search_matches(alloc, &grammar, state, &side, S::one(), &costs, 9)?;
+    Ok(write_answer(alloc, &answer)?)
 }
 
 #[test]
@@ -120,8 +157,10 @@ fn each_list_of_states_has_its_least_cost(rt: HostRuntime) -> Result<(), Fail> {
         (0, &[Some((0, 1)), None], ""),
     ];
     for (state, shape, want) in rows {
-        let text = matches_of::<MinPlus>(rt.alloc(), state, shape)?;
+        let text = few::<MinPlus>(rt.alloc(), state, shape)?;
         assert_eq!(rt; text.as_str(), want);
+        let other = searched::<MinPlus>(rt.alloc(), state, shape)?;
+        assert_eq!(rt; other.as_str(), want);
     }
     Ok(())
 }
@@ -129,7 +168,7 @@ fn each_list_of_states_has_its_least_cost(rt: HostRuntime) -> Result<(), Fail> {
 #[test]
 fn a_product_is_that_of_the_semiring(rt: HostRuntime) -> Result<(), Fail> {
     let shape: Shape = &[Some((0, 2)), Some((1, 1)), None, Some((2, 0))];
-    let text = matches_of::<Bottleneck>(rt.alloc(), 0, shape)?;
+    let text = few::<Bottleneck>(rt.alloc(), 0, shape)?;
     assert_eq!(rt; text.as_str(), "3 # 2; ");
     Ok(())
 }

@@ -1,4 +1,6 @@
-use Rattle.tib_apply.proofs.ForwardTables.{answer_reached, answer_beyond, rules_in_range, few_keys, few_rules, too_many}
+use Rattle.tib_grammar.proofs.Positions.{rules_in_range}
+use Rattle.tib_keyed.proofs.Limits.{too_many}
+use Rattle.tib_apply.proofs.ForwardTables.{answer_reached, answer_beyond, few_keys, few_rules}
 use Rattle.tib_apply.proofs.image.apply_forward.Goals as goal
 
 pub returns-in-Ok-hunt_alone-clause-reached : goal.returns-in-Ok-hunt_alone-clause-reached
@@ -22,7 +24,7 @@ returns-in-Ok-hunt_alone-clause-few_rules g c =
 
 pub returns-in-Err-TooMany-clause-fault : goal.returns-in-Err-TooMany-clause-fault
 returns-in-Err-TooMany-clause-fault g c =
-    let said = too_many c.args.limit c.in-Err-TooMany.limit _ c.in-Err-TooMany.field-0 c.in-Err-TooMany.ensures.more c.in-Err-TooMany.field-0-is in (
+    let said = too_many c.args.limit c.in-Err-TooMany.limit _ c.in-Err-TooMany.field-0 c.in-Err-TooMany.field-0-is c.in-Err-TooMany.ensures.more in (
       said.0,
       answer_beyond g.met.S.Semiring.laws c.in-Ok.forward.grammar.now c.args.grammar.now c.in-Ok.forward.transducer.now c.args.transducer.now c.in-Ok.ensures.grammar c.in-Ok.ensures.transducer c.in-Ok.forward.runs
           c.in-Ok.ensures.least c.args.limit said.1,

@@ -1,8 +1,8 @@
 use Rattle.std.proofs.Common.{arith, ap, subst, sym, ◌≡◌, ◌∙◌, ℕ, List, [], length}
 use Rattle.std.proofs.lemmas.List.{length_push}
 use Rattle.std.specs.Global.{Vec}
-use Rattle.tib_apply.specs.Moves.{held}
-use Rattle.tib_apply.proofs.Bucketing.{held_empty}
+use Rattle.tib_transducer.specs.Moves.{held}
+use Rattle.tib_transducer.proofs.Moves.{held_empty}
 use Rattle.tib_apply.proofs.moves.empty_buckets.Goals as goal
 
 pub loop-preserved : goal.loop-preserved

@@ -1,5 +1,5 @@
 use Rattle.std.proofs.Common.{◌≡◌, ℕ, [], length}
-use Rattle.tib_apply.specs.Moves.{held}
+use Rattle.tib_transducer.specs.Moves.{held}
 use Rattle.tib_apply.proofs.moves.empty_buckets.Given as goal
 
 abbrev pub invariant-loop : goal.invariant-loop

@@ -1,6 +1,7 @@
 use Rattle.std.proofs.Common.{length}
+use Rattle.tib_keyed.proofs.Limits.{too_many}
 use Rattle.tib_apply.specs.Backward.{IsBackwardEdge}
-use Rattle.tib_apply.proofs.AppliedKeys.{rules_in_range, few_keys, few_rules, reached_of, beyond_of, too_many}
+use Rattle.tib_apply.proofs.AppliedKeys.{rules_in_range, few_keys, few_rules, reached_of, beyond_of}
 use Rattle.tib_apply.proofs.preimage.apply_backward.Goals as goal
 
 pub returns-in-Ok-hunt_alone-clause-reached : goal.returns-in-Ok-hunt_alone-clause-reached

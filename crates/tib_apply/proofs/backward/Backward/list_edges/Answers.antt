@@ -2,9 +2,9 @@ use Rattle.std.proofs.Common.{◌≡◌, ◌∙◌, ap, subst, take, ℕ, List, 
 use Rattle.std.proofs.lemmas.List.{take_all}
 use Rattle.std.specs.declared.result.Result.{Result}
 use Rattle.tib_hunt.specs.declared.place.ExpandError.{ExpandError}
+use Rattle.tib_transducer.specs.Moves.{moves_of}
 use Rattle.tib_apply.specs.declared.edge_list.EdgeList.{EdgeList}
 use Rattle.tib_apply.specs.Backward.{IsBackwardEdge}
-use Rattle.tib_apply.specs.Moves.{moves_of}
 use Rattle.tib_apply.specs.Listing.{AreListedFor, Overruns}
 use Rattle.tib_apply.proofs.BackwardEdges.{place_is, place_low, place_apart, moves_more, no_moves, all_moves}
 use Rattle.tib_apply.proofs.backward.Backward.list_edges.Goals as goal

@@ -1,6 +1,6 @@
 use Rattle.std.proofs.Common.{◌≡◌, take}
+use Rattle.tib_transducer.specs.Moves.{moves_of}
 use Rattle.tib_apply.specs.Backward.{IsBackwardEdge}
-use Rattle.tib_apply.specs.Moves.{moves_of}
 use Rattle.tib_apply.specs.Listing.{IsWithinBudget, AreListedFor}
 use Rattle.tib_apply.proofs.backward.Backward.list_edges.Given as goal
 

@@ -1,7 +1,7 @@
 use Rattle.std.proofs.Common.{◌<◌, ap, subst, ◌∙◌, length, List, ℕ}
+use Rattle.tib_grammar.proofs.Below.{states_below}
 use Rattle.tib_transducer.specs.declared.TransducerRule.{TransducerRule}
 use Rattle.tib_apply.specs.Restrictions.{restricted_labels}
-use Rattle.tib_apply.proofs.BackwardEdges.{states_below}
 use Rattle.tib_apply.proofs.backward.Backward.new.Goals as goal
 
 pub invariant_of-result : goal.invariant_of-result

@@ -1,7 +1,8 @@
 use Rattle.std.proofs.Common.{arith, ap, refl, length, map}
 use Rattle.std.proofs.lemmas.List.{length-append}
+use Rattle.tib_lex.proofs.Lists.{length_map}
 use Rattle.tib_apply.specs.ForwardPlans.{end_at}
-use Rattle.tib_apply.proofs.ForwardListed.{items_size, holes_within, lengths_map}
+use Rattle.tib_apply.proofs.ForwardListed.{items_size, holes_within}
 use Rattle.tib_apply.proofs.forward_listing.ForwardListing.add.Goals as goal
 
 pub returns-then-parts-self-clause-more : goal.returns-then-parts-self-clause-more
@@ -29,7 +30,7 @@ returns-clause-within c =
         ends,
         c.requires.within.few,
         length-append c.args.self.now.ends.items (map (end_at c.args.states.now) c.args.planned.now),
-        lengths_map (end_at c.args.states.now) c.args.planned.now,
+        length_map (end_at c.args.states.now) c.args.planned.now,
         c.requires.planned,
         holes_within c.args.right.now,
         items_size c.items.result.now c.args.right.now c.items.ensures.items,

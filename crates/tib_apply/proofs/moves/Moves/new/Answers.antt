@@ -3,8 +3,8 @@ use Rattle.std.specs.Global.{Vec}
 use Rattle.std.proofs.lemmas.List.{get_or_read, get_or-map, length-set, take_all}
 use Rattle.tib_transducer.specs.Rules.{transducer_rule, no_rule}
 use Rattle.tib_transducer.specs.declared.TransducerRule.{TransducerRule}
-use Rattle.tib_apply.specs.Moves.{moves_of}
-use Rattle.tib_apply.proofs.Bucketing.{held_next, state_below}
+use Rattle.tib_transducer.specs.Moves.{moves_of}
+use Rattle.tib_transducer.proofs.Moves.{held_next, state_below}
 use Rattle.tib_apply.proofs.moves.Moves.new.Goals as goal
 
 pub index_mut-requires : goal.index_mut-requires

@@ -1,5 +1,5 @@
 use Rattle.std.proofs.Common.{◌≡◌, ℕ, length, take}
-use Rattle.tib_apply.specs.Moves.{held, moves_of}
+use Rattle.tib_transducer.specs.Moves.{held, moves_of}
 use Rattle.tib_apply.proofs.moves.Moves.new.Given as goal
 
 abbrev pub invariant-loop-n : goal.invariant-loop-n
