@@ -11,58 +11,33 @@ use Rattle.tib_heap.specs.Heaps.{IsHeap, Adds}
 use Rattle.tib_k_best_laws.specs.Levels.{states_of}
 use Rattle.tib_k_best_laws.specs.Pass.{Entries, AreRanks, zeros, offer}
 use Rattle.tib_k_best_lists.specs.ListsOf.{ListsOf}
-use Rattle.tib_k_best_lists.specs.Held.{list_of, told, entries_of, candidate_at, no_candidate, ranks_of, ranks_from, tree_by, stands_for, offers_cmp, grown, with_ranks, with_candidate, AreMore, IsSound, IsTuple, IsCandidate, IsPriced, IsKnownBy, Makes}
+use Rattle.tib_k_best_lists.specs.Held.{list_of, entry_at, told, entries_of, candidate_at, no_candidate, ranks_of, ranks_from, tree_by, stands_for, offers_cmp, grown, with_ranks, with_candidate, AreMore, IsSound, IsTuple, IsCandidate, IsPriced, IsKnownBy, Makes}
 use Rattle.tib_k_best_lists.specs.declared.lists.Entry.{Entry}
 use Rattle.tib_k_best_lists.specs.declared.lists.Candidate.{Candidate}
 use Rattle.tib_k_best_lists.proofs.Seeing.{last_at}
 use Rattle.tib_k_best_lists.proofs.Growing.{candidate_kept, known_kept, stands_kept, ranks_from_kept, offer_kept, heap_kept}
 use Rattle.tib_k_best.specs.QueueOf.{QueueOf, waiting_at}
-use Rattle.tib_k_best.specs.Queues.{HasTrees, IsWaiting, Waits, IsBegun, IsPassed, IsMade, IsQueue}
+use Rattle.tib_asked_lists.specs.Firsts.{IsFromFirst, IsMade}
+use Rattle.tib_k_best.specs.Queues.{HasTrees, IsWaiting, Waits, IsBegun, IsPassed, IsQueue}
 use Rattle.tib_k_best.specs.declared.queue.Waiting.{Waiting}
+use Rattle.tib_asked_lists.proofs.Begun.{ranks_zero}
+use Rattle.tib_asked_lists.proofs.Followed.{zeros_long}
+use Rattle.tib_asked_lists.proofs.Added.{from_end}
+use Rattle.tib_asked_lists.proofs.Kept.{sound_kept}
 
 below_or : (a b : ℕ) → (a < b) ⊎ (b ≤ a)
 below_or a b = grind arith
 
 -- a rule whose states all have trees has its first ranks
 
-ranks_zero : (entries : Entries) (qs : List ℕ) → ((k : ℕ) → k < length qs → 0 < length (entries (get_or qs k 0))) → AreRanks entries qs (zeros qs)
-ranks_zero entries [] h = tt
-ranks_zero entries (q ∷ qs) h = (h 0 (omega arith), ranks_zero entries qs (λ k l. h (suc k) (omega arith)))
-
 pub zeros_there : (x : ListsOf) (qs : List ℕ) → HasTrees x qs (length qs) → AreRanks (entries_of x) qs (zeros qs)
 zeros_there x qs h =
     ranks_zero (entries_of x) qs (λ k l. let e : length (entries_of x (get_or qs k 0)) ≡ length (list_of x (get_or qs k 0)) = length-map (list_of x (get_or qs k 0)) (told x.trees) in omega (arith, h k l, e))
-
-zeros_long : (qs : List ℕ) → length (zeros qs) ≡ length qs
-zeros_long [] = refl
-zeros_long (q ∷ qs) = ap suc (zeros_long qs)
-
-take_whole : (js : List ℕ) → take (length js) js ≡ js
-take_whole [] = refl
-take_whole (j ∷ js) = ap (λ (ks : List ℕ). j ∷ ks) (take_whole js)
-
-from_end : (xs js : List ℕ) → take (length js) (drop (length xs) (xs ++ js)) ≡ js
-from_end [] js = take_whole js
-from_end (x ∷ xs) js = from_end xs js
 
 pub ranks_put : (x : ListsOf) (n start : ℕ) → start ≡ length x.ranks → ranks_from (with_ranks x (zeros (states_of (rule_at x.rules n)))) n start ≡ zeros (states_of (rule_at x.rules n))
 ranks_put x n start e =
     let qs : List ℕ = states_of (rule_at x.rules n) in
     ap (λ (s : ℕ). take (length qs) (drop s (x.ranks ++ zeros qs))) e ∙ ap (λ (m : ℕ). take m (drop (length x.ranks) (x.ranks ++ zeros qs))) (sym (zeros_long qs)) ∙ from_end x.ranks (zeros qs)
-
--- what is known of lists does not hang on ranks and candidates
-sound_kept : (x : ListsOf) → IsSound x → (cs : List Candidate) (rs : List ℕ) → IsSound (grown x x.trees x.lists cs rs)
-sound_kept x s cs rs = record {
-  normal = s.normal;
-  range = s.range;
-  rules_labelled = s.rules_labelled;
-  distinct = s.distinct;
-  ranked = s.ranked;
-  listed = s.listed;
-  labelled = s.labelled;
-  few = s.few;
-  small = s.small;
-}
 
 pub tuple_put :
     (x : ListsOf) → IsSound x → (n start : ℕ) → n < length x.rules → HasTrees x (states_of (rule_at x.rules n)) (length (states_of (rule_at x.rules n))) → start ≡ length x.ranks → (x1 : ListsOf) →
@@ -74,7 +49,7 @@ tuple_put x s n start h all e x1 f =
       record { rule = h; ranks = subst (λ (ks : List ℕ). AreRanks (entries_of x) (states_of (rule_at x.rules n)) ks) (sym (ranks_put x n start e)) (zeros_there x (states_of (rule_at x.rules n)) all) },
     )
 
-module _ (product : ℕ → ℕ → ℕ) (x : ListsOf) (w : QueueOf) (but : ℕ) (k : IsQueue product x w but) (ts : List (Tree ℕ)) (ls : List (List Entry)) (cs : List Candidate) (rs : List ℕ) (more : AreMore x ts ls cs rs) where
+module _ (product : ℕ → ℕ → ℕ) (x : ListsOf) (w : QueueOf) (out : List ℕ) (k : IsQueue product x w out) (ts : List (Tree ℕ)) (ls : List (List Entry)) (cs : List Candidate) (rs : List ℕ) (more : AreMore x ts ls cs rs) where
   pub made_kept : (n : ℕ) → n < length x.candidates → IsMade product (grown x ts ls cs rs) n
   made_kept n h =
       let y : ListsOf = grown x ts ls cs rs in
@@ -125,14 +100,29 @@ module _ (product : ℕ → ℕ → ℕ) (x : ListsOf) (w : QueueOf) (but : ℕ)
     is = ap (λ (d : Candidate). d.rule) (candidate_kept x k.sound ts ls cs rs more b.candidate (k.below b.candidate b.stands)) ∙ b.is;
   }
 
+  -- an entry still came from the candidate that it came from
+  pub from_kept : (q : ℕ) (e : Entry) → told ts e ≡ told x.trees e → IsFromFirst x q e → IsFromFirst (grown x ts ls cs rs) q e
+  from_kept q e same f =
+      let y : ListsOf = grown x ts ls cs rs in
+      let c : Candidate = candidate_at x e.candidate in
+      let is : candidate_at y e.candidate ≡ c = candidate_kept x k.sound ts ls cs rs more e.candidate f.below in
+      let m = (k.made e.candidate f.below).is in
+      let r : ranks_of y c ≡ ranks_of x c = ranks_from_kept x k.sound ts ls cs rs more c.rule c.start m.tuple in
+      record {
+        below = omega (arith, f.below, more_long);
+        left = ap (λ (d : Candidate). (rule_at x.rules d.rule).left) is ∙ f.left;
+        first = subst (λ (d : Candidate). ranks_of y d ≡ zeros (states_of (rule_at x.rules d.rule))) (sym is) (r ∙ f.first);
+        same = same ∙ f.same ∙ sym (stands_kept x k.sound ts ls cs rs more e.candidate f.below m);
+      }
+
   made_all : ((n : ℕ) → length x.candidates ≤ n → n < length cs → IsMade product (grown x ts ls cs rs) n) → (n : ℕ) → n < length cs → IsMade product (grown x ts ls cs rs) n
   made_all new n h = elim (below_or n (length x.candidates)) [ inl l ↦ made_kept n l | inr l ↦ new n l h ]
 
 -- where the first candidate costs too much, the rule gives no state its first tree
 pub too_dear :
-    (product : ℕ → ℕ → ℕ) (x : ListsOf) (w : QueueOf) (n start : ℕ) → IsQueue product x w n → HasTrees x (states_of (rule_at x.rules n)) (length (states_of (rule_at x.rules n))) → start ≡ length x.ranks → (x1 x2 : ListsOf) → x1 ≡ with_ranks x (zeros (states_of (rule_at x.rules n))) →
-    most < (offer product x1.rules (entries_of x1) n (ranks_from x1 n start)).1 → x2 ≡ x1 → IsQueue product x2 w (length x2.rules)
-too_dear product x w n start k all e x1 x2 f dear same =
+    (product : ℕ → ℕ → ℕ) (x : ListsOf) (w : QueueOf) (n start : ℕ) (out : List ℕ) → IsQueue product x w (n ∷ out) → HasTrees x (states_of (rule_at x.rules n)) (length (states_of (rule_at x.rules n))) → start ≡ length x.ranks → (x1 x2 : ListsOf) → x1 ≡ with_ranks x (zeros (states_of (rule_at x.rules n))) →
+    most < (offer product x1.rules (entries_of x1) n (ranks_from x1 n start)).1 → x2 ≡ x1 → IsQueue product x2 w out
+too_dear product x w n start out k all e x1 x2 f dear same =
     let js : List ℕ = zeros (states_of (rule_at x.rules n)) in
     let y : ListsOf = with_ranks x js in
     let more : AreMore x x.trees x.lists x.candidates (x.ranks ++ js) =
@@ -142,40 +132,45 @@ too_dear product x w n start k all e x1 x2 f dear same =
     subst (λ (ks : List ℕ). most < (offer product x.rules (entries_of x) n ks).1) (ranks_put x n start e) (subst (λ (z : ListsOf). most < (offer product z.rules (entries_of z) n (ranks_from z n start)).1) f dear)
     in
     let each :
-    (m : ℕ) → m < length x.rules → (m ≡ length x.rules) ⊎ (Waits w m ⊎ IsPassed product y w m) =
+    (m : ℕ) → m < length x.rules → Has out m ⊎ (Waits w m ⊎ IsPassed product y w m) =
     λ m h. elim (k.each m h) [
-      | inl at ↦ inr (inr (record {
-        all = subst (λ (i : ℕ). HasTrees x (states_of (rule_at x.rules i)) (length (states_of (rule_at x.rules i)))) (sym at) all;
-        begun = λ ready. absurd (let l = subst (λ (i : ℕ). (offer product x.rules (entries_of x) i (zeros (states_of (rule_at x.rules i)))).1 ≤ most) at ready.fits in omega (arith, l, high));
-      }))
+      | inl h ↦ elim h [
+        | inl at ↦ inr (inr (record {
+          all = subst (λ (i : ℕ). HasTrees x (states_of (rule_at x.rules i)) (length (states_of (rule_at x.rules i)))) at all;
+          begun = λ ready. absurd (let l = subst (λ (i : ℕ). (offer product x.rules (entries_of x) i (zeros (states_of (rule_at x.rules i)))).1 ≤ most) (sym at) ready.fits in omega (arith, l, high));
+        }))
+        | inr left ↦ inl left
+      ]
       | inr o ↦ elim o [
         | inl ws ↦ inr (inl ws)
-        | inr b ↦ inr (inr (record { all = b.all; begun = λ ready. begun_kept product x w n k x.trees x.lists x.candidates (x.ranks ++ js) more m (b.begun ready) }))
+        | inr b ↦ inr (inr (record { all = b.all; begun = λ ready. begun_kept product x w (n ∷ out) k x.trees x.lists x.candidates (x.ranks ++ js) more m (b.begun ready) }))
       ]
     ]
     in
-    subst (λ (z : ListsOf). IsQueue product z w (length z.rules)) (sym (same ∙ f))
+    subst (λ (z : ListsOf). IsQueue product z w out) (sym (same ∙ f))
     (record {
       sound = sound_kept x k.sound x.candidates (x.ranks ++ js);
-      made = made_all product x w n k x.trees x.lists x.candidates (x.ranks ++ js) more (λ m l h. absurd (omega (arith, l, h)));
+      made = made_all product x w (n ∷ out) k x.trees x.lists x.candidates (x.ranks ++ js) more (λ m l h. absurd (omega (arith, l, h)));
       long = k.long;
-      placed = placed_kept product x w n k x.trees x.lists x.candidates (x.ranks ++ js) more;
-      heap = heap_stays product x w n k x.trees x.lists x.candidates (x.ranks ++ js) more;
+      placed = placed_kept product x w (n ∷ out) k x.trees x.lists x.candidates (x.ranks ++ js) more;
+      heap = heap_stays product x w (n ∷ out) k x.trees x.lists x.candidates (x.ranks ++ js) more;
       below = k.below;
-      first = first_kept product x w n k x.trees x.lists x.candidates (x.ranks ++ js) more;
+      first = first_kept product x w (n ∷ out) k x.trees x.lists x.candidates (x.ranks ++ js) more;
       each = each;
       fronts = k.fronts;
+      few = k.few;
+      from = λ q h. from_kept product x w (n ∷ out) k x.trees x.lists x.candidates (x.ranks ++ js) more q (entry_at x q 0) refl (k.from q h);
     })
 
 -- what is known once a rule's first candidate is made
-pub record Begins (product : ℕ → ℕ → ℕ) (y : ListsOf) (w : QueueOf) (m : ℕ) : Type 0 where
+pub record Begins (product : ℕ → ℕ → ℕ) (y : ListsOf) (w : QueueOf) (out : List ℕ) (m : ℕ) : Type 0 where
   pub known : (z : ℕ) → Has w.heap z → IsKnownBy y z
   pub number : IsKnownBy y m
   pub heap : IsHeap (λ a b. offers_cmp y.labels (stands_for y a) (stands_for y b)) w.heap
   pub queue : (heap : List ℕ) → IsHeap (λ a b. offers_cmp y.labels (stands_for y a) (stands_for y b)) heap → Adds w.heap m heap →
-      IsQueue product y (record { waiting = w.waiting; heap = heap }) (length y.rules)
+      IsQueue product y (record { waiting = w.waiting; heap = heap }) out
 
-module _ (product : ℕ → ℕ → ℕ) (x : ListsOf) (w : QueueOf) (n start : ℕ) (k : IsQueue product x w n) (inside : n < length x.rules) (at : start ≡ length x.ranks)
+module _ (product : ℕ → ℕ → ℕ) (x : ListsOf) (w : QueueOf) (n start : ℕ) (out : List ℕ) (k : IsQueue product x w (n ∷ out)) (inside : n < length x.rules) (at : start ≡ length x.ranks)
     (all : HasTrees x (states_of (rule_at x.rules n)) (length (states_of (rule_at x.rules n)))) where
   abbrev js : List ℕ
   js = zeros (states_of (rule_at x.rules n))
@@ -206,7 +201,7 @@ module _ (product : ℕ → ℕ → ℕ) (x : ListsOf) (w : QueueOf) (n start : 
 
   made_now : (offer product x1.rules (entries_of x1) n (ranks_from x1 n start)).1 ≤ most → (m : ℕ) → m < length (x.candidates ++ new ∷ []) → IsMade product y m
   made_now fits =
-      made_all product x w n k x.trees x.lists (x.candidates ++ new ∷ []) (x.ranks ++ js) more
+      made_all product x w (n ∷ out) k x.trees x.lists (x.candidates ++ new ∷ []) (x.ranks ++ js) more
       (λ m l h. let e : length x.candidates ≡ m = omega (arith, l, h, length-append x.candidates (new ∷ [])) in subst (λ (i : ℕ). IsMade product y i) e (new_made fits))
 
   there : length x.candidates < length (x.candidates ++ new ∷ [])
@@ -218,51 +213,56 @@ module _ (product : ℕ → ℕ → ℕ) (x : ListsOf) (w : QueueOf) (n start : 
   older : (m : ℕ) → m < length x.candidates → m < length (x.candidates ++ new ∷ [])
   older m h = omega (arith, h, length-append x.candidates (new ∷ []))
 
-  begins_here : (offer product x1.rules (entries_of x1) n (ranks_from x1 n start)).1 ≤ most → Begins product y w (length x.candidates)
+  begins_here : (offer product x1.rules (entries_of x1) n (ranks_from x1 n start)).1 ≤ most → Begins product y w out (length x.candidates)
   begins_here fits = record {
     known = λ z h. known_now fits z (older z (k.below z h));
     number = known_now fits (length x.candidates) there;
-    heap = heap_stays product x w n k x.trees x.lists (x.candidates ++ new ∷ []) (x.ranks ++ js) more;
+    heap = heap_stays product x w (n ∷ out) k x.trees x.lists (x.candidates ++ new ∷ []) (x.ranks ++ js) more;
     queue = λ heap is adds. record {
       sound = sound_kept x k.sound (x.candidates ++ new ∷ []) (x.ranks ++ js);
       made = made_now fits;
       long = k.long;
-      placed = placed_kept product x w n k x.trees x.lists (x.candidates ++ new ∷ []) (x.ranks ++ js) more;
+      placed = placed_kept product x w (n ∷ out) k x.trees x.lists (x.candidates ++ new ∷ []) (x.ranks ++ js) more;
       heap = is;
       below = λ m h. elim (adds.from m h) [ inl e ↦ omega (arith, e, there) | inr i ↦ older m (k.below m i) ];
       first = λ m h. elim (adds.from m h) [
         | inl e ↦ subst (λ (i : ℕ). ranks_of y (candidate_at y i) ≡ zeros (states_of (rule_at x.rules (candidate_at y i).rule))) (sym e)
             (subst (λ (d : Candidate). ranks_of y d ≡ zeros (states_of (rule_at x.rules d.rule))) (sym last) (ranks_put x n start at))
-        | inr i ↦ first_kept product x w n k x.trees x.lists (x.candidates ++ new ∷ []) (x.ranks ++ js) more m i
+        | inr i ↦ first_kept product x w (n ∷ out) k x.trees x.lists (x.candidates ++ new ∷ []) (x.ranks ++ js) more m i
       ];
       each = λ m h. elim (k.each m h) [
-        | inl e ↦ inr (inr (record {
-          all = subst (λ (i : ℕ). HasTrees x (states_of (rule_at x.rules i)) (length (states_of (rule_at x.rules i)))) (sym e) all;
-          begun = λ ready. record { candidate = length x.candidates; stands = adds.new; is = ap (λ (d : Candidate). d.rule) last ∙ sym e };
-        }))
+        | inl h ↦ elim h [
+          | inl e ↦ inr (inr (record {
+            all = subst (λ (i : ℕ). HasTrees x (states_of (rule_at x.rules i)) (length (states_of (rule_at x.rules i)))) e all;
+            begun = λ ready. record { candidate = length x.candidates; stands = adds.new; is = ap (λ (d : Candidate). d.rule) last ∙ e };
+          }))
+          | inr left ↦ inl left
+        ]
         | inr o ↦ elim o [
           | inl ws ↦ inr (inl (record { state = ws.state; waiting = ws.waiting; stands = ws.stands; is = ws.is }))
           | inr b ↦ inr (inr (record {
             all = b.all;
             begun = λ ready.
-                let g = begun_kept product x w n k x.trees x.lists (x.candidates ++ new ∷ []) (x.ranks ++ js) more m (b.begun ready) in
+                let g = begun_kept product x w (n ∷ out) k x.trees x.lists (x.candidates ++ new ∷ []) (x.ranks ++ js) more m (b.begun ready) in
                 record { candidate = g.candidate; stands = adds.to g.candidate g.stands; is = g.is };
           }))
         ]
       ];
       fronts = k.fronts;
+      few = k.few;
+      from = λ q h. from_kept product x w (n ∷ out) k x.trees x.lists (x.candidates ++ new ∷ []) (x.ranks ++ js) more q (entry_at x q 0) refl (k.from q h);
     };
   }
 
 pub begins :
-    (product : ℕ → ℕ → ℕ) (x : ListsOf) (w : QueueOf) (n start : ℕ) → IsQueue product x w n → n < length x.rules → start ≡ length x.ranks →
+    (product : ℕ → ℕ → ℕ) (x : ListsOf) (w : QueueOf) (n start : ℕ) (out : List ℕ) → IsQueue product x w (n ∷ out) → n < length x.rules → start ≡ length x.ranks →
     HasTrees x (states_of (rule_at x.rules n)) (length (states_of (rule_at x.rules n))) → (x1 x2 : ListsOf) (m : ℕ) → x1 ≡ with_ranks x (zeros (states_of (rule_at x.rules n))) →
-    Makes product x1 n start (Some m) x2 → Begins product x2 w m
-begins product x w n start k inside at all z x2 m f made =
+    Makes product x1 n start (Some m) x2 → Begins product x2 w out m
+begins product x w n start out k inside at all z x2 m f made =
     let mk : Makes product (with_ranks x (zeros (states_of (rule_at x.rules n)))) n start (Some m) x2 = subst (λ (u : ListsOf). Makes product u n start (Some m) x2) f made in
-    subst (λ (u : ListsOf). Begins product u w m) (sym mk.2)
-    (subst (λ (i : ℕ). Begins product (with_candidate (with_ranks x (zeros (states_of (rule_at x.rules n)))) (new product x w n start k inside at all)) w i) (sym mk.0)
-    (begins_here product x w n start k inside at all mk.1))
+    subst (λ (u : ListsOf). Begins product u w out m) (sym mk.2)
+    (subst (λ (i : ℕ). Begins product (with_candidate (with_ranks x (zeros (states_of (rule_at x.rules n)))) (new product x w n start out k inside at all)) w out i) (sym mk.0)
+    (begins_here product x w n start out k inside at all mk.1))
 
 -- the heap after a push, where it met memory
 pub queue_on_ok : {T E : Type 0} (r : Result T E) (P Q : Type 0) → (P → Q) → OnOk r P → OnOk r Q

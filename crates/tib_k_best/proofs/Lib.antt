@@ -2,3 +2,8 @@ pub mod Waited
 pub mod Beginning
 pub mod Queueing
 pub mod Settled
+pub mod Starting
+pub mod Levelled
+pub mod Trimming
+pub mod Bests
+pub mod Listing

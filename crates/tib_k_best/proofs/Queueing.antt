@@ -48,9 +48,9 @@ left_set w q bs h = omega (arith, sum_by-set length w.waiting q bs [] h)
 -- a rule waits
 
 pub waits :
-    (product : ℕ → ℕ → ℕ) (x : ListsOf) (w : QueueOf) (q : ℕ) (a : Waiting) → IsQueue product x w a.rule → q < length w.waiting → IsWaiting x q a →
-    IsQueue product x (with_waiting w q (waiting_at w q ++ a ∷ [])) (length x.rules)
-waits product x w q a k h is =
+    (product : ℕ → ℕ → ℕ) (x : ListsOf) (w : QueueOf) (q : ℕ) (a : Waiting) (out : List ℕ) → IsQueue product x w (a.rule ∷ out) → q < length w.waiting → IsWaiting x q a →
+    IsQueue product x (with_waiting w q (waiting_at w q ++ a ∷ [])) out
+waits product x w q a out k h is =
     let v : QueueOf = with_waiting w q (waiting_at w q ++ a ∷ []) in
     let old : (p : ℕ) (b : Waiting) → Has (waiting_at w p) b → Has (waiting_at v p) b =
     λ p b i. elim (same_or p q) [
@@ -73,25 +73,30 @@ waits product x w q a k h is =
       below = k.below;
       first = k.first;
       each = λ m l. elim (k.each m l) [
-        | inl e ↦ inr (inl (record { state = q; waiting = a; stands = subst (λ (bs : List Waiting). Has bs a) (sym (at_set w q (waiting_at w q ++ a ∷ []) h)) (has_last (waiting_at w q) a); is = sym e }))
+        | inl i ↦ elim i [
+          | inl e ↦ inr (inl (record { state = q; waiting = a; stands = subst (λ (bs : List Waiting). Has bs a) (sym (at_set w q (waiting_at w q ++ a ∷ []) h)) (has_last (waiting_at w q) a); is = e }))
+          | inr left ↦ inl left
+        ]
         | inr o ↦ elim o [
           | inl ws ↦ inr (inl (record { state = ws.state; waiting = ws.waiting; stands = old ws.state ws.waiting ws.stands; is = ws.is }))
           | inr b ↦ inr (inr (record { all = b.all; begun = λ ready. let g = b.begun ready in record { candidate = g.candidate; stands = g.stands; is = g.is } }))
         ]
       ];
       fronts = k.fronts;
+      few = k.few;
+      from = k.from;
     }
 
 -- a rule is taken
 
 pub popped :
-    (product : ℕ → ℕ → ℕ) (x : ListsOf) (w : QueueOf) (q : ℕ) (a : Waiting) (v : QueueOf) → IsQueue product x w (length x.rules) → q < length w.waiting → IsPopped w q a v →
-    IsQueue product x v a.rule × IsWaiting x q a
-popped product x w q a v k h p =
+    (product : ℕ → ℕ → ℕ) (x : ListsOf) (w : QueueOf) (q : ℕ) (a : Waiting) (v : QueueOf) (out : List ℕ) → IsQueue product x w out → q < length w.waiting → IsPopped w q a v →
+    IsQueue product x v (a.rule ∷ out) × IsWaiting x q a
+popped product x w q a v out k h p =
     let bs : List Waiting = waiting_at v q in
     let u : QueueOf = with_waiting w q bs in
     let one : (c : Waiting) → Has bs c → Has (waiting_at w q) c = λ c i. subst (λ (cs : List Waiting). Has cs c) (sym p.was) (has_front bs (a ∷ []) c i) in (
-      subst (λ (z : QueueOf). IsQueue product x z a.rule) (sym p.rest)
+      subst (λ (z : QueueOf). IsQueue product x z (a.rule ∷ out)) (sym p.rest)
           (record {
             sound = k.sound;
             made = k.made;
@@ -104,12 +109,12 @@ popped product x w q a v k h p =
             below = k.below;
             first = k.first;
             each = λ m l. elim (k.each m l) [
-              | inl e ↦ absurd (omega (arith, e, l))
+              | inl i ↦ inl (inr i)
               | inr o ↦ elim o [
                 | inl ws ↦ elim (same_or ws.state q) [
                   | inl e ↦ elim (has_snoc bs a ws.waiting (subst (λ (cs : List Waiting). Has cs ws.waiting) p.was (subst (λ (s : ℕ). Has (waiting_at w s) ws.waiting) e ws.stands))) [
                     | inl j ↦ inr (inl (record { state = q; waiting = ws.waiting; stands = subst (λ (cs : List Waiting). Has cs ws.waiting) (sym (at_set w q bs h)) j; is = ws.is }))
-                    | inr f ↦ inl (sym ws.is ∙ ap (λ (c : Waiting). c.rule) (sym f))
+                    | inr f ↦ inl (inl (ap (λ (c : Waiting). c.rule) f ∙ ws.is))
                   ]
                   | inr n ↦ inr (inl (record { state = ws.state; waiting = ws.waiting; stands = subst (λ (cs : List Waiting). Has cs ws.waiting) (sym (at_other w q ws.state bs n)) ws.stands; is = ws.is }))
                 ]
@@ -117,6 +122,8 @@ popped product x w q a v k h p =
               ]
             ];
             fronts = k.fronts;
+            few = k.few;
+            from = k.from;
           }),
       k.placed q a (subst (λ (cs : List Waiting). Has cs a) (sym p.was) (has_last bs a)),
     )

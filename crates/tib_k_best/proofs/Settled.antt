@@ -26,12 +26,13 @@ use Rattle.tib_k_best_laws.proofs.Opening.{root_label}
 use Rattle.tib_k_best_laws.proofs.Ranks.{cheaper_total}
 use Rattle.tib_k_best_lists.specs.ListsOf.{ListsOf}
 use Rattle.tib_k_best_lists.specs.Seen.{tree_at}
-use Rattle.tib_k_best_lists.specs.Held.{no_entry, list_of, told, entries_of, candidate_at, ranks_of, tree_by, stands_for, offers_cmp, with_entry, grown, AreMore, IsSound, IsTuple}
+use Rattle.tib_k_best_lists.specs.Held.{no_entry, entry_at, list_of, told, entries_of, candidate_at, ranks_of, tree_by, stands_for, offers_cmp, with_entry, grown, AreMore, IsSound, IsTuple}
 use Rattle.tib_k_best_lists.specs.Ordered.{offers_total}
 use Rattle.tib_k_best_lists.specs.declared.lists.Candidate.{Candidate}
 use Rattle.tib_k_best_lists.proofs.Children.{get_or-map}
 use Rattle.tib_k_best_lists.proofs.Comparing.{below_label}
 use Rattle.tib_k_best_lists.proofs.Offering.{rank_at}
+use Rattle.tib_asked_lists.specs.Firsts.{IsFromFirst}
 use Rattle.tib_k_best.specs.QueueOf.{QueueOf, waiting_at}
 use Rattle.tib_k_best.specs.Queues.{Waits, IsBegun, IsPassed, IsQueue, IsSettled, IsTaken, IsListed, IsReleased, StaysSame, state_of}
 use Rattle.std.proofs.Math.ListN.{set, length-set}
@@ -40,7 +41,8 @@ use Rattle.tib_grammar.specs.Range.{AreInRange}
 use Rattle.tib_k_best_laws.proofs.Going.{grow}
 use Rattle.tib_k_best_lists.specs.declared.lists.Entry.{Entry}
 use Rattle.tib_k_best_lists.proofs.Growing.{entries_kept, offer_kept, stands_kept, heap_kept}
-use Rattle.tib_k_best.proofs.Beginning.{made_kept, placed_kept, first_kept, trees_kept, zeros_there}
+use Rattle.tib_k_best.proofs.Beginning.{from_kept, made_kept, placed_kept, first_kept, trees_kept, zeros_there}
+use Rattle.tib_asked_lists.proofs.Taken.{tree_labelled}
 
 same_or : (a b : ℕ) → (a ≡ b) ⊎ (a ≡ b → ⊥)
 same_or a b = grind arith
@@ -59,28 +61,6 @@ cheaper_less labels a b (inr h) =
     let e : nat_cmp a.1 b.1 ≡ Equal = ap (λ (n : ℕ). nat_cmp n b.1) h.0 ∙ tied_itself nat_cmp_total b.1 in
     ap (λ (o : Ordering). ordering_then o (tree_cmp_by labels a.0 b.0)) e ∙ h.1
 
--- the labels of what a candidate stands for
-module _ (x : ListsOf) (sound : IsSound x) where
-  row_labelled : (qs js : List ℕ) → AreRanks (entries_of x) qs js → LabelsBelow (length x.labels) (trees_of (picked (entries_of x) qs js))
-  row_labelled [] [] r = tt
-  row_labelled [] (j ∷ js) r = absurd r
-  row_labelled (q ∷ qs) [] r = absurd r
-  row_labelled (q ∷ qs) (j ∷ js) r =
-      let low : j < length (list_of x q) = omega (arith, r.0, length-map (list_of x q) (told x.trees)) in
-      let e : pass.entry_at (entries_of x) q j ≡ told x.trees (get_or (list_of x q) j no_entry) = get_or-map (told x.trees) (list_of x q) j no_entry pass.no_entry low in
-      let b : LabelsBelow (length x.labels) (only (pass.entry_at (entries_of x) q j).0) =
-      subst (λ (z : Tree ℕ × ℕ). LabelsBelow (length x.labels) (only z.0)) (sym e) (sound.labelled (get_or (list_of x q) j no_entry).tree (sound.listed q j low))
-      in
-      (b.0, b.1, row_labelled qs js r.1)
-
-  pub tree_labelled : (n : ℕ) (js : List ℕ) → IsTuple x n js → LabelsBelow (length x.labels) (only (tree_by x n js))
-  tree_labelled n js t = (
-    below_label (length x.labels) (rule_at x.rules n).right.label (rule_at x.rules n).right.kids (root_of (rule_at x.rules n).right.label) (sound.rules_labelled n t.rule)
-        (root_label (rule_at x.rules n).right.label (sound.normal n t.rule).is_label),
-    row_labelled (states_of (rule_at x.rules n)) js t.ranks,
-    tt,
-  )
-
 module _ (product : ℕ → ℕ → ℕ) (x : ListsOf) (w : QueueOf) (s : IsSettled product x w) where
   not_waiting : (n : ℕ) → Waits w n → AreRanks (entries_of x) (states_of (rule_at x.rules n)) (zeros (states_of (rule_at x.rules n))) → ⊥
   not_waiting n ws ranks =
@@ -97,7 +77,7 @@ module _ (product : ℕ → ℕ → ℕ) (x : ListsOf) (w : QueueOf) (s : IsSett
   -- a rule that is ready has its candidate in the heap
   pub begun_of : (n : ℕ) → IsReady product x.rules (entries_of x) n → IsBegun x w n
   begun_of n ready = elim (s.queue.each n ready.below) [
-    | inl e ↦ absurd (omega (arith, e, ready.below))
+    | inl none ↦ absurd none
     | inr o ↦ elim o [ inl ws ↦ absurd (not_waiting n ws ready.ranks) | inr p ↦ p.begun ready ]
   ]
 
@@ -206,6 +186,8 @@ dropped product x m w t has =
           ]
         ];
         fronts = k.fronts;
+        few = k.few;
+        from = k.from;
       };
       settled = t.settled.settled;
     }
@@ -216,7 +198,7 @@ module _ {levelled weighted : Bool} {product : ℕ → ℕ → ℕ} (laws : Prod
   abbrev before : QueueOf
   before = record { waiting = w.waiting; heap = t.heap }
 
-  abbrev k : IsQueue product x before (length x.rules)
+  abbrev k : IsQueue product x before []
   k = t.settled.queue
 
   abbrev q : ℕ
@@ -343,11 +325,45 @@ module _ {levelled weighted : Bool} {product : ℕ → ℕ → ℕ} (laws : Prod
           by [] h = refl
           by (a ∷ es) h = ap (λ (u : Tree ℕ). (u, a.cost) ∷ map (told ts) es) (h 0 (omega arith)) ∙ ap (λ (us : List (Tree ℕ × ℕ)). (tree_at x.trees a.tree, a.cost) ∷ us) (by es (λ j i. h (suc j) (omega arith)))
 
-  queue_z : IsQueue product z w (length x.rules)
+  alone_long : (p : ℕ) → p ≡ q → length (get_or ls p []) ≡ 1
+  alone_long p f = ap (λ (r : ℕ). length (get_or ls r [])) f ∙ ap (λ (es : List Entry). length es) alone
+
+  few_there : (p : ℕ) → length (list_of z p) ≤ 1
+  few_there p = elim (same_or p q) [
+    | inl f ↦ omega (arith, alone_long p f)
+    | inr n ↦ omega (arith, k.few p, ap (λ (es : List Entry). length es) (there p n))
+  ]
+
+  -- the new entry came from the least candidate
+  from_here : IsFromFirst z q (entry_at z q 0)
+  from_here =
+      let b : m < length x.candidates = k.below m t.takes.stands in
+      let same : told ts e ≡ stands_for z m =
+      ap (λ (u : Tree ℕ). costed u c.cost) l.has.named ∙ sym (stands_kept x k.sound ts ls x.candidates x.ranks more m b (k.made m b).is)
+      in
+      let is : IsFromFirst z q e = record { below = b; left = refl; first = k.first m t.takes.stands; same = same } in
+      subst (λ (es : List Entry). IsFromFirst z q (get_or es 0 no_entry)) (sym alone) is
+    where
+      costed : Tree ℕ → ℕ → Tree ℕ × ℕ
+      costed u n = (u, n)
+
+  from_there : (p : ℕ) → (p ≡ q → ⊥) → 0 < length (list_of z p) → IsFromFirst z p (entry_at z p 0)
+  from_there p n h =
+      let low : 0 < length (list_of x p) = subst (λ (es : List Entry). 0 < length es) (there p n) h in
+      let same : told ts (entry_at x p 0) ≡ told x.trees (entry_at x p 0) =
+      ap (λ (u : Tree ℕ). costed u (entry_at x p 0).cost) (l.has.still.same (entry_at x p 0).tree (k.sound.listed p 0 low))
+      in
+      subst (λ (es : List Entry). IsFromFirst z p (get_or es 0 no_entry)) (sym (there p n))
+      (from_kept product x before [] k ts ls x.candidates x.ranks more p (entry_at x p 0) same (k.from p low))
+    where
+      costed : Tree ℕ → ℕ → Tree ℕ × ℕ
+      costed u c = (u, c)
+
+  queue_z : IsQueue product z w []
   queue_z =
       let drop_ : (n : ℕ) → IsPassed product x before n → IsPassed product z w n =
       λ n p. record {
-        all = trees_kept product x before (length x.rules) k ts ls x.candidates x.ranks more (states_of (rule_at x.rules n)) (length (states_of (rule_at x.rules n))) p.all;
+        all = trees_kept product x before [] k ts ls x.candidates x.ranks more (states_of (rule_at x.rules n)) (length (states_of (rule_at x.rules n))) p.all;
         begun = λ ready.
             let b = p.begun (ready_before n p ready) in
             elim (t.takes.out b.candidate b.stands) [
@@ -361,13 +377,13 @@ module _ {levelled weighted : Bool} {product : ℕ → ℕ → ℕ} (laws : Prod
       } in
       record {
         sound = sound;
-        made = λ n h. made_kept product x before (length x.rules) k ts ls x.candidates x.ranks more n h;
+        made = λ n h. made_kept product x before [] k ts ls x.candidates x.ranks more n h;
         long = k.long ∙ sym (length-set x.lists q (list_of x q ++ e ∷ []));
-        placed = λ p a h. placed_kept product x before (length x.rules) k ts ls x.candidates x.ranks more p a h;
+        placed = λ p a h. placed_kept product x before [] k ts ls x.candidates x.ranks more p a h;
         heap = heap_kept (λ a b. offers_cmp x.labels (stands_for x a) (stands_for x b)) (λ a b. offers_cmp x.labels (stands_for z a) (stands_for z b)) w.heap
             (λ a b h i. ap (λ (u : Tree ℕ × ℕ). offers_cmp x.labels u (stands_for z b)) (stays a h) ∙ ap (λ (u : Tree ℕ × ℕ). offers_cmp x.labels (stands_for x a) u) (stays b i)) t.is_heap;
         below = λ n h. k.below n (t.takes.back n h);
-        first = λ n h. first_kept product x before (length x.rules) k ts ls x.candidates x.ranks more n (t.takes.back n h);
+        first = λ n h. first_kept product x before [] k ts ls x.candidates x.ranks more n (t.takes.back n h);
         each = λ n h. elim (k.each n h) [
           | inl f ↦ inl f
           | inr o ↦ elim o [
@@ -379,14 +395,19 @@ module _ {levelled weighted : Bool} {product : ℕ → ℕ → ℕ} (laws : Prod
           | inl f ↦ subst (λ (r : ℕ). IsFront (IsTreeAt product x.rules r) (Cheaper x.labels) (entries_of z r)) (sym f) front_here
           | inr n ↦ subst (λ (us : List (Tree ℕ × ℕ)). IsFront (IsTreeAt product x.rules p) (Cheaper x.labels) us) (sym (front_there p n)) (k.fronts p)
         ];
+        few = few_there;
+        from = λ p h. elim (same_or p q) [
+          | inl f ↦ subst (λ (r : ℕ). IsFromFirst z r (entry_at z r 0)) (sym f) from_here
+          | inr n ↦ from_there p n h
+        ];
       }
     where
       stays : (n : ℕ) → Has w.heap n → stands_for z n ≡ stands_for x n
       stays n h = let b = k.below n (t.takes.back n h) in stands_kept x k.sound ts ls x.candidates x.ranks more n b (k.made n b).is
 
   -- what is known then
-  pub listed_queue : IsQueue product y w (length y.rules)
-  listed_queue = subst (λ (u : ListsOf). IsQueue product u w (length u.rules)) (sym is_z) queue_z
+  pub listed_queue : IsQueue product y w []
+  listed_queue = subst (λ (u : ListsOf). IsQueue product u w []) (sym is_z) queue_z
 
   pub listed_rules : y.rules ≡ x.rules
   listed_rules = ap (λ (u : ListsOf). u.rules) is_z
@@ -400,7 +421,7 @@ module _ {levelled weighted : Bool} {product : ℕ → ℕ → ℕ} (laws : Prod
   pub listed_within : q < length y.lists
   listed_within = subst (λ (u : ListsOf). q < length u.lists) (sym is_z) (omega (arith, within, length-set x.lists q (list_of x q ++ e ∷ [])))
 
-  pub settled_after : (u : ListsOf) (v : QueueOf) → StaysSame y u → IsReleased y w q v → IsQueue product u v (length u.rules) → IsSettled product u v
+  pub settled_after : (u : ListsOf) (v : QueueOf) → StaysSame y u → IsReleased y w q v → IsQueue product u v [] → IsSettled product u v
   settled_after u v same r queue = record {
     queue = queue;
     settled = λ p h. elim (same_or p q) [
@@ -412,3 +433,6 @@ module _ {levelled weighted : Bool} {product : ℕ → ℕ → ℕ} (laws : Prod
           r.others p n (subst (λ (es : List Entry). 0 < length es) (sym aty) hx) ∙ t.settled.settled p hx
     ];
   }
+
+  pub listed_states : length y.lists ≡ length x.lists
+  listed_states = ap (λ (u : ListsOf). length u.lists) is_z ∙ length-set x.lists q (list_of x q ++ e ∷ [])

@@ -2,3 +2,6 @@
 pub mod QueueOf
 pub mod Queues
 pub mod Causes
+pub mod Listing
+pub mod Costs
+pub mod Trimmed

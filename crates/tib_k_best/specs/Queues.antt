@@ -1,9 +1,8 @@
 -- What is kept while the states get their first trees, the least first (Knuth 1977).
 use Rattle.std.specs.Prelude.{◌≡◌, ℕ, ◌+◌, ◌<◌, ◌≤◌, ◌⊎◌, List, [], ◌∷◌, ◌++◌, length, sum_by}
 use Rattle.std.proofs.Math.ListN.{set}
-use Rattle.std.proofs.Common.{get_or}
+use Rattle.std.proofs.Common.{zero, suc, get_or}
 use Rattle.tib_lex.specs.Lists.{Has}
-use Rattle.tib_cost.specs.Semiring.{most}
 use Rattle.tib_grammar.specs.Run.{rule_at}
 use Rattle.tib_heap.specs.Heaps.{IsHeap, TakesFirst}
 use Rattle.tib_k_best_laws.specs.Best.{IsFrontAt}
@@ -11,7 +10,8 @@ use Rattle.tib_k_best_laws.specs.Firsts.{IsReady}
 use Rattle.tib_k_best_laws.specs.Levels.{states_of}
 use Rattle.tib_k_best_laws.specs.Pass.{zeros}
 use Rattle.tib_k_best_lists.specs.ListsOf.{ListsOf}
-use Rattle.tib_k_best_lists.specs.Held.{list_of, entries_of, candidate_at, ranks_of, stands_for, offers_cmp, tree_by, with_entry, HasNumber, IsSound, IsCandidate, IsPriced}
+use Rattle.tib_k_best_lists.specs.Held.{list_of, entry_at, entries_of, candidate_at, ranks_of, stands_for, offers_cmp, tree_by, with_entry, HasNumber, IsSound}
+use Rattle.tib_asked_lists.specs.Firsts.{IsFromFirst, IsMade}
 use Rattle.tib_k_best.specs.QueueOf.{QueueOf, waiting_at}
 use Rattle.tib_k_best.specs.declared.queue.Waiting.{Waiting}
 
@@ -57,15 +57,9 @@ pub record IsPassed (product : ℕ → ℕ → ℕ) (x : ListsOf) (w : QueueOf) 
   pub all : HasTrees x (states_of (rule_at x.rules n)) (length (states_of (rule_at x.rules n)))
   pub begun : IsReady product x.rules (entries_of x) n → IsBegun x w n
 
--- a candidate that was made
-pub record IsMade (product : ℕ → ℕ → ℕ) (x : ListsOf) (n : ℕ) : Type 0 where
-  pub is : IsCandidate x (candidate_at x n)
-  pub priced : IsPriced product x (candidate_at x n)
-  pub within : (candidate_at x n).cost ≤ most
-
--- Each rule but one waits for a state, or its states all have trees. Each
--- list is a front of the state's trees.
-pub record IsQueue (product : ℕ → ℕ → ℕ) (x : ListsOf) (w : QueueOf) (but : ℕ) : Type 0 where
+-- Each rule that is not left out waits for a state, or its states all have trees. Each list is a
+-- front of the state's trees, and has one tree at most, which its first candidate gave it.
+pub record IsQueue (product : ℕ → ℕ → ℕ) (x : ListsOf) (w : QueueOf) (out : List ℕ) : Type 0 where
   pub sound : IsSound x
   pub made : (n : ℕ) → n < length x.candidates → IsMade product x n
   pub long : length w.waiting ≡ length x.lists
@@ -75,8 +69,15 @@ pub record IsQueue (product : ℕ → ℕ → ℕ) (x : ListsOf) (w : QueueOf) (
   pub first : (m : ℕ) → Has w.heap m →
       ranks_of x (candidate_at x m) ≡ zeros (states_of (rule_at x.rules (candidate_at x m).rule))
   pub each : (n : ℕ) → n < length x.rules →
-      (n ≡ but) ⊎ (Waits w n ⊎ IsPassed product x w n)
+      Has out n ⊎ (Waits w n ⊎ IsPassed product x w n)
   pub fronts : (q : ℕ) → IsFrontAt product x.labels x.rules q (entries_of x q)
+  pub few : (q : ℕ) → length (list_of x q) ≤ 1
+  pub from : (q : ℕ) → 0 < length (list_of x q) → IsFromFirst x q (entry_at x q 0)
+
+-- the rules before the n-th, the last first
+abbrev pub rules_before : ℕ → List ℕ
+rules_before zero = []
+rules_before (suc n) = n ∷ rules_before n
 
 -- how many rules wait, and how many candidates
 abbrev pub left_over : QueueOf → ℕ
@@ -94,7 +95,7 @@ pub record IsReleased (x : ListsOf) (w : QueueOf) (q : ℕ) (v : QueueOf) : Type
 
 -- a queue in which no rule is left out, and nothing waits for a state that has a tree
 pub record IsSettled (product : ℕ → ℕ → ℕ) (x : ListsOf) (w : QueueOf) : Type 0 where
-  pub queue : IsQueue product x w (length x.rules)
+  pub queue : IsQueue product x w []
   pub settled : (q : ℕ) → 0 < length (list_of x q) → waiting_at w q ≡ []
 
 -- the least candidate m was taken from the heap

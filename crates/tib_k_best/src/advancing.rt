@@ -1,5 +1,5 @@
 // How a rule goes on when states below it get their first trees.
-ghost use Rattle.std.specs.Prelude.{◌≡◌, ℕ, ◌<◌, ◌≤◌, ◌+◌, length, OnOk};
+ghost use Rattle.std.specs.Prelude.{◌≡◌, ℕ, ◌<◌, ◌≤◌, ◌+◌, ◌∷◌, [], List, length, OnOk};
 ghost use Rattle.tib_grammar.specs.Run.{rule_at};
 ghost use Rattle.tib_k_best_laws.specs.Levels.{states_of};
 ghost use Rattle.tib_k_best_lists.specs.Held.{list_of, IsSound};
@@ -34,12 +34,13 @@ fn next_missing(lists: &Lists, rule: u32, from: usize) -> usize
 impl Queue {
     // Makes the first candidate of a rule whose states all have trees, unless it costs too much.
     fn begin<S: Semiring>(&mut self, lists: &mut Lists, rule: u32) -> Result<(), AllocError>
-        requires queue { IsQueue S.product lists.old self.old rule }
+        requires queue { (out : List ℕ) × IsQueue S.product lists.old self.old (rule ∷ out) }
         requires rule { rule < length lists.old.rules }
         requires all { HasTrees lists.old (states_of (rule_at lists.old.rules rule))
             (length (states_of (rule_at lists.old.rules rule))) }
-        ensures queue { OnOk result (IsQueue S.product lists.new self.new
-            (length lists.new.rules)) }
+        ensures queue { OnOk result ((out : List ℕ) →
+            IsQueue S.product lists.old self.old (rule ∷ out) →
+            IsQueue S.product lists.new self.new out) }
         ensures same { OnOk result (StaysSame lists.old lists.new) }
         ensures waiting { OnOk result (self.new.waiting ≡ self.old.waiting) }
         ensures more { OnOk result (length self.new.heap ≤ length self.old.heap + 1) }
@@ -53,18 +54,19 @@ impl Queue {
 
     // Lets a rule wait for the first state from a place on that has no tree; where each has one, makes
     // its first candidate.
-    fn advance<S: Semiring>(
+    pub(crate) fn advance<S: Semiring>(
         &mut self,
         lists: &mut Lists,
         rule: u32,
         from: usize,
     ) -> Result<(), AllocError>
-        requires queue { IsQueue S.product lists.old self.old rule }
+        requires queue { (out : List ℕ) × IsQueue S.product lists.old self.old (rule ∷ out) }
         requires rule { rule < length lists.old.rules }
         requires from { from ≤ length (states_of (rule_at lists.old.rules rule)) }
         requires before { HasTrees lists.old (states_of (rule_at lists.old.rules rule)) from }
-        ensures queue { OnOk result (IsQueue S.product lists.new self.new
-            (length lists.new.rules)) }
+        ensures queue { OnOk result ((out : List ℕ) →
+            IsQueue S.product lists.old self.old (rule ∷ out) →
+            IsQueue S.product lists.new self.new out) }
         ensures same { OnOk result (StaysSame lists.old lists.new) }
         ensures waiting { OnOk result ((q : ℕ) → 0 < length (list_of lists.old q) →
             waiting_at self.new q ≡ waiting_at self.old q) }
@@ -90,11 +92,10 @@ impl Queue {
         lists: &mut Lists,
         state: u32,
     ) -> Result<(), AllocError>
-        requires queue { IsQueue S.product lists.old self.old (length lists.old.rules) }
+        requires queue { IsQueue S.product lists.old self.old [] }
         requires state { state < length lists.old.lists }
         requires tree { 0 < length (list_of lists.old state) }
-        ensures queue { OnOk result (IsQueue S.product lists.new self.new
-            (length lists.new.rules)) }
+        ensures queue { OnOk result (IsQueue S.product lists.new self.new []) }
         ensures same { OnOk result (StaysSame lists.old lists.new) }
         ensures released { OnOk result (IsReleased lists.old self.old state self.new) }
         ensures more { OnOk result (left_over self.new ≤ left_over self.old) }

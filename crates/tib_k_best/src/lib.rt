@@ -1,11 +1,23 @@
-//! Lists of the best trees of a grammar in normal form. So far: what waits while the states get their
-//! first trees (Knuth 1977). It stands on `tib_k_best_lists`.
+//! Lists of the best trees of a grammar in normal form: first trees (Knuth 1977), and lists that grow
+//! where a tree is asked for (`tib_asked_lists`).
 #![tactic(auto)]
 
 mod advancing;
+mod best;
 mod error;
+mod first;
+mod laws;
+mod levels;
+mod listed;
 mod queue;
 mod settling;
+#[cfg(test)]
+mod tests;
 
+pub use best::{best_of_rules, best_tree, k_best};
 pub use error::KBestError;
+pub use first::first_trees;
+pub use laws::trimmed_has_trees;
+pub use levels::{best_tree_by_levels, level_rules, sorted_costs};
+pub use listed::List;
 pub use queue::{Queue, Waiting};

@@ -1,10 +1,10 @@
 // What waits while the states get their first trees.
-ghost use Rattle.std.specs.Prelude.{◌≡◌, ◌<◌, ◌++◌, ◌∷◌, [], length, OnOk, IfSome, IfNone};
+ghost use Rattle.std.specs.Prelude.{◌≡◌, ◌<◌, ◌++◌, ◌∷◌, [], length, map, replicate, OnOk, IfOk, IfSome, IfNone};
 ghost use Rattle.std.proofs.Math.ListN.{set};
-ghost use Rattle.tib_k_best.specs.QueueOf.{waiting_at};
+ghost use Rattle.tib_k_best.specs.QueueOf.{empty_queue, rules_of, waiting_at};
 ghost use Rattle.tib_k_best.specs.Queues.{IsPopped};
 
-use std::alloc::AllocError;
+use std::alloc::{AllocError, Global};
 use std::marker::Model;
 
 /// A rule that waits for the first tree of the state at a place below it. The states before it have
@@ -34,7 +34,28 @@ impl Model for Queue {
     ghost view = { λ w. record { waiting = map rules_of w.waiting.items; heap = w.heap.items } };
 }
 
+// For each state no rules.
+fn no_rules(alloc: Global, states: usize) -> Result<Vec<Vec<Waiting>>, AllocError>
+    ensures { IfOk result (λ v. map rules_of v.items ≡ replicate states []) }
+{
+    let mut waiting = Vec::with_capacity(alloc, states)?;
+    for _state in 0..states {
+        waiting.push(Vec::new(alloc))?;
+    }
+    Ok(waiting)
+}
+
 impl Queue {
+    // A queue in which nothing waits.
+    pub(crate) fn new(alloc: Global, states: usize) -> Result<Queue, AllocError>
+        ensures { IfOk result (λ w. w ≡ empty_queue states) }
+    {
+        Ok(Queue {
+            waiting: no_rules(alloc, states)?,
+            heap: Vec::new(alloc),
+        })
+    }
+
     // Lets a rule wait for a state.
     pub(crate) fn wait(&mut self, state: u32, waiting: Waiting) -> Result<(), AllocError>
         requires { state < length self.old.waiting }

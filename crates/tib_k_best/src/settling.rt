@@ -38,7 +38,7 @@ fn list(alloc: Global, lists: &mut Lists, candidate: u32) -> Result<(), AllocErr
 
 impl Queue {
     // Gives the state of the least candidate its first tree, where it has none yet.
-    fn settle<S: Semiring>(
+    pub(crate) fn settle<S: Semiring>(
         &mut self,
         alloc: Global,
         lists: &mut Lists,
@@ -49,8 +49,9 @@ impl Queue {
         ensures settled { OnOk result (IsSettled S.product lists.new self.new) }
         ensures rules { OnOk result (lists.new.rules ≡ lists.old.rules) }
         ensures labels { OnOk result (lists.new.labels ≡ lists.old.labels) }
+        ensures states { OnOk result (length lists.new.lists ≡ length lists.old.lists) }
         ensures less { OnOk result (left_over self.new ≤ left_over self.old) }
-        ensures cause { IfErr result (IsCause S.product lists.old 1) }
+        ensures cause { IfErr result (IsCause S.product lists.old.labels lists.old.rules 1) }
     {
         let state = lists.left(lists.candidate(candidate).rule);
         if lists.len(state) > 0 {

@@ -1,5 +1,5 @@
 -- The order of candidates by what they stand for, step by step.
-use Rattle.std.specs.Prelude.{◌≡◌, ◌⊎◌, ℕ, ◌+◌, ◌<◌, List, [], ◌∷◌, length, drop, not, true, false, refl}
+use Rattle.std.specs.Prelude.{◌≡◌, ℕ, ◌+◌, ◌<◌, List, [], ◌∷◌, length, drop, not, true, false, refl}
 use Rattle.std.specs.Bool.{◌==◌}
 use Rattle.std.specs.declared.cmp.Ordering.{Ordering}
 use Rattle.std.specs.declared.cmp.Ordering.TheVariants.{Less, Equal, Greater}
@@ -8,17 +8,18 @@ use Rattle.std.specs.Cmp.Lexicographic.{slice_cmp}
 use Rattle.std.specs.FinMap.{nat_cmp-IsAntisymmetric}
 use Rattle.std.proofs.lemmas.Cmp.{nat_cmp_total, tied_itself}
 use Rattle.std.proofs.Common.{suc, arith, ap, sym, ◌∙◌, inl, inr, get_or}
+use Rattle.tib_lex.proofs.Numbers.{nat_three}
 use Rattle.tib_tree.specs.Trees.{Tree, Trees, none, tree, count, sizes, size, relabel}
 use Rattle.tib_tree.specs.Growth.{text_at}
+use Rattle.tib_tree.proofs.Counts.{count-relabel, sizes-relabel}
 use Rattle.tib_tree_order.specs.Order.{tree_cmp_by}
-use Rattle.tib_tree_order.proofs.Relabelling.{count-relabel, sizes-relabel}
 use Rattle.tib_grammar.specs.Run.{rule_at}
 use Rattle.tib_grammar.specs.Sides.{Symbol, label, hole}
 use Rattle.tib_grammar.specs.declared.Rule.{Rule}
 use Rattle.tib_grammar_file.specs.Printed.{LabelsBelow}
 use Rattle.tib_k_best_laws.specs.Levels.{root_of, states_of, trees_of}
 use Rattle.tib_k_best_laws.specs.Pass.{Entries, AreRanks, picked, entry_at}
-use Rattle.tib_tree_order.proofs.Orderings.{nat_less}
+use Rattle.tib_tree_order.proofs.Orderings.{nat_less, then_assoc}
 use Rattle.tib_k_best_lists.specs.ListsOf.{ListsOf}
 use Rattle.tib_k_best_lists.specs.Held.{IsSound}
 use Rattle.tib_k_best_lists.specs.Ordered.{roots_cmp, kids_cmp}
@@ -43,18 +44,10 @@ then_stop Greater b n = refl
 pub then_skip : (a b : Ordering) → a ≡ Equal → ordering_then a b ≡ b
 then_skip a b e = rw e
 
-then_assoc : (a b c : Ordering) → ordering_then (ordering_then a b) c ≡ ordering_then a (ordering_then b c)
-then_assoc Less b c = refl
-then_assoc Equal b c = refl
-then_assoc Greater b c = refl
-
 then_both : (a b : Ordering) → ordering_then a b ≡ Equal → (a ≡ Equal) × (b ≡ Equal)
 then_both Less b e = absurd (cc)
 then_both Equal b e = (refl, e)
 then_both Greater b e = absurd (cc)
-
-nat_three : (a b : ℕ) → (a < b) ⊎ ((a ≡ b) ⊎ (b < a))
-nat_three a b = grind arith
 
 nat_suc : (a b : ℕ) → nat_cmp (suc a) (suc b) ≡ nat_cmp a b
 nat_suc a b = elim (nat_three a b) [

@@ -3,15 +3,16 @@ use Rattle.std.specs.Prelude.{◌≡◌, ℕ, List, refl}
 use Rattle.std.specs.Cmp.{IsTotalOrder}
 use Rattle.std.specs.declared.cmp.Ordering.{Ordering}
 use Rattle.std.specs.declared.cmp.Ordering.TheVariants.{Less, Equal, Greater}
-use Rattle.std.specs.Ordering.{nat_cmp, ordering_then, ordering_reverse}
+use Rattle.std.specs.Ordering.{nat_cmp, ordering_then}
 use Rattle.std.specs.Cmp.Lexicographic.{slice_cmp}
 use Rattle.std.proofs.lemmas.Cmp.{nat_cmp_total, alike_right}
 use Rattle.std.proofs.Common.{ap, sym, ◌∙◌}
 use Rattle.tib_tree.specs.Trees.{Tree, Trees, count, relabel, size}
 use Rattle.tib_tree.specs.Growth.{text_at}
 use Rattle.tib_tree_order.specs.Order.{tree_cmp_by, trees_cmp}
-use Rattle.tib_tree_order.proofs.TreeOrder.{tree_total}
+use Rattle.tib_tree_order.proofs.TreeOrder.{tree_total, then_reverse}
 use Rattle.tib_tree.specs.Trees.{relabel_tree}
+use Rattle.tib_tree_order.proofs.Orderings.{then_Equal}
 use Rattle.tib_k_best_lists.specs.ListsOf.{ListsOf}
 use Rattle.tib_k_best_lists.specs.Held.{offers_cmp, stands_for}
 
@@ -23,16 +24,6 @@ roots_cmp labels s t =
 -- the order of trees side by side
 abbrev pub kids_cmp : List (List ℕ) → Trees ℕ → Trees ℕ → Ordering
 kids_cmp labels ts us = trees_cmp (slice_cmp nat_cmp) (relabel (text_at labels) ts) (relabel (text_at labels) us)
-
-then_reverse : (a b c d : Ordering) → a ≡ ordering_reverse b → c ≡ ordering_reverse d → ordering_then a c ≡ ordering_reverse (ordering_then b d)
-then_reverse a Less c d e k = rw e
-then_reverse a Equal c d e k = rw (e, k)
-then_reverse a Greater c d e k = rw e
-
-then_Equal : (a b : Ordering) → ordering_then a b ≡ Equal → (a ≡ Equal) × (b ≡ Equal)
-then_Equal Equal b e = (refl, e)
-then_Equal Less b e = absurd (cc)
-then_Equal Greater b e = absurd (cc)
 
 module _ {A : Type 0} {R S : A → A → Ordering} (o : IsTotalOrder R) (p : IsTotalOrder S) where
   carried : (x y z : A) → ordering_then (R x y) (S x y) ≡ Less → ordering_then (R y z) (S y z) ≡ Less → ordering_then (R x z) (S x z) ≡ Less

@@ -1,10 +1,11 @@
 // Reading lists, candidates and rules.
-ghost use Rattle.std.specs.Prelude.{◌≡◌, ◌<◌, [], length, map, replicate, IfOk};
+ghost use Rattle.std.specs.Prelude.{◌≡◌, ℕ, ◌<◌, [], length, map, replicate, IfOk};
 ghost use Rattle.std.proofs.Common.{get_or};
 ghost use Rattle.tib_grammar.specs.Run.{rule_at};
 ghost use Rattle.tib_k_best_laws.specs.Levels.{states_of};
 ghost use Rattle.tib_k_best_lists.specs.ListsOf.{items_of};
-ghost use Rattle.tib_k_best_lists.specs.Held.{candidate_at, empty_lists, list_of, IsSound};
+ghost use Rattle.tib_k_best_lists.specs.Seen.{tree_at};
+ghost use Rattle.tib_k_best_lists.specs.Held.{candidate_at, empty_lists, list_of, ranks_from, IsSound, IsTuple};
 
 use crate::lists::{Candidate, Entry, Lists};
 use crate::shared::Shared;
@@ -53,6 +54,29 @@ impl<'a> Lists<'a> {
         self.rules.len()
     }
 
+    /// How many states.
+    pub fn states(&self) -> usize
+        ensures { result ≡ length self.now.lists }
+    {
+        self.lists.len()
+    }
+
+    /// The trees of all lists by their numbers, and the list of a state. The rest is gone. Takes no
+    /// memory.
+    pub fn into_list(self, state: u32) -> (Shared, Vec<Entry>)
+        requires { state < length self.lists }
+        ensures trees { result.0 ≡ self.entry.trees }
+        ensures entries { result.1.items ≡ list_of self.entry state }
+    {
+        let Lists {
+            trees,
+            mut lists,
+            ..
+        } = self;
+        let entries = lists.swap_remove(state as usize);
+        (trees, entries)
+    }
+
     /// A candidate by its number.
     pub fn candidate(&self, number: u32) -> &Candidate
         requires { number < length self.now.candidates }
@@ -86,5 +110,22 @@ impl<'a> Lists<'a> {
         ensures { result ≡ length (list_of self.now state) }
     {
         self.lists[state as usize].len()
+    }
+
+    /// The rank of the i-th state below a rule, of the ranks that stand from `start` on.
+    pub fn rank(&self, rule: u32, start: usize, i: usize) -> u32
+        requires tuple { IsTuple self.now rule (ranks_from self.now rule start) }
+        requires below { i < length (states_of (rule_at self.now.rules rule)) }
+        ensures { result ≡ get_or (ranks_from self.now rule start) i 0 }
+    {
+        self.ranks[start + i]
+    }
+
+    /// Distinct numbers are distinct trees. It computes nothing.
+    pub fn is_distinct(&self)
+        ensures { (m n : ℕ) → m < length self.now.trees → n < length self.now.trees →
+            tree_at self.now.trees m ≡ tree_at self.now.trees n → m ≡ n }
+    {
+        self.trees.is_distinct();
     }
 }

@@ -1,6 +1,6 @@
 // Trees by numbers, as the list of them.
 ghost use Rattle.std.specs.Prelude.{◌≡◌, ℕ, ◌<◌, ◌≤◌, [], length, min, IfOk};
-ghost use Rattle.tib_tree.specs.Trees.{only, size};
+ghost use Rattle.tib_tree.specs.Trees.{most_nodes, only, size};
 ghost use Rattle.tib_tree.specs.Growth.{LabelsBelow};
 ghost use Rattle.tib_tree.specs.Grows.{AreDistinct};
 ghost use Rattle.tib_tree_order.specs.Order.{tree_cmp_by};
@@ -12,7 +12,7 @@ use std::alloc::{AllocError, Global};
 use std::cmp::Ordering;
 use std::marker::Model;
 use tib_shared_trees::{Trees, numbers_name_trees};
-use tib_tree::{Label, Labels};
+use tib_tree::{Label, Labels, Tree};
 
 /// Distinct trees by numbers.
 #[derive(Drop)]
@@ -83,5 +83,15 @@ impl Shared {
         ensures { result ≡ tree_cmp_by labels.now (tree_at self.now one) (tree_at self.now other) }
     {
         self.trees.compare(ranks, one, other)
+    }
+
+    /// A tree with all its nodes, of which it has 10,000 at most. Only want of memory is an error.
+    /// Worst case: O(n) steps and memory for n nodes.
+    pub fn tree(&self, alloc: Global, tree: u32) -> Result<Tree, AllocError>
+        requires below { tree < length self.now }
+        requires small { size (tree_at self.now tree) ≤ most_nodes }
+        ensures { IfOk result (λ t. t ≡ tree_at self.now tree) }
+    {
+        self.trees.tree(alloc, tree)
     }
 }

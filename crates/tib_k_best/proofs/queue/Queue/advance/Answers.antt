@@ -16,5 +16,8 @@ returns-clause-queue g c =
       state = sym c.state-state.ensures.same;
       before = c.next_missing-place.ensures.before;
     } in
-    let q = waits g.S.Semiring.product c.args.lists.now c.args.self.now c.state-state.result a c.requires.queue (omega (arith, c.state-state.ensures.there, c.requires.queue.long)) is in
-    queue_on_ok c.wait.result _ _ (λ (e : c.wait.new.self ≡ with_waiting c.args.self.now c.state-state.result (waiting_at c.args.self.now c.state-state.result ++ a ∷ [])). subst (λ (w : QueueOf). IsQueue g.S.Semiring.product c.args.lists.now w (length c.args.lists.now.rules)) (sym e) q) c.wait.ensures
+    queue_on_ok c.wait.result _ _
+    (λ (e : c.wait.new.self ≡ with_waiting c.args.self.now c.state-state.result (waiting_at c.args.self.now c.state-state.result ++ a ∷ [])) out queue.
+    subst (λ (w : QueueOf). IsQueue g.S.Semiring.product c.args.lists.now w out) (sym e)
+    (waits g.S.Semiring.product c.args.lists.now c.args.self.now c.state-state.result a out queue (omega (arith, c.state-state.ensures.there, c.requires.queue.1.long)) is))
+    c.wait.ensures

@@ -1,4 +1,4 @@
-use Rattle.std.specs.Prelude.{◌≡◌, ℕ, ◌<◌, ◌≤◌, length}
+use Rattle.std.specs.Prelude.{◌≡◌, ℕ, ◌<◌, ◌≤◌, [], length}
 use Rattle.tib_k_best_lists.specs.Held.{list_of}
 use Rattle.tib_k_best.specs.QueueOf.{waiting_at}
 use Rattle.tib_k_best.specs.Queues.{IsQueue, StaysSame, left_over}
@@ -6,7 +6,7 @@ use Rattle.tib_k_best.proofs.queue.Queue.release.Given as goal
 
 abbrev pub invariant-loop-item : goal.invariant-loop-item
 invariant-loop-item g l =
-    IsQueue g.S.Semiring.product l.lists l.self (length l.lists.rules)
+    IsQueue g.S.Semiring.product l.lists l.self []
     × StaysSame l.initial.lists l.lists
     × (left_over l.self ≤ left_over l.initial.self)
     × ((p : ℕ) → (p ≡ l.state → ⊥) → 0 < length (list_of l.initial.lists p) → waiting_at l.self p ≡ waiting_at l.initial.self p)

@@ -1,0 +1,15 @@
+pub mod Kept
+pub mod Added
+pub mod Followed
+pub mod States
+pub mod Steps
+pub mod Taken
+pub mod Grown
+pub mod Drawn
+pub mod Listed
+pub mod Noted
+pub mod Placed
+pub mod Begun
+pub mod Stacked
+pub mod Falling
+pub mod Falls

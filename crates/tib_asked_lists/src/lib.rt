@@ -1,0 +1,18 @@
+//! Lists of best trees that grow only where a tree is asked for (Huang and Chiang 2005). It stands on
+//! `tib_k_best_lists`, `tib_k_best_laws` and `tib_heap`.
+#![tactic(auto)]
+
+mod adding;
+mod asking;
+mod beginning;
+mod best;
+mod drawing;
+mod error;
+mod followers;
+mod listing;
+mod reading;
+mod stepping;
+mod walking;
+
+pub use best::ask_best;
+pub use error::AskError;

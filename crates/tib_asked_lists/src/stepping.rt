@@ -1,0 +1,98 @@
+// One step of a state among the others.
+ghost use Rattle.std.specs.Prelude.{◌≡◌, ◌<◌, length, IfErr, IfOk, OnOk};
+ghost use Rattle.tib_k_best_laws.specs.Levels.{IsOrderly};
+ghost use Rattle.tib_k_best_lists.specs.Held.{below_of, candidate_at, list_of};
+ghost use Rattle.tib_asked_lists.specs.AskingOf.{asking_of, state_at};
+ghost use Rattle.tib_asked_lists.specs.Asks.{AreAnswered, HasDrawn, IsAsking, IsTaking, StaysAsking, StaysGrammar, turns_left};
+ghost use Rattle.tib_asked_lists.specs.Causes.{IsAskCause};
+ghost use Rattle.tib_asked_lists.specs.declared.asking.Stage.TheVariants.{Whole};
+
+use crate::asking::Asking;
+use crate::error::AskError;
+use crate::listing::list;
+use std::alloc::{AllocError, Global};
+use tib_cost::Semiring;
+use tib_k_best_lists::Lists;
+
+// The most nodes that a listed tree may have.
+const MOST_NODES: u64 = 10_000;
+
+impl Asking {
+    // Lets a state take its least candidate, where the states below its last one were asked.
+    fn draw<S: Semiring>(
+        &mut self,
+        lists: &mut Lists,
+        state: u32,
+    ) -> Result<Option<u32>, AllocError>
+        requires kept { IsAsking S.product lists.old (asking_of self.old) }
+        requires state { state < length (asking_of self.old).states }
+        requires left { (state_at (asking_of self.old) state).stage ≡ Whole → ⊥ }
+        requires free { length (list_of lists.old state) < self.old.k }
+        requires orderly { IsOrderly S.product lists.old.rules }
+        requires answered { let c = candidate_at lists.old (state_at (asking_of self.old) state).last in
+            AreAnswered S.product self.old.k lists.old c (length (below_of lists.old c)) }
+        ensures drawn { IfOk result (λ o. HasDrawn S.product lists.new (asking_of self.new) state o) }
+        ensures grammar { OnOk result (StaysGrammar lists.old lists.new) }
+        ensures same { OnOk result (StaysAsking (asking_of self.old) (asking_of self.new)) }
+        ensures fewer { OnOk result (turns_left lists.new (asking_of self.new)
+            < turns_left lists.old (asking_of self.old)) }
+    {
+        let rules = &self.by_state[state as usize];
+        let drawn = self.states[state as usize].draw::<S>(lists, rules)?;
+        Ok(drawn)
+    }
+
+    // Lists the tree of the candidate that a state took, where it is new.
+    fn list<S: Semiring>(
+        &mut self,
+        alloc: Global,
+        lists: &mut Lists,
+        state: u32,
+        candidate: u32,
+    ) -> Result<(), AskError>
+        requires taking { IsTaking S.product lists.old (asking_of self.old) state candidate }
+        requires orderly { IsOrderly S.product lists.old.rules }
+        ensures kept { OnOk result (IsAsking S.product lists.new (asking_of self.new)) }
+        ensures grammar { OnOk result (StaysGrammar lists.old lists.new) }
+        ensures same { OnOk result (StaysAsking (asking_of self.old) (asking_of self.new)) }
+        ensures turns { OnOk result (turns_left lists.new (asking_of self.new)
+            ≡ turns_left lists.old (asking_of self.old)) }
+        ensures cause { IfErr result (IsAskCause S.product lists.old self.old.k) }
+    {
+        if lists.candidate(candidate).size > MOST_NODES {
+            return Err(AskError::TreeTooLarge { state });
+        }
+        match list(alloc, lists, &mut self.listed, state, candidate) {
+            Ok(()) => Ok(()),
+            Err(_) => Err(AskError::OutOfMemory),
+        }
+    }
+
+    // Lets a state take its least candidate, and lists its tree where it is new.
+    pub(crate) fn advance<S: Semiring>(
+        &mut self,
+        alloc: Global,
+        lists: &mut Lists,
+        state: u32,
+    ) -> Result<(), AskError>
+        requires kept { IsAsking S.product lists.old (asking_of self.old) }
+        requires state { state < length (asking_of self.old).states }
+        requires left { (state_at (asking_of self.old) state).stage ≡ Whole → ⊥ }
+        requires free { length (list_of lists.old state) < self.old.k }
+        requires orderly { IsOrderly S.product lists.old.rules }
+        requires answered { let c = candidate_at lists.old (state_at (asking_of self.old) state).last in
+            AreAnswered S.product self.old.k lists.old c (length (below_of lists.old c)) }
+        ensures kept { OnOk result (IsAsking S.product lists.new (asking_of self.new)) }
+        ensures grammar { OnOk result (StaysGrammar lists.old lists.new) }
+        ensures same { OnOk result (StaysAsking (asking_of self.old) (asking_of self.new)) }
+        ensures fewer { OnOk result (turns_left lists.new (asking_of self.new)
+            < turns_left lists.old (asking_of self.old)) }
+        ensures cause { IfErr result (IsAskCause S.product lists.old self.old.k) }
+    {
+        match self.draw::<S>(lists, state) {
+            Err(_) => Err(AskError::OutOfMemory),
+            Ok(None) => Ok(()),
+            Ok(Some(candidate)) => self.list::<S>(alloc, lists, state, candidate),
+        }
+    }
+}

@@ -1,0 +1,75 @@
+// The k best trees by levels.
+ghost use Rattle.std.specs.Prelude.{◌≡◌, ◌<◌, true, length, IfErr, IfOk};
+ghost use Rattle.tib_grammar_file.specs.Printed.{AreLabelled};
+ghost use Rattle.tib_grammar.specs.Forms.{AreNormal};
+ghost use Rattle.tib_k_best_laws.specs.Best.{IsKBest};
+ghost use Rattle.tib_k_best.specs.Causes.{IsLevelCause};
+ghost use Rattle.tib_level_lists.specs.Splits.{IsSplit};
+
+use crate::ranked::Ranked;
+use crate::search::{Split, split_levels};
+use crate::weights::{by_cost, first_places, weights_of};
+use std::alloc::{AllocError, Global};
+use tib_cost::Semiring;
+use tib_k_best::KBestError;
+use tib_normal::Normal;
+use tib_shared_trees::label_ranks;
+use tib_tree::Labels;
+
+// The trees below the cost by what they cost, and then those that cost as much, k in all.
+fn rank<S: Semiring>(
+    alloc: Global,
+    normal: &Normal<S>,
+    split: Split,
+    labels: &Labels,
+    k: u32,
+) -> Result<Ranked, AllocError>
+    requires levelled { S.LEVELLED ≡ true }
+    requires normal { AreNormal normal.now.rules }
+    requires split { IsSplit S.product labels.now normal.now.rules k split.cost split.below
+        split.at }
+    ensures { IfOk result (λ xs. IsKBest S.product normal.now.rules labels.now k xs) }
+{
+    split.below.len();
+    split.at.len();
+    let weights = weights_of::<S>(alloc, normal, &split.below)?;
+    let first = by_cost(alloc, &weights)?;
+    let weights_at = weights_of::<S>(alloc, normal, &split.at)?;
+    let count = first.len();
+    let rest = first_places(alloc, &weights_at, split.cost, k as usize - count)?;
+    Ok(Ranked::new(split, first, rest))
+}
+
+/// The k best trees of a grammar, or all where it has fewer, by cost and then in the order of trees,
+/// in a semiring whose product is the greater factor: the trees below the least level with k, and
+/// the first of that level that cost as much. `TreeTooLarge` names a state that has in some level
+/// among its k best trees one of more than 10,000 nodes; `OutOfMemory` says nothing of the grammar.
+/// Worst case: that of `best_of_rules` for O(log r) levels of r rules, which are copied and trimmed,
+/// and of `weigh` for 2k trees.
+pub fn k_best_by_levels<S: Semiring>(
+    alloc: Global,
+    normal: &Normal<S>,
+    labels: &Labels,
+    k: u32,
+) -> Result<Ranked, KBestError>
+    requires levelled { S.LEVELLED ≡ true }
+    requires labelled { AreLabelled (length labels.now) normal.now.rules }
+    requires some { 0 < k }
+    ensures best { IfOk result (λ xs. IsKBest S.product normal.now.rules labels.now k xs) }
+    ensures cause { IfErr result (IsLevelCause S.LEVELLED S.product labels.now normal.now.rules k) }
+{
+    let Ok(ranks) = label_ranks(alloc, labels) else {
+        return Err(KBestError::OutOfMemory);
+    };
+    let grammar = normal.grammar();
+    grammar.is_sound();
+    let states = grammar.states();
+    let split = match split_levels::<S>(alloc, grammar.rule_list(), states, labels, &ranks, k) {
+        Ok(split) => split,
+        Err(error) => return Err(error),
+    };
+    match rank::<S>(alloc, normal, split, labels, k) {
+        Ok(best) => Ok(best),
+        Err(_) => Err(KBestError::OutOfMemory),
+    }
+}

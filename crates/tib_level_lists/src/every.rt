@@ -1,0 +1,102 @@
+// The k best trees in every semiring.
+ghost use Rattle.std.specs.Prelude.{◌≡◌, ◌⊎◌, ℕ, ◌<◌, false, true, length, IfErr, IfOk};
+ghost use Rattle.tib_grammar.specs.Run.{rule_at};
+ghost use Rattle.tib_grammar_file.specs.Printed.{AreLabelled};
+ghost use Rattle.tib_k_best_laws.specs.Best.{IsKBest};
+ghost use Rattle.tib_k_best.specs.Causes.{IsLevelCause};
+ghost use Rattle.tib_k_best.specs.Trimmed.{HaveTreesBelow};
+ghost use Rattle.tib_shared_trees.specs.Ranked.{AreRanksOf};
+
+use crate::best::k_best_by_levels;
+use crate::level::no_trees;
+use crate::ranked::Ranked;
+use crate::search::Split;
+use crate::weights::{costs_of, numbered};
+use std::alloc::{AllocError, Global};
+use tib_cost::{Cost, Semiring};
+use tib_k_best::{KBestError, List, best_of_rules};
+use tib_normal::Normal;
+use tib_shared_trees::label_ranks;
+use tib_tree::Labels;
+
+// Whether the product of 1 and 1 is 1, as it is where the product is the greater factor.
+fn keeps_one<S: Semiring>() -> bool
+    ensures { S.WEIGHTED ≡ true → result ≡ S.LEVELLED }
+{
+    let Some(one) = Cost::new(1) else {
+        return false;
+    };
+    match S::times(one, one) {
+        Some(product) => product == one,
+        None => false,
+    }
+}
+
+// Whether the product is the greater factor while costs matter.
+fn is_levelled<S: Semiring>() -> bool
+    ensures yes { result ≡ true → S.LEVELLED ≡ true }
+    ensures other { result ≡ false → (S.LEVELLED ≡ false) ⊎ (S.WEIGHTED ≡ false) }
+{
+    if !S::SCALE.is_weighted() {
+        return false;
+    }
+    keeps_one::<S>()
+}
+
+// The trees of a list, in order.
+fn flat<S: Semiring>(
+    alloc: Global,
+    list: List,
+    labels: &Labels,
+    ranks: &[u32],
+) -> Result<Ranked, AllocError>
+    requires ranks { AreRanksOf labels.now ranks.now }
+    ensures { IfOk result (λ xs. xs ≡ list) }
+{
+    let at = no_trees::<S>(alloc, labels, ranks)?;
+    let costs = costs_of(alloc, &list)?;
+    let first = numbered(alloc, &costs)?;
+    let cost = S::one();
+    let split = Split {
+        below: list,
+        at,
+        cost,
+    };
+    Ok(Ranked::new(split, first, Vec::new(alloc)))
+}
+
+/// The k best trees of a grammar in any semiring: those of `k_best_by_levels` where the product is
+/// the greater factor, and those of `best_of_rules` elsewhere. No state below a rule may be without
+/// a tree, as in a trimmed grammar. Faults and worst case are theirs.
+pub fn best_trees<S: Semiring>(
+    alloc: Global,
+    normal: &Normal<S>,
+    labels: &Labels,
+    k: u32,
+) -> Result<Ranked, KBestError>
+    requires free { S.WEIGHTED ≡ false → (n : ℕ) → n < length normal.now.rules →
+        (rule_at normal.now.rules n).cost ≡ 0 }
+    requires labelled { AreLabelled (length labels.now) normal.now.rules }
+    requires some { 0 < k }
+    requires trimmed { HaveTreesBelow S.product normal.now.rules }
+    ensures best { IfOk result (λ xs. IsKBest S.product normal.now.rules labels.now k xs) }
+    ensures cause { IfErr result (IsLevelCause S.LEVELLED S.product labels.now normal.now.rules k) }
+{
+    if is_levelled::<S>() {
+        return k_best_by_levels::<S>(alloc, normal, labels, k);
+    }
+    let Ok(ranks) = label_ranks(alloc, labels) else {
+        return Err(KBestError::OutOfMemory);
+    };
+    let grammar = normal.grammar();
+    grammar.is_sound();
+    let states = grammar.states() as usize;
+    let list = match best_of_rules::<S>(alloc, grammar.rule_list(), states, labels, &ranks, k) {
+        Ok(list) => list,
+        Err(error) => return Err(error),
+    };
+    match flat::<S>(alloc, list, labels, &ranks) {
+        Ok(best) => Ok(best),
+        Err(_) => Err(KBestError::OutOfMemory),
+    }
+}
