@@ -48,23 +48,27 @@ abbrev pub operation_in : Text → Option Operation
 operation_in text = if bytes_eq text (codes "weigh") then Some o.Weigh
     else (if bytes_eq text (codes "inside") then Some o.Inside
     else (if bytes_eq text (codes "normal") then Some o.Normal
+    else (if bytes_eq text (codes "kbest") then Some o.KBest
     else (if bytes_eq text (codes "intersect") then Some o.Intersect
     else (if bytes_eq text (codes "forward") then Some o.Forward
     else (if bytes_eq text (codes "backward") then Some o.Backward
     else (if bytes_eq text (codes "compose") then Some o.Compose
+    else (if bytes_eq text (codes "image") then Some o.Image
     else (if bytes_eq text (codes "determinize") then Some o.Determinize
     else (if bytes_eq text (codes "check") then Some o.Check
-    else (if bytes_eq text (codes "prune") then Some o.Prune else None)))))))))
+    else (if bytes_eq text (codes "prune") then Some o.Prune else None)))))))))))
 
 -- how many words follow the operation
 abbrev pub word_count : Operation → ℕ
 word_count o.Weigh = 2
 word_count o.Inside = 1
 word_count o.Normal = 1
+word_count o.KBest = 1
 word_count o.Intersect = 2
 word_count o.Forward = 2
 word_count o.Backward = 2
 word_count o.Compose = 2
+word_count o.Image = 2
 word_count o.Determinize = 1
 word_count o.Check = 1
 word_count o.Prune = 1

@@ -27,6 +27,8 @@ pub enum Operation {
     Inside,
     /// The canonical form of a grammar's normal form.
     Normal,
+    /// The cheapest distinct trees of a grammar, each with its cost, as many as asked for.
+    KBest,
     /// The canonical grammar of the trees that two grammars have, at the products of their costs.
     Intersect,
     /// The canonical grammar of the trees into which a transducer turns those of a grammar, at the
@@ -37,6 +39,8 @@ pub enum Operation {
     Backward,
     /// The canonical transducer that does what the first and then the second does, at the least products of both costs.
     Compose,
+    /// The canonical grammar of all outputs of a transducer on the one tree of a file, each at its cost.
+    Image,
     /// The canonical grammar in deterministic form with the series of a grammar.
     Determinize,
     /// Which classes a transducer is of, and which rule decides.

@@ -21,7 +21,7 @@ type Accepted = (
     &'static [&'static str],
 );
 
-static ACCEPTED: [Accepted; 29] = [
+static ACCEPTED: [Accepted; 31] = [
     (
         &["-k5", "weigh", "g", "t"],
         Mode::MinPlus,
@@ -230,6 +230,15 @@ static ACCEPTED: [Accepted; 29] = [
         &["-g"],
     ),
     (
+        &["-k10000", "kbest", "-m", "widest", "g"],
+        Mode::Widest,
+        Operation::KBest,
+        10000,
+        1,
+        20000000,
+        &["g"],
+    ),
+    (
         &["-w3", "intersect", "g", "--limit", "14", "h"],
         Mode::MinPlus,
         Operation::Intersect,
@@ -266,6 +275,15 @@ static ACCEPTED: [Accepted; 29] = [
         &["t", "u"],
     ),
     (
+        &["image", "--limit", "14", "trees", "t", "-w4"],
+        Mode::MinPlus,
+        Operation::Image,
+        1,
+        4,
+        14,
+        &["trees", "t"],
+    ),
+    (
         &["-m", "bottleneck", "determinize", "--limit", "13", "g"],
         Mode::Bottleneck,
         Operation::Determinize,
@@ -294,7 +312,7 @@ static BEAMS: [(&[&str], u64); 5] = [
     (&["normal", "--beam", "7", "--limit=9", "--", "g"], 7),
 ];
 
-static REFUSED: [&[&str]; 92] = [
+static REFUSED: [&[&str]; 99] = [
     &["prune"],
     &["prune", "g", "h"],
     &["Prune", "g"],
@@ -314,7 +332,10 @@ static REFUSED: [&[&str]; 92] = [
     &["weigh", "g", "t", "u"],
     &["tiburon", "weigh", "g", "t"],
     &["Weigh", "g", "t"],
-    &["kbest", "g"],
+    &["kbest"],
+    &["kbest", "g", "h"],
+    &["Kbest", "g"],
+    &["-k", "0", "kbest", "g"],
     &["normal"],
     &["normal", "g", "h"],
     &["normal", ""],
@@ -336,6 +357,10 @@ static REFUSED: [&[&str]; 92] = [
     &["compose", "t"],
     &["compose", "t", "u", "v"],
     &["Compose", "t", "u"],
+    &["image"],
+    &["image", "trees"],
+    &["image", "trees", "t", "u"],
+    &["images", "trees", "t"],
     &["determinize"],
     &["determinize", "g", "h"],
     &["determinise", "g"],

@@ -29,10 +29,12 @@ fn operation_in(text: &str) -> Option<Operation>
         "weigh" => Some(Operation::Weigh),
         "inside" => Some(Operation::Inside),
         "normal" => Some(Operation::Normal),
+        "kbest" => Some(Operation::KBest),
         "intersect" => Some(Operation::Intersect),
         "forward" => Some(Operation::Forward),
         "backward" => Some(Operation::Backward),
         "compose" => Some(Operation::Compose),
+        "image" => Some(Operation::Image),
         "determinize" => Some(Operation::Determinize),
         "check" => Some(Operation::Check),
         "prune" => Some(Operation::Prune),
@@ -127,6 +129,7 @@ fn word_count(operation: Operation) -> usize
     match operation {
         Operation::Inside
         | Operation::Normal
+        | Operation::KBest
         | Operation::Determinize
         | Operation::Check
         | Operation::Prune => 1,
@@ -134,7 +137,8 @@ fn word_count(operation: Operation) -> usize
         | Operation::Intersect
         | Operation::Forward
         | Operation::Backward
-        | Operation::Compose => 2,
+        | Operation::Compose
+        | Operation::Image => 2,
     }
 }
 

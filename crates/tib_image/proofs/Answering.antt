@@ -8,16 +8,14 @@ use Rattle.tib_grammar.specs.GrammarOf.{named_rule}
 use Rattle.tib_grammar.specs.declared.Rule.{Rule}
 use Rattle.tib_hunt.specs.Reached.{IsReachedSet, IsBeyond, parts_of}
 use Rattle.tib_hunt.specs.Numbered.{key_parts}
+use Rattle.tib_keyed.specs.Ends.{key_at}
+use Rattle.tib_keyed.proofs.Limits.{each_counts}
 use Rattle.tib_transducer.specs.TransducerOf.{TransducerOf}
-use Rattle.tib_image.specs.Image.{key_at, key_entries, edge_parts, image_of}
+use Rattle.tib_image.specs.Image.{key_entries, edge_parts, image_of}
 
 keys_least : (order : List (ℕ × ℕ)) → length order ≤ total (key_parts key_entries) order
 keys_least [] = omega arith
 keys_least (k ∷ order) = omega (arith, keys_least order)
-
-edges_least : (es : List (Rule (ℕ × ℕ))) → length es ≤ total edge_parts es
-edges_least [] = omega arith
-edges_least (e ∷ es) = omega (arith, edges_least es)
 
 module _ (moves : TransducerOf) (t : Tree ℕ) where
   module _ (order : List (ℕ × ℕ)) (rules : List (Rule ℕ)) (parts limit : ℕ) (counted : parts ≡ parts_of (image_of moves.rules t) order (map (named_rule (key_at order)) rules)) (within : parts ≤ limit) where
@@ -27,7 +25,7 @@ module _ (moves : TransducerOf) (t : Tree ℕ) where
 
     -- there are no more rules than the limit
     pub few_rules : length rules ≤ limit
-    few_rules = omega (arith, edges_least (map (named_rule (key_at order)) rules), length-map rules (named_rule (key_at order)), counted, within)
+    few_rules = omega (arith, each_counts edge_parts (λ e. omega arith) (map (named_rule (key_at order)) rules), length-map rules (named_rule (key_at order)), counted, within)
 
   -- the same transducer and tree under other names
   module _ (near : TransducerOf) (same : near ≡ moves) (other : Tree ℕ) (is : other ≡ t) where

@@ -1,96 +1,32 @@
 -- One edge more, and what whole lists of edges say.
 use Rattle.std.specs.Prelude.{◌≡◌, ℕ, ◌+◌, ◌<◌, ◌≤◌, ◌↔◌, List, [], ◌∷◌, ◌++◌, length, map, take, refl, slice_index_or}
-use Rattle.std.proofs.Common.{zero, suc, arith, ap, sym, ◌∙◌, subst, get_or, inl, inr, append_assoc}
+use Rattle.std.proofs.Common.{arith, ap, sym, ◌∙◌, subst, get_or, inl, inr}
 use Rattle.std.proofs.lemmas.List.{length-append}
 use Rattle.tib_lex.specs.Lists.{Has, Each, Distinct, Along, total}
-use Rattle.tib_lex.proofs.Lists.{each_weaker, append_nil}
+use Rattle.tib_lex.proofs.Lists.{each_weaker, total_more, length_map}
 use Rattle.tib_lex.proofs.Members.{distinct_more, has_left, has_right, has_either}
-use Rattle.tib_tree.specs.Trees.{Trees, none, tree, only, relabel, size}
-use Rattle.tib_grammar.specs.Sides.{Symbol, label, hole, Side as SideFor, holes, holes_of, HolesAreLeaves, symbol_map, side_map}
+use Rattle.tib_lex.proofs.Alongs.{along_of, along_more, along_map, total_fewer}
+use Rattle.tib_lex.proofs.Places.{not_before, take_next, take_whole, index_get}
+use Rattle.tib_tree.specs.Trees.{only, size}
+use Rattle.tib_grammar.specs.Sides.{Side as SideFor, holes_of, HolesAreLeaves, side_map}
 use Rattle.tib_grammar.specs.declared.Rule.{Rule}
+use Rattle.tib_grammar.specs.Positions.{all_ends}
 use Rattle.tib_grammar.proofs.Sides.{holes-relabel}
-use Rattle.tib_hunt.specs.declared.place.Place.{Place}
-use Rattle.tib_hunt.specs.declared.place.Place.TheVariants.{Known, End}
+use Rattle.tib_grammar.proofs.Positions.{all_ends-more}
 use Rattle.tib_hunt.specs.EdgeLists.{IsWithin, key_at, IsEnd, Exceeds, AreListed}
-use Rattle.tib_keyed.proofs.Partners.{along_of, along_back, along_more, along_map, total_more, total_fewer}
-use Rattle.tib_intersect.proofs.Listed.{index_append, index_seam, not_before}
+use Rattle.tib_keyed.specs.Ends.{ends_from, key_at as key_of}
+use Rattle.tib_keyed.proofs.Ends.{within_wider, place_stays, ends_within}
 use Rattle.tib_transducer.specs.declared.Pair.{Pair}
-use Rattle.tib_apply.specs.ForwardRules.{ends_from, numbered, numbered_root, numbered_side, places_of, read_places}
+use Rattle.tib_apply.specs.ForwardRules.{numbered_side, places_of, read_places}
 use Rattle.tib_apply.specs.ForwardRuleLaws.{reads_places}
-use Rattle.tib_apply.proofs.ForwardListed.{lengths_map}
 use Rattle.tib_apply.proofs.MappedSides.{size_mapped}
 use Rattle.tib_apply.specs.declared.forward_rule.ForwardRule.{ForwardRule}
-use Rattle.tib_image.specs.Image.{edge_parts, key_at as key_of}
-use Rattle.tib_image.specs.Listing.{all_ends, IsAdded, IsWithinBudget, IsListed, Overruns, AreListedFrom, Reads, ListsOrigin, OriginOverruns}
+use Rattle.tib_apply.proofs.ForwardListed.{side_reads, both_ends}
+use Rattle.tib_image.specs.Image.{edge_parts}
+use Rattle.tib_image.specs.Listing.{IsAdded, IsWithinBudget, IsListed, Overruns, AreListedFrom, Reads, ListsOrigin, OriginOverruns}
 use Rattle.tib_image.specs.declared.listing.Listing.{Listing}
 
--- places of a list that goes on
-
-module _ {K : Type 0} where
-  index_get : (xs : List K) (i : ℕ) (d c : K) → i < length xs → slice_index_or xs i d ≡ get_or xs i c
-  index_get [] i d c h = absurd (omega arith)
-  index_get (x ∷ xs) zero d c h = refl
-  index_get (x ∷ xs) (suc i) d c h = index_get xs i d c (omega arith)
-
-  place_stays : (d : K) (order xs ys : List K) (p : Place) → IsWithin (length order) (length xs) p → key_at d order (xs ++ ys) p ≡ key_at d order xs p
-  place_stays d order xs ys (Known p) h = refl
-  place_stays d order xs ys (End i) h = index_append xs ys i d h
-
-  -- numbered sides over a list in which the keys of their holes stand side by side
-  numbers_read :
-      {P : Type 0} (f : P → K) (d : K) (all : List K) (ts : Trees (Symbol ℕ P)) (n : ℕ) (xs zs : List K) → HolesAreLeaves ts → n ≡ length xs → all ≡ xs ++ (map f (holes ts) ++ zs) →
-      relabel (symbol_map {A = ℕ} (λ i. slice_index_or all i d)) (numbered n ts) ≡ relabel (symbol_map f) ts
-  numbers_read f d all none n xs zs h at is = refl
-  numbers_read {P} f d all (tree (label x) kids rest) n xs zs h at is =
-      let first : List K = map f (holes kids) in
-      let second : List K = map f (holes rest) in
-      let both : map f (holes kids ++ holes rest) ≡ first ++ second = mapped (holes kids) (holes rest) in
-      let all_is : all ≡ xs ++ ((first ++ second) ++ zs) = is ∙ ap (λ ks. xs ++ (ks ++ zs)) both in
-      let inner : all ≡ xs ++ (first ++ (second ++ zs)) = all_is ∙ ap (λ ks. xs ++ ks) (append_assoc first second zs) in
-      let outer : all ≡ (xs ++ first) ++ (second ++ zs) = inner ∙ sym (append_assoc xs first (second ++ zs)) in
-      let long : n + length (holes kids) ≡ length (xs ++ first) = omega (arith, at, length-append xs first, lengths (holes kids)) in
-      ap (λ ks. tree (label x) ks (relabel (symbol_map (λ i. slice_index_or all i d)) (numbered (n + length (holes kids)) rest))) (numbers_read f d all kids n xs (second ++ zs) h.0 at inner)
-      ∙ ap (λ rs. tree (label x) (relabel (symbol_map f) kids) rs) (numbers_read f d all rest (n + length (holes kids)) (xs ++ first) zs h.1 long outer)
-    where
-      mapped : (ps qs : List P) → map f (ps ++ qs) ≡ map f ps ++ map f qs
-      mapped [] qs = refl
-      mapped (p ∷ ps) qs = ap (λ ks. f p ∷ ks) (mapped ps qs)
-
-      lengths : (ps : List P) → length (map f ps) ≡ length ps
-      lengths [] = refl
-      lengths (p ∷ ps) = ap suc (lengths ps)
-  numbers_read f d all (tree (hole p) none rest) n xs zs h at is =
-      let here : slice_index_or all n d ≡ f p = ap (λ m. slice_index_or all m d) at ∙ ap (λ ks. slice_index_or ks (length xs) d) is ∙ index_seam xs (f p) (map f (holes rest) ++ zs) d in
-      let more : all ≡ (xs ++ f p ∷ []) ++ (map f (holes rest) ++ zs) = is ∙ sym (append_assoc xs (f p ∷ []) (map f (holes rest) ++ zs)) in
-      let long : suc n ≡ length (xs ++ f p ∷ []) = omega (arith, at, length-append xs (f p ∷ [])) in
-      ap (λ k. tree (hole k) none (relabel (symbol_map (λ i. slice_index_or all i d)) (numbered (suc n) rest))) here
-      ∙ ap (λ rs. tree (hole (f p)) none rs) (numbers_read f d all rest (suc n) (xs ++ f p ∷ []) zs h long more)
-  numbers_read f d all (tree (hole p) (tree s kids more) rest) n xs zs h at is = absurd h
-
-  -- the same of one side
-  side_reads :
-      {P : Type 0} (f : P → K) (d : K) (side : SideFor ℕ P) (xs : List K) → HolesAreLeaves (only side) →
-      side_map (λ i. slice_index_or (xs ++ map f (holes_of side)) i d) (numbered_side (length xs) side) ≡ side_map f side
-  side_reads {P} f d side xs h = by side.label side.kids h
-    where
-      by :
-          (s : Symbol ℕ P) (kids : Trees (Symbol ℕ P)) → HolesAreLeaves (tree s kids none) →
-          side_map (λ i. slice_index_or (xs ++ map f (holes (tree s kids none))) i d) (numbered_root (length xs) s kids) ≡ side_map f (record { label = s; kids = kids })
-      by (label x) kids h =
-          let is : xs ++ map f (holes kids ++ []) ≡ xs ++ (map f (holes kids) ++ []) = ap (λ ks. xs ++ ks) (ap (map f) (append_nil (holes kids)) ∙ sym (append_nil (map f (holes kids)))) in
-          ap (λ ks. record { label = label x; kids = ks }) (numbers_read f d (xs ++ map f (holes kids ++ [])) kids (length xs) xs [] h.0 refl is)
-      by (hole p) none h = ap (λ k. record { label = hole k; kids = none }) (index_seam xs (f p) [] d)
-      by (hole p) (tree s kids more) h = absurd h
-
 -- rules read over longer lists
-
-within_wider : (n m l : ℕ) → m ≤ l → (p : Place) → IsWithin n m p → IsWithin n l p
-within_wider n m l h (Known p) k = k
-within_wider n m l h (End i) k = omega arith
-
-ends_within : (n m i k : ℕ) → i + k ≤ m → Each (IsWithin n m) (ends_from i k)
-ends_within n m i zero h = tt
-ends_within n m i (suc k) h = (omega arith, ends_within n m (suc i) k (omega arith))
 
 module _ (order : List (ℕ × ℕ)) where
   reads_longer : (xs ys : List (ℕ × ℕ)) (r : ForwardRule) (e : Rule (ℕ × ℕ)) → Reads order xs r e → Reads order (xs ++ ys) r e
@@ -112,7 +48,7 @@ module _ (order : List (ℕ × ℕ)) where
     within = (
       subst (λ p. p < length order) (sym position) below,
       subst (λ s. Each (IsWithin (length order) (length (xs ++ map f (holes_of side)))) (ends_from r.first_end (length (holes_of s)))) (sym right)
-          (ends_within (length order) (length (xs ++ map f (holes_of side))) r.first_end (length (holes_of side)) (omega (arith, first, length-append xs (map f (holes_of side)), lengths_map f (holes_of side)))),
+          (ends_within (length order) (length (xs ++ map f (holes_of side))) r.first_end (length (holes_of side)) (omega (arith, first, length-append xs (map f (holes_of side)), length_map f (holes_of side)))),
     );
     read = λ d.
         let all = xs ++ map f (holes_of side) in
@@ -123,10 +59,6 @@ module _ (order : List (ℕ × ℕ)) where
         ∙ ap (λ s. record { left = key; right = s; cost = r.cost }) (side_reads f d side xs leaves)
         ∙ ap (λ c. record { left = key; right = side_map f side; cost = c }) costs;
   }
-
-all_ends-more : (es : List (Rule (ℕ × ℕ))) (e : Rule (ℕ × ℕ)) → all_ends (es ++ e ∷ []) ≡ all_ends es ++ holes_of e.right
-all_ends-more [] e = append_nil (holes_of e.right)
-all_ends-more (x ∷ es) e = ap (λ ys. holes_of x.right ++ ys) (all_ends-more es e) ∙ sym (append_assoc (holes_of x.right) (all_ends es) (holes_of e.right))
 
 module _ (Gives : ℕ → Rule (ℕ × ℕ) → Type 0) (order : List (ℕ × ℕ)) where
   -- nothing is listed at first
@@ -230,20 +162,6 @@ module _ (Gives : ℕ → Rule (ℕ × ℕ) → Type 0) (order : List (ℕ × �
   reads_all ends d (r ∷ rules) [] a = absurd a
   reads_all ends d (r ∷ rules) (e ∷ es) a = ap (λ x. x ∷ map (read_places (key_at d order ends)) rules) (a.0.read d) ∙ ap (λ xs. e ∷ xs) (reads_all ends d rules es a.1)
 
-  has_end : (es : List (Rule (ℕ × ℕ))) (k : ℕ × ℕ) → Has (all_ends es) k → (e : Rule (ℕ × ℕ)) × Has es e × Has (holes_of e.right) k
-  has_end [] k h = absurd h
-  has_end (e ∷ es) k h = elim (has_either (holes_of e.right) (all_ends es) k h) [
-    | inl m ↦ (e, inl refl, m)
-    | inr m ↦ let r = has_end es k m in (r.0, inr r.1, r.2)
-  ]
-
-  end_has : (es : List (Rule (ℕ × ℕ))) (e : Rule (ℕ × ℕ)) (k : ℕ × ℕ) → Has es e → Has (holes_of e.right) k → Has (all_ends es) k
-  end_has [] e k h m = absurd h
-  end_has (f ∷ es) e k h m = elim h [
-    | inl same ↦ has_left (holes_of f.right) (all_ends es) k (subst (λ x. Has (holes_of x.right) k) (sym same) m)
-    | inr n ↦ has_right (holes_of f.right) (all_ends es) k (end_has es e k n m)
-  ]
-
   -- the rules of a whole list are the edges
   pub whole_listed :
       (l : Listing) (ends : List (ℕ × ℕ)) (rules : List ForwardRule) (parts : ℕ) → ends ≡ l.ends.items → rules ≡ l.rules.items → parts ≡ l.parts →
@@ -267,22 +185,8 @@ module _ (Gives : ℕ → Rule (ℕ × ℕ) → Type 0) (order : List (ℕ × �
   module _ (one : (o : ℕ) (e f : Rule (ℕ × ℕ)) → Gives o e → Gives o f → e ≡ f) where
     -- its ends are those of the edges
     pub whole_ends : (l : Listing) (ends : List (ℕ × ℕ)) → ends ≡ l.ends.items → AreListedFrom Gives order l → (k : ℕ × ℕ) → Has ends k ↔ IsEnd Gives (λ e. holes_of e.right) k
-    whole_ends l ends e listed k = (to, from)
-      where
-        are : ends ≡ all_ends listed.listed.edges
-        are = e ∙ listed.listed.ends_are
-
-        to : Has ends k → IsEnd Gives (λ e. holes_of e.right) k
-        to h =
-            let r = has_end listed.listed.edges k (subst (λ xs. Has xs k) are h) in
-            let o = along_back Gives listed.listed.origins listed.listed.edges r.0 listed.listed.given r.1 in
-            (o.0, r.0, o.1, r.2)
-
-        from : IsEnd Gives (λ e. holes_of e.right) k → Has ends k
-        from h =
-            let a = along_of Gives listed.listed.origins listed.listed.edges h.0 listed.listed.given (listed.listed.whole h.0 h.1 (listed.all h.0 h.1 h.2) h.2) in
-            let same : h.1 ≡ a.0 = one h.0 h.1 a.0 h.2 a.1 in
-            subst (λ xs. Has xs k) (sym are) (end_has listed.listed.edges a.0 k a.2 (subst (λ x. Has (holes_of x.right) k) same h.3))
+    whole_ends l ends e listed k =
+        both_ends Gives one listed.listed.origins listed.listed.edges listed.listed.given (λ o f g. listed.listed.whole o f (listed.all o f g) g) ends (e ∙ listed.listed.ends_are) k
 
     -- edges that have more parts than the budget show that all have
     pub overruns_exceeds : (budget : ℕ) → Overruns Gives budget → Exceeds Gives edge_parts budget
@@ -294,19 +198,6 @@ module _ (Gives : ℕ → Rule (ℕ × ℕ) → Type 0) (order : List (ℕ × �
         omega (arith, over.more, fewer)
 
 -- one position more
-
-take_next : {A : Type 0} (xs : List A) (i : ℕ) (d : A) → i < length xs → take (i + 1) xs ≡ take i xs ++ get_or xs i d ∷ []
-take_next [] i d h = absurd (omega arith)
-take_next (x ∷ xs) zero d h = refl
-take_next (x ∷ xs) (suc i) d h =
-    let e : suc i + 1 ≡ suc (i + 1) = omega arith in
-    ap (λ j. take j (x ∷ xs)) e ∙ ap (λ ys. x ∷ ys) (take_next xs i d (omega arith))
-
-take_whole : {A : Type 0} (xs : List A) (i : ℕ) → length xs ≤ i → take i xs ≡ xs
-take_whole [] zero h = refl
-take_whole [] (suc i) h = refl
-take_whole (x ∷ xs) zero h = absurd (omega arith)
-take_whole (x ∷ xs) (suc i) h = ap (λ ys. x ∷ ys) (take_whole xs i (omega arith))
 
 module _ (Gives : ℕ → Rule (ℕ × ℕ) → Type 0) (key : ℕ × ℕ) (order : List (ℕ × ℕ)) (ps : List ℕ) (i m : ℕ) (below : i < length ps) (is : m ≡ get_or ps i 0) (once : Distinct ps) where
   untried : Has (take i ps) m → ⊥

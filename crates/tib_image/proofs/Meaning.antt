@@ -11,6 +11,8 @@ use Rattle.tib_grammar.specs.GrammarOf.{named_rule}
 use Rattle.tib_grammar.specs.declared.Rule.{Rule}
 use Rattle.tib_grammar.proofs.Sides.{holes-relabel, fill-relabel}
 use Rattle.tib_cost.proofs.Least.{IsLeast-same}
+use Rattle.tib_lex.proofs.Lists.{map_twice}
+use Rattle.tib_keyed.specs.Ends.{key_at}
 use Rattle.tib_transducer.specs.Rules.{transducer_rule, variables_of, states_in, variables_in}
 use Rattle.tib_transducer.specs.Range.{AreShaped}
 use Rattle.tib_transducer.specs.Run.{AreTransducerRuns, Reads, outputs, transducer_cost, pick}
@@ -19,14 +21,10 @@ use Rattle.tib_transducer.specs.declared.Pair.{Pair}
 use Rattle.tib_transducer.specs.declared.TransducerRule.{TransducerRule}
 use Rattle.tib_image.specs.Nodes.{subtree, nodes_of}
 use Rattle.tib_image.specs.Laws.{node_below}
-use Rattle.tib_image.specs.Image.{pair_key, key_at, IsImageEdge, IsImageGrammar}
+use Rattle.tib_image.specs.Image.{pair_key, IsImageEdge, IsImageGrammar}
 use Rattle.tib_image.specs.Standing.{stands, nodes_within}
 use Rattle.tib_image.proofs.Matching.{trees_at, nodes_many, match_fills, given_match, picked}
 use Rattle.tib_image.proofs.Reaching.{edge_of, rule_of}
-
-map_twice : {A B C : Type 0} (g : B → C) (h : A → B) (xs : List A) → map g (map h xs) ≡ map (λ x. g (h x)) xs
-map_twice g h [] = refl
-map_twice g h (x ∷ xs) = ap (λ z. g (h x) ∷ z) (map_twice g h xs)
 
 each_to : {n m : ℕ} → n ≡ m → (vs : List ℕ) → Each (λ v. v < n) vs → Each (λ v. v < m) vs
 each_to e [] f = tt

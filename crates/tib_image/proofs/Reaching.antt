@@ -5,6 +5,8 @@ use Rattle.std.specs.Cmp.{IsTotalOrder}
 use Rattle.std.proofs.lemmas.Cmp.{then_total, on_total, nat_cmp_total}
 use Rattle.std.proofs.lemmas.List.{get_or-map, length-map}
 use Rattle.tib_lex.specs.Lists.{Has}
+use Rattle.tib_lex.proofs.Alongs.{along_at, along_has}
+use Rattle.tib_lex.proofs.Places.{distinct_at}
 use Rattle.tib_tree.specs.Trees.{Tree}
 use Rattle.tib_grammar.specs.Sides.{holes_of}
 use Rattle.tib_grammar.specs.Run.{rule_at, no_rule}
@@ -13,10 +15,10 @@ use Rattle.tib_grammar.specs.GrammarOf.{named_rule}
 use Rattle.tib_grammar.specs.declared.Rule.{Rule}
 use Rattle.tib_hunt.specs.Reached.{IsReachedSet}
 use Rattle.tib_hunt.specs.Numbered.{key_parts}
+use Rattle.tib_keyed.specs.Ends.{key_at}
 use Rattle.tib_keyed.proofs.KeyOrders.{order_begins, order_once, edges_below, one_set}
-use Rattle.tib_keyed.proofs.Partners.{along_at, along_has, distinct_at}
 use Rattle.tib_transducer.specs.declared.TransducerRule.{TransducerRule}
-use Rattle.tib_image.specs.Image.{key_cmp, key_entries, edge_parts, key_at, image_of, GivesEdge, IsImageEdge, IsImageGrammar}
+use Rattle.tib_image.specs.Image.{key_cmp, key_entries, edge_parts, image_of, GivesEdge, IsImageEdge, IsImageGrammar}
 use Rattle.tib_image.specs.Laws.{same_edge}
 
 pub key_total : IsTotalOrder key_cmp

@@ -7,6 +7,7 @@ use Rattle.tib_lex.proofs.Numbers.{nat_eq-true, nat_eq-itself}
 use Rattle.tib_tree.specs.Trees.{Tree, Trees, none, tree, only, count, sizes, size, preorder, preorder_of}
 use Rattle.tib_tree.specs.Filled.{nodes_at, nodes_of_tree}
 use Rattle.tib_tree.specs.declared.preorder.Node.{Node}
+use Rattle.tib_tree.proofs.Shaping.{length-nodes_at}
 use Rattle.tib_grammar.specs.Sides.{Symbol, label, hole, Side as SideFor, HolesAreLeaves}
 use Rattle.tib_grammar.specs.Items.{pair_of, pairs_of}
 use Rattle.tib_grammar.specs.declared.Item.{Item}
@@ -23,10 +24,6 @@ pub record HasNode (nodes : List Node) (n f : ℕ) (kids : Trees ℕ) : Type 0 w
   pub label_is : node.label ≡ f
   pub rank_is : node.rank ≡ count kids
   pub size_is : node.size ≡ suc (sizes kids)
-
-length-nodes_at : (d : ℕ) (ts : Trees ℕ) → length (nodes_at d ts) ≡ sizes ts
-length-nodes_at d none = refl
-length-nodes_at d (tree f kids rest) = omega (arith, length-append (nodes_at (suc d) kids) (nodes_at d rest), length-nodes_at (suc d) kids, length-nodes_at d rest)
 
 -- a tree has as many nodes as its size says
 pub nodes_many : (t : Tree ℕ) (nodes : List Node) → nodes ≡ nodes_of_tree t → length nodes ≡ size t

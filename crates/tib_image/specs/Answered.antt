@@ -6,8 +6,9 @@ use Rattle.tib_grammar.specs.Range.{AreInRange}
 use Rattle.tib_grammar.specs.declared.Rule.{Rule}
 use Rattle.tib_hunt.specs.Reached.{IsReachedSet, parts_of}
 use Rattle.tib_hunt.specs.declared.found.Found.{Found}
+use Rattle.tib_keyed.specs.Ends.{key_at}
 use Rattle.tib_transducer.specs.declared.TransducerRule.{TransducerRule}
-use Rattle.tib_image.specs.Image.{key_at, image_of}
+use Rattle.tib_image.specs.Image.{image_of}
 
 -- the edges that the rules stand for over the order
 abbrev pub edges_of : Found (ℕ × ℕ) (Rule ℕ) → List (Rule (ℕ × ℕ))

@@ -14,6 +14,7 @@ use Rattle.tib_hunt.specs.EdgeLists.{Lists}
 use Rattle.tib_hunt.specs.Reached.{Operation, IsReachedSet}
 use Rattle.tib_hunt.specs.Numbered.{key_parts}
 use Rattle.tib_keyed.specs.Keyed.{keyed}
+use Rattle.tib_keyed.specs.Ends.{key_at}
 use Rattle.tib_transducer.specs.Rules.{transducer_rule}
 use Rattle.tib_transducer.specs.Range.{AreShaped}
 use Rattle.tib_transducer.specs.Series.{IsTransducerSeries}
@@ -53,10 +54,6 @@ edge_parts e = 1 + size e.right
 -- The image of a tree as what is hunted: from the key of the start and the root each key leads on along its edges.
 abbrev pub image_of : List (TransducerRule ℕ) → Tree ℕ → Operation (ℕ × ℕ) ℕ (Rule (ℕ × ℕ))
 image_of moves t = keyed key_cmp (0, 0) (IsImageEdge moves t) (λ e. holes_of e.right) (key_parts key_entries) edge_parts
-
--- the key at a position of an order
-abbrev pub key_at : List (ℕ × ℕ) → ℕ → ℕ × ℕ
-key_at order n = get_or order n (0, 0)
 
 -- the edge of a position of the order, by that position and its origin
 abbrev pub GivesEdge : List (TransducerRule ℕ) → Tree ℕ → List (ℕ × ℕ) → ℕ × ℕ → Rule (ℕ × ℕ) → Type 0

@@ -1,6 +1,6 @@
 -- What an index of rules holds.
 use Rattle.std.specs.Prelude.{◌≡◌, ℕ, List}
-use Rattle.tib_intersect.specs.Matching.{AreNumbered, held}
+use Rattle.tib_grammar.specs.ShapeBuckets.{AreNumbered, held}
 use Rattle.tib_transducer.specs.declared.TransducerRule.{TransducerRule}
 use Rattle.tib_image.specs.Shapes.{positions_with}
 use Rattle.tib_image.specs.declared.index.Index.{Index}

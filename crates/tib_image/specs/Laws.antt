@@ -8,17 +8,19 @@ use Rattle.tib_tree.specs.Trees.{Tree, size, only}
 use Rattle.tib_grammar.specs.Sides.{holes_of}
 use Rattle.tib_grammar.specs.GrammarOf.{named_rule}
 use Rattle.tib_grammar.specs.declared.Rule.{Rule}
+use Rattle.tib_grammar.specs.Positions.{positions_of}
 use Rattle.tib_grammar.proofs.Sides.{holes-relabel}
 use Rattle.tib_hunt.specs.Lawful.{IsLawful}
 use Rattle.tib_hunt.specs.Reading.{Reading}
+use Rattle.tib_keyed.specs.Ends.{key_at}
 use Rattle.tib_intersect.specs.PairLaws.{pair_stays}
 use Rattle.tib_transducer.specs.Rules.{transducer_rule}
 use Rattle.tib_transducer.specs.declared.TransducerRule.{TransducerRule}
-use Rattle.tib_apply.specs.ForwardRules.{places_of, positions_of, read_places}
+use Rattle.tib_apply.specs.ForwardRules.{places_of, read_places}
 use Rattle.tib_apply.specs.ForwardRuleLaws.{reads_places, reads_positions}
 use Rattle.tib_apply.specs.declared.forward_rule.ForwardRule.{ForwardRule}
 use Rattle.tib_image.specs.Nodes.{subtree, nodes_of}
-use Rattle.tib_image.specs.Image.{pair_key, key_cmp, key_entries, key_at, image_of, IsImageEdge}
+use Rattle.tib_image.specs.Image.{pair_key, key_cmp, key_entries, image_of, IsImageEdge}
 use Rattle.tib_image.specs.Standing.{stands, nodes_within}
 
 -- how rules over places and over positions are read as edges

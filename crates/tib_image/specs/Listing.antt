@@ -2,20 +2,17 @@
 use Rattle.std.specs.Prelude.{◌≡◌, ℕ, ◌+◌, ◌<◌, ◌≤◌, List, [], ◌∷◌, ◌++◌, length}
 use Rattle.tib_lex.specs.Lists.{Has, Each, Distinct, Along, total}
 use Rattle.tib_tree.specs.Trees.{size}
-use Rattle.tib_grammar.specs.Sides.{Side as SideFor, holes_of}
+use Rattle.tib_grammar.specs.Sides.{Side as SideFor}
 use Rattle.tib_grammar.specs.declared.Rule.{Rule}
+use Rattle.tib_grammar.specs.Positions.{all_ends}
 use Rattle.tib_hunt.specs.EdgeLists.{IsWithin, key_at as key_of}
 use Rattle.tib_hunt.specs.Reached.{most_parts}
+use Rattle.tib_keyed.specs.Ends.{key_at}
 use Rattle.tib_transducer.specs.declared.Pair.{Pair}
 use Rattle.tib_apply.specs.ForwardRules.{places_of, read_places}
 use Rattle.tib_apply.specs.declared.forward_rule.ForwardRule.{ForwardRule}
-use Rattle.tib_image.specs.Image.{edge_parts, key_at}
+use Rattle.tib_image.specs.Image.{edge_parts}
 use Rattle.tib_image.specs.declared.listing.Listing.{Listing}
-
--- the ends of some edges, one after another
-abbrev pub all_ends : List (Rule (ℕ × ℕ)) → List (ℕ × ℕ)
-all_ends [] = []
-all_ends (e ∷ es) = holes_of e.right ++ all_ends es
 
 -- over the order and the ends the rule is within, and reads as the edge
 pub record Reads (order ends : List (ℕ × ℕ)) (r : ForwardRule) (e : Rule (ℕ × ℕ)) : Type 0 where

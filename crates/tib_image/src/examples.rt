@@ -2,9 +2,10 @@
 ghost use Rattle.std.specs.Prelude.{◌≡◌, List, [], ◌∷◌, ◌+◌, map, Some, None};
 ghost use Rattle.tib_hunt.specs.Reached.{parts_of};
 ghost use Rattle.tib_grammar.specs.GrammarOf.{named_rule};
+ghost use Rattle.tib_keyed.specs.Ends.{key_at};
 ghost use Rattle.tib_transducer.specs.Rules.{transducer_rule};
 ghost use Rattle.tib_image.specs.Nodes.{MatchesAt, nodes_of};
-ghost use Rattle.tib_image.specs.Image.{image_of, key_at};
+ghost use Rattle.tib_image.specs.Image.{image_of};
 ghost use Rattle.tib_image.specs.Examples.{copying, one_tree, both, outputs};
 
 /// The first rule matches at the root, where its variable stands at the leaf, and not at the leaf; two keys with three edges have

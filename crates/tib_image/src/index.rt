@@ -1,7 +1,7 @@
 //! The rules of a transducer by their states and the labels and ranks at the roots of their left sides.
 
 ghost use Rattle.std.specs.Prelude.{◌≡◌, ℕ, ◌+◌, ◌<◌, ◌≤◌, ◌^◌, IfOk, OnOk, length, List};
-ghost use Rattle.tib_intersect.specs.Matching.{AddsPosition, AreNumbered, same_shape};
+ghost use Rattle.tib_grammar.specs.ShapeBuckets.{AddsPosition, AreNumbered, same_shape};
 ghost use Rattle.tib_transducer.specs.Range.{IsShaped};
 ghost use Rattle.tib_transducer.specs.declared.TransducerRule.{TransducerRule};
 ghost use Rattle.tib_image.specs.Shapes.{has_shape, positions_with};

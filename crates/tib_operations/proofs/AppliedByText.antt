@@ -5,7 +5,7 @@ use Rattle.tib_lex.specs.Lists.{Distinct, IsReordering, total}
 use Rattle.tib_grammar.specs.Sides.{Symbol, label, hole, Side as SideFor}
 use Rattle.tib_transducer.specs.declared.Variable.{Variable}
 use Rattle.tib_transducer.specs.declared.Pair.{Pair}
-use Rattle.tib_operations.proofs.TransducerTables.{left_with, right_with, rule_with}
+use Rattle.tib_operations.proofs.TransducerTables.{right_with, rule_with}
 use Rattle.tib_tree.specs.Trees.{only}
 use Rattle.tib_grammar.specs.GrammarOf.{GrammarOf}
 use Rattle.tib_grammar.specs.declared.Rule.{Rule}
@@ -23,6 +23,7 @@ use Rattle.tib_canon.proofs.EdgesByText.{key_with, edge_with, holes_kept}
 use Rattle.tib_canon.proofs.ReachedAlike.{AreProblemsAlike, reached_alike}
 use Rattle.tib_canon.proofs.SameRules.{same_rules}
 use Rattle.tib_canon.proofs.TrimmedByText.{grammar_with}
+use Rattle.tib_canon_transducer.proofs.Relabelled.{left_with}
 use Rattle.tib_operations.specs.Made.{HasReachedFrom}
 use Rattle.tib_operations.specs.Forward.{forwarding}
 use Rattle.tib_operations.specs.Backward.{inverting}

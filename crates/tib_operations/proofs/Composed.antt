@@ -3,6 +3,7 @@ use Rattle.tib_cost.specs.declared.Scale.{Scale}
 use Rattle.std.proofs.Common.{◌≡◌, ℕ, ◌<◌, ◌≤◌, Bool, List, length, get_or, map, refl, ap, sym, ◌∙◌, subst, arith}
 use Rattle.tib_lex.specs.Lists.{Distinct}
 use Rattle.tib_cost.specs.Semiring.{ProductLaws}
+use Rattle.tib_lex.specs.PairOrder.{pair_cmp}
 use Rattle.tib_hunt.specs.Reached.{IsReachedSet, parts_of}
 use Rattle.tib_transducer.specs.Range.{AreWithin}
 use Rattle.tib_transducer.specs.TransducerOf.{TransducerOf}
@@ -11,7 +12,7 @@ use Rattle.tib_transducer_print.specs.Printed.{transducer_text}
 use Rattle.tib_classes.specs.Outside.{AllMeet}
 use Rattle.tib_canon.proofs.ReachedOnce.{order_once}
 use Rattle.tib_compose_laws.specs.Plain.{ArePlain}
-use Rattle.tib_compose_laws.specs.Composition.{pair_cmp, composition}
+use Rattle.tib_compose_laws.specs.Composition.{composition}
 use Rattle.tib_compose_laws.proofs.Exact.{composition_laws}
 use Rattle.tib_canon_transducer.specs.Composing.{composing, HasComposeText}
 use Rattle.tib_canon_transducer.specs.Constructions.{moves_over, IsCanonicalTransducerOf}

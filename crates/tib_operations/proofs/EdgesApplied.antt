@@ -4,7 +4,7 @@ use Rattle.std.specs.List.{list_any}
 use Rattle.std.proofs.Common.{arith, ap, sym, ◌∙◌, subst}
 use Rattle.std.proofs.lemmas.List.{length-map}
 use Rattle.tib_lex.specs.Lists.{IsReordering}
-use Rattle.tib_lex.proofs.Lists.{has_mapped}
+use Rattle.tib_lex.proofs.Lists.{has_mapped, mapped_has}
 use Rattle.tib_lex.proofs.Members.{has_at, at_has}
 use Rattle.tib_tree.specs.Trees.{Trees, none, tree, only, relabel, relabel_tree}
 use Rattle.tib_cost.specs.Least.{IsLeast}
@@ -23,9 +23,9 @@ use Rattle.tib_apply.specs.Restrictions.{restricted_labels, Admits}
 use Rattle.tib_apply.specs.Forward.{IsForwardEdge, deleted, forward_key, BeginsWith, IsAskedCost, IsDeletedCost}
 use Rattle.tib_apply.specs.Backward.{IsBackwardEdge, backward_key}
 use Rattle.tib_canon.proofs.EdgesByText.{key_with, edge_with}
-use Rattle.tib_canon.proofs.InOrder.{mapped_has}
 use Rattle.tib_canon.proofs.NormalByText.{label_found}
-use Rattle.tib_operations.proofs.TransducerTables.{variable_with, node_with, left_with, right_with, rule_with as move_with, holes_noted, variables_with}
+use Rattle.tib_canon_transducer.proofs.Relabelled.{variable_with, node_with, left_with}
+use Rattle.tib_operations.proofs.TransducerTables.{right_with, rule_with as move_with, holes_noted, variables_with}
 use Rattle.tib_operations.proofs.MovesByText.{moves_with, move_at, pairs_with, admits_to, admits_from, forward_side, backward_side}
 
 -- each rule of the one list stands in the other under the other numbers, and each of the other comes from one

@@ -1,28 +1,26 @@
 -- What the image of a tree reaches does not hang on the numbers of labels.
-use Rattle.std.proofs.Common.{◌≡◌, ℕ, ◌+◌, ◌<◌, List, [], ◌∷◌, ◌++◌, length, map, refl, sym, ap, ◌∙◌, subst, arith, get_or, zero, suc, Option}
+use Rattle.std.proofs.Common.{◌≡◌, ℕ, ◌+◌, ◌<◌, List, ◌∷◌, ◌++◌, length, map, refl, sym, ap, ◌∙◌, subst, arith, get_or, suc, Option}
 use Rattle.std.specs.Prelude.{Some, None, option_map}
 use Rattle.std.proofs.lemmas.List.{length-map, map-append}
+use Rattle.tib_lex.proofs.Places.{at_map}
 use Rattle.tib_tree.specs.Trees.{Tree, Trees, none, tree, only, relabel, relabel_tree, sizes}
 use Rattle.tib_grammar.specs.Sides.{Symbol, label, hole, Side as SideFor, side_map, symbol_map}
 use Rattle.tib_grammar.specs.declared.Rule.{Rule}
 use Rattle.tib_hunt.specs.Reached.{IsReachedSet}
+use Rattle.tib_keyed.specs.Ends.{key_at}
 use Rattle.tib_transducer.specs.Rules.{transducer_rule}
 use Rattle.tib_transducer.specs.Run.{Binds}
 use Rattle.tib_transducer.specs.declared.Variable.{Variable}
 use Rattle.tib_transducer.specs.declared.Pair.{Pair}
 use Rattle.tib_transducer.specs.declared.TransducerRule.{TransducerRule}
-use Rattle.tib_image.specs.Image.{pair_key, key_at, image_of, IsImageEdge}
+use Rattle.tib_image.specs.Image.{pair_key, image_of, IsImageEdge}
 use Rattle.tib_image.specs.Nodes.{subtrees, subtree, Match, variable_nodes, nodes_of}
 use Rattle.tib_canon.proofs.EdgesByText.{key_with, edge_with, holes_kept}
 use Rattle.tib_canon.proofs.ReachedAlike.{AreProblemsAlike, reached_alike}
+use Rattle.tib_canon_transducer.proofs.Relabelled.{left_with}
 use Rattle.tib_operations.proofs.MovesByText.{moves_with, move_at}
 use Rattle.tib_operations.proofs.Tables.{sizes_kept}
-use Rattle.tib_operations.proofs.TransducerTables.{left_with, right_with, rule_with}
-
-at_map : {A B : Type 0} (g : A → B) (xs : List A) (i : ℕ) (d : A) → get_or (map g xs) i (g d) ≡ g (get_or xs i d)
-at_map g [] i d = refl
-at_map g (x ∷ xs) zero d = refl
-at_map g (x ∷ xs) (suc i) d = at_map g xs i d
+use Rattle.tib_operations.proofs.TransducerTables.{right_with, rule_with}
 
 module _ (f : ℕ → ℕ) where
   -- the subtrees under other numbers

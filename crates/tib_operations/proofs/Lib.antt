@@ -31,3 +31,7 @@ pub mod ImageByText
 pub mod OfImage
 pub mod Composed
 pub mod OfCompose
+pub mod BestExists
+pub mod BestByText
+pub mod BestOf
+pub mod OfKBest

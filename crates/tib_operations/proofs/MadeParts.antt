@@ -48,6 +48,7 @@ module _ (P : Type 0) (limit : ℕ) where
   pub made_weaker : (Q : Type 0) → (P → Q) → (s : Status) → IsMadeFault P limit s → IsMadeFault Q limit s
   made_weaker Q f statuses.Done h = h
   made_weaker Q f statuses.Usage h = h
+  made_weaker Q f statuses.TreeTooLarge h = h
   made_weaker Q f (statuses.BadInput n fault) h = h
   made_weaker Q f (statuses.Class n rule fault) h = h
   made_weaker Q f (statuses.TooMany n) h = (h.0, f h.1)

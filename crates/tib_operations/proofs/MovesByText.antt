@@ -4,7 +4,9 @@ use Rattle.std.specs.Prelude.{Some, None, nat_eq, option_map, if◌then◌else�
 use Rattle.std.proofs.lemmas.List.{length-map, get_or-map, map-append}
 use Rattle.tib_lex.specs.Lists.{Along}
 use Rattle.tib_lex.proofs.Numbers.{nat_eq_cases}
-use Rattle.tib_tree.specs.Trees.{Tree, Trees, none, tree, only, relabel, relabel_tree}
+use Rattle.tib_lex.proofs.Places.{at_map}
+use Rattle.tib_tree.specs.Trees.{Trees, none, tree, only, relabel, relabel_tree}
+use Rattle.tib_tree.proofs.Counts.{tree_same}
 use Rattle.tib_grammar.specs.Sides.{Symbol, label, hole, Side as SideFor, holes_of, symbol_map, side_map}
 use Rattle.tib_grammar_file.proofs.Renumbering.{Renumbers}
 use Rattle.tib_grammar_file.proofs.Shapes.{shape_relabelled}
@@ -12,12 +14,13 @@ use Rattle.tib_transducer.specs.Rules.{transducer_rule, no_rule, no_variable, va
 use Rattle.tib_transducer.specs.declared.Variable.{Variable}
 use Rattle.tib_transducer.specs.declared.Pair.{Pair}
 use Rattle.tib_transducer.specs.declared.TransducerRule.{TransducerRule}
-use Rattle.tib_transducer_file.specs.ByText.{AskForOneText, AreOneVariable, AgreeOnLeft, AgreeOnRight, AreOneTransducerRule}
+use Rattle.tib_transducer_file.specs.ByText.{AgreeOnLeft, AgreeOnRight, AreOneTransducerRule}
 use Rattle.tib_apply.specs.Restrictions.{with_label, labels_of, all_labels, without, once, restricted_labels, place_of, restriction, Admits}
 use Rattle.tib_apply.specs.Forward.{forward_key}
 use Rattle.tib_apply.specs.Backward.{states_at, backward_key}
 use Rattle.tib_canon.proofs.EdgesByText.{key_with}
-use Rattle.tib_operations.proofs.TransducerTables.{variable_with, node_with, left_with, right_with, rule_with, holes_noted, variables_with}
+use Rattle.tib_canon_transducer.proofs.Relabelled.{variable_with, node_with, left_with, left_given, right_given}
+use Rattle.tib_operations.proofs.TransducerTables.{right_with, rule_with, holes_noted, variables_with}
 
 abbrev pub moves_with : (ℕ → ℕ) → List (TransducerRule ℕ) → List (TransducerRule ℕ)
 moves_with f moves = map (rule_with f) moves
@@ -27,46 +30,14 @@ move_at f moves n h = get_or-map (rule_with f) moves n no_rule no_rule h
 
 -- transducers that agree by text are one under the numbers of the other table
 
-pub tree_same : {A : Type 0} (s t : Tree A) → only s ≡ only t → s ≡ t
-tree_same {A} s t e =
-    let o : tree s.label s.kids none ≡ tree t.label t.kids none = e in
-    let a : s.label ≡ t.label = cc in
-    let b : s.kids ≡ t.kids = cc in
-    ap (λ (l : A). record { label = l; kids = s.kids }) a ∙ ap (λ (k : Trees A). record { label = t.label; kids = k }) b
-
 module _ (labels others : List (List ℕ)) (f : ℕ → ℕ) (n : Renumbers labels others f) where
-  asked_given : (a b : Option ℕ) → AskForOneText labels others a b → option_map f a ≡ b
-  asked_given None None h = refl
-  asked_given None (Some g) h = absurd h
-  asked_given (Some g) None h = absurd h
-  asked_given (Some g) (Some k) h = ap (λ (m : ℕ). Some m) (n.gives g k h)
-
-  variable_given : (x y : Variable) → AreOneVariable labels others x y → variable_with f x ≡ y
-  variable_given x y h =
-      ap (λ (m : ℕ). record { number = m; label = option_map f x.label }) h.0
-      ∙ ap (λ (a : Option ℕ). record { number = y.number; label = a }) (asked_given x.label y.label h.1)
-
-  left_given : (s t : Symbol ℕ Variable) → AgreeOnLeft labels others s t → left_with f s ≡ t
-  left_given (label g) (label k) h = ap label (n.gives g k h)
-  left_given (label g) (hole y) h = absurd h
-  left_given (hole x) (label k) h = absurd h
-  left_given (hole x) (hole y) h = ap hole (variable_given x y h)
-
-  right_given : (s t : Symbol ℕ (Pair ℕ)) → AgreeOnRight labels others s t → right_with f s ≡ t
-  right_given (label g) (label k) h = ap label (n.gives g k h)
-  right_given (label g) (hole y) h = absurd h
-  right_given (hole x) (label k) h = absurd h
-  right_given (hole x) (hole y) h =
-      let same : x ≡ y = ap (λ (q : ℕ). record { state = q; variable = x.variable }) h.0 ∙ ap (λ (m : ℕ). record { state = y.state; variable = m }) h.1 in
-      ap hole same
-
   move_given : (r s : TransducerRule ℕ) → AreOneTransducerRule labels others r s → rule_with f r ≡ s
   move_given r s h =
       let left : relabel_tree (left_with f) r.left ≡ s.left =
-      tree_same (relabel_tree (left_with f) r.left) s.left (shape_relabelled (AgreeOnLeft labels others) (left_with f) left_given (only r.left) (only s.left) h.left)
+      tree_same (relabel_tree (left_with f) r.left) s.left (shape_relabelled (AgreeOnLeft labels others) (left_with f) (left_given labels others f n) (only r.left) (only s.left) h.left)
       in
       let right : relabel_tree (right_with f) r.right ≡ s.right =
-      tree_same (relabel_tree (right_with f) r.right) s.right (shape_relabelled (AgreeOnRight labels others) (right_with f) right_given (only r.right) (only s.right) h.right)
+      tree_same (relabel_tree (right_with f) r.right) s.right (shape_relabelled (AgreeOnRight labels others) (right_with f) (right_given labels others f n) (only r.right) (only s.right) h.right)
       in
       ap (λ (q : ℕ). record { state = q; left = relabel_tree (left_with f) r.left; right = relabel_tree (right_with f) r.right; cost = r.cost }) h.state
       ∙ ap (λ (l : SideFor ℕ Variable). record { state = s.state; left = l; right = relabel_tree (right_with f) r.right; cost = r.cost }) left
@@ -81,11 +52,6 @@ module _ (labels others : List (List ℕ)) (f : ℕ → ℕ) (n : Renumbers labe
       ap (λ (x : TransducerRule ℕ). x ∷ moves_with f rs) (move_given r s h.0) ∙ ap (λ (xs : List (TransducerRule ℕ)). s ∷ xs) (moves_given rs ss h.1)
 
 -- the labels of labelled variables, and their numbers
-
-at_map : {A B : Type 0} (g : A → B) (xs : List A) (i : ℕ) (d : A) → get_or (map g xs) i (g d) ≡ g (get_or xs i d)
-at_map g [] i d = refl
-at_map g (x ∷ xs) zero d = refl
-at_map g (x ∷ xs) (suc i) d = at_map g xs i d
 
 map_same : {A : Type 0} (xs : List A) → map (λ x. x) xs ≡ xs
 map_same [] = refl

@@ -2,10 +2,10 @@
 use Rattle.std.proofs.Common.{◌≡◌, ℕ, ◌+◌, ◌<◌, ◌⊎◌, List, [], ◌∷◌, ◌++◌, length, map, refl, ap, sym, ◌∙◌, subst, arith, zero, suc, inl, inr, Option}
 use Rattle.std.specs.Prelude.{Some, None}
 use Rattle.tib_lex.specs.Lists.{Along, Each, Has, Distinct}
+use Rattle.tib_lex.proofs.Alongs.{along_append}
 use Rattle.tib_tree.specs.Trees.{Trees, none, tree, only}
 use Rattle.tib_grammar.specs.Sides.{Symbol, label, hole, holes, labels_in}
 use Rattle.tib_grammar_file.specs.ByText.{HaveOneShape}
-use Rattle.tib_grammar_file.proofs.Alongs.{along_append}
 use Rattle.tib_transducer.specs.Rules.{transducer_rule, variables_of, variables_in}
 use Rattle.tib_transducer.specs.Classes.{IsLinear, IsNondeleting, IsExtended, IsLabelled}
 use Rattle.tib_transducer.specs.TransducerOf.{TransducerOf}

@@ -7,6 +7,7 @@ use Rattle.tib_lex.specs.Lists.{Has, Distinct, total}
 use Rattle.tib_lex.proofs.Members.{has_at}
 use Rattle.tib_cost.specs.Semiring.{ProductLaws}
 use Rattle.tib_tree.specs.Trees.{Tree, only, relabel, relabel_tree}
+use Rattle.tib_tree.proofs.Counts.{tree_same}
 use Rattle.tib_grammar.specs.GrammarOf.{GrammarOf}
 use Rattle.tib_grammar.specs.Sides.{Side as SideFor, HolesAreLeaves, holes_of, symbol_map}
 use Rattle.tib_grammar.specs.declared.Rule.{Rule}
@@ -18,13 +19,14 @@ use Rattle.tib_grammar_file.proofs.Shapes.{shape_relabelled}
 use Rattle.tib_hunt.specs.Numbered.{key_parts}
 use Rattle.tib_hunt.specs.Reached.{IsReached, IsReachedSet}
 use Rattle.tib_hunt.proofs.Reaching.{Laws}
+use Rattle.tib_keyed.specs.Ends.{key_at}
 use Rattle.tib_keyed.proofs.KeyOrders.{op_laws, order_begins}
 use Rattle.tib_transducer.specs.Range.{AreShaped, EndInHoles}
 use Rattle.tib_transducer.specs.Rules.{transducer_rule}
 use Rattle.tib_transducer.specs.TransducerOf.{TransducerOf}
 use Rattle.tib_transducer.specs.declared.TransducerRule.{TransducerRule}
 use Rattle.tib_transducer_file.specs.ByText.{AreOneTransducer}
-use Rattle.tib_image.specs.Image.{key_cmp, key_entries, edge_parts, key_at, pair_key, image_of, IsImageEdge}
+use Rattle.tib_image.specs.Image.{key_cmp, key_entries, edge_parts, pair_key, image_of, IsImageEdge}
 use Rattle.tib_image.specs.Laws.{same_edge}
 use Rattle.tib_image.specs.Nodes.{nodes_of}
 use Rattle.tib_image.proofs.Meaning.{image_series}
@@ -43,7 +45,7 @@ use Rattle.tib_operations.specs.Image.{imaging, IsTheTree, HasImageSeries, HasIm
 use Rattle.tib_operations.specs.Made.{HasReachedFrom}
 use Rattle.tib_operations.specs.Moves.{ArePlainMoves}
 use Rattle.tib_operations.proofs.ImageByText.{image_given}
-use Rattle.tib_operations.proofs.MovesByText.{moves_with, moves_given, tree_same}
+use Rattle.tib_operations.proofs.MovesByText.{moves_with, moves_given}
 use Rattle.tib_operations.proofs.Tables.{sizes_kept}
 use Rattle.tib_operations.proofs.PlainEdges.{keyed_ends, keyed_plain}
 use Rattle.tib_operations.proofs.PlainMoves.{IsSoundTransducer}

@@ -7,6 +7,7 @@ use Rattle.std.specs.declared.cmp.Ordering.TheVariants.{Equal}
 use Rattle.tib_lex.specs.Lists.{Has, Distinct}
 use Rattle.tib_tree.specs.Trees.{none, tree, only, relabel}
 use Rattle.tib_cost.specs.Semiring.{ProductLaws, most}
+use Rattle.tib_lex.specs.PairOrder.{pair_cmp}
 use Rattle.tib_grammar.specs.Forms.{AreNormal}
 use Rattle.tib_grammar.specs.Sides.{Symbol, Side as SideFor, HolesAreLeaves, leaves, holes, symbol_map}
 use Rattle.tib_grammar.specs.GrammarOf.{GrammarOf, named_rule}
@@ -36,7 +37,7 @@ use Rattle.tib_canon.proofs.ReachedOnce.{edge_given, ends_stand}
 use Rattle.tib_canon.proofs.Sorting.{both_equal, number_same}
 use Rattle.tib_intersect.specs.PairEdges.{pair_at, IsPairEdge}
 use Rattle.tib_intersect.specs.PairGrammar.{IsPairGrammar, PairsMean}
-use Rattle.tib_intersect.specs.Intersection.{pair_cmp, intersection}
+use Rattle.tib_intersect.specs.Intersection.{intersection}
 use Rattle.tib_intersect.proofs.EdgesOver.{edges_below}
 use Rattle.tib_intersect.proofs.Intersecting.{pairs_mean}
 use Rattle.tib_intersect.proofs.Lists.{same_pair}

@@ -1,10 +1,8 @@
 -- The labels and costs of a transducer that was read can be written.
-use Rattle.tib_cost.specs.Scale.{cost_within}
-use Rattle.tib_cost.specs.Semiring.{most}
 use Rattle.tib_cost.specs.declared.Scale.TheVariants as scales
 use Rattle.tib_cost.specs.declared.Scale.{Scale}
-use Rattle.std.proofs.Common.{◌≡◌, ℕ, ◌+◌, ◌-◌, ◌<◌, ◌≤◌, inl, inr, Bool, true, false, Option, List, [], ◌∷◌, ◌++◌, length, take, drop, get_or, refl, ap, sym, ◌∙◌, subst, arith, zero, suc}
-use Rattle.std.specs.Prelude.{Some, None, slice_get, slice_range, cond, not, ◌==◌, ◌||◌, if◌then◌else◌}
+use Rattle.std.proofs.Common.{◌≡◌, ℕ, ◌+◌, ◌-◌, ◌<◌, inl, inr, Bool, true, false, Option, List, [], ◌∷◌, ◌++◌, length, take, drop, get_or, refl, ap, sym, ◌∙◌, subst, arith, zero, suc}
+use Rattle.std.specs.Prelude.{Some, None, slice_get, slice_range, not, ◌==◌, ◌||◌, if◌then◌else◌}
 use Rattle.std.specs.List.{list_all}
 use Rattle.std.proofs.lemmas.List.Folds.{list_all-append}
 use Rattle.std.proofs.lemmas.Option.{slice_get_within, slice_get-get_or, get_or_from_slice_get}
@@ -13,19 +11,18 @@ use Rattle.tib_lex.specs.Line.{unescape, text_of}
 use Rattle.tib_lex.specs.Lines.{not_feed, HasNoFeed, lines_of, push_byte}
 use Rattle.tib_lex.specs.Lists.{Along, Each}
 use Rattle.tib_lex.proofs.Booleans.{and-true, and-both}
-use Rattle.tib_lex.proofs.Lists.{each_append}
+use Rattle.tib_lex.proofs.Lists.{each_append, each_parts}
+use Rattle.tib_lex.proofs.NoFeeds.{unescaped}
 use Rattle.tib_tree.specs.Grows.{Grows}
 use Rattle.tib_tree.specs.Trees.{Tree, Trees, none, tree, only, preorder, preorder_of}
-use Rattle.tib_tree.specs.Written.{Written, Item, end, leaf, head, word_for, spell, items}
+use Rattle.tib_tree.specs.Written.{Written, Item, end, leaf, head, spell, items}
 use Rattle.tib_tree.specs.Nodes.{rank_of}
 use Rattle.tib_grammar.specs.Items.{pair_of, pairs_of}
 use Rattle.tib_grammar.specs.Sides.{Symbol, label, hole, Side as SideFor, HolesAreLeaves}
-use Rattle.tib_grammar.specs.declared.Item.{Item as SideItem}
-use Rattle.tib_grammar.specs.declared.Item.TheVariants.{Label, Hole}
 use Rattle.tib_grammar.proofs.Holes.{HolesAreLeaves-items}
 use Rattle.tib_grammar_file.specs.Printable.{IsPlainCost}
 use Rattle.tib_grammar_file.specs.Rule.{weight_words}
-use Rattle.tib_grammar_file.specs.Weight.{IsWeighed, IsCostOf}
+use Rattle.tib_grammar_file.proofs.Plain.{free_front, text_free, plain_cost}
 use Rattle.tib_transducer.specs.TransducerOf.{TransducerOf}
 use Rattle.tib_transducer.specs.Range.{AreShaped, EndInHoles}
 use Rattle.tib_transducer.specs.Rules.{transducer_rule}
@@ -37,7 +34,7 @@ use Rattle.tib_transducer_file.specs.Pieces.{Piece, meaning, meanings, HasPieces
 use Rattle.tib_transducer_file.specs.Rule.{Parts, SpellsRule, RuleLine, label_of, numbers_in}
 use Rattle.tib_transducer_file.specs.TransducerText.{HaveRules, HaveStart, ReadsAs}
 use Rattle.tib_transducer_file.specs.Value.{IsLeftSymbol, IsLeftNode, IsRootItem, IsLeftSide, IsRightSymbol, IsRightNode, IsRule}
-use Rattle.tib_transducer_file.proofs.ShapesRead.{pair_rank, rules_shaped, left_ends}
+use Rattle.tib_transducer_file.proofs.ShapesRead.{pair_rank, rules_shaped, left_ends, item_from, items_from}
 use Rattle.tib_operations.specs.Moves.{AreLabelsPlain, IsPlainMove, ArePlainMoves}
 
 -- bytes without a line feed: their pieces, and what stands in quotes
@@ -57,23 +54,6 @@ dropped : (n : ℕ) (xs : List ℕ) → HasNoFeed xs → HasNoFeed (drop n xs)
 dropped zero xs h = h
 dropped (suc n) [] h = refl
 dropped (suc n) (x ∷ xs) h = dropped n xs (and-true (not_feed x) (list_all not_feed xs) h).1
-
-unescape_step : (t : Bool) (b c : ℕ) (rest : List ℕ) → HasNoFeed (b ∷ (c ∷ rest)) → HasNoFeed (unescape rest) → HasNoFeed (unescape (c ∷ rest)) → HasNoFeed (cond t (c ∷ unescape rest) (b ∷ unescape (c ∷ rest)))
-unescape_step true b c rest h e f =
-    let more = (and-true (not_feed b) (list_all not_feed (c ∷ rest)) h).1 in
-    and-both (not_feed c) (list_all not_feed (unescape rest)) (and-true (not_feed c) (list_all not_feed rest) more).0 e
-unescape_step false b c rest h e f = and-both (not_feed b) (list_all not_feed (unescape (c ∷ rest))) (and-true (not_feed b) (list_all not_feed (c ∷ rest)) h).0 f
-
-unescaped : (xs : List ℕ) → HasNoFeed xs → HasNoFeed (unescape xs)
-unescaped [] h = refl
-unescaped (b ∷ []) h = h
-unescaped (b ∷ (c ∷ rest)) h =
-    let more = (and-true (not_feed b) (list_all not_feed (c ∷ rest)) h).1 in
-    unescape_step (b == 92) b c rest h (unescaped rest (and-true (not_feed c) (list_all not_feed rest) more).1) (unescaped (c ∷ rest) more)
-
-free_front : (c : Bool) (x : ℕ) (xs : List ℕ) → HasNoFeed (cond c (92 ∷ (x ∷ xs)) (x ∷ xs)) → HasNoFeed (x ∷ xs)
-free_front true x xs h = h
-free_front false x xs h = h
 
 free_unquoted : (text : List ℕ) → HasNoFeed (escape text) → HasNoFeed text
 free_unquoted [] h = refl
@@ -128,10 +108,6 @@ pieces_free (p ∷ pieces) line f h =
       pieces_free pieces h.2.are.0 parts.1 h.2.are.2,
     )
 
-each_parts : {A : Type 0} (P : A → Type 0) (xs ys : List A) → Each P (xs ++ ys) → Each P xs × Each P ys
-each_parts P [] ys h = (tt, h)
-each_parts P (x ∷ xs) ys h = let t = each_parts P xs ys h.1 in ((h.0, t.0), t.1)
-
 join_step : (t : Bool) (p q : Piece) (behind more : List Word) → IsFreePiece p → IsFreePiece q → Each IsFree behind → Each IsFree more → Each IsFree (if t then name (p.bytes ++ q.bytes) ∷ behind else meaning p ∷ more)
 join_step true p q behind more h k e f = (free_both p.bytes q.bytes h.bytes k.bytes, e)
 join_step false p q behind more h k e f = (h.word, f)
@@ -150,10 +126,6 @@ meanings_free (p ∷ pieces) h = (h.0.word, meanings_free pieces h.1)
 
 abbrev IsFreeItem : Item → Type 0
 IsFreeItem i = HasNoFeed i.text
-
-text_free : (quoted : Bool) (text : List ℕ) → IsFree (word_for quoted text) → HasNoFeed text
-text_free true text h = h
-text_free false text h = h
 
 items_free : (w : Written) → Each IsFree (spell w) → Each IsFreeItem (items w)
 items_free end h = tt
@@ -230,17 +202,6 @@ module _ (names labels : List (List ℕ)) where
   right_nodes numbers (s ∷ ss) [] a e = absurd a
   right_nodes numbers (s ∷ ss) (i ∷ is) a e = (right_node numbers s.0 s.1 (pair_in i) i.text a.0.0 e.0, right_nodes numbers ss is a.1 e.1)
 
-weighed_within : (scale : Scale) (text : List ℕ) (cost : ℕ) → IsWeighed scale text cost → cost ≤ most
-weighed_within scale text cost h = subst (λ (c : ℕ). c ≤ most) (sym h.cost_is) (cost_within scale h.weight h.within)
-
-plain_cost : (scale : Scale) (weight : Option (List ℕ)) (cost : ℕ) → IsCostOf scale weight cost → IsPlainCost scale cost
-plain_cost scales.Unweighted None cost h = h
-plain_cost scales.Plain None cost h = omega arith
-plain_cost scales.Reversed None cost h = omega arith
-plain_cost scales.Unweighted (Some text) cost h = h
-plain_cost scales.Plain (Some text) cost h = weighed_within scales.Plain text cost h
-plain_cost scales.Reversed (Some text) cost h = weighed_within scales.Reversed text cost h
-
 -- a line of which nothing has a line feed, and its cost
 record IsPlainLine (scale : Scale) (line : RuleLine) : Type 0 where
   parts : AreFreeParts line.parts
@@ -296,14 +257,6 @@ moves_grown scale early labels rules g p m h = record {
 }
 
 -- nothing stands below a variable or a pair
-
-abbrev item_from : {P : Type 0} → Symbol ℕ P × ℕ → SideItem P
-item_from (label f, rank) = Label f rank
-item_from (hole p, rank) = Hole p
-
-abbrev items_from : {P : Type 0} → List (Symbol ℕ P × ℕ) → List (SideItem P)
-items_from [] = []
-items_from (s ∷ ss) = item_from s ∷ items_from ss
 
 module _ (names labels : List (List ℕ)) (numbers : List ℕ) where
   right_pair : (s : Symbol ℕ (Pair ℕ)) (rank : ℕ) (i : Item) (o : Option (List ℕ × ℕ)) → pair_in i ≡ o → IsRightSymbol names labels numbers s o i.text → rank ≡ rank_of i.kids → pair_of (item_from (s, rank)) ≡ (s, rank)

@@ -3,7 +3,7 @@ use Rattle.std.proofs.Common.{◌≡◌, ℕ, ◌<◌, List, [], ◌∷◌, leng
 use Rattle.std.specs.Prelude.{Some}
 use Rattle.std.proofs.lemmas.List.{length-map}
 use Rattle.tib_lex.specs.Lists.{Has, Along}
-use Rattle.tib_lex.proofs.Lists.{has_mapped}
+use Rattle.tib_lex.proofs.Lists.{has_mapped, mapped_has}
 use Rattle.tib_lex.proofs.Members.{has_at, at_has}
 use Rattle.tib_tree.specs.Trees.{Trees, none, tree, only}
 use Rattle.tib_grammar.specs.Sides.{holes_of}
@@ -17,7 +17,6 @@ use Rattle.tib_prune.specs.Contexts.{Context, gap, below, later, AreRunsAround, 
 use Rattle.tib_prune.specs.Outside.{IsContextCost, IsOutside}
 use Rattle.tib_prune.specs.Pruned.{IsWithinBeam, IsKept, ArePruned}
 use Rattle.tib_canon.proofs.Alike.{AreAlike}
-use Rattle.tib_canon.proofs.InOrder.{mapped_has}
 
 -- some rule of ys has the left state, the states and the cost of rule n of xs
 pub record IsMatched (xs ys : List (Rule ℕ)) (n : ℕ) : Type 0 where

@@ -25,13 +25,11 @@ use Rattle.tib_grammar_file.proofs.Relabelled.{symbol_with, trees_with, rule_wit
 use Rattle.tib_canon.proofs.TrimmedByText.{grammar_with}
 use Rattle.tib_operations.specs.FileTexts.{ListsTrees}
 use Rattle.tib_lex.proofs.Lists.{some_same}
+pub use Rattle.tib_transducer_file.proofs.OneByText.{none_distinct}
 
 -- a table has no text twice where one that it grew to has none
 pub early_distinct : (early labels : List (List ℕ)) → Grows early labels → AreDistinct labels → AreDistinct early
 early_distinct early labels grows d = record { once = λ m n text e f. d.once m n text (grows.kept m text e) (grows.kept n text f) }
-
-pub none_distinct : AreDistinct []
-none_distinct = record { once = λ m n text e f. absurd (cc) }
 
 -- a text that has a number in a table
 abbrev pub IsThere : List (List ℕ) → List ℕ → Type 0

@@ -8,6 +8,7 @@ use Rattle.tib_tree.specs.Grows.{Grows, AreDistinct}
 use Rattle.tib_tree.specs.Trees.{Tree, Trees, none, tree, only, count, preorder, preorder_of, relabel, relabel_tree}
 use Rattle.tib_tree.specs.Written.{Item}
 use Rattle.tib_tree.proofs.Growing.{grows_not}
+use Rattle.tib_tree.proofs.Counts.{count-relabel}
 use Rattle.tib_grammar.specs.Sides.{Symbol, label, hole, holes}
 use Rattle.tib_grammar.proofs.Renamed.{preorder-relabel}
 use Rattle.tib_grammar_file.proofs.Alongs.{along_changes}
@@ -22,19 +23,10 @@ use Rattle.tib_transducer_file.specs.Rule.{Parts, RuleLine, label_of, numbers_in
 use Rattle.tib_transducer_file.specs.Value.{IsAsked, IsLeftSymbol, IsLeftNode, IsRootItem, IsLeftSide, IsRightSymbol, IsRightNode, IsRule}
 use Rattle.tib_transducer_file.specs.TransducerText.{IsSmallRule, ReadsAs}
 use Rattle.tib_transducer_file.proofs.FileRead.{rule_grows}
+use Rattle.tib_canon_transducer.proofs.Relabelled.{variable_with, node_with, left_with}
 use Rattle.tib_operations.proofs.Tables.{all_more, moved, moves}
 
 -- a transducer with each label exchanged for another
-
-abbrev pub variable_with : (ℕ → ℕ) → Variable → Variable
-variable_with f x = record { number = x.number; label = option_map f x.label }
-
-abbrev pub node_with : {P : Type 0} → (ℕ → ℕ) → (P → P) → Symbol ℕ P → Symbol ℕ P
-node_with f r (label g) = label (f g)
-node_with f r (hole x) = hole (r x)
-
-abbrev pub left_with : (ℕ → ℕ) → Symbol ℕ Variable → Symbol ℕ Variable
-left_with f s = node_with f (variable_with f) s
 
 abbrev pub right_with : (ℕ → ℕ) → Symbol ℕ (Pair ℕ) → Symbol ℕ (Pair ℕ)
 right_with f s = node_with f (λ x. x) s
@@ -47,13 +39,9 @@ transducer_with f t = record { names = t.names; rules = map (rule_with f) t.rule
 
 -- its preorders, and its variables
 
-count_with : {A B : Type 0} (g : A → B) (ts : Trees A) → count (relabel g ts) ≡ count ts
-count_with g none = refl
-count_with g (tree s kids rest) = ap suc (count_with g rest)
-
 preorder_with : {A B : Type 0} (g : A → B) (t : Tree A) → preorder_of (relabel_tree g t) ≡ map (λ p. (g p.0, p.1)) (preorder_of t)
 preorder_with g t =
-    ap (λ n. (g t.label, n) ∷ preorder (relabel g t.kids)) (count_with g t.kids)
+    ap (λ n. (g t.label, n) ∷ preorder (relabel g t.kids)) (count-relabel g t.kids)
     ∙ ap (λ ps. (g t.label, count t.kids) ∷ ps) (preorder-relabel g t.kids)
 
 as_long : {A B : Type 0} (g : A → B) (t : Tree A) → length (preorder_of (relabel_tree g t)) ≡ length (preorder_of t)

@@ -2,7 +2,7 @@
 use Rattle.std.proofs.Common.{◌≡◌, ℕ, ◌+◌, ◌<◌, ◌≤◌, List, [], ◌∷◌, length, map, refl, ap, sym, ◌∙◌, subst, arith}
 use Rattle.std.specs.Prelude.{Some}
 use Rattle.tib_lex.specs.Lists.{Has, Distinct, IsReordering, total as edges_total}
-use Rattle.tib_lex.proofs.Lists.{has_mapped}
+use Rattle.tib_lex.proofs.Lists.{has_mapped, mapped_has}
 use Rattle.tib_lex.proofs.Members.{has_at, at_has}
 use Rattle.tib_cost.proofs.Least.{IsLeast-same}
 use Rattle.tib_tree.specs.Trees.{only, relabel_tree}
@@ -17,7 +17,6 @@ use Rattle.tib_hunt.specs.Numbered.{key_parts}
 use Rattle.tib_hunt.specs.Reached.{IsReachedSet, IsBeyond}
 use Rattle.tib_canon.specs.TrimmedForms.{IsTrimmedForm}
 use Rattle.tib_canon.proofs.EdgesByText.{key_with, edge_with, over_kept}
-use Rattle.tib_canon.proofs.InOrder.{mapped_has}
 use Rattle.tib_canon.proofs.NormalByText.{label_found}
 use Rattle.tib_canon.proofs.ReachedAlike.{CorrespondBy, AreProblemsRenamed, reached_renamed}
 use Rattle.tib_canon.proofs.TrimmedByText.{grammar_with}

@@ -10,6 +10,7 @@ code_of statuses.Usage = 2
 code_of (statuses.BadInput file fault) = 3
 code_of (statuses.Class file rule fault) = 4
 code_of (statuses.TooMany limit) = 5
+code_of statuses.TreeTooLarge = 6
 code_of (statuses.ReadFault file) = 7
 code_of statuses.WriteFault = 8
 code_of (statuses.TooLong file) = 9

@@ -5,6 +5,7 @@ pub mod Made
 pub mod Weigh
 pub mod Inside
 pub mod Normal
+pub mod KBest
 pub mod Classes
 pub mod Moves
 pub mod Intersect

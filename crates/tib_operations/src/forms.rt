@@ -3,6 +3,7 @@ ghost use Rattle.std.specs.Prelude.{◌≤◌, ℕ, List, length, IfErr, IfOk};
 ghost use Rattle.tib_grammar_file.specs.Printable.{ArePrintable};
 ghost use Rattle.tib_inside.specs.Trimmed.{HasSameSeries};
 ghost use Rattle.tib_normal.specs.NormalForm.{IsNormalForm, KeepsSeries, normal_parts};
+ghost use Rattle.tib_k_best.specs.Trimmed.{HaveTreesBelow};
 ghost use Rattle.tib_canon.specs.TrimmedForms.{IsTrimmedForm};
 ghost use Rattle.tib_operations.specs.Made.{IsLimit, normal_form, IsMadeFault};
 
@@ -12,6 +13,7 @@ use tib_canon::{normal_forms_are_printable, trimmed_is_printable};
 use tib_cost::Semiring;
 use tib_grammar::Grammar;
 use tib_inside::trim_normal;
+use tib_k_best::trimmed_has_trees;
 use tib_normal::{Normal, NormalError, normalize};
 
 /// The normal form of a grammar, or the status with which the run ends.
@@ -45,6 +47,7 @@ pub fn trimmed_form<S: Semiring + Drop>(
     ensures within { IfOk result (λ _. (normal_form S.product limit grammar.now).within) }
     ensures series { IfOk result (λ m. HasSameSeries S.product grammar.now m) }
     ensures printable { IfOk result (λ m. (labels : List (List ℕ)) → ArePrintable S.SCALE labels grammar.now.rules → ArePrintable S.SCALE labels m.rules) }
+    ensures below { IfOk result (λ m. HaveTreesBelow S.product m.rules) }
     ensures err { IfErr result (IsMadeFault (normal_form S.product limit grammar.now).more limit) }
 {
     grammar.is_sound();
@@ -54,8 +57,13 @@ pub fn trimmed_form<S: Semiring + Drop>(
     };
     normal_forms_are_printable::<S>();
     trimmed_is_printable();
+    trimmed_has_trees::<S>();
+    normal.grammar();
     match trim_normal::<S>(alloc, normal) {
-        Ok(trimmed) => Ok(trimmed),
+        Ok(trimmed) => {
+            trimmed.grammar();
+            Ok(trimmed)
+        }
         Err(_) => Err(Status::OutOfMemory),
     }
 }

@@ -27,6 +27,8 @@ pub enum Status {
     TooMany {
         limit: u64,
     },
+    /// Some state has a tree of more than 10,000 nodes among its cheapest trees, as many as were asked for.
+    TreeTooLarge,
     /// A read of a file failed.
     ReadFault {
         file: u32,
@@ -52,6 +54,7 @@ impl Status {
             Status::BadInput { .. } => 3,
             Status::Class { .. } => 4,
             Status::TooMany { .. } => 5,
+            Status::TreeTooLarge => 6,
             Status::ReadFault { .. } => 7,
             Status::WriteFault => 8,
             Status::TooLong { .. } => 9,

@@ -45,7 +45,7 @@ fn print_line<S: Semiring, W: Sink>(
 }
 
 // Adds the line of a weighed tree to a text.
-fn add_line<S: Semiring>(
+pub(crate) fn add_line<S: Semiring>(
     text: &mut GrowingSink,
     tree: &Tree,
     labels: &Labels,

@@ -57,6 +57,7 @@ module _ (no_fault : KindsHaveNoFault) (apart : WithinIsNotTooMuch) where
     answered before now out_before out_now (statuses.BadInput file fault) calm h = absurd (faultless file fault h)
     answered before now out_before out_now (statuses.Class file rule fault) calm h = absurd (class_apart asked.task.operation (scale_of asked.mode) (bytes_of asked held) file (rule, fault) given.class h)
     answered before now out_before out_now (statuses.TooMany limit) calm h = absurd (not_large limit h)
+    answered before now out_before out_now statuses.TreeTooLarge calm h = absurd (given.small h)
     answered before now out_before out_now (statuses.ReadFault file) calm h = absurd (calm.files file h)
     answered before now out_before out_now statuses.WriteFault calm h = absurd (calm.out h.1)
     answered before now out_before out_now (statuses.TooLong file) calm h = absurd (not_long file h)

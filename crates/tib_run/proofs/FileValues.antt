@@ -4,11 +4,13 @@ use Rattle.std.specs.Prelude.{◌≡◌, ℕ, List, [], ◌∷◌, Option, Some,
 use Rattle.std.proofs.Common.{length, zero, suc, subst}
 use Rattle.tib_lex.specs.Lists.{Along}
 use Rattle.tib_tree.specs.Grows.{Grows, AreDistinct}
+use Rattle.tib_tree.specs.Trees.{Tree}
 use Rattle.tib_tree.proofs.Growing.{grows_not, grows_twice}
 use Rattle.tib_grammar_file.specs.ByText.{AgreeByText, AreOneTree}
 use Rattle.tib_grammar_file.proofs.OneByText.{one_by_text}
 use Rattle.tib_grammar_file.proofs.TreesByText.{trees_by_text}
-use Rattle.tib_run.specs.Kinds.{Kind, of_grammar, of_trees, of_transducer, OfName, ValueOf, IsTextOf, IsOfKind, ValuesOf, AreTextsOf, AreTexts, AreOfKinds, AreAllTold}
+use Rattle.tib_operations.specs.FileTexts.{ListsTrees}
+use Rattle.tib_run.specs.Kinds.{Kind, of_grammar, of_trees, of_one_tree, of_transducer, OfName, ValueOf, IsTextOf, IsOfKind, ValuesOf, AreTextsOf, AreTexts, AreOfKinds, AreAllTold}
 use Rattle.tib_grammar_file.specs.Printable.{ArePrintable}
 use Rattle.tib_grammar_file.proofs.Plain.{read_plain}
 use Rattle.tib_operations.proofs.PlainMoves.{IsSoundTransducer, transducer_sound}
@@ -28,11 +30,23 @@ record IsTextOver (scale : Scale) (early : List (List ℕ)) (kind : Kind) (bytes
   distinct : AreDistinct early → AreDistinct labels
   text : IfSome bytes (IsTextOf scale labels kind value)
 
+-- one tree over a table stands for one tree over each other
+only_tree :
+    (labels now : List (List ℕ)) (one : Tree ℕ) (bytes : List ℕ) (ts : List (Tree ℕ)) → ListsTrees labels (one ∷ []) bytes → ListsTrees now ts bytes →
+    (t : Tree ℕ) × ListsTrees now (t ∷ []) bytes
+only_tree labels now one bytes [] l m = absurd (trees_by_text labels now bytes (one ∷ []) [] l.1 m.1)
+only_tree labels now one bytes (t ∷ []) l m = (t, m)
+only_tree labels now one bytes (t ∷ (u ∷ ts)) l m = absurd (trees_by_text labels now bytes (one ∷ []) (t ∷ (u ∷ ts)) l.1 m.1).1
+
 text_over : (scale : Scale) (early labels : List (List ℕ)) (kind : Kind) (value : ValueOf kind) (bytes : List ℕ) → IsTextOf scale labels kind value bytes → IsTextOver scale early kind (Some bytes)
 text_over scale early labels of_grammar g bytes r =
     let o = read_over scale early labels bytes g r.1 in record { labels = o.labels; value = o.g; grows = o.grows; distinct = o.distinct; text = (r.0, o.reads) }
 text_over scale early labels of_trees trees bytes l =
     let o = lists_over early labels bytes trees l in record { labels = o.labels; value = o.trees; grows = o.grows; distinct = o.distinct; text = o.listed }
+text_over scale early labels of_one_tree one bytes l =
+    let o = lists_over early labels bytes (one ∷ []) l in
+    let t = only_tree labels o.labels one bytes o.trees l o.listed in
+    record { labels = o.labels; value = t.0; grows = o.grows; distinct = o.distinct; text = t.1 }
 text_over scale early labels of_transducer t bytes r =
     let o = transducer_over scale early labels bytes t r.1 in record { labels = o.labels; value = o.t; grows = o.grows; distinct = o.distinct; text = (r.0, o.reads) }
 
@@ -44,6 +58,7 @@ told_over scale early kind (Some bytes) is = text_over scale early is.0 kind is.
 pub text_grown : (scale : Scale) (early labels : List (List ℕ)) (kind : Kind) (value : ValueOf kind) (bytes : List ℕ) → Grows early labels → IsTextOf scale early kind value bytes → IsTextOf scale labels kind value bytes
 text_grown scale early labels of_grammar g bytes grows r = (r.0, reads_grown scale early labels bytes g grows r.1)
 text_grown scale early labels of_trees trees bytes grows l = lists_grown early labels bytes trees grows l
+text_grown scale early labels of_one_tree one bytes grows l = lists_grown early labels bytes (one ∷ []) grows l
 text_grown scale early labels of_transducer t bytes grows r = (r.0, transducer_grown scale early labels bytes t grows r.1)
 
 pub told_grown :
@@ -83,6 +98,7 @@ values_there scale kinds bytes are =
 abbrev pub AgreeInText : List (List ℕ) → List (List ℕ) → (kind : Kind) → ValueOf kind → ValueOf kind → Type 0
 AgreeInText labels others of_grammar g h = AgreeByText labels others g h
 AgreeInText labels others of_trees ts us = Along (AreOneTree labels others) ts us
+AgreeInText labels others of_one_tree t u = AreOneTree labels others t u
 AgreeInText labels others of_transducer t u = AreOneTransducer labels others t u
 
 abbrev pub AllAgree : List (List ℕ) → List (List ℕ) → (kinds : List Kind) → ValuesOf kinds → ValuesOf kinds → Type 0
@@ -94,6 +110,7 @@ text_agrees :
     AgreeInText labels others kind value other
 text_agrees scale labels others of_grammar g h bytes r q = one_by_text scale labels others bytes g h r.1.text q.1.text
 text_agrees scale labels others of_trees ts us bytes l m = trees_by_text labels others bytes ts us l.1 m.1
+text_agrees scale labels others of_one_tree t u bytes l m = (trees_by_text labels others bytes (t ∷ []) (u ∷ []) l.1 m.1).0
 text_agrees scale labels others of_transducer t u bytes r q = one_transducer scale labels others bytes t u r.1 q.1
 
 told_agrees :
@@ -131,6 +148,7 @@ kinds_told scale labels (k ∷ kinds) bytes values t (suc n) kind e = kinds_told
 abbrev pub IsSoundValue : Scale → List (List ℕ) → (kind : Kind) → ValueOf kind → Type 0
 IsSoundValue scale labels of_grammar g = IsSound g × ArePrintable scale labels g.rules
 IsSoundValue scale labels of_trees trees = Unit {0}
+IsSoundValue scale labels of_one_tree one = Unit {0}
 IsSoundValue scale labels of_transducer t = IsSoundTransducer scale labels t × AreMovesOver scale labels (length t.names) t.rules
 
 abbrev pub AllSound : Scale → List (List ℕ) → (kinds : List Kind) → ValuesOf kinds → Type 0
@@ -141,6 +159,7 @@ sound_value : (scale : Scale) (labels : List (List ℕ)) (kind : Kind) (value : 
 sound_value scale labels kind value None told t = absurd (cc told)
 sound_value scale labels of_grammar g (Some bytes) told r = (read_sound scale labels bytes g r.1.text, read_plain scale labels bytes g r.1.text)
 sound_value scale labels of_trees trees (Some bytes) told l = tt
+sound_value scale labels of_one_tree one (Some bytes) told l = tt
 sound_value scale labels of_transducer t (Some bytes) told r = (transducer_sound scale labels bytes t r.1, read_moves scale labels bytes t r.1)
 
 pub all_sound :

@@ -30,10 +30,12 @@ as_many_kinds : (o : Operation) → word_count o ≡ length (kinds_of o)
 as_many_kinds operations.Weigh = refl
 as_many_kinds operations.Inside = refl
 as_many_kinds operations.Normal = refl
+as_many_kinds operations.KBest = refl
 as_many_kinds operations.Intersect = refl
 as_many_kinds operations.Forward = refl
 as_many_kinds operations.Backward = refl
 as_many_kinds operations.Compose = refl
+as_many_kinds operations.Image = refl
 as_many_kinds operations.Determinize = refl
 as_many_kinds operations.Check = refl
 as_many_kinds operations.Prune = refl

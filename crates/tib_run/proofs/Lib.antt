@@ -3,6 +3,7 @@ pub mod OfOperations
 pub mod FilesAsked
 pub mod OfJobs
 pub mod Reached
+pub mod Large
 pub mod Faults
 pub mod Complete
 pub mod Runs

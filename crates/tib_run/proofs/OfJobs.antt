@@ -11,7 +11,7 @@ use Rattle.tib_command.specs.declared.job.Operation.{Operation}
 use Rattle.tib_command.specs.declared.job.Operation.TheVariants as operations
 use Rattle.tib_run.specs.Kinds.{kinds_of, file_at, bytes_at, OfName, IsOfKind, AreOfKinds, AreAllTold}
 use Rattle.tib_classes.specs.declared.error.ClassFault.{ClassFault}
-use Rattle.tib_run.specs.Causes.{scale_of, product_of, demanded, BreaksClass, MeetsClass, StaysInClass, IsInClass, IsOutOfClass, MakesTooMuch, StaysWithin, IsTooMuch, IsWithin, bytes_of}
+use Rattle.tib_run.specs.Causes.{scale_of, product_of, demanded, BreaksClass, MeetsClass, StaysInClass, IsInClass, IsOutOfClass, MakesTooMuch, MakesWithin, StaysWithin, StaysSmall, IsTooMuch, IsWithin, IsSmall, bytes_of}
 use Rattle.tib_run.specs.Answers.{Numbers, numbers_of, IsAnswerOf, IsAnswer, AreTold, AreOfTheirKinds, MeetsLaws, NeedsOf}
 use Rattle.tib_run.proofs.FileValues.{values_there, values_agree, all_sound}
 use Rattle.tib_run.proofs.FilesAsked.{limit_asked}
@@ -81,19 +81,25 @@ module _ (o : Operation) (scale : Scale) (product : ℕ → ℕ → ℕ) (number
       makes_by_text scale product numbers.limit a.labels labels (distinct_texts a.labels a.texts.distinct) (distinct_texts labels texts.distinct) o a.values values
       (values_agree scale a.labels labels (kinds_of o) bytes a.values values told a.texts.texts texts.texts) a.within
 
+  -- where the files are told, what is within the limit over one table of labels is within it over each
+  pub within_stays : AreAllTold (kinds_of o) bytes → MakesWithin o scale product numbers.limit bytes → StaysWithin o scale product numbers.limit bytes
+  within_stays told a labels values texts =
+      makes_by_text scale product numbers.limit a.labels labels (distinct_texts a.labels a.texts.distinct) (distinct_texts labels texts.distinct) o a.values values
+      (values_agree scale a.labels labels (kinds_of o) bytes a.values values told a.texts.texts texts.texts) a.within
+
   -- of files of the class that is demanded
   pub answer_class : (text : List ℕ) → AreAllTold (kinds_of o) bytes → IsAnswerOf o scale product numbers bytes text → StaysInClass o scale bytes
   answer_class text told a = class_told o scale bytes told (record { labels = a.labels; values = a.values; texts = a.texts; met = a.met })
 
-  -- what is within the limit and of that class has an answer: that it has none cannot be
+  -- what is within the limit and of that class, and lists no tree that is too large, has an answer: that it has none cannot be
   pub answer_there :
-      NeedsOf o product numbers.limit → AreOfKinds scale (kinds_of o) bytes → StaysInClass o scale bytes → StaysWithin o scale product numbers.limit bytes →
+      NeedsOf o product numbers.limit → AreOfKinds scale (kinds_of o) bytes → StaysInClass o scale bytes → StaysWithin o scale product numbers.limit bytes → StaysSmall o scale product numbers.k bytes →
       ((text : List ℕ) → IsAnswerOf o scale product numbers bytes text → ⊥) → ⊥
-  answer_there needs are inside small never =
+  answer_there needs are inside small listed never =
       let v = values_there scale (kinds_of o) bytes are in
       let w = small v.0 v.1 v.2 in
       let met = inside v.0 v.1 v.2 in
-      result_there scale product numbers v.0 (distinct_texts v.0 v.2.distinct) o needs v.1 (all_sound scale v.0 (kinds_of o) bytes v.1 (all_told scale o bytes are) v.2.texts) met w (λ text is.
+      result_there scale product numbers v.0 (distinct_texts v.0 v.2.distinct) o needs v.1 (all_sound scale v.0 (kinds_of o) bytes v.1 (all_told scale o bytes are) v.2.texts) met w (listed v.0 v.1 v.2) (λ text is.
       never text (record { labels = v.0; values = v.1; texts = v.2; met = met; within = w; result_is = is }))
 
 -- the product of each mode meets its laws
@@ -107,10 +113,12 @@ needs_met : (o : Operation) (product : ℕ → ℕ → ℕ) (limit : ℕ) → Me
 needs_met operations.Weigh product limit m = tt
 needs_met operations.Inside product limit m = tt
 needs_met operations.Normal product limit m = m
+needs_met operations.KBest product limit m = tt
 needs_met operations.Intersect product limit m = m
 needs_met operations.Forward product limit m = m
 needs_met operations.Backward product limit m = m
 needs_met operations.Compose product limit m = m
+needs_met operations.Image product limit m = m
 needs_met operations.Determinize product limit m = m
 needs_met operations.Check product limit m = tt
 needs_met operations.Prune product limit m = m
@@ -152,6 +160,9 @@ module _ (asked : Asked) (held : List ℕ → Option (List ℕ)) where
   pub answer_within : (text : List ℕ) → AreTold asked held → IsAnswer asked held text → IsWithin asked held
   answer_within text told a = answer_stays asked.task.operation (scale_of asked.mode) (product_of asked.mode) (numbers_of asked) (bytes_of asked held) text (told_bytes told) a
 
+  pub within_told : AreTold asked held → MakesWithin asked.task.operation (scale_of asked.mode) (product_of asked.mode) asked.limit (bytes_of asked held) → IsWithin asked held
+  within_told told m = within_stays asked.task.operation (scale_of asked.mode) (product_of asked.mode) (numbers_of asked) (bytes_of asked held) (told_bytes told) m
+
   pub answer_apart : (text : List ℕ) → AreTold asked held → IsAnswer asked held text → IsTooMuch asked held → ⊥
   answer_apart text told a large = within_apart (answer_within text told a) large
 
@@ -165,12 +176,12 @@ module _ (asked : Asked) (held : List ℕ → Option (List ℕ)) where
   answered_not_more text are = answer_apart text (kinds_are_told are)
 
   module _ (words : List (List ℕ)) (of_words : job_of words ≡ Some asked) (are : AreOfTheirKinds asked held) where
-    pub job_answered : IsInClass asked held → IsWithin asked held → ((text : List ℕ) → IsAnswer asked held text → ⊥) → ⊥
-    job_answered inside small never =
+    pub job_answered : IsInClass asked held → IsWithin asked held → IsSmall asked held → ((text : List ℕ) → IsAnswer asked held text → ⊥) → ⊥
+    job_answered inside small listed never =
         answer_there asked.task.operation (scale_of asked.mode) (product_of asked.mode) (numbers_of asked) (bytes_of asked held) (needs_met asked.task.operation (product_of asked.mode) asked.limit (laws_of asked.mode asked.limit (omega (arith, limit_asked words asked of_words))))
-        (kinds_bytes are) inside small never
+        (kinds_bytes are) inside small listed never
 
     -- so it has an answer, a rule outside the class or too many parts: that it has none of them cannot be
     pub answered_or_more :
-        ((text : List ℕ) → IsAnswer asked held text → ⊥) → ((file : ℕ) (x : ℕ × ClassFault) → IsOutOfClass asked held file x → ⊥) → (IsTooMuch asked held → ⊥) → ⊥
-    answered_or_more never outside few = inside_or_not are (λ inside. within_or_more are (λ within. job_answered inside within never) few) outside
+        IsSmall asked held → ((text : List ℕ) → IsAnswer asked held text → ⊥) → ((file : ℕ) (x : ℕ × ClassFault) → IsOutOfClass asked held file x → ⊥) → (IsTooMuch asked held → ⊥) → ⊥
+    answered_or_more listed never outside few = inside_or_not are (λ inside. within_or_more are (λ within. job_answered inside within listed never) few) outside

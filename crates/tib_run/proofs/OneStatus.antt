@@ -6,13 +6,13 @@ use Rattle.tib_lex.specs.declared.fault.FileFault.{FileFault}
 use Rattle.tib_command.specs.Jobs.{Asked}
 use Rattle.tib_operations.specs.declared.status.Status.{Status}
 use Rattle.tib_operations.specs.declared.status.Status.TheVariants as statuses
-use Rattle.tib_run.specs.Kinds.{Kind, of_grammar, of_trees, of_transducer, kinds_of, kind_at, file_at, bytes_at, OfName, OfFile, Told, IsOfKind, HasFault}
+use Rattle.tib_run.specs.Kinds.{Kind, of_grammar, of_trees, of_one_tree, of_transducer, kinds_of, kind_at, file_at, bytes_at, OfName, OfFile, Told, IsOfKind, HasFault}
 use Rattle.tib_operations.specs.FileTexts.{IsShort, IsLong}
-use Rattle.tib_run.specs.Causes.{IsInClass, IsOutOfClass, IsTooMuch, scale_of, bytes_of}
+use Rattle.tib_run.specs.Causes.{IsInClass, IsOutOfClass, IsTooMuch, IsWithin, scale_of, bytes_of}
 use Rattle.tib_run.specs.Answers.{IsAnswer, AreTold, EndsCalmly, AreOneStatus}
 use Rattle.tib_run.proofs.Faults.{faulty_kind, one_fault}
 use Rattle.tib_run.proofs.FileValues.{kinds_told}
-use Rattle.tib_run.proofs.OfJobs.{answer_apart, answer_inside, outside_apart, outside_once, inside_told}
+use Rattle.tib_run.proofs.OfJobs.{answer_apart, answer_inside, outside_apart, outside_once, inside_told, within_apart, within_told}
 use Rattle.tib_run.proofs.Reached.{some_kind, told_some}
 use Rattle.tib_lex.proofs.Lists.{some_same}
 
@@ -32,6 +32,7 @@ slice_some (x ∷ xs) (suc n) h = slice_some xs n (omega arith)
 kind_short : (scale : Scale) (kind : Kind) (x : List ℕ) → IsOfKind scale kind x → IsShort x
 kind_short scale of_grammar x is = is.2.0
 kind_short scale of_trees x is = is.2.0
+kind_short scale of_one_tree x is = is.2.0
 kind_short scale of_transducer x is = is.2.0
 
 holds : (o : Option (List ℕ)) (x : List ℕ) (P : List ℕ → Type 0) → o ≡ Some x → IfSome o P → P x
@@ -74,6 +75,7 @@ module _ (asked : Asked) (held : List ℕ → Option (List ℕ)) where
   Says (statuses.BadInput n fault) = (s : Stops n) × IsShort s.text × HasFault scale (Some s.kind) s.text fault
   Says (statuses.Class file rule fault) = ((n : ℕ) → IsSound n) × IsOutOfClass asked held file (rule, fault)
   Says (statuses.TooMany limit) = ((n : ℕ) → IsSound n) × (asked.limit ≡ limit) × IsTooMuch asked held × IsInClass asked held
+  Says statuses.TreeTooLarge = ((n : ℕ) → IsSound n) × IsWithin asked held × IsInClass asked held
   Says (statuses.ReadFault n) = ⊥
   Says statuses.WriteFault = ⊥
   Says (statuses.TooLong n) = (s : Stops n) × (IsLong s.text)
@@ -109,20 +111,22 @@ module _ (asked : Asked) (held : List ℕ → Option (List ℕ)) where
     one_of statuses.Done (statuses.BadInput n f) a b = absurd (never_stops a.0 n b.0)
     one_of statuses.Done (statuses.Class f r x) a b = absurd (outside_apart asked held f (r, x) (answer_inside asked held a.1.0 told a.1.1) b.1)
     one_of statuses.Done (statuses.TooMany l) a b = absurd (answer_apart asked held a.1.0 told a.1.1 b.2)
+    one_of statuses.Done statuses.TreeTooLarge a b = inr (inr (inr (inl (refl, refl))))
     one_of statuses.Done (statuses.ReadFault n) a b = absurd b
     one_of statuses.Done statuses.WriteFault a b = absurd b
     one_of statuses.Done (statuses.TooLong n) a b = absurd (never_stops a.0 n b.0)
-    one_of statuses.Done statuses.OutOfMemory a b = inr (inr refl)
+    one_of statuses.Done statuses.OutOfMemory a b = inr (inr (inl refl))
     one_of statuses.Usage t a b = absurd a
     one_of (statuses.BadInput m e) statuses.Done a b = absurd (never_stops b.0 m a.0)
     one_of (statuses.BadInput m e) statuses.Usage a b = absurd b
     one_of (statuses.BadInput m e) (statuses.BadInput n f) a b = inl (λ i. statuses.BadInput (one_stop m n a.0 b.0 i) (same_fault m n e f a.0 b.0 a.2 b.2 i))
     one_of (statuses.BadInput m e) (statuses.Class f r x) a b = absurd (never_stops b.0 m a.0)
     one_of (statuses.BadInput m e) (statuses.TooMany l) a b = absurd (never_stops b.0 m a.0)
+    one_of (statuses.BadInput m e) statuses.TreeTooLarge a b = absurd (never_stops b.0 m a.0)
     one_of (statuses.BadInput m e) (statuses.ReadFault n) a b = absurd b
     one_of (statuses.BadInput m e) statuses.WriteFault a b = absurd b
     one_of (statuses.BadInput m e) (statuses.TooLong n) a b = absurd (short_and_long m n a.0 b.0 a.1 b.1)
-    one_of (statuses.BadInput m e) statuses.OutOfMemory a b = inr (inr refl)
+    one_of (statuses.BadInput m e) statuses.OutOfMemory a b = inr (inr (inl refl))
     one_of (statuses.Class g q y) statuses.Done a b = absurd (outside_apart asked held g (q, y) (answer_inside asked held b.1.0 told b.1.1) a.1)
     one_of (statuses.Class g q y) statuses.Usage a b = absurd b
     one_of (statuses.Class g q y) (statuses.BadInput n f) a b = absurd (never_stops a.0 n b.0)
@@ -130,19 +134,31 @@ module _ (asked : Asked) (held : List ℕ → Option (List ℕ)) where
         let same = outside_once asked held told g f (q, y) (r, x) a.1 b.1 in
         inl (λ i. statuses.Class (same.0 i) (same.1 i) (same.2 i))
     one_of (statuses.Class g q y) (statuses.TooMany l) a b = absurd (outside_apart asked held g (q, y) b.3 a.1)
+    one_of (statuses.Class g q y) statuses.TreeTooLarge a b = absurd (outside_apart asked held g (q, y) b.2 a.1)
     one_of (statuses.Class g q y) (statuses.ReadFault n) a b = absurd b
     one_of (statuses.Class g q y) statuses.WriteFault a b = absurd b
     one_of (statuses.Class g q y) (statuses.TooLong n) a b = absurd (never_stops a.0 n b.0)
-    one_of (statuses.Class g q y) statuses.OutOfMemory a b = inr (inr refl)
+    one_of (statuses.Class g q y) statuses.OutOfMemory a b = inr (inr (inl refl))
     one_of (statuses.TooMany k) statuses.Done a b = absurd (answer_apart asked held b.1.0 told b.1.1 a.2)
     one_of (statuses.TooMany k) statuses.Usage a b = absurd b
     one_of (statuses.TooMany k) (statuses.BadInput n f) a b = absurd (never_stops a.0 n b.0)
     one_of (statuses.TooMany k) (statuses.Class f r x) a b = absurd (outside_apart asked held f (r, x) a.3 b.1)
     one_of (statuses.TooMany k) (statuses.TooMany l) a b = inl (ap (λ (z : ℕ). statuses.TooMany z) (sym a.1 ∙ b.1))
+    one_of (statuses.TooMany k) statuses.TreeTooLarge a b = absurd (within_apart asked held b.1 a.2)
     one_of (statuses.TooMany k) (statuses.ReadFault n) a b = absurd b
     one_of (statuses.TooMany k) statuses.WriteFault a b = absurd b
     one_of (statuses.TooMany k) (statuses.TooLong n) a b = absurd (never_stops a.0 n b.0)
-    one_of (statuses.TooMany k) statuses.OutOfMemory a b = inr (inr refl)
+    one_of (statuses.TooMany k) statuses.OutOfMemory a b = inr (inr (inl refl))
+    one_of statuses.TreeTooLarge statuses.Done a b = inr (inr (inr (inr (refl, refl))))
+    one_of statuses.TreeTooLarge statuses.Usage a b = absurd b
+    one_of statuses.TreeTooLarge (statuses.BadInput n f) a b = absurd (never_stops a.0 n b.0)
+    one_of statuses.TreeTooLarge (statuses.Class f r x) a b = absurd (outside_apart asked held f (r, x) a.2 b.1)
+    one_of statuses.TreeTooLarge (statuses.TooMany l) a b = absurd (within_apart asked held a.1 b.2)
+    one_of statuses.TreeTooLarge statuses.TreeTooLarge a b = inl refl
+    one_of statuses.TreeTooLarge (statuses.ReadFault n) a b = absurd b
+    one_of statuses.TreeTooLarge statuses.WriteFault a b = absurd b
+    one_of statuses.TreeTooLarge (statuses.TooLong n) a b = absurd (never_stops a.0 n b.0)
+    one_of statuses.TreeTooLarge statuses.OutOfMemory a b = inr (inr (inl refl))
     one_of (statuses.ReadFault m) t a b = absurd a
     one_of statuses.WriteFault t a b = absurd a
     one_of (statuses.TooLong m) statuses.Done a b = absurd (never_stops b.0 m a.0)
@@ -150,10 +166,11 @@ module _ (asked : Asked) (held : List ℕ → Option (List ℕ)) where
     one_of (statuses.TooLong m) (statuses.BadInput n f) a b = absurd (short_and_long n m b.0 a.0 b.1 a.1)
     one_of (statuses.TooLong m) (statuses.Class f r x) a b = absurd (never_stops b.0 m a.0)
     one_of (statuses.TooLong m) (statuses.TooMany l) a b = absurd (never_stops b.0 m a.0)
+    one_of (statuses.TooLong m) statuses.TreeTooLarge a b = absurd (never_stops b.0 m a.0)
     one_of (statuses.TooLong m) (statuses.ReadFault n) a b = absurd b
     one_of (statuses.TooLong m) statuses.WriteFault a b = absurd b
     one_of (statuses.TooLong m) (statuses.TooLong n) a b = inl (ap (λ (z : ℕ). statuses.TooLong z) (one_stop m n a.0 b.0))
-    one_of (statuses.TooLong m) statuses.OutOfMemory a b = inr (inr refl)
+    one_of (statuses.TooLong m) statuses.OutOfMemory a b = inr (inr (inl refl))
     one_of statuses.OutOfMemory t a b = inr (inl refl)
 
     -- the bytes of a file, with its kind
@@ -196,6 +213,7 @@ module _ (asked : Asked) (held : List ℕ → Option (List ℕ)) where
           )
       says (statuses.Class file rule fault) e = (λ n kind is. e.earlier n kind (all_before n kind is) is, e.cause)
       says (statuses.TooMany limit) e = (λ n kind is. e.earlier.0 n kind (all_before n kind is) is, e.cause.0, e.cause.1, inside_told asked held told e.earlier.1)
+      says statuses.TreeTooLarge e = (λ n kind is. e.earlier.0 n kind (all_before n kind is) is, within_told asked held told e.earlier.2, inside_told asked held told e.earlier.1)
       says (statuses.ReadFault n) e = e.calm.files n e.cause
       says statuses.WriteFault e = e.calm.out e.cause.1
       says (statuses.TooLong n) e =

@@ -1,6 +1,6 @@
 -- From a file of a job to the answer of the run.
 use Rattle.tib_cost.specs.declared.Scale.{Scale}
-use Rattle.std.specs.Prelude.{◌≡◌, ℕ, ◌+◌, ◌-◌, ◌≤◌, ◌<◌, ◌⊎◌, List, length, Option, Some, None, IfSome, slice_get}
+use Rattle.std.specs.Prelude.{◌≡◌, Bool, ℕ, ◌+◌, ◌-◌, ◌≤◌, ◌<◌, ◌⊎◌, List, length, Option, Some, None, IfSome, slice_get}
 use Rattle.std.proofs.Common.{subst, sym, ◌∙◌, arith, ap, zero, suc, inl, inr, map, get_or, [], ◌∷◌}
 use Rattle.tib_io.specs.Causes.{Rose}
 use Rattle.tib_lex.specs.declared.fault.FileFault.{FileFault}
@@ -13,7 +13,7 @@ use Rattle.tib_run.specs.Kinds.{Kind, kind_at, kinds_of, file_at, bytes_at, OfNa
 use Rattle.tib_operations.specs.FileTexts.{IsShort}
 use Rattle.tib_run.specs.Answers.{numbers_of, IsResultOf, IsAnswer, IsAnswerOf}
 use Rattle.tib_operations.specs.Made.{IsMadeFault}
-use Rattle.tib_run.specs.Causes.{HasCause, AreBefore, HasEarlier, HasClass, IsAbout, IsEarly, BreaksClass, MeetsClass, MakesTooMuch, makes, demanded, bytes_of, file_count, scale_of, product_of, scale_by}
+use Rattle.tib_run.specs.Causes.{HasCause, AreBefore, HasEarlier, HasClass, IsAbout, IsEarly, BreaksClass, MeetsClass, MakesTooMuch, MakesWithin, MeetsLarge, MeetsLargeTree, makes, demanded, bytes_of, file_count, scale_of, product_of, levelled_of, scale_by}
 use Rattle.tib_operations.specs.Classes.{Demanded, IsMet, IsClassFault}
 use Rattle.tib_run.proofs.FileValues.{told_grown, kinds_told}
 
@@ -66,6 +66,7 @@ cause_earlier job held before middle now a b statuses.Usage up h = h
 cause_earlier job held before middle now a b (statuses.BadInput n fault) up h = h
 cause_earlier job held before middle now a b (statuses.Class n rule fault) up h = h
 cause_earlier job held before middle now a b (statuses.TooMany limit) up h = h
+cause_earlier job held before middle now a b statuses.TreeTooLarge up h = h
 cause_earlier job held before middle now a b (statuses.ReadFault n) up h =
     name_map (file_at job n) (λ name. Rose (middle name) (now name)) (λ name. Rose (before name) (now name)) (λ name r. omega (arith, up name, r)) h
 cause_earlier job held before middle now a b statuses.WriteFault up h = h
@@ -101,6 +102,7 @@ about_early file statuses.Usage h = absurd h
 about_early file (statuses.BadInput n fault) h = tt
 about_early file (statuses.Class n rule fault) h = absurd h
 about_early file (statuses.TooMany limit) h = tt
+about_early file statuses.TreeTooLarge h = absurd h
 about_early file (statuses.ReadFault n) h = tt
 about_early file statuses.WriteFault h = absurd h
 about_early file (statuses.TooLong n) h = tt
@@ -112,6 +114,7 @@ class_early demanded statuses.Usage h = absurd h
 class_early demanded (statuses.BadInput n fault) h = absurd h
 class_early demanded (statuses.Class n rule fault) h = tt
 class_early demanded (statuses.TooMany limit) h = absurd h
+class_early demanded statuses.TreeTooLarge h = absurd h
 class_early demanded (statuses.ReadFault n) h = absurd h
 class_early demanded statuses.WriteFault h = absurd h
 class_early demanded (statuses.TooLong n) h = absurd h
@@ -124,6 +127,7 @@ made_earlier P limit job held statuses.Usage h b c = tt
 made_earlier P limit job held (statuses.BadInput n fault) h b c = absurd h
 made_earlier P limit job held (statuses.Class n rule fault) h b c = absurd h
 made_earlier P limit job held (statuses.TooMany n) h b c = (b, c)
+made_earlier P limit job held statuses.TreeTooLarge h b c = absurd h
 made_earlier P limit job held (statuses.ReadFault n) h b c = absurd h
 made_earlier P limit job held statuses.WriteFault h b c = tt
 made_earlier P limit job held (statuses.TooLong n) h b c = absurd h
@@ -135,6 +139,7 @@ about_earlier job held file statuses.Usage h b = tt
 about_earlier job held file (statuses.BadInput n fault) h b = subst (AreBefore job held) (sym h) b
 about_earlier job held file (statuses.Class n rule fault) h b = absurd h
 about_earlier job held file (statuses.TooMany limit) h b = absurd h
+about_earlier job held file statuses.TreeTooLarge h b = absurd h
 about_earlier job held file (statuses.ReadFault n) h b = subst (AreBefore job held) (sym h) b
 about_earlier job held file statuses.WriteFault h b = tt
 about_earlier job held file (statuses.TooLong n) h b = subst (AreBefore job held) (sym h) b
@@ -195,6 +200,7 @@ module _
             (subst (λ (p : ℕ → ℕ → ℕ). MakesTooMuch o (scale_of asked.mode) p asked.limit (bytes_of asked held)) pe
             (subst (λ (w : Scale). MakesTooMuch o w product asked.limit (bytes_of asked held)) we much)),
       )
+  made_cause before now a b statuses.TreeTooLarge h = absurd h
   made_cause before now a b (statuses.ReadFault m) h = absurd h
   made_cause before now a b statuses.WriteFault h = absurd h
   made_cause before now a b (statuses.TooLong m) h = absurd h
@@ -217,6 +223,7 @@ module _
       subst (λ (q : Operation). BreaksClass q (scale_of asked.mode) (bytes_of asked held) m (rule, fault)) (sym op)
       (subst (λ (w : Scale). BreaksClass o w (bytes_of asked held) m (rule, fault)) we own)
   class_cause before now a b (statuses.TooMany n) h = absurd h
+  class_cause before now a b statuses.TreeTooLarge h = absurd h
   class_cause before now a b (statuses.ReadFault m) h = absurd h
   class_cause before now a b statuses.WriteFault h = absurd h
   class_cause before now a b (statuses.TooLong m) h = absurd h
@@ -228,10 +235,34 @@ module _
   class_first (statuses.BadInput m fault) h = absurd h
   class_first (statuses.Class m rule fault) h = all_are
   class_first (statuses.TooMany n) h = absurd h
+  class_first statuses.TreeTooLarge h = absurd h
   class_first (statuses.ReadFault m) h = absurd h
   class_first statuses.WriteFault h = absurd h
   class_first (statuses.TooLong m) h = absurd h
   class_first statuses.OutOfMemory h = absurd h
+
+  -- that a tree is too large is a cause
+  pub large_cause :
+      (levelled : Bool) → levelled ≡ levelled_of asked.mode → (before now : List ℕ → ℕ) (a b : ℕ) → MeetsLarge o levelled product asked.k labels values →
+      HasCause (Some asked) held before now a b statuses.TreeTooLarge
+  large_cause levelled le before now a b h =
+      let own : MeetsLargeTree o scale levelled product asked.k (bytes_of asked held) = record { labels = labels; values = values; texts = texts; large = h } in
+      subst (λ (q : Operation). MeetsLargeTree q (scale_of asked.mode) (levelled_of asked.mode) (product_of asked.mode) asked.k (bytes_of asked held)) (sym op)
+      (subst (λ (p : ℕ → ℕ → ℕ). MeetsLargeTree o (scale_of asked.mode) (levelled_of asked.mode) p asked.k (bytes_of asked held)) pe
+      (subst (λ (l : Bool). MeetsLargeTree o (scale_of asked.mode) l product asked.k (bytes_of asked held)) le
+      (subst (λ (w : Scale). MeetsLargeTree o w levelled product asked.k (bytes_of asked held)) we own)))
+
+  -- it comes where also what is made is within the limit
+  pub large_first : IsMet (demanded o values) → (makes o product asked.limit values).within → HasEarlier (Some asked) held statuses.TreeTooLarge
+  large_first met within =
+      let own : MeetsClass o scale (bytes_of asked held) = record { labels = labels; values = values; texts = texts; met = met } in
+      let low : MakesWithin o scale product asked.limit (bytes_of asked held) = record { labels = labels; values = values; texts = texts; within = within } in (
+        all_are,
+        subst (λ (q : Operation). MeetsClass q (scale_of asked.mode) (bytes_of asked held)) (sym op) (subst (λ (w : Scale). MeetsClass o w (bytes_of asked held)) we own),
+        subst (λ (q : Operation). MakesWithin q (scale_of asked.mode) (product_of asked.mode) asked.limit (bytes_of asked held)) (sym op)
+            (subst (λ (p : ℕ → ℕ → ℕ). MakesWithin o (scale_of asked.mode) p asked.limit (bytes_of asked held)) pe
+            (subst (λ (w : Scale). MakesWithin o w product asked.limit (bytes_of asked held)) we low)),
+      )
 
   -- and the result on them is an answer
   pub made_answer : (text : List ℕ) → IsMet (demanded o values) → (makes o product asked.limit values).within → IsResultOf o scale product (numbers_of asked) labels values text → IsAnswer asked held text

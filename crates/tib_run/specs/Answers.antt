@@ -10,36 +10,42 @@ use Rattle.tib_operations.specs.declared.status.Status.{Status}
 use Rattle.tib_operations.specs.declared.status.Status.TheVariants as statuses
 use Rattle.tib_run.specs.Kinds.{Kind, kind_at, kinds_of, file_at, bytes_at, OfName, IsOfKind, ValuesOf, AreTexts}
 use Rattle.tib_operations.specs.FileTexts.{IsShort}
-use Rattle.tib_run.specs.Causes.{scale_of, product_of, makes, demanded, bytes_of, HasCause, HasEarlier, IsTooMuch, IsWithin, IsInClass}
+use Rattle.tib_run.specs.Causes.{scale_of, product_of, makes, demanded, bytes_of, HasCause, HasEarlier, IsTooMuch, IsTooLarge, IsWithin, IsInClass}
 use Rattle.tib_operations.specs.Classes.{IsMet}
 use Rattle.tib_operations.specs.Weigh.{IsWeighed}
 use Rattle.tib_operations.specs.Inside.{HasInsides}
 use Rattle.tib_operations.specs.Normal.{HasNormalText}
+use Rattle.tib_operations.specs.KBest.{HasKBestText}
 use Rattle.tib_operations.specs.Intersect.{HasIntersectionText}
 use Rattle.tib_operations.specs.Forward.{HasForwardText}
 use Rattle.tib_operations.specs.Backward.{HasBackwardText}
 use Rattle.tib_operations.specs.Compose.{HasComposeText}
+use Rattle.tib_operations.specs.Image.{HasImageText}
 use Rattle.tib_operations.specs.Determinize.{HasDeterminizedText}
 use Rattle.tib_operations.specs.Check.{HasClasses}
 use Rattle.tib_operations.specs.Prune.{HasPruneText}
 
--- what the words say in numbers that an answer hangs on: how many parts are within the limit, and how wide the beam is
+-- what the words say in numbers that an answer hangs on: how many parts are within the limit, how wide the beam is, and how many
+-- trees are listed
 pub record Numbers : Type 0 where
   pub limit : ℕ
   pub beam : ℕ
+  pub k : ℕ
 
 abbrev pub numbers_of : Asked → Numbers
-numbers_of asked = record { limit = asked.limit; beam = asked.beam }
+numbers_of asked = record { limit = asked.limit; beam = asked.beam; k = asked.k }
 
 -- the text answers the operation on these values of its files
 abbrev pub IsResultOf : (operation : Operation) → Scale → (ℕ → ℕ → ℕ) → Numbers → List (List ℕ) → ValuesOf (kinds_of operation) → List ℕ → Type 0
 IsResultOf operations.Weigh scale product numbers labels values text = IsWeighed scale product labels values.0 values.1.0 text
 IsResultOf operations.Inside scale product numbers labels values text = HasInsides scale product values.0 text
 IsResultOf operations.Normal scale product numbers labels values text = HasNormalText scale product numbers.limit labels values.0 text
+IsResultOf operations.KBest scale product numbers labels values text = HasKBestText scale product numbers.k labels values.0 text
 IsResultOf operations.Intersect scale product numbers labels values text = HasIntersectionText scale product numbers.limit labels values.0 values.1.0 text
 IsResultOf operations.Forward scale product numbers labels values text = HasForwardText scale product numbers.limit labels values.0 values.1.0 text
 IsResultOf operations.Backward scale product numbers labels values text = HasBackwardText scale product numbers.limit labels values.0 values.1.0 text
 IsResultOf operations.Compose scale product numbers labels values text = HasComposeText scale product numbers.limit labels values.0 values.1.0 text
+IsResultOf operations.Image scale product numbers labels values text = HasImageText scale product numbers.limit labels values.0 values.1.0 text
 IsResultOf operations.Determinize scale product numbers labels values text = HasDeterminizedText scale product numbers.limit labels values.0 text
 IsResultOf operations.Check scale product numbers labels values text = HasClasses values.0 text
 IsResultOf operations.Prune scale product numbers labels values text = HasPruneText scale product numbers.beam labels values.0 text
@@ -67,10 +73,12 @@ abbrev pub NeedsOf : Operation → (ℕ → ℕ → ℕ) → ℕ → Type 0
 NeedsOf operations.Weigh product limit = Unit {0}
 NeedsOf operations.Inside product limit = Unit {0}
 NeedsOf operations.Normal product limit = MeetsLaws product limit
+NeedsOf operations.KBest product limit = Unit {0}
 NeedsOf operations.Intersect product limit = MeetsLaws product limit
 NeedsOf operations.Forward product limit = MeetsLaws product limit
 NeedsOf operations.Backward product limit = MeetsLaws product limit
 NeedsOf operations.Compose product limit = MeetsLaws product limit
+NeedsOf operations.Image product limit = MeetsLaws product limit
 NeedsOf operations.Determinize product limit = MeetsLaws product limit
 NeedsOf operations.Check product limit = Unit {0}
 NeedsOf operations.Prune product limit = MeetsLaws product limit
@@ -93,13 +101,14 @@ abbrev pub AreOfTheirKinds : Asked → (List ℕ → Option (List ℕ)) → Type
 AreOfTheirKinds asked held =
     (n : ℕ) (kind : Kind) → kind_at (Some asked) n ≡ Some kind → OfName (bytes_at held (file_at (Some asked) n)) (IsOfKind (scale_of asked.mode) kind)
 
--- each file of a job is told, not too long and of its kind, and of the class that the operation demands, and what the job makes
--- is within the limit
+-- each file of a job is told, not too long and of its kind, and of the class that the operation demands, what the job makes is within
+-- the limit, and no state has a tree that is too large among those that the job may ask of it
 pub record IsAnswerable (asked : Asked) (held : List ℕ → Option (List ℕ)) : Type 0 where
   pub short : (n : ℕ) (name : List ℕ) → file_at (Some asked) n ≡ Some name → OfName (held name) IsShort
   pub kinds : AreOfTheirKinds asked held
   pub class : IsInClass asked held
   pub within : IsWithin asked held
+  pub small : IsTooLarge asked held → ⊥
 
 -- no count of a file of the job rose, nor that of the output
 pub record IsCalm (asked : Asked) (before now : List ℕ → ℕ) (out_before out_now : ℕ) : Type 0 where
@@ -117,9 +126,13 @@ pub record EndsCalmly (asked : Asked) (held : List ℕ → Option (List ℕ)) (s
   pub earlier : HasEarlier (Some asked) held status
   pub text : status ≡ statuses.Done → (text : List ℕ) × IsAnswer asked held text
 
--- the two are one, or memory was refused in one of the runs
+-- one run listed its trees, and the other met one that is too large among those of some state
+abbrev pub DifferInLarge : Status → Status → Type 0
+DifferInLarge s t = ((s ≡ statuses.Done) × (t ≡ statuses.TreeTooLarge)) ⊎ ((s ≡ statuses.TreeTooLarge) × (t ≡ statuses.Done))
+
+-- the two are one, or memory was refused in one of the runs, or one alone met a tree that is too large
 abbrev pub AreOneStatus : Status → Status → Type 0
-AreOneStatus s t = (s ≡ t) ⊎ ((s ≡ statuses.OutOfMemory) ⊎ (t ≡ statuses.OutOfMemory))
+AreOneStatus s t = (s ≡ t) ⊎ ((s ≡ statuses.OutOfMemory) ⊎ ((t ≡ statuses.OutOfMemory) ⊎ DifferInLarge s t))
 
 -- a job that can be answered, in a run in which no count rose, was answered but for want of memory
 abbrev pub IsComplete : Option Asked → (List ℕ → Option (List ℕ)) → (List ℕ → ℕ) → (List ℕ → ℕ) → ℕ → ℕ → Status → Type 0

@@ -1,7 +1,7 @@
 -- What each answer of a run says of the words, the files and the output.
 use Rattle.tib_cost.specs.declared.Scale.{Scale}
 use Rattle.tib_cost.specs.declared.Scale.TheVariants as scales
-use Rattle.std.specs.Prelude.{◌≡◌, ℕ, ◌+◌, max, ◌<◌, List, length, Option, Some, None, IfSome, IsSome}
+use Rattle.std.specs.Prelude.{◌≡◌, ℕ, ◌+◌, max, ◌<◌, Bool, true, false, List, length, Option, Some, None, IfSome, IsSome}
 use Rattle.std.proofs.Common.{suc}
 use Rattle.tib_io.specs.Causes.{Rose}
 use Rattle.tib_classes.specs.declared.error.ClassFault.{ClassFault}
@@ -16,9 +16,11 @@ use Rattle.tib_operations.specs.Made.{Made}
 use Rattle.tib_operations.specs.Weigh.{weigh_makes}
 use Rattle.tib_operations.specs.Inside.{inside_makes}
 use Rattle.tib_operations.specs.Normal.{normal_makes}
+use Rattle.tib_operations.specs.KBest.{kbest_makes, ListsSmall, HasLargeTree}
 use Rattle.tib_operations.specs.Intersect.{intersect_makes}
 use Rattle.tib_operations.specs.Forward.{forward_makes, forward_demands}
 use Rattle.tib_operations.specs.Compose.{compose_makes, compose_demands}
+use Rattle.tib_operations.specs.Image.{image_makes}
 use Rattle.tib_operations.specs.Backward.{backward_makes, backward_demands}
 use Rattle.tib_operations.specs.Determinize.{determinize_makes}
 use Rattle.tib_operations.specs.Check.{check_makes}
@@ -45,15 +47,24 @@ product_of modes.Bottleneck = max
 product_of modes.Widest = max
 product_of modes.Boolean = max
 
+-- whether the product of a mode is the greater cost of those that have weights
+abbrev pub levelled_of : Mode → Bool
+levelled_of modes.MinPlus = false
+levelled_of modes.Bottleneck = true
+levelled_of modes.Widest = true
+levelled_of modes.Boolean = false
+
 -- what an operation makes of the values of its files
 abbrev pub makes : (operation : Operation) → (ℕ → ℕ → ℕ) → ℕ → ValuesOf (kinds_of operation) → Made
 makes operations.Weigh product limit values = weigh_makes product limit values.0
 makes operations.Inside product limit values = inside_makes
 makes operations.Normal product limit values = normal_makes product limit values.0
+makes operations.KBest product limit values = kbest_makes product limit values.0
 makes operations.Intersect product limit values = intersect_makes product limit values.0 values.1.0
 makes operations.Forward product limit values = forward_makes product limit values.0 values.1.0
 makes operations.Backward product limit values = backward_makes product limit values.0 values.1.0
 makes operations.Compose product limit values = compose_makes product limit values.0 values.1.0
+makes operations.Image product limit values = image_makes limit values.0 values.1.0
 makes operations.Determinize product limit values = determinize_makes product limit values.0
 makes operations.Check product limit values = check_makes
 makes operations.Prune product limit values = prune_makes product limit values.0
@@ -63,13 +74,25 @@ abbrev pub demanded : (operation : Operation) → ValuesOf (kinds_of operation) 
 demanded operations.Weigh values = None
 demanded operations.Inside values = None
 demanded operations.Normal values = None
+demanded operations.KBest values = None
 demanded operations.Intersect values = None
 demanded operations.Forward values = forward_demands values.1.0
 demanded operations.Backward values = backward_demands values.0
 demanded operations.Compose values = compose_demands values.1.0
+demanded operations.Image values = None
 demanded operations.Determinize values = None
 demanded operations.Check values = None
 demanded operations.Prune values = None
+
+-- an operation lists no tree that is too large
+abbrev pub ListsNoLarge : (operation : Operation) → (ℕ → ℕ → ℕ) → ℕ → List (List ℕ) → ValuesOf (kinds_of operation) → Type 0
+ListsNoLarge operations.KBest product k labels values = ListsSmall product k labels values.0
+ListsNoLarge operation product k labels values = Unit {0}
+
+-- a state has a tree that is too large among those that it may have to give
+abbrev pub MeetsLarge : (operation : Operation) → Bool → (ℕ → ℕ → ℕ) → ℕ → List (List ℕ) → ValuesOf (kinds_of operation) → Type 0
+MeetsLarge operations.KBest levelled product k labels values = HasLargeTree levelled product k labels values.0
+MeetsLarge operation levelled product k labels values = ⊥
 
 -- Files are the texts of values of which an operation makes something with more parts than the limit.
 pub record MakesTooMuch (operation : Operation) (scale : Scale) (product : ℕ → ℕ → ℕ) (limit : ℕ) (bytes : ℕ → Option (List ℕ)) : Type 0 where
@@ -83,6 +106,26 @@ abbrev pub StaysWithin : Operation → Scale → (ℕ → ℕ → ℕ) → ℕ �
 StaysWithin operation scale product limit bytes =
     (labels : List (List ℕ)) (values : ValuesOf (kinds_of operation)) → AreTexts scale labels bytes (kinds_of operation) values →
     (makes operation product limit values).within
+
+-- Files are the texts of values of which what an operation makes is within the limit.
+pub record MakesWithin (operation : Operation) (scale : Scale) (product : ℕ → ℕ → ℕ) (limit : ℕ) (bytes : ℕ → Option (List ℕ)) : Type 0 where
+  pub labels : List (List ℕ)
+  pub values : ValuesOf (kinds_of operation)
+  pub texts : AreTexts scale labels bytes (kinds_of operation) values
+  pub within : (makes operation product limit values).within
+
+-- Files are the texts of values of which a state has a tree that is too large among those that it may have to give.
+pub record MeetsLargeTree (operation : Operation) (scale : Scale) (levelled : Bool) (product : ℕ → ℕ → ℕ) (k : ℕ) (bytes : ℕ → Option (List ℕ)) : Type 0 where
+  pub labels : List (List ℕ)
+  pub values : ValuesOf (kinds_of operation)
+  pub texts : AreTexts scale labels bytes (kinds_of operation) values
+  pub large : MeetsLarge operation levelled product k labels values
+
+-- whatever values the files are the texts of, the operation lists no tree of them that is too large
+abbrev pub StaysSmall : Operation → Scale → (ℕ → ℕ → ℕ) → ℕ → (ℕ → Option (List ℕ)) → Type 0
+StaysSmall operation scale product k bytes =
+    (labels : List (List ℕ)) (values : ValuesOf (kinds_of operation)) → AreTexts scale labels bytes (kinds_of operation) values →
+    ListsNoLarge operation product k labels values
 
 -- Files are the texts of values that are not of the class that an operation demands, and this is the first rule that is not.
 pub record BreaksClass (operation : Operation) (scale : Scale) (bytes : ℕ → Option (List ℕ)) (file : ℕ) (found : ℕ × ClassFault) : Type 0 where
@@ -118,6 +161,15 @@ abbrev pub IsWithin : Asked → (List ℕ → Option (List ℕ)) → Type 0
 IsWithin asked held =
     StaysWithin asked.task.operation (scale_of asked.mode) (product_of asked.mode) asked.limit (bytes_of asked held)
 
+-- the job lists no tree that is too large
+abbrev pub IsSmall : Asked → (List ℕ → Option (List ℕ)) → Type 0
+IsSmall asked held = StaysSmall asked.task.operation (scale_of asked.mode) (product_of asked.mode) asked.k (bytes_of asked held)
+
+-- a state has a tree that is too large among those that the job may ask of it
+abbrev pub IsTooLarge : Asked → (List ℕ → Option (List ℕ)) → Type 0
+IsTooLarge asked held =
+    MeetsLargeTree asked.task.operation (scale_of asked.mode) (levelled_of asked.mode) (product_of asked.mode) asked.k (bytes_of asked held)
+
 -- the files of the job are of the class that its operation demands
 abbrev pub IsInClass : Asked → (List ℕ → Option (List ℕ)) → Type 0
 IsInClass asked held = StaysInClass asked.task.operation (scale_of asked.mode) (bytes_of asked held)
@@ -139,9 +191,19 @@ abbrev pub HasTooMany : Option Asked → (List ℕ → Option (List ℕ)) → �
 HasTooMany None held limit = ⊥
 HasTooMany (Some asked) held limit = (asked.limit ≡ limit) × IsTooMuch asked held
 
+abbrev pub HasTooLarge : Option Asked → (List ℕ → Option (List ℕ)) → Type 0
+HasTooLarge None held = ⊥
+HasTooLarge (Some asked) held = IsTooLarge asked held
+
+-- what is made is within the limit
+abbrev pub HasWithin : Option Asked → (List ℕ → Option (List ℕ)) → Type 0
+HasWithin None held = ⊥
+HasWithin (Some asked) held = MakesWithin asked.task.operation (scale_of asked.mode) (product_of asked.mode) asked.limit (bytes_of asked held)
+
 -- Each answer comes only with its cause: words that are no command, a count of faults that rose in this run, a file that
--- is too long, the first fault of a file that is not, the first rule outside the class that the operation demands, or a normal
--- form or a reached set with more parts than the limit of the job. Want of memory may stand at any place.
+-- is too long, the first fault of a file that is not, the first rule outside the class that the operation demands, a normal form or a
+-- reached set with more parts than the limit of the job, or a tree that is too large among those that a state may have to give. Want
+-- of memory may stand at any place.
 abbrev pub HasCause : Option Asked → (List ℕ → Option (List ℕ)) → (List ℕ → ℕ) → (List ℕ → ℕ) → ℕ → ℕ → Status → Type 0
 HasCause job held before now out_before out_now statuses.Done = IsSome job
 HasCause job held before now out_before out_now statuses.Usage = job ≡ None
@@ -149,6 +211,7 @@ HasCause job held before now out_before out_now (statuses.BadInput file fault) =
     OfFile job file (Told held (λ bytes. IsShort bytes × HasFault (scale_by job) (kind_at job file) bytes fault))
 HasCause job held before now out_before out_now (statuses.Class file rule fault) = HasOutside job held file (rule, fault)
 HasCause job held before now out_before out_now (statuses.TooMany limit) = HasTooMany job held limit
+HasCause job held before now out_before out_now statuses.TreeTooLarge = HasTooLarge job held
 HasCause job held before now out_before out_now (statuses.ReadFault file) = OfFile job file (λ name. Rose (before name) (now name))
 HasCause job held before now out_before out_now statuses.WriteFault = IsSome job × Rose out_before out_now
 HasCause job held before now out_before out_now (statuses.TooLong file) = OfFile job file (Told held IsLong)
@@ -162,14 +225,15 @@ abbrev pub file_count : Option Asked → ℕ
 file_count None = 0
 file_count (Some asked) = length (kinds_of asked.task.operation)
 
--- an answer about a file comes only where the files before it are of their kinds, one about a class where all are, and one about
--- the parts where all are and no class is broken
+-- an answer about a file comes only where the files before it are of their kinds, one about a class where all are, one about the
+-- parts where all are and no class is broken, and one about a large tree where also what is made is within the limit
 abbrev pub HasEarlier : Option Asked → (List ℕ → Option (List ℕ)) → Status → Type 0
 HasEarlier job held (statuses.BadInput file fault) = AreBefore job held file
 HasEarlier job held (statuses.ReadFault file) = AreBefore job held file
 HasEarlier job held (statuses.TooLong file) = AreBefore job held file
 HasEarlier job held (statuses.Class file rule fault) = AreBefore job held (file_count job + 1)
 HasEarlier job held (statuses.TooMany limit) = AreBefore job held (file_count job + 1) × HasClass job held
+HasEarlier job held statuses.TreeTooLarge = AreBefore job held (file_count job + 1) × HasClass job held × HasWithin job held
 HasEarlier job held status = Unit {0}
 
 -- an answer about one file, or want of memory

@@ -6,6 +6,7 @@ use Rattle.tib_lex.specs.declared.fault.FileFault.{FileFault}
 use Rattle.tib_tree.specs.Grows.{AreDistinct}
 use Rattle.tib_tree.specs.Trees.{Tree}
 use Rattle.tib_tree.specs.TreesText.{IsFirstFault as IsFirstTreeFault}
+use Rattle.tib_one_tree.specs.OneTree.{IsOneTreeFault}
 use Rattle.tib_grammar.specs.GrammarOf.{GrammarOf}
 use Rattle.tib_grammar_file.specs.Faults.{IsFirstFault}
 use Rattle.tib_transducer.specs.TransducerOf.{TransducerOf}
@@ -18,6 +19,7 @@ use Rattle.tib_command.specs.declared.job.Operation.TheVariants as operations
 pub data Kind : Type 0 where
   of_grammar : Kind
   of_trees : Kind
+  of_one_tree : Kind
   of_transducer : Kind
 
 -- what the files of an operation hold, in order
@@ -25,10 +27,12 @@ abbrev pub kinds_of : Operation → List Kind
 kinds_of operations.Weigh = of_grammar ∷ of_trees ∷ []
 kinds_of operations.Inside = of_grammar ∷ []
 kinds_of operations.Normal = of_grammar ∷ []
+kinds_of operations.KBest = of_grammar ∷ []
 kinds_of operations.Intersect = of_grammar ∷ of_grammar ∷ []
 kinds_of operations.Forward = of_grammar ∷ of_transducer ∷ []
 kinds_of operations.Backward = of_transducer ∷ of_grammar ∷ []
 kinds_of operations.Compose = of_transducer ∷ of_transducer ∷ []
+kinds_of operations.Image = of_one_tree ∷ of_transducer ∷ []
 kinds_of operations.Determinize = of_grammar ∷ []
 kinds_of operations.Check = of_transducer ∷ []
 kinds_of operations.Prune = of_grammar ∷ []
@@ -66,12 +70,14 @@ Told held P name = IfSome (held name) P
 abbrev pub ValueOf : Kind → Type 0
 ValueOf of_grammar = GrammarOf
 ValueOf of_trees = List (Tree ℕ)
+ValueOf of_one_tree = Tree ℕ
 ValueOf of_transducer = TransducerOf
 
 -- the bytes are not too many, and are the text of the value over a table of labels
 abbrev pub IsTextOf : Scale → List (List ℕ) → (kind : Kind) → ValueOf kind → List ℕ → Type 0
 IsTextOf scale labels of_grammar g bytes = IsRead scale labels g bytes
 IsTextOf scale labels of_trees trees bytes = ListsTrees labels trees bytes
+IsTextOf scale labels of_one_tree one bytes = ListsTrees labels (one ∷ []) bytes
 IsTextOf scale labels of_transducer t bytes = IsTransducerRead scale labels t bytes
 
 -- the bytes are the text of a value of the kind
@@ -102,11 +108,12 @@ AreOfKinds scale kinds bytes = (n : ℕ) (kind : Kind) → slice_get kinds n ≡
 abbrev pub AreAllTold : List Kind → (ℕ → Option (List ℕ)) → Type 0
 AreAllTold kinds bytes = (n : ℕ) (kind : Kind) → slice_get kinds n ≡ Some kind → IsSome (bytes n)
 
--- the first fault of the bytes as the text of a value of the kind
+-- the fault of the bytes as the text of a value of the kind: the first of their lines, or of one tree that there is none or are several
 abbrev pub HasFault : Scale → Option Kind → List ℕ → FileFault → Type 0
 HasFault scale None bytes fault = ⊥
 HasFault scale (Some of_grammar) bytes fault = IsFirstFault scale bytes fault
 HasFault scale (Some of_trees) bytes fault = IsFirstTreeFault bytes fault
+HasFault scale (Some of_one_tree) bytes fault = IsOneTreeFault bytes fault
 HasFault scale (Some of_transducer) bytes fault = IsFirstTransducerFault scale bytes fault
 
 -- bytes of a kind have no fault as such

@@ -5,7 +5,7 @@ use Rattle.tib_classes.specs.declared.error.ClassFault.{ClassFault}
 use Rattle.tib_command.specs.Jobs.{Asked, job_of}
 use Rattle.tib_command.specs.declared.job.Operation.{Operation}
 use Rattle.tib_run.specs.Kinds.{kinds_of, AreOfKinds, AreAllTold}
-use Rattle.tib_run.specs.Causes.{StaysInClass, StaysWithin, IsInClass, IsOutOfClass, IsTooMuch, IsWithin}
+use Rattle.tib_run.specs.Causes.{StaysInClass, StaysWithin, StaysSmall, IsInClass, IsOutOfClass, IsTooMuch, IsWithin, IsSmall}
 use Rattle.tib_run.specs.Answers.{Numbers, IsAnswerOf, NeedsOf, IsAnswer, AreTold, AreOfTheirKinds, EndsCalmly, AreOneStatus}
 use Rattle.tib_operations.specs.declared.status.Status.{Status}
 
@@ -16,13 +16,13 @@ TextsAreOne =
     AreAllTold (kinds_of operation) bytes → IsAnswerOf operation scale product numbers bytes text →
     IsAnswerOf operation scale product numbers bytes other → text ≡ other
 
--- where the files of an operation are of their kinds and of the class that it demands, and what it makes of them is within the
--- limit, that no text answers cannot be
+-- where the files of an operation are of their kinds and of the class that it demands, what it makes of them is within the limit, and
+-- it lists no tree that is too large, that no text answers cannot be
 abbrev pub TextsExist : Type 0
 TextsExist =
     (operation : Operation) (scale : Scale) (product : ℕ → ℕ → ℕ) (numbers : Numbers) (bytes : ℕ → Option (List ℕ)) →
     NeedsOf operation product numbers.limit → AreOfKinds scale (kinds_of operation) bytes → StaysInClass operation scale bytes →
-    StaysWithin operation scale product numbers.limit bytes →
+    StaysWithin operation scale product numbers.limit bytes → StaysSmall operation scale product numbers.k bytes →
     ((text : List ℕ) → IsAnswerOf operation scale product numbers bytes text → ⊥) → ⊥
 
 -- where the files of a job are told, one text answers it
@@ -66,18 +66,19 @@ IsInClassOrOutside =
     (asked : Asked) (held : List ℕ → Option (List ℕ)) → AreOfTheirKinds asked held → (IsInClass asked held → ⊥) →
     ((file : ℕ) (found : ℕ × ClassFault) → IsOutOfClass asked held file found → ⊥) → ⊥
 
--- where the files of a job that words ask for are of their kinds and of the class that it demands, and it is within its limit, that
--- no text answers cannot be
+-- where the files of a job that words ask for are of their kinds and of the class that it demands, it is within its limit, and it lists
+-- no tree that is too large, that no text answers cannot be
 abbrev pub JobsAreAnswered : Type 0
 JobsAreAnswered =
     (words : List (List ℕ)) (asked : Asked) (held : List ℕ → Option (List ℕ)) → job_of words ≡ Some asked →
-    AreOfTheirKinds asked held → IsInClass asked held → IsWithin asked held → ((text : List ℕ) → IsAnswer asked held text → ⊥) → ⊥
+    AreOfTheirKinds asked held → IsInClass asked held → IsWithin asked held → IsSmall asked held →
+    ((text : List ℕ) → IsAnswer asked held text → ⊥) → ⊥
 
--- that it has neither an answer nor a rule outside that class nor too many parts cannot be
+-- that it has neither an answer nor a rule outside that class nor too many parts, and lists no tree that is too large, cannot be
 abbrev pub JobsHaveOne : Type 0
 JobsHaveOne =
     (words : List (List ℕ)) (asked : Asked) (held : List ℕ → Option (List ℕ)) → job_of words ≡ Some asked →
-    AreOfTheirKinds asked held → ((text : List ℕ) → IsAnswer asked held text → ⊥) →
+    AreOfTheirKinds asked held → IsSmall asked held → ((text : List ℕ) → IsAnswer asked held text → ⊥) →
     ((file : ℕ) (found : ℕ × ClassFault) → IsOutOfClass asked held file found → ⊥) → (IsTooMuch asked held → ⊥) → ⊥
 
 -- an answer and too many parts it has not both
@@ -92,7 +93,8 @@ JobsHaveNotOutside =
     (asked : Asked) (held : List ℕ → Option (List ℕ)) (text : List ℕ) (file : ℕ) (found : ℕ × ClassFault) → AreOfTheirKinds asked held →
     IsAnswer asked held text → IsOutOfClass asked held file found → ⊥
 
--- a job whose files are told ends with one status in all runs in which no count rises and no memory is refused
+-- a job whose files are told ends with one status in all runs in which no count rises and no memory is refused, or with a list in the
+-- one and a tree that is too large in the other
 abbrev pub StatusesAreOne : Type 0
 StatusesAreOne =
     (words : List (List ℕ)) (asked : Asked) (held : List ℕ → Option (List ℕ)) (one other : Status) → job_of words ≡ Some asked →

@@ -38,6 +38,7 @@ class_line file rule fault = (codes "tiburon: file " ++ decimal file ++ codes ":
 -- the line of a status that names no number
 unfoldable pub plain_line_of : Status → List ℕ
 plain_line_of statuses.Usage = codes "tiburon: usage: tiburon [-m MODE] [-k N] [-w N] [--limit N] [--beam N] OPERATION FILE...\n"
+plain_line_of statuses.TreeTooLarge = codes "tiburon: a tree has more than 10000 nodes\n"
 plain_line_of statuses.WriteFault = codes "tiburon: cannot write\n"
 plain_line_of statuses.OutOfMemory = codes "tiburon: out of memory\n"
 plain_line_of _ = []

@@ -1,9 +1,9 @@
 // The answer of a job: its whole text, and the writing of it.
-ghost use Rattle.std.specs.Prelude.{◌≡◌, Some, length, IfErr, IfOk};
+ghost use Rattle.std.specs.Prelude.{◌≡◌, ◌<◌, Some, length, IfErr, IfOk};
 ghost use Rattle.tib_io.specs.Causes.{GoesOn};
 ghost use Rattle.tib_command.specs.Jobs.{meaning, word_count};
 ghost use Rattle.tib_run.specs.Answers.{IsAnswer};
-ghost use Rattle.tib_run.specs.Causes.{HasCause, HasEarlier, IsEarly, scale_of, product_of};
+ghost use Rattle.tib_run.specs.Causes.{HasCause, HasEarlier, IsEarly, levelled_of, scale_of, product_of};
 ghost use Rattle.tib_run.specs.Run.{IsRunOf, files_seen, sink_seen};
 ghost use Rattle.tib_operations.specs.Made.{IsLimit};
 ghost use Rattle.tib_operations.specs.Prune.{IsBeam};
@@ -13,8 +13,10 @@ use crate::check::check_file;
 use crate::compose::compose_files;
 use crate::determinize::determinize_file;
 use crate::forward::forward_files;
+use crate::image::image_files;
 use crate::inside::inside_of_file;
 use crate::intersect::intersect_files;
+use crate::kbest::kbest_of_file;
 use crate::laws::{files_have_no_fault, within_or_too_many};
 use crate::normal::normal_of_file;
 use crate::prune::prune_of_file;
@@ -38,6 +40,8 @@ fn text_of<S: Semiring + Sync + Drop, R: Threads + Sync, F: Files, G: Gate>(
     requires files { length job.now.files.items ≡ word_count job.now.operation }
     requires limit { IsLimit job.now.limit }
     requires beam { IsBeam job.now.beam }
+    requires some { 0 < job.now.k }
+    requires levelled { S.LEVELLED ≡ levelled_of job.now.mode }
     requires mode { S.SCALE ≡ scale_of job.now.mode }
     requires product { S.product ≡ product_of job.now.mode }
     ensures text { IfOk result (λ text. IsAnswer (meaning job.now) (F.held files.old) text.bytes) }
@@ -52,10 +56,12 @@ fn text_of<S: Semiring + Sync + Drop, R: Threads + Sync, F: Files, G: Gate>(
         Operation::Weigh => weigh_files::<S, R, F>(rt, alloc, job, files),
         Operation::Inside => inside_of_file::<S, F>(alloc, job, files),
         Operation::Normal => normal_of_file::<S, F>(alloc, job, files),
+        Operation::KBest => kbest_of_file::<S, F>(alloc, job, files),
         Operation::Intersect => intersect_files::<S, F, G>(alloc, job, files, gate),
         Operation::Forward => forward_files::<S, F, G>(alloc, job, files, gate),
         Operation::Backward => backward_files::<S, F, G>(alloc, job, files, gate),
         Operation::Compose => compose_files::<S, F, G>(alloc, job, files, gate),
+        Operation::Image => image_files::<S, F, G>(alloc, job, files, gate),
         Operation::Determinize => determinize_file::<S, F, G>(alloc, job, files, gate),
         Operation::Check => check_file::<S, F>(alloc, job, files),
         Operation::Prune => prune_of_file::<S, F>(alloc, job, files),
@@ -74,6 +80,8 @@ pub(crate) fn answer_job<S: Semiring + Sync + Drop, R: Threads + Sync, F: Files,
     requires files { length job.now.files.items ≡ word_count job.now.operation }
     requires limit { IsLimit job.now.limit }
     requires beam { IsBeam job.now.beam }
+    requires some { 0 < job.now.k }
+    requires levelled { S.LEVELLED ≡ levelled_of job.now.mode }
     requires mode { S.SCALE ≡ scale_of job.now.mode }
     requires product { S.product ≡ product_of job.now.mode }
     ensures { IsRunOf (Some (meaning job.now))

@@ -1,5 +1,5 @@
 // The run of a command.
-ghost use Rattle.std.specs.Prelude.{◌≡◌, Some, length, map, string_bytes};
+ghost use Rattle.std.specs.Prelude.{◌≡◌, ◌<◌, Some, length, map, string_bytes};
 ghost use Rattle.tib_command.specs.Jobs.{job_of, meaning, word_count};
 ghost use Rattle.tib_run.specs.Log.{line_of};
 ghost use Rattle.tib_run.specs.Run.{IsRunOf, IsLogged, files_seen, sink_seen};
@@ -29,6 +29,7 @@ fn perform_job<R: Threads + Sync, F: Files, O: Sink, G: Gate>(
     requires files { length job.now.files.items ≡ word_count job.now.operation }
     requires limit { IsLimit job.now.limit }
     requires beam { IsBeam job.now.beam }
+    requires some { 0 < job.now.k }
     ensures { IsRunOf (Some (meaning job.now))
         (files_seen F.held F.sure F.faults files.old) (files_seen F.held F.sure F.faults files.new)
         (sink_seen O.written O.free O.faults O.finished out.old) (sink_seen O.written O.free O.faults O.finished out.new) result }

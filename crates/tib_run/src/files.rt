@@ -1,12 +1,12 @@
 // The values of a command's files.
-ghost use Rattle.std.specs.Prelude.{◌≡◌, ◌≤◌, ◌<◌, ◌+◌, ◌-◌, ◌^◌, length, Some, IfOk, IfErr};
+ghost use Rattle.std.specs.Prelude.{[], ◌∷◌, ◌≡◌, ◌≤◌, ◌<◌, ◌+◌, ◌-◌, ◌^◌, length, Some, IfOk, IfErr};
 ghost use Rattle.tib_io.specs.Reads.{most_bytes};
 ghost use Rattle.tib_io.specs.Causes.{GoesOn};
 ghost use Rattle.tib_command.specs.Jobs.{meaning};
 ghost use Rattle.tib_run.specs.Causes.{HasCause, IsAbout, scale_of};
 ghost use Rattle.tib_operations.specs.Moves.{ArePlainMoves};
 ghost use Rattle.tib_canon_transducer.specs.Keys.{AreMovesOver};
-ghost use Rattle.tib_run.specs.Kinds.{file_at, kind_at, OfFile, Told, of_grammar, of_trees, of_transducer};
+ghost use Rattle.tib_run.specs.Kinds.{file_at, kind_at, OfFile, Told, of_grammar, of_trees, of_one_tree, of_transducer};
 ghost use Rattle.tib_operations.specs.FileTexts.{IsShort, IsRead, ListsTrees, IsTransducerRead};
 ghost use Rattle.tib_grammar_file.specs.Printable.{ArePrintable};
 ghost use Rattle.tib_tree.specs.Grows.{AreDistinct, Grows};
@@ -20,6 +20,7 @@ use tib_grammar::Grammar;
 use tib_grammar_file::{read_grammar, read_grammars_are_printable};
 use tib_io::{FileError, Files, read_file};
 use tib_lex::ReadError;
+use tib_one_tree::read_one_tree;
 use tib_operations::Status;
 use tib_transducer::Transducer;
 use tib_transducer_file::read_transducer;
@@ -123,6 +124,38 @@ pub(crate) fn trees_in<F: Files>(
             labels.len();
             Ok(trees)
         }
+        Err(ReadError::Fault(fault)) => Err(Status::BadInput { file, fault }),
+        Err(ReadError::OutOfMemory) => Err(Status::OutOfMemory),
+    }
+}
+
+/// The one tree of a file of the job, or the status with which the run ends.
+pub(crate) fn one_tree_in<F: Files>(
+    alloc: Global,
+    job: &Job,
+    file: u32,
+    files: &mut F,
+    labels: &mut Labels,
+) -> Result<Tree, Status>
+    requires from { 1 ≤ file }
+    requires to { file ≤ length job.now.files.items }
+    requires kind { kind_at (Some (meaning job.now)) file ≡ Some of_one_tree }
+    requires room { length labels.old + most_bytes < 2 ^ 32 - 1 }
+    ensures few { length labels.new ≤ length labels.old + most_bytes }
+    ensures text { IfOk result (λ t. OfFile (Some (meaning job.now)) file (Told (F.held files.old) (ListsTrees labels.new (t ∷ [])))) }
+    ensures grows { Grows labels.old labels.new }
+    ensures cause { IfErr result (HasCause (Some (meaning job.now)) (F.held files.old) (F.faults files.old) (F.faults files.new) 0 0) }
+    ensures about { IfErr result (IsAbout file) }
+    ensures held { F.held files.new ≡ F.held files.old }
+    ensures sure { F.sure files.new ≡ F.sure files.old }
+    ensures counts { GoesOn (F.sure files.old) (F.faults files.old) (F.faults files.new) }
+{
+    let bytes = match bytes_of(alloc, job, file, files) {
+        Ok(bytes) => bytes,
+        Err(status) => return Err(status),
+    };
+    match read_one_tree(alloc, &bytes, labels) {
+        Ok(tree) => Ok(tree),
         Err(ReadError::Fault(fault)) => Err(Status::BadInput { file, fault }),
         Err(ReadError::OutOfMemory) => Err(Status::OutOfMemory),
     }

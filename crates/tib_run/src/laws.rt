@@ -5,6 +5,7 @@ ghost use Rattle.tib_run.specs.Laws.{AnswersAreInClass, InClassIsNotOutside, IsI
 ghost use Rattle.tib_run.specs.Run.{RunsEndAlike};
 
 use tib_grammar_file::faults_have_no_text;
+use tib_one_tree::one_tree_or_fault;
 use tib_tree::texts_mean_one;
 
 /// Over told files the text of each operation is one, whatever the tables of labels and the normal forms by which it is told.
@@ -30,6 +31,7 @@ pub fn files_have_no_fault()
 {
     faults_have_no_text();
     texts_mean_one();
+    one_tree_or_fault();
 }
 
 /// What a job makes of files of their kinds is within its limit or has more parts than it: not both, and it cannot be that
@@ -47,15 +49,16 @@ pub fn in_class_or_outside()
     ensures either { IsInClassOrOutside }
 {}
 
-/// Where the files of an operation are of their kinds and of the class that it demands, and what it makes of them is within the
-/// limit, it cannot be that no text answers. Where a grammar is made the product meets its laws.
+/// Where the files of an operation are of their kinds and of the class that it demands, what it makes of them is within the limit,
+/// and it lists no tree of more than 10,000 nodes, it cannot be that no text answers. Where a grammar is made the product meets its
+/// laws.
 pub fn answers_exist()
     ensures { TextsExist }
 {}
 
-/// Where the files of a job that words ask for are of their kinds, it has an answer, a rule outside the class that it demands, or
-/// too many parts, and an answer with neither of the others: what is of that class and within its limit cannot lack an answer,
-/// and that none of the three is there cannot be.
+/// Where the files of a job that words ask for are of their kinds and it lists no tree of more than 10,000 nodes, it has an answer, a
+/// rule outside the class that it demands, or too many parts, and an answer with neither of the others: what is of that class and
+/// within its limit cannot lack an answer, and that none of the three is there cannot be.
 pub fn jobs_have_answers()
     ensures within { JobsAreAnswered }
     ensures either { JobsHaveOne }
@@ -63,13 +66,14 @@ pub fn jobs_have_answers()
     ensures outside { JobsHaveNotOutside }
 {}
 
-/// A job whose files are told ends with one status in all runs in which no count rises and no memory is refused.
+/// A job whose files are told ends with one status in all runs in which no count rises and no memory is refused, but that the one
+/// may list its trees where the other meets a tree of more than 10,000 nodes at some state.
 pub fn statuses_are_one()
     ensures { StatusesAreOne }
 {}
 
 /// The same of the promise of `run`: two runs of a job whose files are told, over files that tell the same bytes, in which no
-/// count rises, end with one status but for want of memory.
+/// count rises, end with one status but for want of memory, and for a list in the one and a tree that is too large in the other.
 pub fn runs_end_alike()
     ensures { RunsEndAlike }
 {}

@@ -130,6 +130,7 @@ fn plain_line(status: &Status) -> &'static [u8]
     match *status {
         Status::Usage =>
             b"tiburon: usage: tiburon [-m MODE] [-k N] [-w N] [--limit N] [--beam N] OPERATION FILE...\n",
+        Status::TreeTooLarge => b"tiburon: a tree has more than 10000 nodes\n",
         Status::WriteFault => b"tiburon: cannot write\n",
         Status::OutOfMemory => b"tiburon: out of memory\n",
         _ => b"",

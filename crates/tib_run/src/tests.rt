@@ -8,17 +8,23 @@ use tib_operations::Status;
 mod applied_rows;
 mod composed_rows;
 mod determinized_rows;
+mod image_rows;
+mod kbest_rows;
 mod large;
+mod limits;
 mod rows;
 mod running;
 mod transducer_rows;
 mod watched;
 
-use applied_rows::{BACKWARD, DELETED_FROM, DELETING, FORWARD, SWAPPED_FROM, SWAPPING};
+use applied_rows::{BACKWARD, FORWARD};
 use composed_rows::COMPOSED;
-use determinized_rows::{AMBIGUOUS, DETERMINIZED};
+use determinized_rows::DETERMINIZED;
+use image_rows::IMAGED;
+use kbest_rows::LISTED;
+use limits::{LENGTHS, LIMITED, Length};
 use rows::{BINARY, INTERSECTED, ONE_FILE, RIGHT, Row, WEIGHED, WIDEST};
-use running::{Outside, Ran, SOUND, run_words};
+use running::{Outside, Ran, SOUND, run_texts, run_words};
 use transducer_rows::CHECKED;
 
 // How a run is to end: its status, how many bytes of the row's text are written, and how often the files are read and
@@ -129,9 +135,7 @@ fn runs<R: Threads + Sync>(
     row: &Row,
     outside: Outside,
 ) -> Result<bool, AllocError> {
-    let first = row.1.as_bytes().to_vec(alloc)?;
-    let second = row.2.as_bytes().to_vec(alloc)?;
-    let ran = run_words(rt, alloc, row.0, first, second, outside)?;
+    let ran = run_texts(rt, alloc, row.0, row.1, row.2, outside)?;
     Ok(ended(row, &ran, ending_of(row, outside)))
 }
 
@@ -172,9 +176,7 @@ fn fills<R: Threads + Sync>(rt: &R, alloc: Global, row: &Row) -> Result<bool, Al
     } else {
         Status::WriteFault
     };
-    let first = row.1.as_bytes().to_vec(alloc)?;
-    let second = row.2.as_bytes().to_vec(alloc)?;
-    let ran = run_words(rt, alloc, row.0, first, second, Outside { room, ..SOUND })?;
+    let ran = run_texts(rt, alloc, row.0, row.1, row.2, Outside { room, ..SOUND })?;
     Ok(ran.status == status && ran.out.bytes().len() == bytes)
 }
 
@@ -234,6 +236,18 @@ fn compositions_are_as_worked_out(rt: HostRuntime) -> Result<(), Fail> {
 }
 
 #[test]
+fn outputs_on_one_tree_are_as_worked_out(rt: HostRuntime) -> Result<(), Fail> {
+    assert_eq!(rt; first_wrong(&rt, rt.alloc(), &IMAGED)?, None);
+    Ok(())
+}
+
+#[test]
+fn cheapest_trees_are_as_worked_out(rt: HostRuntime) -> Result<(), Fail> {
+    assert_eq!(rt; first_wrong(&rt, rt.alloc(), &LISTED)?, None);
+    Ok(())
+}
+
+#[test]
 fn determinizations_are_as_worked_out(rt: HostRuntime) -> Result<(), Fail> {
     assert_eq!(rt; first_wrong(&rt, rt.alloc(), &DETERMINIZED)?, None);
     Ok(())
@@ -251,160 +265,130 @@ fn the_mode_widest_is_as_worked_out(rt: HostRuntime) -> Result<(), Fail> {
     Ok(())
 }
 
-#[test]
-fn an_intersection_is_refused_below_its_parts(rt: HostRuntime) -> Result<(), Fail> {
-    let alloc = rt.alloc();
-    for limit in 1..=14 {
-        let option = format!(in alloc; "--limit={limit}")?;
-        let words = [option.as_str(), "intersect", "G", "T"];
-        let (left, right) = (
-            BINARY.as_bytes().to_vec(alloc)?,
-            RIGHT.as_bytes().to_vec(alloc)?,
-        );
-        let ran = run_words(&rt, alloc, &words, left, right, SOUND)?;
-        let told = if limit < 14 {
-            Status::TooMany { limit }
-        } else {
-            Status::Done
-        };
-        assert_eq!(rt; ran.status, told, "the limit {limit}");
-        // Each of the two pairs passes the gate once.
-        let passed = (ran.passes, ran.items);
-        assert!(rt; limit < 14 || passed == (2, 1), "the gate: {passed:?}");
-    }
-    Ok(())
+// How an operation on one or two files ends within a limit.
+fn status_within<R: Threads + Sync>(
+    rt: &R,
+    alloc: Global,
+    mode: &str,
+    operation: &str,
+    first: &str,
+    second: &str,
+    limit: u64,
+) -> Result<Status, AllocError> {
+    let option = format!(in alloc; "--limit={limit}")?;
+    let ran = if second.is_empty() {
+        let words = ["-m", mode, option.as_str(), operation, "G"];
+        run_texts(rt, alloc, &words, first, second, SOUND)?
+    } else {
+        let words = ["-m", mode, option.as_str(), operation, "G", "T"];
+        run_texts(rt, alloc, &words, first, second, SOUND)?
+    };
+    Ok(ran.status)
 }
 
-// Whether an operation on two files is refused below this number of parts, and answered with it.
+// Whether an operation is refused below so many parts, and answered with them.
 fn is_refused_below<R: Threads + Sync>(
     rt: &R,
     alloc: Global,
+    mode: &str,
     operation: &str,
     first: &str,
     second: &str,
     parts: u64,
 ) -> Result<bool, AllocError> {
     for limit in 1..=parts {
-        let option = format!(in alloc; "--limit={limit}")?;
-        let words = [option.as_str(), operation, "G", "T"];
-        let left = first.as_bytes().to_vec(alloc)?;
-        let right = second.as_bytes().to_vec(alloc)?;
-        let ran = run_words(rt, alloc, &words, left, right, SOUND)?;
         let told = if limit < parts {
             Status::TooMany { limit }
         } else {
             Status::Done
         };
-        if ran.status != told {
+        if status_within(rt, alloc, mode, operation, first, second, limit)? != told {
             return Ok(false);
         }
     }
     Ok(true)
 }
 
-#[test]
-fn an_application_is_refused_below_its_parts(rt: HostRuntime) -> Result<(), Fail> {
-    let alloc = rt.alloc();
-    // The normal form has 13 parts, and the reached set 11; then 11 and 17.
-    assert!(rt; is_refused_below(&rt, alloc, "forward", DELETED_FROM, DELETING, 13)?);
-    assert!(rt; is_refused_below(&rt, alloc, "backward", SWAPPING, SWAPPED_FROM, 17)?);
-    Ok(())
-}
-
-// Whether a determinization in a mode is refused below this number of parts, and answered with it.
-fn is_determinized_from<R: Threads + Sync>(
-    rt: &R,
-    alloc: Global,
-    mode: &str,
-    parts: u64,
-) -> Result<bool, AllocError> {
-    for limit in 1..=parts {
-        let option = format!(in alloc; "--limit={limit}")?;
-        let words = ["-m", mode, option.as_str(), "determinize", "G"];
-        let grammar = AMBIGUOUS.as_bytes().to_vec(alloc)?;
-        let none = b"".to_vec(alloc)?;
-        let ran = run_words(rt, alloc, &words, grammar, none, SOUND)?;
-        let told = if limit < parts {
-            Status::TooMany { limit }
-        } else {
-            Status::Done
-        };
-        if ran.status != told {
-            return Ok(false);
+// The first operation that is not refused just below its parts.
+fn first_unlimited<R: Threads + Sync>(rt: &R, alloc: Global) -> Result<Option<usize>, AllocError> {
+    for (number, row) in LIMITED.iter().enumerate() {
+        let (mode, operation, first, second, parts) = *row;
+        if !is_refused_below(rt, alloc, mode, operation, first, second, parts)? {
+            return Ok(Some(number));
         }
     }
-    Ok(true)
+    Ok(None)
 }
 
 #[test]
-fn a_determinization_is_refused_below_its_parts(rt: HostRuntime) -> Result<(), Fail> {
-    let alloc = rt.alloc();
-    // The normal form has 13 parts, and the reached set 10.
-    for mode in ["minplus", "bottleneck", "widest", "boolean"] {
-        assert!(rt; is_determinized_from(&rt, alloc, mode, 13)?, "{mode}");
-    }
+fn operations_are_refused_below_their_parts(rt: HostRuntime) -> Result<(), Fail> {
+    assert_eq!(rt; first_unlimited(&rt, rt.alloc())?, None);
     Ok(())
 }
 
-const fn fault(file: u32, kind: FaultKind) -> Status {
-    Status::BadInput {
-        file,
-        fault: FileFault { line: 1, kind },
-    }
+#[test]
+fn each_pair_passes_the_gate_once(rt: HostRuntime) -> Result<(), Fail> {
+    let words = ["intersect", "G", "T"];
+    let ran = run_texts(&rt, rt.alloc(), &words, BINARY, RIGHT, SOUND)?;
+    assert_eq!(rt; (ran.passes, ran.items), (2, 1));
+    Ok(())
 }
 
 // How an operation ends whose first file is a comment of this number of bytes.
-fn status_of<R: Threads + Sync>(
-    rt: &R,
-    alloc: Global,
-    operation: &str,
-    length: usize,
-) -> Result<Status, AllocError> {
-    let file = vec![in alloc; b'%'; length]?;
+fn status_of<R: Threads + Sync>(rt: &R, alloc: Global, row: &Length) -> Result<Status, AllocError> {
+    let file = vec![in alloc; b'%'; row.1]?;
     let other = b"a".to_vec(alloc)?;
-    if operation == "inside"
-        || operation == "normal"
-        || operation == "determinize"
-        || operation == "check"
-    {
-        let ran = run_words(rt, alloc, &[operation, "G"], file, other, SOUND)?;
-        return Ok(ran.status);
-    }
-    let ran = run_words(rt, alloc, &[operation, "G", "T"], file, other, SOUND)?;
+    let ran = run_words(rt, alloc, row.0, file, other, SOUND)?;
     Ok(ran.status)
+}
+
+// The first operation that takes a file of another length.
+fn first_length<R: Threads + Sync>(rt: &R, alloc: Global) -> Result<Option<usize>, AllocError> {
+    for (number, row) in LENGTHS.iter().enumerate() {
+        if status_of(rt, alloc, row)? != row.2 {
+            return Ok(Some(number));
+        }
+    }
+    Ok(None)
 }
 
 #[test]
 fn files_are_as_long_as_they_may_be(rt: HostRuntime) -> Result<(), Fail> {
-    let alloc = rt.alloc();
-    for (operation, length, status) in [
-        ("weigh", 8_388_609, Status::TooLong { file: 1 }),
-        ("weigh", 8_388_608, fault(1, FaultKind::NoStart)),
-        ("inside", 8_388_609, Status::TooLong { file: 1 }),
-        ("normal", 8_388_609, Status::TooLong { file: 1 }),
-        ("normal", 8_388_608, fault(1, FaultKind::NoStart)),
-        ("intersect", 8_388_609, Status::TooLong { file: 1 }),
-        ("forward", 8_388_609, Status::TooLong { file: 1 }),
-        ("backward", 8_388_609, Status::TooLong { file: 1 }),
-        ("compose", 8_388_609, Status::TooLong { file: 1 }),
-        ("determinize", 8_388_609, Status::TooLong { file: 1 }),
-        ("check", 8_388_609, Status::TooLong { file: 1 }),
-    ] {
-        let ended = status_of(&rt, alloc, operation, length)?;
-        assert_eq!(rt; ended, status, "{operation} of {length} bytes");
+    assert_eq!(rt; first_length(&rt, rt.alloc())?, None);
+    Ok(())
+}
+
+// A tree of a label with so many children.
+fn wide_tree(alloc: Global, children: u32) -> Result<Vec<u8>, AllocError> {
+    let mut tree = b"S(".to_vec(alloc)?;
+    for _ in 0..children {
+        tree.extend_from_slice(b"a ")?;
     }
-    for (children, status) in [
-        (10_000, fault(2, FaultKind::TooManyNodes)),
-        (9_999, Status::WriteFault),
-    ] {
-        let mut trees = b"S(".to_vec(alloc)?;
-        for _ in 0..children {
-            trees.extend_from_slice(b"a ")?;
-        }
-        trees.push(b')')?;
-        let grammar = BINARY.as_bytes().to_vec(alloc)?;
-        let ran = run_words(&rt, alloc, &["weigh", "G", "T"], grammar, trees, SOUND)?;
-        assert_eq!(rt; ran.status, status, "{children} children");
-    }
+    tree.push(b')')?;
+    Ok(tree)
+}
+
+// How a tree of a label with so many children is weighed.
+fn weighed_wide<R: Threads + Sync>(
+    rt: &R,
+    alloc: Global,
+    children: u32,
+) -> Result<Status, AllocError> {
+    let tree = wide_tree(alloc, children)?;
+    let grammar = BINARY.as_bytes().to_vec(alloc)?;
+    let ran = run_words(rt, alloc, &["weigh", "G", "T"], grammar, tree, SOUND)?;
+    Ok(ran.status)
+}
+
+#[test]
+fn trees_are_as_large_as_they_may_be(rt: HostRuntime) -> Result<(), Fail> {
+    let fault = FileFault {
+        line: 1,
+        kind: FaultKind::TooManyNodes,
+    };
+    let large = Status::BadInput { file: 2, fault };
+    assert_eq!(rt; weighed_wide(&rt, rt.alloc(), 10_000)?, large);
+    // What is written has no room.
+    assert_eq!(rt; weighed_wide(&rt, rt.alloc(), 9_999)?, Status::WriteFault);
     Ok(())
 }

@@ -16,13 +16,13 @@ pub const BINARY: &str = "q\nq -> S(q q) # 1\nq -> a # 2\n";
 
 pub const RIGHT: &str = "p\np -> S(p r) # 2\np -> a # 1\nr -> a # 0\n";
 
-const FOREST: &str =
+pub const FOREST: &str =
     "% I saw the man with the telescope\nqS\nqS -> S(qI qVP) # 1\nqI -> NP(PRP(I)) # 2\nqVP -> VP(V(saw) qNP qPP) # 5\nqVP -> VP(V(saw) qNX) # 3\nqNX -> NP(qNP qPP) # 4\nqNP -> NP(DT(the) NN(man)) # 2\nqPP -> PP(P(with) NP(DT(the) NN(telescope))) # 3.000\n";
 
 const READINGS: &str =
     "S(NP(PRP(I)) VP(V(saw) NP(DT(the) NN(man)) PP(P(with) NP(DT(the) NN(telescope)))))\nS(NP(PRP(I)) VP(V(saw) NP(NP(DT(the) NN(man)) PP(P(with) NP(DT(the) NN(telescope))))))\n";
 
-const READINGS_WEIGHED: &str =
+pub const READINGS_WEIGHED: &str =
     "S(NP(PRP(I)) VP(V(saw) NP(DT(the) NN(man)) PP(P(with) NP(DT(the) NN(telescope))))) # 13\nS(NP(PRP(I)) VP(V(saw) NP(NP(DT(the) NN(man)) PP(P(with) NP(DT(the) NN(telescope)))))) # 15\n";
 
 const UNUSED: &str = "q\nq -> A(r s) # 0\nr -> b # 1\ns -> c # 4\ns -> d # 2\nu -> B(u)\n";
@@ -31,7 +31,7 @@ const NESTED: &str = "q\nq -> f(g(a) q) # 3\nq -> r # 1\nr -> b # 2\n";
 
 const NESTED_NORMAL: &str = "q0\nq0 -> b # 3\nq0 -> f(q1 q0) # 3\nq1 -> g(q2) # 0\nq2 -> a # 0\n";
 
-const TWO_WAYS: &str = "q\nq -> f(r) # 1\nq -> f(s) # 3\nr -> a # 2\ns -> a # 1\n";
+pub const TWO_WAYS: &str = "q\nq -> f(r) # 1\nq -> f(s) # 3\nr -> a # 2\ns -> a # 1\n";
 
 // The worked rows on `weigh`, and words that are no command.
 pub static WEIGHED: [Row; 27] = [

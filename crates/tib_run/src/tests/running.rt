@@ -55,6 +55,36 @@ impl Gate for Counting {
     }
 }
 
+// The words as texts of their own.
+fn words_of(alloc: Global, asked: &[&str]) -> Result<Vec<String>, AllocError> {
+    let mut words = Vec::new(alloc);
+    for word in asked {
+        words.push(String::from_str(alloc, word)?)?;
+    }
+    Ok(words)
+}
+
+// The files `G` and `T` with these bytes, of which one read may fail.
+fn files_of(
+    alloc: Global,
+    first: Vec<u8>,
+    second: Vec<u8>,
+    outside: Outside,
+) -> Result<Watched<MemoryFiles>, AllocError> {
+    let mut held = Vec::new(alloc);
+    held.push((String::from_str(alloc, "G")?, first))?;
+    held.push((String::from_str(alloc, "T")?, second))?;
+    let failing = outside.failing_read.as_slice().to_vec(alloc)?;
+    Ok(Watched::new(MemoryFiles::new(held, failing), outside.most))
+}
+
+// An output of which one call may fail.
+fn output_of(alloc: Global, outside: Outside) -> Result<Watched<MemorySink>, AllocError> {
+    let calls = outside.failing_call.as_slice().to_vec(alloc)?;
+    let sink = MemorySink::new(alloc, calls, outside.room)?;
+    Ok(Watched::new(sink, outside.most))
+}
+
 /// The run of these words over the files `G` and `T`.
 pub fn run_words<R: Threads + Sync>(
     rt: &R,
@@ -64,17 +94,9 @@ pub fn run_words<R: Threads + Sync>(
     second: Vec<u8>,
     outside: Outside,
 ) -> Result<Ran, AllocError> {
-    let mut words = Vec::new(alloc);
-    for word in asked {
-        words.push(String::from_str(alloc, word)?)?;
-    }
-    let mut held = Vec::new(alloc);
-    held.push((String::from_str(alloc, "G")?, first))?;
-    held.push((String::from_str(alloc, "T")?, second))?;
-    let failing = outside.failing_read.as_slice().to_vec(alloc)?;
-    let mut files = Watched::new(MemoryFiles::new(held, failing), outside.most);
-    let calls = outside.failing_call.as_slice().to_vec(alloc)?;
-    let mut out = Watched::new(MemorySink::new(alloc, calls, outside.room)?, outside.most);
+    let mut files = files_of(alloc, first, second, outside)?;
+    let words = words_of(alloc, asked)?;
+    let mut out = output_of(alloc, outside)?;
     let mut log = MemorySink::new(alloc, Vec::new(alloc), 1000)?;
     let gate = Counting {
         passes: AtomicU64::new(0),
@@ -93,4 +115,18 @@ pub fn run_words<R: Threads + Sync>(
         passes: gate.passes.load(Ordering::SeqCst),
         items: gate.items.load(Ordering::SeqCst),
     })
+}
+
+/// The same over files with these texts.
+pub fn run_texts<R: Threads + Sync>(
+    rt: &R,
+    alloc: Global,
+    asked: &[&str],
+    first: &str,
+    second: &str,
+    outside: Outside,
+) -> Result<Ran, AllocError> {
+    let left = first.as_bytes().to_vec(alloc)?;
+    let right = second.as_bytes().to_vec(alloc)?;
+    run_words(rt, alloc, asked, left, right, outside)
 }

@@ -2,8 +2,8 @@ use Rattle.std.specs.Global.{Vec}
 use Rattle.std.proofs.Common.{ℕ, List, ◌≡◌, arith, sym, ◌∙◌, ap, Some, ◌++◌, ◌∷◌, []}
 use Rattle.std.proofs.lemmas.List.{get_or-map}
 use Rattle.std.specs.HashMap.{get}
-use Rattle.tib_intersect.specs.Matching.{same_shape}
-use Rattle.tib_intersect.proofs.Buckets.{held-set, numbered-new}
+use Rattle.tib_grammar.specs.ShapeBuckets.{same_shape}
+use Rattle.tib_grammar.proofs.ShapeBuckets.{held-set, numbered-new}
 use Rattle.tib_image.proofs.index.add.Goals as goal
 
 pub index_mut-requires : goal.index_mut-requires

@@ -2,9 +2,10 @@ use Rattle.std.proofs.Common.{◌<◌, arith, ap, sym, ◌∙◌, subst, length}
 use Rattle.std.specs.Prelude.{slice_index}
 use Rattle.tib_grammar.specs.Sides.{side_map}
 use Rattle.tib_grammar.proofs.Holes.{holes_of_items}
+use Rattle.tib_keyed.proofs.Ends.{ends_fit}
 use Rattle.tib_apply.specs.ForwardSettling.{settled_pairs}
 use Rattle.tib_apply.specs.ForwardRules.{numbered_side}
-use Rattle.tib_apply.proofs.ForwardSettled.{ends_fit, settles, side_settled, settled_reads, settled_positions, no_fault}
+use Rattle.tib_apply.proofs.ForwardSettled.{settles, side_settled, settled_reads, settled_positions, no_fault}
 use Rattle.tib_image.proofs.settling.settle_rule.Goals as goal
 
 pub settled_items-requires : goal.settled_items-requires

@@ -1,12 +1,13 @@
 use Rattle.std.proofs.Common.{◌≡◌, Err, ap, sym, ◌∙◌, subst}
 use Rattle.std.proofs.lemmas.List.{get_or_read}
-use Rattle.tib_image.specs.Image.{key_at, IsImageEdge}
+use Rattle.tib_image.specs.Image.{IsImageEdge}
 use Rattle.tib_image.specs.Laws.{same_edge}
 use Rattle.tib_image.specs.Listing.{AreListedFrom, Overruns}
 use Rattle.tib_image.proofs.Listed.{whole_listed, whole_ends, overruns_exceeds}
 use Rattle.tib_hunt.specs.declared.place.ExpandError.{ExpandError}
 use Rattle.tib_image.specs.declared.listing.Listing.{Listing}
 use Rattle.std.specs.declared.result.Result.{Result}
+use Rattle.tib_keyed.specs.Ends.{key_at}
 use Rattle.tib_image.proofs.expand.ImageExpand.expand.Goals as goal
 
 fault_is : (f : ExpandError) → f ≡ ExpandError.More → ◌≡◌ {A = Result Listing ExpandError} (Err f) (Err ExpandError.More)

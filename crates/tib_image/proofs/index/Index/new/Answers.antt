@@ -1,9 +1,9 @@
 use Rattle.std.proofs.Common.{List, ◌<◌, arith, ap, length, subst, sym, ◌∙◌}
 use Rattle.std.proofs.lemmas.List.{get_or_read, take_all}
+use Rattle.tib_grammar.specs.ShapeBuckets.{same_shape}
 use Rattle.tib_transducer.specs.Range.{IsShaped}
 use Rattle.tib_transducer.specs.Rules.{transducer_rule, no_rule}
 use Rattle.tib_transducer.specs.declared.TransducerRule.{TransducerRule}
-use Rattle.tib_intersect.specs.Matching.{same_shape}
 use Rattle.tib_image.specs.Shapes.{has_shape, positions_with}
 use Rattle.tib_image.proofs.Positions.{places-one}
 use Rattle.tib_image.proofs.index.Index.new.Goals as goal

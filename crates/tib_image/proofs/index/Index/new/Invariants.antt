@@ -1,5 +1,5 @@
 use Rattle.std.proofs.Common.{ℕ, ◌≤◌, ◌≡◌, length, take}
-use Rattle.tib_intersect.specs.Matching.{AreNumbered, held}
+use Rattle.tib_grammar.specs.ShapeBuckets.{AreNumbered, held}
 use Rattle.tib_image.specs.Shapes.{positions_with}
 use Rattle.tib_image.proofs.index.Index.new.Given as goal
 

@@ -1,10 +1,11 @@
 use Rattle.std.proofs.Common.{◌<◌, ◌++◌, arith, ap, sym, ◌∙◌, subst, refl, length, map}
 use Rattle.std.proofs.lemmas.List.{length-append}
 use Rattle.tib_lex.specs.Lists.{Each}
+use Rattle.tib_lex.proofs.Lists.{length_map}
 use Rattle.tib_grammar.specs.Items.{holes_in}
 use Rattle.tib_grammar.proofs.Holes.{holes_of_items}
 use Rattle.tib_image.specs.Image.{pair_key}
-use Rattle.tib_apply.proofs.ForwardListed.{items_size, holes_within, lengths_map}
+use Rattle.tib_apply.proofs.ForwardListed.{items_size, holes_within}
 use Rattle.tib_image.proofs.listing.Listing.add.Goals as goal
 
 pub push_ends-requires : goal.push_ends-requires
@@ -36,7 +37,7 @@ returns-clause-within c =
         ends,
         c.requires.within.few,
         length-append c.args.self.now.ends.items (map (pair_key c.args.nodes.now) (holes_in c.items-items.result.now)),
-        lengths_map (pair_key c.args.nodes.now) (holes_in c.items-items.result.now),
+        length_map (pair_key c.args.nodes.now) (holes_in c.items-items.result.now),
         ap length same,
         holes_within c.args.right.now,
         items_size c.items-items.result.now c.args.right.now c.items-items.ensures.items,

@@ -1,8 +1,9 @@
 use Rattle.std.proofs.Common.{◌<◌, refl, length, get_or, arith, ap, sym, ◌∙◌, subst}
 use Rattle.tib_apply.proofs.ForwardEdges.{same_fault}
 use Rattle.tib_tree.specs.Trees.{count}
+use Rattle.tib_keyed.specs.Ends.{key_at}
 use Rattle.tib_image.specs.Nodes.{subtree}
-use Rattle.tib_image.specs.Image.{key_at, IsImageEdge}
+use Rattle.tib_image.specs.Image.{IsImageEdge}
 use Rattle.tib_image.specs.Listing.{Overruns}
 use Rattle.tib_image.proofs.Listed.{listed_first, key_next, key_overruns, key_whole}
 use Rattle.tib_image.proofs.Edging.{all_stand, apart, rule_here}

@@ -1,5 +1,6 @@
 use Rattle.std.proofs.Common.{◌≡◌, ◌<◌, ℕ, List, length, take}
-use Rattle.tib_image.specs.Image.{key_at, IsImageEdge}
+use Rattle.tib_keyed.specs.Ends.{key_at}
+use Rattle.tib_image.specs.Image.{IsImageEdge}
 use Rattle.tib_image.specs.Listing.{IsListed, IsWithinBudget}
 use Rattle.tib_image.proofs.operation.Image.list_edges.Given as goal
 
