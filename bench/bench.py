@@ -229,6 +229,27 @@ def trie(rules):
     return lines
 
 
+def lattice(layers, width):
+    """A grammar of words in deterministic form: the states of a layer have two letters each over states of the next, in two orders."""
+    lines = ["s0_0"]
+    for layer in range(layers):
+        for letter in "ab":
+            places = random.sample(range(width), width)
+            lines += ["s%d_%d -> %s(s%d_%d) # %d" % (layer, it, letter, layer + 1, places[it], random.randrange(100)) for it in range(width)]
+    return lines + ["s%d_%d -> e%d" % (layers, it, it) for it in range(width)]
+
+
+def packed_forest(words):
+    """A grammar of all binary trees over so many words: a state for each stretch of them, with a rule for each place to part it."""
+    random.seed(31)
+    lines = ["p0_%d" % words]
+    for long in range(words, 1, -1):
+        for start in range(words - long + 1):
+            end = start + long
+            lines += ["p%d_%d -> N(p%d_%d p%d_%d) # %d" % (start, end, start, it, it, end, random.randrange(50)) for it in range(start + 1, end)]
+    return lines + ["p%d_%d -> w%d" % (it, it + 1, it) for it in range(words)]
+
+
 def monadic(states, seed):
     """A grammar of words: each state has three rules of one letter of five over a state, the start one for each letter, and
     one state in eight has an end."""
@@ -249,6 +270,63 @@ def turning_letters(states):
         lines += ["t%d.%s(x0:) -> %s(t%d.x0) # %d" % (state, letter, random.choice("abcde"), random.randrange(states), random.randrange(10)) for letter in "abcd"]
         lines.append("t%d.e -> e" % state)
         lines.append("t%d.e(x0:) -> e(t%d.x0) # 1" % (state, random.randrange(states)))
+    return lines
+
+
+def many_matches(holes):
+    """A grammar, and a transducer each for forward and backward application, of which one side has 2^holes matches: each hole
+    stands below a rule with two choices."""
+    grammar = ["s", "s -> f(a s)", "s -> f(b s)", "s -> e", "a -> w", "b -> w"]
+    read, put = "e", "e"
+    for i in reversed(range(holes)):
+        read, put = "f(x%d: %s)" % (i, read), "f(u.x%d %s)" % (i, put)
+    variables, pairs = " ".join("x%d:" % i for i in range(holes)), " ".join("u.x%d" % i for i in range(holes))
+    forward = ["t", "t.%s -> h(%s)" % (read, pairs), "u.w -> w"]
+    backward = ["t", "t.h(%s) -> %s" % (variables, put), "u.w -> w"]
+    return grammar, forward, backward
+
+
+def wide_tree(nodes):
+    """A tree of just so many nodes, each of one of twenty labels, with up to three children."""
+    random.seed(14)
+    below, open_nodes = [[]], [0]
+    while len(below) < nodes:
+        at = open_nodes.pop(random.randrange(len(open_nodes)))
+        for _ in range(min(random.choice((1, 2, 2, 3)), nodes - len(below))):
+            below[at].append(len(below))
+            open_nodes.append(len(below))
+            below.append([])
+    out, stack = [], [0]
+    while stack:
+        top = stack.pop()
+        if isinstance(top, str):
+            out.append(top)
+            continue
+        out.append("n%d_%d" % (top % 5, len(below[top])))
+        if below[top]:
+            out.append("(")
+            stack.append(")")
+            for i, child in enumerate(reversed(below[top])):
+                stack += [" ", child] if i else [child]
+    return "".join(out)
+
+
+def any_rules(rules, states=6):
+    """A transducer of so many rules for such trees: they copy, leave out, turn around, and one in eight has several labels on the left."""
+    random.seed(15)
+    lines = ["t0"]
+    while len(lines) <= rules:
+        number = len(lines)
+        state, label, rank = number % states, random.randrange(5), number // states % 4
+        left, count = "n%d_%d" % (label, rank), rank
+        if rank:
+            first = "x0:"
+            if number % 8 == 0:
+                first, count = "n%d_1(x0:)" % random.randrange(5), rank
+            left += "(" + " ".join([first] + ["x%d:" % it for it in range(1, rank)]) + ")"
+        pairs = ["t%d.x%d" % (random.randrange(states), random.randrange(count)) for _ in range(random.randint(0, 3) if count else 0)]
+        right = "m%d(%s)" % (random.randrange(9), " ".join(pairs)) if pairs else "w%d" % random.randrange(9)
+        lines.append("t%d.%s -> %s # %d" % (state, left, right, random.randrange(10)))
     return lines
 
 
@@ -314,6 +392,15 @@ def main(program):
     row("inside of that trie", measure(program, "inside", grammar), size, "MB/s")
     row("normal of that trie", measure(program, "normal", grammar), size, "MB/s")
     row("prune of that trie", measure(program, "prune", grammar), size, "MB/s")
+    for k in (1, 100, 10000):
+        row("kbest of that trie, k = %d" % k, measure(program, "-k", str(k), "kbest", grammar), 0.25, "million rules/s")
+    random.seed(29)
+    lines = lattice(60, 65)
+    for k in (1, 100, 10000):
+        row("kbest of a lattice of %d rules, k = %d" % (len(lines) - 1, k), measure(program, "-k", str(k), "kbest", write("lattice.grammar", lines)), (len(lines) - 1) / 1e6, "million rules/s")
+    lines = packed_forest(30)
+    for k in (1, 100, 10000):
+        row("kbest of a forest over 30 words, %d rules, k = %d" % (len(lines) - 1, k), measure(program, "-k", str(k), "kbest", write("packed.grammar", lines)), (len(lines) - 1) / 1e6, "million rules/s")
     row("inside of 18,000 rules over 700 states", measure(program, "inside", path("weigh.grammar")), 18000 / 1e6, "million rules/s")
     row("normal of 18,000 rules over 700 states", measure(program, "normal", path("weigh.grammar")), 18000 / 1e6, "million rules/s")
 
@@ -331,6 +418,18 @@ def main(program):
         applied = subprocess.run([program, *words], capture_output=True, check=False).stdout.splitlines()
         row("%s, 800 states and 100 of the transducer: %d rules" % (words[0], len(applied) - 1), measure(program, *words), (len(applied) - 1) / 1e6, "million rules/s")
 
+    grammar, *sides = [write("matches.%s" % name, lines) for name, lines in zip(("grammar", "forward", "backward"), many_matches(30))]
+    for words in (("forward", grammar, sides[0]), ("backward", sides[1], grammar)):
+        for limit in (1000, 1000000):
+            measured = measure(program, "--limit", str(limit), *words)
+            row("%s of a side with 2^30 matches, limit %d (status %d)" % (words[0], limit, measured[2]), measured, limit / 1e6, "million parts/s")
+    tree, moves = write("wide.trees", [wide_tree(10000)]), write("any.transducer", any_rules(300))
+    made = subprocess.run([program, "image", tree, moves], capture_output=True, check=False).stdout.splitlines()
+    row("image of a tree of 10,000 nodes, 300 rules: %d rules" % (len(made) - 1), measure(program, "image", tree, moves), 0.01, "million nodes/s")
+    tree = write("deep.trees", ["a(" * 9999 + "e" + ")" * 9999])
+    moves = write("copying.transducer", ["t", "t.a(x0:) -> f(t.x0 t.x0)", "t.e -> e # 1"])
+    row("image of a tree of depth 10,000, each node copied", measure(program, "image", tree, moves), 0.01, "million nodes/s")
+
     for size in (10, 13, 16):
         grammar = write("chain%d.grammar" % size, chain_family(size))
         made = subprocess.run([program, "determinize", grammar], capture_output=True, check=False).stdout.splitlines()
@@ -343,7 +442,9 @@ def main(program):
         ("inside of a trie", (1, 2, 4, 8), lambda n: ("inside", write("trie%d.grammar" % n, trie(n * 31250)))),
         ("intersect, by the pairs of states", (1, 2, 4, 8), lambda n: ("intersect", *[write("monadic%d-%d.grammar" % (n, seed), monadic(round(800 * math.sqrt(n / 8)), seed)) for seed in (11, 12)])),
         ("determinize, by the vectors that are reached", (1, 2, 4, 8), lambda n: ("determinize", write("chain%d.grammar" % n, chain_family(10 + round(math.log2(n)))))),
+        ("image, by the nodes of the tree", (1, 2, 4, 8), lambda n: ("image", write("wide%d.trees" % n, [wide_tree(n * 1250)]), write("any.transducer", any_rules(300)))),
         ("normal of one chain of 200,000 states", (1, 2, 4, 8), lambda n: ("normal", write("one_chain%d.grammar" % n, one_chain(n * 25000)))),
+        ("kbest of a trie, k = 100", (1, 2, 4, 8), lambda n: ("-k", "100", "kbest", write("trie%d.grammar" % n, trie(n * 31250)))),
         ("prune of a trie", (1, 2, 4, 8), lambda n: ("prune", write("trie%d.grammar" % n, trie(n * 31250)))),
         ("normal of a trie", (1, 2, 4, 8), lambda n: ("normal", write("trie%d.grammar" % n, trie(n * 31250)))),
     ):
