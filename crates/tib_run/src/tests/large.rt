@@ -1,5 +1,5 @@
 // A grammar of more rules than 16 bits count.
-use super::running::{SOUND, run_words};
+use super::running::{Outside, SOUND, run_words};
 use std::alloc::{AllocError, Global};
 use std::test::Fail;
 use std::thread::Threads;
@@ -47,13 +47,15 @@ fn doublings(alloc: Global) -> Result<Vec<u8>, AllocError> {
 fn lists_large_tree<R: Threads + Sync>(rt: &R, alloc: Global) -> Result<bool, AllocError> {
     let grammar = doublings(alloc)?;
     let nothing = b"".to_vec(alloc)?;
+    let room = 30_000;
+    let wide = Outside { room, ..SOUND };
     let ran = run_words(
         rt,
         alloc,
         &["kbest", "-k", "2", "G"],
         grammar,
         nothing,
-        SOUND,
+        wide,
     )?;
     let out = ran.out.bytes();
     Ok(ran.status == Status::Done && out.len() == 20_481 && out.ends_with(b"a a)))))))))))) # 0\n"))
