@@ -9,10 +9,12 @@ use crate::error::ApplyError;
 use crate::forward::Forward;
 use crate::key::Key;
 use std::alloc::Global;
+use std::sync::Wait;
+use std::thread::Threads;
 use tib_classes::ClassError;
 use tib_cost::Semiring;
 use tib_grammar::Rule;
-use tib_hunt::{Found, Gate, HuntError, hunt_alone};
+use tib_hunt::{Found, Gate, HuntError, hunt, hunt_alone};
 use tib_normal::Normal;
 use tib_transducer::Transducer;
 
@@ -47,6 +49,43 @@ pub fn apply_forward<S: Semiring, G: Gate>(
         Err(ClassError::OutOfMemory) => return Err(ApplyError::OutOfMemory),
     };
     match hunt_alone(alloc, &forward, limit, gate) {
+        Ok(found) => Ok(found),
+        Err(HuntError::TooMany { limit }) => Err(ApplyError::TooMany { limit }),
+        Err(HuntError::OutOfMemory) => Err(ApplyError::OutOfMemory),
+    }
+}
+
+/// What `apply_forward` answers, found by this number of workers, 1 to 16, whatever the order of their steps. It may wait for
+/// ever, as the hunt by several workers (`hunt` of tib_hunt). Errors are those of `apply_forward`, and so is the cost, but for
+/// keys that are expanded again.
+pub fn apply_forward_together<S: Semiring + Sync, R: Threads + Wait + Sync, G: Gate + Sync>(
+    rt: &R,
+    alloc: Global,
+    grammar: &Normal<S>,
+    transducer: &Transducer<S>,
+    workers: u32,
+    limit: u64,
+    gate: &G,
+) -> Result<Found<Key, Rule<u32>>, ApplyError>
+    requires workers { (1 ≤ workers) × (workers ≤ 16) }
+    requires some { 1 ≤ limit }
+    requires limit { limit ≤ most_parts }
+    ensures class { IfOk result (λ _. AllMeet (demands true false false false) transducer.now.rules) }
+    ensures reached { IfOk result (IsReachedBy (forward_image S.product grammar.now.rules transducer.now.rules)) }
+    ensures range { IfOk result AreOverOrder }
+    ensures parts { IfOk result (HasPartsOf (forward_image S.product grammar.now.rules transducer.now.rules)) }
+    ensures within { IfOk result (λ f. f.parts ≤ limit) }
+    ensures few { IfOk result (λ f. length f.order.items ≤ limit) }
+    ensures few_rules { IfOk result (λ f. length f.rules.items ≤ limit) }
+    ensures fault { let hunted = forward_image S.product grammar.now.rules transducer.now.rules in
+        IfErr result (IsApplyFault (demands true false false false) transducer.now.rules limit (IsBeyond hunted limit)) }
+{
+    let forward = match Forward::new(alloc, grammar, transducer) {
+        Ok(forward) => forward,
+        Err(ClassError::Class { rule, fault }) => return Err(ApplyError::Class { rule, fault }),
+        Err(ClassError::OutOfMemory) => return Err(ApplyError::OutOfMemory),
+    };
+    match hunt(rt, alloc, &forward, workers, limit, gate) {
         Ok(found) => Ok(found),
         Err(HuntError::TooMany { limit }) => Err(ApplyError::TooMany { limit }),
         Err(HuntError::OutOfMemory) => Err(ApplyError::OutOfMemory),

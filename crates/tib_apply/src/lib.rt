@@ -1,6 +1,7 @@
 //! Forward and backward application of a transducer to a grammar in normal form: the trees into which the transducer turns
 //! trees of the grammar, and the trees that it turns into trees of the grammar, each at the least cost. What is defined and
-//! proved of both stands here, for every semiring. It stands on `tib_transducer`, `tib_match`, `tib_inside` and `tib_hunt`.
+//! proved of both stands here, for every semiring. `apply_forward` and `apply_backward` find what is reached by one worker,
+//! `apply_forward_together` and `apply_backward_together` by several. It stands on `tib_transducer`, `tib_match`, `tib_inside` and `tib_hunt`.
 #![tactic(auto)]
 
 mod backward;
@@ -32,7 +33,7 @@ pub use backward::Backward;
 pub use error::ApplyError;
 pub use forward::Forward;
 pub use forward_rule::ForwardRule;
-pub use image::apply_forward;
+pub use image::{apply_forward, apply_forward_together};
 pub use key::Key;
-pub use preimage::apply_backward;
+pub use preimage::{apply_backward, apply_backward_together};
 pub use restrictions::Restrictions;

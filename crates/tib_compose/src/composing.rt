@@ -11,9 +11,11 @@ use crate::composite::Composite;
 use crate::error::ComposeError;
 use crate::key::Key;
 use std::alloc::Global;
+use std::sync::Wait;
+use std::thread::Threads;
 use tib_classes::ClassError;
 use tib_cost::Semiring;
-use tib_hunt::{Found, Gate, HuntError, hunt_alone};
+use tib_hunt::{Found, Gate, HuntError, hunt, hunt_alone};
 use tib_transducer::{Transducer, TransducerRule};
 
 /// The pairs of states that composition reaches from the pair of the starts, in the order by rounds, and the rules over their
@@ -50,6 +52,45 @@ pub fn compose<S: Semiring, G: Gate>(
         Err(ClassError::OutOfMemory) => return Err(ComposeError::OutOfMemory),
     };
     match hunt_alone(alloc, &composite, limit, gate) {
+        Ok(found) => Ok(found),
+        Err(HuntError::TooMany { limit }) => Err(ComposeError::TooMany { limit }),
+        Err(HuntError::OutOfMemory) => Err(ComposeError::OutOfMemory),
+    }
+}
+
+/// What `compose` answers, found by this number of workers, 1 to 16, whatever the order of their steps. It may wait for ever,
+/// as the hunt by several workers (`hunt` of tib_hunt). Errors are those of `compose`, and so is the cost, but for pairs that
+/// are expanded again.
+pub fn compose_together<S: Semiring + Sync, R: Threads + Wait + Sync, G: Gate + Sync>(
+    rt: &R,
+    alloc: Global,
+    first: &Transducer<S>,
+    second: &Transducer<S>,
+    workers: u32,
+    limit: u64,
+    gate: &G,
+) -> Result<Found<Key, TransducerRule<u32>>, ComposeError>
+    requires workers { (1 ≤ workers) × (workers ≤ 16) }
+    requires some { 1 ≤ limit }
+    requires limit { limit ≤ most_parts }
+    ensures class { IfOk result (λ _. AllMeet (demands true true true true) second.now.rules) }
+    ensures reached { IfOk result (IsReachedBy S.product first.now.rules second.now.rules) }
+    ensures range { IfOk result AreOverOrder }
+    ensures shaped { IfOk result (λ f. AreShaped f.rules.items) }
+    ensures parts { IfOk result (HasPartsOf S.product first.now.rules second.now.rules) }
+    ensures within { IfOk result (λ f. f.parts ≤ limit) }
+    ensures few { IfOk result (λ f. length f.order.items ≤ limit) }
+    ensures few_rules { IfOk result (λ f. length f.rules.items ≤ limit) }
+    ensures fault { let hunted = composition S.product first.now.rules second.now.rules in
+        IfErr result (IsComposeFault second.now.rules limit (IsBeyond hunted limit)) }
+{
+    first.is_sound();
+    let composite = match Composite::new(alloc, first, second) {
+        Ok(composite) => composite,
+        Err(ClassError::Class { rule, fault }) => return Err(ComposeError::Class { rule, fault }),
+        Err(ClassError::OutOfMemory) => return Err(ComposeError::OutOfMemory),
+    };
+    match hunt(rt, alloc, &composite, workers, limit, gate) {
         Ok(found) => Ok(found),
         Err(HuntError::TooMany { limit }) => Err(ComposeError::TooMany { limit }),
         Err(HuntError::OutOfMemory) => Err(ComposeError::OutOfMemory),

@@ -1,5 +1,5 @@
 //! The composition of two transducers: the pairs of their states that are reached, with the rules of the composite
-//! transducer. It stands on `tib_compose_laws`, `tib_classes` and `tib_hunt`.
+//! transducer; `compose` finds them by one worker, and `compose_together` by several. It stands on `tib_compose_laws`, `tib_classes` and `tib_hunt`.
 #![tactic(auto)]
 
 mod bounding;
@@ -24,7 +24,7 @@ mod source;
 mod translating;
 
 pub use choice::Choice;
-pub use composing::compose;
+pub use composing::{compose, compose_together};
 pub use composite::Composite;
 pub use error::ComposeError;
 pub use key::Key;

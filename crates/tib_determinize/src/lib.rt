@@ -1,5 +1,6 @@
 //! Determinization of a weighted tree grammar by residuals. The vectors that are reached from the labels over no state, with their
-//! rules, are a grammar in deterministic form that has the series of the input. It stands on `tib_grammar` and `tib_hunt`.
+//! rules, are a grammar in deterministic form that has the series of the input; `determinize` finds them by one worker, and
+//! `determinize_together` by several. It stands on `tib_grammar` and `tib_hunt`.
 #![tactic(auto)]
 
 mod alive;
@@ -23,7 +24,7 @@ mod wanted;
 mod wide;
 
 pub use origin::Origin;
-pub use reached::determinize;
+pub use reached::{determinize, determinize_together};
 pub use residuals::Residuals;
 pub use vector::Vector;
 pub use vector_rule::VectorRule;

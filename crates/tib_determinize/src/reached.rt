@@ -8,9 +8,11 @@ ghost use Rattle.tib_determinize.specs.Determinization.{determinization};
 use crate::residuals::Residuals;
 use crate::vector::Vector;
 use std::alloc::Global;
+use std::sync::Wait;
+use std::thread::Threads;
 use tib_cost::Semiring;
 use tib_grammar::Rule;
-use tib_hunt::{Found, Gate, HuntError, hunt_alone};
+use tib_hunt::{Found, Gate, HuntError, hunt, hunt_alone};
 use tib_normal::Normal;
 
 /// The vectors that are reached from the labels over no state, in the order by rounds, and the rules over their positions. A tree has
@@ -38,4 +40,32 @@ pub fn determinize<S: Semiring, G: Gate>(
         return Err(HuntError::OutOfMemory);
     };
     hunt_alone(alloc, &residuals, limit, gate)
+}
+
+/// What `determinize` answers, found by this number of workers, 1 to 16, whatever the order of their steps. It may wait for ever, as
+/// the hunt by several workers (`hunt` of tib_hunt). Errors are those of `determinize`, and so is the cost, but for vectors that are
+/// expanded again.
+pub fn determinize_together<S: Semiring + Sync, R: Threads + Wait + Sync, G: Gate + Sync>(
+    rt: &R,
+    alloc: Global,
+    normal: &Normal<S>,
+    workers: u32,
+    limit: u64,
+    gate: &G,
+) -> Result<Found<Vector, Rule<u32>>, HuntError>
+    requires workers { (1 ≤ workers) × (workers ≤ 16) }
+    requires some { 1 ≤ limit }
+    requires limit { limit ≤ most_parts }
+    ensures determinized { IfOk result (IsAnswer S.product normal.now.rules) }
+    ensures parts { IfOk result (HasParts S.product normal.now.rules) }
+    ensures within { IfOk result (λ f. f.parts ≤ limit) }
+    ensures few { IfOk result (λ f. length f.order.items ≤ limit) }
+    ensures few_rules { IfOk result (λ f. length f.rules.items ≤ limit) }
+    ensures more { let hunted = determinization S.product normal.now.rules in
+        IfErr result (IfTooMany limit (IsBeyond hunted limit)) }
+{
+    let Ok(residuals) = Residuals::new(alloc, normal) else {
+        return Err(HuntError::OutOfMemory);
+    };
+    hunt(rt, alloc, &residuals, workers, limit, gate)
 }

@@ -1,7 +1,7 @@
 // The reached sets of small grammars, as text, and the limit.
 ghost use Rattle.std.specs.Prelude.{◌≤◌};
 
-use crate::{Residuals, Vector, determinize};
+use crate::{Residuals, Vector, determinize, determinize_together};
 use std::alloc::{AllocError, Global};
 use std::test::Fail;
 use tib_cost::{Boolean, Bottleneck, Cost, MinPlus, Semiring};
@@ -39,6 +39,14 @@ static ENDLESS: [Row; 7] = [
     (1, 8, &[], 0),
     (2, 7, &[2], 2),
     (2, 8, &[], 0),
+];
+
+// q -> f(p) # 1, q -> f(r) # 3, p -> a # 2 and r -> b # 1: two vectors stand in the first round.
+static APART: [Row; 4] = [
+    (0, 7, &[1], 1),
+    (0, 7, &[2], 3),
+    (1, 8, &[], 2),
+    (2, 9, &[], 1),
 ];
 
 fn normal<S: Semiring + Drop>(alloc: Global, rows: &[Row]) -> Result<Normal<S>, Fail> {
@@ -173,5 +181,21 @@ fn the_limit(rt: HostRuntime) -> Result<(), Fail> {
     assert_eq!(rt; text.as_str(), "more than 9");
     let text = told::<MinPlus>(alloc, &ENDLESS, 50)?;
     assert_eq!(rt; text.as_str(), "more than 50");
+    Ok(())
+}
+
+#[test]
+fn every_number_of_workers_reaches_the_same(rt: HostRuntime) -> Result<(), Fail> {
+    let normal: Normal<MinPlus> = normal(rt.alloc(), &APART)?;
+    for workers in 1..17 {
+        match determinize_together(&rt, rt.alloc(), &normal, workers, 100, &Open) {
+            Ok(found) => {
+                assert_eq!(rt; found.order.len(), 3);
+                assert_eq!(rt; found.rules.len(), 4);
+                assert_eq!(rt; found.parts, 16);
+            }
+            Err(_) => assert!(rt; false),
+        }
+    }
     Ok(())
 }

@@ -8,9 +8,11 @@ ghost use Rattle.tib_image.specs.Image.{image_of};
 use crate::key::Key;
 use crate::operation::Image;
 use std::alloc::Global;
+use std::sync::Wait;
+use std::thread::Threads;
 use tib_cost::Semiring;
 use tib_grammar::Rule;
-use tib_hunt::{Found, Gate, HuntError, hunt_alone};
+use tib_hunt::{Found, Gate, HuntError, hunt, hunt_alone};
 use tib_transducer::Transducer;
 use tib_tree::Tree;
 
@@ -43,4 +45,34 @@ pub fn image<S: Semiring, G: Gate>(
         return Err(HuntError::OutOfMemory);
     };
     hunt_alone(alloc, &problem, limit, gate)
+}
+
+/// What `image` answers, found by this number of workers, 1 to 16, whatever the order of their steps. It may wait for ever, as
+/// the hunt by several workers (`hunt` of tib_hunt). Errors are those of `image`, and so is the cost, but for keys that are
+/// expanded again.
+pub fn image_together<S: Semiring + Sync, R: Threads + Wait + Sync, G: Gate + Sync>(
+    rt: &R,
+    alloc: Global,
+    transducer: &Transducer<S>,
+    tree: &Tree,
+    workers: u32,
+    limit: u64,
+    gate: &G,
+) -> Result<Found<Key, Rule<u32>>, HuntError>
+    requires workers { (1 ≤ workers) × (workers ≤ 16) }
+    requires some { 1 ≤ limit }
+    requires limit { limit ≤ most_parts }
+    ensures reached { IfOk result (IsImage transducer.now.rules tree.now) }
+    ensures range { IfOk result AreOverOrder }
+    ensures parts { IfOk result (HasParts transducer.now.rules tree.now) }
+    ensures within { IfOk result (λ f. f.parts ≤ limit) }
+    ensures few { IfOk result (λ f. length f.order.items ≤ limit) }
+    ensures few_rules { IfOk result (λ f. length f.rules.items ≤ limit) }
+    ensures more { IfErr result
+        (IfTooMany limit (IsBeyond (image_of transducer.now.rules tree.now) limit)) }
+{
+    let Ok(problem) = Image::new(alloc, transducer, tree) else {
+        return Err(HuntError::OutOfMemory);
+    };
+    hunt(rt, alloc, &problem, workers, limit, gate)
 }

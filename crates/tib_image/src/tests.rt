@@ -1,7 +1,7 @@
 // What is reached of small trees, as text.
 ghost use Rattle.std.specs.Prelude.{◌≤◌};
 
-use crate::{Key, image};
+use crate::{Key, image, image_together};
 use std::alloc::{AllocError, Global};
 use std::test::Fail;
 use tib_cost::{Cost, MinPlus};
@@ -52,6 +52,13 @@ static ASKS_A: Row = (
     &[(Some((5, 2)), 0, None), (None, 0, Some(1)), X1],
     &[(Some((6, 1)), 0), (None, 1)],
     0,
+);
+
+// t.B(x0: x1:) -> B(t.x0 t.x1) # 1
+static PASSES: Row = (
+    &[(Some((2, 2)), 0, None), X0, X1],
+    &[(Some((2, 2)), 0), (None, 0), (None, 1)],
+    1,
 );
 
 // t.A(A(x0:)) -> t.x0 # 7
@@ -211,6 +218,26 @@ fn a_copy_leads_to_one_key(rt: HostRuntime) -> Result<(), Fail> {
         deep.as_str(),
         "0 1 2 3 ; 0 -> 2 @1 @1 # 1 ; 1 -> 2 @2 @2 # 1 ; 2 -> 2 @3 @3 # 1 ; 3 -> 3 # 0 ; 3 -> 4 # 2 ; 28 "
     );
+    Ok(())
+}
+
+#[test]
+fn every_number_of_workers_reaches_the_same(rt: HostRuntime) -> Result<(), Fail> {
+    let transducer = transducer(rt.alloc(), &[&PASSES, &TO_B, &TO_C])?;
+    let tree = tree(rt.alloc(), &[(2, 2), (1, 0), (1, 0)])?;
+    for workers in [1, 2, 16] {
+        match image_together(&rt, rt.alloc(), &transducer, &tree, workers, 99, &Open) {
+            Ok(found) => {
+                let mut text = String::new(rt.alloc());
+                write_found(&mut text, &found)?;
+                assert_eq!(rt;
+                    text.as_str(),
+                    "0 1 2 ; 0 -> 2 @1 @2 # 1 ; 1 -> 3 # 0 ; 1 -> 4 # 2 ; 2 -> 3 # 0 ; 2 -> 4 # 2 ; 21 "
+                );
+            }
+            Err(_) => assert!(rt; false),
+        }
+    }
     Ok(())
 }
 
