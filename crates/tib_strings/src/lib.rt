@@ -1,0 +1,93 @@
+//! Tree-to-string transducers as values: rules that read a tree and put out a list of words. Their runs, what these read, put out and
+//! cost, their series, and the first rule that is not linear or not nondeleting. It stands on `tib_grammar`, `tib_transducer` and `tib_classes`.
+#![tactic(auto)]
+
+ghost use Rattle.std.specs.Prelude.{◌≡◌};
+
+mod classes;
+pub mod laws;
+#[cfg(test)]
+mod tests;
+mod transducers;
+
+pub use classes::string_outside;
+use std::marker::{Model, PhantomData};
+use tib_cost::Cost;
+use tib_grammar::{Names, Side};
+use tib_transducer::{Pair, Variable};
+use tib_tree::Label;
+
+/// A token of a right side: a word, or a hole where what is read on from a state at a variable is put out.
+#[derive(Debug, PartialEq, Eq, Hash, Drop)]
+pub enum Word<P> {
+    /// A word.
+    Word(Label),
+    /// A pair.
+    Hole(Pair<P>),
+}
+
+/// A list of words and pairs.
+#[derive(Drop)]
+pub struct Words<P> {
+    items: Vec<Word<P>>,
+}
+
+impl<P> Model for Words<P> {
+    ghost use Rattle.std.specs.Prelude.{List};
+    ghost use Rattle.tib_strings.specs.declared.Word.{Word};
+
+    ghost Value = { List (Word P) };
+
+    ghost view = { λ s. s.items.items };
+}
+
+impl<P> Words<P> {
+    /// A right side of these words and pairs. It takes no memory.
+    pub fn from_list(items: Vec<Word<P>>) -> Words<P>
+        ensures { result ≡ items.items }
+    {
+        Words { items }
+    }
+
+    /// The words and pairs, in order. It takes no memory.
+    pub fn tokens(&self) -> &[Word<P>]
+        ensures { result.now ≡ self.now }
+    {
+        &self.items
+    }
+}
+
+/// A rule: from the state, a tree that the left side fits is read, and the words are put out, at a cost.
+#[derive(Drop)]
+pub struct StringRule<P> {
+    /// The state that the rule leads from.
+    pub state: P,
+    /// What is read.
+    pub left: Side<Variable>,
+    /// What is put out.
+    pub right: Words<P>,
+    /// What it costs.
+    pub cost: Cost,
+}
+
+/// Names of states, and rules over their numbers. The start is state 0. Rules are numbered from 1.
+#[derive(Drop)]
+pub struct StringTransducer<S> {
+    names: Names,
+    rules: Vec<StringRule<u32>>,
+    semiring: PhantomData<S>,
+}
+
+impl<S> Model for StringTransducer<S> {
+    ghost use Rattle.tib_strings.specs.StringTransducerOf.{StringTransducerOf, string_transducer_code};
+
+    ghost Value = { StringTransducerOf };
+
+    ghost coded = { string_transducer_code };
+
+    ghost use Rattle.tib_strings.specs.StringTransducerView.{string_transducer_of, IsStringTransducer};
+
+    ghost view = { string_transducer_of };
+
+    ghost invariant = { IsStringTransducer };
+}
