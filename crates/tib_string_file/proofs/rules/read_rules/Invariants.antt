@@ -1,0 +1,21 @@
+use Rattle.std.proofs.Common.{◌≤◌, ◌+◌, ◌-◌, length, drop}
+use Rattle.tib_lex.specs.Lines.{lines_of}
+use Rattle.tib_tree.specs.Grows.{Grows}
+use Rattle.tib_string_file.specs.TransducerReading.{rules_from}
+use Rattle.tib_string_file.proofs.FileRead.{SoFar}
+use Rattle.tib_string_file.proofs.rules.read_rules.Given as goal
+
+abbrev pub invariant-loop-line : goal.invariant-loop-line
+invariant-loop-line l = record {
+  within : l.at ≤ length l.bytes;
+  from : l.start ≤ l.at;
+  number : l.number ≤ l.at + 1;
+  names : length l.names ≤ length l.fn.names + (l.at - l.start);
+  labels : length l.labels ≤ length l.fn.labels + (l.at - l.start);
+  rules_few : length l.rules.items ≤ l.at;
+  grows : Grows l.fn.labels l.labels;
+  so_far : SoFar l.fn.names l.names l.labels l.rules.items (rules_from l.scale l.number (lines_of (drop l.at l.bytes))) (rules_from l.scale l.first (lines_of (drop l.start l.bytes)));
+}
+
+abbrev pub decreases-loop-line : goal.decreases-loop-line
+decreases-loop-line l = length l.bytes - l.at

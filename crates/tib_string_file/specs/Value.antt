@@ -1,0 +1,40 @@
+-- What the items of a rule stand for, over the tables of states and labels.
+use Rattle.std.specs.Prelude.{◌≡◌, ℕ, List, Some, None, map, slice_get}
+use Rattle.tib_lex.specs.Lists.{Along}
+use Rattle.tib_tree.specs.Trees.{preorder_of}
+use Rattle.tib_tree.specs.declared.shape.Place.{Place}
+use Rattle.tib_grammar.specs.Items.{pair_of, pairs_of}
+use Rattle.tib_grammar.specs.Sides.{Symbol}
+use Rattle.tib_grammar.specs.declared.Item.{Item as SideItem}
+use Rattle.tib_grammar.specs.declared.Item.TheVariants as sides
+use Rattle.tib_strings.specs.declared.Word.{Word as Token}
+use Rattle.tib_strings.specs.declared.Word.TheVariants.{Word, Hole}
+use Rattle.tib_strings.specs.declared.StringRule.{StringRule}
+use Rattle.tib_transducer.specs.declared.Pair.{Pair}
+use Rattle.tib_transducer.specs.Range.{AreNumbered}
+use Rattle.tib_transducer.specs.Rules.{variables_of}
+pub use Rattle.tib_transducer_file.specs.Value.{IsAsked, IsLeftSymbol, IsLeftNode, IsRightSymbol, IsRightNode, IsRootItem, IsLeftSide, state_before, states_in, states_of}
+use Rattle.tib_string_file.specs.Rule.{RuleLine, state_of, numbers_in}
+
+-- a word or a pair as a leaf of a tree
+abbrev pub leaf_of : {P : Type 0} → Token P → SideItem (Pair P)
+leaf_of (Word f) = sides.Label f 0
+leaf_of (Hole x) = sides.Hole x
+
+abbrev pub node_of : {P : Type 0} → Token P → Symbol ℕ (Pair P) × ℕ
+node_of w = pair_of (leaf_of w)
+
+abbrev pub nodes_of : {P : Type 0} → List (Token P) → List (Symbol ℕ (Pair P) × ℕ)
+nodes_of ws = pairs_of (map leaf_of ws)
+
+-- a place of a list has no children
+abbrev pub IsLeaf : Place → Type 0
+IsLeaf p = p.kids ≡ None
+
+-- A rule stands for what its line says. Its variables are numbered anew, 0, 1, 2 and so on in preorder of the left side.
+pub record IsRule (names labels : List (List ℕ)) (rule : StringRule ℕ) (line : RuleLine) : Type 0 where
+  pub state : slice_get names rule.state ≡ Some (state_of line.parts)
+  pub left : IsLeftSide labels (preorder_of rule.left) line.parts
+  pub numbered : AreNumbered 0 (variables_of rule.left)
+  pub right : Along (IsRightNode names labels (numbers_in line.parts.below)) (nodes_of rule.right) line.parts.right
+  pub cost : rule.cost ≡ line.cost

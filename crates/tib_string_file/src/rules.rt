@@ -1,0 +1,229 @@
+// The rules of a file.
+ghost use Rattle.std.specs.Prelude.{◌≡◌, ◌≤◌, ◌<◌, ◌+◌, ◌-◌, ◌^◌, length, drop, IfOk};
+ghost use Rattle.indexmap.specs.IndexSet.{keys};
+ghost use Rattle.tib_io.specs.Reads.{most_bytes};
+ghost use Rattle.tib_cost.specs.declared.Scale.{Scale};
+ghost use Rattle.tib_lex.specs.Lines.{lines_of, HasNoFeed};
+ghost use Rattle.tib_tree.specs.Grows.{Grows};
+ghost use Rattle.tib_string_file.specs.Rule.{rule_line, rule_line_of};
+ghost use Rattle.tib_string_file.specs.Value.{IsRule};
+ghost use Rattle.tib_string_file.specs.TransducerReading.{rules_from};
+ghost use Rattle.tib_string_file.specs.Tokens.{FoundIn, parts_found};
+ghost use Rattle.tib_string_file.specs.Built.{AddsLine, AddsStates, AreFileRules};
+ghost use Rattle.tib_string_file.specs.Reader.{FoundRule, GoodRule, IsFound, IsGood};
+
+use crate::parts::{Found, check_variables, find_parts};
+use crate::pieces::read_pieces;
+use crate::sides::{read_left, read_right};
+use indexmap::IndexSet;
+use std::alloc::{AllocError, Global};
+use tib_cost::{Cost, Scale};
+use tib_grammar_file::{read_cost, read_name};
+use tib_lex::{FaultKind, LineError, ReadError, Token, file_error, line_bytes, next_line};
+use tib_strings::StringRule;
+use tib_tree::{Labels, MOST_NODES, Place, Reader};
+
+/// Reads rule lines of a tree-to-string transducer file, with room that is used again for each.
+#[derive(Drop)]
+pub(crate) struct RuleReader {
+    pub tokens: Vec<Token>,
+    pub words: Vec<Token>,
+    pub left: Reader,
+    pub right: Vec<Place>,
+    pub variables: IndexSet<u32>,
+    pub text: Vec<u8>,
+    pub alloc: Global,
+}
+
+// The rule of what was found in a line.
+fn build(
+    alloc: Global,
+    line: &[u8],
+    left: &[Place],
+    right: &[Place],
+    found: &Found,
+    cost: Cost,
+    variables: &IndexSet<u32>,
+    names: &mut Labels,
+    labels: &mut Labels,
+    text: &mut Vec<u8>,
+) -> Result<StringRule<u32>, AllocError>
+    requires found { FoundRule line.now left.now right.now found.now }
+    requires good { (scale : Scale) × GoodRule scale (parts_found line.now left.now right.now found.now) (keys variables.now) left.now right.now cost }
+    requires plain { HasNoFeed line.now }
+    requires names { length names.old + length line.now < 2 ^ 32 - 1 }
+    requires labels { length labels.old + length line.now < 2 ^ 32 - 1 }
+    ensures rule { IfOk result (λ r. IsRule names.new labels.new r (rule_line_of (parts_found line.now left.now right.now found.now) cost)) }
+    ensures adds { IfOk result (λ _. AddsStates names.old (parts_found line.now left.now right.now found.now) names.new) }
+    ensures names { Grows names.old names.new }
+    ensures labels { Grows labels.old labels.new }
+    ensures few_names { length names.new ≤ length names.old + length line.now }
+    ensures few_labels { length labels.new ≤ length labels.old + length line.now }
+{
+    let state = read_name(line, found.root.state, names, text)?;
+    let left = read_left(alloc, line, left, found.root, labels, text)?;
+    let right = read_right(alloc, line, right, variables, names, labels, text)?;
+    Ok(StringRule {
+        state,
+        left,
+        right,
+        cost,
+    })
+}
+
+// The cost of a rule whose variables are well used and whose sides are not too large.
+fn check(
+    scale: Scale,
+    line: &[u8],
+    left: &[Place],
+    right: &[Place],
+    found: &Found,
+    variables: &mut IndexSet<u32>,
+    text: &mut Vec<u8>,
+) -> Result<Cost, LineError>
+    requires { FoundIn line.now left.now right.now found.now }
+    ensures { IsGood scale (parts_found line.now left.now right.now found.now) (keys variables.new) left.now right.now result }
+{
+    match check_variables(line, left, right, found.root, variables) {
+        Ok(()) => {}
+        Err(error) => return Err(error),
+    }
+    let cost = match read_cost(scale, line, found.weight, text) {
+        Ok(cost) => cost,
+        Err(error) => return Err(error),
+    };
+    if left.len() > MOST_NODES {
+        return Err(LineError::Fault(FaultKind::TooManyNodes));
+    }
+    if right.len() > MOST_NODES {
+        return Err(LineError::Fault(FaultKind::TooManyNodes));
+    }
+    Ok(cost)
+}
+
+impl RuleReader {
+    fn new(alloc: Global) -> RuleReader {
+        RuleReader {
+            tokens: Vec::new(alloc),
+            words: Vec::new(alloc),
+            left: Reader::new(alloc),
+            right: Vec::new(alloc),
+            variables: IndexSet::new(alloc),
+            text: Vec::new(alloc),
+            alloc,
+        }
+    }
+
+    /// What is found in a line, if it has tokens.
+    fn find(&mut self, line: &[u8]) -> Result<Option<Found>, LineError>
+        requires { length line.now ≤ most_bytes }
+        ensures { IsFound line.now self.new.left.places.items self.new.right.items result }
+    {
+        if !read_pieces(line, &mut self.tokens)? {
+            return Err(LineError::Fault(FaultKind::BadToken));
+        }
+        if self.tokens.is_empty() {
+            return Ok(None);
+        }
+        match find_parts(
+            line,
+            &self.tokens,
+            &mut self.words,
+            &mut self.left,
+            &mut self.right,
+        )? {
+            Some(found) => Ok(Some(found)),
+            None => Err(LineError::Fault(FaultKind::BadRule)),
+        }
+    }
+
+    /// Adds the rule of a line, if it has tokens.
+    fn add_line(
+        &mut self,
+        scale: Scale,
+        line: &[u8],
+        names: &mut Labels,
+        labels: &mut Labels,
+        rules: &mut Vec<StringRule<u32>>,
+    ) -> Result<(), LineError>
+        requires short { length line.now ≤ most_bytes }
+        requires plain { HasNoFeed line.now }
+        requires names { length names.old + length line.now < 2 ^ 32 - 1 }
+        requires labels { length labels.old + length line.now < 2 ^ 32 - 1 }
+        ensures line { AddsLine names.old names.new labels.new rules.old.items rules.new.items result (rule_line scale line.now) }
+        ensures names { Grows names.old names.new }
+        ensures labels { Grows labels.old labels.new }
+        ensures few_names { length names.new ≤ length names.old + length line.now }
+        ensures few_labels { length labels.new ≤ length labels.old + length line.now }
+    {
+        let found = match self.find(line) {
+            Ok(Some(found)) => found,
+            Ok(None) => return Ok(()),
+            Err(error) => return Err(error),
+        };
+        let cost = match check(
+            scale,
+            line,
+            &self.left.places,
+            &self.right,
+            &found,
+            &mut self.variables,
+            &mut self.text,
+        ) {
+            Ok(cost) => cost,
+            Err(error) => return Err(error),
+        };
+        let rule = build(
+            self.alloc,
+            line,
+            &self.left.places,
+            &self.right,
+            &found,
+            cost,
+            &self.variables,
+            names,
+            labels,
+            &mut self.text,
+        )?;
+        match rules.push(rule) {
+            Ok(()) => Ok(()),
+            Err(_) => Err(LineError::OutOfMemory),
+        }
+    }
+}
+
+/// The rules from a place of a file on, where a line of this number begins.
+pub(crate) fn read_rules(
+    alloc: Global,
+    scale: Scale,
+    bytes: &[u8],
+    start: u32,
+    first: u32,
+    names: &mut Labels,
+    labels: &mut Labels,
+) -> Result<Vec<StringRule<u32>>, ReadError>
+    requires short { length bytes.now ≤ most_bytes }
+    requires place { start ≤ length bytes.now }
+    requires number { first ≤ start + 1 }
+    requires names { length names.old + (length bytes.now - start) < 2 ^ 32 - 1 }
+    requires labels { length labels.old + (length bytes.now - start) < 2 ^ 32 - 1 }
+    ensures rules { AreFileRules names.old names.new labels.new result (rules_from scale first (lines_of (drop start bytes.now))) }
+    ensures labels { Grows labels.old labels.new }
+    ensures few_names { length names.new ≤ length names.old + (length bytes.now - start) }
+    ensures few_labels { length labels.new ≤ length labels.old + (length bytes.now - start) }
+    ensures few_rules { IfOk result (λ rules. length rules.items ≤ length bytes.now) }
+{
+    let mut reader = RuleReader::new(alloc);
+    let mut rules = Vec::new(alloc);
+    let mut at = start;
+    let mut number = first;
+    while let Some(line) = next_line(bytes, number, at) {
+        match reader.add_line(scale, line_bytes(bytes, line), names, labels, &mut rules) {
+            Ok(()) => {}
+            Err(error) => return Err(file_error(line.number, error)),
+        }
+        at = line.next;
+        number += 1;
+    }
+    Ok(rules)
+}

@@ -1,0 +1,28 @@
+// What holds of the texts of tree-to-string transducers.
+ghost use Rattle.tib_string_file.specs.TransducerLaws.{GivesFaults, TextsHaveNone, FirstIsOne, TextOrFault, TextsMeanOne, TextHasOne};
+
+/// The function that says what a file holds gives a fault exactly where this is the first of the file.
+pub fn string_transducer_faults_are_read()
+    ensures { GivesFaults }
+{}
+
+/// Bytes with a fault are the text of no tree-to-string transducer, and they have one first fault.
+pub fn string_transducer_faults_are_one()
+    ensures none { TextsHaveNone }
+    ensures one { FirstIsOne }
+{}
+
+/// Each file is the text of a tree-to-string transducer, over some table of distinct labels, or it has a first fault.
+pub fn string_transducer_files_are_texts_or_faulty()
+    ensures { TextOrFault }
+{}
+
+/// The transducers of one text, each over a table of labels of its own, differ in the numbers of labels alone.
+pub fn one_string_transducer_by_text()
+    ensures { TextsMeanOne }
+{}
+
+/// Bytes are the text of at most one tree-to-string transducer over one table of distinct labels.
+pub fn text_has_one_string_transducer()
+    ensures { TextHasOne }
+{}
