@@ -1,0 +1,16 @@
+use Rattle.std.proofs.Common.{◌≡◌, length}
+use Rattle.tib_cuts.specs.Remaining.{IsSearch, remaining}
+use Rattle.tib_parse.specs.Listing.{AreDone, IsWithinBudget}
+use Rattle.tib_parse.proofs.operation.add_cuts.Given as goal
+
+abbrev pub invariant-loop-cuts : goal.invariant-loop-cuts
+invariant-loop-cuts l = record {
+  within : IsWithinBudget l.listing;
+  search : IsSearch l.cuts;
+  tokens : l.cuts.tokens.now ≡ l.rule.right;
+  long : length l.spans.items ≡ length l.initial.spans.items;
+  done : AreDone l.restrictions l.key l.rule (remaining l.initial.cuts) (remaining l.cuts) l.initial.listing l.listing;
+}
+
+abbrev pub decreases-loop-cuts : goal.decreases-loop-cuts
+decreases-loop-cuts l = length (remaining l.cuts)

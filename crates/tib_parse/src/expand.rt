@@ -1,0 +1,74 @@
+//! Parsing as an operation: its seed, its edges, and the rules that stand for these.
+
+use crate::key::Key;
+use crate::operation::Parse;
+use crate::parse_rule::ParseRule;
+use crate::settling::settle_rule;
+use std::alloc::{AllocError, Global};
+use std::collections::LinkedList;
+use tib_cost::Semiring;
+use tib_grammar::Rule;
+use tib_hunt::{Edges, Expand, ExpandError};
+
+impl<'a, S: Semiring> Expand for Parse<'a, S> {
+    ghost use Rattle.std.specs.Prelude.{length};
+    ghost use Rattle.tib_parse_laws.specs.Restrictions.{restricted_labels};
+    ghost use Rattle.tib_parse_laws.specs.Operation.{IsKey, parse};
+    ghost use Rattle.tib_parse.specs.ParseRules.{parse_reading};
+    ghost use Rattle.tib_parse.specs.ParseLaws.{parse_is_lawful, within_from};
+
+    type Key = Key;
+
+    type Over = ParseRule<'a>;
+
+    type Rule = Rule<u32>;
+
+    type Origin = (u32, LinkedList<u32>);
+
+    type Edge = Rule<Key>;
+
+    ghost hunted = { λ p. parse p.transducer.now.rules p.string.now };
+
+    ghost admits = { λ p k. IsKey (length p.transducer.now.names) (length p.string.now)
+        (length (restricted_labels p.transducer.now.rules)) k };
+
+    ghost reading = { parse_reading };
+
+    fn seeds(&self, alloc: Global, budget: u64) -> Result<Edges<Key, ParseRule<'a>>, ExpandError> {
+        let _budget = budget;
+        let to = self.string.len() as u32;
+        let Ok(ends) = Vec::from_array(alloc, [Key::new(0, 0, to, 0)]) else {
+            return Err(ExpandError::OutOfMemory);
+        };
+        Ok(Edges {
+            ends,
+            rules: Vec::new(alloc),
+            parts: 0,
+        })
+    }
+
+    fn expand(
+        &self,
+        alloc: Global,
+        order: &[Key],
+        n: u32,
+        budget: u64,
+    ) -> Result<Edges<Key, ParseRule<'a>>, ExpandError> {
+        match self.list_edges(alloc, order[n as usize], n, budget) {
+            Ok(listing) => Ok(listing.into_edges()),
+            Err(fault) => Err(fault),
+        }
+    }
+
+    fn settle(
+        &self,
+        alloc: Global,
+        rule: &ParseRule<'a>,
+        ends: &[u32],
+    ) -> Result<Rule<u32>, AllocError> {
+        settle_rule(alloc, rule, ends)
+    }
+
+    ghost lawful = { λ p. parse_is_lawful (length p.transducer.now.names) p.start p.transducer.now.rules
+        (within_from (length p.transducer.now.names) p.transducer.now.rules p.range) p.string.now };
+}

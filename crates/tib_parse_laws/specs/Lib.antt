@@ -1,0 +1,5 @@
+pub mod Restrictions
+pub mod Parsing
+pub mod Operation
+pub mod Edges
+pub mod Examples
