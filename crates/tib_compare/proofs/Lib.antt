@@ -1,0 +1,13 @@
+pub mod Mirrored
+pub mod Raising
+pub mod Sides
+pub mod Bounds
+pub mod Reading
+pub mod Reaching
+pub mod Wanting
+pub mod Ordering
+pub mod Answering
+pub mod OneAnswer
+pub mod Labelling
+pub mod Glue
+pub mod Within

@@ -1,0 +1,85 @@
+// Two grammars side by side.
+ghost use Rattle.std.specs.Prelude.{◌≡◌, ◌++◌, ◌^◌, ◌<◌, length, OnOk, IfOk};
+ghost use Rattle.tib_grammar.specs.Forms.{AreNormal};
+ghost use Rattle.tib_compare.specs.Beside.{beside, raised};
+
+use crate::moving::{moved_rule, raised_state};
+use std::alloc::{AllocError, Global};
+use tib_canon::numbered_names;
+use tib_cost::{Boolean, Semiring};
+use tib_grammar::{Grammar, Rule};
+use tib_normal::Normal;
+
+// Puts the rules with all their states raised by a number behind others, at no cost.
+fn put_raised(
+    alloc: Global,
+    rules: &[Rule<u32>],
+    by: u32,
+    all: &mut Vec<Rule<u32>>,
+) -> Result<(), AllocError>
+    requires { AreNormal rules.now }
+    ensures { OnOk result (all.new.items ≡ all.old.items ++ raised by rules.now) }
+{
+    let mut states = Vec::new(alloc);
+    for rule in rules {
+        let left = raised_state(by, rule.left)?;
+        all.push(moved_rule(alloc, rule, left, by, Boolean::one(), &mut states)?)?;
+    }
+    Ok(())
+}
+
+// The rules of both, where the states of the second stand behind those of the first.
+fn rules_beside(
+    alloc: Global,
+    left: &[Rule<u32>],
+    right: &[Rule<u32>],
+    first: u32,
+) -> Result<Vec<Rule<u32>>, AllocError>
+    requires left { AreNormal left.now }
+    requires right { AreNormal right.now }
+    ensures { IfOk result (λ v. v.items ≡ beside first left.now right.now) }
+{
+    let mut all = Vec::with_capacity(alloc, left.len())?;
+    put_raised(alloc, left, 0, &mut all)?;
+    put_raised(alloc, right, first, &mut all)?;
+    Ok(all)
+}
+
+// These rules in normal form, over this number of states; want of memory where they are not in it.
+fn normal_over(
+    alloc: Global,
+    states: u32,
+    rules: Vec<Rule<u32>>,
+) -> Result<Normal<Boolean>, AllocError>
+    ensures { IfOk result (λ n. n.rules ≡ rules.items) }
+{
+    if rules.len() > u32::MAX as usize {
+        return Err(AllocError);
+    }
+    let names = numbered_names(alloc, states)?;
+    let Some(grammar) = Grammar::new(names, rules) else {
+        return Err(AllocError);
+    };
+    match Normal::new(alloc, grammar)? {
+        Some(normal) => Ok(normal),
+        None => Err(AllocError),
+    }
+}
+
+/// The two grammars as one: the states of the left one and behind them those of the right one, each rule of both with its
+/// states raised, at no cost. So the start of the left is 0, and that of the right is the number of states of the left. Only
+/// want of memory is an error, or of numbers for the states or rules of both. Worst case: a few passes over the rules.
+pub fn side_by_side(
+    alloc: Global,
+    left: &Normal<Boolean>,
+    right: &Normal<Boolean>,
+) -> Result<Normal<Boolean>, AllocError>
+    ensures { IfOk result (λ n. n.rules
+        ≡ beside (length left.now.names) left.now.rules right.now.rules) }
+{
+    let one = left.grammar();
+    let two = right.grammar();
+    let first = one.states();
+    let rules = rules_beside(alloc, one.rule_list(), two.rule_list(), first)?;
+    normal_over(alloc, raised_state(first, two.states())?, rules)
+}

@@ -1,0 +1,17 @@
+//! The comparison of the supports of two grammars: whether the same trees have a cost in both, or else the least tree, in the
+//! order of trees, that has one in exactly one of them. It stands on `tib_determinize`, which reaches the vectors of both
+//! grammars side by side, and on `tib_k_best`, which gives the least tree of the vectors that tell them apart.
+#![tactic(auto)]
+
+mod beside;
+mod compare;
+mod compared;
+mod error;
+pub mod laws;
+mod moving;
+mod wanted;
+
+pub use beside::side_by_side;
+pub use compare::{compare_alone, compare_supports};
+pub use compared::Compared;
+pub use error::CompareError;
