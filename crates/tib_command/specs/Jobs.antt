@@ -1,5 +1,5 @@
 -- The job that the words ask for.
-use Rattle.std.specs.Prelude.{ℕ, ◌==◌, ◌&&◌, Bool, not, List, [], ◌∷◌, map, Option, Some, None, length}
+use Rattle.std.specs.Prelude.{ℕ, ◌==◌, ◌&&◌, Bool, true, false, not, List, [], ◌∷◌, map, Option, Some, None, length}
 use Rattle.std.specs.Prelude.{if◌then◌else◌, codes, option_map, option_and_then, nat_le, unwrap_or}
 use Rattle.std.specs.List.{list_any}
 use Rattle.std.specs.String.{string_bytes}
@@ -56,9 +56,10 @@ operation_in text = if bytes_eq text (codes "weigh") then Some o.Weigh
     else (if bytes_eq text (codes "image") then Some o.Image
     else (if bytes_eq text (codes "determinize") then Some o.Determinize
     else (if bytes_eq text (codes "check") then Some o.Check
-    else (if bytes_eq text (codes "prune") then Some o.Prune else None)))))))))))
+    else (if bytes_eq text (codes "prune") then Some o.Prune
+    else (if bytes_eq text (codes "demo") then Some o.Demo else None))))))))))))
 
--- how many words follow the operation
+-- how many file names follow the operation
 abbrev pub word_count : Operation → ℕ
 word_count o.Weigh = 2
 word_count o.Inside = 1
@@ -72,11 +73,18 @@ word_count o.Image = 2
 word_count o.Determinize = 1
 word_count o.Check = 1
 word_count o.Prune = 1
+word_count o.Demo = 0
 
--- what the positional words say: the operation and its files
+-- whether a number stands in place of file names
+abbrev pub takes_number : Operation → Bool
+takes_number o.Demo = true
+takes_number operation = false
+
+-- what the positional words say: the operation, its files, and the number of `demo`, which is 0 for the others
 pub record Task : Type 0 where
   pub operation : Operation
   pub files : List Text
+  pub demo : ℕ
 
 abbrev pub are_files : Operation → List Text → Bool
 are_files op files = (length files == word_count op) && not (list_any (λ f. length f == 0) files)
@@ -104,11 +112,28 @@ beam_in text = number_in 16 0 most_beam text
 -- as many file names as the operation takes, none of them empty
 abbrev pub files_in : Operation → List Text → Option Task
 files_in op files =
-    if are_files op files then Some (record { operation = op; files = files }) else None
+    if are_files op files then Some (record { operation = op; files = files; demo = 0 }) else None
+
+-- the greatest number that `demo` takes
+abbrev pub most_demo : ℕ
+most_demo = 16
+
+abbrev pub demo_of : ℕ → Task
+demo_of n = record { operation = o.Demo; files = []; demo = n }
+
+-- one word that is a number from 1 on, in one to twelve digits
+abbrev pub demo_in : List Text → Option Task
+demo_in [] = None
+demo_in (word ∷ []) = option_map demo_of (count_in most_demo word)
+demo_in (word ∷ other ∷ rest) = None
+
+-- what follows the operation
+abbrev pub words_in : Operation → List Text → Option Task
+words_in op words = if takes_number op then demo_in words else files_in op words
 
 abbrev pub task_in : List Text → Option Task
 task_in [] = None
-task_in (name ∷ rest) = option_and_then (λ op. files_in op rest) (operation_in name)
+task_in (name ∷ rest) = option_and_then (λ op. words_in op rest) (operation_in name)
 
 pub record Asked : Type 0 where
   pub mode : Mode
@@ -143,6 +168,7 @@ meaning job = record {
   task = record {
     operation = job.operation;
     files = map (λ s. string_bytes s) job.files.items;
+    demo = job.demo;
   };
 }
 
@@ -151,4 +177,4 @@ abbrev pub texts_of : Option (Bor (List (Bor Text))) → List Text
 texts_of values = unwrap_or (option_map (λ vs. map (λ v. v.now) vs.now) values) []
 
 abbrev pub task_meaning : Read → Task
-task_meaning t = record { operation = t.operation; files = map (λ s. string_bytes s) t.files.items }
+task_meaning t = record { operation = t.operation; files = map (λ s. string_bytes s) t.files.items; demo = t.demo }

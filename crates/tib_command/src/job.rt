@@ -47,6 +47,8 @@ pub enum Operation {
     Check,
     /// The canonical form of the part of a grammar that stays within a beam of its cheapest tree.
     Prune,
+    /// The determinization of a grammar that is made for a number: its size, and its cheapest tree.
+    Demo,
 }
 
 /// What the words ask for.
@@ -64,6 +66,8 @@ pub struct Job {
     pub operation: Operation,
     /// The names of the files, as many as the operation takes, none empty.
     pub files: Vec<String>,
+    /// The number that `demo` is asked for, from 1 to 16, and 0 for every other operation.
+    pub demo: u32,
 }
 
 /// Why the words gave no job.

@@ -1,6 +1,6 @@
 //! The word language of the command line: options `-m`, `-k`, `-w`, `--limit` and `--beam` in all their
 //! forms, anywhere among the words and each at most once, then the operation and the names of its
-//! files. `read_words` answers a job exactly where the words are of the language, for all lists of
+//! files, or the number of `demo`. `read_words` answers a job exactly where the words are of the language, for all lists of
 //! words. `clap` tells what each word belongs to, and takes each value as a text; this crate reads
 //! the texts and counts them and the files.
 #![tactic(auto)]
@@ -8,7 +8,8 @@
 ghost use Rattle.std.specs.Prelude.{◌≡◌, ◌≤◌, IfOk, IfErr, None, Some, length, map};
 ghost use Rattle.std.specs.String.{string_bytes};
 ghost use Rattle.tib_command.specs.declared.job.CommandError.TheVariants.{Usage};
-ghost use Rattle.tib_command.specs.Jobs.{job_of, meaning, most_beam, most_parts, most_trees, most_workers, word_count};
+ghost use Rattle.tib_command.specs.declared.job.Operation.TheVariants.{Demo};
+ghost use Rattle.tib_command.specs.Jobs.{job_of, meaning, most_beam, most_demo, most_parts, most_trees, most_workers, word_count};
 
 mod job;
 mod options;
@@ -33,12 +34,16 @@ pub const MOST_PARTS: u64 = 20_000_000;
 /// The greatest beam (`--beam`), which is the greatest cost.
 pub const MOST_BEAM: u64 = 1_000_000_000_000_000;
 
+/// The greatest number that `demo` takes.
+pub const MOST_DEMO: u64 = 16;
+
 /// The limits that clauses cite are these constants.
 pub fn words_have_limits()
     ensures trees { MOST_TREES ≡ most_trees }
     ensures workers { MOST_WORKERS ≡ most_workers }
     ensures parts { MOST_PARTS ≡ most_parts }
     ensures beam { MOST_BEAM ≡ most_beam }
+    ensures demo { MOST_DEMO ≡ most_demo }
 {}
 
 /// The job that the words ask for, which are those behind the program's name. `Usage` comes exactly
@@ -52,6 +57,8 @@ pub fn read_words(alloc: Global, words: &[String]) -> Result<Job, CommandError>
     ensures limit { IfOk result (λ job. (1 ≤ job.limit) × (job.limit ≤ most_parts)) }
     ensures beam { IfOk result (λ job. job.beam ≤ most_beam) }
     ensures files { IfOk result (λ job. length job.files.items ≡ word_count job.operation) }
+    ensures demo { IfOk result (λ job. job.operation ≡ Demo → 1 ≤ job.demo) }
+    ensures most { IfOk result (λ job. job.demo ≤ most_demo) }
     ensures err { IfErr result (λ e. e ≡ Usage →
         job_of (map (λ s. string_bytes s) words.now) ≡ None) }
 {
@@ -82,5 +89,6 @@ pub fn read_words(alloc: Global, words: &[String]) -> Result<Job, CommandError>
         beam,
         operation: task.operation,
         files: task.files,
+        demo: task.demo,
     })
 }

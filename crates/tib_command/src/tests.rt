@@ -312,7 +312,27 @@ static BEAMS: [(&[&str], u64); 5] = [
     (&["normal", "--beam", "7", "--limit=9", "--", "g"], 7),
 ];
 
-static REFUSED: [&[&str]; 99] = [
+// Words that ask for `demo`, and the number that they give.
+static NUMBERS: [(&[&str], u32); 5] = [
+    (&["demo", "1"], 1),
+    (&["demo", "16"], 16),
+    (&["-mboolean", "demo", "000000000007", "-w8"], 7),
+    (&["-k5", "demo", "--limit=19", "--", "1"], 1),
+    (&["normal", "g"], 0),
+];
+
+static REFUSED: [&[&str]; 110] = [
+    &["demo"],
+    &["demo", "0"],
+    &["demo", "17"],
+    &["demo", "x"],
+    &["demo", ""],
+    &["demo", "+7"],
+    &["demo", "--", "-7"],
+    &["demo", "0000000000001"],
+    &["demo", "1", "2"],
+    &["demo", "1", "g"],
+    &["Demo", "1"],
     &["prune"],
     &["prune", "g", "h"],
     &["Prune", "g"],
@@ -432,6 +452,14 @@ fn words_of_the_language_give_their_job(rt: HostRuntime) -> Result<(), Fail> {
 fn beams_are_read(rt: HostRuntime) -> Result<(), Fail> {
     for (words, beam) in &BEAMS {
         assert_eq!(rt; job(rt.alloc(), words)?.beam, *beam);
+    }
+    Ok(())
+}
+
+#[test]
+fn numbers_are_read(rt: HostRuntime) -> Result<(), Fail> {
+    for (words, demo) in &NUMBERS {
+        assert_eq!(rt; job(rt.alloc(), words)?.demo, *demo);
     }
     Ok(())
 }

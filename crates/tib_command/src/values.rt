@@ -3,9 +3,10 @@ ghost use Rattle.std.specs.Prelude.{◌≡◌, ◌≤◌, ◌==◌, ℕ, IfOk, I
 ghost use Rattle.std.specs.List.{list_any};
 ghost use Rattle.std.specs.String.{string_bytes};
 ghost use Rattle.tib_command.specs.declared.job.Mode.TheVariants.{MinPlus};
-ghost use Rattle.tib_command.specs.Jobs.{are_files, beam_in, count_in, mode_in, most_beam, number_in, numeral_in, once, operation_in, task_in, task_meaning, texts_of, word_count};
+ghost use Rattle.tib_command.specs.declared.job.Operation.TheVariants.{Demo};
+ghost use Rattle.tib_command.specs.Jobs.{are_files, beam_in, count_in, demo_in, files_in, mode_in, most_beam, most_demo, number_in, numeral_in, once, operation_in, takes_number, task_in, task_meaning, texts_of, word_count};
 
-use crate::{MOST_BEAM, Mode, Operation};
+use crate::{MOST_BEAM, MOST_DEMO, Mode, Operation};
 use std::alloc::{AllocError, Global};
 
 /// The mode that has this name.
@@ -38,6 +39,7 @@ fn operation_in(text: &str) -> Option<Operation>
         "determinize" => Some(Operation::Determinize),
         "check" => Some(Operation::Check),
         "prune" => Some(Operation::Prune),
+        "demo" => Some(Operation::Demo),
         _ => None,
     }
 }
@@ -107,6 +109,7 @@ pub(crate) fn mode_once(values: Option<&[&str]>) -> Option<Mode>
 pub(crate) struct Task {
     pub(crate) operation: Operation,
     pub(crate) files: Vec<String>,
+    pub(crate) demo: u32,
 }
 
 /// The words as texts of their own.
@@ -122,7 +125,7 @@ pub(crate) fn copied(alloc: Global, words: &[&str]) -> Result<Vec<String>, Alloc
     Ok(copies)
 }
 
-/// How many words follow the operation.
+/// How many file names follow the operation.
 fn word_count(operation: Operation) -> usize
     ensures { result ≡ word_count operation }
 {
@@ -133,6 +136,7 @@ fn word_count(operation: Operation) -> usize
         | Operation::Determinize
         | Operation::Check
         | Operation::Prune => 1,
+        Operation::Demo => 0,
         Operation::Weigh
         | Operation::Intersect
         | Operation::Forward
@@ -140,6 +144,13 @@ fn word_count(operation: Operation) -> usize
         | Operation::Compose
         | Operation::Image => 2,
     }
+}
+
+/// The operation takes a number in place of files.
+fn takes_number(operation: Operation) -> bool
+    ensures { result ≡ takes_number operation }
+{
+    matches!(operation, Operation::Demo)
 }
 
 /// One of the words is empty.
@@ -162,25 +173,60 @@ fn are_files(operation: Operation, words: &[&str]) -> bool
     words.len() == word_count(operation) && !has_empty(words)
 }
 
+/// The file names of an operation, where the words are these.
+fn files_in(alloc: Global, operation: Operation, words: &[&str]) -> Result<Option<Task>, AllocError>
+    ensures task { IfOk result (λ r. option_map task_meaning r
+        ≡ files_in operation (map (λ w. w.now) words.now)) }
+    ensures files { IfOk result (λ r. IfSome r (λ t. length t.files.items ≡ word_count operation)) }
+    ensures operation { IfOk result (λ r. IfSome r (λ t. t.operation ≡ operation)) }
+    ensures none { IfOk result (λ r. IfSome r (λ t. t.demo ≡ 0)) }
+{
+    if !are_files(operation, words) {
+        return Ok(None);
+    }
+    Ok(Some(Task {
+        operation,
+        files: copied(alloc, words)?,
+        demo: 0,
+    }))
+}
+
+/// The number of `demo`, where the words are this one number.
+fn demo_in(alloc: Global, words: &[&str]) -> Option<Task>
+    ensures task { option_map task_meaning result ≡ demo_in (map (λ w. w.now) words.now) }
+    ensures files { IfSome result (λ t. length t.files.items ≡ word_count t.operation) }
+    ensures least { IfSome result (λ t. 1 ≤ t.demo) }
+    ensures most { IfSome result (λ t. t.demo ≤ most_demo) }
+{
+    let [word] = words else {
+        return None;
+    };
+    let Some(demo) = number_in(word, 12, 1, MOST_DEMO) else {
+        return None;
+    };
+    Some(Task {
+        operation: Operation::Demo,
+        files: Vec::new(alloc),
+        demo: demo as u32,
+    })
+}
+
 /// What the positional words say, where they are of the language.
 pub(crate) fn read_task(alloc: Global, places: Option<&[&str]>) -> Result<Option<Task>, AllocError>
     ensures task { IfOk result (λ r. option_map task_meaning r ≡ task_in (texts_of places.entry)) }
     ensures files { IfOk result (λ r. IfSome r (λ t.
         length t.files.items ≡ word_count t.operation)) }
+    ensures least { IfOk result (λ r. IfSome r (λ t. t.operation ≡ Demo → 1 ≤ t.demo)) }
+    ensures most { IfOk result (λ r. IfSome r (λ t. t.demo ≤ most_demo)) }
 {
     let Some([name, words @ ..]) = places else {
         return Ok(None);
     };
-    match operation_in(name) {
-        None => Ok(None),
-        Some(operation) => {
-            if !are_files(operation, words) {
-                return Ok(None);
-            }
-            Ok(Some(Task {
-                operation,
-                files: copied(alloc, words)?,
-            }))
-        }
+    let Some(operation) = operation_in(name) else {
+        return Ok(None);
+    };
+    if takes_number(operation) {
+        return Ok(demo_in(alloc, words));
     }
+    files_in(alloc, operation, words)
 }
