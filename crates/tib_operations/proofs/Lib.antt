@@ -35,3 +35,5 @@ pub mod BestExists
 pub mod BestByText
 pub mod BestOf
 pub mod OfKBest
+pub mod DemoText
+pub mod OfDemo

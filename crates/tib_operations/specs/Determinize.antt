@@ -1,6 +1,6 @@
 -- `determinize`: the grammar of the vectors of a grammar's states with residuals, in deterministic form.
 use Rattle.tib_cost.specs.declared.Scale.{Scale}
-use Rattle.std.specs.Prelude.{ℕ, List, []}
+use Rattle.std.specs.Prelude.{◌≡◌, ℕ, List, []}
 use Rattle.tib_grammar.specs.Forms.{IsDeterministic}
 use Rattle.tib_grammar.specs.GrammarOf.{GrammarOf}
 use Rattle.tib_grammar.specs.Series.{HaveSameSeries}
@@ -27,6 +27,10 @@ abbrev pub HasDeterminizedText : Scale → (ℕ → ℕ → ℕ) → ℕ → Lis
 HasDeterminizedText scale product limit labels g text =
     HasGrammarText scale labels (IsCanonicalFrom product scale labels limit (IsTrimmedForm product g) (determinizing product))
     (IsDeterminizationOf product g.rules) text
+
+-- the text is that of this canonical grammar
+abbrev pub IsDeterminizedText : Scale → (ℕ → ℕ → ℕ) → ℕ → List (List ℕ) → GrammarOf → List ℕ → GrammarOf → Type 0
+IsDeterminizedText scale product limit labels g text h = (d : HasDeterminizedText scale product limit labels g text) × (d.h ≡ h)
 
 -- the normal form of the grammar, and then the reached set of vectors
 abbrev pub determinize_makes : (ℕ → ℕ → ℕ) → ℕ → GrammarOf → Made

@@ -13,6 +13,7 @@ pub mod Forward
 pub mod Backward
 pub mod Image
 pub mod Determinize
+pub mod Demo
 pub mod Check
 pub mod Prune
 pub mod Compose

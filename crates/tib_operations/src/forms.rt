@@ -1,5 +1,6 @@
 // The normal forms of grammars of files, within the limit of a job.
 ghost use Rattle.std.specs.Prelude.{◌≤◌, ℕ, List, length, IfErr, IfOk};
+ghost use Rattle.tib_cost.specs.Semiring.{ProductLaws};
 ghost use Rattle.tib_grammar_file.specs.Printable.{ArePrintable};
 ghost use Rattle.tib_inside.specs.Trimmed.{HasSameSeries};
 ghost use Rattle.tib_normal.specs.NormalForm.{IsNormalForm, KeepsSeries, normal_parts};
@@ -15,6 +16,11 @@ use tib_grammar::Grammar;
 use tib_inside::trim_normal;
 use tib_k_best::trimmed_has_trees;
 use tib_normal::{Normal, NormalError, normalize};
+
+// The laws of the product. A function whose semiring is shared among threads has them by a call of this one.
+pub(crate) fn product_has_laws<S: Semiring>()
+    ensures { ProductLaws S.LEVELLED S.WEIGHTED S.product }
+{}
 
 /// The normal form of a grammar, or the status with which the run ends.
 pub fn normal_of<S: Semiring + Drop>(

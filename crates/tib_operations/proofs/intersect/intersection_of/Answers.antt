@@ -1,9 +1,9 @@
-use Rattle.std.proofs.Common.{refl, inl, inr}
+use Rattle.std.proofs.Common.{inl, inr}
 use Rattle.tib_hunt.specs.Reached.{IsBeyond}
 use Rattle.tib_intersect.specs.Intersection.{intersection}
 use Rattle.tib_operations.specs.Intersect.{AreTrimmedForms, intersecting, intersect_makes}
 use Rattle.tib_operations.specs.Made.{normal_form}
-use Rattle.tib_operations.proofs.MadeParts.{made_weaker, told_much, canonical_within}
+use Rattle.tib_operations.proofs.MadeParts.{made_weaker, canonical_within}
 use Rattle.tib_operations.proofs.OfIntersect.{product_of_forms}
 use Rattle.tib_operations.proofs.Pairs.{more_pairs}
 use Rattle.tib_operations.proofs.intersect.intersection_of.Goals as goal
@@ -14,8 +14,8 @@ canonical_of_pairs-requires-clause-one g c = c.in-Ok.ensures.printable c.args.la
 pub canonical_of_pairs-requires-clause-two : goal.canonical_of_pairs-requires-clause-two
 canonical_of_pairs-requires-clause-two g c = c.in-Ok-trimmed_form.ensures.printable c.args.labels.now c.requires.second
 
-pub returns-in-Ok-canonical_of_pairs-clause-text : goal.returns-in-Ok-canonical_of_pairs-clause-text
-returns-in-Ok-canonical_of_pairs-clause-text g c = record {
+pub returns-clause-text : goal.returns-clause-text
+returns-clause-text g c = record {
   h = c.in-Ok-canonical_of_pairs.canonical.grammar;
   canonical = record {
     from = (c.in-Ok.one, c.in-Ok-trimmed_form.two);
@@ -29,8 +29,8 @@ returns-in-Ok-canonical_of_pairs-clause-text g c = record {
   read = c.in-Ok-canonical_of_pairs.ensures.read;
 }
 
-pub returns-in-Ok-canonical_of_pairs-clause-within : goal.returns-in-Ok-canonical_of_pairs-clause-within
-returns-in-Ok-canonical_of_pairs-clause-within g c = (
+pub returns-clause-within : goal.returns-clause-within
+returns-clause-within g c = (
   c.in-Ok.ensures.within,
   (
     c.in-Ok-trimmed_form.ensures.within,
@@ -48,13 +48,9 @@ returns-in-Err-trimmed_form-clause-err g c =
     made_weaker (normal_form g.S.Semiring.product c.args.limit c.args.second.now).more c.args.limit (intersect_makes g.S.Semiring.product c.args.limit c.args.first.now c.args.second.now).more (λ m. inr (inl m))
     c.in-Err-trimmed_form.status c.in-Err-trimmed_form.ensures.err
 
-pub returns-in-Err-TooMany-clause-err : goal.returns-in-Err-TooMany-clause-err
-returns-in-Err-TooMany-clause-err g c =
-    let beyond : IsBeyond (intersection g.S.Semiring.product c.in-Ok.one.rules c.in-Ok-trimmed_form.two.rules) c.args.limit =
-    told_much c.args.limit c.in-Err-TooMany.field-0-0 (IsBeyond (intersection g.S.Semiring.product c.in-Ok.one.rules c.in-Ok-trimmed_form.two.rules) c.args.limit) c.in-Err-TooMany.field-0 c.in-Err-TooMany.field-0-is
-    c.in-Err-TooMany.ensures.err
-    in (
-      refl,
-      inr (inr (more_pairs g.S.Semiring.product c.args.limit c.args.first.now c.args.second.now c.in-Ok.one c.in-Ok-trimmed_form.two c.order_is_free.ensures
-          (λ h m n. c.trimmed_forms_have_the_same_rules.ensures g.S.Semiring.product h m n) c.in-Ok.ensures.form c.in-Ok-trimmed_form.ensures.form beyond)),
-    )
+pub returns-in-Err-canonical_of_pairs-clause-err : goal.returns-in-Err-canonical_of_pairs-clause-err
+returns-in-Err-canonical_of_pairs-clause-err g c =
+    made_weaker (IsBeyond (intersection g.S.Semiring.product c.in-Ok.one.rules c.in-Ok-trimmed_form.two.rules) c.args.limit) c.args.limit (intersect_makes g.S.Semiring.product c.args.limit c.args.first.now c.args.second.now).more
+    (λ beyond. inr (inr (more_pairs g.S.Semiring.product c.args.limit c.args.first.now c.args.second.now c.in-Ok.one c.in-Ok-trimmed_form.two c.order_is_free.ensures
+    (λ h m n. c.trimmed_forms_have_the_same_rules.ensures g.S.Semiring.product h m n) c.in-Ok.ensures.form c.in-Ok-trimmed_form.ensures.form beyond)))
+    c.in-Err-canonical_of_pairs.status c.in-Err-canonical_of_pairs.ensures.err
