@@ -1,6 +1,6 @@
 pub mod Log
-pub mod Kinds
-pub mod Causes
-pub mod Answers
-pub mod Run
-pub mod Laws
+pub use Rattle.tib_run_laws.specs.Kinds
+pub use Rattle.tib_run_laws.specs.Causes
+pub use Rattle.tib_run_laws.specs.Answers
+pub use Rattle.tib_run_laws.specs.Run
+pub use Rattle.tib_run_laws.specs.Laws

@@ -1,23 +1,23 @@
 // The answer of a job: its whole text, and the writing of it.
-ghost use Rattle.std.specs.Prelude.{◌≡◌, ◌<◌, Some, length, IfErr, IfOk};
+ghost use Rattle.std.specs.Prelude.{◌≡◌, ◌<◌, ◌≤◌, Some, length, IfErr, IfOk};
 ghost use Rattle.tib_io.specs.Causes.{GoesOn};
-ghost use Rattle.tib_command.specs.Jobs.{meaning, word_count};
-ghost use Rattle.tib_run.specs.Answers.{IsAnswer};
-ghost use Rattle.tib_run.specs.Causes.{HasCause, HasEarlier, IsEarly, levelled_of, scale_of, product_of};
-ghost use Rattle.tib_run.specs.Run.{IsRunOf, files_seen, sink_seen};
+ghost use Rattle.tib_command.specs.Jobs.{meaning, most_demo, word_count};
+ghost use Rattle.tib_run_laws.specs.Answers.{IsAnswer};
+ghost use Rattle.tib_run_laws.specs.Causes.{HasCause, HasEarlier, IsEarly, levelled_of, scale_of, product_of};
+ghost use Rattle.tib_run_laws.specs.Run.{IsRunOf, files_seen, sink_seen};
 ghost use Rattle.tib_operations.specs.Made.{IsLimit};
 ghost use Rattle.tib_operations.specs.Prune.{IsBeam};
 
 use crate::backward::backward_files;
 use crate::check::check_file;
 use crate::compose::compose_files;
+use crate::demo::demo_of_number;
 use crate::determinize::determinize_file;
 use crate::forward::forward_files;
 use crate::image::image_files;
 use crate::inside::inside_of_file;
 use crate::intersect::intersect_files;
 use crate::kbest::kbest_of_file;
-use crate::laws::{files_have_no_fault, within_or_too_many};
 use crate::normal::normal_of_file;
 use crate::prune::prune_of_file;
 use crate::weigh::weigh_files;
@@ -28,9 +28,10 @@ use tib_cost::Semiring;
 use tib_hunt::Gate;
 use tib_io::{Failed, Files, GrowingSink, Sink, write_and_finish};
 use tib_operations::Status;
+use tib_run_laws::{files_have_no_fault, within_or_too_many};
 
-// The whole text, before any of it is written, or the status with which the run ends.
-fn text_of<S: Semiring + Sync + Drop, R: Threads + Sync, F: Files, G: Gate>(
+/// The whole text of a job, by one worker, before any of it is written, or the status with which the run ends.
+pub(crate) fn text_of<S: Semiring + Sync + Drop, R: Threads + Sync, F: Files, G: Gate>(
     rt: &R,
     alloc: Global,
     job: &Job,
@@ -41,6 +42,8 @@ fn text_of<S: Semiring + Sync + Drop, R: Threads + Sync, F: Files, G: Gate>(
     requires limit { IsLimit job.now.limit }
     requires beam { IsBeam job.now.beam }
     requires some { 0 < job.now.k }
+    requires least { job.now.operation ≡ Operation.Demo → 1 ≤ job.now.demo }
+    requires most { job.now.demo ≤ most_demo }
     requires levelled { S.LEVELLED ≡ levelled_of job.now.mode }
     requires mode { S.SCALE ≡ scale_of job.now.mode }
     requires product { S.product ≡ product_of job.now.mode }
@@ -65,10 +68,11 @@ fn text_of<S: Semiring + Sync + Drop, R: Threads + Sync, F: Files, G: Gate>(
         Operation::Determinize => determinize_file::<S, F, G>(alloc, job, files, gate),
         Operation::Check => check_file::<S, F>(alloc, job, files),
         Operation::Prune => prune_of_file::<S, F>(alloc, job, files),
+        Operation::Demo => demo_of_number::<S, G>(alloc, job, gate),
     }
 }
 
-/// Writes the answer of the job.
+/// Writes the answer of the job, which one worker makes.
 pub(crate) fn answer_job<S: Semiring + Sync + Drop, R: Threads + Sync, F: Files, O: Sink, G: Gate>(
     rt: &R,
     alloc: Global,
@@ -81,6 +85,8 @@ pub(crate) fn answer_job<S: Semiring + Sync + Drop, R: Threads + Sync, F: Files,
     requires limit { IsLimit job.now.limit }
     requires beam { IsBeam job.now.beam }
     requires some { 0 < job.now.k }
+    requires least { job.now.operation ≡ Operation.Demo → 1 ≤ job.now.demo }
+    requires most { job.now.demo ≤ most_demo }
     requires levelled { S.LEVELLED ≡ levelled_of job.now.mode }
     requires mode { S.SCALE ≡ scale_of job.now.mode }
     requires product { S.product ≡ product_of job.now.mode }

@@ -1,23 +1,25 @@
 // The run of a command.
-ghost use Rattle.std.specs.Prelude.{◌≡◌, ◌<◌, Some, length, map, string_bytes};
-ghost use Rattle.tib_command.specs.Jobs.{job_of, meaning, word_count};
+ghost use Rattle.std.specs.Prelude.{◌≡◌, ◌<◌, ◌≤◌, Some, length, map, string_bytes};
+ghost use Rattle.tib_command.specs.Jobs.{job_of, meaning, most_demo, word_count};
 ghost use Rattle.tib_run.specs.Log.{line_of};
-ghost use Rattle.tib_run.specs.Run.{IsRunOf, IsLogged, files_seen, sink_seen};
+ghost use Rattle.tib_run_laws.specs.Run.{IsRunOf, IsLogged, files_seen, sink_seen};
 ghost use Rattle.tib_operations.specs.Made.{IsLimit};
 ghost use Rattle.tib_operations.specs.Prune.{IsBeam};
 
 use crate::answer::answer_job;
-use crate::laws::{files_have_no_fault, within_or_too_many};
 use crate::log::tell;
+use crate::together::perform_together;
 use std::alloc::Global;
+use std::sync::Wait;
 use std::thread::Threads;
-use tib_command::{CommandError, Job, Mode, read_words};
+use tib_command::{CommandError, Job, Mode, Operation, read_words};
 use tib_cost::{Boolean, Bottleneck, MinPlus, Widest};
 use tib_hunt::Gate;
 use tib_io::{Files, Sink};
 use tib_operations::Status;
+use tib_run_laws::{files_have_no_fault, within_or_too_many};
 
-// Does a job.
+// Does a job with one worker.
 fn perform_job<R: Threads + Sync, F: Files, O: Sink, G: Gate>(
     rt: &R,
     alloc: Global,
@@ -30,6 +32,8 @@ fn perform_job<R: Threads + Sync, F: Files, O: Sink, G: Gate>(
     requires limit { IsLimit job.now.limit }
     requires beam { IsBeam job.now.beam }
     requires some { 0 < job.now.k }
+    requires least { job.now.operation ≡ Operation.Demo → 1 ≤ job.now.demo }
+    requires most { job.now.demo ≤ most_demo }
     ensures { IsRunOf (Some (meaning job.now))
         (files_seen F.held F.sure F.faults files.old) (files_seen F.held F.sure F.faults files.new)
         (sink_seen O.written O.free O.faults O.finished out.old) (sink_seen O.written O.free O.faults O.finished out.new) result }
@@ -42,7 +46,7 @@ fn perform_job<R: Threads + Sync, F: Files, O: Sink, G: Gate>(
     }
 }
 
-// Everything but the line on the log.
+// Does what the words ask for with one worker: everything but the line on the log.
 fn perform<R: Threads + Sync, F: Files, O: Sink, G: Gate>(
     rt: &R,
     alloc: Global,
@@ -85,11 +89,12 @@ pub fn run_alone<R: Threads + Sync, F: Files, O: Sink, E: Sink, G: Gate + Sync>(
     status
 }
 
-/// Does what the words ask for: `words` are those behind the program's name. It tells on the log why it did not end with
+/// Does what the words ask for: `words` are those behind the program's name. The workers that they name hunt, whatever the order of
+/// their steps, and it may wait for ever, as their hunt (`hunt` of tib_hunt). It tells on the log why it did not end with
 /// `Done`. Each status comes only with its cause, and after every status but `Done` and `WriteFault` the whole of `out` is
 /// as it was. After `Done` the whole answer was written, and `out` is finished; after `WriteFault` a front of it was. What
 /// was written on `out` and on the log is taken from the room that they tell.
-pub fn run<R: Threads + Sync, F: Files, O: Sink, E: Sink, G: Gate + Sync>(
+pub fn run<R: Threads + Wait + Sync, F: Files, O: Sink, E: Sink, G: Gate + Sync>(
     rt: &R,
     alloc: Global,
     words: &[String],
@@ -104,5 +109,7 @@ pub fn run<R: Threads + Sync, F: Files, O: Sink, E: Sink, G: Gate + Sync>(
     ensures log { IsLogged (line_of result)
         (sink_seen E.written E.free E.faults E.finished log.old) (sink_seen E.written E.free E.faults E.finished log.new) }
 {
-    run_alone::<R, F, O, E, G>(rt, alloc, words, files, out, log, gate)
+    let status = perform_together::<R, F, O, G>(rt, alloc, words, files, out, gate);
+    let _ = tell(log, &status);
+    status
 }

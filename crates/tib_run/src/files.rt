@@ -3,10 +3,10 @@ ghost use Rattle.std.specs.Prelude.{[], ◌∷◌, ◌≡◌, ◌≤◌, ◌<◌
 ghost use Rattle.tib_io.specs.Reads.{most_bytes};
 ghost use Rattle.tib_io.specs.Causes.{GoesOn};
 ghost use Rattle.tib_command.specs.Jobs.{meaning};
-ghost use Rattle.tib_run.specs.Causes.{HasCause, IsAbout, scale_of};
+ghost use Rattle.tib_run_laws.specs.Causes.{HasCause, IsAbout, scale_of};
 ghost use Rattle.tib_operations.specs.Moves.{ArePlainMoves};
 ghost use Rattle.tib_canon_transducer.specs.Keys.{AreMovesOver};
-ghost use Rattle.tib_run.specs.Kinds.{file_at, kind_at, OfFile, Told, of_grammar, of_trees, of_one_tree, of_transducer};
+ghost use Rattle.tib_run_laws.specs.Kinds.{file_at, kind_at, OfFile, Told, of_grammar, of_trees, of_one_tree, of_transducer};
 ghost use Rattle.tib_operations.specs.FileTexts.{IsShort, IsRead, ListsTrees, IsTransducerRead};
 ghost use Rattle.tib_grammar_file.specs.Printable.{ArePrintable};
 ghost use Rattle.tib_tree.specs.Grows.{AreDistinct, Grows};

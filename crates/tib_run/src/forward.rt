@@ -1,34 +1,52 @@
 // `forward`: the canonical grammar of the trees into which a transducer turns those of a grammar, at the least products of costs.
-ghost use Rattle.std.specs.Prelude.{◌≡◌, Some, length, IfErr, IfOk};
+ghost use Rattle.std.specs.Prelude.{[], ◌∷◌, ◌≡◌, ◌≤◌, Some, length, IfErr, IfOk};
 ghost use Rattle.tib_io.specs.Causes.{GoesOn};
 ghost use Rattle.tib_command.specs.Jobs.{meaning};
-ghost use Rattle.tib_run.specs.Answers.{IsAnswer};
-ghost use Rattle.tib_run.specs.Causes.{HasCause, HasEarlier, IsEarly, scale_of, product_of};
+ghost use Rattle.tib_run_laws.specs.Answers.{IsAnswer};
+ghost use Rattle.tib_run_laws.specs.Kinds.{AreTexts, of_grammar, of_transducer};
+ghost use Rattle.tib_run_laws.specs.Causes.{HasCause, HasEarlier, IsEarly, bytes_of, scale_of, product_of};
 ghost use Rattle.tib_operations.specs.Made.{IsLimit};
+ghost use Rattle.tib_classes.specs.Outside.{AllMeet};
+ghost use Rattle.tib_grammar_file.specs.Printable.{ArePrintable};
+ghost use Rattle.tib_operations.specs.Moves.{ArePlainMoves};
+ghost use Rattle.tib_operations.specs.Forward.{linear};
 
 use crate::files::{grammar_in, transducer_in};
 use std::alloc::Global;
+use std::sync::Wait;
+use std::thread::Threads;
 use tib_command::{Job, Operation};
 use tib_cost::Semiring;
+use tib_grammar::Grammar;
 use tib_grammar_file::printable_stays;
 use tib_hunt::Gate;
 use tib_io::{Files, GrowingSink};
-use tib_operations::{Status, demand, image_of};
+use tib_operations::{Status, demand, image_of, image_of_together};
+use tib_transducer::Transducer;
 use tib_tree::Labels;
 
-/// The whole text of a job that asks for the outputs of a transducer, or the status with which the run ends.
-pub(crate) fn forward_files<S: Semiring + Drop, F: Files, G: Gate>(
+// The grammar of a job and its linear transducer, over one table of labels.
+#[derive(Drop)]
+struct Application<S> {
+    labels: Labels,
+    grammar: Grammar<S>,
+    transducer: Transducer<S>,
+}
+
+// The values of the files of such a job, or the status with which the run ends.
+fn application_of<S: Semiring + Drop, F: Files>(
     alloc: Global,
     job: &Job,
     files: &mut F,
-    gate: &G,
-) -> Result<GrowingSink, Status>
+) -> Result<Application<S>, Status>
     requires operation { job.now.operation ≡ Operation.Forward }
     requires files { length job.now.files.items ≡ 2 }
-    requires limit { IsLimit job.now.limit }
     requires mode { S.SCALE ≡ scale_of job.now.mode }
     requires product { S.product ≡ product_of job.now.mode }
-    ensures text { IfOk result (λ text. IsAnswer (meaning job.now) (F.held files.old) text.bytes) }
+    ensures texts { IfOk result (λ r. AreTexts S.SCALE r.labels (bytes_of (meaning job.now) (F.held files.old)) (of_grammar ∷ of_transducer ∷ []) (r.grammar, (r.transducer, tt))) }
+    ensures grammar { IfOk result (λ r. ArePrintable S.SCALE r.labels r.grammar.rules) }
+    ensures transducer { IfOk result (λ r. ArePlainMoves S.SCALE r.labels r.transducer.rules) }
+    ensures class { IfOk result (λ r. AllMeet linear r.transducer.rules) }
     ensures cause { IfErr result (HasCause (Some (meaning job.now)) (F.held files.old) (F.faults files.old) (F.faults files.new) 0 0) }
     ensures earlier { IfErr result (HasEarlier (Some (meaning job.now)) (F.held files.old)) }
     ensures early { IfErr result IsEarly }
@@ -51,8 +69,89 @@ pub(crate) fn forward_files<S: Semiring + Drop, F: Files, G: Gate>(
         Ok(()) => {}
         Err(status) => return Err(status),
     }
+    Ok(Application {
+        labels,
+        grammar,
+        transducer,
+    })
+}
+
+/// The whole text of a job that asks for the outputs of a transducer, or the status with which the run ends.
+pub(crate) fn forward_files<S: Semiring + Drop, F: Files, G: Gate>(
+    alloc: Global,
+    job: &Job,
+    files: &mut F,
+    gate: &G,
+) -> Result<GrowingSink, Status>
+    requires operation { job.now.operation ≡ Operation.Forward }
+    requires files { length job.now.files.items ≡ 2 }
+    requires limit { IsLimit job.now.limit }
+    requires mode { S.SCALE ≡ scale_of job.now.mode }
+    requires product { S.product ≡ product_of job.now.mode }
+    ensures text { IfOk result (λ text. IsAnswer (meaning job.now) (F.held files.old) text.bytes) }
+    ensures cause { IfErr result (HasCause (Some (meaning job.now)) (F.held files.old) (F.faults files.old) (F.faults files.new) 0 0) }
+    ensures earlier { IfErr result (HasEarlier (Some (meaning job.now)) (F.held files.old)) }
+    ensures early { IfErr result IsEarly }
+    ensures held { F.held files.new ≡ F.held files.old }
+    ensures sure { F.sure files.new ≡ F.sure files.old }
+    ensures counts { GoesOn (F.sure files.old) (F.faults files.old) (F.faults files.new) }
+{
+    let read = match application_of::<S, F>(alloc, job, files) {
+        Ok(read) => read,
+        Err(status) => return Err(status),
+    };
     let limit = job.limit;
-    let canonical = match image_of::<S, G>(alloc, &grammar, &transducer, &labels, limit, gate) {
+    let canonical = match image_of::<S, G>(
+        alloc,
+        &read.grammar,
+        &read.transducer,
+        &read.labels,
+        limit,
+        gate,
+    ) {
+        Ok(canonical) => canonical,
+        Err(status) => return Err(status),
+    };
+    Ok(canonical.text)
+}
+
+/// The same by the workers of the job.
+pub(crate) fn forward_files_together<
+    S: Semiring + Sync + Drop,
+    R: Threads + Wait + Sync,
+    F: Files,
+    G: Gate + Sync,
+>(rt: &R, alloc: Global, job: &Job, files: &mut F, gate: &G) -> Result<GrowingSink, Status>
+    requires operation { job.now.operation ≡ Operation.Forward }
+    requires files { length job.now.files.items ≡ 2 }
+    requires workers { (1 ≤ job.now.workers) × (job.now.workers ≤ 16) }
+    requires limit { IsLimit job.now.limit }
+    requires mode { S.SCALE ≡ scale_of job.now.mode }
+    requires product { S.product ≡ product_of job.now.mode }
+    ensures text { IfOk result (λ text. IsAnswer (meaning job.now) (F.held files.old) text.bytes) }
+    ensures cause { IfErr result (HasCause (Some (meaning job.now)) (F.held files.old) (F.faults files.old) (F.faults files.new) 0 0) }
+    ensures earlier { IfErr result (HasEarlier (Some (meaning job.now)) (F.held files.old)) }
+    ensures early { IfErr result IsEarly }
+    ensures held { F.held files.new ≡ F.held files.old }
+    ensures sure { F.sure files.new ≡ F.sure files.old }
+    ensures counts { GoesOn (F.sure files.old) (F.faults files.old) (F.faults files.new) }
+{
+    let read = match application_of::<S, F>(alloc, job, files) {
+        Ok(read) => read,
+        Err(status) => return Err(status),
+    };
+    let workers = job.workers;
+    let limit = job.limit;
+    let canonical = match image_of_together::<S, R, G>(
+        rt,
+        alloc,
+        &read.grammar,
+        &read.transducer,
+        &read.labels,
+        workers,
+        limit,
+        gate,
+    ) {
         Ok(canonical) => canonical,
         Err(status) => return Err(status),
     };

@@ -2,8 +2,8 @@
 ghost use Rattle.std.specs.Prelude.{◌≡◌, ◌<◌, Some, length, IfErr, IfOk};
 ghost use Rattle.tib_io.specs.Causes.{GoesOn};
 ghost use Rattle.tib_command.specs.Jobs.{meaning};
-ghost use Rattle.tib_run.specs.Answers.{IsAnswer};
-ghost use Rattle.tib_run.specs.Causes.{HasCause, HasEarlier, IsEarly, levelled_of, scale_of, product_of};
+ghost use Rattle.tib_run_laws.specs.Answers.{IsAnswer};
+ghost use Rattle.tib_run_laws.specs.Causes.{HasCause, HasEarlier, IsEarly, levelled_of, scale_of, product_of};
 ghost use Rattle.tib_operations.specs.Made.{IsLimit};
 
 use crate::files::grammar_in;

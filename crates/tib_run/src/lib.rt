@@ -8,6 +8,7 @@ mod backward;
 mod check;
 mod command;
 mod compose;
+mod demo;
 mod determinize;
 mod files;
 mod forward;
@@ -15,19 +16,19 @@ mod image;
 mod inside;
 mod intersect;
 mod kbest;
-mod laws;
 mod log;
 mod normal;
 mod prune;
 #[cfg(test)]
 mod tests;
+mod together;
 mod weigh;
 
 pub use command::{run, run_alone};
-pub use laws::{
+pub use log::tell;
+pub use tib_operations::Status;
+pub use tib_run_laws::{
     answers_are_one, answers_exclude_too_many, answers_exist, files_have_no_fault,
     in_class_or_outside, jobs_have_answers, runs_end_alike, statuses_are_one, texts_are_one,
     within_or_too_many,
 };
-pub use log::tell;
-pub use tib_operations::Status;

@@ -1,5 +1,6 @@
 // The run over memory: words and files, and what is answered, written and told.
 use std::alloc::{AllocError, Global};
+use std::sync::Wait;
 use std::test::Fail;
 use std::thread::Threads;
 use tib_lex::{FaultKind, FileFault};
@@ -7,6 +8,7 @@ use tib_operations::Status;
 
 mod applied_rows;
 mod composed_rows;
+mod demo_rows;
 mod determinized_rows;
 mod image_rows;
 mod kbest_rows;
@@ -19,6 +21,7 @@ mod watched;
 
 use applied_rows::{BACKWARD, FORWARD};
 use composed_rows::COMPOSED;
+use demo_rows::{DEMONSTRATED, SEVEN};
 use determinized_rows::DETERMINIZED;
 use image_rows::IMAGED;
 use kbest_rows::LISTED;
@@ -50,6 +53,9 @@ fn pieces(bytes: usize, most: usize) -> u64 {
 fn reads_of(row: &Row, most: usize) -> (u64, u64) {
     let first = pieces(row.1.len(), most).saturating_add(1);
     let second = pieces(row.2.len(), most).saturating_add(1);
+    if row.0.contains(&"demo") {
+        return (0, 0);
+    }
     match row.3 {
         Status::Usage => (0, 0),
         Status::BadInput { file: 1, .. } => (first, 0),
@@ -129,7 +135,7 @@ fn ended(row: &Row, ran: &Ran, ending: Ending) -> bool {
 }
 
 // Whether a row runs as it should over this outside.
-fn runs<R: Threads + Sync>(
+fn runs<R: Threads + Wait + Sync>(
     rt: &R,
     alloc: Global,
     row: &Row,
@@ -140,7 +146,7 @@ fn runs<R: Threads + Sync>(
 }
 
 // Whether a row runs as it should where any one read fails, or any one call of the output, or none.
-fn runs_throughout<R: Threads + Sync>(
+fn runs_throughout<R: Threads + Wait + Sync>(
     rt: &R,
     alloc: Global,
     row: &Row,
@@ -166,7 +172,7 @@ fn runs_throughout<R: Threads + Sync>(
 }
 
 // Whether as much of a row's text is written as there is room for, one byte less than all.
-fn fills<R: Threads + Sync>(rt: &R, alloc: Global, row: &Row) -> Result<bool, AllocError> {
+fn fills<R: Threads + Wait + Sync>(rt: &R, alloc: Global, row: &Row) -> Result<bool, AllocError> {
     let bytes = row.4.len().saturating_sub(1);
     let Ok(room) = u32::try_from(bytes) else {
         return Ok(false);
@@ -180,8 +186,9 @@ fn fills<R: Threads + Sync>(rt: &R, alloc: Global, row: &Row) -> Result<bool, Al
     Ok(ran.status == status && ran.out.bytes().len() == bytes)
 }
 
-// The first row that does not run as it should, whole and seven bytes at a time, and with room for all its text or not.
-fn first_wrong<R: Threads + Sync>(
+// The first row that does not run as it should, whole and seven bytes at a time, by two and by sixteen workers, and with room for
+// all its text or not.
+fn first_wrong<R: Threads + Wait + Sync>(
     rt: &R,
     alloc: Global,
     rows: &[Row],
@@ -189,6 +196,11 @@ fn first_wrong<R: Threads + Sync>(
     for (number, row) in rows.iter().enumerate() {
         for most in [7, SOUND.most] {
             if !runs_throughout(rt, alloc, row, most)? {
+                return Ok(Some(number));
+            }
+        }
+        for workers in [Some("2"), Some("16")] {
+            if !runs(rt, alloc, row, Outside { workers, ..SOUND })? {
                 return Ok(Some(number));
             }
         }
@@ -248,6 +260,13 @@ fn cheapest_trees_are_as_worked_out(rt: HostRuntime) -> Result<(), Fail> {
 }
 
 #[test]
+fn the_rows_on_demo_run(rt: HostRuntime) -> Result<(), Fail> {
+    assert_eq!(rt; first_wrong(&rt, rt.alloc(), &DEMONSTRATED)?, None);
+    assert!(rt; runs(&rt, rt.alloc(), &SEVEN, SOUND)?);
+    Ok(())
+}
+
+#[test]
 fn determinizations_are_as_worked_out(rt: HostRuntime) -> Result<(), Fail> {
     assert_eq!(rt; first_wrong(&rt, rt.alloc(), &DETERMINIZED)?, None);
     Ok(())
@@ -265,8 +284,8 @@ fn the_mode_widest_is_as_worked_out(rt: HostRuntime) -> Result<(), Fail> {
     Ok(())
 }
 
-// How an operation on one or two files ends within a limit.
-fn status_within<R: Threads + Sync>(
+// How an operation on one or two files ends within a limit, by so many workers.
+fn status_within<R: Threads + Wait + Sync>(
     rt: &R,
     alloc: Global,
     mode: &str,
@@ -274,20 +293,22 @@ fn status_within<R: Threads + Sync>(
     first: &str,
     second: &str,
     limit: u64,
+    workers: Option<&'static str>,
 ) -> Result<Status, AllocError> {
+    let outside = Outside { workers, ..SOUND };
     let option = format!(in alloc; "--limit={limit}")?;
     let ran = if second.is_empty() {
         let words = ["-m", mode, option.as_str(), operation, "G"];
-        run_texts(rt, alloc, &words, first, second, SOUND)?
+        run_texts(rt, alloc, &words, first, second, outside)?
     } else {
         let words = ["-m", mode, option.as_str(), operation, "G", "T"];
-        run_texts(rt, alloc, &words, first, second, SOUND)?
+        run_texts(rt, alloc, &words, first, second, outside)?
     };
     Ok(ran.status)
 }
 
-// Whether an operation is refused below so many parts, and answered with them.
-fn is_refused_below<R: Threads + Sync>(
+// Whether an operation is refused below so many parts, and answered with them, by so many workers.
+fn is_refused_below<R: Threads + Wait + Sync>(
     rt: &R,
     alloc: Global,
     mode: &str,
@@ -295,6 +316,7 @@ fn is_refused_below<R: Threads + Sync>(
     first: &str,
     second: &str,
     parts: u64,
+    workers: Option<&'static str>,
 ) -> Result<bool, AllocError> {
     for limit in 1..=parts {
         let told = if limit < parts {
@@ -302,19 +324,24 @@ fn is_refused_below<R: Threads + Sync>(
         } else {
             Status::Done
         };
-        if status_within(rt, alloc, mode, operation, first, second, limit)? != told {
+        if status_within(rt, alloc, mode, operation, first, second, limit, workers)? != told {
             return Ok(false);
         }
     }
     Ok(true)
 }
 
-// The first operation that is not refused just below its parts.
-fn first_unlimited<R: Threads + Sync>(rt: &R, alloc: Global) -> Result<Option<usize>, AllocError> {
+// The first operation that is not refused just below its parts, by one, two or sixteen workers.
+fn first_unlimited<R: Threads + Wait + Sync>(
+    rt: &R,
+    alloc: Global,
+) -> Result<Option<usize>, AllocError> {
     for (number, row) in LIMITED.iter().enumerate() {
         let (mode, operation, first, second, parts) = *row;
-        if !is_refused_below(rt, alloc, mode, operation, first, second, parts)? {
-            return Ok(Some(number));
+        for workers in [None, Some("2"), Some("16")] {
+            if !is_refused_below(rt, alloc, mode, operation, first, second, parts, workers)? {
+                return Ok(Some(number));
+            }
         }
     }
     Ok(None)
@@ -335,7 +362,11 @@ fn each_pair_passes_the_gate_once(rt: HostRuntime) -> Result<(), Fail> {
 }
 
 // How an operation ends whose first file is a comment of this number of bytes.
-fn status_of<R: Threads + Sync>(rt: &R, alloc: Global, row: &Length) -> Result<Status, AllocError> {
+fn status_of<R: Threads + Wait + Sync>(
+    rt: &R,
+    alloc: Global,
+    row: &Length,
+) -> Result<Status, AllocError> {
     let file = vec![in alloc; b'%'; row.1]?;
     let other = b"a".to_vec(alloc)?;
     let ran = run_words(rt, alloc, row.0, file, other, SOUND)?;
@@ -343,7 +374,10 @@ fn status_of<R: Threads + Sync>(rt: &R, alloc: Global, row: &Length) -> Result<S
 }
 
 // The first operation that takes a file of another length.
-fn first_length<R: Threads + Sync>(rt: &R, alloc: Global) -> Result<Option<usize>, AllocError> {
+fn first_length<R: Threads + Wait + Sync>(
+    rt: &R,
+    alloc: Global,
+) -> Result<Option<usize>, AllocError> {
     for (number, row) in LENGTHS.iter().enumerate() {
         if status_of(rt, alloc, row)? != row.2 {
             return Ok(Some(number));
@@ -369,7 +403,7 @@ fn wide_tree(alloc: Global, children: u32) -> Result<Vec<u8>, AllocError> {
 }
 
 // How a tree of a label with so many children is weighed.
-fn weighed_wide<R: Threads + Sync>(
+fn weighed_wide<R: Threads + Wait + Sync>(
     rt: &R,
     alloc: Global,
     children: u32,

@@ -4,6 +4,7 @@
 
 use std::io::BufWriter;
 use std::process::ExitCode;
+use std::sync::Wait;
 use std::thread::Threads;
 use std::{env, io};
 use tib_hunt::Open;
@@ -30,7 +31,7 @@ fn words_of(rt: &HostRuntime) -> Result<Vec<String>, Status> {
 
 // The run over the system's files and streams. A program that may start threads has them from its runtime, so it is lent
 // twice.
-fn outcome<R: Threads + Sync>(rt: &HostRuntime, threads: &R) -> Status {
+fn outcome<R: Threads + Wait + Sync>(rt: &HostRuntime, threads: &R) -> Status {
     let mut log = HostSink::new(rt.stderr());
     let words = match words_of(rt) {
         Ok(words) => words,

@@ -1,6 +1,7 @@
 // A grammar of more rules than 16 bits count.
 use super::running::{Outside, SOUND, run_words};
 use std::alloc::{AllocError, Global};
+use std::sync::Wait;
 use std::test::Fail;
 use std::thread::Threads;
 use tib_operations::Status;
@@ -18,7 +19,7 @@ fn leaves(alloc: Global) -> Result<Vec<u8>, AllocError> {
 }
 
 // Whether the last leaf is weighed, and one behind it is not.
-fn weighs_leaves<R: Threads + Sync>(rt: &R, alloc: Global) -> Result<bool, AllocError> {
+fn weighs_leaves<R: Threads + Wait + Sync>(rt: &R, alloc: Global) -> Result<bool, AllocError> {
     let grammar = leaves(alloc)?;
     let trees = b"a65999\na66000\n".to_vec(alloc)?;
     let ran = run_words(rt, alloc, &["weigh", "G", "T"], grammar, trees, SOUND)?;
@@ -44,7 +45,7 @@ fn doublings(alloc: Global) -> Result<Vec<u8>, AllocError> {
 }
 
 // Whether the one tree of 8,191 nodes is listed.
-fn lists_large_tree<R: Threads + Sync>(rt: &R, alloc: Global) -> Result<bool, AllocError> {
+fn lists_large_tree<R: Threads + Wait + Sync>(rt: &R, alloc: Global) -> Result<bool, AllocError> {
     let grammar = doublings(alloc)?;
     let nothing = b"".to_vec(alloc)?;
     let room = 30_000;

@@ -2,24 +2,27 @@
 use super::watched::Watched;
 use crate::command::run;
 use std::alloc::{AllocError, Global};
+use std::sync::Wait;
 use std::sync::atomic::{AtomicU64, Ordering};
 use std::thread::Threads;
 use tib_hunt::Gate;
 use tib_io::{MemoryFiles, MemorySink};
 use tib_operations::Status;
 
-/// The number of the read that fails, and of the call of the output that fails, the room of the output, and how many
-/// bytes go over at a time.
+/// How many workers hunt where the words do not say it, the number of the read that fails, and of the call of the output that
+/// fails, the room of the output, and how many bytes go over at a time.
 #[derive(Clone, Copy)]
 pub struct Outside {
+    pub workers: Option<&'static str>,
     pub failing_read: Option<u64>,
     pub failing_call: Option<u64>,
     pub room: u32,
     pub most: usize,
 }
 
-/// Nothing fails.
+/// Nothing fails, and the words alone say how many workers hunt.
 pub const SOUND: Outside = Outside {
+    workers: None,
     failing_read: None,
     failing_call: None,
     room: 1000,
@@ -55,9 +58,19 @@ impl Gate for Counting {
     }
 }
 
-// The words as texts of their own.
-fn words_of(alloc: Global, asked: &[&str]) -> Result<Vec<String>, AllocError> {
+// The words as texts of their own, with the number of workers where they do not have it.
+fn words_of(
+    alloc: Global,
+    asked: &[&str],
+    workers: Option<&str>,
+) -> Result<Vec<String>, AllocError> {
     let mut words = Vec::new(alloc);
+    if let Some(workers) = workers {
+        if !asked.contains(&"-w") {
+            words.push(String::from_str(alloc, "-w")?)?;
+            words.push(String::from_str(alloc, workers)?)?;
+        }
+    }
     for word in asked {
         words.push(String::from_str(alloc, word)?)?;
     }
@@ -86,7 +99,7 @@ fn output_of(alloc: Global, outside: Outside) -> Result<Watched<MemorySink>, All
 }
 
 /// The run of these words over the files `G` and `T`.
-pub fn run_words<R: Threads + Sync>(
+pub fn run_words<R: Threads + Wait + Sync>(
     rt: &R,
     alloc: Global,
     asked: &[&str],
@@ -95,7 +108,7 @@ pub fn run_words<R: Threads + Sync>(
     outside: Outside,
 ) -> Result<Ran, AllocError> {
     let mut files = files_of(alloc, first, second, outside)?;
-    let words = words_of(alloc, asked)?;
+    let words = words_of(alloc, asked, outside.workers)?;
     let mut out = output_of(alloc, outside)?;
     let mut log = MemorySink::new(alloc, Vec::new(alloc), 1000)?;
     let gate = Counting {
@@ -118,7 +131,7 @@ pub fn run_words<R: Threads + Sync>(
 }
 
 /// The same over files with these texts.
-pub fn run_texts<R: Threads + Sync>(
+pub fn run_texts<R: Threads + Wait + Sync>(
     rt: &R,
     alloc: Global,
     asked: &[&str],

@@ -1,9 +1,9 @@
 use Rattle.std.proofs.Common.{ℕ, List}
 use Rattle.std.specs.Prelude.{Option}
 use Rattle.tib_command.specs.Jobs.{meaning}
-use Rattle.tib_run.specs.Kinds.{of_grammar}
-use Rattle.tib_run.proofs.Large.{kbest_cause, kbest_first, kbest_early, kbest_answer}
-use Rattle.tib_run.proofs.Reached.{one_file}
+use Rattle.tib_run_laws.specs.Kinds.{of_grammar}
+use Rattle.tib_run_laws.proofs.Large.{kbest_cause, kbest_first, kbest_early, kbest_answer}
+use Rattle.tib_run_laws.proofs.Reached.{one_file}
 use Rattle.tib_run.proofs.kbest.kbest_of_file.Goals as goal
 
 pub returns-in-Err-kbest_text-clause-cause : goal.returns-in-Err-kbest_text-clause-cause

@@ -2,8 +2,8 @@ use Rattle.std.proofs.Common.{ℕ, List}
 use Rattle.std.specs.Prelude.{Option}
 use Rattle.tib_command.specs.Jobs.{meaning}
 use Rattle.tib_command.specs.declared.job.Operation.TheVariants as operations
-use Rattle.tib_run.specs.Kinds.{of_grammar}
-use Rattle.tib_run.proofs.Reached.{one_file, made_first, made_cause, made_answer}
+use Rattle.tib_run_laws.specs.Kinds.{of_grammar}
+use Rattle.tib_run_laws.proofs.Reached.{one_file, made_first, made_cause, made_answer}
 use Rattle.tib_run.proofs.prune.prune_of_file.Goals as goal
 
 pub returns-in-Err-canonical_pruned-clause-cause : goal.returns-in-Err-canonical_pruned-clause-cause

@@ -2,8 +2,8 @@ use Rattle.std.proofs.Common.{ℕ, List, refl}
 use Rattle.std.specs.Prelude.{Option, Some}
 use Rattle.tib_command.specs.Jobs.{meaning}
 use Rattle.tib_command.specs.declared.job.Operation.TheVariants as operations
-use Rattle.tib_run.specs.Kinds.{of_grammar, of_trees}
-use Rattle.tib_run.proofs.Reached.{about_earlier, before_second, two_files, made_first, made_cause, made_answer}
+use Rattle.tib_run_laws.specs.Kinds.{of_grammar, of_trees}
+use Rattle.tib_run_laws.proofs.Reached.{about_earlier, before_second, two_files, made_first, made_cause, made_answer}
 use Rattle.tib_run.proofs.weigh.weigh_files.Goals as goal
 
 pub returns-in-Err-costs_of-clause-cause : goal.returns-in-Err-costs_of-clause-cause

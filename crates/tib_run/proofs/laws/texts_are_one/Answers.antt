@@ -1,5 +1,0 @@
-use Rattle.tib_run.proofs.OfJobs.{one_answer}
-use Rattle.tib_run.proofs.laws.texts_are_one.Goals as goal
-
-pub returns : goal.returns
-returns c = one_answer

@@ -1,0 +1,5 @@
+pub mod Kinds
+pub mod Causes
+pub mod Answers
+pub mod Run
+pub mod Laws
