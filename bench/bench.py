@@ -433,6 +433,7 @@ def main(program):
     for size in (10, 13, 16):
         grammar = write("chain%d.grammar" % size, chain_family(size))
         made = subprocess.run([program, "determinize", grammar], capture_output=True, check=False).stdout.splitlines()
+        row("demo %d" % size, measure(program, "demo", str(size)), (len(made) - 1) / 1e6, "million rules/s")
         row("determinize the sets of positions, %d states: %d rules" % (size + 1, len(made) - 1), measure(program, "determinize", grammar), (len(made) - 1) / 1e6, "million rules/s")
 
     print("\nhow time grows over three doublings (the exponent is about 1 where it grows as the input)")
