@@ -67,6 +67,7 @@ kind_read scale text kinds.BadTree h = absurd h
 kind_read scale text kinds.LoneVariable h = absurd h
 kind_read scale text kinds.VariableTwice h = absurd h
 kind_read scale text kinds.LabelledVariable h = absurd h
+kind_read scale text kinds.BadString h = absurd h
 kind_read scale text kinds.UnknownVariable h = absurd h
 kind_read scale text kinds.TooManyNodes h = absurd h
 
@@ -100,6 +101,7 @@ cost_says scale line p (Err kind) h w = by (is_weighted scale) p.weight kind w (
     by true (Some text) kinds.LoneVariable w make = absurd w
     by true (Some text) kinds.VariableTwice w make = absurd w
     by true (Some text) kinds.LabelledVariable w make = absurd w
+    by true (Some text) kinds.BadString w make = absurd w
     by true (Some text) kinds.UnknownVariable w make = absurd w
     by true (Some text) kinds.TooManyNodes w make = absurd w
     by true None kind w make = absurd w
@@ -171,6 +173,7 @@ fault_read scale line kinds.BadTree h = absurd h
 fault_read scale line kinds.LoneVariable h = absurd h
 fault_read scale line kinds.VariableTwice h = absurd h
 fault_read scale line kinds.LabelledVariable h = absurd h
+fault_read scale line kinds.BadString h = absurd h
 fault_read scale line kinds.UnknownVariable h = absurd h
 
 pub held_read : (scale : Scale) (line : List ℕ) → HoldsRule scale line → (o : Option RuleLine) × (rule_line scale line ≡ Ok o)
@@ -246,6 +249,7 @@ start_fault_read line kinds.BadTree h = absurd h
 start_fault_read line kinds.LoneVariable h = absurd h
 start_fault_read line kinds.VariableTwice h = absurd h
 start_fault_read line kinds.LabelledVariable h = absurd h
+start_fault_read line kinds.BadString h = absurd h
 start_fault_read line kinds.UnknownVariable h = absurd h
 start_fault_read line kinds.NotWhole h = absurd h
 start_fault_read line kinds.WeightTooLarge h = absurd h

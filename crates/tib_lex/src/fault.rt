@@ -38,9 +38,12 @@ pub enum FaultKind {
     /// A weight is above the greatest one.
     #[error("weight too large")]
     WeightTooLarge,
-    /// A tree has too many nodes.
+    /// A tree has too many nodes, or a string too many words.
     #[error("too many nodes")]
     TooManyNodes,
+    /// The tokens are no string, a string stands on an earlier line, or the file has none.
+    #[error("bad string")]
+    BadString,
 }
 
 /// The first fault of a file. Lines are numbered from 1.

@@ -9,8 +9,6 @@ mod fault;
 mod laws;
 mod lines;
 mod next;
-#[cfg(test)]
-mod tests;
 mod text;
 mod token;
 mod tokens;

@@ -10,8 +10,6 @@ mod pieces;
 mod rules;
 mod sides;
 mod start;
-#[cfg(test)]
-mod tests;
 mod transducer;
 
 pub use laws::{

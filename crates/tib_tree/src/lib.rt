@@ -11,8 +11,6 @@ mod preorder;
 mod print;
 mod recent;
 mod shape;
-#[cfg(test)]
-mod tests;
 mod text_set;
 mod trees;
 
