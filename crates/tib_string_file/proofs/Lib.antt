@@ -20,3 +20,4 @@ pub mod FaultsOnce
 pub mod OneByText
 pub mod OneTransducer
 pub mod SomeText
+pub mod OverTables

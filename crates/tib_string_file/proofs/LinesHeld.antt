@@ -97,6 +97,7 @@ fault_read scale line kinds.TooManyNodes h = spelled_read scale line h.0 h.1 ∙
 fault_read scale line kinds.NoStart h = absurd h
 fault_read scale line kinds.BadTree h = absurd h
 fault_read scale line kinds.LabelledVariable h = absurd h
+fault_read scale line kinds.BadString h = absurd h
 
 pub held_read : (scale : Scale) (line : List ℕ) → HoldsRule scale line → (o : Option RuleLine) × (rule_line scale line ≡ Ok o)
 held_read scale line (inl blank) = (None, blank_read scale line blank)

@@ -33,7 +33,7 @@ one_added : (before : List (List ℕ)) (text : List ℕ) (now : List (List ℕ))
 one_added before text now (inl (held, same)) d = subst (λ (ts : List (List ℕ)). AreDistinct ts) (sym same) d
 one_added before text now (inr (new, last)) d = distinct_added before now text d new last
 
-all_added : (before texts now : List (List ℕ)) → AddsAll before texts now → AreDistinct before → AreDistinct now
+pub all_added : (before texts now : List (List ℕ)) → AddsAll before texts now → AreDistinct before → AreDistinct now
 all_added before [] now same d = subst (λ (ts : List (List ℕ)). AreDistinct ts) (sym same) d
 all_added before (text ∷ texts) now (middle, one, more) d = all_added middle texts now more (one_added before text middle one d)
 

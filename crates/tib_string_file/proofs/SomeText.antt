@@ -13,6 +13,7 @@ use Rattle.tib_lex.specs.Lists.{Along, Each, Has}
 use Rattle.tib_lex.specs.declared.fault.FileFault.{FileFault}
 use Rattle.tib_lex.proofs.Members.{has_left, has_right}
 use Rattle.tib_lex.proofs.Spelled.{or_false}
+use Rattle.tib_tree.specs.Grows.{AddsAll}
 use Rattle.tib_tree.specs.Machine.{IsTree, nodes_of as nodes_read}
 use Rattle.tib_tree.specs.Nodes.{rank_of}
 use Rattle.tib_tree.specs.Trees.{preorder_of, parse, first_of, preorder-first, IsOneTree}
@@ -35,10 +36,10 @@ use Rattle.tib_string_file.specs.Built.{AreOneTree}
 use Rattle.tib_transducer_file.specs.Forms.{variable_in, pair_in}
 use Rattle.tib_string_file.specs.Rule.{Parts, RuleLine, state_of, label_of, numbers_in, is_unknown}
 use Rattle.tib_string_file.specs.Value.{IsAsked, IsLeftSymbol, IsLeftNode, IsLeftSide, IsRightSymbol, IsRightNode, nodes_of, IsRule, state_before, states_in, states_of}
-use Rattle.tib_string_file.specs.TransducerReading.{transducer_in}
+use Rattle.tib_string_file.specs.TransducerReading.{transducer_from, transducer_in}
 use Rattle.tib_string_file.specs.Faults.{IsFirstFault}
 use Rattle.tib_string_file.specs.TransducerLaws.{IsSomeText}
-use Rattle.tib_string_file.specs.TransducerText.{SpellsLine, HaveRules, HaveStart}
+use Rattle.tib_string_file.specs.TransducerText.{SpellsLine, HaveRules, HaveStart, ReadsAs}
 use Rattle.tib_string_file.proofs.FaultsOnce.{faults_exact}
 use Rattle.tib_string_file.proofs.FileText.{file_held, all_small}
 use Rattle.tib_string_file.proofs.ShapesRead.{variable_rank}
@@ -226,28 +227,39 @@ some_rules scale names labels (line ∷ lines) spelled h s =
     (λ t k. s t (has_right (state_of line.parts ∷ states_in line.parts.right) (states_of lines) t k)) in
     (r.0 ∷ more.0, (r.1, more.1))
 
-some_text : (scale : Scale) (bytes start : List ℕ) (lines : List RuleLine) → transducer_in scale bytes ≡ Ok (start, lines) → IsSomeText scale bytes
-unfolding transducer_in
-some_text scale bytes start lines e =
+-- the text of a transducer over a table to which only texts were added
+pub record IsAddedText (scale : Scale) (early : List (List ℕ)) (bytes : List ℕ) : Type 0 where
+  pub texts : List (List ℕ)
+  pub labels : List (List ℕ)
+  pub t : StringTransducerOf
+  pub adds : AddsAll early texts labels
+  pub reads : ReadsAs scale labels bytes t
+
+pub some_text : (scale : Scale) (early : List (List ℕ)) (bytes start : List ℕ) (lines : List RuleLine) → transducer_from scale 1 (lines_of bytes) ≡ Ok (start, lines) → IsAddedText scale early bytes
+some_text scale early bytes start lines e =
     let held = file_held scale 1 (lines_of bytes) start lines e in
     let n = gathered [] (start ∷ states_of lines) in
-    let l = gathered [] (file_texts lines) in
+    let l = gathered early (file_texts lines) in
     let rs = some_rules scale n.0 l.0 lines (file_spelled scale (lines_of bytes) start lines held.have)
-    (all_added [] (file_texts lines) l.0 l.1) (λ t k. all_added [] (start ∷ states_of lines) n.0 n.1 t (inr k)) in
-    let t : StringTransducerOf = record { names = n.0; rules = rs.0 } in (
-      l.0,
-      t,
-      all_distinct [] (file_texts lines) l.0 l.1 tt,
-      record {
+    (all_added early (file_texts lines) l.0 l.1) (λ t k. all_added [] (start ∷ states_of lines) n.0 n.1 t (inr k)) in
+    record {
+      texts = file_texts lines;
+      labels = l.0;
+      t = record { names = n.0; rules = rs.0 };
+      adds = l.1;
+      reads = record {
         text = record { start = start; lines = lines; written = held.have; states = n.1; rules = rs.1 };
         small = all_small n.0 l.0 rs.0 lines rs.1 held.few;
-      },
-    )
+      };
+    }
 
 -- each file is a text, or has a fault
 pub text_or_fault : (scale : Scale) (bytes : List ℕ) → IsSomeText scale bytes ⊎ ((fault : FileFault) × IsFirstFault scale bytes fault)
+unfolding transducer_in
 text_or_fault scale bytes = by (transducer_in scale bytes) refl
   where
     by : (r : Result (List ℕ × List RuleLine) FileFault) → transducer_in scale bytes ≡ r → IsSomeText scale bytes ⊎ ((fault : FileFault) × IsFirstFault scale bytes fault)
-    by (Ok p) e = inl (some_text scale bytes p.0 p.1 e)
+    by (Ok p) e =
+        let s = some_text scale [] bytes p.0 p.1 e in
+        inl (s.labels, s.t, all_distinct [] s.texts s.labels s.adds tt, s.reads)
     by (Err fault) e = inr (fault, (faults_exact scale bytes fault).0 e)

@@ -9,6 +9,7 @@ use Rattle.tib_lex.specs.Grammar.{Word, open_, close, hash, arrow, name, label}
 use Rattle.tib_lex.specs.Line.{words_of, word_at, words_at, text_of, Lies}
 use Rattle.tib_lex.specs.Lists.{Along}
 use Rattle.tib_lex.specs.declared.token.Token.{Token}
+use Rattle.tib_lex.specs.declared.fault.FaultKind.TheVariants as kinds
 use Rattle.tib_lex.proofs.Alongs.{along_map, along_more}
 use Rattle.tib_tree.specs.Grows.{Grows, Adds, AddsAll}
 use Rattle.tib_tree.specs.Trees.{most_nodes}
@@ -16,10 +17,7 @@ use Rattle.tib_tree.proofs.Adding.{adds_join}
 use Rattle.tib_tree.specs.Written.{Item}
 use Rattle.tib_string_file.specs.Listed.{is_mark_alone, is_entry, item_of, list_in, texts_of, IsNamed}
 use Rattle.tib_string_file.specs.Reading.{string_in_words, small_list, string_line, more_in_words, more_line}
-use Rattle.tib_string_file.specs.Found.{IsFaultAt, AreWords, IsListed, IsSkipped}
-use Rattle.tib_string_file.specs.declared.fault.StringFaultKind.{StringFaultKind}
-use Rattle.tib_string_file.specs.declared.fault.StringFaultKind.TheVariants as kinds
-use Rattle.tib_string_file.specs.declared.fault.StringError.{StringError}
+use Rattle.tib_string_file.specs.Found.{AreWords}
 use Rattle.tib_string_file.proofs.Entries.{list_of_entries, list_of_mark, no_list}
 use Rattle.tib_string_file.proofs.LineFacts.{few_words, many_words}
 
@@ -30,13 +28,6 @@ one_fails line ts k d h e = sym (list_all-map is_entry (word_at line) ts ∙ lis
 pub all_pass : (line : List ℕ) (ts : List Token) (k : ℕ) → length ts ≤ k → list_all (λ t. is_entry (word_at line t)) (take k ts) ≡ true → true ≡ list_all is_entry (words_at line ts)
 all_pass line ts k h e =
     sym (list_all-map is_entry (word_at line) ts ∙ ap (list_all (λ t. is_entry (word_at line t))) (sym (take_all k ts h)) ∙ e)
-
--- a fault of a line, as one of its file
-pub listed_fault : (n : ℕ) (line : List ℕ) (ts : List Token) (kind : StringFaultKind) (error : StringError) → string_line line ≡ Err kind → IsFaultAt n kind error → IsListed n line ts (Err error)
-listed_fault n line ts kind error h e = subst (λ (x : StringError). IsListed n line ts (Err x)) (sym e) (h, refl)
-
-pub skipped_fault : (n : ℕ) (line : List ℕ) (kind : StringFaultKind) (error : StringError) → more_line line ≡ Some kind → IsFaultAt n kind error → IsSkipped n line (Err error)
-skipped_fault n line kind error h e = subst (λ (x : StringError). IsSkipped n line (Err x)) (sym e) (h, refl)
 
 -- a line with a bad token
 pub bad_list_line : (line : List ℕ) → words_of line ≡ None → string_line line ≡ Err kinds.BadToken

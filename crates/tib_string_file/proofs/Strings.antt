@@ -1,12 +1,19 @@
 -- What holds of the texts of strings.
 use Rattle.std.proofs.Common.{◌≡◌, ◌⊎◌, ℕ, ◌<◌, ◌≤◌, inl, inr, List, [], ◌∷◌, length, map, refl, ap, sym, ◌∙◌, subst, arith, suc}
-use Rattle.std.specs.Prelude.{None, Result, Ok, Err, slice_range, drop, ◌+◌}
+use Rattle.std.specs.Prelude.{Option, Some, None, Result, Ok, Err, slice_range, drop, ◌+◌}
 use Rattle.std.proofs.lemmas.Option.{get_or_from_slice_get, slice_get_within}
 use Rattle.tib_lex.specs.Line.{words_at}
 use Rattle.tib_lex.specs.Lines.{lines_of}
 use Rattle.tib_lex.specs.Lists.{Along, Each, Has, Distinct}
+use Rattle.tib_lex.specs.FaultOf.{file_error_of}
+use Rattle.tib_lex.specs.NextLine.{IsNextLine}
 use Rattle.tib_lex.specs.declared.lines.Line.{Line}
 use Rattle.tib_lex.specs.declared.token.Token.{Token}
+use Rattle.tib_lex.specs.declared.fault.FileFault.{FileFault}
+use Rattle.tib_lex.specs.declared.fault.LineError.{LineError}
+use Rattle.tib_lex.specs.declared.fault.LineError.TheVariants as line_errors
+use Rattle.tib_lex.specs.declared.fault.ReadError.{ReadError}
+use Rattle.tib_lex.specs.declared.fault.ReadError.TheVariants as errors
 use Rattle.tib_tree.specs.Grows.{AddsAll}
 use Rattle.tib_tree.specs.Trees.{most_nodes}
 use Rattle.tib_tree.specs.Written.{Item}
@@ -16,12 +23,9 @@ use Rattle.tib_grammar_file.proofs.SomeText.{numbered, all_distinct}
 use Rattle.tib_string_file.specs.Listed.{item_of, texts_of, IsNamed}
 use Rattle.tib_string_file.specs.StringText.{StringText, ReadsAsString, words_of_string}
 use Rattle.tib_string_file.specs.StringFaults.{IsFirstStringFault, IsStringCause}
-use Rattle.tib_string_file.specs.Reading.{rest_from, unless, string_from, string_in}
-use Rattle.tib_string_file.specs.Found.{FoundString, IsStringFound, IsRest}
+use Rattle.tib_string_file.specs.Reading.{string_line, more_line, with_more, rest_from, unless, with_list, string_from, string_in}
+use Rattle.tib_string_file.specs.Found.{IsListed, IsSkipped, FoundString, IsStringFound, IsRest}
 use Rattle.tib_string_file.specs.Laws.{GivesStringFaults, TextsHaveNone, FirstIsOne, TextOrFault, TextsMeanOne, TextHasOne}
-use Rattle.tib_string_file.specs.declared.fault.StringFault.{StringFault}
-use Rattle.tib_string_file.specs.declared.fault.StringError.{StringError}
-use Rattle.tib_string_file.specs.declared.fault.StringError.TheVariants as errors
 use Rattle.tib_string_file.proofs.FileFacts.{FileHolds, file_holds, file_is}
 
 pub faults_exact : GivesStringFaults
@@ -29,7 +33,7 @@ unfolding string_in
 faults_exact bytes fault = (λ e. subst (λ r. FileHolds 1 (lines_of bytes) r) e (file_holds 1 (lines_of bytes)), λ h. file_is 1 (lines_of bytes) (Err fault) h)
 
 -- as many labels as words
-as_many : (labels : List (List ℕ)) (s : List ℕ) (is : List Item) → Along (IsNamed labels) s is → length s ≡ length is
+pub as_many : (labels : List (List ℕ)) (s : List ℕ) (is : List Item) → Along (IsNamed labels) s is → length s ≡ length is
 as_many labels [] [] h = refl
 as_many labels [] (i ∷ is) h = absurd h
 as_many labels (f ∷ s) [] h = absurd h
@@ -40,16 +44,16 @@ text_read labels bytes s text small = file_is 1 (lines_of bytes) (Ok text.items)
 
 pub no_fault : TextsHaveNone
 no_fault bytes fault h labels s (text, small) =
-    let bad : (let o : Result (List Item) StringFault = Ok text.items in o ≡ Err fault) = sym (text_read labels bytes s text small) ∙ file_is 1 (lines_of bytes) (Err fault) h in
+    let bad : (let o : Result (List Item) FileFault = Ok text.items in o ≡ Err fault) = sym (text_read labels bytes s text small) ∙ file_is 1 (lines_of bytes) (Err fault) h in
     cc
 
 pub one_fault : FirstIsOne
 one_fault bytes fault other h k =
-    let same : (let o : Result (List Item) StringFault = Err fault in o ≡ Err other) = sym (file_is 1 (lines_of bytes) (Err fault) h) ∙ file_is 1 (lines_of bytes) (Err other) k in
+    let same : (let o : Result (List Item) FileFault = Err fault in o ≡ Err other) = sym (file_is 1 (lines_of bytes) (Err fault) h) ∙ file_is 1 (lines_of bytes) (Err other) k in
     cc same
 
 -- some string over a table that has the texts of the words
-some_string : (labels : List (List ℕ)) (is : List Item) → ((t : List ℕ) → Has (texts_of is) t → Has labels t) → (s : List ℕ) × Along (IsNamed labels) s is
+pub some_string : (labels : List (List ℕ)) (is : List Item) → ((t : List ℕ) → Has (texts_of is) t → Has labels t) → (s : List ℕ) × Along (IsNamed labels) s is
 some_string labels [] h = ([], tt)
 some_string labels (i ∷ is) h =
     let f = numbered labels i.text (h i.text (inl refl)) in
@@ -59,7 +63,7 @@ some_string labels (i ∷ is) h =
 pub text_or_fault : TextOrFault
 text_or_fault bytes = by (string_from 1 (lines_of bytes)) (file_holds 1 (lines_of bytes))
   where
-    by : (r : Result (List Item) StringFault) → FileHolds 1 (lines_of bytes) r → ((labels : List (List ℕ)) × (s : List ℕ) × Distinct labels × ReadsAsString labels bytes s) ⊎ ((fault : StringFault) × IsFirstStringFault bytes fault)
+    by : (r : Result (List Item) FileFault) → FileHolds 1 (lines_of bytes) r → ((labels : List (List ℕ)) × (s : List ℕ) × Distinct labels × ReadsAsString labels bytes s) ⊎ ((fault : FileFault) × IsFirstStringFault bytes fault)
     by (Ok is) h =
         let l = gathered [] (texts_of is) in
         let s = some_string l.0 is (all_added [] (texts_of is) l.0 l.1) in
@@ -79,9 +83,9 @@ labels_below labels [] (i ∷ is) h = absurd h
 labels_below labels (f ∷ s) [] h = absurd h
 labels_below labels (f ∷ s) (i ∷ is) h = (slice_get_within labels f i.text h.0, labels_below labels s is h.1)
 
-items_once : (is js : List Item) (r : Result (List Item) StringFault) → r ≡ Ok is → r ≡ Ok js → is ≡ js
+items_once : (is js : List Item) (r : Result (List Item) FileFault) → r ≡ Ok is → r ≡ Ok js → is ≡ js
 items_once is js r e f =
-    let same : (let o : Result (List Item) StringFault = Ok is in o ≡ Ok js) = sym e ∙ f in
+    let same : (let o : Result (List Item) FileFault = Ok is in o ≡ Ok js) = sym e ∙ f in
     cc same
 
 pub one_text : TextsMeanOne
@@ -104,11 +108,30 @@ one_string labels bytes s r d (text, small) (other, few) =
     string_once labels s r text.items d text.words (subst (λ (is : List Item). Along (IsNamed labels) r is) (sym same) other.words)
 
 -- what a reader answers
-pub cause_found : (bytes : List ℕ) (ts : List Token) (error : StringError) → IsStringFound bytes ts (Err error) → IsStringCause bytes error
+module _ (bytes : List ℕ) (n at : ℕ) (line : Line) (text : List ℕ) (error : LineError) (r : ReadError) (next : IsNextLine bytes n at line) (cut : text ≡ slice_range bytes line.start line.end) (told : r ≡ file_error_of n error) where
+  pub none_found : (ts : List Token) → IsListed text ts (Err error) → string_from n (lines_of (drop at bytes)) ≡ string_from 1 (lines_of bytes) → IsStringFound bytes ts (Err r)
+  none_found ts h left = subst (λ (x : ReadError). IsStringFound bytes ts (Err x)) (sym told) (by error h)
+    where
+      by : (e : LineError) → IsListed text ts (Err e) → IsStringFound bytes ts (Err (file_error_of n e))
+      by (line_errors.Fault kind) h =
+          sym left ∙ ap (string_from n) next.lines
+          ∙ ap (λ o. with_list n o (rest_from (suc n) (lines_of (drop line.next bytes))) (string_from (suc n) (lines_of (drop line.next bytes)))) (subst (λ (l : List ℕ). string_line l ≡ Err kind) cut h)
+      by line_errors.OutOfMemory h = tt
+
+  pub rest_fails : (wanted : Option FileFault) → IsSkipped text (Err error) → rest_from n (lines_of (drop at bytes)) ≡ wanted → IsRest wanted (Err r)
+  rest_fails wanted h left = subst (λ (x : ReadError). IsRest wanted (Err x)) (sym told) (by error h)
+    where
+      by : (e : LineError) → IsSkipped text (Err e) → IsRest wanted (Err (file_error_of n e))
+      by (line_errors.Fault kind) h =
+          sym left ∙ ap (rest_from n) next.lines
+          ∙ ap (λ o. with_more n o (rest_from (suc n) (lines_of (drop line.next bytes)))) (subst (λ (l : List ℕ). more_line l ≡ Some kind) cut h)
+      by line_errors.OutOfMemory h = tt
+
+pub cause_found : (bytes : List ℕ) (ts : List Token) (error : ReadError) → IsStringFound bytes ts (Err error) → IsStringCause bytes error
 cause_found bytes ts (errors.Fault fault) h = subst (λ r. FileHolds 1 (lines_of bytes) r) h (file_holds 1 (lines_of bytes))
 cause_found bytes ts errors.OutOfMemory h = tt
 
-pub cause_behind : (bytes : List ℕ) (ts : List Token) (line : Line) (error : StringError) → FoundString bytes ts line → IsRest (rest_from (line.number + 1) (lines_of (drop line.next bytes))) (Err error) → IsStringCause bytes error
+pub cause_behind : (bytes : List ℕ) (ts : List Token) (line : Line) (error : ReadError) → FoundString bytes ts line → IsRest (rest_from (line.number + 1) (lines_of (drop line.next bytes))) (Err error) → IsStringCause bytes error
 cause_behind bytes ts line (errors.Fault fault) found h =
     subst (λ r. FileHolds 1 (lines_of bytes) r) (found.read ∙ ap (λ o. unless o (map item_of (words_at (slice_range bytes line.start line.end) ts))) h) (file_holds 1 (lines_of bytes))
 cause_behind bytes ts line errors.OutOfMemory found h = tt

@@ -1,34 +1,34 @@
 -- What holds of the texts of strings, and of the first fault of a file.
 use Rattle.std.specs.Prelude.{◌≡◌, ◌⊎◌, ℕ, List, Err}
 use Rattle.tib_lex.specs.Lists.{Distinct}
+use Rattle.tib_lex.specs.declared.fault.FileFault.{FileFault}
 use Rattle.tib_string_file.specs.StringText.{ReadsAsString, words_of_string}
 use Rattle.tib_string_file.specs.StringFaults.{IsFirstStringFault}
 use Rattle.tib_string_file.specs.Reading.{string_in}
-use Rattle.tib_string_file.specs.declared.fault.StringFault.{StringFault}
 
 -- `string_in` is a fault exactly where this is the first of the file
 abbrev pub GivesStringFaults : Type 0
 GivesStringFaults =
-    (bytes : List ℕ) (fault : StringFault) →
+    (bytes : List ℕ) (fault : FileFault) →
     (string_in bytes ≡ Err fault → IsFirstStringFault bytes fault)
     × (IsFirstStringFault bytes fault → string_in bytes ≡ Err fault)
 
 -- bytes with a fault are the text of no string
 abbrev pub TextsHaveNone : Type 0
 TextsHaveNone =
-    (bytes : List ℕ) (fault : StringFault) → IsFirstStringFault bytes fault → (labels : List (List ℕ)) (s : List ℕ) →
+    (bytes : List ℕ) (fault : FileFault) → IsFirstStringFault bytes fault → (labels : List (List ℕ)) (s : List ℕ) →
     ReadsAsString labels bytes s → ⊥
 
 -- they have one first fault
 abbrev pub FirstIsOne : Type 0
-FirstIsOne = (bytes : List ℕ) (fault other : StringFault) → IsFirstStringFault bytes fault → IsFirstStringFault bytes other → fault ≡ other
+FirstIsOne = (bytes : List ℕ) (fault other : FileFault) → IsFirstStringFault bytes fault → IsFirstStringFault bytes other → fault ≡ other
 
 -- each file is the text of a string over some table of distinct labels, or has a first fault
 abbrev pub TextOrFault : Type 0
 TextOrFault =
     (bytes : List ℕ) →
     ((labels : List (List ℕ)) × (s : List ℕ) × Distinct labels × ReadsAsString labels bytes s)
-    ⊎ ((fault : StringFault) × IsFirstStringFault bytes fault)
+    ⊎ ((fault : FileFault) × IsFirstStringFault bytes fault)
 
 -- the strings of one text, each over a table of labels of its own, have the same words
 abbrev pub TextsMeanOne : Type 0

@@ -4,7 +4,6 @@
 //! of `tib_strings`.
 #![tactic(auto)]
 
-mod fault;
 mod forms;
 mod laws;
 mod list;
@@ -14,12 +13,9 @@ mod rules;
 mod sides;
 mod start;
 mod string;
-#[cfg(test)]
-mod tests;
 mod transducer;
 mod transducer_laws;
 
-pub use fault::{StringError, StringFault, StringFaultKind};
 pub use laws::{
     one_string_by_text, string_faults_are_one, string_faults_are_read,
     string_files_are_texts_or_faulty, text_has_one_string,

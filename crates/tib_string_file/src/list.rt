@@ -8,11 +8,10 @@ ghost use Rattle.tib_lex.specs.Lists.{Along};
 ghost use Rattle.tib_tree.specs.Grows.{Grows, AddsAll};
 ghost use Rattle.tib_tree.specs.Trees.{most_nodes};
 ghost use Rattle.tib_string_file.specs.Listed.{is_mark as spec_is_mark, is_mark_alone as spec_is_mark_alone, is_entry as spec_is_entry, item_of, texts_of, IsNamed};
-ghost use Rattle.tib_string_file.specs.Found.{IsFaultAt, IsListed, IsSkipped};
+ghost use Rattle.tib_string_file.specs.Found.{IsListed, IsSkipped};
 
-use crate::fault::{StringError, StringFault, StringFaultKind};
 use std::alloc::{AllocError, Global};
-use tib_lex::{Kind, Token, read_tokens};
+use tib_lex::{FaultKind, Kind, LineError, Token, read_tokens};
 use tib_tree::{Label, Labels, MOST_NODES, intern_token};
 
 // Whether a token is `*e*` without quotes.
@@ -69,26 +68,15 @@ pub(crate) fn is_long(tokens: &[Token]) -> bool
     tokens.len() > MOST_NODES
 }
 
-/// A fault of the line with this number.
-pub(crate) fn fault_at(line: u32, kind: StringFaultKind) -> StringError
-    ensures { IsFaultAt line kind result }
-{
-    StringError::Fault(StringFault { line, kind })
-}
-
-/// Whether a line with this number has tokens, which then stand for the words of a string.
-pub(crate) fn read_list(
-    number: u32,
-    line: &[u8],
-    tokens: &mut Vec<Token>,
-) -> Result<bool, StringError>
+/// Whether a line has tokens, which then stand for the words of a string.
+pub(crate) fn read_list(line: &[u8], tokens: &mut Vec<Token>) -> Result<bool, LineError>
     requires { length line.now ≤ most_bytes }
-    ensures { IsListed number line.now tokens.new.items result }
+    ensures { IsListed line.now tokens.new.items result }
 {
     match read_tokens(line, tokens) {
         Ok(true) => {}
-        Ok(false) => return Err(fault_at(number, StringFaultKind::BadToken)),
-        Err(AllocError) => return Err(StringError::OutOfMemory),
+        Ok(false) => return Err(LineError::Fault(FaultKind::BadToken)),
+        Err(AllocError) => return Err(LineError::OutOfMemory),
     }
     if tokens.is_empty() {
         return Ok(false);
@@ -98,30 +86,26 @@ pub(crate) fn read_list(
         return Ok(true);
     }
     if !are_entries(line, tokens) {
-        return Err(fault_at(number, StringFaultKind::BadString));
+        return Err(LineError::Fault(FaultKind::BadString));
     }
     if is_long(tokens) {
-        return Err(fault_at(number, StringFaultKind::TooManyNodes));
+        return Err(LineError::Fault(FaultKind::TooManyNodes));
     }
     Ok(true)
 }
 
-/// Passes over a line with this number behind that of a string, if it has no token.
-pub(crate) fn skip_line(
-    number: u32,
-    line: &[u8],
-    tokens: &mut Vec<Token>,
-) -> Result<(), StringError>
+/// Passes over a line behind that of a string, if it has no token.
+pub(crate) fn skip_line(line: &[u8], tokens: &mut Vec<Token>) -> Result<(), LineError>
     requires { length line.now ≤ most_bytes }
-    ensures { IsSkipped number line.now result }
+    ensures { IsSkipped line.now result }
 {
     match read_tokens(line, tokens) {
         Ok(true) => {}
-        Ok(false) => return Err(fault_at(number, StringFaultKind::BadToken)),
-        Err(AllocError) => return Err(StringError::OutOfMemory),
+        Ok(false) => return Err(LineError::Fault(FaultKind::BadToken)),
+        Err(AllocError) => return Err(LineError::OutOfMemory),
     }
     if !tokens.is_empty() {
-        return Err(fault_at(number, StringFaultKind::BadString));
+        return Err(LineError::Fault(FaultKind::BadString));
     }
     Ok(())
 }

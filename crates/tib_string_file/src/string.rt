@@ -9,33 +9,33 @@ ghost use Rattle.tib_string_file.specs.StringFaults.{IsStringCause};
 ghost use Rattle.tib_string_file.specs.Reading.{rest_from};
 ghost use Rattle.tib_string_file.specs.Found.{IsRest, IsStringFound, KeepsTable};
 
-use crate::fault::{StringError, StringFaultKind};
-use crate::list::{fault_at, intern_words, read_list, skip_line};
+use crate::list::{intern_words, read_list, skip_line};
 use std::alloc::{AllocError, Global};
-use tib_lex::{Line, Token, line_bytes, next_line};
+use tib_lex::{FaultKind, FileFault, Line, ReadError, Token, file_error, line_bytes, next_line};
 use tib_tree::{Label, Labels};
 
 // The first line with tokens, which stand for the words of a string.
-fn find_string(bytes: &[u8], tokens: &mut Vec<Token>) -> Result<Line, StringError>
+fn find_string(bytes: &[u8], tokens: &mut Vec<Token>) -> Result<Line, ReadError>
     requires { length bytes.now ≤ most_bytes }
     ensures { IsStringFound bytes.now tokens.new.items result }
 {
     let mut at: u32 = 0;
     let mut number: u32 = 1;
     while let Some(line) = next_line(bytes, number, at) {
-        match read_list(number, line_bytes(bytes, line), tokens) {
+        match read_list(line_bytes(bytes, line), tokens) {
             Ok(true) => return Ok(line),
             Ok(false) => {}
-            Err(error) => return Err(error),
+            Err(error) => return Err(file_error(number, error)),
         }
         at = line.next;
         number += 1;
     }
-    Err(fault_at(1, StringFaultKind::BadString))
+    let kind = FaultKind::BadString;
+    Err(ReadError::Fault(FileFault { line: 1, kind }))
 }
 
 // Passes over the lines from a place on, where a line of this number begins, if they have no tokens.
-fn skip_lines(alloc: Global, bytes: &[u8], start: u32, first: u32) -> Result<(), StringError>
+fn skip_lines(alloc: Global, bytes: &[u8], start: u32, first: u32) -> Result<(), ReadError>
     requires short { length bytes.now ≤ most_bytes }
     requires place { start ≤ length bytes.now }
     requires number { first ≤ start + 1 }
@@ -45,9 +45,9 @@ fn skip_lines(alloc: Global, bytes: &[u8], start: u32, first: u32) -> Result<(),
     let mut at = start;
     let mut number = first;
     while let Some(line) = next_line(bytes, number, at) {
-        match skip_line(number, line_bytes(bytes, line), &mut tokens) {
+        match skip_line(line_bytes(bytes, line), &mut tokens) {
             Ok(()) => {}
-            Err(error) => return Err(error),
+            Err(error) => return Err(file_error(number, error)),
         }
         at = line.next;
         number += 1;
@@ -66,7 +66,7 @@ pub fn read_string(
     alloc: Global,
     bytes: &[u8],
     labels: &mut Labels,
-) -> Result<Vec<Label>, StringError>
+) -> Result<Vec<Label>, ReadError>
     requires short { length bytes.now ≤ most_bytes }
     requires room { length labels.old + length bytes.now < 2 ^ 32 - 1 }
     ensures text { IfOk result (λ s. ReadsAsString labels.new bytes.now s.items) }
@@ -88,6 +88,6 @@ pub fn read_string(
     }
     match intern_words(alloc, line_bytes(bytes, line), &tokens, labels) {
         Ok(words) => Ok(words),
-        Err(AllocError) => Err(StringError::OutOfMemory),
+        Err(AllocError) => Err(ReadError::OutOfMemory),
     }
 }

@@ -7,12 +7,11 @@ use Rattle.std.specs.List.{list_all}
 use Rattle.std.specs.Prelude.{nat_lt}
 use Rattle.tib_tree.specs.Trees.{most_nodes}
 use Rattle.tib_tree.proofs.Steps.{accepted, refused}
-use Rattle.tib_string_file.specs.declared.fault.StringFaultKind.TheVariants as kinds
-use Rattle.tib_string_file.proofs.Steps.{listed_fault, bad_list_line, blank_list_line, no_words_line, many_words_line, words_line, mark_line}
+use Rattle.tib_string_file.proofs.Steps.{bad_list_line, blank_list_line, no_words_line, many_words_line, words_line, mark_line}
 use Rattle.tib_string_file.proofs.list.read_list.Goals as goal
 
 pub returns-in-Ok-false : goal.returns-in-Ok-false
-returns-in-Ok-false c = listed_fault c.args.number c.args.line.now c.read_tokens.new.tokens.items kinds.BadToken _ (bad_list_line c.args.line.now (refused c.in-Ok-false.field-0 _ _ c.in-Ok-false.field-0-test c.in-Ok-false.ensures.words)) c.fault_at.ensures
+returns-in-Ok-false c = bad_list_line c.args.line.now (refused c.in-Ok-false.field-0 _ _ c.in-Ok-false.field-0-test c.in-Ok-false.ensures.words)
 
 pub returns-then-is_empty : goal.returns-then-is_empty
 returns-then-is_empty c =
@@ -34,23 +33,19 @@ returns-then-not-are_entries c =
     let ts = c.read_tokens.new.tokens in
     let e = c.if-is_empty.ensures in
     let n : 0 < length ts.items = grind (arith, nat_tests, ts.ok.0) in
-    listed_fault c.args.number c.args.line.now ts.items kinds.BadString _
-    (no_words_line c.args.line.now ts.items (accepted c.in-Ok-true.field-0 _ _ c.in-Ok-true.field-0-test c.in-Ok-true.ensures.words) n
+    no_words_line c.args.line.now ts.items (accepted c.in-Ok-true.field-0 _ _ c.in-Ok-true.field-0-test c.in-Ok-true.ensures.words) n
     (ap (λ (us : List Token). is_mark_alone (words_at c.args.line.now us)) (sym c.deref.ensures.value) ∙ sym c.is_mark_alone.ensures ∙ c.if-is_mark_alone.false)
-    (ap (λ (us : List Token). list_all is_entry (words_at c.args.line.now us)) (sym c.deref-2.ensures.value) ∙ sym c.are_entries.ensures ∙ c.if-not-are_entries.true))
-    c.fault_at-then-not-are_entries.ensures
+    (ap (λ (us : List Token). list_all is_entry (words_at c.args.line.now us)) (sym c.deref-2.ensures.value) ∙ sym c.are_entries.ensures ∙ c.if-not-are_entries.true)
 
 pub returns-then-is_long : goal.returns-then-is_long
 returns-then-is_long c =
     let ts = c.read_tokens.new.tokens in
     let e = c.if-is_empty.ensures in
     let n : 0 < length ts.items = grind (arith, nat_tests, ts.ok.0) in
-    listed_fault c.args.number c.args.line.now ts.items kinds.TooManyNodes _
-    (many_words_line c.args.line.now ts.items (accepted c.in-Ok-true.field-0 _ _ c.in-Ok-true.field-0-test c.in-Ok-true.ensures.words) n
+    many_words_line c.args.line.now ts.items (accepted c.in-Ok-true.field-0 _ _ c.in-Ok-true.field-0-test c.in-Ok-true.ensures.words) n
     (ap (λ (us : List Token). is_mark_alone (words_at c.args.line.now us)) (sym c.deref.ensures.value) ∙ sym c.is_mark_alone.ensures ∙ c.if-is_mark_alone.false)
     (ap (λ (us : List Token). list_all is_entry (words_at c.args.line.now us)) (sym c.deref-2.ensures.value) ∙ sym c.are_entries.ensures ∙ c.if-not-are_entries.false)
-    (ap (λ (us : List Token). nat_lt most_nodes (length us)) (sym c.deref-3.ensures.value) ∙ sym c.is_long.ensures ∙ c.if-is_long.true))
-    c.fault_at-then-is_long.ensures
+    (ap (λ (us : List Token). nat_lt most_nodes (length us)) (sym c.deref-3.ensures.value) ∙ sym c.is_long.ensures ∙ c.if-is_long.true)
 
 pub returns : goal.returns
 returns c =

@@ -1,19 +1,18 @@
 use Rattle.std.proofs.Common.{arith, length, ◌≡◌, ◌<◌}
 use Rattle.std.proofs.lemmas.Bool.Decides.{nat_tests}
 use Rattle.tib_tree.proofs.Steps.{accepted, refused}
-use Rattle.tib_string_file.specs.declared.fault.StringFaultKind.TheVariants as kinds
-use Rattle.tib_string_file.proofs.Steps.{skipped_fault, bad_more_line, blank_more_line, more_tokens_line}
+use Rattle.tib_string_file.proofs.Steps.{bad_more_line, blank_more_line, more_tokens_line}
 use Rattle.tib_string_file.proofs.list.skip_line.Goals as goal
 
 pub returns-in-Ok-false : goal.returns-in-Ok-false
-returns-in-Ok-false c = skipped_fault c.args.number c.args.line.now kinds.BadToken _ (bad_more_line c.args.line.now (refused c.in-Ok-false.field-0 _ _ c.in-Ok-false.field-0-test c.in-Ok-false.ensures.words)) c.fault_at.ensures
+returns-in-Ok-false c = bad_more_line c.args.line.now (refused c.in-Ok-false.field-0 _ _ c.in-Ok-false.field-0-test c.in-Ok-false.ensures.words)
 
 pub returns-then-not-is_empty : goal.returns-then-not-is_empty
 returns-then-not-is_empty c =
     let ts = c.read_tokens.new.tokens in
     let e = c.if-not-is_empty.ensures in
     let n : 0 < length ts.items = grind (arith, nat_tests, ts.ok.0) in
-    skipped_fault c.args.number c.args.line.now kinds.BadString _ (more_tokens_line c.args.line.now ts.items (accepted c.in-Ok-true.field-0 _ _ c.in-Ok-true.field-0-test c.in-Ok-true.ensures.words) n) c.fault_at-then-not-is_empty.ensures
+    more_tokens_line c.args.line.now ts.items (accepted c.in-Ok-true.field-0 _ _ c.in-Ok-true.field-0-test c.in-Ok-true.ensures.words) n
 
 pub returns : goal.returns
 returns c =
