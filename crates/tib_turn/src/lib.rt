@@ -8,8 +8,6 @@
 mod grows;
 mod lock;
 mod rule;
-#[cfg(test)]
-mod tests;
 mod ticket;
 mod view;
 

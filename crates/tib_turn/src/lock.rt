@@ -120,8 +120,11 @@ impl<V: Grows> TurnLock<V> {
         let shared = &self.table.shared;
         let empty = shared.exchange(&mut pass.seat, 0, Some(value));
         let None = empty else { unreachable!() };
-        shared.fetch_add::<EndTurn<V>>(&mut pass.seat, 1, 1);
-        shared.wake_all(1);
+        let ticket = shared.fetch_add::<EndTurn<V>>(&mut pass.seat, 1, 1);
+        // Who drew a ticket after this look finds the turn ended before it could sleep.
+        if shared.peek(0) != ticket.wrapping_add(1) {
+            shared.wake_all(1);
+        }
     }
 
     /// A second pass, which has seen the same list. It takes no memory and never waits.

@@ -8,6 +8,7 @@ use crate::grows::Grows;
 use crate::rule::{DrawTicket, ReadServed, TakesTurns};
 use crate::view::{Stage, View};
 use atomic_table::{Seat, Shared};
+use std::hint;
 use std::snapshot::Snapshot;
 use std::sync::Wait;
 
@@ -37,7 +38,22 @@ pub fn take_ticket<V: Grows, R: Wait>(rt: &R, steps: &Steps<V>, place: &mut Plac
     unreachable!()
 }
 
-/// Waits until the ticket is served, and takes the value out of the slot.
+/// How often a pass looks for its turn before it sleeps: turns are short, and to sleep and be woken takes as long as many of them.
+const LOOKS: u32 = 1000;
+
+// Looks whether the ticket is served until it is, or until that was looked for often enough.
+fn look_for_turn<V: Grows>(steps: &Steps<V>, ticket: u64)
+    requires { steps.now.table_id.words ≡ 2 }
+{
+    for _ in 0..LOOKS {
+        if steps.peek(1) == ticket {
+            return;
+        }
+        hint::spin_loop();
+    }
+}
+
+/// Waits until the ticket is served, and takes the value out of the slot. It sleeps only where its turn does not come soon.
 pub fn wait_for_turn<V: Grows, R: Wait>(
     rt: &R,
     steps: &Steps<V>,
@@ -52,6 +68,7 @@ pub fn wait_for_turn<V: Grows, R: Wait>(
     ensures inside { IsInside place.new.me.0.stage × (place.new.me.1 ≡ (0, None) ∷ []) }
 {
     for _ in rt.forever() {
+        look_for_turn(steps, ticket);
         let served = steps.load::<ReadServed<V>>(place, 1);
         if served == ticket {
             return steps.exchange(place, 0, None).unwrap();
