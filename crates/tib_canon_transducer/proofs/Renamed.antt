@@ -1,5 +1,5 @@
 -- Rules under new numbers of their states.
-use Rattle.std.proofs.Common.{◌≡◌, ℕ, ◌<◌, ◌++◌, List, [], ◌∷◌, length, map, get_or, ap, sym, ◌∙◌, subst, arith, zero, suc, append_assoc, append-nil}
+use Rattle.std.proofs.Common.{◌≡◌, ℕ, ◌<◌, ◌≤◌, ◌++◌, List, [], ◌∷◌, length, map, take, drop, get_or, ap, sym, ◌∙◌, subst, arith, zero, suc, refl}
 use Rattle.tib_tree.specs.Trees.{preorder_of}
 use Rattle.tib_grammar.specs.Sides.{Side as SideFor}
 use Rattle.tib_grammar.specs.Items.{pairs_of}
@@ -7,8 +7,9 @@ use Rattle.tib_grammar.specs.Range.{AllBelow}
 use Rattle.tib_grammar.specs.declared.Item.{Item}
 use Rattle.tib_grammar.specs.declared.Item.TheVariants.{Label, Hole}
 use Rattle.tib_grammar.proofs.Holes.{holes_of_items}
+use Rattle.tib_grammar.proofs.Renamed.{at-seam}
 use Rattle.tib_transducer.specs.Range.{IsWithin, AreWithin}
-use Rattle.tib_transducer.specs.Rules.{states_in}
+use Rattle.tib_transducer.specs.Rules.{no_rule, states_in}
 use Rattle.tib_transducer.specs.declared.Pair.{Pair}
 use Rattle.tib_transducer.specs.declared.TransducerRule.{TransducerRule}
 use Rattle.tib_canon_transducer.specs.Items.{states_among}
@@ -25,17 +26,23 @@ item_below n (Label f rank ∷ items) (suc i) d h b = item_below n items i d (om
 item_below n (Hole x ∷ items) zero d h b = (b.0, tt)
 item_below n (Hole x ∷ items) (suc i) d h b = item_below n items i d (omega arith) b.1
 
--- one rule more
-pub one_more :
-    {A B : Type 0} (f : A → B) (all rest more : List A) (r : A) (done now : List B) (b : B) → rest ≡ r ∷ more → map f all ≡ done ++ map f rest → b ≡ f r → now ≡ done ++ b ∷ [] → map f all ≡ now ++ map f more
-one_more f all rest more r done now b e h is n =
-    h ∙ ap (λ xs. done ++ map f xs) e ∙ ap (λ x. done ++ x ∷ map f more) (sym is) ∙ sym (append_assoc done (b ∷ []) (map f more)) ∙ ap (λ xs. xs ++ map f more) (sym n)
+any_rule : (rules : List (TransducerRule ℕ)) (i : ℕ) (d e : TransducerRule ℕ) → i < length rules → get_or rules i d ≡ get_or rules i e
+any_rule [] i d e h = absurd (omega arith)
+any_rule (r ∷ rules) zero d e h = refl
+any_rule (r ∷ rules) (suc i) d e h = any_rule rules i d e (omega arith)
 
-pub first_within : (n : ℕ) (rest more : List (TransducerRule ℕ)) (r : TransducerRule ℕ) → rest ≡ r ∷ more → AreWithin n rest → IsWithin n r
-first_within n rest more r e w = (subst (AreWithin n) e w) 0 (omega arith)
+-- the next rule is within, since it is as it was
+pub next_within :
+    (n : ℕ) (f : TransducerRule ℕ → TransducerRule ℕ) (old now : List (TransducerRule ℕ)) (i : ℕ) (r : TransducerRule ℕ) → i < length old → now ≡ map f (take i old) ++ drop i old → r ≡ get_or now i r →
+    AreWithin n old → IsWithin n r
+next_within n f old now i r low e at w = subst (IsWithin n) (sym (at ∙ at-seam f old now i r low e ∙ any_rule old i r no_rule low)) (w i low)
 
-pub more_within : (n : ℕ) (rest more : List (TransducerRule ℕ)) (r : TransducerRule ℕ) → rest ≡ r ∷ more → AreWithin n rest → AreWithin n more
-more_within n rest more r e w m h = (subst (AreWithin n) e w) (suc m) (omega arith)
-
-pub all_renamed : {A B : Type 0} (f : A → B) (all rest : List A) (done : List B) → rest ≡ [] → map f all ≡ done ++ map f rest → done ≡ map f all
-all_renamed f all rest done e h = sym (append-nil done) ∙ ap (λ xs. done ++ map f xs) (sym e) ∙ sym h
+-- past the last rule all are renamed
+pub all_renamed : {A : Type 0} (f : A → A) (old now : List A) (i : ℕ) → length old ≤ i → now ≡ map f (take i old) ++ drop i old → now ≡ map f old
+all_renamed {A} f old now i h e = e ∙ go old i h
+  where
+    go : (old : List A) (i : ℕ) → length old ≤ i → map f (take i old) ++ drop i old ≡ map f old
+    go [] zero h = refl
+    go [] (suc i) h = refl
+    go (x ∷ old) zero h = absurd (omega arith)
+    go (x ∷ old) (suc i) h = ap (λ xs. f x ∷ xs) (go old i (omega arith))

@@ -11,8 +11,6 @@ mod ordering;
 mod renaming;
 mod splitting;
 mod taking;
-#[cfg(test)]
-mod tests;
 
 pub use keys::to_transducer;
 pub use laws::{

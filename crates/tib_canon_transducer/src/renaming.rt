@@ -1,5 +1,5 @@
 // Rules under new numbers of their states.
-ghost use Rattle.std.specs.Prelude.{◌≡◌, ◌<◌, [], ◌∷◌, ℕ, List, length, map, IfOk};
+ghost use Rattle.std.specs.Prelude.{◌≡◌, ◌<◌, [], ◌∷◌, ℕ, List, length, map, IfOk, OnOk};
 ghost use Rattle.tib_tree.specs.Trees.{IsOneTree};
 ghost use Rattle.tib_grammar.specs.Items.{pairs_of, holes_in};
 ghost use Rattle.tib_grammar.specs.Range.{AllBelow};
@@ -78,26 +78,24 @@ fn renamed_side(
     side_of(items)
 }
 
-// A rule under the new numbers of its states. What it reads is moved.
-fn renamed_rule(
+// Gives the states of a rule their new numbers. What it reads stays where it is.
+fn rename_rule(
     alloc: Global,
-    rule: TransducerRule<u32>,
+    rule: &mut TransducerRule<u32>,
     numbers: &[u32],
-) -> Result<TransducerRule<u32>, AllocError>
-    requires { IsWithin (length numbers.now) rule }
-    ensures { IfOk result (λ r. r ≡ named_transducer_rule (number_in numbers.now) rule) }
+) -> Result<(), AllocError>
+    requires { IsWithin (length numbers.now) rule.old }
+    ensures { OnOk result (rule.new ≡ named_transducer_rule (number_in numbers.now) rule.old) }
 {
     let right = renamed_side(alloc, &rule.right, numbers)?;
-    Ok(TransducerRule {
-        state: numbers[rule.state as usize],
-        left: rule.left,
-        right,
-        cost: rule.cost,
-    })
+    rule.state = numbers[rule.state as usize];
+    rule.right = right;
+    Ok(())
 }
 
 /// The rules, with the number that a list has for each state in its place. Err only if memory is
-/// refused, and then the rules are gone. Worst case: one pass over the items of the right sides.
+/// refused, and then the rules are gone. Worst case: one pass over the items of the right sides;
+/// no rule is moved.
 pub(crate) fn renamed_rules(
     alloc: Global,
     rules: Vec<TransducerRule<u32>>,
@@ -106,9 +104,9 @@ pub(crate) fn renamed_rules(
     requires { AreWithin (length numbers.now) rules.items }
     ensures { IfOk result (λ v. v.items ≡ map (named_transducer_rule (number_in numbers.now)) rules.items) }
 {
-    let mut renamed = Vec::with_capacity(alloc, rules.len())?;
-    for rule in rules {
-        renamed.push(renamed_rule(alloc, rule, numbers)?)?;
+    let mut rules = rules;
+    for n in 0..rules.len() {
+        rename_rule(alloc, &mut rules[n], numbers)?;
     }
-    Ok(renamed)
+    Ok(rules)
 }

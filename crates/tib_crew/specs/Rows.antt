@@ -1,5 +1,6 @@
 -- Rows of items whose ends have numbers.
 use Rattle.std.specs.Prelude.{◌≡◌, ◌⊎◌, ℕ, ◌+◌, ◌-◌, ◌<◌, ◌≤◌, Bool, true, false, List, [], ◌∷◌, length, Option, Some, None, slice_set, slice_index_or}
+use Rattle.std.specs.List.{All}
 use Rattle.tib_lex.specs.Lists.{Along, total}
 use Rattle.tib_table.specs.Known.{Names}
 use Rattle.tib_table.specs.declared.number.Number.{Number}
@@ -46,6 +47,10 @@ module _ {D K T : Type 0} (gives : D → ℕ → List K → T → ℕ → Type 0
   abbrev pub AreSlots : D → List (List K) → ℕ → List (Option (Row T)) → Type 0
   AreSlots d known n [] = Unit {0}
   AreSlots d known n (slot ∷ slots) = IsSlot d known n slot × AreSlots d known (n + 1) slots
+
+  -- whatever keys are known, the slots hold rows of the items from 0 on if all the rows are such
+  abbrev pub HoldWhatRowsHold : D → List (Row T) → List (Option (Row T)) → Type 0
+  HoldWhatRowsHold d rows slots = (known : List (List K)) → All (IsRowOf d known) rows → AreSlots d known 0 slots
 
   -- the item's row was there, or was made within what was left
   abbrev pub IsTaken : D → List (List K) → Option (Row T) → ℕ → Row T → ℕ → ℕ → Type 0

@@ -4,7 +4,7 @@ ghost use Rattle.std.specs.Prelude.{◌≡◌, ◌≤◌, ◌<◌, ◌+◌, ◌^
 ghost use Rattle.std.specs.List.{All};
 ghost use Rattle.tib_table.specs.Known.{GoOn, AreShelves};
 ghost use Rattle.tib_crew.specs.Hands.{Holds};
-ghost use Rattle.tib_crew.specs.Rows.{IsRowOf, AreRowsFrom, AreSlots, IsPutIn, IsTaken, parts_in, parts_of_slots, LeaveTooLittle};
+ghost use Rattle.tib_crew.specs.Rows.{IsRowOf, AreRowsFrom, AreSlots, HoldWhatRowsHold, IsPutIn, IsTaken, parts_in, parts_of_slots, LeaveTooLittle};
 ghost use Rattle.tib_lex.specs.Limits.{most_parts};
 
 use crate::crew::crew;
@@ -75,7 +75,7 @@ fn put_rows<P: Task + Copy>(
 ) -> Result<(Vec<Option<Row<P::Rules>>>, u64), AllocError>
     requires bound { All (λ row. row.item < count) rows.items }
     requires few { parts_in rows.items ≤ most_parts }
-    ensures slots { IfOk result (λ r. (known : List (List P.Key)) → All (IsRowOf P.gives P.count_of (P.about task) known) rows.items → AreSlots P.gives P.count_of (P.about task) known 0 r.0.items) }
+    ensures slots { IfOk result (λ r. HoldWhatRowsHold P.gives P.count_of (P.about task) rows.items r.0.items) }
     ensures len { IfOk result (λ r. length r.0.items ≡ count) }
     ensures parts { IfOk result (λ r. r.1 ≡ parts_of_slots r.0.items) }
     ensures within { IfOk result (λ r. r.1 ≤ parts_in rows.items) }

@@ -10,8 +10,6 @@ mod hand;
 mod items;
 mod row;
 mod task;
-#[cfg(test)]
-mod tests;
 mod work;
 
 pub use gather::{Gathered, perform_all};

@@ -1,5 +1,5 @@
 -- What the next item of a side makes of partial matches, one after another.
-use Rattle.std.specs.Prelude.{ℕ, nat_eq, List, [], ◌∷◌, ◌++◌, map, reverse, Option, None, Some, if◌then◌else◌}
+use Rattle.std.specs.Prelude.{◌≡◌, ℕ, nat_eq, List, [], ◌∷◌, ◌++◌, map, reverse, Option, None, Some, if◌then◌else◌}
 use Rattle.tib_cost.specs.Semiring.{cut}
 use Rattle.tib_grammar.specs.Sides.{holes_of}
 use Rattle.tib_grammar.specs.Run.{rule_at}
@@ -32,6 +32,11 @@ placed product rule p = placed_at product rule p.cost p.states p.waiting
 abbrev pub all_placed : (ℕ → ℕ → ℕ) → List (Rule ℕ) → Partial → List ℕ → List Partial
 all_placed product rules p [] = []
 all_placed product rules p (n ∷ ns) = placed product (rule_at rules n) p ++ all_placed product rules p ns
+
+-- in each partial match that waits for the state next, the rules at `found` are placed as those at `all` are
+abbrev pub PlaceTheSame : List (Rule ℕ) → ℕ → List ℕ → List ℕ → Type 0
+PlaceTheSame rules state all found = (product : ℕ → ℕ → ℕ) (p : Partial) (others : List ℕ) →
+    p.waiting ≡ state ∷ others → all_placed product rules p found ≡ all_placed product rules p all
 
 -- and of some partial matches
 abbrev pub all_led : (ℕ → ℕ → ℕ) → List (Rule ℕ) → List ℕ → List Partial → List Partial

@@ -1,10 +1,9 @@
 // The rules of one state among those of a label and a rank.
-ghost use Rattle.std.specs.Prelude.{◌≡◌, ◌∷◌, ℕ, ◌<◌, ◌≤◌, length, List};
+ghost use Rattle.std.specs.Prelude.{ℕ, ◌<◌, ◌≤◌, length};
 ghost use Rattle.std.proofs.Common.{get_or};
 ghost use Rattle.tib_lex.specs.Lists.{Each};
 ghost use Rattle.tib_grammar.specs.Run.{rule_at};
-ghost use Rattle.tib_match.specs.PartialMatches.{Partial};
-ghost use Rattle.tib_match.specs.Leading.{all_placed};
+ghost use Rattle.tib_match.specs.Leading.{PlaceTheSame};
 ghost use Rattle.tib_match.specs.Narrowing.{LeftsAscend};
 
 use tib_grammar::Rule;
@@ -37,7 +36,7 @@ pub(crate) fn narrow<'p>(rules: &[Rule<u32>], positions: &'p [u32], state: u32) 
     requires below { Each (λ n. n < length rules.now) positions.now }
     requires ascend { LeftsAscend rules.now positions.now }
     ensures below { Each (λ n. n < length rules.now) result.now }
-    ensures whole { (product : ℕ → ℕ → ℕ) (p : Partial) (others : List ℕ) → p.waiting ≡ state ∷ others → all_placed product rules.now p result.now ≡ all_placed product rules.now p positions.now }
+    ensures whole { PlaceTheSame rules.now state positions.now result.now }
 {
     let from = count_below(rules, positions, state as u64);
     let to = count_below(rules, positions, state as u64 + 1);
