@@ -6,7 +6,6 @@ use Rattle.tib_lex.proofs.Members.{has_left, has_right, has_either}
 use Rattle.tib_lex.proofs.Alongs.{along_of, along_back, total_fewer}
 use Rattle.tib_tree.specs.Trees.{Trees}
 use Rattle.tib_hunt.specs.EdgeLists.{Lists, AreListed, IsEnd, Exceeds}
-use Rattle.tib_hunt.specs.declared.place.Place.{Place}
 use Rattle.tib_keyed.specs.Ends.{key_at}
 use Rattle.tib_transducer.specs.Range.{AreShaped}
 use Rattle.tib_transducer.specs.declared.TransducerRule.{TransducerRule}
@@ -16,9 +15,10 @@ use Rattle.tib_compose_laws.specs.Composition.{ends_of, edge_parts}
 use Rattle.tib_compose_laws.specs.Named.{named_transducer_rule}
 use Rattle.tib_compose_laws.proofs.EdgeList.{edges_are_listed}
 use Rattle.tib_compose_laws.proofs.Exact.{same_edge}
-use Rattle.tib_compose.specs.EdgeLaws.{places_of}
+use Rattle.tib_compose.specs.EdgeLaws.{places_of, rule_of}
 use Rattle.tib_compose.specs.Listing.{IsListing, IsWithinBudget, all_ends}
 use Rattle.tib_compose.specs.declared.listing.Listing.{Listing}
+use Rattle.tib_compose.specs.declared.placed_rule.PlacedRule.{PlacedRule}
 
 has_end : (es : List (TransducerRule (ℕ × ℕ))) (k : ℕ × ℕ) → Has (all_ends es) k → (e : TransducerRule (ℕ × ℕ)) × Has es e × Has (ends_of e) k
 has_end [] k h = absurd h
@@ -46,11 +46,11 @@ module _ (product : ℕ → ℕ → ℕ) (one two : List (TransducerRule ℕ)) (
 
   -- the list has the edges of the position
   pub whole_listed :
-      (l : Listing) (ends : List (ℕ × ℕ)) (rules : List (TransducerRule Place)) (parts : ℕ) → ends ≡ l.ends.items → rules ≡ l.rules.items → parts ≡ l.parts → IsWithinBudget l → IsListing order (key_at order n) all l →
-      AreListed Gives edge_parts places_of named_transducer_rule order ends rules parts
+      (l : Listing) (ends : List (ℕ × ℕ)) (rules : List PlacedRule) (parts : ℕ) → ends ≡ l.ends.items → rules ≡ l.rules.items → parts ≡ l.parts → IsWithinBudget l → IsListing order (key_at order n) all l →
+      AreListed Gives edge_parts (λ r. places_of (rule_of r)) (λ f r. named_transducer_rule f (rule_of r)) order ends rules parts
   whole_listed l ends rules parts e d p within h =
-      subst (λ xs. AreListed Gives edge_parts places_of named_transducer_rule order xs rules parts) (sym e)
-      (subst (λ xs. AreListed Gives edge_parts places_of named_transducer_rule order l.ends.items xs parts) (sym d) (
+      subst (λ xs. AreListed Gives edge_parts (λ r. places_of (rule_of r)) (λ f r. named_transducer_rule f (rule_of r)) order xs rules parts) (sym e)
+      (subst (λ xs. AreListed Gives edge_parts (λ r. places_of (rule_of r)) (λ f r. named_transducer_rule f (rule_of r)) order l.ends.items xs parts) (sym d) (
       record {
         few = omega (arith, within.few, within.within, within.budget);
         within = h.within;

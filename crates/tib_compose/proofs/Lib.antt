@@ -9,6 +9,7 @@ mod Listed
 mod Walking
 mod Steps
 mod Whole
+mod FlatEdges
 mod Expanded
 mod Hunted
 mod Bounded

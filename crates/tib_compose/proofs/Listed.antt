@@ -14,6 +14,7 @@ use Rattle.tib_grammar.specs.declared.Item.TheVariants.{Label, Hole}
 use Rattle.tib_grammar.proofs.Holes.{holes_of_items}
 use Rattle.tib_hunt.specs.EdgeLists.{IsWithin, key_at}
 use Rattle.tib_hunt.specs.declared.place.Place.{Place}
+use Rattle.tib_hunt.specs.declared.place.Place.TheVariants.{Known}
 use Rattle.tib_keyed.proofs.Ends.{within_wider, place_stays}
 use Rattle.tib_transducer.specs.Rules.{states_in}
 use Rattle.tib_transducer.specs.declared.Pair.{Pair}
@@ -23,9 +24,10 @@ use Rattle.tib_transducer.specs.NamedPairs.{named_pair, named_item}
 use Rattle.tib_transducer.proofs.NamedItems.{preorder-named}
 use Rattle.tib_compose_laws.specs.Composition.{ends_of, edge_parts}
 use Rattle.tib_compose_laws.specs.Named.{named_transducer_rule}
-use Rattle.tib_compose.specs.EdgeLaws.{places_of, all_states, reads_rule}
+use Rattle.tib_compose.specs.EdgeLaws.{places_of, rule_of, all_states, reads_rule}
 use Rattle.tib_compose.specs.Listing.{placed, keys_in, all_ends, edge_of, IsAdded, IsTooMuch, IsListing}
 use Rattle.tib_compose.specs.declared.listing.Listing.{Listing}
+use Rattle.tib_compose.specs.declared.placed_rule.PlacedRule.{PlacedRule}
 
 -- sizes
 
@@ -83,14 +85,14 @@ module _ (d : ℕ × ℕ) (order : List (ℕ × ℕ)) where
       ∙ ap (first_of (label 0)) (parse_of (side_map (named_pair (key_at d order (xs ++ keys_in items))) s))
 
   -- rules read the same over more ends
-  rules_read : (xs ys : List (ℕ × ℕ)) (rules : List (TransducerRule Place)) → Each (λ r. Each (IsWithin (length order) (length xs)) (places_of r)) rules →
-      map (named_transducer_rule (key_at d order (xs ++ ys))) rules ≡ map (named_transducer_rule (key_at d order xs)) rules
+  rules_read : (xs ys : List (ℕ × ℕ)) (rules : List PlacedRule) → Each (λ r. Each (IsWithin (length order) (length xs)) (places_of (rule_of r))) rules →
+      map (λ r. named_transducer_rule (key_at d order (xs ++ ys)) (rule_of r)) rules ≡ map (λ r. named_transducer_rule (key_at d order xs) (rule_of r)) rules
   rules_read xs ys [] h = refl
   rules_read xs ys (r ∷ rules) h =
-      ap (λ z. z ∷ map (named_transducer_rule (key_at d order (xs ++ ys))) rules)
-      (reads_rule r (key_at d order (xs ++ ys)) (key_at d order xs)
-      (each_weaker (IsWithin (length order) (length xs)) (λ p. key_at d order (xs ++ ys) p ≡ key_at d order xs p) (places_of r) (place_stays d order xs ys) h.0))
-      ∙ ap (λ zs. named_transducer_rule (key_at d order xs) r ∷ zs) (rules_read xs ys rules h.1)
+      ap (λ z. z ∷ map (λ x. named_transducer_rule (key_at d order (xs ++ ys)) (rule_of x)) rules)
+      (reads_rule (rule_of r) (key_at d order (xs ++ ys)) (key_at d order xs)
+      (each_weaker (IsWithin (length order) (length xs)) (λ p. key_at d order (xs ++ ys) p ≡ key_at d order xs p) (places_of (rule_of r)) (place_stays d order xs ys) h.0))
+      ∙ ap (λ zs. named_transducer_rule (key_at d order xs) (rule_of r) ∷ zs) (rules_read xs ys rules h.1)
 
 -- the states in a preorder
 abbrev states_along : {P : Type 0} → List (Symbol ℕ (Pair P) × ℕ) → List P
@@ -158,14 +160,14 @@ module _ (order : List (ℕ × ℕ)) (key : ℕ × ℕ) (es : List (TransducerRu
       let keys : List (ℕ × ℕ) = keys_in done in
       let xs : List (ℕ × ℕ) = old.ends.items in
       let long : length new.ends.items ≡ length xs + length keys = ap length a.ends ∙ length-append xs keys in
-      let reads : (d : ℕ × ℕ) → map (named_transducer_rule (key_at d order new.ends.items)) new.rules.items ≡ es ++ edge ∷ [] = λ d.
+      let reads : (d : ℕ × ℕ) → map (λ r. named_transducer_rule (key_at d order new.ends.items) (rule_of r)) new.rules.items ≡ es ++ edge ∷ [] = λ d.
       let g : Place → ℕ × ℕ = key_at d order (xs ++ keys) in
-      ap (λ ends. map (named_transducer_rule (key_at d order ends)) new.rules.items) a.ends
-      ∙ ap (map (named_transducer_rule g)) a.rules
-      ∙ map_more (named_transducer_rule g) old.rules.items a.rule
-      ∙ ap (λ zs. zs ++ named_transducer_rule g a.rule ∷ []) (rules_read d order xs keys old.rules.items h.within ∙ h.read d)
+      ap (λ ends. map (λ r. named_transducer_rule (key_at d order ends) (rule_of r)) new.rules.items) a.ends
+      ∙ ap (map (λ r. named_transducer_rule g (rule_of r))) a.rules
+      ∙ map_more (λ r. named_transducer_rule g (rule_of r)) old.rules.items a.rule
+      ∙ ap (λ zs. zs ++ named_transducer_rule g (rule_of a.rule) ∷ []) (rules_read d order xs keys old.rules.items h.within ∙ h.read d)
       ∙ ap (λ z. es ++ z ∷ [])
-      (ap (λ (k : ℕ × ℕ). record { state = k; left = a.rule.left; right = side_map (named_pair g) a.rule.right; cost = a.rule.cost }) (ap g a.state ∙ index_get order old.position d (0, 0) h.below ∙ h.at)
+      (ap (λ (k : ℕ × ℕ). record { state = k; left = a.rule.left.now; right = side_map (named_pair g) a.rule.right; cost = a.rule.cost }) (ap (λ n. g (Known n)) a.state ∙ index_get order old.position d (0, 0) h.below ∙ h.at)
       ∙ ap (λ l. record { state = key; left = l; right = side_map (named_pair g) a.rule.right; cost = a.rule.cost }) a.same
       ∙ ap (λ s. record { state = key; left = left; right = s; cost = a.rule.cost }) (sym (done_is d order done xs a.rule.right a.right))
       ∙ ap (λ c. record { state = key; left = left; right = first_of (label 0) (parse (pairs_of done)); cost = c }) a.costs)
@@ -178,11 +180,11 @@ module _ (order : List (ℕ × ℕ)) (key : ℕ × ℕ) (es : List (TransducerRu
       record {
         below = subst (λ n. n < length order) (sym a.position) h.below;
         at = ap (λ n. get_or order n (0, 0)) a.position ∙ h.at;
-        within = subst (Each (λ r. Each (IsWithin (length order) (length new.ends.items)) (places_of r))) (sym a.rules)
-            (each_more (λ r. Each (IsWithin (length order) (length new.ends.items)) (places_of r)) old.rules.items a.rule
-            (each_weaker (λ r. Each (IsWithin (length order) (length xs)) (places_of r)) (λ r. Each (IsWithin (length order) (length new.ends.items)) (places_of r)) old.rules.items
-            (λ r w. each_weaker (IsWithin (length order) (length xs)) (IsWithin (length order) (length new.ends.items)) (places_of r) (within_wider (length order) (length xs) (length new.ends.items) (omega (arith, long))) w) h.within)
-            (subst (IsWithin (length order) (length new.ends.items)) (sym a.state) h.below, side_within (length order) done (length xs) (length new.ends.items) a.rule.right a.right (omega (arith, long))));
+        within = subst (Each (λ r. Each (IsWithin (length order) (length new.ends.items)) (places_of (rule_of r)))) (sym a.rules)
+            (each_more (λ r. Each (IsWithin (length order) (length new.ends.items)) (places_of (rule_of r))) old.rules.items a.rule
+            (each_weaker (λ r. Each (IsWithin (length order) (length xs)) (places_of (rule_of r))) (λ r. Each (IsWithin (length order) (length new.ends.items)) (places_of (rule_of r))) old.rules.items
+            (λ r w. each_weaker (IsWithin (length order) (length xs)) (IsWithin (length order) (length new.ends.items)) (places_of (rule_of r)) (within_wider (length order) (length xs) (length new.ends.items) (omega (arith, long))) w) h.within)
+            (subst (λ n. n < length order) (sym a.state) h.below, side_within (length order) done (length xs) (length new.ends.items) a.rule.right a.right (omega (arith, long))));
         read = reads;
         ends_are = a.ends ∙ ap (λ zs. zs ++ keys) h.ends_are ∙ ap (λ zs. all_ends es ++ zs) (sym holes) ∙ sym (ends_more es edge);
         counted = omega (arith, a.parts, h.counted, total_more es edge, edge_size xs a.rule.right a.right);

@@ -16,8 +16,9 @@ use Rattle.tib_transducer.specs.declared.Pair.{Pair}
 use Rattle.tib_transducer.specs.declared.TransducerRule.{TransducerRule}
 use Rattle.tib_transducer.specs.NamedPairs.{named_pair}
 use Rattle.tib_compose_laws.specs.Named.{named_transducer_rule}
-use Rattle.tib_compose.specs.EdgeLaws.{all_states, places_of, compose_reading}
+use Rattle.tib_compose.specs.EdgeLaws.{all_states, places_of, rule_of, compose_reading}
 use Rattle.tib_compose.specs.NamedItems.{HolesAreWithin}
+use Rattle.tib_compose.specs.declared.placed_rule.PlacedRule.{PlacedRule}
 
 -- two trees of one preorder are the same
 pub tree_same : {P : Type 0} (s t : SideFor ℕ P) → preorder_of s ≡ preorder_of t → s ≡ t
@@ -63,10 +64,10 @@ side-twice : {P Q R : Type 0} (f : P → Q) (g : Q → R) (s : SideFor ℕ (Pair
 side-twice f g s = ap (first_of (label 0)) (relabel-twice f g (only s))
 
 -- the settled rule stands for the same edge
-pub settled_alike : (ends : List ℕ) (r : TransducerRule Place) (settled : TransducerRule ℕ) → settled ≡ named_transducer_rule (position_of ends) r → ReadsAlike compose_reading ends r settled
+pub settled_alike : (ends : List ℕ) (r : PlacedRule) (settled : TransducerRule ℕ) → settled ≡ named_transducer_rule (position_of ends) (rule_of r) → ReadsAlike compose_reading ends r settled
 settled_alike ends r settled e at =
     ap (named_transducer_rule at) e
-    ∙ ap (λ s. record { state = at (position_of ends r.state); left = r.left; right = s; cost = r.cost }) (side-twice (position_of ends) at r.right)
+    ∙ ap (λ s. record { state = at r.position; left = r.left.now; right = s; cost = r.cost }) (side-twice (position_of ends) at r.right)
 
 map-both : {A B : Type 0} (g : A → B) (xs ys : List A) → map g (xs ++ ys) ≡ map g xs ++ map g ys
 map-both g [] ys = refl
@@ -84,5 +85,5 @@ states-named g (tree (hole x) kids rest) =
     ∙ ap (λ xs. g x.state ∷ xs) (sym (map-both g (all_states kids) (all_states rest)))
 
 -- it has the positions of the places
-pub settled_positions : (ends : List ℕ) (r : TransducerRule Place) (settled : TransducerRule ℕ) → settled ≡ named_transducer_rule (position_of ends) r → HasPositions compose_reading ends r settled
-settled_positions ends r settled e = ap places_of e ∙ ap (λ xs. position_of ends r.state ∷ xs) (states-named (position_of ends) (only r.right))
+pub settled_positions : (ends : List ℕ) (r : PlacedRule) (settled : TransducerRule ℕ) → settled ≡ named_transducer_rule (position_of ends) (rule_of r) → HasPositions compose_reading ends r settled
+settled_positions ends r settled e = ap places_of e ∙ ap (λ xs. r.position ∷ xs) (states-named (position_of ends) (only r.right))

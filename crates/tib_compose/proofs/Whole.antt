@@ -7,6 +7,7 @@ use Rattle.tib_lex.specs.Lists.{Has, total}
 use Rattle.tib_tree.specs.Trees.{Trees, none, tree, only, count, preorder, preorder_of, first_of, parse, parse_of, parse-preorder, first-join, first_trees}
 use Rattle.tib_grammar.specs.Sides.{Symbol, label, hole, Side as SideFor}
 use Rattle.tib_grammar.specs.Items.{pairs_of}
+use Rattle.tib_grammar.specs.declared.Item.{Item}
 use Rattle.tib_cost.specs.Semiring.{most}
 use Rattle.tib_lex.proofs.Places.{take_drop}
 use Rattle.tib_transducer.specs.Rules.{transducer_rule}
@@ -63,17 +64,18 @@ module _ (product : ℕ → ℕ → ℕ) (one two : List (TransducerRule ℕ)) (
       by_case true e f = ap (λ x. x ∷ result_edges key (transducer_rule one n).left (affordable (map result_for cs))) e ∙ ap (λ xs. edge_from product one two key (n, c) ∷ xs) f
       by_case false e f = f
 
-  module _ (ready : AreReady product two) (source : Source) (items : pairs_of source.items.now ≡ preorder_of (transducer_rule one n).right) where
-    whole_side : side_there (pairs_of source.items.now) 0 ≡ (transducer_rule one n).right
-    whole_side = ap (λ xs. first_of (label 0) (parse xs)) items ∙ ap (first_of (label 0)) (parse_of (transducer_rule one n).right)
+  module _ (ready : AreReady product two) (items : List (Item (Pair ℕ))) (is : pairs_of items ≡ preorder_of (transducer_rule one n).right) where
+    whole_side : side_there (pairs_of items) 0 ≡ (transducer_rule one n).right
+    whole_side = ap (λ xs. first_of (label 0) (parse xs)) is ∙ ap (first_of (label 0)) (parse_of (transducer_rule one n).right)
 
     -- what comes of the whole side are the edges of the rule
-    pub rule_comes : result_edges key (transducer_rule one n).left (affordable (results product two (transducer_rule one n).cost [] (read (side_there (pairs_of source.items.now) 0) key.1 ∷ []))) ≡ rule_edges product one two key n
+    pub rule_comes : result_edges key (transducer_rule one n).left (affordable (results product two (transducer_rule one n).cost [] (read (side_there (pairs_of items) 0) key.1 ∷ []))) ≡ rule_edges product one two key n
     rule_comes =
         ap (λ s. result_edges key (transducer_rule one n).left (affordable (results product two (transducer_rule one n).cost [] (read s key.1 ∷ [])))) whole_side
         ∙ ap (λ rs. result_edges key (transducer_rule one n).left (affordable rs)) (ready.goes.at_start (transducer_rule one n).cost key.1 (transducer_rule one n).right)
         ∙ cheap_edges (choices_of two key.1 (transducer_rule one n).right)
 
+  module _ (ready : AreReady product two) (source : Source) (items : pairs_of source.items.now ≡ preorder_of (transducer_rule one n).right) where
     -- the walk begins
     pub walk_begins :
         (search : Search) → Begins product (transducer_rule one n).cost key.1 search → (order : List (ℕ × ℕ)) (es : List (TransducerRule (ℕ × ℕ))) (before : Listing) → IsListing order key es before →
@@ -89,12 +91,12 @@ module _ (product : ℕ → ℕ → ℕ) (one two : List (TransducerRule ℕ)) (
           (ap (result_edges key (transducer_rule one n).left) (append-nil (affordable (results product two search.branch.cost (pairs_of search.branch.done.items) (read (side_there (pairs_of source.items.now) 0) key.1 ∷ []))))
           ∙ ap (λ k. result_edges key (transducer_rule one n).left (affordable (results product two k (pairs_of search.branch.done.items) (read (side_there (pairs_of source.items.now) 0) key.1 ∷ [])))) b.costs
           ∙ ap (λ d. result_edges key (transducer_rule one n).left (affordable (results product two (transducer_rule one n).cost (pairs_of d) (read (side_there (pairs_of source.items.now) 0) key.1 ∷ [])))) b.done
-          ∙ rule_comes);
+          ∙ rule_comes ready source.items.now items);
     }
 
 -- a list and one more place
 
-take_more : (xs : List ℕ) (i x : ℕ) → i < length xs → x ≡ get_or xs i x → take (i + 1) xs ≡ take i xs ++ x ∷ []
+pub take_more : (xs : List ℕ) (i x : ℕ) → i < length xs → x ≡ get_or xs i x → take (i + 1) xs ≡ take i xs ++ x ∷ []
 take_more xs i x h e = ap (λ k. take k xs) (add-one i) ∙ go xs i x h e
   where
     go : (xs : List ℕ) (i x : ℕ) → i < length xs → x ≡ get_or xs i x → take (suc i) xs ≡ take i xs ++ x ∷ []
@@ -102,7 +104,7 @@ take_more xs i x h e = ap (λ k. take k xs) (add-one i) ∙ go xs i x h e
     go (y ∷ xs) zero x h e = ap (λ z. z ∷ []) (sym e)
     go (y ∷ xs) (suc i) x h e = ap (λ zs. y ∷ zs) (go xs i x (omega arith) e)
 
-take_past : {A : Type 0} (n : ℕ) (xs : List A) → length xs ≤ n → take n xs ≡ xs
+pub take_past : {A : Type 0} (n : ℕ) (xs : List A) → length xs ≤ n → take n xs ≡ xs
 take_past zero [] h = refl
 take_past zero (x ∷ xs) h = absurd (omega arith)
 take_past (suc n) [] h = refl

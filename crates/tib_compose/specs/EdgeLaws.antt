@@ -16,6 +16,8 @@ use Rattle.tib_compose_laws.specs.Composing.{IsComposeEdge}
 use Rattle.tib_hunt.specs.Lawful.{IsLawful}
 use Rattle.tib_hunt.specs.Reading.{Reading}
 use Rattle.tib_hunt.specs.declared.place.Place.{Place}
+use Rattle.tib_hunt.specs.declared.place.Place.TheVariants.{Known}
+use Rattle.tib_compose.specs.declared.placed_rule.PlacedRule.{PlacedRule}
 use Rattle.tib_keyed.specs.Ends.{key_at}
 use Rattle.tib_compose_laws.specs.Composition.{ends_of, composition}
 use Rattle.tib_compose_laws.proofs.Exact.{same_edge}
@@ -33,6 +35,10 @@ all_states (tree (hole x) kids rest) = x.state ∷ (all_states kids ++ all_state
 -- the places in a rule, that of its state first
 abbrev pub places_of : {P : Type 0} → TransducerRule P → List P
 places_of r = r.state ∷ all_states (only r.right)
+
+-- the rule that an edge over places is
+abbrev pub rule_of : PlacedRule → TransducerRule Place
+rule_of r = record { state = Known r.position; left = r.left.now; right = r.right; cost = r.cost }
 
 sides_same : {P Q : Type 0} (f g : P → Q) (s : Trees (Symbol ℕ (Pair P))) →
     Each (λ p. f p ≡ g p) (all_states s) → relabel (symbol_map (named_pair f)) s ≡ relabel (symbol_map (named_pair g)) s
@@ -92,11 +98,11 @@ pub seed_within : (m n : ℕ) (k : ℕ × ℕ) → 0 < m → 0 < n → k ≡ (0,
 seed_within m n k x y e = (omega (arith, x, ap (λ (z : ℕ × ℕ). z.0) e), omega (arith, y, ap (λ (z : ℕ × ℕ). z.1) e))
 
 -- how rules over places and over positions are read as edges of pairs
-abbrev pub compose_reading : Reading (ℕ × ℕ) (TransducerRule (ℕ × ℕ)) (TransducerRule Place) (TransducerRule ℕ)
+abbrev pub compose_reading : Reading (ℕ × ℕ) (TransducerRule (ℕ × ℕ)) PlacedRule (TransducerRule ℕ)
 compose_reading = record {
-  places = λ r. places_of r;
+  places = λ r. places_of (rule_of r);
   positions = λ r. places_of r;
-  read_places = λ f r. named_transducer_rule f r;
+  read_places = λ f r. named_transducer_rule f (rule_of r);
   read_positions = λ f r. named_transducer_rule f r;
 }
 
@@ -107,7 +113,7 @@ pub composition_is_lawful :
 composition_is_lawful product one two m n first second low high = record {
   same_order = refl;
   same_parts = refl;
-  reads_places = λ rule f g same. reads_rule rule f g same;
+  reads_places = λ rule f g same. reads_rule (rule_of rule) f g same;
   reads_positions = λ rule f g same. reads_rule rule f g same;
   one_edge = λ order i o e f x y. same_edge product one two (key_at order i) o e f x y;
   one_seed_edge = λ o e f x y. absurd x;

@@ -15,5 +15,6 @@ pub mod Searches
 pub mod Walk
 pub mod Moves
 pub mod KeyEdges
+pub mod FlatSides
 pub mod Composed
 pub mod Bounding

@@ -10,15 +10,16 @@ use Rattle.tib_grammar.specs.declared.Item.TheVariants.{Label, Hole}
 use Rattle.tib_hunt.specs.EdgeLists.{IsWithin, key_at}
 use Rattle.tib_hunt.specs.Reached.{most_parts}
 use Rattle.tib_hunt.specs.declared.place.Place.{Place}
-use Rattle.tib_hunt.specs.declared.place.Place.TheVariants.{Known, End}
+use Rattle.tib_hunt.specs.declared.place.Place.TheVariants.{End}
 use Rattle.tib_transducer.specs.Rules.{states_in}
 use Rattle.tib_transducer.specs.declared.Pair.{Pair}
 use Rattle.tib_transducer.specs.declared.Variable.{Variable}
 use Rattle.tib_transducer.specs.declared.TransducerRule.{TransducerRule}
 use Rattle.tib_compose_laws.specs.Composition.{ends_of, edge_parts}
 use Rattle.tib_compose_laws.specs.Named.{named_transducer_rule}
-use Rattle.tib_compose.specs.EdgeLaws.{places_of}
+use Rattle.tib_compose.specs.EdgeLaws.{places_of, rule_of}
 use Rattle.tib_compose.specs.declared.listing.Listing.{Listing}
+use Rattle.tib_compose.specs.declared.placed_rule.PlacedRule.{PlacedRule}
 
 -- the items with the ends n, n + 1 and so on in place of the keys of their pairs
 abbrev pub placed : ℕ → List (Item (Pair (ℕ × ℕ))) → List (Item (Pair Place))
@@ -42,9 +43,9 @@ abbrev pub edge_of : ℕ × ℕ → SideFor ℕ Variable → List (Symbol ℕ (P
 edge_of key left pairs cost = record { state = key; left = left; right = first_of (label 0) (parse pairs); cost = cost }
 
 -- the rule leads from the position, and its pairs lead to new ends
-pub record IsPlacedRule (left : SideFor ℕ Variable) (done : List (Item (Pair (ℕ × ℕ)))) (cost : ℕ) (old new : Listing) (r : TransducerRule Place) : Type 0 where
-  pub state : r.state ≡ Known old.position
-  pub same : r.left ≡ left
+pub record IsPlacedRule (left : SideFor ℕ Variable) (done : List (Item (Pair (ℕ × ℕ)))) (cost : ℕ) (old new : Listing) (r : PlacedRule) : Type 0 where
+  pub state : r.position ≡ old.position
+  pub same : r.left.now ≡ left
   pub right : preorder_of r.right ≡ pairs_of (placed (length old.ends.items) done)
   pub costs : r.cost ≡ cost
   pub ends : new.ends.items ≡ old.ends.items ++ keys_in done
@@ -55,9 +56,9 @@ pub record IsPlacedRule (left : SideFor ℕ Variable) (done : List (Item (Pair (
 
 -- the list with such a rule behind it
 pub record IsAdded (left : SideFor ℕ Variable) (done : List (Item (Pair (ℕ × ℕ)))) (cost : ℕ) (old new : Listing) : Type 0 where
-  pub rule : TransducerRule Place
-  pub state : rule.state ≡ Known old.position
-  pub same : rule.left ≡ left
+  pub rule : PlacedRule
+  pub state : rule.position ≡ old.position
+  pub same : rule.left.now ≡ left
   pub right : preorder_of rule.right ≡ pairs_of (placed (length old.ends.items) done)
   pub costs : rule.cost ≡ cost
   pub ends : new.ends.items ≡ old.ends.items ++ keys_in done
@@ -82,7 +83,7 @@ pub record IsWithinBudget (l : Listing) : Type 0 where
 pub record IsListing (order : List (ℕ × ℕ)) (key : ℕ × ℕ) (es : List (TransducerRule (ℕ × ℕ))) (l : Listing) : Type 0 where
   pub below : l.position < length order
   pub at : get_or order l.position (0, 0) ≡ key
-  pub within : Each (λ r. Each (IsWithin (length order) (length l.ends.items)) (places_of r)) l.rules.items
-  pub read : (d : ℕ × ℕ) → map (named_transducer_rule (key_at d order l.ends.items)) l.rules.items ≡ es
+  pub within : Each (λ r. Each (IsWithin (length order) (length l.ends.items)) (places_of (rule_of r))) l.rules.items
+  pub read : (d : ℕ × ℕ) → map (λ r. named_transducer_rule (key_at d order l.ends.items) (rule_of r)) l.rules.items ≡ es
   pub ends_are : l.ends.items ≡ all_ends es
   pub counted : l.parts ≡ total edge_parts es

@@ -8,6 +8,7 @@ ghost use Rattle.tib_compose.specs.Listing.{IsWithinBudget};
 use crate::bounds::Bounds;
 use crate::composite::Composite;
 use crate::ends::ends_of;
+use crate::flat::flat_root;
 use crate::key::Key;
 use crate::listing::Listing;
 use crate::search::Search;
@@ -44,14 +45,14 @@ impl<'a, S: Semiring> Composite<'a, S> {
         Ok(source)
     }
 
-    /// Lists the edges of a pair along the rule of the first transducer at a position. `More` exactly where they have more
-    /// parts than the budget leaves.
-    fn list_rule(
+    /// Lists the edges of a pair along the rule of the first transducer at a position, by a search of the translations of its right
+    /// side. `More` exactly where they have more parts than the budget leaves.
+    fn search_rule(
         &self,
         alloc: Global,
         key: Key,
         position: u32,
-        listing: &mut Listing,
+        listing: &mut Listing<'a>,
     ) -> Result<(), ExpandError>
         requires below { position < length self.now.first.now.rules }
         requires within { IsWithinBudget listing.old }
@@ -82,6 +83,29 @@ impl<'a, S: Semiring> Composite<'a, S> {
         Err(ExpandError::OutOfMemory)
     }
 
+    /// Lists the edges of a pair along the rule of the first transducer at a position. `More` exactly where they have more
+    /// parts than the budget leaves.
+    fn list_rule(
+        &self,
+        alloc: Global,
+        key: Key,
+        position: u32,
+        listing: &mut Listing<'a>,
+    ) -> Result<(), ExpandError>
+        requires below { position < length self.now.first.now.rules }
+        requires within { IsWithinBudget listing.old }
+        ensures listed { OnOk result (ListsRule S.product self.now.first.now.rules self.now.second.now.rules key position listing.old listing.new) }
+        ensures more { result ≡ Err ExpandError.More → RuleOverruns S.product self.now.first.now.rules self.now.second.now.rules key position listing.old }
+        ensures within { OnOk result (IsWithinBudget listing.new) }
+        ensures budget { OnOk result (listing.new.budget ≡ listing.old.budget) }
+    {
+        let rule = &self.first.rule_list()[position as usize];
+        match flat_root(rule.right.items()) {
+            Some((label, rank)) => self.list_flat(alloc, key, position, label, rank, listing),
+            None => self.search_rule(alloc, key, position, listing),
+        }
+    }
+
     /// The edges of a pair that stands at a position. `More` exactly where they have more parts than the budget.
     pub(crate) fn list_edges(
         &self,
@@ -89,7 +113,7 @@ impl<'a, S: Semiring> Composite<'a, S> {
         key: Key,
         position: u32,
         budget: u64,
-    ) -> Result<Listing, ExpandError>
+    ) -> Result<Listing<'a>, ExpandError>
         requires budget { budget ≤ most_parts }
         ensures listed { IfOk result (ListsKey S.product self.now.first.now.rules self.now.second.now.rules key position) }
         ensures more { result ≡ Err ExpandError.More → KeyOverruns S.product self.now.first.now.rules self.now.second.now.rules key position budget }

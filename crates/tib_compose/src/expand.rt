@@ -3,10 +3,11 @@
 use crate::choice::Choice;
 use crate::composite::Composite;
 use crate::key::Key;
+use crate::placed_rule::PlacedRule;
 use crate::settling::settled_rule;
 use std::alloc::{AllocError, Global};
 use tib_cost::Semiring;
-use tib_hunt::{Edges, Expand, ExpandError, Place};
+use tib_hunt::{Edges, Expand, ExpandError};
 use tib_transducer::TransducerRule;
 
 impl<'a, S: Semiring> Expand for Composite<'a, S> {
@@ -16,7 +17,7 @@ impl<'a, S: Semiring> Expand for Composite<'a, S> {
 
     type Key = Key;
 
-    type Over = TransducerRule<Place>;
+    type Over = PlacedRule<'a>;
 
     type Rule = TransducerRule<u32>;
 
@@ -30,11 +31,7 @@ impl<'a, S: Semiring> Expand for Composite<'a, S> {
 
     ghost reading = { compose_reading };
 
-    fn seeds(
-        &self,
-        alloc: Global,
-        budget: u64,
-    ) -> Result<Edges<Key, TransducerRule<Place>>, ExpandError> {
+    fn seeds(&self, alloc: Global, budget: u64) -> Result<Edges<Key, PlacedRule<'a>>, ExpandError> {
         let _budget = budget;
         let Ok(ends) = Vec::from_array(alloc, [Key::new(0, 0)]) else {
             return Err(ExpandError::OutOfMemory);
@@ -52,7 +49,7 @@ impl<'a, S: Semiring> Expand for Composite<'a, S> {
         order: &[Key],
         n: u32,
         budget: u64,
-    ) -> Result<Edges<Key, TransducerRule<Place>>, ExpandError> {
+    ) -> Result<Edges<Key, PlacedRule<'a>>, ExpandError> {
         self.second.is_sound();
         match self.list_edges(alloc, order[n as usize], n, budget) {
             Ok(listing) => Ok(listing.into_edges()),
@@ -63,7 +60,7 @@ impl<'a, S: Semiring> Expand for Composite<'a, S> {
     fn settle(
         &self,
         alloc: Global,
-        rule: &TransducerRule<Place>,
+        rule: &PlacedRule<'a>,
         ends: &[u32],
     ) -> Result<TransducerRule<u32>, AllocError> {
         settled_rule(alloc, rule, ends)

@@ -7,12 +7,12 @@ ghost use Rattle.tib_hunt.specs.Reached.{most_parts};
 ghost use Rattle.tib_compose.specs.Listing.{IsAdded, IsPlacedRule, IsTooMuch, IsWithinBudget, keys_in, placed};
 
 use crate::key::Key;
-use crate::settling::copied_left;
+use crate::placed_rule::PlacedRule;
 use std::alloc::{AllocError, Global};
 use tib_cost::Cost;
 use tib_grammar::{Item, Side};
 use tib_hunt::{Edges, ExpandError, Place};
-use tib_transducer::{Pair, TransducerRule, Variable};
+use tib_transducer::{Pair, Variable};
 
 /// The side of some items. Err also where they are no side, or too many to be counted.
 fn placed_side(items: Vec<Item<Pair<Place>>>) -> Result<Side<Pair<Place>>, AllocError>
@@ -60,11 +60,11 @@ fn place_items(
 
 /// The edges of the pair at a position, as far as they are listed, within a budget of parts.
 #[derive(Drop)]
-pub struct Listing {
+pub struct Listing<'a> {
     /// The ends, one after another.
     pub ends: Vec<Key>,
     /// The rules over places.
-    pub rules: Vec<TransducerRule<Place>>,
+    pub rules: Vec<PlacedRule<'a>>,
     /// The parts of the rules.
     pub parts: u64,
     /// The position.
@@ -73,9 +73,9 @@ pub struct Listing {
     pub budget: u64,
 }
 
-impl Listing {
+impl<'a> Listing<'a> {
     /// The empty list of edges of the pair at a position.
-    pub fn new(alloc: Global, position: u32, budget: u64) -> Listing
+    pub fn new(alloc: Global, position: u32, budget: u64) -> Listing<'a>
         ensures position { result.position ≡ position }
         ensures budget { result.budget ≡ budget }
         ensures ends { result.ends.items ≡ [] }
@@ -95,10 +95,10 @@ impl Listing {
     fn placed_rule(
         &mut self,
         alloc: Global,
-        left: &Side<Variable>,
+        left: &'a Side<Variable>,
         done: &[Item<Pair<Key>>],
         cost: Cost,
-    ) -> Result<TransducerRule<Place>, AllocError>
+    ) -> Result<PlacedRule<'a>, AllocError>
         requires few { length self.old.ends.items ≤ most_parts }
         ensures rule { IfOk result (IsPlacedRule left.now done.now cost self.old self.new) }
     {
@@ -107,9 +107,8 @@ impl Listing {
         }
         let items = place_items(alloc, done, &mut self.ends)?;
         let right = placed_side(items)?;
-        let left = copied_left(alloc, left)?;
-        Ok(TransducerRule {
-            state: Place::Known(self.position),
+        Ok(PlacedRule {
+            position: self.position,
             left,
             right,
             cost,
@@ -121,7 +120,7 @@ impl Listing {
     pub fn add(
         &mut self,
         alloc: Global,
-        left: &Side<Variable>,
+        left: &'a Side<Variable>,
         done: &[Item<Pair<Key>>],
         cost: Cost,
     ) -> Result<(), ExpandError>
@@ -146,10 +145,10 @@ impl Listing {
     }
 
     /// The ends, the rules and their parts.
-    pub fn into_edges(self) -> Edges<Key, TransducerRule<Place>>
-        ensures ends { result.ends.items ≡ self.ends.items }
-        ensures rules { result.rules.items ≡ self.rules.items }
-        ensures parts { result.parts ≡ self.parts }
+    pub fn into_edges(self) -> Edges<Key, PlacedRule<'a>>
+        ensures ends { result.ends.items ≡ self.entry.ends.items }
+        ensures rules { result.rules.items ≡ self.entry.rules.items }
+        ensures parts { result.parts ≡ self.entry.parts }
     {
         let Listing {
             ends,

@@ -8,9 +8,10 @@ ghost use Rattle.tib_grammar.specs.Sides.{side_map};
 ghost use Rattle.tib_hunt.specs.EdgeLists.{IsWithin, position_of};
 ghost use Rattle.tib_transducer.specs.NamedPairs.{named_pair, named_item};
 ghost use Rattle.tib_compose_laws.specs.Named.{named_transducer_rule};
-ghost use Rattle.tib_compose.specs.EdgeLaws.{all_states, places_of};
+ghost use Rattle.tib_compose.specs.EdgeLaws.{all_states, places_of, rule_of};
 ghost use Rattle.tib_compose.specs.NamedItems.{IsItemWithin, HolesAreWithin};
 
+use crate::placed_rule::PlacedRule;
 use std::alloc::{AllocError, Global};
 use tib_grammar::{Item, Side};
 use tib_hunt::Place;
@@ -104,10 +105,7 @@ fn side_of<P: Drop>(items: Vec<Item<P>>) -> Result<Side<P>, AllocError>
 }
 
 /// A left side once more. Err only if memory is refused.
-pub(crate) fn copied_left(
-    alloc: Global,
-    left: &Side<Variable>,
-) -> Result<Side<Variable>, AllocError>
+fn copied_left(alloc: Global, left: &Side<Variable>) -> Result<Side<Variable>, AllocError>
     ensures { IfOk result (λ s. s ≡ left.now) }
 {
     let items = copied_items(alloc, left.items())?;
@@ -130,16 +128,16 @@ fn settled_right(
 /// A rule with each of its places replaced by that place's position. Err only if memory is refused.
 pub(crate) fn settled_rule(
     alloc: Global,
-    rule: &TransducerRule<Place>,
+    rule: &PlacedRule,
     ends: &[u32],
 ) -> Result<TransducerRule<u32>, AllocError>
-    requires { (known : ℕ) × Each (IsWithin known (length ends.now)) (places_of rule.now) }
-    ensures { IfOk result (λ r. r ≡ named_transducer_rule (position_of ends.now) rule.now) }
+    requires { (known : ℕ) × Each (IsWithin known (length ends.now)) (places_of (rule_of rule.now)) }
+    ensures { IfOk result (λ r. r ≡ named_transducer_rule (position_of ends.now) (rule_of rule.now)) }
 {
-    let left = copied_left(alloc, &rule.left)?;
+    let left = copied_left(alloc, rule.left)?;
     let right = settled_right(alloc, &rule.right, ends)?;
     Ok(TransducerRule {
-        state: position_at(rule.state, ends),
+        state: rule.position,
         left,
         right,
         cost: rule.cost,

@@ -19,12 +19,12 @@ use tib_transducer::Variable;
 
 /// Goes on with the branch of a search up to the next label that is read, and turns there; where none is left, lists the
 /// edge that reads the left side and puts out what the branch put out. `More` exactly where the budget has no room for it.
-pub(crate) fn go_on(
+pub(crate) fn go_on<'a>(
     alloc: Global,
     source: &Source,
-    left: &Side<Variable>,
+    left: &'a Side<Variable>,
     search: &mut Search,
-    listing: &mut Listing,
+    listing: &mut Listing<'a>,
 ) -> Result<(), ExpandError>
     requires within { IsWithinBudget listing.old }
     ensures goes { OnOk result (GoesOn source.now left.now search.old search.new listing.old listing.new) }
@@ -81,9 +81,9 @@ impl<'a, S: Semiring> Composite<'a, S> {
         &self,
         alloc: Global,
         source: &Source,
-        left: &Side<Variable>,
+        left: &'a Side<Variable>,
         search: &mut Search,
-        listing: &mut Listing,
+        listing: &mut Listing<'a>,
     ) -> Result<bool, ExpandError>
         requires within { IsWithinBudget listing.old }
         ensures steps { IfOk result (Steps S.product self.now.second.now.rules source.now left.now search.old search.new listing.old listing.new) }

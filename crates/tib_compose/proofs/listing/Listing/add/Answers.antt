@@ -1,7 +1,6 @@
 use Rattle.std.proofs.Common.{◌++◌, ◌∷◌, [], arith, ap, refl, length, sym, ◌∙◌}
 use Rattle.std.specs.Global.{Vec}
-use Rattle.tib_hunt.specs.declared.place.Place.{Place}
-use Rattle.tib_transducer.specs.declared.TransducerRule.{TransducerRule}
+use Rattle.tib_compose.specs.declared.placed_rule.PlacedRule.{PlacedRule}
 use Rattle.std.proofs.lemmas.List.{length-append}
 use Rattle.tib_compose.specs.Listing.{keys_in, placed}
 use Rattle.tib_compose.proofs.Listed.{items_size, few_ends, listing_added, listing_overruns}
@@ -26,7 +25,7 @@ returns-clause-added c =
       right = r.right;
       costs = r.costs;
       ends = r.ends;
-      rules = c.in-Ok-push.ensures.items ∙ ap (λ (v : Vec (TransducerRule Place)). v.items ++ c.in-Ok.rule ∷ []) r.rules;
+      rules = c.in-Ok-push.ensures.items ∙ ap (λ (v : Vec PlacedRule). v.items ++ c.in-Ok.rule ∷ []) r.rules;
       parts = omega (arith, r.parts, items_size c.items.result.now c.args.left.now c.items.ensures.items, items_size c.items-2.result.now c.in-Ok.rule.right c.items-2.ensures.items);
       position = r.position;
       budget = r.budget;

@@ -4,7 +4,7 @@ use Rattle.tib_transducer.specs.declared.TransducerRule.{TransducerRule}
 use Rattle.tib_compose.specs.KeyEdges.{rule_edges}
 use Rattle.tib_compose.specs.Listing.{IsListing, IsWithinBudget}
 use Rattle.tib_compose.specs.Walk.{AreReady, IsUnderway}
-use Rattle.tib_compose.proofs.composite.Composite.list_rule.Given as goal
+use Rattle.tib_compose.proofs.composite.Composite.search_rule.Given as goal
 
 abbrev pub invariant-loop : goal.invariant-loop
 invariant-loop g l = record {

@@ -1,0 +1,33 @@
+use Rattle.std.proofs.Common.{◌≡◌, ◌++◌, ◌<◌, ap, sym, ◌∙◌, subst}
+use Rattle.tib_lex.specs.Lists.{total}
+use Rattle.tib_cost.specs.Semiring.{cut}
+use Rattle.tib_tree.specs.Trees.{preorder_of}
+use Rattle.tib_transducer.specs.Rules.{no_rule, transducer_rule}
+use Rattle.tib_compose_laws.specs.Composition.{edge_parts}
+use Rattle.tib_compose.specs.FlatSides.{KeptOverruns, ListsKept}
+use Rattle.tib_compose.specs.Listing.{IsListing}
+use Rattle.tib_compose.specs.Walk.{result_edges}
+use Rattle.tib_compose.proofs.FlatEdges.{reader_kept}
+use Rattle.tib_compose.proofs.composite.Composite.list_reader.Goals as goal
+
+pub returns-in-Ok-list_kept-clause-listed : goal.returns-in-Ok-list_kept-clause-listed
+returns-in-Ok-list_kept-clause-listed g c = λ ready p f n flat low reads order key es lists.
+    let two = c.args.self.now.second.now.rules in
+    let rule = c.args.rule.now in
+    let at : c.in-Some.reader.now ≡ transducer_rule two c.args.position = c.in-Some.ensures.lookup.3.1 no_rule ∙ ap (λ rs. transducer_rule rs c.args.position) c.rule_list.ensures in
+    let same = reader_kept g.S.Semiring.product two ready rule c.args.items.now c.items.result.now c.put_right.new.done.items p f n c.args.position flat low reads
+    (c.items.ensures.items ∙ ap (λ r. preorder_of r.right) at) c.in-Ok.ensures c.times-cost.result (c.times-cost.ensures ∙ ap (λ r. cut (g.S.Semiring.product rule.cost r.cost)) at)
+    in
+    let added = subst (λ d. ListsKept rule.left d c.times-cost.result c.args.listing.now c.list_kept.new.listing) c.deref.ensures.value c.in-Ok-list_kept.ensures.listed in
+    subst (λ rs. IsListing order key (es ++ result_edges key rule.left rs) c.list_kept.new.listing) (sym same) (added order key es lists)
+
+pub returns-in-Err-clause-more : goal.returns-in-Err-clause-more
+returns-in-Err-clause-more g c = λ e ready p f n flat low reads order key es lists.
+    let two = c.args.self.now.second.now.rules in
+    let rule = c.args.rule.now in
+    let at : c.in-Some.reader.now ≡ transducer_rule two c.args.position = c.in-Some.ensures.lookup.3.1 no_rule ∙ ap (λ rs. transducer_rule rs c.args.position) c.rule_list.ensures in
+    let same = reader_kept g.S.Semiring.product two ready rule c.args.items.now c.items.result.now c.put_right.new.done.items p f n c.args.position flat low reads
+    (c.items.ensures.items ∙ ap (λ r. preorder_of r.right) at) c.in-Ok.ensures c.times-cost.result (c.times-cost.ensures ∙ ap (λ r. cut (g.S.Semiring.product rule.cost r.cost)) at)
+    in
+    let over = subst (λ d. KeptOverruns rule.left d c.times-cost.result c.args.listing.now) c.deref.ensures.value (c.list_kept.ensures.more (c.in-Err.is ∙ e)) in
+    subst (λ rs. c.args.listing.now.budget < total edge_parts (es ++ result_edges key rule.left rs)) (sym same) (over order key es lists)
