@@ -7,3 +7,4 @@ pub mod Examples
 pub mod Laws
 pub mod Telling
 pub mod Loop
+pub mod Whole

@@ -2,7 +2,9 @@
 //! cheapest tree. `outside` settles the states in ascending order of the costs of contexts around
 //! them (Dijkstra 1959), once inside costs are known. `prune` keeps the rules that stand in some run
 //! whose cost is at most the inside cost of the start plus the beam: no tree within it is lost or
-//! changes its cost. It stands on `tib_cost`, `tib_grammar`, `tib_normal` and `tib_inside`.
+//! changes its cost. `trim_with_insides` trims a grammar, or sees that there is nothing to trim, and
+//! tells the inside costs by which `prune_by_insides` and `prune_to_count` go on. It stands on `tib_cost`,
+//! `tib_grammar`, `tib_normal` and `tib_inside`.
 #![tactic(auto)]
 
 pub mod laws;
@@ -10,8 +12,8 @@ mod products;
 mod pruning;
 mod settling;
 mod telling;
-#[cfg(test)]
-mod tests;
+mod whole;
 
-pub use pruning::prune;
+pub use pruning::{prune, prune_by_insides, prune_to_count};
 pub use settling::outside;
+pub use whole::trim_with_insides;

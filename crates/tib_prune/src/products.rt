@@ -3,11 +3,13 @@ ghost use Rattle.std.specs.Prelude.{◌≡◌, ℕ, ◌<◌, ◌≤◌, length, 
 ghost use Rattle.tib_cost.specs.Least.{times};
 ghost use Rattle.tib_grammar.specs.Items.{state_in};
 ghost use Rattle.tib_grammar.specs.Range.{AllBelow};
+ghost use Rattle.tib_grammar.specs.Forms.{IsNormalSide};
+ghost use Rattle.tib_grammar.specs.Sides.{holes_of};
 ghost use Rattle.tib_inside.specs.Inside.{total};
-ghost use Rattle.tib_inside.specs.Settling.{costs_in};
+ghost use Rattle.tib_inside.specs.Settling.{costs_in, rule_total};
 
 use tib_cost::{Cost, Semiring};
-use tib_grammar::Item;
+use tib_grammar::{Item, Rule};
 
 /// The product of two costs.
 pub fn times<S: Semiring>(a: &Option<Cost>, b: &Option<Cost>) -> Option<Cost>
@@ -31,4 +33,14 @@ pub fn product_of<S: Semiring>(states: &[Item<u32>], costs: &[Option<Cost>]) -> 
         product = times::<S>(&costs[states[n].state() as usize], &product);
     }
     product
+}
+
+/// The product of the cost of a rule and those of the states in its right side.
+pub fn rule_total<S: Semiring>(rule: &Rule<u32>, insides: &[Option<Cost>]) -> Option<Cost>
+    requires normal { IsNormalSide rule.now.right }
+    requires states { AllBelow (length insides.now) (holes_of rule.now.right) }
+    ensures { result ≡ rule_total S.product (costs_in insides.now) rule.now }
+{
+    let states = product_of::<S>(rule.states_below(), insides);
+    times::<S>(&Some(rule.cost), &states)
 }

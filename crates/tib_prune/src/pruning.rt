@@ -8,7 +8,7 @@ ghost use Rattle.tib_prune.specs.Loop.{AreInsidesOfAll, AreOutsides};
 ghost use Rattle.tib_prune.specs.Outside.{through};
 ghost use Rattle.tib_prune.specs.Pruned.{is_at_most, ArePruned, IsPruned, KeepsCheapTrees, HadNoGreaterCosts, StandInCheapRuns};
 
-use crate::products::{product_of, times};
+use crate::products::{rule_total, times};
 use crate::settling::{inside_costs, outside_costs};
 use std::alloc::{AllocError, Global};
 use tib_cost::{Cost, Semiring};
@@ -26,8 +26,7 @@ fn through<S: Semiring>(
     requires states { AllBelow (length insides.now) (holes_of rule.now.right) }
     ensures { result ≡ through S.product (costs_in insides.now) (costs_in outsides.now) rule.now }
 {
-    let states = product_of::<S>(rule.states_below(), insides);
-    let inner = times::<S>(&Some(rule.cost), &states);
+    let inner = rule_total::<S>(rule, insides);
     times::<S>(&outsides[rule.left as usize], &inner)
 }
 
@@ -100,25 +99,123 @@ fn prune_rules<S: Semiring>(
     keep_rules::<S>(alloc, rules, insides, outsides, best.get() + beam.get())
 }
 
-/// The grammar of the rules that stand in runs within the beam of the cheapest one.
-fn prune_grammar<S: Semiring>(
+/// The grammar of the rules that stand in runs within the beam of the cheapest one, by the inside
+/// and outside costs.
+fn prune_by_costs<S: Semiring>(
     alloc: Global,
     normal: Normal<S>,
+    insides: &[Option<Cost>],
+    outsides: &[Option<Cost>],
     beam: Cost,
 ) -> Result<Grammar<S>, AllocError>
+    requires states { length insides.now ≡ length normal.names }
+    requires as_many { length outsides.now ≡ length insides.now }
+    requires insides { AreInsidesOfAll S.product normal.rules insides.now }
+    requires outsides { AreOutsides S.product normal.rules outsides.now }
     ensures pruned { IfOk result (λ g. IsPruned S.product beam normal g) }
     ensures cheap { IfOk result (λ g. KeepsCheapTrees S.product normal.rules beam g.rules) }
+    ensures costs { IfOk result (λ g. HadNoGreaterCosts S.product normal.rules g.rules) }
     ensures runs { IfOk result (λ g. StandInCheapRuns S.product normal.rules beam g.rules) }
 {
     normal.grammar().is_sound();
-    let insides = inside_costs::<S>(alloc, &normal)?;
-    let outsides = outside_costs::<S>(alloc, &normal, &insides)?;
     let (names, rules) = normal.into_grammar().into_parts();
-    let kept = prune_rules::<S>(alloc, rules, &insides, &outsides, beam)?;
+    let kept = prune_rules::<S>(alloc, rules, insides, outsides, beam)?;
     match Grammar::new(names, kept) {
         Some(grammar) => Ok(grammar),
         None => unreachable!(),
     }
+}
+
+/// The same as `prune`, by the inside costs of the states, which are known; and it answers the
+/// grammar, which is not indexed. Err only if memory is refused, and then the grammar is gone. Worst
+/// case: that of `outside` without that of `inside`, and one pass over the rules.
+pub fn prune_by_insides<S: Semiring>(
+    alloc: Global,
+    normal: Normal<S>,
+    insides: &[Option<Cost>],
+    beam: Cost,
+) -> Result<Grammar<S>, AllocError>
+    requires states { length insides.now ≡ length normal.names }
+    requires insides { AreInsidesOfAll S.product normal.rules insides.now }
+    ensures pruned { IfOk result (λ g. IsPruned S.product beam normal g) }
+    ensures cheap { IfOk result (λ g. KeepsCheapTrees S.product normal.rules beam g.rules) }
+    ensures costs { IfOk result (λ g. HadNoGreaterCosts S.product normal.rules g.rules) }
+    ensures runs { IfOk result (λ g. StandInCheapRuns S.product normal.rules beam g.rules) }
+{
+    let outsides = outside_costs::<S>(alloc, &normal, insides)?;
+    prune_by_costs::<S>(alloc, normal, insides, &outsides, beam)
+}
+
+/// What the cheapest runs cost in which the rules stand, ascending.
+fn through_costs<S: Semiring>(
+    alloc: Global,
+    rules: &[Rule<u32>],
+    insides: &[Option<Cost>],
+    outsides: &[Option<Cost>],
+) -> Result<Vec<Cost>, AllocError>
+    requires normal { AreNormal rules.now }
+    requires insides { AreInRange (length insides.now) rules.now }
+    requires outsides { AreInRange (length outsides.now) rules.now }
+{
+    let mut costs = Vec::new(alloc);
+    for rule in rules {
+        if let Some(cost) = through::<S>(rule, insides, outsides) {
+            costs.push(cost)?;
+        }
+    }
+    costs.sort()?;
+    Ok(costs)
+}
+
+/// The least beam within which so many rules stay, or all that stand in runs.
+fn beam_for<S: Semiring>(
+    alloc: Global,
+    rules: &[Rule<u32>],
+    insides: &[Option<Cost>],
+    outsides: &[Option<Cost>],
+    count: usize,
+) -> Result<Cost, AllocError>
+    requires some { 0 < length insides.now }
+    requires normal { AreNormal rules.now }
+    requires insides { AreInRange (length insides.now) rules.now }
+    requires outsides { AreInRange (length outsides.now) rules.now }
+{
+    let Some(best) = insides[0] else {
+        return Ok(S::one());
+    };
+    let costs = through_costs::<S>(alloc, rules, insides, outsides)?;
+    let last = costs.len().min(count);
+    if last == 0 {
+        return Ok(S::one());
+    }
+    match Cost::new(costs[last - 1].get().saturating_sub(best.get())) {
+        Some(beam) => Ok(beam),
+        None => Ok(S::one()),
+    }
+}
+
+/// The same with the least beam within which at least so many rules stay, or all that stand in runs,
+/// and this beam. No clause says how many stay. Worst case: that of `prune_by_insides`, and
+/// O(r log r) steps for r rules.
+pub fn prune_to_count<S: Semiring>(
+    alloc: Global,
+    normal: Normal<S>,
+    insides: &[Option<Cost>],
+    count: usize,
+) -> Result<(Grammar<S>, Cost), AllocError>
+    requires states { length insides.now ≡ length normal.names }
+    requires insides { AreInsidesOfAll S.product normal.rules insides.now }
+    ensures pruned { IfOk result (λ p. IsPruned S.product p.1 normal p.0) }
+    ensures cheap { IfOk result (λ p. KeepsCheapTrees S.product normal.rules p.1 p.0.rules) }
+    ensures costs { IfOk result (λ p. HadNoGreaterCosts S.product normal.rules p.0.rules) }
+    ensures runs { IfOk result (λ p. StandInCheapRuns S.product normal.rules p.1 p.0.rules) }
+{
+    normal.grammar().is_sound();
+    let outsides = outside_costs::<S>(alloc, &normal, insides)?;
+    let rules = normal.grammar().rule_list();
+    let beam = beam_for::<S>(alloc, rules, insides, &outsides, count)?;
+    let kept = prune_by_costs::<S>(alloc, normal, insides, &outsides, beam)?;
+    Ok((kept, beam))
 }
 
 /// The part of a grammar that stays within a beam of its cheapest tree: all states, and in order
@@ -141,7 +238,8 @@ pub fn prune<S: Semiring + Drop>(
     ensures runs { IfOk result (λ n. StandInCheapRuns S.product normal.rules beam n.rules) }
 {
     normal.grammar();
-    let grammar = prune_grammar::<S>(alloc, normal, beam)?;
+    let insides = inside_costs::<S>(alloc, &normal)?;
+    let grammar = prune_by_insides::<S>(alloc, normal, &insides, beam)?;
     match Normal::new(alloc, grammar)? {
         Some(normal) => Ok(normal),
         None => unreachable!(),

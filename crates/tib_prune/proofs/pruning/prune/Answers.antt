@@ -1,7 +1,7 @@
 use Rattle.std.proofs.Common.{sym, subst}
 use Rattle.tib_grammar.specs.GrammarOf.{GrammarOf}
 use Rattle.tib_prune.specs.Pruned.{IsPruned, KeepsCheapTrees, HadNoGreaterCosts, StandInCheapRuns}
-use Rattle.tib_prune.proofs.Kept.{still_normal, had}
+use Rattle.tib_prune.proofs.Kept.{still_normal}
 use Rattle.tib_prune.proofs.pruning.prune.Goals as goal
 
 pub unreachable-requires : goal.unreachable-requires
@@ -14,7 +14,7 @@ pub returns-clause-costs : goal.returns-clause-costs
 returns-clause-costs g c =
     let same = rw c.in-Some.is at c.in_ok-normal.ensures.same in
     subst (λ (n : GrammarOf). HadNoGreaterCosts g.S.Semiring.product c.args.normal.rules n.rules) (sym same)
-    (had g.met.S.Semiring.laws c.args.normal.rules c.args.beam c.in_ok-grammar.grammar.rules c.in_ok-grammar.ensures.pruned.rules c.grammar.ensures.normal)
+    c.in_ok-grammar.ensures.costs
 
 pub returns-clause-cheap : goal.returns-clause-cheap
 returns-clause-cheap g c =

@@ -2,9 +2,9 @@ use Rattle.std.proofs.Common.{ap, sym, ◌∙◌, ◌<◌, subst, length, List, 
 use Rattle.tib_grammar.specs.GrammarOf.{GrammarOf}
 use Rattle.tib_grammar.specs.Range.{AreInRange}
 use Rattle.tib_grammar.specs.declared.Rule.{Rule}
-use Rattle.tib_prune.specs.Pruned.{ArePruned, KeepsCheapTrees, StandInCheapRuns}
-use Rattle.tib_prune.proofs.Kept.{of_same, there_is, still_in_range}
-use Rattle.tib_prune.proofs.pruning.prune_grammar.Goals as goal
+use Rattle.tib_prune.specs.Pruned.{ArePruned, HadNoGreaterCosts, KeepsCheapTrees, StandInCheapRuns}
+use Rattle.tib_prune.proofs.Kept.{of_same, there_is, still_in_range, had}
+use Rattle.tib_prune.proofs.pruning.prune_by_costs.Goals as goal
 
 pub unreachable-requires : goal.unreachable-requires
 unreachable-requires g c =
@@ -37,3 +37,7 @@ returns-clause-runs g c =
     let rules = c.into_parts-names.ensures.rules ∙ ap (λ (n : GrammarOf). n.rules) c.into_grammar.ensures.same in
     of_same (λ (old new : List (Rule ℕ)). StandInCheapRuns g.S.Semiring.product old c.args.beam new) c.into_parts-names.result.1.items c.args.normal.rules c.in_ok-kept.kept.items c.in-Some.grammar.rules (sym rules) c.in-Some.ensures.rules
     c.in_ok-kept.ensures.runs
+
+pub returns-clause-costs : goal.returns-clause-costs
+returns-clause-costs g c =
+    had g.met.S.Semiring.laws c.args.normal.rules c.args.beam c.in-Some.grammar.rules (returns-clause-pruned g c).rules c.grammar.ensures.normal
