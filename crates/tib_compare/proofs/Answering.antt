@@ -67,7 +67,7 @@ module _
       run_costs right normal_too free_too t ((right_runs first left right normal normal_too range 0 t).1 (subst (λ (q : ℕ). HasRun (beside first left right) q t) z h))
 
   -- what is told apart has a cost in exactly one grammar
-  told_in_one : (t : Tree ℕ) → IsToldApart order new first t → IsInOne left right t
+  pub told_in_one : (t : Tree ℕ) → IsToldApart order new first t → IsInOne left right t
   told_in_one t h = elim (told_one (beside first left right) (beside_normal first left right) (beside_free first left right) order new vectors first t h) [
     | inl a ↦ inl (left_cost t a.0, λ k. a.1 (right_run t k))
     | inr a ↦ inr (right_cost t a.0, λ k. a.1 (left_run t k))
@@ -87,7 +87,7 @@ module _
   in_one_told t (inr h) = elim (told_or_both t (inr h.0)) [ inl a ↦ a | inr a ↦ absurd (h.1 a.0) ]
 
   -- a tree that is not told apart has a cost in both or in neither
-  agree_unless : (t : Tree ℕ) → (IsToldApart order new first t → ⊥) → Agree left right t
+  pub agree_unless : (t : Tree ℕ) → (IsToldApart order new first t → ⊥) → Agree left right t
   agree_unless t n = (
     λ h. elim (told_or_both t (inl h)) [ inl a ↦ absurd (n a) | inr a ↦ a.1 ],
     λ h. elim (told_or_both t (inr h)) [ inl a ↦ absurd (n a) | inr a ↦ a.0 ],
@@ -163,7 +163,7 @@ module _
     ]
 
     -- where some vector tells them apart, some tree has a cost in exactly one
-    some_told : SomeDiffers first order → (t : Tree ℕ) × IsInOne left right t
+    pub some_told : SomeDiffers first order → (t : Tree ℕ) × IsInOne left right t
     some_told s =
         let h =
         has_tree (beside first left right) order new vectors found.reached.0.0 found.reached.0.1 found.reached.0.2 s.0 s.1

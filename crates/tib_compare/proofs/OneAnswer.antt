@@ -18,7 +18,7 @@ module _ (labels : List (List ℕ)) (distinct : AreDistinct labels) where
   below rules l t h = tree_below labels max rules l 0 (t, h.0) h.1
 
   -- of two trees that have a cost one comes before the other, or they are the same
-  one_first :
+  pub one_first :
       (one two : List (Rule ℕ)) → AreLabelled (length labels) one → AreLabelled (length labels) two → (t u : Tree ℕ) → HasCost one t → HasCost two u →
       (t ≡ u) ⊎ ((tree_cmp_by labels t u ≡ Less) ⊎ (tree_cmp_by labels u t ≡ Less))
   one_first one two l m t u h k = elim (cheaper_total labels distinct (t, 0) (u, 0) (below one l t h) (below two m u k)) [

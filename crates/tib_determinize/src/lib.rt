@@ -15,8 +15,6 @@ mod reached;
 mod residuals;
 mod settling;
 mod shapes;
-#[cfg(test)]
-mod tests;
 mod vector;
 mod vector_rule;
 mod walk;

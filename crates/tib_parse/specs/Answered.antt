@@ -11,6 +11,7 @@ use Rattle.tib_hunt.specs.declared.found.Found.{Found}
 use Rattle.tib_classes.specs.declared.error.ClassError.{ClassError}
 use Rattle.tib_classes.specs.declared.error.ClassError.TheVariants.{Class as OfRule, OutOfMemory as OfMemory}
 use Rattle.tib_strings.specs.Faults.{IsFirstFault}
+use Rattle.tib_strings.specs.Range.{AreLinear, AreNondeleting}
 use Rattle.tib_strings.specs.declared.StringRule.{StringRule}
 use Rattle.tib_apply.specs.declared.error.ApplyError.{ApplyError}
 use Rattle.tib_apply.specs.declared.error.ApplyError.TheVariants.{Class, TooMany, OutOfMemory}
@@ -38,10 +39,10 @@ abbrev pub IsStringFault : List (StringRule ℕ) → ClassError → Type 0
 IsStringFault moves (OfRule rule fault) = IsFirstFault moves rule fault
 IsStringFault moves OfMemory = Unit {0}
 
--- why nothing is answered: that rule, a limit that each reached set passes, or want of memory
+-- why nothing is answered: that rule; where there is none, a limit that each reached set passes; or want of memory
 abbrev pub IsParseFault : List (StringRule ℕ) → List ℕ → ℕ → ApplyError → Type 0
 IsParseFault moves string limit (Class rule fault) = IsFirstFault moves rule fault
-IsParseFault moves string limit (TooMany n) = (n ≡ limit) × IsBeyond (parse moves string) limit
+IsParseFault moves string limit (TooMany n) = (n ≡ limit) × AreLinear moves × AreNondeleting moves × IsBeyond (parse moves string) limit
 IsParseFault moves string limit OutOfMemory = Unit {0}
 
 -- the rules, as a grammar, give each tree the cost that the transducer gives the tree and the string

@@ -13,8 +13,6 @@ mod reached;
 mod readers;
 mod settling;
 mod spans;
-#[cfg(test)]
-mod tests;
 
 pub use key::Key;
 pub use operation::Parse;

@@ -35,5 +35,7 @@ pub returns-in-Err-TooMany-clause-fault : goal.returns-in-Err-TooMany-clause-fau
 returns-in-Err-TooMany-clause-fault g c =
     let more = too_many c.args.limit c.in-Err-TooMany.limit _ c.in-Err-TooMany.field-0 c.in-Err-TooMany.field-0-is c.in-Err-TooMany.ensures.more in (
       more.0,
+      c.in-Ok.ensures.linear,
+      c.in-Ok.ensures.nondeleting,
       beyond_of c.args.transducer.now c.args.string.now c.in-Ok.problem.transducer.now c.in-Ok.ensures.transducer c.in-Ok.problem.string.now c.in-Ok.ensures.string c.args.limit more.1,
     )
