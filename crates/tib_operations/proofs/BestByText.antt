@@ -44,7 +44,7 @@ module _ (labels others : List (List ℕ)) where
   shape_labelled (tree (hole p) kids rest) (tree (label g) below more) h = absurd h.0
   shape_labelled (tree (hole p) kids rest) (tree (hole q) below more) h = shape_labelled rest more h.2
 
-  rules_labelled : (g h : GrammarOf) → AgreeByText labels others g h → AreLabelled (length others) h.rules
+  pub rules_labelled : (g h : GrammarOf) → AgreeByText labels others g h → AreLabelled (length others) h.rules
   rules_labelled g h a m l =
       let long : length g.rules ≡ length h.rules = along_long (AreOneRule labels others) g.rules h.rules a.rules in
       let one : AreOneRule labels others (rule_at g.rules m) (rule_at h.rules m) =
@@ -91,19 +91,19 @@ module _
     (product : ℕ → ℕ → ℕ) (labels others : List (List ℕ)) (g h : GrammarOf) (apart : Distinct labels) (different : Distinct others) (agree : AgreeByText labels others g h)
     (f : ℕ → ℕ) (numbers : Renumbers labels others f) where
   -- a tree with its cost, under the numbers of the other table
-  abbrev moved : Costed → Costed
+  abbrev pub moved : Costed → Costed
   moved x = (relabel_tree f x.0, x.1)
 
   rules : rules_with f g.rules ≡ h.rules
   rules = rules_given labels others f numbers g.rules h.rules agree.rules
 
   -- it has a cost where it had this one
-  member_to : (x : Costed) → IsTreeAt product g.rules 0 x → IsTreeAt product h.rules 0 (moved x)
+  pub member_to : (x : Costed) → IsTreeAt product g.rules 0 x → IsTreeAt product h.rules 0 (moved x)
   member_to x m =
       subst (λ (rs : List (Rule ℕ)). IsTreeAt product rs 0 (moved x)) rules
       (IsLeast-same (cost_to f g.rules product (only x.0)) (cost_from f g.rules numbers.apart product (only x.0)) m)
 
-  member_from : (x : Costed) → IsTreeAt product h.rules 0 (moved x) → IsTreeAt product g.rules 0 x
+  pub member_from : (x : Costed) → IsTreeAt product h.rules 0 (moved x) → IsTreeAt product g.rules 0 x
   member_from x m =
       IsLeast-same (cost_from f g.rules numbers.apart product (only x.0)) (cost_to f g.rules product (only x.0))
       (subst (λ (rs : List (Rule ℕ)). IsTreeAt product rs 0 (moved x)) (sym rules) m)
@@ -117,7 +117,7 @@ module _
       (record { label = i; kids = kids }, ap (λ (z : ℕ). record { label = z; kids = relabel f kids }) a ∙ ap (λ (z : Trees ℕ). record { label = u.label; kids = z }) b)
   one_tree (tree i kids (tree j below rest)) u e = absurd (cc e)
 
-  member_is : (y : Costed) → IsTreeAt product h.rules 0 y → (x : Costed) × (moved x ≡ y)
+  pub member_is : (y : Costed) → IsTreeAt product h.rules 0 y → (x : Costed) × (moved x ≡ y)
   member_is y m =
       let k : IsCost product (rules_with f g.rules) (0 ∷ []) (only y.0) y.1 =
       subst (λ (rs : List (Rule ℕ)). IsCost product rs (0 ∷ []) (only y.0) y.1) (sym rules) m.attained.0 in
@@ -129,7 +129,7 @@ module _
   shape_moved none b = tt
   shape_moved (tree i kids rest) b = (numbers.back i b.0, shape_moved kids b.1, shape_moved rest b.2)
 
-  tree_moved : (x : Costed) → IsTreeAt product g.rules 0 x → AreOneTree labels others x.0 (relabel_tree f x.0)
+  pub tree_moved : (x : Costed) → IsTreeAt product g.rules 0 x → AreOneTree labels others x.0 (relabel_tree f x.0)
   tree_moved x m =
       shape_moved (only x.0) (tree_below others product h.rules (rules_labelled labels others g h agree) 0 (moved x) (member_to x m))
 
@@ -145,7 +145,7 @@ module _
       ∙ ap (λ (z : Trees (List ℕ)). tree (text_at others j) z (relabel (text_at labels) rest)) (texts_moved kids below s.1)
       ∙ ap (λ (z : Trees (List ℕ)). tree (text_at others j) (relabel (text_at others) below) z) (texts_moved rest more s.2)
 
-  tree_texts : (x : Costed) → IsTreeAt product g.rules 0 x → relabel_tree (text_at labels) x.0 ≡ relabel_tree (text_at others) (relabel_tree f x.0)
+  pub tree_texts : (x : Costed) → IsTreeAt product g.rules 0 x → relabel_tree (text_at labels) x.0 ≡ relabel_tree (text_at others) (relabel_tree f x.0)
   tree_texts x m =
       let s = tree_moved x m in
       ap (λ (z : List ℕ). record { label = z; kids = relabel (text_at labels) x.0.kids }) (text_moved x.0.label (f x.0.label) s.0)

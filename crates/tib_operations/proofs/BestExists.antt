@@ -83,7 +83,7 @@ size_cases : (a b : ℕ) → (a ≤ b) ⊎ (b < a)
 size_cases a b = grind arith
 
 module _ (labels : List (List ℕ)) (apart : AreDistinct labels) (product : ℕ → ℕ → ℕ) (rules : List (Rule ℕ)) (labelled : AreLabelled (length labels) rules) where
-  abbrev Member : Costed → Type 0
+  abbrev pub Member : Costed → Type 0
   Member = IsTreeAt product rules 0
 
   total : (a b : Costed) → Member a → Member b → Cheaper labels a b ⊎ ((a ≡ b) ⊎ Cheaper labels b a)
@@ -127,7 +127,7 @@ module _ (labels : List (List ℕ)) (apart : AreDistinct labels) (product : ℕ 
         inr (refl, rw (nat_less (sizes (relabel (text_at labels) t.kids)) (sizes (relabel (text_at labels) u.kids)) smaller))
 
     -- and so a first one of all
-    first_there : (y : Costed) → P y → ((c : Costed) → P c → ((z : Costed) → P z → NoLater (Cheaper labels) c z) → ⊥) → ⊥
+    pub first_there : (y : Costed) → P y → ((c : Costed) → P c → ((z : Costed) → P z → NoLater (Cheaper labels) c z) → ⊥) → ⊥
     first_there y p k =
         least_number (λ c. (t : Tree ℕ) × P (t, c)) (λ c at low.
         let s : Tree ℕ = at.0 in

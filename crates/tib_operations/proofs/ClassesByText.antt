@@ -1,6 +1,6 @@
 -- The class that an operation demands: what is demanded is one over all tables of labels, and it is met or broken, not both.
-use Rattle.std.proofs.Common.{◌≡◌, ℕ, ◌+◌, ◌<◌, ◌⊎◌, Bool, true, false, List, length, refl, ap, sym, ◌∙◌, subst, arith, zero, suc, inl, inr, Option}
-use Rattle.std.specs.Prelude.{Some, None, IsTrue}
+use Rattle.std.proofs.Common.{◌≡◌, ℕ, ◌+◌, ◌<◌, ◌⊎◌, Bool, true, false, List, length, refl, ap, sym, ◌∙◌, subst, arith, zero, suc, inl, inr}
+use Rattle.std.specs.Prelude.{IsTrue}
 use Rattle.tib_lex.specs.Lists.{Along}
 use Rattle.tib_lex.proofs.Booleans.{either_way}
 use Rattle.tib_transducer.specs.Rules.{transducer_rule}
@@ -10,7 +10,7 @@ use Rattle.tib_transducer_file.specs.ByText.{AreOneTransducerRule}
 use Rattle.tib_classes.specs.Outside.{Demands, Meets, AllMeet, IsFaultOf, IsFirstOutside}
 use Rattle.tib_classes.specs.declared.error.ClassFault.{ClassFault}
 use Rattle.tib_classes.specs.declared.error.ClassFault.TheVariants as classes
-use Rattle.tib_operations.specs.Classes.{Demanded, IsMet, IsBroken}
+use Rattle.tib_operations.specs.Classes.{Demanded, nothing_demanded, demanded_of}
 use Rattle.tib_operations.proofs.OfCheck.{linear_to, linear_from, nondeleting_to, nondeleting_from, extended_to, extended_from, labelled_to, labelled_from, rules_long, rule_at}
 
 -- one rule
@@ -136,39 +136,38 @@ broken_to labels others d rs ss one x h = record {
       meets_to labels others d (transducer_rule rs m) (transducer_rule ss m) (rule_at labels others rs ss one m (omega (arith, l, h.below))) (h.before m l);
 }
 
--- what is demanded over two tables of labels: classes of one file, of transducers that agree by text
-abbrev pub IsOneDemand : List (List ℕ) → List (List ℕ) → Option Demanded → Option Demanded → Type 0
-IsOneDemand labels others None None = Unit {0}
-IsOneDemand labels others None (Some e) = ⊥
-IsOneDemand labels others (Some d) None = ⊥
-IsOneDemand labels others (Some d) (Some e) = (d.file ≡ e.file) × (d.classes ≡ e.classes) × Along (AreOneTransducerRule labels others) d.rules e.rules
+-- what is demanded over two tables of labels: the one is met where the other is, and they are broken alike
+pub record IsOneDemand (a b : Demanded) : Type 0 where
+  pub met : a.met → b.met
+  pub once : (file other : ℕ) (x y : ℕ × ClassFault) → a.broken file x → b.broken other y → (file ≡ other) × (x.0 ≡ y.0) × (x.1 ≡ y.1)
 
-pub met_by_text : (labels others : List (List ℕ)) (a b : Option Demanded) → IsOneDemand labels others a b → IsMet a → IsMet b
-met_by_text labels others None None o m = tt
-met_by_text labels others None (Some e) o m = absurd o
-met_by_text labels others (Some d) None o m = absurd o
-met_by_text labels others (Some d) (Some e) o m = λ n low.
-    let below : n < length d.rules = omega (arith, low, rules_long labels others d.rules e.rules o.2) in
-    subst (λ (c : Demands). Meets c (transducer_rule e.rules n)) o.1
-    (meets_to labels others d.classes (transducer_rule d.rules n) (transducer_rule e.rules n) (rule_at labels others d.rules e.rules o.2 n below) (m n below))
+pub nothing_once : IsOneDemand nothing_demanded nothing_demanded
+nothing_once = record { met = λ m. m; once = λ file other x y h k. absurd h }
 
--- the first rule outside is one
-pub broken_once :
-    (labels others : List (List ℕ)) (a b : Option Demanded) → IsOneDemand labels others a b → (file other : ℕ) (x y : ℕ × ClassFault) → IsBroken a file x → IsBroken b other y →
-    (file ≡ other) × (x.0 ≡ y.0) × (x.1 ≡ y.1)
-broken_once labels others None b o file other x y h k = absurd h
-broken_once labels others (Some d) None o file other x y h k = absurd o
-broken_once labels others (Some d) (Some e) o file other x y h k =
-    let moved : IsFirstOutside d.classes e.rules x = broken_to labels others d.classes d.rules e.rules o.2 x h.1 in
-    let same = same_place e.classes e.rules x y (subst (λ (c : Demands). IsFirstOutside c e.rules x) o.1 moved) k.1 in
-    (sym h.0 ∙ o.0 ∙ k.0, same.0, same.1)
+-- classes are demanded of transducers that agree by text
+pub one_class :
+    (labels others : List (List ℕ)) (file : ℕ) (d : Demands) (rs ss : List (TransducerRule ℕ)) → Along (AreOneTransducerRule labels others) rs ss →
+    IsOneDemand (demanded_of file d rs) (demanded_of file d ss)
+one_class labels others file d rs ss one = record {
+  met = λ m n low.
+      let below : n < length rs = omega (arith, low, rules_long labels others rs ss one) in
+      meets_to labels others d (transducer_rule rs n) (transducer_rule ss n) (rule_at labels others rs ss one n below) (m n below);
+  once = λ f g x y h k.
+      let same = same_place d ss x y (broken_to labels others d rs ss one x h.1) k.1 in
+      (sym h.0 ∙ k.0, same.0, same.1);
+}
 
--- a class is not both met and broken
-pub not_both : (a : Option Demanded) (file : ℕ) (x : ℕ × ClassFault) → IsMet a → IsBroken a file x → ⊥
-not_both None file x m h = h
-not_both (Some d) file x m h = fault_not_met d.classes (transducer_rule d.rules h.1.position) x.1 h.1.outside (m h.1.position h.1.below)
+-- what is demanded is not both met and broken, and that it is neither cannot be
+pub record IsDecided (d : Demanded) : Type 0 where
+  pub apart : (file : ℕ) (x : ℕ × ClassFault) → d.met → d.broken file x → ⊥
+  pub either : (d.met → ⊥) → ((file : ℕ) (x : ℕ × ClassFault) → d.broken file x → ⊥) → ⊥
 
--- and that it is neither cannot be
-pub met_or_broken : (a : Option Demanded) → (IsMet a → ⊥) → ((file : ℕ) (x : ℕ × ClassFault) → IsBroken a file x → ⊥) → ⊥
-met_or_broken None met broken = met tt
-met_or_broken (Some d) met broken = first_from d.classes d.rules (length d.rules) 0 (omega arith) (λ m h. absurd (omega (arith, h))) met (λ x h. broken d.file x (refl, h))
+pub nothing_decided : IsDecided nothing_demanded
+nothing_decided = record { apart = λ file x m h. h; either = λ met broken. met tt }
+
+pub class_decided : (file : ℕ) (d : Demands) (rules : List (TransducerRule ℕ)) → IsDecided (demanded_of file d rules)
+class_decided file d rules = record {
+  apart = λ n x m h. fault_not_met d (transducer_rule rules h.1.position) x.1 h.1.outside (m h.1.position h.1.below);
+  either = λ met broken.
+      first_from d rules (length rules) 0 (omega arith) (λ m h. absurd (omega (arith, h))) met (λ x h. broken file x (refl, h));
+}

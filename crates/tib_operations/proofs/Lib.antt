@@ -34,6 +34,7 @@ pub mod OfCompose
 pub mod BestExists
 pub mod BestByText
 pub mod BestOf
+pub mod NarrowBest
 pub mod OfKBest
 pub mod DemoText
 pub mod OfDemo

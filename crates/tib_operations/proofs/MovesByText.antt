@@ -112,7 +112,7 @@ module _ (f : ℕ → ℕ) (apart : (i j : ℕ) → f i ≡ f j → i ≡ j) whe
   place_with g (h ∷ hs) =
       ap (λ (b : Bool). if b then 0 else suc (place_of (f g) (map f hs))) (same_test h g) ∙ ap (λ (k : ℕ). if nat_eq h g then 0 else suc k) (place_with g hs)
 
-  restriction_with : (hs : List ℕ) (o : Option ℕ) → restriction (map f hs) (option_map f o) ≡ restriction hs o
+  pub restriction_with : (hs : List ℕ) (o : Option ℕ) → restriction (map f hs) (option_map f o) ≡ restriction hs o
   restriction_with hs None = refl
   restriction_with hs (Some g) = ap suc (place_with g hs)
 
@@ -157,7 +157,7 @@ module _ (f : ℕ → ℕ) (apart : (i j : ℕ) → f i ≡ f j → i ≡ j) whe
         ∙ ap (λ (x : Trees (Symbol ℕ K)). tree (key_with f (symbol_map old s)) x (relabel (symbol_map new) (relabel (node_with f r) rest))) (trees_keyed kids)
         ∙ ap (λ (x : Trees (Symbol ℕ K)). tree (key_with f (symbol_map old s)) (relabel (key_with f) (relabel (symbol_map old) kids)) x) (trees_keyed rest)
 
-    side_keyed : (s : SideFor ℕ P) → side_map new (relabel_tree (node_with f r) s) ≡ relabel_tree (key_with f) (side_map old s)
+    pub side_keyed : (s : SideFor ℕ P) → side_map new (relabel_tree (node_with f r) s) ≡ relabel_tree (key_with f) (side_map old s)
     side_keyed s = tree_same (side_map new (relabel_tree (node_with f r) s)) (relabel_tree (key_with f) (side_map old s)) (trees_keyed (only s))
 
   -- the right side of an edge of forward application

@@ -60,7 +60,7 @@ module _ (P : TransducerRule ℕ → Type 0) (rules : List (TransducerRule ℕ))
 -- rules that agree by the texts of their labels are of the same classes
 
 module _ (labels others : List (List ℕ)) where
-  variables_along :
+  pub variables_along :
       (ts us : Trees (Symbol ℕ Variable)) → HaveOneShape (AgreeOnLeft labels others) ts us → Along (AreOneVariable labels others) (holes ts) (holes us)
   variables_along none none h = tt
   variables_along none (tree g below more) h = absurd h
@@ -102,13 +102,13 @@ module _ (labels others : List (List ℕ)) where
   used_same (tree (hole x) kids rest) (tree (hole y) below more) h = ap (λ (n : ℕ). n ∷ used rest) h.0.1 ∙ ap (λ (ns : List ℕ). y.variable ∷ ns) (used_same rest more h.2)
 
   -- each variable stands among some numbers
-  all_used : (ns : List ℕ) (xs ys : List Variable) → Along (AreOneVariable labels others) xs ys → Each (λ x. Has ns x.number) xs → Each (λ y. Has ns y.number) ys
+  pub all_used : (ns : List ℕ) (xs ys : List Variable) → Along (AreOneVariable labels others) xs ys → Each (λ x. Has ns x.number) xs → Each (λ y. Has ns y.number) ys
   all_used ns [] [] a e = tt
   all_used ns [] (y ∷ ys) a e = absurd a
   all_used ns (x ∷ xs) [] a e = absurd a
   all_used ns (x ∷ xs) (y ∷ ys) a e = (subst (Has ns) a.0.0 e.0, all_used ns xs ys a.1 e.1)
 
-  all_used_back : (ns : List ℕ) (xs ys : List Variable) → Along (AreOneVariable labels others) xs ys → Each (λ y. Has ns y.number) ys → Each (λ x. Has ns x.number) xs
+  pub all_used_back : (ns : List ℕ) (xs ys : List Variable) → Along (AreOneVariable labels others) xs ys → Each (λ y. Has ns y.number) ys → Each (λ x. Has ns x.number) xs
   all_used_back ns [] [] a e = tt
   all_used_back ns [] (y ∷ ys) a e = absurd a
   all_used_back ns (x ∷ xs) [] a e = absurd a

@@ -15,7 +15,7 @@ use Rattle.tib_canon.specs.TrimmedForms.{IsTrimmedForm}
 use Rattle.tib_operations.specs.Demo.{demo_text, summary_text, HasSummary, OfDemo, HasDemoText, DemoIsSmall, demo_makes, IsSummaryFault, IsDemoFault}
 use Rattle.tib_operations.specs.Determinize.{determinizing, determinize_makes}
 use Rattle.tib_operations.specs.KBest.{HasLargeTree, IsKBestFault, ListsSmall}
-use Rattle.tib_operations.specs.Made.{HasReachedFrom, normal_form, reached_set}
+use Rattle.tib_operations.specs.Made.{HasReachedFrom, IsMadeFault, normal_form, reached_set}
 use Rattle.tib_operations.specs.declared.status.Status.{Status}
 use Rattle.tib_operations.specs.declared.status.Status.TheVariants as statuses
 use Rattle.tib_operations.proofs.DemoText.{demo_reads}
@@ -38,27 +38,41 @@ lines_are text line bytes states rules names h counted written many named ruled 
     written ∙ (λ i. summary_text (s i) (r i) (same i))
 
 -- what holds of the grammar that was read of the text for n
-pub of_text :
-    (scale : Scale) (n : ℕ) (bytes : List ℕ) (P : List (List ℕ) → GrammarOf → Type 0) (labels : List (List ℕ)) (g : GrammarOf) → bytes ≡ demo_text n → Distinct labels → ReadsAs scale labels bytes g →
-    P labels g → OfDemo scale n P
-of_text scale n bytes P labels g is distinct read holds = record { labels = labels; distinct = distinct; g = g; read = subst (λ (text : List ℕ). ReadsAs scale labels text g) is read; holds = holds }
+pub of_read :
+    (scale : Scale) (n : ℕ) (P : List (List ℕ) → GrammarOf → Type 0) (labels : List (List ℕ)) (g : GrammarOf) → Distinct labels → ReadsAs scale labels (demo_text n) g → P labels g → OfDemo scale n P
+of_read scale n P labels g distinct read holds = record { labels = labels; distinct = distinct; g = g; read = read; holds = holds }
 
-pub fault_of_text :
-    (levelled : Bool) (scale : Scale) (product : ℕ → ℕ → ℕ) (limit n : ℕ) (bytes : List ℕ) (labels : List (List ℕ)) (g : GrammarOf) → bytes ≡ demo_text n → Distinct labels → ReadsAs scale labels bytes g →
-    (s : Status) → IsSummaryFault levelled product limit labels g s → IsDemoFault levelled scale product limit n s
-fault_of_text levelled scale product limit n bytes labels g is distinct read statuses.Done h = absurd h
-fault_of_text levelled scale product limit n bytes labels g is distinct read statuses.Usage h = absurd h
-fault_of_text levelled scale product limit n bytes labels g is distinct read (statuses.BadInput m fault) h = absurd h
-fault_of_text levelled scale product limit n bytes labels g is distinct read (statuses.Class m rule fault) h = absurd h
-fault_of_text levelled scale product limit n bytes labels g is distinct read (statuses.TooMany m) h = (h.0, of_text scale n bytes (λ ls k. (determinize_makes product limit k).more) labels g is distinct read h.1)
-fault_of_text levelled scale product limit n bytes labels g is distinct read statuses.TreeTooLarge h = (
-  of_text scale n bytes (λ ls k. (determinize_makes product limit k).within) labels g is distinct read h.0,
-  of_text scale n bytes (λ ls k. HasLargeTree levelled product 1 ls k) labels g is distinct read h.1,
+pub fault_of_read :
+    (levelled : Bool) (scale : Scale) (product : ℕ → ℕ → ℕ) (limit n : ℕ) (labels : List (List ℕ)) (g : GrammarOf) → Distinct labels → ReadsAs scale labels (demo_text n) g → (s : Status) →
+    IsSummaryFault levelled product limit labels g s → IsDemoFault levelled scale product limit n s
+fault_of_read levelled scale product limit n labels g distinct read statuses.Done h = absurd h
+fault_of_read levelled scale product limit n labels g distinct read statuses.Usage h = absurd h
+fault_of_read levelled scale product limit n labels g distinct read (statuses.BadInput m fault) h = absurd h
+fault_of_read levelled scale product limit n labels g distinct read (statuses.Class m rule fault) h = absurd h
+fault_of_read levelled scale product limit n labels g distinct read (statuses.TooMany m) h = (h.0, of_read scale n (λ ls k. (determinize_makes product limit k).more) labels g distinct read h.1)
+fault_of_read levelled scale product limit n labels g distinct read statuses.TreeTooLarge h = (
+  of_read scale n (λ ls k. (determinize_makes product limit k).within) labels g distinct read h.0,
+  of_read scale n (λ ls k. HasLargeTree levelled product 1 ls k) labels g distinct read h.1,
 )
-fault_of_text levelled scale product limit n bytes labels g is distinct read (statuses.ReadFault m) h = absurd h
-fault_of_text levelled scale product limit n bytes labels g is distinct read statuses.WriteFault h = absurd h
-fault_of_text levelled scale product limit n bytes labels g is distinct read (statuses.TooLong m) h = absurd h
-fault_of_text levelled scale product limit n bytes labels g is distinct read statuses.OutOfMemory h = tt
+fault_of_read levelled scale product limit n labels g distinct read (statuses.ReadFault m) h = absurd h
+fault_of_read levelled scale product limit n labels g distinct read statuses.WriteFault h = absurd h
+fault_of_read levelled scale product limit n labels g distinct read (statuses.TooLong m) h = absurd h
+fault_of_read levelled scale product limit n labels g distinct read statuses.OutOfMemory h = tt
+
+-- a fault of the determinization
+pub fault_of_made :
+    (levelled : Bool) (product : ℕ → ℕ → ℕ) (limit : ℕ) (labels : List (List ℕ)) (g : GrammarOf) (s : Status) → IsMadeFault (determinize_makes product limit g).more limit s →
+    IsSummaryFault levelled product limit labels g s
+fault_of_made levelled product limit labels g statuses.Done h = absurd h
+fault_of_made levelled product limit labels g statuses.Usage h = absurd h
+fault_of_made levelled product limit labels g (statuses.BadInput m fault) h = absurd h
+fault_of_made levelled product limit labels g (statuses.Class m rule fault) h = absurd h
+fault_of_made levelled product limit labels g (statuses.TooMany m) h = h
+fault_of_made levelled product limit labels g statuses.TreeTooLarge h = absurd h
+fault_of_made levelled product limit labels g (statuses.ReadFault m) h = absurd h
+fault_of_made levelled product limit labels g statuses.WriteFault h = absurd h
+fault_of_made levelled product limit labels g (statuses.TooLong m) h = absurd h
+fault_of_made levelled product limit labels g statuses.OutOfMemory h = tt
 
 -- a fault of the list of one tree, where the vectors are within the limit
 pub fault_of_best :

@@ -14,6 +14,7 @@ use Rattle.tib_lex.proofs.Booleans.{and-true, and-both}
 use Rattle.tib_lex.proofs.Lists.{each_append, each_parts}
 use Rattle.tib_lex.proofs.NoFeeds.{unescaped}
 use Rattle.tib_tree.specs.Grows.{Grows}
+use Rattle.tib_tree.specs.Machine.{IsTree}
 use Rattle.tib_tree.specs.Trees.{Tree, Trees, none, tree, only, preorder, preorder_of}
 use Rattle.tib_tree.specs.Written.{Written, Item, end, leaf, head, spell, items}
 use Rattle.tib_tree.specs.Nodes.{rank_of}
@@ -29,7 +30,7 @@ use Rattle.tib_transducer.specs.Rules.{transducer_rule}
 use Rattle.tib_transducer.specs.declared.Variable.{Variable}
 use Rattle.tib_transducer.specs.declared.Pair.{Pair}
 use Rattle.tib_transducer.specs.declared.TransducerRule.{TransducerRule}
-use Rattle.tib_transducer_file.specs.Forms.{variable_in, pair_in, stop_at, behind_stop, is_quoted, takes_next, joins}
+use Rattle.tib_transducer_file.specs.Forms.{variable_in, pair_in, stop_at, behind_stop, is_quoted, takes_next, joins, left_words}
 use Rattle.tib_transducer_file.specs.Pieces.{Piece, meaning, meanings, HasPieces}
 use Rattle.tib_transducer_file.specs.Rule.{Parts, SpellsRule, RuleLine, label_of, numbers_in}
 use Rattle.tib_transducer_file.specs.TransducerText.{HaveRules, HaveStart, ReadsAs}
@@ -74,7 +75,7 @@ free_push : (b : ℕ) (lines : List (List ℕ)) → not_feed b ≡ true → Each
 free_push b [] e h = (and-both (not_feed b) true e refl, tt)
 free_push b (line ∷ lines) e h = (and-both (not_feed b) (list_all not_feed line) e h.0, h.1)
 
-free_lines : (bytes : List ℕ) → Each HasNoFeed (lines_of bytes)
+pub free_lines : (bytes : List ℕ) → Each HasNoFeed (lines_of bytes)
 free_lines [] = tt
 free_lines (b ∷ rest) = by (b == 10) refl (free_lines rest)
   where
@@ -95,11 +96,11 @@ word_free arrow h = refl
 word_free (name text) h = h
 word_free (word_label text) h = free_unquoted text (free_parts (escape text) (34 ∷ []) (free_parts (34 ∷ []) (escape text ++ 34 ∷ []) h).1).0
 
-record IsFreePiece (p : Piece) : Type 0 where
+pub record IsFreePiece (p : Piece) : Type 0 where
   bytes : HasNoFeed p.bytes
   word : IsFree (meaning p)
 
-pieces_free : (pieces : List Piece) (line : List ℕ) → HasNoFeed line → HasPieces pieces line → Each IsFreePiece pieces
+pub pieces_free : (pieces : List Piece) (line : List ℕ) → HasNoFeed line → HasPieces pieces line → Each IsFreePiece pieces
 pieces_free [] line f h = tt
 pieces_free (p ∷ pieces) line f h =
     let own : HasNoFeed h.2.rest = (free_parts h.2.blanks h.2.rest (subst HasNoFeed h.2.parts f)).1 in
@@ -124,7 +125,7 @@ meanings_free (p ∷ pieces) h = (h.0.word, meanings_free pieces h.1)
 
 -- the items of a tree
 
-abbrev IsFreeItem : Item → Type 0
+abbrev pub IsFreeItem : Item → Type 0
 IsFreeItem i = HasNoFeed i.text
 
 items_free : (w : Written) → Each IsFree (spell w) → Each IsFreeItem (items w)
@@ -134,21 +135,20 @@ items_free (head quoted text kids rest) h =
     let parts = each_parts IsFree (spell kids) (close ∷ spell rest) h.1.1 in
     (text_free quoted text h.0, each_append IsFreeItem (items kids) (items rest) (items_free kids parts.0) (items_free rest parts.1.1))
 
+-- the items of a left side
+pub left_free : (front : List Piece) (p : Parts) → IsTree (left_words front) (p.root ∷ p.below) → Each IsFreePiece front → Each IsFreeItem (p.root ∷ p.below)
+left_free front p left f = subst (Each IsFreeItem) left.nodes (items_free left.tree (subst (Each IsFree) (sym left.spelled) (joins_free true front f)))
+
 record AreFreeParts (p : Parts) : Type 0 where
-  root : HasNoFeed p.root.text
-  below : Each IsFreeItem p.below
+  left : Each IsFreeItem (p.root ∷ p.below)
   right : Each IsFreeItem p.right
 
 parts_free : (pieces : List Piece) (p : Parts) → Each IsFreePiece pieces → SpellsRule pieces p → AreFreeParts p
 parts_free pieces p f s =
     let split = each_parts IsFreePiece s.front (s.arrow ∷ s.back) (subst (Each IsFreePiece) s.are f) in
-    let left : Each IsFreeItem (p.root ∷ p.below) =
-    subst (Each IsFreeItem) s.left.nodes (items_free s.left.tree (subst (Each IsFree) (sym s.left.spelled) (joins_free true s.front split.0)))
-    in
     let words = each_parts IsFree s.right_words (weight_words p.weight) (subst (Each IsFree) (sym s.behind) (meanings_free s.back split.1.1)) in
     record {
-      root = left.0;
-      below = left.1;
+      left = left_free s.front p s.left split.0;
       right = subst (Each IsFreeItem) s.right.nodes (items_free s.right.tree (subst (Each IsFree) (sym s.right.spelled) words.0));
     }
 
@@ -188,9 +188,13 @@ module _ (names labels : List (List ℕ)) where
   root_node (label f, rank) text kids h e = label_plain f text h.0 e
   root_node (hole x, rank) text kids h e = absurd h
 
-  left_side : (ss : List (Symbol ℕ Variable × ℕ)) (p : Parts) → IsLeftSide labels ss p → AreFreeParts p → Each IsPlainNode ss
+  left_side : (ss : List (Symbol ℕ Variable × ℕ)) (p : Parts) → IsLeftSide labels ss p → Each IsFreeItem (p.root ∷ p.below) → Each IsPlainNode ss
   left_side [] p h f = absurd h
-  left_side (s ∷ ss) p h f = (root_node s (label_of p) p.root.kids h.0 (free_label p f.root), left_nodes ss p.below h.1 f.below)
+  left_side (s ∷ ss) p h f = (root_node s (label_of p) p.root.kids h.0 (free_label p f.0), left_nodes ss p.below h.1 f.1)
+
+  -- a left side can be written
+  pub left_plain : (s : SideFor ℕ Variable) (p : Parts) → IsLeftSide labels (preorder_of s) p → Each IsFreeItem (p.root ∷ p.below) → AreLabelsPlain labels (only s)
+  left_plain s p h f = side_plain s (left_side (preorder_of s) p h f)
 
   right_node : (numbers : List ℕ) (s : Symbol ℕ (Pair ℕ)) (rank : ℕ) (o : Option (List ℕ × ℕ)) (text : List ℕ) → IsRightSymbol names labels numbers s o text → HasNoFeed text → IsPlainNode (s, rank)
   right_node numbers (label f) rank None text h e = label_plain f text h e
@@ -230,7 +234,7 @@ plain_rules :
 plain_rules scale names labels [] lines a e m h = absurd (omega arith)
 plain_rules scale names labels (r ∷ rules) [] a e m h = absurd a
 plain_rules scale names labels (r ∷ rules) (l ∷ lines) a e zero h = record {
-  left = side_plain names labels r.left (left_side names labels (preorder_of r.left) l.parts a.0.left e.0.parts);
+  left = left_plain names labels r.left l.parts a.0.left e.0.parts.left;
   right = side_plain names labels r.right (right_nodes names labels (numbers_in l.parts.below) (preorder_of r.right) l.parts.right a.0.right e.0.parts.right);
   cost = subst (IsPlainCost scale) (sym a.0.cost) e.0.cost;
 }
@@ -242,7 +246,7 @@ moves_plain scale labels bytes t r =
 
 -- what can be written stays so when the table grows
 
-labels_grown : {P : Type 0} (early labels : List (List ℕ)) (ts : Trees (Symbol ℕ P)) → Grows early labels → AreLabelsPlain early ts → AreLabelsPlain labels ts
+pub labels_grown : {P : Type 0} (early labels : List (List ℕ)) (ts : Trees (Symbol ℕ P)) → Grows early labels → AreLabelsPlain early ts → AreLabelsPlain labels ts
 labels_grown early labels none g h = tt
 labels_grown early labels (tree (label f) kids rest) g h =
     let own = label_plain [] labels f (get_or early f []) (g.kept f (get_or early f []) (slice_get-get_or early f [] h.0)) h.1 in

@@ -28,16 +28,16 @@ use Rattle.tib_operations.proofs.PairsByText.{differ, trimmed_given}
 use Rattle.tib_operations.proofs.Tables.{sizes_kept}
 
 -- a rule with the number of its label exchanged for another
-record IsMoved (f : ℕ → ℕ) (r s : Rule ℕ) : Type 0 where
-  left : s.left ≡ r.left
-  root : s.right.label ≡ symbol_with f r.right.label
-  kids : holes s.right.kids ≡ holes r.right.kids
-  cost : s.cost ≡ r.cost
+pub record IsMoved (f : ℕ → ℕ) (r s : Rule ℕ) : Type 0 where
+  pub left : s.left ≡ r.left
+  pub root : s.right.label ≡ symbol_with f r.right.label
+  pub kids : holes s.right.kids ≡ holes r.right.kids
+  pub cost : s.cost ≡ r.cost
 
 -- each rule of the one list is one of the other under other numbers, and each of the other comes from one
-record AreMoved (f : ℕ → ℕ) (xs ys : List (Rule ℕ)) : Type 0 where
-  to : (r : Rule ℕ) → Has xs r → (s : Rule ℕ) × Has ys s × IsMoved f r s
-  from : (s : Rule ℕ) → Has ys s → (r : Rule ℕ) × Has xs r × IsMoved f r s
+pub record AreMoved (f : ℕ → ℕ) (xs ys : List (Rule ℕ)) : Type 0 where
+  pub to : (r : Rule ℕ) → Has xs r → (s : Rule ℕ) × Has ys s × IsMoved f r s
+  pub from : (s : Rule ℕ) → Has ys s → (r : Rule ℕ) × Has xs r × IsMoved f r s
 
 same_origin : (o r : ℕ × List ℕ) → o.0 ≡ r.0 → o.1 ≡ r.1 → o ≡ r
 same_origin o r a b = λ i. (a i, b i)
@@ -169,7 +169,7 @@ module _ (product : ℕ → ℕ → ℕ) (f : ℕ → ℕ) (apart : (i j : ℕ) 
   }
 
   -- the reached set has the same order
-  reached_moved : (order : List VectorOf) (es : List (Rule VectorOf)) → IsReachedSet (determinization product xs) order es → IsReachedSet (determinization product ys) order (map (edge_with f) es)
+  pub reached_moved : (order : List VectorOf) (es : List (Rule VectorOf)) → IsReachedSet (determinization product xs) order es → IsReachedSet (determinization product ys) order (map (edge_with f) es)
   reached_moved = reached_renamed on (edge_with f) (determinization product xs) (determinization product ys) vectors_alike
 
 -- rules in another order
@@ -181,11 +181,11 @@ is_itself r = record { left = refl; root = sym (unmoved r.right.label); kids = r
     unmoved (label g) = refl
     unmoved (hole q) = refl
 
-reordered : (xs ys : List (Rule ℕ)) → IsReordering xs ys → AreMoved (λ (n : ℕ). n) xs ys
+pub reordered : (xs ys : List (Rule ℕ)) → IsReordering xs ys → AreMoved (λ (n : ℕ). n) xs ys
 reordered xs ys same = record { to = λ r h. (r, same.to r h, is_itself r); from = λ r h. (r, same.from r h, is_itself r) }
 
 -- rules under other numbers of labels, in any order
-renumbered : (f : ℕ → ℕ) (xs ys : List (Rule ℕ)) → IsReordering (rules_with f xs) ys → AreMoved f xs ys
+pub renumbered : (f : ℕ → ℕ) (xs ys : List (Rule ℕ)) → IsReordering (rules_with f xs) ys → AreMoved f xs ys
 renumbered f xs ys same = record {
   to = λ r h. (rule_with f r, same.to (rule_with f r) (mapped_has (rule_with f) xs r h), record { left = refl; root = refl; kids = holes_with f r.right.kids; cost = refl });
   from = λ s h.
@@ -201,7 +201,7 @@ renumbered f xs ys same = record {
       );
 }
 
-edges_as_large : (f : ℕ → ℕ) (edges : List (Rule VectorOf)) → edges_total edge_parts (map (edge_with f) edges) ≡ edges_total edge_parts edges
+pub edges_as_large : (f : ℕ → ℕ) (edges : List (Rule VectorOf)) → edges_total edge_parts (map (edge_with f) edges) ≡ edges_total edge_parts edges
 edges_as_large f [] = refl
 edges_as_large f (e ∷ edges) = omega (arith, sizes_kept (key_with {K = VectorOf} f) e.right.kids, edges_as_large f edges)
 

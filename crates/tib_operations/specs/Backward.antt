@@ -19,7 +19,7 @@ use Rattle.tib_operations.specs.Made.{Made, and_then, normal_form, reached_set}
 abbrev pub linear_nondeleting : Demands
 linear_nondeleting = demands true true false false
 
-abbrev pub backward_demands : TransducerOf → Option Demanded
+abbrev pub backward_demands : TransducerOf → Demanded
 backward_demands t = demanded_of 1 linear_nondeleting t.rules
 
 -- the keys of the states of a transducer and of a grammar, from the key of the starts

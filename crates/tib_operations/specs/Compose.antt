@@ -1,5 +1,5 @@
 -- `compose`: the transducer that does what the first and then the second does.
-use Rattle.std.specs.Prelude.{ℕ, Option, true}
+use Rattle.std.specs.Prelude.{ℕ, true}
 use Rattle.tib_hunt.specs.Reached.{IsBeyond}
 use Rattle.tib_transducer.specs.TransducerOf.{TransducerOf}
 use Rattle.tib_classes.specs.Outside.{Demands, demands}
@@ -13,7 +13,7 @@ use Rattle.tib_operations.specs.Made.{Made}
 abbrev pub plain : Demands
 plain = demands true true true true
 
-abbrev pub compose_demands : TransducerOf → Option Demanded
+abbrev pub compose_demands : TransducerOf → Demanded
 compose_demands u = demanded_of 2 plain u.rules
 
 -- the reached set of the pairs of states; no normal form is made

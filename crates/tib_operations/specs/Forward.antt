@@ -19,7 +19,7 @@ use Rattle.tib_operations.specs.Made.{Made, and_then, normal_form, reached_set}
 abbrev pub linear : Demands
 linear = demands true false false false
 
-abbrev pub forward_demands : TransducerOf → Option Demanded
+abbrev pub forward_demands : TransducerOf → Demanded
 forward_demands t = demanded_of 2 linear t.rules
 
 -- the keys of the states of a grammar and of a transducer, from the key of the starts

@@ -1,15 +1,20 @@
 // `demo`: a grammar that is made for a number, how large its determinization is, and its cheapest tree.
-ghost use Rattle.std.specs.Prelude.{◌≡◌, ◌≤◌, ◌<◌, ◌^◌, ◌++◌, codes, decimal, IfErr, IfOk, OnOk};
+ghost use Rattle.std.specs.Prelude.{[], ◌≡◌, ◌≤◌, ◌<◌, ◌^◌, ◌++◌, codes, decimal, IfErr, IfOk, OnOk};
 ghost use Rattle.tib_grammar_file.specs.Printable.{ArePrintable};
+ghost use Rattle.tib_grammar_file.specs.Read.{ReadsAs};
+ghost use Rattle.tib_lex.specs.Lists.{Distinct};
 ghost use Rattle.tib_operations.specs.Demo.{demo_text, demo_makes, step_line, summary_text, HasDemoText, HasSummary, IsDemoFault, IsSummaryFault};
-ghost use Rattle.tib_operations.specs.Determinize.{determinize_makes};
-ghost use Rattle.tib_operations.specs.Made.{IsLimit};
+ghost use Rattle.tib_operations.specs.Determinize.{IsDeterminizedText, determinize_makes};
+ghost use Rattle.tib_operations.specs.Made.{IsLimit, IsMadeFault};
 
-use crate::determinize::determinization_of;
+use crate::determinize::{determinization_of, determinization_of_together};
 use crate::kbest::kbest_text;
 use crate::pieces::{write_about, write_piece};
 use crate::status::Status;
-use std::alloc::Global;
+use std::alloc::{AllocError, Global};
+use std::sync::Wait;
+use std::thread::Threads;
+use tib_canon::Printed;
 use tib_cost::Semiring;
 use tib_grammar::Grammar;
 use tib_grammar_file::{faults_have_no_text, read_grammar, read_grammars_are_printable};
@@ -79,6 +84,39 @@ fn summary_text(alloc: Global, states: u32, rules: u32, line: &[u8]) -> Result<G
     Ok(text)
 }
 
+// The three lines of a grammar and of what its determinization answered, or the status with which the run ends.
+fn summary_of_determinized<S: Semiring + Drop>(
+    alloc: Global,
+    grammar: &Grammar<S>,
+    labels: &Labels,
+    limit: u64,
+    determinized: Result<Printed<S>, Status>,
+) -> Result<GrowingSink, Status>
+    requires printable { ArePrintable S.SCALE labels.now grammar.now.rules }
+    requires limit { IsLimit limit }
+    requires grammar { IfOk determinized (λ h. IsDeterminizedText S.SCALE S.product limit labels.now grammar.now h.text.bytes h.grammar) }
+    requires within { IfOk determinized (λ _. (determinize_makes S.product limit grammar.now).within) }
+    requires err { IfErr determinized (IsMadeFault (determinize_makes S.product limit grammar.now).more limit) }
+    ensures text { IfOk result (λ text. HasSummary S.SCALE S.product limit labels.now grammar.now text.bytes) }
+    ensures within { IfOk result (λ _. (determinize_makes S.product limit grammar.now).within) }
+    ensures err { IfErr result (IsSummaryFault S.LEVELLED S.product limit labels.now grammar.now) }
+{
+    let canonical = match determinized {
+        Ok(canonical) => canonical,
+        Err(status) => return Err(status),
+    };
+    let best = match kbest_text::<S>(alloc, grammar, labels, limit, 1) {
+        Ok(best) => best,
+        Err(status) => return Err(status),
+    };
+    let states = canonical.grammar.names().len();
+    let rules = canonical.grammar.rules();
+    match summary_text(alloc, states, rules, best.bytes()) {
+        Ok(text) => Ok(text),
+        Err(Failed) => Err(Status::OutOfMemory),
+    }
+}
+
 /// How many states and rules the determinization of a grammar has, and the line of its cheapest tree; or the status with which the run
 /// ends: too many parts, a state that has a cheapest tree of more than 10,000 nodes, or want of memory. The time is that of the
 /// determinization and of the list of one tree.
@@ -95,20 +133,59 @@ pub fn summary_of<S: Semiring + Drop, G: Gate>(
     ensures within { IfOk result (λ _. (determinize_makes S.product limit grammar.now).within) }
     ensures err { IfErr result (IsSummaryFault S.LEVELLED S.product limit labels.now grammar.now) }
 {
-    let canonical = match determinization_of::<S, G>(alloc, grammar, labels, limit, gate) {
-        Ok(canonical) => canonical,
-        Err(status) => return Err(status),
+    let determinized = determinization_of::<S, G>(alloc, grammar, labels, limit, gate);
+    summary_of_determinized::<S>(alloc, grammar, labels, limit, determinized)
+}
+
+/// What `summary_of` answers, with the vectors hunted by this number of workers, 1 to 16, whatever the order of their steps. It may
+/// wait for ever, as the hunt by several workers.
+pub fn summary_of_together<S: Semiring + Sync + Drop, R: Threads + Wait + Sync, G: Gate + Sync>(
+    rt: &R,
+    alloc: Global,
+    grammar: &Grammar<S>,
+    labels: &Labels,
+    workers: u32,
+    limit: u64,
+    gate: &G,
+) -> Result<GrowingSink, Status>
+    requires printable { ArePrintable S.SCALE labels.now grammar.now.rules }
+    requires workers { (1 ≤ workers) × (workers ≤ 16) }
+    requires limit { IsLimit limit }
+    ensures text { IfOk result (λ text. HasSummary S.SCALE S.product limit labels.now grammar.now text.bytes) }
+    ensures within { IfOk result (λ _. (determinize_makes S.product limit grammar.now).within) }
+    ensures err { IfErr result (IsSummaryFault S.LEVELLED S.product limit labels.now grammar.now) }
+{
+    let determinized = determinization_of_together::<S, R, G>(
+        rt, alloc, grammar, labels, workers, limit, gate,
+    );
+    summary_of_determinized::<S>(alloc, grammar, labels, limit, determinized)
+}
+
+// The grammar that is made for n, read as a file is; it fails only for want of memory.
+fn demo_grammar<S: Semiring>(
+    alloc: Global,
+    n: u32,
+    labels: &mut Labels,
+) -> Result<Grammar<S>, AllocError>
+    requires least { 1 ≤ n }
+    requires most { n ≤ 16 }
+    requires new { labels.old ≡ [] }
+    ensures distinct { IfOk result (λ _. Distinct labels.new) }
+    ensures read { IfOk result (λ g. ReadsAs S.SCALE labels.new (demo_text n) g) }
+    ensures printable { IfOk result (λ g. ArePrintable S.SCALE labels.new g.rules) }
+{
+    let Ok(text) = demo_text(alloc, n) else {
+        return Err(AllocError);
     };
-    let best = match kbest_text::<S>(alloc, grammar, labels, limit, 1) {
-        Ok(best) => best,
-        Err(status) => return Err(status),
+    faults_have_no_text();
+    let grammar = match read_grammar::<S>(alloc, text.bytes(), labels) {
+        Ok(grammar) => grammar,
+        Err(ReadError::Fault(_)) => unreachable!(),
+        Err(ReadError::OutOfMemory) => return Err(AllocError),
     };
-    let states = canonical.grammar.names().len();
-    let rules = canonical.grammar.rules();
-    match summary_text(alloc, states, rules, best.bytes()) {
-        Ok(text) => Ok(text),
-        Err(Failed) => Err(Status::OutOfMemory),
-    }
+    read_grammars_are_printable();
+    labels.len();
+    Ok(grammar)
 }
 
 /// The three lines of the grammar that is made for n from 1 to 16, which is read as a file is, or the status with which the run ends:
@@ -127,17 +204,34 @@ pub fn demo_of<S: Semiring + Drop, G: Gate>(
     ensures within { IfOk result (λ _. (demo_makes S.SCALE S.product limit n).within) }
     ensures err { IfErr result (IsDemoFault S.LEVELLED S.SCALE S.product limit n) }
 {
-    let Ok(text) = demo_text(alloc, n) else {
+    let mut labels = Labels::new(alloc);
+    let Ok(grammar) = demo_grammar::<S>(alloc, n, &mut labels) else {
         return Err(Status::OutOfMemory);
     };
-    let mut labels = Labels::new(alloc);
-    faults_have_no_text();
-    let grammar = match read_grammar::<S>(alloc, text.bytes(), &mut labels) {
-        Ok(grammar) => grammar,
-        Err(ReadError::Fault(_)) => unreachable!(),
-        Err(ReadError::OutOfMemory) => return Err(Status::OutOfMemory),
-    };
-    read_grammars_are_printable();
-    labels.len();
     summary_of::<S, G>(alloc, &grammar, &labels, limit, gate)
+}
+
+/// What `demo_of` answers, with the vectors hunted by this number of workers, 1 to 16, whatever the order of their steps. It may wait
+/// for ever, as the hunt by several workers.
+pub fn demo_of_together<S: Semiring + Sync + Drop, R: Threads + Wait + Sync, G: Gate + Sync>(
+    rt: &R,
+    alloc: Global,
+    n: u32,
+    workers: u32,
+    limit: u64,
+    gate: &G,
+) -> Result<GrowingSink, Status>
+    requires least { 1 ≤ n }
+    requires most { n ≤ 16 }
+    requires workers { (1 ≤ workers) × (workers ≤ 16) }
+    requires limit { IsLimit limit }
+    ensures text { IfOk result (λ text. HasDemoText S.SCALE S.product limit n text.bytes) }
+    ensures within { IfOk result (λ _. (demo_makes S.SCALE S.product limit n).within) }
+    ensures err { IfErr result (IsDemoFault S.LEVELLED S.SCALE S.product limit n) }
+{
+    let mut labels = Labels::new(alloc);
+    let Ok(grammar) = demo_grammar::<S>(alloc, n, &mut labels) else {
+        return Err(Status::OutOfMemory);
+    };
+    summary_of_together::<S, R, G>(rt, alloc, &grammar, &labels, workers, limit, gate)
 }

@@ -132,6 +132,7 @@ pub fn determinization_of_together<
     requires workers { (1 ≤ workers) × (workers ≤ 16) }
     requires limit { IsLimit limit }
     ensures text { IfOk result (λ h. HasDeterminizedText S.SCALE S.product limit labels.now grammar.now h.text.bytes) }
+    ensures grammar { IfOk result (λ h. IsDeterminizedText S.SCALE S.product limit labels.now grammar.now h.text.bytes h.grammar) }
     ensures within { IfOk result (λ _. (determinize_makes S.product limit grammar.now).within) }
     ensures err { IfErr result (IsMadeFault (determinize_makes S.product limit grammar.now).more limit) }
 {

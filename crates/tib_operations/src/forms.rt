@@ -1,21 +1,22 @@
 // The normal forms of grammars of files, within the limit of a job.
-ghost use Rattle.std.specs.Prelude.{◌≤◌, ℕ, List, length, IfErr, IfOk};
+ghost use Rattle.std.specs.Prelude.{◌≡◌, ◌≤◌, ℕ, List, length, IfErr, IfOk};
 ghost use Rattle.tib_cost.specs.Semiring.{ProductLaws};
 ghost use Rattle.tib_grammar_file.specs.Printable.{ArePrintable};
 ghost use Rattle.tib_inside.specs.Trimmed.{HasSameSeries};
 ghost use Rattle.tib_normal.specs.NormalForm.{IsNormalForm, KeepsSeries, normal_parts};
 ghost use Rattle.tib_k_best.specs.Trimmed.{HaveTreesBelow};
+ghost use Rattle.tib_prune.specs.Loop.{AreInsidesOfAll};
 ghost use Rattle.tib_canon.specs.TrimmedForms.{IsTrimmedForm};
 ghost use Rattle.tib_operations.specs.Made.{IsLimit, normal_form, IsMadeFault};
 
 use crate::status::Status;
 use std::alloc::Global;
 use tib_canon::{normal_forms_are_printable, trimmed_is_printable};
-use tib_cost::Semiring;
+use tib_cost::{Cost, Semiring};
 use tib_grammar::Grammar;
-use tib_inside::trim_normal;
 use tib_k_best::trimmed_has_trees;
 use tib_normal::{Normal, NormalError, normalize};
+use tib_prune::trim_with_insides;
 
 // The laws of the product. A function whose semiring is shared among threads has them by a call of this one.
 pub(crate) fn product_has_laws<S: Semiring>()
@@ -42,6 +43,40 @@ pub fn normal_of<S: Semiring + Drop>(
     }
 }
 
+/// The trimmed normal form of a grammar and the inside costs of its states, or the status with which the run ends.
+pub fn costed_form<S: Semiring + Drop>(
+    alloc: Global,
+    grammar: &Grammar<S>,
+    limit: u64,
+) -> Result<(Normal<S>, Vec<Option<Cost>>), Status>
+    requires limit { IsLimit limit }
+    ensures form { IfOk result (λ m. IsTrimmedForm S.product grammar.now m.0) }
+    ensures within { IfOk result (λ _. (normal_form S.product limit grammar.now).within) }
+    ensures series { IfOk result (λ m. HasSameSeries S.product grammar.now m.0) }
+    ensures printable { IfOk result (λ m. (labels : List (List ℕ)) → ArePrintable S.SCALE labels grammar.now.rules → ArePrintable S.SCALE labels m.0.rules) }
+    ensures below { IfOk result (λ m. HaveTreesBelow S.product m.0.rules) }
+    ensures length { IfOk result (λ m. length m.1.items ≡ length m.0.names) }
+    ensures insides { IfOk result (λ m. AreInsidesOfAll S.product m.0.rules m.1.items) }
+    ensures err { IfErr result (IsMadeFault (normal_form S.product limit grammar.now).more limit) }
+{
+    grammar.is_sound();
+    let normal = match normal_of::<S>(alloc, grammar, limit) {
+        Ok(normal) => normal,
+        Err(status) => return Err(status),
+    };
+    normal_forms_are_printable::<S>();
+    trimmed_is_printable();
+    trimmed_has_trees::<S>();
+    normal.grammar();
+    match trim_with_insides::<S>(alloc, normal) {
+        Ok(trimmed) => {
+            trimmed.0.grammar();
+            Ok(trimmed)
+        }
+        Err(_) => Err(Status::OutOfMemory),
+    }
+}
+
 /// The trimmed normal form of a grammar, or the status with which the run ends.
 pub fn trimmed_form<S: Semiring + Drop>(
     alloc: Global,
@@ -56,20 +91,11 @@ pub fn trimmed_form<S: Semiring + Drop>(
     ensures below { IfOk result (λ m. HaveTreesBelow S.product m.rules) }
     ensures err { IfErr result (IsMadeFault (normal_form S.product limit grammar.now).more limit) }
 {
-    grammar.is_sound();
-    let normal = match normal_of::<S>(alloc, grammar, limit) {
-        Ok(normal) => normal,
-        Err(status) => return Err(status),
-    };
-    normal_forms_are_printable::<S>();
-    trimmed_is_printable();
-    trimmed_has_trees::<S>();
-    normal.grammar();
-    match trim_normal::<S>(alloc, normal) {
-        Ok(trimmed) => {
-            trimmed.grammar();
-            Ok(trimmed)
+    match costed_form::<S>(alloc, grammar, limit) {
+        Ok(costed) => {
+            let (form, _insides) = costed;
+            Ok(form)
         }
-        Err(_) => Err(Status::OutOfMemory),
+        Err(status) => Err(status),
     }
 }

@@ -1,5 +1,5 @@
 // `kbest`: the cheapest trees of a grammar, each with its cost.
-ghost use Rattle.std.specs.Prelude.{◌≡◌, ◌<◌, ◌++◌, length, IfErr, IfOk, OnOk};
+ghost use Rattle.std.specs.Prelude.{◌≡◌, ◌<◌, ◌≤◌, ◌^◌, ◌++◌, ℕ, length, IfErr, IfOk, IfSome, IsTrue, OnOk};
 ghost use Rattle.std.proofs.Common.{get_or};
 ghost use Rattle.tib_grammar_file.specs.Printable.{ArePrintable};
 ghost use Rattle.tib_lex.specs.Lists.{Each};
@@ -8,17 +8,22 @@ ghost use Rattle.tib_k_best_laws.specs.Best.{IsKBest};
 ghost use Rattle.tib_k_best_laws.specs.Pass.{no_entry};
 ghost use Rattle.tib_operations.specs.KBest.{costed_line, costed_lines, HasKBestText, IsKBestFault, kbest_makes};
 ghost use Rattle.tib_operations.specs.Made.{IsLimit};
+ghost use Rattle.tib_prune.specs.Loop.{AreInsidesOfAll};
 
-use crate::forms::trimmed_form;
+use crate::forms::{costed_form, trimmed_form};
 use crate::status::Status;
 use crate::text::add_line;
-use std::alloc::Global;
-use tib_cost::Semiring;
+use std::alloc::{AllocError, Global};
+use tib_canon::trimmed_is_printable;
+use tib_cost::{Cost, Semiring};
 use tib_grammar::Grammar;
 use tib_grammar_file::printable_is_labelled;
+use tib_inside::trim_normal;
 use tib_io::{Failed, GrowingSink};
-use tib_k_best::KBestError;
+use tib_k_best::{KBestError, trimmed_has_trees};
 use tib_level_lists::{Ranked, best_trees};
+use tib_normal::Normal;
+use tib_prune::prune_to_count;
 use tib_tree::Labels;
 
 // Adds the line of the tree at a place of a list to a text.
@@ -55,8 +60,124 @@ fn list_text<S: Semiring>(
     Ok(text)
 }
 
-// The list of the k cheapest trees of a grammar, or the status with which the run ends.
-fn best_of<S: Semiring + Drop>(
+// Whether each tree of a list costs at most a bound.
+fn are_within(list: &Ranked, bound: u64) -> bool
+    ensures { IsTrue result → (i : ℕ) → i < length list.now → (get_or list.now i no_entry).1 ≤ bound }
+{
+    for i in 0..list.len() {
+        if list.cost(i).get() > bound {
+            return false;
+        }
+    }
+    true
+}
+
+// Whether a list has k trees, each of which costs at most a bound.
+fn is_full(list: &Ranked, k: u32, bound: u64) -> bool
+    ensures full { IsTrue result → length list.now ≡ k }
+    ensures within { IsTrue result → (i : ℕ) → i < length list.now → (get_or list.now i no_entry).1 ≤ bound }
+{
+    if list.len() != k {
+        return false;
+    }
+    are_within(list, bound)
+}
+
+// The k cheapest trees of some rules that were kept; none where a tree is too large. Only want of memory is an error.
+fn kept_best<S: Semiring + Drop>(
+    alloc: Global,
+    kept: Grammar<S>,
+    labels: &Labels,
+    k: u32,
+) -> Result<Option<Ranked>, AllocError>
+    requires printable { ArePrintable S.SCALE labels.now kept.rules }
+    requires some { 0 < k }
+    ensures best { IfOk result (λ found. IfSome found (λ xs. IsKBest S.product kept.rules labels.now k xs)) }
+{
+    let Some(normal) = Normal::new(alloc, kept)? else {
+        return Ok(None);
+    };
+    normal.grammar();
+    let trimmed = trim_normal::<S>(alloc, normal)?;
+    trimmed.grammar();
+    trimmed_is_printable();
+    trimmed_has_trees::<S>();
+    printable_is_labelled();
+    match best_trees::<S>(alloc, &trimmed, labels, k) {
+        Ok(list) => Ok(Some(list)),
+        Err(KBestError::TreeTooLarge { .. }) => Ok(None),
+        Err(KBestError::OutOfMemory) => Err(AllocError),
+    }
+}
+
+// How many rules are kept to find k trees among them: a guess, which decides the time alone.
+fn rules_for(k: u32) -> usize
+    ensures { result < 2 ^ 36 }
+{
+    8 * k as usize + 100
+}
+
+// The k cheapest trees of a trimmed normal form, found among the rules within a beam; none where they are too few, or one of them
+// costs more than the beam allows, so that others may be cheaper. Only want of memory is an error.
+fn narrow_best<S: Semiring + Drop>(
+    alloc: Global,
+    form: Normal<S>,
+    insides: &[Option<Cost>],
+    labels: &Labels,
+    k: u32,
+) -> Result<Option<Ranked>, AllocError>
+    requires printable { ArePrintable S.SCALE labels.now form.rules }
+    requires some { 0 < k }
+    requires length { length insides.now ≡ length form.names }
+    requires insides { AreInsidesOfAll S.product form.rules insides.now }
+    ensures best { IfOk result (λ found. IfSome found (λ xs. IsKBest S.product form.rules labels.now k xs)) }
+{
+    form.grammar().is_sound();
+    let Some(best) = insides[0] else {
+        return Ok(None);
+    };
+    let pruned = prune_to_count::<S>(alloc, form, insides, rules_for(k))?;
+    let (kept, beam) = pruned;
+    let Some(list) = kept_best::<S>(alloc, kept, labels, k)? else {
+        return Ok(None);
+    };
+    if !is_full(&list, k, best.get() + beam.get()) {
+        return Ok(None);
+    }
+    Ok(Some(list))
+}
+
+// The list of the k cheapest trees of a grammar, found among the rules within a beam; none where it was not found there; or the
+// status with which the run ends.
+fn found_best<S: Semiring + Drop>(
+    alloc: Global,
+    grammar: &Grammar<S>,
+    labels: &Labels,
+    limit: u64,
+    k: u32,
+) -> Result<Option<Ranked>, Status>
+    requires printable { ArePrintable S.SCALE labels.now grammar.now.rules }
+    requires limit { IsLimit limit }
+    requires some { 0 < k }
+    ensures best { IfOk result (λ found. IfSome found (λ xs. IsKBest S.product grammar.now.rules labels.now k xs)) }
+    ensures labels { IfOk result (λ found. IfSome found (λ xs. Each (λ x. HasLabels labels.now x.0) xs)) }
+    ensures within { IfOk result (λ _. (kbest_makes S.product limit grammar.now).within) }
+    ensures err { IfErr result (IsKBestFault S.LEVELLED S.product limit k labels.now grammar.now) }
+{
+    let costed = match costed_form::<S>(alloc, grammar, limit) {
+        Ok(costed) => costed,
+        Err(status) => return Err(status),
+    };
+    let (form, insides) = costed;
+    printable_is_labelled();
+    match narrow_best::<S>(alloc, form, &insides, labels, k) {
+        Ok(found) => Ok(found),
+        Err(_) => Err(Status::OutOfMemory),
+    }
+}
+
+// The list of the k cheapest trees of a grammar, found in all of its trimmed normal form, or the status with which the run ends.
+fn whole_best<S: Semiring + Drop>(
     alloc: Global,
     grammar: &Grammar<S>,
     labels: &Labels,
@@ -81,6 +202,33 @@ fn best_of<S: Semiring + Drop>(
         Err(KBestError::TreeTooLarge { .. }) => Err(Status::TreeTooLarge),
         Err(KBestError::OutOfMemory) => Err(Status::OutOfMemory),
     }
+}
+
+// The list of the k cheapest trees of a grammar, or the status with which the run ends. Where the grammar has many rules for each
+// tree, it is looked for among those within a beam first.
+fn best_of<S: Semiring + Drop>(
+    alloc: Global,
+    grammar: &Grammar<S>,
+    labels: &Labels,
+    limit: u64,
+    k: u32,
+) -> Result<Ranked, Status>
+    requires printable { ArePrintable S.SCALE labels.now grammar.now.rules }
+    requires limit { IsLimit limit }
+    requires some { 0 < k }
+    ensures best { IfOk result (λ xs. IsKBest S.product grammar.now.rules labels.now k xs) }
+    ensures labels { IfOk result (λ xs. Each (λ x. HasLabels labels.now x.0) xs) }
+    ensures within { IfOk result (λ _. (kbest_makes S.product limit grammar.now).within) }
+    ensures err { IfErr result (IsKBestFault S.LEVELLED S.product limit k labels.now grammar.now) }
+{
+    if 2 * rules_for(k) < grammar.rules() as usize {
+        match found_best::<S>(alloc, grammar, labels, limit, k) {
+            Ok(Some(list)) => return Ok(list),
+            Ok(None) => {}
+            Err(status) => return Err(status),
+        }
+    }
+    whole_best::<S>(alloc, grammar, labels, limit, k)
 }
 
 /// The lines of the k cheapest trees of a grammar, or the status with which the run ends: too many parts, a state that has a tree of

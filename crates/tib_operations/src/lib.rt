@@ -26,7 +26,7 @@ pub use backward::{preimage_of, preimage_of_together};
 pub use check::classes_text;
 pub use classes::demand;
 pub use compose::{composition_of, composition_of_together, demand_plain};
-pub use demo::{demo_of, demo_text, summary_of};
+pub use demo::{demo_of, demo_of_together, demo_text, summary_of, summary_of_together};
 pub use determinize::{determinization_of, determinization_of_together};
 pub use forms::{normal_of, trimmed_form};
 pub use forward::{image_of, image_of_together};

@@ -4,14 +4,14 @@ ghost use Rattle.tib_grammar_file.specs.Printable.{ArePrintable};
 ghost use Rattle.tib_operations.specs.Made.{IsLimit, IsMadeFault};
 ghost use Rattle.tib_operations.specs.Prune.{IsBeam, IsPrunedForm, KeepsWithin, HasPruneText, prune_makes};
 
-use crate::forms::trimmed_form;
+use crate::forms::costed_form;
 use crate::status::Status;
 use std::alloc::Global;
 use tib_canon::{Printed, canonical, canonical_texts_are_read};
 use tib_cost::{Cost, Semiring};
 use tib_grammar::Grammar;
 use tib_grammar_file::printable_is_labelled;
-use tib_prune::prune;
+use tib_prune::prune_by_insides;
 use tib_tree::Labels;
 
 // The beam as a cost.
@@ -40,12 +40,13 @@ fn pruned_form<S: Semiring + Drop>(
     ensures within { IfOk result (λ _. (prune_makes S.product limit grammar.now).within) }
     ensures err { IfErr result (IsMadeFault (prune_makes S.product limit grammar.now).more limit) }
 {
-    let form = match trimmed_form::<S>(alloc, grammar, limit) {
-        Ok(form) => form,
+    let costed = match costed_form::<S>(alloc, grammar, limit) {
+        Ok(costed) => costed,
         Err(status) => return Err(status),
     };
-    match prune::<S>(alloc, form, beam_cost(beam)) {
-        Ok(kept) => Ok(kept.into_grammar()),
+    let (form, insides) = costed;
+    match prune_by_insides::<S>(alloc, form, &insides, beam_cost(beam)) {
+        Ok(kept) => Ok(kept),
         Err(_) => Err(Status::OutOfMemory),
     }
 }

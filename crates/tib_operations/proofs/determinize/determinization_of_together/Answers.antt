@@ -1,4 +1,4 @@
-use Rattle.std.proofs.Common.{inl, inr}
+use Rattle.std.proofs.Common.{refl, inl, inr}
 use Rattle.tib_hunt.specs.Reached.{IsBeyond}
 use Rattle.tib_canon.specs.TrimmedForms.{IsTrimmedForm}
 use Rattle.tib_determinize.specs.Determinization.{determinization}
@@ -20,6 +20,10 @@ returns-clause-text g c = record {
   are = c.in-Ok-canonical_of_vectors.ensures.text;
   read = c.in-Ok-canonical_of_vectors.ensures.read;
 }
+
+pub returns-clause-grammar : goal.returns-clause-grammar
+unfolding returns-clause-text
+returns-clause-grammar g c = (returns-clause-text g c, refl)
 
 pub returns-clause-within : goal.returns-clause-within
 returns-clause-within g c = (

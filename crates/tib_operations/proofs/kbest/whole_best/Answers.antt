@@ -1,7 +1,7 @@
 use Rattle.std.proofs.Common.{length}
 use Rattle.tib_grammar_file.specs.Printed.{AreLabelled}
 use Rattle.tib_operations.proofs.BestOf.{best_of_form, costs_free, labels_of_best, large_in_form, made_fault}
-use Rattle.tib_operations.proofs.kbest.best_of.Goals as goal
+use Rattle.tib_operations.proofs.kbest.whole_best.Goals as goal
 
 pub returns-in-Err-clause-err : goal.returns-in-Err-clause-err
 returns-in-Err-clause-err g c =

@@ -1,0 +1,27 @@
+use Rattle.std.proofs.Common.{rules, arith, ap, ◌∙◌, ◌+◌, ◌<◌, ◌≤◌, length, subst}
+use Rattle.std.specs.Prelude.{IsTrue, None, Option, ℕ}
+use Rattle.std.proofs.lemmas.List.{get_or_default}
+use Rattle.tib_lex.proofs.Lists.{Each-from}
+use Rattle.tib_grammar.specs.GrammarOf.{GrammarOf}
+use Rattle.tib_inside.specs.Inside.{IsInside}
+use Rattle.tib_k_best_laws.specs.Best.{Costed}
+use Rattle.tib_k_best_laws.specs.Pass.{no_entry}
+use Rattle.tib_operations.proofs.NarrowBest.{narrow}
+use Rattle.tib_operations.proofs.OfPrune.{kept_printable}
+use Rattle.tib_operations.proofs.kbest.narrow_best.Goals as goal
+
+pub kept_best-requires-clause-printable : goal.kept_best-requires-clause-printable
+kept_best-requires-clause-printable g c =
+    kept_printable g.S.Semiring.SCALE c.args.labels.now g.S.Semiring.product c.in_ok-pruned.pruned.1 c.args.form c.in_ok-pruned.pruned.0 c.in_ok-pruned.ensures.pruned c.requires.printable
+
+pub returns : goal.returns
+returns g c =
+    let yes : IsTrue c.is_full.result = search rules in
+    let same = rw c.in-Some-2.is at c.in_ok-list.ensures.best in
+    let some : 0 < length c.args.insides.now = omega (arith, subst (λ (n : GrammarOf). 0 < length n.names) c.grammar.ensures.same c.is_sound.ensures.start, c.requires.length) in
+    record {
+      best = narrow g.S.Semiring.product c.args.form.rules c.in_ok-pruned.pruned.0.rules c.in-Some.best c.in_ok-pruned.pruned.1
+          (subst (λ (v : Option ℕ). IsInside g.S.Semiring.product c.args.form.rules 0 v) (get_or_default c.args.insides.now 0 None _ some ∙ c.in-Some.is) (c.requires.insides 0)) c.in_ok-pruned.ensures.cheap
+          c.in_ok-pruned.ensures.costs c.args.labels.now c.args.k c.in-Some-2.list same (c.is_full.ensures.full yes)
+          (Each-from (λ (x : Costed). x.1 ≤ c.in-Some.best + c.in_ok-pruned.pruned.1) c.in-Some-2.list no_entry (λ i h. omega (arith, c.is_full.ensures.within yes i h, c.get.ensures.same, c.get-2.ensures.same)));
+    }
