@@ -1,0 +1,5 @@
+mod BothByText
+mod OfForms
+mod AnswersByText
+mod AnswersExist
+pub mod OfCompare
