@@ -54,10 +54,12 @@ operation_in text = if bytes_eq text (codes "weigh") then Some o.Weigh
     else (if bytes_eq text (codes "backward") then Some o.Backward
     else (if bytes_eq text (codes "compose") then Some o.Compose
     else (if bytes_eq text (codes "image") then Some o.Image
+    else (if bytes_eq text (codes "parse") then Some o.Parse
+    else (if bytes_eq text (codes "compare") then Some o.Compare
     else (if bytes_eq text (codes "determinize") then Some o.Determinize
     else (if bytes_eq text (codes "check") then Some o.Check
     else (if bytes_eq text (codes "prune") then Some o.Prune
-    else (if bytes_eq text (codes "demo") then Some o.Demo else None))))))))))))
+    else (if bytes_eq text (codes "demo") then Some o.Demo else None))))))))))))))
 
 -- how many file names follow the operation
 abbrev pub word_count : Operation → ℕ
@@ -70,6 +72,8 @@ word_count o.Forward = 2
 word_count o.Backward = 2
 word_count o.Compose = 2
 word_count o.Image = 2
+word_count o.Parse = 2
+word_count o.Compare = 2
 word_count o.Determinize = 1
 word_count o.Check = 1
 word_count o.Prune = 1

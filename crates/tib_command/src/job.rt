@@ -41,6 +41,10 @@ pub enum Operation {
     Compose,
     /// The canonical grammar of all outputs of a transducer on the one tree of a file, each at its cost.
     Image,
+    /// The canonical grammar of the trees that a tree-to-string transducer turns into the one string of a file, each at its cost.
+    Parse,
+    /// Whether two grammars have the same trees, and else the least tree that one of them alone has.
+    Compare,
     /// The canonical grammar in deterministic form with the series of a grammar.
     Determinize,
     /// Which classes a transducer is of, and which rule decides.

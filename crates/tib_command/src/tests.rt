@@ -21,7 +21,7 @@ type Accepted = (
     &'static [&'static str],
 );
 
-static ACCEPTED: [Accepted; 31] = [
+static ACCEPTED: [Accepted; 33] = [
     (
         &["-k5", "weigh", "g", "t"],
         Mode::MinPlus,
@@ -284,6 +284,24 @@ static ACCEPTED: [Accepted; 31] = [
         &["trees", "t"],
     ),
     (
+        &["parse", "t", "-mwidest", "s", "--limit=8"],
+        Mode::Widest,
+        Operation::Parse,
+        1,
+        1,
+        8,
+        &["t", "s"],
+    ),
+    (
+        &["-w2", "compare", "g", "g"],
+        Mode::MinPlus,
+        Operation::Compare,
+        1,
+        2,
+        20000000,
+        &["g", "g"],
+    ),
+    (
         &["-m", "bottleneck", "determinize", "--limit", "13", "g"],
         Mode::Bottleneck,
         Operation::Determinize,
@@ -321,7 +339,8 @@ static NUMBERS: [(&[&str], u32); 5] = [
     (&["normal", "g"], 0),
 ];
 
-static REFUSED: [&[&str]; 110] = [
+// Words whose operation, files or number are not of the language.
+static OTHER_TASKS: [&[&str]; 68] = [
     &["demo"],
     &["demo", "0"],
     &["demo", "17"],
@@ -336,15 +355,6 @@ static REFUSED: [&[&str]; 110] = [
     &["prune"],
     &["prune", "g", "h"],
     &["Prune", "g"],
-    &["--beam=1000000000000001", "prune", "g"],
-    &["--beam=00000000000000001", "prune", "g"],
-    &["--beam", "-1", "prune", "g"],
-    &["--beam=", "prune", "g"],
-    &["prune", "g", "--beam"],
-    &["--beam=1", "--beam=1", "prune", "g"],
-    &["--bea=1", "prune", "g"],
-    &["-beam", "1", "prune", "g"],
-    &["--beam1", "prune", "g"],
     &[],
     &["--"],
     &["weigh"],
@@ -381,12 +391,37 @@ static REFUSED: [&[&str]; 110] = [
     &["image", "trees"],
     &["image", "trees", "t", "u"],
     &["images", "trees", "t"],
+    &["parse"],
+    &["parse", "t"],
+    &["parse", "t", "s", "s"],
+    &["Parse", "t", "s"],
+    &["compare"],
+    &["compare", "g"],
+    &["compare", "g", "h", "i"],
+    &["compares", "g", "h"],
     &["determinize"],
     &["determinize", "g", "h"],
     &["determinise", "g"],
     &["check"],
     &["check", "t", "u"],
     &["Check", "t"],
+    &["help", "weigh"],
+    &["", "weigh", "g", "t"],
+    &["weigh", "", "t"],
+    &["weigh", "g", ""],
+];
+
+// Words whose options are not.
+static OTHER_OPTIONS: [&[&str]; 50] = [
+    &["--beam=1000000000000001", "prune", "g"],
+    &["--beam=00000000000000001", "prune", "g"],
+    &["--beam", "-1", "prune", "g"],
+    &["--beam=", "prune", "g"],
+    &["prune", "g", "--beam"],
+    &["--beam=1", "--beam=1", "prune", "g"],
+    &["--bea=1", "prune", "g"],
+    &["-beam", "1", "prune", "g"],
+    &["--beam1", "prune", "g"],
     &["-k==5", "weigh", "g", "t"],
     &["-k=", "weigh", "g", "t"],
     &["-k", "-5", "weigh", "g", "t"],
@@ -424,14 +459,10 @@ static REFUSED: [&[&str]; 110] = [
     &["-h"],
     &["-V"],
     &["--version"],
-    &["help", "weigh"],
     &["-é", "weigh", "g", "t"],
     &["-ké", "weigh", "g", "t"],
     &["-k1234567890123", "weigh", "g", "t"],
     &["-k0000000000005", "weigh", "g", "t"],
-    &["", "weigh", "g", "t"],
-    &["weigh", "", "t"],
-    &["weigh", "g", ""],
 ];
 
 #[test]
@@ -465,8 +496,15 @@ fn numbers_are_read(rt: HostRuntime) -> Result<(), Fail> {
 }
 
 #[test]
-fn other_words_are_refused(rt: HostRuntime) {
-    for words in &REFUSED {
+fn other_tasks_are_refused(rt: HostRuntime) {
+    for words in &OTHER_TASKS {
+        assert!(rt; matches!(job(rt.alloc(), words), Err(CommandError::Usage)));
+    }
+}
+
+#[test]
+fn other_options_are_refused(rt: HostRuntime) {
+    for words in &OTHER_OPTIONS {
         assert!(rt; matches!(job(rt.alloc(), words), Err(CommandError::Usage)));
     }
 }

@@ -36,6 +36,8 @@ fn operation_in(text: &str) -> Option<Operation>
         "backward" => Some(Operation::Backward),
         "compose" => Some(Operation::Compose),
         "image" => Some(Operation::Image),
+        "parse" => Some(Operation::Parse),
+        "compare" => Some(Operation::Compare),
         "determinize" => Some(Operation::Determinize),
         "check" => Some(Operation::Check),
         "prune" => Some(Operation::Prune),
@@ -142,7 +144,9 @@ fn word_count(operation: Operation) -> usize
         | Operation::Forward
         | Operation::Backward
         | Operation::Compose
-        | Operation::Image => 2,
+        | Operation::Image
+        | Operation::Parse
+        | Operation::Compare => 2,
     }
 }
 
