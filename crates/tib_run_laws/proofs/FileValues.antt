@@ -1,5 +1,6 @@
 -- The values of the files of a job, over tables of labels.
 use Rattle.tib_cost.specs.declared.Scale.{Scale}
+use Rattle.tib_cost.specs.declared.Scale.TheVariants.{Unweighted}
 use Rattle.std.specs.Prelude.{◌≡◌, ℕ, List, [], ◌∷◌, Option, Some, None, IfSome, IsSome, slice_get, refl}
 use Rattle.std.proofs.Common.{length, zero, suc, subst}
 use Rattle.tib_lex.specs.Lists.{Along}
@@ -10,7 +11,7 @@ use Rattle.tib_grammar_file.specs.ByText.{AgreeByText, AreOneTree}
 use Rattle.tib_grammar_file.proofs.OneByText.{one_by_text}
 use Rattle.tib_grammar_file.proofs.TreesByText.{trees_by_text}
 use Rattle.tib_operations.specs.FileTexts.{ListsTrees}
-use Rattle.tib_run_laws.specs.Kinds.{Kind, of_grammar, of_trees, of_one_tree, of_transducer, OfName, ValueOf, IsTextOf, IsOfKind, ValuesOf, AreTextsOf, AreTexts, AreOfKinds, AreAllTold}
+use Rattle.tib_run_laws.specs.Kinds.{Kind, of_grammar, of_support, of_trees, of_one_tree, of_transducer, of_string_transducer, of_string, OfName, ValueOf, IsTextOf, IsOfKind, ValuesOf, AreTextsOf, AreTexts, AreOfKinds, AreAllTold}
 use Rattle.tib_grammar_file.specs.Printable.{ArePrintable}
 use Rattle.tib_grammar_file.proofs.Plain.{read_plain}
 use Rattle.tib_operations.proofs.PlainMoves.{IsSoundTransducer, transducer_sound}
@@ -20,6 +21,12 @@ use Rattle.tib_operations.proofs.ReadSound.{IsSound, read_sound}
 use Rattle.tib_transducer_file.specs.ByText.{AreOneTransducer}
 use Rattle.tib_transducer_file.proofs.OneByText.{one_by_text as one_transducer}
 use Rattle.tib_operations.proofs.TransducerTables.{transducer_over, transducer_grown}
+use Rattle.tib_string_file.specs.ByText.{AreOneStringTransducer}
+use Rattle.tib_string_file.proofs.OneByText.{one_by_text as one_string_transducer}
+use Rattle.tib_string_file.proofs.OverTables.{string_over, string_grown, string_transducer_over, string_transducer_grown}
+use Rattle.tib_parse_text.specs.ByText.{AreOneString}
+use Rattle.tib_parse_text.proofs.OneString.{one_string}
+use Rattle.tib_parse_text.proofs.WordsRead.{IsSoundStringTransducer, string_transducer_sound}
 use Rattle.tib_operations.proofs.Tables.{none_distinct, read_over, lists_over, reads_grown, lists_grown}
 
 -- a value of a file, where its bytes are told, over a table to which another has grown
@@ -41,6 +48,8 @@ only_tree labels now one bytes (t ∷ (u ∷ ts)) l m = absurd (trees_by_text la
 text_over : (scale : Scale) (early labels : List (List ℕ)) (kind : Kind) (value : ValueOf kind) (bytes : List ℕ) → IsTextOf scale labels kind value bytes → IsTextOver scale early kind (Some bytes)
 text_over scale early labels of_grammar g bytes r =
     let o = read_over scale early labels bytes g r.1 in record { labels = o.labels; value = o.g; grows = o.grows; distinct = o.distinct; text = (r.0, o.reads) }
+text_over scale early labels of_support g bytes r =
+    let o = read_over Unweighted early labels bytes g r.1 in record { labels = o.labels; value = o.g; grows = o.grows; distinct = o.distinct; text = (r.0, o.reads) }
 text_over scale early labels of_trees trees bytes l =
     let o = lists_over early labels bytes trees l in record { labels = o.labels; value = o.trees; grows = o.grows; distinct = o.distinct; text = o.listed }
 text_over scale early labels of_one_tree one bytes l =
@@ -49,6 +58,10 @@ text_over scale early labels of_one_tree one bytes l =
     record { labels = o.labels; value = t.0; grows = o.grows; distinct = o.distinct; text = t.1 }
 text_over scale early labels of_transducer t bytes r =
     let o = transducer_over scale early labels bytes t r.1 in record { labels = o.labels; value = o.t; grows = o.grows; distinct = o.distinct; text = (r.0, o.reads) }
+text_over scale early labels of_string_transducer t bytes r =
+    let o = string_transducer_over scale early labels bytes t r.1 in record { labels = o.labels; value = o.t; grows = o.grows; distinct = o.distinct; text = (r.0, o.reads) }
+text_over scale early labels of_string string bytes r =
+    let o = string_over early labels bytes string r.1 in record { labels = o.labels; value = o.s; grows = o.grows; distinct = o.distinct; text = (r.0, o.reads) }
 
 told_over : (scale : Scale) (early : List (List ℕ)) (kind : Kind) (bytes : Option (List ℕ)) → OfName bytes (IsOfKind scale kind) → IsTextOver scale early kind bytes
 told_over scale early kind None is = absurd is
@@ -57,9 +70,12 @@ told_over scale early kind (Some bytes) is = text_over scale early is.0 kind is.
 -- over a table that has grown the value is the same
 pub text_grown : (scale : Scale) (early labels : List (List ℕ)) (kind : Kind) (value : ValueOf kind) (bytes : List ℕ) → Grows early labels → IsTextOf scale early kind value bytes → IsTextOf scale labels kind value bytes
 text_grown scale early labels of_grammar g bytes grows r = (r.0, reads_grown scale early labels bytes g grows r.1)
+text_grown scale early labels of_support g bytes grows r = (r.0, reads_grown Unweighted early labels bytes g grows r.1)
 text_grown scale early labels of_trees trees bytes grows l = lists_grown early labels bytes trees grows l
 text_grown scale early labels of_one_tree one bytes grows l = lists_grown early labels bytes (one ∷ []) grows l
 text_grown scale early labels of_transducer t bytes grows r = (r.0, transducer_grown scale early labels bytes t grows r.1)
+text_grown scale early labels of_string_transducer t bytes grows r = (r.0, string_transducer_grown scale early labels bytes t grows r.1)
+text_grown scale early labels of_string string bytes grows r = (r.0, string_grown early labels bytes string grows r.1)
 
 pub told_grown :
     (scale : Scale) (early labels : List (List ℕ)) (kind : Kind) (value : ValueOf kind) (bytes : Option (List ℕ)) → Grows early labels → IfSome bytes (IsTextOf scale early kind value) →
@@ -97,9 +113,12 @@ values_there scale kinds bytes are =
 -- values over two tables that agree by the texts of labels
 abbrev pub AgreeInText : List (List ℕ) → List (List ℕ) → (kind : Kind) → ValueOf kind → ValueOf kind → Type 0
 AgreeInText labels others of_grammar g h = AgreeByText labels others g h
+AgreeInText labels others of_support g h = AgreeByText labels others g h
 AgreeInText labels others of_trees ts us = Along (AreOneTree labels others) ts us
 AgreeInText labels others of_one_tree t u = AreOneTree labels others t u
 AgreeInText labels others of_transducer t u = AreOneTransducer labels others t u
+AgreeInText labels others of_string_transducer t u = AreOneStringTransducer labels others t u
+AgreeInText labels others of_string s r = AreOneString labels others s r
 
 abbrev pub AllAgree : List (List ℕ) → List (List ℕ) → (kinds : List Kind) → ValuesOf kinds → ValuesOf kinds → Type 0
 AllAgree labels others [] values more = Unit {0}
@@ -109,9 +128,12 @@ text_agrees :
     (scale : Scale) (labels others : List (List ℕ)) (kind : Kind) (value other : ValueOf kind) (bytes : List ℕ) → IsTextOf scale labels kind value bytes → IsTextOf scale others kind other bytes →
     AgreeInText labels others kind value other
 text_agrees scale labels others of_grammar g h bytes r q = one_by_text scale labels others bytes g h r.1.text q.1.text
+text_agrees scale labels others of_support g h bytes r q = one_by_text Unweighted labels others bytes g h r.1.text q.1.text
 text_agrees scale labels others of_trees ts us bytes l m = trees_by_text labels others bytes ts us l.1 m.1
 text_agrees scale labels others of_one_tree t u bytes l m = (trees_by_text labels others bytes (t ∷ []) (u ∷ []) l.1 m.1).0
 text_agrees scale labels others of_transducer t u bytes r q = one_transducer scale labels others bytes t u r.1 q.1
+text_agrees scale labels others of_string_transducer t u bytes r q = one_string_transducer scale labels others bytes t u r.1 q.1
+text_agrees scale labels others of_string s r bytes l m = one_string labels others bytes s r l.1 m.1
 
 told_agrees :
     (scale : Scale) (labels others : List (List ℕ)) (kind : Kind) (value other : ValueOf kind) (bytes : Option (List ℕ)) → IsSome bytes → IfSome bytes (IsTextOf scale labels kind value) →
@@ -147,9 +169,12 @@ kinds_told scale labels (k ∷ kinds) bytes values t (suc n) kind e = kinds_told
 -- a value that was read over told bytes is sound, and can be printed
 abbrev pub IsSoundValue : Scale → List (List ℕ) → (kind : Kind) → ValueOf kind → Type 0
 IsSoundValue scale labels of_grammar g = IsSound g × ArePrintable scale labels g.rules
+IsSoundValue scale labels of_support g = IsSound g × ArePrintable Unweighted labels g.rules
 IsSoundValue scale labels of_trees trees = Unit {0}
 IsSoundValue scale labels of_one_tree one = Unit {0}
 IsSoundValue scale labels of_transducer t = IsSoundTransducer scale labels t × AreMovesOver scale labels (length t.names) t.rules
+IsSoundValue scale labels of_string_transducer t = IsSoundStringTransducer scale labels t
+IsSoundValue scale labels of_string string = Unit {0}
 
 abbrev pub AllSound : Scale → List (List ℕ) → (kinds : List Kind) → ValuesOf kinds → Type 0
 AllSound scale labels [] values = Unit {0}
@@ -158,9 +183,12 @@ AllSound scale labels (kind ∷ kinds) values = IsSoundValue scale labels kind v
 sound_value : (scale : Scale) (labels : List (List ℕ)) (kind : Kind) (value : ValueOf kind) (bytes : Option (List ℕ)) → IsSome bytes → IfSome bytes (IsTextOf scale labels kind value) → IsSoundValue scale labels kind value
 sound_value scale labels kind value None told t = absurd (cc told)
 sound_value scale labels of_grammar g (Some bytes) told r = (read_sound scale labels bytes g r.1.text, read_plain scale labels bytes g r.1.text)
+sound_value scale labels of_support g (Some bytes) told r = (read_sound Unweighted labels bytes g r.1.text, read_plain Unweighted labels bytes g r.1.text)
 sound_value scale labels of_trees trees (Some bytes) told l = tt
 sound_value scale labels of_one_tree one (Some bytes) told l = tt
 sound_value scale labels of_transducer t (Some bytes) told r = (transducer_sound scale labels bytes t r.1, read_moves scale labels bytes t r.1)
+sound_value scale labels of_string_transducer t (Some bytes) told r = string_transducer_sound scale labels bytes t r.1
+sound_value scale labels of_string string (Some bytes) told r = tt
 
 pub all_sound :
     (scale : Scale) (labels : List (List ℕ)) (kinds : List Kind) (bytes : ℕ → Option (List ℕ)) (values : ValuesOf kinds) → AreAllTold kinds bytes → AreTextsOf scale labels bytes kinds values →

@@ -5,7 +5,7 @@ use Rattle.std.proofs.Common.{ap, ◌∙◌, subst, arith}
 use Rattle.tib_command.specs.Words.{Text, reads, values_of, mode, depth, workers, limit, beam, place}
 use Rattle.tib_lex.proofs.Spelled.{and_true}
 use Rattle.std.proofs.lemmas.Bool.Decides.{nat_tests}
-use Rattle.tib_command.specs.Jobs.{numeral_in, within, Asked, Task, job_of, asked_by, once, mode_in, number_in, count_in, beam_in, task_in, words_in, demo_in, demo_of, takes_number, most_demo, files_in, are_files, operation_in, word_count, most_parts, most_trees, most_workers}
+use Rattle.tib_command.specs.Jobs.{numeral_in, within, Asked, Task, job_of, asked_by, once, mode_in, count_in, beam_in, task_in, words_in, demo_in, demo_of, takes_number, most_demo, files_in, are_files, operation_in, word_count, most_parts, most_trees, most_workers}
 use Rattle.tib_command.specs.declared.job.Mode.TheVariants.{MinPlus}
 use Rattle.tib_command.specs.declared.job.Operation.{Operation}
 use Rattle.tib_command.specs.declared.job.Operation.TheVariants as operations
@@ -36,6 +36,8 @@ as_many_kinds operations.Forward = refl
 as_many_kinds operations.Backward = refl
 as_many_kinds operations.Compose = refl
 as_many_kinds operations.Image = refl
+as_many_kinds operations.Parse = refl
+as_many_kinds operations.Compare = refl
 as_many_kinds operations.Determinize = refl
 as_many_kinds operations.Check = refl
 as_many_kinds operations.Prune = refl

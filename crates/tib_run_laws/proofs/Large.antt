@@ -1,6 +1,6 @@
--- What `kbest` and `demo` answer, from the grammar to the answer of the run.
+-- What `kbest`, `demo` and `compare` answer, from the grammar to the answer of the run.
 use Rattle.tib_cost.specs.declared.Scale.{Scale}
-use Rattle.std.specs.Prelude.{◌≡◌, Bool, ℕ, List, [], ◌∷◌, Option, Some}
+use Rattle.std.specs.Prelude.{◌≡◌, Bool, ℕ, List, [], ◌∷◌, Option, Some, refl}
 use Rattle.tib_grammar.specs.GrammarOf.{GrammarOf}
 use Rattle.tib_command.specs.Jobs.{Asked}
 use Rattle.tib_command.specs.declared.job.Operation.TheVariants as operations
@@ -8,7 +8,8 @@ use Rattle.tib_operations.specs.Demo.{HasDemoText, IsDemoFault, demo_makes}
 use Rattle.tib_operations.specs.KBest.{HasKBestText, IsKBestFault, kbest_makes}
 use Rattle.tib_operations.specs.declared.status.Status.{Status}
 use Rattle.tib_operations.specs.declared.status.Status.TheVariants as statuses
-use Rattle.tib_run_laws.specs.Kinds.{of_grammar, AreTexts}
+use Rattle.tib_compare_text.specs.Compare.{HasCompareText, IsCompareFault, compare_makes}
+use Rattle.tib_run_laws.specs.Kinds.{of_grammar, of_support, AreTexts}
 use Rattle.tib_run_laws.specs.Answers.{IsAnswer}
 use Rattle.tib_run_laws.specs.Causes.{HasCause, HasEarlier, IsEarly, bytes_of, levelled_of, product_of, scale_of}
 use Rattle.tib_run_laws.proofs.Reached.{large_cause, large_first, made_answer, made_cause, made_first, no_file}
@@ -104,3 +105,50 @@ module _
   -- the text is an answer
   pub demo_answer : (text : List ℕ) → (demo_makes scale product asked.limit asked.task.demo).within → HasDemoText scale product asked.limit asked.task.demo text → IsAnswer asked held text
   demo_answer text within is = made_answer asked held operations.Demo scale product [] tt op we pe (no_file asked held scale) text tt within is
+
+-- the same of `compare`, whose grammars are read in Boolean whatever the mode
+
+pub compare_early : (limit : ℕ) (f g : GrammarOf) (s : Status) → IsCompareFault limit f g s → IsEarly s
+compare_early limit f g statuses.Done h = absurd h
+compare_early limit f g statuses.Usage h = absurd h
+compare_early limit f g (statuses.BadInput n fault) h = absurd h
+compare_early limit f g (statuses.Class n rule fault) h = absurd h
+compare_early limit f g (statuses.TooMany n) h = tt
+compare_early limit f g statuses.TreeTooLarge h = tt
+compare_early limit f g (statuses.ReadFault n) h = absurd h
+compare_early limit f g statuses.WriteFault h = absurd h
+compare_early limit f g (statuses.TooLong n) h = absurd h
+compare_early limit f g statuses.OutOfMemory h = tt
+
+module _
+    (asked : Asked) (held : List ℕ → Option (List ℕ)) (labels : List (List ℕ)) (f g : GrammarOf) (op : asked.task.operation ≡ operations.Compare)
+    (texts : AreTexts (scale_of asked.mode) labels (bytes_of asked held) (of_support ∷ (of_support ∷ [])) (f, (g, tt))) where
+  -- each fault has its cause
+  pub compare_cause : (before now : List ℕ → ℕ) (a b : ℕ) (s : Status) → IsCompareFault asked.limit f g s → HasCause (Some asked) held before now a b s
+  compare_cause before now a b statuses.Done h = absurd h
+  compare_cause before now a b statuses.Usage h = absurd h
+  compare_cause before now a b (statuses.BadInput n fault) h = absurd h
+  compare_cause before now a b (statuses.Class n rule fault) h = absurd h
+  compare_cause before now a b (statuses.TooMany n) h = made_cause asked held operations.Compare (scale_of asked.mode) (product_of asked.mode) labels (f, (g, tt)) op refl refl texts before now a b (statuses.TooMany n) h
+  compare_cause before now a b statuses.TreeTooLarge h = large_cause asked held operations.Compare (scale_of asked.mode) (product_of asked.mode) labels (f, (g, tt)) op refl refl texts (levelled_of asked.mode) refl before now a b h.1
+  compare_cause before now a b (statuses.ReadFault n) h = absurd h
+  compare_cause before now a b statuses.WriteFault h = absurd h
+  compare_cause before now a b (statuses.TooLong n) h = absurd h
+  compare_cause before now a b statuses.OutOfMemory h = tt
+
+  -- and comes where both files are of their kind
+  pub compare_first : (s : Status) → IsCompareFault asked.limit f g s → HasEarlier (Some asked) held s
+  compare_first statuses.Done h = absurd h
+  compare_first statuses.Usage h = absurd h
+  compare_first (statuses.BadInput n fault) h = absurd h
+  compare_first (statuses.Class n rule fault) h = absurd h
+  compare_first (statuses.TooMany n) h = made_first asked held operations.Compare (scale_of asked.mode) (product_of asked.mode) labels (f, (g, tt)) op refl refl texts (statuses.TooMany n) tt h
+  compare_first statuses.TreeTooLarge h = large_first asked held operations.Compare (scale_of asked.mode) (product_of asked.mode) labels (f, (g, tt)) op refl refl texts tt h.0
+  compare_first (statuses.ReadFault n) h = absurd h
+  compare_first statuses.WriteFault h = absurd h
+  compare_first (statuses.TooLong n) h = absurd h
+  compare_first statuses.OutOfMemory h = tt
+
+  -- the text is an answer
+  pub compare_answer : (text : List ℕ) → (compare_makes asked.limit f g).within → HasCompareText labels f g text → IsAnswer asked held text
+  compare_answer text within is = made_answer asked held operations.Compare (scale_of asked.mode) (product_of asked.mode) labels (f, (g, tt)) op refl refl texts text tt within is

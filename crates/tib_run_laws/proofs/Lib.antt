@@ -4,6 +4,7 @@ pub mod FilesAsked
 pub mod OfJobs
 pub mod Reached
 pub mod Large
+pub mod Parsed
 pub mod Faults
 pub mod Complete
 pub mod Runs

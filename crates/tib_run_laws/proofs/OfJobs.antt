@@ -1,7 +1,7 @@
 -- What holds of the answers of jobs, over what each operation brings.
 use Rattle.tib_cost.specs.declared.Scale.{Scale}
 use Rattle.std.proofs.Common.{◌≡◌, ℕ, ◌<◌, true, false, List, refl, Option, suc, arith}
-use Rattle.std.specs.Prelude.{Some, None, IsSome}
+use Rattle.std.specs.Prelude.{Bool, Some, None, IsSome}
 use Rattle.tib_cost.specs.Semiring.{sum_laws, max_laws, boolean_laws}
 use Rattle.tib_canon.proofs.Within.{distinct_texts}
 use Rattle.tib_command.specs.Jobs.{Asked, job_of}
@@ -11,12 +11,11 @@ use Rattle.tib_command.specs.declared.job.Operation.{Operation}
 use Rattle.tib_command.specs.declared.job.Operation.TheVariants as operations
 use Rattle.tib_run_laws.specs.Kinds.{kinds_of, file_at, bytes_at, OfName, IsOfKind, AreOfKinds, AreAllTold}
 use Rattle.tib_classes.specs.declared.error.ClassFault.{ClassFault}
-use Rattle.tib_run_laws.specs.Causes.{Numbers, numbers_of, scale_of, product_of, demanded, BreaksClass, MeetsClass, StaysInClass, IsInClass, IsOutOfClass, MakesTooMuch, MakesWithin, StaysWithin, StaysSmall, IsTooMuch, IsWithin, IsSmall, bytes_of}
-use Rattle.tib_run_laws.specs.Answers.{IsAnswerOf, IsAnswer, AreTold, AreOfTheirKinds, MeetsLaws, NeedsOf}
+use Rattle.tib_run_laws.specs.Causes.{Numbers, numbers_of, scale_of, product_of, BreaksClass, MeetsClass, StaysInClass, IsInClass, IsOutOfClass, MakesTooMuch, MakesWithin, MeetsLargeTree, StaysWithin, StaysSmall, IsTooMuch, IsTooLarge, IsWithin, IsSmall, bytes_of, levelled_of}
+use Rattle.tib_run_laws.specs.Answers.{IsAnswerOf, IsAnswer, ListsTrees, AreTold, AreOfTheirKinds, MeetsLaws, NeedsOf}
 use Rattle.tib_run_laws.proofs.FileValues.{values_there, values_agree, all_sound}
 use Rattle.tib_run_laws.proofs.FilesAsked.{limit_asked}
-use Rattle.tib_operations.proofs.ClassesByText.{met_by_text, broken_once, not_both, met_or_broken}
-use Rattle.tib_run_laws.proofs.OfOperations.{one_demand, makes_either, makes_by_text, result_once, result_there}
+use Rattle.tib_run_laws.proofs.OfOperations.{one_demand, demand_decided, makes_either, makes_by_text, large_or_listed, result_once, result_there}
 
 -- told files are told
 is_told : (o : Option (List ℕ)) (P : List ℕ → Type 0) → OfName o P → IsSome o
@@ -30,27 +29,25 @@ all_told scale o bytes are n kind e = is_told (bytes n) (IsOfKind scale kind) (a
 module _ (o : Operation) (scale : Scale) (bytes : ℕ → Option (List ℕ)) where
   -- it is not both kept and broken
   pub class_apart : (file : ℕ) (x : ℕ × ClassFault) → StaysInClass o scale bytes → BreaksClass o scale bytes file x → ⊥
-  class_apart file x inside b = not_both (demanded o b.values) file x (inside b.labels b.values b.texts) b.broken
+  class_apart file x inside b = (demand_decided o b.values).apart file x (inside b.labels b.values b.texts) b.broken
 
   -- where the files are told it is kept over each table of labels
   pub class_told : AreAllTold (kinds_of o) bytes → MeetsClass o scale bytes → StaysInClass o scale bytes
   class_told told m labels values texts =
-      met_by_text m.labels labels (demanded o m.values) (demanded o values)
-      (one_demand m.labels labels o m.values values (values_agree scale m.labels labels (kinds_of o) bytes m.values values told m.texts.texts texts.texts)) m.met
+      (one_demand m.labels labels o m.values values (values_agree scale m.labels labels (kinds_of o) bytes m.values values told m.texts.texts texts.texts)).met m.met
 
   -- and broken by one rule in one way
   pub break_once :
       AreAllTold (kinds_of o) bytes → (file other : ℕ) (x y : ℕ × ClassFault) → BreaksClass o scale bytes file x → BreaksClass o scale bytes other y →
       (file ≡ other) × (x.0 ≡ y.0) × (x.1 ≡ y.1)
   break_once told file other x y a b =
-      broken_once a.labels b.labels (demanded o a.values) (demanded o b.values)
-      (one_demand a.labels b.labels o a.values b.values (values_agree scale a.labels b.labels (kinds_of o) bytes a.values b.values told a.texts.texts b.texts.texts)) file other x y a.broken b.broken
+      (one_demand a.labels b.labels o a.values b.values (values_agree scale a.labels b.labels (kinds_of o) bytes a.values b.values told a.texts.texts b.texts.texts)).once file other x y a.broken b.broken
 
   -- that it is neither cannot be
   pub class_either : AreOfKinds scale (kinds_of o) bytes → (StaysInClass o scale bytes → ⊥) → ((file : ℕ) (x : ℕ × ClassFault) → BreaksClass o scale bytes file x → ⊥) → ⊥
   class_either are inside outside =
       let v = values_there scale (kinds_of o) bytes are in
-      met_or_broken (demanded o v.1)
+      (demand_decided o v.1).either
       (λ met. inside (class_told (all_told scale o bytes are) (record { labels = v.0; values = v.1; texts = v.2; met = met })))
       (λ file x broken. outside file x (record { labels = v.0; values = v.1; texts = v.2; broken = broken }))
 
@@ -87,6 +84,13 @@ module _ (o : Operation) (scale : Scale) (product : ℕ → ℕ → ℕ) (number
       makes_by_text scale product numbers a.labels labels (distinct_texts a.labels a.texts.distinct) (distinct_texts labels texts.distinct) o a.values values
       (values_agree scale a.labels labels (kinds_of o) bytes a.values values told a.texts.texts texts.texts) a.within
 
+  -- an answer, and a tree that is too large at some state, only an operation has that lists trees
+  pub large_lists :
+      (levelled : Bool) (text : List ℕ) → AreAllTold (kinds_of o) bytes → IsAnswerOf o scale product numbers bytes text → MeetsLargeTree o scale levelled product numbers bytes → ListsTrees o
+  large_lists levelled text told a m =
+      large_or_listed scale levelled product numbers m.labels a.labels (distinct_texts m.labels m.texts.distinct) (distinct_texts a.labels a.texts.distinct) o m.values a.values text
+      (values_agree scale m.labels a.labels (kinds_of o) bytes m.values a.values told m.texts.texts a.texts.texts) m.large a.result_is
+
   -- of files of the class that is demanded
   pub answer_class : (text : List ℕ) → AreAllTold (kinds_of o) bytes → IsAnswerOf o scale product numbers bytes text → StaysInClass o scale bytes
   answer_class text told a = class_told o scale bytes told (record { labels = a.labels; values = a.values; texts = a.texts; met = a.met })
@@ -119,6 +123,8 @@ needs_met operations.Forward product limit m = m
 needs_met operations.Backward product limit m = m
 needs_met operations.Compose product limit m = m
 needs_met operations.Image product limit m = m
+needs_met operations.Parse product limit m = m
+needs_met operations.Compare product limit m = tt
 needs_met operations.Determinize product limit m = m
 needs_met operations.Check product limit m = tt
 needs_met operations.Prune product limit m = m
@@ -166,6 +172,10 @@ module _ (asked : Asked) (held : List ℕ → Option (List ℕ)) where
 
   pub answer_apart : (text : List ℕ) → AreTold asked held → IsAnswer asked held text → IsTooMuch asked held → ⊥
   answer_apart text told a large = within_apart (answer_within text told a) large
+
+  pub answer_lists : (text : List ℕ) → AreTold asked held → IsAnswer asked held text → IsTooLarge asked held → ListsTrees asked.task.operation
+  answer_lists text told a large =
+      large_lists asked.task.operation (scale_of asked.mode) (product_of asked.mode) (numbers_of asked) (bytes_of asked held) (levelled_of asked.mode) text (told_bytes told) a large
 
   pub kinds_are_told : AreOfTheirKinds asked held → AreTold asked held
   kinds_are_told are n kind e = is_told (bytes_at held (file_at (Some asked) n)) (IsOfKind (scale_of asked.mode) kind) (are n kind e)

@@ -6,13 +6,13 @@ use Rattle.tib_lex.specs.declared.fault.FileFault.{FileFault}
 use Rattle.tib_command.specs.Jobs.{Asked}
 use Rattle.tib_operations.specs.declared.status.Status.{Status}
 use Rattle.tib_operations.specs.declared.status.Status.TheVariants as statuses
-use Rattle.tib_run_laws.specs.Kinds.{Kind, of_grammar, of_trees, of_one_tree, of_transducer, kinds_of, kind_at, file_at, bytes_at, OfName, OfFile, Told, IsOfKind, HasFault}
+use Rattle.tib_run_laws.specs.Kinds.{Kind, of_grammar, of_support, of_trees, of_one_tree, of_transducer, of_string_transducer, of_string, kinds_of, kind_at, file_at, bytes_at, OfName, OfFile, Told, IsOfKind, HasFault}
 use Rattle.tib_operations.specs.FileTexts.{IsShort, IsLong}
-use Rattle.tib_run_laws.specs.Causes.{IsInClass, IsOutOfClass, IsTooMuch, IsWithin, scale_of, bytes_of}
+use Rattle.tib_run_laws.specs.Causes.{IsInClass, IsOutOfClass, IsTooMuch, IsTooLarge, IsWithin, scale_of, bytes_of}
 use Rattle.tib_run_laws.specs.Answers.{IsAnswer, AreTold, EndsCalmly, AreOneStatus}
 use Rattle.tib_run_laws.proofs.Faults.{faulty_kind, one_fault}
 use Rattle.tib_run_laws.proofs.FileValues.{kinds_told}
-use Rattle.tib_run_laws.proofs.OfJobs.{answer_apart, answer_inside, outside_apart, outside_once, inside_told, within_apart, within_told}
+use Rattle.tib_run_laws.proofs.OfJobs.{answer_apart, answer_lists, answer_inside, outside_apart, outside_once, inside_told, within_apart, within_told}
 use Rattle.tib_run_laws.proofs.Reached.{some_kind, told_some}
 use Rattle.tib_lex.proofs.Lists.{some_same}
 
@@ -31,9 +31,12 @@ slice_some (x ∷ xs) (suc n) h = slice_some xs n (omega arith)
 -- a file of its kind is not too long
 kind_short : (scale : Scale) (kind : Kind) (x : List ℕ) → IsOfKind scale kind x → IsShort x
 kind_short scale of_grammar x is = is.2.0
+kind_short scale of_support x is = is.2.0
 kind_short scale of_trees x is = is.2.0
 kind_short scale of_one_tree x is = is.2.0
 kind_short scale of_transducer x is = is.2.0
+kind_short scale of_string_transducer x is = is.2.0
+kind_short scale of_string x is = is.2.0
 
 holds : (o : Option (List ℕ)) (x : List ℕ) (P : List ℕ → Type 0) → o ≡ Some x → IfSome o P → P x
 holds o x P e h = let there : IfSome (Some x) P = subst (λ z. IfSome z P) e h in there
@@ -75,7 +78,7 @@ module _ (asked : Asked) (held : List ℕ → Option (List ℕ)) where
   Says (statuses.BadInput n fault) = (s : Stops n) × IsShort s.text × HasFault scale (Some s.kind) s.text fault
   Says (statuses.Class file rule fault) = ((n : ℕ) → IsSound n) × IsOutOfClass asked held file (rule, fault)
   Says (statuses.TooMany limit) = ((n : ℕ) → IsSound n) × (asked.limit ≡ limit) × IsTooMuch asked held × IsInClass asked held
-  Says statuses.TreeTooLarge = ((n : ℕ) → IsSound n) × IsWithin asked held × IsInClass asked held
+  Says statuses.TreeTooLarge = ((n : ℕ) → IsSound n) × IsWithin asked held × IsInClass asked held × IsTooLarge asked held
   Says (statuses.ReadFault n) = ⊥
   Says statuses.WriteFault = ⊥
   Says (statuses.TooLong n) = (s : Stops n) × (IsLong s.text)
@@ -105,13 +108,13 @@ module _ (asked : Asked) (held : List ℕ → Option (List ℕ)) where
   short_and_long m n s t h k = omega (arith, h, k, ap length (one_text m n s t))
 
   module _ (told : AreTold asked held) where
-    one_of : (s t : Status) → Says s → Says t → AreOneStatus s t
+    one_of : (s t : Status) → Says s → Says t → AreOneStatus asked.task.operation s t
     one_of statuses.Done statuses.Done a b = inl refl
     one_of statuses.Done statuses.Usage a b = absurd b
     one_of statuses.Done (statuses.BadInput n f) a b = absurd (never_stops a.0 n b.0)
     one_of statuses.Done (statuses.Class f r x) a b = absurd (outside_apart asked held f (r, x) (answer_inside asked held a.1.0 told a.1.1) b.1)
     one_of statuses.Done (statuses.TooMany l) a b = absurd (answer_apart asked held a.1.0 told a.1.1 b.2)
-    one_of statuses.Done statuses.TreeTooLarge a b = inr (inr (inr (inl (refl, refl))))
+    one_of statuses.Done statuses.TreeTooLarge a b = inr (inr (inr (answer_lists asked held a.1.0 told a.1.1 b.3, inl (refl, refl))))
     one_of statuses.Done (statuses.ReadFault n) a b = absurd b
     one_of statuses.Done statuses.WriteFault a b = absurd b
     one_of statuses.Done (statuses.TooLong n) a b = absurd (never_stops a.0 n b.0)
@@ -149,7 +152,7 @@ module _ (asked : Asked) (held : List ℕ → Option (List ℕ)) where
     one_of (statuses.TooMany k) statuses.WriteFault a b = absurd b
     one_of (statuses.TooMany k) (statuses.TooLong n) a b = absurd (never_stops a.0 n b.0)
     one_of (statuses.TooMany k) statuses.OutOfMemory a b = inr (inr (inl refl))
-    one_of statuses.TreeTooLarge statuses.Done a b = inr (inr (inr (inr (refl, refl))))
+    one_of statuses.TreeTooLarge statuses.Done a b = inr (inr (inr (answer_lists asked held b.1.0 told b.1.1 a.3, inr (refl, refl))))
     one_of statuses.TreeTooLarge statuses.Usage a b = absurd b
     one_of statuses.TreeTooLarge (statuses.BadInput n f) a b = absurd (never_stops a.0 n b.0)
     one_of statuses.TreeTooLarge (statuses.Class f r x) a b = absurd (outside_apart asked held f (r, x) a.2 b.1)
@@ -213,7 +216,7 @@ module _ (asked : Asked) (held : List ℕ → Option (List ℕ)) where
           )
       says (statuses.Class file rule fault) e = (λ n kind is. e.earlier n kind (all_before n kind is) is, e.cause)
       says (statuses.TooMany limit) e = (λ n kind is. e.earlier.0 n kind (all_before n kind is) is, e.cause.0, e.cause.1, inside_told asked held told e.earlier.1)
-      says statuses.TreeTooLarge e = (λ n kind is. e.earlier.0 n kind (all_before n kind is) is, within_told asked held told e.earlier.2, inside_told asked held told e.earlier.1)
+      says statuses.TreeTooLarge e = (λ n kind is. e.earlier.0 n kind (all_before n kind is) is, within_told asked held told e.earlier.2, inside_told asked held told e.earlier.1, e.cause)
       says (statuses.ReadFault n) e = e.calm.files n e.cause
       says statuses.WriteFault e = e.calm.out e.cause.1
       says (statuses.TooLong n) e =
@@ -223,5 +226,5 @@ module _ (asked : Asked) (held : List ℕ → Option (List ℕ)) where
           )
       says statuses.OutOfMemory e = tt
 
-      pub one_status : (s t : Status) → EndsCalmly asked held s → EndsCalmly asked held t → AreOneStatus s t
+      pub one_status : (s t : Status) → EndsCalmly asked held s → EndsCalmly asked held t → AreOneStatus asked.task.operation s t
       one_status s t a b = one_of s t (says s a) (says t b)

@@ -108,7 +108,7 @@ about_early file statuses.WriteFault h = absurd h
 about_early file (statuses.TooLong n) h = tt
 about_early file statuses.OutOfMemory h = tt
 
-pub class_early : (demanded : Option Demanded) (s : Status) → IsClassFault demanded s → IsEarly s
+pub class_early : (demanded : Demanded) (s : Status) → IsClassFault demanded s → IsEarly s
 class_early demanded statuses.Done h = absurd h
 class_early demanded statuses.Usage h = absurd h
 class_early demanded (statuses.BadInput n fault) h = absurd h

@@ -25,6 +25,8 @@ use Rattle.tib_operations.specs.Determinize.{HasDeterminizedText}
 use Rattle.tib_operations.specs.Demo.{HasDemoText}
 use Rattle.tib_operations.specs.Check.{HasClasses}
 use Rattle.tib_operations.specs.Prune.{HasPruneText}
+use Rattle.tib_parse_text.specs.Parse.{HasParseText}
+use Rattle.tib_compare_text.specs.Compare.{HasCompareText}
 
 -- the text answers the operation on these values of its files
 abbrev pub IsResultOf : (operation : Operation) → Scale → (ℕ → ℕ → ℕ) → Numbers → List (List ℕ) → ValuesOf (kinds_of operation) → List ℕ → Type 0
@@ -37,6 +39,8 @@ IsResultOf operations.Forward scale product numbers labels values text = HasForw
 IsResultOf operations.Backward scale product numbers labels values text = HasBackwardText scale product numbers.limit labels values.0 values.1.0 text
 IsResultOf operations.Compose scale product numbers labels values text = HasComposeText scale product numbers.limit labels values.0 values.1.0 text
 IsResultOf operations.Image scale product numbers labels values text = HasImageText scale product numbers.limit labels values.0 values.1.0 text
+IsResultOf operations.Parse scale product numbers labels values text = HasParseText scale product numbers.limit labels values.0 values.1.0 text
+IsResultOf operations.Compare scale product numbers labels values text = HasCompareText labels values.0 values.1.0 text
 IsResultOf operations.Determinize scale product numbers labels values text = HasDeterminizedText scale product numbers.limit labels values.0 text
 IsResultOf operations.Check scale product numbers labels values text = HasClasses values.0 text
 IsResultOf operations.Prune scale product numbers labels values text = HasPruneText scale product numbers.beam labels values.0 text
@@ -71,6 +75,8 @@ NeedsOf operations.Forward product limit = MeetsLaws product limit
 NeedsOf operations.Backward product limit = MeetsLaws product limit
 NeedsOf operations.Compose product limit = MeetsLaws product limit
 NeedsOf operations.Image product limit = MeetsLaws product limit
+NeedsOf operations.Parse product limit = MeetsLaws product limit
+NeedsOf operations.Compare product limit = Unit {0}
 NeedsOf operations.Determinize product limit = MeetsLaws product limit
 NeedsOf operations.Check product limit = Unit {0}
 NeedsOf operations.Prune product limit = MeetsLaws product limit
@@ -94,8 +100,9 @@ abbrev pub AreOfTheirKinds : Asked → (List ℕ → Option (List ℕ)) → Type
 AreOfTheirKinds asked held =
     (n : ℕ) (kind : Kind) → kind_at (Some asked) n ≡ Some kind → OfName (bytes_at held (file_at (Some asked) n)) (IsOfKind (scale_of asked.mode) kind)
 
--- each file of a job is told, not too long and of its kind, and of the class that the operation demands, what the job makes is within
--- the limit, and no state has a tree that is too large among those that the job may ask of it
+-- Each file of a job is told, not too long and of its kind, and of the class that the operation demands, what the job makes is within
+-- the limit, and no state has a tree that is too large among those that the job may ask of it. Of two grammars that are compared, the
+-- least tree by which they differ, where there is one, is not too large.
 pub record IsAnswerable (asked : Asked) (held : List ℕ → Option (List ℕ)) : Type 0 where
   pub short : (n : ℕ) (name : List ℕ) → file_at (Some asked) n ≡ Some name → OfName (held name) IsShort
   pub kinds : AreOfTheirKinds asked held
@@ -119,13 +126,20 @@ pub record EndsCalmly (asked : Asked) (held : List ℕ → Option (List ℕ)) (s
   pub earlier : HasEarlier (Some asked) held status
   pub text : status ≡ statuses.Done → (text : List ℕ) × IsAnswer asked held text
 
--- one run listed its trees, and the other met one that is too large among those of some state
-abbrev pub DifferInLarge : Status → Status → Type 0
-DifferInLarge s t = ((s ≡ statuses.Done) × (t ≡ statuses.TreeTooLarge)) ⊎ ((s ≡ statuses.TreeTooLarge) × (t ≡ statuses.Done))
+-- an operation lists trees, and so may meet one that is too large among those of a state where none that it lists is
+abbrev pub ListsTrees : Operation → Type 0
+ListsTrees operations.KBest = Unit {0}
+ListsTrees operations.Demo = Unit {0}
+ListsTrees operation = ⊥
+
+-- of such an operation, one run listed its trees, and the other met one that is too large among those of some state
+abbrev pub DifferInLarge : Operation → Status → Status → Type 0
+DifferInLarge operation s t =
+    ListsTrees operation × (((s ≡ statuses.Done) × (t ≡ statuses.TreeTooLarge)) ⊎ ((s ≡ statuses.TreeTooLarge) × (t ≡ statuses.Done)))
 
 -- the two are one, or memory was refused in one of the runs, or one alone met a tree that is too large
-abbrev pub AreOneStatus : Status → Status → Type 0
-AreOneStatus s t = (s ≡ t) ⊎ ((s ≡ statuses.OutOfMemory) ⊎ ((t ≡ statuses.OutOfMemory) ⊎ DifferInLarge s t))
+abbrev pub AreOneStatus : Operation → Status → Status → Type 0
+AreOneStatus operation s t = (s ≡ t) ⊎ ((s ≡ statuses.OutOfMemory) ⊎ ((t ≡ statuses.OutOfMemory) ⊎ DifferInLarge operation s t))
 
 -- a job that can be answered, in a run in which no count rose, was answered but for want of memory
 abbrev pub IsComplete : Option Asked → (List ℕ → Option (List ℕ)) → (List ℕ → ℕ) → (List ℕ → ℕ) → ℕ → ℕ → Status → Type 0

@@ -26,7 +26,9 @@ use Rattle.tib_operations.specs.Determinize.{determinize_makes}
 use Rattle.tib_operations.specs.Demo.{demo_makes, DemoIsSmall, DemoHasLargeTree}
 use Rattle.tib_operations.specs.Check.{check_makes}
 use Rattle.tib_operations.specs.Prune.{prune_makes}
-use Rattle.tib_operations.specs.Classes.{Demanded, IsMet, IsBroken}
+use Rattle.tib_operations.specs.Classes.{Demanded, nothing_demanded, IsMet, IsBroken}
+use Rattle.tib_parse_text.specs.Parse.{parse_makes, parse_demands}
+use Rattle.tib_compare_text.specs.Compare.{compare_makes, LeastIsSmall, HasLargeLeast}
 use Rattle.tib_operations.specs.declared.status.Status.{Status}
 use Rattle.tib_operations.specs.declared.status.Status.TheVariants as statuses
 
@@ -77,36 +79,42 @@ makes operations.Forward scale product numbers values = forward_makes product nu
 makes operations.Backward scale product numbers values = backward_makes product numbers.limit values.0 values.1.0
 makes operations.Compose scale product numbers values = compose_makes product numbers.limit values.0 values.1.0
 makes operations.Image scale product numbers values = image_makes numbers.limit values.0 values.1.0
+makes operations.Parse scale product numbers values = parse_makes numbers.limit values.0 values.1.0
+makes operations.Compare scale product numbers values = compare_makes numbers.limit values.0 values.1.0
 makes operations.Determinize scale product numbers values = determinize_makes product numbers.limit values.0
 makes operations.Check scale product numbers values = check_makes
 makes operations.Prune scale product numbers values = prune_makes product numbers.limit values.0
 makes operations.Demo scale product numbers values = demo_makes scale product numbers.limit numbers.demo
 
 -- what class an operation demands of which file
-abbrev pub demanded : (operation : Operation) → ValuesOf (kinds_of operation) → Option Demanded
-demanded operations.Weigh values = None
-demanded operations.Inside values = None
-demanded operations.Normal values = None
-demanded operations.KBest values = None
-demanded operations.Intersect values = None
+abbrev pub demanded : (operation : Operation) → ValuesOf (kinds_of operation) → Demanded
+demanded operations.Weigh values = nothing_demanded
+demanded operations.Inside values = nothing_demanded
+demanded operations.Normal values = nothing_demanded
+demanded operations.KBest values = nothing_demanded
+demanded operations.Intersect values = nothing_demanded
 demanded operations.Forward values = forward_demands values.1.0
 demanded operations.Backward values = backward_demands values.0
 demanded operations.Compose values = compose_demands values.1.0
-demanded operations.Image values = None
-demanded operations.Determinize values = None
-demanded operations.Check values = None
-demanded operations.Prune values = None
-demanded operations.Demo values = None
+demanded operations.Image values = nothing_demanded
+demanded operations.Parse values = parse_demands values.0
+demanded operations.Compare values = nothing_demanded
+demanded operations.Determinize values = nothing_demanded
+demanded operations.Check values = nothing_demanded
+demanded operations.Prune values = nothing_demanded
+demanded operations.Demo values = nothing_demanded
 
--- an operation lists no tree that is too large
+-- an operation names no tree that is too large: not among those that it lists, nor as the least by which two grammars differ
 abbrev pub ListsNoLarge : (operation : Operation) → Scale → (ℕ → ℕ → ℕ) → Numbers → List (List ℕ) → ValuesOf (kinds_of operation) → Type 0
 ListsNoLarge operations.KBest scale product numbers labels values = ListsSmall product numbers.k labels values.0
+ListsNoLarge operations.Compare scale product numbers labels values = LeastIsSmall labels values.0 values.1.0
 ListsNoLarge operations.Demo scale product numbers labels values = DemoIsSmall scale product numbers.demo
 ListsNoLarge operation scale product numbers labels values = Unit {0}
 
--- a state has a tree that is too large among those that it may have to give
+-- a state has a tree that is too large among those that it may have to give, or each tree by which two grammars differ is too large
 abbrev pub MeetsLarge : (operation : Operation) → Scale → Bool → (ℕ → ℕ → ℕ) → Numbers → List (List ℕ) → ValuesOf (kinds_of operation) → Type 0
 MeetsLarge operations.KBest scale levelled product numbers labels values = HasLargeTree levelled product numbers.k labels values.0
+MeetsLarge operations.Compare scale levelled product numbers labels values = HasLargeLeast values.0 values.1.0
 MeetsLarge operations.Demo scale levelled product numbers labels values = DemoHasLargeTree levelled scale product numbers.demo
 MeetsLarge operation scale levelled product numbers labels values = ⊥
 
@@ -218,8 +226,8 @@ HasWithin (Some asked) held = MakesWithin asked.task.operation (scale_of asked.m
 
 -- Each answer comes only with its cause: words that are no command, a count of faults that rose in this run, a file that
 -- is too long, the first fault of a file that is not, the first rule outside the class that the operation demands, a normal form or a
--- reached set with more parts than the limit of the job, or a tree that is too large among those that a state may have to give. Want
--- of memory may stand at any place.
+-- reached set with more parts than the limit of the job, or a tree that is too large among those that a state may have to give, or
+-- that each tree by which two grammars differ is too large. Want of memory may stand at any place.
 abbrev pub HasCause : Option Asked → (List ℕ → Option (List ℕ)) → (List ℕ → ℕ) → (List ℕ → ℕ) → ℕ → ℕ → Status → Type 0
 HasCause job held before now out_before out_now statuses.Done = IsSome job
 HasCause job held before now out_before out_now statuses.Usage = job ≡ None

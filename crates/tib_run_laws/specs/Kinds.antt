@@ -1,5 +1,6 @@
 -- What the files of a job hold.
 use Rattle.tib_cost.specs.declared.Scale.{Scale}
+use Rattle.tib_cost.specs.declared.Scale.TheVariants as scales
 use Rattle.std.specs.Prelude.{◌≡◌, ℕ, List, [], ◌∷◌, Option, Some, None, IfSome, IsSome, slice_get}
 use Rattle.std.proofs.Common.{zero, suc}
 use Rattle.tib_lex.specs.declared.fault.FileFault.{FileFault}
@@ -11,16 +12,25 @@ use Rattle.tib_grammar.specs.GrammarOf.{GrammarOf}
 use Rattle.tib_grammar_file.specs.Faults.{IsFirstFault}
 use Rattle.tib_transducer.specs.TransducerOf.{TransducerOf}
 use Rattle.tib_transducer_file.specs.Faults.{IsFirstFault as IsFirstTransducerFault}
+use Rattle.tib_strings.specs.StringTransducerOf.{StringTransducerOf}
+use Rattle.tib_string_file.specs.StringText.{ReadsAsString}
+use Rattle.tib_string_file.specs.StringFaults.{IsFirstStringFault}
+use Rattle.tib_string_file.specs.TransducerText.{ReadsAs as ReadsAsStringTransducer}
+use Rattle.tib_string_file.specs.Faults.{IsFirstFault as IsFirstStringTransducerFault}
 use Rattle.tib_command.specs.Jobs.{Asked}
-use Rattle.tib_operations.specs.FileTexts.{IsRead, ListsTrees, IsTransducerRead}
+use Rattle.tib_operations.specs.FileTexts.{IsShort, IsRead, ListsTrees, IsTransducerRead}
 use Rattle.tib_command.specs.declared.job.Operation.{Operation}
 use Rattle.tib_command.specs.declared.job.Operation.TheVariants as operations
 
+-- what a file holds; of a grammar of which only its trees count, and no costs, it is the support
 pub data Kind : Type 0 where
   of_grammar : Kind
+  of_support : Kind
   of_trees : Kind
   of_one_tree : Kind
   of_transducer : Kind
+  of_string_transducer : Kind
+  of_string : Kind
 
 -- what the files of an operation hold, in order
 abbrev pub kinds_of : Operation → List Kind
@@ -33,6 +43,8 @@ kinds_of operations.Forward = of_grammar ∷ of_transducer ∷ []
 kinds_of operations.Backward = of_transducer ∷ of_grammar ∷ []
 kinds_of operations.Compose = of_transducer ∷ of_transducer ∷ []
 kinds_of operations.Image = of_one_tree ∷ of_transducer ∷ []
+kinds_of operations.Parse = of_string_transducer ∷ of_string ∷ []
+kinds_of operations.Compare = of_support ∷ of_support ∷ []
 kinds_of operations.Determinize = of_grammar ∷ []
 kinds_of operations.Check = of_transducer ∷ []
 kinds_of operations.Prune = of_grammar ∷ []
@@ -70,16 +82,34 @@ Told held P name = IfSome (held name) P
 -- what the text of a file of the kind stands for
 abbrev pub ValueOf : Kind → Type 0
 ValueOf of_grammar = GrammarOf
+ValueOf of_support = GrammarOf
 ValueOf of_trees = List (Tree ℕ)
 ValueOf of_one_tree = Tree ℕ
 ValueOf of_transducer = TransducerOf
+ValueOf of_string_transducer = StringTransducerOf
+ValueOf of_string = List ℕ
 
--- the bytes are not too many, and are the text of the value over a table of labels
+-- the tree-to-string transducer of the text, with no side too large
+abbrev pub IsStringTransducerRead : Scale → List (List ℕ) → StringTransducerOf → List ℕ → Type 0
+IsStringTransducerRead scale labels t bytes = IsShort bytes × ReadsAsStringTransducer scale labels bytes t
+
+-- the labels of the words of the text, which are not too many
+abbrev pub IsStringRead : List (List ℕ) → List ℕ → List ℕ → Type 0
+IsStringRead labels string bytes = IsShort bytes × ReadsAsString labels bytes string
+
+-- the grammar of the text in Boolean, whose rules cost nothing
+abbrev pub IsSupportRead : List (List ℕ) → GrammarOf → List ℕ → Type 0
+IsSupportRead labels g bytes = IsRead scales.Unweighted labels g bytes
+
+-- the bytes are not too many, and are the text of the value over a table of labels; a support is read in Boolean whatever the mode
 abbrev pub IsTextOf : Scale → List (List ℕ) → (kind : Kind) → ValueOf kind → List ℕ → Type 0
 IsTextOf scale labels of_grammar g bytes = IsRead scale labels g bytes
+IsTextOf scale labels of_support g bytes = IsSupportRead labels g bytes
 IsTextOf scale labels of_trees trees bytes = ListsTrees labels trees bytes
 IsTextOf scale labels of_one_tree one bytes = ListsTrees labels (one ∷ []) bytes
 IsTextOf scale labels of_transducer t bytes = IsTransducerRead scale labels t bytes
+IsTextOf scale labels of_string_transducer t bytes = IsStringTransducerRead scale labels t bytes
+IsTextOf scale labels of_string string bytes = IsStringRead labels string bytes
 
 -- the bytes are the text of a value of the kind
 abbrev pub IsOfKind : Scale → Kind → List ℕ → Type 0
@@ -113,9 +143,12 @@ AreAllTold kinds bytes = (n : ℕ) (kind : Kind) → slice_get kinds n ≡ Some 
 abbrev pub HasFault : Scale → Option Kind → List ℕ → FileFault → Type 0
 HasFault scale None bytes fault = ⊥
 HasFault scale (Some of_grammar) bytes fault = IsFirstFault scale bytes fault
+HasFault scale (Some of_support) bytes fault = IsFirstFault scales.Unweighted bytes fault
 HasFault scale (Some of_trees) bytes fault = IsFirstTreeFault bytes fault
 HasFault scale (Some of_one_tree) bytes fault = IsOneTreeFault bytes fault
 HasFault scale (Some of_transducer) bytes fault = IsFirstTransducerFault scale bytes fault
+HasFault scale (Some of_string_transducer) bytes fault = IsFirstStringTransducerFault scale bytes fault
+HasFault scale (Some of_string) bytes fault = IsFirstStringFault bytes fault
 
 -- bytes of a kind have no fault as such
 abbrev pub KindsHaveNoFault : Type 0

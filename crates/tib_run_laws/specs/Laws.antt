@@ -93,9 +93,9 @@ JobsHaveNotOutside =
     (asked : Asked) (held : List ℕ → Option (List ℕ)) (text : List ℕ) (file : ℕ) (found : ℕ × ClassFault) → AreOfTheirKinds asked held →
     IsAnswer asked held text → IsOutOfClass asked held file found → ⊥
 
--- a job whose files are told ends with one status in all runs in which no count rises and no memory is refused, or with a list in the
--- one and a tree that is too large in the other
+-- a job whose files are told ends with one status in all runs in which no count rises and no memory is refused, or, where it lists
+-- trees, with a list in the one and a tree that is too large in the other
 abbrev pub StatusesAreOne : Type 0
 StatusesAreOne =
     (words : List (List ℕ)) (asked : Asked) (held : List ℕ → Option (List ℕ)) (one other : Status) → job_of words ≡ Some asked →
-    AreTold asked held → EndsCalmly asked held one → EndsCalmly asked held other → AreOneStatus one other
+    AreTold asked held → EndsCalmly asked held one → EndsCalmly asked held other → AreOneStatus asked.task.operation one other

@@ -105,4 +105,4 @@ RunsEndAlike =
     (words : List (List ℕ)) (asked : Asked) (before after others later : FilesSeen) (old new first last : SinkSeen) (one other : Status) →
     job_of words ≡ Some asked → AreTold asked before.held → others.held ≡ before.held →
     IsCalm asked before.faults after.faults old.faults new.faults → IsCalm asked others.faults later.faults first.faults last.faults →
-    IsRunOf (Some asked) before after old new one → IsRunOf (Some asked) others later first last other → AreOneStatus one other
+    IsRunOf (Some asked) before after old new one → IsRunOf (Some asked) others later first last other → AreOneStatus asked.task.operation one other
