@@ -21,6 +21,7 @@ kind_words kinds.UnknownVariable = codes "unknown variable\n"
 kind_words kinds.NotWhole = codes "weight is not a whole number\n"
 kind_words kinds.WeightTooLarge = codes "weight too large\n"
 kind_words kinds.TooManyNodes = codes "too many nodes\n"
+kind_words kinds.BadString = codes "bad string\n"
 
 abbrev pub fault_line : ℕ → FileFault → List ℕ
 fault_line file fault = (codes "tiburon: file " ++ decimal file ++ codes ": line ") ++ (decimal fault.line ++ codes ": " ++ kind_words fault.kind)

@@ -10,6 +10,7 @@ ghost use Rattle.tib_operations.specs.Prune.{IsBeam};
 
 use crate::backward::backward_files;
 use crate::check::check_file;
+use crate::compare::compare_files;
 use crate::compose::compose_files;
 use crate::demo::demo_of_number;
 use crate::determinize::determinize_file;
@@ -19,6 +20,7 @@ use crate::inside::inside_of_file;
 use crate::intersect::intersect_files;
 use crate::kbest::kbest_of_file;
 use crate::normal::normal_of_file;
+use crate::parse::parse_files;
 use crate::prune::prune_of_file;
 use crate::weigh::weigh_files;
 use std::alloc::Global;
@@ -65,6 +67,8 @@ pub(crate) fn text_of<S: Semiring + Sync + Drop, R: Threads + Sync, F: Files, G:
         Operation::Backward => backward_files::<S, F, G>(alloc, job, files, gate),
         Operation::Compose => compose_files::<S, F, G>(alloc, job, files, gate),
         Operation::Image => image_files::<S, F, G>(alloc, job, files, gate),
+        Operation::Parse => parse_files::<S, F, G>(alloc, job, files, gate),
+        Operation::Compare => compare_files::<F, G>(alloc, job, files, gate),
         Operation::Determinize => determinize_file::<S, F, G>(alloc, job, files, gate),
         Operation::Check => check_file::<S, F>(alloc, job, files),
         Operation::Prune => prune_of_file::<S, F>(alloc, job, files),

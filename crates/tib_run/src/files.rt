@@ -6,25 +6,29 @@ ghost use Rattle.tib_command.specs.Jobs.{meaning};
 ghost use Rattle.tib_run_laws.specs.Causes.{HasCause, IsAbout, scale_of};
 ghost use Rattle.tib_operations.specs.Moves.{ArePlainMoves};
 ghost use Rattle.tib_canon_transducer.specs.Keys.{AreMovesOver};
-ghost use Rattle.tib_run_laws.specs.Kinds.{file_at, kind_at, OfFile, Told, of_grammar, of_trees, of_one_tree, of_transducer};
+ghost use Rattle.tib_cost.specs.declared.Scale.TheVariants.{Unweighted};
+ghost use Rattle.tib_run_laws.specs.Kinds.{file_at, kind_at, OfFile, Told, IsStringRead, IsStringTransducerRead, IsSupportRead, of_grammar, of_support, of_trees, of_one_tree, of_transducer, of_string_transducer, of_string};
 ghost use Rattle.tib_operations.specs.FileTexts.{IsShort, IsRead, ListsTrees, IsTransducerRead};
 ghost use Rattle.tib_grammar_file.specs.Printable.{ArePrintable};
 ghost use Rattle.tib_tree.specs.Grows.{AreDistinct, Grows};
 ghost use Rattle.tib_lex.specs.Lists.{Each};
 ghost use Rattle.tib_tree.specs.Growth.{HasLabels};
+ghost use Rattle.tib_parse_text.specs.Words.{ArePlainWords};
 
 use std::alloc::Global;
 use tib_command::Job;
-use tib_cost::Semiring;
+use tib_cost::{Boolean, Semiring};
 use tib_grammar::Grammar;
 use tib_grammar_file::{read_grammar, read_grammars_are_printable};
 use tib_io::{FileError, Files, read_file};
 use tib_lex::ReadError;
 use tib_one_tree::read_one_tree;
 use tib_operations::Status;
+use tib_string_file::{read_string, read_string_transducer};
+use tib_strings::StringTransducer;
 use tib_transducer::Transducer;
 use tib_transducer_file::read_transducer;
-use tib_tree::{Labels, Tree, read_trees};
+use tib_tree::{Label, Labels, Tree, read_trees};
 
 // The name of a file of the job, which counts from 1.
 fn name_of(job: &Job, file: u32) -> &str
@@ -191,6 +195,109 @@ pub(crate) fn transducer_in<S: Semiring, F: Files>(
     };
     match read_transducer::<S>(alloc, &bytes, labels) {
         Ok(transducer) => Ok(transducer),
+        Err(ReadError::Fault(fault)) => Err(Status::BadInput { file, fault }),
+        Err(ReadError::OutOfMemory) => Err(Status::OutOfMemory),
+    }
+}
+
+/// The grammar of a file of the job of which only its trees count, read in Boolean whatever the mode of the job, or the status with
+/// which the run ends.
+pub(crate) fn support_in<F: Files>(
+    alloc: Global,
+    job: &Job,
+    file: u32,
+    files: &mut F,
+    labels: &mut Labels,
+) -> Result<Grammar<Boolean>, Status>
+    requires from { 1 ≤ file }
+    requires to { file ≤ length job.now.files.items }
+    requires kind { kind_at (Some (meaning job.now)) file ≡ Some of_support }
+    requires room { length labels.old + most_bytes < 2 ^ 32 - 1 }
+    ensures few { length labels.new ≤ length labels.old + most_bytes }
+    ensures text { IfOk result (λ g. OfFile (Some (meaning job.now)) file (Told (F.held files.old) (IsSupportRead labels.new g))) }
+    ensures printable { IfOk result (λ g. ArePrintable Unweighted labels.new g.rules) }
+    ensures grows { Grows labels.old labels.new }
+    ensures cause { IfErr result (HasCause (Some (meaning job.now)) (F.held files.old) (F.faults files.old) (F.faults files.new) 0 0) }
+    ensures about { IfErr result (IsAbout file) }
+    ensures held { F.held files.new ≡ F.held files.old }
+    ensures sure { F.sure files.new ≡ F.sure files.old }
+    ensures counts { GoesOn (F.sure files.old) (F.faults files.old) (F.faults files.new) }
+{
+    let bytes = match bytes_of(alloc, job, file, files) {
+        Ok(bytes) => bytes,
+        Err(status) => return Err(status),
+    };
+    match read_grammar::<Boolean>(alloc, &bytes, labels) {
+        Ok(grammar) => {
+            read_grammars_are_printable();
+            Ok(grammar)
+        }
+        Err(ReadError::Fault(fault)) => Err(Status::BadInput { file, fault }),
+        Err(ReadError::OutOfMemory) => Err(Status::OutOfMemory),
+    }
+}
+
+/// The tree-to-string transducer of a file of the job, or the status with which the run ends.
+pub(crate) fn string_transducer_in<S: Semiring, F: Files>(
+    alloc: Global,
+    job: &Job,
+    file: u32,
+    files: &mut F,
+    labels: &mut Labels,
+) -> Result<StringTransducer<S>, Status>
+    requires from { 1 ≤ file }
+    requires to { file ≤ length job.now.files.items }
+    requires kind { kind_at (Some (meaning job.now)) file ≡ Some of_string_transducer }
+    requires mode { S.SCALE ≡ scale_of job.now.mode }
+    requires room { length labels.old + most_bytes < 2 ^ 32 - 1 }
+    ensures few { length labels.new ≤ length labels.old + most_bytes }
+    ensures text { IfOk result (λ t. OfFile (Some (meaning job.now)) file (Told (F.held files.old) (IsStringTransducerRead S.SCALE labels.new t))) }
+    ensures plain { IfOk result (λ t. ArePlainWords S.SCALE labels.new t.rules) }
+    ensures grows { Grows labels.old labels.new }
+    ensures cause { IfErr result (HasCause (Some (meaning job.now)) (F.held files.old) (F.faults files.old) (F.faults files.new) 0 0) }
+    ensures about { IfErr result (IsAbout file) }
+    ensures held { F.held files.new ≡ F.held files.old }
+    ensures sure { F.sure files.new ≡ F.sure files.old }
+    ensures counts { GoesOn (F.sure files.old) (F.faults files.old) (F.faults files.new) }
+{
+    let bytes = match bytes_of(alloc, job, file, files) {
+        Ok(bytes) => bytes,
+        Err(status) => return Err(status),
+    };
+    match read_string_transducer::<S>(alloc, &bytes, labels) {
+        Ok(transducer) => Ok(transducer),
+        Err(ReadError::Fault(fault)) => Err(Status::BadInput { file, fault }),
+        Err(ReadError::OutOfMemory) => Err(Status::OutOfMemory),
+    }
+}
+
+/// The words of the string of a file of the job, or the status with which the run ends.
+pub(crate) fn string_in<F: Files>(
+    alloc: Global,
+    job: &Job,
+    file: u32,
+    files: &mut F,
+    labels: &mut Labels,
+) -> Result<Vec<Label>, Status>
+    requires from { 1 ≤ file }
+    requires to { file ≤ length job.now.files.items }
+    requires kind { kind_at (Some (meaning job.now)) file ≡ Some of_string }
+    requires room { length labels.old + most_bytes < 2 ^ 32 - 1 }
+    ensures few { length labels.new ≤ length labels.old + most_bytes }
+    ensures text { IfOk result (λ s. OfFile (Some (meaning job.now)) file (Told (F.held files.old) (IsStringRead labels.new s.items))) }
+    ensures grows { Grows labels.old labels.new }
+    ensures cause { IfErr result (HasCause (Some (meaning job.now)) (F.held files.old) (F.faults files.old) (F.faults files.new) 0 0) }
+    ensures about { IfErr result (IsAbout file) }
+    ensures held { F.held files.new ≡ F.held files.old }
+    ensures sure { F.sure files.new ≡ F.sure files.old }
+    ensures counts { GoesOn (F.sure files.old) (F.faults files.old) (F.faults files.new) }
+{
+    let bytes = match bytes_of(alloc, job, file, files) {
+        Ok(bytes) => bytes,
+        Err(status) => return Err(status),
+    };
+    match read_string(alloc, &bytes, labels) {
+        Ok(string) => Ok(string),
         Err(ReadError::Fault(fault)) => Err(Status::BadInput { file, fault }),
         Err(ReadError::OutOfMemory) => Err(Status::OutOfMemory),
     }

@@ -7,6 +7,7 @@ mod answer;
 mod backward;
 mod check;
 mod command;
+mod compare;
 mod compose;
 mod demo;
 mod determinize;
@@ -18,9 +19,8 @@ mod intersect;
 mod kbest;
 mod log;
 mod normal;
+mod parse;
 mod prune;
-#[cfg(test)]
-mod tests;
 mod together;
 mod weigh;
 

@@ -26,6 +26,7 @@ fn words_of(kind: FaultKind) -> &'static [u8]
         FaultKind::NotWhole => b"weight is not a whole number\n",
         FaultKind::WeightTooLarge => b"weight too large\n",
         FaultKind::TooManyNodes => b"too many nodes\n",
+        FaultKind::BadString => b"bad string\n",
     }
 }
 

@@ -10,11 +10,14 @@ ghost use Rattle.tib_operations.specs.Prune.{IsBeam};
 
 use crate::answer::text_of;
 use crate::backward::backward_files_together;
+use crate::compare::compare_files_together;
 use crate::compose::compose_files_together;
+use crate::demo::demo_of_number_together;
 use crate::determinize::determinize_file_together;
 use crate::forward::forward_files_together;
 use crate::image::image_files_together;
 use crate::intersect::intersect_files_together;
+use crate::parse::parse_files_together;
 use std::alloc::Global;
 use std::sync::Wait;
 use std::thread::Threads;
@@ -57,9 +60,12 @@ fn text_together<S: Semiring + Sync + Drop, R: Threads + Wait + Sync, F: Files, 
         Operation::Backward => backward_files_together::<S, R, F, G>(rt, alloc, job, files, gate),
         Operation::Compose => compose_files_together::<S, R, F, G>(rt, alloc, job, files, gate),
         Operation::Image => image_files_together::<S, R, F, G>(rt, alloc, job, files, gate),
+        Operation::Parse => parse_files_together::<S, R, F, G>(rt, alloc, job, files, gate),
+        Operation::Compare => compare_files_together::<R, F, G>(rt, alloc, job, files, gate),
         Operation::Determinize => {
             determinize_file_together::<S, R, F, G>(rt, alloc, job, files, gate)
         }
+        Operation::Demo => demo_of_number_together::<S, R, G>(rt, alloc, job, gate),
         _ => text_of::<S, R, F, G>(rt, alloc, job, files, gate),
     }
 }

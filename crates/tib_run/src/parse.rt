@@ -1,0 +1,147 @@
+// `parse`: the canonical grammar of all trees that a tree-to-string transducer turns into the string of a file.
+ghost use Rattle.std.specs.Prelude.{[], ◌∷◌, ◌≡◌, ◌≤◌, Some, length, IfErr, IfOk};
+ghost use Rattle.tib_io.specs.Causes.{GoesOn};
+ghost use Rattle.tib_command.specs.Jobs.{meaning};
+ghost use Rattle.tib_run_laws.specs.Answers.{IsAnswer};
+ghost use Rattle.tib_run_laws.specs.Kinds.{AreTexts, of_string_transducer, of_string};
+ghost use Rattle.tib_run_laws.specs.Causes.{HasCause, HasEarlier, IsEarly, bytes_of, scale_of, product_of};
+ghost use Rattle.tib_operations.specs.Made.{IsLimit};
+ghost use Rattle.tib_parse_text.specs.Words.{ArePlainWords};
+
+use crate::files::{string_in, string_transducer_in};
+use std::alloc::Global;
+use std::sync::Wait;
+use std::thread::Threads;
+use tib_command::{Job, Operation};
+use tib_cost::Semiring;
+use tib_hunt::Gate;
+use tib_io::{Files, GrowingSink};
+use tib_operations::Status;
+use tib_parse_text::{parse_of, parse_of_together};
+use tib_strings::StringTransducer;
+use tib_tree::{Label, Labels};
+
+// The transducer of a job and its string, over one table of labels.
+#[derive(Drop)]
+struct Inputs<S> {
+    labels: Labels,
+    transducer: StringTransducer<S>,
+    string: Vec<Label>,
+}
+
+// The values of the files of such a job, or the status with which the run ends.
+fn inputs_of<S: Semiring + Drop, F: Files>(
+    alloc: Global,
+    job: &Job,
+    files: &mut F,
+) -> Result<Inputs<S>, Status>
+    requires operation { job.now.operation ≡ Operation.Parse }
+    requires files { length job.now.files.items ≡ 2 }
+    requires mode { S.SCALE ≡ scale_of job.now.mode }
+    ensures texts { IfOk result (λ r. AreTexts S.SCALE r.labels (bytes_of (meaning job.now) (F.held files.old)) (of_string_transducer ∷ of_string ∷ []) (r.transducer, (r.string.items, tt))) }
+    ensures transducer { IfOk result (λ r. ArePlainWords S.SCALE r.labels r.transducer.rules) }
+    ensures cause { IfErr result (HasCause (Some (meaning job.now)) (F.held files.old) (F.faults files.old) (F.faults files.new) 0 0) }
+    ensures earlier { IfErr result (HasEarlier (Some (meaning job.now)) (F.held files.old)) }
+    ensures early { IfErr result IsEarly }
+    ensures held { F.held files.new ≡ F.held files.old }
+    ensures sure { F.sure files.new ≡ F.sure files.old }
+    ensures counts { GoesOn (F.sure files.old) (F.faults files.old) (F.faults files.new) }
+{
+    let mut labels = Labels::new(alloc);
+    let transducer = match string_transducer_in::<S, F>(alloc, job, 1, files, &mut labels) {
+        Ok(transducer) => transducer,
+        Err(status) => return Err(status),
+    };
+    let string = match string_in::<F>(alloc, job, 2, files, &mut labels) {
+        Ok(string) => string,
+        Err(status) => return Err(status),
+    };
+    labels.len();
+    Ok(Inputs {
+        labels,
+        transducer,
+        string,
+    })
+}
+
+/// The whole text of a job that asks for the trees that a transducer turns into a string, or the status with which the run ends.
+pub(crate) fn parse_files<S: Semiring + Drop, F: Files, G: Gate>(
+    alloc: Global,
+    job: &Job,
+    files: &mut F,
+    gate: &G,
+) -> Result<GrowingSink, Status>
+    requires operation { job.now.operation ≡ Operation.Parse }
+    requires files { length job.now.files.items ≡ 2 }
+    requires limit { IsLimit job.now.limit }
+    requires mode { S.SCALE ≡ scale_of job.now.mode }
+    requires product { S.product ≡ product_of job.now.mode }
+    ensures text { IfOk result (λ text. IsAnswer (meaning job.now) (F.held files.old) text.bytes) }
+    ensures cause { IfErr result (HasCause (Some (meaning job.now)) (F.held files.old) (F.faults files.old) (F.faults files.new) 0 0) }
+    ensures earlier { IfErr result (HasEarlier (Some (meaning job.now)) (F.held files.old)) }
+    ensures early { IfErr result IsEarly }
+    ensures held { F.held files.new ≡ F.held files.old }
+    ensures sure { F.sure files.new ≡ F.sure files.old }
+    ensures counts { GoesOn (F.sure files.old) (F.faults files.old) (F.faults files.new) }
+{
+    let read = match inputs_of::<S, F>(alloc, job, files) {
+        Ok(read) => read,
+        Err(status) => return Err(status),
+    };
+    let limit = job.limit;
+    let canonical = match parse_of::<S, G>(
+        alloc,
+        &read.transducer,
+        &read.string,
+        &read.labels,
+        limit,
+        gate,
+    ) {
+        Ok(canonical) => canonical,
+        Err(status) => return Err(status),
+    };
+    Ok(canonical.text)
+}
+
+/// The same by the workers of the job.
+pub(crate) fn parse_files_together<
+    S: Semiring + Sync + Drop,
+    R: Threads + Wait + Sync,
+    F: Files,
+    G: Gate + Sync,
+>(rt: &R, alloc: Global, job: &Job, files: &mut F, gate: &G) -> Result<GrowingSink, Status>
+    requires operation { job.now.operation ≡ Operation.Parse }
+    requires files { length job.now.files.items ≡ 2 }
+    requires workers { (1 ≤ job.now.workers) × (job.now.workers ≤ 16) }
+    requires limit { IsLimit job.now.limit }
+    requires mode { S.SCALE ≡ scale_of job.now.mode }
+    requires product { S.product ≡ product_of job.now.mode }
+    ensures text { IfOk result (λ text. IsAnswer (meaning job.now) (F.held files.old) text.bytes) }
+    ensures cause { IfErr result (HasCause (Some (meaning job.now)) (F.held files.old) (F.faults files.old) (F.faults files.new) 0 0) }
+    ensures earlier { IfErr result (HasEarlier (Some (meaning job.now)) (F.held files.old)) }
+    ensures early { IfErr result IsEarly }
+    ensures held { F.held files.new ≡ F.held files.old }
+    ensures sure { F.sure files.new ≡ F.sure files.old }
+    ensures counts { GoesOn (F.sure files.old) (F.faults files.old) (F.faults files.new) }
+{
+    let read = match inputs_of::<S, F>(alloc, job, files) {
+        Ok(read) => read,
+        Err(status) => return Err(status),
+    };
+    let workers = job.workers;
+    let limit = job.limit;
+    let canonical = match parse_of_together::<S, R, G>(
+        rt,
+        alloc,
+        &read.transducer,
+        &read.string,
+        &read.labels,
+        workers,
+        limit,
+        gate,
+    ) {
+        Ok(canonical) => canonical,
+        Err(status) => return Err(status),
+    };
+    Ok(canonical.text)
+}
