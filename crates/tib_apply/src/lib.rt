@@ -5,8 +5,6 @@
 #![tactic(auto)]
 
 mod backward;
-#[cfg(test)]
-mod backward_tests;
 mod deleting;
 mod edge_list;
 mod error;
@@ -17,8 +15,6 @@ mod forward_listing;
 mod forward_plan;
 mod forward_rule;
 mod forward_settling;
-#[cfg(test)]
-mod forward_tests;
 mod image;
 mod key;
 pub mod laws;
@@ -26,8 +22,6 @@ mod moves;
 mod placing;
 mod preimage;
 mod restrictions;
-#[cfg(test)]
-mod tests;
 
 pub use backward::Backward;
 pub use error::ApplyError;

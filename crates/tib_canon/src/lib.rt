@@ -10,8 +10,6 @@ mod names;
 mod numbering;
 mod ordering;
 mod taking;
-#[cfg(test)]
-mod tests;
 mod texts;
 
 pub use begin::{Begin, Finals, to_grammar};

@@ -6,8 +6,6 @@
 mod classes;
 mod error;
 mod rules;
-#[cfg(test)]
-mod tests;
 mod uses;
 
 pub use classes::{extended, first_outside, labelled, not_linear, not_nondeleting};

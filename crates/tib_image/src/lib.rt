@@ -14,8 +14,6 @@ mod listing;
 mod operation;
 mod reached;
 mod settling;
-#[cfg(test)]
-mod tests;
 mod walk;
 
 pub use key::Key;

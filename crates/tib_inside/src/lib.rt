@@ -13,8 +13,6 @@ mod reaching;
 mod renaming;
 mod rule_costs;
 mod settling;
-#[cfg(test)]
-mod tests;
 mod trimming;
 mod uses;
 

@@ -11,8 +11,6 @@ mod pair;
 mod pair_rule;
 mod pairs;
 mod reached;
-#[cfg(test)]
-mod tests;
 
 pub use pair::Pair;
 pub use pair_rule::PairRule;

@@ -11,8 +11,6 @@ mod levels;
 mod listed;
 mod queue;
 mod settling;
-#[cfg(test)]
-mod tests;
 
 pub use best::{best_of_rules, best_tree, k_best};
 pub use error::KBestError;

@@ -7,8 +7,6 @@ mod every;
 mod level;
 mod ranked;
 mod search;
-#[cfg(test)]
-mod tests;
 mod weights;
 
 pub use best::k_best_by_levels;

@@ -14,8 +14,6 @@ mod row;
 mod rows;
 mod sides;
 mod spread;
-#[cfg(test)]
-mod tests;
 mod ways;
 
 pub use agenda::Agenda;

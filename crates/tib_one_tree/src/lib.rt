@@ -5,8 +5,6 @@
 mod file;
 mod found;
 mod laws;
-#[cfg(test)]
-mod tests;
 
 pub use file::read_one_tree;
 pub use laws::one_tree_or_fault;

@@ -9,8 +9,6 @@ mod kept;
 mod laws;
 mod ranks;
 mod shape_set;
-#[cfg(test)]
-mod tests;
 
 pub use kept::Trees;
 pub use laws::numbers_name_trees;

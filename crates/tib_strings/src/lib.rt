@@ -6,8 +6,6 @@ ghost use Rattle.std.specs.Prelude.{◌≡◌};
 
 mod classes;
 pub mod laws;
-#[cfg(test)]
-mod tests;
 mod transducers;
 
 pub use classes::string_outside;

@@ -11,8 +11,6 @@ mod problem;
 mod shelf;
 mod shelves;
 mod table;
-#[cfg(test)]
-mod tests;
 mod turns;
 
 pub use key::TableKey;

@@ -8,8 +8,6 @@ mod laws;
 mod leaf;
 mod print;
 mod put;
-#[cfg(test)]
-mod tests;
 
 pub use laws::{
     ordered_transducers_are_read, printed_rules_are_read, printed_transducers_are_read,

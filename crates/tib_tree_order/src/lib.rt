@@ -3,8 +3,6 @@
 
 mod comparing;
 mod laws;
-#[cfg(test)]
-mod tests;
 
 pub use comparing::compare;
 pub use laws::trees_are_ordered;

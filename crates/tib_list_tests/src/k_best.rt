@@ -1,0 +1,187 @@
+// Lists of best trees of small grammars, as text: each node as its label and its number of children.
+// A label's number is its place at first sight.
+ghost use Rattle.std.specs.Prelude.{IfOk, IfSome, length};
+ghost use Rattle.tib_grammar_file.specs.Printed.{AreLabelled};
+
+use std::alloc::{AllocError, Global};
+use std::test::Fail;
+use tib_cost::{Bottleneck, MinPlus, Semiring};
+use tib_grammar_file::read_grammar;
+use tib_k_best::{KBestError, List, best_tree, best_tree_by_levels};
+use tib_normal::Normal;
+use tib_tree::{Labels, Tree};
+
+fn write_number(text: &mut String, number: u64) -> Result<(), AllocError> {
+    let digits = number.to_string(*text.allocator())?;
+    text.push_str(digits.as_str())
+}
+
+fn write_tree(text: &mut String, tree: &Tree) -> Result<(), AllocError> {
+    for node in tree.nodes() {
+        write_number(text, u64::from(node.label))?;
+        text.push_str("/")?;
+        write_number(text, u64::from(node.rank))?;
+        text.push_str(" ")?;
+    }
+    Ok(())
+}
+
+fn list_text(alloc: Global, list: &List) -> Result<String, AllocError> {
+    let mut text = String::new(alloc);
+    for i in 0..list.len() {
+        let tree = list.tree(alloc, i)?;
+        if tree.nodes().len() < 20 {
+            write_tree(&mut text, &tree)?;
+        } else {
+            write_number(&mut text, tree.nodes().len() as u64)?;
+            text.push_str(" nodes ")?;
+        }
+        text.push_str("# ")?;
+        write_number(&mut text, list.cost(i).get())?;
+        text.push_str("; ")?;
+    }
+    Ok(text)
+}
+
+// The grammar of a text, where it is in normal form, with its labels.
+fn read<S: Semiring + Drop>(
+    alloc: Global,
+    text: &str,
+) -> Result<Option<(Normal<S>, Labels)>, AllocError>
+    ensures { IfOk result (λ read. IfSome read (λ p. AreLabelled (length p.1) p.0.rules)) }
+{
+    let bytes = text.as_bytes();
+    let mut labels = Labels::new(alloc);
+    if bytes.len() > 10_000 {
+        return Ok(None);
+    }
+    let Ok(grammar) = read_grammar::<S>(alloc, bytes, &mut labels) else {
+        return Ok(None);
+    };
+    match Normal::new(alloc, grammar)? {
+        Some(normal) => Ok(Some((normal, labels))),
+        None => Ok(None),
+    }
+}
+
+fn answer_text(alloc: Global, answer: Result<List, KBestError>) -> Result<String, AllocError> {
+    match answer {
+        Ok(list) => list_text(alloc, &list),
+        Err(KBestError::OutOfMemory) => Err(AllocError),
+        Err(KBestError::TreeTooLarge { state }) => {
+            let mut text = String::from_str(alloc, "too large: ")?;
+            write_number(&mut text, u64::from(state))?;
+            Ok(text)
+        }
+    }
+}
+
+/// The best tree of a grammar where costs are added.
+fn best_text(alloc: Global, text: &str) -> Result<String, AllocError> {
+    match read::<MinPlus>(alloc, text)? {
+        Some((normal, labels)) => {
+            answer_text(alloc, best_tree::<MinPlus>(alloc, &normal, &labels))
+        }
+        None => String::from_str(alloc, "not in normal form"),
+    }
+}
+
+/// The best tree of a grammar where the greatest cost counts.
+fn level_text(alloc: Global, text: &str) -> Result<String, AllocError> {
+    match read::<Bottleneck>(alloc, text)? {
+        Some((normal, labels)) => {
+            answer_text(
+                alloc,
+                best_tree_by_levels::<Bottleneck>(alloc, &normal, &labels),
+            )
+        }
+        None => String::from_str(alloc, "not in normal form"),
+    }
+}
+
+#[test]
+fn best_trees(rt: HostRuntime) -> Result<(), Fail> {
+    let rows = [
+        // a leaf is cheaper than what stands above it
+        ("q\nq -> S(q q) # 1\nq -> a # 2\n", "1/0 # 2; "),
+        // two runs give one tree
+        (
+            "q\nq -> f(p) # 1\nq -> f(r)\np -> a # 3\nr -> a # 5\n",
+            "0/1 1/0 # 4; ",
+        ),
+        // no run ends
+        ("q\nq -> f(q)\n", ""),
+        // at equal costs the tree with fewer nodes comes first
+        (
+            "q\nq -> f(p)\nq -> h(r)\np -> g(r)\nr -> a\n",
+            "1/1 3/0 # 0; ",
+        ),
+        // at equal sizes the label's text decides
+        ("q\nq -> h(r)\nq -> f(r)\nr -> c\nr -> b\n", "1/1 3/0 # 0; "),
+        // a tree above itself at no cost is never the first
+        (
+            "q\nq -> f(q)\nq -> g(p)\np -> f(p)\np -> a # 1\n",
+            "1/1 2/0 # 1; ",
+        ),
+    ];
+    for row in rows {
+        let text = best_text(rt.alloc(), row.0)?;
+        assert_eq!(rt; text.as_str(), row.1);
+    }
+    Ok(())
+}
+
+#[test]
+fn best_trees_by_levels(rt: HostRuntime) -> Result<(), Fail> {
+    let rows = [
+        // where d costs 5 anyway, the small c at 4 is better than the large tree at 0
+        (
+            "q\nq -> f(p r)\np -> g(s)\np -> c # 4\nr -> d # 5\ns -> g(t)\nt -> e\n",
+            "0/2 2/0 3/0 # 5; ",
+        ),
+        // a large tree at a lesser cost comes first
+        (
+            "q\nq -> a # 7\nq -> g(s) # 3\ns -> g(t) # 2\nt -> e # 1\n",
+            "1/1 1/1 2/0 # 3; ",
+        ),
+        ("q\nq -> f(q) # 3\n", ""),
+    ];
+    for row in rows {
+        let text = level_text(rt.alloc(), row.0)?;
+        assert_eq!(rt; text.as_str(), row.1);
+    }
+    Ok(())
+}
+
+// States p0 to the last one, each with a rule over two of the next, and a leaf.
+fn doubling(alloc: Global, last: u8) -> Result<String, AllocError> {
+    let mut text = String::from_str(alloc, "p0\n")?;
+    for i in 0..last {
+        text.push_str("p")?;
+        write_number(&mut text, u64::from(i))?;
+        text.push_str(" -> f(p")?;
+        write_number(&mut text, u64::from(i) + 1)?;
+        text.push_str(" p")?;
+        write_number(&mut text, u64::from(i) + 1)?;
+        text.push_str(")\n")?;
+    }
+    text.push_str("p")?;
+    write_number(&mut text, u64::from(last))?;
+    text.push_str(" -> a\n")?;
+    Ok(text)
+}
+
+#[test]
+fn a_tree_of_too_many_nodes(rt: HostRuntime) -> Result<(), Fail> {
+    let small = doubling(rt.alloc(), 12)?;
+    assert_eq!(rt;
+        best_text(rt.alloc(), small.as_str())?.as_str(),
+        "8191 nodes # 0; "
+    );
+    let large = doubling(rt.alloc(), 13)?;
+    assert_eq!(rt;
+        best_text(rt.alloc(), large.as_str())?.as_str(),
+        "too large: 0"
+    );
+    Ok(())
+}

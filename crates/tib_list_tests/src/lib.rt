@@ -1,0 +1,11 @@
+//! Tests of lists of best trees: heaps, shared trees, the lists and those by levels.
+#![tactic(auto)]
+
+#[cfg(test)]
+mod heap;
+#[cfg(test)]
+mod k_best;
+#[cfg(test)]
+mod level_lists;
+#[cfg(test)]
+mod shared_trees;

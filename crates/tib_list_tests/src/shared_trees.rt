@@ -1,0 +1,118 @@
+// Trees over the labels f, b and a, which are 0, 1 and 2, by their numbers.
+ghost use Rattle.std.specs.Prelude.{◌≤◌, length, IsTrue};
+ghost use Rattle.tib_shared_trees.specs.Numbers.{NumbersBelow, RootsBelow};
+
+use std::alloc::{AllocError, Global};
+use std::cmp::Ordering;
+use std::test::Fail;
+use tib_shared_trees::{Trees, label_ranks};
+use tib_tree::{Labels, read_trees};
+
+// Whether each number is below a count.
+fn are_below(numbers: &[u32], count: usize) -> bool
+    ensures { IsTrue result → NumbersBelow count numbers.now }
+{
+    let mut i = 0;
+    while i < numbers.len() {
+        if numbers[i] as usize >= count {
+            return false;
+        }
+        i += 1;
+    }
+    true
+}
+
+// Whether the label of each tree is below a count.
+fn labels_are_below(trees: &Trees, count: usize) -> bool
+    ensures { IsTrue result → RootsBelow count trees.now }
+{
+    let mut i: u32 = 0;
+    while (i as usize) < trees.len() {
+        if trees.label(i) as usize >= count {
+            return false;
+        }
+        i += 1;
+    }
+    true
+}
+
+// The number of a tree; none where a child is unknown or memory is refused.
+fn insert(trees: &mut Trees, label: u32, children: &[u32]) -> Option<u32> {
+    let count = trees.len();
+    if !are_below(children, count) {
+        return None;
+    }
+    trees.insert(label, children).ok()
+}
+
+// The order of two trees; none where one is unknown or a label has no rank.
+fn order_of(trees: &Trees, ranks: &[u32], one: u32, other: u32) -> Option<Ordering> {
+    if one as usize >= trees.len() || other as usize >= trees.len() {
+        return None;
+    }
+    if !labels_are_below(trees, ranks.len()) {
+        return None;
+    }
+    Some(trees.compare(ranks, one, other))
+}
+
+// The labels and ranks of a tree's nodes, none where it is unknown or large.
+fn nodes_of(alloc: Global, trees: &Trees, tree: u32) -> Result<Vec<(u32, u32)>, AllocError> {
+    let mut nodes = Vec::new(alloc);
+    if tree as usize >= trees.len() || trees.size(tree) > 10_000 {
+        return Ok(nodes);
+    }
+    let tree = trees.tree(alloc, tree)?;
+    for node in tree.nodes() {
+        nodes.push((node.label, node.rank))?;
+    }
+    Ok(nodes)
+}
+
+fn size_of(trees: &Trees, tree: u32) -> u32 {
+    if tree as usize >= trees.len() {
+        return 0;
+    }
+    trees.size(tree)
+}
+
+// The ranks of the labels of a tree, numbered in the order of first sight.
+fn ranks_of(alloc: Global, bytes: &[u8]) -> Result<Vec<u32>, AllocError>
+    requires { length bytes.now ≤ 8388608 }
+{
+    let mut labels = Labels::new(alloc);
+    match read_trees(alloc, bytes, &mut labels) {
+        Ok(_) => label_ranks(alloc, &labels),
+        Err(_) => Err(AllocError),
+    }
+}
+
+#[test]
+fn labels_rank_by_their_bytes(rt: HostRuntime) -> Result<(), Fail> {
+    let alloc = rt.alloc();
+    let ranks = ranks_of(alloc, b"b(a ab \"\")")?;
+    assert_eq!(rt; ranks.as_slice(), [3u32, 1, 2, 0].as_slice());
+    Ok(())
+}
+
+#[test]
+fn trees_share_what_stands_below_them(rt: HostRuntime) -> Result<(), Fail> {
+    let alloc = rt.alloc();
+    let ranks = ranks_of(alloc, b"f(b a)")?;
+    let mut trees = Trees::new(alloc);
+    assert_eq!(rt; insert(&mut trees, 2, &[]), Some(0));
+    assert_eq!(rt; insert(&mut trees, 1, &[]), Some(1));
+    assert_eq!(rt; insert(&mut trees, 0, &[0, 1]), Some(2));
+    assert_eq!(rt; insert(&mut trees, 0, &[1, 0]), Some(3));
+    assert_eq!(rt; insert(&mut trees, 0, &[0, 1]), Some(2));
+    assert_eq!(rt; insert(&mut trees, 0, &[2, 0]), Some(4));
+    assert_eq!(rt; size_of(&trees, 4), 5);
+    assert_eq!(rt; order_of(&trees, &ranks, 0, 1), Some(Ordering::Less));
+    assert_eq!(rt; order_of(&trees, &ranks, 2, 3), Some(Ordering::Less));
+    assert_eq!(rt; order_of(&trees, &ranks, 4, 3), Some(Ordering::Greater));
+    assert_eq!(rt; order_of(&trees, &ranks, 3, 3), Some(Ordering::Equal));
+    let nodes = nodes_of(alloc, &trees, 4)?;
+    let expected: [(u32, u32); 5] = [(0, 2), (0, 2), (2, 0), (1, 0), (2, 0)];
+    assert_eq!(rt; nodes.as_slice(), expected.as_slice());
+    Ok(())
+}

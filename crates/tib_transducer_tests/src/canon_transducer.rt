@@ -1,0 +1,118 @@
+// Canonical transducers, as text.
+ghost use Rattle.std.specs.Prelude.{◌≡◌, ◌<◌, ◌^◌, length, IfOk};
+ghost use Rattle.tib_lex.specs.Lists.{Distinct};
+ghost use Rattle.tib_canon_transducer.specs.Keys.{AreMovesOver};
+
+use std::alloc::{AllocError, Global};
+use std::test::Fail;
+use tib_canon_transducer::to_transducer;
+use tib_cost::{MinPlus, Semiring};
+use tib_hunt::Found;
+use tib_io::{Failed, GrowingSink};
+use tib_table::TableKey;
+use tib_transducer::TransducerRule;
+use tib_transducer_file::read_transducer;
+use tib_transducer_print::print_transducer;
+use tib_tree::Labels;
+
+/// A number as a key.
+#[derive(Debug, Drop, PartialEq, Eq, PartialOrd, Ord, Hash)]
+struct Number {
+    number: u64,
+}
+
+impl TableKey for Number {
+    ghost use Rattle.std.specs.Prelude.{◌%◌};
+    ghost use Rattle.std.proofs.Common.{rules, arith, mod-lt};
+
+    ghost shelf_of = { λ k. k.number % 16 };
+
+    ghost entries_of = { λ _. 1 };
+
+    fn shelf(&self) -> u32 {
+        (self.number % 16) as u32
+    }
+
+    fn entries(&self) -> u64 {
+        1
+    }
+
+    ghost low = { λ k. mod-lt k.number (Prim.omega arith) };
+
+    ghost same = { λ x y e. Prim.search rules };
+}
+
+// Three keys in an order that does not ascend.
+fn three_keys(alloc: Global) -> Result<Vec<Number>, AllocError>
+    ensures three { IfOk result (λ v. length v.items ≡ 3) }
+    ensures distinct { IfOk result (λ v. Distinct v.items) }
+{
+    let mut keys = Vec::new(alloc);
+    keys.push(Number { number: 9 })?;
+    keys.push(Number { number: 2 })?;
+    keys.push(Number { number: 7 })?;
+    Ok(keys)
+}
+
+// The rules of the transducer of a text, which has three states.
+fn rules_in<S: Semiring>(
+    alloc: Global,
+    text: &[u8],
+    labels: &mut Labels,
+) -> Result<Vec<TransducerRule<u32>>, Fail>
+    requires { length labels.old ≡ 0 }
+    ensures few { IfOk result (λ v. length v.items < 2 ^ 32) }
+    ensures moves { IfOk result (λ v. AreMovesOver S.SCALE labels.new 3 v.items) }
+{
+    if text.len() > 100_000 {
+        return Err("too long".into());
+    }
+    let transducer = match read_transducer::<S>(alloc, text, labels) {
+        Ok(transducer) => transducer,
+        Err(_) => return Err("the text was refused".into()),
+    };
+    transducer.is_sound();
+    if transducer.states() != 3 {
+        return Err("not three states".into());
+    }
+    let (_, rules) = transducer.into_parts();
+    Ok(rules)
+}
+
+// The canonical transducer over the three keys with the rules of a text, as it is printed.
+fn answer<S: Semiring>(alloc: Global, text: &[u8], start: u32) -> Result<Vec<u8>, Fail>
+    requires { start < 3 }
+{
+    let mut labels = Labels::new(alloc);
+    let rules = rules_in::<S>(alloc, text, &mut labels)?;
+    let found = Found {
+        order: three_keys(alloc)?,
+        rules,
+        parts: 0,
+    };
+    let form = to_transducer::<S, Number>(alloc, found, start, &labels)?;
+    let mut sink = GrowingSink::new(alloc);
+    match print_transducer(&form.transducer, &labels, &mut sink) {
+        Ok(()) if sink.bytes() == form.text.bytes() => Ok(sink.bytes().to_vec(alloc)?),
+        Ok(()) => Err("the transducer prints as another text".into()),
+        Err(Failed) => Err("no memory".into()),
+    }
+}
+
+const MOVES: &[u8] =
+    b"q\nq.f(x0:) -> g(r.x0) # 3\nr.a -> b # 1\nr.a -> b # 2\nq.f(x0:b) -> g(s.x0) # 5\ns.c -> d # 0\n";
+
+#[test]
+fn states_are_keys_and_equal_rules_are_merged(rt: HostRuntime) -> Result<(), Fail> {
+    let first = answer::<MinPlus>(rt.alloc(), MOVES, 0)?;
+    assert_eq!(rt;
+        first.as_slice(),
+        b"q0\nq0.f(x0:) -> g(q1.x0) # 3\nq0.f(x0:b) -> g(q2.x0) # 5\nq1.a -> b # 1\nq2.c -> d # 0\n".as_slice()
+    );
+    let second = answer::<MinPlus>(rt.alloc(), MOVES, 1)?;
+    assert_eq!(rt;
+        second.as_slice(),
+        b"q0\nq0.a -> b # 1\nq1.c -> d # 0\nq2.f(x0:) -> g(q0.x0) # 3\nq2.f(x0:b) -> g(q1.x0) # 5\n".as_slice()
+    );
+    Ok(())
+}

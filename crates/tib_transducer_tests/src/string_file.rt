@@ -1,0 +1,219 @@
+// Strings and tree-to-string transducers, and files that are none.
+use std::alloc::Global;
+use std::test::Fail;
+use tib_cost::MinPlus;
+use tib_string_file::{read_string, read_string_transducer};
+use tib_strings::{StringRule, StringTransducer, Word};
+use tib_tree::Labels;
+
+// A file, and the texts of its words, each with a bar behind it, or what is printed of its fault.
+type Row = (&'static [u8], &'static str);
+
+static ROWS: [Row; 28] = [
+    (b"the boy\n", "the|boy|"),
+    (b"\n% none\n \t\r\n a \"b c\" a % end\n\n", "a|b c|a|"),
+    (b"*e*", ""),
+    (b"\n *e* % none\n\n", ""),
+    (b"\"*e*\"", "*e*|"),
+    (b"\"*e*\" \"*e*\"", "*e*|*e*|"),
+    (b"*e x *e*e", "*e|x|*e*e|"),
+    (b"\"\" \"\\\"\" \"->\"", "|\"|->|"),
+    (b"t.x0 x0 x0: x1:a t.A", "t.x0|x0|x0:|x1:a|t.A|"),
+    (b"", "line 1: bad string"),
+    (b"\n\n % none", "line 1: bad string"),
+    (b"a\nb\n", "line 2: bad string"),
+    (b"*e*\n\n*e*\n", "line 3: bad string"),
+    (b"a\n\n\"", "line 3: bad token"),
+    (b"\na *e*", "line 2: bad string"),
+    (b"*e* *e*", "line 1: bad string"),
+    (b"\"*e*\" *e*", "line 1: bad string"),
+    (b"a(b)", "line 1: bad string"),
+    (b"a -> b", "line 1: bad string"),
+    (b"a # 1", "line 1: bad string"),
+    (b"\n( \"", "line 2: bad token"),
+    (b"->\na\n\"", "line 1: bad string"),
+    // the fronts of a file
+    (b"a", "a|"),
+    (b"a \"", "line 1: bad token"),
+    (b"a \"b", "line 1: bad token"),
+    (b"a \"b\"", "a|b|"),
+    (b"a \"b\"\n", "a|b|"),
+    (b"a \"b\"\n-", "line 2: bad string"),
+];
+
+// What is told of a file.
+fn told(alloc: Global, bytes: &[u8]) -> Result<Vec<u8>, Fail> {
+    if bytes.len() > 8_388_608 {
+        return Err("too many bytes".into());
+    }
+    let mut labels = Labels::new(alloc);
+    let mut out = Vec::new(alloc);
+    match read_string(alloc, bytes, &mut labels) {
+        Ok(string) => {
+            for word in &string {
+                if (*word as usize) < labels.len() {
+                    out.extend_from_slice(labels.text(*word))?;
+                    out.push(b'|')?;
+                }
+            }
+        }
+        Err(error) => {
+            let text = format!(in alloc; "{error}")?;
+            out.extend_from_slice(text.as_bytes())?;
+        }
+    }
+    Ok(out)
+}
+
+#[test]
+fn a_file_gives_its_string_or_its_fault(rt: HostRuntime) -> Result<(), Fail> {
+    for row in &ROWS {
+        assert!(rt; told(rt.alloc(), row.0)?.as_slice() == row.1.as_bytes());
+    }
+    Ok(())
+}
+
+// How many words are read of a file of so many, or none where it has a fault.
+fn count(alloc: Global, words: usize) -> Result<Option<usize>, Fail> {
+    let mut bytes = Vec::new(alloc);
+    for _ in 0..words {
+        bytes.extend_from_slice(b"a ")?;
+    }
+    if bytes.len() > 8_388_608 {
+        return Err("too many bytes".into());
+    }
+    match read_string(alloc, &bytes, &mut Labels::new(alloc)) {
+        Ok(string) => Ok(Some(string.len())),
+        Err(_) => Ok(None),
+    }
+}
+
+#[test]
+fn a_string_has_ten_thousand_words_at_most(rt: HostRuntime) -> Result<(), Fail> {
+    assert_eq!(rt; count(rt.alloc(), 10_000)?, Some(10_000));
+    assert_eq!(rt; count(rt.alloc(), 10_001)?, None);
+    Ok(())
+}
+
+// A transducer file, and of each rule the name of its state and its words and pairs, each with a bar behind it, a pair as the name of
+// its state and the number of its variable; or what is printed of the fault.
+static RULES: [Row; 34] = [
+    (b"q", ""),
+    (
+        b"q\nq.S(x0:NP VP(x1: x2:NP)) -> p.x0 p.x2 \"ga\" v.x1 # 1\np.a -> a b # 2\n",
+        "q p0 p2 ga v1|p a b|",
+    ),
+    (b"q\nq.A(x7 x3) -> q.x3 a q.x7 q.x3", "q q1 a q0 q1|"),
+    (b"q\nq.A(x0:\"a b\" x1:\"c\") -> q.x1 q.x0", "q q1 q0|"),
+    (b"q\nq.A -> *e*", "q|"),
+    (b"q\nq.A -> *e* # 3", "q|"),
+    (b"q\nq.A ->", "q|"),
+    (b"q\nq.A -> # 3 % none", "q|"),
+    (b"q\nq.A -> \"*e*\"", "q *e*|"),
+    (
+        b"q\nq.A -> \"*e*\" \"q.x0\" \"x0\" \"->\"",
+        "q *e* q.x0 x0 ->|",
+    ),
+    (b"q\nq.A -> q. q.x .x0 x q.x0a", "q q. q.x .x0 x q.x0a|"),
+    (b"q\nq.A -> q.A.x0", "q q.A.x0|"),
+    (b"", "line 1: no start"),
+    (b"q.a\n", "line 1: bad rule"),
+    (b"q\n\nq.A -> a *e*", "line 3: bad rule"),
+    (b"q\nq.A -> *e* *e*", "line 2: bad rule"),
+    (b"q\nq.A(x0) -> x0", "line 2: bad rule"),
+    (b"q\nq.A(x0) -> q.x0 x0:", "line 2: bad rule"),
+    (b"q\nq.A(x0) -> q.x0 x5:NP", "line 2: bad rule"),
+    (b"q\nq.A -> a(b)", "line 2: bad rule"),
+    (b"q\nq.A -> a # b c", "line 2: bad rule"),
+    (b"q\nq.A a", "line 2: bad rule"),
+    (b"q\nA -> a", "line 2: bad rule"),
+    (b"q\nq.A -> a -> b", "line 2: bad rule"),
+    (b"q\nq.A -> a \"", "line 2: bad token"),
+    (b"q\nq.x0 -> q.x0 x0", "line 2: bad rule"),
+    (b"q\nq.x0 -> q.x0", "line 2: lone variable on the left"),
+    (
+        b"q\nq.A(x0 x0) -> q.x1",
+        "line 2: variable twice on the left",
+    ),
+    (b"q\nq.A(x0) -> q.x1 # y", "line 2: unknown variable"),
+    (b"q\nq.A -> a # 1.5", "line 2: weight is not a whole number"),
+    (
+        b"q\nq.A -> a # 1000000000000001",
+        "line 2: weight too large",
+    ),
+    // the fronts of a file of five lines
+    (b"q\nq.A(x0:) -> q.x0 b\nq.", "line 3: bad rule"),
+    (b"q\nq.A(x0:) -> q.x0 b\nq.B", "line 3: bad rule"),
+    (
+        b"q\nq.A(x0:) -> q.x0 b\nq.B -> a\nq.C -> *e*\nq.D -> a",
+        "q q0 b|q a|q|q a|",
+    ),
+];
+
+// The state of a rule, and its words and pairs.
+fn describe(
+    transducer: &StringTransducer<MinPlus>,
+    rule: &StringRule<u32>,
+    labels: &Labels,
+    out: &mut Vec<u8>,
+) -> Result<(), Fail> {
+    push_state(transducer, rule.state, out)?;
+    for word in rule.right.tokens() {
+        out.push(b' ')?;
+        match word {
+            Word::Word(label) => {
+                if (*label as usize) < labels.len() {
+                    out.extend_from_slice(labels.text(*label))?;
+                }
+            }
+            Word::Hole(pair) => {
+                push_state(transducer, pair.state, out)?;
+                if pair.variable < 10 {
+                    out.push(b'0' + pair.variable as u8)?;
+                }
+            }
+        }
+    }
+    out.push(b'|')?;
+    Ok(())
+}
+
+fn push_state(
+    transducer: &StringTransducer<MinPlus>,
+    state: u32,
+    out: &mut Vec<u8>,
+) -> Result<(), Fail> {
+    if state < transducer.states() {
+        out.extend_from_slice(transducer.name(state))?;
+    }
+    Ok(())
+}
+
+// What is told of a transducer file.
+fn told_rules(alloc: Global, bytes: &[u8]) -> Result<Vec<u8>, Fail> {
+    if bytes.len() > 8_388_608 {
+        return Err("too many bytes".into());
+    }
+    let mut labels = Labels::new(alloc);
+    let mut out = Vec::new(alloc);
+    match read_string_transducer::<MinPlus>(alloc, bytes, &mut labels) {
+        Ok(transducer) => {
+            for rule in transducer.rule_list() {
+                describe(&transducer, rule, &labels, &mut out)?;
+            }
+        }
+        Err(error) => {
+            let text = format!(in alloc; "{error}")?;
+            out.extend_from_slice(text.as_bytes())?;
+        }
+    }
+    Ok(out)
+}
+
+#[test]
+fn a_file_gives_its_string_transducer_or_its_fault(rt: HostRuntime) -> Result<(), Fail> {
+    for row in &RULES {
+        assert!(rt; told_rules(rt.alloc(), row.0)?.as_slice() == row.1.as_bytes());
+    }
+    Ok(())
+}

@@ -1,0 +1,211 @@
+// Tables that one thread or several fill.
+ghost use Rattle.std.specs.Prelude.{◌≡◌, ◌≤◌, ◌<◌, IfOk};
+
+use std::alloc::{AllocError, Global};
+use std::sync::Wait;
+use std::test::Fail;
+use std::thread::{Threads, join};
+use tib_table::{Number, Problem, Seats, Shelf, Shelves, Table, TableKey};
+
+#[derive(Clone, Copy, Debug, Drop, PartialEq, Eq, PartialOrd, Ord, Hash)]
+struct Pair {
+    left: u64,
+    right: u64,
+}
+
+impl TableKey for Pair {
+    ghost use Rattle.std.specs.Prelude.{◌%◌};
+    ghost use Rattle.std.proofs.Common.{rules, arith, mod-lt};
+
+    ghost shelf_of = { λ p. p.left % 16 };
+
+    ghost entries_of = { λ _. 2 };
+
+    fn shelf(&self) -> u32 {
+        (self.left % 16) as u32
+    }
+
+    fn entries(&self) -> u64 {
+        2
+    }
+
+    ghost low = { λ p. mod-lt p.left (Prim.omega arith) };
+
+    ghost same = { λ x y e. Prim.search rules };
+}
+
+/// A problem that may hold the pairs whose left number is at most this.
+#[derive(Clone, Copy, Drop)]
+struct AtMost {
+    most: u64,
+}
+
+impl Problem for AtMost {
+    ghost use Rattle.std.specs.Prelude.{◌≤◌};
+
+    type Key = Pair;
+
+    type Data = u64;
+
+    ghost about = { λ p. p.most };
+
+    ghost may_hold = { λ most pair. pair.left ≤ most };
+}
+
+fn pair_of(left: u64) -> Pair
+    ensures { result.left ≡ left }
+{
+    Pair {
+        left,
+        right: left / 2,
+    }
+}
+
+#[test]
+fn a_shelf_numbers_in_the_order_of_first_sight(rt: HostRuntime) -> Result<(), Fail> {
+    let mut shelf = Shelf::open(rt.alloc(), AtMost { most: 9 });
+    let seven = shelf.number(pair_of(7)).map_err(|_| AllocError)?;
+    let three = shelf.number(pair_of(3)).map_err(|_| AllocError)?;
+    let again = shelf.number(pair_of(7)).map_err(|_| AllocError)?;
+    assert_eq!(rt; seven, 0);
+    assert_eq!(rt; three, 1);
+    assert_eq!(rt; again, 0);
+    assert_eq!(rt; shelf.len(), 2);
+    assert_eq!(rt; shelf.take_last(), Some(pair_of(3)));
+    assert_eq!(rt; shelf.take_last(), Some(pair_of(7)));
+    assert_eq!(rt; shelf.take_last(), None);
+    Ok(())
+}
+
+#[test]
+fn a_key_has_one_number(rt: HostRuntime) -> Result<(), Fail> {
+    let (table, mut seats) = Table::open(rt.alloc(), AtMost { most: 1 })?;
+    let key = Pair { left: 1, right: 2 };
+    let first = table.number(&rt, &mut seats, key).map_err(|_| AllocError)?;
+    let second = table.number(&rt, &mut seats, key).map_err(|_| AllocError)?;
+    assert_eq!(rt; first, second);
+    let mut shelves = table.close(&rt, seats);
+    assert_eq!(rt; shelves.key(first), Some(&key));
+    assert_eq!(rt; shelves.take_last(first.shelf), Some(key));
+    assert_eq!(rt; shelves.take_last(first.shelf), None);
+    assert_eq!(rt; shelves.key(first), None);
+    Ok(())
+}
+
+/// How many keys each of two threads numbers.
+const KEYS: u64 = 1000;
+
+/// More keys than numbers of 16 bits.
+const MANY: u64 = 70_000;
+
+#[derive(Drop)]
+struct Numbered {
+    seats: Seats<AtMost>,
+    numbers: Vec<Number>,
+}
+
+// Numbers a count of pairs from the first to the last, or the other way round.
+fn number_all<R: Wait>(
+    rt: &R,
+    alloc: Global,
+    table: &Table<AtMost>,
+    seats: Seats<AtMost>,
+    keys: u64,
+    backwards: bool,
+) -> Result<Numbered, AllocError>
+    requires table { seats.table ≡ table.now }
+    requires most { keys ≤ table.now.about }
+    ensures { IfOk result (λ n. n.seats.table ≡ table.now) }
+{
+    let mut seats = seats;
+    let mut numbers = Vec::new(alloc);
+    for at in 0..keys {
+        let left = if backwards { keys - 1 - at } else { at };
+        match table.number(rt, &mut seats, pair_of(left)) {
+            Ok(number) => numbers.push(number)?,
+            Err(_) => return Err(AllocError),
+        }
+    }
+    Ok(Numbered { seats, numbers })
+}
+
+fn number_in_two_threads<R: Threads + Wait + Sync>(
+    rt: &R,
+    alloc: Global,
+    table: &Table<AtMost>,
+    first: Seats<AtMost>,
+    second: Seats<AtMost>,
+) -> (Result<Numbered, AllocError>, Result<Numbered, AllocError>)
+    requires first { first.table ≡ table.now }
+    requires second { second.table ≡ table.now }
+    requires most { 1000 ≤ table.now.about }
+    ensures first { IfOk result.0 (λ n. n.seats.table ≡ table.now) }
+    ensures second { IfOk result.1 (λ n. n.seats.table ≡ table.now) }
+{
+    join(
+        rt,
+        move || -> Result<Numbered, AllocError>
+            requires { (first.table ≡ table.now) × (1000 ≤ table.now.about) }
+            ensures { IfOk result (λ n. n.seats.table ≡ table.entry.now) }
+        { number_all(rt, alloc, table, first, KEYS, false) },
+        move || -> Result<Numbered, AllocError>
+            requires { (second.table ≡ table.now) × (1000 ≤ table.now.about) }
+            ensures { IfOk result (λ n. n.seats.table ≡ table.entry.now) }
+        { number_all(rt, alloc, table, second, KEYS, true) },
+    )
+}
+
+// Whether each number names the pair for which it was given.
+fn are_named(shelves: &Shelves<AtMost>, numbers: &[Number], backwards: bool) -> bool {
+    for at in 0..numbers.len() {
+        let left = if backwards {
+            (KEYS - 1).wrapping_sub(at as u64)
+        } else {
+            at as u64
+        };
+        if shelves.key(numbers[at]) != Some(&pair_of(left)) {
+            return false;
+        }
+    }
+    true
+}
+
+// How many keys the shelves hold together, where each holds at most `most`.
+fn count_keys(shelves: &mut Shelves<AtMost>, most: u64) -> u64 {
+    let mut count = 0u64;
+    for shelf in 0..16 {
+        for _ in 0..most {
+            if shelves.take_last(shelf).is_some() {
+                count = count.wrapping_add(1);
+            }
+        }
+    }
+    count
+}
+
+#[test]
+fn two_threads_give_each_key_one_number(rt: HostRuntime) -> Result<(), Fail> {
+    let alloc = rt.alloc();
+    let (table, mut seats) = Table::open(alloc, AtMost { most: KEYS })?;
+    let second = table.split(alloc, &mut seats)?;
+    let (first, second) = number_in_two_threads(&rt, alloc, &table, seats, second);
+    let Numbered { mut seats, numbers } = first?;
+    let second = second?;
+    table.join(&mut seats, second.seats);
+    let mut shelves = table.close(&rt, seats);
+    assert!(rt; are_named(&shelves, numbers.as_slice(), false));
+    assert!(rt; are_named(&shelves, second.numbers.as_slice(), true));
+    assert_eq!(rt; count_keys(&mut shelves, 2 * KEYS), KEYS);
+    Ok(())
+}
+
+#[test]
+fn a_table_numbers_more_keys_than_65536(rt: HostRuntime) -> Result<(), Fail> {
+    let alloc = rt.alloc();
+    let (table, seats) = Table::open(alloc, AtMost { most: MANY })?;
+    let Numbered { seats, numbers } = number_all(&rt, alloc, &table, seats, MANY, false)?;
+    let mut shelves = table.close(&rt, seats);
+    assert!(rt; are_named(&shelves, numbers.as_slice(), false));
+    assert_eq!(rt; count_keys(&mut shelves, MANY), MANY);
+    Ok(())
+}
