@@ -1,7 +1,7 @@
 # Completion of tiburon's options, modes, operations and files for bash. `make install` puts it where bash-completion looks.
 _tiburon() {
     local current=${COMP_WORDS[COMP_CWORD]} before=${COMP_WORDS[COMP_CWORD - 1]} operation='' word place skip=0 only_words=0
-    local operations='weigh inside normal kbest intersect check forward backward compose image determinize prune demo'
+    local operations='weigh inside normal kbest intersect check forward backward compose image parse compare determinize prune demo'
     COMPREPLY=()
     # The words in front of this one: which operation stands there, and whether `--` has ended the options.
     for ((place = 1; place < COMP_CWORD; place++)); do
