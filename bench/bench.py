@@ -16,6 +16,7 @@ import time
 WORK = os.path.join(os.path.dirname(os.path.abspath(__file__)), "work")
 MEGABYTE = 1024 * 1024
 MOST = 8 * MEGABYTE
+SIZES = (1, 2, 4, 8)
 
 
 def path(name):
@@ -262,6 +263,18 @@ def monadic(states, seed):
     return lines
 
 
+def turning_words(states, seed):
+    """A transducer of words: each state has three rules that turn one letter of five into one of five and go on in a state, the
+    start one for each letter that it reads, and one state in eight has an end."""
+    random.seed(seed)
+    lines = ["s0"] + ["s0.%s(x0:) -> %s(s%d.x0) # %d" % (letter, random.choice("abcde"), random.randrange(states), random.randrange(10)) for letter in "abcde"]
+    for state in range(1, states):
+        lines += ["s%d.%s(x0:) -> %s(s%d.x0) # %d" % (state, random.choice("abcde"), random.choice("abcde"), random.randrange(states), random.randrange(10)) for _ in range(3)]
+        if state % 8 == 1:
+            lines.append("s%d.e -> e # 1" % state)
+    return lines
+
+
 def turning_letters(states):
     """A transducer of words: each state turns each of the five letters into another one, and goes on in another state."""
     random.seed(13)
@@ -330,6 +343,25 @@ def any_rules(rules, states=6):
     return lines
 
 
+def binarised(rules, states=20, words=60):
+    """A tree-to-string transducer of this many rules: of two parts in either order, and of single words."""
+    random.seed(34)
+    lines = ["s0"]
+    for n in range(rules - words):
+        left, one, two = (random.randrange(states) for _ in range(3))
+        right = ["s%d.x0" % one, "s%d.x1" % two]
+        random.shuffle(right)
+        lines.append("s%d.L%d(x0: x1:) -> %s # %d" % (left if n >= states else n, n, " ".join(right), random.randrange(20)))
+    for n in range(words):
+        lines.append("s%d.w%d -> v%d # %d" % (random.randrange(states), n, n, random.randrange(20)))
+    return lines
+
+
+def a_sentence(length, words=60):
+    random.seed(35)
+    return [" ".join("v%d" % random.randrange(words) for _ in range(length))]
+
+
 def deep_trees(depth, number):
     random.seed(4)
     return ["".join(random.choice("ab") + "(" for _ in range(depth)) + "e" + ")" * depth for _ in range(number)]
@@ -340,6 +372,40 @@ def deep_trees(depth, number):
 def row(name, measured, amount, unit):
     seconds, memory, _ = measured
     print("%-58s %8.3f s %8.0f MB %12.2f %s" % (name, seconds, memory, amount / seconds, unit))
+
+
+def families():
+    """Yields inputs of one to eight times a size: a name, and for each of the four sizes the words of a run."""
+    tiny, one = write("tiny.grammar", ["s0", "s0 -> w1"]), write("one.trees", ["w1"])
+    for name, words in (
+        ("grammar read and brought into normal form", lambda n: ("weigh", write("grow%d.grammar" % n, flat_grammar(n * (MEGABYTE - 4096))), one)),
+        ("trees read, weighed and printed", lambda n: ("weigh", tiny, write("grow%d.trees" % n, some_trees(n * (MEGABYTE - 4096))))),
+        ("inside of a trie", lambda n: ("inside", write("trie%d.grammar" % n, trie(n * 31250)))),
+        ("intersect, by the pairs of states", lambda n: ("intersect", *[write("monadic%d-%d.grammar" % (n, seed), monadic(round(800 * math.sqrt(n / 8)), seed)) for seed in (11, 12)])),
+        ("determinize, by the vectors that are reached", lambda n: ("determinize", write("chain%d.grammar" % n, chain_family(13 + round(math.log2(n)))))),
+        ("compose, by the pairs of states", lambda n: ("compose", *[write("words%d-%d.transducer" % (n, seed), turning_words(round(800 * math.sqrt(n / 8)), seed)) for seed in (11, 12)])),
+        ("forward, by the pairs of states", lambda n: ("forward", write("monadic%d-11.grammar" % n, monadic(round(800 * math.sqrt(n / 8)), 11)), write("words%d-12.transducer" % n, turning_words(round(800 * math.sqrt(n / 8)), 12)))),
+        ("image, by the nodes of the tree", lambda n: ("image", write("wide%d.trees" % n, [wide_tree(n * 1250)]), write("any.transducer", any_rules(300)))),
+        ("normal of one chain of 200,000 states", lambda n: ("normal", write("one_chain%d.grammar" % n, one_chain(n * 25000)))),
+        ("kbest of a trie, k = 100", lambda n: ("-k", "100", "kbest", write("trie%d.grammar" % n, trie(n * 31250)))),
+        ("prune of a trie", lambda n: ("prune", write("trie%d.grammar" % n, trie(n * 31250)))),
+        ("normal of a trie", lambda n: ("normal", write("trie%d.grammar" % n, trie(n * 31250)))),
+    ):
+        yield name, [words(n) for n in SIZES]
+
+
+def instructions(program, *words):
+    """How many instructions a run takes, as valgrind counts them."""
+    told = subprocess.run(["valgrind", "--tool=callgrind", "--callgrind-out-file=/dev/null", program, *words], stdout=subprocess.DEVNULL, stderr=subprocess.PIPE, text=True, check=False).stderr
+    return int(re.search(r"Collected : (\d+)", told).group(1))
+
+
+def growth(program, count, unit):
+    """Prints for each family what its runs take, and the exponent by which that grows with the size."""
+    for name, runs in families():
+        taken = [count(program, *words) for words in runs]
+        exponent = math.log(taken[-1] / taken[0]) / math.log(SIZES[-1] / SIZES[0])
+        print("%-58s %s %s, exponent %.2f" % (name, ", ".join("%.3f" % it for it in taken), unit, exponent), flush=True)
 
 
 def main(program):
@@ -418,6 +484,10 @@ def main(program):
         applied = subprocess.run([program, *words], capture_output=True, check=False).stdout.splitlines()
         row("%s, 800 states and 100 of the transducer: %d rules" % (words[0], len(applied) - 1), measure(program, *words), (len(applied) - 1) / 1e6, "million rules/s")
 
+    both = [write("words%d.transducer" % seed, turning_words(800, seed)) for seed in (11, 12)]
+    composed = subprocess.run([program, "compose", *both], capture_output=True, check=False).stdout.splitlines()
+    row("compose two transducers of 800 states: %d rules" % (len(composed) - 1), measure(program, "compose", *both), (len(composed) - 1) / 1e6, "million rules/s")
+
     grammar, *sides = [write("matches.%s" % name, lines) for name, lines in zip(("grammar", "forward", "backward"), many_matches(30))]
     for words in (("forward", grammar, sides[0]), ("backward", sides[1], grammar)):
         for limit in (1000, 1000000):
@@ -436,25 +506,27 @@ def main(program):
         row("demo %d" % size, measure(program, "demo", str(size)), (len(made) - 1) / 1e6, "million rules/s")
         row("determinize the sets of positions, %d states: %d rules" % (size + 1, len(made) - 1), measure(program, "determinize", grammar), (len(made) - 1) / 1e6, "million rules/s")
 
+    for words in (60, 240):
+        moves = write("binarised.transducer", binarised(300, words=words))
+        for length in (10, 20, 40):
+            sentence = write("sentence.string", a_sentence(length, words))
+            row("parse of %d words by 300 rules, %d of single words" % (length, words), measure(program, "parse", moves, sentence), length / 1e6, "million words/s")
+    same = path("weigh.grammar")
+    row("compare 18,000 rules over 700 states with themselves", measure(program, "compare", same, same), 0.018, "million rules/s")
+
+    print("\nby 1, 2 and 4 workers")
+    for name, words in (("intersect two of 800 states", ("intersect", *two)), ("determinize the sets of 16 positions", ("determinize", path("chain16.grammar"))), ("demo 16", ("demo", "16"))):
+        print("%-58s %s s" % (name, ", ".join("%.3f" % measure(program, "-w", str(workers), *words)[0] for workers in (1, 2, 4))))
+
     print("\nhow time grows over three doublings (the exponent is about 1 where it grows as the input)")
-    for name, sizes, words in (
-        ("grammar read and brought into normal form", (1, 2, 4, 8), lambda n: ("weigh", write("grow%d.grammar" % n, flat_grammar(n * (MEGABYTE - 4096))), one)),
-        ("trees read, weighed and printed", (1, 2, 4, 8), lambda n: ("weigh", tiny, write("grow%d.trees" % n, some_trees(n * (MEGABYTE - 4096))))),
-        ("inside of a trie", (1, 2, 4, 8), lambda n: ("inside", write("trie%d.grammar" % n, trie(n * 31250)))),
-        ("intersect, by the pairs of states", (1, 2, 4, 8), lambda n: ("intersect", *[write("monadic%d-%d.grammar" % (n, seed), monadic(round(800 * math.sqrt(n / 8)), seed)) for seed in (11, 12)])),
-        ("determinize, by the vectors that are reached", (1, 2, 4, 8), lambda n: ("determinize", write("chain%d.grammar" % n, chain_family(10 + round(math.log2(n)))))),
-        ("image, by the nodes of the tree", (1, 2, 4, 8), lambda n: ("image", write("wide%d.trees" % n, [wide_tree(n * 1250)]), write("any.transducer", any_rules(300)))),
-        ("normal of one chain of 200,000 states", (1, 2, 4, 8), lambda n: ("normal", write("one_chain%d.grammar" % n, one_chain(n * 25000)))),
-        ("kbest of a trie, k = 100", (1, 2, 4, 8), lambda n: ("-k", "100", "kbest", write("trie%d.grammar" % n, trie(n * 31250)))),
-        ("prune of a trie", (1, 2, 4, 8), lambda n: ("prune", write("trie%d.grammar" % n, trie(n * 31250)))),
-        ("normal of a trie", (1, 2, 4, 8), lambda n: ("normal", write("trie%d.grammar" % n, trie(n * 31250)))),
-    ):
-        seconds = [measure(program, *words(n))[0] for n in sizes]
-        exponent = math.log(seconds[-1] / seconds[0]) / math.log(sizes[-1] / sizes[0])
-        print("%-58s %s s, exponent %.2f" % (name, ", ".join("%.3f" % s for s in seconds), exponent))
+    growth(program, lambda *run: measure(*run)[0], "s")
 
 
 if __name__ == "__main__":
-    if len(sys.argv) != 2:
-        sys.exit("usage: bench.py PROGRAM")
-    main(sys.argv[1])
+    if len(sys.argv) == 3 and sys.argv[2] == "--instructions":
+        os.makedirs(WORK, exist_ok=True)
+        growth(sys.argv[1], lambda *run: instructions(*run) / 1e9, "billion instructions")
+    elif len(sys.argv) == 2:
+        main(sys.argv[1])
+    else:
+        sys.exit("usage: bench.py PROGRAM [--instructions]")
