@@ -57,7 +57,8 @@ pub(crate) fn matches_of<'a>(
     alloc: Global,
     words: &'a [String],
 ) -> Result<ArgMatches<'a>, CommandError>
-    ensures ok { IfOk result (λ m. (items : List Item) × (takes (map (λ s. string_bytes s) words.now) None ≡ Some items)
+    ensures ok { IfOk result (λ m. (items : List Item) × (takes
+        (map (λ s. string_bytes s) words.now) None ≡ Some items)
         × ((p : Part) → all_values (id_of p) (rows_of (found_of m)) ≡ values_of p items)) }
     ensures err { IfErr result (λ e. e ≡ Usage →
         job_of (map (λ s. string_bytes s) words.now) ≡ None) }

@@ -50,7 +50,8 @@ where
     P::Rules: Send,
     requires hand { Holds P.gives P.count_of P.is_ready (P.about task) table.now items.now hand }
     requires others { MaySplit others hand.seat.shares hand.share items.now.count hand.going }
-    ensures hand { IfOk result (λ h. Holds P.gives P.count_of P.is_ready (P.about task) table.now items.now h) }
+    ensures hand { IfOk result (λ h. Holds P.gives P.count_of P.is_ready (P.about task) table.now
+        items.now h) }
     ensures share { IfOk result (λ h. h.share ≡ hand.share * (others + 1)) }
 {
     if others == 0 {
@@ -63,15 +64,19 @@ where
         move || -> Hand<P>
             requires { Holds P.gives P.count_of P.is_ready (P.about task) table.now items.now theirs
                 × (theirs.share ≤ most_parts) × (items.now.count < 2 ^ 32) }
-            ensures { Holds P.gives P.count_of P.is_ready (P.about task) table.entry.now items.entry.now result
+            ensures { Holds P.gives P.count_of P.is_ready (P.about task) table.entry.now
+                items.entry.now result
                 × (result.share ≡ theirs.share) }
         { work_alone(rt, alloc, task, items, table, theirs) },
         move || -> Result<Hand<P>, AllocError>
-            requires { IsSend P.row × IsSend P.Rules.row × IsSend P.Key.row × IsSync P.row × IsSync R.row
+            requires { IsSend P.row × IsSend P.Rules.row × IsSend P.Key.row × IsSync P.row
+                × IsSync R.row
                 × IsSync P.Key.row
-                × Holds P.gives P.count_of P.is_ready (P.about task) table.now items.now hand × (0 < others)
+                × Holds P.gives P.count_of P.is_ready (P.about task) table.now items.now hand
+                × (0 < others)
                 × MaySplit (others - 1) hand.seat.shares hand.share items.now.count hand.going }
-            ensures { IfOk result (λ h. Holds P.gives P.count_of P.is_ready (P.about task) table.entry.now
+            ensures { IfOk result (λ h. Holds P.gives P.count_of P.is_ready (P.about task)
+                table.entry.now
                 items.entry.now h × (h.share ≡ hand.share * ((others - 1) + 1))) }
         { crew(rt, alloc, task, items, table, others - 1, hand) },
     );

@@ -75,7 +75,8 @@ fn put_rows<P: Task + Copy>(
 ) -> Result<(Vec<Option<Row<P::Rules>>>, u64), AllocError>
     requires bound { All (λ row. row.item < count) rows.items }
     requires few { parts_in rows.items ≤ most_parts }
-    ensures slots { IfOk result (λ r. HoldWhatRowsHold P.gives P.count_of (P.about task) rows.items r.0.items) }
+    ensures slots { IfOk result (λ r. HoldWhatRowsHold P.gives P.count_of (P.about task) rows.items
+        r.0.items) }
     ensures len { IfOk result (λ r. length r.0.items ≡ count) }
     ensures parts { IfOk result (λ r. r.1 ≡ parts_of_slots r.0.items) }
     ensures within { IfOk result (λ r. r.1 ≤ parts_in rows.items) }
@@ -111,8 +112,10 @@ fn settle_slot<P: Task + Copy, R: Wait>(
     requires left { left.old ≤ most_parts }
     ensures table { seats.new.table ≡ table.now }
     ensures more { GoOn seats.old.known seats.new.known }
-    ensures taken { IfOk result (λ r. IsTaken P.gives P.count_of (P.about task) seats.new.known slot item r left.old left.new) }
-    ensures exceeds { IfErr result (λ e. e ≡ Unperformed.More → (slot ≡ None) × P.exceeds (P.about task) item left.old) }
+    ensures taken { IfOk result (λ r. IsTaken P.gives P.count_of (P.about task) seats.new.known slot
+        item r left.old left.new) }
+    ensures exceeds { IfErr result (λ e. e ≡ Unperformed.More → (slot ≡ None)
+        × P.exceeds (P.about task) item left.old) }
 {
     if let Some(row) = slot {
         return Ok(row);
@@ -139,14 +142,17 @@ fn settle_slots<P: Task + Copy, R: Wait>(
     requires ready { P.is_ready (P.about task) }
     requires about { table.now.about ≡ P.about task }
     requires slots { AreSlots P.gives P.count_of (P.about task) seats.old.known 0 slots.items }
-    requires count { (length slots.items ≡ P.count_of (P.about task)) × (length slots.items < 2 ^ 32) }
+    requires count { (length slots.items ≡ P.count_of (P.about task))
+        × (length slots.items < 2 ^ 32) }
     requires room { parts_of_slots slots.items + left ≤ most_parts }
     ensures table { seats.new.table ≡ table.now }
     ensures more { OnOk result (GoOn seats.old.known seats.new.known) }
-    ensures rows { IfOk result (λ r. AreRowsFrom P.gives P.count_of (P.about task) seats.new.known 0 r.items) }
+    ensures rows { IfOk result (λ r. AreRowsFrom P.gives P.count_of (P.about task) seats.new.known 0
+        r.items) }
     ensures len { IfOk result (λ r. length r.items ≡ P.count_of (P.about task)) }
     ensures within { IfOk result (λ r. parts_in r.items ≤ parts_of_slots slots.items + left) }
-    ensures exceeds { IfErr result (λ e. e ≡ Unperformed.More → LeaveTooLittle P.gives P.count_of P.exceeds (P.about task) (parts_of_slots slots.items + left)) }
+    ensures exceeds { IfErr result (λ e. e ≡ Unperformed.More → LeaveTooLittle P.gives P.count_of
+        P.exceeds (P.about task) (parts_of_slots slots.items + left)) }
 {
     let mut left = left;
     let mut item = 0u32;
@@ -201,7 +207,8 @@ where
     requires workers { (1 ≤ workers) × (workers ≤ 16) }
     requires room { room ≤ most_parts }
     ensures table { IfOk result (λ r. r.1.table ≡ table.now) }
-    ensures rows { IfOk result (λ r. All (IsRowOf P.gives P.count_of (P.about task) r.1.known) r.0.items) }
+    ensures rows { IfOk result (λ r. All (IsRowOf P.gives P.count_of (P.about task) r.1.known)
+        r.0.items) }
     ensures within { IfOk result (λ r. parts_in r.0.items ≤ room) }
 {
     let share = room / workers as u64;
@@ -248,11 +255,14 @@ where
     requires ready { P.is_ready (P.about task) }
     requires workers { (1 ≤ workers) × (workers ≤ 16) }
     requires room { room ≤ most_parts }
-    ensures rows { IfOk result (λ r. AreRowsFrom P.gives P.count_of (P.about task) r.shelves 0 r.rows.items) }
+    ensures rows { IfOk result (λ r. AreRowsFrom P.gives P.count_of (P.about task) r.shelves 0
+        r.rows.items) }
     ensures len { IfOk result (λ r. length r.rows.items ≡ P.count_of (P.about task)) }
-    ensures shelves { IfOk result (λ r. AreShelves (P.may_hold (P.about task)) P.Key.shelf_of r.shelves) }
+    ensures shelves { IfOk result (λ r. AreShelves (P.may_hold (P.about task)) P.Key.shelf_of
+        r.shelves) }
     ensures within { IfOk result (λ r. parts_in r.rows.items ≤ room) }
-    ensures more { IfErr result (λ e. e ≡ Unperformed.More → LeaveTooLittle P.gives P.count_of P.exceeds (P.about task) room) }
+    ensures more { IfErr result (λ e. e ≡ Unperformed.More → LeaveTooLittle P.gives P.count_of
+        P.exceeds (P.about task) room) }
 {
     let count = task.count();
     let Ok((items, seat)) = Items::open(alloc, count as u64) else {

@@ -42,7 +42,8 @@ pub(crate) fn merge<P: Task + Copy>(
     requires all { Holds P.gives P.count_of P.is_ready (P.about task) table.now items.now all.old }
     requires one { Holds P.gives P.count_of P.is_ready (P.about task) table.now items.now one }
     requires few { all.old.share + one.share ≤ most_parts }
-    ensures hand { OnOk result (Holds P.gives P.count_of P.is_ready (P.about task) table.now items.now all.new) }
+    ensures hand { OnOk result (Holds P.gives P.count_of P.is_ready (P.about task) table.now
+        items.now all.new) }
     ensures share { OnOk result (all.new.share ≡ all.old.share + one.share) }
 {
     let _task = task;
@@ -73,12 +74,15 @@ pub(crate) fn split<P: Task + Copy>(
     worker: u32,
     hand: &mut Hand<P>,
 ) -> Result<Hand<P>, AllocError>
-    requires hand { Holds P.gives P.count_of P.is_ready (P.about task) table.now items.now hand.old }
+    requires hand { Holds P.gives P.count_of P.is_ready (P.about task) table.now items.now
+        hand.old }
     requires going { IsTrue hand.old.going × (1 < hand.old.seat.shares) }
     ensures hand { Holds P.gives P.count_of P.is_ready (P.about task) table.now items.now hand.new }
-    ensures going { OnOk result (IsTrue hand.new.going × (hand.new.seat.shares + 1 ≡ hand.old.seat.shares)) }
+    ensures going { OnOk result (IsTrue hand.new.going × (hand.new.seat.shares + 1
+        ≡ hand.old.seat.shares)) }
     ensures share { hand.new.share ≡ hand.old.share }
-    ensures other { IfOk result (λ h. Holds P.gives P.count_of P.is_ready (P.about task) table.now items.now h) }
+    ensures other { IfOk result (λ h. Holds P.gives P.count_of P.is_ready (P.about task) table.now
+        items.now h) }
     ensures as_large { IfOk result (λ h. h.share ≡ hand.old.share) }
 {
     let _task = task;

@@ -49,7 +49,12 @@ impl Items {
     pub fn open(alloc: Global, count: u64) -> Result<(Items, Seat), AllocError>
         requires { count < 2 ^ 32 }
         ensures count { IfOk result (λ r. r.0.count ≡ count) }
-        ensures seat { IfOk result (λ r. r.1 ≡ record { counter = r.0; shares = 2 ^ 31; nones = 0; drawn = [] }) }
+        ensures seat { IfOk result (λ r. r.1 ≡ record {
+          counter = r.0;
+          shares = 2 ^ 31;
+          nones = 0;
+          drawn = [];
+        }) }
     {
         let (table, seat) = Table::of_words(alloc, &[0], &count)?;
         Ok((Items { table, count }, Seat { seat }))
@@ -99,7 +104,8 @@ impl Items {
         requires counter { seat.old.counter ≡ self.now }
         requires going { seat.old.nones ≡ 0 }
         ensures below { IfSome result (λ n. n < self.now.count) }
-        ensures some { IfSome result (λ n. seat.new ≡ record seat.old { drawn = seat.old.drawn ++ n ∷ [] }) }
+        ensures some { IfSome result (λ n. seat.new ≡ record seat.old
+            { drawn = seat.old.drawn ++ n ∷ [] }) }
         ensures none { IfNone result (seat.new ≡ record seat.old { nones = 1 }) }
         ensures once { HasDrawnOnce seat.new }
     {

@@ -68,7 +68,8 @@ pub(crate) fn make_row<P: Task + Copy, R: Wait>(
     ensures row { IfOk result (λ r. IsRowOf P.gives P.count_of (P.about task) seats.new.known r) }
     ensures item { IfOk result (λ r. r.item ≡ item) }
     ensures within { IfOk result (λ r. r.parts ≤ budget) }
-    ensures exceeds { IfErr result (λ e. e ≡ Unperformed.More → P.exceeds (P.about task) item budget) }
+    ensures exceeds { IfErr result (λ e. e ≡ Unperformed.More → P.exceeds (P.about task) item
+        budget) }
 {
     let performed = match task.perform(alloc, item, budget) {
         Ok(performed) => performed,

@@ -62,9 +62,11 @@ pub trait Task: Problem {
         requires item { item < count_of (Self.about self.now) }
         requires ready { is_ready (Self.about self.now) }
         requires budget { budget ≤ most_parts }
-        ensures given { IfOk result (λ r. gives (Self.about self.now) item r.ends.items r.rules r.parts) }
+        ensures given { IfOk result (λ r. gives (Self.about self.now) item r.ends.items r.rules
+            r.parts) }
         ensures within { IfOk result (λ r. r.parts ≤ budget) }
-        ensures more { IfErr result (λ e. e ≡ Unperformed.More → exceeds (Self.about self.now) item budget) };
+        ensures more { IfErr result (λ e. e ≡ Unperformed.More → exceeds (Self.about self.now) item
+            budget) };
 
     ghost holds_ends: { (d : Self.Data) (i : ℕ) (ends : List Self.Key) (rules : Self.Rules) (parts : ℕ) → i < count_of d → gives d i ends rules parts → All (Self.may_hold d) ends };
 }

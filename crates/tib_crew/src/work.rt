@@ -22,7 +22,8 @@ fn work_once<P: Task + Copy, R: Wait>(
     table: &Table<P>,
     hand: &mut Hand<P>,
 )
-    requires hand { Holds P.gives P.count_of P.is_ready (P.about task) table.now items.now hand.old }
+    requires hand { Holds P.gives P.count_of P.is_ready (P.about task) table.now items.now
+        hand.old }
     requires going { IsTrue hand.old.going }
     requires share { hand.old.share ≤ most_parts }
     requires few { items.now.count < 2 ^ 32 }
@@ -54,7 +55,8 @@ pub(crate) fn work<P: Task + Copy, R: Wait>(
     table: &Table<P>,
     hand: &mut Hand<P>,
 )
-    requires hand { Holds P.gives P.count_of P.is_ready (P.about task) table.now items.now hand.old }
+    requires hand { Holds P.gives P.count_of P.is_ready (P.about task) table.now items.now
+        hand.old }
     requires share { hand.old.share ≤ most_parts }
     requires few { items.now.count < 2 ^ 32 }
     ensures hand { Holds P.gives P.count_of P.is_ready (P.about task) table.now items.now hand.new }

@@ -21,9 +21,11 @@ fn expand_few<E: Expand, G: Gate>(
     first: u32,
 ) -> Result<(), HuntError>
     requires limit { limit ≤ most_parts }
-    requires between { IsBetweenRounds (E.hunted problem.now) (E.admits problem.now) E.reading first limit state.old }
+    requires between { IsBetweenRounds (E.hunted problem.now) (E.admits problem.now) E.reading first
+        limit state.old }
     requires rows { state.old.rows.items ≡ [] }
-    ensures within { OnOk result (IsExpanded (E.hunted problem.now) (E.admits problem.now) E.reading state.old.keys.keys first limit state.new.keys.keys state.new) }
+    ensures within { OnOk result (IsExpanded (E.hunted problem.now) (E.admits problem.now) E.reading
+        state.old.keys.keys first limit state.new.keys.keys state.new) }
     ensures more { IfErr result (IfTooMany limit (IsBeyond (E.hunted problem.now) limit)) }
 {
     let bound = state.keys.len();
@@ -53,9 +55,11 @@ pub(crate) fn round_of_few<E: Expand, G: Gate>(
     first: u32,
 ) -> Result<(), HuntError>
     requires limit { limit ≤ most_parts }
-    requires between { IsBetweenRounds (E.hunted problem.now) (E.admits problem.now) E.reading first limit state.old }
+    requires between { IsBetweenRounds (E.hunted problem.now) (E.admits problem.now) E.reading first
+        limit state.old }
     requires rows { state.old.rows.items ≡ [] }
-    ensures between { OnOk result (IsBetweenRounds (E.hunted problem.now) (E.admits problem.now) E.reading (length state.old.keys.keys) limit state.new) }
+    ensures between { OnOk result (IsBetweenRounds (E.hunted problem.now) (E.admits problem.now)
+        E.reading (length state.old.keys.keys) limit state.new) }
     ensures rows { OnOk result (state.new.rows.items ≡ []) }
     ensures more { IfErr result (IfTooMany limit (IsBeyond (E.hunted problem.now) limit)) }
 {

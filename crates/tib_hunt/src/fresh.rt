@@ -61,15 +61,21 @@ fn find_key<K: TableKey + Drop>(
 ) -> Result<u32, HuntError>
     requires apart { Has (keys_of fresh.old.items) key → ⊥ }
     requires placed { fresh.old.items ≡ placed 0 (keys_of fresh.old.items) }
-    requires counted { total (key_parts K.entries_of) (keys.now.keys ++ keys_of fresh.old.items) ≤ parts.old }
+    requires counted { total (key_parts K.entries_of) (keys.now.keys ++ keys_of fresh.old.items)
+        ≤ parts.old }
     requires within { parts.old ≤ limit }
     requires limit { limit ≤ most_parts }
-    ensures keys { OnOk result (keys.now.keys ++ keys_of fresh.new.items ≡ insert_key K.eq (keys.now.keys ++ keys_of fresh.old.items) key) }
+    ensures keys { OnOk result (keys.now.keys ++ keys_of fresh.new.items
+        ≡ insert_key K.eq (keys.now.keys ++ keys_of fresh.old.items) key) }
     ensures placed { OnOk result (fresh.new.items ≡ placed 0 (keys_of fresh.new.items)) }
-    ensures named { IfOk result (λ n. slice_get (keys.now.keys ++ keys_of fresh.new.items) n ≡ Some key) }
-    ensures parts { OnOk result (AddsParts (key_parts K.entries_of) (keys.now.keys ++ keys_of fresh.old.items) (keys.now.keys ++ keys_of fresh.new.items) parts.old parts.new) }
+    ensures named { IfOk result (λ n. slice_get (keys.now.keys ++ keys_of fresh.new.items) n
+        ≡ Some key) }
+    ensures parts { OnOk result (AddsParts (key_parts K.entries_of)
+        (keys.now.keys ++ keys_of fresh.old.items) (keys.now.keys ++ keys_of fresh.new.items)
+        parts.old parts.new) }
     ensures within { OnOk result (parts.new ≤ limit) }
-    ensures more { IfErr result (IfTooMany limit (KeyExceeds K.eq (key_parts K.entries_of) (keys.now.keys ++ keys_of fresh.old.items) key parts.old limit)) }
+    ensures more { IfErr result (IfTooMany limit (KeyExceeds K.eq (key_parts K.entries_of)
+        (keys.now.keys ++ keys_of fresh.old.items) key parts.old limit)) }
 {
     if let Some(position) = find_position(keys, &key) {
         return Ok(position as u32);
@@ -94,15 +100,21 @@ fn find_ends<K: TableKey + Drop>(
     requires once { Distinct ends.items }
     requires apart { (k : K) → Has ends.items k → Has (keys_of fresh.old.items) k → ⊥ }
     requires placed { fresh.old.items ≡ placed 0 (keys_of fresh.old.items) }
-    requires counted { total (key_parts K.entries_of) (keys.now.keys ++ keys_of fresh.old.items) ≤ parts.old }
+    requires counted { total (key_parts K.entries_of) (keys.now.keys ++ keys_of fresh.old.items)
+        ≤ parts.old }
     requires within { parts.old ≤ limit }
     requires limit { limit ≤ most_parts }
-    ensures keys { OnOk result (keys.now.keys ++ keys_of fresh.new.items ≡ insert_all K.eq (keys.now.keys ++ keys_of fresh.old.items) ends.items) }
+    ensures keys { OnOk result (keys.now.keys ++ keys_of fresh.new.items
+        ≡ insert_all K.eq (keys.now.keys ++ keys_of fresh.old.items) ends.items) }
     ensures placed { OnOk result (fresh.new.items ≡ placed 0 (keys_of fresh.new.items)) }
-    ensures named { IfOk result (λ r. Name (keys.now.keys ++ keys_of fresh.new.items) ends.items r.items) }
-    ensures parts { OnOk result (AddsParts (key_parts K.entries_of) (keys.now.keys ++ keys_of fresh.old.items) (keys.now.keys ++ keys_of fresh.new.items) parts.old parts.new) }
+    ensures named { IfOk result (λ r. Name (keys.now.keys ++ keys_of fresh.new.items) ends.items
+        r.items) }
+    ensures parts { OnOk result (AddsParts (key_parts K.entries_of)
+        (keys.now.keys ++ keys_of fresh.old.items) (keys.now.keys ++ keys_of fresh.new.items)
+        parts.old parts.new) }
     ensures within { OnOk result (parts.new ≤ limit) }
-    ensures more { IfErr result (IfTooMany limit (HaveMore K.eq (key_parts K.entries_of) (keys.now.keys ++ keys_of fresh.old.items) ends.items parts.old limit)) }
+    ensures more { IfErr result (IfTooMany limit (HaveMore K.eq (key_parts K.entries_of)
+        (keys.now.keys ++ keys_of fresh.old.items) ends.items parts.old limit)) }
 {
     let Ok(mut numbers) = Vec::with_capacity(alloc, ends.len()) else {
         return Err(HuntError::OutOfMemory);
@@ -134,12 +146,16 @@ pub(crate) fn find_shelves<K: TableKey + Drop>(
     requires counted { total (key_parts K.entries_of) keys.now.keys ≤ parts.old }
     requires within { parts.old ≤ limit }
     requires limit { limit ≤ most_parts }
-    ensures keys { OnOk result (keys.now.keys ++ keys_of fresh.new.items ≡ insert_all K.eq keys.now.keys (all_on (map (λ v. v.items) shelves.items))) }
+    ensures keys { OnOk result (keys.now.keys ++ keys_of fresh.new.items
+        ≡ insert_all K.eq keys.now.keys (all_on (map (λ v. v.items) shelves.items))) }
     ensures placed { OnOk result (fresh.new.items ≡ placed 0 (keys_of fresh.new.items)) }
-    ensures named { IfOk result (λ r. Along (Name (keys.now.keys ++ keys_of fresh.new.items)) (map (λ v. v.items) shelves.items) (map (λ v. v.items) r.items)) }
-    ensures parts { OnOk result (AddsParts (key_parts K.entries_of) keys.now.keys (keys.now.keys ++ keys_of fresh.new.items) parts.old parts.new) }
+    ensures named { IfOk result (λ r. Along (Name (keys.now.keys ++ keys_of fresh.new.items))
+        (map (λ v. v.items) shelves.items) (map (λ v. v.items) r.items)) }
+    ensures parts { OnOk result (AddsParts (key_parts K.entries_of) keys.now.keys
+        (keys.now.keys ++ keys_of fresh.new.items) parts.old parts.new) }
     ensures within { OnOk result (parts.new ≤ limit) }
-    ensures more { IfErr result (IfTooMany limit (HaveMore K.eq (key_parts K.entries_of) keys.now.keys (all_on (map (λ v. v.items) shelves.items)) parts.old limit)) }
+    ensures more { IfErr result (IfTooMany limit (HaveMore K.eq (key_parts K.entries_of)
+        keys.now.keys (all_on (map (λ v. v.items) shelves.items)) parts.old limit)) }
 {
     let Ok(mut positions) = Vec::with_capacity(alloc, shelves.len()) else {
         return Err(HuntError::OutOfMemory);
@@ -165,7 +181,8 @@ pub(crate) fn put_fresh<K: TableKey + Drop>(
     requires placed { fresh.items ≡ placed 0 (keys_of fresh.items) }
     requires few { length (keys.old.keys ++ keys_of fresh.items) < 2 ^ 32 }
     requires distinct { Distinct (keys.old.keys ++ keys_of fresh.items) }
-    ensures { IfOk result (λ r. IsInOrder K.cmp keys.old.keys (keys_of fresh.items) keys.new.keys r.items) }
+    ensures { IfOk result (λ r. IsInOrder K.cmp keys.old.keys (keys_of fresh.items) keys.new.keys
+        r.items) }
 {
     let mut fresh = fresh;
     fresh.sort()?;

@@ -41,12 +41,15 @@ impl<E: Expand> HuntState<E> {
         requires counted { total (key_parts E.Key.entries_of) self.old.keys.keys ≤ self.old.parts }
         requires within { self.old.parts + edges.parts ≤ limit }
         requires limit { limit ≤ most_parts }
-        ensures keys { OnOk result (self.new.keys.keys ≡ insert_all E.Key.eq self.old.keys.keys edges.ends.items) }
+        ensures keys { OnOk result (self.new.keys.keys ≡ insert_all E.Key.eq self.old.keys.keys
+            edges.ends.items) }
         ensures row { OnOk result (AddsEdges edges self.old self.new) }
         ensures rules { OnOk result (self.new.rules ≡ self.old.rules) }
-        ensures parts { OnOk result (AddsParts (key_parts E.Key.entries_of) self.old.keys.keys self.new.keys.keys (self.old.parts + edges.parts) self.new.parts) }
+        ensures parts { OnOk result (AddsParts (key_parts E.Key.entries_of) self.old.keys.keys
+            self.new.keys.keys (self.old.parts + edges.parts) self.new.parts) }
         ensures within { OnOk result (self.new.parts ≤ limit) }
-        ensures more { IfErr result (IfTooMany limit (HaveMore E.Key.eq (key_parts E.Key.entries_of) self.old.keys.keys edges.ends.items (self.old.parts + edges.parts) limit)) }
+        ensures more { IfErr result (IfTooMany limit (HaveMore E.Key.eq (key_parts E.Key.entries_of)
+            self.old.keys.keys edges.ends.items (self.old.parts + edges.parts) limit)) }
     {
         self.parts += edges.parts;
         let ends = match number_ends(alloc, &mut self.keys, &mut self.parts, limit, edges.ends) {
@@ -78,13 +81,17 @@ impl<E: Expand> HuntState<E> {
         requires limit { limit ≤ most_parts }
         requires rows { AreShelved E.reading.places worked }
         ensures order { OnOk result (self.new.keys.keys ≡ self.old.keys.keys) }
-        ensures keys { IfOk result (λ r. self.old.keys.keys ++ keys_of r.items ≡ insert_all E.Key.eq self.old.keys.keys (all_on (shelves_of worked))) }
+        ensures keys { IfOk result (λ r. self.old.keys.keys ++ keys_of r.items
+            ≡ insert_all E.Key.eq self.old.keys.keys (all_on (shelves_of worked))) }
         ensures placed { IfOk result (λ r. r.items ≡ placed 0 (keys_of r.items)) }
         ensures rules { OnOk result (self.new.rules ≡ self.old.rules) }
-        ensures rows { IfOk result (λ r. ArePlaced (self.old.keys.keys ++ keys_of r.items) worked self.new.rows.items) }
-        ensures parts { IfOk result (λ r. AddsParts (key_parts E.Key.entries_of) self.old.keys.keys (self.old.keys.keys ++ keys_of r.items) worked.parts self.new.parts) }
+        ensures rows { IfOk result (λ r. ArePlaced (self.old.keys.keys ++ keys_of r.items) worked
+            self.new.rows.items) }
+        ensures parts { IfOk result (λ r. AddsParts (key_parts E.Key.entries_of) self.old.keys.keys
+            (self.old.keys.keys ++ keys_of r.items) worked.parts self.new.parts) }
         ensures within { OnOk result (self.new.parts ≤ limit) }
-        ensures more { IfErr result (IfTooMany limit (HaveMore E.Key.eq (key_parts E.Key.entries_of) self.old.keys.keys (all_on (shelves_of worked)) worked.parts limit)) }
+        ensures more { IfErr result (IfTooMany limit (HaveMore E.Key.eq (key_parts E.Key.entries_of)
+            self.old.keys.keys (all_on (shelves_of worked)) worked.parts limit)) }
     {
         let Worked {
             shelves,
@@ -121,10 +128,12 @@ impl<E: Expand> HuntState<E> {
         requires placed { fresh.items ≡ placed 0 (keys_of fresh.items) }
         requires few { length (self.old.keys.keys ++ keys_of fresh.items) < 2 ^ 32 }
         requires distinct { Distinct (self.old.keys.keys ++ keys_of fresh.items) }
-        requires below { Each (IsRowBelow E.reading.places (length self.old.keys.keys) (length (self.old.keys.keys ++ keys_of fresh.items))) self.old.rows.items }
+        requires below { Each (IsRowBelow E.reading.places (length self.old.keys.keys)
+            (length (self.old.keys.keys ++ keys_of fresh.items))) self.old.rows.items }
         ensures rows { OnOk result (self.new.rows.items ≡ []) }
         ensures parts { OnOk result (self.new.parts ≡ self.old.parts) }
-        ensures settled { OnOk result (AreSettled E.Key.cmp E.reading (length self.old.keys.keys) self.old.keys.keys (keys_of fresh.items) self.old self.new) }
+        ensures settled { OnOk result (AreSettled E.Key.cmp E.reading (length self.old.keys.keys)
+            self.old.keys.keys (keys_of fresh.items) self.old self.new) }
     {
         let first = self.keys.len() as u32;
         let moved = put_fresh(alloc, &mut self.keys, fresh)?;
@@ -138,10 +147,12 @@ impl<E: Expand> HuntState<E> {
         requires first { first ≤ length self.old.keys.keys }
         requires few { length self.old.keys.keys < 2 ^ 32 }
         requires distinct { Distinct self.old.keys.keys }
-        requires below { Each (IsRowBelow E.reading.places first (length self.old.keys.keys)) self.old.rows.items }
+        requires below { Each (IsRowBelow E.reading.places first (length self.old.keys.keys))
+            self.old.rows.items }
         ensures rows { OnOk result (self.new.rows.items ≡ []) }
         ensures parts { OnOk result (self.new.parts ≡ self.old.parts) }
-        ensures settled { OnOk result (AreSettled E.Key.cmp E.reading first (take first self.old.keys.keys) (drop first self.old.keys.keys) self.old self.new) }
+        ensures settled { OnOk result (AreSettled E.Key.cmp E.reading first
+            (take first self.old.keys.keys) (drop first self.old.keys.keys) self.old self.new) }
     {
         let moved = sort_new(alloc, &mut self.keys, first as usize)?;
         settle_rows(alloc, problem, &self.rows, first, &moved, &mut self.rules)?;
@@ -172,11 +183,15 @@ impl<E: Expand> HuntState<E> {
         worked: Worked<E::Key, E::Over>,
     ) -> Result<Vec<(E::Key, u32)>, HuntError>
         requires limit { limit ≤ most_parts }
-        requires between { IsBetweenRounds (E.hunted problem.now) (E.admits problem.now) E.reading first limit self.old }
-        requires worked { WorksRound (E.hunted problem.now) E.reading E.Key.eq E.Key.shelf_of self.old.keys.keys first self.old.parts limit worked }
+        requires between { IsBetweenRounds (E.hunted problem.now) (E.admits problem.now) E.reading
+            first limit self.old }
+        requires worked { WorksRound (E.hunted problem.now) E.reading E.Key.eq E.Key.shelf_of
+            self.old.keys.keys first self.old.parts limit worked }
         ensures order { OnOk result (self.new.keys.keys ≡ self.old.keys.keys) }
         ensures placed { IfOk result (λ r. r.items ≡ placed 0 (keys_of r.items)) }
-        ensures within { IfOk result (λ r. IsExpanded (E.hunted problem.now) (E.admits problem.now) E.reading self.old.keys.keys first limit (self.old.keys.keys ++ keys_of r.items) self.new) }
+        ensures within { IfOk result (λ r. IsExpanded (E.hunted problem.now) (E.admits problem.now)
+            E.reading self.old.keys.keys first limit (self.old.keys.keys ++ keys_of r.items)
+            self.new) }
         ensures more { IfErr result (IfTooMany limit (IsBeyond (E.hunted problem.now) limit)) }
     {
         let _problem = problem;
@@ -192,7 +207,8 @@ impl<E: Expand> HuntState<E> {
     /// The state with the seeds in ascending order and their edges, or `TooMany` where the reached set passes the limit.
     pub fn begin(alloc: Global, problem: &E, limit: u64) -> Result<HuntState<E>, HuntError>
         requires limit { limit ≤ most_parts }
-        ensures between { IfOk result (λ h. IsBetweenRounds (E.hunted problem.now) (E.admits problem.now) E.reading 0 limit h × (h.rows.items ≡ [])) }
+        ensures between { IfOk result (λ h. IsBetweenRounds (E.hunted problem.now)
+            (E.admits problem.now) E.reading 0 limit h × (h.rows.items ≡ [])) }
         ensures more { IfErr result (IfTooMany limit (IsBeyond (E.hunted problem.now) limit)) }
     {
         let edges = match problem.seeds(alloc, limit) {
@@ -226,9 +242,12 @@ impl<E: Expand> HuntState<E> {
         worked: Worked<E::Key, E::Over>,
     ) -> Result<(), HuntError>
         requires limit { limit ≤ most_parts }
-        requires between { IsBetweenRounds (E.hunted problem.now) (E.admits problem.now) E.reading first limit self.old }
-        requires worked { WorksRound (E.hunted problem.now) E.reading E.Key.eq E.Key.shelf_of self.old.keys.keys first self.old.parts limit worked }
-        ensures between { OnOk result (IsBetweenRounds (E.hunted problem.now) (E.admits problem.now) E.reading (length self.old.keys.keys) limit self.new) }
+        requires between { IsBetweenRounds (E.hunted problem.now) (E.admits problem.now) E.reading
+            first limit self.old }
+        requires worked { WorksRound (E.hunted problem.now) E.reading E.Key.eq E.Key.shelf_of
+            self.old.keys.keys first self.old.parts limit worked }
+        ensures between { OnOk result (IsBetweenRounds (E.hunted problem.now) (E.admits problem.now)
+            E.reading (length self.old.keys.keys) limit self.new) }
         ensures rows { OnOk result (self.new.rows.items ≡ []) }
         ensures more { IfErr result (IfTooMany limit (IsBeyond (E.hunted problem.now) limit)) }
     {

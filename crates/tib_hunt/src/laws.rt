@@ -10,7 +10,8 @@ use crate::round_of::RoundOf;
 /// items, each once. The filed edges are by definition those of the filed items: that a row has the edges of its item is no part of this law.
 pub fn every_run<E: Expand>(round: &RoundOf<'_, E>)
     ensures { let p = E.hunted round.now.problem.now in let order = round.now.order.now in
-        EveryRun E.Key.eq E.Key.shelf_of round.now.first (length order - round.now.first) (p.edge order) p.ends_of }
+        EveryRun E.Key.eq E.Key.shelf_of round.now.first (length order - round.now.first)
+        (p.edge order) p.ends_of }
 {
     let _round = round;
 }
@@ -18,7 +19,8 @@ pub fn every_run<E: Expand>(round: &RoundOf<'_, E>)
 /// Two complete runs of one round leave the same keys and the same filed items, and so, by definition, the same filed edges.
 pub fn two_runs<E: Expand>(round: &RoundOf<'_, E>)
     ensures { let p = E.hunted round.now.problem.now in let order = round.now.order.now in
-        TwoRuns E.Key.eq E.Key.shelf_of round.now.first (length order - round.now.first) (p.edge order) p.ends_of }
+        TwoRuns E.Key.eq E.Key.shelf_of round.now.first (length order - round.now.first)
+        (p.edge order) p.ends_of }
 {
     let _round = round;
 }

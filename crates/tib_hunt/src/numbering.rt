@@ -23,9 +23,11 @@ fn number_key<K: TableKey + Drop>(
     requires limit { limit ≤ most_parts }
     ensures keys { OnOk result (keys.new.keys ≡ insert_key K.eq keys.old.keys key) }
     ensures named { IfOk result (λ n. slice_get keys.new.keys n ≡ Some key) }
-    ensures parts { OnOk result (AddsParts (key_parts K.entries_of) keys.old.keys keys.new.keys parts.old parts.new) }
+    ensures parts { OnOk result (AddsParts (key_parts K.entries_of) keys.old.keys keys.new.keys
+        parts.old parts.new) }
     ensures within { OnOk result (parts.new ≤ limit) }
-    ensures more { IfErr result (IfTooMany limit (KeyExceeds K.eq (key_parts K.entries_of) keys.old.keys key parts.old limit)) }
+    ensures more { IfErr result (IfTooMany limit (KeyExceeds K.eq (key_parts K.entries_of)
+        keys.old.keys key parts.old limit)) }
 {
     let size = key.entries();
     let Ok((number, added)) = keys.insert_full(key) else {
@@ -54,9 +56,11 @@ pub(crate) fn number_ends<K: TableKey + Drop>(
     requires limit { limit ≤ most_parts }
     ensures keys { OnOk result (keys.new.keys ≡ insert_all K.eq keys.old.keys ends.items) }
     ensures named { IfOk result (λ r. Name keys.new.keys ends.items r.items) }
-    ensures parts { OnOk result (AddsParts (key_parts K.entries_of) keys.old.keys keys.new.keys parts.old parts.new) }
+    ensures parts { OnOk result (AddsParts (key_parts K.entries_of) keys.old.keys keys.new.keys
+        parts.old parts.new) }
     ensures within { OnOk result (parts.new ≤ limit) }
-    ensures more { IfErr result (IfTooMany limit (HaveMore K.eq (key_parts K.entries_of) keys.old.keys ends.items parts.old limit)) }
+    ensures more { IfErr result (IfTooMany limit (HaveMore K.eq (key_parts K.entries_of)
+        keys.old.keys ends.items parts.old limit)) }
 {
     let Ok(mut numbers) = Vec::with_capacity(alloc, ends.len()) else {
         return Err(HuntError::OutOfMemory);
@@ -105,7 +109,8 @@ pub(crate) fn put_new<K: TableKey + Drop>(
     requires distinct { Distinct (keys.old.keys ++ keys_of new.items) }
     requires few { length keys.old.keys + length new.items < 2 ^ 32 }
     ensures keys { OnOk result (keys.new.keys ≡ keys.old.keys ++ keys_of new.items) }
-    ensures moved { IfOk result (λ r. Moved keys.new.keys new.items r.items × (length r.items ≡ length new.items)) }
+    ensures moved { IfOk result (λ r. Moved keys.new.keys new.items r.items
+        × (length r.items ≡ length new.items)) }
 {
     let mut moved = vec![in alloc; 0u32; new.len()]?;
     for (key, place) in new {
@@ -126,7 +131,8 @@ pub(crate) fn sort_new<K: TableKey + Drop>(
     requires first { first ≤ length keys.old.keys }
     requires few { length keys.old.keys < 2 ^ 32 }
     requires distinct { Distinct keys.old.keys }
-    ensures { IfOk result (λ r. IsInOrder K.cmp (take first keys.old.keys) (drop first keys.old.keys) keys.new.keys r.items) }
+    ensures { IfOk result (λ r. IsInOrder K.cmp (take first keys.old.keys)
+        (drop first keys.old.keys) keys.new.keys r.items) }
 {
     let mut new = take_new(alloc, keys, first)?;
     new.sort()?;

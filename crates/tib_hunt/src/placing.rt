@@ -16,7 +16,8 @@ fn place_ends(
     positions: &[Vec<u32>],
 ) -> Result<Vec<u32>, AllocError>
     requires { AreOn (map (λ v. v.items) positions.now) ends.now }
-    ensures { IfOk result (λ r. r.items ≡ map (position_on (map (λ v. v.items) positions.now)) ends.now) }
+    ensures { IfOk result (λ r. r.items ≡ map (position_on (map (λ v. v.items) positions.now))
+        ends.now) }
 {
     let mut placed = Vec::with_capacity(alloc, ends.len())?;
     for &number in ends {
@@ -27,7 +28,8 @@ fn place_ends(
 
 // The position of a number on a shelf.
 fn place_end(number: Number, positions: &[Vec<u32>]) -> u32
-    requires { number.place < length (slice_index_or (map (λ v. v.items) positions.now) number.shelf []) }
+    requires { number.place < length (slice_index_or (map (λ v. v.items) positions.now) number.shelf
+        []) }
     ensures { result ≡ position_on (map (λ v. v.items) positions.now) number }
 {
     positions[number.shelf as usize][number.place as usize]
@@ -40,7 +42,8 @@ pub(crate) fn place_rows<R: Drop>(
     positions: &[Vec<u32>],
 ) -> Result<Vec<Row<R>>, AllocError>
     requires { Each (λ row. AreOn (map (λ v. v.items) positions.now) row.ends.items) rows.items }
-    ensures { IfOk result (λ r. Along (IsPlacedRow (map (λ v. v.items) positions.now)) rows.items r.items) }
+    ensures { IfOk result (λ r. Along (IsPlacedRow (map (λ v. v.items) positions.now)) rows.items
+        r.items) }
 {
     let mut placed = Vec::with_capacity(alloc, rows.len())?;
     for row in rows {

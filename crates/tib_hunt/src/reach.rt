@@ -30,7 +30,8 @@ fn found_in<E: Expand>(
     problem: &E,
     state: HuntState<E>,
 ) -> Result<Found<E::Key, E::Rule>, AllocError>
-    requires between { (limit : ℕ) × IsBetweenRounds (E.hunted problem.now) (E.admits problem.now) E.reading (length state.keys.keys) limit state }
+    requires between { (limit : ℕ) × IsBetweenRounds (E.hunted problem.now) (E.admits problem.now)
+        E.reading (length state.keys.keys) limit state }
     ensures reached { IfOk result (IsFound (E.hunted problem.now) E.reading) }
     ensures positions { IfOk result (AreWithinOrder E.reading) }
     ensures parts { IfOk result (HasParts (E.hunted problem.now) E.reading) }

@@ -52,7 +52,8 @@ impl<P: Itemized + Copy> Round<P> {
 
 // Sixteen shelves with no key.
 fn open_shelves<P: Itemized + Copy>(alloc: Global, problem: P) -> Result<Vec<Shelf<P>>, AllocError>
-    ensures { IfOk result (λ v. v.items ≡ replicate 16 (record { about = P.about problem; keys = [] })) }
+    ensures { IfOk result (λ v. v.items ≡ replicate 16 (record
+        { about = P.about problem; keys = [] })) }
 {
     let mut shelves = Vec::with_capacity(alloc, SHELVES as usize)?;
     for _ in 0..SHELVES {
@@ -80,10 +81,15 @@ impl<P: Itemized> Round<P> {
     /// Performs one event. A draw answers the next item, or None where all are drawn; a key is numbered on its shelf; an item is filed. Err if
     /// memory is refused, and then nothing has changed. Cost: at most one look-up by hash.
     pub fn step(&mut self, event: Event<P::Key>) -> Result<Answer, AllocError>
-        requires { let d = self.old.about in Allowed P.Key.eq P.Key.shelf_of (P.first_of d) (P.count_of d) (P.is_end d) self.old.core event }
+        requires { let d = self.old.about in Allowed P.Key.eq P.Key.shelf_of (P.first_of d)
+            (P.count_of d) (P.is_end d) self.old.core event }
         ensures about { self.new.about ≡ self.old.about }
-        ensures after { let d = self.old.about in OnOk result (self.new.core ≡ after P.Key.eq P.Key.shelf_of (P.first_of d) (P.count_of d) (P.is_end d) self.old.core event) }
-        ensures answer { let d = self.old.about in IfOk result (λ a. IsAnswer P.Key.shelf_of (P.first_of d) (P.count_of d) self.old.core event self.new.core a) }
+        ensures after { let d = self.old.about in OnOk result
+            (self.new.core ≡ after P.Key.eq P.Key.shelf_of (P.first_of d) (P.count_of d)
+            (P.is_end d) self.old.core event) }
+        ensures answer { let d = self.old.about in IfOk result
+            (λ a. IsAnswer P.Key.shelf_of (P.first_of d) (P.count_of d) self.old.core event
+            self.new.core a) }
         ensures same { OnErr result (self.new ≡ self.old) }
     {
         match event {
@@ -118,7 +124,8 @@ impl<P: Itemized> Round<P> {
     // The next item, or None where all are drawn.
     fn draw(&mut self) -> Option<u32>
         ensures about { self.new.about ≡ self.old.about }
-        ensures next { result ≡ next_item (P.first_of self.old.about) (P.count_of self.old.about) self.old.core }
+        ensures next { result ≡ next_item (P.first_of self.old.about) (P.count_of self.old.about)
+            self.old.core }
         ensures after { self.new.core ≡ with_draw (P.count_of self.old.about) self.old.core }
     {
         if self.drawn < self.problem.count() {
@@ -132,9 +139,11 @@ impl<P: Itemized> Round<P> {
 
     // The number of a key that an item may end at.
     fn number(&mut self, key: P::Key) -> Result<Answer, AllocError>
-        requires { (i : ℕ) × IsItem (P.first_of self.old.about) self.old.core.drawn i × P.is_end self.old.about i key }
+        requires { (i : ℕ) × IsItem (P.first_of self.old.about) self.old.core.drawn i
+            × P.is_end self.old.about i key }
         ensures about { self.new.about ≡ self.old.about }
-        ensures after { OnOk result (self.new.core ≡ with_key P.Key.eq P.Key.shelf_of self.old.core key) }
+        ensures after { OnOk result (self.new.core ≡ with_key P.Key.eq P.Key.shelf_of self.old.core
+            key) }
         ensures answer { IfOk result (λ a. NumbersKey P.Key.shelf_of self.new.core key a) }
         ensures same { OnErr result (self.new ≡ self.old) }
     {

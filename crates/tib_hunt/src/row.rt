@@ -57,8 +57,10 @@ fn settle_row<E: Expand>(
     rules: &mut Vec<E::Rule>,
 ) -> Result<(), AllocError>
     requires below { IsRowBelow E.reading.places first (first + length moved.now) row.now }
-    ensures read { OnOk result (ReadsRow E.reading first moved.now rules.old.items row.now rules.new.items) }
-    ensures below { OnOk result (StayBelow E.reading first moved.now rules.old.items rules.new.items) }
+    ensures read { OnOk result (ReadsRow E.reading first moved.now rules.old.items row.now
+        rules.new.items) }
+    ensures below { OnOk result (StayBelow E.reading first moved.now rules.old.items
+        rules.new.items) }
 {
     move_ends(&row.ends, first, moved, ends)?;
     for rule in &row.rules {
@@ -80,8 +82,10 @@ pub(crate) fn settle_rows<E: Expand>(
     rules: &mut Vec<E::Rule>,
 ) -> Result<(), AllocError>
     requires below { Each (IsRowBelow E.reading.places first (first + length moved.now)) rows.now }
-    ensures read { OnOk result (ReadAs E.reading first moved.now rules.old.items rows.now rules.new.items) }
-    ensures below { OnOk result (StayBelow E.reading first moved.now rules.old.items rules.new.items) }
+    ensures read { OnOk result (ReadAs E.reading first moved.now rules.old.items rows.now
+        rules.new.items) }
+    ensures below { OnOk result (StayBelow E.reading first moved.now rules.old.items
+        rules.new.items) }
 {
     let mut ends = Vec::new(alloc);
     for row in rows {

@@ -18,8 +18,10 @@ use tib_table::{Number, TableKey};
 /// Draws the next item of a round, or None where all are drawn.
 pub(crate) fn draw_item<P: Itemized>(round: &mut Round<P>) -> Result<Option<u32>, AllocError>
     ensures about { round.new.about ≡ round.old.about }
-    ensures core { OnOk result (round.new.core ≡ with_draw (P.count_of round.old.about) round.old.core) }
-    ensures next { IfOk result (λ item. item ≡ next_item (P.first_of round.old.about) (P.count_of round.old.about) round.old.core) }
+    ensures core { OnOk result (round.new.core ≡ with_draw (P.count_of round.old.about)
+        round.old.core) }
+    ensures next { IfOk result (λ item. item ≡ next_item (P.first_of round.old.about)
+        (P.count_of round.old.about) round.old.core) }
 {
     match round.step(Event::Draw)? {
         Answer::Drawn(item) => Ok(item),
@@ -32,7 +34,8 @@ pub(crate) fn draw_item<P: Itemized>(round: &mut Round<P>) -> Result<Option<u32>
 pub(crate) fn file_item<P: Itemized>(round: &mut Round<P>, item: u32) -> Result<(), AllocError>
     requires drawn { IsItem (P.first_of round.old.about) round.old.core.drawn item }
     requires once { Has round.old.core.filed item → ⊥ }
-    requires ends { (k : P.Key) → P.is_end round.old.about item k → Has (on round.old.core.shelves (P.Key.shelf_of k)) k }
+    requires ends { (k : P.Key) → P.is_end round.old.about item k →
+        Has (on round.old.core.shelves (P.Key.shelf_of k)) k }
     ensures about { round.new.about ≡ round.old.about }
     ensures core { OnOk result (round.new.core ≡ with_filed round.old.core item) }
 {
@@ -42,10 +45,13 @@ pub(crate) fn file_item<P: Itemized>(round: &mut Round<P>, item: u32) -> Result<
 
 // The number of a key on its shelf, which is appended there if it is new.
 fn number_on_shelf<P: Itemized>(round: &mut Round<P>, key: P::Key) -> Result<Number, AllocError>
-    requires { (i : ℕ) × IsItem (P.first_of round.old.about) round.old.core.drawn i × P.is_end round.old.about i key }
+    requires { (i : ℕ) × IsItem (P.first_of round.old.about) round.old.core.drawn i
+        × P.is_end round.old.about i key }
     ensures about { round.new.about ≡ round.old.about }
-    ensures core { OnOk result (round.new.core ≡ with_key P.Key.eq P.Key.shelf_of round.old.core key) }
-    ensures named { IfOk result (λ n. (n.shelf ≡ P.Key.shelf_of key) × Names round.new.core.shelves n.shelf n.place key) }
+    ensures core { OnOk result (round.new.core ≡ with_key P.Key.eq P.Key.shelf_of round.old.core
+        key) }
+    ensures named { IfOk result (λ n. (n.shelf ≡ P.Key.shelf_of key) × Names round.new.core.shelves
+        n.shelf n.place key) }
 {
     match round.step(Event::Number { key })? {
         Answer::Numbered(number) => Ok(number),
@@ -61,17 +67,22 @@ fn shelve_key<P: Itemized>(
     limit: u64,
     key: P::Key,
 ) -> Result<Number, HuntError>
-    requires key { (i : ℕ) × IsItem (P.first_of round.old.about) round.old.core.drawn i × P.is_end round.old.about i key }
+    requires key { (i : ℕ) × IsItem (P.first_of round.old.about) round.old.core.drawn i
+        × P.is_end round.old.about i key }
     requires sixteen { length round.old.core.shelves ≡ 16 }
-    requires counted { seen.old ≡ total (key_parts P.Key.entries_of) (all_on round.old.core.shelves) }
+    requires counted { seen.old ≡ total (key_parts P.Key.entries_of)
+        (all_on round.old.core.shelves) }
     requires within { seen.old ≤ limit }
     requires limit { limit ≤ most_parts }
     ensures about { round.new.about ≡ round.old.about }
-    ensures core { OnOk result (round.new.core ≡ with_key P.Key.eq P.Key.shelf_of round.old.core key) }
+    ensures core { OnOk result (round.new.core ≡ with_key P.Key.eq P.Key.shelf_of round.old.core
+        key) }
     ensures named { IfOk result (λ n. Names round.new.core.shelves n.shelf n.place key) }
-    ensures counted { OnOk result (seen.new ≡ total (key_parts P.Key.entries_of) (all_on (with_key P.Key.eq P.Key.shelf_of round.old.core key).shelves)) }
+    ensures counted { OnOk result (seen.new ≡ total (key_parts P.Key.entries_of)
+        (all_on (with_key P.Key.eq P.Key.shelf_of round.old.core key).shelves)) }
     ensures within { OnOk result (seen.new ≤ limit) }
-    ensures more { IfErr result (IfTooMany limit (limit < total (key_parts P.Key.entries_of) (all_on (with_key P.Key.eq P.Key.shelf_of round.old.core key).shelves))) }
+    ensures more { IfErr result (IfTooMany limit (limit < total (key_parts P.Key.entries_of)
+        (all_on (with_key P.Key.eq P.Key.shelf_of round.old.core key).shelves))) }
 {
     let shelf = key.shelf();
     let size = key.entries();
@@ -96,17 +107,22 @@ pub(crate) fn shelve_ends<P: Itemized>(
     limit: u64,
     ends: Vec<P::Key>,
 ) -> Result<Vec<Number>, HuntError>
-    requires ends { (k : P.Key) → Has ends.items k → (i : ℕ) × IsItem (P.first_of round.old.about) round.old.core.drawn i × P.is_end round.old.about i k }
+    requires ends { (k : P.Key) → Has ends.items k → (i : ℕ) × IsItem (P.first_of round.old.about)
+        round.old.core.drawn i × P.is_end round.old.about i k }
     requires sixteen { length round.old.core.shelves ≡ 16 }
-    requires counted { seen.old ≡ total (key_parts P.Key.entries_of) (all_on round.old.core.shelves) }
+    requires counted { seen.old ≡ total (key_parts P.Key.entries_of)
+        (all_on round.old.core.shelves) }
     requires within { seen.old ≤ limit }
     requires limit { limit ≤ most_parts }
     ensures about { round.new.about ≡ round.old.about }
-    ensures core { OnOk result (round.new.core ≡ with_keys P.Key.eq P.Key.shelf_of round.old.core ends.items) }
+    ensures core { OnOk result (round.new.core ≡ with_keys P.Key.eq P.Key.shelf_of round.old.core
+        ends.items) }
     ensures named { IfOk result (λ r. NameOn round.new.core.shelves ends.items r.items) }
-    ensures counted { OnOk result (seen.new ≡ total (key_parts P.Key.entries_of) (all_on round.new.core.shelves)) }
+    ensures counted { OnOk result (seen.new ≡ total (key_parts P.Key.entries_of)
+        (all_on round.new.core.shelves)) }
     ensures within { OnOk result (seen.new ≤ limit) }
-    ensures more { IfErr result (IfTooMany limit (ShelvesHaveMore P.Key.eq P.Key.shelf_of (key_parts P.Key.entries_of) round.old.core (Has ends.items) limit)) }
+    ensures more { IfErr result (IfTooMany limit (ShelvesHaveMore P.Key.eq P.Key.shelf_of
+        (key_parts P.Key.entries_of) round.old.core (Has ends.items) limit)) }
 {
     let Ok(mut numbers) = Vec::with_capacity(alloc, ends.len()) else {
         return Err(HuntError::OutOfMemory);

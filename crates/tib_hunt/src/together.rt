@@ -62,8 +62,10 @@ where
     E::Rule: Send,
     requires workers { (1 ≤ workers) × (workers ≤ 16) }
     requires limit { limit ≤ most_parts }
-    requires between { (rules : List E.Rule) × IsBetween (E.hunted problem.now) (E.admits problem.now) E.reading first order.now rules parts limit }
-    ensures worked { IfOk result (WorksRound (E.hunted problem.now) E.reading E.Key.eq E.Key.shelf_of order.now first parts limit) }
+    requires between { (rules : List E.Rule) × IsBetween (E.hunted problem.now)
+        (E.admits problem.now) E.reading first order.now rules parts limit }
+    ensures worked { IfOk result (WorksRound (E.hunted problem.now) E.reading E.Key.eq
+        E.Key.shelf_of order.now first parts limit) }
     ensures more { IfErr result (IfTooMany limit (IsBeyond (E.hunted problem.now) limit)) }
 {
     let of = RoundOf {

@@ -51,17 +51,23 @@ fn work_item<'a, 'b, E: Expand, G: Gate>(
     requires about { round.old.about ≡ (of.now.problem.now, of.now.order.now, of.now.first) }
     requires drawn { IsItem of.now.first round.old.core.drawn item }
     requires once { Has round.old.core.filed item → ⊥ }
-    requires kept { IsKept E.Key.shelf_of of.now.first (length of.now.order.now - of.now.first) (IsEndAt (E.hunted of.now.problem.now) of.now.order.now) round.old.core }
+    requires kept { IsKept E.Key.shelf_of of.now.first (length of.now.order.now - of.now.first)
+        (IsEndAt (E.hunted of.now.problem.now) of.now.order.now) round.old.core }
     requires admitted { Each (E.admits of.now.problem.now) of.now.order.now }
     requires within { work.old.parts ≤ limit }
-    requires counted { work.old.seen ≡ total (key_parts E.Key.entries_of) (all_on round.old.core.shelves) }
+    requires counted { work.old.seen ≡ total (key_parts E.Key.entries_of)
+        (all_on round.old.core.shelves) }
     requires few { work.old.seen ≤ limit }
     requires limit { limit ≤ most_parts }
     ensures about { round.new.about ≡ round.old.about }
-    ensures worked { OnOk result (WorksItem (E.hunted of.now.problem.now) E.reading E.Key.eq E.Key.shelf_of of.now.order.now item limit round.old.core work.old round.new.core work.new) }
-    ensures counted { OnOk result (work.new.seen ≡ total (key_parts E.Key.entries_of) (all_on round.new.core.shelves)) }
+    ensures worked { OnOk result (WorksItem (E.hunted of.now.problem.now) E.reading E.Key.eq
+        E.Key.shelf_of of.now.order.now item limit round.old.core work.old round.new.core
+        work.new) }
+    ensures counted { OnOk result (work.new.seen ≡ total (key_parts E.Key.entries_of)
+        (all_on round.new.core.shelves)) }
     ensures few { OnOk result (work.new.seen ≤ limit) }
-    ensures more { IfErr result (IfTooMany limit (IsTooMuch (E.hunted of.now.problem.now) E.reading E.Key.eq E.Key.shelf_of of.now.order.now item round.old.core work.old.parts limit)) }
+    ensures more { IfErr result (IfTooMany limit (IsTooMuch (E.hunted of.now.problem.now) E.reading
+        E.Key.eq E.Key.shelf_of of.now.order.now item round.old.core work.old.parts limit)) }
 {
     gate.pass(0, item);
     let edges = match of.problem.expand(alloc, of.order, item, limit - work.parts) {
@@ -99,8 +105,10 @@ pub(crate) fn work_round<E: Expand, G: Gate>(
     gate: &G,
 ) -> Result<Worked<E::Key, E::Over>, HuntError>
     requires limit { limit ≤ most_parts }
-    requires between { (rules : List E.Rule) × IsBetween (E.hunted problem.now) (E.admits problem.now) E.reading first order.now rules parts limit }
-    ensures worked { IfOk result (WorksRound (E.hunted problem.now) E.reading E.Key.eq E.Key.shelf_of order.now first parts limit) }
+    requires between { (rules : List E.Rule) × IsBetween (E.hunted problem.now)
+        (E.admits problem.now) E.reading first order.now rules parts limit }
+    ensures worked { IfOk result (WorksRound (E.hunted problem.now) E.reading E.Key.eq
+        E.Key.shelf_of order.now first parts limit) }
     ensures more { IfErr result (IfTooMany limit (IsBeyond (E.hunted problem.now) limit)) }
 {
     let of = RoundOf {

@@ -26,9 +26,11 @@ pub(crate) fn round_alone<E: Expand, G: Gate>(
     first: u32,
 ) -> Result<(), HuntError>
     requires limit { limit ≤ most_parts }
-    requires between { IsBetweenRounds (E.hunted problem.now) (E.admits problem.now) E.reading first limit state.old }
+    requires between { IsBetweenRounds (E.hunted problem.now) (E.admits problem.now) E.reading first
+        limit state.old }
     requires rows { state.old.rows.items ≡ [] }
-    ensures between { OnOk result (IsBetweenRounds (E.hunted problem.now) (E.admits problem.now) E.reading (length state.old.keys.keys) limit state.new) }
+    ensures between { OnOk result (IsBetweenRounds (E.hunted problem.now) (E.admits problem.now)
+        E.reading (length state.old.keys.keys) limit state.new) }
     ensures rows { OnOk result (state.new.rows.items ≡ []) }
     ensures more { IfErr result (IfTooMany limit (IsBeyond (E.hunted problem.now) limit)) }
 {
@@ -59,9 +61,11 @@ where
     E::Rule: Send,
     requires workers { (1 ≤ workers) × (workers ≤ 16) }
     requires limit { limit ≤ most_parts }
-    requires between { IsBetweenRounds (E.hunted problem.now) (E.admits problem.now) E.reading first limit state.old }
+    requires between { IsBetweenRounds (E.hunted problem.now) (E.admits problem.now) E.reading first
+        limit state.old }
     requires rows { state.old.rows.items ≡ [] }
-    ensures between { OnOk result (IsBetweenRounds (E.hunted problem.now) (E.admits problem.now) E.reading (length state.old.keys.keys) limit state.new) }
+    ensures between { OnOk result (IsBetweenRounds (E.hunted problem.now) (E.admits problem.now)
+        E.reading (length state.old.keys.keys) limit state.new) }
     ensures rows { OnOk result (state.new.rows.items ≡ []) }
     ensures more { IfErr result (IfTooMany limit (IsBeyond (E.hunted problem.now) limit)) }
 {

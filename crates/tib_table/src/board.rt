@@ -53,7 +53,8 @@ impl<P: Problem> Board<P> {
     pub fn len(&self) -> u64
         ensures count { result ≡ length self.now.keys }
         ensures distinct { IsDistinct P.Key.eq self.now.keys }
-        ensures held { All (λ k. P.may_hold self.now.about.0 k × (P.Key.shelf_of k ≡ self.now.about.1)) self.now.keys }
+        ensures held { All (λ k. P.may_hold self.now.about.0 k
+            × (P.Key.shelf_of k ≡ self.now.about.1)) self.now.keys }
     {
         self.shelf.len()
     }
@@ -82,7 +83,8 @@ impl<P: Problem> Board<P> {
     /// places. It takes no memory.
     pub fn take_last(&mut self) -> Option<P::Key>
         ensures about { self.new.about ≡ self.old.about }
-        ensures taken { MatchOption result ((self.old.keys ≡ []) × (self.new.keys ≡ [])) (λ k. self.old.keys ≡ self.new.keys ++ k ∷ []) }
+        ensures taken { MatchOption result ((self.old.keys ≡ []) × (self.new.keys ≡ []))
+            (λ k. self.old.keys ≡ self.new.keys ++ k ∷ []) }
     {
         self.shelf.take_last()
     }

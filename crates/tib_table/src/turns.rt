@@ -47,7 +47,8 @@ pub fn number_in_turn<P: Problem, R: Wait>(
 ) -> Result<u64, P::Key>
     requires lock { pass.old.lock ≡ lock.now }
     requires outside { pass.old.inside ≡ false }
-    requires key { (d : P.Data × ℕ) × IsLogOf d pass.old.seen × P.may_hold d.0 key × (P.Key.shelf_of key ≡ d.1) }
+    requires key { (d : P.Data × ℕ) × IsLogOf d pass.old.seen × P.may_hold d.0 key
+        × (P.Key.shelf_of key ≡ d.1) }
     ensures lock { pass.new.lock ≡ lock.now }
     ensures outside { pass.new.inside ≡ false }
     ensures log { (d : P.Data × ℕ) → IsLogOf d pass.old.seen → IsLogOf d pass.new.seen }
@@ -107,7 +108,8 @@ pub fn close_locks<P: Problem, R: Wait>(
     requires locks { map lock_of passes.items ≡ locks.items }
     requires outside { All (λ s. s.inside ≡ false) passes.items }
     requires room { (room.items ≡ []) × (length locks.items ≤ vec_capacity room) }
-    ensures { AllZip (Closes (λ d k. P.may_hold d.0 k × (P.Key.shelf_of k ≡ d.1)) P.Key.eq) passes.items result.items }
+    ensures { AllZip (Closes (λ d k. P.may_hold d.0 k × (P.Key.shelf_of k ≡ d.1)) P.Key.eq)
+        passes.items result.items }
 {
     while let Some(lock) = locks.pop() {
         let Some(pass) = passes.pop() else {

@@ -120,7 +120,8 @@ impl Expand for Strands {
 // The edge to the two nodes behind a number.
 fn strand(alloc: Global, number: u32) -> Result<Edges<Node, (Place, Place)>, ExpandError>
     requires { number ≤ 200000 }
-    ensures ends { IfOk result (λ r. r.ends.items ≡ record { number = number + 1 } ∷ record { number = number + 2 } ∷ []) }
+    ensures ends { IfOk result (λ r. r.ends.items ≡ record { number = number + 1 } ∷ record
+        { number = number + 2 } ∷ []) }
     ensures rules { IfOk result (λ r. r.rules.items ≡ (Place.End 0, Place.End 1) ∷ []) }
     ensures parts { IfOk result (λ r. r.parts ≡ 1) }
     ensures error { IfErr result (λ e. e ≡ ExpandError.OutOfMemory) }
