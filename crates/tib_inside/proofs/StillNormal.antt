@@ -23,7 +23,7 @@ label_back g (label f) h = tt
 label_back g (hole p) h = absurd h
 
 -- where a side with other states is one label over states, so is the side
-side_normal : (g : ℕ → ℕ) (s : Tree (Symbol ℕ ℕ)) → IsNormalSide (side_map g s) → IsNormalSide s
+pub side_normal : (g : ℕ → ℕ) (s : Tree (Symbol ℕ ℕ)) → IsNormalSide (side_map g s) → IsNormalSide s
 side_normal g s h = record { is_label = label_back g s.label h.is_label; are_holes = holes_back g s.kids h.are_holes }
 
 module _ (product : ℕ → ℕ → ℕ) (old new : GrammarOf) (trimmed : IsTrimmed product old new) (normal : IsNormal old.rules) where

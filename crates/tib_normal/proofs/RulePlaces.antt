@@ -43,6 +43,21 @@ pub place_at : (rules : List (Rule ℕ)) (k f n j : ℕ) → j < length (positio
 place_at [] k f n j h = absurd (omega arith)
 place_at (r ∷ rules) k f n j h = place_step r rules k f n (positions_from (suc k) f n rules) (place_at rules (suc k) f n) (is_over f n r) refl j h
 
+ascend_step :
+    (k : ℕ) (ps : List ℕ) → ((i j : ℕ) → i < j → j < length ps → get_or ps i 0 < get_or ps j 0) → ((j : ℕ) → j < length ps → k < get_or ps j 0) →
+    (b : Bool) → (i j : ℕ) → i < j → j < length (if b then k ∷ ps else ps) → get_or (if b then k ∷ ps else ps) i 0 < get_or (if b then k ∷ ps else ps) j 0
+ascend_step k ps ih above true i zero h l = absurd (omega arith)
+ascend_step k ps ih above true zero (suc j) h l = above j (omega arith)
+ascend_step k ps ih above true (suc i) (suc j) h l = ih i j (omega arith) (omega arith)
+ascend_step k ps ih above false i j h l = ih i j h l
+
+-- these positions ascend
+pub places_ascend : (rules : List (Rule ℕ)) (k f n i j : ℕ) → i < j → j < length (positions_from k f n rules) → get_or (positions_from k f n rules) i 0 < get_or (positions_from k f n rules) j 0
+places_ascend [] k f n i j h l = absurd (omega arith)
+places_ascend (r ∷ rules) k f n i j h l =
+    ascend_step k (positions_from (suc k) f n rules) (places_ascend rules (suc k) f n)
+    (λ m b. omega (arith, (place_at rules (suc k) f n m b).from)) (is_over f n r) i j h l
+
 has_step : (k p : ℕ) (ps : List ℕ) (b : Bool) → Has ps p → Has (if b then k ∷ ps else ps) p
 has_step k p ps true h = inr h
 has_step k p ps false h = h

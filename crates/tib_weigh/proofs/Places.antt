@@ -1,27 +1,13 @@
 -- The positions of the rules of a label and a rank.
-use Rattle.std.specs.Prelude.{◌≡◌, ℕ, ◌<◌, ◌≤◌, Bool, true, false, List, [], ◌∷◌, length, if◌then◌else◌, refl}
-use Rattle.std.proofs.Common.{zero, suc, ap, ◌∙◌, arith, get_or, subst}
+use Rattle.std.specs.Prelude.{◌≡◌, ℕ, ◌<◌, ◌≤◌, List, [], ◌∷◌, length, refl}
+use Rattle.std.proofs.Common.{zero, suc, ◌∙◌, arith, get_or, subst}
 use Rattle.tib_lex.specs.Lists.{Ascends}
 use Rattle.tib_grammar.specs.declared.Rule.{Rule}
 use Rattle.tib_grammar.specs.Run.{rule_at, no_rule}
-use Rattle.std.specs.Prelude.{◌&&◌}
-use Rattle.tib_normal.specs.Rules.{is_over, positions_from, positions_with}
+use Rattle.tib_normal.specs.Rules.{positions_with}
 use Rattle.tib_normal.proofs.Pairwise.{Ascends-at}
 use Rattle.tib_normal.proofs.RulePlaces.{place_at}
-
-ascend_step :
-    (k : ℕ) (ps : List ℕ) → ((i j : ℕ) → i < j → j < length ps → get_or ps i 0 < get_or ps j 0) → ((j : ℕ) → j < length ps → k < get_or ps j 0) →
-    (b : Bool) → (i j : ℕ) → i < j → j < length (if b then k ∷ ps else ps) → get_or (if b then k ∷ ps else ps) i 0 < get_or (if b then k ∷ ps else ps) j 0
-ascend_step k ps ih above true i zero h l = absurd (omega arith)
-ascend_step k ps ih above true zero (suc j) h l = above j (omega arith)
-ascend_step k ps ih above true (suc i) (suc j) h l = ih i j (omega arith) (omega arith)
-ascend_step k ps ih above false i j h l = ih i j h l
-
-pub places_ascend : (rules : List (Rule ℕ)) (k f n i j : ℕ) → i < j → j < length (positions_from k f n rules) → get_or (positions_from k f n rules) i 0 < get_or (positions_from k f n rules) j 0
-places_ascend [] k f n i j h l = absurd (omega arith)
-places_ascend (r ∷ rules) k f n i j h l =
-    ascend_step k (positions_from (suc k) f n rules) (places_ascend rules (suc k) f n)
-    (λ m b. omega (arith, (place_at rules (suc k) f n m b).from)) (is_over f n r) i j h l
+pub use Rattle.tib_normal.proofs.RulePlaces.{places_ascend}
 
 -- of two such rules the later one has no lesser left state
 pub lefts_ascend :

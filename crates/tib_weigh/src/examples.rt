@@ -16,15 +16,18 @@ pub fn trees_compute()
     ensures size { size pair ≡ 3 }
     ensures preorder { preorder_of pair ≡ (0, 2) ∷ (1, 0) ∷ (1, 0) ∷ [] }
     ensures label { text_at table 1 ≡ 97 ∷ [] }
-    ensures texts { texts table (only pair) ≡ tree (83 ∷ []) (tree (97 ∷ []) none (tree (97 ∷ []) none none)) none }
+    ensures texts { texts table (only pair) ≡ tree (83 ∷ [])
+        (tree (97 ∷ []) none (tree (97 ∷ []) none none)) none }
     ensures labels { HasLabels table pair }
 {}
 
 /// Sides, what their holes carry, and what stands in place of the holes.
 pub fn sides_compute()
     ensures holes { holes_of side ≡ 0 ∷ 1 ∷ [] }
-    ensures fill { fill (only side) (tree 1 none (tree 2 none none)) ≡ tree 0 (tree 1 none (tree 1 (tree 2 none none) none)) none }
-    ensures over { over {A = ℕ} {P = ℕ} 1 (3 ∷ 4 ∷ []) ≡ record { label = label 1; kids = tree (hole 3) none (tree (hole 4) none none) } }
+    ensures fill { fill (only side) (tree 1 none (tree 2 none none))
+        ≡ tree 0 (tree 1 none (tree 1 (tree 2 none none) none)) none }
+    ensures over { over {A = ℕ} {P = ℕ} 1 (3 ∷ 4 ∷ []) ≡ record
+        { label = label 1; kids = tree (hole 3) none (tree (hole 4) none none) } }
     ensures lone { holes_of {A = ℕ} {P = ℕ} (Lone 5) ≡ 5 ∷ [] }
     ensures leaves { HolesAreLeaves (only side) }
     ensures no_leaf { HolesAreLeaves {A = ℕ} {P = ℕ} (tree (hole 0) (leaves (1 ∷ [])) none) → ⊥ }

@@ -57,7 +57,8 @@ fn leaf_of<S: Semiring>(
     label: Label,
     rank: u32,
 ) -> Result<Vec<Entry>, AllocError>
-    ensures { IfOk result (λ v. rank ≡ 0 → IsVectorOf S.product normal.now.rules label none v.items) }
+    ensures { IfOk result (λ v. rank ≡ 0 → IsVectorOf S.product normal.now.rules label none
+        v.items) }
 {
     let mut leaf = Vec::new(alloc);
     if rank > 0 {
@@ -128,7 +129,8 @@ impl Shape {
     ) -> Result<(), AllocError>
         requires normal { AreNormal rules.now }
         requires range { AreInRange (length found.old.costs.items) rules.now }
-        requires tables { (f : ℕ) × AreTables rules.now (positions_with f rank rules.now) rank self.now.tables.items }
+        requires tables { (f : ℕ) × AreTables rules.now (positions_with f rank rules.now) rank
+            self.now.tables.items }
         requires some { 0 < rank }
         requires enough { rank ≤ length stack.now }
         requires ascend { Each IsAscending (vectors stack.now) }
@@ -138,7 +140,8 @@ impl Shape {
             AreTables rules.now (positions_with f rank rules.now) rank self.now.tables.items →
             IsNodeVector S.product rules.now f rank (vectors stack.now) vector.new.items) }
         ensures blank { IfOk result (λ _. IsBlank found.new) }
-        ensures long { IfOk result (λ _. length found.new.costs.items ≡ length found.old.costs.items) }
+        ensures long { IfOk result (λ _. length found.new.costs.items
+            ≡ length found.old.costs.items) }
     {
         let place = self.best_place(stack);
         try_table::<S>(found, &self.tables[place], rules, stack, place, rank)?;
@@ -196,7 +199,8 @@ impl Index {
 
     /// What there is for a label and a rank.
     pub(crate) fn find(&self, label: Label, rank: u32) -> Option<&Shape>
-        ensures { (product : ℕ → ℕ → ℕ) → (rules : List (Rule ℕ)) → IsIndex product rules self.now → IfSome result (λ s. IsShape product rules label rank s.now) }
+        ensures { (product : ℕ → ℕ → ℕ) → (rules : List (Rule ℕ)) → IsIndex product rules self.now →
+            IfSome result (λ s. IsShape product rules label rank s.now) }
     {
         self.shapes.get(&(label, rank))
     }

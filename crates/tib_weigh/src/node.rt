@@ -61,8 +61,10 @@ fn add_rule<S: Semiring>(
     requires last { EndsBy rule.now.left vector.old.items }
     ensures ascends { IfOk result (λ _. IsAscending vector.new.items) }
     ensures last { IfOk result (λ _. EndsBy rule.now.left vector.new.items) }
-    ensures costs { IfOk result (λ _. (q : ℕ) → cost_in vector.new.items q ≡ (if nat_eq rule.now.left q
-        then lesser_of (cost_in vector.old.items q) (times_of S.product (Some rule.now.cost) (times_all S.product (holes_of rule.now.right.kids) (vectors stack.now)))
+    ensures costs { IfOk result (λ _. (q : ℕ) → cost_in vector.new.items q
+        ≡ (if nat_eq rule.now.left q
+        then lesser_of (cost_in vector.old.items q) (times_of S.product (Some rule.now.cost)
+        (times_all S.product (holes_of rule.now.right.kids) (vectors stack.now)))
         else cost_in vector.old.items q)) }
 {
     match times::<S>(Some(rule.cost), product_of::<S>(rule.states_below(), stack)) {
@@ -87,7 +89,8 @@ pub(crate) fn put_node_vector<S: Semiring>(
     requires enough { rank ≤ length stack.now }
     requires ascend { Each IsAscending (vectors stack.now) }
     requires empty { vector.old.items ≡ [] }
-    ensures { IfOk result (λ _. IsNodeVector S.product rules.now label rank (vectors stack.now) vector.new.items) }
+    ensures { IfOk result (λ _. IsNodeVector S.product rules.now label rank (vectors stack.now)
+        vector.new.items) }
 {
     for position in positions {
         add_rule::<S>(&rules[*position as usize], stack, vector)?;

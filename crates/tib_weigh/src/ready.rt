@@ -20,7 +20,8 @@ pub(crate) struct Ready {
 /// Whether the states of two rules of one rank agree at all child places but one.
 pub(crate) fn agree_beside(first: &[Item<u32>], second: &[Item<u32>], place: usize) -> bool
     requires { length first.now ≡ length second.now }
-    ensures { IsTrue result → (i : ℕ) → i < length first.now → (i ≡ place → ⊥) → state_in (get_or first.now i (Label 0 0)) ≡ state_in (get_or second.now i (Label 0 0)) }
+    ensures { IsTrue result → (i : ℕ) → i < length first.now → (i ≡ place → ⊥) →
+        state_in (get_or first.now i (Label 0 0)) ≡ state_in (get_or second.now i (Label 0 0)) }
 {
     for i in 0..first.len() {
         if i != place && first[i].state() != second[i].state() {

@@ -67,7 +67,8 @@ fn filed(
     requires some { 0 < slots }
     ensures many { IfOk result (λ v. vec_len v ≡ slots) }
     ensures all { IfOk result (λ v. HoldsAll rules.now place positions.now (lists_of v.items)) }
-    ensures only { IfOk result (λ v. HoldsOnly rules.now rank place positions.now (lists_of v.items)) }
+    ensures only { IfOk result (λ v. HoldsOnly rules.now rank place positions.now
+        (lists_of v.items)) }
 {
     let mut made = blank(alloc, slots)?;
     let Some(first) = positions.first() else {
@@ -103,8 +104,10 @@ impl Slots {
         requires rules { AreRules rules.now rank positions.now }
         requires place { place < rank }
         requires some { 0 < slots }
-        ensures all { IfOk result (λ s. HoldsAll rules.now place positions.now (lists_of s.lists.items)) }
-        ensures only { IfOk result (λ s. HoldsOnly rules.now rank place positions.now (lists_of s.lists.items)) }
+        ensures all { IfOk result (λ s. HoldsAll rules.now place positions.now
+            (lists_of s.lists.items)) }
+        ensures only { IfOk result (λ s. HoldsOnly rules.now rank place positions.now
+            (lists_of s.lists.items)) }
     {
         let lists = filed(alloc, rules, positions, place, rank, slots)?;
         Ok(Slots { lists })

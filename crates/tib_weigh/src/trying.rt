@@ -69,7 +69,8 @@ fn recall<S: Semiring>(
     requires ascend { Each IsAscending (vectors stack.now) }
     requires last { IsRemembered S.product rules.now place (vectors stack.now) last.old }
     ensures last { IsRemembered S.product rules.now place (vectors stack.now) last.new }
-    ensures cost { last.new.cost ≡ rest_worth S.product rules.now place (vectors stack.now) position }
+    ensures cost { last.new.cost ≡ rest_worth S.product rules.now place (vectors stack.now)
+        position }
 {
     if let Some(known) = last.position {
         if known == position {
@@ -100,7 +101,8 @@ fn lower(found: &mut Found, state: u32, cost: Option<Cost>) -> Result<(), AllocE
     requires noted { IsNoted found.old }
     ensures noted { IfOk result (λ _. IsNoted found.new) }
     ensures long { IfOk result (λ _. length found.new.costs.items ≡ length found.old.costs.items) }
-    ensures costs { IfOk result (λ _. (q : ℕ) → cost_of found.new q ≡ (if nat_eq state q then lesser_of (cost_of found.old q) cost else cost_of found.old q)) }
+    ensures costs { IfOk result (λ _. (q : ℕ) → cost_of found.new q
+        ≡ (if nat_eq state q then lesser_of (cost_of found.old q) cost else cost_of found.old q)) }
 {
     match cost {
         Some(cost) => found.add(state, cost),
@@ -123,13 +125,15 @@ fn try_slot<S: Semiring>(
     requires sound { AreSound rules.now rank (length found.old.costs.items) ready.now }
     requires enough { rank ≤ length stack.now }
     requires ascend { Each IsAscending (vectors stack.now) }
-    requires here { cost_in (get_or (vectors stack.now) place []) entry.now.state ≡ Some entry.now.cost }
+    requires here { cost_in (get_or (vectors stack.now) place []) entry.now.state
+        ≡ Some entry.now.cost }
     requires last { IsRemembered S.product rules.now place (vectors stack.now) last.old }
     requires noted { IsNoted found.old }
     ensures last { IsRemembered S.product rules.now place (vectors stack.now) last.new }
     ensures noted { IfOk result (λ _. IsNoted found.new) }
     ensures long { IfOk result (λ _. length found.new.costs.items ≡ length found.old.costs.items) }
-    ensures tried { IfOk result (λ _. HasTried (worth S.product rules.now place (vectors stack.now)) entry.now.state ready.now (cost_of found.old) (cost_of found.new)) }
+    ensures tried { IfOk result (λ _. HasTried (worth S.product rules.now place (vectors stack.now))
+        entry.now.state ready.now (cost_of found.old) (cost_of found.new)) }
 {
     for record in ready {
         if record.state != entry.state {
@@ -153,7 +157,8 @@ fn try_entries<S: Semiring>(
     rank: u32,
 ) -> Result<(), AllocError>
     requires normal { AreNormal rules.now }
-    requires sound { (q : ℕ) → AreSound rules.now rank (length found.old.costs.items) (bucket table.now q) }
+    requires sound { (q : ℕ) → AreSound rules.now rank (length found.old.costs.items)
+        (bucket table.now q) }
     requires vector { vector.now ≡ get_or (vectors stack.now) place [] }
     requires ascends { IsAscending vector.now }
     requires enough { rank ≤ length stack.now }
@@ -161,7 +166,8 @@ fn try_entries<S: Semiring>(
     requires blank { IsBlank found.old }
     ensures noted { IfOk result (λ _. IsNoted found.new) }
     ensures long { IfOk result (λ _. length found.new.costs.items ≡ length found.old.costs.items) }
-    ensures tried { IfOk result (λ _. HasTriedAll (worth S.product rules.now place (vectors stack.now)) vector.now (bucket table.now) (cost_of found.new)) }
+    ensures tried { IfOk result (λ _. HasTriedAll (worth S.product rules.now place
+        (vectors stack.now)) vector.now (bucket table.now) (cost_of found.new)) }
 {
     let mut last = Rest {
         position: None,
@@ -184,14 +190,17 @@ pub(crate) fn try_table<S: Semiring>(
     rank: u32,
 ) -> Result<(), AllocError>
     requires normal { AreNormal rules.now }
-    requires sound { (q : ℕ) → AreSound rules.now rank (length found.old.costs.items) (bucket table.now q) }
+    requires sound { (q : ℕ) → AreSound rules.now rank (length found.old.costs.items)
+        (bucket table.now q) }
     requires within { place < rank }
     requires enough { rank ≤ length stack.now }
     requires ascend { Each IsAscending (vectors stack.now) }
     requires blank { IsBlank found.old }
     ensures noted { IfOk result (λ _. IsNoted found.new) }
     ensures long { IfOk result (λ _. length found.new.costs.items ≡ length found.old.costs.items) }
-    ensures tried { IfOk result (λ _. HasTriedAll (worth S.product rules.now place (vectors stack.now)) (get_or (vectors stack.now) place []) (bucket table.now) (cost_of found.new)) }
+    ensures tried { IfOk result (λ _. HasTriedAll (worth S.product rules.now place
+        (vectors stack.now)) (get_or (vectors stack.now) place []) (bucket table.now)
+        (cost_of found.new)) }
 {
     let vector = &stack[stack.len() - 1 - place];
     try_entries::<S>(found, table, vector, rules, stack, place, rank)

@@ -64,7 +64,9 @@ pub(crate) fn add_cost(vector: &mut Vec<Entry>, state: u32, cost: Cost) -> Resul
     requires last { EndsBy state vector.old.items }
     ensures ascends { IfOk result (λ _. IsAscending vector.new.items) }
     ensures last { IfOk result (λ _. EndsBy state vector.new.items) }
-    ensures costs { IfOk result (λ _. (q : ℕ) → cost_in vector.new.items q ≡ (if nat_eq state q then lesser_of (cost_in vector.old.items q) (Some cost) else cost_in vector.old.items q)) }
+    ensures costs { IfOk result (λ _. (q : ℕ) → cost_in vector.new.items q
+        ≡ (if nat_eq state q then lesser_of (cost_in vector.old.items q) (Some cost) else
+        cost_in vector.old.items q)) }
 {
     let Some(last) = vector.pop() else {
         vector.push(Entry { state, cost })?;

@@ -52,7 +52,8 @@ impl Room {
 
     // Takes vectors off the stack, as many as asked, and keeps them.
     fn keep(&mut self, stack: &mut Vec<Vec<Entry>>, count: u32) -> Result<(), AllocError>
-        ensures stack { IfOk result (λ _. stack.new.items ≡ take (vec_len stack.old - count) stack.old.items) }
+        ensures stack { IfOk result (λ _. stack.new.items ≡ take (vec_len stack.old - count)
+            stack.old.items) }
         ensures found { IfOk result (λ _. self.new.found ≡ self.old.found) }
     {
         for done in 0..count {
@@ -81,7 +82,8 @@ fn put_vector_at<S: Semiring>(
     requires blank { IsBlank found.old }
     requires long { length found.old.costs.items ≡ length normal.now.names }
     requires empty { vector.old.items ≡ [] }
-    ensures vector { IfOk result (λ _. IsNodeVector S.product normal.now.rules label rank (vectors stack.now) vector.new.items) }
+    ensures vector { IfOk result (λ _. IsNodeVector S.product normal.now.rules label rank
+        (vectors stack.now) vector.new.items) }
     ensures blank { IfOk result (λ _. IsBlank found.new) }
     ensures long { IfOk result (λ _. length found.new.costs.items ≡ length normal.now.names) }
 {
@@ -175,7 +177,8 @@ fn weigh_each<S: Semiring>(
     trees: &[Tree],
 ) -> Result<Vec<Option<Cost>>, AllocError>
     requires { IsIndex S.product normal.now.rules index.now }
-    ensures { IfOk result (λ vs. AllZip (λ t v. IsSeries S.product normal.now.rules t v) trees.now vs.items) }
+    ensures { IfOk result (λ vs. AllZip (λ t v. IsSeries S.product normal.now.rules t v) trees.now
+        vs.items) }
 {
     let mut costs = Vec::with_capacity(alloc, trees.len())?;
     let mut room = Room::new(alloc, normal.grammar().states())?;
@@ -222,7 +225,8 @@ fn weigh_halves<S: Semiring + Sync, R: Threads + Sync>(
     times: u32,
 ) -> Result<Vec<Option<Cost>>, AllocError>
     requires { IsIndex S.product normal.now.rules index.now }
-    ensures { IfOk result (λ vs. AllZip (λ t v. IsSeries S.product normal.now.rules t v) trees.now vs.items) }
+    ensures { IfOk result (λ vs. AllZip (λ t v. IsSeries S.product normal.now.rules t v) trees.now
+        vs.items) }
 {
     let half = nodes_of(trees) / 2;
     if times == 0 || trees.len() < 2 || half < LEAST_PIECE {
@@ -230,12 +234,16 @@ fn weigh_halves<S: Semiring + Sync, R: Threads + Sync>(
     }
     let (front, back) = trees.split_at(first_with(trees, half));
     let of_front = move || -> Result<Vec<Option<Cost>>, AllocError>
-        requires { IsSync R.row × IsSync S.row × (0 < times) × IsIndex S.product normal.now.rules index.now }
-        ensures { IfOk result (λ vs. AllZip (λ t v. IsSeries S.product normal.entry.now.rules t v) front.entry.now vs.items) }
+        requires { IsSync R.row × IsSync S.row × (0 < times) × IsIndex S.product normal.now.rules
+            index.now }
+        ensures { IfOk result (λ vs. AllZip (λ t v. IsSeries S.product normal.entry.now.rules t v)
+            front.entry.now vs.items) }
     { weigh_halves::<S, R>(rt, alloc, normal, index, front, times - 1) };
     let of_back = move || -> Result<Vec<Option<Cost>>, AllocError>
-        requires { IsSync R.row × IsSync S.row × (0 < times) × IsIndex S.product normal.now.rules index.now }
-        ensures { IfOk result (λ vs. AllZip (λ t v. IsSeries S.product normal.entry.now.rules t v) back.entry.now vs.items) }
+        requires { IsSync R.row × IsSync S.row × (0 < times) × IsIndex S.product normal.now.rules
+            index.now }
+        ensures { IfOk result (λ vs. AllZip (λ t v. IsSeries S.product normal.entry.now.rules t v)
+            back.entry.now vs.items) }
     { weigh_halves::<S, R>(rt, alloc, normal, index, back, times - 1) };
     let (first, second) = join(rt, of_front, of_back);
     let mut costs = first?;
@@ -260,7 +268,8 @@ pub fn weigh_all<S: Semiring + Sync, R: Threads + Sync>(
     normal: &Normal<S>,
     trees: &[Tree],
 ) -> Result<Vec<Option<Cost>>, AllocError>
-    ensures { IfOk result (λ vs. AllZip (λ t v. IsSeries S.product normal.now.rules t v) trees.now vs.items) }
+    ensures { IfOk result (λ vs. AllZip (λ t v. IsSeries S.product normal.now.rules t v) trees.now
+        vs.items) }
 {
     let index = index_for::<S>(alloc, normal, nodes_of(trees))?;
     weigh_halves::<S, R>(rt, alloc, normal, &index, trees, halvings(rt))
