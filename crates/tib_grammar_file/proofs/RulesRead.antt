@@ -11,7 +11,7 @@ use Rattle.tib_grammar_file.specs.Rule.{has_dot, weight_words, Parts, parts, Spe
 use Rattle.tib_grammar_file.proofs.Common.{plain}
 
 -- trees have no hash
-abbrev HasNoHash : List Word → Type 0
+abbrev pub HasNoHash : List Word → Type 0
 HasNoHash [] = Unit {0}
 HasNoHash (hash ∷ words) = ⊥
 HasNoHash (word ∷ words) = HasNoHash words
@@ -29,7 +29,8 @@ no_hash_word : (q : Bool) (t : List ℕ) (words : List Word) → HasNoHash words
 no_hash_word true t words h = h
 no_hash_word false t words h = h
 
-no_hash : (f : Written) → HasNoHash (spell f)
+-- the words of a tree have none
+pub no_hash : (f : Written) → HasNoHash (spell f)
 no_hash end = tt
 no_hash (leaf q t rest) = no_hash_word q t (spell rest) (no_hash rest)
 no_hash (head q t kids rest) = no_hash_word q t (open_ ∷ (spell kids ++ (close ∷ spell rest))) (no_hash_append (spell kids) (close ∷ spell rest) (no_hash kids) (no_hash rest))
@@ -54,13 +55,14 @@ no_weight (name t ∷ words) h = refl
 no_weight (label t ∷ words) h = refl
 
 -- the words of a tree and a weight come apart again
-weight_read : (words : List Word) (w : Option (List ℕ)) → HasNoHash words → weight_in (words ++ weight_words w) ≡ w
+pub weight_read : (words : List Word) (w : Option (List ℕ)) → HasNoHash words → weight_in (words ++ weight_words w) ≡ w
 weight_read words None h = rw (append-nil words) (no_weight (drop (length words - 2) words) (no_hash_drop (length words - 2) words h))
 weight_read words (Some t) h =
     let l : length (words ++ hash ∷ (name t ∷ [])) - 2 ≡ length words = omega (arith, length-append words (hash ∷ (name t ∷ []))) in
     rw (l, drop-append_seam words (hash ∷ (name t ∷ []))) refl
 
-front_read : (words : List Word) (w : Option (List ℕ)) → front_of w (words ++ weight_words w) ≡ words
+-- and the words are in front of the weight
+pub front_read : (words : List Word) (w : Option (List ℕ)) → front_of w (words ++ weight_words w) ≡ words
 front_read words None =
     let n : length words - 0 ≡ length words = omega arith in
     rw (append-nil words, n) (take_whole words)
@@ -89,7 +91,8 @@ last_tells (hash ∷ (label u ∷ words)) t e = let bad : None ≡ Some t = e in
 last_tells (hash ∷ (name u ∷ (v ∷ words))) t e = let bad : None ≡ Some t = e in cc
 last_tells (hash ∷ (name u ∷ [])) t e = let same : Some u ≡ Some t = e in cc
 
-together : (words : List Word) (w : Option (List ℕ)) → weight_in words ≡ w → front_of w words ++ weight_words w ≡ words
+-- words are those in front of a weight, and the weight
+pub together : (words : List Word) (w : Option (List ℕ)) → weight_in words ≡ w → front_of w words ++ weight_words w ≡ words
 together words None e = append-nil (take (length words - 0) words) ∙ take_more (length words - 0) words (omega arith)
   where
     take_more : (n : ℕ) (words : List Word) → length words ≤ n → take n words ≡ words

@@ -35,8 +35,8 @@ fn texts_of(alloc: Global, names: &Labels) -> Result<Vec<Vec<u8>>, AllocError>
     Ok(texts)
 }
 
-// The names of a table, each of which is one.
-fn state_names(alloc: Global, names: &Labels) -> Result<Names, AllocError>
+/// The names of a table, each of which is one, in their order. Err only if memory is refused. It takes time in proportion to the texts.
+pub fn state_names(alloc: Global, names: &Labels) -> Result<Names, AllocError>
     requires sound { AreStateNames names.now }
     requires few { length names.now ≤ 8388609 }
     ensures { IfOk result (λ states. states ≡ names.now) }

@@ -1,5 +1,5 @@
 -- Tokens that are words.
-use Rattle.std.proofs.Common.{◌≡◌, ℕ, inl, inr, Bool, true, false, List, [], ◌∷◌, map, refl, ap, sym, ◌∙◌, subst}
+use Rattle.std.proofs.Common.{◌≡◌, ℕ, ◌≤◌, inl, inr, Bool, true, false, List, [], ◌∷◌, length, map, refl, ap, sym, ◌∙◌, subst, arith}
 use Rattle.std.specs.Prelude.{Some, None, not, cond}
 use Rattle.std.specs.List.{list_all}
 use Rattle.std.specs.Str.{bytes_eq}
@@ -9,6 +9,8 @@ use Rattle.tib_lex.specs.Lists.{Along}
 use Rattle.tib_lex.proofs.Booleans.{and-true, and-both}
 use Rattle.tib_lex.proofs.Lists.{some_is}
 use Rattle.tib_tree.specs.Written.{Item}
+use Rattle.tib_grammar_file.proofs.RulesRead.{HasNoHash}
+use Rattle.tib_transducer_file.proofs.Formats.{IsFormat}
 use Rattle.tib_string_file.specs.Listed.{mark, IsEntry, SpellsList, is_mark, is_mark_alone, is_entry, item_of, list_in}
 
 -- `*e*` alone
@@ -84,14 +86,57 @@ list_found tokens is e = by (is_mark_alone tokens) (list_all is_entry tokens) re
 pub list_of_entries : (tokens : List Word) → is_mark_alone tokens ≡ false → list_all is_entry tokens ≡ true → list_in tokens ≡ Some (map item_of tokens)
 list_of_entries tokens m l = rw (m, l) refl
 
+-- a mark alone is the empty list
 pub list_of_mark : (tokens : List Word) → is_mark_alone tokens ≡ true → list_in tokens ≡ Some []
 list_of_mark tokens m = rw m refl
 
+-- other tokens are no list
 pub no_list : (tokens : List Word) → is_mark_alone tokens ≡ false → list_all is_entry tokens ≡ false → list_in tokens ≡ None
 no_list tokens m l = rw (m, l) refl
 
+-- and a list is read so
 pub list_is : (tokens : List Word) (is : List Item) → SpellsList tokens is → list_in tokens ≡ Some is
 list_is tokens is (inl (m, e)) = ap list_in m ∙ ap (λ (js : List Item). Some js) (sym e)
 list_is tokens is (inr h) =
     let b = entries_back tokens is h in
     list_of_entries tokens (not_alone tokens is h) b.0 ∙ ap (λ (js : List Item). Some js) b.1
+
+-- words of a list are no hash
+no_hash_entries : (words : List Word) (is : List Item) → Along IsEntry words is → HasNoHash words
+no_hash_entries [] is h = tt
+no_hash_entries (name t ∷ words) [] h = absurd h
+no_hash_entries (label t ∷ words) [] h = absurd h
+no_hash_entries (open_ ∷ words) [] h = absurd h
+no_hash_entries (close ∷ words) [] h = absurd h
+no_hash_entries (hash ∷ words) [] h = absurd h
+no_hash_entries (arrow ∷ words) [] h = absurd h
+no_hash_entries (name t ∷ words) (i ∷ is) h = no_hash_entries words is h.1
+no_hash_entries (label t ∷ words) (i ∷ is) h = no_hash_entries words is h.1
+no_hash_entries (open_ ∷ words) (i ∷ is) h = absurd h.0
+no_hash_entries (close ∷ words) (i ∷ is) h = absurd h.0
+no_hash_entries (hash ∷ words) (i ∷ is) h = absurd h.0
+no_hash_entries (arrow ∷ words) (i ∷ is) h = absurd h.0
+
+no_hash_list : (words : List Word) (is : List Item) → SpellsList words is → HasNoHash words
+no_hash_list words is (inl (e, none)) = subst HasNoHash (sym e) tt
+no_hash_list words is (inr h) = no_hash_entries words is h
+
+-- and as many as its items at least
+entries_few : (words : List Word) (is : List Item) → Along IsEntry words is → length is ≤ length words
+entries_few [] [] h = omega arith
+entries_few [] (i ∷ is) h = absurd h
+entries_few (w ∷ words) [] h = absurd h
+entries_few (w ∷ words) (i ∷ is) h = omega (arith, entries_few words is h.1)
+
+list_few : (words : List Word) (is : List Item) → SpellsList words is → length is ≤ length words
+list_few words is (inl (e, none)) = omega (arith, ap length none)
+list_few words is (inr h) = entries_few words is h
+
+-- right sides that are lists
+pub lists : IsFormat SpellsList list_in
+lists = record {
+  back = λ words is e. list_found words is e;
+  forth = λ words is h. list_is words is h;
+  plain = λ words is h. no_hash_list words is h;
+  few = λ words is h. list_few words is h;
+}

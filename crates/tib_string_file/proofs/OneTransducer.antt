@@ -1,74 +1,35 @@
 -- Bytes are the text of at most one transducer over one table of distinct labels.
 use Rattle.tib_cost.specs.declared.Scale.{Scale}
-use Rattle.std.proofs.Common.{◌≡◌, ℕ, List, [], ◌∷◌, refl, ap, ◌∙◌, Option}
-use Rattle.std.specs.Prelude.{Some, None}
+use Rattle.std.proofs.Common.{◌≡◌, ℕ, List, [], ◌∷◌, refl, ap, ◌∙◌}
 use Rattle.tib_lex.specs.Lists.{Along, Distinct}
-use Rattle.tib_tree.specs.Trees.{Tree, Trees, none, tree, only}
-use Rattle.tib_grammar.specs.Sides.{Symbol, label, hole}
-use Rattle.tib_grammar_file.specs.ByText.{HaveOneShape, HaveOneText}
-use Rattle.tib_grammar_file.proofs.OneGrammar.{number_same}
+use Rattle.tib_tree.specs.Trees.{Tree, only}
+use Rattle.tib_grammar.specs.Sides.{Symbol}
 use Rattle.tib_strings.specs.StringTransducerOf.{StringTransducerOf}
-use Rattle.tib_transducer.specs.declared.Variable.{Variable}
-use Rattle.tib_transducer.specs.declared.Pair.{Pair}
 use Rattle.tib_strings.specs.declared.StringRule.{StringRule}
-use Rattle.tib_string_file.specs.TransducerText.{ReadsAs}
-use Rattle.tib_string_file.specs.ByText.{AskForOneText, AreOneVariable, AgreeOnLeft, AgreeOnRight, AreOneStringRule}
 use Rattle.tib_strings.specs.declared.Word.{Word as Token}
 use Rattle.tib_strings.specs.declared.Word.TheVariants.{Word, Hole}
-use Rattle.tib_string_file.specs.Value.{nodes_of}
+use Rattle.tib_transducer.specs.declared.Variable.{Variable}
+use Rattle.tib_transducer.specs.declared.Pair.{Pair}
 use Rattle.tib_transducer_file.proofs.OneByText.{pair_same}
+use Rattle.tib_transducer_file.proofs.OneTransducer.{shape_same, side_same, label_same, left_same}
+use Rattle.tib_string_file.specs.Value.{nodes_of}
+use Rattle.tib_string_file.specs.TransducerText.{ReadsAs}
+use Rattle.tib_string_file.specs.ByText.{AgreeOnLeft, AgreeOnRight, AreOneStringRule}
 use Rattle.tib_string_file.proofs.OneByText.{one_by_text}
 
--- trees of one shape whose nodes are the same are the same
-shape_same : {A : Type 0} (R : A → A → Type 0) → ((x y : A) → R x y → x ≡ y) → (ts us : Trees A) → HaveOneShape R ts us → ts ≡ us
-shape_same R same none none h = refl
-shape_same R same none (tree g below more) h = absurd h
-shape_same R same (tree f kids rest) none h = absurd h
-shape_same {A} R same (tree f kids rest) (tree g below more) h =
-    ap (λ (x : A). tree x kids rest) (same f g h.0)
-    ∙ ap (λ (x : Trees A). tree g x rest) (shape_same R same kids below h.1)
-    ∙ ap (λ (x : Trees A). tree g below x) (shape_same R same rest more h.2)
-
-side_same : {A : Type 0} (s t : Tree A) → only s ≡ only t → s ≡ t
-side_same {A} s t e =
-    let o : tree s.label s.kids none ≡ tree t.label t.kids none = e in
-    let a : s.label ≡ t.label = cc in
-    let b : s.kids ≡ t.kids = cc in
-    ap (λ (l : A). record { label = l; kids = s.kids }) a ∙ ap (λ (k : Trees A). record { label = t.label; kids = k }) b
-
 module _ (labels : List (List ℕ)) (apart : Distinct labels) where
-  label_same : (f g : ℕ) → HaveOneText labels labels f g → f ≡ g
-  label_same f g h = number_same labels f g h.text apart h.first h.second
-
-  asked_same : (a b : Option ℕ) → AskForOneText labels labels a b → a ≡ b
-  asked_same None None h = refl
-  asked_same None (Some g) h = absurd h
-  asked_same (Some f) None h = absurd h
-  asked_same (Some f) (Some g) h = ap (λ (n : ℕ). Some n) (label_same f g h)
-
-  variable_same : (x y : Variable) → AreOneVariable labels labels x y → x ≡ y
-  variable_same x y h =
-      ap (λ (n : ℕ). record { number = n; label = x.label }) h.0
-      ∙ ap (λ (a : Option ℕ). record { number = y.number; label = a }) (asked_same x.label y.label h.1)
-
-  left_same : (r s : Symbol ℕ Variable) → AgreeOnLeft labels labels r s → r ≡ s
-  left_same (label f) (label g) h = ap label (label_same f g h)
-  left_same (label f) (hole y) h = absurd h
-  left_same (hole x) (label g) h = absurd h
-  left_same (hole x) (hole y) h = ap hole (variable_same x y h)
-
   words_same : (ws vs : List (Token ℕ)) → Along (λ x y. AgreeOnRight labels labels x.0 y.0) (nodes_of ws) (nodes_of vs) → ws ≡ vs
   words_same [] [] h = refl
   words_same [] (v ∷ vs) h = absurd h
   words_same (w ∷ ws) [] h = absurd h
-  words_same (Word f ∷ ws) (Word g ∷ vs) h = ap (λ (n : ℕ). Word n ∷ ws) (label_same f g h.0) ∙ ap (λ (xs : List (Token ℕ)). Word g ∷ xs) (words_same ws vs h.1)
+  words_same (Word f ∷ ws) (Word g ∷ vs) h = ap (λ (n : ℕ). Word n ∷ ws) (label_same labels apart f g h.0) ∙ ap (λ (xs : List (Token ℕ)). Word g ∷ xs) (words_same ws vs h.1)
   words_same (Word f ∷ ws) (Hole y ∷ vs) h = absurd h.0
   words_same (Hole x ∷ ws) (Word g ∷ vs) h = absurd h.0
   words_same (Hole x ∷ ws) (Hole y ∷ vs) h = ap (λ (z : Pair ℕ). Hole z ∷ ws) (pair_same x y h.0.0 h.0.1) ∙ ap (λ (xs : List (Token ℕ)). Hole y ∷ xs) (words_same ws vs h.1)
 
   rule_same : (r s : StringRule ℕ) → AreOneStringRule labels labels r s → r ≡ s
   rule_same r s h =
-      let left = side_same r.left s.left (shape_same (AgreeOnLeft labels labels) left_same (only r.left) (only s.left) h.left) in
+      let left = side_same r.left s.left (shape_same (AgreeOnLeft labels labels) (left_same labels apart) (only r.left) (only s.left) h.left) in
       ap (λ (q : ℕ). record { state = q; left = r.left; right = r.right; cost = r.cost }) h.state
       ∙ ap (λ (l : Tree (Symbol ℕ Variable)). record { state = s.state; left = l; right = r.right; cost = r.cost }) left
       ∙ ap (λ (l : List (Token ℕ)). record { state = s.state; left = s.left; right = l; cost = r.cost }) (words_same r.right s.right h.right)
@@ -81,6 +42,7 @@ module _ (labels : List (List ℕ)) (apart : Distinct labels) where
   rules_same (r ∷ rs) (s ∷ ss) h =
       ap (λ (x : StringRule ℕ). x ∷ rs) (rule_same r s h.0) ∙ ap (λ (xs : List (StringRule ℕ)). s ∷ xs) (rules_same rs ss h.1)
 
+-- transducers of one text are the same
 pub one_transducer :
     (scale : Scale) (labels : List (List ℕ)) (bytes : List ℕ) (t u : StringTransducerOf) → Distinct labels → ReadsAs scale labels bytes t → ReadsAs scale labels bytes u → t ≡ u
 one_transducer scale labels bytes t u apart r q =

@@ -14,7 +14,7 @@ use Rattle.tib_string_file.specs.TransducerText.{ReadsAs}
 use Rattle.tib_string_file.specs.Value.{IsRule}
 use Rattle.tib_string_file.proofs.FaultsOnce.{text_read}
 use Rattle.tib_string_file.proofs.FileRead.{rule_grows}
-use Rattle.tib_string_file.proofs.OneByText.{all_added as stays_distinct}
+use Rattle.tib_transducer_file.proofs.OneByText.{all_added as stays_distinct}
 use Rattle.tib_string_file.proofs.SomeText.{some_text}
 use Rattle.tib_string_file.proofs.Strings.{as_many, some_string}
 

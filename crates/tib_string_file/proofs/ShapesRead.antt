@@ -17,8 +17,8 @@ use Rattle.tib_transducer.specs.declared.Variable.{Variable}
 use Rattle.tib_transducer.specs.declared.Pair.{Pair}
 use Rattle.tib_transducer.specs.declared.TransducerRule.{TransducerRule}
 use Rattle.tib_transducer_file.proofs.ShapesRead.{rule_shaped as tree_shaped}
-pub use Rattle.tib_transducer_file.proofs.ShapesRead.{variable_rank, pair_rank, left_ends}
-use Rattle.tib_string_file.specs.Rule.{parts, RuleLine, rule_line_of, label_of, numbers_in, state_of}
+pub use Rattle.tib_transducer_file.proofs.ShapesRead.{left_ends}
+use Rattle.tib_transducer_file.specs.Rule.{parts, RuleLine, rule_line_of, label_of, numbers_in, state_of}
 use Rattle.tib_string_file.specs.Value.{IsRootItem, IsRightNode, nodes_of, IsRule}
 
 -- the root is a label

@@ -4,14 +4,11 @@ pub mod StringFaults
 pub mod Reading
 pub mod Found
 pub mod Laws
-pub mod Tokens
 pub mod Rule
 pub mod Value
 pub mod TransducerReading
 pub mod TransducerText
 pub mod Faults
-pub mod Built
-pub mod Begins
 pub mod Reader
 pub mod ByText
 pub mod Labelled

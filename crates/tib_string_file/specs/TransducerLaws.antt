@@ -1,20 +1,12 @@
 -- What holds of the texts of tree-to-string transducers, and of the first fault of a file.
 use Rattle.tib_cost.specs.declared.Scale.{Scale}
-use Rattle.std.specs.Prelude.{◌≡◌, ◌⊎◌, ℕ, List, Err}
+use Rattle.std.specs.Prelude.{◌≡◌, ℕ, List}
 use Rattle.tib_lex.specs.Lists.{Distinct}
 use Rattle.tib_lex.specs.declared.fault.FileFault.{FileFault}
 use Rattle.tib_strings.specs.StringTransducerOf.{StringTransducerOf}
 use Rattle.tib_string_file.specs.TransducerText.{ReadsAs}
-use Rattle.tib_string_file.specs.TransducerReading.{transducer_in}
 use Rattle.tib_string_file.specs.Faults.{IsFirstFault}
 use Rattle.tib_string_file.specs.ByText.{AreOneStringTransducer}
-
--- `transducer_in` is a fault exactly where this is the first of the file
-abbrev pub GivesFaults : Type 0
-GivesFaults =
-    (scale : Scale) (bytes : List ℕ) (fault : FileFault) →
-    (transducer_in scale bytes ≡ Err fault → IsFirstFault scale bytes fault)
-    × (IsFirstFault scale bytes fault → transducer_in scale bytes ≡ Err fault)
 
 -- bytes with a fault are the text of no transducer
 abbrev pub TextsHaveNone : Type 0
@@ -22,21 +14,10 @@ TextsHaveNone =
     (scale : Scale) (bytes : List ℕ) (fault : FileFault) → IsFirstFault scale bytes fault → (labels : List (List ℕ)) (t : StringTransducerOf) →
     ReadsAs scale labels bytes t → ⊥
 
--- they have one first fault
-abbrev pub FirstIsOne : Type 0
-FirstIsOne =
-    (scale : Scale) (bytes : List ℕ) (fault other : FileFault) → IsFirstFault scale bytes fault → IsFirstFault scale bytes other → fault ≡ other
-
 -- the bytes are the text of a transducer over some table of distinct labels
 abbrev pub IsSomeText : Scale → List ℕ → Type 0
 IsSomeText scale bytes =
     (labels : List (List ℕ)) × (t : StringTransducerOf) × Distinct labels × ReadsAs scale labels bytes t
-
--- each file is such a text, or has a first fault
-abbrev pub TextOrFault : Type 0
-TextOrFault =
-    (scale : Scale) (bytes : List ℕ) → IsSomeText scale bytes
-    ⊎ ((fault : FileFault) × IsFirstFault scale bytes fault)
 
 -- the transducers of one text, each over a table of labels of its own, differ in the numbers of labels alone
 abbrev pub TextsMeanOne : Type 0

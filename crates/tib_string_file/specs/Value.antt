@@ -14,7 +14,7 @@ use Rattle.tib_transducer.specs.declared.Pair.{Pair}
 use Rattle.tib_transducer.specs.Range.{AreNumbered}
 use Rattle.tib_transducer.specs.Rules.{variables_of}
 pub use Rattle.tib_transducer_file.specs.Value.{IsAsked, IsLeftSymbol, IsLeftNode, IsRightSymbol, IsRightNode, IsRootItem, IsLeftSide, state_before, states_in, states_of}
-use Rattle.tib_string_file.specs.Rule.{RuleLine, state_of, numbers_in}
+use Rattle.tib_transducer_file.specs.Rule.{RuleLine, state_of, numbers_in}
 
 -- a word or a pair as a leaf of a tree
 abbrev pub leaf_of : {P : Type 0} → Token P → SideItem (Pair P)

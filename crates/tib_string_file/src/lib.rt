@@ -4,14 +4,11 @@
 //! of `tib_strings`.
 #![tactic(auto)]
 
-mod forms;
 mod laws;
 mod list;
 mod parts;
-mod pieces;
 mod rules;
 mod sides;
-mod start;
 mod string;
 mod transducer;
 mod transducer_laws;

@@ -120,8 +120,10 @@ pub(crate) fn intern_words(
     requires lie { All (Lies (length line.now)) tokens.now }
     requires plain { HasNoFeed line.now }
     requires room { length labels.old + length tokens.now < 2 ^ 32 - 1 }
-    ensures words { IfOk result (λ s. Along (IsNamed labels.new) s.items (map item_of (words_at line.now tokens.now))) }
-    ensures adds { IfOk result (λ _. AddsAll labels.old (texts_of (map item_of (words_at line.now tokens.now))) labels.new) }
+    ensures words { IfOk result (λ s. Along (IsNamed labels.new) s.items
+        (map item_of (words_at line.now tokens.now))) }
+    ensures adds { IfOk result (λ _. AddsAll labels.old
+        (texts_of (map item_of (words_at line.now tokens.now))) labels.new) }
     ensures grows { Grows labels.old labels.new }
     ensures few { length labels.new ≤ length labels.old + length tokens.now }
 {

@@ -1,194 +1,34 @@
-// The sides of a rule.
-ghost use Rattle.std.specs.Prelude.{◌≡◌, ◌≤◌, ◌<◌, ◌+◌, ◌-◌, ◌^◌, ℕ, List, [], ◌∷◌, length, All, IfOk, Some, slice_get, Option, false};
+// The right sides of rules.
+ghost use Rattle.std.specs.Prelude.{◌≡◌, ◌≤◌, ◌<◌, ◌+◌, ◌-◌, ◌^◌, [], length, All, IfOk, None, false};
 ghost use Rattle.indexmap.specs.IndexSet.{keys};
-ghost use Rattle.tib_lex.specs.Line.{Lies};
 ghost use Rattle.tib_lex.specs.Lines.{HasNoFeed};
 ghost use Rattle.tib_lex.specs.Lists.{Along};
 ghost use Rattle.tib_tree.specs.Grows.{Grows, AddsAll};
 ghost use Rattle.tib_tree.specs.Shape.{items_back, item_at, PlaceLies};
-ghost use Rattle.tib_tree.specs.Trees.{preorder_of, most_nodes, IsOneTree};
-ghost use Rattle.tib_tree.specs.Written.{Item as ItemOf};
-ghost use Rattle.tib_grammar.specs.Items.{pair_of, pairs_of, holes_in};
-ghost use Rattle.tib_transducer.specs.Range.{AreNumbered};
-ghost use Rattle.tib_transducer.specs.Rules.{variables_of};
+ghost use Rattle.tib_tree.specs.Trees.{most_nodes};
+ghost use Rattle.tib_grammar.specs.Items.{pair_of};
+ghost use Rattle.tib_transducer_file.specs.Built.{AreKnown};
 ghost use Rattle.tib_transducer_file.specs.Forms.{pair_in as spec_pair_in};
-ghost use Rattle.tib_transducer_file.specs.Rule.{is_unknown, numbers_in, label_of};
-ghost use Rattle.tib_transducer_file.specs.Found.{parts_with, bytes_at};
-ghost use Rattle.tib_transducer_file.specs.Value.{IsAsked, IsRootItem, IsLeftNode, IsRightNode, IsLeftSide, states_in, state_before};
-ghost use Rattle.tib_transducer_file.specs.Built.{AreOneTree, AreKnown};
-ghost use Rattle.tib_grammar_file.specs.Found.{text_at, WeightLies};
-ghost use Rattle.tib_transducer_file.specs.Forms.{written_label};
-ghost use Rattle.tib_transducer_file.specs.Sides.{PushesLeft};
-ghost use Rattle.tib_string_file.specs.Tokens.{IsRootFound};
+ghost use Rattle.tib_transducer_file.specs.Rule.{is_unknown};
+ghost use Rattle.tib_transducer_file.specs.Value.{IsRightNode, states_in, state_before};
 ghost use Rattle.tib_string_file.specs.Value.{IsLeaf, node_of, nodes_of};
 
-use crate::forms::{RootToken, label_token, pair_in, variable_in};
 use indexmap::IndexSet;
 use std::alloc::{AllocError, Global};
-use tib_grammar::{Item, Side};
-use tib_grammar_file::read_name;
-use tib_lex::Token;
+use tib_grammar::Item;
 use tib_strings::{Word, Words};
-use tib_transducer::{Pair, Variable};
-use tib_tree::{Labels, Place, ShapeError};
+use tib_transducer::Pair;
+use tib_transducer_file::sides::right_item;
+use tib_tree::{Labels, Place};
 
-// The number of the label that a variable asks for, if it asks for one.
-fn read_asked(
-    line: &[u8],
-    label: Option<Token>,
-    labels: &mut Labels,
-    text: &mut Vec<u8>,
-) -> Result<Option<u32>, AllocError>
-    requires lies { WeightLies (length line.now) label }
-    requires plain { HasNoFeed line.now }
-    requires room { length labels.old < 2 ^ 32 - 1 }
-    ensures asked { IfOk result (λ n. IsAsked labels.new n (text_at line.now label)) }
-    ensures grows { Grows labels.old labels.new }
-    ensures few { length labels.new ≤ length labels.old + 1 }
-{
-    match label {
-        None => Ok(None),
-        Some(token) => {
-            let number = read_name(line, token, labels, text)?;
-            Ok(Some(number))
-        }
-    }
-}
-
-// A node below the root of a left side. A variable gets this number.
-fn left_item(
-    line: &[u8],
-    place: Place,
-    number: u32,
-    labels: &mut Labels,
-    text: &mut Vec<u8>,
-) -> Result<Item<Variable>, AllocError>
-    requires lies { PlaceLies (length line.now) place }
-    requires plain { HasNoFeed line.now }
-    requires room { length labels.old < 2 ^ 32 - 1 }
-    ensures item { IfOk result (λ s. IsLeftNode labels.new (pair_of s) (item_at line.now place)) }
-    ensures numbered { IfOk result (λ s. AreNumbered number (holes_in (s ∷ []))) }
-    ensures grows { Grows labels.old labels.new }
-    ensures few { length labels.new ≤ length labels.old + 1 }
-{
-    if let Some(variable) = variable_in(line, place) {
-        let label = read_asked(line, variable.label, labels, text)?;
-        return Ok(Item::Hole(Variable { number, label }));
-    }
-    let label = read_name(line, place.token, labels, text)?;
-    let rank = place.kids.unwrap_or(0);
-    Ok(Item::Label { label, rank })
-}
-
-// The number of the next variable behind an item.
-fn number_behind(item: &Item<Variable>, number: u32) -> u32
-    requires { number < 2 ^ 32 - 1 }
-    ensures { result ≡ number + length (holes_in (item.now ∷ [])) }
+// A leaf of a tree as a word or a pair.
+fn word_of(item: Item<Pair<u32>>) -> Word<u32>
+    requires { (pair_of item).1 ≡ 0 }
+    ensures { node_of result ≡ pair_of item }
 {
     match item {
-        Item::Label { .. } => number,
-        Item::Hole(_) => number + 1,
-    }
-}
-
-// The root of a left side.
-fn root_item(
-    line: &[u8],
-    place: Place,
-    root: RootToken,
-    labels: &mut Labels,
-    text: &mut Vec<u8>,
-) -> Result<Item<Variable>, AllocError>
-    requires lies { Lies (length line.now) root.behind }
-    requires plain { HasNoFeed line.now }
-    requires room { length labels.old < 2 ^ 32 - 1 }
-    ensures item { IfOk result (λ s. IsRootItem labels.new (pair_of s) (written_label (bytes_at line.now root.behind)) place.kids) }
-    ensures numbered { IfOk result (λ s. holes_in (s ∷ []) ≡ []) }
-    ensures grows { Grows labels.old labels.new }
-    ensures few { length labels.new ≤ length labels.old + 1 }
-{
-    let token = label_token(line, root.behind.start, root.behind.end);
-    let label = read_name(line, token, labels, text)?;
-    let rank = place.kids.unwrap_or(0);
-    Ok(Item::Label { label, rank })
-}
-
-// The nodes of a left side below its root go behind it.
-fn push_below(
-    line: &[u8],
-    below: &[Place],
-    items: &mut Vec<Item<Variable>>,
-    labels: &mut Labels,
-    text: &mut Vec<u8>,
-) -> Result<(), AllocError>
-    requires lie { All (PlaceLies (length line.now)) below.now }
-    requires plain { HasNoFeed line.now }
-    requires few { length below.now ≤ most_nodes }
-    requires room { length labels.old + length below.now < 2 ^ 32 - 1 }
-    ensures items { IfOk result (λ _. PushesLeft labels.new items.old.items items.new.items (items_back line.now below.now)) }
-    ensures grows { Grows labels.old labels.new }
-    ensures few { length labels.new ≤ length labels.old + length below.now }
-{
-    let mut number: u32 = 0;
-    let mut i = below.len();
-    while i > 0 {
-        i -= 1;
-        let item = left_item(line, below[i], number, labels, text)?;
-        number = number_behind(&item, number);
-        items.push(item)?;
-    }
-    Ok(())
-}
-
-fn left_side(items: Vec<Item<Variable>>) -> Side<Variable>
-    requires few { length items.items ≤ most_nodes }
-    requires tree { IsOneTree (pairs_of items.items) }
-    ensures { preorder_of result ≡ pairs_of items.items }
-{
-    match Side::from_preorder(items) {
-        Ok(side) => side,
-        Err(ShapeError::NotATree) => unreachable!(),
-        Err(ShapeError::OutOfMemory) => unreachable!(),
-    }
-}
-
-/// The left side of a rule.
-pub(crate) fn read_left(
-    alloc: Global,
-    line: &[u8],
-    places: &[Place],
-    root: RootToken,
-    labels: &mut Labels,
-    text: &mut Vec<u8>,
-) -> Result<Side<Variable>, AllocError>
-    requires root { (r : ItemOf) × (below : List ItemOf) × (items_back line.now places.now ≡ r ∷ below) × IsRootFound line.now r.text root }
-    requires tree { AreOneTree (items_back line.now places.now) }
-    requires lie { All (PlaceLies (length line.now)) places.now }
-    requires plain { HasNoFeed line.now }
-    requires few { length places.now ≤ most_nodes }
-    requires room { length labels.old + length places.now < 2 ^ 32 - 1 }
-    ensures side { IfOk result (λ s. (right : List ItemOf) (weight : Option (List ℕ)) → IsLeftSide labels.new (preorder_of s) (parts_with (items_back line.now places.now) right weight)) }
-    ensures numbered { IfOk result (λ s. AreNumbered 0 (variables_of s)) }
-    ensures grows { Grows labels.old labels.new }
-    ensures few { length labels.new ≤ length labels.old + length places.now }
-{
-    let last = places.len() - 1;
-    let mut items = Vec::with_capacity(alloc, places.len())?;
-    let first = root_item(line, places[last], root, labels, text)?;
-    items.push(first)?;
-    push_below(line, &places[..last], &mut items, labels, text)?;
-    Ok(left_side(items))
-}
-
-// The place of a number among those of the variables.
-fn place_of(variables: &IndexSet<u32>, number: u32) -> u32
-    requires known { is_unknown (keys variables.now) (Some ([], number)) ≡ false }
-    requires few { length (keys variables.now) ≤ most_nodes }
-    ensures { slice_get (keys variables.now) result ≡ Some number }
-{
-    match variables.get_index_of(&number) {
-        Some(place) => place as u32,
-        None => unreachable!(),
+        Item::Label { label, .. } => Word::Word(label),
+        Item::Hole(pair) => Word::Hole(pair),
     }
 }
 
@@ -204,24 +44,22 @@ fn right_word(
     requires leaf { place.kids ≡ None }
     requires lies { PlaceLies (length line.now) place }
     requires plain { HasNoFeed line.now }
-    requires known { is_unknown (keys variables.now) (spec_pair_in (item_at line.now place)) ≡ false }
+    requires known { is_unknown (keys variables.now) (spec_pair_in (item_at line.now place))
+        ≡ false }
     requires variables { length (keys variables.now) ≤ most_nodes }
     requires names { length names.old < 2 ^ 32 - 1 }
     requires labels { length labels.old < 2 ^ 32 - 1 }
-    ensures item { IfOk result (λ s. IsRightNode names.new labels.new (keys variables.now) (node_of s) (item_at line.now place)) }
-    ensures states { IfOk result (λ _. AddsAll names.old (state_before (spec_pair_in (item_at line.now place)) []) names.new) }
+    ensures item { IfOk result (λ s. IsRightNode names.new labels.new (keys variables.now)
+        (node_of s) (item_at line.now place)) }
+    ensures states { IfOk result (λ _. AddsAll names.old
+        (state_before (spec_pair_in (item_at line.now place)) []) names.new) }
     ensures names { Grows names.old names.new }
     ensures labels { Grows labels.old labels.new }
     ensures few_names { length names.new ≤ length names.old + 1 }
     ensures few_labels { length labels.new ≤ length labels.old + 1 }
 {
-    if let Some(pair) = pair_in(line, place) {
-        let variable = place_of(variables, pair.number);
-        let state = read_name(line, pair.state, names, text)?;
-        return Ok(Word::Hole(Pair { state, variable }));
-    }
-    let label = read_name(line, place.token, labels, text)?;
-    Ok(Word::Word(label))
+    let item = right_item(line, place, variables, names, labels, text)?;
+    Ok(word_of(item))
 }
 
 // The words and pairs of a right side.
@@ -241,8 +79,10 @@ fn right_words(
     requires variables { length (keys variables.now) ≤ most_nodes }
     requires names { length names.old + length places.now < 2 ^ 32 - 1 }
     requires labels { length labels.old + length places.now < 2 ^ 32 - 1 }
-    ensures words { IfOk result (λ s. Along (IsRightNode names.new labels.new (keys variables.now)) (nodes_of s.items) (items_back line.now places.now)) }
-    ensures states { IfOk result (λ _. AddsAll names.old (states_in (items_back line.now places.now)) names.new) }
+    ensures words { IfOk result (λ s. Along (IsRightNode names.new labels.new (keys variables.now))
+        (nodes_of s.items) (items_back line.now places.now)) }
+    ensures states { IfOk result (λ _. AddsAll names.old
+        (states_in (items_back line.now places.now)) names.new) }
     ensures names { Grows names.old names.new }
     ensures labels { Grows labels.old labels.new }
     ensures few_names { length names.new ≤ length names.old + length places.now }
@@ -275,8 +115,10 @@ pub(crate) fn read_right(
     requires variables { length (keys variables.now) ≤ most_nodes }
     requires names { length names.old + length places.now < 2 ^ 32 - 1 }
     requires labels { length labels.old + length places.now < 2 ^ 32 - 1 }
-    ensures side { IfOk result (λ s. Along (IsRightNode names.new labels.new (keys variables.now)) (nodes_of s) (items_back line.now places.now)) }
-    ensures states { IfOk result (λ _. AddsAll names.old (states_in (items_back line.now places.now)) names.new) }
+    ensures side { IfOk result (λ s. Along (IsRightNode names.new labels.new (keys variables.now))
+        (nodes_of s) (items_back line.now places.now)) }
+    ensures states { IfOk result (λ _. AddsAll names.old
+        (states_in (items_back line.now places.now)) names.new) }
     ensures names { Grows names.old names.new }
     ensures labels { Grows labels.old labels.new }
     ensures few_names { length names.new ≤ length names.old + length places.now }

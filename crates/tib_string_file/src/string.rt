@@ -71,7 +71,8 @@ pub fn read_string(
     requires room { length labels.old + length bytes.now < 2 ^ 32 - 1 }
     ensures text { IfOk result (λ s. ReadsAsString labels.new bytes.now s.items) }
     ensures labelled { IfOk result (λ s. Each (λ f. f < length labels.new) s.items) }
-    ensures adds { IfOk result (λ s. AddsAll labels.old (words_of_string labels.new s.items) labels.new) }
+    ensures adds { IfOk result (λ s. AddsAll labels.old (words_of_string labels.new s.items)
+        labels.new) }
     ensures fault { IfErr result (λ e. IsStringCause bytes.now e) }
     ensures kept { IfErr result (λ e. KeepsTable labels.old labels.new e) }
     ensures grows { Grows labels.old labels.new }

@@ -1,28 +1,20 @@
 -- The shape of a rule by the items of its left side and the words of its right side.
-use Rattle.std.proofs.Common.{◌≡◌, ℕ, ◌+◌, ◌<◌, List, ◌∷◌, length, get_or, drop, ap, sym, ◌∙◌, subst, true}
-use Rattle.std.proofs.lemmas.List.{drop_more}
+use Rattle.std.proofs.Common.{◌≡◌, ℕ, ◌<◌, List, length, ap, sym, ◌∙◌, subst, true}
 use Rattle.tib_lex.specs.Lists.{Each}
 use Rattle.tib_tree.specs.Trees.{preorder_of}
 use Rattle.tib_grammar.specs.Items.{pairs_of as preorder_pairs, holes_in}
 use Rattle.tib_grammar.specs.Range.{AllBelow}
 use Rattle.tib_grammar.specs.declared.Item.{Item}
-use Rattle.tib_grammar.specs.declared.Item.TheVariants.{Label, Hole}
 use Rattle.tib_grammar.proofs.Holes.{holes_of_items}
 use Rattle.tib_transducer.specs.Rules.{variables_of}
 use Rattle.tib_transducer.specs.Range.{AreNumbered}
 use Rattle.tib_transducer.specs.Pairs.{begins, ArePairsWithin}
 use Rattle.tib_transducer.specs.declared.Variable.{Variable}
 use Rattle.tib_transducer.proofs.Shapes.{begins_from, pairs_from, pairs_to}
+pub use Rattle.tib_transducer.proofs.Shapes.{leaves_label, leaves_hole}
 use Rattle.tib_strings.specs.Rules.{pairs_of, states_in, variables_in}
 use Rattle.tib_strings.specs.Range.{IsShaped, IsWithin}
 use Rattle.tib_strings.specs.declared.StringRule.{StringRule}
-
--- the leaves from an item on
-pub leaves_label : {P : Type 0} (items : List (Item P)) (i f rank : ℕ) → i < length items → get_or items i (Label 0 0) ≡ Label f rank → holes_in (drop i items) ≡ holes_in (drop (i + 1) items)
-leaves_label items i f rank h e = ap holes_in (drop_more items i (Label 0 0) h) ∙ ap (λ x. holes_in (x ∷ drop (i + 1) items)) e
-
-pub leaves_hole : {P : Type 0} (items : List (Item P)) (i : ℕ) (p : P) → i < length items → get_or items i (Label 0 0) ≡ Hole p → holes_in (drop i items) ≡ p ∷ holes_in (drop (i + 1) items)
-leaves_hole items i p h e = ap holes_in (drop_more items i (Label 0 0) h) ∙ ap (λ x. holes_in (x ∷ drop (i + 1) items)) e
 
 module _ (left : List (Item Variable)) (r : StringRule ℕ) (n m : ℕ) (ls : preorder_pairs left ≡ preorder_of r.left) where
   pub shape_from : begins left ≡ true → m ≡ length (holes_in left) → AreNumbered 0 (holes_in left) → ArePairsWithin n m (pairs_of r.right) → IsShaped r

@@ -104,8 +104,10 @@ impl<S> StringTransducer<S> {
         requires { length rules.items < 2 ^ 32 }
         ensures names { IfSome result (λ t. t.names ≡ names) }
         ensures rules { IfSome result (λ t. t.rules ≡ rules.items) }
-        ensures some { IfSome result (λ _. (0 < length names) × AreWithin (length names) rules.items × AreShaped rules.items) }
-        ensures none { result ≡ None → 0 < length names → AreWithin (length names) rules.items → AreShaped rules.items → ⊥ }
+        ensures some { IfSome result (λ _. (0 < length names) × AreWithin (length names) rules.items
+            × AreShaped rules.items) }
+        ensures none { result ≡ None → 0 < length names → AreWithin (length names) rules.items →
+            AreShaped rules.items → ⊥ }
     {
         names.is_sound();
         let states = names.len();

@@ -16,7 +16,8 @@ use Rattle.tib_transducer_file.specs.Rule.{Parts, RuleLine, label_of, numbers_in
 use Rattle.tib_transducer_file.specs.TransducerText.{ReadsAs}
 use Rattle.tib_transducer_file.specs.Value.{IsAsked, IsLeftSymbol, IsLeftNode, IsRootItem, IsLeftSide, IsRightSymbol, IsRightNode, IsRule}
 
-each_along : {X Y : Type 0} (R : X → Y → Type 0) (P : X → Type 0) → ((x : X) (y : Y) → R x y → P x) → (xs : List X) (ys : List Y) → Along R xs ys → Each P xs
+-- what each member has by the one beside it
+pub each_along : {X Y : Type 0} (R : X → Y → Type 0) (P : X → Type 0) → ((x : X) (y : Y) → R x y → P x) → (xs : List X) (ys : List Y) → Along R xs ys → Each P xs
 each_along R P f [] ys h = tt
 each_along R P f (x ∷ xs) [] h = absurd h
 each_along R P f (x ∷ xs) (y ∷ ys) h = (f x y h.0, each_along R P f xs ys h.1)
@@ -37,14 +38,16 @@ module _ (names labels : List (List ℕ)) where
   root_below (label f, rank) text kids h = slice_get_within labels f text h.0
   root_below (hole x, rank) text kids h = absurd h
 
-  side_below : (ss : List (Symbol ℕ Variable × ℕ)) (p : Parts) → IsLeftSide labels ss p → Each (λ s. IsBelowOnLeft (length labels) s.0) ss
+  -- the labels of a left side are in the table
+  pub side_below : (ss : List (Symbol ℕ Variable × ℕ)) (p : Parts) → IsLeftSide labels ss p → Each (λ s. IsBelowOnLeft (length labels) s.0) ss
   side_below [] p h = absurd h
   side_below (s ∷ ss) p h = (
     root_below s (label_of p) p.root.kids h.0,
     each_along (IsLeftNode labels) (λ (q : Symbol ℕ Variable × ℕ). IsBelowOnLeft (length labels) q.0) (λ q i k. left_below q.0 (variable_in i) i.text k.0) ss p.below h.1,
   )
 
-  right_below : (numbers : List ℕ) (s : Symbol ℕ (Pair ℕ)) (o : Option (List ℕ × ℕ)) (text : List ℕ) → IsRightSymbol names labels numbers s o text → IsBelowOnRight (length labels) s
+  -- and those of a right side
+  pub right_below : (numbers : List ℕ) (s : Symbol ℕ (Pair ℕ)) (o : Option (List ℕ × ℕ)) (text : List ℕ) → IsRightSymbol names labels numbers s o text → IsBelowOnRight (length labels) s
   right_below numbers (label f) None text h = slice_get_within labels f text h
   right_below numbers (label f) (Some q) text h = absurd h
   right_below numbers (hole x) o text h = tt
@@ -56,5 +59,6 @@ module _ (names labels : List (List ℕ)) where
         (λ q i k. right_below (numbers_in line.parts.below) q.0 (pair_in i) i.text k.0) (preorder_of r.right) line.parts.right h.right;
   }
 
+-- all of a transducer that was read
 pub text_labelled : (scale : Scale) (labels : List (List ℕ)) (bytes : List ℕ) (t : TransducerOf) → ReadsAs scale labels bytes t → AreLabelled (length labels) t.rules
 text_labelled scale labels bytes t r = each_along (IsRule t.names labels) (HasLabelsBelow (length labels)) (rule_below t.names labels) t.rules r.text.lines r.text.rules

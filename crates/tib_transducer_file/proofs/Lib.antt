@@ -8,8 +8,10 @@ pub mod PartsFound
 pub mod VariablesUsed
 pub mod SidesRead
 pub mod SideTrees
+pub mod Formats
 pub mod RulesRead
 pub mod LinesRead
+pub mod RulesSoFar
 pub mod FileRead
 pub mod Starts
 pub mod PiecesHad
@@ -17,10 +19,13 @@ pub mod FaultyLines
 pub mod FirstFaults
 pub mod ShapesRead
 pub mod TextRead
+pub mod FileHeld
 pub mod FileText
 pub mod PiecesRead
 pub mod LinesHeld
+pub mod FaultsRead
 pub mod FaultsOnce
+pub mod RulesHave
 pub mod OneByText
 pub mod OneTransducer
 pub mod SomeText

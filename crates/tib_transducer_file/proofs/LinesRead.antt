@@ -11,10 +11,9 @@ use Rattle.tib_lex.specs.declared.fault.LineError.TheVariants as errors
 use Rattle.tib_tree.specs.Grows.{Grows}
 use Rattle.tib_tree.specs.Trees.{preorder_of}
 use Rattle.tib_tree.specs.Written.{Item}
-use Rattle.tib_tree.specs.Machine.{nodes_of, IsTree}
+use Rattle.tib_tree.specs.Machine.{IsTree}
 use Rattle.tib_tree.specs.Shape.{items_back}
 use Rattle.tib_tree.specs.declared.shape.Place.{Place}
-use Rattle.tib_tree.proofs.Read.{tree_forth}
 use Rattle.tib_lex.specs.Lists.{Along}
 use Rattle.tib_grammar.specs.Sides.{Symbol, Side}
 use Rattle.tib_grammar_file.specs.Found.{text_at}
@@ -25,59 +24,68 @@ use Rattle.tib_transducer.specs.declared.Variable.{Variable}
 use Rattle.tib_transducer.specs.declared.Pair.{Pair}
 use Rattle.tib_transducer_file.specs.Pieces.{pieces_of, pieces_at}
 use Rattle.tib_transducer_file.specs.Forms.{variable_in, before_stop}
-use Rattle.tib_transducer_file.specs.Rule.{Parts, parts_of, good_parts, rule_line, rule_line_of, number_before, numbers_in}
+use Rattle.tib_transducer_file.specs.Rule.{Parts, SpellsRuleBy, parts_by, good_parts, rule_line_by, rule_line_of, number_before, numbers_in}
 use Rattle.tib_transducer_file.specs.Found.{found_parts, FoundIn, FoundLies, parts_with, IsChecked}
 use Rattle.tib_transducer_file.specs.Value.{IsLeftNode, IsLeftSide, IsRightNode, IsRule}
 use Rattle.tib_transducer_file.specs.Built.{AreOneTree}
-use Rattle.tib_transducer_file.specs.Reader.{parts_found, FoundRule, GoodRule, IsGood}
+use Rattle.tib_transducer_file.specs.Reader.{parts_found, FoundRuleBy, IsTreeAt, GoodRule, IsGood}
 use Rattle.tib_transducer_file.specs.declared.parts.Found.{Found}
 use Rattle.tib_transducer_file.proofs.Backs.{back_long}
 use Rattle.tib_transducer_file.proofs.PartsFound.{pieces_long}
-use Rattle.tib_transducer_file.proofs.RulesRead.{parts_back, rule_few}
+use Rattle.tib_transducer_file.proofs.RulesRead.{spelled_back, rule_few}
 use Rattle.tib_transducer_file.proofs.SidesRead.{left_grows}
 use Rattle.tib_transducer_file.proofs.SideTrees.{root_grows}
+use Rattle.tib_transducer_file.proofs.Formats.{IsFormat, tree_words}
 
-pub bad_line : (scale : Scale) (line : List ℕ) → pieces_of line ≡ None → rule_line scale line ≡ Err kinds.BadToken
-unfolding rule_line
-bad_line scale line e = rw e refl
-
-pub blank_line : (scale : Scale) (line : List ℕ) (ts : List Token) → pieces_of line ≡ Some (pieces_at line 0 ts) → length ts ≡ 0 → rule_line scale line ≡ Ok None
-unfolding rule_line
-blank_line scale line [] e h = rw e refl
-blank_line scale line (t ∷ ts) e h = absurd (omega arith)
-
-some_line : (scale : Scale) (line : List ℕ) (ts : List Token) (o : Option Parts) → pieces_of line ≡ Some (pieces_at line 0 ts) → 0 < length ts → parts_of (pieces_at line 0 ts) ≡ o → rule_line scale line ≡ good_parts scale o
-unfolding rule_line
-some_line scale line [] o e h p = absurd (omega arith)
-some_line scale line (t ∷ ts) o e h p = rw (e, p) refl
-
-pub no_rule_line : (scale : Scale) (line : List ℕ) (ts us : List Token) (left right : List Place) (o : Option Found) → pieces_of line ≡ Some (pieces_at line 0 ts) → 0 < length ts → us ≡ ts → parts_of (pieces_at line 0 us) ≡ found_parts line left right o → o ≡ None → rule_line scale line ≡ Err kinds.BadRule
-no_rule_line scale line ts us left right o e h s p n =
-    some_line scale line ts None e h (ap (λ (xs : List Token). parts_of (pieces_at line 0 xs)) (sym s) ∙ p ∙ ap (found_parts line left right) n)
-
-tree_words : (words : List Word) (is : List Item) → IsTree words is → AreOneTree is
-tree_words words is t = (words, ap nodes_of (sym t.spelled) ∙ tree_forth t.tree t.one ∙ ap (λ (xs : List Item). Some xs) t.nodes)
-
-items_whole : (line : List ℕ) (left right : List Place) (f : Found) → (l : FoundIn line left right f) → ((parts_found line left right f).root ∷ (parts_found line left right f).below ≡ items_back line left) × ((parts_found line left right f).right ≡ items_back line right) × ((parts_found line left right f).weight ≡ text_at line f.weight) × ((parts_found line left right f).root ≡ l.root)
+-- the parts are what was found
+pub items_whole : (line : List ℕ) (left right : List Place) (f : Found) → (l : FoundIn line left right f) → ((parts_found line left right f).root ∷ (parts_found line left right f).below ≡ items_back line left) × ((parts_found line left right f).right ≡ items_back line right) × ((parts_found line left right f).weight ≡ text_at line f.weight) × ((parts_found line left right f).root ≡ l.root)
 items_whole line left right f l =
     let e : parts_found line left right f ≡ parts_with (l.root ∷ l.below) (items_back line right) (text_at line f.weight) = ap (λ (is : List Item). parts_with is (items_back line right) (text_at line f.weight)) l.items in
     (ap (λ (p : Parts). p.root ∷ p.below) e ∙ sym l.items, ap (λ (p : Parts). p.right) e, ap (λ (p : Parts). p.weight) e, ap (λ (p : Parts). p.root) e)
 
-pub found_rule : (line : List ℕ) (ts us : List Token) (left right : List Place) (o : Option Found) (f : Found) → pieces_of line ≡ Some (pieces_at line 0 ts) → 0 < length ts → us ≡ ts → parts_of (pieces_at line 0 us) ≡ found_parts line left right o → FoundLies line left right o → o ≡ Some f → length ts ≤ length line → FoundRule line left right f
-found_rule line ts us left right o f e h s p lies n few =
-    let l : FoundIn line left right f = subst (λ (x : Option Found). FoundLies line left right x) n lies in
-    let parts : parts_of (pieces_at line 0 ts) ≡ Some (parts_found line left right f) = ap (λ (xs : List Token). parts_of (pieces_at line 0 xs)) (sym s) ∙ p ∙ ap (found_parts line left right) n in
-    let spells = parts_back (pieces_at line 0 ts) (parts_found line left right f) parts in
-    let w = items_whole line left right f l in
-    let count = rule_few (pieces_at line 0 ts) (parts_found line left right f) spells in
-    record {
-      lies = l;
-      read = λ scale. some_line scale line ts (Some (parts_found line left right f)) e h parts;
-      left_tree = subst AreOneTree w.0 (tree_words _ _ spells.left);
-      right_tree = subst AreOneTree w.1 (tree_words _ _ spells.right);
-      few = omega (arith, few, count, pieces_long line 0 ts, ap length w.0, ap length w.1, back_long line left, back_long line right);
-    }
+module _ {Right : List Word → List Item → Type 0} {read : List Word → Option (List Item)} (format : IsFormat Right read) where
+  -- a line with a bad token
+  pub bad_line : (scale : Scale) (line : List ℕ) → pieces_of line ≡ None → rule_line_by read scale line ≡ Err kinds.BadToken
+  unfolding rule_line_by
+  bad_line scale line e = rw e refl
 
+  -- a line without tokens
+  pub blank_line : (scale : Scale) (line : List ℕ) (ts : List Token) → pieces_of line ≡ Some (pieces_at line 0 ts) → length ts ≡ 0 → rule_line_by read scale line ≡ Ok None
+  unfolding rule_line_by
+  blank_line scale line [] e h = rw e refl
+  blank_line scale line (t ∷ ts) e h = absurd (omega arith)
+
+  some_line : (scale : Scale) (line : List ℕ) (ts : List Token) (o : Option Parts) → pieces_of line ≡ Some (pieces_at line 0 ts) → 0 < length ts → parts_by read (pieces_at line 0 ts) ≡ o → rule_line_by read scale line ≡ good_parts scale o
+  unfolding rule_line_by
+  some_line scale line [] o e h p = absurd (omega arith)
+  some_line scale line (t ∷ ts) o e h p = rw (e, p) refl
+
+  -- tokens that are no rule
+  pub no_rule_line : (scale : Scale) (line : List ℕ) (ts us : List Token) (left right : List Place) (o : Option Found) → pieces_of line ≡ Some (pieces_at line 0 ts) → 0 < length ts → us ≡ ts → parts_by read (pieces_at line 0 us) ≡ found_parts line left right o → o ≡ None → rule_line_by read scale line ≡ Err kinds.BadRule
+  no_rule_line scale line ts us left right o e h s p n =
+      some_line scale line ts None e h (ap (λ (xs : List Token). parts_by read (pieces_at line 0 xs)) (sym s) ∙ p ∙ ap (found_parts line left right) n)
+
+  -- tokens that are one, if what was found on the right holds of it
+  pub found_rule : (Holds : List ℕ → List Place → Type 0) (line : List ℕ) (ts us : List Token) (left right : List Place) (o : Option Found) (f : Found) → pieces_of line ≡ Some (pieces_at line 0 ts) → 0 < length ts → us ≡ ts → parts_by read (pieces_at line 0 us) ≡ found_parts line left right o → FoundLies line left right o → o ≡ Some f → ((l : FoundIn line left right f) → SpellsRuleBy Right (pieces_at line 0 ts) (parts_found line left right f) → Holds line right) → length ts ≤ length line → FoundRuleBy read Holds line left right f
+  found_rule Holds line ts us left right o f e h s p lies n holds few =
+      let l : FoundIn line left right f = subst (λ (x : Option Found). FoundLies line left right x) n lies in
+      let parts : parts_by read (pieces_at line 0 ts) ≡ Some (parts_found line left right f) = ap (λ (xs : List Token). parts_by read (pieces_at line 0 xs)) (sym s) ∙ p ∙ ap (found_parts line left right) n in
+      let spells = spelled_back format (pieces_at line 0 ts) (parts_found line left right f) parts in
+      let w = items_whole line left right f l in
+      let count = rule_few format (pieces_at line 0 ts) (parts_found line left right f) spells in
+      record {
+        lies = l;
+        read = λ scale. some_line scale line ts (Some (parts_found line left right f)) e h parts;
+        left_tree = subst AreOneTree w.0 (tree_words _ _ spells.left);
+        holds = holds l spells;
+        few = omega (arith, few, count, pieces_long line 0 ts, ap length w.0, ap length w.1, back_long line left, back_long line right);
+      }
+
+-- with a tree on the right
+pub tree_found : (line : List ℕ) (ts : List Token) (left right : List Place) (f : Found) → FoundIn line left right f → SpellsRuleBy IsTree (pieces_at line 0 ts) (parts_found line left right f) → IsTreeAt line right
+tree_found line ts left right f l spells = subst AreOneTree (items_whole line left right f l).1 (tree_words _ _ spells.right)
+
+-- a fault of the variables
 pub check_failed : (scale : Scale) (p : Parts) (numbers : List ℕ) (left right : List Place) (error : LineError) → IsChecked p numbers (Err error) → IsGood scale p numbers left right (Err error)
 check_failed scale p numbers left right (errors.Fault kind) h = h scale
 check_failed scale p numbers left right errors.OutOfMemory h = tt
@@ -90,15 +98,18 @@ numbers_few (i ∷ is) = by (variable_in i) (numbers_few is)
     by None h = omega arith
     by (Some v) h = omega arith
 
+-- a rule has few variables
 pub variables_few : (scale : Scale) (line : List ℕ) (left right : List Place) (f : Found) (numbers : List ℕ) (cost : ℕ) → FoundIn line left right f → GoodRule scale (parts_found line left right f) numbers left right cost → length numbers ≤ 10000
 variables_few scale line left right f numbers cost l g =
     let w = items_whole line left right f l in
     omega (arith, ap length g.numbers_are, numbers_few (parts_found line left right f).below, ap length w.0, back_long line left, g.few_left)
 
+-- a left side stands in a larger table
 pub left_side_grows : (a b : List (List ℕ)) → Grows a b → (ss : List (Symbol ℕ Variable × ℕ)) (p : Parts) → IsLeftSide a ss p → IsLeftSide b ss p
 left_side_grows a b g [] p h = absurd h
 left_side_grows a b g (s ∷ ss) p h = (root_grows a b g s _ p.root.kids h.0, along_changes (IsLeftNode a) (IsLeftNode b) ss p.below (left_grows a b g) h.1)
 
+-- the rule of what was found
 pub rule_made : (n m a b : List (List ℕ)) (line : List ℕ) (left right : List Place) (f : Found) (numbers : List ℕ) (scale : Scale) (cost state : ℕ) (ls : Side ℕ Variable) (rs : Side ℕ (Pair ℕ)) → FoundIn line left right f → GoodRule scale (parts_found line left right f) numbers left right cost → Grows n m → Grows a b →
     slice_get n state ≡ Some (text_of (word_at line f.root.state)) → ((right : List Item) (weight : Option (List ℕ)) → IsLeftSide a (preorder_of ls) (parts_with (items_back line left) right weight)) → AreNumbered 0 (variables_of ls) → Along (IsRightNode m b numbers) (preorder_of rs) (items_back line right) →
     IsRule m b (record { state = state; left = ls; right = rs; cost = cost }) (rule_line_of (parts_found line left right f) cost)

@@ -10,6 +10,8 @@ use Rattle.tib_lex.specs.declared.fault.FileFault.{FileFault}
 use Rattle.tib_lex.proofs.Members.{has_left, has_right}
 use Rattle.tib_lex.proofs.Spelled.{or_false}
 use Rattle.tib_tree.specs.Grows.{Adds, AddsAll, AreDistinct}
+use Rattle.tib_lex.specs.Grammar.{Word}
+use Rattle.tib_tree.specs.Machine.{IsTree}
 use Rattle.tib_tree.specs.Trees.{Trees, none, tree, only, preorder_of}
 use Rattle.tib_tree.specs.Written.{Item}
 use Rattle.tib_tree.proofs.Growing.{distinct_added}
@@ -25,8 +27,9 @@ use Rattle.tib_transducer.specs.declared.TransducerRule.{TransducerRule}
 use Rattle.tib_transducer_file.specs.Forms.{variable_in, pair_in}
 use Rattle.tib_transducer_file.specs.Rule.{Parts, RuleLine, state_of, label_of, numbers_in, repeats, is_twice}
 use Rattle.tib_transducer_file.specs.Value.{IsAsked, IsLeftSymbol, IsLeftNode, IsRootItem, IsLeftSide, IsRightSymbol, IsRightNode, IsRule, states_of}
-use Rattle.tib_transducer_file.specs.TransducerText.{HaveRules, HaveStart, ReadsAs}
+use Rattle.tib_transducer_file.specs.TransducerText.{HaveStartBy, ReadsAs}
 use Rattle.tib_transducer_file.specs.ByText.{AskForOneText, AgreeOnLeft, AgreeOnRight, AreOneTransducerRule, AreOneTransducer}
+use Rattle.tib_transducer_file.proofs.RulesHave.{file_has, each_line_has}
 use Rattle.tib_transducer_file.proofs.FaultsOnce.{text_read}
 use Rattle.tib_transducer_file.proofs.ShapesRead.{left_ends}
 
@@ -35,7 +38,8 @@ one_added : (before : List (List ℕ)) (text : List ℕ) (now : List (List ℕ))
 one_added before text now (inl (held, same)) d = subst (λ (ts : List (List ℕ)). AreDistinct ts) (sym same) d
 one_added before text now (inr (new, last)) d = distinct_added before now text d new last
 
-all_added : (before texts now : List (List ℕ)) → AddsAll before texts now → AreDistinct before → AreDistinct now
+-- nor among texts that are added
+pub all_added : (before texts now : List (List ℕ)) → AddsAll before texts now → AreDistinct before → AreDistinct now
 all_added before [] now same d = subst (λ (ts : List (List ℕ)). AreDistinct ts) (sym same) d
 all_added before (text ∷ texts) now (middle, one, more) d = all_added middle texts now more (one_added before text middle one d)
 
@@ -75,7 +79,8 @@ has_slice [] j v e = absurd (cc e)
 has_slice (x ∷ xs) zero v e = inl (some_number x v e)
 has_slice (x ∷ xs) (suc j) v e = inr (has_slice xs j v e)
 
-place_once : (xs : List ℕ) (i j v : ℕ) → Distinct xs → slice_get xs i ≡ Some v → slice_get xs j ≡ Some v → i ≡ j
+-- a number stands at one place
+pub place_once : (xs : List ℕ) (i j v : ℕ) → Distinct xs → slice_get xs i ≡ Some v → slice_get xs j ≡ Some v → i ≡ j
 place_once [] i j v d e f = absurd (cc e)
 place_once (x ∷ xs) zero zero v d e f = refl
 place_once (x ∷ xs) zero (suc j) v d e f = absurd (d.0 (subst (Has xs) (sym (some_number x v e)) (has_slice xs j v f)))
@@ -94,7 +99,7 @@ numbered_back n (x ∷ xs) ys h = let same : suc n + length xs ≡ n + suc (leng
 
 module _ (labels others : List (List ℕ)) where
   -- but for the numbers of variables
-  abbrev AgreeLoosely : Symbol ℕ Variable → Symbol ℕ Variable → Type 0
+  abbrev pub AgreeLoosely : Symbol ℕ Variable → Symbol ℕ Variable → Type 0
   AgreeLoosely (label f) (label g) = HaveOneText labels others f g
   AgreeLoosely (label f) (hole y) = ⊥
   AgreeLoosely (hole x) (label g) = ⊥
@@ -116,7 +121,8 @@ module _ (labels others : List (List ℕ)) where
   holes_long (tree (hole x) kids rest) (tree (label g) below more) h = absurd h.0
   holes_long (tree (hole x) kids rest) (tree (hole y) below more) h = ap suc (holes_long rest more h.2)
 
-  numbers_agree :
+  -- the numbers agree then too
+  pub numbers_agree :
       (n : ℕ) (ts us : Trees (Symbol ℕ Variable)) → HolesAreLeaves ts → HaveOneShape AgreeLoosely ts us → AreNumbered n (holes ts) → AreNumbered n (holes us) →
       HaveOneShape (AgreeOnLeft labels others) ts us
   numbers_agree n none none l h a b = tt
@@ -165,7 +171,8 @@ module _ (labels others : List (List ℕ)) where
   root_nodes (label f, m) (hole y, n) text kids h k = absurd k
   root_nodes (hole x, m) q text kids h k = absurd h
 
-  left_sides : (ps qs : List (Symbol ℕ Variable × ℕ)) (p : Parts) → IsLeftSide labels ps p → IsLeftSide others qs p → Along (AgreeAtNode AgreeLoosely) ps qs
+  -- left sides of one text agree so
+  pub left_sides : (ps qs : List (Symbol ℕ Variable × ℕ)) (p : Parts) → IsLeftSide labels ps p → IsLeftSide others qs p → Along (AgreeAtNode AgreeLoosely) ps qs
   left_sides [] qs p h k = absurd h
   left_sides (s ∷ ps) [] p h k = absurd k
   left_sides (s ∷ ps) (q ∷ qs) p h k = (root_nodes s q (label_of p) p.root.kids h.0 k.0, left_nodes ps qs p.below h.1 k.1)
@@ -181,7 +188,8 @@ module _ (labels others : List (List ℕ)) where
     right_symbols (hole x) (label g) (Some q) text h k = absurd k
     right_symbols (hole x) (hole y) (Some q) text h k = (apart.once x.state y.state q.0 h.0 k.0, place_once numbers x.variable y.variable q.1 once h.1 k.1)
 
-    right_nodes :
+    -- right sides of one text agree
+    pub right_nodes :
         (ps qs : List (Symbol ℕ (Pair ℕ) × ℕ)) (is : List Item) → Along (IsRightNode names labels numbers) ps is → Along (IsRightNode names others numbers) qs is →
         Along (AgreeAtNode (AgreeOnRight labels others)) ps qs
     right_nodes [] [] [] h k = tt
@@ -213,21 +221,16 @@ module _ (labels others : List (List ℕ)) where
     rules_agree (line ∷ lines) (r ∷ rs) [] o h k = absurd k
     rules_agree (line ∷ lines) (r ∷ rs) (s ∷ ss) o h k = (rule_agrees line r s o.0 h.0 k.0, rules_agree lines rs ss o.1 h.1 k.1)
 
--- no line of a text has a variable twice
-rules_once : (scale : Scale) (lines : List (List ℕ)) (rules : List RuleLine) → HaveRules scale lines rules → Each (λ line. is_twice line.parts ≡ false) rules
-rules_once scale [] rules e = subst (λ (xs : List RuleLine). Each (λ line. is_twice line.parts ≡ false) xs) (sym e) tt
-rules_once scale (line ∷ lines) rules (inl (blank, more)) = rules_once scale lines rules more
-rules_once scale (line ∷ lines) rules (inr (rule, others, e, spells, more)) =
-    subst (λ (xs : List RuleLine). Each (λ line. is_twice line.parts ≡ false) xs) (sym e) (spells.once, rules_once scale lines others more)
+-- no rule of a file has a variable twice
+pub lines_once : (Right : List Word → List Item → Type 0) (scale : Scale) (lines : List (List ℕ)) (start : List ℕ) (rules : List RuleLine) → HaveStartBy Right scale lines start rules → Each (λ line. is_twice line.parts ≡ false) rules
+lines_once Right scale lines start rules h =
+    file_has {Right = Right} (λ line. Unit {0}) (λ rule. is_twice rule.parts ≡ false) scale (λ line rule p s. s.once) lines start rules (each_line_has lines) h
 
-lines_once : (scale : Scale) (lines : List (List ℕ)) (start : List ℕ) (rules : List RuleLine) → HaveStart scale lines start rules → Each (λ line. is_twice line.parts ≡ false) rules
-lines_once scale [] start rules h = absurd h
-lines_once scale (line ∷ lines) start rules (inl (blank, more)) = lines_once scale lines start rules more
-lines_once scale (line ∷ lines) start rules (inr (has, plain, more)) = rules_once scale lines rules more
-
-ok_same : (p q : List ℕ × List RuleLine) → (let r : Result (List ℕ × List RuleLine) FileFault = Ok p in r ≡ Ok q) → (p.0 ≡ q.0) × (p.1 ≡ q.1)
+-- what is read is one
+pub ok_same : (p q : List ℕ × List RuleLine) → (let r : Result (List ℕ × List RuleLine) FileFault = Ok p in r ≡ Ok q) → (p.0 ≡ q.0) × (p.1 ≡ q.1)
 ok_same p q e = let same : p ≡ q = cc in (ap (λ (x : List ℕ × List RuleLine). x.0) same, ap (λ (x : List ℕ × List RuleLine). x.1) same)
 
+-- transducers of one text
 pub one_by_text :
     (scale : Scale) (labels others : List (List ℕ)) (bytes : List ℕ) (t u : TransducerOf) → ReadsAs scale labels bytes t → ReadsAs scale others bytes u → AreOneTransducer labels others t u
 one_by_text scale labels others bytes t u r q =
@@ -240,7 +243,7 @@ one_by_text scale labels others bytes t u r q =
     record {
       names = names;
       rules = rules_agree labels others u.names (all_added [] (q.text.start ∷ states_of q.text.lines) u.names q.text.states none_distinct) q.text.lines t.rules u.rules
-          (lines_once scale (lines_of bytes) q.text.start q.text.lines q.text.written) mine q.text.rules;
+          (lines_once IsTree scale (lines_of bytes) q.text.start q.text.lines q.text.written) mine q.text.rules;
     }
 
 -- pairs of the same state and variable are the same

@@ -16,7 +16,7 @@ use Rattle.tib_transducer_file.specs.ByText.{AskForOneText, AreOneVariable, Agre
 use Rattle.tib_transducer_file.proofs.OneByText.{one_by_text, pair_same}
 
 -- trees of one shape whose nodes are the same are the same
-shape_same : {A : Type 0} (R : A → A → Type 0) → ((x y : A) → R x y → x ≡ y) → (ts us : Trees A) → HaveOneShape R ts us → ts ≡ us
+pub shape_same : {A : Type 0} (R : A → A → Type 0) → ((x y : A) → R x y → x ≡ y) → (ts us : Trees A) → HaveOneShape R ts us → ts ≡ us
 shape_same R same none none h = refl
 shape_same R same none (tree g below more) h = absurd h
 shape_same R same (tree f kids rest) none h = absurd h
@@ -25,7 +25,8 @@ shape_same {A} R same (tree f kids rest) (tree g below more) h =
     ∙ ap (λ (x : Trees A). tree g x rest) (shape_same R same kids below h.1)
     ∙ ap (λ (x : Trees A). tree g below x) (shape_same R same rest more h.2)
 
-side_same : {A : Type 0} (s t : Tree A) → only s ≡ only t → s ≡ t
+-- and so are sides
+pub side_same : {A : Type 0} (s t : Tree A) → only s ≡ only t → s ≡ t
 side_same {A} s t e =
     let o : tree s.label s.kids none ≡ tree t.label t.kids none = e in
     let a : s.label ≡ t.label = cc in
@@ -33,7 +34,8 @@ side_same {A} s t e =
     ap (λ (l : A). record { label = l; kids = s.kids }) a ∙ ap (λ (k : Trees A). record { label = t.label; kids = k }) b
 
 module _ (labels : List (List ℕ)) (apart : Distinct labels) where
-  label_same : (f g : ℕ) → HaveOneText labels labels f g → f ≡ g
+  -- labels with one text are the same
+  pub label_same : (f g : ℕ) → HaveOneText labels labels f g → f ≡ g
   label_same f g h = number_same labels f g h.text apart h.first h.second
 
   asked_same : (a b : Option ℕ) → AskForOneText labels labels a b → a ≡ b
@@ -47,7 +49,8 @@ module _ (labels : List (List ℕ)) (apart : Distinct labels) where
       ap (λ (n : ℕ). record { number = n; label = x.label }) h.0
       ∙ ap (λ (a : Option ℕ). record { number = y.number; label = a }) (asked_same x.label y.label h.1)
 
-  left_same : (r s : Symbol ℕ Variable) → AgreeOnLeft labels labels r s → r ≡ s
+  -- nodes of left sides that agree are the same
+  pub left_same : (r s : Symbol ℕ Variable) → AgreeOnLeft labels labels r s → r ≡ s
   left_same (label f) (label g) h = ap label (label_same f g h)
   left_same (label f) (hole y) h = absurd h
   left_same (hole x) (label g) h = absurd h
@@ -75,6 +78,7 @@ module _ (labels : List (List ℕ)) (apart : Distinct labels) where
   rules_same (r ∷ rs) (s ∷ ss) h =
       ap (λ (x : TransducerRule ℕ). x ∷ rs) (rule_same r s h.0) ∙ ap (λ (xs : List (TransducerRule ℕ)). s ∷ xs) (rules_same rs ss h.1)
 
+-- transducers of one text are the same
 pub one_transducer :
     (scale : Scale) (labels : List (List ℕ)) (bytes : List ℕ) (t u : TransducerOf) → Distinct labels → ReadsAs scale labels bytes t → ReadsAs scale labels bytes u → t ≡ u
 one_transducer scale labels bytes t u apart r q =

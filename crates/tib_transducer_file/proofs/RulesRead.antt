@@ -1,4 +1,4 @@
--- The parts that are read of tokens are those of the rule that they spell.
+-- The parts that are read of tokens are those of the rule that they spell, whatever its right side is.
 use Rattle.std.proofs.Common.{◌≡◌, ℕ, ◌+◌, ◌<◌, ◌≤◌, List, [], ◌∷◌, ◌++◌, length, take, drop, get_or, refl, ap, sym, ◌∙◌, subst, arith, Bool, true, false, Option, suc, length-append}
 use Rattle.std.specs.Prelude.{Some, None, nat_lt, cond, not}
 use Rattle.std.specs.List.{list_any}
@@ -12,54 +12,13 @@ use Rattle.tib_lex.specs.declared.token.Kind.{Kind}
 use Rattle.tib_lex.specs.declared.token.Kind.TheVariants as token_kinds
 use Rattle.tib_tree.specs.Written.{Written, Item, end, leaf, head, word_for, spell}
 use Rattle.tib_tree.specs.Machine.{nodes_of, IsTree}
-use Rattle.tib_tree.proofs.Read.{tree_back, tree_forth}
-use Rattle.tib_grammar_file.specs.Rule.{weight_words, right_parts, Parts as RightParts, parts as right_of, parts_of as right_read}
-use Rattle.tib_grammar_file.proofs.RulesRead.{rule_back, rule_forth}
-use Rattle.tib_grammar_file.proofs.PartsRead.{nodes_few}
+use Rattle.tib_tree.proofs.Read.{tree_back}
+use Rattle.tib_grammar_file.specs.Rule.{weight_words, weight_in, front_of, with_nodes, Parts as RightParts, parts as right_of}
+use Rattle.tib_grammar_file.proofs.RulesRead.{weight_read, front_read, together}
 use Rattle.tib_transducer_file.specs.Pieces.{Piece, piece, meaning, meanings}
 use Rattle.tib_transducer_file.specs.Forms.{is_stray, is_kind, takes_next, joins, left_words}
-use Rattle.tib_transducer_file.specs.Rule.{Parts, parts, has_state, SpellsRule, is_no_arrow, arrow_at, with_right, with_left, parts_at, parts_of}
-
--- a right side and a weight are those of a grammar's rule
-right_same : (words : List Word) → right_read (name [] ∷ (arrow ∷ words)) ≡ right_parts [] words
-unfolding right_read
-right_same words = refl
-
-tails : (left : List ℕ) (ws vs : List Word) → name left ∷ (arrow ∷ ws) ≡ name [] ∷ (arrow ∷ vs) → ws ≡ vs
-tails left ws vs e = cc
-
-pub record Right (words : List Word) (nodes : List Item) (weight : Option (List ℕ)) : Type 0 where
-  pub front : List Word
-  pub tree : IsTree front nodes
-  pub behind : front ++ weight_words weight ≡ words
-
-pub right_back : (words : List Word) (g : RightParts) → right_parts [] words ≡ Some g → Right words g.nodes g.weight
-right_back words g e =
-    let s = rule_back (name [] ∷ (arrow ∷ words)) g (right_same words ∙ e) in
-    record {
-      front = spell s.tree;
-      tree = record { tree = s.tree; spelled = refl; one = s.one; nodes = s.nodes };
-      behind = tails g.left (spell s.tree ++ weight_words g.weight) words s.spelled;
-    }
-
-pub right_forth : (words : List Word) (nodes : List Item) (weight : Option (List ℕ)) → Right words nodes weight → right_parts [] words ≡ Some (right_of [] nodes weight)
-right_forth words nodes weight r =
-    sym (right_same words)
-    ∙ rule_forth (name [] ∷ (arrow ∷ words)) (right_of [] nodes weight)
-    (record {
-      plain = refl;
-      tree = r.tree.tree;
-      one = r.tree.one;
-      nodes = r.tree.nodes;
-      spelled = ap (λ (ws : List Word). name [] ∷ (arrow ∷ (ws ++ weight_words weight))) r.tree.spelled ∙ ap (λ (ws : List Word). name [] ∷ (arrow ∷ ws)) r.behind;
-    })
-
--- what was taken apart was together
-pub record Whole (front : List Piece) (back : List Word) (p : Parts) : Type 0 where
-  pub left : IsTree (left_words front) (p.root ∷ p.below)
-  pub state : has_state p.root ≡ true
-  pub right : Right back p.right p.weight
-  pub leaves : list_any is_stray p.right ≡ false
+use Rattle.tib_transducer_file.specs.Rule.{Parts, parts, has_state, SpellsRuleBy, SpellsRule, is_no_arrow, arrow_at, with_right, with_left, right_by, parts_at, parts_by, parts_of}
+use Rattle.tib_transducer_file.proofs.Formats.{IsFormat, tree_read, tree_few, trees}
 
 no_parts : (p : Parts) → ◌≡◌ {A = Option Parts} None (Some p) → ⊥
 no_parts p e = cc
@@ -67,18 +26,6 @@ no_parts p e = cc
 stray_back : (root : Item) (below : List Item) (g : RightParts) (b : Bool) (p : Parts) → cond b None (Some (parts root below g.nodes g.weight)) ≡ Some p → (b ≡ false) × (parts root below g.nodes g.weight ≡ p)
 stray_back root below g true p e = absurd (no_parts p e)
 stray_back root below g false p e = (refl, cc)
-
-sides_back : (front : List Piece) (back : List Word) (root : Item) (below : List Item) (o : Option RightParts) (b : Bool) (p : Parts) → IsTree (left_words front) (root ∷ below) → has_state root ≡ b → right_parts [] back ≡ o → cond b (with_right root below o) None ≡ Some p → Whole front back p
-sides_back front back root below o false p t s r e = absurd (no_parts p e)
-sides_back front back root below None true p t s r e = absurd (no_parts p e)
-sides_back front back root below (Some g) true p t s r e =
-    let b = stray_back root below g (list_any is_stray g.nodes) p e in
-    subst (λ (x : Parts). Whole front back x) b.1 (record { left = t; state = s; right = right_back back g r; leaves = b.0 })
-
-left_back : (front : List Piece) (back : List Word) (o : Option (List Item)) (p : Parts) → nodes_of (left_words front) ≡ o → with_left o (right_parts [] back) ≡ Some p → Whole front back p
-left_back front back None p n e = absurd (no_parts p e)
-left_back front back (Some []) p n e = absurd (no_parts p e)
-left_back front back (Some (root ∷ below)) p n e = sides_back front back root below (right_parts [] back) (has_state root) p (tree_back (left_words front) (root ∷ below) n) refl refl e
 
 no_piece : Piece
 no_piece = piece false token_kinds.Arrow []
@@ -90,30 +37,6 @@ arrow_kind token_kinds.Close e = cc
 arrow_kind token_kinds.Hash e = cc
 arrow_kind token_kinds.Name e = cc
 arrow_kind token_kinds.Quoted e = cc
-
-split_back : (pieces : List Piece) (n : ℕ) (b : Bool) (p : Parts) → n ≡ arrow_at pieces → nat_lt n (length pieces) ≡ b → cond b (with_left (nodes_of (left_words (take n pieces))) (right_parts [] (meanings (drop (n + 1) pieces)))) None ≡ Some p → SpellsRule pieces p
-split_back pieces n false p a h e = absurd (no_parts p e)
-split_back pieces n true p a h e =
-    let w = left_back (take n pieces) (meanings (drop (n + 1) pieces)) (nodes_of (left_words (take n pieces))) p refl e in
-    let within : n < length pieces = grind (arith, nat_tests) in
-    let stops = prefix_len_stops is_no_arrow pieces no_piece (omega (arith, a, within)) in
-    record {
-      front = take n pieces;
-      arrow = get_or pieces n no_piece;
-      back = drop (n + 1) pieces;
-      right_words = w.right.front;
-      are = sym (take-append-drop n pieces) ∙ ap (λ (ps : List Piece). take n pieces ++ ps) (drop_more pieces n no_piece within);
-      is_arrow = arrow_kind (get_or pieces n no_piece).kind (ap (λ (m : ℕ). is_no_arrow (get_or pieces m no_piece)) a ∙ stops);
-      left = w.left;
-      state = w.state;
-      behind = w.right.behind;
-      right = w.right.tree;
-      leaves = w.leaves;
-    }
-
-pub parts_back : (pieces : List Piece) (p : Parts) → parts_of pieces ≡ Some p → SpellsRule pieces p
-unfolding parts_of
-parts_back pieces p e = split_back pieces (arrow_at pieces) (nat_lt (arrow_at pieces) (length pieces)) p refl refl e
 
 -- trees have no arrow
 abbrev HasNoArrow : List Word → Type 0
@@ -200,29 +123,6 @@ drop_front : {A : Type 0} (xs ys : List A) (y : A) → drop (length xs + 1) (xs 
 drop_front [] ys y = refl
 drop_front (x ∷ xs) ys y = let n : suc (length xs) + 1 ≡ suc (length xs + 1) = omega arith in rw n (drop_front xs ys y)
 
-pub parts_forth : (pieces : List Piece) (p : Parts) → SpellsRule pieces p → parts_of pieces ≡ Some p
-unfolding parts_of
-parts_forth pieces p s =
-    let words : HasNoArrow (left_words s.front) = subst HasNoArrow s.left.spelled (no_arrow_tree s.left.tree) in
-    let at : arrow_at (s.front ++ s.arrow ∷ s.back) ≡ length s.front = all_pass true s.front words s.arrow s.back (kind_arrow s.arrow.kind s.is_arrow) in
-    let long = length-append s.front (s.arrow ∷ s.back) in
-    let t : nat_lt (length s.front) (length (s.front ++ s.arrow ∷ s.back)) ≡ true = grind (arith, nat_tests) in
-    let left : nodes_of (left_words s.front) ≡ Some (p.root ∷ p.below) = ap nodes_of (sym s.left.spelled) ∙ tree_forth s.left.tree s.left.one ∙ ap (λ (is : List Item). Some is) s.left.nodes in
-    let right : right_parts [] (meanings s.back) ≡ Some (right_of [] p.right p.weight) = right_forth (meanings s.back) p.right p.weight (record { front = s.right_words; tree = s.right; behind = s.behind }) in
-    let state = s.state in
-    let leaves = s.leaves in
-    ap (λ (ps : List Piece). parts_at (arrow_at ps) ps) s.are
-    ∙ ap (λ (n : ℕ). parts_at n (s.front ++ s.arrow ∷ s.back)) at
-    ∙ rw t
-    (ap (λ (ps : List Piece). with_left (nodes_of (left_words ps)) (right_parts [] (meanings (drop (length s.front + 1) (s.front ++ s.arrow ∷ s.back))))) (take_front s.front (s.arrow ∷ s.back))
-    ∙ ap (λ (ps : List Piece). with_left (nodes_of (left_words s.front)) (right_parts [] (meanings ps))) (drop_front s.front s.back s.arrow)
-    ∙ ap (λ (o : Option (List Item)). with_left o (right_parts [] (meanings s.back))) left
-    ∙ ap (λ (o : Option RightParts). with_left (Some (p.root ∷ p.below)) o) right
-    ∙ rw (state, leaves) refl)
-
-tree_few : (words : List Word) (is : List Item) → IsTree words is → length is ≤ length words
-tree_few words is t = omega (arith, nodes_few t.tree, ap length t.spelled, ap length t.nodes)
-
 joined_few : (b : Bool) (w v : Word) (taken rest : List Word) (n : ℕ) → length taken ≤ n → length rest ≤ suc n → length (cond b (w ∷ taken) (v ∷ rest)) ≤ suc (suc n)
 joined_few true w v taken rest n h k = omega arith
 joined_few false w v taken rest n h k = omega arith
@@ -232,11 +132,104 @@ joins_few root [] = omega arith
 joins_few root (p ∷ []) = omega arith
 joins_few root (p ∷ (q ∷ behind)) = joined_few (takes_next root p q behind) (name (p.bytes ++ q.bytes)) (meaning p) (joins false behind) (joins false (q ∷ behind)) (length behind) (joins_few false behind) (joins_few false (q ∷ behind))
 
-pub rule_few : (pieces : List Piece) (p : Parts) → SpellsRule pieces p → length p.below + length p.right + 2 ≤ length pieces
-rule_few pieces p s =
-    let l = tree_few (left_words s.front) (p.root ∷ p.below) s.left in
-    let r = tree_few s.right_words p.right s.right in
-    let j = joins_few true s.front in
-    let b = length-append s.right_words (weight_words p.weight) in
-    let m = length-map s.back meaning in
-    omega (arith, l, r, j, b, m, ap length s.behind, ap length s.are, length-append s.front (s.arrow ∷ s.back))
+module _ {Right : List Word → List Item → Type 0} {read : List Word → Option (List Item)} (format : IsFormat Right read) where
+  -- a right side and a weight
+  record RightAt (words : List Word) (nodes : List Item) (weight : Option (List ℕ)) : Type 0 where
+    pub front : List Word
+    pub is : Right front nodes
+    pub behind : front ++ weight_words weight ≡ words
+
+  right_at : (words : List Word) (w : Option (List ℕ)) (o : Option (List Item)) (g : RightParts) → weight_in words ≡ w → read (front_of w words) ≡ o → with_nodes [] w o ≡ Some g → RightAt words g.nodes g.weight
+  right_at words w None g we n e = let bad : None ≡ Some g = e in absurd (cc)
+  right_at words w (Some is) g we n e =
+      let same : right_of [] is w ≡ g = cc in
+      subst (λ (r : RightParts). RightAt words r.nodes r.weight) same (record { front = front_of w words; is = format.back (front_of w words) is n; behind = together words w we })
+
+  right_back : (words : List Word) (g : RightParts) → right_by read words ≡ Some g → RightAt words g.nodes g.weight
+  right_back words g e = right_at words (weight_in words) (read (front_of (weight_in words) words)) g refl refl e
+
+  right_forth : (words : List Word) (nodes : List Item) (weight : Option (List ℕ)) → RightAt words nodes weight → right_by read words ≡ Some (right_of [] nodes weight)
+  right_forth words nodes weight r =
+      ap (right_by read) (sym r.behind)
+      ∙ ap (λ (v : Option (List ℕ)). with_nodes [] v (read (front_of v (r.front ++ weight_words weight)))) (weight_read r.front weight (format.plain r.front nodes r.is))
+      ∙ ap (λ (ws : List Word). with_nodes [] weight (read ws)) (front_read r.front weight)
+      ∙ ap (with_nodes [] weight) (format.forth r.front nodes r.is)
+
+  -- what was taken apart was together
+  record Whole (front : List Piece) (back : List Word) (p : Parts) : Type 0 where
+    pub left : IsTree (left_words front) (p.root ∷ p.below)
+    pub state : has_state p.root ≡ true
+    pub right : RightAt back p.right p.weight
+    pub leaves : list_any is_stray p.right ≡ false
+
+  sides_back : (front : List Piece) (back : List Word) (root : Item) (below : List Item) (o : Option RightParts) (b : Bool) (p : Parts) → IsTree (left_words front) (root ∷ below) → has_state root ≡ b → right_by read back ≡ o → cond b (with_right root below o) None ≡ Some p → Whole front back p
+  sides_back front back root below o false p t s r e = absurd (no_parts p e)
+  sides_back front back root below None true p t s r e = absurd (no_parts p e)
+  sides_back front back root below (Some g) true p t s r e =
+      let b = stray_back root below g (list_any is_stray g.nodes) p e in
+      subst (λ (x : Parts). Whole front back x) b.1 (record { left = t; state = s; right = right_back back g r; leaves = b.0 })
+
+  left_back : (front : List Piece) (back : List Word) (o : Option (List Item)) (p : Parts) → nodes_of (left_words front) ≡ o → with_left o (right_by read back) ≡ Some p → Whole front back p
+  left_back front back None p n e = absurd (no_parts p e)
+  left_back front back (Some []) p n e = absurd (no_parts p e)
+  left_back front back (Some (root ∷ below)) p n e = sides_back front back root below (right_by read back) (has_state root) p (tree_back (left_words front) (root ∷ below) n) refl refl e
+
+  split_back : (pieces : List Piece) (n : ℕ) (b : Bool) (p : Parts) → n ≡ arrow_at pieces → nat_lt n (length pieces) ≡ b → cond b (with_left (nodes_of (left_words (take n pieces))) (right_by read (meanings (drop (n + 1) pieces)))) None ≡ Some p → SpellsRuleBy Right pieces p
+  split_back pieces n false p a h e = absurd (no_parts p e)
+  split_back pieces n true p a h e =
+      let w = left_back (take n pieces) (meanings (drop (n + 1) pieces)) (nodes_of (left_words (take n pieces))) p refl e in
+      let within : n < length pieces = grind (arith, nat_tests) in
+      let stops = prefix_len_stops is_no_arrow pieces no_piece (omega (arith, a, within)) in
+      record {
+        front = take n pieces;
+        arrow = get_or pieces n no_piece;
+        back = drop (n + 1) pieces;
+        right_words = w.right.front;
+        are = sym (take-append-drop n pieces) ∙ ap (λ (ps : List Piece). take n pieces ++ ps) (drop_more pieces n no_piece within);
+        is_arrow = arrow_kind (get_or pieces n no_piece).kind (ap (λ (m : ℕ). is_no_arrow (get_or pieces m no_piece)) a ∙ stops);
+        left = w.left;
+        state = w.state;
+        behind = w.right.behind;
+        right = w.right.is;
+        leaves = w.leaves;
+      }
+
+  -- the parts that are read of tokens are what they spell
+  pub spelled_back : (pieces : List Piece) (p : Parts) → parts_by read pieces ≡ Some p → SpellsRuleBy Right pieces p
+  unfolding parts_by
+  spelled_back pieces p e = split_back pieces (arrow_at pieces) (nat_lt (arrow_at pieces) (length pieces)) p refl refl e
+
+  -- tokens that spell a rule are read as it
+  pub spelled_forth : (pieces : List Piece) (p : Parts) → SpellsRuleBy Right pieces p → parts_by read pieces ≡ Some p
+  unfolding parts_by
+  spelled_forth pieces p s =
+      let words : HasNoArrow (left_words s.front) = subst HasNoArrow s.left.spelled (no_arrow_tree s.left.tree) in
+      let at : arrow_at (s.front ++ s.arrow ∷ s.back) ≡ length s.front = all_pass true s.front words s.arrow s.back (kind_arrow s.arrow.kind s.is_arrow) in
+      let long = length-append s.front (s.arrow ∷ s.back) in
+      let t : nat_lt (length s.front) (length (s.front ++ s.arrow ∷ s.back)) ≡ true = grind (arith, nat_tests) in
+      let left : nodes_of (left_words s.front) ≡ Some (p.root ∷ p.below) = tree_read (left_words s.front) (p.root ∷ p.below) s.left in
+      let right : right_by read (meanings s.back) ≡ Some (right_of [] p.right p.weight) = right_forth (meanings s.back) p.right p.weight (record { front = s.right_words; is = s.right; behind = s.behind }) in
+      let state = s.state in
+      let leaves = s.leaves in
+      ap (λ (ps : List Piece). parts_at read (arrow_at ps) ps) s.are
+      ∙ ap (λ (n : ℕ). parts_at read n (s.front ++ s.arrow ∷ s.back)) at
+      ∙ rw t
+      (ap (λ (ps : List Piece). with_left (nodes_of (left_words ps)) (right_by read (meanings (drop (length s.front + 1) (s.front ++ s.arrow ∷ s.back))))) (take_front s.front (s.arrow ∷ s.back))
+      ∙ ap (λ (ps : List Piece). with_left (nodes_of (left_words s.front)) (right_by read (meanings ps))) (drop_front s.front s.back s.arrow)
+      ∙ ap (λ (o : Option (List Item)). with_left o (right_by read (meanings s.back))) left
+      ∙ ap (λ (o : Option RightParts). with_left (Some (p.root ∷ p.below)) o) right
+      ∙ rw (state, leaves) refl)
+
+  -- a rule has no more nodes than tokens
+  pub rule_few : (pieces : List Piece) (p : Parts) → SpellsRuleBy Right pieces p → length p.below + length p.right + 2 ≤ length pieces
+  rule_few pieces p s =
+      let l = tree_few (left_words s.front) (p.root ∷ p.below) s.left in
+      let r = format.few s.right_words p.right s.right in
+      let j = joins_few true s.front in
+      let b = length-append s.right_words (weight_words p.weight) in
+      let m = length-map s.back meaning in
+      omega (arith, l, r, j, b, m, ap length s.behind, ap length s.are, length-append s.front (s.arrow ∷ s.back))
+
+-- the same with a tree on the right
+pub parts_forth : (pieces : List Piece) (p : Parts) → SpellsRule pieces p → parts_of pieces ≡ Some p
+parts_forth pieces p s = spelled_forth trees pieces p s

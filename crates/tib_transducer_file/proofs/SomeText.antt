@@ -1,6 +1,6 @@
 -- What is read of a file without a fault is the text of some transducer.
 use Rattle.tib_cost.specs.declared.Scale.{Scale}
-use Rattle.std.proofs.Common.{◌≡◌, ℕ, ◌⊎◌, inl, inr, Bool, true, false, List, [], ◌∷◌, ◌++◌, refl, ap, sym, ◌∙◌, subst, arith, Option, suc}
+use Rattle.std.proofs.Common.{◌≡◌, ℕ, ◌⊎◌, inl, inr, Bool, true, false, List, [], ◌∷◌, ◌++◌, refl, ap, sym, subst, arith, Option, suc}
 use Rattle.std.specs.Prelude.{Some, None, Result, Ok, Err, slice_get, nat_eq, not, ◌||◌}
 use Rattle.std.specs.List.{list_any}
 use Rattle.std.proofs.lemmas.Bool.Decides.{nat_tests}
@@ -10,11 +10,10 @@ use Rattle.tib_lex.specs.Lists.{Along, Each, Has}
 use Rattle.tib_lex.specs.declared.fault.FileFault.{FileFault}
 use Rattle.tib_lex.proofs.Members.{has_left, has_right}
 use Rattle.tib_lex.proofs.Spelled.{or_false}
-use Rattle.tib_tree.specs.Machine.{IsTree, nodes_of}
+use Rattle.tib_tree.specs.Machine.{IsTree}
 use Rattle.tib_tree.specs.Nodes.{rank_of}
 use Rattle.tib_tree.specs.Trees.{preorder_of, parse, first_of, preorder-first, IsOneTree}
 use Rattle.tib_tree.specs.Written.{Item}
-use Rattle.tib_tree.proofs.Read.{tree_forth}
 use Rattle.tib_grammar.specs.Sides.{label, hole, Side}
 use Rattle.tib_grammar.specs.Items.{pairs_of, holes_in}
 use Rattle.tib_grammar.specs.declared.Item.{Item as SideItem}
@@ -28,25 +27,26 @@ use Rattle.tib_transducer.specs.TransducerOf.{TransducerOf}
 use Rattle.tib_transducer.specs.declared.Variable.{Variable}
 use Rattle.tib_transducer.specs.declared.Pair.{Pair}
 use Rattle.tib_transducer.specs.declared.TransducerRule.{TransducerRule}
-use Rattle.tib_transducer_file.specs.Built.{AreOneTree}
 use Rattle.tib_transducer_file.specs.Forms.{variable_in, pair_in}
 use Rattle.tib_transducer_file.specs.Rule.{Parts, RuleLine, state_of, label_of, numbers_in, is_unknown}
 use Rattle.tib_transducer_file.specs.Value.{IsAsked, IsLeftSymbol, IsLeftNode, IsLeftSide, IsRightSymbol, IsRightNode, IsRule, state_before, states_in, states_of}
 use Rattle.tib_transducer_file.specs.Reading.{transducer_in}
 use Rattle.tib_transducer_file.specs.Faults.{IsFirstFault}
 use Rattle.tib_transducer_file.specs.Laws.{IsSomeText}
-use Rattle.tib_transducer_file.specs.TransducerText.{SpellsLine, HaveRules, HaveStart}
+use Rattle.tib_transducer_file.specs.TransducerText.{SpellsLineBy, SpellsLine, HaveStartBy}
+use Rattle.tib_transducer_file.proofs.RulesHave.{file_has, each_line_has}
 use Rattle.tib_transducer_file.proofs.FaultsOnce.{faults_exact}
+use Rattle.tib_transducer_file.proofs.Formats.{tree_words}
 use Rattle.tib_transducer_file.proofs.FileText.{file_held, all_small}
 use Rattle.tib_transducer_file.proofs.ShapesRead.{variable_rank, pair_rank}
 use Rattle.tib_transducer_file.proofs.SideTrees.{HasRank, are_one}
 
 -- a table has all of some texts
-abbrev HasAll : List (List ℕ) → List (List ℕ) → Type 0
+abbrev pub HasAll : List (List ℕ) → List (List ℕ) → Type 0
 HasAll table texts = (t : List ℕ) → Has texts t → Has table t
 
 -- a number that is among others has a place
-placed : (ns : List ℕ) (v : ℕ) → list_any (nat_eq v) ns ≡ true → (n : ℕ) × (slice_get ns n ≡ Some v)
+pub placed : (ns : List ℕ) (v : ℕ) → list_any (nat_eq v) ns ≡ true → (n : ℕ) × (slice_get ns n ≡ Some v)
 placed [] v e = let bad : false ≡ true = e in absurd (cc)
 placed (m ∷ ns) v e = by (nat_eq v m) refl e (placed ns v)
   where
@@ -63,27 +63,27 @@ abbrev left_text : Option (ℕ × Option (List ℕ)) → List ℕ → List (List
 left_text None text = text ∷ []
 left_text (Some v) text = one_or_none v.1
 
-abbrev right_text : Option (List ℕ × ℕ) → List ℕ → List (List ℕ)
+abbrev pub right_text : Option (List ℕ × ℕ) → List ℕ → List (List ℕ)
 right_text None text = text ∷ []
 right_text (Some q) text = []
 
-abbrev left_texts : List Item → List (List ℕ)
+abbrev pub left_texts : List Item → List (List ℕ)
 left_texts [] = []
 left_texts (i ∷ is) = left_text (variable_in i) i.text ++ left_texts is
 
-abbrev right_texts : List Item → List (List ℕ)
+abbrev pub right_texts : List Item → List (List ℕ)
 right_texts [] = []
 right_texts (i ∷ is) = right_text (pair_in i) i.text ++ right_texts is
 
-abbrev rule_texts : Parts → List (List ℕ)
+abbrev pub rule_texts : Parts → List (List ℕ)
 rule_texts p = label_of p ∷ (left_texts p.below ++ right_texts p.right)
 
-abbrev file_texts : List RuleLine → List (List ℕ)
+abbrev pub file_texts : List RuleLine → List (List ℕ)
 file_texts [] = []
 file_texts (line ∷ lines) = rule_texts line.parts ++ file_texts lines
 
 -- left sides below their roots
-record LeftItems (labels : List (List ℕ)) (n : ℕ) (is : List Item) : Type 0 where
+pub record LeftItems (labels : List (List ℕ)) (n : ℕ) (is : List Item) : Type 0 where
   pub items : List (SideItem Variable)
   pub are : Along (IsLeftNode labels) (pairs_of items) is
   pub numbered : AreNumbered n (holes_in items)
@@ -111,7 +111,8 @@ left_more labels n i is (Some v) e h more =
       numbered = (refl, r.numbered);
     }
 
-left_items : (labels : List (List ℕ)) (n : ℕ) (is : List Item) → HasAll labels (left_texts is) → LeftItems labels n is
+-- the left side below its root, over a table with its texts
+pub left_items : (labels : List (List ℕ)) (n : ℕ) (is : List Item) → HasAll labels (left_texts is) → LeftItems labels n is
 left_items labels n [] h = record { items = []; are = tt; numbered = tt }
 left_items labels n (i ∷ is) h =
     left_more labels n i is (variable_in i) refl (λ t k. h t (has_left (left_text (variable_in i) i.text) (left_texts is) t k))
@@ -121,7 +122,8 @@ left_items labels n (i ∷ is) h =
 abbrev RightItems : List (List ℕ) → List (List ℕ) → List ℕ → List Item → Type 0
 RightItems names labels numbers is = (items : List (SideItem (Pair ℕ))) × Along (IsRightNode names labels numbers) (pairs_of items) is
 
-not_false : (b : Bool) → not b ≡ false → b ≡ true
+-- what is not false
+pub not_false : (b : Bool) → not b ≡ false → b ≡ true
 not_false true e = refl
 not_false false e = let bad : true ≡ false = e in absurd (cc)
 
@@ -135,12 +137,14 @@ right_more names labels numbers i is (Some q) e h s u r =
     let x : Pair ℕ = record { state = state.0; variable = place.0 } in
     (Hole x ∷ r.0, ((subst (λ o. IsRightSymbol names labels numbers (hole x) o i.text) (sym e) (state.1, place.1), sym (pair_rank i.quoted i.kids i.text q e)), r.1))
 
-first_state : (o : Option (List ℕ × ℕ)) (more : List (List ℕ)) (t : List ℕ) → Has (state_before o []) t → Has (state_before o more) t
+-- the first state is there
+pub first_state : (o : Option (List ℕ × ℕ)) (more : List (List ℕ)) (t : List ℕ) → Has (state_before o []) t → Has (state_before o more) t
 first_state None more t h = absurd h
 first_state (Some q) more t (inl e) = inl e
 first_state (Some q) more t (inr h) = absurd h
 
-other_state : (o : Option (List ℕ × ℕ)) (more : List (List ℕ)) (t : List ℕ) → Has more t → Has (state_before o more) t
+-- and so are the others
+pub other_state : (o : Option (List ℕ × ℕ)) (more : List (List ℕ)) (t : List ℕ) → Has more t → Has (state_before o more) t
 other_state None more t h = h
 other_state (Some q) more t h = inr h
 
@@ -153,11 +157,8 @@ right_items names labels numbers (i ∷ is) h s u =
     (right_items names labels numbers is (λ t k. h t (has_right (right_text (pair_in i) i.text) (right_texts is) t k)) (λ t k. s t (other_state (pair_in i) (states_in is) t k)) known.1)
 
 -- a side of items that are one tree
-side_of : {P : Type 0} (items : List (SideItem P)) → IsOneTree (pairs_of items) → (s : Side ℕ P) × (preorder_of s ≡ pairs_of items)
+pub side_of : {P : Type 0} (items : List (SideItem P)) → IsOneTree (pairs_of items) → (s : Side ℕ P) × (preorder_of s ≡ pairs_of items)
 side_of items one = (first_of (label 0) (parse (pairs_of items)), preorder-first (label 0) (pairs_of items) one)
-
-tree_words : (words : List Word) (is : List Item) → IsTree words is → AreOneTree is
-tree_words words is t = (words, ap nodes_of (sym t.spelled) ∙ tree_forth t.tree t.one ∙ ap Some t.nodes)
 
 -- a line stands for a rule
 a_rule : (scale : Scale) (names labels : List (List ℕ)) (bytes : List ℕ) (line : RuleLine) → SpellsLine scale bytes line → HasAll labels (rule_texts line.parts) → HasAll names (state_of line.parts ∷ states_in line.parts.right) → (r : TransducerRule ℕ) × IsRule names labels r line
@@ -186,21 +187,15 @@ a_rule scale names labels bytes line spells h s =
     )
 
 -- the lines that were read
-abbrev IsSpelled : Scale → RuleLine → Type 0
-IsSpelled scale rule = (line : List ℕ) × SpellsLine scale line rule
+abbrev pub IsSpelled : (List Word → List Item → Type 0) → Scale → RuleLine → Type 0
+IsSpelled Right scale rule = (line : List ℕ) × SpellsLineBy Right scale line rule
 
-rules_spelled : (scale : Scale) (lines : List (List ℕ)) (rules : List RuleLine) → HaveRules scale lines rules → Each (IsSpelled scale) rules
-rules_spelled scale [] rules e = subst (λ (xs : List RuleLine). Each (IsSpelled scale) xs) (sym e) tt
-rules_spelled scale (line ∷ lines) rules (inl (blank, more)) = rules_spelled scale lines rules more
-rules_spelled scale (line ∷ lines) rules (inr (rule, others, e, spells, more)) =
-    subst (λ (xs : List RuleLine). Each (IsSpelled scale) xs) (sym e) ((line, spells), rules_spelled scale lines others more)
+-- those of a file
+pub file_spelled : (Right : List Word → List Item → Type 0) (scale : Scale) (lines : List (List ℕ)) (start : List ℕ) (rules : List RuleLine) → HaveStartBy Right scale lines start rules → Each (IsSpelled Right scale) rules
+file_spelled Right scale lines start rules h =
+    file_has {Right = Right} (λ line. Unit {0}) (IsSpelled Right scale) scale (λ line rule p s. (line, s)) lines start rules (each_line_has lines) h
 
-file_spelled : (scale : Scale) (lines : List (List ℕ)) (start : List ℕ) (rules : List RuleLine) → HaveStart scale lines start rules → Each (IsSpelled scale) rules
-file_spelled scale [] start rules h = absurd h
-file_spelled scale (line ∷ lines) start rules (inl (blank, more)) = file_spelled scale lines start rules more
-file_spelled scale (line ∷ lines) start rules (inr (has, plain, more)) = rules_spelled scale lines rules more
-
-some_rules : (scale : Scale) (names labels : List (List ℕ)) (lines : List RuleLine) → Each (IsSpelled scale) lines → HasAll labels (file_texts lines) → HasAll names (states_of lines) → (rs : List (TransducerRule ℕ)) × Along (IsRule names labels) rs lines
+some_rules : (scale : Scale) (names labels : List (List ℕ)) (lines : List RuleLine) → Each (IsSpelled IsTree scale) lines → HasAll labels (file_texts lines) → HasAll names (states_of lines) → (rs : List (TransducerRule ℕ)) × Along (IsRule names labels) rs lines
 some_rules scale names labels [] spelled h s = ([], tt)
 some_rules scale names labels (line ∷ lines) spelled h s =
     let r = a_rule scale names labels spelled.0.0 line spelled.0.1 (λ t k. h t (has_left (rule_texts line.parts) (file_texts lines) t k))
@@ -215,7 +210,7 @@ some_text scale bytes start lines e =
     let held = file_held scale 1 (lines_of bytes) start lines e in
     let n = gathered [] (start ∷ states_of lines) in
     let l = gathered [] (file_texts lines) in
-    let rs = some_rules scale n.0 l.0 lines (file_spelled scale (lines_of bytes) start lines held.have)
+    let rs = some_rules scale n.0 l.0 lines (file_spelled IsTree scale (lines_of bytes) start lines held.have)
     (all_added [] (file_texts lines) l.0 l.1) (λ t k. all_added [] (start ∷ states_of lines) n.0 n.1 t (inr k)) in
     let t : TransducerOf = record { names = n.0; rules = rs.0 } in (
       l.0,

@@ -1,4 +1,5 @@
--- What a line adds to what was read.
+-- What a line adds to what was read, whatever the rules are that are made: `Is` says which rule
+-- stands for which line.
 use Rattle.std.specs.Prelude.{◌≡◌, ◌⊎◌, ℕ, List, [], ◌∷◌, ◌++◌, Option, Some, None, Result, Ok, Err, false}
 use Rattle.std.specs.List.{list_any}
 use Rattle.std.specs.Global.{Vec}
@@ -13,10 +14,9 @@ use Rattle.tib_tree.specs.Grows.{AddsAll}
 use Rattle.tib_tree.specs.Written.{Item}
 use Rattle.tib_tree.specs.Machine.{nodes_of}
 use Rattle.tib_lex.specs.Grammar.{Word}
-use Rattle.tib_transducer.specs.declared.TransducerRule.{TransducerRule}
 use Rattle.tib_transducer_file.specs.Forms.{pair_in}
 use Rattle.tib_transducer_file.specs.Rule.{Parts, RuleLine, state_of, is_unknown}
-use Rattle.tib_transducer_file.specs.Value.{IsRule, states_in, states_of}
+use Rattle.tib_transducer_file.specs.Value.{states_in, states_of}
 
 -- words that are one tree with these items
 abbrev pub AreOneTree : List Item → Type 0
@@ -31,22 +31,29 @@ abbrev pub AddsStates : List (List ℕ) → Parts → List (List ℕ) → Type 0
 AddsStates before p names = AddsAll before (state_of p ∷ states_in p.right) names
 
 -- a rule of a line went last, and its states into the table of names
-pub record AddsRule (before names labels : List (List ℕ)) (old now : List (TransducerRule ℕ)) (line : RuleLine) : Type 0 where
-  pub rule : TransducerRule ℕ
-  pub is : IsRule names labels rule line
+pub record AddsRule {R : Type 0} (Is : List (List ℕ) → List (List ℕ) → R → RuleLine → Type 0)
+    (before names labels : List (List ℕ)) (old now : List R) (line : RuleLine) : Type 0 where
+  pub rule : R
+  pub is : Is names labels rule line
   pub adds : AddsStates before line.parts names
   pub last : now ≡ old ++ rule ∷ []
 
 -- a line has no tokens, or its rule went last
-abbrev pub AddsLine : List (List ℕ) → List (List ℕ) → List (List ℕ) → List (TransducerRule ℕ) → List (TransducerRule ℕ) → Result (Unit {0}) LineError → Result (Option RuleLine) FaultKind → Type 0
-AddsLine before names labels old now (Ok done) wanted =
+abbrev pub AddsLine : {R : Type 0} → (List (List ℕ) → List (List ℕ) → R → RuleLine → Type 0) →
+    List (List ℕ) → List (List ℕ) → List (List ℕ) → List R → List R →
+    Result (Unit {0}) LineError → Result (Option RuleLine) FaultKind → Type 0
+AddsLine Is before names labels old now (Ok done) wanted =
     ((wanted ≡ Ok None) × (names ≡ before) × (now ≡ old))
-    ⊎ ((line : RuleLine) × (wanted ≡ Ok (Some line)) × AddsRule before names labels old now line)
-AddsLine before names labels old now (Err (line_errors.Fault kind)) wanted = wanted ≡ Err kind
-AddsLine before names labels old now (Err line_errors.OutOfMemory) wanted = Unit {0}
+    ⊎ ((line : RuleLine) × (wanted ≡ Ok (Some line)) × AddsRule Is before names labels old now line)
+AddsLine Is before names labels old now (Err (line_errors.Fault kind)) wanted = wanted ≡ Err kind
+AddsLine Is before names labels old now (Err line_errors.OutOfMemory) wanted = Unit {0}
 
 -- the rules of a file
-abbrev pub AreFileRules : List (List ℕ) → List (List ℕ) → List (List ℕ) → Result (Vec (TransducerRule ℕ)) ReadError → Result (List RuleLine) FileFault → Type 0
-AreFileRules before names labels (Ok rules) wanted = (lines : List RuleLine) × (wanted ≡ Ok lines) × Along (IsRule names labels) rules.items lines × AddsAll before (states_of lines) names
-AreFileRules before names labels (Err (errors.Fault fault)) wanted = wanted ≡ Err fault
-AreFileRules before names labels (Err errors.OutOfMemory) wanted = Unit {0}
+abbrev pub AreFileRules : {R : Type 0} → (List (List ℕ) → List (List ℕ) → R → RuleLine → Type 0) →
+    List (List ℕ) → List (List ℕ) → List (List ℕ) →
+    Result (Vec R) ReadError → Result (List RuleLine) FileFault → Type 0
+AreFileRules Is before names labels (Ok rules) wanted =
+    (lines : List RuleLine) × (wanted ≡ Ok lines) × Along (Is names labels) rules.items lines
+    × AddsAll before (states_of lines) names
+AreFileRules Is before names labels (Err (errors.Fault fault)) wanted = wanted ≡ Err fault
+AreFileRules Is before names labels (Err errors.OutOfMemory) wanted = Unit {0}

@@ -1,13 +1,16 @@
--- What was read of a line before its rule is made.
+-- What was read of a line before its rule is made, whatever its right side is.
 use Rattle.tib_cost.specs.declared.Scale.{Scale}
 use Rattle.std.specs.Prelude.{◌≡◌, ◌+◌, ◌≤◌, ℕ, List, length, false, Option, Some, None, Result, Ok, Err}
 use Rattle.tib_lex.specs.declared.fault.LineError.{LineError}
 use Rattle.tib_lex.specs.declared.fault.LineError.TheVariants as errors
+use Rattle.tib_lex.specs.Grammar.{Word}
+use Rattle.tib_tree.specs.Machine.{nodes_of}
+use Rattle.tib_tree.specs.Written.{Item}
 use Rattle.tib_tree.specs.Shape.{items_back}
 use Rattle.tib_tree.specs.Trees.{most_nodes}
 use Rattle.tib_tree.specs.declared.shape.Place.{Place}
 use Rattle.tib_grammar_file.specs.Found.{text_at}
-use Rattle.tib_transducer_file.specs.Rule.{Parts, has_unknown, numbers_in, checked, rule_line, rule_line_of}
+use Rattle.tib_transducer_file.specs.Rule.{Parts, has_unknown, numbers_in, checked, rule_line_by, rule_line_of}
 use Rattle.tib_transducer_file.specs.Found.{FoundIn, parts_with}
 use Rattle.tib_transducer_file.specs.Built.{AreOneTree}
 use Rattle.tib_transducer_file.specs.declared.parts.Found.{Found}
@@ -16,20 +19,33 @@ use Rattle.tib_transducer_file.specs.declared.parts.Found.{Found}
 abbrev pub parts_found : List ℕ → List Place → List Place → Found → Parts
 parts_found line left right f = parts_with (items_back line left) (items_back line right) (text_at line f.weight)
 
--- the tokens of a line are a rule
-pub record FoundRule (line : List ℕ) (left right : List Place) (f : Found) : Type 0 where
+-- the tokens of a line are a rule, and of the places of its right side this holds
+pub record FoundRuleBy (reads : List Word → Option (List Item)) (Holds : List ℕ → List Place → Type 0)
+    (line : List ℕ) (left right : List Place) (f : Found) : Type 0 where
   pub lies : FoundIn line left right f
-  pub read : (scale : Scale) → rule_line scale line ≡ checked scale (parts_found line left right f)
+  pub read : (scale : Scale) → rule_line_by reads scale line ≡ checked scale (parts_found line left right f)
   pub left_tree : AreOneTree (items_back line left)
-  pub right_tree : AreOneTree (items_back line right)
+  pub holds : Holds line right
   pub few : length left + length right ≤ length line
 
 -- a rule, or no tokens, or a fault
+abbrev pub IsFoundBy : (List Word → Option (List Item)) → (List ℕ → List Place → Type 0) →
+    List ℕ → List Place → List Place → Result (Option Found) LineError → Type 0
+IsFoundBy read Holds line left right (Ok None) = (scale : Scale) → rule_line_by read scale line ≡ Ok None
+IsFoundBy read Holds line left right (Ok (Some f)) = FoundRuleBy read Holds line left right f
+IsFoundBy read Holds line left right (Err (errors.Fault kind)) =
+    (scale : Scale) → rule_line_by read scale line ≡ Err kind
+IsFoundBy read Holds line left right (Err errors.OutOfMemory) = Unit {0}
+
+-- these with a tree on the right
+abbrev pub IsTreeAt : List ℕ → List Place → Type 0
+IsTreeAt line right = AreOneTree (items_back line right)
+
+abbrev pub FoundRule : List ℕ → List Place → List Place → Found → Type 0
+FoundRule line left right f = FoundRuleBy nodes_of IsTreeAt line left right f
+
 abbrev pub IsFound : List ℕ → List Place → List Place → Result (Option Found) LineError → Type 0
-IsFound line left right (Ok None) = (scale : Scale) → rule_line scale line ≡ Ok None
-IsFound line left right (Ok (Some f)) = FoundRule line left right f
-IsFound line left right (Err (errors.Fault kind)) = (scale : Scale) → rule_line scale line ≡ Err kind
-IsFound line left right (Err errors.OutOfMemory) = Unit {0}
+IsFound line left right found = IsFoundBy nodes_of IsTreeAt line left right found
 
 -- a rule without a fault, of this cost
 pub record GoodRule (scale : Scale) (p : Parts) (numbers : List ℕ) (left right : List Place) (cost : ℕ) : Type 0 where

@@ -1,4 +1,5 @@
--- A rule line of a transducer file.
+-- A rule line of a transducer file. What its right side is, and how that is read, are given: `Right`
+-- says which tokens are which items, and `read` gives them. Those of tree transducers are trees.
 use Rattle.tib_cost.specs.declared.Scale.{Scale}
 use Rattle.std.specs.Prelude.{◌≡◌, ◌+◌, ℕ, Bool, true, false, not, nat_lt, nat_eq, ◌&&◌, ◌||◌, List, [], ◌∷◌, ◌++◌, length, take, drop, Option, Some, None, Result, Ok, Err, if◌then◌else◌}
 use Rattle.std.specs.List.{prefix_len, list_any}
@@ -9,7 +10,7 @@ use Rattle.tib_lex.specs.declared.fault.FaultKind.TheVariants as kinds
 use Rattle.tib_tree.specs.Written.{Item}
 use Rattle.tib_tree.specs.Machine.{IsTree, nodes_of}
 use Rattle.tib_tree.specs.Trees.{most_nodes}
-use Rattle.tib_grammar_file.specs.Rule.{weight_words, right_parts, Parts as RightParts}
+use Rattle.tib_grammar_file.specs.Rule.{weight_words, weight_in, front_of, with_nodes, Parts as RightParts}
 use Rattle.tib_grammar_file.specs.Weight.{cost_of}
 use Rattle.tib_transducer_file.specs.Pieces.{Piece, meanings, pieces_of}
 use Rattle.tib_transducer_file.specs.Forms.{variable_of, variable_in, pair_in, before_stop, behind_stop, written_label, is_root, is_some, is_stray, is_kind, left_words}
@@ -35,7 +36,8 @@ abbrev pub label_of : Parts → List ℕ
 label_of p = written_label (behind_stop p.root.text)
 
 -- THE MEANING: these tokens are a left side, an arrow, a right side, and maybe a hash and a weight.
-pub record SpellsRule (pieces : List Piece) (p : Parts) : Type 0 where
+pub record SpellsRuleBy (Right : List Word → List Item → Type 0) (pieces : List Piece)
+    (p : Parts) : Type 0 where
   pub front : List Piece
   pub arrow : Piece
   pub back : List Piece
@@ -45,10 +47,14 @@ pub record SpellsRule (pieces : List Piece) (p : Parts) : Type 0 where
   pub left : IsTree (left_words front) (p.root ∷ p.below)
   pub state : has_state p.root ≡ true
   pub behind : right_words ++ weight_words p.weight ≡ meanings back
-  pub right : IsTree right_words p.right
+  pub right : Right right_words p.right
   pub leaves : list_any is_stray p.right ≡ false
 
--- The reading: the left side ends before the first arrow.
+-- with a tree on the right
+abbrev pub SpellsRule : List Piece → Parts → Type 0
+SpellsRule pieces p = SpellsRuleBy IsTree pieces p
+
+-- The reading: the left side ends before the first arrow, and the right side before the weight.
 abbrev pub is_no_arrow : Piece → Bool
 is_no_arrow p = not (is_kind token_kinds.Arrow p.kind)
 
@@ -64,13 +70,20 @@ with_left None right = None
 with_left (Some []) right = None
 with_left (Some (root ∷ below)) right = if has_state root then with_right root below right else None
 
-abbrev pub parts_at : ℕ → List Piece → Option Parts
-parts_at n pieces =
-    if nat_lt n (length pieces) then with_left (nodes_of (left_words (take n pieces))) (right_parts [] (meanings (drop (n + 1) pieces)))
+abbrev pub right_by : (List Word → Option (List Item)) → List Word → Option RightParts
+right_by read words = with_nodes [] (weight_in words) (read (front_of (weight_in words) words))
+
+abbrev pub parts_at : (List Word → Option (List Item)) → ℕ → List Piece → Option Parts
+parts_at read n pieces =
+    if nat_lt n (length pieces) then
+    with_left (nodes_of (left_words (take n pieces))) (right_by read (meanings (drop (n + 1) pieces)))
     else None
 
-unfoldable pub parts_of : List Piece → Option Parts
-parts_of pieces = parts_at (arrow_at pieces) pieces
+unfoldable pub parts_by : (List Word → Option (List Item)) → List Piece → Option Parts
+parts_by read pieces = parts_at read (arrow_at pieces) pieces
+
+abbrev pub parts_of : List Piece → Option Parts
+parts_of pieces = parts_by nodes_of pieces
 
 -- the numbers of the variables among some items, and the pairs
 abbrev pub number_before : Option (ℕ × Option (List ℕ)) → List ℕ → List ℕ
@@ -132,11 +145,16 @@ abbrev pub good_parts : Scale → Option Parts → Result (Option RuleLine) Faul
 good_parts scale None = Err kinds.BadRule
 good_parts scale (Some p) = checked scale p
 
-abbrev pub rule_in : Scale → Option (List Piece) → Result (Option RuleLine) FaultKind
-rule_in scale None = Err kinds.BadToken
-rule_in scale (Some []) = Ok None
-rule_in scale (Some (p ∷ pieces)) = good_parts scale (parts_of (p ∷ pieces))
+abbrev pub rule_in : (List Word → Option (List Item)) → Scale → Option (List Piece) →
+    Result (Option RuleLine) FaultKind
+rule_in read scale None = Err kinds.BadToken
+rule_in read scale (Some []) = Ok None
+rule_in read scale (Some (p ∷ pieces)) = good_parts scale (parts_by read (p ∷ pieces))
 
 -- no tokens, or a rule, or the first fault of the line
-unfoldable pub rule_line : Scale → List ℕ → Result (Option RuleLine) FaultKind
-rule_line scale line = rule_in scale (pieces_of line)
+unfoldable pub rule_line_by : (List Word → Option (List Item)) → Scale → List ℕ →
+    Result (Option RuleLine) FaultKind
+rule_line_by read scale line = rule_in read scale (pieces_of line)
+
+abbrev pub rule_line : Scale → List ℕ → Result (Option RuleLine) FaultKind
+rule_line scale line = rule_line_by nodes_of scale line

@@ -13,7 +13,7 @@ use tib_lex::{Kind, Token, is_name};
 use tib_tree::Place;
 
 /// The bytes of a token.
-pub(crate) fn bytes_of(line: &[u8], token: Token) -> &[u8]
+pub fn bytes_of(line: &[u8], token: Token) -> &[u8]
     requires { Lies (length line.now) token }
     ensures { result.now ≡ slice_range line.now token.start token.end }
 {
@@ -79,30 +79,31 @@ fn number_of(text: &[u8], size: usize) -> u32
 
 /// The tokens of a variable: its number, and the label that it asks for.
 #[derive(Clone, Copy, Debug)]
-pub(crate) struct VariableToken {
+pub struct VariableToken {
     pub number: u32,
     pub label: Option<Token>,
 }
 
 /// The tokens of a pair: its state, and the number of its variable.
 #[derive(Clone, Copy, Debug)]
-pub(crate) struct PairToken {
+pub struct PairToken {
     pub state: Token,
     pub number: u32,
 }
 
 /// The tokens of a root: its state, and what stands behind the full stop.
 #[derive(Clone, Copy, Debug)]
-pub(crate) struct RootToken {
+pub struct RootToken {
     pub state: Token,
     pub behind: Token,
 }
 
 /// The token of a label that is written as it stands or in quotes.
-pub(crate) fn label_token(line: &[u8], start: u32, end: u32) -> Token
+pub fn label_token(line: &[u8], start: u32, end: u32) -> Token
     requires some { start < end }
     requires within { end ≤ length line.now }
-    ensures text { text_of (word_at line.now result) ≡ written_label (slice_range line.now start end) }
+    ensures text { text_of (word_at line.now result) ≡ written_label
+        (slice_range line.now start end) }
     ensures lies { Lies (length line.now) result }
 {
     let quoted = line[start as usize] == b'"' && end - start > 1;
@@ -111,9 +112,10 @@ pub(crate) fn label_token(line: &[u8], start: u32, end: u32) -> Token
 }
 
 /// The variable that a token is, by its bytes.
-pub(crate) fn variable_of(line: &[u8], token: Token) -> Option<VariableToken>
+pub fn variable_of(line: &[u8], token: Token) -> Option<VariableToken>
     requires { Lies (length line.now) token }
-    ensures variable { option_map (variable_at line.now) result ≡ spec_variable_of (bytes_at line.now token) }
+    ensures variable { option_map (variable_at line.now) result
+        ≡ spec_variable_of (bytes_at line.now token) }
     ensures lies { IfSome result (λ v. WeightLies (length line.now) v.label) }
 {
     let text = bytes_of(line, token);
@@ -163,7 +165,7 @@ fn stop_at(text: &[u8]) -> usize
 }
 
 /// The pair that a token is, by its bytes.
-pub(crate) fn pair_of(line: &[u8], token: Token) -> Option<PairToken>
+pub fn pair_of(line: &[u8], token: Token) -> Option<PairToken>
     requires { Lies (length line.now) token }
     ensures pair { option_map (pair_at line.now) result ≡ spec_pair_of (bytes_at line.now token) }
     ensures lies { IfSome result (λ q. Lies (length line.now) q.state) }
@@ -194,7 +196,7 @@ pub(crate) fn pair_of(line: &[u8], token: Token) -> Option<PairToken>
 }
 
 /// The root that a token is, by its bytes: a state's name, a full stop, and something behind it.
-pub(crate) fn root_of(line: &[u8], token: Token) -> Option<RootToken>
+pub fn root_of(line: &[u8], token: Token) -> Option<RootToken>
     requires { Lies (length line.now) token }
     ensures root { is_some result ≡ is_root (bytes_at line.now token) }
     ensures tokens { IfSome result (λ root. IsRootAt line.now (bytes_at line.now token) root) }
@@ -223,7 +225,7 @@ pub(crate) fn root_of(line: &[u8], token: Token) -> Option<RootToken>
 }
 
 /// Whether the first full stop of a token is its last byte.
-pub(crate) fn ends_with_stop(line: &[u8], token: Token) -> bool
+pub fn ends_with_stop(line: &[u8], token: Token) -> bool
     requires { Lies (length line.now) token }
     ensures { result ≡ spec_ends_with_stop (bytes_at line.now token) }
 {
@@ -232,7 +234,7 @@ pub(crate) fn ends_with_stop(line: &[u8], token: Token) -> bool
 }
 
 /// Whether a token is a variable that ends with a colon.
-pub(crate) fn ends_with_colon(line: &[u8], token: Token) -> bool
+pub fn ends_with_colon(line: &[u8], token: Token) -> bool
     requires { Lies (length line.now) token }
     ensures { result ≡ spec_ends_with_colon (bytes_at line.now token) }
 {
@@ -246,7 +248,8 @@ pub(crate) fn ends_with_colon(line: &[u8], token: Token) -> bool
 
 // The token of a leaf without quotes.
 fn leaf_token(place: Place) -> Option<Token>
-    ensures leaf { (line : List ℕ) → option_map (bytes_at line) result ≡ leaf_text (item_at line place).quoted place.kids (item_at line place).text }
+    ensures leaf { (line : List ℕ) → option_map (bytes_at line) result
+        ≡ leaf_text (item_at line place).quoted place.kids (item_at line place).text }
     ensures same { IfSome result (λ t. t ≡ place.token) }
 {
     if place.kids.is_some() {
@@ -259,9 +262,10 @@ fn leaf_token(place: Place) -> Option<Token>
 }
 
 /// The variable that a place of a left side below its root is.
-pub(crate) fn variable_in(line: &[u8], place: Place) -> Option<VariableToken>
+pub fn variable_in(line: &[u8], place: Place) -> Option<VariableToken>
     requires { PlaceLies (length line.now) place }
-    ensures variable { option_map (variable_at line.now) result ≡ spec_variable_in (item_at line.now place) }
+    ensures variable { option_map (variable_at line.now) result
+        ≡ spec_variable_in (item_at line.now place) }
     ensures lies { IfSome result (λ v. WeightLies (length line.now) v.label) }
 {
     match leaf_token(place) {
@@ -271,7 +275,7 @@ pub(crate) fn variable_in(line: &[u8], place: Place) -> Option<VariableToken>
 }
 
 /// The pair that a place of a right side is.
-pub(crate) fn pair_in(line: &[u8], place: Place) -> Option<PairToken>
+pub fn pair_in(line: &[u8], place: Place) -> Option<PairToken>
     requires { PlaceLies (length line.now) place }
     ensures pair { option_map (pair_at line.now) result ≡ spec_pair_in (item_at line.now place) }
     ensures lies { IfSome result (λ q. Lies (length line.now) q.state) }
@@ -283,7 +287,7 @@ pub(crate) fn pair_in(line: &[u8], place: Place) -> Option<PairToken>
 }
 
 /// Whether a place of a right side would be a variable of a left side.
-pub(crate) fn is_stray(line: &[u8], place: Place) -> bool
+pub fn is_stray(line: &[u8], place: Place) -> bool
     requires { PlaceLies (length line.now) place }
     ensures { result ≡ spec_is_stray (item_at line.now place) }
 {

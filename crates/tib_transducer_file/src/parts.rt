@@ -25,7 +25,7 @@ use tib_tree::{Place, Reader};
 
 /// The tokens of a rule's root and of its weight.
 #[derive(Clone, Copy, Debug)]
-pub(crate) struct Found {
+pub struct Found {
     pub root: RootToken,
     pub weight: Option<Token>,
 }
@@ -45,7 +45,8 @@ fn opens(tokens: &[Token]) -> bool
 
 // Whether a quoted token follows a name directly.
 fn are_joined(first: Token, second: Token) -> bool
-    ensures { result ≡ is_kind kinds.Name first.kind && is_kind kinds.Quoted second.kind && second.start == first.end }
+    ensures { result ≡ is_kind kinds.Name first.kind && is_kind kinds.Quoted second.kind &&
+        second.start == first.end }
 {
     match first.kind {
         Kind::Name => match second.kind {
@@ -59,7 +60,8 @@ fn are_joined(first: Token, second: Token) -> bool
 // Whether a name may take the quoted token that follows it directly.
 fn takes(line: &[u8], root: bool, name: Token, behind: &[Token]) -> bool
     requires { Lies (length line.now) name }
-    ensures { (at : ℕ) → result ≡ spec_takes root (bytes_at line.now name) (pieces_at line.now at behind.now) }
+    ensures { (at : ℕ) → result ≡ spec_takes root (bytes_at line.now name)
+        (pieces_at line.now at behind.now) }
 {
     if root {
         ends_with_stop(line, name)
@@ -79,7 +81,9 @@ struct Joined {
 fn first_word(line: &[u8], root: bool, tokens: &[Token]) -> Joined
     requires some { 0 < length tokens.now }
     requires lie { All (Lies (length line.now)) tokens.now }
-    ensures words { (at : ℕ) → joins root (pieces_at line.now at tokens.now) ≡ word_at line.now result.token ∷ joins false (pieces_at line.now result.token.end (drop result.size tokens.now)) }
+    ensures words { (at : ℕ) → joins root (pieces_at line.now at tokens.now)
+        ≡ word_at line.now result.token ∷ joins false (pieces_at line.now result.token.end
+        (drop result.size tokens.now)) }
     ensures lies { Lies (length line.now) result.token }
     ensures some { 0 < result.size }
     ensures few { result.size ≤ length tokens.now }
@@ -105,7 +109,8 @@ fn first_word(line: &[u8], root: bool, tokens: &[Token]) -> Joined
 // The words of a left side.
 fn join_tokens(line: &[u8], tokens: &[Token], words: &mut Vec<Token>) -> Result<(), AllocError>
     requires { All (Lies (length line.now)) tokens.now }
-    ensures words { IfOk result (λ _. words_at line.now words.new.items ≡ left_words (pieces_at line.now 0 tokens.now)) }
+    ensures words { IfOk result (λ _. words_at line.now words.new.items
+        ≡ left_words (pieces_at line.now 0 tokens.now)) }
     ensures lie { IfOk result (λ _. All (Lies (length line.now)) words.new.items) }
     ensures few { IfOk result (λ _. length words.new.items ≤ length tokens.now) }
 {
@@ -133,8 +138,8 @@ fn read_root(line: &[u8], places: &[Place]) -> Option<RootToken>
     }
 }
 
-// Reads the tree of a left side, if its root has a state.
-fn read_left(
+/// Reads the tree of a left side, whose places are then the reader's, if its root has a state.
+pub fn read_left(
     line: &[u8],
     tokens: &[Token],
     words: &mut Vec<Token>,
@@ -142,7 +147,8 @@ fn read_left(
 ) -> Result<Option<RootToken>, AllocError>
     requires few { length tokens.now < 2 ^ 32 - 1 }
     requires lie { All (Lies (length line.now)) tokens.now }
-    ensures left { IfOk result (λ root. IsLeftFound line.now reader.new.places.items root (nodes_of (left_words (pieces_at line.now 0 tokens.now)))) }
+    ensures left { IfOk result (λ root. IsLeftFound line.now reader.new.places.items root
+        (nodes_of (left_words (pieces_at line.now 0 tokens.now)))) }
 {
     join_tokens(line, tokens, words)?;
     if !reader.read(words)? {
@@ -151,9 +157,9 @@ fn read_left(
     Ok(read_root(line, &reader.places))
 }
 
-// Where the first arrow stands.
+/// Where the first arrow stands; behind all tokens if there is none.
 #[tactic(auto, using(crate::proofs::Joins::arrow_on, crate::proofs::Joins::arrow_here))]
-fn arrow_at(tokens: &[Token]) -> usize
+pub fn arrow_at(tokens: &[Token]) -> usize
     ensures place { result ≡ prefix_len (λ t. not (is_kind kinds.Arrow t.kind)) tokens.now }
     ensures within { result ≤ length tokens.now }
 {
@@ -173,8 +179,8 @@ fn is_arrow(token: Token) -> bool
     }
 }
 
-// Whether a leaf of a right side would be a variable of a left side.
-fn has_stray(line: &[u8], places: &[Place]) -> bool
+/// Whether a leaf of a right side would be a variable of a left side.
+pub fn has_stray(line: &[u8], places: &[Place]) -> bool
     requires { All (PlaceLies (length line.now)) places.now }
     ensures { result ≡ list_any spec_is_stray (items_back line.now places.now) }
 {
@@ -196,8 +202,10 @@ pub(crate) fn find_parts(
 ) -> Result<Option<Found>, AllocError>
     requires few { length tokens.now < 2 ^ 32 - 1 }
     requires lie { All (Lies (length line.now)) tokens.now }
-    ensures parts { IfOk result (λ found. parts_of (pieces_at line.now 0 tokens.now) ≡ found_parts line.now left.new.places.items right.new.places.items found) }
-    ensures lies { IfOk result (λ found. FoundLies line.now left.new.places.items right.new.places.items found) }
+    ensures parts { IfOk result (λ found. parts_of (pieces_at line.now 0 tokens.now)
+        ≡ found_parts line.now left.new.places.items right.new.places.items found) }
+    ensures lies { IfOk result (λ found. FoundLies line.now left.new.places.items
+        right.new.places.items found) }
 {
     let arrow = arrow_at(tokens);
     if arrow == tokens.len() {
@@ -235,7 +243,8 @@ fn read_variables(
     variables: &mut IndexSet<u32>,
 ) -> Result<bool, AllocError>
     requires { All (PlaceLies (length line.now)) below.now }
-    ensures { IfOk result (λ ok. AreNumbers ok (keys variables.new) (numbers_in (items_back line.now below.now))) }
+    ensures { IfOk result (λ ok. AreNumbers ok (keys variables.new)
+        (numbers_in (items_back line.now below.now))) }
 {
     variables.clear();
     let mut i = below.len();
@@ -263,7 +272,8 @@ fn is_unknown_at(line: &[u8], place: Place, variables: &IndexSet<u32>) -> bool
 
 fn has_unknown(line: &[u8], places: &[Place], variables: &IndexSet<u32>) -> bool
     requires { All (PlaceLies (length line.now)) places.now }
-    ensures { result ≡ list_any (λ i. is_unknown (keys variables.now) (spec_pair_in i)) (items_back line.now places.now) }
+    ensures { result ≡ list_any (λ i. is_unknown (keys variables.now) (spec_pair_in i))
+        (items_back line.now places.now) }
 {
     for place in places {
         if is_unknown_at(line, *place, variables) {
@@ -274,17 +284,19 @@ fn has_unknown(line: &[u8], places: &[Place], variables: &IndexSet<u32>) -> bool
 }
 
 /// Reads the numbers of the variables, if the rule uses them well; else its first fault.
-pub(crate) fn check_variables(
+pub fn check_variables(
     line: &[u8],
     left: &[Place],
     right: &[Place],
     root: RootToken,
     variables: &mut IndexSet<u32>,
 ) -> Result<(), LineError>
-    requires items { (r : Item) × (below : List Item) × (items_back line.now left.now ≡ r ∷ below) × IsRootAt line.now r.text root }
+    requires items { (r : Item) × (below : List Item) × (items_back line.now left.now ≡ r ∷ below)
+        × IsRootAt line.now r.text root }
     requires left { All (PlaceLies (length line.now)) left.now }
     requires right { All (PlaceLies (length line.now)) right.now }
-    ensures { (weight : Option (List ℕ)) → IsChecked (parts_with (items_back line.now left.now) (items_back line.now right.now) weight) (keys variables.new) result }
+    ensures { (weight : Option (List ℕ)) → IsChecked (parts_with (items_back line.now left.now)
+        (items_back line.now right.now) weight) (keys variables.new) result }
 {
     let last = left.len() - 1;
     if is_lone(line, left[last], root) {

@@ -8,9 +8,10 @@ use std::alloc::AllocError;
 use tib_lex::{Lexed, Token, next_token};
 
 /// Reads the tokens of a line, if none is bad.
-pub(crate) fn read_pieces(line: &[u8], tokens: &mut Vec<Token>) -> Result<bool, AllocError>
+pub fn read_pieces(line: &[u8], tokens: &mut Vec<Token>) -> Result<bool, AllocError>
     requires { length line.now ≤ most_bytes }
-    ensures pieces { IfOk result (λ ok. pieces_of line.now ≡ (if ok then Some (pieces_at line.now 0 tokens.new.items) else None)) }
+    ensures pieces { IfOk result (λ ok. pieces_of line.now
+        ≡ (if ok then Some (pieces_at line.now 0 tokens.new.items) else None)) }
     ensures few { IfOk result (λ _. length tokens.new.items ≤ length line.now) }
     ensures lie { IfOk result (λ _. All (Lies (length line.now)) tokens.new.items) }
 {

@@ -3,11 +3,10 @@ ghost use Rattle.std.specs.Prelude.{◌≡◌, ◌≤◌, ◌<◌, ◌+◌, ◌-
 ghost use Rattle.indexmap.specs.IndexSet.{keys};
 ghost use Rattle.tib_io.specs.Reads.{most_bytes};
 ghost use Rattle.tib_cost.specs.declared.Scale.{Scale};
-ghost use Rattle.tib_lex.specs.Lines.{lines_of, HasNoFeed};
+ghost use Rattle.tib_lex.specs.Lines.{lines_of, each_line, HasNoFeed};
 ghost use Rattle.tib_tree.specs.Grows.{Grows};
 ghost use Rattle.tib_transducer_file.specs.Rule.{rule_line, rule_line_of};
 ghost use Rattle.tib_transducer_file.specs.Value.{IsRule};
-ghost use Rattle.tib_transducer_file.specs.Reading.{rules_from};
 ghost use Rattle.tib_transducer_file.specs.Found.{FoundIn};
 ghost use Rattle.tib_transducer_file.specs.Built.{AddsLine, AddsStates, AreFileRules};
 ghost use Rattle.tib_transducer_file.specs.Reader.{FoundRule, GoodRule, IsFound, IsGood, parts_found};
@@ -49,12 +48,15 @@ fn build(
     text: &mut Vec<u8>,
 ) -> Result<TransducerRule<u32>, AllocError>
     requires found { FoundRule line.now left.now right.now found.now }
-    requires good { (scale : Scale) × GoodRule scale (parts_found line.now left.now right.now found.now) (keys variables.now) left.now right.now cost }
+    requires good { (scale : Scale) × GoodRule scale (parts_found line.now left.now right.now
+        found.now) (keys variables.now) left.now right.now cost }
     requires plain { HasNoFeed line.now }
     requires names { length names.old + length line.now < 2 ^ 32 - 1 }
     requires labels { length labels.old + length line.now < 2 ^ 32 - 1 }
-    ensures rule { IfOk result (λ r. IsRule names.new labels.new r (rule_line_of (parts_found line.now left.now right.now found.now) cost)) }
-    ensures adds { IfOk result (λ _. AddsStates names.old (parts_found line.now left.now right.now found.now) names.new) }
+    ensures rule { IfOk result (λ r. IsRule names.new labels.new r
+        (rule_line_of (parts_found line.now left.now right.now found.now) cost)) }
+    ensures adds { IfOk result (λ _. AddsStates names.old
+        (parts_found line.now left.now right.now found.now) names.new) }
     ensures names { Grows names.old names.new }
     ensures labels { Grows labels.old labels.new }
     ensures few_names { length names.new ≤ length names.old + length line.now }
@@ -71,8 +73,8 @@ fn build(
     })
 }
 
-// The cost of a rule whose variables are well used and whose sides are not too large.
-fn check(
+/// The cost of a rule whose variables are well used and whose sides are not too large; else its first fault.
+pub fn check(
     scale: Scale,
     line: &[u8],
     left: &[Place],
@@ -82,7 +84,8 @@ fn check(
     text: &mut Vec<u8>,
 ) -> Result<Cost, LineError>
     requires { FoundIn line.now left.now right.now found.now }
-    ensures { IsGood scale (parts_found line.now left.now right.now found.now) (keys variables.new) left.now right.now result }
+    ensures { IsGood scale (parts_found line.now left.now right.now found.now) (keys variables.new)
+        left.now right.now result }
 {
     match check_variables(line, left, right, found.root, variables) {
         Ok(()) => {}
@@ -150,7 +153,8 @@ impl RuleReader {
         requires plain { HasNoFeed line.now }
         requires names { length names.old + length line.now < 2 ^ 32 - 1 }
         requires labels { length labels.old + length line.now < 2 ^ 32 - 1 }
-        ensures line { AddsLine names.old names.new labels.new rules.old.items rules.new.items result (rule_line scale line.now) }
+        ensures line { AddsLine IsRule names.old names.new labels.new rules.old.items
+            rules.new.items result (rule_line scale line.now) }
         ensures names { Grows names.old names.new }
         ensures labels { Grows labels.old labels.new }
         ensures few_names { length names.new ≤ length names.old + length line.now }
@@ -207,7 +211,8 @@ pub(crate) fn read_rules(
     requires number { first ≤ start + 1 }
     requires names { length names.old + (length bytes.now - start) < 2 ^ 32 - 1 }
     requires labels { length labels.old + (length bytes.now - start) < 2 ^ 32 - 1 }
-    ensures rules { AreFileRules names.old names.new labels.new result (rules_from scale first (lines_of (drop start bytes.now))) }
+    ensures rules { AreFileRules IsRule names.old names.new labels.new result
+        (each_line (rule_line scale) first (lines_of (drop start bytes.now))) }
     ensures labels { Grows labels.old labels.new }
     ensures few_names { length names.new ≤ length names.old + (length bytes.now - start) }
     ensures few_labels { length labels.new ≤ length labels.old + (length bytes.now - start) }

@@ -99,7 +99,8 @@ fn root_item(
     requires lies { Lies (length line.now) root.behind }
     requires plain { HasNoFeed line.now }
     requires room { length labels.old < 2 ^ 32 - 1 }
-    ensures item { IfOk result (λ s. IsRootItem labels.new (pair_of s) (written_label (bytes_at line.now root.behind)) place.kids) }
+    ensures item { IfOk result (λ s. IsRootItem labels.new (pair_of s)
+        (written_label (bytes_at line.now root.behind)) place.kids) }
     ensures numbered { IfOk result (λ s. holes_in (s ∷ []) ≡ []) }
     ensures grows { Grows labels.old labels.new }
     ensures few { length labels.new ≤ length labels.old + 1 }
@@ -122,7 +123,8 @@ fn push_below(
     requires plain { HasNoFeed line.now }
     requires few { length below.now ≤ most_nodes }
     requires room { length labels.old + length below.now < 2 ^ 32 - 1 }
-    ensures items { IfOk result (λ _. PushesLeft labels.new items.old.items items.new.items (items_back line.now below.now)) }
+    ensures items { IfOk result (λ _. PushesLeft labels.new items.old.items items.new.items
+        (items_back line.now below.now)) }
     ensures grows { Grows labels.old labels.new }
     ensures few { length labels.new ≤ length labels.old + length below.now }
 {
@@ -150,7 +152,7 @@ fn left_side(items: Vec<Item<Variable>>) -> Side<Variable>
 }
 
 /// The left side of a rule.
-pub(crate) fn read_left(
+pub fn read_left(
     alloc: Global,
     line: &[u8],
     places: &[Place],
@@ -158,13 +160,16 @@ pub(crate) fn read_left(
     labels: &mut Labels,
     text: &mut Vec<u8>,
 ) -> Result<Side<Variable>, AllocError>
-    requires root { (r : ItemOf) × (below : List ItemOf) × (items_back line.now places.now ≡ r ∷ below) × IsRootAt line.now r.text root }
+    requires root { (r : ItemOf) × (below : List ItemOf)
+        × (items_back line.now places.now ≡ r ∷ below) × IsRootAt line.now r.text root }
     requires tree { AreOneTree (items_back line.now places.now) }
     requires lie { All (PlaceLies (length line.now)) places.now }
     requires plain { HasNoFeed line.now }
     requires few { length places.now ≤ most_nodes }
     requires room { length labels.old + length places.now < 2 ^ 32 - 1 }
-    ensures side { IfOk result (λ s. (right : List ItemOf) (weight : Option (List ℕ)) → IsLeftSide labels.new (preorder_of s) (parts_with (items_back line.now places.now) right weight)) }
+    ensures side { IfOk result (λ s. (right : List ItemOf) (weight : Option (List ℕ)) →
+        IsLeftSide labels.new (preorder_of s) (parts_with (items_back line.now places.now) right
+        weight)) }
     ensures numbered { IfOk result (λ s. AreNumbered 0 (variables_of s)) }
     ensures grows { Grows labels.old labels.new }
     ensures few { length labels.new ≤ length labels.old + length places.now }
@@ -189,8 +194,8 @@ fn place_of(variables: &IndexSet<u32>, number: u32) -> u32
     }
 }
 
-// A node of a right side.
-fn right_item(
+/// A node of a right side: a pair, whose variable goes by its place, or a label. Their texts go into the tables.
+pub fn right_item(
     line: &[u8],
     place: Place,
     variables: &IndexSet<u32>,
@@ -200,12 +205,15 @@ fn right_item(
 ) -> Result<Item<Pair<u32>>, AllocError>
     requires lies { PlaceLies (length line.now) place }
     requires plain { HasNoFeed line.now }
-    requires known { is_unknown (keys variables.now) (spec_pair_in (item_at line.now place)) ≡ false }
+    requires known { is_unknown (keys variables.now) (spec_pair_in (item_at line.now place))
+        ≡ false }
     requires variables { length (keys variables.now) ≤ most_nodes }
     requires names { length names.old < 2 ^ 32 - 1 }
     requires labels { length labels.old < 2 ^ 32 - 1 }
-    ensures item { IfOk result (λ s. IsRightNode names.new labels.new (keys variables.now) (pair_of s) (item_at line.now place)) }
-    ensures states { IfOk result (λ _. AddsAll names.old (state_before (spec_pair_in (item_at line.now place)) []) names.new) }
+    ensures item { IfOk result (λ s. IsRightNode names.new labels.new (keys variables.now)
+        (pair_of s) (item_at line.now place)) }
+    ensures states { IfOk result (λ _. AddsAll names.old
+        (state_before (spec_pair_in (item_at line.now place)) []) names.new) }
     ensures names { Grows names.old names.new }
     ensures labels { Grows labels.old labels.new }
     ensures few_names { length names.new ≤ length names.old + 1 }
@@ -236,8 +244,10 @@ fn right_items(
     requires variables { length (keys variables.now) ≤ most_nodes }
     requires names { length names.old + length places.now < 2 ^ 32 - 1 }
     requires labels { length labels.old + length places.now < 2 ^ 32 - 1 }
-    ensures items { IfOk result (λ s. Along (IsRightNode names.new labels.new (keys variables.now)) (pairs_of s.items) (items_back line.now places.now)) }
-    ensures states { IfOk result (λ _. AddsAll names.old (states_in (items_back line.now places.now)) names.new) }
+    ensures items { IfOk result (λ s. Along (IsRightNode names.new labels.new (keys variables.now))
+        (pairs_of s.items) (items_back line.now places.now)) }
+    ensures states { IfOk result (λ _. AddsAll names.old
+        (states_in (items_back line.now places.now)) names.new) }
     ensures names { Grows names.old names.new }
     ensures labels { Grows labels.old labels.new }
     ensures few_names { length names.new ≤ length names.old + length places.now }
@@ -283,8 +293,10 @@ pub(crate) fn read_right(
     requires few { length places.now ≤ most_nodes }
     requires names { length names.old + length places.now < 2 ^ 32 - 1 }
     requires labels { length labels.old + length places.now < 2 ^ 32 - 1 }
-    ensures side { IfOk result (λ s. Along (IsRightNode names.new labels.new (keys variables.now)) (preorder_of s) (items_back line.now places.now)) }
-    ensures states { IfOk result (λ _. AddsAll names.old (states_in (items_back line.now places.now)) names.new) }
+    ensures side { IfOk result (λ s. Along (IsRightNode names.new labels.new (keys variables.now))
+        (preorder_of s) (items_back line.now places.now)) }
+    ensures states { IfOk result (λ _. AddsAll names.old
+        (states_in (items_back line.now places.now)) names.new) }
     ensures names { Grows names.old names.new }
     ensures labels { Grows labels.old labels.new }
     ensures few_names { length names.new ≤ length names.old + length places.now }

@@ -10,17 +10,13 @@ use tib_tree::Labels;
 
 /// Where the line behind the start line begins, and its number.
 #[derive(Clone, Copy, Debug)]
-pub(crate) struct Begun {
+pub struct Begun {
     pub at: u32,
     pub number: u32,
 }
 
 /// Finds the line of the start, whose name goes into the table.
-pub(crate) fn find_start(
-    alloc: Global,
-    bytes: &[u8],
-    names: &mut Labels,
-) -> Result<Begun, ReadError>
+pub fn find_start(alloc: Global, bytes: &[u8], names: &mut Labels) -> Result<Begun, ReadError>
     requires short { length bytes.now ≤ most_bytes }
     requires room { length names.old < 2 ^ 32 - 1 }
     ensures { IsBegun bytes.now names.old names.new result }

@@ -1,8 +1,7 @@
 // Reads transducer files.
-ghost use Rattle.std.specs.Prelude.{◌≡◌, ◌≤◌, ◌<◌, ◌+◌, ◌-◌, ◌^◌, length, map, IfOk, IfErr};
+ghost use Rattle.std.specs.Prelude.{◌≡◌, ◌≤◌, ◌<◌, ◌+◌, ◌-◌, ◌^◌, length, IfOk, IfErr};
 ghost use Rattle.tib_io.specs.Reads.{most_bytes};
 ghost use Rattle.tib_tree.specs.Grows.{Grows};
-ghost use Rattle.tib_grammar.specs.StateName.{AreStateNames};
 ghost use Rattle.tib_transducer.specs.Range.{AreWithin, AreShaped};
 ghost use Rattle.tib_transducer_file.specs.Labelled.{AreLabelled};
 ghost use Rattle.tib_transducer_file.specs.TransducerText.{ReadsAs};
@@ -13,36 +12,10 @@ use crate::start::find_start;
 use std::alloc::{AllocError, Global};
 use tib_cost::Semiring;
 use tib_grammar::Names;
+use tib_grammar_file::state_names;
 use tib_lex::ReadError;
 use tib_transducer::{Transducer, TransducerRule};
 use tib_tree::Labels;
-
-// The texts of a table, in order.
-fn texts_of(alloc: Global, names: &Labels) -> Result<Vec<Vec<u8>>, AllocError>
-    requires { length names.now ≤ 8388609 }
-    ensures { IfOk result (λ texts. map (λ text. text.items) texts.items ≡ names.now) }
-{
-    let count = names.len();
-    let mut texts = Vec::with_capacity(alloc, count)?;
-    for n in 0..count {
-        let text = names.text(n as u32).to_vec(alloc)?;
-        texts.push(text)?;
-    }
-    Ok(texts)
-}
-
-// The names of a table, each of which is one.
-fn state_names(alloc: Global, names: &Labels) -> Result<Names, AllocError>
-    requires sound { AreStateNames names.now }
-    requires few { length names.now ≤ 8388609 }
-    ensures { IfOk result (λ states. states ≡ names.now) }
-{
-    let texts = texts_of(alloc, names)?;
-    match Names::from_list(alloc, texts)? {
-        Some(states) => Ok(states),
-        None => unreachable!(),
-    }
-}
 
 // The transducer of a start and of rules that are in range and have their shape.
 fn transducer_over<S: Semiring>(names: Names, rules: Vec<TransducerRule<u32>>) -> Transducer<S>

@@ -1,6 +1,7 @@
 use Rattle.indexmap.specs.IndexSet.{keys}
 use Rattle.tib_tree.proofs.Growing.{grows_twice}
-use Rattle.tib_string_file.proofs.LinesRead.{variables_few, rule_made}
+use Rattle.tib_transducer_file.proofs.LinesRead.{variables_few}
+use Rattle.tib_string_file.proofs.LinesRead.{rule_made}
 use Rattle.tib_string_file.proofs.rules.build.Goals as goal
 
 pub read_right-requires-clause-variables : goal.read_right-requires-clause-variables

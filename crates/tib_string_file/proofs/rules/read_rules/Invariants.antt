@@ -1,8 +1,9 @@
 use Rattle.std.proofs.Common.{◌≤◌, ◌+◌, ◌-◌, length, drop}
-use Rattle.tib_lex.specs.Lines.{lines_of}
+use Rattle.tib_lex.specs.Lines.{lines_of, each_line}
 use Rattle.tib_tree.specs.Grows.{Grows}
-use Rattle.tib_string_file.specs.TransducerReading.{rules_from}
-use Rattle.tib_string_file.proofs.FileRead.{SoFar}
+use Rattle.tib_string_file.specs.Rule.{rule_line}
+use Rattle.tib_transducer_file.proofs.RulesSoFar.{SoFar}
+use Rattle.tib_string_file.specs.Value.{IsRule}
 use Rattle.tib_string_file.proofs.rules.read_rules.Given as goal
 
 abbrev pub invariant-loop-line : goal.invariant-loop-line
@@ -14,7 +15,7 @@ invariant-loop-line l = record {
   labels : length l.labels ≤ length l.fn.labels + (l.at - l.start);
   rules_few : length l.rules.items ≤ l.at;
   grows : Grows l.fn.labels l.labels;
-  so_far : SoFar l.fn.names l.names l.labels l.rules.items (rules_from l.scale l.number (lines_of (drop l.at l.bytes))) (rules_from l.scale l.first (lines_of (drop l.start l.bytes)));
+  so_far : SoFar IsRule l.fn.names l.names l.labels l.rules.items (each_line (rule_line l.scale) l.number (lines_of (drop l.at l.bytes))) (each_line (rule_line l.scale) l.first (lines_of (drop l.start l.bytes)));
 }
 
 abbrev pub decreases-loop-line : goal.decreases-loop-line

@@ -4,7 +4,7 @@ use Rattle.tib_string_file.specs.Value.{leaf_of}
 use Rattle.indexmap.specs.IndexSet.{keys}
 use Rattle.tib_tree.proofs.Growing.{grows_twice}
 use Rattle.tib_transducer_file.specs.Forms.{pair_in}
-use Rattle.tib_string_file.specs.Rule.{is_unknown}
+use Rattle.tib_transducer_file.specs.Rule.{is_unknown}
 use Rattle.tib_transducer_file.proofs.Backs.{none_at}
 use Rattle.tib_transducer_file.proofs.SidesRead.{placing_goes}
 use Rattle.tib_string_file.proofs.sides.right_words.Goals as goal

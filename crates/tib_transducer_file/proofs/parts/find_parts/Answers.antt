@@ -6,6 +6,7 @@ use Rattle.std.proofs.lemmas.List.{take_rest}
 use Rattle.std.proofs.lemmas.List.Elements.{All-drop}
 use Rattle.tib_lex.specs.Line.{Lies}
 use Rattle.tib_lex.specs.declared.token.Token.{Token}
+use Rattle.tib_tree.specs.Machine.{nodes_of}
 use Rattle.tib_tree.specs.Shape.{PlaceLies, items_back}
 use Rattle.tib_tree.specs.declared.shape.Place.{Place}
 use Rattle.tib_tree.proofs.Steps.{accepted, refused}
@@ -14,19 +15,19 @@ use Rattle.tib_transducer_file.proofs.PartsFound.{no_arrow_found, split_found, r
 use Rattle.tib_transducer_file.proofs.parts.find_parts.Goals as goal
 
 pub returns-then-arrow-tokens-clause-parts : goal.returns-then-arrow-tokens-clause-parts
-returns-then-arrow-tokens-clause-parts c = no_arrow_found c.args.line.now c.args.tokens.now c.arrow_at-arrow.result c.arrow_at-arrow.ensures.place c.if-arrow-tokens.true
+returns-then-arrow-tokens-clause-parts c = no_arrow_found nodes_of c.args.line.now c.args.tokens.now c.arrow_at-arrow.result c.arrow_at-arrow.ensures.place c.if-arrow-tokens.true
 
 pub returns-in_default-clause-parts : goal.returns-in_default-clause-parts
 returns-in_default-clause-parts c =
     no_left c.args.line.now c.read_left.new.reader.places.items _ c.in_ok-root.field-0 _ _ c.in_ok-root.ensures.left c.in_default.is
-    (split_found c.args.line.now c.args.tokens.now _ _ c.arrow_at-arrow.result c.arrow_at-arrow.ensures.place (omega (arith, c.arrow_at-arrow.ensures.within, c.if-arrow-tokens.false)) refl refl)
+    (split_found nodes_of c.args.line.now c.args.tokens.now _ _ c.arrow_at-arrow.result c.arrow_at-arrow.ensures.place (omega (arith, c.arrow_at-arrow.ensures.within, c.if-arrow-tokens.false)) refl refl)
 
 pub returns-then-not-branch-clause-parts : goal.returns-then-not-branch-clause-parts
 returns-then-not-branch-clause-parts c =
     let l = some_left c.args.line.now c.read_left.new.reader.places.items _ c.in_ok-root.field-0 c.in-Some.root c.in_ok-root.ensures.left c.in-Some.is in
     no_right c.args.line.now c.read_left.new.reader.places.items c.in-Some.root _ _ _ l
-    (split_found c.args.line.now c.args.tokens.now _ _ c.arrow_at-arrow.result c.arrow_at-arrow.ensures.place (omega (arith, c.arrow_at-arrow.ensures.within, c.if-arrow-tokens.false)) refl (take_rest c.args.tokens.now (c.arrow_at-arrow.result + 1)))
-    (right_found c.args.line.now _ c.tree_tokens.result.now c.weight_of-weight.result _ (c.weight_of-weight.ensures.weight c.args.line.now) c.tree_tokens.ensures (refused c.in_ok-read.field-0 _ _ c.if-not-branch.true (c.in_ok-read.ensures.nodes c.args.line.now)))
+    (split_found nodes_of c.args.line.now c.args.tokens.now _ _ c.arrow_at-arrow.result c.arrow_at-arrow.ensures.place (omega (arith, c.arrow_at-arrow.ensures.within, c.if-arrow-tokens.false)) refl (take_rest c.args.tokens.now (c.arrow_at-arrow.result + 1)))
+    (right_found nodes_of c.args.line.now _ c.tree_tokens.result.now c.weight_of-weight.result _ (c.weight_of-weight.ensures.weight c.args.line.now) c.tree_tokens.ensures (refused c.in_ok-read.field-0 _ _ c.if-not-branch.true (c.in_ok-read.ensures.nodes c.args.line.now)))
 
 pub has_stray-requires : goal.has_stray-requires
 has_stray-requires c =
@@ -39,16 +40,16 @@ pub returns-then-has_stray-clause-parts : goal.returns-then-has_stray-clause-par
 returns-then-has_stray-clause-parts c =
     let l = some_left c.args.line.now c.read_left.new.reader.places.items _ c.in_ok-root.field-0 c.in-Some.root c.in_ok-root.ensures.left c.in-Some.is in
     stray_right c.args.line.now c.read_left.new.reader.places.items c.read.new.self.places.items c.in-Some.root _ _ (text_at c.args.line.now c.weight_of-weight.result) _ l
-    (split_found c.args.line.now c.args.tokens.now _ _ c.arrow_at-arrow.result c.arrow_at-arrow.ensures.place (omega (arith, c.arrow_at-arrow.ensures.within, c.if-arrow-tokens.false)) refl (take_rest c.args.tokens.now (c.arrow_at-arrow.result + 1)))
-    (right_found c.args.line.now _ c.tree_tokens.result.now c.weight_of-weight.result _ (c.weight_of-weight.ensures.weight c.args.line.now) c.tree_tokens.ensures (accepted c.in_ok-read.field-0 _ _ c.if-not-branch.false (c.in_ok-read.ensures.nodes c.args.line.now)))
+    (split_found nodes_of c.args.line.now c.args.tokens.now _ _ c.arrow_at-arrow.result c.arrow_at-arrow.ensures.place (omega (arith, c.arrow_at-arrow.ensures.within, c.if-arrow-tokens.false)) refl (take_rest c.args.tokens.now (c.arrow_at-arrow.result + 1)))
+    (right_found nodes_of c.args.line.now _ c.tree_tokens.result.now c.weight_of-weight.result _ (c.weight_of-weight.ensures.weight c.args.line.now) c.tree_tokens.ensures (accepted c.in_ok-read.field-0 _ _ c.if-not-branch.false (c.in_ok-read.ensures.nodes c.args.line.now)))
     (ap (λ (ps : List Place). list_any is_stray (items_back c.args.line.now ps)) (sym c.deref.ensures.value) ∙ sym c.has_stray.ensures ∙ c.if-has_stray.true)
 
 pub returns-clause-parts : goal.returns-clause-parts
 returns-clause-parts c =
     let l = some_left c.args.line.now c.read_left.new.reader.places.items _ c.in_ok-root.field-0 c.in-Some.root c.in_ok-root.ensures.left c.in-Some.is in
     both_found c.args.line.now c.read_left.new.reader.places.items c.read.new.self.places.items c.in-Some.root _ _ c.weight_of-weight.result _ l
-    (split_found c.args.line.now c.args.tokens.now _ _ c.arrow_at-arrow.result c.arrow_at-arrow.ensures.place (omega (arith, c.arrow_at-arrow.ensures.within, c.if-arrow-tokens.false)) refl (take_rest c.args.tokens.now (c.arrow_at-arrow.result + 1)))
-    (right_found c.args.line.now _ c.tree_tokens.result.now c.weight_of-weight.result _ (c.weight_of-weight.ensures.weight c.args.line.now) c.tree_tokens.ensures (accepted c.in_ok-read.field-0 _ _ c.if-not-branch.false (c.in_ok-read.ensures.nodes c.args.line.now)))
+    (split_found nodes_of c.args.line.now c.args.tokens.now _ _ c.arrow_at-arrow.result c.arrow_at-arrow.ensures.place (omega (arith, c.arrow_at-arrow.ensures.within, c.if-arrow-tokens.false)) refl (take_rest c.args.tokens.now (c.arrow_at-arrow.result + 1)))
+    (right_found nodes_of c.args.line.now _ c.tree_tokens.result.now c.weight_of-weight.result _ (c.weight_of-weight.ensures.weight c.args.line.now) c.tree_tokens.ensures (accepted c.in_ok-read.field-0 _ _ c.if-not-branch.false (c.in_ok-read.ensures.nodes c.args.line.now)))
     (ap (λ (ps : List Place). list_any is_stray (items_back c.args.line.now ps)) (sym c.deref.ensures.value) ∙ sym c.has_stray.ensures ∙ c.if-has_stray.false)
 
 pub returns-clause-lies : goal.returns-clause-lies

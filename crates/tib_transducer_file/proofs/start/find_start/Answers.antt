@@ -7,7 +7,7 @@ pub loop-line-init : goal.loop-line-init
 loop-line-init c = record {
   within = omega arith;
   number = omega arith;
-  waits = record { read = λ scale. refl; same = refl };
+  waits = record { read = λ rule. refl; same = refl };
 }
 
 pub returns-in-Err : goal.returns-in-Err
