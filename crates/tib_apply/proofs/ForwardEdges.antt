@@ -1,16 +1,14 @@
 -- The edges of forward application over tables, match by match and rule by rule.
 use Rattle.std.specs.Prelude.{◌≡◌, ℕ, ◌+◌, ◌*◌, ◌/◌, ◌<◌, ◌≤◌, nat_eq, Bool, true, false, List, [], ◌∷◌, ◌++◌, length, map, take, refl, Option, None, Some, if◌then◌else◌}
-use Rattle.std.specs.Prelude.{OnOk}
-use Rattle.std.specs.declared.result.Result.{Result}
 use Rattle.std.specs.List.{list_any}
 use Rattle.std.specs.Ordering.{nat_cmp}
 use Rattle.std.specs.Cmp.Lexicographic.{slice_cmp}
 use Rattle.std.specs.declared.cmp.Ordering.TheVariants.{Less}
-use Rattle.std.proofs.Common.{Ok, Err, zero, suc, arith, ap, sym, ◌∙◌, subst, get_or, inl, inr, append_assoc}
+use Rattle.std.proofs.Common.{zero, suc, arith, ap, sym, ◌∙◌, subst, get_or, inl, inr, append_assoc}
 use Rattle.std.proofs.Math.Nat.{suc-mul, zero-mul}
 use Rattle.std.proofs.lemmas.Cmp.{nat_list_cmp_total}
 use Rattle.tib_lex.specs.Lists.{Has, Each, Distinct, Ascends, Along, total}
-use Rattle.tib_lex.proofs.Lists.{has_mapped, append_nil, each_mapped, length_map, some_is, each_weaker}
+use Rattle.tib_lex.proofs.Lists.{has_mapped, append_nil, each_mapped, length_map, some_is}
 use Rattle.tib_lex.proofs.Members.{each_has, has_at, has_left, has_right, has_either}
 use Rattle.tib_tree.specs.Trees.{only, size}
 use Rattle.tib_grammar.specs.Sides.{label, holes_of, HolesAreLeaves, side_map}
@@ -502,42 +500,3 @@ module _ (product : ℕ → ℕ → ℕ) (grammar : List (Rule ℕ)) (moves : Li
         given = all.given;
         more = omega (arith, all.counted, more_parts budget (1 + size (transducer_rule moves m).right) (length more.matches) (omega arith) more.more);
       }
-
--- where nothing is left out nothing is deleted
-none_deleted : (named : List ℕ) (xs : List Variable) (ss : List ℕ) → left_out named xs ≡ [] → deleted named xs ss ≡ []
-none_deleted named [] ss e = refl
-none_deleted named (x ∷ xs) [] e = refl
-none_deleted named (x ∷ xs) (s ∷ ss) e = by (list_any (nat_eq x.number) named) (none_deleted named xs ss) e
-  where
-    by : (b : Bool) → (left_out named xs ≡ [] → deleted named xs ss ≡ []) → (if b then left_out named xs else x ∷ left_out named xs) ≡ [] →
-        (if b then deleted named xs ss else (x.label, s) ∷ deleted named xs ss) ≡ []
-    by true rest e = rest e
-    by false rest e = absurd (cc)
-
-module _ {levelled weighted : Bool} {product : ℕ → ℕ → ℕ} (laws : ProductLaws levelled weighted product) (grammar : List (Rule ℕ)) (runs : LeastRuns) (rule : TransducerRule ℕ) (q : ℕ) where
-  -- what is affordable is so with the rule alone
-  pub affordable_where : (ms : List (List ℕ × ℕ)) → AreMatchesWhere product grammar rule.left q (λ m. product rule.cost m.1 ≤ most) ms → AreMatchesWhere product grammar rule.left q (IsAffordable product runs rule) ms
-  affordable_where ms are = record {
-    ascend = are.ascend;
-    least = are.least;
-    whole = λ ss c m w. are.whole ss c m (let left : product rule.cost c ≤ product (product rule.cost c) w.deleted_cost = laws.at_least (product rule.cost c) w.deleted_cost in omega (arith, left, w.within));
-  }
-
-  -- and where nothing is left out the other way round
-  pub more_affordable : (plan : Plan) (labels : List ℕ) (number : ℕ) → IsPlan labels rule plan → length plan.left_out.items ≡ 0 → AreMoreWhere product grammar rule.left q (λ m. product rule.cost m.1 ≤ most) number →
-      AreMoreWhere product grammar rule.left q (IsAffordable product runs rule) number
-  more_affordable plan labels number planned none more = record {
-    matches = more.matches;
-    ascend = more.ascend;
-    least = more.least;
-    count = each_weaker (λ m. product rule.cost m.1 ≤ most) (IsAffordable product runs rule) more.matches (λ m b. record {
-      deleted_cost = 0;
-      is_deleted_cost = ap (deleted_in product runs) (none_deleted (variables_in rule.right) (variables_of rule.left) m.0 (sym planned.left_out ∙ empty plan.left_out.items none));
-      within = subst (λ n. n ≤ most) (sym (laws.commutes (product rule.cost m.1) 0 ∙ laws.neutral (product rule.cost m.1))) b;
-    }) more.count;
-    more = more.more;
-  }
-    where
-      empty : {A : Type 0} (xs : List A) → length xs ≡ 0 → xs ≡ []
-      empty [] e = refl
-      empty (x ∷ xs) e = absurd (omega arith)

@@ -115,13 +115,15 @@ module _
   variables_below count at = subst (λ m. Each (λ (x : Variable). x.number < m) (holes_in lefts)) (sym (at ∙ long)) (subst (Each (λ x. x.number < length (variables_of r.left))) variables (numbered_below (variables_of r.left) shaped.numbered))
 
   pub is_plan :
-      (plan : Plan) (marks : List Bool) (count : ℕ) → plan.ends.items ≡ map (end_of numbers) (holes_in rights) → count ≡ length numbers →
+      (plan : Plan) (marks : List Bool) (count : ℕ) → plan.ends.items ≡ map (end_of numbers) (holes_in rights) → count ≡ length numbers → marks ≡ plan.kept.items → length marks ≡ count →
       ((i : ℕ) → i < count → get_or marks i false ≡ list_any (nat_eq i) (map (λ e. e.variable) plan.ends.items)) → plan.left_out.items ≡ unmarked_of marks (holes_in lefts) → IsPlan labels r plan
-  is_plan plan marks count ends at marked out =
+  is_plan plan marks count ends at same total marked out =
       let named : map (λ (e : PlannedEnd). e.variable) plan.ends.items ≡ variables_in r.right = ap (map (λ e. e.variable)) ends ∙ ends_variables numbers (holes_in rights) ∙ ap (map (λ x. x.variable)) (sym pairs) in
       record {
         ends = ends ∙ ap (λ ns. map (end_of ns) (holes_in rights)) are ∙ ap (λ vs. map (end_of (map (λ (x : Variable). restriction labels x.label) vs)) (holes_in rights)) (sym variables)
             ∙ ends_planned labels r.left (holes_in rights) ∙ ap (map (planned_end labels r.left)) (sym pairs);
+        many = ap length (sym same) ∙ total ∙ at ∙ long;
+        kept = λ i h. ap (λ bs. get_or bs i false) (sym same) ∙ marked i (omega (arith, h, at, long)) ∙ ap (list_any (nat_eq i)) named;
         left_out = out
             ∙ unmarked_is marks (variables_in r.right) count (holes_in lefts) (λ i h. marked i h ∙ ap (list_any (nat_eq i)) named) (variables_below count at)
             ∙ ap (left_out (variables_in r.right)) (sym variables);

@@ -99,7 +99,8 @@ map_twice {K} g f s =
     by (label x) = refl
     by (hole x) = refl
 
-states_map : (g : ℕ → ℕ) (ts : Trees (Symbol ℕ ℕ)) → states_in (relabel (symbol_map g) ts) ≡ map g (states_in ts)
+-- the states of a side under other names
+pub states_map : (g : ℕ → ℕ) (ts : Trees (Symbol ℕ ℕ)) → states_in (relabel (symbol_map g) ts) ≡ map g (states_in ts)
 states_map g none = refl
 states_map g (tree (label x) kids rest) =
     ap (λ xs. xs ++ states_in (relabel (symbol_map g) rest)) (states_map g kids) ∙ ap (λ xs. map g (states_in kids) ++ xs) (states_map g rest)

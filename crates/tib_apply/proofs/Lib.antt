@@ -21,4 +21,5 @@ pub mod ForwardListed
 pub mod RunCosts
 pub mod ForwardPlanned
 pub mod ForwardEdges
+pub mod AffordableMatches
 pub mod ForwardTables

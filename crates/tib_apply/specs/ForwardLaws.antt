@@ -49,7 +49,7 @@ has_cut (suc k) (y ∷ xs) x h = elim h [
 ]
 
 -- the states of a match are in range
-states_within :
+pub states_within :
     {P : Type 0} (product : ℕ → ℕ → ℕ) (grammar : List (Rule ℕ)) (n : ℕ) → HoleStatesBelow n grammar → (ts : Trees (Symbol ℕ P)) (qs ss : List ℕ) (c : ℕ) →
     IsMatchCost product grammar ts qs ss c →
     ((q : ℕ) → Has qs q → q < n) → (s : ℕ) → Has ss s → s < n

@@ -55,8 +55,10 @@ impl<'a, S: Semiring> Backward<'a, S> {
     ) -> Result<Backward<'a, S>, ClassError>
         ensures transducer { IfOk result (λ b. b.transducer.now ≡ transducer.now) }
         ensures grammar { IfOk result (λ b. b.grammar.now ≡ grammar.now) }
-        ensures class { IfOk result (λ _. AllMeet (demands true true false false) transducer.now.rules) }
-        ensures fault { IfErr result (IsClassError (demands true true false false) transducer.now.rules) }
+        ensures class { IfOk result (λ _. AllMeet (demands true true false false)
+            transducer.now.rules) }
+        ensures fault { IfErr result (IsClassError (demands true true false false)
+            transducer.now.rules) }
     {
         if let Some((rule, fault)) = first_outside(transducer, true, true, false, false) {
             return Err(ClassError::Class { rule, fault });
@@ -91,7 +93,8 @@ impl<'a, S: Semiring> Backward<'a, S> {
         requires within { IsWithinBudget list.old }
         requires room { list.old.parts + (1 + size rule.now.left) ≤ list.old.budget }
         ensures added { let labels = restricted_labels self.now.transducer.now.rules in
-            OnOk result ((key : ℕ × ℕ × ℕ) → AddsEdge key (edge_to labels key rule.now found.now.0 cost) list.old list.new) }
+            OnOk result ((key : ℕ × ℕ × ℕ) → AddsEdge key
+            (edge_to labels key rule.now found.now.0 cost) list.old list.new) }
         ensures within { OnOk result (IsWithinBudget list.new) }
         ensures alike { IsAlike list.old list.new }
     {
@@ -123,9 +126,11 @@ impl<'a, S: Semiring> Backward<'a, S> {
         requires as_many { length found.now.0 ≡ length (holes_of rule.now.right) }
         requires within { IsWithinBudget list.old }
         ensures next { let labels = restricted_labels self.now.transducer.now.rules in
-            OnOk result ((key : ℕ × ℕ × ℕ) → IsNext key (backward_edge S.product labels key rule.now found.now) list.old list.new) }
+            OnOk result ((key : ℕ × ℕ × ℕ) → IsNext key
+            (backward_edge S.product labels key rule.now found.now) list.old list.new) }
         ensures more { let labels = restricted_labels self.now.transducer.now.rules in
-            result ≡ Err ExpandError.More → (key : ℕ × ℕ × ℕ) → IsTooMuch (backward_edge S.product labels key rule.now found.now) list.old }
+            result ≡ Err ExpandError.More → (key : ℕ × ℕ × ℕ) →
+            IsTooMuch (backward_edge S.product labels key rule.now found.now) list.old }
         ensures within { OnOk result (IsWithinBudget list.new) }
         ensures alike { IsAlike list.old list.new }
     {
@@ -144,8 +149,10 @@ impl<'a, S: Semiring> Backward<'a, S> {
 
     // Whether the restriction of a key admits what a rule reads.
     fn admits(&self, key: Key, rule: &TransducerRule<u32>) -> bool
-        ensures yes { IsTrue result → AdmitsRule (restricted_labels self.now.transducer.now.rules) key rule.now }
-        ensures no { result ≡ false → AdmitsRule (restricted_labels self.now.transducer.now.rules) key rule.now → ⊥ }
+        ensures yes { IsTrue result → AdmitsRule (restricted_labels self.now.transducer.now.rules)
+            key rule.now }
+        ensures no { result ≡ false → AdmitsRule (restricted_labels self.now.transducer.now.rules)
+            key rule.now → ⊥ }
     {
         match rule.left.items().first() {
             Some(item) => match item {
@@ -165,8 +172,10 @@ impl<'a, S: Semiring> Backward<'a, S> {
         most: u64,
     ) -> Result<Vec<Match>, ExpandError>
         requires { key.1 < length self.now.grammar.now.names }
-        ensures found { IfOk result (λ ms. AreMatchesWhere S.product self.now.grammar.now.rules rule.now.right key.1 (IsCheap S.product rule.now) ms.items) }
-        ensures more { result ≡ Err ExpandError.More → AreMoreWhere S.product self.now.grammar.now.rules rule.now.right key.1 (IsCheap S.product rule.now) most }
+        ensures found { IfOk result (λ ms. AreMatchesWhere S.product self.now.grammar.now.rules
+            rule.now.right key.1 (IsCheap S.product rule.now) ms.items) }
+        ensures more { result ≡ Err ExpandError.More → AreMoreWhere S.product
+            self.now.grammar.now.rules rule.now.right key.1 (IsCheap S.product rule.now) most }
     {
         let Ok(answer) = matches_within(
             alloc,
@@ -196,9 +205,11 @@ impl<'a, S: Semiring> Backward<'a, S> {
         requires state { (transducer_rule self.now.transducer.now.rules position).state ≡ key.0 }
         requires second { key.1 < length self.now.grammar.now.names }
         requires within { IsWithinBudget list.old }
-        ensures listed { OnOk result (ListsMove S.product self.now.transducer.now.rules self.now.grammar.now.rules key position list.old list.new) }
+        ensures listed { OnOk result (ListsMove S.product self.now.transducer.now.rules
+            self.now.grammar.now.rules key position list.old list.new) }
         ensures more { result ≡ Err ExpandError.More →
-            MoveOverruns S.product self.now.transducer.now.rules self.now.grammar.now.rules key position list.old }
+            MoveOverruns S.product self.now.transducer.now.rules self.now.grammar.now.rules key
+            position list.old }
         ensures within { OnOk result (IsWithinBudget list.new) }
         ensures alike { IsAlike list.old list.new }
     {
@@ -231,9 +242,11 @@ impl<'a, S: Semiring> Backward<'a, S> {
     ) -> Result<EdgeList, ExpandError>
         requires second { key.1 < length self.now.grammar.now.names }
         requires budget { budget ≤ most_parts }
-        ensures listed { IfOk result (AreListedFrom (IsBackwardEdge S.product self.now.transducer.now.rules self.now.grammar.now.rules key) key) }
+        ensures listed { IfOk result (AreListedFrom (IsBackwardEdge S.product
+            self.now.transducer.now.rules self.now.grammar.now.rules key) key) }
         ensures more { result ≡ Err ExpandError.More →
-            MovesOverrun S.product self.now.transducer.now.rules self.now.grammar.now.rules key budget }
+            MovesOverrun S.product self.now.transducer.now.rules self.now.grammar.now.rules key
+            budget }
         ensures within { IfOk result IsWithinBudget }
         ensures position { IfOk result (λ l. l.position ≡ position) }
         ensures budget { IfOk result (λ l. l.budget ≡ budget) }

@@ -5,15 +5,17 @@ ghost use Rattle.std.proofs.Common.{get_or};
 ghost use Rattle.tib_lex.specs.Lists.{Each};
 ghost use Rattle.tib_cost.specs.Least.{times, lesser};
 ghost use Rattle.tib_grammar.specs.Forms.{AreNormal, IsNormalSide};
-ghost use Rattle.tib_grammar.specs.Items.{state_in};
+ghost use Rattle.tib_grammar.specs.Items.{state_in, holes_in};
 ghost use Rattle.tib_apply.specs.ForwardPlans.{asked_at};
 ghost use Rattle.tib_apply.specs.LeastRuns.{inside_total, AreBegun, Lowers, AreLeastRuns, asked_in, deleted_in};
+ghost use Rattle.tib_apply.specs.BesideMatches.{CostsAsAsked, IsHoleCost, AreHoleCosts};
 
 use std::alloc::{AllocError, Global};
 use std::collections::HashMap;
 use tib_cost::{Cost, Semiring};
 use tib_grammar::{Item, Rule};
 use tib_inside::inside;
+use tib_match::HoleCost;
 use tib_normal::Normal;
 use tib_transducer::Variable;
 use tib_tree::Label;
@@ -147,5 +149,62 @@ impl LeastRuns {
             total = product_of::<S>(own, total);
         }
         total
+    }
+
+    /// What the states below a number cost at a variable that is left out, where a label is asked for or none. Cost: that of
+    /// `asked` for each state.
+    fn asked_costs(
+        &self,
+        alloc: Global,
+        states: u32,
+        label: Option<Label>,
+    ) -> Result<HoleCost, AllocError>
+        ensures { IfOk result (CostsAsAsked self.now states label) }
+    {
+        let mut costs = Vec::with_capacity(alloc, states as usize)?;
+        for state in 0..states {
+            costs.push(self.asked(label, state))?;
+        }
+        Ok(HoleCost::Table(costs))
+    }
+
+    /// What the states below a number cost at a variable beside a match: nothing where the variable is kept.
+    fn hole_cost(
+        &self,
+        alloc: Global,
+        states: u32,
+        kept: &[bool],
+        variable: &Variable,
+    ) -> Result<HoleCost, AllocError>
+        requires { variable.now.number < length kept.now }
+        ensures { IfOk result (IsHoleCost self.now states kept.now variable.now) }
+    {
+        if kept[variable.number as usize] {
+            return Ok(HoleCost::Free);
+        }
+        self.asked_costs(alloc, states, variable.label)
+    }
+
+    /// What the states below a number cost beside a match at the variables among some items, where it is known of each variable
+    /// whether it is kept. Err only if memory is refused. Cost: for each variable that is left out one look-up for each state.
+    pub(crate) fn hole_costs(
+        &self,
+        alloc: Global,
+        states: u32,
+        kept: &[bool],
+        items: &[Item<Variable>],
+    ) -> Result<Vec<HoleCost>, AllocError>
+        requires { Each (λ x. x.number < length kept.now) (holes_in items.now) }
+        ensures { IfOk result (λ v. AreHoleCosts self.now states kept.now (holes_in items.now)
+            v.items) }
+    {
+        let mut costs = Vec::new(alloc);
+        for item in items {
+            if let Item::Hole(variable) = item {
+                let cost = self.hole_cost(alloc, states, kept, variable)?;
+                costs.push(cost)?;
+            }
+        }
+        Ok(costs)
     }
 }

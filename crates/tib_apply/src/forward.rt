@@ -12,7 +12,6 @@ ghost use Rattle.tib_apply.specs.TableEdges.{IsTableEdge};
 ghost use Rattle.tib_apply.specs.ForwardListing.{IsWithinBudget};
 ghost use Rattle.tib_match.specs.Searching.{AreMatchesWhere, AreMoreWhere};
 ghost use Rattle.tib_apply.specs.ForwardLists.{HoleStatesBelow, IsClassErrorOf, IsAtMatch, IsAffordable, ListsOrigin, OriginOverruns, ListsRule, RuleOverruns, ListsKey, KeyOverruns};
-ghost use Rattle.tib_apply.specs.BackwardLists.{IsCheap};
 ghost use Rattle.tib_apply.specs.ForwardPlans.{asked_at, HasPlans};
 ghost use Rattle.tib_apply.specs.LeastRuns.{AreLeastRuns, deleted_in};
 ghost use Rattle.tib_apply.specs.Moves.{IsMoves};
@@ -28,7 +27,7 @@ use tib_classes::{ClassError, first_outside};
 use tib_cost::{Cost, Semiring};
 use tib_grammar::Item;
 use tib_hunt::ExpandError;
-use tib_match::{Match, Within, matches_within};
+use tib_match::{Match, Within, few_matches, partial_matches, search_matches};
 use tib_normal::Normal;
 use tib_transducer::{Transducer, TransducerRule};
 
@@ -62,8 +61,10 @@ impl<'a, S: Semiring> Forward<'a, S> {
         ensures grammar { IfOk result (λ f. f.grammar.now ≡ grammar.now) }
         ensures transducer { IfOk result (λ f. f.transducer.now ≡ transducer.now) }
         ensures least { IfOk result (λ f. AreLeastRuns S.product grammar.now.rules f.runs) }
-        ensures class { IfOk result (λ _. AllMeet (demands true false false false) transducer.now.rules) }
-        ensures fault { IfErr result (IsClassErrorOf (demands true false false false) transducer.now.rules) }
+        ensures class { IfOk result (λ _. AllMeet (demands true false false false)
+            transducer.now.rules) }
+        ensures fault { IfErr result (IsClassErrorOf (demands true false false false)
+            transducer.now.rules) }
     {
         if let Some((rule, fault)) = first_outside(transducer, true, false, false, false) {
             return Err(ClassError::Class { rule, fault });
@@ -102,8 +103,10 @@ impl<'a, S: Semiring> Forward<'a, S> {
 
     /// Whether the restriction of a key admits the label with which a left side begins.
     fn admits(&self, key: Key, rule: &TransducerRule<u32>) -> bool
-        ensures yes { IsTrue result → (root : ℕ) × (rule.now.left.label ≡ label_symbol root) × Admits self.now.restrictions key.2 root }
-        ensures no { result ≡ false → (root : ℕ) → rule.now.left.label ≡ label_symbol root → Admits self.now.restrictions key.2 root → ⊥ }
+        ensures yes { IsTrue result → (root : ℕ) × (rule.now.left.label ≡ label_symbol root)
+            × Admits self.now.restrictions key.2 root }
+        ensures no { result ≡ false → (root : ℕ) → rule.now.left.label ≡ label_symbol root →
+            Admits self.now.restrictions key.2 root → ⊥ }
     {
         match &rule.left.items()[0] {
             Item::Label { label, .. } => self.restrictions.admits(key.restriction(), *label),
@@ -114,7 +117,9 @@ impl<'a, S: Semiring> Forward<'a, S> {
     /// The cost of the edge of a rule and a match, none where it has none or it is above the greatest cost.
     fn edge_cost(&self, rule: &TransducerRule<u32>, plan: &Plan, found: &Match) -> Option<Cost>
         requires { Each (λ x. x.number < length found.now.0) plan.now.left_out.items }
-        ensures { result ≡ times S.product (times S.product (Some rule.now.cost) (Some found.now.1)) (deleted_in S.product self.now.runs (map (asked_at found.now.0) plan.now.left_out.items)) }
+        ensures { result ≡ times S.product (times S.product (Some rule.now.cost) (Some found.now.1))
+            (deleted_in S.product self.now.runs (map (asked_at found.now.0)
+            plan.now.left_out.items)) }
     {
         let below = self
             .runs
@@ -130,12 +135,16 @@ impl<'a, S: Semiring> Forward<'a, S> {
         found: &Match,
         listing: &mut ForwardListing<'a>,
     ) -> Result<(), ExpandError>
-        requires at { IsAtMatch S.product self.now.grammar.now.rules self.now.transducer.now.rules key position found.now }
+        requires at { IsAtMatch S.product self.now.grammar.now.rules self.now.transducer.now.rules
+            key position found.now }
         requires within { IsWithinBudget listing.old }
-        ensures listed { let gives = IsTableEdge S.product self.now.grammar.now.rules self.now.transducer.now.rules self.now.runs key in
+        ensures listed { let gives = IsTableEdge S.product self.now.grammar.now.rules
+            self.now.transducer.now.rules self.now.runs key in
             OnOk result (ListsOrigin gives key (position, found.now.0) listing.old listing.new) }
-        ensures more { let gives = IsTableEdge S.product self.now.grammar.now.rules self.now.transducer.now.rules self.now.runs key in
-            result ≡ Err ExpandError.More → OriginOverruns gives key (position, found.now.0) listing.old }
+        ensures more { let gives = IsTableEdge S.product self.now.grammar.now.rules
+            self.now.transducer.now.rules self.now.runs key in
+            result ≡ Err ExpandError.More → OriginOverruns gives key (position, found.now.0)
+            listing.old }
         ensures within { OnOk result (IsWithinBudget listing.new) }
         ensures position { listing.new.position ≡ listing.old.position }
         ensures budget { listing.new.budget ≡ listing.old.budget }
@@ -151,35 +160,54 @@ impl<'a, S: Semiring> Forward<'a, S> {
         listing.add(&rule.right, &plan.ends, found.states.as_slice(), cost)
     }
 
-    /// The matches of a left side, however many they are.
-    fn all_matches(
+    /// The matches of the left side of the rule at a position that give an edge, among others; `More` where these are more than so
+    /// many. They are searched for.
+    fn search(
         &self,
         alloc: Global,
         key: Key,
-        rule: &TransducerRule<u32>,
+        position: u32,
+        most: u64,
     ) -> Result<Vec<Match>, ExpandError>
-        requires { key.0 < length self.now.grammar.now.names }
-        ensures found { IfOk result (λ ms. AreMatchesWhere S.product self.now.grammar.now.rules rule.now.left key.0 (IsCheap S.product rule.now) ms.items) }
-        ensures memory { result ≡ Err ExpandError.More → ⊥ }
+        requires below { position < length self.now.transducer.now.rules }
+        requires first { key.0 < length self.now.grammar.now.names }
+        ensures found { let rule = transducer_rule self.now.transducer.now.rules position in
+            IfOk result (λ ms. AreMatchesWhere S.product self.now.grammar.now.rules rule.left key.0
+            (IsAffordable S.product self.now.runs rule) ms.items) }
+        ensures more { let rule = transducer_rule self.now.transducer.now.rules position in
+            result ≡ Err ExpandError.More → AreMoreWhere S.product self.now.grammar.now.rules
+            rule.left key.0 (IsAffordable S.product self.now.runs rule) most }
     {
-        let Ok(answer) = matches_within(
+        self.transducer.is_sound();
+        let grammar = self.grammar.grammar();
+        let rule = &self.transducer.rule_list()[position as usize];
+        let plan = &self.plans[position as usize];
+        let left = rule.left.items();
+        let Ok(costs) = self
+            .runs
+            .hole_costs(alloc, grammar.states(), &plan.kept, left)
+        else {
+            return Err(ExpandError::OutOfMemory);
+        };
+        let Ok(answer) = search_matches(
             alloc,
             self.grammar,
             key.first(),
             &rule.left,
             rule.cost,
-            u64::MAX,
+            &costs,
+            most,
         ) else {
             return Err(ExpandError::OutOfMemory);
         };
         match answer {
             Within::All(all) => Ok(all),
-            Within::More => Err(ExpandError::OutOfMemory),
+            Within::More => Err(ExpandError::More),
         }
     }
 
-    /// The matches of the left side of the rule at a position, unless more than so many give an edge. Where the rule leaves
-    /// variables out they are listed however many they are.
+    /// The matches of the left side of the rule at a position that give an edge, among others; `More` where these are more than so
+    /// many. Cost: that of `few_matches` with 2 x `most` + 1000 partial matches, and where it gives up that of `search_matches`.
     fn matches_of(
         &self,
         alloc: Global,
@@ -190,28 +218,20 @@ impl<'a, S: Semiring> Forward<'a, S> {
         requires below { position < length self.now.transducer.now.rules }
         requires first { key.0 < length self.now.grammar.now.names }
         ensures found { let rule = transducer_rule self.now.transducer.now.rules position in
-            IfOk result (λ ms. AreMatchesWhere S.product self.now.grammar.now.rules rule.left key.0 (IsAffordable S.product self.now.runs rule) ms.items) }
+            IfOk result (λ ms. AreMatchesWhere S.product self.now.grammar.now.rules rule.left key.0
+            (IsAffordable S.product self.now.runs rule) ms.items) }
         ensures more { let rule = transducer_rule self.now.transducer.now.rules position in
-            result ≡ Err ExpandError.More → AreMoreWhere S.product self.now.grammar.now.rules rule.left key.0 (IsAffordable S.product self.now.runs rule) most }
+            result ≡ Err ExpandError.More → AreMoreWhere S.product self.now.grammar.now.rules
+            rule.left key.0 (IsAffordable S.product self.now.runs rule) most }
     {
         let rule = &self.transducer.rule_list()[position as usize];
-        let plan = &self.plans[position as usize];
-        if plan.left_out.len() > 0 {
-            return self.all_matches(alloc, key, rule);
-        }
-        let Ok(answer) = matches_within(
-            alloc,
-            self.grammar,
-            key.first(),
-            &rule.left,
-            rule.cost,
-            most,
-        ) else {
+        let partial = partial_matches(most);
+        let Ok(answer) = few_matches(alloc, self.grammar, key.first(), &rule.left, partial) else {
             return Err(ExpandError::OutOfMemory);
         };
         match answer {
-            Within::All(all) => Ok(all),
-            Within::More => Err(ExpandError::More),
+            Some(few) => Ok(few),
+            None => self.search(alloc, key, position, most),
         }
     }
 
@@ -227,9 +247,11 @@ impl<'a, S: Semiring> Forward<'a, S> {
         requires state { (transducer_rule self.now.transducer.now.rules position).state ≡ key.1 }
         requires first { key.0 < length self.now.grammar.now.names }
         requires within { IsWithinBudget listing.old }
-        ensures listed { let gives = IsTableEdge S.product self.now.grammar.now.rules self.now.transducer.now.rules self.now.runs key in
+        ensures listed { let gives = IsTableEdge S.product self.now.grammar.now.rules
+            self.now.transducer.now.rules self.now.runs key in
             OnOk result (ListsRule gives key position listing.old listing.new) }
-        ensures more { let gives = IsTableEdge S.product self.now.grammar.now.rules self.now.transducer.now.rules self.now.runs key in
+        ensures more { let gives = IsTableEdge S.product self.now.grammar.now.rules
+            self.now.transducer.now.rules self.now.runs key in
             result ≡ Err ExpandError.More → RuleOverruns gives key position listing.old }
         ensures within { OnOk result (IsWithinBudget listing.new) }
         ensures position { listing.new.position ≡ listing.old.position }
@@ -263,9 +285,11 @@ impl<'a, S: Semiring> Forward<'a, S> {
     ) -> Result<ForwardListing<'a>, ExpandError>
         requires first { key.0 < length self.now.grammar.now.names }
         requires budget { budget ≤ most_parts }
-        ensures listed { let gives = IsTableEdge S.product self.now.grammar.now.rules self.now.transducer.now.rules self.now.runs key in
+        ensures listed { let gives = IsTableEdge S.product self.now.grammar.now.rules
+            self.now.transducer.now.rules self.now.runs key in
             IfOk result (ListsKey gives key position) }
-        ensures more { let gives = IsTableEdge S.product self.now.grammar.now.rules self.now.transducer.now.rules self.now.runs key in
+        ensures more { let gives = IsTableEdge S.product self.now.grammar.now.rules
+            self.now.transducer.now.rules self.now.runs key in
             result ≡ Err ExpandError.More → KeyOverruns gives key position budget }
         ensures within { IfOk result IsWithinBudget }
         ensures budget { IfOk result (λ l. l.budget ≡ budget) }

@@ -69,8 +69,10 @@ impl<'a> ForwardListing<'a> {
         requires below { Each (λ e. e.variable < length states.now) planned.now }
         requires planned { length planned.now ≡ length (holes_of right.now) }
         requires within { IsWithinBudget self.old }
-        ensures added { OnOk result (IsAdded right.now (map (end_at states.now) planned.now) cost self.old self.new) }
-        ensures more { result ≡ Err ExpandError.More → self.old.budget < self.old.parts + (1 + size right.now) }
+        ensures added { OnOk result (IsAdded right.now (map (end_at states.now) planned.now) cost
+            self.old self.new) }
+        ensures more { result ≡ Err ExpandError.More → self.old.budget < self.old.parts
+            + (1 + size right.now) }
         ensures within { OnOk result (IsWithinBudget self.new) }
         ensures position { self.new.position ≡ self.old.position }
         ensures budget { self.new.budget ≡ self.old.budget }

@@ -30,6 +30,8 @@ pub(crate) struct PlannedEnd {
 pub(crate) struct Plan {
     /// Where the pairs lead.
     pub ends: Vec<PlannedEnd>,
+    /// For each variable, by its number, whether the right side has it.
+    pub kept: Vec<bool>,
     /// The variables that the right side leaves out.
     pub left_out: Vec<Variable>,
 }
@@ -40,7 +42,8 @@ fn restrictions_among(
     restrictions: &Restrictions,
     items: &[Item<Variable>],
 ) -> Result<Vec<u32>, AllocError>
-    ensures { IfOk result (λ v. v.items ≡ map (λ x. restriction restrictions.now x.label) (holes_in items.now)) }
+    ensures { IfOk result (λ v. v.items ≡ map (λ x. restriction restrictions.now x.label)
+        (holes_in items.now)) }
 {
     let mut numbers = Vec::new(alloc);
     for item in items {
@@ -77,7 +80,8 @@ fn ends_among(
 fn marks_of(alloc: Global, ends: &[PlannedEnd], count: usize) -> Result<Vec<bool>, AllocError>
     requires { Each (λ e. e.variable < count) ends.now }
     ensures long { IfOk result (λ v. length v.items ≡ count) }
-    ensures marked { IfOk result (λ v. (i : ℕ) → i < count → get_or v.items i false ≡ list_any (nat_eq i) (map (λ e. e.variable) ends.now)) }
+    ensures marked { IfOk result (λ v. (i : ℕ) → i < count → get_or v.items i false
+        ≡ list_any (nat_eq i) (map (λ e. e.variable) ends.now)) }
 {
     let mut marks = vec![in alloc; false; count]?;
     for end in ends {
@@ -122,9 +126,13 @@ impl Plan {
         let left = rule.left.items();
         let numbers = restrictions_among(alloc, restrictions, left)?;
         let ends = ends_among(alloc, &numbers, rule.right.items())?;
-        let marks = marks_of(alloc, &ends, numbers.len())?;
-        let left_out = unmarked(alloc, &marks, left)?;
-        Ok(Plan { ends, left_out })
+        let kept = marks_of(alloc, &ends, numbers.len())?;
+        let left_out = unmarked(alloc, &kept, left)?;
+        Ok(Plan {
+            ends,
+            kept,
+            left_out,
+        })
     }
 }
 

@@ -19,8 +19,10 @@ fn settled_items(
     ends: &[u32],
     first: u32,
 ) -> Result<Vec<Item<u32>>, AllocError>
-    requires room { 0 < length (holes_in items.now) → first + length (holes_in items.now) ≤ length ends.now }
-    ensures settled { IfOk result (λ s. pairs_of s.items ≡ settled_pairs ends.now first (pairs_of items.now)) }
+    requires room { 0 < length (holes_in items.now) → first + length (holes_in items.now)
+        ≤ length ends.now }
+    ensures settled { IfOk result (λ s. pairs_of s.items ≡ settled_pairs ends.now first
+        (pairs_of items.now)) }
 {
     let mut settled = Vec::with_capacity(alloc, items.len())?;
     let mut next = first as usize;

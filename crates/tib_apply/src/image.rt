@@ -33,15 +33,19 @@ pub fn apply_forward<S: Semiring, G: Gate>(
 ) -> Result<Found<Key, Rule<u32>>, ApplyError>
     requires some { 1 ≤ limit }
     requires limit { limit ≤ most_parts }
-    ensures class { IfOk result (λ _. AllMeet (demands true false false false) transducer.now.rules) }
-    ensures reached { IfOk result (IsReachedBy (forward_image S.product grammar.now.rules transducer.now.rules)) }
+    ensures class { IfOk result (λ _. AllMeet (demands true false false false)
+        transducer.now.rules) }
+    ensures reached { IfOk result (IsReachedBy (forward_image S.product grammar.now.rules
+        transducer.now.rules)) }
     ensures range { IfOk result AreOverOrder }
-    ensures parts { IfOk result (HasPartsOf (forward_image S.product grammar.now.rules transducer.now.rules)) }
+    ensures parts { IfOk result (HasPartsOf (forward_image S.product grammar.now.rules
+        transducer.now.rules)) }
     ensures within { IfOk result (λ f. f.parts ≤ limit) }
     ensures few { IfOk result (λ f. length f.order.items ≤ limit) }
     ensures few_rules { IfOk result (λ f. length f.rules.items ≤ limit) }
     ensures fault { let hunted = forward_image S.product grammar.now.rules transducer.now.rules in
-        IfErr result (IsApplyFault (demands true false false false) transducer.now.rules limit (IsBeyond hunted limit)) }
+        IfErr result (IsApplyFault (demands true false false false) transducer.now.rules limit
+        (IsBeyond hunted limit)) }
 {
     let forward = match Forward::new(alloc, grammar, transducer) {
         Ok(forward) => forward,
@@ -70,15 +74,19 @@ pub fn apply_forward_together<S: Semiring + Sync, R: Threads + Wait + Sync, G: G
     requires workers { (1 ≤ workers) × (workers ≤ 16) }
     requires some { 1 ≤ limit }
     requires limit { limit ≤ most_parts }
-    ensures class { IfOk result (λ _. AllMeet (demands true false false false) transducer.now.rules) }
-    ensures reached { IfOk result (IsReachedBy (forward_image S.product grammar.now.rules transducer.now.rules)) }
+    ensures class { IfOk result (λ _. AllMeet (demands true false false false)
+        transducer.now.rules) }
+    ensures reached { IfOk result (IsReachedBy (forward_image S.product grammar.now.rules
+        transducer.now.rules)) }
     ensures range { IfOk result AreOverOrder }
-    ensures parts { IfOk result (HasPartsOf (forward_image S.product grammar.now.rules transducer.now.rules)) }
+    ensures parts { IfOk result (HasPartsOf (forward_image S.product grammar.now.rules
+        transducer.now.rules)) }
     ensures within { IfOk result (λ f. f.parts ≤ limit) }
     ensures few { IfOk result (λ f. length f.order.items ≤ limit) }
     ensures few_rules { IfOk result (λ f. length f.rules.items ≤ limit) }
     ensures fault { let hunted = forward_image S.product grammar.now.rules transducer.now.rules in
-        IfErr result (IsApplyFault (demands true false false false) transducer.now.rules limit (IsBeyond hunted limit)) }
+        IfErr result (IsApplyFault (demands true false false false) transducer.now.rules limit
+        (IsBeyond hunted limit)) }
 {
     let forward = match Forward::new(alloc, grammar, transducer) {
         Ok(forward) => forward,

@@ -25,7 +25,8 @@ pub(crate) fn states_by_variable(
     requires as_many { length states.now ≡ length (holes_in items.now) }
     requires known { Each (λ x. x.variable < count) (holes_in items.now) }
     ensures long { IfOk result (λ v. length v.items ≡ count) }
-    ensures at { IfOk result (λ v. (i : ℕ) → i < count → get_or v.items i (0, 0) ≡ states_at i (holes_in items.now) states.now) }
+    ensures at { IfOk result (λ v. (i : ℕ) → i < count → get_or v.items i (0, 0)
+        ≡ states_at i (holes_in items.now) states.now) }
 {
     let mut by_variable = vec![in alloc; (0, 0); count]?;
     let mut place = states.len();
@@ -48,7 +49,8 @@ fn push_key(
     ends: &mut Vec<Key>,
 ) -> Result<(), AllocError>
     requires { Each (λ x. x.number < length states.now) (holes_in (item.now ∷ [])) }
-    ensures { OnOk result (ends.new.items ≡ ends.old.items ++ map (variable_key restrictions.now states.now) (holes_in (item.now ∷ []))) }
+    ensures { OnOk result (ends.new.items ≡ ends.old.items
+        ++ map (variable_key restrictions.now states.now) (holes_in (item.now ∷ []))) }
 {
     if let Item::Hole(variable) = item {
         let (first, second) = states[variable.number as usize];
@@ -66,7 +68,8 @@ pub(crate) fn push_keys(
     ends: &mut Vec<Key>,
 ) -> Result<(), AllocError>
     requires { Each (λ x. x.number < length states.now) (holes_in items.now) }
-    ensures { OnOk result (ends.new.items ≡ ends.old.items ++ map (variable_key restrictions.now states.now) (holes_in items.now)) }
+    ensures { OnOk result (ends.new.items ≡ ends.old.items
+        ++ map (variable_key restrictions.now states.now) (holes_in items.now)) }
 {
     for item in items {
         push_key(restrictions, item, states, ends)?;
@@ -76,7 +79,8 @@ pub(crate) fn push_keys(
 
 // The side whose preorder the items are. Err only if they are more than memory holds.
 fn side_of(items: Vec<Item<u32>>) -> Result<Side<u32>, AllocError>
-    ensures { IfOk result (λ side. (s : SideFor ℕ ℕ) → preorder_of s ≡ pairs_of items.items → side ≡ s) }
+    ensures { IfOk result (λ side. (s : SideFor ℕ ℕ) → preorder_of s ≡ pairs_of items.items → side
+        ≡ s) }
 {
     if items.len() > 4_000_000_000 {
         return Err(AllocError);

@@ -28,15 +28,19 @@ pub fn apply_backward<S: Semiring, G: Gate>(
 ) -> Result<Found<Key, Rule<u32>>, ApplyError>
     requires some { 1 ≤ limit }
     requires limit { limit ≤ most_parts }
-    ensures class { IfOk result (λ _. AllMeet (demands true true false false) transducer.now.rules) }
-    ensures reached { IfOk result (IsReachedBy (inverse_image S.product transducer.now.rules grammar.now.rules)) }
+    ensures class { IfOk result (λ _. AllMeet (demands true true false false)
+        transducer.now.rules) }
+    ensures reached { IfOk result (IsReachedBy (inverse_image S.product transducer.now.rules
+        grammar.now.rules)) }
     ensures range { IfOk result AreOverOrder }
-    ensures parts { IfOk result (HasPartsOf (inverse_image S.product transducer.now.rules grammar.now.rules)) }
+    ensures parts { IfOk result (HasPartsOf (inverse_image S.product transducer.now.rules
+        grammar.now.rules)) }
     ensures within { IfOk result (λ f. f.parts ≤ limit) }
     ensures few { IfOk result (λ f. length f.order.items ≤ limit) }
     ensures few_rules { IfOk result (λ f. length f.rules.items ≤ limit) }
     ensures fault { let hunted = inverse_image S.product transducer.now.rules grammar.now.rules in
-        IfErr result (IsApplyFault (demands true true false false) transducer.now.rules limit (IsBeyond hunted limit)) }
+        IfErr result (IsApplyFault (demands true true false false) transducer.now.rules limit
+        (IsBeyond hunted limit)) }
 {
     let backward = match Backward::new(alloc, transducer, grammar) {
         Ok(backward) => backward,
@@ -65,15 +69,19 @@ pub fn apply_backward_together<S: Semiring + Sync, R: Threads + Wait + Sync, G: 
     requires workers { (1 ≤ workers) × (workers ≤ 16) }
     requires some { 1 ≤ limit }
     requires limit { limit ≤ most_parts }
-    ensures class { IfOk result (λ _. AllMeet (demands true true false false) transducer.now.rules) }
-    ensures reached { IfOk result (IsReachedBy (inverse_image S.product transducer.now.rules grammar.now.rules)) }
+    ensures class { IfOk result (λ _. AllMeet (demands true true false false)
+        transducer.now.rules) }
+    ensures reached { IfOk result (IsReachedBy (inverse_image S.product transducer.now.rules
+        grammar.now.rules)) }
     ensures range { IfOk result AreOverOrder }
-    ensures parts { IfOk result (HasPartsOf (inverse_image S.product transducer.now.rules grammar.now.rules)) }
+    ensures parts { IfOk result (HasPartsOf (inverse_image S.product transducer.now.rules
+        grammar.now.rules)) }
     ensures within { IfOk result (λ f. f.parts ≤ limit) }
     ensures few { IfOk result (λ f. length f.order.items ≤ limit) }
     ensures few_rules { IfOk result (λ f. length f.rules.items ≤ limit) }
     ensures fault { let hunted = inverse_image S.product transducer.now.rules grammar.now.rules in
-        IfErr result (IsApplyFault (demands true true false false) transducer.now.rules limit (IsBeyond hunted limit)) }
+        IfErr result (IsApplyFault (demands true true false false) transducer.now.rules limit
+        (IsBeyond hunted limit)) }
 {
     let backward = match Backward::new(alloc, transducer, grammar) {
         Ok(backward) => backward,

@@ -31,7 +31,8 @@ impl Model for Restrictions {
 
 // Adds the labels of the labelled variables among some items.
 fn add_labels(labels: &mut IndexSet<Label>, items: &[Item<Variable>]) -> Result<(), AllocError>
-    ensures { OnOk result (labels.new.keys ≡ gathered labels.old.keys (labels_of (holes_in items.now))) }
+    ensures { OnOk result (labels.new.keys ≡ gathered labels.old.keys
+        (labels_of (holes_in items.now))) }
 {
     for item in items {
         if let Item::Hole(variable) = item {

@@ -40,16 +40,13 @@ both_equal Less b e = absurd (cc)
 both_equal Equal b e = (refl, e)
 both_equal Greater b e = absurd (cc)
 
-number_same : (a b : ℕ) → nat_cmp a b ≡ Equal → a ≡ b
-number_same a b e = ranked a b Equal (sym e)
-
 list_same : (xs ys : List ℕ) → slice_cmp nat_cmp xs ys ≡ Equal → xs ≡ ys
 list_same [] [] e = refl
 list_same [] (y ∷ ys) e = absurd (cc)
 list_same (x ∷ xs) [] e = absurd (cc)
 list_same (x ∷ xs) (y ∷ ys) e =
     let t = both_equal (nat_cmp x y) (slice_cmp nat_cmp xs ys) e in
-    ap (λ (z : ℕ). z ∷ xs) (number_same x y t.0) ∙ ap (λ (zs : List ℕ). y ∷ zs) (list_same xs ys t.1)
+    ap (λ (z : ℕ). z ∷ xs) (ranked x y Equal (sym t.0)) ∙ ap (λ (zs : List ℕ). y ∷ zs) (list_same xs ys t.1)
 
 less_goes_on : (a b c : Ordering) → ordering_then a b ≡ Less → is_lt (ordering_then a (ordering_then b c)) ≡ true
 less_goes_on Less b c e = refl

@@ -1,5 +1,5 @@
 -- The positions of the rules of a label and a rank.
-use Rattle.std.specs.Prelude.{◌≡◌, ℕ, ◌+◌, ◌<◌, ◌≤◌, ◌&&◌, nat_eq, Bool, true, false, List, [], ◌∷◌, length, if◌then◌else◌, refl}
+use Rattle.std.specs.Prelude.{◌≡◌, ℕ, ◌+◌, ◌<◌, ◌≤◌, nat_eq, Bool, true, false, List, [], ◌∷◌, length, if◌then◌else◌, refl}
 use Rattle.std.proofs.Common.{zero, suc, ap, arith, get_or, inl, inr, subst}
 use Rattle.std.proofs.lemmas.Bool.Decides.{nat_tests}
 use Rattle.tib_lex.proofs.Booleans.{and-true}
@@ -12,6 +12,7 @@ use Rattle.tib_grammar.specs.Sides.{Symbol, label, hole, holes, AreHoles}
 use Rattle.tib_grammar.specs.Forms.{AreNormal}
 use Rattle.tib_grammar.proofs.Members.{each_of, has_at}
 use Rattle.tib_normal.proofs.Pairwise.{Ascends-at}
+use Rattle.tib_normal.proofs.RulePlaces.{places_ascend}
 use Rattle.tib_match.specs.Narrowing.{LeftsAscend}
 use Rattle.tib_normal.specs.Rules.{is_label, is_over, positions_from, positions_with}
 
@@ -73,20 +74,6 @@ pub record IsListed (rules : List (Rule ℕ)) (f rank n : ℕ) : Type 0 where
   pub below : n < length rules
   pub root : (rule_at rules n).right.label ≡ label f
   pub ranked : length (holes (rule_at rules n).right.kids) ≡ rank
-
-ascend_step :
-    (k : ℕ) (ps : List ℕ) → ((i j : ℕ) → i < j → j < length ps → get_or ps i 0 < get_or ps j 0) → ((j : ℕ) → j < length ps → k < get_or ps j 0) →
-    (b : Bool) → (i j : ℕ) → i < j → j < length (if b then k ∷ ps else ps) → get_or (if b then k ∷ ps else ps) i 0 < get_or (if b then k ∷ ps else ps) j 0
-ascend_step k ps ih above true i zero h l = absurd (omega arith)
-ascend_step k ps ih above true zero (suc j) h l = above j (omega arith)
-ascend_step k ps ih above true (suc i) (suc j) h l = ih i j (omega arith) (omega arith)
-ascend_step k ps ih above false i j h l = ih i j h l
-
-places_ascend : (rules : List (Rule ℕ)) (k f n i j : ℕ) → i < j → j < length (positions_from k f n rules) → get_or (positions_from k f n rules) i 0 < get_or (positions_from k f n rules) j 0
-places_ascend [] k f n i j h l = absurd (omega arith)
-places_ascend (r ∷ rules) k f n i j h l =
-    ascend_step k (positions_from (suc k) f n rules) (places_ascend rules (suc k) f n)
-    (λ m b. let a = place_of rules (suc k) f n (get_or (positions_from (suc k) f n rules) m 0) (has_at (positions_from (suc k) f n rules) m 0 b) in omega (arith, a.counted)) (is_over f n r) i j h l
 
 module _ (rules : List (Rule ℕ)) (f rank : ℕ) where
   pub lefts_ascend : Ascends (λ r s. r.left ≤ s.left) rules → LeftsAscend rules (positions_with f rank rules)

@@ -24,7 +24,8 @@ fn stack_label<S: Semiring>(
     rank: u32,
     columns: &mut Vec<Column>,
 ) -> Result<(), AllocError>
-    ensures { OnOk result (StacksLabel S.product normal.now.rules label rank columns.old.items columns.new.items) }
+    ensures { OnOk result (StacksLabel S.product normal.now.rules label rank columns.old.items
+        columns.new.items) }
 {
     if columns.len() < rank as usize {
         return Err(AllocError);
@@ -44,7 +45,8 @@ fn stack_hole<S: Semiring>(
     holes: usize,
     columns: &mut Vec<Column>,
 ) -> Result<usize, AllocError>
-    ensures { IfOk result (λ left. StacksHole costs.now spans.now holes left columns.old.items columns.new.items) }
+    ensures { IfOk result (λ left. StacksHole costs.now spans.now holes left columns.old.items
+        columns.new.items) }
 {
     if holes == 0 || holes > costs.len() || holes > spans.len() {
         return Err(AllocError);
@@ -66,8 +68,10 @@ fn stack_item<S: Semiring, P>(
     columns: &mut Vec<Column>,
 ) -> Result<usize, AllocError>
     ensures { IfOk result (λ left. (xs : List (Symbol ℕ P × ℕ)) →
-        AreColumns S.product normal.now.rules xs (all_spanned (drop holes spans.now) (drop holes costs.now)) columns.old.items →
-        AreColumns S.product normal.now.rules (pair_of item.now ∷ xs) (all_spanned (drop left spans.now) (drop left costs.now)) columns.new.items) }
+        AreColumns S.product normal.now.rules xs (all_spanned (drop holes spans.now)
+        (drop holes costs.now)) columns.old.items →
+        AreColumns S.product normal.now.rules (pair_of item.now ∷ xs)
+        (all_spanned (drop left spans.now) (drop left costs.now)) columns.new.items) }
 {
     match item {
         Item::Label { label, rank } => {
@@ -90,7 +94,8 @@ pub(crate) fn least_cost<S: Semiring, P>(
     costs: &[HoleCost],
     spans: &[Span],
 ) -> Result<Option<Cost>, AllocError>
-    ensures { IfOk result (IsLeast (IsReadBox S.product normal.now.rules (pairs_of items.now) (state ∷ []) (all_spanned spans.now costs.now))) }
+    ensures { IfOk result (IsLeast (IsReadBox S.product normal.now.rules (pairs_of items.now)
+        (state ∷ []) (all_spanned spans.now costs.now))) }
 {
     let mut columns = Vec::new(alloc);
     let mut holes = costs.len();

@@ -50,7 +50,8 @@ pub fn matches_within<S: Semiring, P>(
     most: u64,
 ) -> Result<Within, AllocError>
     requires { state < length normal.now.names }
-    ensures { IfOk result (AnswersWhere S.product normal.now.rules side.now state (λ m. S.product above m.1 ≤ greatest) most) }
+    ensures { IfOk result (AnswersWhere S.product normal.now.rules side.now state
+        (λ m. S.product above m.1 ≤ greatest) most) }
 {
     normal.grammar();
     if let Some(few) = few_matches(alloc, normal, state, side, partial_matches(most))? {

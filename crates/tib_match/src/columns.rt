@@ -118,7 +118,8 @@ pub(crate) fn label_column<S: Semiring>(
     rank: u32,
     below: &[Column],
 ) -> Result<Column, AllocError>
-    ensures { IfOk result (λ column. IsColumn S.product normal.now.rules (positions_with label rank normal.now.rules) (stack_of below.now) (column_of column)) }
+    ensures { IfOk result (λ column. IsColumn S.product normal.now.rules
+        (positions_with label rank normal.now.rules) (stack_of below.now) (column_of column)) }
 {
     let grammar = normal.grammar();
     grammar.is_sound();
@@ -149,7 +150,8 @@ pub(crate) fn hole_column<S: Semiring>(
     cost: &HoleCost,
     span: &Span,
 ) -> Result<Column, AllocError>
-    ensures { IfOk result (λ column. (q : ℕ) → column_of column q ≡ spanned span.now (cost_at cost.now) q) }
+    ensures { IfOk result (λ column. (q : ℕ) → column_of column q
+        ≡ spanned span.now (cost_at cost.now) q) }
 {
     let mut costs = Vec::with_capacity(alloc, span.high as usize)?;
     for state in 0..span.high {

@@ -32,7 +32,8 @@ fn add_led<S: Semiring>(
 ) -> Result<(), AllocError>
     requires below { Each (λ n. n < length rules.now) positions.now }
     requires ascend { LeftsAscend rules.now positions.now }
-    ensures { OnOk result (partials_of found.new.items ≡ partials_of found.old.items ++ all_placed S.product rules.now (partial_of partial.now) positions.now) }
+    ensures { OnOk result (partials_of found.new.items ≡ partials_of found.old.items
+        ++ all_placed S.product rules.now (partial_of partial.now) positions.now) }
 {
     let count = partial.waiting.len();
     if count == 0 {
@@ -52,7 +53,9 @@ fn lead_all<S: Semiring>(
     most: u64,
 ) -> Result<Option<Vec<Partial>>, AllocError>
     ensures normal { AreNormal normal.now.rules }
-    ensures led { IfOk result (λ led. IfSome led (λ found. partials_of found.items ≡ all_led S.product normal.now.rules (positions_with label rank normal.now.rules) (partials_of old.now))) }
+    ensures led { IfOk result (λ led. IfSome led (λ found. partials_of found.items
+        ≡ all_led S.product normal.now.rules (positions_with label rank normal.now.rules)
+        (partials_of old.now))) }
 {
     let rules = normal.grammar().rule_list();
     let positions = normal.rules_with(label, rank);
@@ -74,7 +77,8 @@ fn next<S: Semiring, P>(
     old: Vec<Partial>,
     most: u64,
 ) -> Result<Option<Vec<Partial>>, AllocError>
-    ensures { IfOk result (λ next. IfSome next (λ found. AreNext S.product normal.now.rules (pair_of item.now) (partials_of old.items) (partials_of found.items))) }
+    ensures { IfOk result (λ next. IfSome next (λ found. AreNext S.product normal.now.rules
+        (pair_of item.now) (partials_of old.items) (partials_of found.items))) }
 {
     match item {
         Item::Label { label, rank } => {
@@ -99,7 +103,8 @@ fn find<S: Semiring, P>(
     items: &[Item<P>],
     most: u64,
 ) -> Result<Option<Vec<Partial>>, AllocError>
-    ensures { IfOk result (λ all. IfSome all (λ found. AreFound S.product normal.now.rules (pairs_of items.now) (start_from state ∷ []) (partials_of found.items))) }
+    ensures { IfOk result (λ all. IfSome all (λ found. AreFound S.product normal.now.rules
+        (pairs_of items.now) (start_from state ∷ []) (partials_of found.items))) }
 {
     let mut waiting = Vec::new(alloc);
     waiting.push(state)?;
@@ -148,7 +153,8 @@ pub fn few_matches<S: Semiring, P>(
     most: u64,
 ) -> Result<Option<Vec<Match>>, AllocError>
     requires { state < length normal.now.names }
-    ensures { IfOk result (λ few. IfSome few (λ ms. AreMatches S.product normal.now.rules side.now state ms.items)) }
+    ensures { IfOk result (λ few. IfSome few (λ ms. AreMatches S.product normal.now.rules side.now
+        state ms.items)) }
 {
     normal.grammar().is_sound();
     let Some(found) = find(alloc, normal, state, side.items(), most)? else {

@@ -13,8 +13,10 @@ fn count_below(rules: &[Rule<u32>], positions: &[u32], state: u64) -> usize
     requires below { Each (λ n. n < length rules.now) positions.now }
     requires ascend { LeftsAscend rules.now positions.now }
     ensures within { result ≤ length positions.now }
-    ensures before { (i : ℕ) → i < result → (rule_at rules.now (get_or positions.now i 0)).left < state }
-    ensures behind { (i : ℕ) → result ≤ i → i < length positions.now → state ≤ (rule_at rules.now (get_or positions.now i 0)).left }
+    ensures before { (i : ℕ) → i < result → (rule_at rules.now (get_or positions.now i 0)).left
+        < state }
+    ensures behind { (i : ℕ) → result ≤ i → i < length positions.now → state
+        ≤ (rule_at rules.now (get_or positions.now i 0)).left }
 {
     let mut low = 0;
     let mut high = positions.len();

@@ -44,7 +44,9 @@ fn with_rule(
     requires { 0 < length partial.now.waiting.items }
     ensures cost { IfOk result (λ p. p.cost ≡ cost) }
     ensures states { IfOk result (λ p. p.states.items ≡ partial.now.states.items) }
-    ensures waiting { IfOk result (λ p. p.waiting.items ≡ take (length partial.now.waiting.items - 1) partial.now.waiting.items ++ reverse (holes_of rule.now.right)) }
+    ensures waiting { IfOk result (λ p. p.waiting.items
+        ≡ take (length partial.now.waiting.items - 1) partial.now.waiting.items
+        ++ reverse (holes_of rule.now.right)) }
 {
     let mut waiting = partial.waiting[..partial.waiting.len() - 1].to_vec(alloc)?;
     push_states(&mut waiting, rule.right.items())?;
@@ -63,7 +65,8 @@ pub(crate) fn add_placed<S: Semiring>(
     rule: &Rule<u32>,
     found: &mut Vec<Partial>,
 ) -> Result<(), AllocError>
-    ensures { OnOk result (partials_of found.new.items ≡ partials_of found.old.items ++ placed S.product rule.now (partial_of partial.now)) }
+    ensures { OnOk result (partials_of found.new.items ≡ partials_of found.old.items
+        ++ placed S.product rule.now (partial_of partial.now)) }
 {
     let Some(state) = partial.waiting.last().copied() else {
         return Ok(());
@@ -88,7 +91,8 @@ pub(crate) fn add_all_placed<S: Semiring>(
     found: &mut Vec<Partial>,
 ) -> Result<(), AllocError>
     requires { Each (λ p. p < length rules.now) positions.now }
-    ensures { OnOk result (partials_of found.new.items ≡ partials_of found.old.items ++ all_placed S.product rules.now (partial_of partial.now) positions.now) }
+    ensures { OnOk result (partials_of found.new.items ≡ partials_of found.old.items
+        ++ all_placed S.product rules.now (partial_of partial.now) positions.now) }
 {
     for position in positions {
         add_placed::<S>(alloc, partial, &rules[*position as usize], found)?;
@@ -98,7 +102,8 @@ pub(crate) fn add_all_placed<S: Semiring>(
 
 /// Adds the partial match with its next state at a hole.
 pub(crate) fn add_taken(partial: Partial, found: &mut Vec<Partial>) -> Result<(), AllocError>
-    ensures { OnOk result (partials_of found.new.items ≡ partials_of found.old.items ++ taken (partial_of partial)) }
+    ensures { OnOk result (partials_of found.new.items ≡ partials_of found.old.items
+        ++ taken (partial_of partial)) }
 {
     let Partial {
         mut waiting,

@@ -75,7 +75,8 @@ fn push_halves(
     waiting: &mut Vec<Vec<Span>>,
 ) -> Result<(), AllocError>
     requires { IsFirstWide spans.now place }
-    ensures { OnOk result (HasHalves spans.now place (boxes_of waiting.old.items) (boxes_of waiting.new.items)) }
+    ensures { OnOk result (HasHalves spans.now place (boxes_of waiting.old.items)
+        (boxes_of waiting.new.items)) }
 {
     let low = spans[place].low;
     let high = spans[place].high;
@@ -141,7 +142,8 @@ impl<'a, S: Semiring> Search<'a, S> {
         spans: &[Span],
         found: &mut Vec<Match>,
     ) -> Result<(), AllocError>
-        ensures { OnOk result (Takes S.product self.now.normal.now.rules (preorder_of side.now) self.now.state (length self.now.costs.now) spans.now found.old.items found.new.items) }
+        ensures { OnOk result (Takes S.product self.now.normal.now.rules (preorder_of side.now)
+            self.now.state (length self.now.costs.now) spans.now found.old.items found.new.items) }
     {
         let free = free_holes(alloc, self.costs.len())?;
         let least = least_cost(alloc, self.normal, self.state, side.items(), &free, spans)?;
@@ -166,8 +168,10 @@ impl<'a, S: Semiring> Search<'a, S> {
         waiting: &mut Vec<Vec<Span>>,
     ) -> Result<(), AllocError>
         ensures { OnOk result (
-            IsUnderway S.product self.now.normal.now.rules side.now self.now.state self.now.above self.now.costs.now found.old.items (boxes_of waiting.old.items ++ spans.now ∷ []) →
-            IsUnderway S.product self.now.normal.now.rules side.now self.now.state self.now.above self.now.costs.now found.new.items (boxes_of waiting.new.items)) }
+            IsUnderway S.product self.now.normal.now.rules side.now self.now.state self.now.above
+            self.now.costs.now found.old.items (boxes_of waiting.old.items ++ spans.now ∷ []) →
+            IsUnderway S.product self.now.normal.now.rules side.now self.now.state self.now.above
+            self.now.costs.now found.new.items (boxes_of waiting.new.items)) }
     {
         self.normal.grammar();
         let items = side.items();
@@ -184,7 +188,8 @@ impl<'a, S: Semiring> Search<'a, S> {
     // Searches box by box, until more than so many matches were found or no box is left.
     fn run<P>(&self, alloc: Global, side: &Side<P>, most: u64) -> Result<Within, AllocError>
         requires { self.now.state < length self.now.normal.now.names }
-        ensures { IfOk result (AnswersWhere S.product self.now.normal.now.rules side.now self.now.state (IsWithin S.product self.now.above self.now.costs.now) most) }
+        ensures { IfOk result (AnswersWhere S.product self.now.normal.now.rules side.now
+            self.now.state (IsWithin S.product self.now.above self.now.costs.now) most) }
     {
         let grammar = self.normal.grammar();
         grammar.is_sound();
@@ -223,7 +228,8 @@ pub fn search_matches<S: Semiring, P>(
     most: u64,
 ) -> Result<Within, AllocError>
     requires { state < length normal.now.names }
-    ensures { IfOk result (AnswersWhere S.product normal.now.rules side.now state (IsWithin S.product above costs.now) most) }
+    ensures { IfOk result (AnswersWhere S.product normal.now.rules side.now state
+        (IsWithin S.product above costs.now) most) }
 {
     let search = Search {
         normal,

@@ -16,11 +16,12 @@ marks_of-requires c =
 pub unmarked-requires : goal.unmarked-requires
 unmarked-requires c =
     variables_below c.args.restrictions.now c.args.rule.now c.requires c.items-left.result.now c.items-left.ensures.items c.items.result.now c.items.ensures.items c.deref.result.now (c.deref.ensures.value ∙ c.in_ok-numbers.ensures)
-    (length c.deref-3.result.now) (ap length c.deref-3.ensures.value ∙ c.in_ok-marks.ensures.long ∙ c.len.ensures ∙ sym c.deref.ensures.len)
+    (length c.deref-3.result.now) (ap length c.deref-3.ensures.value ∙ c.in_ok-kept.ensures.long ∙ c.len.ensures ∙ sym c.deref.ensures.len)
 
 pub returns : goal.returns
 returns c =
     is_plan c.args.restrictions.now c.args.rule.now c.requires c.items-left.result.now c.items-left.ensures.items c.items.result.now c.items.ensures.items c.deref.result.now (c.deref.ensures.value ∙ c.in_ok-numbers.ensures)
-    (record { ends = c.in_ok-ends.ends; left_out = c.in_ok-left_out.left_out }) c.deref-3.result.now c.len.result c.in_ok-ends.ensures (c.len.ensures ∙ sym c.deref.ensures.len)
-    (λ i h. ap (λ bs. get_or bs i false) c.deref-3.ensures.value ∙ c.in_ok-marks.ensures.marked i h ∙ ap (λ es. list_any (nat_eq i) (map (λ e. e.variable) es)) c.deref-2.ensures.value)
+    (record { ends = c.in_ok-ends.ends; kept = c.in_ok-kept.kept; left_out = c.in_ok-left_out.left_out }) c.deref-3.result.now c.len.result c.in_ok-ends.ensures (c.len.ensures ∙ sym c.deref.ensures.len)
+    c.deref-3.ensures.value (ap length c.deref-3.ensures.value ∙ c.in_ok-kept.ensures.long)
+    (λ i h. ap (λ bs. get_or bs i false) c.deref-3.ensures.value ∙ c.in_ok-kept.ensures.marked i h ∙ ap (λ es. list_any (nat_eq i) (map (λ e. e.variable) es)) c.deref-2.ensures.value)
     c.in_ok-left_out.ensures
