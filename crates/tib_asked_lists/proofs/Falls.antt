@@ -41,14 +41,14 @@ split (x ∷ xs) (suc i) h =
     record { front = x ∷ s.front; back = s.back; is = ap (λ (ys : List ℕ). x ∷ ys) s.is; long = ap suc s.long }
 
 -- what a state took: its last candidate, and those before each one of them
-record HasTaken (product : ℕ → ℕ → ℕ) (x : ListsOf) (u : ℕ) (s : StateOf) : Type 0 where
-  last : s.last < length x.candidates
-  taken : List pass.Candidate
-  stands : Has taken (tuple_of x s.last)
-  preceded : ArePreceded taken taken
-  placed : (n : ℕ) (js : List ℕ) → Has taken (n, js) → HasTree (entries_of x u) (offer product x.rules (entries_of x) n js).0
+pub record HasTaken (product : ℕ → ℕ → ℕ) (x : ListsOf) (u : ℕ) (s : StateOf) : Type 0 where
+  pub last : s.last < length x.candidates
+  pub taken : List pass.Candidate
+  pub stands : Has taken (tuple_of x s.last)
+  pub preceded : ArePreceded taken taken
+  pub placed : (n : ℕ) (js : List ℕ) → Has taken (n, js) → HasTree (entries_of x u) (offer product x.rules (entries_of x) n js).0
 
-has_taken : (product : ℕ → ℕ → ℕ) (k : ℕ) (x : ListsOf) (u : ℕ) (s : StateOf) → IsState product k x u s → (s.stage ≡ Whole → ⊥) → HasTaken product x u s
+pub has_taken : (product : ℕ → ℕ → ℕ) (k : ℕ) (x : ListsOf) (u : ℕ) (s : StateOf) → IsState product k x u s → (s.stage ≡ Whole → ⊥) → HasTaken product x u s
 has_taken product k x u s i n = by s.stage refl i
   where
     by : (g : Stage) → s.stage ≡ g → IsAtStage product k x u s g → HasTaken product x u s

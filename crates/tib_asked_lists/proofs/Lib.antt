@@ -13,3 +13,5 @@ pub mod Begun
 pub mod Stacked
 pub mod Falling
 pub mod Falls
+pub mod Demanded
+pub mod Rounded

@@ -26,10 +26,11 @@ use Rattle.tib_asked_lists.specs.declared.asking.Stage.{Stage}
 use Rattle.tib_asked_lists.specs.Offers.{tuples, AreSound}
 use Rattle.tib_asked_lists.specs.AskingOf.{StateOf, AskingOf, state_at}
 use Rattle.tib_asked_lists.specs.Asks.{ArePreceded, IsOpen, IsState, IsAtStage, IsAskedFor, IsDrawnFrom, IsTaking, IsAskingBut, IsAsking, IsListing}
+use Rattle.tib_asked_lists.specs.Demands.{IsPlaced, IsPlacedOnce}
 use Rattle.tib_asked_lists.proofs.Kept.{made_kept, tuples_kept, heap_stays, same_or}
 use Rattle.tib_asked_lists.proofs.States.{state_kept}
 use Rattle.tib_asked_lists.proofs.Taken.{tree_labelled, left_is, is_next}
-use Rattle.tib_asked_lists.proofs.Grown.{HasNew, same_entries, more_trees, sound_trees, more_entries, entries_here, sound_entries, listed_now, carry_grown, whole_grown, fronts_grown, few_grown}
+use Rattle.tib_asked_lists.proofs.Grown.{HasNew, same_entries, more_trees, sound_trees, more_entries, entries_here, entries_there, sound_entries, listed_now, carry_grown, whole_grown, fronts_grown, few_grown}
 
 -- a state that took a candidate is open
 module _ (product : ℕ → ℕ → ℕ) (k : ℕ) (x : ListsOf) (s : AreSound product x) (ts : List (Tree ℕ)) (ls : List (List Entry)) (more : AreMore x ts ls x.candidates x.ranks)
@@ -243,4 +244,17 @@ module _ {levelled weighted : Bool} {product : ℕ → ℕ → ℕ} (laws : Prod
     is_asking = elim l.how [
       | inl h ↦ subst (λ (z : ListsOf). IsAsking product z b) (sym h.0) (dropped_here h.1)
       | inr h ↦ subst (λ (z : ListsOf). IsAsking product z b) (sym h.0) (listed_here h.1)
+    ]
+
+    -- what was listed
+    pub placed : IsPlacedOnce x u m y
+    placed = elim l.how [
+      | inl h ↦ inl (ap (λ (z : ListsOf). z.lists) h.0)
+      | inr h ↦ inr (subst (λ (z : ListsOf). IsPlaced x u m z) (sym h.0) (record {
+        candidates = refl;
+        entry = record { tree = l.number; cost = d.cost; candidate = m };
+        lists = refl;
+        others = entries_there x i.lists.sound l.trees l.number tree has_new small labelled u within d.cost m;
+        here = entries_here x i.lists.sound l.trees l.number tree has_new small labelled u within d.cost m;
+      }))
     ]

@@ -1,5 +1,5 @@
 -- One state keeps something else.
-use Rattle.std.specs.Prelude.{◌≡◌, Bool, ℕ, ◌+◌, ◌<◌, List, [], length, map, Option, None, Some, refl}
+use Rattle.std.specs.Prelude.{◌≡◌, Bool, ℕ, ◌+◌, ◌<◌, List, [], length, map, Option, None, Some, IfNone, refl}
 use Rattle.std.proofs.Common.{arith, ap, sym, ◌∙◌, subst, inl, inr, get_or}
 use Rattle.std.proofs.Math.ListN.{set, length-set}
 use Rattle.std.proofs.lemmas.List.{length-map, map-set, get_or-set_same, get_or-set_other}
@@ -132,3 +132,8 @@ fewer_turns x a u inside y t states e less =
 -- a tree that is listed takes none
 pub same_turns : (x : ListsOf) (u m : ℕ) (pairs : List (ℕ × ℕ)) (y : ListsOf) (now : List (ℕ × ℕ)) → IsListing x u m pairs y now → room y ≡ room x
 same_turns x u m pairs y now l = elim l.how [ inl h ↦ ap room h.0 | inr h ↦ ap room h.0 ]
+
+-- a state that found none is whole
+pub whole_then : (y : ListsOf) (waited : List ℕ) (t s : StateOf) → s ≡ t → (o : Option ℕ) → IsDrawnFrom y waited t o → IfNone o (s.stage ≡ Whole)
+whole_then y waited t s e None d = ap (λ (r : StateOf). r.stage) e ∙ d.1
+whole_then y waited t s e (Some m) d = tt

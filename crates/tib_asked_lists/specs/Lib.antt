@@ -6,3 +6,4 @@ pub mod Asks
 pub mod Causes
 pub mod Stacks
 pub mod Beginnings
+pub mod Demands

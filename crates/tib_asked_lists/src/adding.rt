@@ -22,7 +22,8 @@ fn add<S: Semiring>(
 ) -> Result<(), AllocError>
     requires held { IsHeld S.product lists.old heap.old.items }
     requires tuple { IsTuple lists.old rule (ranks_from lists.old rule start) }
-    ensures { OnOk result (IsOffered S.product (Unit {0}) lists.old rule (ranks_from lists.old rule start)
+    ensures { OnOk result (IsOffered S.product (Unit {0}) lists.old rule
+        (ranks_from lists.old rule start)
         heap.old.items lists.new heap.new.items) }
 {
     let Some(candidate) = lists.make::<S>(rule, start)? else {
@@ -41,7 +42,8 @@ pub(crate) fn add_first<S: Semiring>(
     requires rule { rule < length lists.old.rules }
     requires ranks { AreRanks (entries_of lists.old) (states_at lists.old.rules rule)
         (zeros_at lists.old.rules rule) }
-    ensures { OnOk result (IsOffered S.product (Unit {0}) lists.old rule (zeros_at lists.old.rules rule)
+    ensures { OnOk result (IsOffered S.product (Unit {0}) lists.old rule
+        (zeros_at lists.old.rules rule)
         heap.old.items lists.new heap.new.items) }
 {
     let start = lists.zeros(rule)?;

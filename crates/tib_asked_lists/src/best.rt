@@ -1,11 +1,13 @@
 // The best trees of the start.
-ghost use Rattle.std.specs.Prelude.{◌≡◌, ◌<◌, length, IfErr, OnOk};
-ghost use Rattle.tib_k_best_laws.specs.Best.{IsKBest};
+ghost use Rattle.std.specs.Prelude.{◌≡◌, ◌<◌, ◌≤◌, ◌+◌, ℕ, length, IfErr, OnOk};
+ghost use Rattle.tib_grammar.specs.Forms.{IsDeterministic};
+ghost use Rattle.tib_k_best_laws.specs.Best.{IsFrontAt, IsKBest};
 ghost use Rattle.tib_k_best_laws.specs.Levels.{IsOrderly};
 ghost use Rattle.tib_k_best_lists.specs.Held.{entries_of, IsSound};
 ghost use Rattle.tib_asked_lists.specs.AskingOf.{asking_of};
 ghost use Rattle.tib_asked_lists.specs.Asks.{IsAsking, StaysAsking, StaysGrammar};
 ghost use Rattle.tib_asked_lists.specs.Causes.{IsAskCause};
+ghost use Rattle.tib_asked_lists.specs.Demands.{entries_held, nodes_of};
 ghost use Rattle.tib_asked_lists.specs.Firsts.{AreFirsts, AreTrimmed};
 
 use crate::asking::Asking;
@@ -61,6 +63,38 @@ pub fn ask_best<S: Semiring>(alloc: Global, lists: &mut Lists, k: u32) -> Result
 {
     match Asking::new::<S>(alloc, lists, k) {
         Ok(mut asking) => asking.ask_start::<S>(alloc, lists),
+        Err(_) => Err(AskError::OutOfMemory),
+    }
+}
+
+/// Does what `ask_best` does, under the same faults, over rules in deterministic form, and places few
+/// entries: all states together have no more of them than there are states and nodes of the listed
+/// trees of state 0.
+///
+/// A state that is asked for an entry asks each state below its last tree first, and puts it down with
+/// the entry that it has; so one entry of the start costs no more entries than its last tree has nodes.
+pub fn ask_lazily<S: Semiring>(alloc: Global, lists: &mut Lists, k: u32) -> Result<(), AskError>
+    requires some { 0 < k }
+    requires start { 0 < length lists.old.lists }
+    requires firsts { AreFirsts S.product lists.old }
+    requires trimmed { AreTrimmed lists.old }
+    requires orderly { IsOrderly S.product lists.old.rules }
+    requires form { IsDeterministic lists.old.rules }
+    ensures best { OnOk result (IsKBest S.product lists.old.rules lists.old.labels k
+        (entries_of lists.new 0)) }
+    ensures fronts { OnOk result ((q : ℕ) → IsFrontAt S.product lists.old.labels lists.old.rules q
+        (entries_of lists.new q)) }
+    ensures sound { OnOk result (IsSound lists.new) }
+    ensures rules { OnOk result (lists.new.rules ≡ lists.old.rules) }
+    ensures labels { OnOk result (lists.new.labels ≡ lists.old.labels) }
+    ensures ranks { OnOk result (lists.new.label_ranks ≡ lists.old.label_ranks) }
+    ensures states { OnOk result (length lists.new.lists ≡ length lists.old.lists) }
+    ensures bound { OnOk result (entries_held lists.new
+        ≤ length lists.old.lists + nodes_of (entries_of lists.new 0)) }
+    ensures cause { IfErr result (IsAskCause S.product lists.old k) }
+{
+    match Asking::new::<S>(alloc, lists, k) {
+        Ok(mut asking) => asking.list_start::<S>(alloc, lists),
         Err(_) => Err(AskError::OutOfMemory),
     }
 }

@@ -6,13 +6,15 @@ mod adding;
 mod asking;
 mod beginning;
 mod best;
+mod demanding;
 mod drawing;
 mod error;
 mod followers;
 mod listing;
 mod reading;
+mod rounds;
 mod stepping;
 mod walking;
 
-pub use best::ask_best;
+pub use best::{ask_best, ask_lazily};
 pub use error::AskError;

@@ -10,7 +10,8 @@ impl Asking {
     pub(crate) fn last(&self, state: u32) -> Option<u32>
         requires { state < length (asking_of self.now).states }
         ensures some { IfSome result (λ m. m ≡ (state_at (asking_of self.now) state).last) }
-        ensures left { IfSome result (λ _. (state_at (asking_of self.now) state).stage ≡ Whole → ⊥) }
+        ensures left { IfSome result (λ _. (state_at (asking_of self.now) state).stage ≡ Whole →
+            ⊥) }
         ensures none { IfNone result ((state_at (asking_of self.now) state).stage ≡ Whole) }
     {
         let asked = &self.states[state as usize];

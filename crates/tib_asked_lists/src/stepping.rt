@@ -1,9 +1,11 @@
 // One step of a state among the others.
-ghost use Rattle.std.specs.Prelude.{◌≡◌, ◌<◌, length, IfErr, IfOk, OnOk};
+ghost use Rattle.std.specs.Prelude.{◌≡◌, ◌<◌, ℕ, length, IfErr, IfNone, IfOk, OnOk};
 ghost use Rattle.tib_k_best_laws.specs.Levels.{IsOrderly};
 ghost use Rattle.tib_k_best_lists.specs.Held.{below_of, candidate_at, list_of};
 ghost use Rattle.tib_asked_lists.specs.AskingOf.{asking_of, state_at};
 ghost use Rattle.tib_asked_lists.specs.Asks.{AreAnswered, HasDrawn, IsAsking, IsTaking, StaysAsking, StaysGrammar, turns_left};
+ghost use Rattle.tib_asked_lists.specs.Demands.{IsPlacedOnce};
+ghost use Rattle.tib_asked_lists.specs.Offers.{AreMoreCandidates};
 ghost use Rattle.tib_asked_lists.specs.Causes.{IsAskCause};
 ghost use Rattle.tib_asked_lists.specs.declared.asking.Stage.TheVariants.{Whole};
 
@@ -19,7 +21,7 @@ const MOST_NODES: u64 = 10_000;
 
 impl Asking {
     // Lets a state take its least candidate, where the states below its last one were asked.
-    fn draw<S: Semiring>(
+    pub(crate) fn draw<S: Semiring>(
         &mut self,
         lists: &mut Lists,
         state: u32,
@@ -29,9 +31,16 @@ impl Asking {
         requires left { (state_at (asking_of self.old) state).stage ≡ Whole → ⊥ }
         requires free { length (list_of lists.old state) < self.old.k }
         requires orderly { IsOrderly S.product lists.old.rules }
-        requires answered { let c = candidate_at lists.old (state_at (asking_of self.old) state).last in
+        requires answered { let c = candidate_at lists.old
+            (state_at (asking_of self.old) state).last in
             AreAnswered S.product self.old.k lists.old c (length (below_of lists.old c)) }
-        ensures drawn { IfOk result (λ o. HasDrawn S.product lists.new (asking_of self.new) state o) }
+        ensures drawn { IfOk result (λ o. HasDrawn S.product lists.new (asking_of self.new) state
+            o) }
+        ensures whole { IfOk result (λ o. IfNone o
+            ((state_at (asking_of self.new) state).stage ≡ Whole)) }
+        ensures others { OnOk result ((q : ℕ) → (q ≡ state → ⊥) →
+            state_at (asking_of self.new) q ≡ state_at (asking_of self.old) q) }
+        ensures more { OnOk result (AreMoreCandidates lists.old lists.new) }
         ensures grammar { OnOk result (StaysGrammar lists.old lists.new) }
         ensures same { OnOk result (StaysAsking (asking_of self.old) (asking_of self.new)) }
         ensures fewer { OnOk result (turns_left lists.new (asking_of self.new)
@@ -43,7 +52,7 @@ impl Asking {
     }
 
     // Lists the tree of the candidate that a state took, where it is new.
-    fn list<S: Semiring>(
+    pub(crate) fn list<S: Semiring>(
         &mut self,
         alloc: Global,
         lists: &mut Lists,
@@ -55,6 +64,8 @@ impl Asking {
         ensures kept { OnOk result (IsAsking S.product lists.new (asking_of self.new)) }
         ensures grammar { OnOk result (StaysGrammar lists.old lists.new) }
         ensures same { OnOk result (StaysAsking (asking_of self.old) (asking_of self.new)) }
+        ensures states { OnOk result ((asking_of self.new).states ≡ (asking_of self.old).states) }
+        ensures placed { OnOk result (IsPlacedOnce lists.old state candidate lists.new) }
         ensures turns { OnOk result (turns_left lists.new (asking_of self.new)
             ≡ turns_left lists.old (asking_of self.old)) }
         ensures cause { IfErr result (IsAskCause S.product lists.old self.old.k) }
@@ -80,7 +91,8 @@ impl Asking {
         requires left { (state_at (asking_of self.old) state).stage ≡ Whole → ⊥ }
         requires free { length (list_of lists.old state) < self.old.k }
         requires orderly { IsOrderly S.product lists.old.rules }
-        requires answered { let c = candidate_at lists.old (state_at (asking_of self.old) state).last in
+        requires answered { let c = candidate_at lists.old
+            (state_at (asking_of self.old) state).last in
             AreAnswered S.product self.old.k lists.old c (length (below_of lists.old c)) }
         ensures kept { OnOk result (IsAsking S.product lists.new (asking_of self.new)) }
         ensures grammar { OnOk result (StaysGrammar lists.old lists.new) }

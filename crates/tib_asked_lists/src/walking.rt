@@ -43,7 +43,7 @@ impl Asking {
 
     // The question for the i-th state below a rule, if it is to be asked for what stands behind the
     // i-th of the ranks from `start` on.
-    fn below<S: Semiring>(
+    pub(crate) fn below<S: Semiring>(
         &self,
         lists: &Lists,
         rule: u32,
@@ -90,7 +90,8 @@ impl Asking {
         requires below { i < length (below_of lists.now (candidate_at lists.now above.last)) }
         ensures next { IfOk result (λ o. IsNextBelow S.product lists.now (asking_of self.now) above
             (i + 1) o) }
-        ensures stack { OnOk result (AreBelow (length (asking_of self.now).states) stack.new.items) }
+        ensures stack { OnOk result (AreBelow (length (asking_of self.now).states)
+            stack.new.items) }
     {
         let rule = lists.candidate(above.last).rule;
         let start = lists.candidate(above.last).start;
@@ -117,7 +118,8 @@ impl Asking {
         requires above { IsToAsk lists.now (asking_of self.now) above }
         ensures next { IfOk result (λ o. IsNextBelow S.product lists.now (asking_of self.now) above
             (length (below_of lists.now (candidate_at lists.now above.last))) o) }
-        ensures stack { OnOk result (AreBelow (length (asking_of self.now).states) stack.new.items) }
+        ensures stack { OnOk result (AreBelow (length (asking_of self.now).states)
+            stack.new.items) }
     {
         let count = lists.count(lists.candidate(above.last).rule);
         let mut next = None;
@@ -138,8 +140,10 @@ impl Asking {
         requires kept { IsAsking S.product lists.now (asking_of self.now) }
         requires stack { AreBelow (length (asking_of self.now).states) stack.old.items }
         requires from { IsToAsk lists.now (asking_of self.now) from }
-        ensures ready { IfOk result (λ u. IsReadyToTake S.product lists.now (asking_of self.now) u) }
-        ensures stack { OnOk result (AreBelow (length (asking_of self.now).states) stack.new.items) }
+        ensures ready { IfOk result (λ u. IsReadyToTake S.product lists.now (asking_of self.now)
+            u) }
+        ensures stack { OnOk result (AreBelow (length (asking_of self.now).states)
+            stack.new.items) }
     {
         let mut question = from;
         let mut below = self.next_below::<S>(lists, stack, question)?;
@@ -179,7 +183,8 @@ impl Asking {
         requires stack { AreBelow (length (asking_of self.old).states) stack.old.items }
         requires question { IsToAsk lists.old (asking_of self.old) question }
         ensures kept { OnOk result (IsAsking S.product lists.new (asking_of self.new)) }
-        ensures stack { OnOk result (AreBelow (length (asking_of self.new).states) stack.new.items) }
+        ensures stack { OnOk result (AreBelow (length (asking_of self.new).states)
+            stack.new.items) }
         ensures grammar { OnOk result (StaysGrammar lists.old lists.new) }
         ensures same { OnOk result (StaysAsking (asking_of self.old) (asking_of self.new)) }
         ensures fewer { OnOk result (turns_left lists.new (asking_of self.new)

@@ -7,3 +7,4 @@ pub mod Levelled
 pub mod Trimming
 pub mod Bests
 pub mod Listing
+pub mod Counting

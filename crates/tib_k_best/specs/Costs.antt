@@ -3,7 +3,6 @@ use Rattle.std.specs.Prelude.{◌≡◌, ℕ, ◌-◌, ◌<◌, ◌≤◌, List,
 use Rattle.std.proofs.Common.{get_or}
 use Rattle.tib_lex.specs.Lists.{Has}
 use Rattle.tib_cost.specs.Semiring.{most}
-use Rattle.tib_tree.specs.Trees.{Tree}
 use Rattle.tib_grammar.specs.declared.Rule.{Rule}
 use Rattle.tib_k_best_laws.specs.Best.{Costed, IsKBest, IsTreeAt}
 use Rattle.tib_k_best_laws.specs.Levels.{level}

@@ -5,3 +5,4 @@ pub mod Causes
 pub mod Listing
 pub mod Costs
 pub mod Trimmed
+pub mod LazyLists

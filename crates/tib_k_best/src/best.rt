@@ -24,7 +24,7 @@ use tib_shared_trees::label_ranks;
 use tib_tree::Labels;
 
 // Lists over rules in normal form, while no tree is known.
-fn empty<'a>(
+pub(crate) fn empty<'a>(
     alloc: Global,
     rules: &'a [Rule<u32>],
     states: usize,
@@ -43,7 +43,7 @@ fn empty<'a>(
 }
 
 // A fault of asked lists as one of the list of best trees.
-fn fault_of(error: AskError) -> KBestError
+pub(crate) fn fault_of(error: AskError) -> KBestError
     ensures { IsFaultOf error result }
 {
     match error {

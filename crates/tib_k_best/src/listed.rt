@@ -5,6 +5,7 @@ ghost use Rattle.tib_tree.specs.Trees.{most_nodes, size};
 ghost use Rattle.tib_k_best_laws.specs.Pass.{no_entry};
 ghost use Rattle.tib_k_best_lists.specs.Held.{entries_of, IsSound};
 ghost use Rattle.tib_k_best.specs.Costs.{at_cost, entry_at_cost};
+ghost use Rattle.tib_k_best.specs.Listing.{costed, AreListed};
 
 use std::alloc::{AllocError, Global};
 use std::marker::Model;
@@ -66,6 +67,14 @@ impl List {
         let List { trees, entries } = self;
         let entries = entries_at(alloc, &entries, cost)?;
         Ok(List { trees, entries })
+    }
+
+    // Entries over the trees that they name.
+    pub(crate) fn over(trees: Shared, entries: Vec<Entry>) -> List
+        requires { AreListed trees entries.items }
+        ensures { result ≡ costed trees entries.items }
+    {
+        List { trees, entries }
     }
 
     // The list of a state.

@@ -5,7 +5,7 @@ use Rattle.std.specs.Ordering.{nat_cmp, ordering_then, is_gt}
 use Rattle.std.specs.declared.cmp.Ordering.{Ordering}
 use Rattle.std.specs.declared.cmp.Ordering.TheVariants.{Less, Equal}
 use Rattle.tib_lex.specs.Lists.{Has}
-use Rattle.tib_tree.specs.Trees.{Tree, size}
+use Rattle.tib_tree.specs.Trees.{Tree, most_nodes, size}
 use Rattle.tib_tree.specs.Grows.{AreDistinct}
 use Rattle.tib_tree.specs.Growth.{HasLabels}
 use Rattle.tib_grammar.specs.Series.{IsSeriesAt}
@@ -103,7 +103,7 @@ pub record HasLarge (product : ℕ → ℕ → ℕ) (labels : List (List ℕ)) (
   pub few : length front < k
   pub tree : Costed
   pub next : IsNextAt product labels rules q front tree
-  pub large : 10000 < size tree.0
+  pub large : most_nodes < size tree.0
 
 -- such a tree stands in every list of the k least trees of the state
 abbrev pub LargeIsListed : (ℕ → ℕ → ℕ) → Type 0

@@ -77,6 +77,16 @@ impl<'a> Lists<'a> {
         (trees, entries)
     }
 
+    /// The trees of all lists by their numbers, and the lists of all states. The rest is gone. Takes no
+    /// memory.
+    pub fn into_lists(self) -> (Shared, Vec<Vec<Entry>>)
+        ensures trees { result.0 ≡ self.entry.trees }
+        ensures lists { map items_of result.1.items ≡ self.entry.lists }
+    {
+        let Lists { trees, lists, .. } = self;
+        (trees, lists)
+    }
+
     /// A candidate by its number.
     pub fn candidate(&self, number: u32) -> &Candidate
         requires { number < length self.now.candidates }

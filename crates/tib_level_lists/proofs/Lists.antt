@@ -3,15 +3,13 @@ use Rattle.std.specs.Prelude.{◌≡◌, ℕ, ◌+◌, ◌<◌, ◌≤◌, List,
 use Rattle.std.proofs.Common.{zero, suc, arith, ap, ◌∙◌, subst, inl, inr, get_or}
 use Rattle.tib_lex.specs.Lists.{Has, Each, Ascends}
 use Rattle.tib_lex.proofs.Members.{each_has, each_of, has_left, has_right}
+pub use Rattle.tib_lex.proofs.Lists.{mapped_has as map_has}
+pub use Rattle.std.proofs.lemmas.List.{map-append as map_append}
 
 -- what holds of the values of a function
 pub each_map : {A B : Type 0} (f : A → B) (P : B → Type 0) (xs : List A) → ((x : A) → Has xs x → P (f x)) → Each P (map f xs)
 each_map f P [] h = tt
 each_map f P (x ∷ xs) h = (h x (inl refl), each_map f P xs (λ y m. h y (inr m)))
-
-pub map_has : {A B : Type 0} (f : A → B) (xs : List A) (x : A) → Has xs x → Has (map f xs) (f x)
-map_has f [] x h = absurd h
-map_has f (y ∷ xs) x h = elim h [ inl e ↦ inl (ap f e) | inr k ↦ inr (map_has f xs x k) ]
 
 -- an order of members gives one of the values
 pub ascends_map :
@@ -65,20 +63,11 @@ take_and_drop zero xs = refl
 take_and_drop (suc n) [] = refl
 take_and_drop (suc n) (x ∷ xs) = ap (λ ys. x ∷ ys) (take_and_drop n xs)
 
-pub map_append : {A B : Type 0} (f : A → B) (xs ys : List A) → map f (xs ++ ys) ≡ map f xs ++ map f ys
-map_append f [] ys = refl
-map_append f (x ∷ xs) ys = ap (λ zs. f x ∷ zs) (map_append f xs ys)
-
 pub nothing_long : {A : Type 0} (xs : List A) → length xs ≡ 0 → xs ≡ []
 nothing_long [] e = refl
 nothing_long (x ∷ xs) e = absurd (omega arith)
 
 -- what stands at a place of two lists, one behind the other
-
-pub get_left : {A : Type 0} (xs ys : List A) (i : ℕ) (d : A) → i < length xs → get_or (xs ++ ys) i d ≡ get_or xs i d
-get_left [] ys i d h = absurd (omega arith)
-get_left (x ∷ xs) ys zero d h = refl
-get_left (x ∷ xs) ys (suc i) d h = get_left xs ys i d (omega arith)
 
 pub get_right : {A : Type 0} (xs ys : List A) (i n : ℕ) (d : A) → i ≡ length xs + n → get_or (xs ++ ys) i d ≡ get_or ys n d
 get_right [] ys i n d e = let s : i ≡ n = omega (arith, e) in ap (λ m. get_or ys m d) s

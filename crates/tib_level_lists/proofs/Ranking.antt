@@ -2,7 +2,7 @@
 use Rattle.std.specs.Prelude.{◌≡◌, ◌⊎◌, ℕ, ◌+◌, ◌-◌, ◌<◌, ◌≤◌, ◌^◌, Bool, true, List, [], ◌∷◌, ◌++◌, length, map, take, drop, if◌then◌else◌, refl}
 use Rattle.std.specs.declared.cmp.Ordering.TheVariants.{Less}
 use Rattle.std.proofs.Common.{suc, arith, ap, sym, ◌∙◌, subst, inl, inr, get_or, length-append, append_assoc}
-use Rattle.std.proofs.lemmas.List.{length-map}
+use Rattle.std.proofs.lemmas.List.{length-map, map-append}
 use Rattle.tib_lex.specs.Lists.{Has, Each}
 use Rattle.tib_lex.proofs.Lists.{append_nil}
 use Rattle.tib_lex.proofs.Members.{each_has, each_of, has_at, at_has, has_left, has_either}
@@ -21,8 +21,9 @@ use Rattle.tib_k_best_laws.proofs.Telling.{has_or, no_fewer}
 use Rattle.tib_level_lists.specs.RankedOf.{ranked_of, told_at, told_below, AreRanked}
 use Rattle.tib_level_lists.specs.Splits.{AreUnder, IsSplit, IsSplitAt, IsWhole}
 use Rattle.tib_level_lists.specs.Weights.{places_from, AreByCost, AreWeights, CostFirst, HaveCosts}
-use Rattle.tib_level_lists.proofs.Lists.{ascends_across, ascends_front, ascends_map, drop_head, each_map, map_append, map_has, nothing_long, take_and_drop, take_few, take_has, take_long, take_none}
+use Rattle.tib_level_lists.proofs.Lists.{ascends_across, ascends_front, ascends_map, drop_head, each_map, nothing_long, take_and_drop, take_few, take_has, take_long, take_none}
 use Rattle.tib_level_lists.proofs.Searching.{apart, levels, one_cost}
+use Rattle.tib_lex.proofs.Lists.{mapped_has}
 
 less_or : (a b : ℕ) → a ≤ b → (a < b) ⊎ (a ≡ b)
 less_or a b h = grind arith
@@ -71,7 +72,7 @@ module _ {levelled weighted : Bool} {product : ℕ → ℕ → ℕ} (laws : Prod
         let within : a.0 < length ws = omega (arith, a.1, w.long) in
         let same : (get_or below a.0 no_entry).0 ≡ y.0 = ap (λ (z : Costed). z.0) a.2 in
         let cost : get_or ws a.0 0 ≡ y.1 = one_cost product rules y.0 (get_or ws a.0 0) y.1 (subst (λ s. IsTreeAt product rules 0 (s, get_or ws a.0 0)) same (w.each a.0 within)) t in
-        subst (λ z. Has (map (told_below below) first) z) (ap (λ s. (s, get_or ws a.0 0)) same ∙ ap (λ n. (y.0, n)) cost) (map_has (told_below below) first (get_or ws a.0 0, a.0) (b.whole a.0 within));
+        subst (λ z. Has (map (told_below below) first) z) (ap (λ s. (s, get_or ws a.0 0)) same ∙ ap (λ n. (y.0, n)) cost) (mapped_has (told_below below) first (get_or ws a.0 0, a.0) (b.whole a.0 within));
   }
     where
       inside : (p : ℕ × ℕ) → Has first p → p.1 < length below
@@ -153,7 +154,7 @@ module _ {levelled weighted : Bool} {product : ℕ → ℕ → ℕ} (laws : Prod
         let ps : List ℕ = places_from c 0 vs in
         let one : List Costed = map (told_at at c) (take m ps) in
         let two : List Costed = map (told_at at c) (drop m ps) in
-        let parts : zs ≡ one ++ two = ap (map (told_at at c)) (sym (take_and_drop m ps)) ∙ map_append (told_at at c) (take m ps) (drop m ps) in
+        let parts : zs ≡ one ++ two = ap (map (told_at at c)) (sym (take_and_drop m ps)) ∙ map-append (told_at at c) (take m ps) (drop m ps) in
         let whole : xs ++ zs ≡ (xs ++ one) ++ two = ap (λ ys. xs ++ ys) parts ∙ sym (append_assoc xs one two) in
         let front : IsFrontAt product labels rules 0 (xs ++ one) = front_take product labels rules (xs ++ one) two (subst (IsFrontAt product labels rules 0) whole both.0) in
         let taken : length (take m ps) ≡ m = take_long m ps (omega (arith, e, enough)) in

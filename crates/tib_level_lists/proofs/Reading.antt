@@ -1,7 +1,7 @@
 -- What is read of two lists as one.
 use Rattle.std.specs.Prelude.{◌≡◌, ◌⊎◌, ℕ, ◌+◌, ◌-◌, ◌<◌, ◌≤◌, List, [], length, map}
 use Rattle.std.proofs.Common.{arith, ap, sym, ◌∙◌, subst, inl, inr, get_or, length-append}
-use Rattle.std.proofs.lemmas.List.{length-map}
+use Rattle.std.proofs.lemmas.List.{get_or_append_left, length-map}
 use Rattle.tib_lex.proofs.Lists.{append_nil}
 use Rattle.tib_tree.specs.Trees.{most_nodes, size}
 use Rattle.tib_k_best_laws.specs.Best.{Costed}
@@ -9,7 +9,7 @@ use Rattle.tib_k_best_laws.specs.Pass.{no_entry}
 use Rattle.tib_k_best_lists.proofs.Children.{get_or-map}
 use Rattle.tib_level_lists.specs.RankedOf.{ranked_of, told_at, told_below, AreRanked}
 use Rattle.tib_level_lists.specs.Weights.{AreNumbered}
-use Rattle.tib_level_lists.proofs.Lists.{get_left, get_right, same_lists}
+use Rattle.tib_level_lists.proofs.Lists.{get_right, same_lists}
 
 below_or : (a b : ℕ) → (a < b) ⊎ (b ≤ a)
 below_or a b = grind arith
@@ -22,7 +22,7 @@ module _ (below at : List Costed) (c : ℕ) (first : List (ℕ × ℕ)) (rest : 
 
   first_at : (i : ℕ) → i < length first → get_or xs i no_entry ≡ told_below below (get_or first i (0, 0))
   first_at i h =
-      ap (λ ys. get_or ys i no_entry) (sym seen) ∙ get_left (map (told_below below) first) (map (told_at at c) rest) i no_entry (omega (arith, h, length-map first (told_below below)))
+      ap (λ ys. get_or ys i no_entry) (sym seen) ∙ get_or_append_left (map (told_below below) first) (map (told_at at c) rest) no_entry i (omega (arith, h, length-map first (told_below below)))
       ∙ get_or-map (told_below below) first i (0, 0) no_entry h
 
   rest_at : (i n : ℕ) → i ≡ length first + n → n < length rest → get_or xs i no_entry ≡ told_at at c (get_or rest n 0)

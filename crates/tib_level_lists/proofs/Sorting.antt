@@ -1,27 +1,21 @@
 -- Costs with their places, sorted.
 use Rattle.std.specs.Prelude.{◌≡◌, ◌⊎◌, ℕ, ◌+◌, ◌<◌, nat_eq, Bool, true, false, List, [], ◌∷◌, ◌++◌, length, drop, Contains, IsPermutation, IsSorted, refl}
-use Rattle.std.specs.Cmp.{IsTotalOrder}
 use Rattle.std.specs.List.{IsDistinct}
 use Rattle.std.specs.Ordering.{MatchOrdering, nat_cmp, ordering_then, is_lt}
 use Rattle.std.specs.declared.cmp.Ordering.{Ordering}
 use Rattle.std.specs.declared.cmp.Ordering.TheVariants.{Less, Equal, Greater}
 use Rattle.std.proofs.Common.{zero, suc, arith, ap, sym, ◌∙◌, subst, inl, inr, get_or}
-use Rattle.std.proofs.lemmas.Cmp.{ranked, on_total, then_total, nat_cmp_total}
+use Rattle.std.proofs.lemmas.Cmp.{ranked}
 use Rattle.std.proofs.lemmas.List.Sorted.{ranks_by, sorted_far, Contains-permutation, IsPermutation-sym, length_permutation}
 use Rattle.std.proofs.lemmas.Map.Keys.{IsDistinct-IsPermutation, IsDistinct-from_apart, apart_from_distinct}
 use Rattle.tib_lex.specs.Lists.{Has}
 use Rattle.tib_lex.proofs.Members.{has_at, at_has}
 use Rattle.tib_lex.proofs.Numbers.{nat_eq_cases, nat_eq-itself}
+use Rattle.tib_lex.proofs.PairOrder.{pair_total}
+use Rattle.tib_lex.specs.PairOrder.{pair_cmp}
 use Rattle.tib_inside.proofs.Chosen.{ascends_from}
 use Rattle.tib_k_best_lists.proofs.Children.{get_or-default}
 use Rattle.tib_level_lists.specs.Weights.{places_from, AreByCost, AreNumbered}
-
--- the order of costs, and of places where costs are equal
-abbrev pub pair_cmp : ℕ × ℕ → ℕ × ℕ → Ordering
-pair_cmp p q = ordering_then (nat_cmp p.0 q.0) (nat_cmp p.1 q.1)
-
-pair_total : IsTotalOrder pair_cmp
-pair_total = then_total (on_total (λ (p : ℕ × ℕ). p.0) nat_cmp_total) (on_total (λ (p : ℕ × ℕ). p.1) nat_cmp_total)
 
 abbrev same_place : ℕ × ℕ → ℕ × ℕ → Bool
 same_place p q = nat_eq p.1 q.1

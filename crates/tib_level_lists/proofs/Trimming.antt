@@ -21,21 +21,9 @@ use Rattle.tib_k_best.specs.Trimmed.{HaveTreesBelow, TrimmedHasTrees}
 use Rattle.tib_k_best.specs.declared.error.KBestError.{KBestError}
 use Rattle.tib_k_best.specs.declared.error.KBestError.TheVariants.{TreeTooLarge, OutOfMemory}
 use Rattle.tib_level_lists.specs.Levels.{IsRenamed, IsTrimmedLevel, NamesBelow}
+use Rattle.tib_inside.proofs.StillNormal.{side_normal}
 
--- a rule under other states has the same form and labels
-
-holes_back : (g : ℕ → ℕ) (ts : Trees (Symbol ℕ ℕ)) → AreHoles (relabel (symbol_map g) ts) → AreHoles ts
-holes_back g none h = tt
-holes_back g (tree (label f) kids rest) h = absurd h
-holes_back g (tree (hole p) kids rest) h = holes_back g rest h
-
-label_back : (g : ℕ → ℕ) (s : Symbol ℕ ℕ) → IsLabel (symbol_map g s) → IsLabel s
-label_back g (label f) h = tt
-label_back g (hole p) h = absurd h
-
-side_back : (g : ℕ → ℕ) (s : Tree (Symbol ℕ ℕ)) → IsNormalSide (side_map g s) → IsNormalSide s
-side_back g s h = record { is_label = label_back g s.label h.is_label; are_holes = holes_back g s.kids h.are_holes }
-
+-- a rule under other states has the same labels
 labels_back : (n : ℕ) (g : ℕ → ℕ) (ts : Trees (Symbol ℕ ℕ)) → LabelsBelow n (relabel (symbol_map g) ts) → LabelsBelow n ts
 labels_back n g none h = tt
 labels_back n g (tree (label f) kids rest) h = (h.0, labels_back n g kids h.1, labels_back n g rest h.2)
@@ -83,6 +71,13 @@ name_tells n p q h e = elim (below_or p n) [
   | inr l ↦ absurd (let none : (0 + q) ∷ [] ≡ [] = sym (name_at 0 n q h) ∙ e ∙ name_past 0 n p l in cc)
 ]
 
+-- the rules that are left have labels of the same table
+pub labelled_kept : (product : ℕ → ℕ → ℕ) (before after : GrammarOf) → IsTrimmed product before after → (many : ℕ) → AreLabelled many before.rules → AreLabelled many after.rules
+labelled_kept product before after is many labelled n h =
+    let place : get_or is.rules n 0 < length before.rules = ((is.are_rules (get_or is.rules n 0)).0 (has_at is.rules n 0 (omega (arith, h, as_many product before after is)))).0.below in
+    labels_back many (λ i. get_or is.states i 0) (only (rule_at after.rules n).right)
+    (subst (λ (r : Rule ℕ). LabelsBelow many (only r.right)) (sym (named_at product before after is n h)) (labelled (get_or is.rules n 0) place))
+
 module _ (product : ℕ → ℕ → ℕ) (old : List (Rule ℕ)) (count : ℕ) (states : List ℕ) (new : List (Rule ℕ)) (t : IsTrimmedLevel product old count states new) where
   abbrev named : ℕ → List ℕ
   named q = get_or (names_from 0 count) q []
@@ -101,12 +96,10 @@ module _ (product : ℕ → ℕ → ℕ) (old : List (Rule ℕ)) (count : ℕ) (
 
   pub trimmed_normal : AreNormal old → AreNormal new
   trimmed_normal normal n h =
-      side_back (λ i. get_or is.states i 0) (rule_at new n).right (subst (λ (r : Rule ℕ). IsNormalSide r.right) (sym (named_at product before after is n h)) (normal (get_or is.rules n 0) (old_place n h)))
+      side_normal (λ i. get_or is.states i 0) (rule_at new n).right (subst (λ (r : Rule ℕ). IsNormalSide r.right) (sym (named_at product before after is n h)) (normal (get_or is.rules n 0) (old_place n h)))
 
   pub trimmed_labelled : (many : ℕ) → AreLabelled many old → AreLabelled many new
-  trimmed_labelled many labelled n h =
-      labels_back many (λ i. get_or is.states i 0) (only (rule_at new n).right)
-      (subst (λ (r : Rule ℕ). LabelsBelow many (only r.right)) (sym (named_at product before after is n h)) (labelled (get_or is.rules n 0) (old_place n h)))
+  trimmed_labelled many labelled = labelled_kept product before after is many labelled
 
   pub trimmed_trees : AreNormal old → TrimmedHasTrees product → HaveTreesBelow product new
   trimmed_trees normal law = law before after normal (trimmed_normal normal) is (t.each (names_from 0 count))

@@ -1,9 +1,11 @@
 // The k best trees in every semiring.
-ghost use Rattle.std.specs.Prelude.{◌≡◌, ◌⊎◌, ℕ, ◌<◌, false, true, length, IfErr, IfOk};
+ghost use Rattle.std.specs.Prelude.{◌≡◌, ◌⊎◌, ℕ, ◌<◌, false, true, length, IfErr, IfOk, IsTrue};
+ghost use Rattle.tib_grammar.specs.Forms.{IsDeterministic};
 ghost use Rattle.tib_grammar.specs.Run.{rule_at};
 ghost use Rattle.tib_grammar_file.specs.Printed.{AreLabelled};
 ghost use Rattle.tib_k_best_laws.specs.Best.{IsKBest};
-ghost use Rattle.tib_k_best.specs.Causes.{IsLevelCause};
+ghost use Rattle.tib_k_best_laws.specs.Levels.{IsOrderly};
+ghost use Rattle.tib_k_best.specs.Causes.{IsCause, IsLevelCause};
 ghost use Rattle.tib_k_best.specs.Trimmed.{HaveTreesBelow};
 ghost use Rattle.tib_shared_trees.specs.Ranked.{AreRanksOf};
 
@@ -14,7 +16,8 @@ use crate::search::Split;
 use crate::weights::{costs_of, numbered};
 use std::alloc::{AllocError, Global};
 use tib_cost::{Cost, Semiring};
-use tib_k_best::{KBestError, List, best_of_rules};
+use tib_grammar::Grammar;
+use tib_k_best::{KBestError, List, best_of_rules, lazy_of_rules};
 use tib_normal::Normal;
 use tib_shared_trees::label_ranks;
 use tib_tree::Labels;
@@ -65,9 +68,50 @@ fn flat<S: Semiring>(
     Ok(Ranked::new(split, first, Vec::new(alloc)))
 }
 
+// Whether a grammar is in deterministic form. Where memory is refused it says no.
+fn is_deterministic<S: Semiring>(alloc: Global, grammar: &Grammar<S>) -> bool
+    ensures { IsTrue result → IsDeterministic grammar.now.rules }
+{
+    match grammar.deterministic(alloc) {
+        Ok(_) => true,
+        Err(_) => false,
+    }
+}
+
+// The k best trees of a grammar, with few entries where it is in deterministic form. The product is
+// not the greater factor, or each rule costs 0.
+fn best_flat<S: Semiring>(
+    alloc: Global,
+    normal: &Normal<S>,
+    labels: &Labels,
+    ranks: &[u32],
+    k: u32,
+) -> Result<List, KBestError>
+    requires orderly { IsOrderly S.product normal.now.rules }
+    requires labelled { AreLabelled (length labels.now) normal.now.rules }
+    requires ranks { AreRanksOf labels.now ranks.now }
+    requires some { 0 < k }
+    requires trimmed { HaveTreesBelow S.product normal.now.rules }
+    ensures best { IfOk result (λ xs. IsKBest S.product normal.now.rules labels.now k xs) }
+    ensures cause { IfErr result (IsCause S.product labels.now normal.now.rules k) }
+{
+    let grammar = normal.grammar();
+    grammar.is_sound();
+    let states = grammar.states();
+    let rules = grammar.rule_list();
+    if !is_deterministic::<S>(alloc, grammar) {
+        return best_of_rules::<S>(alloc, rules, states as usize, labels, ranks, k);
+    }
+    match lazy_of_rules::<S>(alloc, rules, states, labels, ranks, k) {
+        Ok(lists) => Ok(lists.into_list()),
+        Err(error) => Err(error),
+    }
+}
+
 /// The k best trees of a grammar in any semiring: those of `k_best_by_levels` where the product is
-/// the greater factor, and those of `best_of_rules` elsewhere. No state below a rule may be without
-/// a tree, as in a trimmed grammar. Faults and worst case are theirs.
+/// the greater factor; elsewhere those of `lazy_of_rules` where the grammar is in deterministic form,
+/// and of `best_of_rules` where it is not. No state below a rule may be without a tree, as in a
+/// trimmed grammar. Faults and worst case are theirs.
 pub fn best_trees<S: Semiring>(
     alloc: Global,
     normal: &Normal<S>,
@@ -88,10 +132,7 @@ pub fn best_trees<S: Semiring>(
     let Ok(ranks) = label_ranks(alloc, labels) else {
         return Err(KBestError::OutOfMemory);
     };
-    let grammar = normal.grammar();
-    grammar.is_sound();
-    let states = grammar.states() as usize;
-    let list = match best_of_rules::<S>(alloc, grammar.rule_list(), states, labels, &ranks, k) {
+    let list = match best_flat::<S>(alloc, normal, labels, &ranks, k) {
         Ok(list) => list,
         Err(error) => return Err(error),
     };

@@ -11,7 +11,7 @@ use tib_k_best::{KBestError, List, best_tree, best_tree_by_levels};
 use tib_normal::Normal;
 use tib_tree::{Labels, Tree};
 
-fn write_number(text: &mut String, number: u64) -> Result<(), AllocError> {
+pub(crate) fn write_number(text: &mut String, number: u64) -> Result<(), AllocError> {
     let digits = number.to_string(*text.allocator())?;
     text.push_str(digits.as_str())
 }
@@ -26,7 +26,7 @@ fn write_tree(text: &mut String, tree: &Tree) -> Result<(), AllocError> {
     Ok(())
 }
 
-fn list_text(alloc: Global, list: &List) -> Result<String, AllocError> {
+pub(crate) fn list_text(alloc: Global, list: &List) -> Result<String, AllocError> {
     let mut text = String::new(alloc);
     for i in 0..list.len() {
         let tree = list.tree(alloc, i)?;
@@ -64,7 +64,10 @@ fn read<S: Semiring + Drop>(
     }
 }
 
-fn answer_text(alloc: Global, answer: Result<List, KBestError>) -> Result<String, AllocError> {
+pub(crate) fn answer_text(
+    alloc: Global,
+    answer: Result<List, KBestError>,
+) -> Result<String, AllocError> {
     match answer {
         Ok(list) => list_text(alloc, &list),
         Err(KBestError::OutOfMemory) => Err(AllocError),

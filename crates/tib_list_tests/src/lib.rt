@@ -6,6 +6,8 @@ mod heap;
 #[cfg(test)]
 mod k_best;
 #[cfg(test)]
+mod lazy_lists;
+#[cfg(test)]
 mod level_lists;
 #[cfg(test)]
 mod shared_trees;

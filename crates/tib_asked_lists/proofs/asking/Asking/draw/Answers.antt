@@ -1,10 +1,12 @@
-use Rattle.std.specs.Prelude.{◌≡◌, ◌<◌, ◌+◌, ℕ, List, [], length}
+use Rattle.std.specs.Prelude.{◌≡◌, ◌<◌, ◌+◌, ℕ, List, [], length, map}
 use Rattle.std.proofs.Common.{arith, ap, sym, ◌∙◌, subst, get_or}
+use Rattle.std.proofs.Math.ListN.{set}
+use Rattle.std.proofs.lemmas.List.{get_or-set_same, get_or-set_other}
 use Rattle.tib_lex.proofs.Members.{has_at}
-use Rattle.tib_asked_lists.specs.AskingOf.{asking_of, state_of, state_at, rules_of, StateOf}
+use Rattle.tib_asked_lists.specs.AskingOf.{asking_of, state_of, state_at, no_state, rules_of, StateOf}
 use Rattle.tib_asked_lists.specs.Asks.{IsDrawn, HasDrawn, turns_of}
 use Rattle.tib_asked_lists.specs.Offers.{room}
-use Rattle.tib_asked_lists.proofs.Placed.{fewer_turns, drawn_all, put_state, state_read, rules_read, rules_are}
+use Rattle.tib_asked_lists.proofs.Placed.{fewer_turns, whole_then, drawn_all, put_state, state_read, rules_read, rules_are}
 use Rattle.tib_asked_lists.proofs.asking.Asking.draw.Goals as goal
 
 pub draw-requires-clause-rules : goal.draw-requires-clause-rules
@@ -35,3 +37,21 @@ returns-clause-fewer g c =
     fewer_turns c.args.lists.now a u c.requires.state c.draw.new.lists (state_of c.draw.new.self) _ (put_state c.args.self.now.states.items u c.index_mut.result.now c.draw.new.self)
     (subst (λ (s : StateOf). room c.draw.new.lists + turns_of (state_of c.draw.new.self) < room c.args.lists.now + turns_of s) state
     (c.in_ok-drawn.ensures.fewer (λ e. c.requires.left (ap (λ (s : StateOf). s.stage) (sym state) ∙ e))))
+
+pub returns-clause-more : goal.returns-clause-more
+returns-clause-more g c = c.in_ok-drawn.ensures.more
+
+pub returns-clause-others : goal.returns-clause-others
+returns-clause-others g c = λ q n.
+    ap (λ (ss : List StateOf). get_or ss q no_state) (put_state c.args.self.now.states.items c.args.state c.index_mut.result.now c.draw.new.self)
+    ∙ get_or-set_other (asking_of c.args.self.now).states c.args.state q (state_of c.draw.new.self) no_state n
+
+pub returns-clause-whole : goal.returns-clause-whole
+returns-clause-whole g c =
+    let a = asking_of c.args.self.now in
+    let u : ℕ = c.args.state in
+    let state : state_of c.index_mut.result.now ≡ state_at a u = ap state_of c.index_mut.ensures.value ∙ state_read c.args.self.now.states.items u c.index_mut.result.now c.requires.state in
+    let now : get_or (map state_of (set c.args.self.now.states.items u c.draw.new.self)) u no_state ≡ state_of c.draw.new.self =
+    ap (λ (ss : List StateOf). get_or ss u no_state) (put_state c.args.self.now.states.items u c.index_mut.result.now c.draw.new.self) ∙ get_or-set_same a.states u (state_of c.draw.new.self) no_state c.requires.state
+    in
+    whole_then c.draw.new.lists c.in_ok-drawn.ensures.waited (state_of c.draw.new.self) _ now c.in_ok-drawn.drawn (c.in_ok-drawn.ensures.drawn (λ e. c.requires.left (ap (λ (s : StateOf). s.stage) (sym state) ∙ e)))

@@ -3,7 +3,7 @@ use Rattle.std.specs.HashSet.{keys}
 use Rattle.std.proofs.Common.{arith, ap}
 use Rattle.tib_k_best_lists.specs.declared.lists.Candidate.{Candidate}
 use Rattle.tib_asked_lists.specs.AskingOf.{asking_of}
-use Rattle.tib_asked_lists.proofs.Listed.{large, is_asking, size_is}
+use Rattle.tib_asked_lists.proofs.Listed.{large, is_asking, placed, size_is}
 use Rattle.tib_asked_lists.specs.Asks.{turns_of}
 use Rattle.tib_asked_lists.proofs.Placed.{same_turns}
 use Rattle.tib_asked_lists.proofs.asking.Asking.list.Goals as goal
@@ -22,3 +22,9 @@ returns-in-Ok-clause-kept g c =
 pub returns-in-Ok-clause-turns : goal.returns-in-Ok-clause-turns
 returns-in-Ok-clause-turns g c =
     ap (λ n. n + sum_by turns_of (asking_of c.args.self.now).states) (same_turns c.args.lists.now c.args.state c.args.candidate (keys c.args.self.now.listed) c.list.new.lists (keys c.list.new.listed) c.in-Ok.ensures)
+
+pub returns-in-Ok-clause-placed : goal.returns-in-Ok-clause-placed
+returns-in-Ok-clause-placed g c =
+    placed g.met.S.Semiring.laws c.args.lists.now c.requires.orderly (asking_of c.args.self.now) c.args.state c.args.candidate c.requires.taking
+    (omega (arith, size_is g.met.S.Semiring.laws c.args.lists.now c.requires.orderly (asking_of c.args.self.now) c.args.state c.args.candidate c.requires.taking, ap (λ (d : Candidate). d.size) c.candidate.ensures, c.if-candidate-gt-MOST_NODES.false))
+    (keys c.list.new.listed) c.list.new.lists c.in-Ok.ensures

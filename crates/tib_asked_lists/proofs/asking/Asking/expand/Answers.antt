@@ -1,0 +1,14 @@
+use Rattle.std.specs.Prelude.{◌+◌, ◌≤◌, ℕ, OnOk}
+use Rattle.std.proofs.Common.{subst}
+use Rattle.tib_asked_lists.specs.AskingOf.{asking_of}
+use Rattle.tib_asked_lists.specs.Demands.{nodes_behind}
+use Rattle.tib_asked_lists.proofs.Rounded.{last_nodes}
+use Rattle.tib_asked_lists.proofs.asking.Asking.expand.Goals as goal
+
+pub returns-clause-nodes : goal.returns-clause-nodes
+returns-clause-nodes g c =
+    let x = c.args.lists.now in
+    subst (λ (n : ℕ). OnOk c.push_demands.result (nodes_behind x c.push_demands.new.stack.items + 1 ≤ nodes_behind x c.args.stack.now.items + n))
+    (last_nodes g.S.Semiring.product x (asking_of c.args.self.now) c.requires.kept c.requires.listed c.args.demand c.requires.demand c.in-Some.last c.in-Some.ensures.some c.candidate.result.now c.candidate-2.result.now
+    c.candidate.ensures c.candidate-2.ensures)
+    c.push_demands.ensures.nodes

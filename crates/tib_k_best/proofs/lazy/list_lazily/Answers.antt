@@ -1,0 +1,46 @@
+use Rattle.std.proofs.Common.{arith, refl, subst, sym}
+use Rattle.tib_grammar.specs.Forms.{IsDeterministic}
+use Rattle.tib_k_best_laws.specs.Levels.{IsOrderly}
+use Rattle.tib_k_best.specs.Trimmed.{HaveTreesBelow}
+use Rattle.tib_k_best.proofs.Bests.{best_first, best_over, fault_cause}
+use Rattle.tib_k_best.proofs.Counting.{bound_first, fronts_first, fronts_same}
+use Rattle.tib_k_best.proofs.Starting.{cause_among}
+use Rattle.tib_k_best.proofs.Trimming.{trees_below}
+use Rattle.tib_k_best.proofs.lazy.list_lazily.Goals as goal
+
+pub returns-in-Err-clause-cause : goal.returns-in-Err-clause-cause
+returns-in-Err-clause-cause g c =
+    cause_among g.S.Semiring.product c.args.lists.now.labels c.args.lists.now.labels c.args.lists.now.rules c.args.lists.now.rules refl refl 1 c.args.k (omega (arith, c.requires.some)) c.in-Err.error c.in-Err.ensures.cause
+
+pub returns-then-k-eq1-clause-best : goal.returns-then-k-eq1-clause-best
+returns-then-k-eq1-clause-best g c =
+    best_first g.S.Semiring.product c.args.lists.now c.first_trees.new.lists c.args.k c.if-k-eq1.true c.in-Ok.ensures.rules c.in-Ok.ensures.labels c.in-Ok.ensures.firsts
+
+pub returns-then-k-eq1-clause-fronts : goal.returns-then-k-eq1-clause-fronts
+returns-then-k-eq1-clause-fronts g c = fronts_first g.S.Semiring.product c.args.lists.now c.first_trees.new.lists c.in-Ok.ensures.rules c.in-Ok.ensures.labels c.in-Ok.ensures.firsts
+
+pub returns-then-k-eq1-clause-bound : goal.returns-then-k-eq1-clause-bound
+returns-then-k-eq1-clause-bound g c = bound_first g.S.Semiring.product c.args.lists.now c.first_trees.new.lists c.in-Ok.ensures.states c.in-Ok.ensures.firsts
+
+pub ask_lazily-requires-clause-orderly : goal.ask_lazily-requires-clause-orderly
+ask_lazily-requires-clause-orderly g c = subst (λ rs. IsOrderly g.S.Semiring.product rs) (sym c.in-Ok.ensures.rules) c.requires.orderly
+
+pub ask_lazily-requires-clause-form : goal.ask_lazily-requires-clause-form
+ask_lazily-requires-clause-form g c = subst (λ rs. IsDeterministic rs) (sym c.in-Ok.ensures.rules) c.requires.form
+
+pub ask_lazily-requires-clause-trimmed : goal.ask_lazily-requires-clause-trimmed
+ask_lazily-requires-clause-trimmed g c =
+    trees_below g.S.Semiring.product c.first_trees.new.lists (subst (λ rs. HaveTreesBelow g.S.Semiring.product rs) (sym c.in-Ok.ensures.rules) c.requires.trimmed) c.in-Ok.ensures.firsts
+
+pub returns-in-Ok-ask_lazily-clause-best : goal.returns-in-Ok-ask_lazily-clause-best
+returns-in-Ok-ask_lazily-clause-best g c =
+    best_over g.S.Semiring.product c.args.lists.now c.first_trees.new.lists c.args.k c.in-Ok.ensures.rules c.in-Ok.ensures.labels _ c.in-Ok-ask_lazily.ensures.best
+
+pub returns-in-Ok-ask_lazily-clause-fronts : goal.returns-in-Ok-ask_lazily-clause-fronts
+returns-in-Ok-ask_lazily-clause-fronts g c = λ q.
+    fronts_same g.S.Semiring.product c.args.lists.now c.first_trees.new.lists c.in-Ok.ensures.rules c.in-Ok.ensures.labels q (c.in-Ok-ask_lazily.ensures.fronts q)
+
+pub returns-in-Err-ask_lazily-clause-cause : goal.returns-in-Err-ask_lazily-clause-cause
+returns-in-Err-ask_lazily-clause-cause g c =
+    fault_cause g.S.Semiring.product c.args.lists.now c.first_trees.new.lists c.args.k c.in-Ok.ensures.rules c.in-Ok.ensures.labels c.in-Err-ask_lazily.error c.fault_of.result c.fault_of.ensures
+    c.in-Err-ask_lazily.ensures.cause
