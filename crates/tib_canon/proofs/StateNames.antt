@@ -19,10 +19,12 @@ use Rattle.tib_lex.proofs.Members.{has_either, each_more, distinct_more}
 digit_is_name : (c : ℕ) → is_digit c ≡ true → is_name_byte c ≡ true
 digit_is_name c h = let t = and_true (nat_lt 47 c) (nat_lt c 58) h in grind (arith, nat_tests)
 
-digit_no_stop : (c : ℕ) → is_digit c ≡ true → nat_eq 46 c ≡ false
+-- no full stop is a digit
+pub digit_no_stop : (c : ℕ) → is_digit c ≡ true → nat_eq 46 c ≡ false
 digit_no_stop c h = let t = and_true (nat_lt 47 c) (nat_lt c 58) h in grind (arith, nat_tests)
 
-digits_no_stop : (ds : List ℕ) → list_all is_digit ds ≡ true → list_any (nat_eq 46) ds ≡ false
+-- nor in digits
+pub digits_no_stop : (ds : List ℕ) → list_all is_digit ds ≡ true → list_any (nat_eq 46) ds ≡ false
 digits_no_stop [] h = refl
 digits_no_stop (d ∷ ds) h =
     let t = and_true (is_digit d) (list_all is_digit ds) h in

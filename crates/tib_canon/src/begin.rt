@@ -72,7 +72,8 @@ fn over_keys<K: TableKey + Drop>(
     requires start { start < length order.items }
     requires range { AreInRange (length order.items) rules.items }
     requires leaves { SidesEndInHoles rules.items }
-    ensures { IfOk result (λ v. IsOverKeys K.cmp order.items rules.items start (record { names = names_of (length order.items); rules = v.items })) }
+    ensures { IfOk result (λ v. IsOverKeys K.cmp order.items rules.items start
+        (record { names = names_of (length order.items); rules = v.items })) }
 {
     let states = states_by_keys(alloc, order, start)?;
     let numbers = numbers_of(alloc, &states)?;
@@ -125,7 +126,8 @@ fn over_behind_fresh<K: TableKey + Drop>(
     requires range { AreInRange (length order.items) rules.items }
     requires leaves { SidesEndInHoles rules.items }
     ensures { IfOk result (λ v.
-        IsOverKeys (option_cmp K.cmp) (behind_fresh order.items) (started_rules finals rules.items) 0 (record { names = names_of (length (behind_fresh order.items)); rules = v.items })) }
+        IsOverKeys (option_cmp K.cmp) (behind_fresh order.items) (started_rules finals rules.items)
+        0 (record { names = names_of (length (behind_fresh order.items)); rules = v.items })) }
 {
     let states = states_behind_fresh(alloc, order)?;
     let numbers = numbers_of(alloc, &states)?;
@@ -154,7 +156,8 @@ pub fn to_grammar<S: Semiring, K: TableKey + Drop>(
     requires range { AreInRange (length found.order.items) found.rules.items }
     requires leaves { SidesEndInHoles found.rules.items }
     requires labelled { AreLabelled (length labels.now) found.rules.items }
-    ensures canonical { IfOk result (λ h. IsCanonicalOverKeys S.product S.SCALE labels.now K.cmp found.order.items found.rules.items begin h.grammar) }
+    ensures canonical { IfOk result (λ h. IsCanonicalOverKeys S.product S.SCALE labels.now K.cmp
+        found.order.items found.rules.items begin h.grammar) }
     ensures labelled { IfOk result (λ h. AreLabelled (length labels.now) h.grammar.rules) }
     ensures text { IfOk result (λ h. h.text.bytes ≡ grammar_text S.SCALE labels.now h.grammar) }
 {

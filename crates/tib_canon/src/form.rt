@@ -25,7 +25,8 @@ pub fn canonical<S: Semiring>(
     labels: &Labels,
 ) -> Result<Printed<S>, AllocError>
     requires { AreLabelled (length labels.now) grammar.rules }
-    ensures canonical { IfOk result (λ h. IsCanonical S.product S.SCALE labels.now grammar h.grammar) }
+    ensures canonical { IfOk result (λ h. IsCanonical S.product S.SCALE labels.now grammar
+        h.grammar) }
     ensures series { IfOk result (λ h. HasSameSeries S.product grammar h.grammar) }
     ensures labelled { IfOk result (λ h. AreLabelled (length labels.now) h.grammar.rules) }
     ensures text { IfOk result (λ h. h.text.bytes ≡ grammar_text S.SCALE labels.now h.grammar) }
@@ -49,8 +50,10 @@ pub(crate) fn canonical_of_rules<S: Semiring>(
     requires range { AreInRange states rules.items }
     requires leaves { SidesEndInHoles rules.items }
     requires labelled { AreLabelled (length labels.now) rules.items }
-    ensures canonical { IfOk result (λ h. OverStates states rules.items (λ g. IsCanonical S.product S.SCALE labels.now g h.grammar)) }
-    ensures series { IfOk result (λ h. OverStates states rules.items (λ g. HasSameSeries S.product g h.grammar)) }
+    ensures canonical { IfOk result (λ h. OverStates states rules.items
+        (λ g. IsCanonical S.product S.SCALE labels.now g h.grammar)) }
+    ensures series { IfOk result (λ h. OverStates states rules.items
+        (λ g. HasSameSeries S.product g h.grammar)) }
     ensures labelled { IfOk result (λ h. AreLabelled (length labels.now) h.grammar.rules) }
     ensures text { IfOk result (λ h. h.text.bytes ≡ grammar_text S.SCALE labels.now h.grammar) }
 {

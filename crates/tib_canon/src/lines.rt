@@ -42,7 +42,8 @@ fn add_line<S: Semiring>(
     labels: &Labels,
 ) -> Result<(), AllocError>
     requires { IsRuleWithin names.now labels.now rule.now }
-    ensures { IfOk result (λ _. sink.new.bytes ≡ sink.old.bytes ++ rule_text S.SCALE names.now labels.now rule.now) }
+    ensures { IfOk result (λ _. sink.new.bytes ≡ sink.old.bytes ++ rule_text S.SCALE names.now
+        labels.now rule.now) }
 {
     match print_rule::<S, GrowingSink>(rule, names, labels, sink) {
         Ok(()) => Ok(()),
@@ -58,9 +59,12 @@ pub(crate) fn texts_at<S: Semiring>(
     names: &Names,
     labels: &Labels,
 ) -> Result<Texts, AllocError>
-    requires below { (i : ℕ) → i < length positions.now → get_or positions.now i 0 < length rules.now }
-    requires within { (n : ℕ) → n < length rules.now → IsRuleWithin names.now labels.now (rule_at rules.now n) }
-    ensures { IfOk result (λ texts. AreTexts S.SCALE names.now labels.now (map (rule_at rules.now) positions.now) texts.sink.bytes texts.ends.items) }
+    requires below { (i : ℕ) → i < length positions.now → get_or positions.now i 0
+        < length rules.now }
+    requires within { (n : ℕ) → n < length rules.now → IsRuleWithin names.now labels.now
+        (rule_at rules.now n) }
+    ensures { IfOk result (λ texts. AreTexts S.SCALE names.now labels.now
+        (map (rule_at rules.now) positions.now) texts.sink.bytes texts.ends.items) }
 {
     let mut sink = GrowingSink::new(alloc);
     let mut ends = Vec::with_capacity(alloc, positions.len())?;
@@ -87,13 +91,17 @@ pub(crate) fn lines_at<'a>(
     positions: &[u32],
     texts: &'a Texts,
 ) -> Result<Vec<Line<'a>>, AllocError>
-    requires below { (i : ℕ) → i < length positions.now → get_or positions.now i 0 < length rules.now }
+    requires below { (i : ℕ) → i < length positions.now → get_or positions.now i 0
+        < length rules.now }
     requires texts { (scale : Scale) × (names : List (List ℕ)) × (labels : List (List ℕ))
-        × AreTexts scale names labels (map (rule_at rules.now) positions.now) texts.now.sink.bytes texts.now.ends.items }
+        × AreTexts scale names labels (map (rule_at rules.now) positions.now) texts.now.sink.bytes
+        texts.now.ends.items }
     ensures lines { IfOk result (λ lines. (scale : Scale) (names labels : List (List ℕ))
-        → AreTexts scale names labels (map (rule_at rules.now) positions.now) texts.now.sink.bytes texts.now.ends.items
+        → AreTexts scale names labels (map (rule_at rules.now) positions.now) texts.now.sink.bytes
+        texts.now.ends.items
         → Each (IsLineAt scale names labels rules.now) lines.items) }
-    ensures positions { IfOk result (λ lines. map (λ line. line.position) lines.items ≡ positions.now) }
+    ensures positions { IfOk result (λ lines. map (λ line. line.position) lines.items
+        ≡ positions.now) }
 {
     let text = texts.sink.bytes();
     let mut lines = Vec::with_capacity(alloc, positions.len())?;

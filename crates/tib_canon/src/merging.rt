@@ -12,7 +12,8 @@ fn note<'a>(
     left: u32,
     items: &'a [Item<u32>],
 ) -> Result<Option<usize>, AllocError>
-    ensures { IfOk result (λ r. IsNoted (map (λ k. (k.0, k.1.now)) sides.old.keys) (left, items.now) r (map (λ k. (k.0, k.1.now)) sides.new.keys)) }
+    ensures { IfOk result (λ r. IsNoted (map (λ k. (k.0, k.1.now)) sides.old.keys) (left, items.now)
+        r (map (λ k. (k.0, k.1.now)) sides.new.keys)) }
 {
     let (place, is_new) = sides.insert_full((left, items))?;
     Ok(if is_new { None } else { Some(place) })

@@ -91,7 +91,8 @@ pub(crate) fn states_behind_fresh<K: TableKey + Drop>(
 pub fn numbers_of(alloc: Global, states: &[u32]) -> Result<Vec<u32>, AllocError>
     requires few { length states.now < 2 ^ 32 }
     requires below { AreBelow (length states.now) states.now }
-    requires apart { (i j : ℕ) → i < j → j < length states.now → get_or states.now i 0 ≡ get_or states.now j 0 → ⊥ }
+    requires apart { (i j : ℕ) → i < j → j < length states.now → get_or states.now i 0
+        ≡ get_or states.now j 0 → ⊥ }
     ensures long { IfOk result (λ v. length v.items ≡ length states.now) }
     ensures numbers { IfOk result (λ v. AreNumbersOf states.now v.items) }
 {

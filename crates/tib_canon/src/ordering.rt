@@ -38,7 +38,8 @@ pub(crate) fn in_order<S: Semiring>(
     requires range { AreInRange states rules.items }
     requires leaves { SidesEndInHoles rules.items }
     requires labelled { AreLabelled (length labels.now) rules.items }
-    ensures in_order { IfOk result (λ h. OverStates states rules.items (λ g. IsInOrder S.SCALE labels.now g h.grammar)) }
+    ensures in_order { IfOk result (λ h. OverStates states rules.items
+        (λ g. IsInOrder S.SCALE labels.now g h.grammar)) }
     ensures text { IfOk result (λ h. h.text.bytes ≡ grammar_text S.SCALE labels.now h.grammar) }
 {
     let _ = labels.len();

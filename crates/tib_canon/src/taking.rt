@@ -36,7 +36,8 @@ pub(crate) fn rules_at(
 ) -> Result<Vec<Rule<u32>>, AllocError>
     requires below { Each (λ line. line.position < length rules.items) lines.now }
     requires apart { Distinct (map (λ line. line.position) lines.now) }
-    ensures { IfOk result (λ v. v.items ≡ map (λ line. rule_at rules.items line.position) lines.now) }
+    ensures { IfOk result (λ v. v.items ≡ map (λ line. rule_at rules.items line.position)
+        lines.now) }
 {
     let mut places = places_of(alloc, rules)?;
     let mut taken = Vec::with_capacity(alloc, lines.len())?;

@@ -30,7 +30,8 @@ fn over_keys<K: TableKey + Drop>(
     requires start { start < length order.items }
     requires within { AreWithin (length order.items) rules.items }
     requires leaves { EndInHoles rules.items }
-    ensures { IfOk result (λ v. IsTransducerOverKeys K.cmp order.items rules.items start (over_numbers (length order.items) v.items)) }
+    ensures { IfOk result (λ v. IsTransducerOverKeys K.cmp order.items rules.items start
+        (over_numbers (length order.items) v.items)) }
 {
     let states = states_by_keys(alloc, order, start)?;
     let numbers = numbers_of(alloc, &states)?;
@@ -55,10 +56,13 @@ pub fn to_transducer<S: Semiring, K: TableKey + Drop>(
     requires few_rules { length found.rules.items < 2 ^ 32 }
     requires start { start < length found.order.items }
     requires moves { AreMovesOver S.SCALE labels.now (length found.order.items) found.rules.items }
-    ensures canonical { IfOk result (λ h. IsCanonicalTransducer S.SCALE labels.now K.cmp found.order.items found.rules.items start h.transducer) }
-    ensures series { IfOk result (λ h. HasSeriesFrom S.product found.rules.items start h.transducer.rules) }
+    ensures canonical { IfOk result (λ h. IsCanonicalTransducer S.SCALE labels.now K.cmp
+        found.order.items found.rules.items start h.transducer) }
+    ensures series { IfOk result (λ h. HasSeriesFrom S.product found.rules.items start
+        h.transducer.rules) }
     ensures labelled { IfOk result (λ h. AreLabelled (length labels.now) h.transducer.rules) }
-    ensures text { IfOk result (λ h. h.text.bytes ≡ transducer_text S.SCALE labels.now h.transducer) }
+    ensures text { IfOk result (λ h. h.text.bytes ≡ transducer_text S.SCALE labels.now
+        h.transducer) }
 {
     let Found { order, rules, .. } = found;
     let states = order.len() as u32;

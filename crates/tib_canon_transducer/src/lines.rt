@@ -16,8 +16,10 @@ pub(crate) fn lines_of<'a>(
 ) -> Result<Vec<Line<'a>>, AllocError>
     requires few { length rules.now < 2 ^ 32 }
     requires many { length texts.now ≡ 1 + length rules.now }
-    ensures lines { IfOk result (λ v. Each (IsMoveLine rules.now (map (λ t. t.now) texts.now)) v.items) }
-    ensures positions { IfOk result (λ v. map (λ line. line.position) v.items ≡ up_to (length rules.now)) }
+    ensures lines { IfOk result (λ v. Each (IsMoveLine rules.now (map (λ t. t.now) texts.now))
+        v.items) }
+    ensures positions { IfOk result (λ v. map (λ line. line.position) v.items
+        ≡ up_to (length rules.now)) }
 {
     let mut lines = Vec::with_capacity(alloc, rules.len())?;
     for n in 0..rules.len() {

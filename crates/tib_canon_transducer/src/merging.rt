@@ -15,7 +15,8 @@ fn note<'a>(
     left: &'a [Item<Variable>],
     right: &'a [Item<Pair<u32>>],
 ) -> Result<Option<usize>, AllocError>
-    ensures { IfOk result (λ r. IsNoted (map (λ k. (k.0, k.1.now, k.2.now)) sides.old.keys) (state, left.now, right.now) r (map (λ k. (k.0, k.1.now, k.2.now)) sides.new.keys)) }
+    ensures { IfOk result (λ r. IsNoted (map (λ k. (k.0, k.1.now, k.2.now)) sides.old.keys)
+        (state, left.now, right.now) r (map (λ k. (k.0, k.1.now, k.2.now)) sides.new.keys)) }
 {
     let (place, is_new) = sides.insert_full((state, left, right))?;
     Ok(if is_new { None } else { Some(place) })

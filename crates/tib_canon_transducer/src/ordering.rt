@@ -77,7 +77,8 @@ fn sorted<S: Semiring>(
     requires printable { Each (IsPrintable S.SCALE labels.now) transducer.rules }
     requires apart { Ascends Differ transducer.rules }
     ensures sorted { IfOk result (λ h. IsSortedForm S.SCALE labels.now transducer h.transducer) }
-    ensures text { IfOk result (λ h. h.text.bytes ≡ transducer_text S.SCALE labels.now h.transducer) }
+    ensures text { IfOk result (λ h. h.text.bytes ≡ transducer_text S.SCALE labels.now
+        h.transducer) }
 {
     transducer.is_sound();
     let _ = labels.len();
@@ -108,8 +109,10 @@ pub(crate) fn in_order<S: Semiring>(
     requires some { 0 < states }
     requires few { length rules.items < 2 ^ 32 }
     requires moves { AreMovesOver S.SCALE labels.now states rules.items }
-    ensures in_order { IfOk result (λ h. IsTransducerInOrder S.SCALE labels.now (over_numbers states rules.items) h.transducer) }
-    ensures text { IfOk result (λ h. h.text.bytes ≡ transducer_text S.SCALE labels.now h.transducer) }
+    ensures in_order { IfOk result (λ h. IsTransducerInOrder S.SCALE labels.now
+        (over_numbers states rules.items) h.transducer) }
+    ensures text { IfOk result (λ h. h.text.bytes ≡ transducer_text S.SCALE labels.now
+        h.transducer) }
 {
     let merged = merged::<S>(alloc, states, rules)?;
     sorted(alloc, merged, labels)

@@ -102,7 +102,8 @@ pub(crate) fn renamed_rules(
     numbers: &[u32],
 ) -> Result<Vec<TransducerRule<u32>>, AllocError>
     requires { AreWithin (length numbers.now) rules.items }
-    ensures { IfOk result (λ v. v.items ≡ map (named_transducer_rule (number_in numbers.now)) rules.items) }
+    ensures { IfOk result (λ v. v.items ≡ map (named_transducer_rule (number_in numbers.now))
+        rules.items) }
 {
     let mut rules = rules;
     for n in 0..rules.len() {

@@ -44,7 +44,8 @@ fn text_behind<'a>(text: &'a [u8], end: usize) -> &'a [u8]
 /// refused. Worst case: one pass over the bytes.
 pub(crate) fn lines_in<'a>(alloc: Global, text: &'a [u8]) -> Result<Vec<&'a [u8]>, AllocError>
     requires { (lines : List (List ℕ)) × AreLinesOf text.now lines }
-    ensures { IfOk result (λ v. (lines : List (List ℕ)) → AreLinesOf text.now lines → map (λ line. line.now) v.items ≡ lines) }
+    ensures { IfOk result (λ v. (lines : List (List ℕ)) → AreLinesOf text.now lines →
+        map (λ line. line.now) v.items ≡ lines) }
 {
     let mut lines = Vec::new(alloc);
     let mut rest = text;

@@ -39,7 +39,8 @@ fn moved_rules(
     rules: Vec<TransducerRule<u32>>,
     positions: &[u32],
 ) -> Result<Vec<TransducerRule<u32>>, AllocError>
-    requires below { (i : ℕ) → i < length positions.now → get_or positions.now i 0 < length rules.items }
+    requires below { (i : ℕ) → i < length positions.now → get_or positions.now i 0
+        < length rules.items }
     requires apart { Distinct positions.now }
     ensures { IfOk result (λ v. v.items ≡ map (transducer_rule rules.items) positions.now) }
 {
@@ -77,7 +78,8 @@ pub(crate) fn rules_at(
     rules: Vec<TransducerRule<u32>>,
     positions: &[u32],
 ) -> Result<Vec<TransducerRule<u32>>, AllocError>
-    requires below { (i : ℕ) → i < length positions.now → get_or positions.now i 0 < length rules.items }
+    requires below { (i : ℕ) → i < length positions.now → get_or positions.now i 0
+        < length rules.items }
     requires apart { Distinct positions.now }
     ensures { IfOk result (λ v. v.items ≡ map (transducer_rule rules.items) positions.now) }
 {

@@ -122,7 +122,8 @@ impl<'a, S: Semiring> Composite<'a, S> {
         node: u32,
         position: u32,
     ) -> Result<Option<Cost>, AllocError>
-        ensures { IfOk result (BoundsReader S.product self.now.second.now.rules source.now node position) }
+        ensures { IfOk result (BoundsReader S.product self.now.second.now.rules source.now node
+            position) }
     {
         let Some(rule) = self.second.rule_list().get(position as usize) else {
             return Err(AllocError);
@@ -157,7 +158,8 @@ impl<'a, S: Semiring> Composite<'a, S> {
         node: u32,
         state: u32,
     ) -> Result<(), AllocError>
-        ensures { OnOk result (KeepsSource S.product self.now.second.now.rules source.old source.new) }
+        ensures { OnOk result (KeepsSource S.product self.now.second.now.rules source.old
+            source.new) }
     {
         let Some(Item::Label { label, rank }) = source.items.get(node as usize) else {
             return Ok(());
@@ -182,7 +184,8 @@ impl<'a, S: Semiring> Composite<'a, S> {
         source: &mut Source,
         state: u32,
     ) -> Result<(), AllocError>
-        ensures { OnOk result (KeepsSource S.product self.now.second.now.rules source.old source.new) }
+        ensures { OnOk result (KeepsSource S.product self.now.second.now.rules source.old
+            source.new) }
     {
         if !has_label_below(source.items) {
             return Ok(());

@@ -42,7 +42,8 @@ impl Bounds {
 
     /// The bound of a piece; a label that is put out has 0.
     pub fn of_piece(&self, piece: &Piece) -> Option<Cost>
-        ensures { (product : ℕ → ℕ → ℕ) → (two : List (RuleOf ℕ)) → (pairs : List (Symbol ℕ (PairOf ℕ) × ℕ)) → AreBounds product two pairs self.now →
+        ensures { (product : ℕ → ℕ → ℕ) → (two : List (RuleOf ℕ)) →
+            (pairs : List (Symbol ℕ (PairOf ℕ) × ℕ)) → AreBounds product two pairs self.now →
             BoundsPiece product two (piece_of pairs piece.now) result }
     {
         match piece {

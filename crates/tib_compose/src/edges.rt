@@ -56,8 +56,10 @@ impl<'a, S: Semiring> Composite<'a, S> {
     ) -> Result<(), ExpandError>
         requires below { position < length self.now.first.now.rules }
         requires within { IsWithinBudget listing.old }
-        ensures listed { OnOk result (ListsRule S.product self.now.first.now.rules self.now.second.now.rules key position listing.old listing.new) }
-        ensures more { result ≡ Err ExpandError.More → RuleOverruns S.product self.now.first.now.rules self.now.second.now.rules key position listing.old }
+        ensures listed { OnOk result (ListsRule S.product self.now.first.now.rules
+            self.now.second.now.rules key position listing.old listing.new) }
+        ensures more { result ≡ Err ExpandError.More → RuleOverruns S.product
+            self.now.first.now.rules self.now.second.now.rules key position listing.old }
         ensures within { OnOk result (IsWithinBudget listing.new) }
         ensures budget { OnOk result (listing.new.budget ≡ listing.old.budget) }
     {
@@ -94,8 +96,10 @@ impl<'a, S: Semiring> Composite<'a, S> {
     ) -> Result<(), ExpandError>
         requires below { position < length self.now.first.now.rules }
         requires within { IsWithinBudget listing.old }
-        ensures listed { OnOk result (ListsRule S.product self.now.first.now.rules self.now.second.now.rules key position listing.old listing.new) }
-        ensures more { result ≡ Err ExpandError.More → RuleOverruns S.product self.now.first.now.rules self.now.second.now.rules key position listing.old }
+        ensures listed { OnOk result (ListsRule S.product self.now.first.now.rules
+            self.now.second.now.rules key position listing.old listing.new) }
+        ensures more { result ≡ Err ExpandError.More → RuleOverruns S.product
+            self.now.first.now.rules self.now.second.now.rules key position listing.old }
         ensures within { OnOk result (IsWithinBudget listing.new) }
         ensures budget { OnOk result (listing.new.budget ≡ listing.old.budget) }
     {
@@ -115,8 +119,10 @@ impl<'a, S: Semiring> Composite<'a, S> {
         budget: u64,
     ) -> Result<Listing<'a>, ExpandError>
         requires budget { budget ≤ most_parts }
-        ensures listed { IfOk result (ListsKey S.product self.now.first.now.rules self.now.second.now.rules key position) }
-        ensures more { result ≡ Err ExpandError.More → KeyOverruns S.product self.now.first.now.rules self.now.second.now.rules key position budget }
+        ensures listed { IfOk result (ListsKey S.product self.now.first.now.rules
+            self.now.second.now.rules key position) }
+        ensures more { result ≡ Err ExpandError.More → KeyOverruns S.product
+            self.now.first.now.rules self.now.second.now.rules key position budget }
         ensures within { IfOk result IsWithinBudget }
         ensures budget { IfOk result (λ l. l.budget ≡ budget) }
     {

@@ -138,9 +138,11 @@ impl<'a, S: Semiring> Composite<'a, S> {
         listing: &mut Listing<'a>,
     ) -> Result<(), ExpandError>
         requires within { IsWithinBudget listing.old }
-        ensures listed { OnOk result (ListsReader S.product self.now.second.now.rules rule.now items.now position listing.old listing.new) }
+        ensures listed { OnOk result (ListsReader S.product self.now.second.now.rules rule.now
+            items.now position listing.old listing.new) }
         ensures more { result ≡ Err ExpandError.More →
-            ReaderOverruns S.product self.now.second.now.rules rule.now items.now position listing.old }
+            ReaderOverruns S.product self.now.second.now.rules rule.now items.now position
+            listing.old }
         ensures within { OnOk result (IsWithinBudget listing.new) }
         ensures budget { OnOk result (listing.new.budget ≡ listing.old.budget) }
     {
@@ -170,10 +172,13 @@ impl<'a, S: Semiring> Composite<'a, S> {
         listing: &mut Listing<'a>,
     ) -> Result<(), ExpandError>
         requires below { position < length self.now.first.now.rules }
-        requires flat { IsFlatOver (preorder_of (transducer_rule self.now.first.now.rules position).right) label rank }
+        requires flat { IsFlatOver (preorder_of (transducer_rule self.now.first.now.rules
+            position).right) label rank }
         requires within { IsWithinBudget listing.old }
-        ensures listed { OnOk result (ListsRule S.product self.now.first.now.rules self.now.second.now.rules key position listing.old listing.new) }
-        ensures more { result ≡ Err ExpandError.More → RuleOverruns S.product self.now.first.now.rules self.now.second.now.rules key position listing.old }
+        ensures listed { OnOk result (ListsRule S.product self.now.first.now.rules
+            self.now.second.now.rules key position listing.old listing.new) }
+        ensures more { result ≡ Err ExpandError.More → RuleOverruns S.product
+            self.now.first.now.rules self.now.second.now.rules key position listing.old }
         ensures within { OnOk result (IsWithinBudget listing.new) }
         ensures budget { OnOk result (listing.new.budget ≡ listing.old.budget) }
     {

@@ -38,7 +38,8 @@ fn add(
     requires numbered { AreNumbered shapes.old buckets.old.items }
     requires few { length buckets.old.items ≤ position }
     ensures numbered { AreNumbered shapes.new buckets.new.items }
-    ensures added { OnOk result (AddsPosition shape position shapes.old buckets.old.items shapes.new buckets.new.items) }
+    ensures added { OnOk result (AddsPosition shape position shapes.old buckets.old.items shapes.new
+        buckets.new.items) }
     ensures few { length buckets.new.items ≤ position + 1 }
 {
     if let Some(number) = shapes.get(&shape).copied() {

@@ -41,7 +41,8 @@ impl Moves {
 
     /// The positions of the rules of a state, ascending. It takes no memory and one step.
     pub fn of(&self, state: u32) -> &[u32]
-        ensures { (rules : List (TransducerRule ℕ)) → IsMoves rules self.now → result.now ≡ moves_of state rules }
+        ensures { (rules : List (TransducerRule ℕ)) → IsMoves rules self.now → result.now
+            ≡ moves_of state rules }
     {
         match self.buckets.get(state as usize) {
             Some(positions) => positions,

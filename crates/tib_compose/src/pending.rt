@@ -87,7 +87,8 @@ impl Pending {
 
     /// What all that is left costs at least, none if it is more than the greatest cost.
     pub fn bound(&self) -> Option<Cost>
-        ensures { (product : ℕ → ℕ → ℕ) → (two : List (RuleOf ℕ)) → (pairs : List (Symbol ℕ (PairOf ℕ) × ℕ)) → (ws : List PieceOf) →
+        ensures { (product : ℕ → ℕ → ℕ) → (two : List (RuleOf ℕ)) →
+            (pairs : List (Symbol ℕ (PairOf ℕ) × ℕ)) → (ws : List PieceOf) →
             Holds product two pairs self.now ws → BoundsAll product two ws result }
     {
         if self.next == 0 {

@@ -19,7 +19,8 @@ use tib_transducer::Pair;
 fn piece_for(item: &Item<Pair<u32>>, ends: &[u32], node: u32) -> Piece
     requires node { node < length ends.now }
     requires few { length ends.now < 2 ^ 32 }
-    ensures { (pairs : List (Symbol ℕ (PairOf ℕ) × ℕ)) → length pairs ≡ length ends.now → AreEnds pairs ends.now 0 →
+    ensures { (pairs : List (Symbol ℕ (PairOf ℕ) × ℕ)) → length pairs ≡ length ends.now →
+        AreEnds pairs ends.now 0 →
         piece_of pairs result ≡ piece_below pairs node item.now }
 {
     match item {
@@ -42,7 +43,8 @@ pub(crate) fn push_pieces<S: Semiring>(
     source: &Source,
     node: u32,
 ) -> Result<(), AllocError>
-    ensures pieces { OnOk result (PutsPieces S.product right.now source.now node pending.old pending.new) }
+    ensures pieces { OnOk result (PutsPieces S.product right.now source.now node pending.old
+        pending.new) }
 {
     if node as usize >= source.ends.len() {
         return Err(AllocError);

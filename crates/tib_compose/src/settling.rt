@@ -131,8 +131,10 @@ pub(crate) fn settled_rule(
     rule: &PlacedRule,
     ends: &[u32],
 ) -> Result<TransducerRule<u32>, AllocError>
-    requires { (known : ℕ) × Each (IsWithin known (length ends.now)) (places_of (rule_of rule.now)) }
-    ensures { IfOk result (λ r. r ≡ named_transducer_rule (position_of ends.now) (rule_of rule.now)) }
+    requires { (known : ℕ) × Each (IsWithin known (length ends.now))
+        (places_of (rule_of rule.now)) }
+    ensures { IfOk result (λ r. r ≡ named_transducer_rule (position_of ends.now)
+        (rule_of rule.now)) }
 {
     let left = copied_left(alloc, rule.left)?;
     let right = settled_right(alloc, &rule.right, ends)?;

@@ -27,8 +27,10 @@ pub(crate) fn go_on<'a>(
     listing: &mut Listing<'a>,
 ) -> Result<(), ExpandError>
     requires within { IsWithinBudget listing.old }
-    ensures goes { OnOk result (GoesOn source.now left.now search.old search.new listing.old listing.new) }
-    ensures more { result ≡ Err ExpandError.More → GoesTooFar source.now left.now search.old listing.old }
+    ensures goes { OnOk result (GoesOn source.now left.now search.old search.new listing.old
+        listing.new) }
+    ensures more { result ≡ Err ExpandError.More → GoesTooFar source.now left.now search.old
+        listing.old }
     ensures within { OnOk result (IsWithinBudget listing.new) }
     ensures budget { OnOk result (listing.new.budget ≡ listing.old.budget) }
 {
@@ -58,7 +60,8 @@ impl<'a, S: Semiring> Composite<'a, S> {
         turn: &Turn,
         position: u32,
     ) -> Result<bool, AllocError>
-        ensures read { IfOk result (IsRead S.product self.now.second.now.rules source.now turn.now position branch.old branch.new) }
+        ensures read { IfOk result (IsRead S.product self.now.second.now.rules source.now turn.now
+            position branch.old branch.new) }
     {
         let Some(rule) = self.second.rule_list().get(position as usize) else {
             return Err(AllocError);
@@ -86,8 +89,10 @@ impl<'a, S: Semiring> Composite<'a, S> {
         listing: &mut Listing<'a>,
     ) -> Result<bool, ExpandError>
         requires within { IsWithinBudget listing.old }
-        ensures steps { IfOk result (Steps S.product self.now.second.now.rules source.now left.now search.old search.new listing.old listing.new) }
-        ensures more { result ≡ Err ExpandError.More → StepsTooFar S.product self.now.second.now.rules source.now left.now search.old listing.old }
+        ensures steps { IfOk result (Steps S.product self.now.second.now.rules source.now left.now
+            search.old search.new listing.old listing.new) }
+        ensures more { result ≡ Err ExpandError.More → StepsTooFar S.product
+            self.now.second.now.rules source.now left.now search.old listing.old }
         ensures within { OnOk result (IsWithinBudget listing.new) }
         ensures budget { OnOk result (listing.new.budget ≡ listing.old.budget) }
     {

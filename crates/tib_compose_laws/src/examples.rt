@@ -10,8 +10,10 @@ ghost use Rattle.tib_compose_laws.specs.Examples.{copying, turning, composite, a
 
 /// The translation of F(q.x0 q.x0) by p.F(x0 x1) -> G(p.x1 p.x0) # 1 is G((q p).x0 (q p).x0), at cost 1.
 pub fn translations_compute()
-    ensures are { AreTranslations turning (0 ∷ []) (only (transducer_rule copying 0).right) at_pair }
-    ensures side { translated turning (0 ∷ []) (only (transducer_rule copying 0).right) at_pair ≡ turned }
+    ensures are { AreTranslations turning (0 ∷ []) (only (transducer_rule copying 0).right)
+        at_pair }
+    ensures side { translated turning (0 ∷ []) (only (transducer_rule copying 0).right) at_pair
+        ≡ turned }
     ensures cost { choice_cost ◌+◌ turning at_pair ≡ 1 }
 {}
 

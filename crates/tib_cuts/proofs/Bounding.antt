@@ -13,16 +13,13 @@ use Rattle.tib_cuts.specs.CutLists.{stands, any_from, cuts_of, reaches}
 use Rattle.tib_cuts.specs.Bounds.{IsBound, IsRow, IsLast, PassesWord, PassesPair}
 use Rattle.tib_cuts.proofs.Cutting.{cut_up}
 use Rattle.tib_cuts.proofs.CutLists.{listed_cut, within_end}
-use Rattle.tib_cuts.proofs.Reaching.{reaches_cut, cut_reaches, is_any}
+use Rattle.tib_cuts.proofs.Reaching.{true_false, reaches_cut, cut_reaches, is_any}
 use Rattle.tib_cuts.proofs.Stacking.{from_token}
 
 pub past : {A : Type 0} (xs : List A) (n : ℕ) (d : A) → length xs ≤ n → get_or xs n d ≡ d
 past [] n d h = refl
 past (x ∷ xs) zero d h = absurd (omega arith)
 past (x ∷ xs) (suc n) d h = past xs n d (omega arith)
-
-true_false : (b : Bool) → b ≡ true → b ≡ false → ⊥
-true_false b e f = absurd (cc (e, f))
 
 none_has : (xs : List (List ℕ)) → ((ks : List ℕ) → Has xs ks → ⊥) → xs ≡ []
 none_has [] h = refl

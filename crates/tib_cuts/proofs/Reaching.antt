@@ -11,7 +11,8 @@ use Rattle.tib_lex.proofs.Booleans.{bool_cases}
 use Rattle.tib_cuts.proofs.Cutting.{cut_up}
 use Rattle.tib_cuts.proofs.CutLists.{stands_is, is_standing, within_end}
 
-true_false : (b : Bool) → b ≡ true → b ≡ false → ⊥
+-- no truth value is both
+pub true_false : (b : Bool) → b ≡ true → b ≡ false → ⊥
 true_false b e f = absurd (cc (e, f))
 
 pub any_is : (f : ℕ → Bool) (i m : ℕ) → any_from f i m ≡ true → (k : ℕ) × (i ≤ k) × (f k ≡ true)

@@ -64,7 +64,8 @@ fn is_marked(row: &[bool], place: usize) -> bool
 fn is_marked_before(row: &[bool], string: &[Label], from: usize, place: usize, word: Label) -> bool
     requires inside { from + place < length string.now + 1 }
     requires below { place < length row.now }
-    ensures { result ≡ (if stands string.now (from + place) word then get_or row.now (place + 1) false else false) }
+    ensures { result ≡ (if stands string.now (from + place) word then
+        get_or row.now (place + 1) false else false) }
 {
     if stands_at(string, from + place, word) {
         is_marked(row, place + 1)

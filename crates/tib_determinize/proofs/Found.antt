@@ -23,9 +23,10 @@ use Rattle.tib_hunt.proofs.Reaching.{apart}
 use Rattle.tib_determinize.specs.Vectors.{VectorOf, Rises, IsStep, vector_at, vectors_at}
 use Rattle.tib_determinize.specs.Determinization.{vector_cmp, IsVectorSeed, IsVectorEdge, determinization}
 use Rattle.tib_determinize.specs.VectorGrammar.{IsVectorGrammar, IsDeterminized}
-use Rattle.tib_determinize.specs.ListLemmas.{order_of, each_map, distinct_append, along_get}
+use Rattle.tib_determinize.specs.ListLemmas.{order_of, each_map, along_get}
 use Rattle.tib_determinize.specs.OneStep.{vector_total}
 use Rattle.tib_determinize.proofs.Stepping.{step_or_none, lefts_below}
+use Rattle.tib_hunt.proofs.Members.{distinct_append}
 
 -- right sides over positions
 

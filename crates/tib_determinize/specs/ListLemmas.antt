@@ -17,14 +17,6 @@ pub each_map : {A : Type 0} (P Q : A → Type 0) → ((x : A) → P x → Q x) �
 each_map P Q f [] e = tt
 each_map P Q f (x ∷ xs) e = (f x e.0, each_map P Q f xs e.1)
 
--- lists without a common member have none twice together
-pub distinct_append : {A : Type 0} (xs ys : List A) → Distinct xs → Distinct ys → ((x : A) → Has xs x → Has ys x → ⊥) → Distinct (xs ++ ys)
-distinct_append [] ys d e n = e
-distinct_append (x ∷ xs) ys d e n = (
-  λ h. elim (has_either xs ys x h) [ inl k ↦ d.0 k | inr k ↦ n x (inl refl) k ],
-  distinct_append xs ys d.1 e (λ y h. n y (inr h)),
-)
-
 -- a member of the first of two lists
 pub get_left : {A : Type 0} (xs ys : List A) (i : ℕ) (d : A) → i < length xs → get_or (xs ++ ys) i d ≡ get_or xs i d
 get_left [] ys i d h = absurd (omega arith)

@@ -59,7 +59,8 @@ fn residual_at(rules: &[Rule<u32>], place: usize, vector: &Vector, rule: u32) ->
 fn is_place_of(rules: &[Rule<u32>], label: Label, rank: u32, place: u32, one: &Occurrence) -> bool
     requires normal { AreNormal rules.now }
     ensures sound { IsTrue result → IsBegun rules.now label rank (fresh one.now.rule) }
-    ensures whole { one.now.place ≡ place → IsBegun rules.now label rank (fresh one.now.rule) → IsTrue result }
+    ensures whole { one.now.place ≡ place → IsBegun rules.now label rank (fresh one.now.rule) →
+        IsTrue result }
 {
     if one.place != place {
         return false;
@@ -82,7 +83,8 @@ pub(crate) fn begin_at<S: Semiring>(
 ) -> Result<Vec<Alive>, AllocError>
     requires normal { AreNormal rules.now }
     ensures sound { IfOk result (λ alive. Each (IsBegun rules.now label rank) alive.items) }
-    ensures whole { IfOk result (λ alive. BeginAll rules.now label rank place places.now alive.items) }
+    ensures whole { IfOk result (λ alive. BeginAll rules.now label rank place places.now
+        alive.items) }
 {
     let mut alive = Vec::new(alloc);
     for one in places {
@@ -123,7 +125,8 @@ pub(crate) fn narrow<S: Semiring>(
 ) -> Result<Vec<Alive>, AllocError>
     requires normal { AreNormal rules.now }
     requires place { Each (HasPlace rules.now place) alive.now }
-    ensures { IfOk result (λ left. left.items ≡ narrowed S.product rules.now place vector.now alive.now) }
+    ensures { IfOk result (λ left. left.items ≡ narrowed S.product rules.now place vector.now
+        alive.now) }
 {
     let mut left = Vec::new(alloc);
     for one in alive {

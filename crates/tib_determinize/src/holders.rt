@@ -73,7 +73,8 @@ impl Holders {
 
     /// The positions whose vectors have a state. It takes no memory and one step.
     pub fn of(&self, state: u32) -> &[u32]
-        ensures { (order : List VectorOf) (bound p r : ℕ) → HoldAll order bound self.now.lists.items → p < bound → Has (vector_at order p) (state, r) → Has result.now p }
+        ensures { (order : List VectorOf) (bound p r : ℕ) → HoldAll order bound self.now.lists.items
+            → p < bound → Has (vector_at order p) (state, r) → Has result.now p }
     {
         match self.lists.get(state as usize) {
             Some(positions) => positions,

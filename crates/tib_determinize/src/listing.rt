@@ -55,8 +55,10 @@ impl Listing {
     ) -> Result<(), ExpandError>
         requires few { length positions.now < 2 ^ 32 }
         requires within { IsWithinBudget self.old }
-        ensures added { OnOk result (IsAdded label positions.now step.cost step.vector self.old self.new) }
-        ensures more { result ≡ Err ExpandError.More → self.old.budget < self.old.parts + (2 + length positions.now) }
+        ensures added { OnOk result (IsAdded label positions.now step.cost step.vector self.old
+            self.new) }
+        ensures more { result ≡ Err ExpandError.More → self.old.budget < self.old.parts
+            + (2 + length positions.now) }
         ensures within { OnOk result (IsWithinBudget self.new) }
         ensures budget { self.new.budget ≡ self.old.budget }
     {

@@ -66,7 +66,8 @@ fn add_rule(
     requires normal { AreNormal rules.now }
     requires below { rule < length rules.now }
     ensures more { OnOk result (HoldMore lists.old.items lists.new.items) }
-    ensures own { OnOk result ((j : ℕ) → j < length (states_of rules.now rule) → IsHeld rules.now many lists.new.items rule j) }
+    ensures own { OnOk result ((j : ℕ) → j < length (states_of rules.now rule) →
+        IsHeld rules.now many lists.new.items rule j) }
 {
     let (label, rank) = rules[rule as usize].root();
     let bucket = bucket_of(label, many);
@@ -100,7 +101,8 @@ fn add_all(
     places: &[Occurrence],
 ) -> Result<(), AllocError>
     ensures more { OnOk result (HoldMore found.old.items found.new.items) }
-    ensures own { OnOk result ((o : declared.Occurrence) → Has places.now o → Has (held found.new.items o.bucket) o) }
+    ensures own { OnOk result ((o : declared.Occurrence) → Has places.now o →
+        Has (held found.new.items o.bucket) o) }
 {
     for one in places {
         let occurrence = copied(one);

@@ -97,13 +97,18 @@ impl<'a, S: Semiring> Residuals<'a, S> {
         holders: Option<&Holders>,
         listing: &mut Listing,
     ) -> Result<(), ExpandError>
-        requires standing { HaveStanding self.now.normal.now.rules self.now.occurrences.many shape.0 shape.1 (vector_at order.now position) places.now }
-        requires holders { IfSome holders (λ h. HoldAll order.now (position + 1) h.now.lists.items) }
+        requires standing { HaveStanding self.now.normal.now.rules self.now.occurrences.many shape.0
+            shape.1 (vector_at order.now position) places.now }
+        requires holders { IfSome holders (λ h. HoldAll order.now (position + 1)
+            h.now.lists.items) }
         requires rise { Each (λ v. Rises v) order.now }
         requires position { position < length order.now }
         requires within { IsWithinBudget listing.old }
-        ensures added { OnOk result (AddsSteps S.product self.now.normal.now.rules order.now (behind_label shape.0 (by_last position shape.1 0 shape.1)) listing.old listing.new) }
-        ensures more { result ≡ Err ExpandError.More → StepsOverrun S.product self.now.normal.now.rules order.now (behind_label shape.0 (by_last position shape.1 0 shape.1)) listing.old }
+        ensures added { OnOk result (AddsSteps S.product self.now.normal.now.rules order.now
+            (behind_label shape.0 (by_last position shape.1 0 shape.1)) listing.old listing.new) }
+        ensures more { result ≡ Err ExpandError.More → StepsOverrun S.product
+            self.now.normal.now.rules order.now (behind_label shape.0
+            (by_last position shape.1 0 shape.1)) listing.old }
         ensures within { OnOk result (IsWithinBudget listing.new) }
         ensures budget { listing.new.budget ≡ listing.old.budget }
     {
@@ -138,7 +143,8 @@ impl<'a, S: Semiring> Residuals<'a, S> {
         position: u32,
     ) -> Result<Option<Holders>, AllocError>
         requires { position < length order.now }
-        ensures { IfOk result (λ holders. IfSome holders (λ h. HoldAll order.now (position + 1) h.lists.items)) }
+        ensures { IfOk result (λ holders. IfSome holders
+            (λ h. HoldAll order.now (position + 1) h.lists.items)) }
     {
         if !self.is_wide(&order[position as usize]) {
             return Ok(None);
@@ -170,8 +176,11 @@ impl<'a, S: Semiring> Residuals<'a, S> {
         requires rise { Each (λ v. Rises v) order.now }
         requires position { position < length order.now }
         requires budget { budget ≤ most_parts }
-        ensures listed { IfOk result (HasSteps S.product self.now.normal.now.rules order.now (tries position (shapes_in self.now.normal.now.rules))) }
-        ensures more { result ≡ Err ExpandError.More → StepsExceed S.product self.now.normal.now.rules order.now (tries position (shapes_in self.now.normal.now.rules)) budget }
+        ensures listed { IfOk result (HasSteps S.product self.now.normal.now.rules order.now
+            (tries position (shapes_in self.now.normal.now.rules))) }
+        ensures more { result ≡ Err ExpandError.More → StepsExceed S.product
+            self.now.normal.now.rules order.now (tries position
+            (shapes_in self.now.normal.now.rules)) budget }
         ensures within { IfOk result IsWithinBudget }
         ensures budget { IfOk result (λ l. l.budget ≡ budget) }
     {
@@ -214,8 +223,10 @@ impl<'a, S: Semiring> Residuals<'a, S> {
         listing: &mut Listing,
     ) -> Result<(), ExpandError>
         requires within { IsWithinBudget listing.old }
-        ensures added { OnOk result (AddsSteps S.product self.now.normal.now.rules [] (leaf_try shape) listing.old listing.new) }
-        ensures more { result ≡ Err ExpandError.More → StepsOverrun S.product self.now.normal.now.rules [] (leaf_try shape) listing.old }
+        ensures added { OnOk result (AddsSteps S.product self.now.normal.now.rules []
+            (leaf_try shape) listing.old listing.new) }
+        ensures more { result ≡ Err ExpandError.More → StepsOverrun S.product
+            self.now.normal.now.rules [] (leaf_try shape) listing.old }
         ensures within { OnOk result (IsWithinBudget listing.new) }
         ensures budget { listing.new.budget ≡ listing.old.budget }
     {
@@ -242,8 +253,10 @@ impl<'a, S: Semiring> Residuals<'a, S> {
     /// The edges of the labels over no vector.
     pub(crate) fn list_leaves(&self, alloc: Global, budget: u64) -> Result<Listing, ExpandError>
         requires budget { budget ≤ most_parts }
-        ensures listed { IfOk result (HasSteps S.product self.now.normal.now.rules [] (leaf_tries (shapes_in self.now.normal.now.rules))) }
-        ensures more { result ≡ Err ExpandError.More → StepsExceed S.product self.now.normal.now.rules [] (leaf_tries (shapes_in self.now.normal.now.rules)) budget }
+        ensures listed { IfOk result (HasSteps S.product self.now.normal.now.rules []
+            (leaf_tries (shapes_in self.now.normal.now.rules))) }
+        ensures more { result ≡ Err ExpandError.More → StepsExceed S.product
+            self.now.normal.now.rules [] (leaf_tries (shapes_in self.now.normal.now.rules)) budget }
         ensures within { IfOk result IsWithinBudget }
         ensures budget { IfOk result (λ l. l.budget ≡ budget) }
     {

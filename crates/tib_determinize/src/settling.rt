@@ -83,7 +83,8 @@ pub(crate) fn settle<S: Semiring>(
     costs: Vec<(u32, Cost)>,
 ) -> Result<Option<Step>, AllocError>
     ensures none { IfOk result (λ step. IfNone step (costs.items ≡ [])) }
-    ensures some { IfOk result (λ step. IfSome step (λ s. AreResiduals S.product costs.items s.cost s.vector)) }
+    ensures some { IfOk result (λ step. IfSome step (λ s. AreResiduals S.product costs.items s.cost
+        s.vector)) }
 {
     let Some(cost) = least_cost(&costs) else {
         return Ok(None);

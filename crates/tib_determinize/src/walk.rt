@@ -51,7 +51,8 @@ pub(crate) struct Level {
 fn range_at(walk: &Walk<'_>, place: u32) -> (usize, usize)
     requires { walk.now.position < length walk.now.order.now }
     ensures next { result.0 ≡ first_at walk.now.position walk.now.last place }
-    ensures end { result.1 ≡ first_at walk.now.position walk.now.last place + many_at walk.now.position walk.now.last place }
+    ensures end { result.1 ≡ first_at walk.now.position walk.now.last place
+        + many_at walk.now.position walk.now.last place }
     ensures within { result.1 ≤ length walk.now.order.now }
     ensures fits { result.1 ≤ 2 ^ 32 }
 {
@@ -78,13 +79,15 @@ impl Level {
         requires position { walk.now.position < length walk.now.order.now }
         requires normal { AreNormal walk.now.rules.now }
         requires places { Each (HasPlace walk.now.rules.now place) alive.items }
-        requires holders { IfSome holders (λ h. HoldAll walk.now.order.now (walk.now.position + 1) h.now.lists.items) }
+        requires holders { IfSome holders (λ h. HoldAll walk.now.order.now (walk.now.position + 1)
+            h.now.lists.items) }
         ensures place { IfOk result (λ l. l.place ≡ place) }
         ensures behind { IfOk result (λ l. l.behind ≡ behind) }
         ensures alive { IfOk result (λ l. l.alive ≡ alive) }
         ensures wanted { IfOk result (IsWanted walk.now.rules.now walk.now.order.now) }
         ensures next { IfOk result (λ l. l.next ≡ first_at walk.now.position walk.now.last place) }
-        ensures end { IfOk result (λ l. l.end ≡ first_at walk.now.position walk.now.last place + many_at walk.now.position walk.now.last place) }
+        ensures end { IfOk result (λ l. l.end ≡ first_at walk.now.position walk.now.last place
+            + many_at walk.now.position walk.now.last place) }
         ensures within { IfOk result (λ l. l.end ≤ length walk.now.order.now) }
         ensures fits { IfOk result (λ l. l.end ≤ 2 ^ 32) }
     {
@@ -146,13 +149,16 @@ pub(crate) fn list<S: Semiring>(
     alive: &[Alive],
     listing: &mut Listing,
 ) -> Result<(), ExpandError>
-    requires alive { AreAlive S.product walk.now.rules.now walk.now.order.now walk.now.label walk.now.rank 0 positions.now alive.now }
+    requires alive { AreAlive S.product walk.now.rules.now walk.now.order.now walk.now.label
+        walk.now.rank 0 positions.now alive.now }
     requires normal { AreNormal walk.now.rules.now }
     requires rank { length positions.now ≡ walk.now.rank }
     requires within { IsWithinBudget listing.old }
-    ensures added { OnOk result (AddsSteps S.product walk.now.rules.now walk.now.order.now ((walk.now.label, positions.now) ∷ []) listing.old listing.new) }
+    ensures added { OnOk result (AddsSteps S.product walk.now.rules.now walk.now.order.now
+        ((walk.now.label, positions.now) ∷ []) listing.old listing.new) }
     ensures more { result ≡ Err ExpandError.More →
-        StepsOverrun S.product walk.now.rules.now walk.now.order.now ((walk.now.label, positions.now) ∷ []) listing.old }
+        StepsOverrun S.product walk.now.rules.now walk.now.order.now
+        ((walk.now.label, positions.now) ∷ []) listing.old }
     ensures within { OnOk result (IsWithinBudget listing.new) }
     ensures budget { listing.new.budget ≡ listing.old.budget }
 {
@@ -177,19 +183,26 @@ fn visit<S: Semiring>(
     requires normal { AreNormal walk.now.rules.now }
     requires rise { Each (λ v. Rises v) walk.now.order.now }
     requires position { walk.now.position < length walk.now.order.now }
-    requires level { IsLevel S.product walk.now.rules.now walk.now.order.now walk.now.label walk.now.rank walk.now.position walk.now.last level.now }
+    requires level { IsLevel S.product walk.now.rules.now walk.now.order.now walk.now.label
+        walk.now.rank walk.now.position walk.now.last level.now }
     requires next { level.now.next < level.now.end }
-    requires holders { IfSome holders (λ h. HoldAll walk.now.order.now (walk.now.position + 1) h.now.lists.items) }
+    requires holders { IfSome holders (λ h. HoldAll walk.now.order.now (walk.now.position + 1)
+        h.now.lists.items) }
     requires within { IsWithinBudget listing.old }
     ensures underway { IfOk result (λ below.
         IsUnderway S.product walk.now.rules.now walk.now.order.now
-        (behind_label walk.now.label (under walk.now.position walk.now.last level.now.place (level.now.next ∷ level.now.behind.items)))
-        (behind_label walk.now.label (pending_below walk.now.position walk.now.last below)) listing.old listing.new) }
-    ensures level { IfOk result (λ below. IfSome below (IsLevel S.product walk.now.rules.now walk.now.order.now walk.now.label walk.now.rank walk.now.position walk.now.last)) }
-    ensures few { IfOk result (λ below. IfSome below (λ l. (suc l.place ≡ level.now.place) × (l.end - l.next ≤ length walk.now.order.now))) }
+        (behind_label walk.now.label (under walk.now.position walk.now.last level.now.place
+        (level.now.next ∷ level.now.behind.items)))
+        (behind_label walk.now.label (pending_below walk.now.position walk.now.last below))
+        listing.old listing.new) }
+    ensures level { IfOk result (λ below. IfSome below (IsLevel S.product walk.now.rules.now
+        walk.now.order.now walk.now.label walk.now.rank walk.now.position walk.now.last)) }
+    ensures few { IfOk result (λ below. IfSome below (λ l. (suc l.place ≡ level.now.place)
+        × (l.end - l.next ≤ length walk.now.order.now))) }
     ensures more { result ≡ Err ExpandError.More →
         StepsOverrun S.product walk.now.rules.now walk.now.order.now
-        (behind_label walk.now.label (under walk.now.position walk.now.last level.now.place (level.now.next ∷ level.now.behind.items))) listing.old }
+        (behind_label walk.now.label (under walk.now.position walk.now.last level.now.place
+        (level.now.next ∷ level.now.behind.items))) listing.old }
     ensures within { OnOk result (IsWithinBudget listing.new) }
     ensures budget { listing.new.budget ≡ listing.old.budget }
 {
@@ -262,14 +275,20 @@ pub(crate) fn list_all<S: Semiring>(
     requires rise { Each (λ v. Rises v) walk.now.order.now }
     requires position { walk.now.position < length walk.now.order.now }
     requires rank { 1 ≤ walk.now.rank }
-    requires holders { IfSome holders (λ h. HoldAll walk.now.order.now (walk.now.position + 1) h.now.lists.items) }
-    requires alive { AreLeft S.product walk.now.rules.now walk.now.order.now walk.now.label walk.now.rank
-        walk.now.last (vector_at walk.now.order.now walk.now.position) walk.now.rank [] alive.items }
+    requires holders { IfSome holders (λ h. HoldAll walk.now.order.now (walk.now.position + 1)
+        h.now.lists.items) }
+    requires alive { AreLeft S.product walk.now.rules.now walk.now.order.now walk.now.label
+        walk.now.rank
+        walk.now.last (vector_at walk.now.order.now walk.now.position) walk.now.rank []
+        alive.items }
     requires within { IsWithinBudget listing.old }
     ensures added { OnOk result (AddsSteps S.product walk.now.rules.now walk.now.order.now
-        (behind_label walk.now.label (under walk.now.position walk.now.last walk.now.rank [])) listing.old listing.new) }
-    ensures more { result ≡ Err ExpandError.More → StepsOverrun S.product walk.now.rules.now walk.now.order.now
-        (behind_label walk.now.label (under walk.now.position walk.now.last walk.now.rank [])) listing.old }
+        (behind_label walk.now.label (under walk.now.position walk.now.last walk.now.rank []))
+        listing.old listing.new) }
+    ensures more { result ≡ Err ExpandError.More → StepsOverrun S.product walk.now.rules.now
+        walk.now.order.now
+        (behind_label walk.now.label (under walk.now.position walk.now.last walk.now.rank []))
+        listing.old }
     ensures within { OnOk result (IsWithinBudget listing.new) }
     ensures budget { listing.new.budget ≡ listing.old.budget }
 {

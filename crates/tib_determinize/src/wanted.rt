@@ -18,7 +18,8 @@ fn count_below(positions: &[u32], least: usize) -> usize
     requires { AreAscending positions.now }
     ensures within { result ≤ length positions.now }
     ensures before { (i : ℕ) → i < result → get_or positions.now i 0 < least }
-    ensures behind { (i : ℕ) → result ≤ i → i < length positions.now → least ≤ get_or positions.now i 0 }
+    ensures behind { (i : ℕ) → result ≤ i → i < length positions.now → least
+        ≤ get_or positions.now i 0 }
 {
     let mut low = 0;
     let mut high = positions.len();
@@ -75,10 +76,16 @@ fn add_wanted(
 ) -> Result<(), AllocError>
     requires normal { AreNormal walk.now.rules.now }
     requires place { HasPlace walk.now.rules.now place one.now }
-    requires holders { IfSome holders (λ h. HoldAll walk.now.order.now (walk.now.position + 1) h.now.lists.items) }
+    requires holders { IfSome holders (λ h. HoldAll walk.now.order.now (walk.now.position + 1)
+        h.now.lists.items) }
     ensures more { OnOk result ((p : ℕ) → Has wanted.old.items p → Has wanted.new.items p) }
-    ensures own { OnOk result ((p r : ℕ) → p ≤ walk.now.position → (place ≡ walk.now.last → p ≡ walk.now.position) →
-        Has (vector_at walk.now.order.now p) (get_or (states_of walk.now.rules.now one.now.rule) place 0, r) → Has wanted.new.items p) }
+    ensures own { OnOk result ((p r : ℕ) → p ≤ walk.now.position →
+        (place ≡ walk.now.last → p ≡ walk.now.position) →
+        Has (vector_at walk.now.order.now p) (
+          get_or (states_of walk.now.rules.now one.now.rule)
+              place 0,
+          r,
+        ) → Has wanted.new.items p) }
 {
     if place == walk.last {
         wanted.push(walk.position)?;
@@ -104,8 +111,10 @@ pub(crate) fn wanted_at(
 ) -> Result<Vec<u32>, AllocError>
     requires normal { AreNormal walk.now.rules.now }
     requires places { Each (HasPlace walk.now.rules.now place) alive.now }
-    requires holders { IfSome holders (λ h. HoldAll walk.now.order.now (walk.now.position + 1) h.now.lists.items) }
-    ensures wanted { IfOk result (λ w. HasWanted walk.now.rules.now walk.now.order.now walk.now.position walk.now.last place alive.now w.items) }
+    requires holders { IfSome holders (λ h. HoldAll walk.now.order.now (walk.now.position + 1)
+        h.now.lists.items) }
+    ensures wanted { IfOk result (λ w. HasWanted walk.now.rules.now walk.now.order.now
+        walk.now.position walk.now.last place alive.now w.items) }
     ensures ascends { IfOk result (λ w. AreAscending w.items) }
 {
     let mut wanted = Vec::new(alloc);

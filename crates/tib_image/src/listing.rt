@@ -82,7 +82,8 @@ impl<'a> Listing<'a> {
     ) -> Result<(), ExpandError>
         requires known { Each (λ x. x.variable < length nodes.now) (holes_of right.now) }
         requires within { IsWithinBudget self.old }
-        ensures added { OnOk result (IsAdded right.now (map (pair_key nodes.now) (holes_of right.now)) cost
+        ensures added { OnOk result (IsAdded right.now (map (pair_key nodes.now)
+            (holes_of right.now)) cost
             self.old self.new) }
         ensures more { result ≡ Err ExpandError.More →
             self.old.budget < self.old.parts + (1 + size right.now) }

@@ -78,9 +78,11 @@ impl<'a, S> Image<'a, S> {
         requires state { (transducer_rule self.now.transducer.now.rules position).state ≡ key.0 }
         requires node { key.1 < size self.now.tree.now }
         requires within { IsWithinBudget listing.old }
-        ensures listed { let gives = IsImageEdge self.now.transducer.now.rules self.now.tree.now key in
+        ensures listed { let gives = IsImageEdge self.now.transducer.now.rules self.now.tree.now key
+            in
             OnOk result (ListsOrigin gives key position listing.old listing.new) }
-        ensures more { let gives = IsImageEdge self.now.transducer.now.rules self.now.tree.now key in
+        ensures more { let gives = IsImageEdge self.now.transducer.now.rules self.now.tree.now key
+            in
             result ≡ Err ExpandError.More → OriginOverruns gives key position listing.old }
         ensures within { OnOk result (IsWithinBudget listing.new) }
         ensures position { listing.new.position ≡ listing.old.position }
@@ -106,9 +108,11 @@ impl<'a, S> Image<'a, S> {
     ) -> Result<Listing<'a>, ExpandError>
         requires node { key.1 < size self.now.tree.now }
         requires budget { budget ≤ most_parts }
-        ensures listed { let gives = IsImageEdge self.now.transducer.now.rules self.now.tree.now key in
+        ensures listed { let gives = IsImageEdge self.now.transducer.now.rules self.now.tree.now key
+            in
             IfOk result (ListsKey gives key position) }
-        ensures more { let gives = IsImageEdge self.now.transducer.now.rules self.now.tree.now key in
+        ensures more { let gives = IsImageEdge self.now.transducer.now.rules self.now.tree.now key
+            in
             result ≡ Err ExpandError.More → KeyOverruns gives key position budget }
         ensures within { IfOk result IsWithinBudget }
         ensures budget { IfOk result (λ l. l.budget ≡ budget) }

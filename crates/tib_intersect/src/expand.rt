@@ -17,7 +17,8 @@ use tib_hunt::{Edges, Expand, ExpandError};
 /// The positions of the ends of a rule.
 fn states_at<'e>(rule: &PairRule, ends: &'e [u32]) -> &'e [u32]
     requires { (known : ℕ) × Each (IsWithin known (length ends.now)) (places_of rule.now) }
-    ensures are { result.now ≡ map (position_of ends.now) (ends_from rule.now.first_end rule.now.rank) }
+    ensures are { result.now ≡ map (position_of ends.now)
+        (ends_from rule.now.first_end rule.now.rank) }
     ensures few { length result.now < 2 ^ 32 }
 {
     let PairRule {

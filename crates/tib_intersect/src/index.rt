@@ -35,7 +35,8 @@ fn add(
     requires numbered { AreNumbered shapes.old buckets.old.items }
     requires few { length buckets.old.items ≤ position }
     ensures numbered { AreNumbered shapes.new buckets.new.items }
-    ensures added { OnOk result (AddsPosition shape position shapes.old buckets.old.items shapes.new buckets.new.items) }
+    ensures added { OnOk result (AddsPosition shape position shapes.old buckets.old.items shapes.new
+        buckets.new.items) }
     ensures few { length buckets.new.items ≤ position + 1 }
 {
     if let Some(number) = shapes.get(&shape).copied() {
@@ -74,7 +75,8 @@ impl Index {
 
     /// The positions of the rules of a state whose right side is this label over `rank` states, ascending. Cost: one look-up by hash.
     pub fn find(&self, state: u32, label: Label, rank: u32) -> &[u32]
-        ensures { (rules : List (Rule ℕ)) → IsIndex rules self.now → result.now ≡ positions_with (state, label, rank) rules }
+        ensures { (rules : List (Rule ℕ)) → IsIndex rules self.now → result.now
+            ≡ positions_with (state, label, rank) rules }
     {
         match self.shapes.get(&(state, label, rank)) {
             Some(number) => {

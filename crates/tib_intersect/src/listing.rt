@@ -18,7 +18,8 @@ use tib_hunt::{Edges, ExpandError};
 /// Appends the pairs of the states of the items to the ends.
 fn push_pairs(ends: &mut Vec<Pair>, one: &[Item<u32>], two: &[Item<u32>]) -> Result<(), AllocError>
     requires { length one.now ≡ length two.now }
-    ensures { OnOk result (ends.new.items ≡ ends.old.items ++ zip (map state_in one.now) (map state_in two.now)) }
+    ensures { OnOk result (ends.new.items ≡ ends.old.items ++ zip (map state_in one.now)
+        (map state_in two.now)) }
 {
     for i in 0..one.len() {
         let (first, second) = (&one[i], &two[i]);
@@ -63,7 +64,8 @@ impl Listing {
         requires agree { Agree one.now two.now }
         requires within { IsWithinBudget self.old }
         ensures next { OnOk result (IsNext S.product one.now two.now self.old self.new) }
-        ensures more { result ≡ Err ExpandError.More → IsTooMuch S.product one.now two.now self.old }
+        ensures more { result ≡ Err ExpandError.More → IsTooMuch S.product one.now two.now
+            self.old }
         ensures within { OnOk result (IsWithinBudget self.new) }
         ensures position { self.new.position ≡ self.old.position }
         ensures budget { self.new.budget ≡ self.old.budget }
@@ -105,11 +107,14 @@ impl Listing {
     ) -> Result<(), ExpandError>
         requires one { IsNormalSide one.now.right }
         requires others { AreNormal others.now }
-        requires positions { Each (λ j. (j < length others.now) × Agree one.now (rule_at others.now j)) positions.now }
+        requires positions { Each (λ j. (j < length others.now)
+            × Agree one.now (rule_at others.now j)) positions.now }
         requires distinct { Distinct positions.now }
         requires within { IsWithinBudget self.old }
-        ensures listed { OnOk result (ListsMatches S.product others.now one.now positions.now self.old self.new) }
-        ensures more { result ≡ Err ExpandError.More → MatchesOverrun S.product others.now one.now positions.now self.old }
+        ensures listed { OnOk result (ListsMatches S.product others.now one.now positions.now
+            self.old self.new) }
+        ensures more { result ≡ Err ExpandError.More → MatchesOverrun S.product others.now one.now
+            positions.now self.old }
         ensures within { OnOk result (IsWithinBudget self.new) }
         ensures position { self.new.position ≡ self.old.position }
         ensures budget { self.new.budget ≡ self.old.budget }

@@ -57,8 +57,10 @@ impl<'a, S: Semiring> Pairs<'a, S> {
     ) -> Result<Listing, ExpandError>
         requires first { pair.0 < length self.now.left.now.names }
         requires budget { budget ≤ most_parts }
-        ensures listed { IfOk result (ListsPair S.product self.now.left.now.rules self.now.right.now.rules pair position) }
-        ensures more { result ≡ Err ExpandError.More → PairOverruns S.product self.now.left.now.rules self.now.right.now.rules pair position budget }
+        ensures listed { IfOk result (ListsPair S.product self.now.left.now.rules
+            self.now.right.now.rules pair position) }
+        ensures more { result ≡ Err ExpandError.More → PairOverruns S.product
+            self.now.left.now.rules self.now.right.now.rules pair position budget }
         ensures within { IfOk result IsWithinBudget }
         ensures budget { IfOk result (λ l. l.budget ≡ budget) }
     {

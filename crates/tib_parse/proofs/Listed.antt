@@ -2,7 +2,7 @@
 use Rattle.std.specs.Prelude.{◌≡◌, ℕ, ◌+◌, ◌<◌, List, [], ◌∷◌, ◌++◌, length, map, refl, slice_index_or, OnOk}
 use Rattle.std.proofs.Common.{arith, ap, sym, ◌∙◌, subst, get_or, append_assoc, Ok, Err}
 use Rattle.std.specs.declared.result.Result.{Result}
-use Rattle.std.proofs.lemmas.List.{length-append}
+use Rattle.std.proofs.lemmas.List.{length-append, map-append}
 use Rattle.tib_lex.specs.Lists.{Each, Along, total}
 use Rattle.tib_lex.proofs.Lists.{append_nil, each_weaker, total_append, total_more, length_map}
 use Rattle.tib_lex.proofs.Alongs.{along_more, along_map}
@@ -146,10 +146,6 @@ both_ok (Err e) P Q R f h k = tt
 pub overruns_more : (es fs : Edges) (l : Listing) → Overruns es l → Overruns (es ++ fs) l
 overruns_more es fs l h = omega (arith, h, total_append edge_parts es fs)
 
-map_both : {A B : Type 0} (f : A → B) (xs ys : List A) → map f (xs ++ ys) ≡ map f xs ++ map f ys
-map_both f [] ys = refl
-map_both f (x ∷ xs) ys = ap (λ zs. f x ∷ zs) (map_both f xs ys)
-
 -- cuts that are tried one after another
 
 module _ (labels : List ℕ) (key : ℕ × ℕ × ℕ × ℕ) (r : StringRule ℕ) where
@@ -164,7 +160,7 @@ module _ (labels : List ℕ) (key : ℕ × ℕ × ℕ × ℕ) (r : StringRule �
   done_next before now places next old l new is d a = record {
     cuts = d.cuts ++ places ∷ [];
     are = d.are ∙ ap (λ cs. d.cuts ++ cs) is ∙ sym (append_assoc d.cuts (places ∷ []) next);
-    adds = subst (λ es. Adds key es old new) (sym (map_both (cut_edge labels key r) d.cuts (places ∷ []))) (adds_both key (map (cut_edge labels key r) d.cuts) (cut_edge labels key r places ∷ []) old l new d.adds a);
+    adds = subst (λ es. Adds key es old new) (sym (map-append (cut_edge labels key r) d.cuts (places ∷ []))) (adds_both key (map (cut_edge labels key r) d.cuts) (cut_edge labels key r places ∷ []) old l new d.adds a);
   }
 
   -- the edge of one cut more is too much
@@ -173,7 +169,7 @@ module _ (labels : List ℕ) (key : ℕ × ℕ × ℕ × ℕ) (r : StringRule �
       AreDone labels key r before now old l → Overruns (cut_edge labels key r places ∷ []) l → Overruns (map (cut_edge labels key r) before) old
   done_overruns before now places next old l is d o =
       let edge = cut_edge labels key r in
-      let split : map edge before ≡ map edge d.cuts ++ map edge (places ∷ next) = ap (map edge) (d.are ∙ ap (λ cs. d.cuts ++ cs) is) ∙ map_both edge d.cuts (places ∷ next) in
+      let split : map edge before ≡ map edge d.cuts ++ map edge (places ∷ next) = ap (map edge) (d.are ∙ ap (λ cs. d.cuts ++ cs) is) ∙ map-append edge d.cuts (places ∷ next) in
       subst (λ es. Overruns es old) (sym split) (overruns_behind key (map edge d.cuts) (map edge (places ∷ next)) old l d.adds (overruns_more (edge places ∷ []) (map edge next) l o))
 
   -- all are done

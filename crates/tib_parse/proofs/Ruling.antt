@@ -8,7 +8,7 @@ use Rattle.tib_lex.proofs.Members.{has_at}
 use Rattle.tib_lex.proofs.Numbers.{nat_eq_cases}
 use Rattle.tib_lex.proofs.Places.{at_map, take_next, take_whole}
 use Rattle.tib_tree.specs.Trees.{size}
-use Rattle.tib_grammar.specs.Sides.{Symbol, label, hole, holes_of}
+use Rattle.tib_grammar.specs.Sides.{Symbol, label, holes_of}
 use Rattle.tib_grammar.specs.declared.Rule.{Rule}
 use Rattle.tib_transducer.specs.Range.{AreNumbered}
 use Rattle.tib_transducer.specs.Rules.{variables_of, transducer_rule}
@@ -21,13 +21,13 @@ use Rattle.tib_strings.specs.Rules.{string_rule, no_rule, pairs_of}
 use Rattle.tib_strings.specs.Range.{IsShaped}
 use Rattle.tib_strings.specs.declared.Word.{Word as Token}
 use Rattle.tib_strings.specs.declared.StringRule.{StringRule}
-use Rattle.tib_apply.specs.Restrictions.{Admits}
 use Rattle.tib_apply.proofs.ForwardListed.{holes_within}
 use Rattle.tib_cuts.specs.CutLists.{cuts_of}
-use Rattle.tib_cuts.proofs.CutLists.{stands_is, is_standing}
+use Rattle.tib_parse_laws.proofs.Listing.{root_of, root_is}
 use Rattle.tib_parse_laws.specs.Restrictions.{as_rule, restricted_labels}
 use Rattle.tib_parse_laws.specs.Edges.{admits_root, fits_key, origins_at, origins_below, edge_of, edges_of}
 use Rattle.tib_parse.specs.Listing.{edges_at, edges_at_all, cut_edge, HasPlaces, AdmitsRule}
+use Rattle.std.proofs.lemmas.List.{map-append}
 
 -- a rule has places for its variables
 
@@ -45,15 +45,6 @@ places_enough r count shaped room =
     }
 
 -- whether a rule fits a key
-
-root_of : (labels : List ℕ) (e : ℕ) (s : Symbol ℕ Variable) → admits_root labels e s ≡ true → (root : ℕ) × (s ≡ label root) × Admits labels e root
-root_of labels e (hole x) h = absurd (cc)
-root_of labels zero (label f) h = (f, refl, tt)
-root_of labels (suc n) (label f) h = (f, refl, stands_is labels n f h)
-
-root_is : (labels : List ℕ) (e f : ℕ) → Admits labels e f → admits_root labels e (label f) ≡ true
-root_is labels zero f a = refl
-root_is labels (suc n) f a = is_standing labels n f a.0 a.1
 
 pub fits : (labels : List ℕ) (key : ℕ × ℕ × ℕ × ℕ) (r : StringRule ℕ) → r.state ≡ key.0 → AdmitsRule labels key r → fits_key labels key r ≡ true
 fits labels key r state a = elim (nat_eq_cases r.state key.0) [
@@ -74,12 +65,9 @@ fits_other : (labels : List ℕ) (key : ℕ × ℕ × ℕ × ℕ) (r : StringRul
 fits_other labels key r e = rw e refl
 
 module _ (moves : List (StringRule ℕ)) (string : List ℕ) (key : ℕ × ℕ × ℕ × ℕ) where
-  abbrev cuts : ℕ → List (List ℕ)
-  cuts n = cuts_of string (string_rule moves n).right key.1 key.2
-
   -- the edges with a rule that fits
-  pub edges_fit : (n : ℕ) → fits_key (restricted_labels moves) key (string_rule moves n) ≡ true → edges_at moves string key n ≡ map (cut_edge (restricted_labels moves) key (string_rule moves n)) (cuts n)
-  edges_fit n e = rw e (map_twice (edge_of moves key) (λ (ks : List ℕ). (n, ks)) (cuts n))
+  pub edges_fit : (n : ℕ) → fits_key (restricted_labels moves) key (string_rule moves n) ≡ true → edges_at moves string key n ≡ map (cut_edge (restricted_labels moves) key (string_rule moves n)) (cuts_of string (string_rule moves n).right key.1 key.2)
+  edges_fit n e = rw e (map_twice (edge_of moves key) (λ (ks : List ℕ). (n, ks)) (cuts_of string (string_rule moves n).right key.1 key.2))
 
   -- there are none with another rule
   pub edges_unfit : (n : ℕ) → fits_key (restricted_labels moves) key (string_rule moves n) ≡ false → edges_at moves string key n ≡ []
@@ -115,10 +103,6 @@ module _ (moves : List (StringRule ℕ)) (string : List ℕ) (key : ℕ × ℕ �
   reader_is : (n : ℕ) → transducer_rule readers n ≡ as_rule (string_rule moves n)
   reader_is n = at_map as_rule moves n no_rule
 
-  map_both : {A B : Type 0} (f : A → B) (xs ys : List A) → map f (xs ++ ys) ≡ map f xs ++ map f ys
-  map_both f [] ys = refl
-  map_both f (x ∷ xs) ys = ap (λ zs. f x ∷ zs) (map_both f xs ys)
-
   -- those with the rules of the key's state among the first n
   below_are : (n : ℕ) → n ≤ length moves → edges_at_all moves string key (moves_of key.0 (take n readers)) ≡ map (edge_of moves key) (origins_below moves string key n)
   below_are zero h = refl
@@ -128,7 +112,7 @@ module _ (moves : List (StringRule ℕ)) (string : List ℕ) (key : ℕ × ℕ �
       let here : moves_of key.0 (take (suc n) readers) ≡ moves_of key.0 (take n readers) ++ own n key.0 (as_rule (string_rule moves n)) =
       ap (λ m. moves_of key.0 (take m readers)) (sym (add-one n)) ∙ moves_next readers n low key.0 ∙ ap (λ (r : TransducerRule ℕ). moves_of key.0 (take n readers) ++ own n key.0 r) (reader_is n) in
       ap (edges_at_all moves string key) here ∙ all_both (moves_of key.0 (take n readers)) (own n key.0 (as_rule (string_rule moves n))) ∙ ap (λ es. es ++ edges_at_all moves string key (own n key.0 (as_rule (string_rule moves n)))) old
-      ∙ ap (λ es. map (edge_of moves key) (origins_below moves string key n) ++ es) (one n) ∙ sym (map_both (edge_of moves key) (origins_below moves string key n) (origins_at moves string key n))
+      ∙ ap (λ es. map (edge_of moves key) (origins_below moves string key n) ++ es) (one n) ∙ sym (map-append (edge_of moves key) (origins_below moves string key n) (origins_at moves string key n))
     where
       one : (n : ℕ) → edges_at_all moves string key (own n key.0 (as_rule (string_rule moves n))) ≡ edges_at moves string key n
       one n = elim (nat_eq_cases (string_rule moves n).state key.0) [

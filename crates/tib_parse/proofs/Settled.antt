@@ -1,28 +1,19 @@
 -- Rules over positions, in place of rules over places.
-use Rattle.std.specs.Prelude.{◌≡◌, ℕ, List, ◌∷◌, ◌++◌, map, refl, slice_index}
+use Rattle.std.specs.Prelude.{◌≡◌, ℕ, List, ◌∷◌, map, slice_index}
 use Rattle.std.proofs.Common.{ap, sym, ◌∙◌}
 use Rattle.tib_lex.proofs.Lists.{map_twice}
-use Rattle.tib_tree.specs.Trees.{Trees, none, tree, only, relabel}
-use Rattle.tib_grammar.specs.Sides.{Symbol, label, hole, Side as SideFor, side_map, symbol_map}
+use Rattle.tib_tree.specs.Trees.{only}
+use Rattle.tib_grammar.specs.Sides.{Side as SideFor, side_map}
 use Rattle.tib_grammar.specs.GrammarOf.{named_rule}
 use Rattle.tib_grammar.specs.Positions.{states_in, positions_of}
 use Rattle.tib_hunt.specs.EdgeLists.{position_of}
 use Rattle.tib_hunt.specs.declared.place.Place.TheVariants.{End}
 use Rattle.tib_apply.specs.ForwardRules.{numbered_side}
-use Rattle.tib_apply.specs.ForwardRuleLaws.{side_numbers, map_append}
+use Rattle.tib_apply.specs.ForwardRuleLaws.{side_numbers}
+use Rattle.tib_apply.proofs.ForwardSettled.{states_map}
 use Rattle.tib_apply.proofs.MappedSides.{side_twice}
 use Rattle.tib_parse.specs.ParseRules.{places_of, read_places}
 use Rattle.tib_parse.specs.declared.parse_rule.ParseRule.{ParseRule}
-
-states_map : (g : ℕ → ℕ) (ts : Trees (Symbol ℕ ℕ)) → states_in (relabel (symbol_map g) ts) ≡ map g (states_in ts)
-states_map g none = refl
-states_map g (tree (label x) kids rest) =
-    ap (λ xs. xs ++ states_in (relabel (symbol_map g) rest)) (states_map g kids) ∙ ap (λ xs. map g (states_in kids) ++ xs) (states_map g rest)
-    ∙ sym (map_append g (states_in kids) (states_in rest))
-states_map g (tree (hole q) kids rest) =
-    ap (λ xs. g q ∷ xs)
-    (ap (λ xs. xs ++ states_in (relabel (symbol_map g) rest)) (states_map g kids) ∙ ap (λ xs. map g (states_in kids) ++ xs) (states_map g rest)
-    ∙ sym (map_append g (states_in kids) (states_in rest)))
 
 module _ (r : ParseRule) (ends : List ℕ) (s : SideFor ℕ ℕ) (is : s ≡ side_map (slice_index ends) (numbered_side r.first_end r.left.now)) where
   -- the settled rule reads as the rule over places

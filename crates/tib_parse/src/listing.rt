@@ -26,7 +26,8 @@ fn push_end(
 ) -> Result<(), AllocError>
     requires { Each (λ x. x.number < length spans.now) (holes_in (item.now ∷ [])) }
     ensures { OnOk result (ends.new.items ≡
-        ends.old.items ++ map (variable_key restrictions.now spans.now) (holes_in (item.now ∷ []))) }
+        ends.old.items ++ map (variable_key restrictions.now spans.now)
+        (holes_in (item.now ∷ []))) }
 {
     if let Item::Hole(variable) = item {
         let (state, from, to) = spans[variable.number as usize];
@@ -92,7 +93,8 @@ impl<'a> Listing<'a> {
         requires known { Each (λ x. x.number < length spans.now) (holes_of left.now) }
         requires within { IsWithinBudget self.old }
         ensures added { OnOk result (IsAdded left.now
-            (map (variable_key restrictions.now spans.now) (holes_of left.now)) cost self.old self.new) }
+            (map (variable_key restrictions.now spans.now) (holes_of left.now)) cost self.old
+            self.new) }
         ensures more { result ≡ Err ExpandError.More →
             self.old.budget < self.old.parts + (1 + size left.now) }
         ensures within { OnOk result (IsWithinBudget self.new) }

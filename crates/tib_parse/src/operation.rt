@@ -79,7 +79,8 @@ fn add_cut<'a>(
     requires as_many { length places.now ≡ length rule.now.right }
     requires room { HasPlaces (length spans.old.items) rule.now }
     requires within { IsWithinBudget listing.old }
-    ensures added { OnOk result (Adds key (cut_edge restrictions.now key rule.now places.now ∷ []) listing.old listing.new) }
+    ensures added { OnOk result (Adds key (cut_edge restrictions.now key rule.now places.now ∷ [])
+        listing.old listing.new) }
     ensures more { result ≡ Err ExpandError.More →
         Overruns (cut_edge restrictions.now key rule.now places.now ∷ []) listing.old }
     ensures within { OnOk result (IsWithinBudget listing.new) }
@@ -115,7 +116,8 @@ fn add_cuts<'a>(
     requires tokens { cuts.old.tokens.now ≡ rule.now.right }
     requires room { HasPlaces (length spans.old.items) rule.now }
     requires within { IsWithinBudget listing.old }
-    ensures added { OnOk result (Adds key (map (cut_edge restrictions.now key rule.now) (remaining cuts.old)) listing.old listing.new) }
+    ensures added { OnOk result (Adds key (map (cut_edge restrictions.now key rule.now)
+        (remaining cuts.old)) listing.old listing.new) }
     ensures more { result ≡ Err ExpandError.More →
         Overruns (map (cut_edge restrictions.now key rule.now) (remaining cuts.old)) listing.old }
     ensures within { OnOk result (IsWithinBudget listing.new) }
@@ -195,9 +197,11 @@ impl<'a, S> Parse<'a, S> {
         requires from { key.1 ≤ key.2 }
         requires to { key.2 ≤ length self.now.string.now }
         requires within { IsWithinBudget listing.old }
-        ensures added { let edges = edges_at self.now.transducer.now.rules self.now.string.now key position in
+        ensures added { let edges = edges_at self.now.transducer.now.rules self.now.string.now key
+            position in
             OnOk result (Adds key edges listing.old listing.new) }
-        ensures more { let edges = edges_at self.now.transducer.now.rules self.now.string.now key position in
+        ensures more { let edges = edges_at self.now.transducer.now.rules self.now.string.now key
+            position in
             result ≡ Err ExpandError.More → Overruns edges listing.old }
         ensures within { OnOk result (IsWithinBudget listing.new) }
     {
@@ -236,9 +240,11 @@ impl<'a, S> Parse<'a, S> {
         requires from { key.1 ≤ key.2 }
         requires to { key.2 ≤ length self.now.string.now }
         requires budget { budget ≤ most_parts }
-        ensures listed { IfOk result (IsListed key (edges_of self.now.transducer.now.rules self.now.string.now key)) }
+        ensures listed { IfOk result (IsListed key (edges_of self.now.transducer.now.rules
+            self.now.string.now key)) }
         ensures more { result ≡ Err ExpandError.More →
-            budget < total edge_parts (edges_of self.now.transducer.now.rules self.now.string.now key) }
+            budget < total edge_parts (edges_of self.now.transducer.now.rules self.now.string.now
+            key) }
         ensures within { IfOk result IsWithinBudget }
         ensures position { IfOk result (λ l. l.position ≡ position) }
         ensures budget { IfOk result (λ l. l.budget ≡ budget) }

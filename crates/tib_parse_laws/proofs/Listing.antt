@@ -20,12 +20,14 @@ use Rattle.tib_cuts.proofs.CutLists.{stands_is, is_standing, cut_listed, listed_
 use Rattle.tib_hunt.proofs.Members.{distinct_append}
 use Rattle.tib_keyed.proofs.Tagged.{has_tagged, tagged_has, tagged_once}
 
-root_of : (labels : List ℕ) (e : ℕ) (s : Symbol ℕ Variable) → admits_root labels e s ≡ true → (root : ℕ) × (s ≡ label root) × Admits labels e root
+-- the label at the root of a left side that fits
+pub root_of : (labels : List ℕ) (e : ℕ) (s : Symbol ℕ Variable) → admits_root labels e s ≡ true → (root : ℕ) × (s ≡ label root) × Admits labels e root
 root_of labels e (hole x) h = absurd (cc)
 root_of labels zero (label f) h = (f, refl, tt)
 root_of labels (suc n) (label f) h = (f, refl, stands_is labels n f h)
 
-root_is : (labels : List ℕ) (e f : ℕ) → Admits labels e f → admits_root labels e (label f) ≡ true
+-- a label that fits
+pub root_is : (labels : List ℕ) (e f : ℕ) → Admits labels e f → admits_root labels e (label f) ≡ true
 root_is labels zero f a = refl
 root_is labels (suc n) f a = is_standing labels n f a.0 a.1
 

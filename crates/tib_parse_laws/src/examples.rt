@@ -21,7 +21,8 @@ pub fn string_runs_compute()
 
 /// Cuts, and the edges of keys: four of the start, one of the first word, one of the two others, none of the last word.
 pub fn edges_compute()
-    ensures cuts { cuts_of sentence two_pairs 0 3 ≡ (0 ∷ 3 ∷ []) ∷ (1 ∷ 3 ∷ []) ∷ (2 ∷ 3 ∷ []) ∷ (3 ∷ 3 ∷ []) ∷ [] }
+    ensures cuts { cuts_of sentence two_pairs 0 3 ≡ (0 ∷ 3 ∷ []) ∷ (1 ∷ 3 ∷ []) ∷ (2 ∷ 3 ∷ []) ∷
+        (3 ∷ 3 ∷ []) ∷ [] }
     ensures spans { spans two_pairs 0 (1 ∷ 3 ∷ []) ≡ (0, 1) ∷ (1, 3) ∷ [] }
     ensures start { total edge_parts (edges_of spelling sentence (0, 0, 3, 0)) ≡ 16 }
 {}
