@@ -93,8 +93,12 @@ fn both_forms(
     ensures two { IfOk result (λ forms. IsTrimmedForm max right.now forms.two) }
     ensures first { IfOk result (λ forms. HasSameSeries max left.now forms.one) }
     ensures second { IfOk result (λ forms. HasSameSeries max right.now forms.two) }
-    ensures print_one { IfOk result (λ forms. (labels : List (List ℕ)) → ArePrintable Unweighted labels left.now.rules → ArePrintable Unweighted labels forms.one.rules) }
-    ensures print_two { IfOk result (λ forms. (labels : List (List ℕ)) → ArePrintable Unweighted labels right.now.rules → ArePrintable Unweighted labels forms.two.rules) }
+    ensures print_one { IfOk result (λ forms. (labels : List (List ℕ)) →
+        ArePrintable Unweighted labels left.now.rules → ArePrintable Unweighted labels
+        forms.one.rules) }
+    ensures print_two { IfOk result (λ forms. (labels : List (List ℕ)) →
+        ArePrintable Unweighted labels right.now.rules → ArePrintable Unweighted labels
+        forms.two.rules) }
     ensures within { IfOk result (λ _. (forms_of_both limit left.now right.now).within) }
     ensures err { IfErr result (IsMadeFault (forms_of_both limit left.now right.now).more limit) }
 {
@@ -119,11 +123,13 @@ fn text_of(
 ) -> Result<GrowingSink, Status>
     requires one { AreLabelled (length labels.now) forms.now.one.rules }
     requires two { AreLabelled (length labels.now) forms.now.two.rules }
-    requires compared { IfOk compared (IsCompared labels.now forms.now.one.rules forms.now.two.rules) }
+    requires compared { IfOk compared (IsCompared labels.now forms.now.one.rules
+        forms.now.two.rules) }
     requires small { IfOk compared IsSmall }
     requires within { IfOk compared (λ _. IsWithin forms.now.one forms.now.two limit) }
     requires cause { IfErr compared (IsCause forms.now.one forms.now.two limit) }
-    ensures text { IfOk result (λ text. HasCompareText labels.now forms.now.one forms.now.two text.bytes) }
+    ensures text { IfOk result (λ text. HasCompareText labels.now forms.now.one forms.now.two
+        text.bytes) }
     ensures within { IfOk result (λ _. IsWithin forms.now.one forms.now.two limit) }
     ensures err { IfErr result (IsFormsFault limit forms.now.one forms.now.two) }
 {

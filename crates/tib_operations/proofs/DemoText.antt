@@ -2,9 +2,9 @@
 use Rattle.tib_cost.specs.declared.Scale.{Scale}
 use Rattle.tib_cost.specs.declared.Scale.TheVariants as scales
 use Rattle.std.proofs.Common.{◌≡◌, ℕ, ◌<◌, ◌≤◌, ◌%◌, ◌/◌, ◌-◌, ◌+◌, ◌⊎◌, inl, inr, Bool, true, false, List, [], ◌∷◌, ◌++◌, mod-lt, length, refl, ap, sym, ◌∙◌, arith, append_assoc, subst, leb-true, zero, suc}
-use Rattle.std.specs.Prelude.{Some, None, Result, Ok, Err, codes, decimal, nat_eq, nat_le, nat_lt, ◌==◌, ◌&&◌, cond}
+use Rattle.std.specs.Prelude.{Some, None, Result, Ok, Err, codes, decimal, nat_le, nat_lt, ◌==◌, ◌&&◌, cond}
 use Rattle.std.specs.Fmt.{digit_glyph, digits, digits_onto}
-use Rattle.std.specs.List.{list_all, list_any}
+use Rattle.std.specs.List.{list_all}
 use Rattle.std.proofs.lemmas.Bool.Decides.{nat_tests}
 use Rattle.tib_lex.specs.Bytes.{is_name_byte}
 use Rattle.tib_lex.specs.Grammar.{Word, name, arrow, open_, close, IsName, HasWords}
@@ -34,6 +34,7 @@ use Rattle.tib_grammar_file.proofs.FirstFaults.{faults_exact}
 use Rattle.tib_grammar_file.proofs.PrintedLines.{free_from, free_append}
 use Rattle.tib_grammar_file.proofs.PrintedRules.{all_changes}
 use Rattle.tib_grammar_file.proofs.SomeText.{text_or_fault}
+use Rattle.tib_canon.proofs.StateNames.{digits_no_stop}
 use Rattle.tib_operations.specs.Demo.{demo_text, step_line, steps_text, first_rules}
 
 -- a number of whatever size is written in digits alone
@@ -63,16 +64,6 @@ all_digits n = digits_in_front 64 n [] refl
 
 digit_in_name : (c : ℕ) → is_digit c ≡ true → is_name_byte c ≡ true
 digit_in_name c h = let t = and_true (nat_lt 47 c) (nat_lt c 58) h in grind (arith, nat_tests)
-
-digit_no_stop : (c : ℕ) → is_digit c ≡ true → nat_eq 46 c ≡ false
-digit_no_stop c h = let t = and_true (nat_lt 47 c) (nat_lt c 58) h in grind (arith, nat_tests)
-
-digits_no_stop : (ds : List ℕ) → list_all is_digit ds ≡ true → list_any (nat_eq 46) ds ≡ false
-digits_no_stop [] h = refl
-digits_no_stop (d ∷ ds) h =
-    let t = and_true (is_digit d) (list_all is_digit ds) h in
-    let e : nat_eq 46 d ≡ false = digit_no_stop d t.0 in
-    rw e (digits_no_stop ds t.1)
 
 -- `p` and a number, which is the name of a state
 

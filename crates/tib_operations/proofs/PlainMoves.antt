@@ -1,7 +1,7 @@
 -- The labels and costs of a transducer that was read can be written.
 use Rattle.tib_cost.specs.declared.Scale.TheVariants as scales
 use Rattle.tib_cost.specs.declared.Scale.{Scale}
-use Rattle.std.proofs.Common.{◌≡◌, ℕ, ◌+◌, ◌-◌, ◌<◌, inl, inr, Bool, true, false, Option, List, [], ◌∷◌, ◌++◌, length, take, drop, get_or, refl, ap, sym, ◌∙◌, subst, arith, zero, suc}
+use Rattle.std.proofs.Common.{◌≡◌, ℕ, ◌+◌, ◌-◌, ◌<◌, Bool, true, false, Option, List, [], ◌∷◌, ◌++◌, length, take, drop, get_or, refl, ap, sym, ◌∙◌, subst, arith, zero, suc}
 use Rattle.std.specs.Prelude.{Some, None, slice_get, slice_range, not, ◌==◌, ◌||◌, if◌then◌else◌}
 use Rattle.std.specs.List.{list_all}
 use Rattle.std.proofs.lemmas.List.Folds.{list_all-append}
@@ -33,8 +33,9 @@ use Rattle.tib_transducer.specs.declared.TransducerRule.{TransducerRule}
 use Rattle.tib_transducer_file.specs.Forms.{variable_in, pair_in, stop_at, behind_stop, is_quoted, takes_next, joins, left_words}
 use Rattle.tib_transducer_file.specs.Pieces.{Piece, meaning, meanings, HasPieces}
 use Rattle.tib_transducer_file.specs.Rule.{Parts, SpellsRule, RuleLine, label_of, numbers_in}
-use Rattle.tib_transducer_file.specs.TransducerText.{HaveRules, HaveStart, ReadsAs}
+use Rattle.tib_transducer_file.specs.TransducerText.{SpellsLine, ReadsAs}
 use Rattle.tib_transducer_file.specs.Value.{IsLeftSymbol, IsLeftNode, IsRootItem, IsLeftSide, IsRightSymbol, IsRightNode, IsRule}
+use Rattle.tib_transducer_file.proofs.RulesHave.{file_has}
 use Rattle.tib_transducer_file.proofs.ShapesRead.{pair_rank, rules_shaped, left_ends, item_from, items_from}
 use Rattle.tib_operations.specs.Moves.{AreLabelsPlain, IsPlainMove, ArePlainMoves}
 
@@ -211,22 +212,11 @@ record IsPlainLine (scale : Scale) (line : RuleLine) : Type 0 where
   parts : AreFreeParts line.parts
   cost : IsPlainCost scale line.cost
 
-rule_lines : (scale : Scale) (lines : List (List ℕ)) (rules : List RuleLine) → Each HasNoFeed lines → HaveRules scale lines rules → Each (IsPlainLine scale) rules
-rule_lines scale [] rules f h = subst (Each (IsPlainLine scale)) (sym h) tt
-rule_lines scale (line ∷ lines) rules f (inl h) = rule_lines scale lines rules f.1 h.1
-rule_lines scale (line ∷ lines) rules f (inr (rule, more, is, s, rest)) =
-    subst (Each (IsPlainLine scale)) (sym is) (
-      record {
-        parts = parts_free s.parts.pieces rule.parts (pieces_free s.parts.pieces line f.0 s.parts.has) s.parts.spells;
-        cost = plain_cost scale rule.parts.weight rule.cost s.cost;
-      },
-      rule_lines scale lines more f.1 rest,
-    )
-
-start_lines : (scale : Scale) (lines : List (List ℕ)) (start : List ℕ) (rules : List RuleLine) → Each HasNoFeed lines → HaveStart scale lines start rules → Each (IsPlainLine scale) rules
-start_lines scale [] start rules f h = absurd h
-start_lines scale (line ∷ lines) start rules f (inl h) = start_lines scale lines start rules f.1 h.1
-start_lines scale (line ∷ lines) start rules f (inr h) = rule_lines scale lines rules f.1 h.2
+plain_line : (scale : Scale) (line : List ℕ) (rule : RuleLine) → HasNoFeed line → SpellsLine scale line rule → IsPlainLine scale rule
+plain_line scale line rule f s = record {
+  parts = parts_free s.parts.pieces rule.parts (pieces_free s.parts.pieces line f s.parts.has) s.parts.spells;
+  cost = plain_cost scale rule.parts.weight rule.cost s.cost;
+}
 
 plain_rules :
     (scale : Scale) (names labels : List (List ℕ)) (rules : List (TransducerRule ℕ)) (lines : List RuleLine) → Along (IsRule names labels) rules lines → Each (IsPlainLine scale) lines →
@@ -242,7 +232,7 @@ plain_rules scale names labels (r ∷ rules) (l ∷ lines) a e (suc m) h = plain
 
 pub moves_plain : (scale : Scale) (labels : List (List ℕ)) (bytes : List ℕ) (t : TransducerOf) → ReadsAs scale labels bytes t → ArePlainMoves scale labels t.rules
 moves_plain scale labels bytes t r =
-    plain_rules scale t.names labels t.rules r.text.lines r.text.rules (start_lines scale (lines_of bytes) r.text.start r.text.lines (free_lines bytes) r.text.written)
+    plain_rules scale t.names labels t.rules r.text.lines r.text.rules (file_has HasNoFeed (IsPlainLine scale) scale (plain_line scale) (lines_of bytes) r.text.start r.text.lines (free_lines bytes) r.text.written)
 
 -- what can be written stays so when the table grows
 

@@ -40,19 +40,25 @@ fn canonical_of_preimage<S: Semiring + Drop>(
     requires grammar { ArePrintable S.SCALE labels.now grammar.now.rules }
     requires class { AllMeet linear_nondeleting transducer.now.rules }
     requires limit { IsLimit limit }
-    requires reached { IfOk hunted (IsReachedBy (inverse_image S.product transducer.now.rules grammar.now.rules)) }
+    requires reached { IfOk hunted (IsReachedBy (inverse_image S.product transducer.now.rules
+        grammar.now.rules)) }
     requires range { IfOk hunted AreOverOrder }
-    requires parts { IfOk hunted (HasPartsOf (inverse_image S.product transducer.now.rules grammar.now.rules)) }
+    requires parts { IfOk hunted (HasPartsOf (inverse_image S.product transducer.now.rules
+        grammar.now.rules)) }
     requires within { IfOk hunted (λ f. f.parts ≤ limit) }
     requires few { IfOk hunted (λ f. length f.order.items ≤ limit) }
     requires few_rules { IfOk hunted (λ f. length f.rules.items ≤ limit) }
-    requires fault { IfErr hunted (IsApplyFault (demands true true false false) transducer.now.rules limit
+    requires fault { IfErr hunted (IsApplyFault (demands true true false false) transducer.now.rules
+        limit
         (IsBeyond (inverse_image S.product transducer.now.rules grammar.now.rules) limit)) }
-    ensures canonical { IfOk result (λ h. IsCanonicalOf S.product S.SCALE labels.now limit (inverting S.product transducer.now grammar.now) h.grammar) }
-    ensures series { IfOk result (λ h. HasBackwardSeries S.product transducer.now.rules grammar.now.rules h.grammar.rules) }
+    ensures canonical { IfOk result (λ h. IsCanonicalOf S.product S.SCALE labels.now limit
+        (inverting S.product transducer.now grammar.now) h.grammar) }
+    ensures series { IfOk result (λ h. HasBackwardSeries S.product transducer.now.rules
+        grammar.now.rules h.grammar.rules) }
     ensures read { IfOk result (λ h. GrammarText S.SCALE labels.now h.text.bytes h.grammar) }
     ensures text { IfOk result (λ h. h.text.bytes ≡ grammar_text S.SCALE labels.now h.grammar) }
-    ensures err { IfErr result (IsMadeFault (IsBeyond (inverting S.product transducer.now grammar.now).problem limit) limit) }
+    ensures err { IfErr result (IsMadeFault (IsBeyond (inverting S.product transducer.now
+        grammar.now).problem limit) limit) }
 {
     let found = match hunted {
         Ok(found) => found,
@@ -84,9 +90,12 @@ pub fn preimage_of<S: Semiring + Drop, G: Gate>(
     requires grammar { ArePrintable S.SCALE labels.now grammar.now.rules }
     requires class { AllMeet linear_nondeleting transducer.now.rules }
     requires limit { IsLimit limit }
-    ensures text { IfOk result (λ h. HasBackwardText S.SCALE S.product limit labels.now transducer.now grammar.now h.text.bytes) }
-    ensures within { IfOk result (λ _. (backward_makes S.product limit transducer.now grammar.now).within) }
-    ensures err { IfErr result (IsMadeFault (backward_makes S.product limit transducer.now grammar.now).more limit) }
+    ensures text { IfOk result (λ h. HasBackwardText S.SCALE S.product limit labels.now
+        transducer.now grammar.now h.text.bytes) }
+    ensures within { IfOk result (λ _. (backward_makes S.product limit transducer.now
+        grammar.now).within) }
+    ensures err { IfErr result (IsMadeFault (backward_makes S.product limit transducer.now
+        grammar.now).more limit) }
 {
     let form = match trimmed_form::<S>(alloc, grammar, limit) {
         Ok(form) => form,
@@ -120,9 +129,12 @@ pub fn preimage_of_together<S: Semiring + Sync + Drop, R: Threads + Wait + Sync,
     requires class { AllMeet linear_nondeleting transducer.now.rules }
     requires workers { (1 ≤ workers) × (workers ≤ 16) }
     requires limit { IsLimit limit }
-    ensures text { IfOk result (λ h. HasBackwardText S.SCALE S.product limit labels.now transducer.now grammar.now h.text.bytes) }
-    ensures within { IfOk result (λ _. (backward_makes S.product limit transducer.now grammar.now).within) }
-    ensures err { IfErr result (IsMadeFault (backward_makes S.product limit transducer.now grammar.now).more limit) }
+    ensures text { IfOk result (λ h. HasBackwardText S.SCALE S.product limit labels.now
+        transducer.now grammar.now h.text.bytes) }
+    ensures within { IfOk result (λ _. (backward_makes S.product limit transducer.now
+        grammar.now).within) }
+    ensures err { IfErr result (IsMadeFault (backward_makes S.product limit transducer.now
+        grammar.now).more limit) }
 {
     let form = match trimmed_form::<S>(alloc, grammar, limit) {
         Ok(form) => form,

@@ -45,7 +45,8 @@ fn write_class<W: Sink>(
     some: &[u8],
     rule: Option<u32>,
 ) -> Result<(), Failed>
-    ensures { OnOk result (Takes (W.written out.old) (W.written out.new) (W.free out.old) (W.free out.new) (class_line none.now some.now rule)) }
+    ensures { OnOk result (Takes (W.written out.old) (W.written out.new) (W.free out.old)
+        (W.free out.new) (class_line none.now some.now rule)) }
 {
     match rule {
         None => write_whole(out, none),

@@ -15,8 +15,10 @@ pub fn demand<S>(
     linear: bool,
     nondeleting: bool,
 ) -> Result<(), Status>
-    ensures met { IfOk result (λ _. AllMeet (demands linear nondeleting false false) transducer.now.rules) }
-    ensures broken { IfErr result (IsClassFault (demanded_of file (demands linear nondeleting false false) transducer.now.rules)) }
+    ensures met { IfOk result (λ _. AllMeet (demands linear nondeleting false false)
+        transducer.now.rules) }
+    ensures broken { IfErr result (IsClassFault (demanded_of file
+        (demands linear nondeleting false false) transducer.now.rules)) }
 {
     match first_outside(transducer, linear, nondeleting, false, false) {
         None => Ok(()),

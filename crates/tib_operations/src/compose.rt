@@ -52,10 +52,14 @@ fn canonical_of_moves<S: Semiring + Drop>(
     requires within { IfOk hunted (λ f. f.parts ≤ limit) }
     requires few { IfOk hunted (λ f. length f.order.items ≤ limit) }
     requires few_rules { IfOk hunted (λ f. length f.rules.items ≤ limit) }
-    requires fault { IfErr hunted (IsComposeFault second.now.rules limit (IsBeyond (composition S.product first.now.rules second.now.rules) limit)) }
-    ensures text { IfOk result (λ h. HasComposeText S.SCALE S.product limit labels.now first.now second.now h.text.bytes) }
-    ensures within { IfOk result (λ _. (compose_makes S.product limit first.now second.now).within) }
-    ensures err { IfErr result (IsMadeFault (compose_makes S.product limit first.now second.now).more limit) }
+    requires fault { IfErr hunted (IsComposeFault second.now.rules limit
+        (IsBeyond (composition S.product first.now.rules second.now.rules) limit)) }
+    ensures text { IfOk result (λ h. HasComposeText S.SCALE S.product limit labels.now first.now
+        second.now h.text.bytes) }
+    ensures within { IfOk result (λ _. (compose_makes S.product limit first.now
+        second.now).within) }
+    ensures err { IfErr result (IsMadeFault (compose_makes S.product limit first.now
+        second.now).more limit) }
 {
     let found = match hunted {
         Ok(found) => found,
@@ -83,9 +87,12 @@ pub fn composition_of<S: Semiring + Drop, G: Gate>(
     requires second { AreMovesOver S.SCALE labels.now (length second.now.names) second.now.rules }
     requires class { AllMeet plain second.now.rules }
     requires limit { IsLimit limit }
-    ensures text { IfOk result (λ h. HasComposeText S.SCALE S.product limit labels.now first.now second.now h.text.bytes) }
-    ensures within { IfOk result (λ _. (compose_makes S.product limit first.now second.now).within) }
-    ensures err { IfErr result (IsMadeFault (compose_makes S.product limit first.now second.now).more limit) }
+    ensures text { IfOk result (λ h. HasComposeText S.SCALE S.product limit labels.now first.now
+        second.now h.text.bytes) }
+    ensures within { IfOk result (λ _. (compose_makes S.product limit first.now
+        second.now).within) }
+    ensures err { IfErr result (IsMadeFault (compose_makes S.product limit first.now
+        second.now).more limit) }
 {
     let hunted = compose::<S, G>(alloc, first, second, limit, gate);
     canonical_of_moves::<S>(alloc, first, second, labels, limit, hunted)
@@ -108,9 +115,12 @@ pub fn composition_of_together<S: Semiring + Sync + Drop, R: Threads + Wait + Sy
     requires class { AllMeet plain second.now.rules }
     requires workers { (1 ≤ workers) × (workers ≤ 16) }
     requires limit { IsLimit limit }
-    ensures text { IfOk result (λ h. HasComposeText S.SCALE S.product limit labels.now first.now second.now h.text.bytes) }
-    ensures within { IfOk result (λ _. (compose_makes S.product limit first.now second.now).within) }
-    ensures err { IfErr result (IsMadeFault (compose_makes S.product limit first.now second.now).more limit) }
+    ensures text { IfOk result (λ h. HasComposeText S.SCALE S.product limit labels.now first.now
+        second.now h.text.bytes) }
+    ensures within { IfOk result (λ _. (compose_makes S.product limit first.now
+        second.now).within) }
+    ensures err { IfErr result (IsMadeFault (compose_makes S.product limit first.now
+        second.now).more limit) }
 {
     let hunted = compose_together::<S, R, G>(rt, alloc, first, second, workers, limit, gate);
     canonical_of_moves::<S>(alloc, first, second, labels, limit, hunted)

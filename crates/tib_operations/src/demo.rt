@@ -32,7 +32,8 @@ fn add_piece(text: &mut GrowingSink, piece: &[u8]) -> Result<(), Failed>
 
 // Adds a number between two pieces to a text.
 fn add_about(text: &mut GrowingSink, first: &[u8], number: u64, last: &[u8]) -> Result<(), Failed>
-    ensures { OnOk result (text.new.bytes ≡ text.old.bytes ++ (first.now ++ decimal number ++ last.now)) }
+    ensures { OnOk result (text.new.bytes ≡ text.old.bytes
+        ++ (first.now ++ decimal number ++ last.now)) }
 {
     write_about::<GrowingSink>(text, first, number, last)
 }
@@ -48,7 +49,8 @@ fn add_step(text: &mut GrowingSink, label: &[u8], state: u32) -> Result<(), Fail
 
 // Adds both lines of the state after this one.
 fn add_steps(text: &mut GrowingSink, state: u32) -> Result<(), Failed>
-    ensures { OnOk result (text.new.bytes ≡ text.old.bytes ++ (step_line (codes "a") state ++ step_line (codes "b") state)) }
+    ensures { OnOk result (text.new.bytes ≡ text.old.bytes
+        ++ (step_line (codes "a") state ++ step_line (codes "b") state)) }
 {
     add_step(text, b"a", state)?;
     add_step(text, b"b", state)
@@ -94,10 +96,14 @@ fn summary_of_determinized<S: Semiring + Drop>(
 ) -> Result<GrowingSink, Status>
     requires printable { ArePrintable S.SCALE labels.now grammar.now.rules }
     requires limit { IsLimit limit }
-    requires grammar { IfOk determinized (λ h. IsDeterminizedText S.SCALE S.product limit labels.now grammar.now h.text.bytes h.grammar) }
-    requires within { IfOk determinized (λ _. (determinize_makes S.product limit grammar.now).within) }
-    requires err { IfErr determinized (IsMadeFault (determinize_makes S.product limit grammar.now).more limit) }
-    ensures text { IfOk result (λ text. HasSummary S.SCALE S.product limit labels.now grammar.now text.bytes) }
+    requires grammar { IfOk determinized (λ h. IsDeterminizedText S.SCALE S.product limit labels.now
+        grammar.now h.text.bytes h.grammar) }
+    requires within { IfOk determinized (λ _. (determinize_makes S.product limit
+        grammar.now).within) }
+    requires err { IfErr determinized (IsMadeFault (determinize_makes S.product limit
+        grammar.now).more limit) }
+    ensures text { IfOk result (λ text. HasSummary S.SCALE S.product limit labels.now grammar.now
+        text.bytes) }
     ensures within { IfOk result (λ _. (determinize_makes S.product limit grammar.now).within) }
     ensures err { IfErr result (IsSummaryFault S.LEVELLED S.product limit labels.now grammar.now) }
 {
@@ -129,7 +135,8 @@ pub fn summary_of<S: Semiring + Drop, G: Gate>(
 ) -> Result<GrowingSink, Status>
     requires printable { ArePrintable S.SCALE labels.now grammar.now.rules }
     requires limit { IsLimit limit }
-    ensures text { IfOk result (λ text. HasSummary S.SCALE S.product limit labels.now grammar.now text.bytes) }
+    ensures text { IfOk result (λ text. HasSummary S.SCALE S.product limit labels.now grammar.now
+        text.bytes) }
     ensures within { IfOk result (λ _. (determinize_makes S.product limit grammar.now).within) }
     ensures err { IfErr result (IsSummaryFault S.LEVELLED S.product limit labels.now grammar.now) }
 {
@@ -151,7 +158,8 @@ pub fn summary_of_together<S: Semiring + Sync + Drop, R: Threads + Wait + Sync, 
     requires printable { ArePrintable S.SCALE labels.now grammar.now.rules }
     requires workers { (1 ≤ workers) × (workers ≤ 16) }
     requires limit { IsLimit limit }
-    ensures text { IfOk result (λ text. HasSummary S.SCALE S.product limit labels.now grammar.now text.bytes) }
+    ensures text { IfOk result (λ text. HasSummary S.SCALE S.product limit labels.now grammar.now
+        text.bytes) }
     ensures within { IfOk result (λ _. (determinize_makes S.product limit grammar.now).within) }
     ensures err { IfErr result (IsSummaryFault S.LEVELLED S.product limit labels.now grammar.now) }
 {

@@ -57,12 +57,16 @@ fn canonical_of_vectors<S: Semiring + Drop>(
     requires within { IfOk hunted (λ f. f.parts ≤ limit) }
     requires few { IfOk hunted (λ f. length f.order.items ≤ limit) }
     requires few_rules { IfOk hunted (λ f. length f.rules.items ≤ limit) }
-    requires more { IfErr hunted (IfTooMany limit (IsBeyond (determinization S.product form.now.rules) limit)) }
-    ensures canonical { IfOk result (λ h. IsCanonicalOf S.product S.SCALE labels.now limit (determinizing S.product form.now) h.grammar) }
-    ensures means { IfOk result (λ h. IsDeterminizationOf S.product form.now.rules h.grammar.rules) }
+    requires more { IfErr hunted (IfTooMany limit (IsBeyond
+        (determinization S.product form.now.rules) limit)) }
+    ensures canonical { IfOk result (λ h. IsCanonicalOf S.product S.SCALE labels.now limit
+        (determinizing S.product form.now) h.grammar) }
+    ensures means { IfOk result (λ h. IsDeterminizationOf S.product form.now.rules
+        h.grammar.rules) }
     ensures read { IfOk result (λ h. GrammarText S.SCALE labels.now h.text.bytes h.grammar) }
     ensures text { IfOk result (λ h. h.text.bytes ≡ grammar_text S.SCALE labels.now h.grammar) }
-    ensures err { IfErr result (IsMadeFault (IsBeyond (determinizing S.product form.now).problem limit) limit) }
+    ensures err { IfErr result (IsMadeFault (IsBeyond (determinizing S.product form.now).problem
+        limit) limit) }
 {
     form.grammar();
     let found = match hunted {
@@ -95,10 +99,13 @@ pub fn determinization_of<S: Semiring + Drop, G: Gate>(
 ) -> Result<Printed<S>, Status>
     requires grammar { ArePrintable S.SCALE labels.now grammar.now.rules }
     requires limit { IsLimit limit }
-    ensures text { IfOk result (λ h. HasDeterminizedText S.SCALE S.product limit labels.now grammar.now h.text.bytes) }
-    ensures grammar { IfOk result (λ h. IsDeterminizedText S.SCALE S.product limit labels.now grammar.now h.text.bytes h.grammar) }
+    ensures text { IfOk result (λ h. HasDeterminizedText S.SCALE S.product limit labels.now
+        grammar.now h.text.bytes) }
+    ensures grammar { IfOk result (λ h. IsDeterminizedText S.SCALE S.product limit labels.now
+        grammar.now h.text.bytes h.grammar) }
     ensures within { IfOk result (λ _. (determinize_makes S.product limit grammar.now).within) }
-    ensures err { IfErr result (IsMadeFault (determinize_makes S.product limit grammar.now).more limit) }
+    ensures err { IfErr result (IsMadeFault (determinize_makes S.product limit grammar.now).more
+        limit) }
 {
     let form = match trimmed_form::<S>(alloc, grammar, limit) {
         Ok(form) => form,
@@ -131,10 +138,13 @@ pub fn determinization_of_together<
     requires grammar { ArePrintable S.SCALE labels.now grammar.now.rules }
     requires workers { (1 ≤ workers) × (workers ≤ 16) }
     requires limit { IsLimit limit }
-    ensures text { IfOk result (λ h. HasDeterminizedText S.SCALE S.product limit labels.now grammar.now h.text.bytes) }
-    ensures grammar { IfOk result (λ h. IsDeterminizedText S.SCALE S.product limit labels.now grammar.now h.text.bytes h.grammar) }
+    ensures text { IfOk result (λ h. HasDeterminizedText S.SCALE S.product limit labels.now
+        grammar.now h.text.bytes) }
+    ensures grammar { IfOk result (λ h. IsDeterminizedText S.SCALE S.product limit labels.now
+        grammar.now h.text.bytes h.grammar) }
     ensures within { IfOk result (λ _. (determinize_makes S.product limit grammar.now).within) }
-    ensures err { IfErr result (IsMadeFault (determinize_makes S.product limit grammar.now).more limit) }
+    ensures err { IfErr result (IsMadeFault (determinize_makes S.product limit grammar.now).more
+        limit) }
 {
     let form = match trimmed_form::<S>(alloc, grammar, limit) {
         Ok(form) => form,

@@ -30,8 +30,10 @@ pub fn normal_of<S: Semiring + Drop>(
     limit: u64,
 ) -> Result<Normal<S>, Status>
     requires limit { IsLimit limit }
-    ensures form { IfOk result (λ m. IsNormalForm S.product (length grammar.now.names) grammar.now.rules (length m.names) m.rules) }
-    ensures series { IfOk result (λ m. KeepsSeries S.product (length grammar.now.names) grammar.now.rules m.rules) }
+    ensures form { IfOk result (λ m. IsNormalForm S.product (length grammar.now.names)
+        grammar.now.rules (length m.names) m.rules) }
+    ensures series { IfOk result (λ m. KeepsSeries S.product (length grammar.now.names)
+        grammar.now.rules m.rules) }
     ensures parts { IfOk result (λ m. normal_parts (length m.names) m.rules ≤ limit) }
     ensures within { IfOk result (λ _. (normal_form S.product limit grammar.now).within) }
     ensures err { IfErr result (IsMadeFault (normal_form S.product limit grammar.now).more limit) }
@@ -53,7 +55,8 @@ pub fn costed_form<S: Semiring + Drop>(
     ensures form { IfOk result (λ m. IsTrimmedForm S.product grammar.now m.0) }
     ensures within { IfOk result (λ _. (normal_form S.product limit grammar.now).within) }
     ensures series { IfOk result (λ m. HasSameSeries S.product grammar.now m.0) }
-    ensures printable { IfOk result (λ m. (labels : List (List ℕ)) → ArePrintable S.SCALE labels grammar.now.rules → ArePrintable S.SCALE labels m.0.rules) }
+    ensures printable { IfOk result (λ m. (labels : List (List ℕ)) →
+        ArePrintable S.SCALE labels grammar.now.rules → ArePrintable S.SCALE labels m.0.rules) }
     ensures below { IfOk result (λ m. HaveTreesBelow S.product m.0.rules) }
     ensures length { IfOk result (λ m. length m.1.items ≡ length m.0.names) }
     ensures insides { IfOk result (λ m. AreInsidesOfAll S.product m.0.rules m.1.items) }
@@ -87,7 +90,8 @@ pub fn trimmed_form<S: Semiring + Drop>(
     ensures form { IfOk result (λ m. IsTrimmedForm S.product grammar.now m) }
     ensures within { IfOk result (λ _. (normal_form S.product limit grammar.now).within) }
     ensures series { IfOk result (λ m. HasSameSeries S.product grammar.now m) }
-    ensures printable { IfOk result (λ m. (labels : List (List ℕ)) → ArePrintable S.SCALE labels grammar.now.rules → ArePrintable S.SCALE labels m.rules) }
+    ensures printable { IfOk result (λ m. (labels : List (List ℕ)) →
+        ArePrintable S.SCALE labels grammar.now.rules → ArePrintable S.SCALE labels m.rules) }
     ensures below { IfOk result (λ m. HaveTreesBelow S.product m.rules) }
     ensures err { IfErr result (IsMadeFault (normal_form S.product limit grammar.now).more limit) }
 {

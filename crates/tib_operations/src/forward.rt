@@ -41,19 +41,25 @@ fn canonical_of_image<S: Semiring + Drop>(
     requires transducer { ArePlainMoves S.SCALE labels.now transducer.now.rules }
     requires class { AllMeet linear transducer.now.rules }
     requires limit { IsLimit limit }
-    requires reached { IfOk hunted (IsReachedBy (forward_image S.product grammar.now.rules transducer.now.rules)) }
+    requires reached { IfOk hunted (IsReachedBy (forward_image S.product grammar.now.rules
+        transducer.now.rules)) }
     requires range { IfOk hunted AreOverOrder }
-    requires parts { IfOk hunted (HasPartsOf (forward_image S.product grammar.now.rules transducer.now.rules)) }
+    requires parts { IfOk hunted (HasPartsOf (forward_image S.product grammar.now.rules
+        transducer.now.rules)) }
     requires within { IfOk hunted (λ f. f.parts ≤ limit) }
     requires few { IfOk hunted (λ f. length f.order.items ≤ limit) }
     requires few_rules { IfOk hunted (λ f. length f.rules.items ≤ limit) }
-    requires fault { IfErr hunted (IsApplyFault (demands true false false false) transducer.now.rules limit
+    requires fault { IfErr hunted (IsApplyFault (demands true false false false)
+        transducer.now.rules limit
         (IsBeyond (forward_image S.product grammar.now.rules transducer.now.rules) limit)) }
-    ensures canonical { IfOk result (λ h. IsCanonicalOf S.product S.SCALE labels.now limit (forwarding S.product transducer.now grammar.now) h.grammar) }
-    ensures series { IfOk result (λ h. HasForwardSeries S.product grammar.now.rules transducer.now.rules h.grammar.rules) }
+    ensures canonical { IfOk result (λ h. IsCanonicalOf S.product S.SCALE labels.now limit
+        (forwarding S.product transducer.now grammar.now) h.grammar) }
+    ensures series { IfOk result (λ h. HasForwardSeries S.product grammar.now.rules
+        transducer.now.rules h.grammar.rules) }
     ensures read { IfOk result (λ h. GrammarText S.SCALE labels.now h.text.bytes h.grammar) }
     ensures text { IfOk result (λ h. h.text.bytes ≡ grammar_text S.SCALE labels.now h.grammar) }
-    ensures err { IfErr result (IsMadeFault (IsBeyond (forwarding S.product transducer.now grammar.now).problem limit) limit) }
+    ensures err { IfErr result (IsMadeFault (IsBeyond (forwarding S.product transducer.now
+        grammar.now).problem limit) limit) }
 {
     let found = match hunted {
         Ok(found) => found,
@@ -89,9 +95,12 @@ pub fn image_of<S: Semiring + Drop, G: Gate>(
     requires transducer { ArePlainMoves S.SCALE labels.now transducer.now.rules }
     requires class { AllMeet linear transducer.now.rules }
     requires limit { IsLimit limit }
-    ensures text { IfOk result (λ h. HasForwardText S.SCALE S.product limit labels.now grammar.now transducer.now h.text.bytes) }
-    ensures within { IfOk result (λ _. (forward_makes S.product limit grammar.now transducer.now).within) }
-    ensures err { IfErr result (IsMadeFault (forward_makes S.product limit grammar.now transducer.now).more limit) }
+    ensures text { IfOk result (λ h. HasForwardText S.SCALE S.product limit labels.now grammar.now
+        transducer.now h.text.bytes) }
+    ensures within { IfOk result (λ _. (forward_makes S.product limit grammar.now
+        transducer.now).within) }
+    ensures err { IfErr result (IsMadeFault (forward_makes S.product limit grammar.now
+        transducer.now).more limit) }
 {
     let form = match trimmed_form::<S>(alloc, grammar, limit) {
         Ok(form) => form,
@@ -123,9 +132,12 @@ pub fn image_of_together<S: Semiring + Sync + Drop, R: Threads + Wait + Sync, G:
     requires class { AllMeet linear transducer.now.rules }
     requires workers { (1 ≤ workers) × (workers ≤ 16) }
     requires limit { IsLimit limit }
-    ensures text { IfOk result (λ h. HasForwardText S.SCALE S.product limit labels.now grammar.now transducer.now h.text.bytes) }
-    ensures within { IfOk result (λ _. (forward_makes S.product limit grammar.now transducer.now).within) }
-    ensures err { IfErr result (IsMadeFault (forward_makes S.product limit grammar.now transducer.now).more limit) }
+    ensures text { IfOk result (λ h. HasForwardText S.SCALE S.product limit labels.now grammar.now
+        transducer.now h.text.bytes) }
+    ensures within { IfOk result (λ _. (forward_makes S.product limit grammar.now
+        transducer.now).within) }
+    ensures err { IfErr result (IsMadeFault (forward_makes S.product limit grammar.now
+        transducer.now).more limit) }
 {
     let form = match trimmed_form::<S>(alloc, grammar, limit) {
         Ok(form) => form,

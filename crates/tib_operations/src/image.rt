@@ -37,10 +37,13 @@ fn canonical_of_outputs<S: Semiring + Drop>(
     requires within { IfOk hunted (λ f. f.parts ≤ limit) }
     requires few { IfOk hunted (λ f. length f.order.items ≤ limit) }
     requires few_rules { IfOk hunted (λ f. length f.rules.items ≤ limit) }
-    requires more { IfErr hunted (IfTooMany limit (IsBeyond (image_of transducer.now.rules tree.now) limit)) }
-    ensures text { IfOk result (λ h. HasImageText S.SCALE S.product limit labels.now tree.now transducer.now h.text.bytes) }
+    requires more { IfErr hunted (IfTooMany limit (IsBeyond (image_of transducer.now.rules tree.now)
+        limit)) }
+    ensures text { IfOk result (λ h. HasImageText S.SCALE S.product limit labels.now tree.now
+        transducer.now h.text.bytes) }
     ensures within { IfOk result (λ _. (image_makes limit tree.now transducer.now).within) }
-    ensures err { IfErr result (IsMadeFault (image_makes limit tree.now transducer.now).more limit) }
+    ensures err { IfErr result (IsMadeFault (image_makes limit tree.now transducer.now).more
+        limit) }
 {
     transducer.is_sound();
     let found = match hunted {
@@ -68,9 +71,11 @@ pub fn outputs_of<S: Semiring + Drop, G: Gate>(
 ) -> Result<Printed<S>, Status>
     requires transducer { ArePlainMoves S.SCALE labels.now transducer.now.rules }
     requires limit { IsLimit limit }
-    ensures text { IfOk result (λ h. HasImageText S.SCALE S.product limit labels.now tree.now transducer.now h.text.bytes) }
+    ensures text { IfOk result (λ h. HasImageText S.SCALE S.product limit labels.now tree.now
+        transducer.now h.text.bytes) }
     ensures within { IfOk result (λ _. (image_makes limit tree.now transducer.now).within) }
-    ensures err { IfErr result (IsMadeFault (image_makes limit tree.now transducer.now).more limit) }
+    ensures err { IfErr result (IsMadeFault (image_makes limit tree.now transducer.now).more
+        limit) }
 {
     let hunted = image::<S, G>(alloc, transducer, tree, limit, gate);
     canonical_of_outputs::<S>(alloc, tree, transducer, labels, limit, hunted)
@@ -91,9 +96,11 @@ pub fn outputs_of_together<S: Semiring + Sync + Drop, R: Threads + Wait + Sync, 
     requires transducer { ArePlainMoves S.SCALE labels.now transducer.now.rules }
     requires workers { (1 ≤ workers) × (workers ≤ 16) }
     requires limit { IsLimit limit }
-    ensures text { IfOk result (λ h. HasImageText S.SCALE S.product limit labels.now tree.now transducer.now h.text.bytes) }
+    ensures text { IfOk result (λ h. HasImageText S.SCALE S.product limit labels.now tree.now
+        transducer.now h.text.bytes) }
     ensures within { IfOk result (λ _. (image_makes limit tree.now transducer.now).within) }
-    ensures err { IfErr result (IsMadeFault (image_makes limit tree.now transducer.now).more limit) }
+    ensures err { IfErr result (IsMadeFault (image_makes limit tree.now transducer.now).more
+        limit) }
 {
     let hunted = image_together::<S, R, G>(rt, alloc, transducer, tree, workers, limit, gate);
     canonical_of_outputs::<S>(alloc, tree, transducer, labels, limit, hunted)

@@ -17,7 +17,8 @@ fn print_state<S: Semiring, W: Sink>(
     cost: Option<Cost>,
     out: &mut W,
 ) -> Result<(), Failed>
-    ensures { OnOk result (Takes (W.written out.old) (W.written out.new) (W.free out.old) (W.free out.new) (inside_line S.SCALE name.now cost)) }
+    ensures { OnOk result (Takes (W.written out.old) (W.written out.new) (W.free out.old)
+        (W.free out.new) (inside_line S.SCALE name.now cost)) }
 {
     match write_whole(out, name) {
         Ok(()) => print_cost::<S, W>(cost, out),

@@ -45,12 +45,16 @@ fn canonical_of_pairs<S: Semiring + Drop>(
     requires within { IfOk hunted (λ f. f.parts ≤ limit) }
     requires few { IfOk hunted (λ f. length f.order.items ≤ limit) }
     requires few_rules { IfOk hunted (λ f. length f.rules.items ≤ limit) }
-    requires more { IfErr hunted (IfTooMany limit (IsBeyond (intersection S.product one.now.rules two.now.rules) limit)) }
-    ensures canonical { IfOk result (λ h. IsCanonicalOf S.product S.SCALE labels.now limit (intersecting S.product (one.now, two.now)) h.grammar) }
-    ensures series { IfOk result (λ h. HasProductSeries S.product one.now.rules two.now.rules h.grammar.rules) }
+    requires more { IfErr hunted (IfTooMany limit (IsBeyond
+        (intersection S.product one.now.rules two.now.rules) limit)) }
+    ensures canonical { IfOk result (λ h. IsCanonicalOf S.product S.SCALE labels.now limit
+        (intersecting S.product (one.now, two.now)) h.grammar) }
+    ensures series { IfOk result (λ h. HasProductSeries S.product one.now.rules two.now.rules
+        h.grammar.rules) }
     ensures read { IfOk result (λ h. GrammarText S.SCALE labels.now h.text.bytes h.grammar) }
     ensures text { IfOk result (λ h. h.text.bytes ≡ grammar_text S.SCALE labels.now h.grammar) }
-    ensures err { IfErr result (IsMadeFault (IsBeyond (intersecting S.product (one.now, two.now)).problem limit) limit) }
+    ensures err { IfErr result (IsMadeFault (IsBeyond (intersecting S.product
+        (one.now, two.now)).problem limit) limit) }
 {
     one.grammar();
     two.grammar();
@@ -81,9 +85,12 @@ pub fn intersection_of<S: Semiring + Drop, G: Gate>(
     requires first { ArePrintable S.SCALE labels.now first.now.rules }
     requires second { ArePrintable S.SCALE labels.now second.now.rules }
     requires limit { IsLimit limit }
-    ensures text { IfOk result (λ h. HasIntersectionText S.SCALE S.product limit labels.now first.now second.now h.text.bytes) }
-    ensures within { IfOk result (λ _. (intersect_makes S.product limit first.now second.now).within) }
-    ensures err { IfErr result (IsMadeFault (intersect_makes S.product limit first.now second.now).more limit) }
+    ensures text { IfOk result (λ h. HasIntersectionText S.SCALE S.product limit labels.now
+        first.now second.now h.text.bytes) }
+    ensures within { IfOk result (λ _. (intersect_makes S.product limit first.now
+        second.now).within) }
+    ensures err { IfErr result (IsMadeFault (intersect_makes S.product limit first.now
+        second.now).more limit) }
 {
     let one = match trimmed_form::<S>(alloc, first, limit) {
         Ok(one) => one,
@@ -123,9 +130,12 @@ pub fn intersection_of_together<
     requires second { ArePrintable S.SCALE labels.now second.now.rules }
     requires workers { (1 ≤ workers) × (workers ≤ 16) }
     requires limit { IsLimit limit }
-    ensures text { IfOk result (λ h. HasIntersectionText S.SCALE S.product limit labels.now first.now second.now h.text.bytes) }
-    ensures within { IfOk result (λ _. (intersect_makes S.product limit first.now second.now).within) }
-    ensures err { IfErr result (IsMadeFault (intersect_makes S.product limit first.now second.now).more limit) }
+    ensures text { IfOk result (λ h. HasIntersectionText S.SCALE S.product limit labels.now
+        first.now second.now h.text.bytes) }
+    ensures within { IfOk result (λ _. (intersect_makes S.product limit first.now
+        second.now).within) }
+    ensures err { IfErr result (IsMadeFault (intersect_makes S.product limit first.now
+        second.now).more limit) }
 {
     let one = match trimmed_form::<S>(alloc, first, limit) {
         Ok(one) => one,

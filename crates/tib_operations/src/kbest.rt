@@ -36,7 +36,8 @@ fn add_tree<S: Semiring>(
 ) -> Result<(), Failed>
     requires place { place < length list.now }
     requires labels { Each (λ x. HasLabels labels.now x.0) list.now }
-    ensures { OnOk result (text.new.bytes ≡ text.old.bytes ++ costed_line S.SCALE labels.now (get_or list.now place no_entry)) }
+    ensures { OnOk result (text.new.bytes ≡ text.old.bytes ++ costed_line S.SCALE labels.now
+        (get_or list.now place no_entry)) }
 {
     match list.tree(alloc, place) {
         Ok(tree) => add_line::<S>(text, &tree, labels, Some(list.cost(place))),
@@ -62,7 +63,8 @@ fn list_text<S: Semiring>(
 
 // Whether each tree of a list costs at most a bound.
 fn are_within(list: &Ranked, bound: u64) -> bool
-    ensures { IsTrue result → (i : ℕ) → i < length list.now → (get_or list.now i no_entry).1 ≤ bound }
+    ensures { IsTrue result → (i : ℕ) → i < length list.now → (get_or list.now i no_entry).1
+        ≤ bound }
 {
     for i in 0..list.len() {
         if list.cost(i).get() > bound {
@@ -75,7 +77,8 @@ fn are_within(list: &Ranked, bound: u64) -> bool
 // Whether a list has k trees, each of which costs at most a bound.
 fn is_full(list: &Ranked, k: u32, bound: u64) -> bool
     ensures full { IsTrue result → length list.now ≡ k }
-    ensures within { IsTrue result → (i : ℕ) → i < length list.now → (get_or list.now i no_entry).1 ≤ bound }
+    ensures within { IsTrue result → (i : ℕ) → i < length list.now → (get_or list.now i no_entry).1
+        ≤ bound }
 {
     if list.len() != k {
         return false;
@@ -92,7 +95,8 @@ fn kept_best<S: Semiring + Drop>(
 ) -> Result<Option<Ranked>, AllocError>
     requires printable { ArePrintable S.SCALE labels.now kept.rules }
     requires some { 0 < k }
-    ensures best { IfOk result (λ found. IfSome found (λ xs. IsKBest S.product kept.rules labels.now k xs)) }
+    ensures best { IfOk result (λ found. IfSome found (λ xs. IsKBest S.product kept.rules labels.now
+        k xs)) }
 {
     let Some(normal) = Normal::new(alloc, kept)? else {
         return Ok(None);
@@ -130,7 +134,8 @@ fn narrow_best<S: Semiring + Drop>(
     requires some { 0 < k }
     requires length { length insides.now ≡ length form.names }
     requires insides { AreInsidesOfAll S.product form.rules insides.now }
-    ensures best { IfOk result (λ found. IfSome found (λ xs. IsKBest S.product form.rules labels.now k xs)) }
+    ensures best { IfOk result (λ found. IfSome found (λ xs. IsKBest S.product form.rules labels.now
+        k xs)) }
 {
     form.grammar().is_sound();
     let Some(best) = insides[0] else {
@@ -159,8 +164,10 @@ fn found_best<S: Semiring + Drop>(
     requires printable { ArePrintable S.SCALE labels.now grammar.now.rules }
     requires limit { IsLimit limit }
     requires some { 0 < k }
-    ensures best { IfOk result (λ found. IfSome found (λ xs. IsKBest S.product grammar.now.rules labels.now k xs)) }
-    ensures labels { IfOk result (λ found. IfSome found (λ xs. Each (λ x. HasLabels labels.now x.0) xs)) }
+    ensures best { IfOk result (λ found. IfSome found (λ xs. IsKBest S.product grammar.now.rules
+        labels.now k xs)) }
+    ensures labels { IfOk result (λ found. IfSome found
+        (λ xs. Each (λ x. HasLabels labels.now x.0) xs)) }
     ensures within { IfOk result (λ _. (kbest_makes S.product limit grammar.now).within) }
     ensures err { IfErr result (IsKBestFault S.LEVELLED S.product limit k labels.now grammar.now) }
 {
@@ -243,7 +250,8 @@ pub fn kbest_text<S: Semiring + Drop>(
     requires printable { ArePrintable S.SCALE labels.now grammar.now.rules }
     requires limit { IsLimit limit }
     requires some { 0 < k }
-    ensures text { IfOk result (λ text. HasKBestText S.SCALE S.product k labels.now grammar.now text.bytes) }
+    ensures text { IfOk result (λ text. HasKBestText S.SCALE S.product k labels.now grammar.now
+        text.bytes) }
     ensures within { IfOk result (λ _. (kbest_makes S.product limit grammar.now).within) }
     ensures err { IfErr result (IsKBestFault S.LEVELLED S.product limit k labels.now grammar.now) }
 {

@@ -23,7 +23,8 @@ pub fn canonical_normal<S: Semiring + Drop>(
 ) -> Result<Printed<S>, Status>
     requires printable { ArePrintable S.SCALE labels.now grammar.now.rules }
     requires limit { IsLimit limit }
-    ensures text { IfOk result (λ h. HasNormalText S.SCALE S.product limit labels.now grammar.now h.text.bytes) }
+    ensures text { IfOk result (λ h. HasNormalText S.SCALE S.product limit labels.now grammar.now
+        h.text.bytes) }
     ensures within { IfOk result (λ _. (normal_makes S.product limit grammar.now).within) }
     ensures err { IfErr result (IsMadeFault (normal_makes S.product limit grammar.now).more limit) }
 {

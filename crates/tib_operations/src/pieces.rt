@@ -7,7 +7,8 @@ use tib_io::{Failed, Sink, write_whole};
 
 /// Writes a piece. It takes no memory. After a failure a front of the piece was written.
 pub fn write_piece<W: Sink>(out: &mut W, piece: &[u8]) -> Result<(), Failed>
-    ensures { Wrote (W.written out.old) (W.written out.new) (W.free out.old) (W.free out.new) (W.faults out.old) (W.faults out.new)
+    ensures { Wrote (W.written out.old) (W.written out.new) (W.free out.old) (W.free out.new)
+        (W.faults out.old) (W.faults out.new)
         piece.now result }
 {
     write_whole(out, piece)
@@ -15,7 +16,8 @@ pub fn write_piece<W: Sink>(out: &mut W, piece: &[u8]) -> Result<(), Failed>
 
 /// Writes two pieces. It takes no memory. After a failure a front of both was written.
 pub fn write_both<W: Sink>(out: &mut W, first: &[u8], second: &[u8]) -> Result<(), Failed>
-    ensures { Wrote (W.written out.old) (W.written out.new) (W.free out.old) (W.free out.new) (W.faults out.old) (W.faults out.new)
+    ensures { Wrote (W.written out.old) (W.written out.new) (W.free out.old) (W.free out.new)
+        (W.faults out.old) (W.faults out.new)
         (first.now ++ second.now) result }
 {
     match write_piece(out, first) {
@@ -31,7 +33,8 @@ pub fn write_about<W: Sink>(
     number: u64,
     last: &[u8],
 ) -> Result<(), Failed>
-    ensures { Wrote (W.written out.old) (W.written out.new) (W.free out.old) (W.free out.new) (W.faults out.old) (W.faults out.new)
+    ensures { Wrote (W.written out.old) (W.written out.new) (W.free out.old) (W.free out.new)
+        (W.faults out.old) (W.faults out.new)
         (first.now ++ decimal number ++ last.now) result }
 {
     let mut buffer = Buffer::new();

@@ -36,7 +36,8 @@ fn pruned_form<S: Semiring + Drop>(
     requires beam { IsBeam beam }
     ensures kept { IfOk result (λ k. IsPrunedForm S.product beam grammar.now k) }
     ensures keeps { IfOk result (λ k. KeepsWithin S.product grammar.now.rules beam k.rules) }
-    ensures printable { IfOk result (λ k. (labels : List (List ℕ)) → ArePrintable S.SCALE labels grammar.now.rules → ArePrintable S.SCALE labels k.rules) }
+    ensures printable { IfOk result (λ k. (labels : List (List ℕ)) →
+        ArePrintable S.SCALE labels grammar.now.rules → ArePrintable S.SCALE labels k.rules) }
     ensures within { IfOk result (λ _. (prune_makes S.product limit grammar.now).within) }
     ensures err { IfErr result (IsMadeFault (prune_makes S.product limit grammar.now).more limit) }
 {
@@ -64,7 +65,8 @@ pub fn canonical_pruned<S: Semiring + Drop>(
     requires printable { ArePrintable S.SCALE labels.now grammar.now.rules }
     requires limit { IsLimit limit }
     requires beam { IsBeam beam }
-    ensures text { IfOk result (λ h. HasPruneText S.SCALE S.product beam labels.now grammar.now h.text.bytes) }
+    ensures text { IfOk result (λ h. HasPruneText S.SCALE S.product beam labels.now grammar.now
+        h.text.bytes) }
     ensures within { IfOk result (λ _. (prune_makes S.product limit grammar.now).within) }
     ensures err { IfErr result (IsMadeFault (prune_makes S.product limit grammar.now).more limit) }
 {

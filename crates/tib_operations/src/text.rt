@@ -13,7 +13,8 @@ use tib_tree::{Labels, Tree, print_tree};
 
 /// Writes what stands behind a tree or a state: its cost, which in Boolean is not printed, or that it has none.
 pub fn print_cost<S: Semiring, W: Sink>(cost: Option<Cost>, out: &mut W) -> Result<(), Failed>
-    ensures { OnOk result (Takes (W.written out.old) (W.written out.new) (W.free out.old) (W.free out.new) (cost_text S.SCALE cost)) }
+    ensures { OnOk result (Takes (W.written out.old) (W.written out.new) (W.free out.old)
+        (W.free out.new) (cost_text S.SCALE cost)) }
 {
     match cost {
         None => write_whole(out, b" # none\n"),
@@ -36,7 +37,8 @@ fn print_line<S: Semiring, W: Sink>(
     out: &mut W,
 ) -> Result<(), Failed>
     requires { HasLabels labels.now tree.now }
-    ensures { OnOk result (Takes (W.written out.old) (W.written out.new) (W.free out.old) (W.free out.new) (weighed_line S.SCALE labels.now tree.now cost)) }
+    ensures { OnOk result (Takes (W.written out.old) (W.written out.new) (W.free out.old)
+        (W.free out.new) (weighed_line S.SCALE labels.now tree.now cost)) }
 {
     match print_tree(tree, labels, out) {
         Ok(()) => print_cost::<S, W>(cost, out),
@@ -52,7 +54,8 @@ pub(crate) fn add_line<S: Semiring>(
     cost: Option<Cost>,
 ) -> Result<(), Failed>
     requires { HasLabels labels.now tree.now }
-    ensures { OnOk result (text.new.bytes ≡ text.old.bytes ++ weighed_line S.SCALE labels.now tree.now cost) }
+    ensures { OnOk result (text.new.bytes ≡ text.old.bytes ++ weighed_line S.SCALE labels.now
+        tree.now cost) }
 {
     print_line::<S, GrowingSink>(tree, labels, cost, text)
 }
@@ -66,7 +69,8 @@ pub fn weighed_text<S: Semiring>(
 ) -> Result<GrowingSink, Failed>
     requires labels { Each (HasLabels labels.now) trees.now }
     requires many { length costs.now ≡ length trees.now }
-    ensures { IfOk result (λ text. text.bytes ≡ weighed_lines S.SCALE labels.now trees.now costs.now) }
+    ensures { IfOk result (λ text. text.bytes ≡ weighed_lines S.SCALE labels.now trees.now
+        costs.now) }
 {
     let mut text = GrowingSink::new(alloc);
     for i in 0..trees.len() {

@@ -22,7 +22,8 @@ fn costs_by<S: Semiring + Sync, R: Threads + Sync>(
     normal: &Normal<S>,
     trees: &[Tree],
 ) -> Result<Vec<Option<Cost>>, Status>
-    ensures series { IfOk result (λ costs. AllZip (λ t v. IsSeries S.product normal.now.rules t v) trees.now costs.items) }
+    ensures series { IfOk result (λ costs. AllZip (λ t v. IsSeries S.product normal.now.rules t v)
+        trees.now costs.items) }
     ensures err { IfErr result (λ s. s ≡ Status.OutOfMemory) }
 {
     match weigh_all::<S, R>(rt, alloc, normal, trees) {
@@ -43,7 +44,8 @@ pub fn costs_of<S: Semiring + Sync + Drop, R: Threads + Sync>(
 ) -> Result<Vec<Option<Cost>>, Status>
     requires { IsLimit limit }
     ensures costs { IfOk result (λ costs. length costs.items ≡ length trees.now) }
-    ensures weights { IfOk result (λ costs. AllZip (λ t v. IsSeries S.product grammar.now.rules t v) trees.now costs.items) }
+    ensures weights { IfOk result (λ costs. AllZip (λ t v. IsSeries S.product grammar.now.rules t v)
+        trees.now costs.items) }
     ensures within { IfOk result (λ _. (weigh_makes S.product limit grammar.now).within) }
     ensures err { IfErr result (IsMadeFault (weigh_makes S.product limit grammar.now).more limit) }
 {

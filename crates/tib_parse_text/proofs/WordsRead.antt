@@ -1,6 +1,6 @@
 -- A tree-to-string transducer that was read has its shape, and its left sides and costs can be written.
 use Rattle.tib_cost.specs.declared.Scale.{Scale}
-use Rattle.std.proofs.Common.{ℕ, inl, inr, List, [], ◌∷◌, sym, subst, arith, zero, suc}
+use Rattle.std.proofs.Common.{ℕ, List, [], ◌∷◌, sym, subst, arith, zero, suc}
 use Rattle.tib_lex.specs.Lines.{HasNoFeed, lines_of}
 use Rattle.tib_lex.specs.Lists.{Along, Each}
 use Rattle.tib_lex.proofs.Lists.{each_parts}
@@ -13,10 +13,13 @@ use Rattle.tib_strings.specs.Rules.{string_rule}
 use Rattle.tib_strings.specs.StringTransducerOf.{StringTransducerOf}
 use Rattle.tib_strings.specs.declared.StringRule.{StringRule}
 use Rattle.tib_string_file.specs.Rule.{Parts, SpellsRule, RuleLine}
-use Rattle.tib_string_file.specs.TransducerText.{HaveRules, HaveStart, ReadsAs}
+use Rattle.tib_string_file.specs.Listed.{SpellsList}
+use Rattle.tib_string_file.specs.TransducerText.{ReadsAs}
 use Rattle.tib_string_file.specs.Value.{IsRule}
 use Rattle.tib_string_file.proofs.ShapesRead.{left_ends, rules_shaped}
 use Rattle.tib_transducer_file.specs.Pieces.{Piece}
+use Rattle.tib_transducer_file.specs.TransducerText.{SpellsLineBy}
+use Rattle.tib_transducer_file.proofs.RulesHave.{file_has}
 use Rattle.tib_operations.proofs.PlainMoves.{IsFreePiece, IsFreeItem, free_lines, pieces_free, left_free, left_plain, labels_grown}
 use Rattle.tib_parse_text.specs.Words.{ArePlainWords}
 
@@ -28,22 +31,11 @@ record IsPlainLine (scale : Scale) (line : RuleLine) : Type 0 where
 left_of : (pieces : List Piece) (p : Parts) → SpellsRule pieces p → Each IsFreePiece pieces → Each IsFreeItem (p.root ∷ p.below)
 left_of pieces p s f = left_free s.front p s.left (each_parts IsFreePiece s.front (s.arrow ∷ s.back) (subst (Each IsFreePiece) s.are f)).0
 
-rule_lines : (scale : Scale) (lines : List (List ℕ)) (rules : List RuleLine) → Each HasNoFeed lines → HaveRules scale lines rules → Each (IsPlainLine scale) rules
-rule_lines scale [] rules f h = subst (Each (IsPlainLine scale)) (sym h) tt
-rule_lines scale (line ∷ lines) rules f (inl h) = rule_lines scale lines rules f.1 h.1
-rule_lines scale (line ∷ lines) rules f (inr (rule, more, is, s, rest)) =
-    subst (Each (IsPlainLine scale)) (sym is) (
-      record {
-        left = left_of s.parts.pieces rule.parts s.parts.spells (pieces_free s.parts.pieces line f.0 s.parts.has);
-        cost = plain_cost scale rule.parts.weight rule.cost s.cost;
-      },
-      rule_lines scale lines more f.1 rest,
-    )
-
-start_lines : (scale : Scale) (lines : List (List ℕ)) (start : List ℕ) (rules : List RuleLine) → Each HasNoFeed lines → HaveStart scale lines start rules → Each (IsPlainLine scale) rules
-start_lines scale [] start rules f h = absurd h
-start_lines scale (line ∷ lines) start rules f (inl h) = start_lines scale lines start rules f.1 h.1
-start_lines scale (line ∷ lines) start rules f (inr h) = rule_lines scale lines rules f.1 h.2
+line_words : (scale : Scale) (line : List ℕ) (rule : RuleLine) → HasNoFeed line → SpellsLineBy SpellsList scale line rule → IsPlainLine scale rule
+line_words scale line rule f s = record {
+  left = left_of s.parts.pieces rule.parts s.parts.spells (pieces_free s.parts.pieces line f s.parts.has);
+  cost = plain_cost scale rule.parts.weight rule.cost s.cost;
+}
 
 plain_rules :
     (scale : Scale) (names labels : List (List ℕ)) (rules : List (StringRule ℕ)) (lines : List RuleLine) → Along (IsRule names labels) rules lines → Each (IsPlainLine scale) lines →
@@ -59,7 +51,7 @@ plain_rules scale names labels (r ∷ rules) (l ∷ lines) a e (suc m) h = plain
 
 pub words_plain : (scale : Scale) (labels : List (List ℕ)) (bytes : List ℕ) (t : StringTransducerOf) → ReadsAs scale labels bytes t → ArePlainWords scale labels t.rules
 words_plain scale labels bytes t r =
-    plain_rules scale t.names labels t.rules r.text.lines r.text.rules (start_lines scale (lines_of bytes) r.text.start r.text.lines (free_lines bytes) r.text.written)
+    plain_rules scale t.names labels t.rules r.text.lines r.text.rules (file_has HasNoFeed (IsPlainLine scale) scale (line_words scale) (lines_of bytes) r.text.start r.text.lines (free_lines bytes) r.text.written)
 
 -- it can still be written when the table grows
 pub words_grown : (scale : Scale) (early labels : List (List ℕ)) (rules : List (StringRule ℕ)) → Grows early labels → ArePlainWords scale early rules → ArePlainWords scale labels rules
