@@ -36,7 +36,8 @@ fn perform_job<R: Threads + Sync, F: Files, O: Sink, G: Gate>(
     requires most { job.now.demo ≤ most_demo }
     ensures { IsRunOf (Some (meaning job.now))
         (files_seen F.held F.sure F.faults files.old) (files_seen F.held F.sure F.faults files.new)
-        (sink_seen O.written O.free O.faults O.finished out.old) (sink_seen O.written O.free O.faults O.finished out.new) result }
+        (sink_seen O.written O.free O.faults O.finished out.old)
+        (sink_seen O.written O.free O.faults O.finished out.new) result }
 {
     match job.mode {
         Mode::MinPlus => answer_job::<MinPlus, R, F, O, G>(rt, alloc, job, files, out, gate),
@@ -57,7 +58,8 @@ fn perform<R: Threads + Sync, F: Files, O: Sink, G: Gate>(
 ) -> Status
     ensures { IsRunOf (job_of (map (λ s. string_bytes s) words.now))
         (files_seen F.held F.sure F.faults files.old) (files_seen F.held F.sure F.faults files.new)
-        (sink_seen O.written O.free O.faults O.finished out.old) (sink_seen O.written O.free O.faults O.finished out.new) result }
+        (sink_seen O.written O.free O.faults O.finished out.old)
+        (sink_seen O.written O.free O.faults O.finished out.new) result }
 {
     files_have_no_fault();
     within_or_too_many();
@@ -80,9 +82,11 @@ pub fn run_alone<R: Threads + Sync, F: Files, O: Sink, E: Sink, G: Gate + Sync>(
 ) -> Status
     ensures run { IsRunOf (job_of (map (λ s. string_bytes s) words.now))
         (files_seen F.held F.sure F.faults files.old) (files_seen F.held F.sure F.faults files.new)
-        (sink_seen O.written O.free O.faults O.finished out.old) (sink_seen O.written O.free O.faults O.finished out.new) result }
+        (sink_seen O.written O.free O.faults O.finished out.old)
+        (sink_seen O.written O.free O.faults O.finished out.new) result }
     ensures log { IsLogged (line_of result)
-        (sink_seen E.written E.free E.faults E.finished log.old) (sink_seen E.written E.free E.faults E.finished log.new) }
+        (sink_seen E.written E.free E.faults E.finished log.old)
+        (sink_seen E.written E.free E.faults E.finished log.new) }
 {
     let status = perform::<R, F, O, G>(rt, alloc, words, files, out, gate);
     let _ = tell(log, &status);
@@ -105,9 +109,11 @@ pub fn run<R: Threads + Wait + Sync, F: Files, O: Sink, E: Sink, G: Gate + Sync>
 ) -> Status
     ensures run { IsRunOf (job_of (map (λ s. string_bytes s) words.now))
         (files_seen F.held F.sure F.faults files.old) (files_seen F.held F.sure F.faults files.new)
-        (sink_seen O.written O.free O.faults O.finished out.old) (sink_seen O.written O.free O.faults O.finished out.new) result }
+        (sink_seen O.written O.free O.faults O.finished out.old)
+        (sink_seen O.written O.free O.faults O.finished out.new) result }
     ensures log { IsLogged (line_of result)
-        (sink_seen E.written E.free E.faults E.finished log.old) (sink_seen E.written E.free E.faults E.finished log.new) }
+        (sink_seen E.written E.free E.faults E.finished log.old)
+        (sink_seen E.written E.free E.faults E.finished log.new) }
 {
     let status = perform_together::<R, F, O, G>(rt, alloc, words, files, out, gate);
     let _ = tell(log, &status);

@@ -4,25 +4,9 @@
 #![tactic(auto)]
 
 mod answer;
-mod backward;
-mod check;
 mod command;
-mod compare;
-mod compose;
-mod demo;
-mod determinize;
-mod files;
-mod forward;
-mod image;
-mod inside;
-mod intersect;
-mod kbest;
 mod log;
-mod normal;
-mod parse;
-mod prune;
 mod together;
-mod weigh;
 
 pub use command::{run, run_alone};
 pub use log::tell;

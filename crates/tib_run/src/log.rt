@@ -50,7 +50,8 @@ fn write_behind<W: Sink>(
     first: &[u8],
     second: &[u8],
 ) -> Result<(), Failed>
-    ensures { Wrote (W.written out.old) (W.written out.new) (W.free out.old) (W.free out.new) (W.faults out.old) (W.faults out.new)
+    ensures { Wrote (W.written out.old) (W.written out.new) (W.free out.old) (W.free out.new)
+        (W.faults out.old) (W.faults out.new)
         (decimal number ++ first.now ++ second.now) result }
 {
     let mut buffer = Buffer::new();
@@ -70,7 +71,8 @@ fn write_place<W: Sink>(
     c: &[u8],
     d: &[u8],
 ) -> Result<(), Failed>
-    ensures { Wrote (W.written out.old) (W.written out.new) (W.free out.old) (W.free out.new) (W.faults out.old) (W.faults out.new)
+    ensures { Wrote (W.written out.old) (W.written out.new) (W.free out.old) (W.free out.new)
+        (W.faults out.old) (W.faults out.new)
         ((a.now ++ decimal file ++ b.now) ++ (decimal line ++ c.now ++ d.now)) result }
 {
     match write_about(out, a, u64::from(file), b) {
@@ -82,7 +84,8 @@ fn write_place<W: Sink>(
 /// Writes the line of a status, and nothing for the one of a run that is done. It takes no memory. After a failure a front of
 /// the line was written.
 pub fn tell<W: Sink>(log: &mut W, status: &Status) -> Result<(), Failed>
-    ensures { Wrote (W.written log.old) (W.written log.new) (W.free log.old) (W.free log.new) (W.faults log.old) (W.faults log.new)
+    ensures { Wrote (W.written log.old) (W.written log.new) (W.free log.old) (W.free log.new)
+        (W.faults log.old) (W.faults log.new)
         (line_of status.now) result }
 {
     match *status {

@@ -1,74 +1,21 @@
 // The run of a job by its workers.
-ghost use Rattle.std.specs.Prelude.{◌≡◌, ◌<◌, ◌≤◌, Some, length, map, string_bytes, IfErr, IfOk};
-ghost use Rattle.tib_io.specs.Causes.{GoesOn};
+ghost use Rattle.std.specs.Prelude.{◌≡◌, ◌<◌, ◌≤◌, Some, length, map, string_bytes};
 ghost use Rattle.tib_command.specs.Jobs.{job_of, meaning, most_demo, word_count};
-ghost use Rattle.tib_run_laws.specs.Answers.{IsAnswer};
-ghost use Rattle.tib_run_laws.specs.Causes.{HasCause, HasEarlier, IsEarly, levelled_of, scale_of, product_of};
+ghost use Rattle.tib_run_laws.specs.Causes.{levelled_of, scale_of, product_of};
 ghost use Rattle.tib_run_laws.specs.Run.{IsRunOf, files_seen, sink_seen};
 ghost use Rattle.tib_operations.specs.Made.{IsLimit};
 ghost use Rattle.tib_operations.specs.Prune.{IsBeam};
 
-use crate::answer::text_of;
-use crate::backward::backward_files_together;
-use crate::compare::compare_files_together;
-use crate::compose::compose_files_together;
-use crate::demo::demo_of_number_together;
-use crate::determinize::determinize_file_together;
-use crate::forward::forward_files_together;
-use crate::image::image_files_together;
-use crate::intersect::intersect_files_together;
-use crate::parse::parse_files_together;
 use std::alloc::Global;
 use std::sync::Wait;
 use std::thread::Threads;
 use tib_command::{CommandError, Job, Mode, Operation, read_words};
 use tib_cost::{Boolean, Bottleneck, MinPlus, Semiring, Widest};
 use tib_hunt::Gate;
-use tib_io::{Failed, Files, GrowingSink, Sink, write_and_finish};
+use tib_io::{Failed, Files, Sink, write_and_finish};
+use tib_job_texts::text_together;
 use tib_operations::Status;
 use tib_run_laws::{files_have_no_fault, within_or_too_many};
-
-// The whole text of a job: an operation that hunts does so by the workers of the job, and each other as with one worker.
-fn text_together<S: Semiring + Sync + Drop, R: Threads + Wait + Sync, F: Files, G: Gate + Sync>(
-    rt: &R,
-    alloc: Global,
-    job: &Job,
-    files: &mut F,
-    gate: &G,
-) -> Result<GrowingSink, Status>
-    requires files { length job.now.files.items ≡ word_count job.now.operation }
-    requires workers { (1 ≤ job.now.workers) × (job.now.workers ≤ 16) }
-    requires limit { IsLimit job.now.limit }
-    requires beam { IsBeam job.now.beam }
-    requires some { 0 < job.now.k }
-    requires least { job.now.operation ≡ Operation.Demo → 1 ≤ job.now.demo }
-    requires most { job.now.demo ≤ most_demo }
-    requires levelled { S.LEVELLED ≡ levelled_of job.now.mode }
-    requires mode { S.SCALE ≡ scale_of job.now.mode }
-    requires product { S.product ≡ product_of job.now.mode }
-    ensures text { IfOk result (λ text. IsAnswer (meaning job.now) (F.held files.old) text.bytes) }
-    ensures cause { IfErr result (HasCause (Some (meaning job.now)) (F.held files.old) (F.faults files.old) (F.faults files.new) 0 0) }
-    ensures earlier { IfErr result (HasEarlier (Some (meaning job.now)) (F.held files.old)) }
-    ensures early { IfErr result IsEarly }
-    ensures held { F.held files.new ≡ F.held files.old }
-    ensures sure { F.sure files.new ≡ F.sure files.old }
-    ensures counts { GoesOn (F.sure files.old) (F.faults files.old) (F.faults files.new) }
-{
-    match job.operation {
-        Operation::Intersect => intersect_files_together::<S, R, F, G>(rt, alloc, job, files, gate),
-        Operation::Forward => forward_files_together::<S, R, F, G>(rt, alloc, job, files, gate),
-        Operation::Backward => backward_files_together::<S, R, F, G>(rt, alloc, job, files, gate),
-        Operation::Compose => compose_files_together::<S, R, F, G>(rt, alloc, job, files, gate),
-        Operation::Image => image_files_together::<S, R, F, G>(rt, alloc, job, files, gate),
-        Operation::Parse => parse_files_together::<S, R, F, G>(rt, alloc, job, files, gate),
-        Operation::Compare => compare_files_together::<R, F, G>(rt, alloc, job, files, gate),
-        Operation::Determinize => {
-            determinize_file_together::<S, R, F, G>(rt, alloc, job, files, gate)
-        }
-        Operation::Demo => demo_of_number_together::<S, R, G>(rt, alloc, job, gate),
-        _ => text_of::<S, R, F, G>(rt, alloc, job, files, gate),
-    }
-}
 
 // Writes the answer of the job, which its workers make.
 fn answer_together<
@@ -90,7 +37,8 @@ fn answer_together<
     requires product { S.product ≡ product_of job.now.mode }
     ensures { IsRunOf (Some (meaning job.now))
         (files_seen F.held F.sure F.faults files.old) (files_seen F.held F.sure F.faults files.new)
-        (sink_seen O.written O.free O.faults O.finished out.old) (sink_seen O.written O.free O.faults O.finished out.new) result }
+        (sink_seen O.written O.free O.faults O.finished out.old)
+        (sink_seen O.written O.free O.faults O.finished out.new) result }
 {
     files_have_no_fault();
     within_or_too_many();
@@ -122,7 +70,8 @@ fn perform_job_together<R: Threads + Wait + Sync, F: Files, O: Sink, G: Gate + S
     requires most { job.now.demo ≤ most_demo }
     ensures { IsRunOf (Some (meaning job.now))
         (files_seen F.held F.sure F.faults files.old) (files_seen F.held F.sure F.faults files.new)
-        (sink_seen O.written O.free O.faults O.finished out.old) (sink_seen O.written O.free O.faults O.finished out.new) result }
+        (sink_seen O.written O.free O.faults O.finished out.old)
+        (sink_seen O.written O.free O.faults O.finished out.new) result }
 {
     match job.mode {
         Mode::MinPlus => answer_together::<MinPlus, R, F, O, G>(rt, alloc, job, files, out, gate),
@@ -145,7 +94,8 @@ pub(crate) fn perform_together<R: Threads + Wait + Sync, F: Files, O: Sink, G: G
 ) -> Status
     ensures { IsRunOf (job_of (map (λ s. string_bytes s) words.now))
         (files_seen F.held F.sure F.faults files.old) (files_seen F.held F.sure F.faults files.new)
-        (sink_seen O.written O.free O.faults O.finished out.old) (sink_seen O.written O.free O.faults O.finished out.new) result }
+        (sink_seen O.written O.free O.faults O.finished out.old)
+        (sink_seen O.written O.free O.faults O.finished out.new) result }
 {
     files_have_no_fault();
     within_or_too_many();

@@ -1,0 +1,76 @@
+// The files of `backward`: a transducer and a grammar.
+ghost use Rattle.std.specs.Prelude.{[], ◌∷◌, ◌≡◌, Some, length, IfErr, IfOk};
+ghost use Rattle.tib_io.specs.Causes.{GoesOn};
+ghost use Rattle.tib_command.specs.Jobs.{meaning};
+ghost use Rattle.tib_run_laws.specs.Kinds.{AreTexts, of_grammar, of_transducer};
+ghost use Rattle.tib_run_laws.specs.Causes.{HasCause, HasEarlier, IsEarly, bytes_of, scale_of, product_of};
+ghost use Rattle.tib_classes.specs.Outside.{AllMeet};
+ghost use Rattle.tib_grammar_file.specs.Printable.{ArePrintable};
+ghost use Rattle.tib_operations.specs.Moves.{ArePlainMoves};
+ghost use Rattle.tib_operations.specs.Backward.{linear_nondeleting};
+
+use crate::files::{grammar_in, transducer_in};
+use std::alloc::Global;
+use tib_command::{Job, Operation};
+use tib_cost::Semiring;
+use tib_grammar::Grammar;
+use tib_io::Files;
+use tib_operations::{Status, demand};
+use tib_transducer::Transducer;
+use tib_tree::Labels;
+
+/// The linear and nondeleting transducer of a job and its grammar, over one table of labels.
+#[derive(Drop)]
+pub struct Application<S> {
+    /// The labels of the files.
+    pub labels: Labels,
+    /// The transducer.
+    pub transducer: Transducer<S>,
+    /// The grammar.
+    pub grammar: Grammar<S>,
+}
+
+/// The values of the files of such a job, or the status with which the run ends.
+pub fn application_of<S: Semiring + Drop, F: Files>(
+    alloc: Global,
+    job: &Job,
+    files: &mut F,
+) -> Result<Application<S>, Status>
+    requires operation { job.now.operation ≡ Operation.Backward }
+    requires files { length job.now.files.items ≡ 2 }
+    requires mode { S.SCALE ≡ scale_of job.now.mode }
+    requires product { S.product ≡ product_of job.now.mode }
+    ensures texts { IfOk result (λ r. AreTexts S.SCALE r.labels
+        (bytes_of (meaning job.now) (F.held files.old)) (of_transducer ∷ of_grammar ∷ [])
+        (r.transducer, (r.grammar, tt))) }
+    ensures transducer { IfOk result (λ r. ArePlainMoves S.SCALE r.labels r.transducer.rules) }
+    ensures grammar { IfOk result (λ r. ArePrintable S.SCALE r.labels r.grammar.rules) }
+    ensures class { IfOk result (λ r. AllMeet linear_nondeleting r.transducer.rules) }
+    ensures cause { IfErr result (HasCause (Some (meaning job.now)) (F.held files.old)
+        (F.faults files.old) (F.faults files.new) 0 0) }
+    ensures earlier { IfErr result (HasEarlier (Some (meaning job.now)) (F.held files.old)) }
+    ensures early { IfErr result IsEarly }
+    ensures held { F.held files.new ≡ F.held files.old }
+    ensures sure { F.sure files.new ≡ F.sure files.old }
+    ensures counts { GoesOn (F.sure files.old) (F.faults files.old) (F.faults files.new) }
+{
+    let mut labels = Labels::new(alloc);
+    let transducer = match transducer_in::<S, F>(alloc, job, 1, files, &mut labels) {
+        Ok(transducer) => transducer,
+        Err(status) => return Err(status),
+    };
+    let grammar = match grammar_in::<S, F>(alloc, job, 2, files, &mut labels) {
+        Ok(grammar) => grammar,
+        Err(status) => return Err(status),
+    };
+    labels.len();
+    match demand::<S>(&transducer, 1, true, true) {
+        Ok(()) => {}
+        Err(status) => return Err(status),
+    }
+    Ok(Application {
+        labels,
+        transducer,
+        grammar,
+    })
+}

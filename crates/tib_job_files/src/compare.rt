@@ -1,0 +1,64 @@
+// The files of `compare`: two grammars, of which only their trees count. They are read in Boolean, whatever the mode.
+ghost use Rattle.std.specs.Prelude.{[], ◌∷◌, ◌≡◌, Some, length, IfErr, IfOk};
+ghost use Rattle.tib_io.specs.Causes.{GoesOn};
+ghost use Rattle.tib_command.specs.Jobs.{meaning};
+ghost use Rattle.tib_run_laws.specs.Kinds.{AreTexts, of_support};
+ghost use Rattle.tib_run_laws.specs.Causes.{HasCause, HasEarlier, IsEarly, bytes_of, scale_of};
+ghost use Rattle.tib_cost.specs.declared.Scale.TheVariants.{Unweighted};
+ghost use Rattle.tib_grammar_file.specs.Printable.{ArePrintable};
+
+use crate::files::support_in;
+use std::alloc::Global;
+use tib_command::{Job, Operation};
+use tib_cost::Boolean;
+use tib_grammar::Grammar;
+use tib_grammar_file::printable_stays;
+use tib_io::Files;
+use tib_operations::Status;
+use tib_tree::Labels;
+
+/// Both grammars of a job, over one table of labels.
+#[derive(Drop)]
+pub struct Supports {
+    /// The labels of the files.
+    pub labels: Labels,
+    /// What the first file holds.
+    pub first: Grammar<Boolean>,
+    /// What the second file holds.
+    pub second: Grammar<Boolean>,
+}
+
+/// The values of the files of such a job, or the status with which the run ends.
+pub fn supports_of<F: Files>(alloc: Global, job: &Job, files: &mut F) -> Result<Supports, Status>
+    requires operation { job.now.operation ≡ Operation.Compare }
+    requires files { length job.now.files.items ≡ 2 }
+    ensures texts { IfOk result (λ r. AreTexts (scale_of job.now.mode) r.labels
+        (bytes_of (meaning job.now) (F.held files.old)) (of_support ∷ of_support ∷ [])
+        (r.first, (r.second, tt))) }
+    ensures first { IfOk result (λ r. ArePrintable Unweighted r.labels r.first.rules) }
+    ensures second { IfOk result (λ r. ArePrintable Unweighted r.labels r.second.rules) }
+    ensures cause { IfErr result (HasCause (Some (meaning job.now)) (F.held files.old)
+        (F.faults files.old) (F.faults files.new) 0 0) }
+    ensures earlier { IfErr result (HasEarlier (Some (meaning job.now)) (F.held files.old)) }
+    ensures early { IfErr result IsEarly }
+    ensures held { F.held files.new ≡ F.held files.old }
+    ensures sure { F.sure files.new ≡ F.sure files.old }
+    ensures counts { GoesOn (F.sure files.old) (F.faults files.old) (F.faults files.new) }
+{
+    let mut labels = Labels::new(alloc);
+    let first = match support_in::<F>(alloc, job, 1, files, &mut labels) {
+        Ok(first) => first,
+        Err(status) => return Err(status),
+    };
+    let second = match support_in::<F>(alloc, job, 2, files, &mut labels) {
+        Ok(second) => second,
+        Err(status) => return Err(status),
+    };
+    labels.len();
+    printable_stays();
+    Ok(Supports {
+        labels,
+        first,
+        second,
+    })
+}

@@ -1,0 +1,99 @@
+// `compare`: whether the same trees have a cost in two grammars, or else the least tree that has one in exactly one of them. Both are read
+// in Boolean, whatever the mode.
+ghost use Rattle.std.specs.Prelude.{◌≡◌, ◌≤◌, Some, length, IfErr, IfOk};
+ghost use Rattle.tib_io.specs.Causes.{GoesOn};
+ghost use Rattle.tib_command.specs.Jobs.{meaning};
+ghost use Rattle.tib_run_laws.specs.Answers.{IsAnswer};
+ghost use Rattle.tib_run_laws.specs.Causes.{HasCause, HasEarlier, IsEarly};
+ghost use Rattle.tib_operations.specs.Made.{IsLimit};
+
+use std::alloc::Global;
+use std::sync::Wait;
+use std::thread::Threads;
+use tib_command::{Job, Operation};
+use tib_compare_text::{comparison_of, comparison_of_together};
+use tib_hunt::Gate;
+use tib_io::{Files, GrowingSink};
+use tib_job_files::compare::supports_of;
+use tib_operations::Status;
+
+/// The whole text of a job that compares the trees of two grammars, or the status with which the run ends.
+pub(crate) fn compare_files<F: Files, G: Gate>(
+    alloc: Global,
+    job: &Job,
+    files: &mut F,
+    gate: &G,
+) -> Result<GrowingSink, Status>
+    requires operation { job.now.operation ≡ Operation.Compare }
+    requires files { length job.now.files.items ≡ 2 }
+    requires limit { IsLimit job.now.limit }
+    ensures text { IfOk result (λ text. IsAnswer (meaning job.now) (F.held files.old) text.bytes) }
+    ensures cause { IfErr result (HasCause (Some (meaning job.now)) (F.held files.old)
+        (F.faults files.old) (F.faults files.new) 0 0) }
+    ensures earlier { IfErr result (HasEarlier (Some (meaning job.now)) (F.held files.old)) }
+    ensures early { IfErr result IsEarly }
+    ensures held { F.held files.new ≡ F.held files.old }
+    ensures sure { F.sure files.new ≡ F.sure files.old }
+    ensures counts { GoesOn (F.sure files.old) (F.faults files.old) (F.faults files.new) }
+{
+    let read = match supports_of::<F>(alloc, job, files) {
+        Ok(read) => read,
+        Err(status) => return Err(status),
+    };
+    let limit = job.limit;
+    let text = match comparison_of::<G>(
+        alloc,
+        &read.first,
+        &read.second,
+        &read.labels,
+        limit,
+        gate,
+    ) {
+        Ok(text) => text,
+        Err(status) => return Err(status),
+    };
+    Ok(text)
+}
+
+/// The same by the workers of the job.
+pub(crate) fn compare_files_together<R: Threads + Wait + Sync, F: Files, G: Gate + Sync>(
+    rt: &R,
+    alloc: Global,
+    job: &Job,
+    files: &mut F,
+    gate: &G,
+) -> Result<GrowingSink, Status>
+    requires operation { job.now.operation ≡ Operation.Compare }
+    requires files { length job.now.files.items ≡ 2 }
+    requires workers { (1 ≤ job.now.workers) × (job.now.workers ≤ 16) }
+    requires limit { IsLimit job.now.limit }
+    ensures text { IfOk result (λ text. IsAnswer (meaning job.now) (F.held files.old) text.bytes) }
+    ensures cause { IfErr result (HasCause (Some (meaning job.now)) (F.held files.old)
+        (F.faults files.old) (F.faults files.new) 0 0) }
+    ensures earlier { IfErr result (HasEarlier (Some (meaning job.now)) (F.held files.old)) }
+    ensures early { IfErr result IsEarly }
+    ensures held { F.held files.new ≡ F.held files.old }
+    ensures sure { F.sure files.new ≡ F.sure files.old }
+    ensures counts { GoesOn (F.sure files.old) (F.faults files.old) (F.faults files.new) }
+{
+    let read = match supports_of::<F>(alloc, job, files) {
+        Ok(read) => read,
+        Err(status) => return Err(status),
+    };
+    let workers = job.workers;
+    let limit = job.limit;
+    let text = match comparison_of_together::<R, G>(
+        rt,
+        alloc,
+        &read.first,
+        &read.second,
+        &read.labels,
+        workers,
+        limit,
+        gate,
+    ) {
+        Ok(text) => text,
+        Err(status) => return Err(status),
+    };
+    Ok(text)
+}
