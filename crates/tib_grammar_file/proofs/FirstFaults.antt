@@ -11,13 +11,12 @@ use Rattle.tib_lex.specs.declared.fault.FileFault.{FileFault}
 use Rattle.tib_lex.specs.declared.fault.ReadError.{ReadError}
 use Rattle.tib_lex.specs.declared.fault.ReadError.TheVariants as errors
 use Rattle.tib_lex.proofs.Results.{err_same}
-use Rattle.tib_grammar_file.specs.Rule.{RuleLine, rule_line}
+use Rattle.tib_grammar_file.specs.Rule.{rule_line}
 use Rattle.tib_grammar_file.specs.RawGrammar.{ReadsRaw}
 use Rattle.tib_grammar_file.specs.Reading.{fault_at, start_line, started, with_start, rules_from, grammar_from, grammar_of}
 use Rattle.tib_grammar_file.specs.Faults.{HasStartFault, FirstFaultFromStart, HasRuleFault, HoldsRule, IsFirstFault, IsCause}
 use Rattle.tib_grammar_file.proofs.FaultyLines.{rule_says, fault_read, held_read, StartSays, start_says, start_fault_read}
 use Rattle.tib_grammar_file.proofs.RowsRead.{start_forth, no_start_forth}
-use Rattle.tib_grammar_file.proofs.Common.{Whole}
 
 -- the rules
 rules_found : (scale : Scale) (n : ℕ) (lines : List (List ℕ)) (fault : FileFault) → rules_from scale n lines ≡ Err fault → FirstFault (HoldsRule scale) (HasRuleFault scale) n lines fault

@@ -1,7 +1,6 @@
 -- Printed numbers are read back: those of variables, and weights.
 use Rattle.tib_cost.specs.Scale.{weight_in, weight_within, cost_of_weight}
 use Rattle.tib_cost.specs.Semiring.{most}
-use Rattle.tib_cost.specs.declared.Scale.TheVariants as scales
 use Rattle.tib_cost.specs.declared.Scale.{Scale}
 use Rattle.std.proofs.Common.{◌≡◌, ℕ, ◌<◌, ◌≤◌, Bool, true, false, List, [], ◌∷◌, ◌++◌, length, refl, sym, subst, append-nil, arith}
 use Rattle.std.specs.Prelude.{None, decimal as printed}

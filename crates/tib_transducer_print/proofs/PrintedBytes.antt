@@ -1,5 +1,4 @@
 -- The lines of what is printed of a transducer.
-use Rattle.tib_cost.specs.declared.Scale.TheVariants as scales
 use Rattle.tib_cost.specs.declared.Scale.{Scale}
 use Rattle.std.proofs.Common.{◌≡◌, ℕ, ◌<◌, inr, Bool, true, false, Option, List, [], ◌∷◌, ◌++◌, length, get_or, refl, ap, sym, ◌∙◌, subst, append_assoc, suc}
 use Rattle.std.specs.Prelude.{Some, None, cond, decimal as printed}

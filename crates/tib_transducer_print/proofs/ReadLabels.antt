@@ -1,5 +1,4 @@
 -- The labels of a transducer that was read have no line feed, and its rules can be printed.
-use Rattle.tib_cost.specs.declared.Scale.TheVariants as scales
 use Rattle.tib_cost.specs.declared.Scale.{Scale}
 use Rattle.std.proofs.Common.{◌≡◌, ℕ, ◌+◌, ◌-◌, ◌≤◌, inl, inr, Bool, true, false, Option, List, [], ◌∷◌, ◌++◌, length, drop, length-append, refl, sym, ◌∙◌, subst, arith, zero, suc}
 use Rattle.std.specs.Prelude.{Some, None, slice_get, slice_range, cond, ◌==◌}

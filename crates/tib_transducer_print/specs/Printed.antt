@@ -1,12 +1,14 @@
 -- A transducer as it is printed.
 use Rattle.tib_cost.specs.declared.Scale.{Scale}
-use Rattle.std.specs.Prelude.{ℕ, Bool, true, ◌&&◌, ◌==◌, not, List, [], ◌∷◌, ◌++◌, decimal, Option, Some, None, if◌then◌else◌, suc}
+use Rattle.std.specs.Prelude.{ℕ, Bool, true, ◌&&◌, ◌==◌, not, List, [], ◌∷◌, ◌++◌, decimal, Option, Some, None, if◌then◌else◌}
 use Rattle.std.proofs.Common.{get_or}
 use Rattle.tib_lex.specs.Grammar.{is_name, label, spelling}
-use Rattle.tib_tree.specs.Trees.{Trees, none, tree, only, count}
-use Rattle.tib_grammar.specs.Sides.{Symbol, Side, label as symbol_label, hole}
-use Rattle.tib_grammar_file.specs.Printed.{space, opening, closing, cost_text}
+use Rattle.tib_grammar.specs.Sides.{Symbol, Side}
+use Rattle.tib_grammar_file.specs.FileText.{lines_text}
+use Rattle.tib_grammar_file.specs.Printed.{cost_text}
 use Rattle.tib_grammar_file.specs.Rule.{has_dot}
+use Rattle.tib_grammar_file.specs.TreeText.{symbol_text as written_symbol, side_text as written_side}
+pub use Rattle.tib_grammar_file.specs.TreeText.{trees_text}
 use Rattle.tib_transducer.specs.TransducerOf.{TransducerOf}
 use Rattle.tib_transducer.specs.declared.Variable.{Variable}
 use Rattle.tib_transducer.specs.declared.Pair.{Pair}
@@ -46,18 +48,11 @@ pair_text names labels x = get_or names x.state [] ++ (46 ∷ (120 ∷ []) ++ de
 
 -- a label or a leaf
 abbrev pub symbol_text : {P : Type 0} → (P → List ℕ) → List (List ℕ) → Symbol ℕ P → List ℕ
-symbol_text leaf labels (symbol_label f) = label_text (get_or labels f [])
-symbol_text leaf labels (hole p) = leaf p
-
--- trees behind k others, with a space between them
-abbrev pub trees_text : {P : Type 0} → (Symbol ℕ P → List ℕ) → Trees (Symbol ℕ P) → ℕ → List ℕ
-trees_text show none k = []
-trees_text show (tree s kids rest) k =
-    space k ++ (show s ++ (opening (count kids) ++ (trees_text show kids 0 ++ (closing (count kids) ++ trees_text show rest (suc k)))))
+symbol_text leaf labels = written_symbol label_text leaf labels
 
 -- a side
 abbrev pub side_text : {P : Type 0} → (P → List ℕ) → List (List ℕ) → Side ℕ P → List ℕ
-side_text leaf labels s = trees_text (symbol_text leaf labels) (only s) 0
+side_text leaf labels = written_side (symbol_text leaf labels)
 
 -- the cost of a rule and the end of its line
 abbrev pub end_text : Scale → ℕ → List ℕ
@@ -79,9 +74,7 @@ rule_text scale names labels r =
     get_or names r.state [] ++ (46 ∷ [] ++ left_text scale names labels r)
 
 abbrev pub rules_text : Scale → List (List ℕ) → List (List ℕ) → List (TransducerRule ℕ) → List ℕ
-rules_text scale names labels [] = []
-rules_text scale names labels (r ∷ rules) =
-    rule_text scale names labels r ++ rules_text scale names labels rules
+rules_text scale names labels = lines_text (rule_text scale names labels)
 
 -- THE TEXT: the start's line, and then a line for each rule.
 abbrev pub transducer_text : Scale → List (List ℕ) → TransducerOf → List ℕ

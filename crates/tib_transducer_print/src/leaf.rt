@@ -1,29 +1,15 @@
-// The leaves of sides: variables and pairs, and how each is printed.
-ghost use Rattle.std.specs.Prelude.{◌≡◌, ◌<◌, ◌++◌, ℕ, List, [], ◌∷◌, length, decimal};
+// How the sides of rules are written: variables on the left, pairs on the right.
+ghost use Rattle.std.specs.Prelude.{◌<◌, ◌++◌, ℕ, [], ◌∷◌, length, decimal};
 ghost use Rattle.tib_grammar_file.specs.Prints.{Prints};
 ghost use Rattle.tib_transducer_print.specs.Printed.{asked_text};
 ghost use Rattle.tib_transducer_file.specs.Labelled.{IsAskedBelow};
 
-use crate::put::{put, put_label, put_number};
+use crate::label::put_label;
 use tib_grammar::Names;
+use tib_grammar_file::{Notation, put, put_number};
 use tib_io::{Failed, Sink};
 use tib_transducer::{Pair, Variable};
 use tib_tree::{Label, Labels};
-
-/// What stands at a leaf of a side.
-pub(crate) trait Leaf {
-    /// Its text over the names of states and the texts of labels.
-    ghost text: { List (List ℕ) → List (List ℕ) → Self → List ℕ };
-
-    /// The texts that it needs are there.
-    ghost fits: { List (List ℕ) → List (List ℕ) → Self → Type 0 };
-
-    /// Appends its text.
-    fn put_leaf<W: Sink>(&self, out: &mut W, names: &Names, labels: &Labels) -> Result<(), Failed>
-        requires { fits names.now labels.now self.now }
-        ensures { Prints (W.written out.old) (W.written out.new) (W.free out.old) (W.free out.new)
-            (W.faults out.old) (W.faults out.new) (text names.now labels.now self.now) result };
-}
 
 // The label that a variable asks for, if it asks for one.
 fn put_asked<W: Sink>(out: &mut W, asked: Option<Label>, labels: &Labels) -> Result<(), Failed>
@@ -37,7 +23,7 @@ fn put_asked<W: Sink>(out: &mut W, asked: Option<Label>, labels: &Labels) -> Res
     }
 }
 
-// What stands behind a variable's number.
+// What follows a variable's number.
 fn put_colon<W: Sink>(out: &mut W, asked: Option<Label>, labels: &Labels) -> Result<(), Failed>
     requires { IsAskedBelow (length labels.now) asked }
     ensures { Prints (W.written out.old) (W.written out.new) (W.free out.old) (W.free out.new)
@@ -49,7 +35,7 @@ fn put_colon<W: Sink>(out: &mut W, asked: Option<Label>, labels: &Labels) -> Res
     }
 }
 
-// What stands behind a variable's x.
+// What follows a variable's x.
 fn put_numbered<W: Sink>(out: &mut W, variable: &Variable, labels: &Labels) -> Result<(), Failed>
     requires { IsAskedBelow (length labels.now) variable.now.label }
     ensures { Prints (W.written out.old) (W.written out.new) (W.free out.old) (W.free out.new)
@@ -62,28 +48,39 @@ fn put_numbered<W: Sink>(out: &mut W, variable: &Variable, labels: &Labels) -> R
     }
 }
 
-impl Leaf for Variable {
-    ghost use Rattle.tib_transducer_print.specs.Printed.{variable_text};
+/// How left sides are written: their leaves are variables.
+pub(crate) struct LeftSides;
+
+impl Notation for LeftSides {
+    ghost use Rattle.tib_transducer_print.specs.Printed.{label_text, variable_text};
     ghost use Rattle.tib_transducer_print.specs.Within.{IsVariableWithin};
 
-    ghost text = { variable_text };
+    type Leaf = Variable;
+
+    ghost label_text = { λ names. label_text };
+
+    ghost leaf_text = { variable_text };
 
     ghost fits = { IsVariableWithin };
 
+    fn put_label<W: Sink>(out: &mut W, _names: &Names, text: &[u8]) -> Result<(), Failed> {
+        put_label(out, text)
+    }
+
     fn put_leaf<W: Sink>(
-        &self,
         out: &mut W,
+        variable: &Variable,
         _names: &Names,
         labels: &Labels,
     ) -> Result<(), Failed> {
         match put(out, b"x") {
-            Ok(()) => put_numbered(out, self, labels),
+            Ok(()) => put_numbered(out, variable, labels),
             Err(Failed) => Err(Failed),
         }
     }
 }
 
-// What stands behind a pair's state.
+// What follows a pair's state.
 fn put_variable<W: Sink>(out: &mut W, variable: u32) -> Result<(), Failed>
     ensures { Prints (W.written out.old) (W.written out.new) (W.free out.old) (W.free out.new)
         (W.faults out.old) (W.faults out.new) (46 ∷ (120 ∷ []) ++ decimal variable) result }
@@ -94,22 +91,33 @@ fn put_variable<W: Sink>(out: &mut W, variable: u32) -> Result<(), Failed>
     }
 }
 
-impl Leaf for Pair<u32> {
-    ghost use Rattle.tib_transducer_print.specs.Printed.{pair_text};
+/// How right sides are written: their leaves are pairs.
+pub(crate) struct RightSides;
+
+impl Notation for RightSides {
+    ghost use Rattle.tib_transducer_print.specs.Printed.{label_text, pair_text};
     ghost use Rattle.tib_transducer_print.specs.Within.{IsPairWithin};
 
-    ghost text = { pair_text };
+    type Leaf = Pair<u32>;
+
+    ghost label_text = { λ names. label_text };
+
+    ghost leaf_text = { pair_text };
 
     ghost fits = { IsPairWithin };
 
+    fn put_label<W: Sink>(out: &mut W, _names: &Names, text: &[u8]) -> Result<(), Failed> {
+        put_label(out, text)
+    }
+
     fn put_leaf<W: Sink>(
-        &self,
         out: &mut W,
+        pair: &Pair<u32>,
         names: &Names,
         _labels: &Labels,
     ) -> Result<(), Failed> {
-        match put(out, names.text(self.state)) {
-            Ok(()) => put_variable(out, self.variable),
+        match put(out, names.text(pair.state)) {
+            Ok(()) => put_variable(out, pair.variable),
             Err(Failed) => Err(Failed),
         }
     }

@@ -1,149 +1,19 @@
 // Prints transducers.
-ghost use Rattle.std.specs.Prelude.{◌≡◌, ◌≤◌, ◌<◌, ◌+◌, ◌++◌, ℕ, List, [], ◌∷◌, length, drop, IfOk, OnOk, OnErr, All};
+ghost use Rattle.std.specs.Prelude.{◌≤◌, ◌<◌, ◌++◌, ℕ, [], ◌∷◌, length, OnOk, OnErr};
 ghost use Rattle.tib_io.specs.Causes.{Rose};
 ghost use Rattle.tib_io.specs.Writes.{Takes, TakesFront, Calm, Succeeds};
-ghost use Rattle.std.proofs.Common.{get_or};
-ghost use Rattle.tib_tree.specs.Trees.{Trees, preorder, count as count_of};
-ghost use Rattle.tib_grammar.specs.Items.{pair_of, pairs_of};
-ghost use Rattle.tib_grammar.specs.Sides.{Symbol};
 ghost use Rattle.tib_grammar_file.specs.Prints.{Prints};
-ghost use Rattle.tib_grammar_file.specs.Printed.{space, opening};
-ghost use Rattle.tib_transducer_print.specs.Printed.{symbol_text, trees_text, side_text, right_text, left_text, rule_text, rules_text, transducer_text, variable_text};
+ghost use Rattle.tib_transducer_print.specs.Printed.{right_text, left_text, rule_text, transducer_text};
 ghost use Rattle.tib_transducer_file.specs.Labelled.{AreLabelled};
-ghost use Rattle.tib_transducer_print.specs.Within.{IsWithin, IsSideWithin, IsRuleWithin, IsPairWithin, IsVariableWithin};
+ghost use Rattle.tib_transducer_print.specs.Within.{IsSideWithin, IsRuleWithin, IsPairWithin};
 
-use crate::leaf::Leaf;
-use crate::put::{put, put_closing, put_end, put_label, put_opening, put_space};
+use crate::leaf::{LeftSides, RightSides};
 use tib_cost::{Scale, Semiring};
-use tib_grammar::{Item, Names, Side};
+use tib_grammar::Names;
+use tib_grammar_file::{RuleNotation, put, put_end, put_file, put_side};
 use tib_io::{Failed, Sink};
 use tib_transducer::{Transducer, TransducerRule};
 use tib_tree::Labels;
-
-fn put_symbol<P: Leaf, W: Sink>(
-    out: &mut W,
-    item: &Item<P>,
-    names: &Names,
-    labels: &Labels,
-) -> Result<(), Failed>
-    requires { IsWithin (P.fits names.now labels.now) (length labels.now) item.now }
-    ensures { Prints (W.written out.old) (W.written out.new) (W.free out.old) (W.free out.new)
-        (W.faults out.old) (W.faults out.new)
-        (symbol_text (P.text names.now labels.now) labels.now (pair_of item.now).0) result }
-{
-    match item {
-        Item::Label { label, .. } => put_label(out, labels.text(*label)),
-        Item::Hole(leaf) => leaf.put_leaf(out, names, labels),
-    }
-}
-
-fn rank_of<P>(item: &Item<P>) -> u32
-    ensures { result ≡ (pair_of item.now).1 }
-{
-    match item {
-        Item::Label { rank, .. } => *rank,
-        Item::Hole(_) => 0,
-    }
-}
-
-fn put_spaced<P: Leaf, W: Sink>(
-    out: &mut W,
-    k: u32,
-    item: &Item<P>,
-    names: &Names,
-    labels: &Labels,
-) -> Result<(), Failed>
-    requires { IsWithin (P.fits names.now labels.now) (length labels.now) item.now }
-    ensures { Prints (W.written out.old) (W.written out.new) (W.free out.old) (W.free out.new)
-        (W.faults out.old) (W.faults out.new) (space k
-        ++ symbol_text (P.text names.now labels.now) labels.now (pair_of item.now).0) result }
-{
-    match put_space(out, k) {
-        Ok(()) => put_symbol(out, item, names, labels),
-        Err(Failed) => Err(Failed),
-    }
-}
-
-// What stands in front of a node's children.
-fn put_head<P: Leaf, W: Sink>(
-    out: &mut W,
-    k: u32,
-    item: &Item<P>,
-    names: &Names,
-    labels: &Labels,
-) -> Result<(), Failed>
-    requires { IsWithin (P.fits names.now labels.now) (length labels.now) item.now }
-    ensures { Prints (W.written out.old) (W.written out.new) (W.free out.old) (W.free out.new)
-        (W.faults out.old) (W.faults out.new) ((space k
-        ++ symbol_text (P.text names.now labels.now) labels.now (pair_of item.now).0)
-        ++ opening (pair_of item.now).1) result }
-{
-    match put_spaced(out, k, item, names, labels) {
-        Ok(()) => put_opening(out, rank_of(item)),
-        Err(Failed) => Err(Failed),
-    }
-}
-
-// Prints a number of trees from an index of a preorder on, with a space between them. It answers
-// the index behind them.
-fn put_trees<P: Leaf, W: Sink>(
-    out: &mut W,
-    items: &[Item<P>],
-    at: usize,
-    count: u32,
-    names: &Names,
-    labels: &Labels,
-) -> Result<usize, Failed>
-    requires place { at ≤ length items.now }
-    requires within { All (IsWithin (P.fits names.now labels.now) (length labels.now)) items.now }
-    requires trees { (ts : Trees (Symbol ℕ P)) × (ys : List (Symbol ℕ P × ℕ))
-        × (pairs_of (drop at items.now) ≡ preorder ts ++ ys) × (count_of ts ≡ count) }
-    ensures next { IfOk result (λ n. (ts : Trees (Symbol ℕ P)) (ys : List (Symbol ℕ P × ℕ)) →
-        pairs_of (drop at items.now) ≡ preorder ts ++ ys → count_of ts ≡ count →
-        n ≡ at + length (preorder ts)) }
-    ensures prints { (ts : Trees (Symbol ℕ P)) (ys : List (Symbol ℕ P × ℕ)) →
-        pairs_of (drop at items.now) ≡ preorder ts ++ ys → count_of ts ≡ count →
-        Prints (W.written out.old) (W.written out.new) (W.free out.old) (W.free out.new)
-        (W.faults out.old) (W.faults out.new)
-        (trees_text (symbol_text (P.text names.now labels.now) labels.now) ts 0) result }
-{
-    let mut next = at;
-    for k in 0..count {
-        let item = &items[next];
-        let rank = rank_of(item);
-        match put_head(out, k, item, names, labels) {
-            Ok(()) => {}
-            Err(Failed) => return Err(Failed),
-        }
-        match put_trees(out, items, next + 1, rank, names, labels) {
-            Ok(behind) => next = behind,
-            Err(Failed) => return Err(Failed),
-        }
-        match put_closing(out, rank) {
-            Ok(()) => {}
-            Err(Failed) => return Err(Failed),
-        }
-    }
-    Ok(next)
-}
-
-// A side, which is one tree.
-fn put_side<P: Leaf, W: Sink>(
-    out: &mut W,
-    side: &Side<P>,
-    names: &Names,
-    labels: &Labels,
-) -> Result<(), Failed>
-    requires { IsSideWithin (P.fits names.now labels.now) (length labels.now) side.now }
-    ensures { Prints (W.written out.old) (W.written out.new) (W.free out.old) (W.free out.new)
-        (W.faults out.old) (W.faults out.new)
-        (side_text (P.text names.now labels.now) labels.now side.now) result }
-{
-    match put_trees(out, side.items(), 0, 1, names, labels) {
-        Ok(_) => Ok(()),
-        Err(Failed) => Err(Failed),
-    }
-}
 
 fn put_right<W: Sink>(
     out: &mut W,
@@ -157,7 +27,7 @@ fn put_right<W: Sink>(
         (W.faults out.old) (W.faults out.new) (right_text scale names.now labels.now rule.now)
         result }
 {
-    match put_side(out, &rule.right, names, labels) {
+    match put_side::<RightSides, W>(out, &rule.right, names, labels) {
         Ok(()) => put_end(out, scale, rule.cost),
         Err(Failed) => Err(Failed),
     }
@@ -193,7 +63,7 @@ fn put_left<W: Sink>(
         (W.faults out.old) (W.faults out.new) (left_text scale names.now labels.now rule.now)
         result }
 {
-    match put_side(out, &rule.left, names, labels) {
+    match put_side::<LeftSides, W>(out, &rule.left, names, labels) {
         Ok(()) => put_arrow(out, scale, rule, names, labels),
         Err(Failed) => Err(Failed),
     }
@@ -236,54 +106,27 @@ fn put_rule<W: Sink>(
     }
 }
 
-fn put_rules<W: Sink>(
-    out: &mut W,
-    scale: Scale,
-    rules: &[TransducerRule<u32>],
-    names: &Names,
-    labels: &Labels,
-) -> Result<(), Failed>
-    requires { All (IsRuleWithin names.now labels.now) rules.now }
-    ensures { Prints (W.written out.old) (W.written out.new) (W.free out.old) (W.free out.new)
-        (W.faults out.old) (W.faults out.new) (rules_text scale names.now labels.now rules.now)
-        result }
-{
-    for rule in rules {
-        match put_rule(out, scale, rule, names, labels) {
-            Ok(()) => {}
-            Err(Failed) => return Err(Failed),
-        }
-    }
-    Ok(())
-}
+/// How the rules of a transducer are written.
+pub(crate) struct TransducerRules;
 
-fn put_start<W: Sink>(out: &mut W, names: &Names) -> Result<(), Failed>
-    requires { 0 < length names.now }
-    ensures { Prints (W.written out.old) (W.written out.new) (W.free out.old) (W.free out.new)
-        (W.faults out.old) (W.faults out.new) (get_or names.now 0 [] ++ 10 ∷ []) result }
-{
-    match put(out, names.text(0)) {
-        Ok(()) => put(out, b"\n"),
-        Err(Failed) => Err(Failed),
-    }
-}
+impl RuleNotation for TransducerRules {
+    ghost use Rattle.tib_transducer_print.specs.Printed.{rule_text};
+    ghost use Rattle.tib_transducer_print.specs.Within.{IsRuleWithin};
 
-fn put_transducer<W: Sink>(
-    out: &mut W,
-    scale: Scale,
-    rules: &[TransducerRule<u32>],
-    names: &Names,
-    labels: &Labels,
-) -> Result<(), Failed>
-    requires start { 0 < length names.now }
-    requires within { All (IsRuleWithin names.now labels.now) rules.now }
-    ensures { Prints (W.written out.old) (W.written out.new) (W.free out.old) (W.free out.new)
-        (W.faults out.old) (W.faults out.new) ((get_or names.now 0 [] ++ 10 ∷ [])
-        ++ rules_text scale names.now labels.now rules.now) result }
-{
-    match put_start(out, names) {
-        Ok(()) => put_rules(out, scale, rules, names, labels),
-        Err(Failed) => Err(Failed),
+    type Rule = TransducerRule<u32>;
+
+    ghost rule_text = { rule_text };
+
+    ghost fits = { IsRuleWithin };
+
+    fn put_rule<W: Sink>(
+        out: &mut W,
+        scale: Scale,
+        rule: &TransducerRule<u32>,
+        names: &Names,
+        labels: &Labels,
+    ) -> Result<(), Failed> {
+        put_rule(out, scale, rule, names, labels)
     }
 }
 
@@ -312,7 +155,7 @@ pub fn print_transducer<S: Semiring, W: Sink>(
         (length (transducer_text S.SCALE labels.now transducer.now)) (W.faults out.old) result }
 {
     transducer.is_sound();
-    put_transducer(
+    put_file::<TransducerRules, W>(
         out,
         S::SCALE,
         transducer.rule_list(),

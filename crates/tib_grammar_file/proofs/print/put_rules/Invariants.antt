@@ -1,5 +1,0 @@
-use Rattle.tib_grammar_file.proofs.Printing.{HalfRules}
-use Rattle.tib_grammar_file.proofs.print.put_rules.Given as goal
-
-abbrev pub invariant-loop-rule : goal.invariant-loop-rule
-invariant-loop-rule g l = HalfRules g.W.Sink.written g.W.Sink.free g.W.Sink.faults l.fn.out l.out l.scale l.names l.labels l.rules l.rule-index
