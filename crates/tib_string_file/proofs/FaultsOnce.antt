@@ -10,7 +10,7 @@ use Rattle.tib_grammar_file.proofs.Alongs.{along_long}
 use Rattle.tib_strings.specs.StringTransducerOf.{StringTransducerOf}
 use Rattle.tib_strings.specs.declared.StringRule.{StringRule}
 use Rattle.tib_transducer_file.specs.Rule.{RuleLine, numbers_in}
-use Rattle.tib_transducer_file.proofs.FileHeld.{IsFew}
+use Rattle.tib_transducer_file.specs.FileHeld.{IsFew}
 use Rattle.tib_transducer_file.proofs.FileText.{left_long}
 use Rattle.tib_transducer_file.proofs.FirstFaults.{fault_is_first}
 use Rattle.tib_transducer_file.proofs.FaultsRead.{there, fault_once as once_by, few_parts, starts_read, err_or_ok}
@@ -18,7 +18,7 @@ use Rattle.tib_string_file.specs.TransducerReading.{string_file_from, transducer
 use Rattle.tib_string_file.specs.Value.{IsRightNode, nodes_of, IsRule}
 use Rattle.tib_string_file.specs.TransducerText.{IsSmallRule, ReadsAs}
 use Rattle.tib_string_file.specs.Faults.{IsFirstFault}
-use Rattle.tib_string_file.proofs.Entries.{lists}
+use Rattle.tib_string_file.specs.Entries.{lists}
 use Rattle.tib_string_file.proofs.FileText.{nodes_long}
 
 -- the first fault is what is read

@@ -13,7 +13,7 @@ use Rattle.tib_strings.specs.declared.Word.{Word as Token}
 use Rattle.tib_strings.specs.StringTransducerOf.{StringTransducerOf}
 use Rattle.tib_strings.specs.Range.{AreWithin, AreShaped}
 use Rattle.tib_transducer_file.specs.Rule.{RuleLine, numbers_in}
-use Rattle.tib_transducer_file.proofs.FileHeld.{IsFew, FileReadBy}
+use Rattle.tib_transducer_file.specs.FileHeld.{IsFew, FileReadBy}
 use Rattle.tib_transducer_file.proofs.FileText.{left_long, lt_false}
 use Rattle.tib_string_file.specs.Listed.{SpellsList}
 use Rattle.tib_string_file.specs.Value.{IsRightNode, nodes_of, IsRule, states_of}

@@ -1,10 +1,9 @@
-pub mod Entries
 pub mod LineFacts
 pub mod FileFacts
 pub mod Strings
 pub mod Steps
 pub mod Places
-pub mod LinesRead
+pub mod Nodes
 pub mod FileRead
 pub mod FileText
 pub mod LabelsHeld

@@ -13,7 +13,7 @@ use Rattle.tib_string_file.specs.Listed.{SpellsList, list_in}
 use Rattle.tib_string_file.specs.StringText.{IsBlank, HasList}
 use Rattle.tib_string_file.specs.StringFaults.{LineHolds, HasMore}
 use Rattle.tib_string_file.specs.Reading.{small_list, string_in_words, string_line, more_in_words, more_line}
-use Rattle.tib_string_file.proofs.Entries.{list_found, list_is}
+use Rattle.tib_string_file.specs.Entries.{list_found, list_is}
 
 held_list : (line : List ℕ) (is : List Item) (b : Bool) → HasList line is → nat_lt most_nodes (length is) ≡ b → LineHolds line (cond b (Err kinds.TooManyNodes) (Ok (Some is)))
 held_list line is true h e = record { items = is; list = h; many = grind (arith, nat_tests) }

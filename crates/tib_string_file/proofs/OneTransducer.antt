@@ -11,7 +11,7 @@ use Rattle.tib_strings.specs.declared.Word.TheVariants.{Word, Hole}
 use Rattle.tib_transducer.specs.declared.Variable.{Variable}
 use Rattle.tib_transducer.specs.declared.Pair.{Pair}
 use Rattle.tib_transducer_file.proofs.OneByText.{pair_same}
-use Rattle.tib_transducer_file.proofs.OneTransducer.{shape_same, side_same, label_same, left_same}
+use Rattle.tib_transducer_file.proofs.OneTransducer.{shape_same, side_same, label_same, left_same, rules_same}
 use Rattle.tib_string_file.specs.Value.{nodes_of}
 use Rattle.tib_string_file.specs.TransducerText.{ReadsAs}
 use Rattle.tib_string_file.specs.ByText.{AgreeOnLeft, AgreeOnRight, AreOneStringRule}
@@ -35,17 +35,10 @@ module _ (labels : List (List ℕ)) (apart : Distinct labels) where
       ∙ ap (λ (l : List (Token ℕ)). record { state = s.state; left = s.left; right = l; cost = r.cost }) (words_same r.right s.right h.right)
       ∙ ap (λ (n : ℕ). record { state = s.state; left = s.left; right = s.right; cost = n }) h.cost
 
-  rules_same : (rs ss : List (StringRule ℕ)) → Along (AreOneStringRule labels labels) rs ss → rs ≡ ss
-  rules_same [] [] h = refl
-  rules_same [] (s ∷ ss) h = absurd h
-  rules_same (r ∷ rs) [] h = absurd h
-  rules_same (r ∷ rs) (s ∷ ss) h =
-      ap (λ (x : StringRule ℕ). x ∷ rs) (rule_same r s h.0) ∙ ap (λ (xs : List (StringRule ℕ)). s ∷ xs) (rules_same rs ss h.1)
-
 -- transducers of one text are the same
 pub one_transducer :
     (scale : Scale) (labels : List (List ℕ)) (bytes : List ℕ) (t u : StringTransducerOf) → Distinct labels → ReadsAs scale labels bytes t → ReadsAs scale labels bytes u → t ≡ u
 one_transducer scale labels bytes t u apart r q =
     let a = one_by_text scale labels labels bytes t u r q in
     ap (λ (ns : List (List ℕ)). record { names = ns; rules = t.rules }) a.names
-    ∙ ap (λ (rs : List (StringRule ℕ)). record { names = u.names; rules = rs }) (rules_same labels apart t.rules u.rules a.rules)
+    ∙ ap (λ (rs : List (StringRule ℕ)). record { names = u.names; rules = rs }) (rules_same (AreOneStringRule labels labels) (rule_same labels apart) t.rules u.rules a.rules)

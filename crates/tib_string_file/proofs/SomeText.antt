@@ -13,34 +13,25 @@ use Rattle.tib_tree.specs.Grows.{AddsAll}
 use Rattle.tib_tree.specs.Nodes.{rank_of}
 use Rattle.tib_tree.specs.Written.{Item}
 use Rattle.tib_grammar.specs.Sides.{label, hole}
-use Rattle.tib_grammar.specs.Items.{pairs_of}
-use Rattle.tib_grammar.specs.declared.Item.{Item as SideItem}
-use Rattle.tib_grammar.specs.declared.Item.TheVariants.{Label}
-use Rattle.tib_grammar.proofs.Holes.{holes_of_items}
-use Rattle.tib_grammar_file.proofs.Alongs.{along_changes}
 use Rattle.tib_grammar_file.proofs.PrintedStates.{gathered, all_added}
 use Rattle.tib_grammar_file.proofs.SomeText.{numbered, all_distinct}
 use Rattle.tib_strings.specs.StringTransducerOf.{StringTransducerOf}
 use Rattle.tib_strings.specs.declared.StringRule.{StringRule}
 use Rattle.tib_strings.specs.declared.Word.{Word as Token}
 use Rattle.tib_strings.specs.declared.Word.TheVariants as words
-use Rattle.tib_transducer.specs.Range.{AreNumbered}
-use Rattle.tib_transducer.specs.declared.Variable.{Variable}
 use Rattle.tib_transducer.specs.declared.Pair.{Pair}
 use Rattle.tib_transducer_file.specs.Forms.{pair_in}
-use Rattle.tib_transducer_file.specs.Rule.{Parts, RuleLine, state_of, label_of, numbers_in, is_unknown}
-use Rattle.tib_transducer_file.specs.TransducerText.{SpellsLineBy}
-use Rattle.tib_transducer_file.proofs.Formats.{tree_words}
+use Rattle.tib_transducer_file.specs.Value.{right_text}
+use Rattle.tib_transducer_file.specs.Rule.{Parts, RuleLine, state_of, numbers_in, is_unknown}
 use Rattle.tib_transducer_file.proofs.FileHeld.{file_held}
-use Rattle.tib_transducer_file.proofs.SideTrees.{HasRank, are_one}
-use Rattle.tib_transducer_file.proofs.SomeText.{HasAll, placed, left_texts, right_text, right_texts, rule_texts, file_texts, left_items, not_false, first_state, other_state, side_of, IsSpelled, file_spelled}
+use Rattle.tib_transducer_file.proofs.SomeText.{HasAll, placed, left_texts, right_texts, rule_texts, file_texts, not_false, first_state, other_state, some_parts, some_rules, IsSpelled, file_spelled}
 use Rattle.tib_string_file.specs.Listed.{IsEntry, SpellsList}
-use Rattle.tib_string_file.specs.Value.{IsLeftNode, IsLeftSide, IsRightSymbol, IsRightNode, nodes_of, IsRule, state_before, states_in, states_of}
+use Rattle.tib_string_file.specs.Value.{IsRightSymbol, IsRightNode, nodes_of, IsRule, state_before, states_in, states_of}
 use Rattle.tib_string_file.specs.TransducerReading.{string_file_from, transducer_in}
 use Rattle.tib_string_file.specs.Faults.{IsFirstFault}
 use Rattle.tib_string_file.specs.TransducerLaws.{IsSomeText}
 use Rattle.tib_string_file.specs.TransducerText.{ReadsAs}
-use Rattle.tib_string_file.proofs.Entries.{lists}
+use Rattle.tib_string_file.specs.Entries.{lists}
 use Rattle.tib_string_file.proofs.FaultsOnce.{faults_exact}
 use Rattle.tib_string_file.proofs.FileText.{all_small}
 
@@ -83,37 +74,13 @@ list_leaves tokens is (inl (e, none)) = subst (λ (js : List Item). Each (λ (i 
 list_leaves tokens is (inr h) = entries_leaves tokens is h
 
 -- a line stands for a rule
-a_rule : (scale : Scale) (names labels : List (List ℕ)) (bytes : List ℕ) (line : RuleLine) → SpellsLineBy SpellsList scale bytes line → HasAll labels (rule_texts line.parts) → HasAll names (state_of line.parts ∷ states_in line.parts.right) → (r : StringRule ℕ) × IsRule names labels r line
-a_rule scale names labels bytes line spells h s =
+a_rule : (scale : Scale) (names labels : List (List ℕ)) (line : RuleLine) → IsSpelled SpellsList scale line → HasAll labels (rule_texts line.parts) → HasAll names (state_of line.parts ∷ states_in line.parts.right) → (r : StringRule ℕ) × IsRule names labels r line
+a_rule scale names labels line (bytes, spells) h s =
     let p : Parts = line.parts in
     let spelled = spells.parts.spells in
-    let state = numbered names (state_of p) (s (state_of p) (inl refl)) in
-    let root = numbered labels (label_of p) (h (label_of p) (inl refl)) in
-    let below = left_items labels 0 p.below (λ t k. h t (inr (has_left (left_texts p.below) (right_texts p.right) t k))) in
     let right = right_items names labels (numbers_in p.below) p.right (λ t k. h t (inr (has_right (left_texts p.below) (right_texts p.right) t k))) (λ t k. s t (inr k)) spells.known (list_leaves spelled.right_words p.right spelled.right) in
-    let items : List (SideItem Variable) = Label root.0 (rank_of p.root.kids) ∷ below.items in
-    let left_one = are_one (pairs_of items) (p.root ∷ p.below) (tree_words _ (p.root ∷ p.below) spelled.left)
-    (refl, along_changes (IsLeftNode labels) HasRank (pairs_of below.items) p.below (λ s i n. n.1) below.are) in
-    let left_side = side_of items left_one in
-    let is_left : IsLeftSide labels (pairs_of items) p = ((root.1, refl), below.are) in (
-      record { state = state.0; left = left_side.0; right = right.0; cost = line.cost },
-      record {
-        state = state.1;
-        left = subst (λ ss. IsLeftSide labels ss p) (sym left_side.1) is_left;
-        numbered = subst (λ (xs : List Variable). AreNumbered 0 xs) (sym (holes_of_items items left_side.0 (sym left_side.1))) below.numbered;
-        right = right.1;
-        cost = refl;
-      },
-    )
-
-some_rules : (scale : Scale) (names labels : List (List ℕ)) (lines : List RuleLine) → Each (IsSpelled SpellsList scale) lines → HasAll labels (file_texts lines) → HasAll names (states_of lines) → (rs : List (StringRule ℕ)) × Along (IsRule names labels) rs lines
-some_rules scale names labels [] spelled h s = ([], tt)
-some_rules scale names labels (line ∷ lines) spelled h s =
-    let r = a_rule scale names labels spelled.0.0 line spelled.0.1 (λ t k. h t (has_left (rule_texts line.parts) (file_texts lines) t k))
-    (λ t k. s t (has_left (state_of line.parts ∷ states_in line.parts.right) (states_of lines) t k)) in
-    let more = some_rules scale names labels lines spelled.1 (λ t k. h t (has_right (rule_texts line.parts) (file_texts lines) t k))
-    (λ t k. s t (has_right (state_of line.parts ∷ states_in line.parts.right) (states_of lines) t k)) in
-    (r.0 ∷ more.0, (r.1, more.1))
+    let parts = some_parts SpellsList scale names labels bytes line (nodes_of right.0) spells h s right.1 in
+    (record { state = parts.state; left = parts.left; right = right.0; cost = line.cost }, parts.is)
 
 -- the text of a transducer over a table to which only texts were added
 pub record IsAddedText (scale : Scale) (early : List (List ℕ)) (bytes : List ℕ) : Type 0 where
@@ -129,7 +96,7 @@ some_text scale early bytes start lines e =
     let held = file_held lists scale 1 (lines_of bytes) start lines e in
     let n = gathered [] (start ∷ states_of lines) in
     let l = gathered early (file_texts lines) in
-    let rs = some_rules scale n.0 l.0 lines (file_spelled SpellsList scale (lines_of bytes) start lines held.have)
+    let rs = some_rules (IsRule n.0 l.0) SpellsList scale n.0 l.0 (a_rule scale n.0 l.0) lines (file_spelled SpellsList scale (lines_of bytes) start lines held.have)
     (all_added early (file_texts lines) l.0 l.1) (λ t k. all_added [] (start ∷ states_of lines) n.0 n.1 t (inr k)) in
     record {
       texts = file_texts lines;

@@ -18,7 +18,7 @@ use Rattle.tib_tree.specs.Written.{Item}
 use Rattle.tib_string_file.specs.Listed.{is_mark_alone, is_entry, item_of, list_in, texts_of, IsNamed}
 use Rattle.tib_string_file.specs.Reading.{string_in_words, small_list, string_line, more_in_words, more_line}
 use Rattle.tib_string_file.specs.Found.{AreWords}
-use Rattle.tib_string_file.proofs.Entries.{list_of_entries, list_of_mark, no_list}
+use Rattle.tib_string_file.specs.Entries.{list_of_entries, list_of_mark, no_list}
 use Rattle.tib_string_file.proofs.LineFacts.{few_words, many_words}
 
 -- tokens that were tried

@@ -1,4 +1,5 @@
 pub mod Listed
+pub mod Entries
 pub mod StringText
 pub mod StringFaults
 pub mod Reading
@@ -9,7 +10,6 @@ pub mod Value
 pub mod TransducerReading
 pub mod TransducerText
 pub mod Faults
-pub mod Reader
 pub mod ByText
 pub mod Labelled
 pub mod TransducerLaws

@@ -1,7 +1,6 @@
 -- What the items of a rule stand for, over the tables of states and labels.
-use Rattle.std.specs.Prelude.{◌≡◌, ℕ, List, Some, None, map, slice_get}
-use Rattle.tib_lex.specs.Lists.{Along}
-use Rattle.tib_tree.specs.Trees.{preorder_of}
+use Rattle.std.specs.Prelude.{◌≡◌, ℕ, List, None, map}
+use Rattle.tib_tree.specs.Written.{Item}
 use Rattle.tib_tree.specs.declared.shape.Place.{Place}
 use Rattle.tib_grammar.specs.Items.{pair_of, pairs_of}
 use Rattle.tib_grammar.specs.Sides.{Symbol}
@@ -11,10 +10,9 @@ use Rattle.tib_strings.specs.declared.Word.{Word as Token}
 use Rattle.tib_strings.specs.declared.Word.TheVariants.{Word, Hole}
 use Rattle.tib_strings.specs.declared.StringRule.{StringRule}
 use Rattle.tib_transducer.specs.declared.Pair.{Pair}
-use Rattle.tib_transducer.specs.Range.{AreNumbered}
-use Rattle.tib_transducer.specs.Rules.{variables_of}
 pub use Rattle.tib_transducer_file.specs.Value.{IsAsked, IsLeftSymbol, IsLeftNode, IsRightSymbol, IsRightNode, IsRootItem, IsLeftSide, state_before, states_in, states_of}
-use Rattle.tib_transducer_file.specs.Rule.{RuleLine, state_of, numbers_in}
+use Rattle.tib_transducer_file.specs.Rule.{RuleLine}
+use Rattle.tib_transducer_file.specs.Value.{IsRuleOf, RuleView, view_of}
 
 -- a word or a pair as a leaf of a tree
 abbrev pub leaf_of : {P : Type 0} → Token P → SideItem (Pair P)
@@ -27,14 +25,19 @@ node_of w = pair_of (leaf_of w)
 abbrev pub nodes_of : {P : Type 0} → List (Token P) → List (Symbol ℕ (Pair P) × ℕ)
 nodes_of ws = pairs_of (map leaf_of ws)
 
+-- any items are those of a list
+abbrev pub AreAnyItems : List Item → Type 0
+AreAnyItems items = Unit {0}
+
 -- a place of a list has no children
 abbrev pub IsLeaf : Place → Type 0
 IsLeaf p = p.kids ≡ None
 
 -- A rule stands for what its line says. Its variables are numbered anew, 0, 1, 2 and so on in preorder of the left side.
-pub record IsRule (names labels : List (List ℕ)) (rule : StringRule ℕ) (line : RuleLine) : Type 0 where
-  pub state : slice_get names rule.state ≡ Some (state_of line.parts)
-  pub left : IsLeftSide labels (preorder_of rule.left) line.parts
-  pub numbered : AreNumbered 0 (variables_of rule.left)
-  pub right : Along (IsRightNode names labels (numbers_in line.parts.below)) (nodes_of rule.right) line.parts.right
-  pub cost : rule.cost ≡ line.cost
+abbrev pub IsRule : List (List ℕ) → List (List ℕ) → StringRule ℕ → RuleLine → Type 0
+IsRule names labels rule line =
+    IsRuleOf names labels rule.state rule.left (nodes_of rule.right) rule.cost line
+
+-- the parts of a rule
+abbrev pub string_view : StringRule ℕ → RuleView
+string_view rule = view_of rule.state rule.left (nodes_of rule.right) rule.cost

@@ -6,9 +6,7 @@
 
 mod laws;
 mod list;
-mod parts;
-mod rules;
-mod sides;
+mod right;
 mod string;
 mod transducer;
 mod transducer_laws;

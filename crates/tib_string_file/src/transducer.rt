@@ -7,14 +7,13 @@ ghost use Rattle.tib_string_file.specs.Labelled.{AreLabelled};
 ghost use Rattle.tib_string_file.specs.TransducerText.{ReadsAs};
 ghost use Rattle.tib_string_file.specs.Faults.{IsCause};
 
-use crate::rules::read_rules;
-use std::alloc::{AllocError, Global};
+use crate::right::Lists;
+use std::alloc::Global;
 use tib_cost::Semiring;
 use tib_grammar::Names;
-use tib_grammar_file::state_names;
 use tib_lex::ReadError;
 use tib_strings::{StringRule, StringTransducer};
-use tib_transducer_file::start::find_start;
+use tib_transducer_file::read_file;
 use tib_tree::Labels;
 
 // The transducer of a start and of rules that are in range and have their shape.
@@ -54,24 +53,8 @@ pub fn read_string_transducer<S: Semiring>(
     ensures labels { Grows labels.old labels.new }
     ensures few { length labels.new ≤ length labels.old + length bytes.now }
 {
-    let mut names = Labels::new(alloc);
-    let begun = match find_start(alloc, bytes, &mut names) {
-        Ok(begun) => begun,
-        Err(error) => return Err(error),
-    };
-    match read_rules(
-        alloc,
-        S::SCALE,
-        bytes,
-        begun.at,
-        begun.number,
-        &mut names,
-        labels,
-    ) {
-        Ok(rules) => match state_names(alloc, &names) {
-            Ok(states) => Ok(transducer_over(states, rules)),
-            Err(AllocError) => Err(ReadError::OutOfMemory),
-        },
+    match read_file::<S, Lists>(alloc, bytes, labels) {
+        Ok(file) => Ok(transducer_over(file.names, file.rules)),
         Err(error) => Err(error),
     }
 }

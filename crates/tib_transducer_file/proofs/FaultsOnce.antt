@@ -14,8 +14,8 @@ use Rattle.tib_transducer_file.specs.Reading.{transducer_from, transducer_in}
 use Rattle.tib_transducer_file.specs.Value.{IsRightNode, IsRule}
 use Rattle.tib_transducer_file.specs.TransducerText.{IsSmallRule, ReadsAs}
 use Rattle.tib_transducer_file.specs.Faults.{IsFirstFault}
-use Rattle.tib_transducer_file.proofs.Formats.{trees}
-use Rattle.tib_transducer_file.proofs.FileHeld.{IsFew}
+use Rattle.tib_transducer_file.specs.Formats.{trees}
+use Rattle.tib_transducer_file.specs.FileHeld.{IsFew}
 use Rattle.tib_transducer_file.proofs.FileText.{left_long}
 use Rattle.tib_transducer_file.proofs.FirstFaults.{fault_is_first}
 use Rattle.tib_transducer_file.proofs.FaultsRead.{there, fault_once as once_by, few_parts, starts_read, err_or_ok}

@@ -22,8 +22,8 @@ use Rattle.tib_transducer_file.specs.Reading.{file_from}
 use Rattle.tib_transducer_file.specs.TransducerText.{HaveRulesBy, HaveStartBy}
 use Rattle.tib_transducer_file.specs.Faults.{HasRuleFault, HoldsRule, IsFirstFaultBy}
 use Rattle.tib_transducer_file.proofs.LinesHeld.{few_read, blank_read, fault_read, held_read}
-use Rattle.tib_transducer_file.proofs.Formats.{IsFormat}
-use Rattle.tib_transducer_file.proofs.FileHeld.{IsFew}
+use Rattle.tib_transducer_file.specs.Formats.{IsFormat}
+use Rattle.tib_transducer_file.specs.FileHeld.{IsFew}
 
 abbrev Whole : Type 0
 Whole = Result (List ℕ × List RuleLine) FileFault

@@ -17,7 +17,7 @@ use Rattle.tib_transducer_file.specs.TransducerText.{HasPartsBy, SpellsLineBy}
 use Rattle.tib_transducer_file.specs.Faults.{HasBadWeight, HasRuleFault, HoldsRule}
 use Rattle.tib_transducer_file.proofs.PiecesHad.{pieces_had, bad_pieces}
 use Rattle.tib_transducer_file.proofs.RulesRead.{spelled_back, spelled_forth}
-use Rattle.tib_transducer_file.proofs.Formats.{IsFormat}
+use Rattle.tib_transducer_file.specs.Formats.{IsFormat}
 
 module _ {Right : List Word → List Item → Type 0} {read : List Word → Option (List Item)} (format : IsFormat Right read) where
   -- a rule whose variables are well used

@@ -6,13 +6,13 @@ use Rattle.std.specs.List.{list_any}
 use Rattle.std.proofs.lemmas.Bool.Decides.{nat_tests}
 use Rattle.tib_lex.specs.Grammar.{Word, is_name}
 use Rattle.tib_lex.specs.Lines.{lines_of, front, with_line, each_line}
-use Rattle.tib_lex.specs.Lists.{Along, Each}
+use Rattle.tib_lex.specs.Lists.{Each}
 use Rattle.tib_lex.specs.declared.fault.FaultKind.{FaultKind}
 use Rattle.tib_lex.specs.declared.fault.FileFault.{FileFault}
 use Rattle.tib_lex.proofs.Names.{name_is}
 use Rattle.tib_lex.proofs.Spelled.{and_true}
 use Rattle.tib_lex.proofs.Quotes.{ne-eqb}
-use Rattle.tib_tree.specs.Grows.{Adds, AddsAll}
+use Rattle.tib_tree.specs.Grows.{Adds}
 use Rattle.tib_tree.specs.Written.{Item}
 use Rattle.tib_grammar.specs.StateName.{IsStateName, AreStateNames}
 use Rattle.tib_grammar_file.specs.Reading.{start_line, started, with_start}
@@ -27,24 +27,18 @@ use Rattle.tib_transducer_file.specs.Faults.{IsCauseBy}
 use Rattle.tib_transducer_file.proofs.FirstFaults.{fault_is_first}
 use Rattle.tib_grammar_file.proofs.RowsRead.{start_back, no_start_back}
 use Rattle.tib_transducer_file.specs.Forms.{stop_at, before_stop, behind_stop, is_root, is_number, number_of, leaf_text, pair_of, pair_if, pair_in}
-use Rattle.tib_transducer_file.specs.Rule.{RuleLine, rule_line_by, has_many, has_state, state_of}
+use Rattle.tib_transducer_file.specs.Rule.{RuleLine, rule_line_by, state_of}
 use Rattle.tib_transducer_file.specs.Value.{states_in, states_of, state_before}
 use Rattle.tib_transducer_file.specs.Reading.{file_from}
-use Rattle.tib_transducer_file.specs.TransducerText.{HaveRulesBy, HaveStartBy}
+use Rattle.tib_transducer_file.specs.TransducerText.{HaveRulesBy}
+use Rattle.tib_transducer_file.specs.FileHeld.{IsFew, IsNamed, FileHeld, FileReadBy}
 use Rattle.tib_transducer_file.proofs.TextRead.{LineHolds, line_holds}
-use Rattle.tib_transducer_file.proofs.Formats.{IsFormat}
+use Rattle.tib_transducer_file.specs.Formats.{IsFormat}
 
 -- the rules
 front_back : (x : RuleLine) (r : Result (List RuleLine) FileFault) (rules : List RuleLine) → front (x ∷ []) r ≡ Ok rules → (more : List RuleLine) × (r ≡ Ok more) × (rules ≡ x ∷ more)
 front_back x (Ok more) rules e = (more, refl, cc)
 front_back x (Err f) rules e = let bad : ◌≡◌ {A = Result (List RuleLine) FileFault} (Err f) (Ok rules) = e in absurd (cc)
-
--- lines that are read within the limits
-abbrev pub IsFew : RuleLine → Type 0
-IsFew line = has_many line.parts ≡ false
-
-abbrev pub IsNamed : RuleLine → Type 0
-IsNamed line = has_state line.parts.root ≡ true
 
 -- lines that hold rules
 pub record Held (Right : List Word → List Item → Type 0) (scale : Scale) (lines : List (List ℕ)) (rules : List RuleLine) : Type 0 where
@@ -107,26 +101,11 @@ lines_named (line ∷ lines) h = (state_name line h.0, items_named line.parts.ri
 abbrev Whole : Type 0
 Whole = Result (List ℕ × List RuleLine) FileFault
 
--- a start line, and these behind it
-pub record FileHeld (Right : List Word → List Item → Type 0) (scale : Scale) (lines : List (List ℕ)) (start : List ℕ) (rules : List RuleLine) : Type 0 where
-  pub have : HaveStartBy Right scale lines start rules
-  pub few : Each IsFew rules
-  pub named : Each IsNamed rules
-  pub name : IsStateName start
-
 whole_err : (f : FileFault) (x : List ℕ × List RuleLine) → ◌≡◌ {A = Whole} (Err f) (Ok x) → ⊥
 whole_err f x e = cc
 
 whole_same : (x y : List ℕ × List RuleLine) → ◌≡◌ {A = Whole} (Ok x) (Ok y) → x ≡ y
 whole_same x y e = cc
-
--- what was read of a file
-pub record FileReadBy (Right : List Word → List Item → Type 0) {R : Type 0} (Is : List (List ℕ) → List (List ℕ) → R → RuleLine → Type 0) (scale : Scale) (bytes : List ℕ) (names labels : List (List ℕ)) (rules : List R) : Type 0 where
-  pub start : List ℕ
-  pub lines : List RuleLine
-  pub held : FileHeld Right scale (lines_of bytes) start lines
-  pub added : AddsAll [] (start ∷ states_of lines) names
-  pub rules_are : Along (Is names labels) rules lines
 
 module _ {Right : List Word → List Item → Type 0} {read : List Word → Option (List Item)} (format : IsFormat Right read) where
   one_held : (scale : Scale) (n : ℕ) (line : List ℕ) (lines : List (List ℕ)) (r : Result (Option RuleLine) FaultKind) (more : Result (List RuleLine) FileFault) (rules : List RuleLine) → LineHolds Right scale line r → ((rs : List RuleLine) → more ≡ Ok rs → Held Right scale lines rs) → with_line n r more ≡ Ok rules → Held Right scale (line ∷ lines) rules

@@ -21,8 +21,9 @@ use Rattle.tib_transducer_file.specs.Value.{IsLeftNode, IsLeftSide, IsRightNode,
 use Rattle.tib_transducer_file.specs.Reading.{transducer_from}
 use Rattle.tib_transducer_file.specs.TransducerText.{IsSmallRule, ReadsAs}
 use Rattle.tib_transducer_file.proofs.ShapesRead.{rules_shaped, rules_within}
-use Rattle.tib_transducer_file.proofs.Formats.{trees}
-use Rattle.tib_transducer_file.proofs.FileHeld.{IsFew, FileHeld, FileReadBy, file_held as held_by, names_sound as sound_by}
+use Rattle.tib_transducer_file.specs.Formats.{trees}
+use Rattle.tib_transducer_file.specs.FileHeld.{IsFew, FileHeld, FileReadBy}
+use Rattle.tib_transducer_file.proofs.FileHeld.{file_held as held_by, names_sound as sound_by}
 
 -- a left side has one node more than are below its root
 pub left_long : (labels : List (List ℕ)) (ss : List (Symbol ℕ Variable × ℕ)) (p : Parts) → IsLeftSide labels ss p → length ss ≡ length p.below + 1

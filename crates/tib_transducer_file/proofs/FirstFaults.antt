@@ -16,7 +16,7 @@ use Rattle.tib_transducer_file.specs.Rule.{rule_line_by}
 use Rattle.tib_transducer_file.specs.Reading.{file_from}
 use Rattle.tib_transducer_file.specs.Faults.{HasRuleFault, HoldsRule, IsFirstFaultBy}
 use Rattle.tib_transducer_file.proofs.FaultyLines.{rule_says}
-use Rattle.tib_transducer_file.proofs.Formats.{IsFormat}
+use Rattle.tib_transducer_file.specs.Formats.{IsFormat}
 
 module _ {Right : List Word → List Item → Type 0} {read : List Word → Option (List Item)} (format : IsFormat Right read) where
   found : (scale : Scale) (n : ℕ) (lines : List (List ℕ)) (fault : FileFault) → file_from (rule_line_by read scale) n lines ≡ Err fault → FirstFaultFromStart (HoldsRule Right scale) (HasRuleFault Right scale) n lines fault

@@ -8,7 +8,6 @@ pub mod PartsFound
 pub mod VariablesUsed
 pub mod SidesRead
 pub mod SideTrees
-pub mod Formats
 pub mod RulesRead
 pub mod LinesRead
 pub mod RulesSoFar

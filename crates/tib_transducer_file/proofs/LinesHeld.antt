@@ -15,7 +15,7 @@ use Rattle.tib_transducer_file.specs.TransducerText.{HasPartsBy, SpellsLineBy}
 use Rattle.tib_transducer_file.specs.Faults.{HasNoRule, HasBadWeight, HasRuleFault, HoldsRule}
 use Rattle.tib_transducer_file.proofs.PiecesRead.{pieces_read, bad_pieces_read}
 use Rattle.tib_transducer_file.proofs.RulesRead.{spelled_back, spelled_forth}
-use Rattle.tib_transducer_file.proofs.Formats.{IsFormat}
+use Rattle.tib_transducer_file.specs.Formats.{IsFormat}
 
 -- how they are checked
 module _ (scale : Scale) (p : Parts) where

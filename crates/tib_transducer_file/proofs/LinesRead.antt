@@ -11,7 +11,6 @@ use Rattle.tib_lex.specs.declared.fault.LineError.TheVariants as errors
 use Rattle.tib_tree.specs.Grows.{Grows}
 use Rattle.tib_tree.specs.Trees.{preorder_of}
 use Rattle.tib_tree.specs.Written.{Item}
-use Rattle.tib_tree.specs.Machine.{IsTree}
 use Rattle.tib_tree.specs.Shape.{items_back}
 use Rattle.tib_tree.specs.declared.shape.Place.{Place}
 use Rattle.tib_lex.specs.Lists.{Along}
@@ -26,16 +25,16 @@ use Rattle.tib_transducer_file.specs.Pieces.{pieces_of, pieces_at}
 use Rattle.tib_transducer_file.specs.Forms.{variable_in, before_stop}
 use Rattle.tib_transducer_file.specs.Rule.{Parts, SpellsRuleBy, parts_by, good_parts, rule_line_by, rule_line_of, number_before, numbers_in}
 use Rattle.tib_transducer_file.specs.Found.{found_parts, FoundIn, FoundLies, parts_with, IsChecked}
-use Rattle.tib_transducer_file.specs.Value.{IsLeftNode, IsLeftSide, IsRightNode, IsRule}
+use Rattle.tib_transducer_file.specs.Value.{IsLeftNode, IsLeftSide, IsRightNode, IsRuleBy, IsViewed, RuleView, view_of}
 use Rattle.tib_transducer_file.specs.Built.{AreOneTree}
-use Rattle.tib_transducer_file.specs.Reader.{parts_found, FoundRuleBy, IsTreeAt, GoodRule, IsGood}
+use Rattle.tib_transducer_file.specs.Reader.{parts_found, FoundRuleBy, GoodRule, IsGood}
 use Rattle.tib_transducer_file.specs.declared.parts.Found.{Found}
 use Rattle.tib_transducer_file.proofs.Backs.{back_long}
 use Rattle.tib_transducer_file.proofs.PartsFound.{pieces_long}
 use Rattle.tib_transducer_file.proofs.RulesRead.{spelled_back, rule_few}
 use Rattle.tib_transducer_file.proofs.SidesRead.{left_grows}
 use Rattle.tib_transducer_file.proofs.SideTrees.{root_grows}
-use Rattle.tib_transducer_file.proofs.Formats.{IsFormat, tree_words}
+use Rattle.tib_transducer_file.specs.Formats.{IsFormat, tree_words}
 
 -- the parts are what was found
 pub items_whole : (line : List ℕ) (left right : List Place) (f : Found) → (l : FoundIn line left right f) → ((parts_found line left right f).root ∷ (parts_found line left right f).below ≡ items_back line left) × ((parts_found line left right f).right ≡ items_back line right) × ((parts_found line left right f).weight ≡ text_at line f.weight) × ((parts_found line left right f).root ≡ l.root)
@@ -81,10 +80,6 @@ module _ {Right : List Word → List Item → Type 0} {read : List Word → Opti
         few = omega (arith, few, count, pieces_long line 0 ts, ap length w.0, ap length w.1, back_long line left, back_long line right);
       }
 
--- with a tree on the right
-pub tree_found : (line : List ℕ) (ts : List Token) (left right : List Place) (f : Found) → FoundIn line left right f → SpellsRuleBy IsTree (pieces_at line 0 ts) (parts_found line left right f) → IsTreeAt line right
-tree_found line ts left right f l spells = subst AreOneTree (items_whole line left right f l).1 (tree_words _ _ spells.right)
-
 -- a fault of the variables
 pub check_failed : (scale : Scale) (p : Parts) (numbers : List ℕ) (left right : List Place) (error : LineError) → IsChecked p numbers (Err error) → IsGood scale p numbers left right (Err error)
 check_failed scale p numbers left right (errors.Fault kind) h = h scale
@@ -109,17 +104,17 @@ pub left_side_grows : (a b : List (List ℕ)) → Grows a b → (ss : List (Symb
 left_side_grows a b g [] p h = absurd h
 left_side_grows a b g (s ∷ ss) p h = (root_grows a b g s _ p.root.kids h.0, along_changes (IsLeftNode a) (IsLeftNode b) ss p.below (left_grows a b g) h.1)
 
--- the rule of what was found
-pub rule_made : (n m a b : List (List ℕ)) (line : List ℕ) (left right : List Place) (f : Found) (numbers : List ℕ) (scale : Scale) (cost state : ℕ) (ls : Side ℕ Variable) (rs : Side ℕ (Pair ℕ)) → FoundIn line left right f → GoodRule scale (parts_found line left right f) numbers left right cost → Grows n m → Grows a b →
-    slice_get n state ≡ Some (text_of (word_at line f.root.state)) → ((right : List Item) (weight : Option (List ℕ)) → IsLeftSide a (preorder_of ls) (parts_with (items_back line left) right weight)) → AreNumbered 0 (variables_of ls) → Along (IsRightNode m b numbers) (preorder_of rs) (items_back line right) →
-    IsRule m b (record { state = state; left = ls; right = rs; cost = cost }) (rule_line_of (parts_found line left right f) cost)
-rule_made n m a b line left right f numbers scale cost state ls rs l g names labels named side numbered are =
+-- the rule of what was found, of whatever kind it is, by its parts; its state and its left side stand in larger tables
+pub rule_made : {R : Type 0} (view : R → RuleView) (rule : R) (n m a b : List (List ℕ)) (line : List ℕ) (left right : List Place) (f : Found) (numbers : List ℕ) (scale : Scale) (cost state : ℕ) (ls : Side ℕ Variable) (rs : List (Symbol ℕ (Pair ℕ) × ℕ)) → view rule ≡ view_of state ls rs cost → FoundIn line left right f → GoodRule scale (parts_found line left right f) numbers left right cost → Grows n m → Grows a b →
+    slice_get n state ≡ Some (text_of (word_at line f.root.state)) → ((right : List Item) (weight : Option (List ℕ)) → IsLeftSide a (preorder_of ls) (parts_with (items_back line left) right weight)) → AreNumbered 0 (variables_of ls) → Along (IsRightNode m b numbers) rs (items_back line right) →
+    IsRuleBy view m b rule (rule_line_of (parts_found line left right f) cost)
+rule_made view rule n m a b line left right f numbers scale cost state ls rs seen l g names labels named side numbered are =
     let w = items_whole line left right f l in
-    record {
+    subst (λ (v : RuleView). IsViewed m b v (rule_line_of (parts_found line left right f) cost)) (sym seen) record {
       state = names.kept state (text_of (word_at line f.root.state)) named ∙ ap (λ (t : List ℕ). Some t) (l.root_is.state ∙ ap (λ (i : Item). before_stop i.text) (sym w.3));
       left = left_side_grows a b labels (preorder_of ls) (parts_found line left right f) (side (items_back line right) (text_at line f.weight));
       numbered = numbered;
-      right = subst (λ (is : List Item). Along (IsRightNode m b (numbers_in (parts_found line left right f).below)) (preorder_of rs) is) (sym w.1)
-          (subst (λ (ns : List ℕ). Along (IsRightNode m b ns) (preorder_of rs) (items_back line right)) g.numbers_are are);
+      right = subst (λ (is : List Item). Along (IsRightNode m b (numbers_in (parts_found line left right f).below)) rs is) (sym w.1)
+          (subst (λ (ns : List ℕ). Along (IsRightNode m b ns) rs (items_back line right)) g.numbers_are are);
       cost = refl;
     }

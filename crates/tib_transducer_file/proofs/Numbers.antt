@@ -7,7 +7,7 @@ use Rattle.std.proofs.lemmas.List.{drop_all}
 use Rattle.tib_grammar_file.specs.Weight.{is_digit, decimal, decimal_from}
 use Rattle.tib_lex.proofs.Spelled.{and_true}
 
--- numbers of so many digits are below it
+-- numbers of this many digits are below it
 abbrev pub bound : ℕ → ℕ
 bound zero = 1
 bound (suc n) = 10 * bound n

@@ -211,15 +211,15 @@ module _ (labels others : List (List ℕ)) where
       cost = h.cost ∙ sym k.cost;
     }
 
-    rules_agree :
-        (lines : List RuleLine) (rs ss : List (TransducerRule ℕ)) → Each (λ line. is_twice line.parts ≡ false) lines → Along (IsRule names labels) rs lines → Along (IsRule names others) ss lines →
-        Along (AreOneTransducerRule labels others) rs ss
-    rules_agree [] [] [] o h k = tt
-    rules_agree [] [] (s ∷ ss) o h k = absurd k
-    rules_agree [] (r ∷ rs) ss o h k = absurd h
-    rules_agree (line ∷ lines) [] ss o h k = absurd h
-    rules_agree (line ∷ lines) (r ∷ rs) [] o h k = absurd k
-    rules_agree (line ∷ lines) (r ∷ rs) (s ∷ ss) o h k = (rule_agrees line r s o.0 h.0 k.0, rules_agree lines rs ss o.1 h.1 k.1)
+-- rules of the same lines agree, if those of one line do
+pub rules_agree : {R Q : Type 0} (One : R → Q → Type 0) (Is : R → RuleLine → Type 0) (Are : Q → RuleLine → Type 0) → ((line : RuleLine) (r : R) (s : Q) → is_twice line.parts ≡ false → Is r line → Are s line → One r s) →
+    (lines : List RuleLine) (rs : List R) (ss : List Q) → Each (λ line. is_twice line.parts ≡ false) lines → Along Is rs lines → Along Are ss lines → Along One rs ss
+rules_agree One Is Are agree [] [] [] o h k = tt
+rules_agree One Is Are agree [] [] (s ∷ ss) o h k = absurd k
+rules_agree One Is Are agree [] (r ∷ rs) ss o h k = absurd h
+rules_agree One Is Are agree (line ∷ lines) [] ss o h k = absurd h
+rules_agree One Is Are agree (line ∷ lines) (r ∷ rs) [] o h k = absurd k
+rules_agree One Is Are agree (line ∷ lines) (r ∷ rs) (s ∷ ss) o h k = (agree line r s o.0 h.0 k.0, rules_agree One Is Are agree lines rs ss o.1 h.1 k.1)
 
 -- no rule of a file has a variable twice
 pub lines_once : (Right : List Word → List Item → Type 0) (scale : Scale) (lines : List (List ℕ)) (start : List ℕ) (rules : List RuleLine) → HaveStartBy Right scale lines start rules → Each (λ line. is_twice line.parts ≡ false) rules
@@ -230,20 +230,26 @@ lines_once Right scale lines start rules h =
 pub ok_same : (p q : List ℕ × List RuleLine) → (let r : Result (List ℕ × List RuleLine) FileFault = Ok p in r ≡ Ok q) → (p.0 ≡ q.0) × (p.1 ≡ q.1)
 ok_same p q e = let same : p ≡ q = cc in (ap (λ (x : List ℕ × List RuleLine). x.0) same, ap (λ (x : List ℕ × List RuleLine). x.1) same)
 
+-- what is read of one file has the same states, and its rules stand for the same lines
+pub files_agree :
+    {R : Type 0} (Is : List (List ℕ) → R → RuleLine → Type 0) (p q : List ℕ × List RuleLine) (names states : List (List ℕ)) (rules : List R) → (let r : Result (List ℕ × List RuleLine) FileFault = Ok p in r ≡ Ok q) →
+    AddsAll [] (p.0 ∷ states_of p.1) names → AddsAll [] (q.0 ∷ states_of q.1) states → Along (Is names) rules p.1 → (names ≡ states) × Along (Is states) rules q.1
+files_agree Is p q names states rules e added others are =
+    let same = ok_same p q e in
+    let moved : AddsAll [] (q.0 ∷ states_of q.1) names = subst (λ (ls : List RuleLine). AddsAll [] (q.0 ∷ states_of ls) names) same.1 (subst (λ (s : List ℕ). AddsAll [] (s ∷ states_of p.1) names) same.0 added) in
+    let one : names ≡ states = all_same [] (q.0 ∷ states_of q.1) names states moved others in
+    (one, subst (λ (ns : List (List ℕ)). Along (Is ns) rules q.1) one (subst (λ (ls : List RuleLine). Along (Is names) rules ls) same.1 are))
+
 -- transducers of one text
 pub one_by_text :
     (scale : Scale) (labels others : List (List ℕ)) (bytes : List ℕ) (t u : TransducerOf) → ReadsAs scale labels bytes t → ReadsAs scale others bytes u → AreOneTransducer labels others t u
 one_by_text scale labels others bytes t u r q =
-    let same = ok_same (r.text.start, r.text.lines) (q.text.start, q.text.lines) (sym (text_read scale labels bytes t r) ∙ text_read scale others bytes u q) in
-    let states : AddsAll [] (q.text.start ∷ states_of q.text.lines) t.names =
-    subst (λ (ls : List RuleLine). AddsAll [] (q.text.start ∷ states_of ls) t.names) same.1 (subst (λ (s : List ℕ). AddsAll [] (s ∷ states_of r.text.lines) t.names) same.0 r.text.states) in
-    let names : t.names ≡ u.names = all_same [] (q.text.start ∷ states_of q.text.lines) t.names u.names states q.text.states in
-    let mine : Along (IsRule u.names labels) t.rules q.text.lines =
-    subst (λ (ns : List (List ℕ)). Along (IsRule ns labels) t.rules q.text.lines) names (subst (λ (ls : List RuleLine). Along (IsRule t.names labels) t.rules ls) same.1 r.text.rules) in
+    let f = files_agree (λ names. IsRule names labels) (r.text.start, r.text.lines) (q.text.start, q.text.lines) t.names u.names t.rules (sym (text_read scale labels bytes t r) ∙ text_read scale others bytes u q) r.text.states q.text.states r.text.rules in
     record {
-      names = names;
-      rules = rules_agree labels others u.names (all_added [] (q.text.start ∷ states_of q.text.lines) u.names q.text.states none_distinct) q.text.lines t.rules u.rules
-          (lines_once IsTree scale (lines_of bytes) q.text.start q.text.lines q.text.written) mine q.text.rules;
+      names = f.0;
+      rules = rules_agree (AreOneTransducerRule labels others) (IsRule u.names labels) (IsRule u.names others)
+          (rule_agrees labels others u.names (all_added [] (q.text.start ∷ states_of q.text.lines) u.names q.text.states none_distinct)) q.text.lines t.rules u.rules
+          (lines_once IsTree scale (lines_of bytes) q.text.start q.text.lines q.text.written) f.1 q.text.rules;
     }
 
 -- pairs of the same state and variable are the same

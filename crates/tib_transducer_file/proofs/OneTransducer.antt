@@ -71,12 +71,12 @@ module _ (labels : List (List ℕ)) (apart : Distinct labels) where
       ∙ ap (λ (l : Tree (Symbol ℕ (Pair ℕ))). record { state = s.state; left = s.left; right = l; cost = r.cost }) right
       ∙ ap (λ (n : ℕ). record { state = s.state; left = s.left; right = s.right; cost = n }) h.cost
 
-  rules_same : (rs ss : List (TransducerRule ℕ)) → Along (AreOneTransducerRule labels labels) rs ss → rs ≡ ss
-  rules_same [] [] h = refl
-  rules_same [] (s ∷ ss) h = absurd h
-  rules_same (r ∷ rs) [] h = absurd h
-  rules_same (r ∷ rs) (s ∷ ss) h =
-      ap (λ (x : TransducerRule ℕ). x ∷ rs) (rule_same r s h.0) ∙ ap (λ (xs : List (TransducerRule ℕ)). s ∷ xs) (rules_same rs ss h.1)
+-- rules that agree are the same, if each of two that agree are
+pub rules_same : {R : Type 0} (One : R → R → Type 0) → ((r s : R) → One r s → r ≡ s) → (rs ss : List R) → Along One rs ss → rs ≡ ss
+rules_same One same [] [] h = refl
+rules_same One same [] (s ∷ ss) h = absurd h
+rules_same One same (r ∷ rs) [] h = absurd h
+rules_same {R = R} One same (r ∷ rs) (s ∷ ss) h = ap (λ (x : R). x ∷ rs) (same r s h.0) ∙ ap (λ (xs : List R). s ∷ xs) (rules_same One same rs ss h.1)
 
 -- transducers of one text are the same
 pub one_transducer :
@@ -84,4 +84,4 @@ pub one_transducer :
 one_transducer scale labels bytes t u apart r q =
     let a = one_by_text scale labels labels bytes t u r q in
     ap (λ (ns : List (List ℕ)). record { names = ns; rules = t.rules }) a.names
-    ∙ ap (λ (rs : List (TransducerRule ℕ)). record { names = u.names; rules = rs }) (rules_same labels apart t.rules u.rules a.rules)
+    ∙ ap (λ (rs : List (TransducerRule ℕ)). record { names = u.names; rules = rs }) (rules_same (AreOneTransducerRule labels labels) (rule_same labels apart) t.rules u.rules a.rules)

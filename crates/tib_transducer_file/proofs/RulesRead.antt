@@ -18,7 +18,7 @@ use Rattle.tib_grammar_file.proofs.RulesRead.{weight_read, front_read, together}
 use Rattle.tib_transducer_file.specs.Pieces.{Piece, piece, meaning, meanings}
 use Rattle.tib_transducer_file.specs.Forms.{is_stray, is_kind, takes_next, joins, left_words}
 use Rattle.tib_transducer_file.specs.Rule.{Parts, parts, has_state, SpellsRuleBy, SpellsRule, is_no_arrow, arrow_at, with_right, with_left, right_by, parts_at, parts_by, parts_of}
-use Rattle.tib_transducer_file.proofs.Formats.{IsFormat, tree_read, tree_few, trees}
+use Rattle.tib_transducer_file.specs.Formats.{IsFormat, tree_read, tree_few, trees}
 
 no_parts : (p : Parts) → ◌≡◌ {A = Option Parts} None (Some p) → ⊥
 no_parts p e = cc

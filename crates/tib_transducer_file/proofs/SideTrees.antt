@@ -1,7 +1,7 @@
 -- Items of a side that are one tree.
-use Rattle.std.proofs.Common.{◌≡◌, ℕ, ◌-◌, ◌≤◌, List, [], ◌∷◌, ◌++◌, length, get_or, take, drop, refl, ap, sym, ◌∙◌, subst, arith, Option, suc}
+use Rattle.std.proofs.Common.{◌≡◌, ℕ, ◌-◌, ◌≤◌, List, [], ◌∷◌, ◌++◌, length, map, get_or, take, drop, refl, ap, sym, ◌∙◌, subst, arith, Option, suc}
 use Rattle.std.specs.Prelude.{None}
-use Rattle.std.proofs.lemmas.List.{take-append-drop}
+use Rattle.std.proofs.lemmas.List.{take-append-drop, length-map}
 use Rattle.tib_lex.specs.Lists.{Along}
 use Rattle.tib_lex.specs.declared.token.Kind.TheVariants as token_kinds
 use Rattle.tib_tree.specs.Grows.{Grows}
@@ -89,9 +89,11 @@ pairs_long : {P : Type 0} (items : List (SideItem P)) → length (pairs_of items
 pairs_long [] = refl
 pairs_long (s ∷ items) = ap suc (pairs_long items)
 
-pub right_few : (names labels : List (List ℕ)) (numbers : List ℕ) (items : List (SideItem (Pair ℕ))) (line : List ℕ) (places : List Place) → length places ≤ most_nodes → Along (IsRightNode names labels numbers) (pairs_of items) (items_back line places) → length items ≤ most_nodes
-right_few names labels numbers items line places h a =
-    omega (arith, h, pairs_long items, along_long (IsRightNode names labels numbers) (pairs_of items) (items_back line places) a, back_long line places)
+-- as many nodes as places
+pub right_few : {N : Type 0} (symbol_of : N → Symbol ℕ (Pair ℕ) × ℕ) (names labels : List (List ℕ)) (numbers : List ℕ) (nodes : List N) (line : List ℕ) (places : List Place) → length places ≤ most_nodes → Along (IsRightNode names labels numbers) (map symbol_of nodes) (items_back line places) → length nodes ≤ most_nodes
+right_few symbol_of names labels numbers nodes line places h a =
+    let e : length (map symbol_of nodes) ≡ length nodes = length-map nodes symbol_of in
+    omega (arith, h, e, along_long (IsRightNode names labels numbers) (map symbol_of nodes) (items_back line places) a, back_long line places)
 
 -- left sides
 left_ranks : (labels : List (List ℕ)) (ss : List (Symbol ℕ Variable × ℕ)) (is : List Item) → Along (IsLeftNode labels) ss is → Along HasRank ss is

@@ -110,31 +110,32 @@ pub adds_append : (a m b : List (List ℕ)) (xs ys : List (List ℕ)) → AddsAl
 adds_append a m b [] ys h k = subst (λ (t : List (List ℕ)). AddsAll t ys b) h k
 adds_append a m b (x ∷ xs) ys (n, first, others) k = (n, first, adds_append n m b xs ys others k)
 
-pub record Placing (before names labels : List (List ℕ)) (numbers : List ℕ) (line : List ℕ) (places : List Place) (items : List (SideItem (Pair ℕ))) (i : ℕ) : Type 0 where
+-- the symbols of a right side, from the last place on
+pub record Placing (before names labels : List (List ℕ)) (numbers : List ℕ) (line : List ℕ) (places : List Place) (symbols : List (Symbol ℕ (Pair ℕ) × ℕ)) (i : ℕ) : Type 0 where
   pub within : i ≤ length places
-  pub are : Along (IsRightNode names labels numbers) (pairs_of items) (items_back line (drop i places))
+  pub are : Along (IsRightNode names labels numbers) symbols (items_back line (drop i places))
   pub states : AddsAll before (states_in (items_back line (drop i places))) names
 
-pub placing_starts : (names labels : List (List ℕ)) (numbers line : List ℕ) (places : List Place) (items : List (SideItem (Pair ℕ))) (i : ℕ) → i ≡ length places → items ≡ [] → Placing names names labels numbers line places items i
-placing_starts names labels numbers line places items i h e =
+pub placing_starts : (names labels : List (List ℕ)) (numbers line : List ℕ) (places : List Place) (symbols : List (Symbol ℕ (Pair ℕ) × ℕ)) (i : ℕ) → i ≡ length places → symbols ≡ [] → Placing names names labels numbers line places symbols i
+placing_starts names labels numbers line places symbols i h e =
     let d = sym (ap (items_back line) (drop_all i places (omega (arith, h)))) in
     record {
       within = omega (arith, h);
-      are = subst (λ (is : List Item). Along (IsRightNode names labels numbers) (pairs_of items) is) d (subst (λ (ss : List (SideItem (Pair ℕ))). Along (IsRightNode names labels numbers) (pairs_of ss) []) (sym e) tt);
+      are = subst (λ (is : List Item). Along (IsRightNode names labels numbers) symbols is) d (subst (λ (ss : List (Symbol ℕ (Pair ℕ) × ℕ)). Along (IsRightNode names labels numbers) ss []) (sym e) tt);
       states = subst (λ (is : List Item). AddsAll names (states_in is) names) d refl;
     }
 
-pub placing_goes : (z n m a b : List (List ℕ)) (numbers line : List ℕ) (places : List Place) (items then : List (SideItem (Pair ℕ))) (i : ℕ) (d : Place) (s : SideItem (Pair ℕ)) → 0 < i → Grows n m → Grows a b → then ≡ items ++ s ∷ [] → IsRightNode m b numbers (pair_of s) (item_at line (get_or places (i - 1) d)) → AddsAll n (state_before (pair_in (item_at line (get_or places (i - 1) d))) []) m → Placing z n a numbers line places items i → Placing z m b numbers line places then (i - 1)
-placing_goes z n m a b numbers line places items then i d s h f g e node adds p = record {
+pub placing_goes : (z n m a b : List (List ℕ)) (numbers line : List ℕ) (places : List Place) (symbols then : List (Symbol ℕ (Pair ℕ) × ℕ)) (i : ℕ) (d : Place) (s : Symbol ℕ (Pair ℕ) × ℕ) → 0 < i → Grows n m → Grows a b → then ≡ symbols ++ s ∷ [] → IsRightNode m b numbers s (item_at line (get_or places (i - 1) d)) → AddsAll n (state_before (pair_in (item_at line (get_or places (i - 1) d))) []) m → Placing z n a numbers line places symbols i → Placing z m b numbers line places then (i - 1)
+placing_goes z n m a b numbers line places symbols then i d s h f g e node adds p = record {
   within = omega (arith, p.within);
-  are = subst (λ (is : List Item). Along (IsRightNode m b numbers) (pairs_of then) is) (sym (back_more line places i d h p.within))
-      (subst (λ (ss : List (Symbol ℕ (Pair ℕ) × ℕ)). Along (IsRightNode m b numbers) ss (items_back line (drop i places) ++ item_at line (get_or places (i - 1) d) ∷ [])) (sym (ap pairs_of e ∙ map-append pair_of items (s ∷ [])))
-      (along_more (IsRightNode m b numbers) (pairs_of items) (items_back line (drop i places)) (pair_of s) (item_at line (get_or places (i - 1) d)) (along_changes (IsRightNode n a numbers) (IsRightNode m b numbers) (pairs_of items) (items_back line (drop i places)) (right_grows n m a b numbers f g) p.are) node));
+  are = subst (λ (is : List Item). Along (IsRightNode m b numbers) then is) (sym (back_more line places i d h p.within))
+      (subst (λ (ss : List (Symbol ℕ (Pair ℕ) × ℕ)). Along (IsRightNode m b numbers) ss (items_back line (drop i places) ++ item_at line (get_or places (i - 1) d) ∷ [])) (sym e)
+      (along_more (IsRightNode m b numbers) symbols (items_back line (drop i places)) s (item_at line (get_or places (i - 1) d)) (along_changes (IsRightNode n a numbers) (IsRightNode m b numbers) symbols (items_back line (drop i places)) (right_grows n m a b numbers f g) p.are) node));
   states = subst (λ (ss : List (List ℕ)). AddsAll z ss m)
       (sym (ap states_in (back_more line places i d h p.within) ∙ states_append (items_back line (drop i places)) (item_at line (get_or places (i - 1) d) ∷ [])))
       (adds_append z n m (states_in (items_back line (drop i places))) (state_before (pair_in (item_at line (get_or places (i - 1) d))) []) p.states adds);
 }
 
-pub placing_ends : (z names labels : List (List ℕ)) (numbers line : List ℕ) (places : List Place) (items : List (SideItem (Pair ℕ))) (i : ℕ) → i ≤ 0 → Placing z names labels numbers line places items i → Along (IsRightNode names labels numbers) (pairs_of items) (items_back line places) × AddsAll z (states_in (items_back line places)) names
-placing_ends z names labels numbers line places items zero h p = (p.are, p.states)
-placing_ends z names labels numbers line places items (suc i) h p = absurd (omega arith)
+pub placing_ends : (z names labels : List (List ℕ)) (numbers line : List ℕ) (places : List Place) (symbols : List (Symbol ℕ (Pair ℕ) × ℕ)) (i : ℕ) → i ≤ 0 → Placing z names labels numbers line places symbols i → Along (IsRightNode names labels numbers) symbols (items_back line places) × AddsAll z (states_in (items_back line places)) names
+placing_ends z names labels numbers line places symbols zero h p = (p.are, p.states)
+placing_ends z names labels numbers line places symbols (suc i) h p = absurd (omega arith)

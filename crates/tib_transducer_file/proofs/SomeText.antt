@@ -14,7 +14,7 @@ use Rattle.tib_tree.specs.Machine.{IsTree}
 use Rattle.tib_tree.specs.Nodes.{rank_of}
 use Rattle.tib_tree.specs.Trees.{preorder_of, parse, first_of, preorder-first, IsOneTree}
 use Rattle.tib_tree.specs.Written.{Item}
-use Rattle.tib_grammar.specs.Sides.{label, hole, Side}
+use Rattle.tib_grammar.specs.Sides.{Symbol, label, hole, Side}
 use Rattle.tib_grammar.specs.Items.{pairs_of, holes_in}
 use Rattle.tib_grammar.specs.declared.Item.{Item as SideItem}
 use Rattle.tib_grammar.specs.declared.Item.TheVariants.{Label, Hole}
@@ -29,14 +29,14 @@ use Rattle.tib_transducer.specs.declared.Pair.{Pair}
 use Rattle.tib_transducer.specs.declared.TransducerRule.{TransducerRule}
 use Rattle.tib_transducer_file.specs.Forms.{variable_in, pair_in}
 use Rattle.tib_transducer_file.specs.Rule.{Parts, RuleLine, state_of, label_of, numbers_in, is_unknown}
-use Rattle.tib_transducer_file.specs.Value.{IsAsked, IsLeftSymbol, IsLeftNode, IsLeftSide, IsRightSymbol, IsRightNode, IsRule, state_before, states_in, states_of}
+use Rattle.tib_transducer_file.specs.Value.{IsAsked, IsLeftSymbol, IsLeftNode, IsLeftSide, IsRightSymbol, IsRightNode, IsRule, IsRuleOf, right_text, state_before, states_in, states_of}
 use Rattle.tib_transducer_file.specs.Reading.{transducer_in}
 use Rattle.tib_transducer_file.specs.Faults.{IsFirstFault}
 use Rattle.tib_transducer_file.specs.Laws.{IsSomeText}
-use Rattle.tib_transducer_file.specs.TransducerText.{SpellsLineBy, SpellsLine, HaveStartBy}
+use Rattle.tib_transducer_file.specs.TransducerText.{SpellsLineBy, HaveStartBy}
 use Rattle.tib_transducer_file.proofs.RulesHave.{file_has, each_line_has}
 use Rattle.tib_transducer_file.proofs.FaultsOnce.{faults_exact}
-use Rattle.tib_transducer_file.proofs.Formats.{tree_words}
+use Rattle.tib_transducer_file.specs.Formats.{tree_words}
 use Rattle.tib_transducer_file.proofs.FileText.{file_held, all_small}
 use Rattle.tib_transducer_file.proofs.ShapesRead.{variable_rank, pair_rank}
 use Rattle.tib_transducer_file.proofs.SideTrees.{HasRank, are_one}
@@ -62,10 +62,6 @@ one_or_none (Some text) = text ∷ []
 abbrev left_text : Option (ℕ × Option (List ℕ)) → List ℕ → List (List ℕ)
 left_text None text = text ∷ []
 left_text (Some v) text = one_or_none v.1
-
-abbrev pub right_text : Option (List ℕ × ℕ) → List ℕ → List (List ℕ)
-right_text None text = text ∷ []
-right_text (Some q) text = []
 
 abbrev pub left_texts : List Item → List (List ℕ)
 left_texts [] = []
@@ -160,32 +156,6 @@ right_items names labels numbers (i ∷ is) h s u =
 pub side_of : {P : Type 0} (items : List (SideItem P)) → IsOneTree (pairs_of items) → (s : Side ℕ P) × (preorder_of s ≡ pairs_of items)
 side_of items one = (first_of (label 0) (parse (pairs_of items)), preorder-first (label 0) (pairs_of items) one)
 
--- a line stands for a rule
-a_rule : (scale : Scale) (names labels : List (List ℕ)) (bytes : List ℕ) (line : RuleLine) → SpellsLine scale bytes line → HasAll labels (rule_texts line.parts) → HasAll names (state_of line.parts ∷ states_in line.parts.right) → (r : TransducerRule ℕ) × IsRule names labels r line
-a_rule scale names labels bytes line spells h s =
-    let p : Parts = line.parts in
-    let spelled = spells.parts.spells in
-    let state = numbered names (state_of p) (s (state_of p) (inl refl)) in
-    let root = numbered labels (label_of p) (h (label_of p) (inl refl)) in
-    let below = left_items labels 0 p.below (λ t k. h t (inr (has_left (left_texts p.below) (right_texts p.right) t k))) in
-    let right = right_items names labels (numbers_in p.below) p.right (λ t k. h t (inr (has_right (left_texts p.below) (right_texts p.right) t k))) (λ t k. s t (inr k)) spells.known in
-    let items : List (SideItem Variable) = Label root.0 (rank_of p.root.kids) ∷ below.items in
-    let left_one = are_one (pairs_of items) (p.root ∷ p.below) (tree_words _ (p.root ∷ p.below) spelled.left)
-    (refl, along_changes (IsLeftNode labels) HasRank (pairs_of below.items) p.below (λ s i n. n.1) below.are) in
-    let right_one = are_one (pairs_of right.0) p.right (tree_words _ p.right spelled.right) (along_changes (IsRightNode names labels (numbers_in p.below)) HasRank (pairs_of right.0) p.right (λ s i n. n.1) right.1) in
-    let left_side = side_of items left_one in
-    let right_side = side_of right.0 right_one in
-    let is_left : IsLeftSide labels (pairs_of items) p = ((root.1, refl), below.are) in (
-      record { state = state.0; left = left_side.0; right = right_side.0; cost = line.cost },
-      record {
-        state = state.1;
-        left = subst (λ ss. IsLeftSide labels ss p) (sym left_side.1) is_left;
-        numbered = subst (λ (xs : List Variable). AreNumbered 0 xs) (sym (holes_of_items items left_side.0 (sym left_side.1))) below.numbered;
-        right = subst (λ ss. Along (IsRightNode names labels (numbers_in p.below)) ss p.right) (sym right_side.1) right.1;
-        cost = refl;
-      },
-    )
-
 -- the lines that were read
 abbrev pub IsSpelled : (List Word → List Item → Type 0) → Scale → RuleLine → Type 0
 IsSpelled Right scale rule = (line : List ℕ) × SpellsLineBy Right scale line rule
@@ -195,12 +165,55 @@ pub file_spelled : (Right : List Word → List Item → Type 0) (scale : Scale) 
 file_spelled Right scale lines start rules h =
     file_has {Right = Right} (λ line. Unit {0}) (IsSpelled Right scale) scale (λ line rule p s. (line, s)) lines start rules (each_line_has lines) h
 
-some_rules : (scale : Scale) (names labels : List (List ℕ)) (lines : List RuleLine) → Each (IsSpelled IsTree scale) lines → HasAll labels (file_texts lines) → HasAll names (states_of lines) → (rs : List (TransducerRule ℕ)) × Along (IsRule names labels) rs lines
-some_rules scale names labels [] spelled h s = ([], tt)
-some_rules scale names labels (line ∷ lines) spelled h s =
-    let r = a_rule scale names labels spelled.0.0 line spelled.0.1 (λ t k. h t (has_left (rule_texts line.parts) (file_texts lines) t k))
+-- the parts of a rule beside its right side, for which a line stands
+pub record RuleParts (names labels : List (List ℕ)) (line : RuleLine) (puts : List (Symbol ℕ (Pair ℕ) × ℕ)) : Type 0 where
+  pub state : ℕ
+  pub left : Side ℕ Variable
+  pub is : IsRuleOf names labels state left puts line.cost line
+
+pub some_parts : (Right : List Word → List Item → Type 0) (scale : Scale) (names labels : List (List ℕ)) (bytes : List ℕ) (line : RuleLine) (puts : List (Symbol ℕ (Pair ℕ) × ℕ)) → SpellsLineBy Right scale bytes line → HasAll labels (rule_texts line.parts) → HasAll names (state_of line.parts ∷ states_in line.parts.right) →
+    Along (IsRightNode names labels (numbers_in line.parts.below)) puts line.parts.right → RuleParts names labels line puts
+some_parts Right scale names labels bytes line puts spells h s right =
+    let p : Parts = line.parts in
+    let state = numbered names (state_of p) (s (state_of p) (inl refl)) in
+    let root = numbered labels (label_of p) (h (label_of p) (inl refl)) in
+    let below = left_items labels 0 p.below (λ t k. h t (inr (has_left (left_texts p.below) (right_texts p.right) t k))) in
+    let items : List (SideItem Variable) = Label root.0 (rank_of p.root.kids) ∷ below.items in
+    let one = are_one (pairs_of items) (p.root ∷ p.below) (tree_words _ (p.root ∷ p.below) spells.parts.spells.left)
+    (refl, along_changes (IsLeftNode labels) HasRank (pairs_of below.items) p.below (λ s i n. n.1) below.are) in
+    let left = side_of items one in
+    let is_left : IsLeftSide labels (pairs_of items) p = ((root.1, refl), below.are) in
+    record {
+      state = state.0;
+      left = left.0;
+      is = record {
+        state = state.1;
+        left = subst (λ ss. IsLeftSide labels ss p) (sym left.1) is_left;
+        numbered = subst (λ (xs : List Variable). AreNumbered 0 xs) (sym (holes_of_items items left.0 (sym left.1))) below.numbered;
+        right = right;
+        cost = refl;
+      };
+    }
+
+-- a line stands for a rule
+a_rule : (scale : Scale) (names labels : List (List ℕ)) (line : RuleLine) → IsSpelled IsTree scale line → HasAll labels (rule_texts line.parts) → HasAll names (state_of line.parts ∷ states_in line.parts.right) → (r : TransducerRule ℕ) × IsRule names labels r line
+a_rule scale names labels line (bytes, spells) h s =
+    let p : Parts = line.parts in
+    let right = right_items names labels (numbers_in p.below) p.right (λ t k. h t (inr (has_right (left_texts p.below) (right_texts p.right) t k))) (λ t k. s t (inr k)) spells.known in
+    let one = are_one (pairs_of right.0) p.right (tree_words _ p.right spells.parts.spells.right) (along_changes (IsRightNode names labels (numbers_in p.below)) HasRank (pairs_of right.0) p.right (λ s i n. n.1) right.1) in
+    let side = side_of right.0 one in
+    let parts = some_parts IsTree scale names labels bytes line (preorder_of side.0) spells h s (subst (λ ss. Along (IsRightNode names labels (numbers_in p.below)) ss p.right) (sym side.1) right.1) in
+    (record { state = parts.state; left = parts.left; right = side.0; cost = line.cost }, parts.is)
+
+-- lines that stand for rules, one by one
+pub some_rules : {R : Type 0} (Is : R → RuleLine → Type 0) (Right : List Word → List Item → Type 0) (scale : Scale) (names labels : List (List ℕ)) →
+    ((line : RuleLine) → IsSpelled Right scale line → HasAll labels (rule_texts line.parts) → HasAll names (state_of line.parts ∷ states_in line.parts.right) → (r : R) × Is r line) →
+    (lines : List RuleLine) → Each (IsSpelled Right scale) lines → HasAll labels (file_texts lines) → HasAll names (states_of lines) → (rs : List R) × Along Is rs lines
+some_rules Is Right scale names labels one [] spelled h s = ([], tt)
+some_rules Is Right scale names labels one (line ∷ lines) spelled h s =
+    let r = one line spelled.0 (λ t k. h t (has_left (rule_texts line.parts) (file_texts lines) t k))
     (λ t k. s t (has_left (state_of line.parts ∷ states_in line.parts.right) (states_of lines) t k)) in
-    let more = some_rules scale names labels lines spelled.1 (λ t k. h t (has_right (rule_texts line.parts) (file_texts lines) t k))
+    let more = some_rules Is Right scale names labels one lines spelled.1 (λ t k. h t (has_right (rule_texts line.parts) (file_texts lines) t k))
     (λ t k. s t (has_right (state_of line.parts ∷ states_in line.parts.right) (states_of lines) t k)) in
     (r.0 ∷ more.0, (r.1, more.1))
 
@@ -210,7 +223,7 @@ some_text scale bytes start lines e =
     let held = file_held scale 1 (lines_of bytes) start lines e in
     let n = gathered [] (start ∷ states_of lines) in
     let l = gathered [] (file_texts lines) in
-    let rs = some_rules scale n.0 l.0 lines (file_spelled IsTree scale (lines_of bytes) start lines held.have)
+    let rs = some_rules (IsRule n.0 l.0) IsTree scale n.0 l.0 (a_rule scale n.0 l.0) lines (file_spelled IsTree scale (lines_of bytes) start lines held.have)
     (all_added [] (file_texts lines) l.0 l.1) (λ t k. all_added [] (start ∷ states_of lines) n.0 n.1 t (inr k)) in
     let t : TransducerOf = record { names = n.0; rules = rs.0 } in (
       l.0,

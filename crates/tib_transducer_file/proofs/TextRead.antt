@@ -13,7 +13,7 @@ use Rattle.tib_transducer_file.specs.Rule.{Parts, parts_by, RuleLine, rule_line_
 use Rattle.tib_transducer_file.specs.TransducerText.{HasPartsBy, SpellsLineBy}
 use Rattle.tib_transducer_file.proofs.PiecesHad.{pieces_had}
 use Rattle.tib_transducer_file.proofs.RulesRead.{spelled_back}
-use Rattle.tib_transducer_file.proofs.Formats.{IsFormat}
+use Rattle.tib_transducer_file.specs.Formats.{IsFormat}
 
 -- what a line that is read without a fault holds
 abbrev pub LineHolds : (List Word → List Item → Type 0) → Scale → List ℕ → Result (Option RuleLine) FaultKind → Type 0

@@ -10,6 +10,8 @@ pub mod Sides
 pub mod Built
 pub mod Begins
 pub mod Reader
+pub mod Formats
+pub mod FileHeld
 pub mod ByText
 pub mod Laws
 pub mod Labelled

@@ -1,18 +1,22 @@
 -- What was read of a line before its rule is made, whatever its right side is.
 use Rattle.tib_cost.specs.declared.Scale.{Scale}
 use Rattle.std.specs.Prelude.{◌≡◌, ◌+◌, ◌≤◌, ℕ, List, length, false, Option, Some, None, Result, Ok, Err}
+use Rattle.std.specs.List.{All}
 use Rattle.tib_lex.specs.declared.fault.LineError.{LineError}
 use Rattle.tib_lex.specs.declared.fault.LineError.TheVariants as errors
 use Rattle.tib_lex.specs.Grammar.{Word}
-use Rattle.tib_tree.specs.Machine.{nodes_of}
+use Rattle.tib_lex.specs.Lists.{Along}
 use Rattle.tib_tree.specs.Written.{Item}
 use Rattle.tib_tree.specs.Shape.{items_back}
 use Rattle.tib_tree.specs.Trees.{most_nodes}
 use Rattle.tib_tree.specs.declared.shape.Place.{Place}
+use Rattle.tib_grammar.specs.Sides.{Symbol}
 use Rattle.tib_grammar_file.specs.Found.{text_at}
+use Rattle.tib_transducer.specs.declared.Pair.{Pair}
 use Rattle.tib_transducer_file.specs.Rule.{Parts, has_unknown, numbers_in, checked, rule_line_by, rule_line_of}
 use Rattle.tib_transducer_file.specs.Found.{FoundIn, parts_with}
 use Rattle.tib_transducer_file.specs.Built.{AreOneTree}
+use Rattle.tib_transducer_file.specs.Value.{IsRightNode}
 use Rattle.tib_transducer_file.specs.declared.parts.Found.{Found}
 
 -- the parts of a rule that was found
@@ -37,15 +41,25 @@ IsFoundBy read Holds line left right (Err (errors.Fault kind)) =
     (scale : Scale) → rule_line_by read scale line ≡ Err kind
 IsFoundBy read Holds line left right (Err errors.OutOfMemory) = Unit {0}
 
--- these with a tree on the right
-abbrev pub IsTreeAt : List ℕ → List Place → Type 0
-IsTreeAt line right = AreOneTree (items_back line right)
+-- what holds of a right side: of its items together, and of the place of each
+abbrev pub IsRightAt : (List Item → Type 0) → (Place → Type 0) → List ℕ → List Place → Type 0
+IsRightAt IsWhole IsNode line right = IsWhole (items_back line right) × All IsNode right
 
-abbrev pub FoundRule : List ℕ → List Place → List Place → Found → Type 0
-FoundRule line left right f = FoundRuleBy nodes_of IsTreeAt line left right f
+-- symbols stand for the items of one right side, over some tables and some variables
+pub record IsWholeSide (IsWhole : List Item → Type 0) (symbols : List (Symbol ℕ (Pair ℕ) × ℕ)) :
+    Type 0 where
+  pub names : List (List ℕ)
+  pub labels : List (List ℕ)
+  pub numbers : List ℕ
+  pub items : List Item
+  pub whole : IsWhole items
+  pub are : Along (IsRightNode names labels numbers) symbols items
 
-abbrev pub IsFound : List ℕ → List Place → List Place → Result (Option Found) LineError → Type 0
-IsFound line left right found = IsFoundBy nodes_of IsTreeAt line left right found
+-- where something was found, this holds of its right side
+abbrev pub HoldsFound : (List ℕ → List Place → Type 0) →
+    List ℕ → List Place → Option Found → Type 0
+HoldsFound Holds line right None = Unit {0}
+HoldsFound Holds line right (Some f) = Holds line right
 
 -- a rule without a fault, of this cost
 pub record GoodRule (scale : Scale) (p : Parts) (numbers : List ℕ) (left right : List Place) (cost : ℕ) : Type 0 where

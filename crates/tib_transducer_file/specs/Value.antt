@@ -4,7 +4,7 @@ use Rattle.tib_lex.specs.Lists.{Along}
 use Rattle.tib_tree.specs.Written.{Item}
 use Rattle.tib_tree.specs.Nodes.{rank_of}
 use Rattle.tib_tree.specs.Trees.{preorder_of}
-use Rattle.tib_grammar.specs.Sides.{Symbol, label, hole}
+use Rattle.tib_grammar.specs.Sides.{Symbol, Side, label, hole}
 use Rattle.tib_transducer.specs.Range.{AreNumbered}
 use Rattle.tib_transducer.specs.Rules.{variables_of}
 use Rattle.tib_transducer.specs.declared.Variable.{Variable}
@@ -49,13 +49,46 @@ abbrev pub IsLeftSide : List (List ℕ) → List (Symbol ℕ Variable × ℕ) �
 IsLeftSide labels [] p = ⊥
 IsLeftSide labels (s ∷ ss) p = IsRootItem labels s (label_of p) p.root.kids × Along (IsLeftNode labels) ss p.below
 
--- A rule stands for what its line says. Its variables are numbered anew, 0, 1, 2 and so on in preorder of the left side.
-pub record IsRule (names labels : List (List ℕ)) (rule : TransducerRule ℕ) (line : RuleLine) : Type 0 where
-  pub state : slice_get names rule.state ≡ Some (state_of line.parts)
-  pub left : IsLeftSide labels (preorder_of rule.left) line.parts
-  pub numbered : AreNumbered 0 (variables_of rule.left)
-  pub right : Along (IsRightNode names labels (numbers_in line.parts.below)) (preorder_of rule.right) line.parts.right
-  pub cost : rule.cost ≡ line.cost
+-- A rule of these parts stands for what its line says, whatever holds the nodes of its right side. Its variables are numbered anew,
+-- 0, 1, 2 and so on in preorder of the left side.
+pub record IsRuleOf (names labels : List (List ℕ)) (from : ℕ) (reads : Side ℕ Variable)
+    (puts : List (Symbol ℕ (Pair ℕ) × ℕ)) (costs : ℕ) (line : RuleLine) : Type 0 where
+  pub state : slice_get names from ≡ Some (state_of line.parts)
+  pub left : IsLeftSide labels (preorder_of reads) line.parts
+  pub numbered : AreNumbered 0 (variables_of reads)
+  pub right : Along (IsRightNode names labels (numbers_in line.parts.below)) puts line.parts.right
+  pub cost : costs ≡ line.cost
+
+-- with a tree on the right
+abbrev pub IsRule : List (List ℕ) → List (List ℕ) → TransducerRule ℕ → RuleLine → Type 0
+IsRule names labels rule line =
+    IsRuleOf names labels rule.state rule.left (preorder_of rule.right) rule.cost line
+
+-- the parts of a rule, of whatever kind it is
+pub record RuleView : Type 0 where
+  pub state : ℕ
+  pub left : Side ℕ Variable
+  pub right : List (Symbol ℕ (Pair ℕ) × ℕ)
+  pub cost : ℕ
+
+abbrev pub view_of : ℕ → Side ℕ Variable → List (Symbol ℕ (Pair ℕ) × ℕ) → ℕ → RuleView
+view_of state left right cost = record { state = state; left = left; right = right; cost = cost }
+
+abbrev pub IsViewed : List (List ℕ) → List (List ℕ) → RuleView → RuleLine → Type 0
+IsViewed names labels v line = IsRuleOf names labels v.state v.left v.right v.cost line
+
+-- a rule stands for its line, by its parts
+abbrev pub IsRuleBy : {R : Type 0} → (R → RuleView) →
+    List (List ℕ) → List (List ℕ) → R → RuleLine → Type 0
+IsRuleBy view names labels rule line = IsViewed names labels (view rule) line
+
+abbrev pub tree_view : TransducerRule ℕ → RuleView
+tree_view rule = view_of rule.state rule.left (preorder_of rule.right) rule.cost
+
+-- the text of the label that a node of a right side is, if it is no pair
+abbrev pub right_text : Option (List ℕ × ℕ) → List ℕ → List (List ℕ)
+right_text None text = text ∷ []
+right_text (Some q) text = []
 
 -- the states of some items, and those of lines, as they stand from left to right
 abbrev pub state_before : Option (List ℕ × ℕ) → List (List ℕ) → List (List ℕ)

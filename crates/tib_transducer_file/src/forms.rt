@@ -12,8 +12,8 @@ ghost use Rattle.tib_transducer_file.specs.Found.{bytes_at, variable_at, pair_at
 use tib_lex::{Kind, Token, is_name};
 use tib_tree::Place;
 
-/// The bytes of a token.
-pub fn bytes_of(line: &[u8], token: Token) -> &[u8]
+// The bytes of a token.
+fn bytes_of(line: &[u8], token: Token) -> &[u8]
     requires { Lies (length line.now) token }
     ensures { result.now ≡ slice_range line.now token.start token.end }
 {
@@ -79,27 +79,27 @@ fn number_of(text: &[u8], size: usize) -> u32
 
 /// The tokens of a variable: its number, and the label that it asks for.
 #[derive(Clone, Copy, Debug)]
-pub struct VariableToken {
+pub(crate) struct VariableToken {
     pub number: u32,
     pub label: Option<Token>,
 }
 
 /// The tokens of a pair: its state, and the number of its variable.
 #[derive(Clone, Copy, Debug)]
-pub struct PairToken {
+pub(crate) struct PairToken {
     pub state: Token,
     pub number: u32,
 }
 
-/// The tokens of a root: its state, and what stands behind the full stop.
+/// The tokens of a root: its state, and what follows the full stop.
 #[derive(Clone, Copy, Debug)]
-pub struct RootToken {
+pub(crate) struct RootToken {
     pub state: Token,
     pub behind: Token,
 }
 
 /// The token of a label that is written as it stands or in quotes.
-pub fn label_token(line: &[u8], start: u32, end: u32) -> Token
+pub(crate) fn label_token(line: &[u8], start: u32, end: u32) -> Token
     requires some { start < end }
     requires within { end ≤ length line.now }
     ensures text { text_of (word_at line.now result) ≡ written_label
@@ -112,7 +112,7 @@ pub fn label_token(line: &[u8], start: u32, end: u32) -> Token
 }
 
 /// The variable that a token is, by its bytes.
-pub fn variable_of(line: &[u8], token: Token) -> Option<VariableToken>
+pub(crate) fn variable_of(line: &[u8], token: Token) -> Option<VariableToken>
     requires { Lies (length line.now) token }
     ensures variable { option_map (variable_at line.now) result
         ≡ spec_variable_of (bytes_at line.now token) }
@@ -164,8 +164,8 @@ fn stop_at(text: &[u8]) -> usize
     at
 }
 
-/// The pair that a token is, by its bytes.
-pub fn pair_of(line: &[u8], token: Token) -> Option<PairToken>
+// The pair that a token is, by its bytes.
+fn pair_of(line: &[u8], token: Token) -> Option<PairToken>
     requires { Lies (length line.now) token }
     ensures pair { option_map (pair_at line.now) result ≡ spec_pair_of (bytes_at line.now token) }
     ensures lies { IfSome result (λ q. Lies (length line.now) q.state) }
@@ -196,7 +196,7 @@ pub fn pair_of(line: &[u8], token: Token) -> Option<PairToken>
 }
 
 /// The root that a token is, by its bytes: a state's name, a full stop, and something behind it.
-pub fn root_of(line: &[u8], token: Token) -> Option<RootToken>
+pub(crate) fn root_of(line: &[u8], token: Token) -> Option<RootToken>
     requires { Lies (length line.now) token }
     ensures root { is_some result ≡ is_root (bytes_at line.now token) }
     ensures tokens { IfSome result (λ root. IsRootAt line.now (bytes_at line.now token) root) }
@@ -225,7 +225,7 @@ pub fn root_of(line: &[u8], token: Token) -> Option<RootToken>
 }
 
 /// Whether the first full stop of a token is its last byte.
-pub fn ends_with_stop(line: &[u8], token: Token) -> bool
+pub(crate) fn ends_with_stop(line: &[u8], token: Token) -> bool
     requires { Lies (length line.now) token }
     ensures { result ≡ spec_ends_with_stop (bytes_at line.now token) }
 {
@@ -234,7 +234,7 @@ pub fn ends_with_stop(line: &[u8], token: Token) -> bool
 }
 
 /// Whether a token is a variable that ends with a colon.
-pub fn ends_with_colon(line: &[u8], token: Token) -> bool
+pub(crate) fn ends_with_colon(line: &[u8], token: Token) -> bool
     requires { Lies (length line.now) token }
     ensures { result ≡ spec_ends_with_colon (bytes_at line.now token) }
 {
@@ -262,7 +262,7 @@ fn leaf_token(place: Place) -> Option<Token>
 }
 
 /// The variable that a place of a left side below its root is.
-pub fn variable_in(line: &[u8], place: Place) -> Option<VariableToken>
+pub(crate) fn variable_in(line: &[u8], place: Place) -> Option<VariableToken>
     requires { PlaceLies (length line.now) place }
     ensures variable { option_map (variable_at line.now) result
         ≡ spec_variable_in (item_at line.now place) }
@@ -275,7 +275,7 @@ pub fn variable_in(line: &[u8], place: Place) -> Option<VariableToken>
 }
 
 /// The pair that a place of a right side is.
-pub fn pair_in(line: &[u8], place: Place) -> Option<PairToken>
+pub(crate) fn pair_in(line: &[u8], place: Place) -> Option<PairToken>
     requires { PlaceLies (length line.now) place }
     ensures pair { option_map (pair_at line.now) result ≡ spec_pair_in (item_at line.now place) }
     ensures lies { IfSome result (λ q. Lies (length line.now) q.state) }
@@ -287,7 +287,7 @@ pub fn pair_in(line: &[u8], place: Place) -> Option<PairToken>
 }
 
 /// Whether a place of a right side would be a variable of a left side.
-pub fn is_stray(line: &[u8], place: Place) -> bool
+pub(crate) fn is_stray(line: &[u8], place: Place) -> bool
     requires { PlaceLies (length line.now) place }
     ensures { result ≡ spec_is_stray (item_at line.now place) }
 {

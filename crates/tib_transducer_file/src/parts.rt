@@ -10,13 +10,15 @@ ghost use Rattle.tib_tree.specs.Machine.{nodes_of};
 ghost use Rattle.tib_tree.specs.Written.{Item};
 ghost use Rattle.tib_transducer_file.specs.Pieces.{pieces_at};
 ghost use Rattle.tib_transducer_file.specs.Forms.{joins, left_words, is_kind, is_stray as spec_is_stray, takes as spec_takes, opens as spec_opens, pair_in as spec_pair_in};
-ghost use Rattle.tib_transducer_file.specs.Rule.{parts_of, numbers_in, is_unknown};
+ghost use Rattle.tib_transducer_file.specs.Rule.{parts_by, numbers_in, is_unknown};
+ghost use Rattle.tib_transducer_file.specs.Reader.{HoldsFound, IsRightAt};
 ghost use Rattle.tib_transducer_file.specs.Found.{bytes_at, found_parts, FoundLies, parts_with, IsChecked, IsRootAt, IsLeftFound, AreNumbers, is_lone_root};
 
 use crate::forms::{
     RootToken, ends_with_colon, ends_with_stop, is_stray, pair_in, root_of, variable_in,
     variable_of,
 };
+use crate::right::RightReader;
 use indexmap::IndexSet;
 use std::alloc::AllocError;
 use tib_grammar_file::{tree_tokens, weight_of};
@@ -25,7 +27,7 @@ use tib_tree::{Place, Reader};
 
 /// The tokens of a rule's root and of its weight.
 #[derive(Clone, Copy, Debug)]
-pub struct Found {
+pub(crate) struct Found {
     pub root: RootToken,
     pub weight: Option<Token>,
 }
@@ -138,8 +140,8 @@ fn read_root(line: &[u8], places: &[Place]) -> Option<RootToken>
     }
 }
 
-/// Reads the tree of a left side, whose places are then the reader's, if its root has a state.
-pub fn read_left(
+// Reads the tree of a left side, whose places are then the reader's, if its root has a state.
+fn read_left(
     line: &[u8],
     tokens: &[Token],
     words: &mut Vec<Token>,
@@ -157,9 +159,9 @@ pub fn read_left(
     Ok(read_root(line, &reader.places))
 }
 
-/// Where the first arrow stands; behind all tokens if there is none.
+// Where the first arrow stands; behind all tokens if there is none.
 #[tactic(auto, using(crate::proofs::Joins::arrow_on, crate::proofs::Joins::arrow_here))]
-pub fn arrow_at(tokens: &[Token]) -> usize
+fn arrow_at(tokens: &[Token]) -> usize
     ensures place { result ≡ prefix_len (λ t. not (is_kind kinds.Arrow t.kind)) tokens.now }
     ensures within { result ≤ length tokens.now }
 {
@@ -179,8 +181,8 @@ fn is_arrow(token: Token) -> bool
     }
 }
 
-/// Whether a leaf of a right side would be a variable of a left side.
-pub fn has_stray(line: &[u8], places: &[Place]) -> bool
+// Whether a leaf of a right side would be a variable of a left side.
+fn has_stray(line: &[u8], places: &[Place]) -> bool
     requires { All (PlaceLies (length line.now)) places.now }
     ensures { result ≡ list_any spec_is_stray (items_back line.now places.now) }
 {
@@ -192,20 +194,23 @@ pub fn has_stray(line: &[u8], places: &[Place]) -> bool
     false
 }
 
-/// Reads the trees of both sides, and finds the root's state and the weight.
-pub(crate) fn find_parts(
+/// Reads both sides of a rule line, if its tokens are one, and finds the root's state and the weight. An error comes only where memory is
+/// refused. It takes time in proportion to the tokens.
+pub(crate) fn find_parts<R: RightReader>(
     line: &[u8],
     tokens: &[Token],
     words: &mut Vec<Token>,
     left: &mut Reader,
-    right: &mut Reader,
+    right: &mut R,
 ) -> Result<Option<Found>, AllocError>
     requires few { length tokens.now < 2 ^ 32 - 1 }
     requires lie { All (Lies (length line.now)) tokens.now }
-    ensures parts { IfOk result (λ found. parts_of (pieces_at line.now 0 tokens.now)
-        ≡ found_parts line.now left.new.places.items right.new.places.items found) }
+    ensures parts { IfOk result (λ found. parts_by R.reads (pieces_at line.now 0 tokens.now)
+        ≡ found_parts line.now left.new.places.items (R.places_of right.new) found) }
     ensures lies { IfOk result (λ found. FoundLies line.now left.new.places.items
-        right.new.places.items found) }
+        (R.places_of right.new) found) }
+    ensures right { IfOk result (λ found. HoldsFound (IsRightAt R.is_whole R.is_node) line.now
+        (R.places_of right.new) found) }
 {
     let arrow = arrow_at(tokens);
     if arrow == tokens.len() {
@@ -216,10 +221,10 @@ pub(crate) fn find_parts(
     };
     let back = &tokens[arrow + 1..];
     let weight = weight_of(back);
-    if !right.read(tree_tokens(back, weight))? {
+    if !right.read_right(line, tree_tokens(back, weight))? {
         return Ok(None);
     }
-    if has_stray(line, &right.places) {
+    if has_stray(line, right.places()) {
         return Ok(None);
     }
     Ok(Some(Found { root, weight }))
@@ -283,8 +288,9 @@ fn has_unknown(line: &[u8], places: &[Place], variables: &IndexSet<u32>) -> bool
     false
 }
 
-/// Reads the numbers of the variables, if the rule uses them well; else its first fault.
-pub fn check_variables(
+/// Reads the numbers of the variables of the left side, if the rule uses them well; else the fault is the first of them. It takes time in
+/// proportion to both sides.
+pub(crate) fn check_variables(
     line: &[u8],
     left: &[Place],
     right: &[Place],

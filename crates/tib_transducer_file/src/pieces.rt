@@ -1,5 +1,5 @@
 // The tokens of a line.
-ghost use Rattle.std.specs.Prelude.{◌≡◌, ◌≤◌, ℕ, length, IfOk, Some, None, if◌then◌else◌, All};
+ghost use Rattle.std.specs.Prelude.{◌≡◌, ◌≤◌, length, IfOk, Some, None, if◌then◌else◌, All};
 ghost use Rattle.tib_io.specs.Reads.{most_bytes};
 ghost use Rattle.tib_lex.specs.Line.{Lies};
 ghost use Rattle.tib_transducer_file.specs.Pieces.{pieces_of, pieces_at};
@@ -7,8 +7,8 @@ ghost use Rattle.tib_transducer_file.specs.Pieces.{pieces_of, pieces_at};
 use std::alloc::AllocError;
 use tib_lex::{Lexed, Token, next_token};
 
-/// Reads the tokens of a line, if none is bad.
-pub fn read_pieces(line: &[u8], tokens: &mut Vec<Token>) -> Result<bool, AllocError>
+/// Reads the tokens of a line, if none is bad. An error comes only where memory is refused. It takes time in proportion to the line.
+pub(crate) fn read_pieces(line: &[u8], tokens: &mut Vec<Token>) -> Result<bool, AllocError>
     requires { length line.now ≤ most_bytes }
     ensures pieces { IfOk result (λ ok. pieces_of line.now
         ≡ (if ok then Some (pieces_at line.now 0 tokens.new.items) else None)) }

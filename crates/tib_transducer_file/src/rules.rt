@@ -1,41 +1,41 @@
-// The rules of a file.
-ghost use Rattle.std.specs.Prelude.{◌≡◌, ◌≤◌, ◌<◌, ◌+◌, ◌-◌, ◌^◌, length, drop, IfOk};
+// The rules of a file, whatever stands on their right.
+ghost use Rattle.std.specs.Prelude.{◌≤◌, ◌<◌, ◌+◌, ◌-◌, ◌^◌, length, drop, IfOk};
 ghost use Rattle.indexmap.specs.IndexSet.{keys};
 ghost use Rattle.tib_io.specs.Reads.{most_bytes};
 ghost use Rattle.tib_cost.specs.declared.Scale.{Scale};
 ghost use Rattle.tib_lex.specs.Lines.{lines_of, each_line, HasNoFeed};
 ghost use Rattle.tib_tree.specs.Grows.{Grows};
-ghost use Rattle.tib_transducer_file.specs.Rule.{rule_line, rule_line_of};
-ghost use Rattle.tib_transducer_file.specs.Value.{IsRule};
+ghost use Rattle.tib_transducer_file.specs.Rule.{rule_line_by, rule_line_of};
+ghost use Rattle.tib_transducer_file.specs.Value.{IsRuleBy};
 ghost use Rattle.tib_transducer_file.specs.Found.{FoundIn};
 ghost use Rattle.tib_transducer_file.specs.Built.{AddsLine, AddsStates, AreFileRules};
-ghost use Rattle.tib_transducer_file.specs.Reader.{FoundRule, GoodRule, IsFound, IsGood, parts_found};
+ghost use Rattle.tib_transducer_file.specs.Reader.{FoundRuleBy, GoodRule, IsFoundBy, IsGood, IsRightAt, parts_found};
 
 use crate::parts::{Found, check_variables, find_parts};
 use crate::pieces::read_pieces;
-use crate::sides::{read_left, read_right};
+use crate::right::RightReader;
+use crate::sides::{read_left, right_nodes};
 use indexmap::IndexSet;
 use std::alloc::{AllocError, Global};
 use tib_cost::{Cost, Scale};
 use tib_grammar_file::{read_cost, read_name};
 use tib_lex::{FaultKind, LineError, ReadError, Token, file_error, line_bytes, next_line};
-use tib_transducer::TransducerRule;
 use tib_tree::{Labels, MOST_NODES, Place, Reader};
 
-/// Reads rule lines of a transducer file, with room that is used again for each.
+// Reads rule lines of a transducer file, with room that is used again for each.
 #[derive(Drop)]
-pub(crate) struct RuleReader {
+struct RuleReader<R> {
     pub tokens: Vec<Token>,
     pub words: Vec<Token>,
     pub left: Reader,
-    pub right: Reader,
+    pub right: R,
     pub variables: IndexSet<u32>,
     pub text: Vec<u8>,
     pub alloc: Global,
 }
 
 // The rule of what was found in a line.
-fn build(
+fn build<R: RightReader>(
     alloc: Global,
     line: &[u8],
     left: &[Place],
@@ -46,14 +46,15 @@ fn build(
     names: &mut Labels,
     labels: &mut Labels,
     text: &mut Vec<u8>,
-) -> Result<TransducerRule<u32>, AllocError>
-    requires found { FoundRule line.now left.now right.now found.now }
+) -> Result<R::Rule, AllocError>
+    requires found { FoundRuleBy R.reads (IsRightAt R.is_whole R.is_node) line.now left.now
+        right.now found.now }
     requires good { (scale : Scale) × GoodRule scale (parts_found line.now left.now right.now
         found.now) (keys variables.now) left.now right.now cost }
     requires plain { HasNoFeed line.now }
     requires names { length names.old + length line.now < 2 ^ 32 - 1 }
     requires labels { length labels.old + length line.now < 2 ^ 32 - 1 }
-    ensures rule { IfOk result (λ r. IsRule names.new labels.new r
+    ensures rule { IfOk result (λ r. IsRuleBy R.view names.new labels.new r
         (rule_line_of (parts_found line.now left.now right.now found.now) cost)) }
     ensures adds { IfOk result (λ _. AddsStates names.old
         (parts_found line.now left.now right.now found.now) names.new) }
@@ -64,17 +65,13 @@ fn build(
 {
     let state = read_name(line, found.root.state, names, text)?;
     let left = read_left(alloc, line, left, found.root, labels, text)?;
-    let right = read_right(alloc, line, right, variables, names, labels, text)?;
-    Ok(TransducerRule {
-        state,
-        left,
-        right,
-        cost,
-    })
+    let nodes = right_nodes::<R>(alloc, line, right, variables, names, labels, text)?;
+    Ok(R::rule(state, left, nodes, cost))
 }
 
-/// The cost of a rule whose variables are well used and whose sides are not too large; else its first fault.
-pub fn check(
+// The cost of a rule whose variables are well used and whose sides are not too large, and then its variables are those of its left side;
+// else its first fault.
+fn check(
     scale: Scale,
     line: &[u8],
     left: &[Place],
@@ -104,13 +101,13 @@ pub fn check(
     Ok(cost)
 }
 
-impl RuleReader {
-    fn new(alloc: Global) -> RuleReader {
+impl<R: RightReader> RuleReader<R> {
+    fn new(alloc: Global) -> RuleReader<R> {
         RuleReader {
             tokens: Vec::new(alloc),
             words: Vec::new(alloc),
             left: Reader::new(alloc),
-            right: Reader::new(alloc),
+            right: R::new(alloc),
             variables: IndexSet::new(alloc),
             text: Vec::new(alloc),
             alloc,
@@ -120,7 +117,8 @@ impl RuleReader {
     /// What is found in a line, if it has tokens.
     fn find(&mut self, line: &[u8]) -> Result<Option<Found>, LineError>
         requires { length line.now ≤ most_bytes }
-        ensures { IsFound line.now self.new.left.places.items self.new.right.places.items result }
+        ensures { IsFoundBy R.reads (IsRightAt R.is_whole R.is_node) line.now
+            self.new.left.places.items (R.places_of self.new.right) result }
     {
         if !read_pieces(line, &mut self.tokens)? {
             return Err(LineError::Fault(FaultKind::BadToken));
@@ -147,14 +145,14 @@ impl RuleReader {
         line: &[u8],
         names: &mut Labels,
         labels: &mut Labels,
-        rules: &mut Vec<TransducerRule<u32>>,
+        rules: &mut Vec<R::Rule>,
     ) -> Result<(), LineError>
         requires short { length line.now ≤ most_bytes }
         requires plain { HasNoFeed line.now }
         requires names { length names.old + length line.now < 2 ^ 32 - 1 }
         requires labels { length labels.old + length line.now < 2 ^ 32 - 1 }
-        ensures line { AddsLine IsRule names.old names.new labels.new rules.old.items
-            rules.new.items result (rule_line scale line.now) }
+        ensures line { AddsLine (IsRuleBy R.view) names.old names.new labels.new rules.old.items
+            rules.new.items result (rule_line_by R.reads scale line.now) }
         ensures names { Grows names.old names.new }
         ensures labels { Grows labels.old labels.new }
         ensures few_names { length names.new ≤ length names.old + length line.now }
@@ -169,7 +167,7 @@ impl RuleReader {
             scale,
             line,
             &self.left.places,
-            &self.right.places,
+            self.right.places(),
             &found,
             &mut self.variables,
             &mut self.text,
@@ -177,11 +175,11 @@ impl RuleReader {
             Ok(cost) => cost,
             Err(error) => return Err(error),
         };
-        let rule = build(
+        let rule = build::<R>(
             self.alloc,
             line,
             &self.left.places,
-            &self.right.places,
+            self.right.places(),
             &found,
             cost,
             &self.variables,
@@ -196,8 +194,9 @@ impl RuleReader {
     }
 }
 
-/// The rules from a place of a file on, where a line of this number begins.
-pub(crate) fn read_rules(
+/// The rules from a place of a file on, where a line of this number begins. The texts of states and labels go into the tables. A fault is
+/// the first of these lines. It takes time in proportion to the rest of the file.
+pub(crate) fn read_rules<R: RightReader>(
     alloc: Global,
     scale: Scale,
     bytes: &[u8],
@@ -205,20 +204,20 @@ pub(crate) fn read_rules(
     first: u32,
     names: &mut Labels,
     labels: &mut Labels,
-) -> Result<Vec<TransducerRule<u32>>, ReadError>
+) -> Result<Vec<R::Rule>, ReadError>
     requires short { length bytes.now ≤ most_bytes }
     requires place { start ≤ length bytes.now }
     requires number { first ≤ start + 1 }
     requires names { length names.old + (length bytes.now - start) < 2 ^ 32 - 1 }
     requires labels { length labels.old + (length bytes.now - start) < 2 ^ 32 - 1 }
-    ensures rules { AreFileRules IsRule names.old names.new labels.new result
-        (each_line (rule_line scale) first (lines_of (drop start bytes.now))) }
+    ensures rules { AreFileRules (IsRuleBy R.view) names.old names.new labels.new result
+        (each_line (rule_line_by R.reads scale) first (lines_of (drop start bytes.now))) }
     ensures labels { Grows labels.old labels.new }
     ensures few_names { length names.new ≤ length names.old + (length bytes.now - start) }
     ensures few_labels { length labels.new ≤ length labels.old + (length bytes.now - start) }
     ensures few_rules { IfOk result (λ rules. length rules.items ≤ length bytes.now) }
 {
-    let mut reader = RuleReader::new(alloc);
+    let mut reader: RuleReader<R> = RuleReader::new(alloc);
     let mut rules = Vec::new(alloc);
     let mut at = start;
     let mut number = first;

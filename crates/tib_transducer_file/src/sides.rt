@@ -1,5 +1,5 @@
 // The sides of a rule.
-ghost use Rattle.std.specs.Prelude.{◌≡◌, ◌≤◌, ◌<◌, ◌+◌, ◌-◌, ◌^◌, ℕ, List, [], ◌∷◌, length, All, IfOk, Some, slice_get, Option, false};
+ghost use Rattle.std.specs.Prelude.{◌≡◌, ◌≤◌, ◌<◌, ◌+◌, ◌-◌, ◌^◌, ℕ, List, [], ◌∷◌, length, map, All, IfOk, Some, slice_get, Option, false};
 ghost use Rattle.indexmap.specs.IndexSet.{keys};
 ghost use Rattle.tib_lex.specs.Line.{Lies};
 ghost use Rattle.tib_lex.specs.Lines.{HasNoFeed};
@@ -12,15 +12,16 @@ ghost use Rattle.tib_grammar.specs.Items.{pair_of, pairs_of, holes_in};
 ghost use Rattle.tib_transducer.specs.Range.{AreNumbered};
 ghost use Rattle.tib_transducer.specs.Rules.{variables_of};
 ghost use Rattle.tib_transducer_file.specs.Forms.{pair_in as spec_pair_in};
-ghost use Rattle.tib_transducer_file.specs.Rule.{is_unknown, numbers_in, label_of};
+ghost use Rattle.tib_transducer_file.specs.Rule.{is_unknown};
 ghost use Rattle.tib_transducer_file.specs.Found.{IsRootAt, parts_with, bytes_at};
-ghost use Rattle.tib_transducer_file.specs.Value.{IsAsked, IsRootItem, IsLeftNode, IsRightNode, IsLeftSide, states_in, state_before};
+ghost use Rattle.tib_transducer_file.specs.Value.{IsAsked, IsRootItem, IsLeftNode, IsRightNode, IsLeftSide, right_text, states_in, state_before};
 ghost use Rattle.tib_transducer_file.specs.Built.{AreOneTree, AreKnown};
 ghost use Rattle.tib_grammar_file.specs.Found.{text_at, WeightLies};
 ghost use Rattle.tib_transducer_file.specs.Forms.{written_label};
 ghost use Rattle.tib_transducer_file.specs.Sides.{PushesLeft};
 
 use crate::forms::{RootToken, label_token, pair_in, variable_in};
+use crate::right::RightReader;
 use indexmap::IndexSet;
 use std::alloc::{AllocError, Global};
 use tib_grammar::{Item, Side};
@@ -151,8 +152,9 @@ fn left_side(items: Vec<Item<Variable>>) -> Side<Variable>
     }
 }
 
-/// The left side of a rule.
-pub fn read_left(
+/// The left side of a rule, whose variables are numbered anew in preorder. The texts of labels go into the table. An error comes only
+/// where memory is refused. It takes time in proportion to the nodes and their texts.
+pub(crate) fn read_left(
     alloc: Global,
     line: &[u8],
     places: &[Place],
@@ -194,7 +196,10 @@ fn place_of(variables: &IndexSet<u32>, number: u32) -> u32
     }
 }
 
-/// A node of a right side: a pair, whose variable goes by its place, or a label. Their texts go into the tables.
+/// A node of a right side: a pair, whose variable goes by its place among those of the left side, or a label with its number of children.
+/// Their texts go into the tables, which keep the numbers of the texts that they held; `text` is room for the text of a quoted token. Only
+/// want of memory is an error, and after it each table has those that it had, or one more. Cost: that of `intern_token`, and one look-up of
+/// a pair's variable by hash.
 pub fn right_item(
     line: &[u8],
     place: Place,
@@ -214,6 +219,8 @@ pub fn right_item(
         (pair_of s) (item_at line.now place)) }
     ensures states { IfOk result (λ _. AddsAll names.old
         (state_before (spec_pair_in (item_at line.now place)) []) names.new) }
+    ensures texts { IfOk result (λ _. AddsAll labels.old (right_text
+        (spec_pair_in (item_at line.now place)) (item_at line.now place).text) labels.new) }
     ensures names { Grows names.old names.new }
     ensures labels { Grows labels.old labels.new }
     ensures few_names { length names.new ≤ length names.old + 1 }
@@ -229,7 +236,9 @@ pub fn right_item(
     Ok(Item::Label { label, rank })
 }
 
-fn right_items(
+/// The nodes of a right side, whose pairs have variables of the left side. Their texts go into the tables. An error comes only where
+/// memory is refused. It takes time in proportion to the nodes and their texts.
+pub(crate) fn right_nodes<R: RightReader>(
     alloc: Global,
     line: &[u8],
     places: &[Place],
@@ -237,15 +246,16 @@ fn right_items(
     names: &mut Labels,
     labels: &mut Labels,
     text: &mut Vec<u8>,
-) -> Result<Vec<Item<Pair<u32>>>, AllocError>
+) -> Result<Vec<R::Node>, AllocError>
+    requires nodes { All R.is_node places.now }
     requires lie { All (PlaceLies (length line.now)) places.now }
     requires plain { HasNoFeed line.now }
     requires known { AreKnown (keys variables.now) (items_back line.now places.now) }
     requires variables { length (keys variables.now) ≤ most_nodes }
     requires names { length names.old + length places.now < 2 ^ 32 - 1 }
     requires labels { length labels.old + length places.now < 2 ^ 32 - 1 }
-    ensures items { IfOk result (λ s. Along (IsRightNode names.new labels.new (keys variables.now))
-        (pairs_of s.items) (items_back line.now places.now)) }
+    ensures nodes { IfOk result (λ s. Along (IsRightNode names.new labels.new (keys variables.now))
+        (map R.symbol_of s.items) (items_back line.now places.now)) }
     ensures states { IfOk result (λ _. AddsAll names.old
         (states_in (items_back line.now places.now)) names.new) }
     ensures names { Grows names.old names.new }
@@ -253,55 +263,12 @@ fn right_items(
     ensures few_names { length names.new ≤ length names.old + length places.now }
     ensures few_labels { length labels.new ≤ length labels.old + length places.now }
 {
-    let mut items = Vec::with_capacity(alloc, places.len())?;
+    let mut nodes = Vec::with_capacity(alloc, places.len())?;
     let mut i = places.len();
     while i > 0 {
         i -= 1;
-        let item = right_item(line, places[i], variables, names, labels, text)?;
-        items.push(item)?;
+        let node = R::read_node(line, places[i], variables, names, labels, text)?;
+        nodes.push(node)?;
     }
-    Ok(items)
-}
-
-fn right_side(items: Vec<Item<Pair<u32>>>) -> Side<Pair<u32>>
-    requires few { length items.items ≤ most_nodes }
-    requires tree { IsOneTree (pairs_of items.items) }
-    ensures { preorder_of result ≡ pairs_of items.items }
-{
-    match Side::from_preorder(items) {
-        Ok(side) => side,
-        Err(ShapeError::NotATree) => unreachable!(),
-        Err(ShapeError::OutOfMemory) => unreachable!(),
-    }
-}
-
-/// The right side of a rule, whose pairs have variables of the left side.
-pub(crate) fn read_right(
-    alloc: Global,
-    line: &[u8],
-    places: &[Place],
-    variables: &IndexSet<u32>,
-    names: &mut Labels,
-    labels: &mut Labels,
-    text: &mut Vec<u8>,
-) -> Result<Side<Pair<u32>>, AllocError>
-    requires tree { AreOneTree (items_back line.now places.now) }
-    requires lie { All (PlaceLies (length line.now)) places.now }
-    requires plain { HasNoFeed line.now }
-    requires known { AreKnown (keys variables.now) (items_back line.now places.now) }
-    requires variables { length (keys variables.now) ≤ most_nodes }
-    requires few { length places.now ≤ most_nodes }
-    requires names { length names.old + length places.now < 2 ^ 32 - 1 }
-    requires labels { length labels.old + length places.now < 2 ^ 32 - 1 }
-    ensures side { IfOk result (λ s. Along (IsRightNode names.new labels.new (keys variables.now))
-        (preorder_of s) (items_back line.now places.now)) }
-    ensures states { IfOk result (λ _. AddsAll names.old
-        (states_in (items_back line.now places.now)) names.new) }
-    ensures names { Grows names.old names.new }
-    ensures labels { Grows labels.old labels.new }
-    ensures few_names { length names.new ≤ length names.old + length places.now }
-    ensures few_labels { length labels.new ≤ length labels.old + length places.now }
-{
-    let items = right_items(alloc, line, places, variables, names, labels, text)?;
-    Ok(right_side(items))
+    Ok(nodes)
 }

@@ -1,5 +1,5 @@
 // The start of a transducer file, and what follows it.
-ghost use Rattle.std.specs.Prelude.{◌≡◌, ◌≤◌, ◌<◌, ◌-◌, ◌^◌, ℕ, List, [], length};
+ghost use Rattle.std.specs.Prelude.{◌≤◌, ◌<◌, ◌-◌, ◌^◌, length};
 ghost use Rattle.tib_io.specs.Reads.{most_bytes};
 ghost use Rattle.tib_transducer_file.specs.Begins.{IsBegun};
 
@@ -10,13 +10,18 @@ use tib_tree::Labels;
 
 /// Where the line behind the start line begins, and its number.
 #[derive(Clone, Copy, Debug)]
-pub struct Begun {
+pub(crate) struct Begun {
     pub at: u32,
     pub number: u32,
 }
 
-/// Finds the line of the start, whose name goes into the table.
-pub fn find_start(alloc: Global, bytes: &[u8], names: &mut Labels) -> Result<Begun, ReadError>
+/// Finds the line of the start, whose name goes into the table. A fault is the first of the lines up to it, or in line 1 that no line has
+/// tokens. It takes time in proportion to these lines.
+pub(crate) fn find_start(
+    alloc: Global,
+    bytes: &[u8],
+    names: &mut Labels,
+) -> Result<Begun, ReadError>
     requires short { length bytes.now ≤ most_bytes }
     requires room { length names.old < 2 ^ 32 - 1 }
     ensures { IsBegun bytes.now names.old names.new result }

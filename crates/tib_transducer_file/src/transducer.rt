@@ -7,12 +7,11 @@ ghost use Rattle.tib_transducer_file.specs.Labelled.{AreLabelled};
 ghost use Rattle.tib_transducer_file.specs.TransducerText.{ReadsAs};
 ghost use Rattle.tib_transducer_file.specs.Faults.{IsCause};
 
-use crate::rules::read_rules;
-use crate::start::find_start;
-use std::alloc::{AllocError, Global};
+use crate::file::read_file;
+use crate::trees::Trees;
+use std::alloc::Global;
 use tib_cost::Semiring;
 use tib_grammar::Names;
-use tib_grammar_file::state_names;
 use tib_lex::ReadError;
 use tib_transducer::{Transducer, TransducerRule};
 use tib_tree::Labels;
@@ -53,24 +52,8 @@ pub fn read_transducer<S: Semiring>(
     ensures labels { Grows labels.old labels.new }
     ensures few { length labels.new ≤ length labels.old + length bytes.now }
 {
-    let mut names = Labels::new(alloc);
-    let begun = match find_start(alloc, bytes, &mut names) {
-        Ok(begun) => begun,
-        Err(error) => return Err(error),
-    };
-    match read_rules(
-        alloc,
-        S::SCALE,
-        bytes,
-        begun.at,
-        begun.number,
-        &mut names,
-        labels,
-    ) {
-        Ok(rules) => match state_names(alloc, &names) {
-            Ok(states) => Ok(transducer_over(states, rules)),
-            Err(AllocError) => Err(ReadError::OutOfMemory),
-        },
+    match read_file::<S, Trees>(alloc, bytes, labels) {
+        Ok(file) => Ok(transducer_over(file.names, file.rules)),
         Err(error) => Err(error),
     }
 }
