@@ -1,24 +1,25 @@
 -- Rules over places with positions in place of their ends.
-use Rattle.std.specs.Prelude.{◌≡◌, ℕ, ◌+◌, ◌<◌, List, [], ◌∷◌, ◌++◌, length, map, drop, refl, slice_index}
-use Rattle.std.proofs.Common.{Err, zero, suc, arith, ap, sym, ◌∙◌, get_or, append_assoc}
+use Rattle.std.specs.Prelude.{◌≡◌, ℕ, ◌+◌, List, [], ◌∷◌, ◌++◌, length, map, refl, slice_index}
+use Rattle.std.proofs.Common.{Err, suc, arith, ap, sym, ◌∙◌, append_assoc}
 use Rattle.std.proofs.lemmas.List.{length-append}
-use Rattle.tib_lex.proofs.Lists.{append_nil}
+use Rattle.tib_lex.proofs.Lists.{append_nil, map_twice}
 use Rattle.std.specs.declared.result.Result.{Result}
 use Rattle.tib_tree.specs.declared.preorder.ShapeError.{ShapeError}
 use Rattle.tib_tree.specs.declared.preorder.ShapeError.TheVariants.{NotATree, OutOfMemory}
 use Rattle.tib_tree.specs.Trees.{Trees, none, tree, only, relabel, count, preorder, preorder_of}
-use Rattle.tib_grammar.specs.Sides.{Symbol, label, hole, Side as SideFor, holes, HolesAreLeaves, symbol_map, side_map}
+use Rattle.tib_grammar.specs.Sides.{Symbol, label, hole, Side as SideFor, holes, holes_of, HolesAreLeaves, symbol_map, side_map}
 use Rattle.tib_grammar.specs.Items.{pairs_of}
 use Rattle.tib_grammar.specs.GrammarOf.{named_rule}
 use Rattle.tib_grammar.specs.declared.Item.{Item}
 use Rattle.tib_grammar.specs.Positions.{states_in, positions_of}
 use Rattle.tib_grammar.proofs.Holes.{side_same}
-use Rattle.tib_hunt.specs.declared.place.Place.TheVariants.{End}
+use Rattle.tib_hunt.specs.declared.place.Place.TheVariants.{Known, End}
 use Rattle.tib_hunt.specs.EdgeLists.{position_of}
-use Rattle.tib_apply.specs.declared.forward_rule.ForwardRule.{ForwardRule}
-use Rattle.tib_apply.specs.ForwardRules.{numbered, numbered_root, numbered_side, places_of, read_places}
+use Rattle.tib_keyed.specs.Ends.{ends_from}
+use Rattle.tib_apply.specs.ForwardRules.{numbered, numbered_root, numbered_side}
 use Rattle.tib_apply.specs.ForwardRuleLaws.{side_numbers, map_append}
 use Rattle.tib_apply.specs.ForwardSettling.{settled_pairs}
+use Rattle.tib_apply.proofs.MappedSides.{side_twice}
 
 module _ {P : Type 0} (ends : List ℕ) where
   count_numbered : (n : ℕ) (ts : Trees (Symbol ℕ P)) → count (relabel (symbol_map {A = ℕ} (slice_index ends)) (numbered n ts)) ≡ count ts
@@ -72,33 +73,6 @@ module _ {P : Type 0} (ends : List ℕ) where
   side_settled n side items settled s leaves same made is =
       side_same s (side_map (slice_index ends) (numbered_side n side)) (is ∙ made ∙ ap (settled_pairs ends n) same ∙ sym (settles n side leaves))
 
--- an item more
-
-pub next_item : {A : Type 0} (items : List A) (i : ℕ) (item : A) → i < length items → item ≡ get_or items i item → drop i items ≡ item ∷ drop (i + 1) items
-next_item [] i item h e = absurd (omega arith)
-next_item (x ∷ items) zero item h e = ap (λ y. y ∷ items) (sym e)
-next_item (x ∷ items) (suc i) item h e =
-    let d : suc i + 1 ≡ suc (i + 1) = omega arith in
-    next_item items i item (omega arith) e ∙ ap (λ j. item ∷ drop j (x ∷ items)) (sym d)
-
-relabel_twice : {K : Type 0} (g : ℕ → ℕ) (f : ℕ → K) (ts : Trees (Symbol ℕ ℕ)) → relabel (symbol_map {A = ℕ} f) (relabel (symbol_map g) ts) ≡ relabel (symbol_map (λ i. f (g i))) ts
-relabel_twice g f none = refl
-relabel_twice g f (tree (label x) kids rest) =
-    ap (λ ks. tree (label x) ks (relabel (symbol_map f) (relabel (symbol_map g) rest))) (relabel_twice g f kids)
-    ∙ ap (λ rs. tree (label x) (relabel (symbol_map (λ i. f (g i))) kids) rs) (relabel_twice g f rest)
-relabel_twice g f (tree (hole q) kids rest) =
-    ap (λ ks. tree (hole (f (g q))) ks (relabel (symbol_map f) (relabel (symbol_map g) rest))) (relabel_twice g f kids)
-    ∙ ap (λ rs. tree (hole (f (g q))) (relabel (symbol_map (λ i. f (g i))) kids) rs) (relabel_twice g f rest)
-
-map_twice : {K : Type 0} (g : ℕ → ℕ) (f : ℕ → K) (s : SideFor ℕ ℕ) → side_map f (side_map g s) ≡ side_map (λ i. f (g i)) s
-map_twice {K} g f s =
-    ap (λ x. record { label = x; kids = relabel (symbol_map f) (relabel (symbol_map g) s.kids) }) (by s.label)
-    ∙ ap (λ ks. record { label = symbol_map (λ i. f (g i)) s.label; kids = ks }) (relabel_twice g f s.kids)
-  where
-    by : (x : Symbol ℕ ℕ) → ◌≡◌ {A = Symbol ℕ K} (symbol_map f (symbol_map g x)) (symbol_map (λ i. f (g i)) x)
-    by (label x) = refl
-    by (hole x) = refl
-
 -- the states of a side under other names
 pub states_map : (g : ℕ → ℕ) (ts : Trees (Symbol ℕ ℕ)) → states_in (relabel (symbol_map g) ts) ≡ map g (states_in ts)
 states_map g none = refl
@@ -110,23 +84,20 @@ states_map g (tree (hole q) kids rest) =
     (ap (λ xs. xs ++ states_in (relabel (symbol_map g) rest)) (states_map g kids) ∙ ap (λ xs. map g (states_in kids) ++ xs) (states_map g rest)
     ∙ sym (map_append g (states_in kids) (states_in rest)))
 
-map_map : {A B C : Type 0} (f : A → B) (g : B → C) (xs : List A) → map g (map f xs) ≡ map (λ x. g (f x)) xs
-map_map f g [] = refl
-map_map f g (x ∷ xs) = ap (λ ys. g (f x) ∷ ys) (map_map f g xs)
-
-module _ (r : ForwardRule) (ends : List ℕ) (s : SideFor ℕ ℕ) (is : s ≡ side_map (slice_index ends) (numbered_side r.first_end r.right.now)) where
-  -- the settled rule reads as the rule over places
-  pub settled_reads : {K : Type 0} (at : ℕ → K) → named_rule at (record { left = r.position; right = s; cost = r.cost }) ≡ read_places (λ place. at (position_of ends place)) r
+module _ {P : Type 0} (position first cost : ℕ) (side : SideFor ℕ P) (ends : List ℕ) (s : SideFor ℕ ℕ) (is : s ≡ side_map (slice_index ends) (numbered_side first side)) where
+  -- a rule with the settled side on its right reads as the rule over places
+  pub settled_reads :
+      {K : Type 0} (at : ℕ → K) → named_rule at (record { left = position; right = s; cost = cost }) ≡ record { left = at position; right = side_map (λ i. at (position_of ends (End i))) (numbered_side first side); cost = cost }
   settled_reads at =
-      ap (λ t. record { left = at r.position; right = side_map at t; cost = r.cost }) is
-      ∙ ap (λ t. record { left = at r.position; right = t; cost = r.cost }) (map_twice (slice_index ends) at (numbered_side r.first_end r.right.now))
+      ap (λ t. record { left = at position; right = side_map at t; cost = cost }) is
+      ∙ ap (λ t. record { left = at position; right = t; cost = cost }) (side_twice (slice_index ends) at (numbered_side first side))
 
-  -- the settled rule has the positions of its ends
-  pub settled_positions : positions_of (record { left = r.position; right = s; cost = r.cost }) ≡ map (position_of ends) (places_of r)
+  -- and has the positions of its ends
+  pub settled_positions : positions_of (record { left = position; right = s; cost = cost }) ≡ map (position_of ends) (Known position ∷ ends_from first (length (holes_of side)))
   settled_positions =
-      let side = numbered_side r.first_end r.right.now in
-      ap (λ t. r.position ∷ states_in (only t)) is
-      ∙ ap (λ xs. r.position ∷ xs) (states_map (slice_index ends) (only side) ∙ sym (map_map End (position_of ends) (states_in (only side))) ∙ ap (map (position_of ends)) (side_numbers r.first_end r.right.now))
+      ap (λ t. position ∷ states_in (only t)) is
+      ∙ ap (λ xs. position ∷ xs)
+      (states_map (slice_index ends) (only (numbered_side first side)) ∙ sym (map_twice (position_of ends) End (states_in (only (numbered_side first side)))) ∙ ap (map (position_of ends)) (side_numbers first side))
 
 -- the items of a tree are not refused
 pub no_fault :

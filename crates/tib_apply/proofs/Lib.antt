@@ -23,3 +23,4 @@ pub mod ForwardPlanned
 pub mod ForwardEdges
 pub mod AffordableMatches
 pub mod ForwardTables
+pub mod Faults

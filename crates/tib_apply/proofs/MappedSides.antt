@@ -3,6 +3,7 @@ use Rattle.std.specs.Prelude.{◌≡◌, ℕ, ◌<◌, List, [], ◌∷◌, ◌+
 use Rattle.std.proofs.Common.{arith, ap, sym, ◌∙◌}
 use Rattle.std.proofs.lemmas.List.{map-append}
 use Rattle.tib_lex.specs.Lists.{Each}
+use Rattle.tib_lex.proofs.Lists.{map_twice}
 use Rattle.tib_tree.specs.Trees.{Trees, none, tree, only, relabel, size, sizes, preorder_of}
 use Rattle.tib_grammar.specs.Sides.{Symbol, label, hole, Side as SideFor, symbol_map, side_map, holes, holes_of, HolesAreLeaves}
 use Rattle.tib_grammar.specs.Items.{pairs_of}
@@ -87,10 +88,6 @@ each_end : (known many : ℕ) (is : List ℕ) → Each (IsWithin known many) (ma
 each_end known many [] h = tt
 each_end known many (i ∷ is) h = (h.0, each_end known many is h.1)
 
-map_twice : {A B C : Type 0} (f : A → B) (g : B → C) (xs : List A) → map g (map f xs) ≡ map (λ x. g (f x)) xs
-map_twice f g [] = refl
-map_twice f g (x ∷ xs) = ap (λ ys. g (f x) ∷ ys) (map_twice f g xs)
-
 -- the ends in a rule are those of the list
 pub ends_within : (r : Rule ℕ) (known many : ℕ) → Each (IsWithin known many) (places_of r) → Each (λ i. i < many) (holes_of r.right)
 ends_within r known many h = each_hole (λ i. i < many) (only r.right) (each_end known many (carried (only r.right)) h.1)
@@ -105,4 +102,4 @@ module _ (r : Rule ℕ) (ends : List ℕ) (s : SideFor ℕ ℕ) (is : s ≡ side
   pub settled_positions : positions_of (record { left = r.left; right = s; cost = r.cost }) ≡ map (position_of ends) (places_of r)
   settled_positions =
       ap (λ (x : SideFor ℕ ℕ). r.left ∷ carried (only x)) is
-      ∙ ap (λ (xs : List ℕ). r.left ∷ xs) (carried_mapped (slice_index ends) (only r.right) ∙ sym (map_twice End (position_of ends) (carried (only r.right))))
+      ∙ ap (λ (xs : List ℕ). r.left ∷ xs) (carried_mapped (slice_index ends) (only r.right) ∙ sym (map_twice (position_of ends) End (carried (only r.right))))

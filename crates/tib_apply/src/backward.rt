@@ -163,7 +163,7 @@ impl<'a, S: Semiring> Backward<'a, S> {
         }
     }
 
-    // The matches of the right side of a rule, unless more than so many give an edge.
+    // The matches of the right side of a rule, unless more than this many give an edge.
     fn matches_of(
         &self,
         alloc: Global,

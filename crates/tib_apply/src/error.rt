@@ -1,6 +1,7 @@
 // What can be amiss in applying a transducer.
 use thiserror::Error;
-use tib_classes::ClassFault;
+use tib_classes::{ClassError, ClassFault};
+use tib_hunt::HuntError;
 
 /// Why a transducer was not applied to a grammar.
 #[derive(Debug, Drop, Error)]
@@ -14,4 +15,32 @@ pub enum ApplyError {
     /// Memory was refused.
     #[error("out of memory")]
     OutOfMemory,
+}
+
+impl From<ClassError> for ApplyError {
+    ghost use Rattle.std.specs.Prelude.{◌≡◌};
+    ghost use Rattle.tib_apply.specs.Faults.{class_error};
+
+    ghost from_gives = { λ e r. r ≡ class_error e };
+
+    fn from(error: ClassError) -> ApplyError {
+        match error {
+            ClassError::Class { rule, fault } => ApplyError::Class { rule, fault },
+            ClassError::OutOfMemory => ApplyError::OutOfMemory,
+        }
+    }
+}
+
+impl From<HuntError> for ApplyError {
+    ghost use Rattle.std.specs.Prelude.{◌≡◌};
+    ghost use Rattle.tib_apply.specs.Faults.{hunt_error};
+
+    ghost from_gives = { λ e r. r ≡ hunt_error e };
+
+    fn from(error: HuntError) -> ApplyError {
+        match error {
+            HuntError::TooMany { limit } => ApplyError::TooMany { limit },
+            HuntError::OutOfMemory => ApplyError::OutOfMemory,
+        }
+    }
 }

@@ -11,10 +11,9 @@ use crate::key::Key;
 use std::alloc::Global;
 use std::sync::Wait;
 use std::thread::Threads;
-use tib_classes::ClassError;
 use tib_cost::Semiring;
 use tib_grammar::Rule;
-use tib_hunt::{Found, Gate, HuntError, hunt, hunt_alone};
+use tib_hunt::{Found, Gate, hunt, hunt_alone};
 use tib_normal::Normal;
 use tib_transducer::Transducer;
 
@@ -47,16 +46,9 @@ pub fn apply_forward<S: Semiring, G: Gate>(
         IfErr result (IsApplyFault (demands true false false false) transducer.now.rules limit
         (IsBeyond hunted limit)) }
 {
-    let forward = match Forward::new(alloc, grammar, transducer) {
-        Ok(forward) => forward,
-        Err(ClassError::Class { rule, fault }) => return Err(ApplyError::Class { rule, fault }),
-        Err(ClassError::OutOfMemory) => return Err(ApplyError::OutOfMemory),
-    };
-    match hunt_alone(alloc, &forward, limit, gate) {
-        Ok(found) => Ok(found),
-        Err(HuntError::TooMany { limit }) => Err(ApplyError::TooMany { limit }),
-        Err(HuntError::OutOfMemory) => Err(ApplyError::OutOfMemory),
-    }
+    let forward = Forward::new(alloc, grammar, transducer)?;
+    let found = hunt_alone(alloc, &forward, limit, gate)?;
+    Ok(found)
 }
 
 /// What `apply_forward` answers, found by this number of workers, 1 to 16, whatever the order of their steps. It may wait for
@@ -88,14 +80,7 @@ pub fn apply_forward_together<S: Semiring + Sync, R: Threads + Wait + Sync, G: G
         IfErr result (IsApplyFault (demands true false false false) transducer.now.rules limit
         (IsBeyond hunted limit)) }
 {
-    let forward = match Forward::new(alloc, grammar, transducer) {
-        Ok(forward) => forward,
-        Err(ClassError::Class { rule, fault }) => return Err(ApplyError::Class { rule, fault }),
-        Err(ClassError::OutOfMemory) => return Err(ApplyError::OutOfMemory),
-    };
-    match hunt(rt, alloc, &forward, workers, limit, gate) {
-        Ok(found) => Ok(found),
-        Err(HuntError::TooMany { limit }) => Err(ApplyError::TooMany { limit }),
-        Err(HuntError::OutOfMemory) => Err(ApplyError::OutOfMemory),
-    }
+    let forward = Forward::new(alloc, grammar, transducer)?;
+    let found = hunt(rt, alloc, &forward, workers, limit, gate)?;
+    Ok(found)
 }

@@ -22,6 +22,7 @@ mod moves;
 mod placing;
 mod preimage;
 mod restrictions;
+mod settling;
 
 pub use backward::Backward;
 pub use error::ApplyError;
@@ -31,3 +32,4 @@ pub use image::{apply_forward, apply_forward_together};
 pub use key::Key;
 pub use preimage::{apply_backward, apply_backward_together};
 pub use restrictions::Restrictions;
+pub use settling::settled_side;

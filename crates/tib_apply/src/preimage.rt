@@ -11,10 +11,9 @@ use crate::key::Key;
 use std::alloc::Global;
 use std::sync::Wait;
 use std::thread::Threads;
-use tib_classes::ClassError;
 use tib_cost::Semiring;
 use tib_grammar::Rule;
-use tib_hunt::{Found, Gate, HuntError, hunt, hunt_alone};
+use tib_hunt::{Found, Gate, hunt, hunt_alone};
 use tib_normal::Normal;
 use tib_transducer::Transducer;
 
@@ -42,16 +41,9 @@ pub fn apply_backward<S: Semiring, G: Gate>(
         IfErr result (IsApplyFault (demands true true false false) transducer.now.rules limit
         (IsBeyond hunted limit)) }
 {
-    let backward = match Backward::new(alloc, transducer, grammar) {
-        Ok(backward) => backward,
-        Err(ClassError::Class { rule, fault }) => return Err(ApplyError::Class { rule, fault }),
-        Err(ClassError::OutOfMemory) => return Err(ApplyError::OutOfMemory),
-    };
-    match hunt_alone(alloc, &backward, limit, gate) {
-        Ok(found) => Ok(found),
-        Err(HuntError::TooMany { limit }) => Err(ApplyError::TooMany { limit }),
-        Err(HuntError::OutOfMemory) => Err(ApplyError::OutOfMemory),
-    }
+    let backward = Backward::new(alloc, transducer, grammar)?;
+    let found = hunt_alone(alloc, &backward, limit, gate)?;
+    Ok(found)
 }
 
 /// What `apply_backward` answers, found by this number of workers, 1 to 16, whatever the order of their steps. It may wait for
@@ -83,14 +75,7 @@ pub fn apply_backward_together<S: Semiring + Sync, R: Threads + Wait + Sync, G: 
         IfErr result (IsApplyFault (demands true true false false) transducer.now.rules limit
         (IsBeyond hunted limit)) }
 {
-    let backward = match Backward::new(alloc, transducer, grammar) {
-        Ok(backward) => backward,
-        Err(ClassError::Class { rule, fault }) => return Err(ApplyError::Class { rule, fault }),
-        Err(ClassError::OutOfMemory) => return Err(ApplyError::OutOfMemory),
-    };
-    match hunt(rt, alloc, &backward, workers, limit, gate) {
-        Ok(found) => Ok(found),
-        Err(HuntError::TooMany { limit }) => Err(ApplyError::TooMany { limit }),
-        Err(HuntError::OutOfMemory) => Err(ApplyError::OutOfMemory),
-    }
+    let backward = Backward::new(alloc, transducer, grammar)?;
+    let found = hunt(rt, alloc, &backward, workers, limit, gate)?;
+    Ok(found)
 }

@@ -26,7 +26,7 @@ use Rattle.tib_compose.specs.declared.pending.Pending.{Pending}
 use Rattle.tib_compose.specs.declared.branch.Branch.{Branch}
 use Rattle.tib_compose.specs.Branches.{OnlyPutsOut}
 
--- the choices of a side do not hang on what stands behind it
+-- the choices of a side do not depend on what stands behind it
 choices_first : (two : List (TransducerRule ℕ)) (s : Symbol ℕ (Pair ℕ)) (kids rest : Trees (Symbol ℕ (Pair ℕ))) (p : ℕ) → choices_at two (tree s kids rest) 0 p ≡ choices_at two (tree s kids none) 0 p
 choices_first two (label f) kids rest p = refl
 choices_first two (hole x) kids rest p = refl

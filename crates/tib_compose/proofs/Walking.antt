@@ -156,7 +156,7 @@ known_from two shaped p f n m low reads items e =
     item_by_item (Hole x ∷ items) h zero low = h.0
     item_by_item (Hole x ∷ items) h (suc i) low = item_by_item items h.1 i (omega arith)
 
--- a label has so many sides below it
+-- a label has this many sides below it
 pub kids_count : (items : List (Item (Pair ℕ))) (i f n : ℕ) → HasChildren (pairs_of items) → i < length items → get_or items i (Label 0 0) ≡ Label f n → count (kids_there (pairs_of items) i n) ≡ n
 kids_count items i f n h low e =
     let long : i < length (pairs_of items) = omega (arith, low, length-map items pair_of) in

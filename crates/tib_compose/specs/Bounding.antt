@@ -18,7 +18,7 @@ use Rattle.tib_compose.specs.declared.branch.Reading.{Reading}
 use Rattle.tib_compose.specs.declared.source.Source.{Source}
 
 module _ (product : ℕ → ℕ → ℕ) (two : List (TransducerRule ℕ)) (source : Source) where
-  -- what is left where a node over so many sides is read by a rule
+  -- what is left where a node over this many sides is read by a rule
   abbrev pub pieces_by : ℕ → ℕ → ℕ → List PieceOf
   pieces_by node rank m = pieces_of (preorder_of (transducer_rule two m).right) (kids_there (pairs_of source.items.now) node rank) ++ []
 

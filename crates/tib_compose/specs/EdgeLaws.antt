@@ -51,7 +51,7 @@ sides_same f g (tree (hole x) kids rest) h =
     ∙ ap (λ ks. tree (hole (named_pair g x)) ks (relabel (symbol_map (named_pair f)) rest)) (sides_same f g kids (each_left (λ p. f p ≡ g p) (all_states kids) (all_states rest) h.1))
     ∙ ap (λ rs. tree (hole (named_pair g x)) (relabel (symbol_map (named_pair g)) kids) rs) (sides_same f g rest (each_right (λ p. f p ≡ g p) (all_states kids) (all_states rest) h.1))
 
--- what a rule stands for hangs on its places alone
+-- what a rule stands for depends on its places alone
 pub reads_rule : {P Q : Type 0} (r : TransducerRule P) (f g : P → Q) → Each (λ p. f p ≡ g p) (places_of r) → named_transducer_rule f r ≡ named_transducer_rule g r
 reads_rule {P} {Q} r f g h =
     let side : relabel (symbol_map (named_pair f)) (only r.right) ≡ relabel (symbol_map (named_pair g)) (only r.right) = sides_same f g (only r.right) h.1 in

@@ -1,10 +1,9 @@
 -- The rules of the second transducer by their state and by the label and the rank that they read.
 use Rattle.std.specs.Prelude.{◌≡◌, ℕ, ◌<◌, List, [], ◌∷◌, ◌++◌, length, if◌then◌else◌}
-use Rattle.std.specs.Global.{Vec}
-use Rattle.std.specs.HashMap.{HashMap}
 use Rattle.std.proofs.Common.{zero, suc}
 use Rattle.tib_grammar.specs.Sides.{label, AreHoles}
-use Rattle.tib_grammar.specs.ShapeBuckets.{held}
+use Rattle.tib_shapes.specs.Positions.{positions_of}
+use Rattle.tib_shapes.specs.declared.buckets.ShapeIndex.{ShapeIndex}
 use Rattle.tib_transducer.specs.Rules.{transducer_rule}
 use Rattle.tib_transducer.specs.declared.TransducerRule.{TransducerRule}
 use Rattle.tib_compose_laws.specs.Choices.{reads_label}
@@ -19,8 +18,8 @@ abbrev pub readers_with : ℕ × ℕ × ℕ → List (TransducerRule ℕ) → Li
 readers_with s two = readers two s.0 s.1 s.2 (length two)
 
 -- for each shape the first m positions of its rules
-abbrev pub HoldsReaders : {S : Type 0} → List (TransducerRule ℕ) → ℕ → HashMap (ℕ × ℕ × ℕ) ℕ S → List (Vec ℕ) → Type 0
-HoldsReaders two m shapes buckets = (s : ℕ × ℕ × ℕ) → held shapes buckets s ≡ readers two s.0 s.1 s.2 m
+abbrev pub HoldsReaders : List (TransducerRule ℕ) → ℕ → ShapeIndex → Type 0
+HoldsReaders two m index = (s : ℕ × ℕ × ℕ) → positions_of index s ≡ readers two s.0 s.1 s.2 m
 
 -- the left side is one label over variables
 pub record IsFlat (r : TransducerRule ℕ) : Type 0 where

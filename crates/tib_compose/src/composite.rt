@@ -7,10 +7,11 @@ ghost use Rattle.tib_compose.specs.EdgeLaws.{StatesBelow};
 ghost use Rattle.tib_compose.specs.IsIndex.{IsIndex};
 ghost use Rattle.tib_compose.specs.Moves.{IsMoves};
 
-use crate::index::Index;
+use crate::index::index_rules;
 use crate::moves::Moves;
 use std::alloc::Global;
 use tib_classes::{ClassError, first_outside};
+use tib_shapes::ShapeIndex;
 use tib_transducer::Transducer;
 
 /// The pairs of a state of the first transducer and a state of the second, reached from the pair of the starts.
@@ -20,7 +21,7 @@ pub struct Composite<'a, S> {
     pub first: &'a Transducer<S>,
     /// The second transducer.
     pub second: &'a Transducer<S>,
-    pub(crate) index: Index,
+    pub(crate) index: ShapeIndex,
     pub(crate) moves: Moves,
     pub ghost indexed: { IsIndex second.now.rules index },
     pub ghost moved: { IsMoves first.now.rules moves },
@@ -53,7 +54,7 @@ impl<'a, S> Composite<'a, S> {
         let Ok(moves) = Moves::new(alloc, first) else {
             return Err(ClassError::OutOfMemory);
         };
-        match Index::new(alloc, second.rule_list()) {
+        match index_rules(alloc, second.rule_list()) {
             Ok(index) => Ok(Composite {
                 first,
                 second,

@@ -20,7 +20,7 @@ fn rank_of(item: &Item<Pair<u32>>) -> u32
     }
 }
 
-/// The item behind so many trees that begin at an item, where the ends from there on are known. Cost: one step for each tree.
+/// The item behind this many trees that begin at an item, where the ends from there on are known. Cost: one step for each tree.
 pub(crate) fn skip(ends: &[u32], from: u32, many: u32) -> u32
     ensures { (pairs : List (Symbol ℕ (PairOf ℕ) × ℕ)) → length pairs ≡ length ends.now →
         AreEnds pairs ends.now from →

@@ -159,7 +159,7 @@ impl<'a, S: Semiring> Composite<'a, S> {
         }
     }
 
-    /// Lists the edges of a pair along the rule of the first transducer at a position, whose right side is this label over so many
+    /// Lists the edges of a pair along the rule of the first transducer at a position, whose right side is this label over this many
     /// pairs. `More` exactly where they have more parts than the budget leaves. Cost: a look-up by hash, and for each rule of the
     /// second transducer that reads the label one pass over its right side.
     pub(crate) fn list_flat(

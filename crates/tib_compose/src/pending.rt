@@ -115,7 +115,7 @@ impl Pending {
         Ok(())
     }
 
-    /// Comes back to what was left when so many tasks were there, and this was the number of the next.
+    /// Comes back to what was left when this many tasks were there, and this was the number of the next.
     pub fn back_to(&mut self, tasks: usize, next: usize)
         ensures tasks { self.new.tasks.items ≡ take tasks self.old.tasks.items }
         ensures next { self.new.next ≡ next }

@@ -23,7 +23,7 @@ use Rattle.tib_image.specs.Listing.{IsAdded, ListsOrigin, OriginOverruns}
 use Rattle.tib_image.specs.declared.listing.Listing.{Listing}
 use Rattle.tib_image.proofs.Matching.{nodes_many}
 use Rattle.tib_image.proofs.Walking.{match_many, found_match, found_nodes, no_match}
-use Rattle.tib_image.proofs.Positions.{places_once, place_is, is_place}
+use Rattle.tib_shapes.proofs.Places.{places_once, place_is, is_place}
 use Rattle.tib_image.proofs.Listed.{listed_passed, listed_added, overruns_next}
 
 each_mapped : {A : Type 0} (Q : ℕ → Type 0) (f : A → ℕ) (xs : List A) → Each Q (map f xs) → Each (λ x. Q (f x)) xs
@@ -87,7 +87,7 @@ root_match (hole x) kids u root e m = absurd (cc)
 itself : (f : ℕ) (s : Symbol ℕ Variable) → s ≡ label f → is_label f s ≡ true
 itself f s e = ap (is_label f) e ∙ nat_eq-itself f
 
--- the rules of the shape of a key, whose node has the label f and so many children
+-- the rules of the shape of a key, whose node has the label f and this many children
 module _ (moves : List (TransducerRule ℕ)) (t : Tree ℕ) (key : ℕ × ℕ) (state f rank : ℕ) (same : state ≡ key.0) (label_is : f ≡ (subtree t key.1).label) (rank_is : rank ≡ count (subtree t key.1).kids)
     (ps : List ℕ) (is : ps ≡ positions_with (state, f, rank) moves) where
   -- each rule with an edge is one of them

@@ -2,7 +2,6 @@ pub mod Matching
 pub mod Reaching
 pub mod Meaning
 pub mod Walking
-pub mod Positions
 pub mod Listed
 pub mod Edging
 pub mod Answering

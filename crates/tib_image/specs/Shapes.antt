@@ -1,14 +1,9 @@
 -- The shapes of rules: their states, and the labels and ranks at the roots of their left sides.
-use Rattle.std.specs.Prelude.{ℕ, ◌&&◌, nat_eq, Bool, List, [], ◌∷◌, if◌then◌else◌}
-use Rattle.std.proofs.Common.{suc}
+use Rattle.std.specs.Prelude.{ℕ, ◌&&◌, nat_eq, Bool, List}
 use Rattle.tib_tree.specs.Trees.{count}
 use Rattle.tib_grammar.specs.Sides.{is_label}
+use Rattle.tib_shapes.specs.Places.{places_from}
 use Rattle.tib_transducer.specs.declared.TransducerRule.{TransducerRule}
-
--- the places, of which the first is k, of the values that pass a test
-abbrev pub places_from : {A : Type 0} → ℕ → (A → Bool) → List A → List ℕ
-places_from k test [] = []
-places_from k test (x ∷ xs) = if test x then k ∷ places_from (suc k) test xs else places_from (suc k) test xs
 
 -- whether a rule has a state, and a label and a rank at the root of its left side; these three numbers are its shape
 abbrev pub has_shape : ℕ × ℕ × ℕ → TransducerRule ℕ → Bool

@@ -9,12 +9,13 @@ ghost use Rattle.tib_image.specs.Nodes.{subtree};
 ghost use Rattle.tib_image.specs.IsIndex.{IsIndex};
 ghost use Rattle.tib_image.specs.Listing.{IsWithinBudget, ListsOrigin, OriginOverruns, ListsKey, KeyOverruns};
 
-use crate::index::Index;
+use crate::index::index_rules;
 use crate::key::Key;
 use crate::listing::Listing;
 use crate::walk::match_items;
 use std::alloc::{AllocError, Global};
 use tib_hunt::ExpandError;
+use tib_shapes::ShapeIndex;
 use tib_transducer::Transducer;
 use tib_tree::{Label, Tree};
 
@@ -42,7 +43,7 @@ pub struct Image<'a, S> {
     pub transducer: &'a Transducer<S>,
     /// The tree.
     pub tree: &'a Tree,
-    index: Index,
+    index: ShapeIndex,
     pub ghost indexed: { IsIndex transducer.now.rules index },
     pub ghost few: { size tree.now < 2 ^ 32 },
 }
@@ -58,7 +59,7 @@ impl<'a, S> Image<'a, S> {
         ensures tree { IfOk result (λ i. i.tree.now ≡ tree.now) }
     {
         let _nodes = size_of_tree(tree);
-        let index = Index::new(alloc, transducer)?;
+        let index = index_rules(alloc, transducer)?;
         Ok(Image {
             transducer,
             tree,

@@ -1,6 +1,5 @@
 pub mod Steps
 pub mod Intersecting
-pub mod Positions
 pub mod Lists
 pub mod Listed
 pub mod Matches

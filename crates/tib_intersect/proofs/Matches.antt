@@ -10,10 +10,12 @@ use Rattle.tib_grammar.specs.Run.{rule_at, no_rule}
 use Rattle.tib_grammar.specs.Forms.{AreNormal, IsNormalSide}
 use Rattle.tib_grammar.specs.declared.Rule.{Rule}
 use Rattle.tib_normal.specs.Rules.{rules_from}
+use Rattle.tib_shapes.specs.Places.{places_from}
+use Rattle.tib_shapes.proofs.Places.{places_are, place_is, is_place, places_once}
 use Rattle.tib_intersect.specs.declared.listing.Listing.{Listing}
 use Rattle.tib_intersect.specs.PairEdges.{pair_at, IsPairEdge}
 use Rattle.tib_intersect.specs.PairRules.{Reads}
-use Rattle.tib_intersect.specs.Matching.{positions_from, positions_with, has_shape}
+use Rattle.tib_intersect.specs.Matching.{positions_with, has_shape}
 use Rattle.tib_intersect.specs.Listing.{states_of, Agree, IsListed, Stands, AreListedFrom}
 use Rattle.tib_lex.proofs.Booleans.{and-true, and-both}
 use Rattle.tib_lex.proofs.Numbers.{nat_eq-true}
@@ -21,86 +23,39 @@ use Rattle.tib_lex.proofs.Members.{each_of, has_at, has_left, has_right, has_eit
 use Rattle.tib_lex.proofs.Places.{not_before}
 use Rattle.tib_grammar.proofs.Sides.{length-holes, one_label, is_label-true, is_label_cases}
 
--- p, counted from k, is the position of a rule that passes the test
-pub record IsPlace (test : Rule ℕ → Bool) (rules : List (Rule ℕ)) (k p : ℕ) : Type 0 where
-  pub from : k ≤ p
-  pub below : p < k + length rules
-  pub passes : test (get_or rules (p - k) no_rule) ≡ true
-
 module _ (test : Rule ℕ → Bool) where
-  shift : (r : Rule ℕ) (rules : List (Rule ℕ)) (k p : ℕ) → IsPlace test rules (suc k) p → IsPlace test (r ∷ rules) k p
-  shift r rules k p h =
-      let e : p - k ≡ suc (p - suc k) = omega (arith, h.from) in
-      record { from = omega (arith, h.from); below = omega (arith, h.below); passes = rw e h.passes }
-
-  -- what holds of a listed position
-  pub place_of : (rules : List (Rule ℕ)) (k p : ℕ) → Has (positions_from k test rules) p → IsPlace test rules k p
-  place_of [] k p h = absurd h
-  place_of (r ∷ rules) k p h = step (place_of rules (suc k) p) (test r) refl h
-    where
-      step :
-          (Has (positions_from (suc k) test rules) p → IsPlace test rules (suc k) p) → (b : Bool) → test r ≡ b →
-          Has (if b then k ∷ positions_from (suc k) test rules else positions_from (suc k) test rules) p → IsPlace test (r ∷ rules) k p
-      step later true e (inl same) =
-          let z : p - k ≡ 0 = omega (arith, same) in
-          record { from = omega (arith, same); below = omega (arith, same); passes = rw z e }
-      step later true e (inr m) = shift r rules k p (later m)
-      step later false e m = shift r rules k p (later m)
-
-  -- a rule that passes the test has its position listed
-  pub has_place : (rules : List (Rule ℕ)) (k m : ℕ) → m < length rules → test (rule_at rules m) ≡ true → Has (positions_from k test rules) (k + m)
-  has_place [] k m h e = absurd (omega arith)
-  has_place (r ∷ rules) k zero h e =
-      let z : k ≡ k + 0 = omega arith in
-      rw e (inl z)
-  has_place (r ∷ rules) k (suc m) h e =
-      let s : suc k + m ≡ k + suc m = omega arith in
-      wider (test r) (subst (Has (positions_from (suc k) test rules)) s (has_place rules (suc k) m (omega arith) e))
-    where
-      wider : (b : Bool) → Has (positions_from (suc k) test rules) (k + suc m) → Has (if b then k ∷ positions_from (suc k) test rules else positions_from (suc k) test rules) (k + suc m)
-      wider true h = inr h
-      wider false h = h
-
-  -- the positions are distinct
-  pub places_distinct : (rules : List (Rule ℕ)) (k : ℕ) → Distinct (positions_from k test rules)
-  places_distinct [] k = tt
-  places_distinct (r ∷ rules) k = step (places_distinct rules (suc k)) (test r)
-    where
-      step : Distinct (positions_from (suc k) test rules) → (b : Bool) → Distinct (if b then k ∷ positions_from (suc k) test rules else positions_from (suc k) test rules)
-      step later true = (λ h. omega (arith, (place_of rules (suc k) k h).from), later)
-      step later false = later
-
   -- the rules that pass are those at these positions
-  pub passing-length : (rules : List (Rule ℕ)) (k : ℕ) → length (filter test rules) ≡ length (positions_from k test rules)
+  pub passing-length : (rules : List (Rule ℕ)) (k : ℕ) → length (filter test rules) ≡ length (places_from k test rules)
   passing-length [] k = refl
   passing-length (r ∷ rules) k = step (passing-length rules (suc k)) (test r)
     where
-      step : length (filter test rules) ≡ length (positions_from (suc k) test rules) → (b : Bool) → length (if b then r ∷ filter test rules else filter test rules) ≡ length (if b then k ∷ positions_from (suc k) test rules else positions_from (suc k) test rules)
+      step : length (filter test rules) ≡ length (places_from (suc k) test rules) → (b : Bool) → length (if b then r ∷ filter test rules else filter test rules) ≡ length (if b then k ∷ places_from (suc k) test rules else places_from (suc k) test rules)
       step later true = ap suc later
       step later false = later
 
   -- the rule at a listed position passes the test
   pub passing-at :
-      (rules : List (Rule ℕ)) (k m : ℕ) → m < length (positions_from k test rules) →
-      get_or (filter test rules) m no_rule ≡ get_or rules (get_or (positions_from k test rules) m 0 - k) no_rule
+      (rules : List (Rule ℕ)) (k m : ℕ) → m < length (places_from k test rules) →
+      get_or (filter test rules) m no_rule ≡ get_or rules (get_or (places_from k test rules) m 0 - k) no_rule
   passing-at [] k m h = absurd (omega arith)
   passing-at (r ∷ rules) k m h = step (λ m h. later m h (passing-at rules (suc k) m h)) (test r) m h
     where
       later :
-          (m : ℕ) → m < length (positions_from (suc k) test rules) →
-          get_or (filter test rules) m no_rule ≡ get_or rules (get_or (positions_from (suc k) test rules) m 0 - suc k) no_rule →
-          get_or (filter test rules) m no_rule ≡ get_or (r ∷ rules) (get_or (positions_from (suc k) test rules) m 0 - k) no_rule
+          (m : ℕ) → m < length (places_from (suc k) test rules) →
+          get_or (filter test rules) m no_rule ≡ get_or rules (get_or (places_from (suc k) test rules) m 0 - suc k) no_rule →
+          get_or (filter test rules) m no_rule ≡ get_or (r ∷ rules) (get_or (places_from (suc k) test rules) m 0 - k) no_rule
       later m h ih =
-          let p : ℕ = get_or (positions_from (suc k) test rules) m 0 in
-          let at : suc k ≤ p = (place_of rules (suc k) p (has_at (positions_from (suc k) test rules) m 0 h)).from in
+          let p : ℕ = get_or (places_from (suc k) test rules) m 0 in
+          let there = places_are test (suc k) rules p no_rule (has_at (places_from (suc k) test rules) m 0 h) in
+          let at : suc k ≤ p = omega (arith, there.1) in
           let e : p - k ≡ suc (p - suc k) = omega (arith, at) in
           ih ∙ ap (λ j. get_or (r ∷ rules) j no_rule) (sym e)
 
       step :
-          ((m : ℕ) → m < length (positions_from (suc k) test rules) → get_or (filter test rules) m no_rule ≡ get_or (r ∷ rules) (get_or (positions_from (suc k) test rules) m 0 - k) no_rule) →
-          (b : Bool) (m : ℕ) → m < length (if b then k ∷ positions_from (suc k) test rules else positions_from (suc k) test rules) →
+          ((m : ℕ) → m < length (places_from (suc k) test rules) → get_or (filter test rules) m no_rule ≡ get_or (r ∷ rules) (get_or (places_from (suc k) test rules) m 0 - k) no_rule) →
+          (b : Bool) (m : ℕ) → m < length (if b then k ∷ places_from (suc k) test rules else places_from (suc k) test rules) →
           get_or (if b then r ∷ filter test rules else filter test rules) m no_rule
-          ≡ get_or (r ∷ rules) (get_or (if b then k ∷ positions_from (suc k) test rules else positions_from (suc k) test rules) m 0 - k) no_rule
+          ≡ get_or (r ∷ rules) (get_or (if b then k ∷ places_from (suc k) test rules else places_from (suc k) test rules) m 0 - k) no_rule
       step more true zero h =
           let z : k - k ≡ 0 = omega arith in
           ap (λ j. get_or (r ∷ rules) j no_rule) (sym z)
@@ -132,19 +87,16 @@ shape_of s r h = and-both _ _ (and-both _ _ (nat_eq-same r.left s.0 h.left) (is_
 -- a rule at a position of a shape
 pub place_of_shape : (rules : List (Rule ℕ)) (s : ℕ × ℕ × ℕ) (p : ℕ) → Has (positions_with s rules) p → (p < length rules) × IsOfShape s (rule_at rules p)
 place_of_shape rules s p h =
-    let at = place_of (has_shape s) rules 0 p h in
-    let z : p - 0 ≡ p = omega arith in
-    (omega (arith, at.below), of_shape s (rule_at rules p) (subst (λ j. has_shape s (get_or rules j no_rule) ≡ true) z at.passes))
+    let at = place_is (has_shape s) rules p no_rule h in
+    (at.0, of_shape s (rule_at rules p) at.1)
 
 -- a rule of the shape has its position listed
 pub has_place_of_shape : (rules : List (Rule ℕ)) (s : ℕ × ℕ × ℕ) (p : ℕ) → p < length rules → IsOfShape s (rule_at rules p) → Has (positions_with s rules) p
-has_place_of_shape rules s p h is =
-    let z : 0 + p ≡ p = omega arith in
-    subst (Has (positions_with s rules)) z (has_place (has_shape s) rules 0 p h (shape_of s (rule_at rules p) is))
+has_place_of_shape rules s p h is = is_place (has_shape s) rules p no_rule h (shape_of s (rule_at rules p) is)
 
 -- the rules of a state, and their positions
 abbrev pub positions_of : ℕ → List (Rule ℕ) → List ℕ
-positions_of q rules = positions_from 0 (λ r. nat_eq r.left q) rules
+positions_of q rules = places_from 0 (λ (r : Rule ℕ). nat_eq r.left q) rules
 
 -- as many rules of a state as positions
 pub rules_from-length : (q : ℕ) (rules : List (Rule ℕ)) → length (rules_from q rules) ≡ length (positions_of q rules)
@@ -168,14 +120,13 @@ pub rule_of : (q : ℕ) (rules : List (Rule ℕ)) (m : ℕ) (r : Rule ℕ) → m
 rule_of q rules m r h e =
     let place : m < length (positions_of q rules) = omega (arith, rules_from-length q rules) in
     let p : ℕ = get_or (positions_of q rules) m 0 in
-    let at = place_of (λ r. nat_eq r.left q) rules 0 p (has_at (positions_of q rules) m 0 place) in
-    let z : p - 0 ≡ p = omega arith in
+    let at = place_is (λ (r : Rule ℕ). nat_eq r.left q) rules p no_rule (has_at (positions_of q rules) m 0 place) in
     let is : r ≡ rule_at rules p = e ∙ rules_from-at q rules m place in
     record {
       place = place;
-      below = omega (arith, at.below);
+      below = at.0;
       is = is;
-      left = ap (λ (r : Rule ℕ). r.left) is ∙ nat_eq-true (rule_at rules p).left q (subst (λ j. nat_eq (get_or rules j no_rule).left q ≡ true) z at.passes);
+      left = ap (λ (r : Rule ℕ). r.left) is ∙ nat_eq-true (rule_at rules p).left q at.1;
     }
 
 -- the matches of a rule
@@ -270,7 +221,7 @@ matches_fit others matches t f rank one others_normal normal root many are =
 
 -- the matches are distinct
 pub matches_distinct : (others : List (Rule ℕ)) (matches : List ℕ) (t f rank : ℕ) → matches ≡ positions_with (t, f, rank) others → Distinct matches
-matches_distinct others matches t f rank are = subst Distinct (sym are) (places_distinct (has_shape (t, f, rank)) others 0)
+matches_distinct others matches t f rank are = subst Distinct (sym are) (places_once (has_shape (t, f, rank)) others no_rule)
 
 -- the rule at place m of those of the first state, and its matches
 module _
@@ -295,7 +246,7 @@ module _
       (l : Listing) (before : AreListedFor product ones others order n (take m (positions_of key.0 ones)) l) (j : ℕ) →
       Has before.tried (get_or (positions_of key.0 ones) m 0, j) → ⊥
   fresh_here l before j h =
-      not_before (positions_of key.0 ones) m 0 (places_distinct (λ r. nat_eq r.left key.0) ones 0) rule.place (before.among (get_or (positions_of key.0 ones) m 0, j) h)
+      not_before (positions_of key.0 ones) m 0 (places_once (λ (r : Rule ℕ). nat_eq r.left key.0) ones no_rule) rule.place (before.among (get_or (positions_of key.0 ones) m 0, j) h)
 
   -- what is listed before the rule
   pub listed_here :
@@ -330,8 +281,7 @@ listed_all product ones twos order n m s key l xs are same h at listed =
     has_first : (o : ℕ × ℕ) (e : Rule (ℕ × ℕ)) → IsPairEdge product ones twos (pair_at order n) o e → Has (positions_of key.0 ones) o.0
     has_first o e edge =
         let left : (rule_at ones o.0).left ≡ key.0 = sym (ap (λ (k : ℕ × ℕ). k.0) edge.from) ∙ ap (λ (k : ℕ × ℕ). k.0) at in
-        let z : 0 + o.0 ≡ o.0 = omega arith in
-        subst (Has (positions_of key.0 ones)) z (has_place (λ r. nat_eq r.left key.0) ones 0 o.0 edge.first (nat_eq-same (rule_at ones o.0).left key.0 left))
+        is_place (λ (r : Rule ℕ). nat_eq r.left key.0) ones o.0 no_rule edge.first (nat_eq-same (rule_at ones o.0).left key.0 left)
 
 -- an empty list
 pub listed_none :

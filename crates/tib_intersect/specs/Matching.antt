@@ -1,15 +1,9 @@
 -- The positions of the rules that a rule agrees with.
-use Rattle.std.specs.Prelude.{ℕ, ◌&&◌, nat_eq, Bool, List, [], ◌∷◌, if◌then◌else◌}
-use Rattle.std.proofs.Common.{suc}
+use Rattle.std.specs.Prelude.{ℕ, ◌&&◌, nat_eq, Bool, List}
 use Rattle.tib_tree.specs.Trees.{count}
 use Rattle.tib_grammar.specs.declared.Rule.{Rule}
 use Rattle.tib_grammar.specs.Sides.{is_label}
-
--- the positions, of which the first is k, of the rules that pass a test
-abbrev pub positions_from : ℕ → (Rule ℕ → Bool) → List (Rule ℕ) → List ℕ
-positions_from k test [] = []
-positions_from k test (r ∷ rules) =
-    if test r then k ∷ positions_from (suc k) test rules else positions_from (suc k) test rules
+use Rattle.tib_shapes.specs.Places.{places_from}
 
 -- whether a rule has a left state, a label at its root and a rank; these three numbers are its shape
 abbrev pub has_shape : ℕ × ℕ × ℕ → Rule ℕ → Bool
@@ -17,4 +11,4 @@ has_shape s r = (nat_eq r.left s.0 && is_label s.1 r.right.label) && nat_eq (cou
 
 -- the positions, from 0, of the rules of a shape
 abbrev pub positions_with : ℕ × ℕ × ℕ → List (Rule ℕ) → List ℕ
-positions_with s rules = positions_from 0 (has_shape s) rules
+positions_with s rules = places_from 0 (has_shape s) rules

@@ -6,7 +6,7 @@ ghost use Rattle.tib_hunt.specs.Reached.{most_parts};
 ghost use Rattle.tib_intersect.specs.IsIndex.{IsIndex};
 ghost use Rattle.tib_intersect.specs.Listing.{IsWithinBudget, ListsPair, PairOverruns};
 
-use crate::index::Index;
+use crate::index::index_rules;
 use crate::listing::Listing;
 use crate::pair::Pair;
 use crate::pair_rule::PairRule;
@@ -14,6 +14,7 @@ use std::alloc::{AllocError, Global};
 use tib_cost::Semiring;
 use tib_hunt::ExpandError;
 use tib_normal::Normal;
+use tib_shapes::ShapeIndex;
 
 /// The pairs of a state of the one grammar and a state of the other, reached from the pair of the starts.
 #[derive(Drop)]
@@ -22,7 +23,7 @@ pub struct Pairs<'a, S> {
     pub left: &'a Normal<S>,
     /// The second grammar.
     pub right: &'a Normal<S>,
-    index: Index,
+    index: ShapeIndex,
     pub ghost indexed: { IsIndex right.now.rules index },
     pub ghost left_start: { 0 < length left.now.names },
     pub ghost right_start: { 0 < length right.now.names },
@@ -43,7 +44,7 @@ impl<'a, S: Semiring> Pairs<'a, S> {
     {
         left.grammar().is_sound();
         right.grammar().is_sound();
-        let index = Index::new(alloc, right.grammar().rule_list())?;
+        let index = index_rules(alloc, right.grammar().rule_list())?;
         Ok(Pairs { left, right, index })
     }
 

@@ -4,12 +4,20 @@ use Rattle.std.proofs.Common.{arith, subst}
 use Rattle.std.proofs.lemmas.List.{length-map}
 use Rattle.tib_grammar.specs.GrammarOf.{named_rule}
 use Rattle.tib_grammar.specs.declared.Rule.{Rule}
-use Rattle.tib_hunt.specs.Reached.{IsReachedSet, IsBeyond, parts_of}
+use Rattle.tib_hunt.specs.Reached.{IsReachedSet, IsBeyond, IfTooMany, parts_of}
+use Rattle.tib_hunt.specs.declared.found.HuntError.{HuntError}
+use Rattle.tib_hunt.specs.declared.found.HuntError.TheVariants.{TooMany as OfParts, OutOfMemory as OfHuntMemory}
 use Rattle.tib_hunt.specs.Numbered.{key_parts}
 use Rattle.tib_keyed.proofs.Limits.{each_counts}
+use Rattle.tib_classes.specs.declared.error.ClassError.{ClassError}
+use Rattle.tib_classes.specs.declared.error.ClassError.TheVariants.{Class as OfRule, OutOfMemory as OfMemory}
+use Rattle.tib_strings.specs.Range.{AreLinear, AreNondeleting}
 use Rattle.tib_strings.specs.StringTransducerOf.{StringTransducerOf}
+use Rattle.tib_strings.specs.declared.StringRule.{StringRule}
+use Rattle.tib_apply.specs.Faults.{class_error, hunt_error}
 use Rattle.tib_parse_laws.specs.Parsing.{key_at}
 use Rattle.tib_parse_laws.specs.Operation.{key_entries, edge_parts, parse}
+use Rattle.tib_parse.specs.Answered.{IsStringFault, IsParseFault}
 
 module _ (moves : StringTransducerOf) (string : List ℕ) where
   module _ (order : List (ℕ × ℕ × ℕ × ℕ)) (rules : List (Rule ℕ)) (parts limit : ℕ)
@@ -40,3 +48,15 @@ module _ (moves : StringTransducerOf) (string : List ℕ) where
 
     pub beyond_of : (limit : ℕ) → IsBeyond (parse near.rules other) limit → IsBeyond (parse moves.rules string) limit
     beyond_of limit h = subst (λ w. IsBeyond (parse moves.rules w) limit) is (subst (λ (x : StringTransducerOf). IsBeyond (parse x.rules other) limit) same h)
+
+-- the first rule that is not linear or not nondeleting is told
+pub class_fault : (moves : List (StringRule ℕ)) (string : List ℕ) (limit : ℕ) (e : ClassError) → IsStringFault moves e → IsParseFault moves string limit (class_error e)
+class_fault moves string limit (OfRule rule fault) h = h
+class_fault moves string limit OfMemory h = h
+
+-- that there are too many parts is told, with what follows from what a hunt promises of it
+pub hunt_fault :
+    (moves : List (StringRule ℕ)) (string : List ℕ) (limit : ℕ) (Found : Type 0) → AreLinear moves → AreNondeleting moves → (Found → IsBeyond (parse moves string) limit) → (e : HuntError) →
+    IfTooMany limit Found e → IsParseFault moves string limit (hunt_error e)
+hunt_fault moves string limit Found linear nondeleting so (OfParts n) h = (h.0, linear, nondeleting, so h.1)
+hunt_fault moves string limit Found linear nondeleting so OfHuntMemory h = h

@@ -1,5 +1,4 @@
 mod Copying
-mod Settled
 mod Listed
 mod Spanned
 mod Ruling

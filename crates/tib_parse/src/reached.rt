@@ -11,10 +11,9 @@ use std::alloc::Global;
 use std::sync::Wait;
 use std::thread::Threads;
 use tib_apply::ApplyError;
-use tib_classes::ClassError;
 use tib_cost::Semiring;
 use tib_grammar::Rule;
-use tib_hunt::{Found, Gate, HuntError, hunt, hunt_alone};
+use tib_hunt::{Found, Gate, hunt, hunt_alone};
 use tib_parse_laws::laws::reached_parses;
 use tib_strings::StringTransducer;
 use tib_tree::Label;
@@ -48,16 +47,9 @@ pub fn parse<S: Semiring, G: Gate>(
 {
     transducer.is_sound();
     reached_parses::<S>();
-    let problem = match Parse::new(alloc, transducer, string) {
-        Ok(problem) => problem,
-        Err(ClassError::Class { rule, fault }) => return Err(ApplyError::Class { rule, fault }),
-        Err(ClassError::OutOfMemory) => return Err(ApplyError::OutOfMemory),
-    };
-    match hunt_alone(alloc, &problem, limit, gate) {
-        Ok(found) => Ok(found),
-        Err(HuntError::TooMany { limit }) => Err(ApplyError::TooMany { limit }),
-        Err(HuntError::OutOfMemory) => Err(ApplyError::OutOfMemory),
-    }
+    let problem = Parse::new(alloc, transducer, string)?;
+    let found = hunt_alone(alloc, &problem, limit, gate)?;
+    Ok(found)
 }
 
 /// What `parse` answers, found by this number of workers, 1 to 16, whatever the order of their steps. It may wait for ever, as the hunt by
@@ -87,14 +79,7 @@ pub fn parse_together<S: Semiring + Sync, R: Threads + Wait + Sync, G: Gate + Sy
 {
     transducer.is_sound();
     reached_parses::<S>();
-    let problem = match Parse::new(alloc, transducer, string) {
-        Ok(problem) => problem,
-        Err(ClassError::Class { rule, fault }) => return Err(ApplyError::Class { rule, fault }),
-        Err(ClassError::OutOfMemory) => return Err(ApplyError::OutOfMemory),
-    };
-    match hunt(rt, alloc, &problem, workers, limit, gate) {
-        Ok(found) => Ok(found),
-        Err(HuntError::TooMany { limit }) => Err(ApplyError::TooMany { limit }),
-        Err(HuntError::OutOfMemory) => Err(ApplyError::OutOfMemory),
-    }
+    let problem = Parse::new(alloc, transducer, string)?;
+    let found = hunt(rt, alloc, &problem, workers, limit, gate)?;
+    Ok(found)
 }

@@ -14,7 +14,7 @@ use tib_strings::Word;
 /// The state of a pair, and the places before and behind it.
 pub(crate) type Span = (u32, u32, u32);
 
-/// Makes room for the pairs of so many variables.
+/// Makes room for the pairs of this many variables.
 pub(crate) fn make_room(spans: &mut Vec<Span>, count: usize) -> Result<(), AllocError>
     ensures { OnOk result (count ≤ length spans.new.items) }
 {

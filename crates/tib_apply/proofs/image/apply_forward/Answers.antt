@@ -1,31 +1,36 @@
+use Rattle.std.proofs.lemmas.Result.{err_from_is_err_and}
 use Rattle.tib_grammar.proofs.Positions.{rules_in_range}
-use Rattle.tib_keyed.proofs.Limits.{too_many}
 use Rattle.tib_apply.proofs.ForwardTables.{answer_reached, answer_beyond, few_keys, few_rules}
+use Rattle.tib_apply.proofs.Faults.{class_fault, hunt_fault}
 use Rattle.tib_apply.proofs.image.apply_forward.Goals as goal
 
-pub returns-in-Ok-hunt_alone-clause-reached : goal.returns-in-Ok-hunt_alone-clause-reached
-returns-in-Ok-hunt_alone-clause-reached g c =
-    answer_reached g.met.S.Semiring.laws c.in-Ok.forward.grammar.now c.args.grammar.now c.in-Ok.forward.transducer.now c.args.transducer.now c.in-Ok.ensures.grammar c.in-Ok.ensures.transducer c.in-Ok.forward.runs c.in-Ok.ensures.least
-    c.in-Ok-hunt_alone.found.order.items _ (c.in-Ok-hunt_alone.ensures.reached (0, 0, 0))
+pub returns-clause-reached : goal.returns-clause-reached
+returns-clause-reached g c =
+    answer_reached g.met.S.Semiring.laws c.in_ok-forward.forward.grammar.now c.args.grammar.now c.in_ok-forward.forward.transducer.now c.args.transducer.now c.in_ok-forward.ensures.grammar c.in_ok-forward.ensures.transducer c.in_ok-forward.forward.runs c.in_ok-forward.ensures.least
+    c.in_ok-found.found.order.items _ (c.in_ok-found.ensures.reached (0, 0, 0))
 
-pub returns-in-Ok-hunt_alone-clause-range : goal.returns-in-Ok-hunt_alone-clause-range
-returns-in-Ok-hunt_alone-clause-range g c = rules_in_range _ c.in-Ok-hunt_alone.found.rules.items c.in-Ok-hunt_alone.ensures.positions
+pub returns-clause-range : goal.returns-clause-range
+returns-clause-range g c = rules_in_range _ c.in_ok-found.found.rules.items c.in_ok-found.ensures.positions
 
-pub returns-in-Ok-hunt_alone-clause-parts : goal.returns-in-Ok-hunt_alone-clause-parts
-returns-in-Ok-hunt_alone-clause-parts g c = c.in-Ok-hunt_alone.ensures.parts (0, 0, 0)
+pub returns-clause-parts : goal.returns-clause-parts
+returns-clause-parts g c = c.in_ok-found.ensures.parts (0, 0, 0)
 
-pub returns-in-Ok-hunt_alone-clause-few : goal.returns-in-Ok-hunt_alone-clause-few
-returns-in-Ok-hunt_alone-clause-few g c =
-    few_keys c.in-Ok-hunt_alone.found.order.items c.in-Ok-hunt_alone.found.rules.items c.in-Ok-hunt_alone.found.parts c.args.limit (c.in-Ok-hunt_alone.ensures.parts (0, 0, 0)) c.in-Ok-hunt_alone.ensures.within
+pub returns-clause-few : goal.returns-clause-few
+returns-clause-few g c =
+    few_keys c.in_ok-found.found.order.items c.in_ok-found.found.rules.items c.in_ok-found.found.parts c.args.limit (c.in_ok-found.ensures.parts (0, 0, 0)) c.in_ok-found.ensures.within
 
-pub returns-in-Ok-hunt_alone-clause-few_rules : goal.returns-in-Ok-hunt_alone-clause-few_rules
-returns-in-Ok-hunt_alone-clause-few_rules g c =
-    few_rules c.in-Ok-hunt_alone.found.order.items c.in-Ok-hunt_alone.found.rules.items c.in-Ok-hunt_alone.found.parts c.args.limit (c.in-Ok-hunt_alone.ensures.parts (0, 0, 0)) c.in-Ok-hunt_alone.ensures.within
+pub returns-clause-few_rules : goal.returns-clause-few_rules
+returns-clause-few_rules g c =
+    few_rules c.in_ok-found.found.order.items c.in_ok-found.found.rules.items c.in_ok-found.found.parts c.args.limit (c.in_ok-found.ensures.parts (0, 0, 0)) c.in_ok-found.ensures.within
 
-pub returns-in-Err-TooMany-clause-fault : goal.returns-in-Err-TooMany-clause-fault
-returns-in-Err-TooMany-clause-fault g c =
-    let said = too_many c.args.limit c.in-Err-TooMany.limit _ c.in-Err-TooMany.field-0 c.in-Err-TooMany.field-0-is c.in-Err-TooMany.ensures.more in (
-      said.0,
-      answer_beyond g.met.S.Semiring.laws c.in-Ok.forward.grammar.now c.args.grammar.now c.in-Ok.forward.transducer.now c.args.transducer.now c.in-Ok.ensures.grammar c.in-Ok.ensures.transducer c.in-Ok.forward.runs
-          c.in-Ok.ensures.least c.args.limit said.1,
-    )
+pub returns-in_err-forward-clause-fault : goal.returns-in_err-forward-clause-fault
+returns-in_err-forward-clause-fault g c =
+    let p = err_from_is_err_and c.from_residual.result c.from_residual.ensures.1 in
+    rw (p.1, p.2) (class_fault _ c.args.transducer.now.rules c.args.limit _ c.in_err-forward.field-0.0 c.in_err-forward.ensures.fault)
+
+pub returns-in_err-found-clause-fault : goal.returns-in_err-found-clause-fault
+returns-in_err-found-clause-fault g c =
+    let p = err_from_is_err_and c.from_residual-in_err-found.result c.from_residual-in_err-found.ensures.1 in
+    rw (p.1, p.2)
+    (hunt_fault _ c.args.transducer.now.rules c.args.limit _ _ (answer_beyond g.met.S.Semiring.laws c.in_ok-forward.forward.grammar.now c.args.grammar.now c.in_ok-forward.forward.transducer.now c.args.transducer.now c.in_ok-forward.ensures.grammar c.in_ok-forward.ensures.transducer c.in_ok-forward.forward.runs c.in_ok-forward.ensures.least c.args.limit)
+    c.in_err-found.field-0.0 c.in_err-found.ensures.more)

@@ -1,41 +1,45 @@
 use Rattle.std.proofs.Common.{length}
-use Rattle.tib_keyed.proofs.Limits.{too_many}
+use Rattle.std.proofs.lemmas.Result.{err_from_is_err_and}
 use Rattle.tib_grammar.proofs.Positions.{rules_in_range}
 use Rattle.tib_parse_laws.specs.Parsing.{first_key}
-use Rattle.tib_parse.proofs.Answering.{few_keys, few_rules, reached_of, parts_are, beyond_of}
+use Rattle.tib_parse.proofs.Answering.{few_keys, few_rules, reached_of, parts_are, beyond_of, class_fault, hunt_fault}
 use Rattle.tib_parse.proofs.reached.parse.Goals as goal
 
-pub returns-in-Ok-hunt_alone-clause-reached : goal.returns-in-Ok-hunt_alone-clause-reached
-returns-in-Ok-hunt_alone-clause-reached g c =
-    reached_of c.args.transducer.now c.args.string.now c.in-Ok.problem.transducer.now c.in-Ok.ensures.transducer c.in-Ok.problem.string.now c.in-Ok.ensures.string c.in-Ok-hunt_alone.found.order.items c.in-Ok-hunt_alone.found.rules.items
-    (c.in-Ok-hunt_alone.ensures.reached (first_key (length c.in-Ok.problem.string.now)))
+pub returns-clause-reached : goal.returns-clause-reached
+returns-clause-reached g c =
+    reached_of c.args.transducer.now c.args.string.now c.in_ok-problem.problem.transducer.now c.in_ok-problem.ensures.transducer c.in_ok-problem.problem.string.now c.in_ok-problem.ensures.string c.in_ok-found.found.order.items c.in_ok-found.found.rules.items
+    (c.in_ok-found.ensures.reached (first_key (length c.in_ok-problem.problem.string.now)))
 
-pub returns-in-Ok-hunt_alone-clause-range : goal.returns-in-Ok-hunt_alone-clause-range
-returns-in-Ok-hunt_alone-clause-range g c = rules_in_range (length c.in-Ok-hunt_alone.found.order.items) c.in-Ok-hunt_alone.found.rules.items c.in-Ok-hunt_alone.ensures.positions
+pub returns-clause-range : goal.returns-clause-range
+returns-clause-range g c = rules_in_range (length c.in_ok-found.found.order.items) c.in_ok-found.found.rules.items c.in_ok-found.ensures.positions
 
-pub returns-in-Ok-hunt_alone-clause-series : goal.returns-in-Ok-hunt_alone-clause-series
-returns-in-Ok-hunt_alone-clause-series g c t v =
-    c.reached_parses.ensures c.args.transducer.now.rules c.is_sound.ensures.shaped c.in-Ok.ensures.linear c.in-Ok.ensures.nondeleting c.args.string.now c.in-Ok-hunt_alone.found.order.items c.in-Ok-hunt_alone.found.rules.items
-    (returns-in-Ok-hunt_alone-clause-range g c) (returns-in-Ok-hunt_alone-clause-reached g c) t v
+pub returns-clause-series : goal.returns-clause-series
+returns-clause-series g c t v =
+    c.reached_parses.ensures c.args.transducer.now.rules c.is_sound.ensures.shaped c.in_ok-problem.ensures.linear c.in_ok-problem.ensures.nondeleting c.args.string.now c.in_ok-found.found.order.items c.in_ok-found.found.rules.items
+    (returns-clause-range g c) (returns-clause-reached g c) t v
 
-pub returns-in-Ok-hunt_alone-clause-parts : goal.returns-in-Ok-hunt_alone-clause-parts
-returns-in-Ok-hunt_alone-clause-parts g c =
-    parts_are c.args.transducer.now c.args.string.now c.in-Ok.problem.transducer.now c.in-Ok.ensures.transducer c.in-Ok.problem.string.now c.in-Ok.ensures.string c.in-Ok-hunt_alone.found.parts c.in-Ok-hunt_alone.found.order.items c.in-Ok-hunt_alone.found.rules.items
-    (c.in-Ok-hunt_alone.ensures.parts (first_key (length c.in-Ok.problem.string.now)))
+pub returns-clause-parts : goal.returns-clause-parts
+returns-clause-parts g c =
+    parts_are c.args.transducer.now c.args.string.now c.in_ok-problem.problem.transducer.now c.in_ok-problem.ensures.transducer c.in_ok-problem.problem.string.now c.in_ok-problem.ensures.string c.in_ok-found.found.parts c.in_ok-found.found.order.items c.in_ok-found.found.rules.items
+    (c.in_ok-found.ensures.parts (first_key (length c.in_ok-problem.problem.string.now)))
 
-pub returns-in-Ok-hunt_alone-clause-few : goal.returns-in-Ok-hunt_alone-clause-few
-returns-in-Ok-hunt_alone-clause-few g c =
-    few_keys c.args.transducer.now c.args.string.now c.in-Ok-hunt_alone.found.order.items c.in-Ok-hunt_alone.found.rules.items c.in-Ok-hunt_alone.found.parts c.args.limit (returns-in-Ok-hunt_alone-clause-parts g c) c.in-Ok-hunt_alone.ensures.within
+pub returns-clause-few : goal.returns-clause-few
+returns-clause-few g c =
+    few_keys c.args.transducer.now c.args.string.now c.in_ok-found.found.order.items c.in_ok-found.found.rules.items c.in_ok-found.found.parts c.args.limit (returns-clause-parts g c) c.in_ok-found.ensures.within
 
-pub returns-in-Ok-hunt_alone-clause-few_rules : goal.returns-in-Ok-hunt_alone-clause-few_rules
-returns-in-Ok-hunt_alone-clause-few_rules g c =
-    few_rules c.args.transducer.now c.args.string.now c.in-Ok-hunt_alone.found.order.items c.in-Ok-hunt_alone.found.rules.items c.in-Ok-hunt_alone.found.parts c.args.limit (returns-in-Ok-hunt_alone-clause-parts g c) c.in-Ok-hunt_alone.ensures.within
+pub returns-clause-few_rules : goal.returns-clause-few_rules
+returns-clause-few_rules g c =
+    few_rules c.args.transducer.now c.args.string.now c.in_ok-found.found.order.items c.in_ok-found.found.rules.items c.in_ok-found.found.parts c.args.limit (returns-clause-parts g c) c.in_ok-found.ensures.within
 
-pub returns-in-Err-TooMany-clause-fault : goal.returns-in-Err-TooMany-clause-fault
-returns-in-Err-TooMany-clause-fault g c =
-    let more = too_many c.args.limit c.in-Err-TooMany.limit _ c.in-Err-TooMany.field-0 c.in-Err-TooMany.field-0-is c.in-Err-TooMany.ensures.more in (
-      more.0,
-      c.in-Ok.ensures.linear,
-      c.in-Ok.ensures.nondeleting,
-      beyond_of c.args.transducer.now c.args.string.now c.in-Ok.problem.transducer.now c.in-Ok.ensures.transducer c.in-Ok.problem.string.now c.in-Ok.ensures.string c.args.limit more.1,
-    )
+pub returns-in_err-problem-clause-fault : goal.returns-in_err-problem-clause-fault
+returns-in_err-problem-clause-fault g c =
+    let p = err_from_is_err_and c.from_residual.result c.from_residual.ensures.1 in
+    rw (p.1, p.2) (class_fault c.args.transducer.now.rules c.args.string.now c.args.limit c.in_err-problem.field-0.0 c.in_err-problem.ensures.fault)
+
+pub returns-in_err-found-clause-fault : goal.returns-in_err-found-clause-fault
+returns-in_err-found-clause-fault g c =
+    let p = err_from_is_err_and c.from_residual-in_err-found.result c.from_residual-in_err-found.ensures.1 in
+    rw (p.1, p.2)
+    (hunt_fault c.args.transducer.now.rules c.args.string.now c.args.limit _ c.in_ok-problem.ensures.linear c.in_ok-problem.ensures.nondeleting
+    (beyond_of c.args.transducer.now c.args.string.now c.in_ok-problem.problem.transducer.now c.in_ok-problem.ensures.transducer c.in_ok-problem.problem.string.now c.in_ok-problem.ensures.string c.args.limit)
+    c.in_err-found.field-0.0 c.in_err-found.ensures.more)

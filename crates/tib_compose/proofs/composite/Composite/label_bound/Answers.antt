@@ -24,5 +24,5 @@ returns g c = λ ready known m h.
     let r = c.args.reading in
     let ps = c.find-position-items.result.now in
     let is = is_reader two r.state r.label r.rank (length two) m (omega arith) h in
-    let there : Has ps m = subst (λ (xs : List ℕ). Has xs m) (sym (c.find-position-items.ensures two c.args.self.now.indexed)) h in
+    let there : Has ps m = subst (λ (xs : List ℕ). Has xs m) (sym (c.find-position-items.ensures ∙ c.args.self.now.indexed (r.state, r.label, r.rank))) h in
     c.loop-position.invariant m (whole_has ps c.loop-position.position-index m c.loop-position-test.false there) ready known r.state r.label r.rank is.0 is.1

@@ -32,7 +32,7 @@ loop-reader-preserved g c =
     let flat : IsFlatOver (pairs_of items) c.args.label c.args.rank = subst (λ xs. IsFlatOver xs c.args.label c.args.rank) (sym is) c.requires.flat in
     let children : HasChildren (pairs_of items) = subst HasChildren (sym c.items-items.ensures.items) (IsOneTree-preorder_of r.right).nested in
     let ps = c.find-reader-items.result.now in
-    let are : ps ≡ readers_with (c.args.key.1, c.args.label, c.args.rank) two = c.find-reader-items.ensures two c.args.self.now.indexed ∙ ap (λ q. readers_with (q, c.args.label, c.args.rank) two) c.second.ensures in
+    let are : ps ≡ readers_with (c.args.key.1, c.args.label, c.args.rank) two = c.find-reader-items.ensures ∙ c.args.self.now.indexed (c.second.result, c.args.label, c.args.rank) ∙ ap (λ q. readers_with (q, c.args.label, c.args.rank) two) c.second.ensures in
     let i = c.loop-reader.reader-index in
     record {
       within = c.in-Ok.ensures.within;
@@ -57,7 +57,7 @@ returns-in-Err-clause-more g c = λ e order es lists.
     let flat : IsFlatOver (pairs_of items) c.args.label c.args.rank = subst (λ xs. IsFlatOver xs c.args.label c.args.rank) (sym is) c.requires.flat in
     let children : HasChildren (pairs_of items) = subst HasChildren (sym c.items-items.ensures.items) (IsOneTree-preorder_of r.right).nested in
     let ps = c.find-reader-items.result.now in
-    let are : ps ≡ readers_with (c.args.key.1, c.args.label, c.args.rank) two = c.find-reader-items.ensures two c.args.self.now.indexed ∙ ap (λ q. readers_with (q, c.args.label, c.args.rank) two) c.second.ensures in
+    let are : ps ≡ readers_with (c.args.key.1, c.args.label, c.args.rank) two = c.find-reader-items.ensures ∙ c.args.self.now.indexed (c.second.result, c.args.label, c.args.rank) ∙ ap (λ q. readers_with (q, c.args.label, c.args.rank) two) c.second.ensures in
     let i = c.loop-reader.reader-index in
     let ready = are_ready g.met.S.Semiring.laws two c.is_sound.ensures.shaped c.is_sound.ensures.leaves in
     let reads = reads_there product one two c.args.key c.args.position ready r at items is c.args.label c.args.rank flat children ps are i c.loop-reader-test.true in
@@ -79,7 +79,7 @@ returns-clause-listed g c = λ order es lists.
     let flat : IsFlatOver (pairs_of items) c.args.label c.args.rank = subst (λ xs. IsFlatOver xs c.args.label c.args.rank) (sym is) c.requires.flat in
     let children : HasChildren (pairs_of items) = subst HasChildren (sym c.items-items.ensures.items) (IsOneTree-preorder_of r.right).nested in
     let ps = c.find-reader-items.result.now in
-    let are : ps ≡ readers_with (c.args.key.1, c.args.label, c.args.rank) two = c.find-reader-items.ensures two c.args.self.now.indexed ∙ ap (λ q. readers_with (q, c.args.label, c.args.rank) two) c.second.ensures in
+    let are : ps ≡ readers_with (c.args.key.1, c.args.label, c.args.rank) two = c.find-reader-items.ensures ∙ c.args.self.now.indexed (c.second.result, c.args.label, c.args.rank) ∙ ap (λ q. readers_with (q, c.args.label, c.args.rank) two) c.second.ensures in
     let i = c.loop-reader.reader-index in
     let ready = are_ready g.met.S.Semiring.laws two c.is_sound.ensures.shaped c.is_sound.ensures.leaves in
     subst (λ xs. IsListing order c.args.key xs c.loop-reader.listing) (readers_all product one two c.args.key c.args.position ready r at items is c.args.label c.args.rank flat children ps are es i c.loop-reader-test.false)

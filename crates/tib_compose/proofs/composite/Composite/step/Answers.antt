@@ -19,14 +19,14 @@ returns-in_default-get-clause-steps g c = λ ready known order key all h.
     let t = c.in-Some.turn in
     turn_ends c.args.source.now c.args.left.now g.S.Semiring.product two ready known order key all c.args.search.now c.args.listing.now h c.pop.new.self.items t c.in-Some.ensures.items
     (record { branch = c.args.search.now.branch; turns = c.pop.new.self }) refl refl
-    (beyond c.find-readers.result.now (readers_with (t.reading.state, t.reading.label, t.reading.rank) two) t.tried (c.find-readers.ensures two c.args.self.now.indexed) c.in_default-get.ensures.lookup.0)
+    (beyond c.find-readers.result.now (readers_with (t.reading.state, t.reading.label, t.reading.rank) two) t.tried (c.find-readers.ensures ∙ c.args.self.now.indexed (t.reading.state, t.reading.label, t.reading.rank)) c.in_default-get.ensures.lookup.0)
 
 pub returns-then-not-alive-clause-steps : goal.returns-then-not-alive-clause-steps
 returns-then-not-alive-clause-steps g c = λ ready known order key all h.
     let two = c.args.self.now.second.now.rules in
     let t = c.in-Some.turn in
     let rs : List ℕ = readers_with (t.reading.state, t.reading.label, t.reading.rank) two in
-    let are : c.find-readers.result.now ≡ rs = c.find-readers.ensures two c.args.self.now.indexed in
+    let are : c.find-readers.result.now ≡ rs = c.find-readers.ensures ∙ c.args.self.now.indexed (t.reading.state, t.reading.label, t.reading.rank) in
     let look = c.in-Some-get.ensures.lookup in
     turn_dead c.args.source.now c.args.left.now g.S.Semiring.product two ready known order key all c.args.search.now c.args.listing.now h c.pop.new.self.items t c.in-Some.ensures.items
     c.in-Some-get.position.now (subst (λ (xs : List ℕ). t.tried < length xs) are look.3.0) (ap (λ (xs : List ℕ). get_or xs t.tried 0) (sym are) ∙ sym (look.3.1 0))
@@ -40,7 +40,7 @@ returns-in-Ok-go_on-clause-steps g c = λ ready known order key all h.
     let two = c.args.self.now.second.now.rules in
     let t = c.in-Some.turn in
     let rs : List ℕ = readers_with (t.reading.state, t.reading.label, t.reading.rank) two in
-    let are : c.find-readers.result.now ≡ rs = c.find-readers.ensures two c.args.self.now.indexed in
+    let are : c.find-readers.result.now ≡ rs = c.find-readers.ensures ∙ c.args.self.now.indexed (t.reading.state, t.reading.label, t.reading.rank) in
     let look = c.in-Some-get.ensures.lookup in
     c.in-Ok-go_on.ensures.goes g.S.Semiring.product two ready known order key all
     (turn_alive c.args.source.now c.args.left.now g.S.Semiring.product two ready known order key all c.args.search.now c.args.listing.now h c.pop.new.self.items t c.in-Some.ensures.items
@@ -55,7 +55,7 @@ returns-in-Err-clause-more g c = λ e ready known order key all h.
     let two = c.args.self.now.second.now.rules in
     let t = c.in-Some.turn in
     let rs : List ℕ = readers_with (t.reading.state, t.reading.label, t.reading.rank) two in
-    let are : c.find-readers.result.now ≡ rs = c.find-readers.ensures two c.args.self.now.indexed in
+    let are : c.find-readers.result.now ≡ rs = c.find-readers.ensures ∙ c.args.self.now.indexed (t.reading.state, t.reading.label, t.reading.rank) in
     let look = c.in-Some-get.ensures.lookup in
     c.go_on.ensures.more (c.in-Err.is ∙ same_fault c.in-Err.fault e) g.S.Semiring.product two ready known order key all
     (turn_alive c.args.source.now c.args.left.now g.S.Semiring.product two ready known order key all c.args.search.now c.args.listing.now h c.pop.new.self.items t c.in-Some.ensures.items

@@ -34,7 +34,7 @@ list_rule-requires-clause-below g c =
     let label_is = c.root_at-label.ensures.label ∙ ap (λ n. (subtree t n).label) c.node.ensures in
     let rank_is = c.root_at-label.ensures.rank ∙ ap (λ n. count (subtree t n).kids) c.node.ensures in
     let ps = c.find-rule_position-items.result.now in
-    let are = c.find-rule_position-items.ensures moves c.args.self.now.indexed in
+    let are = c.find-rule_position-items.ensures ∙ c.args.self.now.indexed (c.state.result, c.root_at-label.result.0, c.root_at-label.result.1) in
     let i = c.loop-rule_position.rule_position-index in
     (rule_here moves t key c.state.result c.root_at-label.result.0 c.root_at-label.result.1 c.state.ensures label_is rank_is ps are i (get_or ps i 0) c.loop-rule_position-test.true refl).0
 
@@ -46,7 +46,7 @@ list_rule-requires-clause-state g c =
     let label_is = c.root_at-label.ensures.label ∙ ap (λ n. (subtree t n).label) c.node.ensures in
     let rank_is = c.root_at-label.ensures.rank ∙ ap (λ n. count (subtree t n).kids) c.node.ensures in
     let ps = c.find-rule_position-items.result.now in
-    let are = c.find-rule_position-items.ensures moves c.args.self.now.indexed in
+    let are = c.find-rule_position-items.ensures ∙ c.args.self.now.indexed (c.state.result, c.root_at-label.result.0, c.root_at-label.result.1) in
     let i = c.loop-rule_position.rule_position-index in
     (rule_here moves t key c.state.result c.root_at-label.result.0 c.root_at-label.result.1 c.state.ensures label_is rank_is ps are i (get_or ps i 0) c.loop-rule_position-test.true refl).1
 
@@ -58,7 +58,7 @@ returns-in-Err-clause-more g c = λ e order within here.
     let label_is = c.root_at-label.ensures.label ∙ ap (λ n. (subtree t n).label) c.node.ensures in
     let rank_is = c.root_at-label.ensures.rank ∙ ap (λ n. count (subtree t n).kids) c.node.ensures in
     let ps = c.find-rule_position-items.result.now in
-    let are = c.find-rule_position-items.ensures moves c.args.self.now.indexed in
+    let are = c.find-rule_position-items.ensures ∙ c.args.self.now.indexed (c.state.result, c.root_at-label.result.0, c.root_at-label.result.1) in
     let i = c.loop-rule_position.rule_position-index in
     let Gives = IsImageEdge moves t key in
     let place = c.loop-rule_position.invariant.position in
@@ -74,7 +74,7 @@ loop-rule_position-preserved g c =
     let label_is = c.root_at-label.ensures.label ∙ ap (λ n. (subtree t n).label) c.node.ensures in
     let rank_is = c.root_at-label.ensures.rank ∙ ap (λ n. count (subtree t n).kids) c.node.ensures in
     let ps = c.find-rule_position-items.result.now in
-    let are = c.find-rule_position-items.ensures moves c.args.self.now.indexed in
+    let are = c.find-rule_position-items.ensures ∙ c.args.self.now.indexed (c.state.result, c.root_at-label.result.0, c.root_at-label.result.1) in
     let i = c.loop-rule_position.rule_position-index in
     let place = c.loop-rule_position.invariant.position in
     record {
@@ -94,7 +94,7 @@ returns-clause-listed g c = λ order within here.
     let label_is = c.root_at-label.ensures.label ∙ ap (λ n. (subtree t n).label) c.node.ensures in
     let rank_is = c.root_at-label.ensures.rank ∙ ap (λ n. count (subtree t n).kids) c.node.ensures in
     let ps = c.find-rule_position-items.result.now in
-    let are = c.find-rule_position-items.ensures moves c.args.self.now.indexed in
+    let are = c.find-rule_position-items.ensures ∙ c.args.self.now.indexed (c.state.result, c.root_at-label.result.0, c.root_at-label.result.1) in
     let i = c.loop-rule_position.rule_position-index in
     key_whole (IsImageEdge moves t key) order ps i c.loop-rule_position.listing (all_stand moves t key c.state.result c.root_at-label.result.0 c.root_at-label.result.1 c.state.ensures label_is rank_is ps are c.is_sound.ensures.shaped) c.loop-rule_position-test.false
     (c.loop-rule_position.invariant.listed order within here)

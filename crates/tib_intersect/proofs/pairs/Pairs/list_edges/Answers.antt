@@ -38,12 +38,12 @@ add_matches-requires-clause-positions g c =
     let normal = rule_normal key.0 ones c.loop-one.one-index one c.grammar.ensures.normal.normal rule in
     let others_normal : AreNormal others = subst AreNormal (sym o) c.grammar-2.ensures.normal.normal in
     let are : matches ≡ positions_with (c.second.result, c.root-label.result.0, c.root-label.result.1) others =
-    c.find-matches.ensures twos c.args.self.now.indexed ∙ ap (λ (rs : List (Rule ℕ)). positions_with (c.second.result, c.root-label.result.0, c.root-label.result.1) rs) (sym o) in
+    c.find-matches.ensures ∙ c.args.self.now.indexed (c.second.result, c.root-label.result.0, c.root-label.result.1) ∙ ap (λ (rs : List (Rule ℕ)). positions_with (c.second.result, c.root-label.result.0, c.root-label.result.1) rs) (sym o) in
     matches_fit others matches c.second.result c.root-label.result.0 c.root-label.result.1 one others_normal normal c.root-label.ensures.label c.root-label.ensures.rank are
 
 pub add_matches-requires-clause-distinct : goal.add_matches-requires-clause-distinct
 add_matches-requires-clause-distinct g c =
-    let are = c.find-matches.ensures c.args.self.now.right.now.rules c.args.self.now.indexed in
+    let are = c.find-matches.ensures ∙ c.args.self.now.indexed (c.second.result, c.root-label.result.0, c.root-label.result.1) in
     matches_distinct c.args.self.now.right.now.rules c.find-matches.result.now c.second.result c.root-label.result.0 c.root-label.result.1 are
 
 pub returns-in-Err-clause-more : goal.returns-in-Err-clause-more
@@ -59,7 +59,7 @@ returns-in-Err-clause-more g c e order within at =
     let normal = rule_normal key.0 ones c.loop-one.one-index one c.grammar.ensures.normal.normal rule in
     let others_normal : AreNormal others = subst AreNormal (sym o) c.grammar-2.ensures.normal.normal in
     let are : matches ≡ positions_with (c.second.result, c.root-label.result.0, c.root-label.result.1) others =
-    c.find-matches.ensures twos c.args.self.now.indexed ∙ ap (λ (rs : List (Rule ℕ)). positions_with (c.second.result, c.root-label.result.0, c.root-label.result.1) rs) (sym o) in
+    c.find-matches.ensures ∙ c.args.self.now.indexed (c.second.result, c.root-label.result.0, c.root-label.result.1) ∙ ap (λ (rs : List (Rule ℕ)). positions_with (c.second.result, c.root-label.result.0, c.root-label.result.1) rs) (sym o) in
     let m = c.loop-one.one-index in
     let n = c.loop-one.listing.position in
     let same : n ≡ c.args.position = c.loop-one.invariant.position in
@@ -92,7 +92,7 @@ loop-one-preserved g c = record {
       let normal = rule_normal key.0 ones c.loop-one.one-index one c.grammar.ensures.normal.normal rule in
       let others_normal : AreNormal others = subst AreNormal (sym o) c.grammar-2.ensures.normal.normal in
       let are : matches ≡ positions_with (c.second.result, c.root-label.result.0, c.root-label.result.1) others =
-      c.find-matches.ensures twos c.args.self.now.indexed ∙ ap (λ (rs : List (Rule ℕ)). positions_with (c.second.result, c.root-label.result.0, c.root-label.result.1) rs) (sym o) in
+      c.find-matches.ensures ∙ c.args.self.now.indexed (c.second.result, c.root-label.result.0, c.root-label.result.1) ∙ ap (λ (rs : List (Rule ℕ)). positions_with (c.second.result, c.root-label.result.0, c.root-label.result.1) rs) (sym o) in
       let m = c.loop-one.one-index in
       let n = c.loop-one.listing.position in
       let same : n ≡ c.args.position = c.loop-one.invariant.position in
