@@ -9,9 +9,8 @@ use Rattle.tib_hunt.specs.EdgeLists.{AreListed, IsEnd, Exceeds, key_at}
 use Rattle.tib_hunt.specs.Reached.{Operation, IsNew, AfterRounds, IsReached, AreEdges, IsBeyond}
 use Rattle.tib_hunt.specs.Numbered.{key_parts, Name, HaveMore, IsInOrder, moved_to}
 use Rattle.tib_hunt.specs.Reading.{Reading}
-use Rattle.tib_hunt.specs.Rows.{read_rows}
+use Rattle.tib_hunt.specs.Rows.{NumberedRow, read_rows}
 use Rattle.tib_hunt.specs.Held.{Leads}
-use Rattle.tib_hunt.specs.declared.row.Row.{Row}
 use Rattle.tib_hunt.proofs.Reaching.{IsHunt, edges_stay, beyond, beyond_more, in_reached, seeds_reached}
 use Rattle.tib_hunt.proofs.Sights.{take_front, total_least}
 use Rattle.tib_hunt.proofs.Settling.{Settled}
@@ -28,15 +27,15 @@ apart_of (x ∷ xs) ys k d (inr h) m = apart_of xs ys k d.1 h m
 module _ {K O E R T : Type 0} {p : Operation K O E} {admits : K → Type 0} {reading : Reading K E R T}
     {cmp : K → K → Ordering} {entries : K → ℕ} {eq : K → K → Bool} (hunt : IsHunt p admits reading cmp entries eq) where
   -- the keys have no more parts than all together
-  pub keys_counted : {order keys : List K} {rules : List T} {rows : List (Row R)} {parts limit : ℕ} → IsHeld hunt order keys rules rows parts limit → total (key_parts entries) keys ≤ parts
+  pub keys_counted : {order keys : List K} {rules : List T} {rows : List (NumberedRow R)} {parts limit : ℕ} → IsHeld hunt order keys rules rows parts limit → total (key_parts entries) keys ≤ parts
   keys_counted {order} {keys} {rules} {rows} {parts} held = subst (λ f. total f keys ≤ parts) hunt.lawful.same_parts held.enough
 
   -- there are no more keys than the limit
-  pub few_keys : {order keys : List K} {rules : List T} {rows : List (Row R)} {parts limit : ℕ} → IsHeld hunt order keys rules rows parts limit → length keys ≤ limit
+  pub few_keys : {order keys : List K} {rules : List T} {rows : List (NumberedRow R)} {parts limit : ℕ} → IsHeld hunt order keys rules rows parts limit → length keys ≤ limit
   few_keys {order} {keys} held = let least = total_least entries keys in let a = keys_counted held in let b = held.within in omega arith
 
   -- keys that are too many
-  pub too_many_keys : (order keys : List K) (rules : List T) (rows : List (Row R)) (parts limit : ℕ) (h : IsHeld hunt order keys rules rows parts limit)
+  pub too_many_keys : (order keys : List K) (rules : List T) (rows : List (NumberedRow R)) (parts limit : ℕ) (h : IsHeld hunt order keys rules rows parts limit)
       (edge : O → E → Type 0) (ends : List K) (rs : List R) (ep : ℕ) → AreListed edge p.edge_parts reading.places reading.read_places order ends rs ep
       → ((k : K) → Has ends k → (Has order k → ⊥) → (whole : List K) → IsReached p whole → Has whole k)
       → (n : ℕ) → n ≤ length order → ((d : K) → AreEdges p order n (edges_so_far hunt d keys rules rows ++ map (reading.read_places (key_at d order ends)) rs))
@@ -59,7 +58,7 @@ module _ {K O E R T : Type 0} {p : Operation K O E} {admits : K → Type 0} {rea
       beyond p hunt.laws order (insert_all eq keys (d ∷ ds)) leads once n (edges_so_far hunt d keys rules rows ++ map (reading.read_places (key_at d order ends)) rs) low (edges d) limit (omega arith)
 
   -- a position with too many edges
-  pub too_many_edges : (order keys : List K) (first n : ℕ) (rules : List T) (rows : List (Row R)) (parts limit : ℕ) → IsWithinRound hunt order first n keys rules rows parts limit → n < length order
+  pub too_many_edges : (order keys : List K) (first n : ℕ) (rules : List T) (rows : List (NumberedRow R)) (parts limit : ℕ) → IsWithinRound hunt order first n keys rules rows parts limit → n < length order
       → Exceeds (p.edge order n) p.edge_parts (limit - parts) → IsBeyond p limit
   too_many_edges [] keys first n rules rows parts limit w low x = absurd (omega arith)
   too_many_edges (d ∷ order) keys first n rules rows parts limit w low x =
@@ -68,18 +67,18 @@ module _ {K O E R T : Type 0} {p : Operation K O E} {admits : K → Type 0} {rea
       beyond_more p hunt.laws (d ∷ order) keys w.held.leads w.held.once n (edges_so_far hunt d keys rules rows) w.low (w.edges d) limit (limit - parts) low x (omega arith)
 
   -- the edges of a position come to those before
-  pub with_position : (order keys : List K) (first n : ℕ) (rules : List T) (rows : List (Row R)) (parts limit : ℕ) → IsWithinRound hunt order first n keys rules rows parts limit
+  pub with_position : (order keys : List K) (first n : ℕ) (rules : List T) (rows : List (NumberedRow R)) (parts limit : ℕ) → IsWithinRound hunt order first n keys rules rows parts limit
       → (ends : List K) (rs : List R) (ep : ℕ) → AreListed (p.edge order n) p.edge_parts reading.places reading.read_places order ends rs ep → (d : K) → AreEdges p order (suc n) (edges_so_far hunt d keys rules rows ++ map (reading.read_places (key_at d order ends)) rs)
   with_position order keys first n rules rows parts limit w ends rs ep l d = (edges_so_far hunt d keys rules rows, map (reading.read_places (key_at d order ends)) rs, refl, w.edges d, l.edges d)
 
   -- each end of a position that the order lacks stands in the reached order
-  pub stands : (order keys : List K) (first n : ℕ) (rules : List T) (rows : List (Row R)) (parts limit : ℕ) → IsWithinRound hunt order first n keys rules rows parts limit → n < length order
+  pub stands : (order keys : List K) (first n : ℕ) (rules : List T) (rows : List (NumberedRow R)) (parts limit : ℕ) → IsWithinRound hunt order first n keys rules rows parts limit → n < length order
       → (ends : List K) → ((k : K) → Has ends k ↔ IsEnd (p.edge order n) p.ends_of k) → (k : K) → Has ends k → (Has order k → ⊥) → (whole : List K) → IsReached p whole → Has whole k
   stands order keys first n rules rows parts limit w low ends are k h fresh whole reached =
       (in_reached p hunt.laws w.rounds first order w.after whole reached).1 k ((n, w.from, low, (are k).0 h), fresh)
 
   -- the new ends of a position are too many
-  pub too_many_ends : (order keys : List K) (first n : ℕ) (rules : List T) (rows : List (Row R)) (parts limit : ℕ) → IsWithinRound hunt order first n keys rules rows parts limit → n < length order
+  pub too_many_ends : (order keys : List K) (first n : ℕ) (rules : List T) (rows : List (NumberedRow R)) (parts limit : ℕ) → IsWithinRound hunt order first n keys rules rows parts limit → n < length order
       → (ends : List K) (rs : List R) (ep : ℕ) → AreListed (p.edge order n) p.edge_parts reading.places reading.read_places order ends rs ep → ((k : K) → Has ends k ↔ IsEnd (p.edge order n) p.ends_of k)
       → ep ≤ limit - parts → HaveMore eq (key_parts entries) keys ends (parts + ep) limit → IsBeyond p limit
   too_many_ends order keys first n rules rows parts limit w low ends rs ep l are within more =
@@ -87,10 +86,10 @@ module _ {K O E R T : Type 0} {p : Operation K O E} {admits : K → Type 0} {rea
       (subst (λ f. HaveMore eq f keys ends (parts + ep) limit) (sym hunt.lawful.same_parts) more)
 
   -- a position is expanded
-  pub expanded : (order keys : List K) (first n : ℕ) (rules : List T) (rows : List (Row R)) (parts limit : ℕ) → IsWithinRound hunt order first n keys rules rows parts limit → n < length order
+  pub expanded : (order keys : List K) (first n : ℕ) (rules : List T) (rows : List (NumberedRow R)) (parts limit : ℕ) → IsWithinRound hunt order first n keys rules rows parts limit → n < length order
       → (ends : List K) (rs : List R) (ep : ℕ) → AreListed (p.edge order n) p.edge_parts reading.places reading.read_places order ends rs ep → ((k : K) → Has ends k ↔ IsEnd (p.edge order n) p.ends_of k)
       → ((k : K) → IsEnd (p.edge order n) p.ends_of k → admits k)
-      → (row : Row R) → row.rules.items ≡ rs → (keys' : List K) → keys' ≡ insert_all eq keys ends → Name keys' ends row.ends.items → (parts' : ℕ) → parts' + total (key_parts entries) keys ≡ (parts + ep) + total (key_parts entries) keys' → parts' ≤ limit
+      → (row : NumberedRow R) → row.rules ≡ rs → (keys' : List K) → keys' ≡ insert_all eq keys ends → Name keys' ends row.ends → (parts' : ℕ) → parts' + total (key_parts entries) keys ≡ (parts + ep) + total (key_parts entries) keys' → parts' ≤ limit
       → IsWithinRound hunt order first (n + 1) keys' rules (rows ++ row ∷ []) parts' limit
   expanded order keys first n rules rows parts limit w low ends rs ep l are allow row same_rules keys' is named parts' sums within =
       let i = inserted eq hunt.same hunt.self ends keys in
@@ -131,7 +130,7 @@ module _ {K O E R T : Type 0} {p : Operation K O E} {admits : K → Type 0} {rea
   }
 
   -- a round ends
-  pub round_ends : (order keys : List K) (first : ℕ) (rules : List T) (rows : List (Row R)) (parts limit : ℕ) (w : IsWithinRound hunt order first (length order) keys rules rows parts limit)
+  pub round_ends : (order keys : List K) (first : ℕ) (rules : List T) (rows : List (NumberedRow R)) (parts limit : ℕ) (w : IsWithinRound hunt order first (length order) keys rules rows parts limit)
       (keys' : List K) (moved : List ℕ) (sorts : IsInOrder p.cmp order w.held.fresh keys' moved) (rules' : List T)
       (settled : Settled reading (length order) moved rules rules' (λ f. read_rows reading.read_places (λ n. f (moved_to (length order) moved n)) rows))
       → IsBetween hunt (length order) keys' rules' parts limit
@@ -189,7 +188,7 @@ module _ {K O E R T : Type 0} {p : Operation K O E} {admits : K → Type 0} {rea
       (subst (λ f. HaveMore eq f [] ends (0 + ep) limit) (sym hunt.lawful.same_parts) more)
 
   module _ (limit : ℕ) (ends : List K) (rs : List R) (ep : ℕ) (l : AreListed p.seed_edge p.edge_parts reading.places reading.read_places [] ends rs ep) (are : (k : K) → Has ends k ↔ p.seed k)
-      (row : Row R) (same_rules : row.rules.items ≡ rs) (keys : List K) (is : keys ≡ insert_all eq [] ends) (named : Name keys ends row.ends.items) (parts : ℕ) (sums : parts + total p.key_parts [] ≡ (0 + ep) + total p.key_parts keys) (within : parts ≤ limit) where
+      (row : NumberedRow R) (same_rules : row.rules ≡ rs) (keys : List K) (is : keys ≡ insert_all eq [] ends) (named : Name keys ends row.ends) (parts : ℕ) (sums : parts + total p.key_parts [] ≡ (0 + ep) + total p.key_parts keys) (within : parts ≤ limit) where
     i : Inserted eq hunt.same hunt.self [] ends (insert_all eq [] ends)
     i = inserted eq hunt.same hunt.self ends []
 

@@ -7,9 +7,8 @@ use Rattle.tib_hunt.specs.EdgeLists.{AreListed}
 use Rattle.tib_hunt.specs.Reached.{Operation, IsReachedSet, AreEdges, parts_of}
 use Rattle.tib_hunt.specs.Numbered.{key_parts, Name, IsInOrder, moved_to}
 use Rattle.tib_hunt.specs.Reading.{Reading}
-use Rattle.tib_hunt.specs.Rows.{read_rows, ReadAs, StayBelow, AreBelow}
+use Rattle.tib_hunt.specs.Rows.{NumberedRow, read_rows, ReadAs, StayBelow, AreBelow}
 use Rattle.tib_hunt.specs.Held.{at}
-use Rattle.tib_hunt.specs.declared.row.Row.{Row}
 use Rattle.tib_hunt.proofs.Reaching.{IsHunt}
 use Rattle.tib_hunt.proofs.Holding.{IsHeld, IsBetween, IsWithinRound}
 use Rattle.tib_hunt.proofs.Sights.{take_front, drop_front}
@@ -22,12 +21,12 @@ module _ {K O E R T : Type 0} {p : Operation K O E} {admits : K → Type 0} {rea
   in_order {order} {fresh} {keys} {moved} sorts = subst (λ c. IsInOrder c order fresh keys moved) (sym hunt.lawful.same_order) sorts
 
   -- the fresh keys are in order behind those of the order, and the rules of the rows have the positions of their ends
-  abbrev AreSettled : ℕ → List K → List K → List T → List (Row R) → List K → List T → Type 0
+  abbrev AreSettled : ℕ → List K → List K → List T → List (NumberedRow R) → List K → List T → Type 0
   AreSettled first order fresh rules rows keys' rules' =
       (moved : List ℕ) × IsInOrder cmp order fresh keys' moved × ReadAs reading first moved rules rows rules' × StayBelow reading first moved rules rules'
 
   -- a round on one list ends where its new keys are in order
-  pub round_ends_at : (order keys : List K) (first : ℕ) (rules : List T) (rows : List (Row R)) (parts limit : ℕ) → IsWithinRound hunt order first (length order) keys rules rows parts limit
+  pub round_ends_at : (order keys : List K) (first : ℕ) (rules : List T) (rows : List (NumberedRow R)) (parts limit : ℕ) → IsWithinRound hunt order first (length order) keys rules rows parts limit
       → (keys' : List K) (rules' : List T) (parts' bound : ℕ) → bound ≡ length order → parts' ≡ parts → AreSettled bound (take bound keys) (drop bound keys) rules rows keys' rules' → IsBetween hunt (length order) keys' rules' parts' limit
   round_ends_at order keys first rules rows parts limit w keys' rules' parts' bound is same_parts (moved, sorts, read, below) =
       let t : take bound keys ≡ order = ap (take bound) w.held.keys_are ∙ take_front order w.held.fresh bound (sym is) in
@@ -41,7 +40,7 @@ module _ {K O E R T : Type 0} {p : Operation K O E} {admits : K → Type 0} {rea
       }))
 
   -- a round on shelves ends where its fresh keys are in order
-  pub fresh_round_ends : (order fresh : List K) (first : ℕ) (rules : List T) (rows : List (Row R)) (parts limit : ℕ) → IsWithinRound hunt order first (length order) (order ++ fresh) rules rows parts limit
+  pub fresh_round_ends : (order fresh : List K) (first : ℕ) (rules : List T) (rows : List (NumberedRow R)) (parts limit : ℕ) → IsWithinRound hunt order first (length order) (order ++ fresh) rules rows parts limit
       → (old keys' : List K) (rules' : List T) (parts' : ℕ) → old ≡ order → parts' ≡ parts → AreSettled (length old) old fresh rules rows keys' rules' → IsBetween hunt (length order) keys' rules' parts' limit
   fresh_round_ends order fresh first rules rows parts limit w old keys' rules' parts' is same_parts settled =
       let (moved, sorts, read, below) = subst (λ (o : List K). AreSettled (length o) o fresh rules rows keys' rules') is settled in
@@ -57,7 +56,7 @@ module _ {K O E R T : Type 0} {p : Operation K O E} {admits : K → Type 0} {rea
 
   module _ (limit : ℕ) (ends : List K) (rs : List R) (ep : ℕ) (l : AreListed p.seed_edge p.edge_parts reading.places reading.read_places [] ends rs ep) (are : (k : K) → Has ends k ↔ p.seed k)
       (none : List K) (none_is : none ≡ [])
-      (row : Row R) (rows : List (Row R)) (rows_are : rows ≡ row ∷ []) (same_rules : row.rules.items ≡ rs) (keys : List K) (is : keys ≡ insert_all eq none ends) (named : Name keys ends row.ends.items)
+      (row : NumberedRow R) (rows : List (NumberedRow R)) (rows_are : rows ≡ row ∷ []) (same_rules : row.rules ≡ rs) (keys : List K) (is : keys ≡ insert_all eq none ends) (named : Name keys ends row.ends)
       (parts : ℕ) (sums : parts + total (key_parts entries) none ≡ (0 + ep) + total (key_parts entries) keys) (within : parts ≤ limit) where
     sums_so : parts + total p.key_parts [] ≡ (0 + ep) + total p.key_parts keys
     sums_so = subst (λ (x : List K). parts + total p.key_parts x ≡ (0 + ep) + total p.key_parts keys) none_is
@@ -68,7 +67,7 @@ module _ {K O E R T : Type 0} {p : Operation K O E} {admits : K → Type 0} {rea
 
     -- what is held once the edges of the seeds are added
     pub begun : IsHeld hunt [] keys [] rows parts limit
-    begun = subst (λ (x : List (Row R)). IsHeld hunt [] keys [] x parts limit) (sym rows_are)
+    begun = subst (λ (x : List (NumberedRow R)). IsHeld hunt [] keys [] x parts limit) (sym rows_are)
         (seeds_held hunt limit ends rs ep l are row same_rules keys is_so named parts sums_so within)
 
     -- the hunt stands before its first round

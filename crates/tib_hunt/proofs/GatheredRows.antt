@@ -1,11 +1,9 @@
 -- What several workers gathered is a whole round; where rows leave an item too little, no reached set is within the limit.
-use Rattle.std.proofs.Common.{◌≡◌, ◌⊎◌, inl, inr, ℕ, zero, suc, ◌+◌, ◌-◌, ◌<◌, ◌≤◌, Bool, List, [], ◌∷◌, ◌++◌, Option, Some, None, length, map, slice_get, length-append, append_assoc, append-nil, refl, sym, ap, subst, ◌∙◌, arith}
-use Rattle.std.specs.Global.{Vec}
+use Rattle.std.proofs.Common.{◌≡◌, ◌⊎◌, inl, inr, ℕ, zero, suc, ◌+◌, ◌-◌, ◌<◌, ◌≤◌, List, [], ◌∷◌, ◌++◌, Option, Some, None, length, map, take, get_or, slice_get, length-append, append_assoc, append-nil, refl, sym, ap, subst, ◌∙◌, arith}
 use Rattle.std.specs.Prelude.{slice_index_or}
-use Rattle.std.proofs.lemmas.Bool.{cases_lt}
 use Rattle.tib_lex.specs.Lists.{Has, Distinct, Along, total}
 use Rattle.tib_lex.proofs.Lists.{total_append}
-use Rattle.std.proofs.lemmas.List.{map-append}
+use Rattle.std.proofs.lemmas.List.{take_more}
 use Rattle.tib_table.specs.Known.{on, Names, AreShelves}
 use Rattle.tib_table.specs.declared.number.Number.{Number}
 use Rattle.tib_crew.specs.Rows.{NameOn, AreRowsFrom, IsSlot, AreSlots, LeaveTooLittle, parts_in, slot_parts, parts_of_slots}
@@ -14,35 +12,16 @@ use Rattle.tib_crew.proofs.Rowing.{parts_append}
 use Rattle.tib_hunt.specs.EdgeLists.{Lists, Exceeds, IsEnd, key_at}
 use Rattle.tib_hunt.specs.Reached.{Operation, AreEdges, IsBeyond}
 use Rattle.tib_hunt.specs.Reading.{Reading}
-use Rattle.tib_hunt.specs.RoundModel.{Core, IsItem}
-use Rattle.tib_hunt.specs.RoundLaw.{IsKept, numbers_from}
+use Rattle.tib_hunt.specs.Known.{NameEnds}
+use Rattle.tib_hunt.specs.declared.known.Ruled.{Ruled}
 use Rattle.tib_hunt.specs.Held.{Leads, IsBetween, edges_so_far}
-use Rattle.tib_hunt.specs.Shelved.{IsShelvedRow, edges_of_rows, IsUnderway}
-use Rattle.tib_hunt.specs.Jobs.{items_in, IsItemEnd, GivesEdges, ItemExceeds, shelved}
-use Rattle.tib_hunt.specs.declared.shelved_row.ShelvedRow.{ShelvedRow}
+use Rattle.tib_hunt.specs.Shelved.{IsKnownRow, edges_of_rows, AreWorked}
+use Rattle.tib_hunt.specs.Jobs.{items_in, IsItemEnd, GivesEdges, ItemExceeds}
 use Rattle.tib_hunt.proofs.Reaching.{Laws, later, later_is, fewer_parts, more_parts}
 use Rattle.tib_hunt.proofs.Holding.{leads_on}
 use Rattle.tib_hunt.proofs.Members.{Lists-parts, Lists-to, total_fewer}
 use Rattle.tib_hunt.proofs.OnShelves.{got_has}
-
--- numbers in a row
-
-numbers_within : (n k i : ℕ) → Has (numbers_from n k) i → IsItem n k i
-numbers_within n zero i h = absurd h
-numbers_within n (suc k) i (inl e) = (omega arith, omega arith)
-numbers_within n (suc k) i (inr h) = let r = numbers_within (n + 1) k i h in let a = r.0 in let b = r.1 in (omega arith, omega arith)
-
-numbers_have : (n k i : ℕ) → n ≤ i → i < n + k → Has (numbers_from n k) i
-numbers_have n zero i l r = absurd (omega arith)
-numbers_have n (suc k) i l r = go (cases_lt n i) (λ m. numbers_have (n + 1) k i (omega arith) (omega arith))
-  where
-    go : (n < i) ⊎ (i ≤ n) → (n < i → Has (numbers_from (n + 1) k) i) → Has (n ∷ numbers_from (n + 1) k) i
-    go (inl m) f = inr (f m)
-    go (inr m) f = inl (omega arith)
-
-numbers_once : (n k : ℕ) → Distinct (numbers_from n k)
-numbers_once n zero = tt
-numbers_once n (suc k) = ((λ h. let r = (numbers_within (n + 1) k n h).0 in absurd (omega arith)), numbers_once (n + 1) k)
+use Rattle.tib_hunt.proofs.KnownEnds.{named_of, split_named, split_either}
 
 module _ {K : Type 0} where
   place_of : (ks : List K) (k : K) → Has ks k → (n : ℕ) × (slice_get ks n ≡ Some k)
@@ -57,16 +36,6 @@ module _ {K : Type 0} where
     (λ h. let p = place_of xs x h in let e = f 0 (suc p.0) x refl p.1 in absurd (omega arith)),
     once_at xs (λ s t k a b. let e = f (suc s) (suc t) k a b in omega arith),
   )
-
-  named_of : (shelves : List (List K)) (ends : List K) (numbers : List Number) → NameOn shelves ends numbers → (k : K) → Has ends k → (n : Number) × Names shelves n.shelf n.place k
-  named_of shelves [] numbers a k h = absurd h
-  named_of shelves (e ∷ ends) [] a k h = absurd a
-  named_of shelves (e ∷ ends) (n ∷ numbers) a k (inl is) = (n, subst (λ (x : K). Names shelves n.shelf n.place x) is a.0)
-  named_of shelves (e ∷ ends) (n ∷ numbers) a k (inr h) = named_of shelves ends numbers a.1 k h
-
-  -- the core of a round whose items are all drawn and filed
-  abbrev pub whole_core : List K → ℕ → List (List K) → Core K
-  whole_core order first shelves = record { drawn = length order - first; shelves = shelves; filed = numbers_from first (length order - first) }
 
   some : (xs : List K) (n : ℕ) → n < length xs → K
   some [] n l = absurd (omega arith)
@@ -101,110 +70,103 @@ module _ {P K O E R T : Type 0} (of : P → Operation K O E) (reading : Reading 
   abbrev p : Operation K O E
   p = of x
 
-  abbrev gives : P × List K × ℕ → ℕ → List K → Vec R → ℕ → Type 0
+  abbrev gives : P × List K × ℕ → ℕ → List K → Ruled R → ℕ → Type 0
   gives = GivesEdges of reading
 
   abbrev about : P × List K × ℕ
   about = (x, order, first)
 
-  abbrev AreRows : List (List K) → ℕ → List (Row (Vec R)) → Type 0
+  abbrev AreRows : List (List K) → ℕ → List (Row (Ruled R)) → Type 0
   AreRows = AreRowsFrom gives items_in about
 
-  abbrev sights_of : (shelves : List (List K)) (n : ℕ) (rows : List (Row (Vec R))) → AreRows shelves n rows → List (List K)
+  abbrev sights_of : (shelves : List (List K)) (n : ℕ) (rows : List (Row (Ruled R))) → AreRows shelves n rows → List (List K)
   sights_of shelves n [] a = []
-  sights_of shelves n (row ∷ rows) a = a.1.1.0 ∷ sights_of shelves (n + 1) rows a.2
+  sights_of shelves n (row ∷ rows) a = a.1.1.1.0 ∷ sights_of shelves (n + 1) rows a.2
 
-  named_along : (shelves : List (List K)) (n : ℕ) (rows : List (Row (Vec R))) (a : AreRows shelves n rows) → Along (IsShelvedRow reading.places (length order) shelves) (sights_of shelves n rows a) (map shelved rows)
+  -- the ends of a row are named
+  row_named : (shelves : List (List K)) (item : ℕ) (lacked : List K) (row : Row (Ruled R)) (given : gives about item lacked row.rules row.parts) → NameOn shelves lacked row.ends.items → NameEnds order shelves given.0 row.rules.at row.ends.items
+  row_named shelves item lacked row given named = subst (λ at. NameEnds order shelves given.0 at row.ends.items) (sym given.3.1) (split_named order shelves given.0 given.3.0.items lacked row.ends.items given.3.2 named)
+
+  named_along : (shelves : List (List K)) (n : ℕ) (rows : List (Row (Ruled R))) (a : AreRows shelves n rows) → Along (IsKnownRow reading.places order shelves) (sights_of shelves n rows a) rows
   named_along shelves n [] a = tt
-  named_along shelves n (row ∷ rows) a = ((a.1.1.2, a.1.1.1.0.within), named_along shelves (n + 1) rows a.2)
+  named_along shelves n (row ∷ rows) a = ((row_named shelves row.item a.1.1.0 row a.1.1.1 a.1.1.2, a.1.1.1.1.within), named_along shelves (n + 1) rows a.2)
 
-  counted_along : (d : K) (shelves : List (List K)) (n : ℕ) (rows : List (Row (Vec R))) (a : AreRows shelves n rows) → parts_in rows ≡ total p.edge_parts (edges_of_rows reading.read_places d order (sights_of shelves n rows a) (map shelved rows))
+  counted_along : (d : K) (shelves : List (List K)) (n : ℕ) (rows : List (Row (Ruled R))) (a : AreRows shelves n rows) → parts_in rows ≡ total p.edge_parts (edges_of_rows reading.read_places d order (sights_of shelves n rows a) rows)
   counted_along d shelves n [] a = refl
   counted_along d shelves n (row ∷ rows) a =
       let h = counted_along d shelves (n + 1) rows a.2 in
-      let c = a.1.1.1.0.counted d in
-      let t = total_append p.edge_parts (map (reading.read_places (key_at d order a.1.1.0)) row.rules.items) (edges_of_rows reading.read_places d order (sights_of shelves (n + 1) rows a.2) (map shelved rows)) in
+      let c = a.1.1.1.1.counted d in
+      let t = total_append p.edge_parts (map (reading.read_places (key_at d order a.1.1.1.0)) row.rules.rules.items) (edges_of_rows reading.read_places d order (sights_of shelves (n + 1) rows a.2) rows) in
       omega arith
 
   -- the edges of the rows are those of the positions from m on
-  edges_along : (d : K) (shelves : List (List K)) (n : ℕ) (rows : List (Row (Vec R))) (a : AreRows shelves n rows) (m : ℕ) → m ≡ first + n → (t : ℕ) → t ≡ m + length rows
-      → (front : List E) → AreEdges p order m front → AreEdges p order t (front ++ edges_of_rows reading.read_places d order (sights_of shelves n rows a) (map shelved rows))
+  edges_along : (d : K) (shelves : List (List K)) (n : ℕ) (rows : List (Row (Ruled R))) (a : AreRows shelves n rows) (m : ℕ) → m ≡ first + n → (t : ℕ) → t ≡ m + length rows
+      → (front : List E) → AreEdges p order m front → AreEdges p order t (front ++ edges_of_rows reading.read_places d order (sights_of shelves n rows a) rows)
   edges_along d shelves n [] a m at t end front e =
       subst (λ (l : List E). AreEdges p order t l) (sym (append-nil front)) (subst (λ (i : ℕ). AreEdges p order i front) (let z : m ≡ t = omega arith in z) e)
   edges_along d shelves n (row ∷ rows) a m at t end front e =
       let i = a.0 in
       let place : first + row.item ≡ m = omega arith in
-      let is : Lists (p.edge order m) (map (reading.read_places (key_at d order a.1.1.0)) row.rules.items) = subst (λ (k : ℕ). Lists (p.edge order k) (map (reading.read_places (key_at d order a.1.1.0)) row.rules.items)) place (a.1.1.1.0.edges d) in
-      subst (λ (l : List E). AreEdges p order t l) (append_assoc front (map (reading.read_places (key_at d order a.1.1.0)) row.rules.items) (edges_of_rows reading.read_places d order (sights_of shelves (n + 1) rows a.2) (map shelved rows)))
-      (edges_along d shelves (n + 1) rows a.2 (suc m) (omega arith) t (omega arith) (front ++ map (reading.read_places (key_at d order a.1.1.0)) row.rules.items) (front, map (reading.read_places (key_at d order a.1.1.0)) row.rules.items, refl, e, is))
+      let is : Lists (p.edge order m) (map (reading.read_places (key_at d order a.1.1.1.0)) row.rules.rules.items) = subst (λ (k : ℕ). Lists (p.edge order k) (map (reading.read_places (key_at d order a.1.1.1.0)) row.rules.rules.items)) place (a.1.1.1.1.edges d) in
+      subst (λ (l : List E). AreEdges p order t l) (append_assoc front (map (reading.read_places (key_at d order a.1.1.1.0)) row.rules.rules.items) (edges_of_rows reading.read_places d order (sights_of shelves (n + 1) rows a.2) rows))
+      (edges_along d shelves (n + 1) rows a.2 (suc m) (omega arith) t (omega arith) (front ++ map (reading.read_places (key_at d order a.1.1.1.0)) row.rules.rules.items) (front, map (reading.read_places (key_at d order a.1.1.1.0)) row.rules.rules.items, refl, e, is))
 
-  -- the ends of an item, and their numbers
-  row_at : (shelves : List (List K)) (n j i : ℕ) (rows : List (Row (Vec R))) → AreRows shelves n rows → j < length rows → i ≡ first + (n + j)
-      → (ends : List K) × (numbers : List Number) × ((k : K) → IsEnd (p.edge order i) p.ends_of k → Has ends k) × NameOn shelves ends numbers
-  row_at shelves n j i [] a low at = absurd (omega arith)
-  row_at shelves n zero i (row ∷ rows) a low at =
+  -- an end of an item stands in the order, or has a number
+  end_at : (shelves : List (List K)) (n j i : ℕ) (rows : List (Row (Ruled R))) → AreRows shelves n rows → j < length rows → i ≡ first + (n + j)
+      → (k : K) → IsEnd (p.edge order i) p.ends_of k → Has order k ⊎ ((m : Number) × Names shelves m.shelf m.place k)
+  end_at shelves n j i [] a low at k h = absurd (omega arith)
+  end_at shelves n zero i (row ∷ rows) a low at k h =
       let e = a.0 in
       let place : i ≡ first + row.item = omega arith in
-      (a.1.1.0, row.ends.items, (λ k h. (a.1.1.1.1 k).1 (subst (λ (m : ℕ). IsEnd (p.edge order m) p.ends_of k) place h)), a.1.1.2)
-  row_at shelves n (suc j) i (row ∷ rows) a low at = row_at shelves (n + 1) j i rows a.2 (omega arith) (omega arith)
+      let given = a.1.1.1 in
+      elim (split_either order given.0 given.3.0.items a.1.1.0 given.3.2 k ((given.2 k).1 (subst (λ (m : ℕ). IsEnd (p.edge order m) p.ends_of k) place h))) [
+        | inl b ↦ inl b
+        | inr b ↦ inr (named_of shelves a.1.1.0 row.ends.items a.1.1.2 k b)
+      ]
+  end_at shelves n (suc j) i (row ∷ rows) a low at k h = end_at shelves (n + 1) j i rows a.2 (omega arith) (omega arith) k h
 
-  module _ (shelf_of : K → ℕ) (shelves : List (List K)) (rows : List (Row (Vec R))) (gathered : AreRows shelves 0 rows) (whole : length rows ≡ length order - first)
+  module _ (shelf_of : K → ℕ) (shelves : List (List K)) (rows : List (Row (Ruled R))) (gathered : AreRows shelves 0 rows) (whole : length rows ≡ length order - first)
       (are : AreShelves (IsItemEnd of about) shelf_of shelves) where
-    abbrev core_of : Core K
-    core_of = whole_core order first shelves
-
-    is_kept : first ≤ length order → IsKept shelf_of first (length order - first) (λ i k. IsEnd (p.edge order i) p.ends_of k) core_of
-    is_kept low = record {
-      wide = are.sixteen;
-      few = omega arith;
-      only = λ shelf k h. let n = place_of (on shelves shelf) k h in let w = are.held shelf n.0 k n.1 in (w.1, w.0);
-      once = λ shelf. once_at (on shelves shelf) (λ s t k e f. (are.numbering.one_number shelf s shelf t k e f).1);
-      filed = (numbers_once first (length order - first), λ i h. numbers_within first (length order - first) i h);
-      stands = λ i h k e.
-          let l = numbers_within first (length order - first) i h in
-          let l0 = l.0 in
-          let l1 = l.1 in
-          let r = row_at shelves 0 (i - first) i rows gathered (omega arith) (omega arith) in
-          let n = named_of shelves r.0 r.1 r.3 k (r.2 k e) in
-          let w = are.held n.0.shelf n.0.place k n.1 in
-          subst (λ (s : ℕ). Has (on shelves s) k) (sym w.1) (got_has (on shelves n.0.shelf) n.0.place k n.1);
-    }
-
     -- the rows that were gathered are those of a whole round
-    pub gathered_whole : (eq : K → K → Bool) (admits : K → Type 0) (rules : List T) (was limit : ℕ) → IsBetween p admits reading first order rules was limit → parts_in rows ≤ limit - was
-        → IsUnderway p reading eq shelf_of order first (length order) core_of (map shelved rows) was (was + parts_in rows) limit
-    gathered_whole eq admits rules was limit b few =
+    pub gathered_whole : (admits : K → Type 0) (rules : List T) (was limit : ℕ) → IsBetween p admits reading first order rules was limit → (made : ℕ) → made ≡ parts_in rows → parts_in rows ≤ limit - was
+        → (lists : List (List K)) → lists ≡ shelves → AreWorked p reading shelf_of order first lists rows was (was + made) limit
+    gathered_whole admits rules was limit b made sum few lists same =
         let low = b.low in
-        record {
-          kept = is_kept low;
-          filed = λ i a c. numbers_have first (length order - first) i a (omega arith);
-          only_filed = λ i h. let l = (numbers_within first (length order - first) i h).1 in omega arith;
-          from = low;
-          drawn = omega arith;
+        subst (λ (l : List (List K)). AreWorked p reading shelf_of order first l rows was (was + made) limit) (sym same) (record {
+          once = λ shelf. once_at (on shelves shelf) (λ s t k e f. (are.numbering.one_number shelf s shelf t k e f).1);
+          only = λ shelf k h.
+              let n = place_of (on shelves shelf) k h in
+              let w = are.held shelf n.0 k n.1 in
+              let below = w.0.1.1 in
+              (w.1, (w.0.0, w.0.1.0, omega arith, w.0.2));
+          stands = λ i k a l e. elim (end_at shelves 0 (i - first) i rows gathered (omega arith) (omega arith) k e) [
+            | inl m ↦ inl m
+            | inr n ↦ (let w = are.held n.0.shelf n.0.place k n.1 in inr (subst (λ (s : ℕ). Has (on shelves s) k) (sym w.1) (got_has (on shelves n.0.shelf) n.0.place k n.1)))
+          ];
           sights = sights_of shelves 0 rows gathered;
           named = named_along shelves 0 rows gathered;
           edges = λ d front a. edges_along d shelves 0 rows gathered first (omega arith) (length order) (omega arith) front a;
           counted = λ d. let c = counted_along d shelves 0 rows gathered in omega arith;
           within = let w = b.held.within in omega arith;
-        }
+        })
 
   module _ (laws : Laws p) (known : List (List K)) where
     -- one position more has at least the parts of its row
-    one_least : (n : ℕ) (slot : Option (Row (Vec R))) → IsSlot gives items_in about known n slot → (d : K) (m : ℕ) → m ≡ first + n → (es fs : List E) → AreEdges p order m es → AreEdges p order (suc m) fs
+    one_least : (n : ℕ) (slot : Option (Row (Ruled R))) → IsSlot gives items_in about known n slot → (d : K) (m : ℕ) → m ≡ first + n → (es fs : List E) → AreEdges p order m es → AreEdges p order (suc m) fs
         → total p.edge_parts es + slot_parts slot ≤ total p.edge_parts fs
     one_least n None a d m at es fs e f = let h = fewer_parts p laws order m 1 es fs e f in omega arith
     one_least n (Some row) a d m at es fs e (front, last, is, before, l) =
         let i = a.0 in
         let place : first + row.item ≡ m = omega arith in
-        let lists : Lists (p.edge order m) (map (reading.read_places (key_at d order a.1.1.0)) row.rules.items) = subst (λ (k : ℕ). Lists (p.edge order k) (map (reading.read_places (key_at d order a.1.1.0)) row.rules.items)) place (a.1.1.1.0.edges d) in
-        let q = Lists-parts (p.edge order m) p.edge_parts (laws.one_edge order m) (map (reading.read_places (key_at d order a.1.1.0)) row.rules.items) last lists l in
-        let c = a.1.1.1.0.counted d in
+        let lists : Lists (p.edge order m) (map (reading.read_places (key_at d order a.1.1.1.0)) row.rules.rules.items) = subst (λ (k : ℕ). Lists (p.edge order k) (map (reading.read_places (key_at d order a.1.1.1.0)) row.rules.rules.items)) place (a.1.1.1.1.edges d) in
+        let q = Lists-parts (p.edge order m) p.edge_parts (laws.one_edge order m) (map (reading.read_places (key_at d order a.1.1.1.0)) row.rules.rules.items) last lists l in
+        let c = a.1.1.1.1.counted d in
         let h = fewer_parts p laws order m 0 es front e before in
         let s = ap (total p.edge_parts) is ∙ total_append p.edge_parts front last in
         omega arith
 
     -- the positions have at least the parts of the rows that are there
-    slots_least : (n : ℕ) (slots : List (Option (Row (Vec R)))) → AreSlots gives items_in about known n slots → (d : K) (m t : ℕ) → m ≡ first + n → t ≡ m + length slots → (es fs : List E) → AreEdges p order m es → AreEdges p order t fs
+    slots_least : (n : ℕ) (slots : List (Option (Row (Ruled R)))) → AreSlots gives items_in about known n slots → (d : K) (m t : ℕ) → m ≡ first + n → t ≡ m + length slots → (es fs : List E) → AreEdges p order m es → AreEdges p order t fs
         → total p.edge_parts es + parts_of_slots slots ≤ total p.edge_parts fs
     slots_least n [] a d m t at end es fs e f = let h = fewer_parts p laws order m 0 es fs e (subst (λ (i : ℕ). AreEdges p order i fs) (let z : t ≡ m = omega arith in z) f) in omega arith
     slots_least n (slot ∷ slots) a d m t at end es fs e f =
@@ -214,7 +176,7 @@ module _ {P K O E R T : Type 0} (of : P → Operation K O E) (reading : Reading 
         omega arith
 
     -- an item without a row, whose position has more parts than what is left
-    slots_beyond : (n j : ℕ) (slots : List (Option (Row (Vec R)))) → AreSlots gives items_in about known n slots → j < length slots → slice_index_or slots j None ≡ None
+    slots_beyond : (n j : ℕ) (slots : List (Option (Row (Ruled R)))) → AreSlots gives items_in about known n slots → j < length slots → slice_index_or slots j None ≡ None
         → (d : K) (m t i left : ℕ) → m ≡ first + n → t ≡ m + length slots → i ≡ m + j → Exceeds (p.edge order i) p.edge_parts left
         → (es fs : List E) → AreEdges p order m es → AreEdges p order t fs → total p.edge_parts es + (parts_of_slots slots + left) < total p.edge_parts fs
     slots_beyond n j [] a low missing d m t i left at end is exceeds es fs e f = absurd (omega arith)
@@ -246,28 +208,16 @@ module _ {P K O E R T : Type 0} (of : P → Operation K O E) (reading : Reading 
       let u = b.held.within in
       omega arith)
 
--- Rows of items become rows of a round, one after the other.
-pub record IsShelving {R : Type 0} (all done rest : List (Row (Vec R))) (placed : List (ShelvedRow R)) (made : ℕ) : Type 0 where
-  pub whole : all ≡ done ++ rest
-  pub rows : placed ≡ map shelved done
-  pub parts : made ≡ parts_in done
+-- parts of rows up to one of them
+pub parts_more : {T : Type 0} (rows : List (Row T)) (i : ℕ) (row : Row T) → i < length rows → row ≡ get_or rows i row → parts_in (take (i + 1) rows) ≡ parts_in (take i rows) + row.parts
+parts_more rows i row low is =
+    let a = ap parts_in (take_more rows i row low ∙ ap (λ (r : Row _). take i rows ++ r ∷ []) (sym is)) in
+    let b = parts_append (take i rows) (row ∷ []) in
+    omega arith
 
-module _ {R : Type 0} (all done rest : List (Row (Vec R))) (placed : List (ShelvedRow R)) (made : ℕ) (s : IsShelving all done rest placed made) (row : Row (Vec R)) (rest' : List (Row (Vec R))) (next : rest ≡ row ∷ rest') where
-  whole_still : all ≡ (done ++ row ∷ []) ++ rest'
-  whole_still = s.whole ∙ ap (λ (l : List (Row (Vec R))). done ++ l) next ∙ sym (append_assoc done (row ∷ []) rest')
-
-  -- its parts are among those of all
-  pub shelving_fits : made + row.parts ≤ parts_in all
-  shelving_fits =
-      let a = ap parts_in whole_still ∙ parts_append (done ++ row ∷ []) rest' in
-      let b = parts_append done (row ∷ []) in
-      let c = s.parts in
-      omega arith
-
-  -- one row more
-  pub shelving_more : (placed' : List (ShelvedRow R)) → placed' ≡ placed ++ shelved row ∷ [] → IsShelving all (done ++ row ∷ []) rest' placed' (made + row.parts)
-  shelving_more placed' e = record {
-    whole = whole_still;
-    rows = e ∙ ap (λ (l : List (ShelvedRow R)). l ++ shelved row ∷ []) s.rows ∙ sym (map-append shelved done (row ∷ []));
-    parts = let b = parts_append done (row ∷ []) in let c = s.parts in omega arith;
-  }
+-- they are no more than those of all
+pub parts_fit : {T : Type 0} (rows : List (Row T)) (n : ℕ) → parts_in (take n rows) ≤ parts_in rows
+parts_fit [] zero = omega arith
+parts_fit [] (suc n) = omega arith
+parts_fit (row ∷ rows) zero = omega arith
+parts_fit (row ∷ rows) (suc n) = let a = parts_fit rows n in omega arith

@@ -10,10 +10,9 @@ use Rattle.tib_hunt.specs.EdgeLists.{AreListed, IsWithin, position_of, key_at}
 use Rattle.tib_hunt.specs.Reached.{Operation, IsNew, AfterRounds, IsReached}
 use Rattle.tib_hunt.specs.Numbered.{Name, IsInOrder, moved_to}
 use Rattle.tib_hunt.specs.Reading.{Reading}
-use Rattle.tib_hunt.specs.Rows.{read_row, read_rows, IsRowBelow, AreBelow}
+use Rattle.tib_hunt.specs.Rows.{NumberedRow, read_row, read_rows, IsRowBelow, AreBelow}
 use Rattle.tib_hunt.specs.declared.place.Place.{Place}
 use Rattle.tib_hunt.specs.declared.place.Place.TheVariants.{Known, End}
-use Rattle.tib_hunt.specs.declared.row.Row.{Row}
 use Rattle.tib_hunt.specs.Held.{at, Leads, edges_so_far as all_edges, IsHeld as Held, IsBetween as Between, IsWithinRound as WithinRound}
 use Rattle.tib_hunt.proofs.Members.{total_fewer}
 use Rattle.tib_hunt.proofs.Reaching.{Laws, IsHunt, in_reached}
@@ -135,16 +134,16 @@ as_many keys (x ∷ xs) (n ∷ ns) a = ap suc (as_many keys xs ns a.1)
 module _ {K O E R T : Type 0} {p : Operation K O E} {admits : K → Type 0} {reading : Reading K E R T}
     {cmp : K → K → Ordering} {entries : K → ℕ} {eq : K → K → Bool} (hunt : IsHunt p admits reading cmp entries eq) where
   -- what is held, by the words of specs, for the operation of the hunt
-  abbrev pub edges_so_far : K → List K → List T → List (Row R) → List E
+  abbrev pub edges_so_far : K → List K → List T → List (NumberedRow R) → List E
   edges_so_far = all_edges p admits reading
 
-  abbrev pub IsHeld : List K → List K → List T → List (Row R) → ℕ → ℕ → Type 0
+  abbrev pub IsHeld : List K → List K → List T → List (NumberedRow R) → ℕ → ℕ → Type 0
   IsHeld = Held p admits reading
 
   abbrev pub IsBetween : ℕ → List K → List T → ℕ → ℕ → Type 0
   IsBetween = Between p admits reading
 
-  abbrev pub IsWithinRound : List K → ℕ → ℕ → List K → List T → List (Row R) → ℕ → ℕ → Type 0
+  abbrev pub IsWithinRound : List K → ℕ → ℕ → List K → List T → List (NumberedRow R) → ℕ → ℕ → Type 0
   IsWithinRound = WithinRound p admits reading
 
   -- readings stay when keys are put behind
@@ -152,7 +151,7 @@ module _ {K O E R T : Type 0} {p : Operation K O E} {admits : K → Type 0} {rea
   rules_same d xs ys [] b = refl
   rules_same d xs ys (t ∷ ts) b = λ i. hunt.lawful.reads_positions t (at d (xs ++ ys)) (at d xs) (each_weaker (λ n. n < length xs) _ (reading.positions t) (λ n l. at_front d xs ys n l) b.0) i ∷ rules_same d xs ys ts b.1 i
 
-  rows_same : (read_at read_at' : ℕ → K) (first bound : ℕ) → first ≤ bound → ((n : ℕ) → n < bound → read_at n ≡ read_at' n) → (rows : List (Row R)) → Each (IsRowBelow reading.places first bound) rows → read_rows reading.read_places read_at rows ≡ read_rows reading.read_places read_at' rows
+  rows_same : (read_at read_at' : ℕ → K) (first bound : ℕ) → first ≤ bound → ((n : ℕ) → n < bound → read_at n ≡ read_at' n) → (rows : List (NumberedRow R)) → Each (IsRowBelow reading.places first bound) rows → read_rows reading.read_places read_at rows ≡ read_rows reading.read_places read_at' rows
   rows_same f g first bound low same [] b = refl
   rows_same f g first bound low same (row ∷ rows) b = λ i. (one row b.0 i) ++ (rows_same f g first bound low same rows b.1 i)
     where
@@ -164,17 +163,17 @@ module _ {K O E R T : Type 0} {p : Operation K O E} {admits : K → Type 0} {rea
       rules_one ends e [] w = refl
       rules_one ends e (r ∷ rs) w = λ i. hunt.lawful.reads_places r (λ q. f (position_of ends q)) (λ q. g (position_of ends q)) (each_weaker (IsWithin first (length ends)) _ (reading.places r) (place_same ends e) w.0) i ∷ rules_one ends e rs w.1 i
 
-      one : (row : Row R) → IsRowBelow reading.places first bound row → read_row reading.read_places f row ≡ read_row reading.read_places g row
-      one row b = rules_one row.ends.items b.1 row.rules.items b.0
+      one : (row : NumberedRow R) → IsRowBelow reading.places first bound row → read_row reading.read_places f row ≡ read_row reading.read_places g row
+      one row b = rules_one row.ends b.1 row.rules b.0
 
-  rows_snoc : (f : ℕ → K) (rows : List (Row R)) (row : Row R) → read_rows reading.read_places f (rows ++ row ∷ []) ≡ read_rows reading.read_places f rows ++ read_row reading.read_places f row
+  rows_snoc : (f : ℕ → K) (rows : List (NumberedRow R)) (row : NumberedRow R) → read_rows reading.read_places f (rows ++ row ∷ []) ≡ read_rows reading.read_places f rows ++ read_row reading.read_places f row
   rows_snoc f [] row = append-nil (read_row reading.read_places f row)
   rows_snoc f (x ∷ xs) row = ap (λ (l : List E). read_row reading.read_places f x ++ l) (rows_snoc f xs row) ∙ sym (append_assoc (read_row reading.read_places f x) (read_rows reading.read_places f xs) (read_row reading.read_places f row))
 
   -- one more row
-  module _ (order keys : List K) (rules : List T) (rows : List (Row R)) (parts limit : ℕ) (h : IsHeld order keys rules rows parts limit)
+  module _ (order keys : List K) (rules : List T) (rows : List (NumberedRow R)) (parts limit : ℕ) (h : IsHeld order keys rules rows parts limit)
       (ends : List K) (rs : List R) (edge : O → E → Type 0) (ep : ℕ) (l : AreListed edge p.edge_parts reading.places reading.read_places order ends rs ep)
-      (row : Row R) (same_rules : row.rules.items ≡ rs) (keys' : List K) (new : List K) (grown : keys' ≡ keys ++ new) (named : Name keys' ends row.ends.items) where
+      (row : NumberedRow R) (same_rules : row.rules ≡ rs) (keys' : List K) (new : List K) (grown : keys' ≡ keys ++ new) (named : Name keys' ends row.ends) where
     all_keys : keys' ≡ order ++ (h.fresh ++ new)
     all_keys = grown ∙ ap (λ (x : List K). x ++ new) h.keys_are ∙ append_assoc order h.fresh new
 
@@ -188,11 +187,11 @@ module _ {K O E R T : Type 0} {p : Operation K O E} {admits : K → Type 0} {rea
     wider a b low ts w = each_weaker (λ t. Each (λ n. n < a) (reading.positions t)) (λ t. Each (λ n. n < b) (reading.positions t)) ts (λ t e. each_weaker (λ n. n < a) (λ n. n < b) (reading.positions t) (λ n q. omega arith) e) w
 
     row_edges : (d : K) → read_row reading.read_places (at d keys') row ≡ map (reading.read_places (key_at d order ends)) rs
-    row_edges d = ap (λ (x : List R). map (reading.read_places (λ q. at d keys' (position_of row.ends.items q))) x) same_rules ∙ go rs l.within
+    row_edges d = ap (λ (x : List R). map (reading.read_places (λ q. at d keys' (position_of row.ends q))) x) same_rules ∙ go rs l.within
       where
-        go : (xs : List R) → Each (λ rule. Each (IsWithin (length order) (length ends)) (reading.places rule)) xs → map (reading.read_places (λ q. at d keys' (position_of row.ends.items q))) xs ≡ map (reading.read_places (key_at d order ends)) xs
+        go : (xs : List R) → Each (λ rule. Each (IsWithin (length order) (length ends)) (reading.places rule)) xs → map (reading.read_places (λ q. at d keys' (position_of row.ends q))) xs ≡ map (reading.read_places (key_at d order ends)) xs
         go [] w = refl
-        go (x ∷ xs) w = λ i. hunt.lawful.reads_places x (λ q. at d keys' (position_of row.ends.items q)) (key_at d order ends) (each_weaker (IsWithin (length order) (length ends)) _ (reading.places x) (λ q a. sym (same_place d order (h.fresh ++ new) keys' ends row.ends.items all_keys named q a)) w.0) i ∷ go xs w.1 i
+        go (x ∷ xs) w = λ i. hunt.lawful.reads_places x (λ q. at d keys' (position_of row.ends q)) (key_at d order ends) (each_weaker (IsWithin (length order) (length ends)) _ (reading.places x) (λ q a. sym (same_place d order (h.fresh ++ new) keys' ends row.ends all_keys named q a)) w.0) i ∷ go xs w.1 i
 
     -- one more row adds its edges
     pub more_edges : (d : K) → edges_so_far d keys' rules (rows ++ row ∷ []) ≡ edges_so_far d keys rules rows ++ map (reading.read_places (key_at d order ends)) rs
@@ -217,8 +216,8 @@ module _ {K O E R T : Type 0} {p : Operation K O E} {admits : K → Type 0} {rea
       admitted = subst (Each admits) (sym grown) (each_append admits keys new h.admitted allow);
       rules_below = h.rules_below;
       rows_below = each_append (IsRowBelow reading.places (length order) (length keys')) rows (row ∷ [])
-          (each_weaker (IsRowBelow reading.places (length order) (length keys)) (IsRowBelow reading.places (length order) (length keys')) rows (λ r e. (e.0, each_weaker (λ n. n < length keys) (λ n. n < length keys') r.ends.items (λ n q. let g = longer in omega arith) e.1)) h.rows_below)
-          ((subst (λ (x : List R). Each (λ rule. Each (IsWithin (length order) (length row.ends.items)) (reading.places rule)) x) (sym same_rules) (subst (λ (m : ℕ). Each (λ rule. Each (IsWithin (length order) m) (reading.places rule)) rs) (sym (as_many keys' ends row.ends.items named)) l.within), named_below keys' ends row.ends.items named), tt);
+          (each_weaker (IsRowBelow reading.places (length order) (length keys)) (IsRowBelow reading.places (length order) (length keys')) rows (λ r e. (e.0, each_weaker (λ n. n < length keys) (λ n. n < length keys') r.ends (λ n q. let g = longer in omega arith) e.1)) h.rows_below)
+          ((subst (λ (x : List R). Each (λ rule. Each (IsWithin (length order) (length row.ends)) (reading.places rule)) x) (sym same_rules) (subst (λ (m : ℕ). Each (λ rule. Each (IsWithin (length order) m) (reading.places rule)) rs) (sym (as_many keys' ends row.ends named)) l.within), named_below keys' ends row.ends named), tt);
       enough = let e = h.enough in omega arith;
       counted = λ d.
           let a = h.counted d in
@@ -233,7 +232,7 @@ module _ {K O E R T : Type 0} {p : Operation K O E} {admits : K → Type 0} {rea
         either whole reached k (inr m) = stand whole reached k m
 
   -- the end of a round: the keys are put in order, and the rows are settled
-  module _ (order keys : List K) (rules : List T) (rows : List (Row R)) (parts limit : ℕ) (h : IsHeld order keys rules rows parts limit)
+  module _ (order keys : List K) (rules : List T) (rows : List (NumberedRow R)) (parts limit : ℕ) (h : IsHeld order keys rules rows parts limit)
       (keys' : List K) (moved : List ℕ) (sorts : IsInOrder p.cmp order h.fresh keys' moved) (rules' : List T)
       (settled : Settled reading (length order) moved rules rules' (λ f. read_rows reading.read_places (λ n. f (moved_to (length order) moved n)) rows)) where
     long : length keys ≡ length order + length h.fresh

@@ -14,4 +14,6 @@ mod Placed
 mod Underway
 mod Taken
 mod FreshKeys
+mod KnownEnds
+mod KnownPlaces
 mod GatheredRows

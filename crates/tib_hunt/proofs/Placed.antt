@@ -1,5 +1,6 @@
 -- The keys of shelves get positions, and so do the ends of rows.
-use Rattle.std.proofs.Common.{◌≡◌, ◌⊎◌, inl, inr, ℕ, ◌+◌, ◌≤◌, Bool, true, List, [], ◌∷◌, ◌++◌, map, append_assoc, append-nil, refl, sym, ap, subst, ◌∙◌, arith}
+use Rattle.std.proofs.Common.{◌≡◌, ◌⊎◌, inl, inr, ℕ, ◌+◌, ◌<◌, ◌≤◌, Bool, true, List, [], ◌∷◌, ◌++◌, min, length, length-append, map, take, get_or, append_assoc, append-nil, refl, sym, ap, subst, ◌∙◌, arith}
+use Rattle.std.proofs.lemmas.List.{take_more}
 use Rattle.indexmap.specs.IndexSet.{insert_key, insert_all}
 use Rattle.tib_lex.specs.Lists.{Has, Along, total}
 use Rattle.tib_hunt.specs.Numbered.{Name, HaveMore}
@@ -20,6 +21,19 @@ all_both (xs ∷ xss) yss = ap (λ (l : List _). xs ++ l) (all_both xss yss) ∙
 pub map_append : {A B : Type 0} (f : A → B) (xs ys : List A) → map f (xs ++ ys) ≡ map f xs ++ map f ys
 map_append f [] ys = refl
 map_append f (x ∷ xs) ys = ap (λ (l : List _). f x ∷ l) (map_append f xs ys)
+
+-- one shelf more brings its keys
+pub keys_more : {K V : Type 0} (keys_in : V → List K) (shelves : List V) (i : ℕ) (v : V) → i < length shelves → v ≡ get_or shelves i v
+    → length (all_on (map keys_in (take (i + 1) shelves))) ≡ length (all_on (map keys_in (take i shelves))) + length (keys_in v)
+keys_more keys_in shelves i v low is =
+    let e = ap (λ l. all_on (map keys_in l)) (take_more shelves i v low ∙ ap (λ x. take i shelves ++ x ∷ []) (sym is)) ∙ ap all_on (map_append keys_in (take i shelves) (v ∷ [])) ∙ all_both (map keys_in (take i shelves)) (keys_in v ∷ []) in
+    let a = ap length e ∙ length-append (all_on (map keys_in (take i shelves))) (keys_in v ++ []) in
+    let b = ap length (append-nil (keys_in v)) in
+    omega arith
+
+-- a sum that stops at the greatest number
+pub capped : (a b count sum most : ℕ) → count ≡ min a most → sum ≡ min (count + b) most → sum ≡ min (a + b) most
+capped a b count sum most is e = omega arith
 
 module _ {K : Type 0} (eq : K → K → Bool) (same : (x y : K) → eq x y ≡ true → x ≡ y) (self : (x : K) → eq x x ≡ true) where
   insert_both : (old xs ys : List K) → insert_all eq old (xs ++ ys) ≡ insert_all eq (insert_all eq old xs) ys

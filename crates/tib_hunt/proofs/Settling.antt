@@ -7,10 +7,9 @@ use Rattle.tib_lex.proofs.Lists.{each_weaker, each_append}
 use Rattle.tib_hunt.specs.EdgeLists.{position_of, IsWithin}
 use Rattle.tib_hunt.specs.Numbered.{moved_to}
 use Rattle.tib_hunt.specs.Reading.{Reading}
-use Rattle.tib_hunt.specs.Rows.{read_row, read_rows, IsRowBelow, AreBelow}
+use Rattle.tib_hunt.specs.Rows.{NumberedRow, Settles, read_row, read_rows, IsRowBelow, AreBelow}
 use Rattle.tib_hunt.specs.declared.place.Place.{Place}
 use Rattle.tib_hunt.specs.declared.place.Place.TheVariants.{Known, End}
-use Rattle.tib_hunt.specs.declared.row.Row.{Row}
 
 -- what holds all along holds of the element at an index
 pub each_at : {A : Type 0} (P : A → Type 0) (xs : List A) (i : ℕ) (d : A) → Each P xs → i < length xs → P (get_or xs i d)
@@ -75,50 +74,103 @@ module _ {R T K E : Type 0} (reading : Reading K E R T) (first : ℕ) (moved : L
     lows bound (Known p ∷ ps) f all e w = ((let l = w.0 in omega arith), lows bound ps f all e w.1)
     lows bound (End i ∷ ps) f all e w = (subst (λ (n : ℕ). n < bound) (sym (index_map (moved_to first moved) ends i w.0)) (low_after first moved bound (slice_index ends i) f all (each_at (λ n. n < first + length moved) ends i 0 e w.0)), lows bound ps f all e w.1)
 
-    -- one rule is settled
-    pub one_settled : ((rule : R) (f g : Place → K) → Each (λ place. f place ≡ g place) (reading.places rule) → reading.read_places f rule ≡ reading.read_places g rule)
-        → (rules : List T) (rule : R) (settled : T)
-        → ((at : ℕ → K) → reading.read_positions at settled ≡ reading.read_places (λ place. at (position_of (map (moved_to first moved) ends) place)) rule)
-        → reading.positions settled ≡ map (position_of (map (moved_to first moved) ends)) (reading.places rule)
-        → Each (IsWithin first (length ends)) (reading.places rule) → Each (λ n. n < first + length moved) ends
-        → Settled rules (rules ++ settled ∷ []) (λ at. reading.read_places (λ place. at (moved_to first moved (position_of ends place))) rule ∷ [])
-    one_settled reads rules rule settled is at low few = record {
-      read = λ name. map_both (reading.read_positions name) rules (settled ∷ []) ∙ ap (λ (e : E). map (reading.read_positions name) rules ++ e ∷ []) (is name ∙ reads rule _ _ (each_weaker (IsWithin first (length ends)) _ (reading.places rule) (named_same name) low));
-      below = λ bound f all a. each_append (λ (t : T). Each (λ n. n < bound) (reading.positions t)) rules (settled ∷ []) a (subst (Each (λ n. n < bound)) (sym at) (lows bound (reading.places rule) f all few low), tt);
-    }
+    all_low : (bound : ℕ) → first ≤ bound → Each (λ n. n < bound) moved → Each (λ n. n < first + length moved) ends → (rs : List R) → Each (λ rule. Each (IsWithin first (length ends)) (reading.places rule)) rs
+        → Each (Each (λ n. n < bound)) (map (λ rule. map (position_of (map (moved_to first moved) ends)) (reading.places rule)) rs)
+    all_low bound f all e [] w = tt
+    all_low bound f all e (r ∷ rs) w = (lows bound (reading.places r) f all e w.0, all_low bound f all e rs w.1)
 
-  -- the rules of a row up to one of them
-  pub rules_more : (old rules rules' : List T) (row : Row R) (i : ℕ) (rule : R) → i < length row.rules.items → rule ≡ get_or row.rules.items i rule
-      → Settled old rules (λ at. map (reading.read_places (λ place. at (moved_to first moved (position_of row.ends.items place)))) (take i row.rules.items))
-      → Settled rules rules' (λ at. reading.read_places (λ place. at (moved_to first moved (position_of row.ends.items place))) rule ∷ [])
-      → Settled old rules' (λ at. map (reading.read_places (λ place. at (moved_to first moved (position_of row.ends.items place)))) (take (i + 1) row.rules.items))
-  rules_more old rules rules' row i rule low is s t = settled_same old rules' _ _
-      (λ at. let f : R → E = reading.read_places (λ place. at (moved_to first moved (position_of row.ends.items place))) in
-      sym (ap (map f) (take_more row.rules.items i rule low ∙ ap (λ (r : R). take i row.rules.items ++ r ∷ []) (sym is)) ∙ map_both f (take i row.rules.items) (rule ∷ [])))
-      (settled_more old rules rules' _ _ s t)
+    read_moved : ((rule : R) (f g : Place → K) → Each (λ place. f place ≡ g place) (reading.places rule) → reading.read_places f rule ≡ reading.read_places g rule)
+        → (at : ℕ → K) (rs : List R) → Each (λ rule. Each (IsWithin first (length ends)) (reading.places rule)) rs
+        → map (reading.read_places (λ place. at (position_of (map (moved_to first moved) ends) place))) rs ≡ map (reading.read_places (λ place. at (moved_to first moved (position_of ends place)))) rs
+    read_moved reads at [] w = refl
+    read_moved reads at (r ∷ rs) w = λ i. reads r _ _ (each_weaker (IsWithin first (length ends)) _ (reading.places r) (named_same at) w.0) i ∷ read_moved reads at rs w.1 i
 
-  rows_both : (read : (Place → K) → R → E) (at : ℕ → K) (xs ys : List (Row R)) → read_rows read at (xs ++ ys) ≡ read_rows read at xs ++ read_rows read at ys
+  -- positions below a bound
+  listed_low : (bound : ℕ) (ts : List T) → AreBelow reading.positions bound ts → Each (Each (λ n. n < bound)) (map reading.positions ts)
+  listed_low bound [] a = tt
+  listed_low bound (t ∷ ts) a = (a.0, listed_low bound ts a.1)
+
+  low_listed : (bound : ℕ) (ts : List T) → Each (Each (λ n. n < bound)) (map reading.positions ts) → AreBelow reading.positions bound ts
+  low_listed bound [] a = tt
+  low_listed bound (t ∷ ts) a = (a.0, low_listed bound ts a.1)
+
+  -- the rules of a row are settled where its ends have the positions to which their numbers were moved
+  pub row_settled : ((rule : R) (f g : Place → K) → Each (λ place. f place ≡ g place) (reading.places rule) → reading.read_places f rule ≡ reading.read_places g rule)
+      → (row : NumberedRow R) → IsRowBelow reading.places first (first + length moved) row → (ends : List ℕ) → ends ≡ map (moved_to first moved) row.ends → (old rules : List T) → Settles reading ends old row.rules rules
+      → Settled old rules (λ at. read_row reading.read_places (λ n. at (moved_to first moved n)) row)
+  row_settled reads row low ends same old rules settles =
+      let s : Settles reading (map (moved_to first moved) row.ends) old row.rules rules = subst (λ (l : List ℕ). Settles reading l old row.rules rules) same settles in
+      record {
+        read = λ at. s.read at ∙ ap (λ (l : List E). map (reading.read_positions at) old ++ l) (read_moved row.ends reads at row.rules low.0);
+        below = λ bound f all a. low_listed bound rules (subst (Each (Each (λ n. n < bound))) (sym s.positions)
+            (each_append (Each (λ n. n < bound)) (map reading.positions old) _ (listed_low bound old a) (all_low row.ends bound f all low.1 row.rules low.0)));
+      }
+
+  rows_both : (read : (Place → K) → R → E) (at : ℕ → K) (xs ys : List (NumberedRow R)) → read_rows read at (xs ++ ys) ≡ read_rows read at xs ++ read_rows read at ys
   rows_both read at [] ys = refl
   rows_both read at (x ∷ xs) ys = ap (λ (l : List E). read_row read at x ++ l) (rows_both read at xs ys) ∙ sym (append_assoc (read_row read at x) (read_rows read at xs) (read_rows read at ys))
 
-  pub rows_more : (old rules rules' : List T) (rows : List (Row R)) (i : ℕ) (row : Row R) → i < length rows → row ≡ get_or rows i row
-      → Settled old rules (λ at. read_rows reading.read_places (λ n. at (moved_to first moved n)) (take i rows))
-      → Settled rules rules' (λ at. read_row reading.read_places (λ n. at (moved_to first moved n)) row)
-      → Settled old rules' (λ at. read_rows reading.read_places (λ n. at (moved_to first moved n)) (take (i + 1) rows))
-  rows_more old rules rules' rows i row low is s t = settled_same old rules' _ _
-      (λ at. sym (ap (read_rows reading.read_places (λ n. at (moved_to first moved n))) (take_more rows i row low ∙ ap (λ (r : Row R). take i rows ++ r ∷ []) (sym is)) ∙ rows_both reading.read_places (λ n. at (moved_to first moved n)) (take i rows) (row ∷ []) ∙ ap (λ (l : List E). read_rows reading.read_places (λ n. at (moved_to first moved n)) (take i rows) ++ l) (append-nil (read_row reading.read_places (λ n. at (moved_to first moved n)) row))))
+  -- the rows up to one of them
+  pub rows_more : {A : Type 0} (row_of : A → NumberedRow R) (old rules rules' : List T) (done : List A) (row : A)
+      → Settled old rules (λ at. read_rows reading.read_places (λ n. at (moved_to first moved n)) (map row_of done))
+      → Settled rules rules' (λ at. read_row reading.read_places (λ n. at (moved_to first moved n)) (row_of row))
+      → Settled old rules' (λ at. read_rows reading.read_places (λ n. at (moved_to first moved n)) (map row_of (done ++ row ∷ [])))
+  rows_more row_of old rules rules' done row s t = settled_same old rules' _ _
+      (λ at. sym (ap (read_rows reading.read_places (λ n. at (moved_to first moved n))) (map_both row_of done (row ∷ [])) ∙ rows_both reading.read_places (λ n. at (moved_to first moved n)) (map row_of done) (row_of row ∷ []) ∙ ap (λ (l : List E). read_rows reading.read_places (λ n. at (moved_to first moved n)) (map row_of done) ++ l) (append-nil (read_row reading.read_places (λ n. at (moved_to first moved n)) (row_of row)))))
       (settled_more old rules rules' _ _ s t)
+
+  -- the same of rows that are read one after the other
+  pub rows_next : {A : Type 0} (row_of : A → NumberedRow R) (old rules rules' : List T) (rows : List A) (i : ℕ) (row : A) → i < length rows → row ≡ get_or rows i row
+      → Settled old rules (λ at. read_rows reading.read_places (λ n. at (moved_to first moved n)) (map row_of (take i rows)))
+      → Settled rules rules' (λ at. read_row reading.read_places (λ n. at (moved_to first moved n)) (row_of row))
+      → Settled old rules' (λ at. read_rows reading.read_places (λ n. at (moved_to first moved n)) (map row_of (take (i + 1) rows)))
+  rows_next row_of old rules rules' rows i row low is s t = settled_same old rules' _ _
+      (λ at. ap (λ l. read_rows reading.read_places (λ n. at (moved_to first moved n)) (map row_of l)) (sym (take_more rows i row low ∙ ap (λ r. take i rows ++ r ∷ []) (sym is))))
+      (rows_more row_of old rules rules' (take i rows) row s t)
 
 length_moved : (f : ℕ → ℕ) (xs : List ℕ) → length (map f xs) ≡ length xs
 length_moved f [] = refl
 length_moved f (x ∷ xs) = ap suc (length_moved f xs)
 
 -- what is asked of the ends of a row holds after they were moved
-pub still_within : {R : Type 0} (places : R → List Place) (first bound : ℕ) (moved : List ℕ) (row : Row R) → IsRowBelow places first bound row → (i : ℕ) (rule : R) → i < length row.rules.items → rule ≡ get_or row.rules.items i rule
-    → (ends : List ℕ) → ends ≡ map (moved_to first moved) row.ends.items → Each (IsWithin first (length ends)) (places rule)
-still_within places first bound moved row low i rule l is ends same =
-    subst (λ (n : ℕ). Each (IsWithin first n) (places rule)) (sym (ap length same ∙ length_moved (moved_to first moved) row.ends.items))
-    (subst (λ r. Each (IsWithin first (length row.ends.items)) (places r)) (sym is) (each_at (λ r. Each (IsWithin first (length row.ends.items)) (places r)) row.rules.items i rule low.0 l))
+pub still_within : {R : Type 0} (places : R → List Place) (first bound : ℕ) (moved : List ℕ) (row : NumberedRow R) → IsRowBelow places first bound row
+    → (ends : List ℕ) → ends ≡ map (moved_to first moved) row.ends → Each (λ rule. Each (IsWithin first (length ends)) (places rule)) row.rules
+still_within places first bound moved row low ends same =
+    subst (λ (n : ℕ). Each (λ rule. Each (IsWithin first n) (places rule)) row.rules) (sym (ap length same ∙ length_moved (moved_to first moved) row.ends)) low.0
 
-pub was_within : {R : Type 0} (places : R → List Place) (first bound : ℕ) (row : Row R) → IsRowBelow places first bound row → (i : ℕ) (rule : R) → i < length row.rules.items → rule ≡ get_or row.rules.items i rule → Each (IsWithin first (length row.ends.items)) (places rule)
-was_within places first bound row low i rule l is = subst (λ r. Each (IsWithin first (length row.ends.items)) (places r)) (sym is) (each_at (λ r. Each (IsWithin first (length row.ends.items)) (places r)) row.rules.items i rule low.0 l)
+-- what holds of all that is made of some values holds of what is made of each
+pub each_back : {A B : Type 0} (P : B → Type 0) (f : A → B) (xs : List A) → Each P (map f xs) → Each (λ x. P (f x)) xs
+each_back P f [] e = tt
+each_back P f (x ∷ xs) e = (e.0, each_back P f xs e.1)
+
+-- of one of them
+pub each_made : {A B : Type 0} (P : B → Type 0) (f : A → B) (xs : List A) (i : ℕ) (x : A) → Each P (map f xs) → i < length xs → x ≡ get_or xs i x → P (f x)
+each_made P f xs i x e l is = subst (λ y. P (f y)) (sym is) (each_at (λ y. P (f y)) xs i x (each_back P f xs e) l)
+
+-- what holds of all holds of the next one
+pub each_next : {A : Type 0} (P : A → Type 0) (all done rest : List A) (x : A) (rest' : List A) → Each P all → all ≡ done ++ rest → rest ≡ x ∷ rest' → P x
+each_next {A = A} P all done rest x rest' e is next = go done (subst (Each P) (is ∙ ap (λ l. done ++ l) next) e)
+  where
+    go : (done : List A) → Each P (done ++ x ∷ rest') → P x
+    go [] e = e.0
+    go (y ∷ ys) e = go ys e.1
+
+module _ {K E R T : Type 0} (reading : Reading K E R T) (ends : List ℕ) where
+  -- no rule is settled yet
+  pub settles_none : (old : List T) → Settles reading ends old [] old
+  settles_none old = record { read = λ at. sym (append-nil (map (reading.read_positions at) old)); positions = sym (append-nil (map reading.positions old)) }
+
+  snoc_both : {A B C : Type 0} (f : A → C) (g : B → C) (old new : List A) (done : List B) (t : A) (r : B) → map f new ≡ map f old ++ map g done → f t ≡ g r → map f (new ++ t ∷ []) ≡ map f old ++ map g (done ++ r ∷ [])
+  snoc_both f g old new done t r s is =
+      map_both f new (t ∷ []) ∙ (λ i. s i ++ is i ∷ []) ∙ append_assoc (map f old) (map g done) (g r ∷ []) ∙ ap (λ l. map f old ++ l) (sym (map_both g done (r ∷ [])))
+
+  -- one rule more is settled
+  pub settles_more : (old new : List T) (over : List R) (i : ℕ) (rule : R) → i < length over → rule ≡ get_or over i rule → Settles reading ends old (take i over) new
+      → (settled : T) → ((at : ℕ → K) → reading.read_positions at settled ≡ reading.read_places (λ place. at (position_of ends place)) rule) → reading.positions settled ≡ map (position_of ends) (reading.places rule)
+      → Settles reading ends old (take (i + 1) over) (new ++ settled ∷ [])
+  settles_more old new over i rule low is s settled read at =
+      subst (λ (l : List R). Settles reading ends old l (new ++ settled ∷ [])) (sym (take_more over i rule low ∙ ap (λ (r : R). take i over ++ r ∷ []) (sym is)))
+      (record {
+        read = λ name. snoc_both (reading.read_positions name) (reading.read_places (λ place. name (position_of ends place))) old new (take i over) settled rule (s.read name) (read name);
+        positions = snoc_both reading.positions (λ rule. map (position_of ends) (reading.places rule)) old new (take i over) settled rule s.positions at;
+      })

@@ -15,10 +15,12 @@ use Rattle.tib_hunt.specs.Reading.{Reading}
 use Rattle.tib_hunt.specs.RoundModel.{Core, opened, IsItem, next_item, with_draw, with_key, with_filed}
 use Rattle.tib_hunt.specs.declared.event.Event.TheVariants.{Draw, File}
 use Rattle.tib_hunt.specs.RoundLaw.{IsKept}
-use Rattle.tib_hunt.specs.Shelved.{all_on, with_keys, NameOn, ShelvesHaveMore, IsShelvedRow, edges_of_rows, IsWorked, IsTooMuch, IsUnderway as Underway}
+use Rattle.tib_hunt.specs.Shelved.{all_on, with_keys, NameOn, ShelvesHaveMore, IsShelvedRow, edges_of_rows, IsWorked, IsTooMuch, IsUnderway as Underway, IsKnownRow, AreWorked}
 use Rattle.tib_hunt.specs.Held.{IsBetween as Between, edges_so_far as all_edges}
 use Rattle.tib_hunt.specs.declared.found.HuntError.{HuntError}
-use Rattle.tib_hunt.specs.declared.shelved_row.ShelvedRow.{ShelvedRow}
+use Rattle.tib_crew.specs.declared.row.Row.{Row as ItemRow}
+use Rattle.tib_hunt.specs.Known.{NameEnds}
+use Rattle.tib_hunt.specs.declared.known.Ruled.{Ruled}
 use Rattle.tib_hunt.proofs.Reaching.{IfTooMany-weaker, IsHunt, beyond, beyond_more, in_reached}
 use Rattle.tib_hunt.proofs.Holding.{any_has, not_any, leads_on}
 use Rattle.tib_hunt.proofs.Sights.{along_snoc}
@@ -80,19 +82,19 @@ distinct_all shelf_of (ks ∷ kss) j once own =
 
 module _ {K O E R T : Type 0} {p : Operation K O E} {admits : K → Type 0} {reading : Reading K E R T}
     {cmp : K → K → Ordering} {entries : K → ℕ} {eq : K → K → Bool} (hunt : IsHunt p admits reading cmp entries eq) (shelf_of : K → ℕ) (low : (k : K) → shelf_of k < 16) where
-  abbrev IsUnderway : List K → ℕ → ℕ → Core K → List (ShelvedRow R) → ℕ → ℕ → ℕ → Type 0
+  abbrev IsUnderway : List K → ℕ → ℕ → Core K → List (ItemRow (Ruled R)) → ℕ → ℕ → ℕ → Type 0
   IsUnderway = Underway p reading eq shelf_of
 
   abbrev ends_at : List K → ℕ → K → Type 0
   ends_at order i k = IsEnd (p.edge order i) p.ends_of k
 
-  rows_snoc : (d : K) (order : List K) (sights : List (List K)) (rows : List (ShelvedRow R)) (shelves : List (List K)) (bound : ℕ) → Along (IsShelvedRow reading.places bound shelves) sights rows → (ends : List K) (row : ShelvedRow R)
-      → edges_of_rows reading.read_places d order (sights ++ ends ∷ []) (rows ++ row ∷ []) ≡ edges_of_rows reading.read_places d order sights rows ++ map (reading.read_places (key_at d order ends)) row.rules.items
-  rows_snoc d order [] [] shelves bound a ends row = append-nil (map (reading.read_places (key_at d order ends)) row.rules.items)
+  rows_snoc : (d : K) (order : List K) (sights : List (List K)) (rows : List (ItemRow (Ruled R))) (shelves : List (List K)) (bound : ℕ) → Along (IsShelvedRow reading.places bound shelves) sights rows → (ends : List K) (row : ItemRow (Ruled R))
+      → edges_of_rows reading.read_places d order (sights ++ ends ∷ []) (rows ++ row ∷ []) ≡ edges_of_rows reading.read_places d order sights rows ++ map (reading.read_places (key_at d order ends)) row.rules.rules.items
+  rows_snoc d order [] [] shelves bound a ends row = append-nil (map (reading.read_places (key_at d order ends)) row.rules.rules.items)
   rows_snoc d order [] (r ∷ rows) shelves bound a ends row = absurd a
   rows_snoc d order (e ∷ sights) [] shelves bound a ends row = absurd a
-  rows_snoc d order (e ∷ sights) (r ∷ rows) shelves bound a ends row = ap (λ (l : List E). map (reading.read_places (key_at d order e)) r.rules.items ++ l) (rows_snoc d order sights rows shelves bound a.1 ends row)
-      ∙ sym (append_assoc (map (reading.read_places (key_at d order e)) r.rules.items) (edges_of_rows reading.read_places d order sights rows) (map (reading.read_places (key_at d order ends)) row.rules.items))
+  rows_snoc d order (e ∷ sights) (r ∷ rows) shelves bound a ends row = ap (λ (l : List E). map (reading.read_places (key_at d order e)) r.rules.rules.items ++ l) (rows_snoc d order sights rows shelves bound a.1 ends row)
+      ∙ sym (append_assoc (map (reading.read_places (key_at d order e)) r.rules.rules.items) (edges_of_rows reading.read_places d order sights rows) (map (reading.read_places (key_at d order ends)) row.rules.rules.items))
 
   -- numbers name their keys still after more keys were numbered
   name_still : (s : Core K) (ks : List K) → length s.shelves ≡ 16 → (first count : ℕ) (is_end : ℕ → K → Type 0) → IsKept shelf_of first count is_end s → ((k : K) → Has ks k → (i : ℕ) × IsItem first s.drawn i × is_end i k)
@@ -107,11 +109,11 @@ module _ {K O E R T : Type 0} {p : Operation K O E} {admits : K → Type 0} {rea
       go x (inl e) = inl e
       go x (inr h) = absurd h
 
-  rows_still : (bound : ℕ) (shelves shelves' : List (List K)) → ((ends : List K) (ns : List Number) → NameOn shelves ends ns → NameOn shelves' ends ns) → (sights : List (List K)) (rows : List (ShelvedRow R)) → Along (IsShelvedRow reading.places bound shelves) sights rows → Along (IsShelvedRow reading.places bound shelves') sights rows
+  rows_still : (bound : ℕ) (shelves shelves' : List (List K)) → ((ends : List K) (ns : List Number) → NameOn shelves ends ns → NameOn shelves' ends ns) → (sights : List (List K)) (rows : List (ItemRow (Ruled R))) → Along (IsShelvedRow reading.places bound shelves) sights rows → Along (IsShelvedRow reading.places bound shelves') sights rows
   rows_still bound shelves shelves' f [] [] a = tt
   rows_still bound shelves shelves' f [] (r ∷ rows) a = absurd a
   rows_still bound shelves shelves' f (e ∷ sights) [] a = absurd a
-  rows_still bound shelves shelves' f (e ∷ sights) (r ∷ rows) a = ((f e r.ends.items a.0.0, a.0.1), rows_still bound shelves shelves' f sights rows a.1)
+  rows_still bound shelves shelves' f (e ∷ sights) (r ∷ rows) a = ((f e r.ends.items a.0.0, a.0.1, a.0.2), rows_still bound shelves shelves' f sights rows a.1)
 
   -- the ends of an item bring too many keys on the shelves
   pub told_shelves : (order : List K) (item : ℕ) (s : Core K) (parts limit : ℕ) (ends : List K) → ((k : K) → Has ends k ↔ ends_at order item k)
@@ -119,15 +121,24 @@ module _ {K O E R T : Type 0} {p : Operation K O E} {admits : K → Type 0} {rea
   told_shelves order item s parts limit ends are e = IfTooMany-weaker limit _ _ e (λ (front, among, more).
       inr (front, (λ k m. (are k).0 (among k m)), subst (λ f. limit < total f (all_on (with_keys eq shelf_of s front).shelves)) (sym hunt.lawful.same_parts) more))
 
-  -- what stands on the shelves stands in the reached order
-  pub stands_whole : (order : List K) (first rounds : ℕ) → AfterRounds p rounds first order → first ≤ length order → (t : Core K) → IsKept shelf_of first (length order - first) (ends_at order) t
-      → (whole : List K) → IsReached p whole → (k : K) → Has (all_on t.shelves) k → Has whole k
-  stands_whole order first rounds after l t kept whole reached k h =
-      let j = all_somewhere t.shelves k h in
-      let o = (kept.only j.0 k j.1).1 in
+  abbrev IsItemsEnd : List K → ℕ → K → Type 0
+  IsItemsEnd order first k = (i : ℕ) × (first ≤ i) × (i < length order) × ends_at order i k
+
+  -- what stands on the shelves is an end of an item
+  items_end : (order : List K) (first : ℕ) → first ≤ length order → (t : Core K) → IsKept shelf_of first (length order - first) (ends_at order) t → (shelf : ℕ) (k : K) → Has (on t.shelves shelf) k → IsItemsEnd order first k
+  items_end order first l t kept shelf k h =
+      let o = (kept.only shelf k h).1 in
       let few = kept.few in
       let below = o.1.1 in
-      known o.0 o.1.0 (omega arith) o.2 (list_any (eq k) order) refl
+      (o.0, o.1.0, omega arith, o.2)
+
+  -- what stands on the shelves stands in the reached order
+  pub stands_whole : (order : List K) (first rounds : ℕ) → AfterRounds p rounds first order → (shelves : List (List K)) → ((shelf : ℕ) (k : K) → Has (on shelves shelf) k → IsItemsEnd order first k)
+      → (whole : List K) → IsReached p whole → (k : K) → Has (all_on shelves) k → Has whole k
+  stands_whole order first rounds after shelves only whole reached k h =
+      let j = all_somewhere shelves k h in
+      let o = only j.0 k j.1 in
+      known o.0 o.1 o.2 o.3 (list_any (eq k) order) refl
     where
       known : (i : ℕ) → first ≤ i → i < length order → ends_at order i k → (c : Bool) → list_any (eq k) order ≡ c → Has whole k
       known i a l e true q = (leads_on p hunt.laws rounds first order after).stand whole reached k (any_has eq hunt.same hunt.self k order q)
@@ -148,7 +159,7 @@ module _ {K O E R T : Type 0} {p : Operation K O E} {admits : K → Type 0} {rea
     within = within;
   }
 
-  module _ (order : List K) (first n : ℕ) (s : Core K) (rows : List (ShelvedRow R)) (was parts limit : ℕ) (u : IsUnderway order first n s rows was parts limit) where
+  module _ (order : List K) (first n : ℕ) (s : Core K) (rows : List (ItemRow (Ruled R))) (was parts limit : ℕ) (u : IsUnderway order first n s rows was parts limit) where
     -- the next item is drawn
     pub underway_drawn : (s' : Core K) → s' ≡ with_draw (length order - first) s → first + s.drawn ≡ n → n < length order
         → IsUnderway order first n s' rows was parts limit × (first + s'.drawn ≡ n + 1) × (next_item first (length order - first) s ≡ Some n)
@@ -220,12 +231,12 @@ module _ {K O E R T : Type 0} {p : Operation K O E} {admits : K → Type 0} {rea
       not_filed h = let l = u.only_filed n h in absurd (omega arith)
 
       -- an item was expanded
-      pub underway_more : (t : Core K) (rows' : List (ShelvedRow R)) (parts' : ℕ) → IsWorked p reading eq shelf_of order n s rows parts t rows' parts' limit → IsUnderway order first (n + 1) t rows' was parts' limit
+      pub underway_more : (t : Core K) (rows' : List (ItemRow (Ruled R))) (parts' : ℕ) → IsWorked p reading eq shelf_of order n s rows parts t rows' parts' limit → IsUnderway order first (n + 1) t rows' was parts' limit
       underway_more t rows' parts' w =
           let c = kept_keys eq hunt.same hunt.self shelf_of low first (length order - first) (ends_at order) s w.ends u.kept (λ k h. (n, item_drawn, (w.are_ends k).0 h)) in
           let t' : Core K = with_filed (with_keys eq shelf_of s w.ends) n in
           let next : suc n ≡ n + 1 = omega arith in
-          let grown : (d : K) → edges_of_rows reading.read_places d order (u.sights ++ w.ends ∷ []) rows' ≡ edges_of_rows reading.read_places d order u.sights rows ++ map (reading.read_places (key_at d order w.ends)) w.row.rules.items
+          let grown : (d : K) → edges_of_rows reading.read_places d order (u.sights ++ w.ends ∷ []) rows' ≡ edges_of_rows reading.read_places d order u.sights rows ++ map (reading.read_places (key_at d order w.ends)) w.row.rules.rules.items
           = λ d. ap (edges_of_rows reading.read_places d order (u.sights ++ w.ends ∷ [])) w.rows_are ∙ rows_snoc d order u.sights rows s.shelves (length order) u.named w.ends w.row in
           record {
             kept = subst (IsKept shelf_of first (length order - first) (ends_at order)) (sym w.core_is)
@@ -236,15 +247,15 @@ module _ {K O E R T : Type 0} {p : Operation K O E} {admits : K → Type 0} {rea
             from = (let f = u.from in omega arith);
             drawn = (let e = ap (λ (x : Core K). x.drawn) w.core_is ∙ c.drawn in omega arith);
             sights = u.sights ++ w.ends ∷ [];
-            named = subst (λ (l : List (ShelvedRow R)). Along (IsShelvedRow reading.places (length order) t.shelves) (u.sights ++ w.ends ∷ []) l) (sym w.rows_are)
+            named = subst (λ (l : List (ItemRow (Ruled R))). Along (IsShelvedRow reading.places (length order) t.shelves) (u.sights ++ w.ends ∷ []) l) (sym w.rows_are)
                 (along_snoc (IsShelvedRow reading.places (length order) t.shelves) u.sights rows w.ends w.row
                 (rows_still (length order) s.shelves t.shelves (λ ends ns a. subst (λ (x : Core K). NameOn x.shelves ends ns) (sym w.core_is) (name_still s w.ends u.kept.wide first (length order - first) (ends_at order) u.kept (λ k h. (n, item_drawn, (w.are_ends k).0 h)) ends ns a)) u.sights rows u.named)
-                (w.named, w.listed.within));
+                (w.named, w.listed.within, w.all_numbered));
             edges = λ d front a. subst (λ (m : ℕ). AreEdges p order m (front ++ edges_of_rows reading.read_places d order (u.sights ++ w.ends ∷ []) rows')) next
-                (front ++ edges_of_rows reading.read_places d order u.sights rows, map (reading.read_places (key_at d order w.ends)) w.row.rules.items, ap (λ (l : List E). front ++ l) (grown d) ∙ sym (append_assoc front (edges_of_rows reading.read_places d order u.sights rows) (map (reading.read_places (key_at d order w.ends)) w.row.rules.items)), u.edges d front a, w.listed.edges d);
+                (front ++ edges_of_rows reading.read_places d order u.sights rows, map (reading.read_places (key_at d order w.ends)) w.row.rules.rules.items, ap (λ (l : List E). front ++ l) (grown d) ∙ sym (append_assoc front (edges_of_rows reading.read_places d order u.sights rows) (map (reading.read_places (key_at d order w.ends)) w.row.rules.rules.items)), u.edges d front a, w.listed.edges d);
             counted = λ d.
                 let a = u.counted d in
-                let b = ap (total p.edge_parts) (grown d) ∙ total_append p.edge_parts (edges_of_rows reading.read_places d order u.sights rows) (map (reading.read_places (key_at d order w.ends)) w.row.rules.items) in
+                let b = ap (total p.edge_parts) (grown d) ∙ total_append p.edge_parts (edges_of_rows reading.read_places d order u.sights rows) (map (reading.read_places (key_at d order w.ends)) w.row.rules.rules.items) in
                 let e = w.listed.counted d in
                 let f = w.counted in
                 omega arith;
@@ -256,7 +267,7 @@ module _ {K O E R T : Type 0} {p : Operation K O E} {admits : K → Type 0} {rea
           go i a b (inr l) = let e : n ≡ i = omega arith in subst (λ (j : ℕ). Has (s.filed ++ n ∷ []) j) e (has_last s.filed n)
 
       -- no more is drawn meanwhile
-      pub more_at : (t : Core K) (rows' : List (ShelvedRow R)) (parts' : ℕ) → IsWorked p reading eq shelf_of order n s rows parts t rows' parts' limit → first + t.drawn ≡ n + 1
+      pub more_at : (t : Core K) (rows' : List (ItemRow (Ruled R))) (parts' : ℕ) → IsWorked p reading eq shelf_of order n s rows parts t rows' parts' limit → first + t.drawn ≡ n + 1
       more_at t rows' parts' w =
           let c = kept_keys eq hunt.same hunt.self shelf_of low first (length order - first) (ends_at order) s w.ends u.kept (λ k h. (n, item_drawn, (w.are_ends k).0 h)) in
           ap (λ (i : ℕ). first + i) (ap (λ (x : Core K). x.drawn) w.core_is ∙ c.drawn) ∙ at
@@ -293,7 +304,7 @@ module _ {K O E R T : Type 0} {p : Operation K O E} {admits : K → Type 0} {rea
             beyond p hunt.laws order (all_on kss)
             (record {
               front = f.front;
-              stand = stands_whole order first b.rounds b.after b.low (with_keys eq shelf_of s front) c.kept;
+              stand = stands_whole order first b.rounds b.after kss (items_end order first b.low (with_keys eq shelf_of s front) c.kept);
             })
             (distinct_all shelf_of kss 0 c.kept.once (λ i k h. (c.kept.only i k h).0 ∙ (let z : i ≡ 0 + i = omega arith in z)))
             n (settled d ++ edges_of_rows reading.read_places d order u.sights rows) (omega arith) (all_so_far d) limit (omega arith)
@@ -301,3 +312,23 @@ module _ {K O E R T : Type 0} {p : Operation K O E} {admits : K → Type 0} {rea
         -- the error of an item says that no reached set is within the limit
         pub told_much : (e : HuntError) → IfTooMany limit (IsTooMuch p reading eq shelf_of order n s parts limit) e → IfTooMany limit (IsBeyond p limit) e
         told_much e = IfTooMany-weaker limit _ _ e too_much
+
+  named_known : (order : List K) (shelves : List (List K)) (sights : List (List K)) (rows : List (ItemRow (Ruled R))) → Along (IsShelvedRow reading.places (length order) shelves) sights rows → Along (IsKnownRow reading.places order shelves) sights rows
+  named_known order shelves [] [] a = tt
+  named_known order shelves [] (r ∷ rows) a = absurd a
+  named_known order shelves (e ∷ sights) [] a = absurd a
+  named_known order shelves (e ∷ sights) (r ∷ rows) a = ((subst (λ at. NameEnds order shelves e at r.ends.items) (sym a.0.2) a.0.0, a.0.1), named_known order shelves sights rows a.1)
+
+  -- once all items are expanded, the round is done
+  pub underway_worked : (order : List K) (first : ℕ) (s : Core K) (rows : List (ItemRow (Ruled R))) (was parts limit : ℕ) → IsUnderway order first (length order) s rows was parts limit
+      → (shelves : List (List K)) → s.shelves ≡ shelves → AreWorked p reading shelf_of order first shelves rows was parts limit
+  underway_worked order first s rows was parts limit u shelves is = subst (λ (l : List (List K)). AreWorked p reading shelf_of order first l rows was parts limit) is (record {
+    once = u.kept.once;
+    only = λ shelf k h. ((u.kept.only shelf k h).0, items_end order first u.from s u.kept shelf k h);
+    stands = λ i k a l e. inr (u.kept.stands i (u.filed i a l) k e);
+    sights = u.sights;
+    named = named_known order s.shelves u.sights rows u.named;
+    edges = u.edges;
+    counted = u.counted;
+    within = u.within;
+  })

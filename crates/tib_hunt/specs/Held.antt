@@ -4,8 +4,7 @@ use Rattle.tib_lex.specs.Lists.{Has, Each, Distinct, total}
 use Rattle.tib_hunt.specs.EdgeLists.{IsEnd}
 use Rattle.tib_hunt.specs.Reached.{Operation, IsNew, AfterRounds, IsReached, AreEdges}
 use Rattle.tib_hunt.specs.Reading.{Reading}
-use Rattle.tib_hunt.specs.Rows.{read_rows, IsRowBelow, AreBelow}
-use Rattle.tib_hunt.specs.declared.row.Row.{Row}
+use Rattle.tib_hunt.specs.Rows.{NumberedRow, read_rows, IsRowBelow, AreBelow}
 
 -- the key of a number, where the numbers are indexes in a list of keys
 abbrev pub at : {K : Type 0} → K → List K → ℕ → K
@@ -18,12 +17,12 @@ pub record Leads {K O E : Type 0} (p : Operation K O E) (order keys : List K) : 
 
 module _ {K O E R T : Type 0} (p : Operation K O E) (admits : K → Type 0) (reading : Reading K E R T) where
   -- the edges of the settled rules, and then those of the rows
-  abbrev pub edges_so_far : K → List K → List T → List (Row R) → List E
+  abbrev pub edges_so_far : K → List K → List T → List (NumberedRow R) → List E
   edges_so_far d keys rules rows = map (reading.read_positions (at d keys)) rules ++ read_rows reading.read_places (at d keys) rows
 
   -- The keys are those of the order at the round's beginning, and then the fresh ones in the order of first sight, each once. All stand in
   -- the reached set, and their parts and those of the edges so far are within the limit.
-  pub record IsHeld (order keys : List K) (rules : List T) (rows : List (Row R)) (parts limit : ℕ) : Type 0 where
+  pub record IsHeld (order keys : List K) (rules : List T) (rows : List (NumberedRow R)) (parts limit : ℕ) : Type 0 where
     pub fresh : List K
     pub keys_are : keys ≡ order ++ fresh
     pub once : Distinct keys
@@ -44,7 +43,7 @@ module _ {K O E R T : Type 0} (p : Operation K O E) (admits : K → Type 0) (rea
     pub edges : (d : K) → AreEdges p keys first (edges_so_far d keys rules [])
 
   -- Within a round: the positions below n are expanded, and the fresh keys are the new ends of those from the first one on.
-  pub record IsWithinRound (order : List K) (first n : ℕ) (keys : List K) (rules : List T) (rows : List (Row R)) (parts limit : ℕ) : Type 0 where
+  pub record IsWithinRound (order : List K) (first n : ℕ) (keys : List K) (rules : List T) (rows : List (NumberedRow R)) (parts limit : ℕ) : Type 0 where
     pub rounds : ℕ
     pub after : AfterRounds p rounds first order
     pub held : IsHeld order keys rules rows parts limit

@@ -8,6 +8,7 @@ pub mod Rows
 pub mod Held
 pub mod Found
 pub mod RoundModel
+pub mod Known
 pub mod RoundLaw
 pub mod Shelved
 pub mod States

@@ -1,17 +1,18 @@
 -- What the functions of a hunt do to its state.
 use Rattle.std.specs.Prelude.{◌≡◌, ℕ, Bool, List, [], ◌∷◌, ◌++◌, length, map}
 use Rattle.std.specs.declared.cmp.Ordering.{Ordering}
-use Rattle.tib_lex.specs.Lists.{Along}
+use Rattle.tib_lex.specs.Lists.{Each, Along}
 use Rattle.tib_hunt.specs.Reached.{Operation}
 use Rattle.tib_hunt.specs.Reading.{Reading}
 use Rattle.tib_hunt.specs.Numbered.{Name, IsInOrder}
-use Rattle.tib_hunt.specs.Rows.{ReadAs, StayBelow}
+use Rattle.tib_hunt.specs.Rows.{NumberedRow, ReadAs, StayBelow}
 use Rattle.tib_hunt.specs.Held.{IsBetween, IsWithinRound}
-use Rattle.tib_hunt.specs.Shelved.{IsShelvedRow, IsPlacedRow, IsWorked, IsUnderway}
+use Rattle.tib_hunt.specs.Known.{AreOn}
+use Rattle.tib_hunt.specs.Shelved.{placed_row, IsWorked, AreWorked}
 use Rattle.tib_hunt.specs.RoundModel.{Core}
 use Rattle.tib_hunt.specs.declared.hunting.HuntState.{HuntState}
+use Rattle.tib_hunt.specs.declared.hunting.TakenIn.{TakenIn}
 use Rattle.tib_hunt.specs.declared.place.Edges.{Edges}
-use Rattle.tib_hunt.specs.declared.place.Place.{Place}
 use Rattle.tib_hunt.specs.declared.row.Row.{Row}
 use Rattle.tib_hunt.specs.declared.working.Work.{Work}
 use Rattle.tib_hunt.specs.declared.working.Worked.{Worked}
@@ -23,10 +24,10 @@ module _ {X K R T O E : Type 0} where
       (row : Row R) × (new.rows.items ≡ old.rows.items ++ row ∷ []) × (row.rules.items ≡ edges.rules.items) × Name new.keys.keys edges.ends.items row.ends.items
 
   -- the fresh keys are in order behind those of the order, and the rules of the rows have the positions of their ends
-  abbrev pub AreSettled : (K → K → Ordering) → Reading K E R T → ℕ → List K → List K → HuntState X K R T O E → HuntState X K R T O E → Type 0
-  AreSettled cmp reading first order fresh old new =
+  abbrev pub AreSettled : (K → K → Ordering) → Reading K E R T → ℕ → List K → List K → List (NumberedRow R) → HuntState X K R T O E → HuntState X K R T O E → Type 0
+  AreSettled cmp reading first order fresh rows old new =
       (moved : List ℕ) × IsInOrder cmp order fresh new.keys.keys moved
-      × ReadAs reading first moved old.rules.items old.rows.items new.rules.items
+      × ReadAs reading first moved old.rules.items rows new.rules.items
       × StayBelow reading first moved old.rules.items new.rules.items
 
 module _ {X K O E R T : Type 0} (p : Operation K O E) (admits : K → Type 0) (reading : Reading K E R T) where
@@ -34,30 +35,33 @@ module _ {X K O E R T : Type 0} (p : Operation K O E) (admits : K → Type 0) (r
   abbrev pub IsBetweenRounds : ℕ → ℕ → HuntState X K R T O E → Type 0
   IsBetweenRounds first limit state = IsBetween p admits reading first state.keys.keys state.rules.items state.parts limit
 
-  -- each position of the order is expanded, and these are the keys
-  abbrev pub IsExpanded : List K → ℕ → ℕ → List K → HuntState X K R T O E → Type 0
-  IsExpanded order first limit keys state = IsWithinRound p admits reading order first (length order) keys state.rules.items state.rows.items state.parts limit
+  -- each position of the order is expanded, and these are the keys and the rows
+  abbrev pub IsExpanded : List K → ℕ → ℕ → List K → List (NumberedRow R) → HuntState X K R T O E → Type 0
+  IsExpanded order first limit keys rows state = IsWithinRound p admits reading order first (length order) keys state.rules.items rows state.parts limit
 
 module _ {K R : Type 0} where
   -- the keys of the shelves of a round
   abbrev pub shelves_of : Worked K R → List (List K)
   shelves_of worked = map (λ v. v.items) worked.shelves.items
 
-  -- the ends of each row have numbers on the shelves
-  abbrev pub AreShelved : (R → List Place) → Worked K R → Type 0
-  AreShelved places worked = (bound : ℕ) × (sights : List (List K)) × Along (IsShelvedRow places bound (shelves_of worked)) sights worked.rows.items
+  -- the keys of the shelves are at the positions that were taken in
+  abbrev pub ArePlaced : List K → Worked K R → TakenIn K R → Type 0
+  ArePlaced keys worked taken = Along (Name keys) (shelves_of worked) (map (λ v. v.items) taken.positions.items)
 
-  -- the ends of each row have the numbers of their keys
-  abbrev pub ArePlaced : List K → Worked K R → List (Row R) → Type 0
-  ArePlaced keys worked rows =
-      (positions : List (List ℕ)) × Along (Name keys) (shelves_of worked) positions × Along (IsPlacedRow positions) worked.rows.items rows
+  -- each end of a row has a position
+  abbrev pub HavePositions : TakenIn K R → Type 0
+  HavePositions taken = Each (λ row. AreOn (map (λ v. v.items) taken.positions.items) row.rules.at row.ends.items) taken.rows.items
+
+  -- the rows that were taken in, with the positions of their ends
+  abbrev pub rows_in : TakenIn K R → List (NumberedRow R)
+  rows_in taken = map (placed_row (map (λ v. v.items) taken.positions.items)) taken.rows.items
 
 module _ {K O E R T : Type 0} (p : Operation K O E) (reading : Reading K E R T) (eq : K → K → Bool) (shelf_of : K → ℕ) where
   -- an item was expanded and filed
   abbrev pub WorksItem : List K → ℕ → ℕ → Core K → Work R → Core K → Work R → Type 0
   WorksItem order item limit s old t new = IsWorked p reading eq shelf_of order item s old.rows.items old.parts t new.rows.items new.parts limit
 
-  -- each item of a round was expanded and filed
+module _ {K O E R T : Type 0} (p : Operation K O E) (reading : Reading K E R T) (shelf_of : K → ℕ) where
+  -- each item of a round was expanded
   abbrev pub WorksRound : List K → ℕ → ℕ → ℕ → Worked K R → Type 0
-  WorksRound order first was limit worked =
-      (core : Core K) × (core.shelves ≡ shelves_of worked) × IsUnderway p reading eq shelf_of order first (length order) core worked.rows.items was worked.parts limit
+  WorksRound order first was limit worked = AreWorked p reading shelf_of order first (shelves_of worked) worked.rows.items was worked.parts limit

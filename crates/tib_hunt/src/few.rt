@@ -1,7 +1,8 @@
 //! A round of few items, on one list of keys: it opens no shelves.
 
-ghost use Rattle.std.specs.Prelude.{◌≡◌, ◌≤◌, [], length, IfErr, OnOk};
+ghost use Rattle.std.specs.Prelude.{◌≡◌, ◌≤◌, [], length, map, IfErr, OnOk};
 ghost use Rattle.tib_hunt.specs.Reached.{IfTooMany, IsBeyond, most_parts};
+ghost use Rattle.tib_hunt.specs.Rows.{numbered};
 ghost use Rattle.tib_hunt.specs.States.{IsBetweenRounds, IsExpanded};
 
 use crate::expand::Expand;
@@ -25,7 +26,8 @@ fn expand_few<E: Expand, G: Gate>(
         limit state.old }
     requires rows { state.old.rows.items ≡ [] }
     ensures within { OnOk result (IsExpanded (E.hunted problem.now) (E.admits problem.now) E.reading
-        state.old.keys.keys first limit state.new.keys.keys state.new) }
+        state.old.keys.keys first limit state.new.keys.keys (map numbered state.new.rows.items)
+        state.new) }
     ensures more { IfErr result (IfTooMany limit (IsBeyond (E.hunted problem.now) limit)) }
 {
     let bound = state.keys.len();

@@ -1,6 +1,6 @@
 //! The fresh keys of a round: those of its shelves that the order lacks, which are then appended to it in ascending order.
 
-ghost use Rattle.std.specs.Prelude.{◌≡◌, ℕ, ◌+◌, ◌≤◌, ◌<◌, ◌^◌, ◌++◌, [], ◌∷◌, Some, length, map, slice_get, IfOk, IfErr, IfSome, IfNone, OnOk};
+ghost use Rattle.std.specs.Prelude.{◌≡◌, ℕ, ◌+◌, ◌-◌, ◌≤◌, ◌<◌, ◌^◌, ◌++◌, [], ◌∷◌, Some, min, length, map, slice_get, IfOk, IfErr, IfSome, IfNone, OnOk};
 ghost use Rattle.indexmap.specs.IndexSet.{insert_key, insert_all};
 ghost use Rattle.tib_lex.specs.Lists.{Has, Distinct, Along, total};
 ghost use Rattle.tib_hunt.specs.Reached.{IfTooMany, most_parts};
@@ -13,8 +13,19 @@ use indexmap::IndexSet;
 use std::alloc::{AllocError, Global};
 use tib_table::TableKey;
 
-// The position of a key, or None where it is not in the order.
-fn find_position<K: TableKey + Drop>(keys: &IndexSet<K>, key: &K) -> Option<usize>
+/// How many keys the shelves have, or the greatest `usize` if they have more.
+pub(crate) fn count_keys<K>(shelves: &[Vec<K>]) -> usize
+    ensures { result ≡ min (length (all_on (map (λ v. v.items) shelves.now))) (2 ^ 64 - 1) }
+{
+    let mut count = 0usize;
+    for shelf in shelves {
+        count = count.saturating_add(shelf.len());
+    }
+    count
+}
+
+/// The position of a key, or None where it is not in the order.
+pub(crate) fn find_position<K: TableKey + Drop>(keys: &IndexSet<K>, key: &K) -> Option<usize>
     ensures some { IfSome result (λ n. slice_get keys.now.keys n ≡ Some key.now) }
     ensures none { IfNone result (Has keys.now.keys key.now → ⊥) }
 {

@@ -1,17 +1,18 @@
 //! The state of a hunt: its keys, rules, rows and parts, with the steps that begin it, take a round in and put its keys in order.
 
-ghost use Rattle.std.specs.Prelude.{◌≡◌, ◌+◌, ◌≤◌, ◌<◌, ◌^◌, ◌++◌, [], length, take, drop, IfOk, IfErr, OnOk};
+ghost use Rattle.std.specs.Prelude.{◌≡◌, ◌+◌, ◌≤◌, ◌<◌, ◌^◌, ◌++◌, [], length, map, take, drop, IfOk, IfErr, OnOk};
 ghost use Rattle.indexmap.specs.IndexSet.{insert_all};
 ghost use Rattle.tib_lex.specs.Lists.{Each, Distinct, total};
 ghost use Rattle.tib_hunt.specs.Reached.{IfTooMany, IsBeyond, most_parts};
 ghost use Rattle.tib_hunt.specs.Numbered.{key_parts, HaveMore, AddsParts, placed, keys_of};
-ghost use Rattle.tib_hunt.specs.Rows.{IsRowBelow};
+ghost use Rattle.tib_hunt.specs.Rows.{numbered, IsRowBelow};
 ghost use Rattle.tib_hunt.specs.Shelved.{all_on};
-ghost use Rattle.tib_hunt.specs.States.{AddsEdges, AreSettled, IsBetweenRounds, IsExpanded, WorksRound, shelves_of, AreShelved, ArePlaced};
+ghost use Rattle.tib_hunt.specs.States.{AddsEdges, AreSettled, IsBetweenRounds, IsExpanded, WorksRound, shelves_of, ArePlaced, HavePositions, rows_in};
 
 use crate::expand::Expand;
 use crate::found::HuntError;
-use crate::fresh::{find_shelves, put_fresh};
+use crate::fresh::{count_keys, find_shelves, put_fresh};
+use crate::known::Ruled;
 use crate::numbering::{number_ends, sort_new};
 use crate::place::{Edges, ExpandError};
 use crate::placing::place_rows;
@@ -19,6 +20,7 @@ use crate::row::{Row, settle_rows};
 use crate::working::Worked;
 use indexmap::IndexSet;
 use std::alloc::{AllocError, Global};
+use tib_crew::Row as ItemRow;
 use tib_table::TableKey;
 
 /// The keys so far, the rules over their positions, the rows of the round, and the parts of all.
@@ -28,6 +30,15 @@ pub(crate) struct HuntState<E: Expand> {
     pub rules: Vec<E::Rule>,
     pub rows: Vec<Row<E::Over>>,
     pub parts: u64,
+}
+
+/// What is taken in of a round: its fresh keys, each with its index among them; the positions of the keys of its shelves, where the fresh
+/// keys follow the order; and its rows.
+#[derive(Drop)]
+pub(crate) struct TakenIn<K, R> {
+    pub fresh: Vec<(K, u32)>,
+    pub positions: Vec<Vec<u32>>,
+    pub rows: Vec<ItemRow<Ruled<R>>>,
 }
 
 impl<E: Expand> HuntState<E> {
@@ -66,29 +77,28 @@ impl<E: Expand> HuntState<E> {
         Ok(())
     }
 
-    /// Takes in the rows of a round, and gives the ends in them the numbers of their keys, in which the fresh keys follow those of the order.
-    /// Answers the fresh keys, each with its index among them: those of the shelves that the order lacks. Adds their parts; `TooMany` if that
-    /// passes the limit.
+    /// Takes in what a round made: its fresh keys, which are those of the shelves that the order lacks, and the positions of all keys of the
+    /// shelves. Adds the parts of the fresh keys; `TooMany` if that passes the limit.
     pub fn take_in(
         &mut self,
         alloc: Global,
         limit: u64,
         worked: Worked<E::Key, E::Over>,
-    ) -> Result<Vec<(E::Key, u32)>, HuntError>
+    ) -> Result<TakenIn<E::Key, E::Over>, HuntError>
         requires once { Distinct (all_on (shelves_of worked)) }
         requires counted { total (key_parts E.Key.entries_of) self.old.keys.keys ≤ worked.parts }
         requires within { worked.parts ≤ limit }
         requires limit { limit ≤ most_parts }
-        requires rows { AreShelved E.reading.places worked }
         ensures order { OnOk result (self.new.keys.keys ≡ self.old.keys.keys) }
-        ensures keys { IfOk result (λ r. self.old.keys.keys ++ keys_of r.items
+        ensures keys { IfOk result (λ r. self.old.keys.keys ++ keys_of r.fresh.items
             ≡ insert_all E.Key.eq self.old.keys.keys (all_on (shelves_of worked))) }
-        ensures placed { IfOk result (λ r. r.items ≡ placed 0 (keys_of r.items)) }
+        ensures placed { IfOk result (λ r. r.fresh.items ≡ placed 0 (keys_of r.fresh.items)) }
+        ensures positions { IfOk result (λ r. ArePlaced
+            (self.old.keys.keys ++ keys_of r.fresh.items) worked r) }
+        ensures rows { IfOk result (λ r. r.rows ≡ worked.rows) }
         ensures rules { OnOk result (self.new.rules ≡ self.old.rules) }
-        ensures rows { IfOk result (λ r. ArePlaced (self.old.keys.keys ++ keys_of r.items) worked
-            self.new.rows.items) }
         ensures parts { IfOk result (λ r. AddsParts (key_parts E.Key.entries_of) self.old.keys.keys
-            (self.old.keys.keys ++ keys_of r.items) worked.parts self.new.parts) }
+            (self.old.keys.keys ++ keys_of r.fresh.items) worked.parts self.new.parts) }
         ensures within { OnOk result (self.new.parts ≤ limit) }
         ensures more { IfErr result (IfTooMany limit (HaveMore E.Key.eq (key_parts E.Key.entries_of)
             self.old.keys.keys (all_on (shelves_of worked)) worked.parts limit)) }
@@ -99,7 +109,9 @@ impl<E: Expand> HuntState<E> {
             parts,
         } = worked;
         self.parts = parts;
-        let mut fresh = Vec::new(alloc);
+        let Ok(mut fresh) = Vec::with_capacity(alloc, count_keys(&shelves)) else {
+            return Err(HuntError::OutOfMemory);
+        };
         let positions = match find_shelves(
             alloc,
             &self.keys,
@@ -111,33 +123,47 @@ impl<E: Expand> HuntState<E> {
             Ok(positions) => positions,
             Err(error) => return Err(error),
         };
-        let Ok(rows) = place_rows(alloc, rows, &positions) else {
-            return Err(HuntError::OutOfMemory);
-        };
-        self.rows = rows;
-        Ok(fresh)
+        Ok(TakenIn {
+            fresh,
+            positions,
+            rows,
+        })
     }
 
-    /// Appends the fresh keys, each with its index among them, in ascending order, and settles the rows.
+    /// Appends the fresh keys in ascending order, and settles the rules of the rows.
     pub fn settle_fresh(
         &mut self,
         alloc: Global,
         problem: &E,
-        fresh: Vec<(E::Key, u32)>,
+        taken: TakenIn<E::Key, E::Over>,
     ) -> Result<(), AllocError>
-        requires placed { fresh.items ≡ placed 0 (keys_of fresh.items) }
-        requires few { length (self.old.keys.keys ++ keys_of fresh.items) < 2 ^ 32 }
-        requires distinct { Distinct (self.old.keys.keys ++ keys_of fresh.items) }
+        requires placed { taken.fresh.items ≡ placed 0 (keys_of taken.fresh.items) }
+        requires few { length (self.old.keys.keys ++ keys_of taken.fresh.items) < 2 ^ 32 }
+        requires distinct { Distinct (self.old.keys.keys ++ keys_of taken.fresh.items) }
+        requires on { HavePositions taken }
         requires below { Each (IsRowBelow E.reading.places (length self.old.keys.keys)
-            (length (self.old.keys.keys ++ keys_of fresh.items))) self.old.rows.items }
+            (length (self.old.keys.keys ++ keys_of taken.fresh.items))) (rows_in taken) }
         ensures rows { OnOk result (self.new.rows.items ≡ []) }
         ensures parts { OnOk result (self.new.parts ≡ self.old.parts) }
         ensures settled { OnOk result (AreSettled E.Key.cmp E.reading (length self.old.keys.keys)
-            self.old.keys.keys (keys_of fresh.items) self.old self.new) }
+            self.old.keys.keys (keys_of taken.fresh.items) (rows_in taken) self.old self.new) }
     {
+        let TakenIn {
+            fresh,
+            positions,
+            rows,
+        } = taken;
         let first = self.keys.len() as u32;
         let moved = put_fresh(alloc, &mut self.keys, fresh)?;
-        settle_rows(alloc, problem, &self.rows, first, &moved, &mut self.rules)?;
+        place_rows(
+            alloc,
+            problem,
+            rows,
+            &positions,
+            first,
+            &moved,
+            &mut self.rules,
+        )?;
         self.rows = Vec::new(alloc);
         Ok(())
     }
@@ -148,11 +174,12 @@ impl<E: Expand> HuntState<E> {
         requires few { length self.old.keys.keys < 2 ^ 32 }
         requires distinct { Distinct self.old.keys.keys }
         requires below { Each (IsRowBelow E.reading.places first (length self.old.keys.keys))
-            self.old.rows.items }
+            (map numbered self.old.rows.items) }
         ensures rows { OnOk result (self.new.rows.items ≡ []) }
         ensures parts { OnOk result (self.new.parts ≡ self.old.parts) }
         ensures settled { OnOk result (AreSettled E.Key.cmp E.reading first
-            (take first self.old.keys.keys) (drop first self.old.keys.keys) self.old self.new) }
+            (take first self.old.keys.keys) (drop first self.old.keys.keys)
+            (map numbered self.old.rows.items) self.old self.new) }
     {
         let moved = sort_new(alloc, &mut self.keys, first as usize)?;
         settle_rows(alloc, problem, &self.rows, first, &moved, &mut self.rules)?;
@@ -172,8 +199,7 @@ pub(crate) fn list_keys<K: TableKey + Drop>(
 }
 
 impl<E: Expand> HuntState<E> {
-    /// Takes in what a round made. Answers the fresh keys, each with its index among them, or `TooMany` where the reached set passes the
-    /// limit.
+    /// Takes in what a round made, or answers `TooMany` where the reached set passes the limit.
     pub fn take_round(
         &mut self,
         alloc: Global,
@@ -181,23 +207,24 @@ impl<E: Expand> HuntState<E> {
         limit: u64,
         first: u32,
         worked: Worked<E::Key, E::Over>,
-    ) -> Result<Vec<(E::Key, u32)>, HuntError>
+    ) -> Result<TakenIn<E::Key, E::Over>, HuntError>
         requires limit { limit ≤ most_parts }
         requires between { IsBetweenRounds (E.hunted problem.now) (E.admits problem.now) E.reading
             first limit self.old }
-        requires worked { WorksRound (E.hunted problem.now) E.reading E.Key.eq E.Key.shelf_of
+        requires worked { WorksRound (E.hunted problem.now) E.reading E.Key.shelf_of
             self.old.keys.keys first self.old.parts limit worked }
         ensures order { OnOk result (self.new.keys.keys ≡ self.old.keys.keys) }
-        ensures placed { IfOk result (λ r. r.items ≡ placed 0 (keys_of r.items)) }
+        ensures placed { IfOk result (λ r. r.fresh.items ≡ placed 0 (keys_of r.fresh.items)) }
+        ensures on { IfOk result HavePositions }
         ensures within { IfOk result (λ r. IsExpanded (E.hunted problem.now) (E.admits problem.now)
-            E.reading self.old.keys.keys first limit (self.old.keys.keys ++ keys_of r.items)
-            self.new) }
+            E.reading self.old.keys.keys first limit
+            (self.old.keys.keys ++ keys_of r.fresh.items) (rows_in r) self.new) }
         ensures more { IfErr result (IfTooMany limit (IsBeyond (E.hunted problem.now) limit)) }
     {
         let _problem = problem;
         let _first = first;
         match self.take_in(alloc, limit, worked) {
-            Ok(fresh) => Ok(fresh),
+            Ok(taken) => Ok(taken),
             Err(error) => Err(error),
         }
     }
@@ -244,18 +271,18 @@ impl<E: Expand> HuntState<E> {
         requires limit { limit ≤ most_parts }
         requires between { IsBetweenRounds (E.hunted problem.now) (E.admits problem.now) E.reading
             first limit self.old }
-        requires worked { WorksRound (E.hunted problem.now) E.reading E.Key.eq E.Key.shelf_of
+        requires worked { WorksRound (E.hunted problem.now) E.reading E.Key.shelf_of
             self.old.keys.keys first self.old.parts limit worked }
         ensures between { OnOk result (IsBetweenRounds (E.hunted problem.now) (E.admits problem.now)
             E.reading (length self.old.keys.keys) limit self.new) }
         ensures rows { OnOk result (self.new.rows.items ≡ []) }
         ensures more { IfErr result (IfTooMany limit (IsBeyond (E.hunted problem.now) limit)) }
     {
-        let fresh = match self.take_round(alloc, problem, limit, first, worked) {
-            Ok(fresh) => fresh,
+        let taken = match self.take_round(alloc, problem, limit, first, worked) {
+            Ok(taken) => taken,
             Err(error) => return Err(error),
         };
-        let Ok(()) = self.settle_fresh(alloc, problem, fresh) else {
+        let Ok(()) = self.settle_fresh(alloc, problem, taken) else {
             return Err(HuntError::OutOfMemory);
         };
         Ok(())

@@ -1,20 +1,27 @@
 //! The items of one round as a task, which several workers perform.
 
+ghost use Rattle.std.specs.Prelude.{◌≤◌, ◌<◌, ◌^◌, length};
+
 use crate::expand::Expand;
 use crate::found::Gate;
-use crate::place::{Edges, ExpandError};
-use crate::round_of::RoundOf;
+use crate::known::{Ruled, split_ends};
+use crate::place::ExpandError;
+use indexmap::IndexSet;
 use std::alloc::Global;
 use std::collections::LinkedList;
 use tib_crew::{Performed, Task, Unperformed};
 use tib_table::Problem;
 
-/// The items of a round, each with the edges of its position, and the gate that is called before an item is expanded. An item is counted from
-/// the first position of the round.
+/// The items of a round, each with the edges of its position, and the gate that is called before an item is expanded. The keys are those of the
+/// order so far; an item is counted from the first position that is not expanded. Of an item's ends only those are handed on that the order lacks.
 #[derive(Drop)]
 pub(crate) struct JobOf<'a, E: Expand, G: Gate> {
-    pub of: RoundOf<'a, E>,
+    pub problem: &'a E,
+    pub keys: &'a IndexSet<E::Key>,
+    pub first: u32,
     pub gate: &'a G,
+    pub ghost within: { first ≤ length keys.now.keys },
+    pub ghost few: { length keys.now.keys < 2 ^ 32 },
 }
 
 impl<'a, E: Expand, G: Gate> Problem for JobOf<'a, E, G> {
@@ -24,7 +31,7 @@ impl<'a, E: Expand, G: Gate> Problem for JobOf<'a, E, G> {
 
     type Data = (E, LinkedList<E::Key>, u64);
 
-    ghost about = { λ j. (j.of.problem.now, j.of.order.now, j.of.first) };
+    ghost about = { λ j. (j.problem.now, j.keys.now.keys, j.first) };
 
     ghost may_hold = { IsItemEnd E.hunted };
 }
@@ -32,7 +39,7 @@ impl<'a, E: Expand, G: Gate> Problem for JobOf<'a, E, G> {
 impl<'a, E: Expand, G: Gate> Task for JobOf<'a, E, G> {
     ghost use Rattle.tib_hunt.specs.Jobs.{items_in, GivesEdges, ItemExceeds, IsAdmitted, ends_held};
 
-    type Rules = Vec<E::Over>;
+    type Rules = Ruled<E::Over>;
 
     ghost count_of = { items_in };
 
@@ -43,11 +50,11 @@ impl<'a, E: Expand, G: Gate> Task for JobOf<'a, E, G> {
     ghost is_ready = { IsAdmitted E.admits };
 
     fn count(&self) -> u32 {
-        self.of.order.len() as u32 - self.of.first
+        self.keys.len() as u32 - self.first
     }
 
     fn pass(&self, worker: u32, item: u32) {
-        self.gate.pass(worker, self.of.first + item)
+        self.gate.pass(worker, self.first + item)
     }
 
     fn perform(
@@ -55,17 +62,26 @@ impl<'a, E: Expand, G: Gate> Task for JobOf<'a, E, G> {
         alloc: Global,
         item: u32,
         budget: u64,
-    ) -> Result<Performed<E::Key, Vec<E::Over>>, Unperformed> {
-        let position = self.of.first + item;
-        match self
-            .of
-            .problem
-            .expand(alloc, self.of.order, position, budget)
-        {
-            Ok(Edges { ends, rules, parts }) => Ok(Performed { ends, rules, parts }),
-            Err(ExpandError::More) => Err(Unperformed::More),
-            Err(ExpandError::OutOfMemory) => Err(Unperformed::OutOfMemory),
-        }
+    ) -> Result<Performed<E::Key, Ruled<E::Over>>, Unperformed> {
+        let position = self.first + item;
+        let order = self.keys.as_slice();
+        let edges = match self.problem.expand(alloc, order, position, budget) {
+            Ok(edges) => edges,
+            Err(ExpandError::More) => return Err(Unperformed::More),
+            Err(ExpandError::OutOfMemory) => return Err(Unperformed::OutOfMemory),
+        };
+        let Ok(split) = split_ends(alloc, self.keys, edges.ends) else {
+            return Err(Unperformed::OutOfMemory);
+        };
+        let rules = Ruled {
+            rules: edges.rules,
+            at: Some(split.at),
+        };
+        Ok(Performed {
+            ends: split.ends,
+            rules,
+            parts: edges.parts,
+        })
     }
 
     ghost holds_ends = { ends_held E.hunted E.reading };

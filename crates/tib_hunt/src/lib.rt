@@ -11,6 +11,7 @@ mod fresh;
 mod hunting;
 mod itemized;
 mod job;
+mod known;
 pub mod laws;
 mod numbering;
 mod place;
@@ -19,10 +20,7 @@ mod reach;
 mod round;
 mod round_of;
 mod row;
-mod shelved_row;
 mod shelving;
-#[cfg(test)]
-mod tests;
 mod together;
 mod working;
 mod works;

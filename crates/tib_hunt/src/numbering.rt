@@ -113,6 +113,7 @@ pub(crate) fn put_new<K: TableKey + Drop>(
         × (length r.items ≡ length new.items)) }
 {
     let mut moved = vec![in alloc; 0u32; new.len()]?;
+    keys.reserve(new.len())?;
     for (key, place) in new {
         moved[place as usize] = keys.len() as u32;
         let Ok(_) = keys.insert(key) else {

@@ -1,55 +1,149 @@
-//! The ends of the rows of a round get numbers in the order and the fresh keys, in place of those on shelves.
+//! The rules of a round's rows are settled, whose ends stand in the order or have numbers on shelves: each end gets the position of its key.
 
-ghost use Rattle.std.specs.Prelude.{◌≡◌, ◌<◌, length, map, slice_index_or, [], IfOk};
-ghost use Rattle.tib_lex.specs.Lists.{Along, Each};
-ghost use Rattle.tib_hunt.specs.Shelved.{position_on, AreOn, IsPlacedRow};
+ghost use Rattle.std.specs.Prelude.{◌≡◌, ◌+◌, ◌<◌, length, map, OnOk};
+ghost use Rattle.tib_lex.specs.Lists.{Each};
+ghost use Rattle.tib_hunt.specs.Numbered.{moved_to};
+ghost use Rattle.tib_hunt.specs.Rows.{IsRowBelow, ReadsRow, ReadAs, StayBelow};
+ghost use Rattle.tib_hunt.specs.Known.{position_on, IsOn, positions_at, HavePositionsAt, end_positions, AreOn};
+ghost use Rattle.tib_hunt.specs.Shelved.{placed_row};
 
-use crate::row::Row;
-use crate::shelved_row::ShelvedRow;
+use crate::expand::Expand;
+use crate::known::{EndAt, Ruled};
+use crate::row::{move_end, settle_rules};
 use std::alloc::{AllocError, Global};
+use tib_crew::Row;
 use tib_table::Number;
-
-// The positions of the numbers on shelves.
-fn place_ends(
-    alloc: Global,
-    ends: &[Number],
-    positions: &[Vec<u32>],
-) -> Result<Vec<u32>, AllocError>
-    requires { AreOn (map (λ v. v.items) positions.now) ends.now }
-    ensures { IfOk result (λ r. r.items ≡ map (position_on (map (λ v. v.items) positions.now))
-        ends.now) }
-{
-    let mut placed = Vec::with_capacity(alloc, ends.len())?;
-    for &number in ends {
-        placed.push(place_end(number, positions))?;
-    }
-    Ok(placed)
-}
 
 // The position of a number on a shelf.
 fn place_end(number: Number, positions: &[Vec<u32>]) -> u32
-    requires { number.place < length (slice_index_or (map (λ v. v.items) positions.now) number.shelf
-        []) }
+    requires { IsOn (map (λ v. v.items) positions.now) number }
     ensures { result ≡ position_on (map (λ v. v.items) positions.now) number }
 {
     positions[number.shelf as usize][number.place as usize]
 }
 
-/// The rows, with the positions of their ends in place of their numbers on shelves.
-pub(crate) fn place_rows<R: Drop>(
-    alloc: Global,
-    rows: Vec<ShelvedRow<R>>,
+// Fills the list with the positions of the numbers on shelves, after the positions from `first` on were moved.
+fn place_ends(
+    ends: &[Number],
     positions: &[Vec<u32>],
-) -> Result<Vec<Row<R>>, AllocError>
-    requires { Each (λ row. AreOn (map (λ v. v.items) positions.now) row.ends.items) rows.items }
-    ensures { IfOk result (λ r. Along (IsPlacedRow (map (λ v. v.items) positions.now)) rows.items
-        r.items) }
+    first: u32,
+    moved: &[u32],
+    placed: &mut Vec<u32>,
+) -> Result<(), AllocError>
+    requires on { Each (IsOn (map (λ v. v.items) positions.now)) ends.now }
+    requires below { Each (λ n. n < first + length moved.now)
+        (map (position_on (map (λ v. v.items) positions.now)) ends.now) }
+    ensures { OnOk result (placed.new.items ≡ map (moved_to first moved.now)
+        (map (position_on (map (λ v. v.items) positions.now)) ends.now)) }
 {
-    let mut placed = Vec::with_capacity(alloc, rows.len())?;
-    for row in rows {
-        let ShelvedRow { rules, ends } = row;
-        let ends = place_ends(alloc, &ends, positions)?;
-        placed.push(Row { rules, ends })?;
+    placed.clear();
+    for &number in ends {
+        placed.push(move_end(place_end(number, positions), first, moved))?;
     }
-    Ok(placed)
+    Ok(())
+}
+
+// Fills the list with the positions of ends, some of which stand in the order and the others have numbers on shelves, after the positions from
+// `first` on were moved.
+fn place_known(
+    at: &[EndAt],
+    numbers: &[Number],
+    positions: &[Vec<u32>],
+    first: u32,
+    moved: &[u32],
+    placed: &mut Vec<u32>,
+) -> Result<(), AllocError>
+    requires on { HavePositionsAt (map (λ v. v.items) positions.now) at.now numbers.now }
+    requires below { Each (λ n. n < first + length moved.now)
+        (positions_at (map (λ v. v.items) positions.now) at.now numbers.now) }
+    ensures { OnOk result (placed.new.items ≡ map (moved_to first moved.now)
+        (positions_at (map (λ v. v.items) positions.now) at.now numbers.now)) }
+{
+    placed.clear();
+    let mut next = 0;
+    for &end in at {
+        let position = match end {
+            EndAt::Position(position) => position,
+            EndAt::Numbered => {
+                let number = numbers[next];
+                next += 1;
+                place_end(number, positions)
+            }
+        };
+        placed.push(move_end(position, first, moved))?;
+    }
+    Ok(())
+}
+
+// The same of ends of which all may have numbers.
+fn place_all(
+    at: &Option<Vec<EndAt>>,
+    numbers: &[Number],
+    positions: &[Vec<u32>],
+    first: u32,
+    moved: &[u32],
+    placed: &mut Vec<u32>,
+) -> Result<(), AllocError>
+    requires on { AreOn (map (λ v. v.items) positions.now) at.now numbers.now }
+    requires below { Each (λ n. n < first + length moved.now)
+        (end_positions (map (λ v. v.items) positions.now) at.now numbers.now) }
+    ensures { OnOk result (placed.new.items ≡ map (moved_to first moved.now)
+        (end_positions (map (λ v. v.items) positions.now) at.now numbers.now)) }
+{
+    match at {
+        Some(at) => place_known(at, numbers, positions, first, moved, placed),
+        None => place_ends(numbers, positions, first, moved, placed),
+    }
+}
+
+// Settles the rules of a row, and appends them to the rules. `ends` is a list that serves every row.
+fn place_row<E: Expand>(
+    alloc: Global,
+    problem: &E,
+    row: &Row<Ruled<E::Over>>,
+    positions: &[Vec<u32>],
+    first: u32,
+    moved: &[u32],
+    ends: &mut Vec<u32>,
+    rules: &mut Vec<E::Rule>,
+) -> Result<(), AllocError>
+    requires on { AreOn (map (λ v. v.items) positions.now) row.now.rules.at row.now.ends.items }
+    requires below { IsRowBelow E.reading.places first (first + length moved.now)
+        (placed_row (map (λ v. v.items) positions.now) row.now) }
+    ensures read { OnOk result (ReadsRow E.reading first moved.now rules.old.items
+        (placed_row (map (λ v. v.items) positions.now) row.now) rules.new.items) }
+    ensures below { OnOk result (StayBelow E.reading first moved.now rules.old.items
+        rules.new.items) }
+{
+    place_all(&row.rules.at, &row.ends, positions, first, moved, ends)?;
+    settle_rules(alloc, problem, &row.rules.rules, ends, rules)
+}
+
+/// Settles the rules of all rows, and appends them to the rules. The ends of the rows stand in the order or have numbers on shelves, whose
+/// positions are given as they were before those from `first` on were moved. Each row is let go as soon as it is settled.
+pub(crate) fn place_rows<E: Expand>(
+    alloc: Global,
+    problem: &E,
+    rows: Vec<Row<Ruled<E::Over>>>,
+    positions: &[Vec<u32>],
+    first: u32,
+    moved: &[u32],
+    rules: &mut Vec<E::Rule>,
+) -> Result<(), AllocError>
+    requires on { Each (λ row. AreOn (map (λ v. v.items) positions.now) row.rules.at row.ends.items)
+        rows.items }
+    requires below { Each (IsRowBelow E.reading.places first (first + length moved.now))
+        (map (placed_row (map (λ v. v.items) positions.now)) rows.items) }
+    ensures read { OnOk result (ReadAs E.reading first moved.now rules.old.items
+        (map (placed_row (map (λ v. v.items) positions.now)) rows.items) rules.new.items) }
+    ensures below { OnOk result (StayBelow E.reading first moved.now rules.old.items
+        rules.new.items) }
+{
+    let mut ends = Vec::new(alloc);
+    for row in rows {
+        place_row(
+            alloc, problem, &row, positions, first, moved, &mut ends, rules,
+        )?;
+    }
+    Ok(())
 }

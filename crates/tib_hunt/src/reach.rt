@@ -151,12 +151,13 @@ pub fn hunt_alone<E: Expand, G: Gate>(
     hunt_by(alloc, problem, limit, MANY, gate)
 }
 
-/// The reached set as `hunt_alone` answers it, found by this number of workers, 1 to 16. A round of one item is worked as by one worker. In any
-/// other the workers draw the items, no more of them than there are items, and each number of an end takes one turn of one shelf. An item is
-/// expanded again, by the caller, where a worker has too small a share of what the limit leaves, or finds no memory; `TooMany` is answered by
-/// the caller alone, and so doesn't depend on the order of the workers' steps. Calls `gate` for each key before it is expanded, with the number
-/// of the worker that does it. It may wait for ever: while a turn of a shelf is held. Errors are those of `hunt_alone`, and so is the cost, but
-/// for the keys that are expanded again, and threads that are started for each round.
+/// The reached set as `hunt_alone` answers it, found by this number of workers, 1 to 16. A round of one item is worked as by one worker. In
+/// any other the workers draw the items, no more of them than there are items, and look its ends up in the order; each end that it lacks
+/// takes one turn of a shelf. An item is expanded again, by the caller, where a worker has too small a share of what the limit leaves, or
+/// finds no memory; `TooMany` is answered by the caller alone, and so doesn't depend on the order of the workers' steps. Calls `gate` for
+/// each key before it is expanded, with the number of the worker that does it. It may wait for ever: while a turn of a shelf is held.
+/// Errors are those of `hunt_alone`, and so is the cost, but for the keys that are expanded again, and threads that are started for each
+/// round.
 pub fn hunt<R: Threads + Wait + Sync, E: Expand + Sync, G: Gate + Sync>(
     rt: &R,
     alloc: Global,

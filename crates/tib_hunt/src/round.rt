@@ -41,11 +41,12 @@ impl<P: Itemized + Copy> Round<P> {
         ensures { IfOk result (λ r. r ≡ record { about = P.about problem; core = opened }) }
     {
         let shelves = open_shelves(alloc, problem)?;
+        let filed = Vec::with_capacity(alloc, problem.count() as usize)?;
         Ok(Round {
             problem,
             shelves,
             drawn: 0,
-            filed: Vec::new(alloc),
+            filed,
         })
     }
 }

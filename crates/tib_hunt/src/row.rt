@@ -1,9 +1,10 @@
 //! Rows of edges whose ends have numbers, and how their rules get the positions of the ends.
 
-ghost use Rattle.std.specs.Prelude.{◌≡◌, ◌+◌, ◌<◌, length, map, OnOk};
+ghost use Rattle.std.specs.Prelude.{◌≡◌, ◌+◌, ◌<◌, ℕ, length, map, OnOk};
 ghost use Rattle.tib_lex.specs.Lists.{Each};
+ghost use Rattle.tib_hunt.specs.EdgeLists.{IsWithin};
 ghost use Rattle.tib_hunt.specs.Numbered.{moved_to};
-ghost use Rattle.tib_hunt.specs.Rows.{IsRowBelow, ReadsRow, ReadAs, StayBelow};
+ghost use Rattle.tib_hunt.specs.Rows.{numbered, IsRowBelow, Settles, ReadsRow, ReadAs, StayBelow};
 
 use crate::expand::Expand;
 use std::alloc::{AllocError, Global};
@@ -34,8 +35,8 @@ fn move_ends(
     Ok(())
 }
 
-// The number of an end, after the numbers from `first` on were moved.
-fn move_end(number: u32, first: u32, moved: &[u32]) -> u32
+/// The number of an end, after the numbers from `first` on were moved.
+pub(crate) fn move_end(number: u32, first: u32, moved: &[u32]) -> u32
     requires { number < first + length moved.now }
     ensures { result ≡ moved_to first moved.now number }
 {
@@ -44,6 +45,27 @@ fn move_end(number: u32, first: u32, moved: &[u32]) -> u32
     } else {
         moved[(number - first) as usize]
     }
+}
+
+/// Settles rules over places whose ends have these positions, and appends them to the rules. Err if memory is refused.
+pub(crate) fn settle_rules<E: Expand>(
+    alloc: Global,
+    problem: &E,
+    over: &[E::Over],
+    ends: &[u32],
+    rules: &mut Vec<E::Rule>,
+) -> Result<(), AllocError>
+    requires { (known : ℕ) × Each (λ rule. Each (IsWithin known (length ends.now))
+        (E.reading.places rule)) over.now }
+    ensures { OnOk result (Settles E.reading ends.now rules.old.items over.now rules.new.items) }
+{
+    for rule in over {
+        let settled = problem.settle(alloc, rule, ends)?;
+        let Ok(()) = rules.push(settled) else {
+            return Err(AllocError);
+        };
+    }
+    Ok(())
 }
 
 // Settles the rules of a row, and appends them to the rules. `ends` is a list that serves every row.
@@ -56,20 +78,15 @@ fn settle_row<E: Expand>(
     ends: &mut Vec<u32>,
     rules: &mut Vec<E::Rule>,
 ) -> Result<(), AllocError>
-    requires below { IsRowBelow E.reading.places first (first + length moved.now) row.now }
-    ensures read { OnOk result (ReadsRow E.reading first moved.now rules.old.items row.now
-        rules.new.items) }
+    requires below { IsRowBelow E.reading.places first (first + length moved.now)
+        (numbered row.now) }
+    ensures read { OnOk result (ReadsRow E.reading first moved.now rules.old.items
+        (numbered row.now) rules.new.items) }
     ensures below { OnOk result (StayBelow E.reading first moved.now rules.old.items
         rules.new.items) }
 {
     move_ends(&row.ends, first, moved, ends)?;
-    for rule in &row.rules {
-        let settled = problem.settle(alloc, rule, ends)?;
-        let Ok(()) = rules.push(settled) else {
-            return Err(AllocError);
-        };
-    }
-    Ok(())
+    settle_rules(alloc, problem, &row.rules, ends, rules)
 }
 
 /// Settles the rules of all rows, and appends them to the rules.
@@ -81,9 +98,10 @@ pub(crate) fn settle_rows<E: Expand>(
     moved: &[u32],
     rules: &mut Vec<E::Rule>,
 ) -> Result<(), AllocError>
-    requires below { Each (IsRowBelow E.reading.places first (first + length moved.now)) rows.now }
-    ensures read { OnOk result (ReadAs E.reading first moved.now rules.old.items rows.now
-        rules.new.items) }
+    requires below { Each (IsRowBelow E.reading.places first (first + length moved.now))
+        (map numbered rows.now) }
+    ensures read { OnOk result (ReadAs E.reading first moved.now rules.old.items
+        (map numbered rows.now) rules.new.items) }
     ensures below { OnOk result (StayBelow E.reading first moved.now rules.old.items
         rules.new.items) }
 {

@@ -13,26 +13,27 @@ ghost use Rattle.tib_hunt.specs.States.{WorksItem, WorksRound};
 
 use crate::expand::Expand;
 use crate::found::{Gate, HuntError};
+use crate::known::Ruled;
 use crate::place::ExpandError;
 use crate::round::Round;
 use crate::round_of::RoundOf;
-use crate::shelved_row::ShelvedRow;
 use crate::shelving::{draw_item, file_item, shelve_ends};
 use std::alloc::Global;
+use tib_crew::Row;
 use tib_table::TableKey;
 
 /// What a round makes: the keys on its shelves, the rows of its items, and the parts of all that was there before and of these rows.
 #[derive(Drop)]
 pub(crate) struct Worked<K, R> {
     pub shelves: Vec<Vec<K>>,
-    pub rows: Vec<ShelvedRow<R>>,
+    pub rows: Vec<Row<Ruled<R>>>,
     pub parts: u64,
 }
 
 // The rows so far, the parts of all that was there before and of these rows, and the parts of the keys on the shelves.
 #[derive(Drop)]
 struct Work<R> {
-    rows: Vec<ShelvedRow<R>>,
+    rows: Vec<Row<Ruled<R>>>,
     parts: u64,
     seen: u64,
 }
@@ -80,9 +81,14 @@ fn work_item<'a, 'b, E: Expand, G: Gate>(
         Err(error) => return Err(error),
     };
     work.parts += edges.parts;
-    let row = ShelvedRow {
-        rules: edges.rules,
+    let row = Row {
+        item,
+        rules: Ruled {
+            rules: edges.rules,
+            at: None,
+        },
         ends,
+        parts: edges.parts,
     };
     let Ok(()) = work.rows.push(row) else {
         return Err(HuntError::OutOfMemory);
@@ -107,8 +113,8 @@ pub(crate) fn work_round<E: Expand, G: Gate>(
     requires limit { limit ≤ most_parts }
     requires between { (rules : List E.Rule) × IsBetween (E.hunted problem.now)
         (E.admits problem.now) E.reading first order.now rules parts limit }
-    ensures worked { IfOk result (WorksRound (E.hunted problem.now) E.reading E.Key.eq
-        E.Key.shelf_of order.now first parts limit) }
+    ensures worked { IfOk result (WorksRound (E.hunted problem.now) E.reading E.Key.shelf_of
+        order.now first parts limit) }
     ensures more { IfErr result (IfTooMany limit (IsBeyond (E.hunted problem.now) limit)) }
 {
     let of = RoundOf {
@@ -119,8 +125,11 @@ pub(crate) fn work_round<E: Expand, G: Gate>(
     let Ok(mut round) = Round::open(alloc, &of) else {
         return Err(HuntError::OutOfMemory);
     };
+    let Ok(rows) = Vec::with_capacity(alloc, order.len() - first as usize) else {
+        return Err(HuntError::OutOfMemory);
+    };
     let mut work = Work {
-        rows: Vec::new(alloc),
+        rows,
         parts,
         seen: 0,
     };

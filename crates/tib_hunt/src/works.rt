@@ -72,11 +72,9 @@ where
     if state.keys.len() - (first as usize) < 2 {
         return round_of_few(state, alloc, problem, limit, gate, first);
     }
-    let order = state.keys.as_slice();
+    let keys = &state.keys;
     let parts = state.parts;
-    match work_together(
-        rt, alloc, problem, order, first, parts, limit, workers, gate,
-    ) {
+    match work_together(rt, alloc, problem, keys, first, parts, limit, workers, gate) {
         Ok(worked) => state.end_round(alloc, problem, limit, first, worked),
         Err(error) => Err(error),
     }

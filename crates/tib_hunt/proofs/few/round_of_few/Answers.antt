@@ -1,4 +1,5 @@
-use Rattle.std.proofs.Common.{arith}
+use Rattle.std.proofs.Common.{map, arith}
+use Rattle.tib_hunt.specs.Rows.{numbered}
 use Rattle.tib_hunt.proofs.Reaching.{hunt_of}
 use Rattle.tib_hunt.proofs.Advancing.{few_keys}
 use Rattle.tib_hunt.proofs.Finding.{round_ends_at}
@@ -18,5 +19,5 @@ settle-requires-clause-few g c =
     omega arith
 
 pub returns-clause-between : goal.returns-clause-between
-returns-clause-between g c = round_ends_at (hunt_of (g.met.E.Expand.lawful c.args.problem.now) g.met.E.Key.Ord.total g.met.E.Key.TableKey.same g.met.E.Key.Eq.laws.refl) c.args.state.now.keys.keys c.expand_few.new.state.keys.keys c.args.first c.expand_few.new.state.rules.items c.expand_few.new.state.rows.items c.expand_few.new.state.parts c.args.limit c.in-Ok.ensures.within
+returns-clause-between g c = round_ends_at (hunt_of (g.met.E.Expand.lawful c.args.problem.now) g.met.E.Key.Ord.total g.met.E.Key.TableKey.same g.met.E.Key.Eq.laws.refl) c.args.state.now.keys.keys c.expand_few.new.state.keys.keys c.args.first c.expand_few.new.state.rules.items (map numbered c.expand_few.new.state.rows.items) c.expand_few.new.state.parts c.args.limit c.in-Ok.ensures.within
     c.settle.new.self.keys.keys c.settle.new.self.rules.items c.settle.new.self.parts c.len-order.result c.len-order.ensures.len c.in-Ok-settle.ensures.parts c.in-Ok-settle.ensures.settled

@@ -1,10 +1,12 @@
 use Rattle.std.proofs.Common.{◌≡◌, ◌++◌, map}
 use Rattle.std.specs.Vec.Iter.{into_iter_items}
-use Rattle.tib_lex.specs.Lists.{Along}
-use Rattle.tib_hunt.specs.Shelved.{IsPlacedRow}
+use Rattle.tib_hunt.specs.Numbered.{moved_to}
+use Rattle.tib_hunt.specs.Rows.{read_rows}
+use Rattle.tib_hunt.specs.Shelved.{placed_row}
+use Rattle.tib_hunt.proofs.Settling.{Settled}
 use Rattle.tib_hunt.proofs.placing.place_rows.Given as goal
 
 abbrev pub invariant-loop-row : goal.invariant-loop-row
 invariant-loop-row g l =
     (l.fn.rows.items ≡ l.yielded ++ into_iter_items l.row-iterator)
-    × Along (IsPlacedRow (map (λ v. v.items) l.positions)) l.yielded l.placed.items
+    × Settled g.E.Expand.reading l.first l.moved l.fn.rules.items l.rules.items (λ at. read_rows g.E.Expand.reading.read_places (λ n. at (moved_to l.first l.moved n)) (map (placed_row (map (λ v. v.items) l.positions)) l.yielded))

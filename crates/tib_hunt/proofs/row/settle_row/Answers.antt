@@ -1,19 +1,25 @@
-use Rattle.std.proofs.Common.{◌≡◌, ◌∙◌, ◌∷◌, [], ℕ, map, length, get_or, ◌<◌, ap, sym, subst}
-use Rattle.tib_hunt.specs.EdgeLists.{position_of}
+use Rattle.std.proofs.Common.{◌∙◌, map, sym, ap, subst}
+use Rattle.std.proofs.lemmas.Result.{on_ok_weaker}
+use Rattle.tib_lex.specs.Lists.{Each}
+use Rattle.tib_hunt.specs.EdgeLists.{IsWithin}
 use Rattle.tib_hunt.specs.Numbered.{moved_to}
-use Rattle.tib_hunt.proofs.Settling.{Settled, one_settled, rules_more, still_within, was_within}
+use Rattle.tib_hunt.specs.Rows.{numbered, Settles}
+use Rattle.tib_hunt.proofs.Settling.{row_settled, still_within}
 use Rattle.tib_hunt.proofs.row.settle_row.Goals as goal
 
-pub settle-requires : goal.settle-requires
-settle-requires g c = (c.args.first, still_within g.E.Expand.reading.places c.args.first _ c.args.moved.now c.args.row.now c.requires.below c.loop-rule.rule-index c.rule-item.result (subst (λ l. c.loop-rule.rule-index < length l) c.deref-rule-items.ensures.value c.loop-rule-test.true) (subst (λ l. c.rule-item.result ≡ get_or l c.loop-rule.rule-index c.rule-item.result) c.deref-rule-items.ensures.value c.rule-item.is) c.deref-in-loop-rule.result.now (c.deref-in-loop-rule.ensures.value ∙ c.in_ok-move_ends.ensures ∙ ap (map (moved_to c.args.first c.args.moved.now)) c.deref.ensures.value))
+pub settle_rules-requires : goal.settle_rules-requires
+settle_rules-requires g c =
+    let same = c.deref-3.ensures.value ∙ c.in_ok-move_ends.ensures ∙ ap (map (moved_to c.args.first c.args.moved.now)) c.deref.ensures.value in
+    (c.args.first, subst (Each (λ rule. Each (IsWithin c.args.first _) (g.E.Expand.reading.places rule))) (sym c.deref-2.ensures.value) (still_within g.E.Expand.reading.places c.args.first _ c.args.moved.now (numbered c.args.row.now) c.requires.below c.deref-3.result.now same))
 
-pub loop-rule-preserved : goal.loop-rule-preserved
-loop-rule-preserved g c =
-    let same = c.deref-in-loop-rule.ensures.value ∙ c.in_ok-move_ends.ensures ∙ ap (map (moved_to c.args.first c.args.moved.now)) c.deref.ensures.value in
-    rules_more g.E.Expand.reading c.args.first c.args.moved.now c.args.rules.now.items c.loop-rule.rules.items c.push.new.self.items c.args.row.now c.loop-rule.rule-index c.rule-item.result (subst (λ l. c.loop-rule.rule-index < length l) c.deref-rule-items.ensures.value c.loop-rule-test.true) (subst (λ l. c.rule-item.result ≡ get_or l c.loop-rule.rule-index c.rule-item.result) c.deref-rule-items.ensures.value c.rule-item.is) c.loop-rule.invariant
-    (subst (λ l. Settled g.E.Expand.reading c.args.first c.args.moved.now c.loop-rule.rules.items l (λ at. g.E.Expand.reading.read_places (λ place. at (moved_to c.args.first c.args.moved.now (position_of c.args.row.now.ends.items place))) c.rule-item.result ∷ [])) (sym c.in-Ok.ensures.items)
-    (one_settled g.E.Expand.reading c.args.first c.args.moved.now c.args.row.now.ends.items (g.met.E.Expand.lawful c.args.problem.now).reads_places c.loop-rule.rules.items c.rule-item.result c.in_ok-settled.settled
-    (subst (λ ends. (at : ℕ → g.row.E-Key.Denot) → g.E.Expand.reading.read_positions at c.in_ok-settled.settled ≡ g.E.Expand.reading.read_places (λ place. at (position_of ends place)) c.rule-item.result) same c.in_ok-settled.ensures.read)
-    (subst (λ ends. g.E.Expand.reading.positions c.in_ok-settled.settled ≡ map (position_of ends) (g.E.Expand.reading.places c.rule-item.result)) same c.in_ok-settled.ensures.positions)
-    (was_within g.E.Expand.reading.places c.args.first _ c.args.row.now c.requires.below c.loop-rule.rule-index c.rule-item.result (subst (λ l. c.loop-rule.rule-index < length l) c.deref-rule-items.ensures.value c.loop-rule-test.true) (subst (λ l. c.rule-item.result ≡ get_or l c.loop-rule.rule-index c.rule-item.result) c.deref-rule-items.ensures.value c.rule-item.is))
-    c.requires.below.1))
+pub returns-clause-read : goal.returns-clause-read
+returns-clause-read g c =
+    let same = c.deref-3.ensures.value ∙ c.in_ok-move_ends.ensures ∙ ap (map (moved_to c.args.first c.args.moved.now)) c.deref.ensures.value in
+    on_ok_weaker c.settle_rules.result (λ s. (row_settled g.E.Expand.reading c.args.first c.args.moved.now (g.met.E.Expand.lawful c.args.problem.now).reads_places (numbered c.args.row.now) c.requires.below c.deref-3.result.now same c.args.rules.now.items c.settle_rules.new.rules.items
+    (subst (λ l. Settles g.E.Expand.reading c.deref-3.result.now c.args.rules.now.items l c.settle_rules.new.rules.items) c.deref-2.ensures.value s)).read) c.settle_rules.ensures
+
+pub returns-clause-below : goal.returns-clause-below
+returns-clause-below g c =
+    let same = c.deref-3.ensures.value ∙ c.in_ok-move_ends.ensures ∙ ap (map (moved_to c.args.first c.args.moved.now)) c.deref.ensures.value in
+    on_ok_weaker c.settle_rules.result (λ s. (row_settled g.E.Expand.reading c.args.first c.args.moved.now (g.met.E.Expand.lawful c.args.problem.now).reads_places (numbered c.args.row.now) c.requires.below c.deref-3.result.now same c.args.rules.now.items c.settle_rules.new.rules.items
+    (subst (λ l. Settles g.E.Expand.reading c.deref-3.result.now c.args.rules.now.items l c.settle_rules.new.rules.items) c.deref-2.ensures.value s)).below) c.settle_rules.ensures

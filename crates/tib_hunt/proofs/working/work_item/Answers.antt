@@ -1,4 +1,4 @@
-use Rattle.std.proofs.Common.{◌∙◌, refl, sym, ap, subst, arith}
+use Rattle.std.proofs.Common.{◌∙◌, None, refl, sym, ap, subst, arith}
 use Rattle.tib_hunt.specs.RoundModel.{Core, with_filed}
 use Rattle.tib_hunt.specs.Shelved.{NameOn}
 use Rattle.tib_hunt.proofs.Reaching.{hunt_of}
@@ -20,11 +20,12 @@ file_item-requires-clause-ends g c = file_ends g.E.Expand.hunted c.args.of.now.p
 pub returns-clause-worked : goal.returns-clause-worked
 returns-clause-worked g c = record {
   ends = c.in-Ok.edges.ends.items;
-  row = record { rules = c.in-Ok.edges.rules; ends = c.in-Ok-shelve_ends.ends };
+  row = record { item = c.args.item; rules = record { rules = c.in-Ok.edges.rules; at = None }; ends = c.in-Ok-shelve_ends.ends; parts = c.in-Ok.edges.parts };
   more = c.in-Ok.edges.parts;
   listed = c.in-Ok.ensures.listed;
   are_ends = c.in-Ok.ensures.ends;
   named = subst (λ (s : Core g.row.E-Key.Denot). NameOn s.shelves c.in-Ok.edges.ends.items c.in-Ok-shelve_ends.ends.items) (sym c.in-Ok-file_item.ensures.core) c.in-Ok-shelve_ends.ensures.named;
+  all_numbered = refl;
   core_is = c.in-Ok-file_item.ensures.core ∙ ap (λ s. with_filed s c.args.item) c.in-Ok-shelve_ends.ensures.core;
   rows_are = c.in-Ok-push.ensures.items;
   counted = refl;

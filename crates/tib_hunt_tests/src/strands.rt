@@ -1,0 +1,219 @@
+//! Hunts of more keys than 65,536, in many rounds of two items and in a few of many, with the passes of their gate; and hunts that must agree:
+//! on shelves and on one list, by one worker and by several.
+ghost use Rattle.std.specs.Prelude.{◌≡◌, ◌<◌, ◌≤◌, ◌+◌, ◌*◌, [], ◌∷◌, IfOk, IfErr};
+ghost use Rattle.tib_hunt.specs.declared.place.Place.{Place};
+ghost use Rattle.std.proofs.Common.{◌∙◌, sym};
+
+use crate::small::{Node, position_at};
+use std::alloc::{AllocError, Global};
+use std::sync::atomic::{AtomicU64, Ordering};
+use std::test::Fail;
+use tib_hunt::{
+    Edges, Expand, ExpandError, Found, Gate, HuntError, MOST_PARTS, Open, Place, hunt, hunt_alone,
+};
+use tib_table::TableKey;
+
+/// An operation whose seed is the node 0, and of which each position n below the length has one edge, to the nodes `times` * n + 1 and
+/// `times` * n + 2. So the order is that of all numbers; at `times` 1 each round but the first has two items, and at 2 it has twice as many as
+/// the one before.
+#[derive(Drop)]
+struct Strands {
+    times: u32,
+    length: u32,
+    ghost few: { (times ≤ 2) × (length ≤ 100000) },
+}
+
+impl Expand for Strands {
+    ghost use Rattle.std.specs.Prelude.{◌≡◌, ◌<◌, ◌+◌, ◌*◌, [], ◌∷◌, refl};
+    ghost use Rattle.tib_hunt.specs.Numbered.{key_parts};
+    ghost use Rattle.tib_hunt.specs.Reached.{operation};
+
+    type Key = Node;
+
+    type Over = (Place, Place);
+
+    type Rule = (u32, u32);
+
+    type Origin = u32;
+
+    type Edge = (Node, Node);
+
+    ghost hunted = { λ p. operation ⟦<Node as Ord>⟧.cmp (λ k. k ≡ record { number = 0 })
+        (λ _ _. ⊥) (λ _ n o e. (n < p.length) × (o ≡ 0)
+        × (e ≡ (record { number = p.times * n + 1 }, record { number = p.times * n + 2 }))) (λ e. e.0 ∷ e.1 ∷ [])
+        (key_parts ⟦<Node as TableKey>⟧.entries_of) (λ _. 1) };
+
+    ghost admits = { λ _ _. Unit {0} };
+
+    ghost reading = { record {
+      places = λ r. r.0 ∷ r.1 ∷ [];
+      positions = λ r. r.0 ∷ r.1 ∷ [];
+      read_places = λ f r. (f r.0, f r.1);
+      read_positions = λ f r. (f r.0, f r.1);
+    } };
+
+    fn seeds(
+        &self,
+        alloc: Global,
+        budget: u64,
+    ) -> Result<Edges<Node, (Place, Place)>, ExpandError> {
+        let _budget = budget;
+        let Ok(ends) = Vec::from_array(alloc, [Node { number: 0 }]) else {
+            return Err(ExpandError::OutOfMemory);
+        };
+        Ok(Edges {
+            ends,
+            rules: Vec::new(alloc),
+            parts: 0,
+        })
+    }
+
+    fn expand(
+        &self,
+        alloc: Global,
+        order: &[Node],
+        n: u32,
+        budget: u64,
+    ) -> Result<Edges<Node, (Place, Place)>, ExpandError> {
+        let _position = &order[n as usize];
+        if n >= self.length {
+            return Ok(Edges {
+                ends: Vec::new(alloc),
+                rules: Vec::new(alloc),
+                parts: 0,
+            });
+        }
+        if budget == 0 {
+            return Err(ExpandError::More);
+        }
+        match strand(alloc, self.times * n) {
+            Ok(edges) => Ok(edges),
+            Err(error) => Err(error),
+        }
+    }
+
+    fn settle(
+        &self,
+        alloc: Global,
+        rule: &(Place, Place),
+        ends: &[u32],
+    ) -> Result<(u32, u32), AllocError> {
+        let _alloc = alloc;
+        Ok((position_at(rule.0, ends), position_at(rule.1, ends)))
+    }
+
+    ghost lawful = { λ p. record {
+      same_order = refl;
+      same_parts = refl;
+      reads_places = λ rule f g same. λ i. (same.0 i, same.1.0 i);
+      reads_positions = λ rule f g same. λ i. (same.0 i, same.1.0 i);
+      one_edge = λ order n o e f a b. a.2 ∙ sym b.2;
+      one_seed_edge = λ o e f a b. absurd a;
+      seeds_admitted = λ k s. tt;
+      ends_admitted = λ order n o e k all low is has. tt;
+      seeds_end = λ o e k is has. absurd is;
+      edges_stay = λ xs ys n o e a b same is. is;
+    } };
+}
+
+// The edge to the two nodes behind a number.
+fn strand(alloc: Global, number: u32) -> Result<Edges<Node, (Place, Place)>, ExpandError>
+    requires { number ≤ 200000 }
+    ensures ends { IfOk result (λ r. r.ends.items ≡ record { number = number + 1 } ∷ record
+        { number = number + 2 } ∷ []) }
+    ensures rules { IfOk result (λ r. r.rules.items ≡ (Place.End 0, Place.End 1) ∷ []) }
+    ensures parts { IfOk result (λ r. r.parts ≡ 1) }
+    ensures error { IfErr result (λ e. e ≡ ExpandError.OutOfMemory) }
+{
+    let nodes = [Node { number: number + 1 }, Node { number: number + 2 }];
+    let Ok(ends) = Vec::from_array(alloc, nodes) else {
+        return Err(ExpandError::OutOfMemory);
+    };
+    let Ok(rules) = Vec::from_array(alloc, [(Place::End(0), Place::End(1))]) else {
+        return Err(ExpandError::OutOfMemory);
+    };
+    Ok(Edges {
+        ends,
+        rules,
+        parts: 1,
+    })
+}
+
+// A gate that counts what passes, and adds up the items.
+#[derive(Drop)]
+struct Counting {
+    passes: AtomicU64,
+    sum: AtomicU64,
+}
+
+impl Gate for Counting {
+    fn pass(&self, worker: u32, item: u32) {
+        let _worker = worker;
+        self.passes.fetch_add(1, Ordering::SeqCst);
+        self.sum.fetch_add(item as u64, Ordering::SeqCst);
+    }
+}
+
+#[test]
+fn many_strands_are_found_and_each_item_passes_once(rt: HostRuntime) -> Result<(), Fail> {
+    for (times, length, keys, parts, sum) in [
+        (1, 70_000, 70_002, 210_004, 2_450_105_001),
+        (2, 35_000, 70_001, 175_001, 2_450_035_000),
+    ] {
+        let gate = Counting {
+            passes: AtomicU64::new(0),
+            sum: AtomicU64::new(0),
+        };
+        match hunt_alone(rt.alloc(), &Strands { times, length }, MOST_PARTS, &gate) {
+            Ok(found) => {
+                assert_eq!(rt; found.order.len(), keys);
+                assert_eq!(rt; found.parts, parts);
+            }
+            Err(_) => assert!(rt; false),
+        }
+        assert_eq!(rt; gate.passes.load(Ordering::SeqCst), keys as u64);
+        assert_eq!(rt; gate.sum.load(Ordering::SeqCst), sum);
+    }
+    Ok(())
+}
+
+// Whether two hunts gave the same answer.
+fn agree(
+    one: &Result<Found<Node, (u32, u32)>, HuntError>,
+    other: &Result<Found<Node, (u32, u32)>, HuntError>,
+) -> bool {
+    match one {
+        Ok(found) => match other {
+            Ok(plain) => are_same(found, plain),
+            Err(_) => false,
+        },
+        Err(error) => match other {
+            Ok(_) => false,
+            Err(plain) => error == plain,
+        },
+    }
+}
+
+// Whether two reached sets have the same keys, the same rules and as many parts.
+fn are_same(one: &Found<Node, (u32, u32)>, other: &Found<Node, (u32, u32)>) -> bool {
+    if &one.order[..] != &other.order[..] {
+        return false;
+    }
+    &one.rules[..] == &other.rules[..] && one.parts == other.parts
+}
+
+#[test]
+fn crews_find_the_strands_that_one_worker_finds(rt: HostRuntime) -> Result<(), Fail> {
+    let strands = Strands {
+        times: 2,
+        length: 40,
+    };
+    for workers in [2, 3, 16] {
+        for limit in 1..210 {
+            let plain = hunt_alone(rt.alloc(), &strands, limit, &Open);
+            let found = hunt(&rt, rt.alloc(), &strands, workers, limit, &Open);
+            assert!(rt; agree(&found, &plain));
+        }
+    }
+    Ok(())
+}
