@@ -1,13 +1,14 @@
 // The files of `compare`: two grammars, of which only their trees count. They are read in Boolean, whatever the mode.
 ghost use Rattle.std.specs.Prelude.{[], ◌∷◌, ◌≡◌, Some, length, IfErr, IfOk};
-ghost use Rattle.tib_io.specs.Causes.{GoesOn};
 ghost use Rattle.tib_command.specs.Jobs.{meaning};
 ghost use Rattle.tib_run_laws.specs.Kinds.{AreTexts, of_support};
-ghost use Rattle.tib_run_laws.specs.Causes.{HasCause, HasEarlier, IsEarly, bytes_of, scale_of};
+ghost use Rattle.tib_run_laws.specs.Causes.{bytes_of, scale_of};
+ghost use Rattle.tib_run_laws.specs.Steps.{EndsRun, LeavesFiles, files_seen};
 ghost use Rattle.tib_cost.specs.declared.Scale.TheVariants.{Unweighted};
 ghost use Rattle.tib_grammar_file.specs.Printable.{ArePrintable};
 
-use crate::files::support_in;
+use crate::files::value_in;
+use crate::values::Support;
 use std::alloc::Global;
 use tib_command::{Job, Operation};
 use tib_cost::Boolean;
@@ -37,21 +38,19 @@ pub fn supports_of<F: Files>(alloc: Global, job: &Job, files: &mut F) -> Result<
         (r.first, (r.second, tt))) }
     ensures first { IfOk result (λ r. ArePrintable Unweighted r.labels r.first.rules) }
     ensures second { IfOk result (λ r. ArePrintable Unweighted r.labels r.second.rules) }
-    ensures cause { IfErr result (HasCause (Some (meaning job.now)) (F.held files.old)
-        (F.faults files.old) (F.faults files.new) 0 0) }
-    ensures earlier { IfErr result (HasEarlier (Some (meaning job.now)) (F.held files.old)) }
-    ensures early { IfErr result IsEarly }
-    ensures held { F.held files.new ≡ F.held files.old }
-    ensures sure { F.sure files.new ≡ F.sure files.old }
-    ensures counts { GoesOn (F.sure files.old) (F.faults files.old) (F.faults files.new) }
+    ensures status { IfErr result (EndsRun (Some (meaning job.now))
+        (files_seen F.held F.sure F.faults files.old)
+        (files_seen F.held F.sure F.faults files.new)) }
+    ensures files { LeavesFiles (files_seen F.held F.sure F.faults files.old)
+        (files_seen F.held F.sure F.faults files.new) }
 {
     let mut labels = Labels::new(alloc);
-    let first = match support_in::<F>(alloc, job, 1, files, &mut labels) {
-        Ok(first) => first,
+    let first = match value_in::<Support, F>(alloc, job, 1, files, &mut labels) {
+        Ok(support) => support.grammar,
         Err(status) => return Err(status),
     };
-    let second = match support_in::<F>(alloc, job, 2, files, &mut labels) {
-        Ok(second) => second,
+    let second = match value_in::<Support, F>(alloc, job, 2, files, &mut labels) {
+        Ok(support) => support.grammar,
         Err(status) => return Err(status),
     };
     labels.len();

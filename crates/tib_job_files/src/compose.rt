@@ -1,14 +1,14 @@
 // The files of `compose`: two transducers.
 ghost use Rattle.std.specs.Prelude.{[], ◌∷◌, ◌≡◌, Some, length, IfErr, IfOk};
-ghost use Rattle.tib_io.specs.Causes.{GoesOn};
 ghost use Rattle.tib_command.specs.Jobs.{meaning};
 ghost use Rattle.tib_run_laws.specs.Kinds.{AreTexts, of_transducer};
-ghost use Rattle.tib_run_laws.specs.Causes.{HasCause, HasEarlier, IsEarly, bytes_of, scale_of, product_of};
+ghost use Rattle.tib_run_laws.specs.Causes.{bytes_of, scale_of, product_of};
+ghost use Rattle.tib_run_laws.specs.Steps.{EndsRun, LeavesFiles, files_seen};
 ghost use Rattle.tib_classes.specs.Outside.{AllMeet};
 ghost use Rattle.tib_canon_transducer.specs.Keys.{AreMovesOver};
 ghost use Rattle.tib_operations.specs.Compose.{plain};
 
-use crate::files::transducer_in;
+use crate::files::value_in;
 use std::alloc::Global;
 use tib_command::{Job, Operation};
 use tib_cost::Semiring;
@@ -46,20 +46,18 @@ pub fn transducers_of<S: Semiring + Drop, F: Files>(
     ensures second { IfOk result (λ r. AreMovesOver S.SCALE r.labels (length r.second.names)
         r.second.rules) }
     ensures class { IfOk result (λ r. AllMeet plain r.second.rules) }
-    ensures cause { IfErr result (HasCause (Some (meaning job.now)) (F.held files.old)
-        (F.faults files.old) (F.faults files.new) 0 0) }
-    ensures earlier { IfErr result (HasEarlier (Some (meaning job.now)) (F.held files.old)) }
-    ensures early { IfErr result IsEarly }
-    ensures held { F.held files.new ≡ F.held files.old }
-    ensures sure { F.sure files.new ≡ F.sure files.old }
-    ensures counts { GoesOn (F.sure files.old) (F.faults files.old) (F.faults files.new) }
+    ensures status { IfErr result (EndsRun (Some (meaning job.now))
+        (files_seen F.held F.sure F.faults files.old)
+        (files_seen F.held F.sure F.faults files.new)) }
+    ensures files { LeavesFiles (files_seen F.held F.sure F.faults files.old)
+        (files_seen F.held F.sure F.faults files.new) }
 {
     let mut labels = Labels::new(alloc);
-    let first = match transducer_in::<S, F>(alloc, job, 1, files, &mut labels) {
+    let first = match value_in::<Transducer<S>, F>(alloc, job, 1, files, &mut labels) {
         Ok(first) => first,
         Err(status) => return Err(status),
     };
-    let second = match transducer_in::<S, F>(alloc, job, 2, files, &mut labels) {
+    let second = match value_in::<Transducer<S>, F>(alloc, job, 2, files, &mut labels) {
         Ok(second) => second,
         Err(status) => return Err(status),
     };

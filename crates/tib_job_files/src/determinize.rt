@@ -1,12 +1,12 @@
 // The file of `determinize`: a grammar.
 ghost use Rattle.std.specs.Prelude.{[], ◌∷◌, ◌≡◌, Some, length, IfErr, IfOk};
-ghost use Rattle.tib_io.specs.Causes.{GoesOn};
 ghost use Rattle.tib_command.specs.Jobs.{meaning};
 ghost use Rattle.tib_run_laws.specs.Kinds.{AreTexts, of_grammar};
-ghost use Rattle.tib_run_laws.specs.Causes.{HasCause, HasEarlier, IsEarly, bytes_of, scale_of};
+ghost use Rattle.tib_run_laws.specs.Causes.{bytes_of, scale_of};
+ghost use Rattle.tib_run_laws.specs.Steps.{EndsRun, LeavesFiles, files_seen};
 ghost use Rattle.tib_grammar_file.specs.Printable.{ArePrintable};
 
-use crate::files::grammar_in;
+use crate::files::value_in;
 use std::alloc::Global;
 use tib_command::{Job, Operation};
 use tib_cost::Semiring;
@@ -36,16 +36,14 @@ pub fn source_of<S: Semiring + Drop, F: Files>(
     ensures texts { IfOk result (λ r. AreTexts S.SCALE r.labels
         (bytes_of (meaning job.now) (F.held files.old)) (of_grammar ∷ []) (r.grammar, tt)) }
     ensures grammar { IfOk result (λ r. ArePrintable S.SCALE r.labels r.grammar.rules) }
-    ensures cause { IfErr result (HasCause (Some (meaning job.now)) (F.held files.old)
-        (F.faults files.old) (F.faults files.new) 0 0) }
-    ensures earlier { IfErr result (HasEarlier (Some (meaning job.now)) (F.held files.old)) }
-    ensures early { IfErr result IsEarly }
-    ensures held { F.held files.new ≡ F.held files.old }
-    ensures sure { F.sure files.new ≡ F.sure files.old }
-    ensures counts { GoesOn (F.sure files.old) (F.faults files.old) (F.faults files.new) }
+    ensures status { IfErr result (EndsRun (Some (meaning job.now))
+        (files_seen F.held F.sure F.faults files.old)
+        (files_seen F.held F.sure F.faults files.new)) }
+    ensures files { LeavesFiles (files_seen F.held F.sure F.faults files.old)
+        (files_seen F.held F.sure F.faults files.new) }
 {
     let mut labels = Labels::new(alloc);
-    let grammar = match grammar_in::<S, F>(alloc, job, 1, files, &mut labels) {
+    let grammar = match value_in::<Grammar<S>, F>(alloc, job, 1, files, &mut labels) {
         Ok(grammar) => grammar,
         Err(status) => return Err(status),
     };

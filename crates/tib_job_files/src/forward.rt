@@ -1,15 +1,15 @@
 // The files of `forward`: a grammar and a transducer.
 ghost use Rattle.std.specs.Prelude.{[], ◌∷◌, ◌≡◌, Some, length, IfErr, IfOk};
-ghost use Rattle.tib_io.specs.Causes.{GoesOn};
 ghost use Rattle.tib_command.specs.Jobs.{meaning};
 ghost use Rattle.tib_run_laws.specs.Kinds.{AreTexts, of_grammar, of_transducer};
-ghost use Rattle.tib_run_laws.specs.Causes.{HasCause, HasEarlier, IsEarly, bytes_of, scale_of, product_of};
+ghost use Rattle.tib_run_laws.specs.Causes.{bytes_of, scale_of, product_of};
+ghost use Rattle.tib_run_laws.specs.Steps.{EndsRun, LeavesFiles, files_seen};
 ghost use Rattle.tib_classes.specs.Outside.{AllMeet};
 ghost use Rattle.tib_grammar_file.specs.Printable.{ArePrintable};
 ghost use Rattle.tib_operations.specs.Moves.{ArePlainMoves};
 ghost use Rattle.tib_operations.specs.Forward.{linear};
 
-use crate::files::{grammar_in, transducer_in};
+use crate::files::value_in;
 use std::alloc::Global;
 use tib_command::{Job, Operation};
 use tib_cost::Semiring;
@@ -47,20 +47,18 @@ pub fn application_of<S: Semiring + Drop, F: Files>(
     ensures grammar { IfOk result (λ r. ArePrintable S.SCALE r.labels r.grammar.rules) }
     ensures transducer { IfOk result (λ r. ArePlainMoves S.SCALE r.labels r.transducer.rules) }
     ensures class { IfOk result (λ r. AllMeet linear r.transducer.rules) }
-    ensures cause { IfErr result (HasCause (Some (meaning job.now)) (F.held files.old)
-        (F.faults files.old) (F.faults files.new) 0 0) }
-    ensures earlier { IfErr result (HasEarlier (Some (meaning job.now)) (F.held files.old)) }
-    ensures early { IfErr result IsEarly }
-    ensures held { F.held files.new ≡ F.held files.old }
-    ensures sure { F.sure files.new ≡ F.sure files.old }
-    ensures counts { GoesOn (F.sure files.old) (F.faults files.old) (F.faults files.new) }
+    ensures status { IfErr result (EndsRun (Some (meaning job.now))
+        (files_seen F.held F.sure F.faults files.old)
+        (files_seen F.held F.sure F.faults files.new)) }
+    ensures files { LeavesFiles (files_seen F.held F.sure F.faults files.old)
+        (files_seen F.held F.sure F.faults files.new) }
 {
     let mut labels = Labels::new(alloc);
-    let grammar = match grammar_in::<S, F>(alloc, job, 1, files, &mut labels) {
+    let grammar = match value_in::<Grammar<S>, F>(alloc, job, 1, files, &mut labels) {
         Ok(grammar) => grammar,
         Err(status) => return Err(status),
     };
-    let transducer = match transducer_in::<S, F>(alloc, job, 2, files, &mut labels) {
+    let transducer = match value_in::<Transducer<S>, F>(alloc, job, 2, files, &mut labels) {
         Ok(transducer) => transducer,
         Err(status) => return Err(status),
     };

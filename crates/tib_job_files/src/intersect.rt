@@ -1,12 +1,12 @@
 // The files of `intersect`: two grammars.
 ghost use Rattle.std.specs.Prelude.{[], ◌∷◌, ◌≡◌, Some, length, IfErr, IfOk};
-ghost use Rattle.tib_io.specs.Causes.{GoesOn};
 ghost use Rattle.tib_command.specs.Jobs.{meaning};
 ghost use Rattle.tib_run_laws.specs.Kinds.{AreTexts, of_grammar};
-ghost use Rattle.tib_run_laws.specs.Causes.{HasCause, HasEarlier, IsEarly, bytes_of, scale_of};
+ghost use Rattle.tib_run_laws.specs.Causes.{bytes_of, scale_of};
+ghost use Rattle.tib_run_laws.specs.Steps.{EndsRun, LeavesFiles, files_seen};
 ghost use Rattle.tib_grammar_file.specs.Printable.{ArePrintable};
 
-use crate::files::grammar_in;
+use crate::files::value_in;
 use std::alloc::Global;
 use tib_command::{Job, Operation};
 use tib_cost::Semiring;
@@ -41,20 +41,18 @@ pub fn grammars_of<S: Semiring + Drop, F: Files>(
         (r.first, (r.second, tt))) }
     ensures first { IfOk result (λ r. ArePrintable S.SCALE r.labels r.first.rules) }
     ensures second { IfOk result (λ r. ArePrintable S.SCALE r.labels r.second.rules) }
-    ensures cause { IfErr result (HasCause (Some (meaning job.now)) (F.held files.old)
-        (F.faults files.old) (F.faults files.new) 0 0) }
-    ensures earlier { IfErr result (HasEarlier (Some (meaning job.now)) (F.held files.old)) }
-    ensures early { IfErr result IsEarly }
-    ensures held { F.held files.new ≡ F.held files.old }
-    ensures sure { F.sure files.new ≡ F.sure files.old }
-    ensures counts { GoesOn (F.sure files.old) (F.faults files.old) (F.faults files.new) }
+    ensures status { IfErr result (EndsRun (Some (meaning job.now))
+        (files_seen F.held F.sure F.faults files.old)
+        (files_seen F.held F.sure F.faults files.new)) }
+    ensures files { LeavesFiles (files_seen F.held F.sure F.faults files.old)
+        (files_seen F.held F.sure F.faults files.new) }
 {
     let mut labels = Labels::new(alloc);
-    let first = match grammar_in::<S, F>(alloc, job, 1, files, &mut labels) {
+    let first = match value_in::<Grammar<S>, F>(alloc, job, 1, files, &mut labels) {
         Ok(first) => first,
         Err(status) => return Err(status),
     };
-    let second = match grammar_in::<S, F>(alloc, job, 2, files, &mut labels) {
+    let second = match value_in::<Grammar<S>, F>(alloc, job, 2, files, &mut labels) {
         Ok(second) => second,
         Err(status) => return Err(status),
     };

@@ -11,7 +11,7 @@ pub mod forward;
 pub mod image;
 pub mod intersect;
 pub mod parse;
+mod values;
 
-pub use files::{
-    grammar_in, one_tree_in, string_in, string_transducer_in, support_in, transducer_in, trees_in,
-};
+pub use files::{FileValue, value_in};
+pub use values::Support;

@@ -1,12 +1,12 @@
 // The files of `parse`: a tree-to-string transducer and a string.
 ghost use Rattle.std.specs.Prelude.{[], ◌∷◌, ◌≡◌, Some, length, IfErr, IfOk};
-ghost use Rattle.tib_io.specs.Causes.{GoesOn};
 ghost use Rattle.tib_command.specs.Jobs.{meaning};
 ghost use Rattle.tib_run_laws.specs.Kinds.{AreTexts, of_string_transducer, of_string};
-ghost use Rattle.tib_run_laws.specs.Causes.{HasCause, HasEarlier, IsEarly, bytes_of, scale_of};
+ghost use Rattle.tib_run_laws.specs.Causes.{bytes_of, scale_of};
+ghost use Rattle.tib_run_laws.specs.Steps.{EndsRun, LeavesFiles, files_seen};
 ghost use Rattle.tib_parse_text.specs.Words.{ArePlainWords};
 
-use crate::files::{string_in, string_transducer_in};
+use crate::files::value_in;
 use std::alloc::Global;
 use tib_command::{Job, Operation};
 use tib_cost::Semiring;
@@ -39,20 +39,18 @@ pub fn inputs_of<S: Semiring + Drop, F: Files>(
         (bytes_of (meaning job.now) (F.held files.old)) (of_string_transducer ∷ of_string ∷ [])
         (r.transducer, (r.string.items, tt))) }
     ensures transducer { IfOk result (λ r. ArePlainWords S.SCALE r.labels r.transducer.rules) }
-    ensures cause { IfErr result (HasCause (Some (meaning job.now)) (F.held files.old)
-        (F.faults files.old) (F.faults files.new) 0 0) }
-    ensures earlier { IfErr result (HasEarlier (Some (meaning job.now)) (F.held files.old)) }
-    ensures early { IfErr result IsEarly }
-    ensures held { F.held files.new ≡ F.held files.old }
-    ensures sure { F.sure files.new ≡ F.sure files.old }
-    ensures counts { GoesOn (F.sure files.old) (F.faults files.old) (F.faults files.new) }
+    ensures status { IfErr result (EndsRun (Some (meaning job.now))
+        (files_seen F.held F.sure F.faults files.old)
+        (files_seen F.held F.sure F.faults files.new)) }
+    ensures files { LeavesFiles (files_seen F.held F.sure F.faults files.old)
+        (files_seen F.held F.sure F.faults files.new) }
 {
     let mut labels = Labels::new(alloc);
-    let transducer = match string_transducer_in::<S, F>(alloc, job, 1, files, &mut labels) {
+    let transducer = match value_in::<StringTransducer<S>, F>(alloc, job, 1, files, &mut labels) {
         Ok(transducer) => transducer,
         Err(status) => return Err(status),
     };
-    let string = match string_in::<F>(alloc, job, 2, files, &mut labels) {
+    let string = match value_in::<Vec<Label>, F>(alloc, job, 2, files, &mut labels) {
         Ok(string) => string,
         Err(status) => return Err(status),
     };

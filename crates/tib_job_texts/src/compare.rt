@@ -1,10 +1,9 @@
 // `compare`: whether the same trees have a cost in two grammars, or else the least tree that has one in exactly one of them. Both are read
 // in Boolean, whatever the mode.
 ghost use Rattle.std.specs.Prelude.{◌≡◌, ◌≤◌, Some, length, IfErr, IfOk};
-ghost use Rattle.tib_io.specs.Causes.{GoesOn};
 ghost use Rattle.tib_command.specs.Jobs.{meaning};
 ghost use Rattle.tib_run_laws.specs.Answers.{IsAnswer};
-ghost use Rattle.tib_run_laws.specs.Causes.{HasCause, HasEarlier, IsEarly};
+ghost use Rattle.tib_run_laws.specs.Steps.{EndsRun, LeavesFiles, files_seen};
 ghost use Rattle.tib_operations.specs.Made.{IsLimit};
 
 use std::alloc::Global;
@@ -28,13 +27,11 @@ pub(crate) fn compare_files<F: Files, G: Gate>(
     requires files { length job.now.files.items ≡ 2 }
     requires limit { IsLimit job.now.limit }
     ensures text { IfOk result (λ text. IsAnswer (meaning job.now) (F.held files.old) text.bytes) }
-    ensures cause { IfErr result (HasCause (Some (meaning job.now)) (F.held files.old)
-        (F.faults files.old) (F.faults files.new) 0 0) }
-    ensures earlier { IfErr result (HasEarlier (Some (meaning job.now)) (F.held files.old)) }
-    ensures early { IfErr result IsEarly }
-    ensures held { F.held files.new ≡ F.held files.old }
-    ensures sure { F.sure files.new ≡ F.sure files.old }
-    ensures counts { GoesOn (F.sure files.old) (F.faults files.old) (F.faults files.new) }
+    ensures status { IfErr result (EndsRun (Some (meaning job.now))
+        (files_seen F.held F.sure F.faults files.old)
+        (files_seen F.held F.sure F.faults files.new)) }
+    ensures files { LeavesFiles (files_seen F.held F.sure F.faults files.old)
+        (files_seen F.held F.sure F.faults files.new) }
 {
     let read = match supports_of::<F>(alloc, job, files) {
         Ok(read) => read,
@@ -68,13 +65,11 @@ pub(crate) fn compare_files_together<R: Threads + Wait + Sync, F: Files, G: Gate
     requires workers { (1 ≤ job.now.workers) × (job.now.workers ≤ 16) }
     requires limit { IsLimit job.now.limit }
     ensures text { IfOk result (λ text. IsAnswer (meaning job.now) (F.held files.old) text.bytes) }
-    ensures cause { IfErr result (HasCause (Some (meaning job.now)) (F.held files.old)
-        (F.faults files.old) (F.faults files.new) 0 0) }
-    ensures earlier { IfErr result (HasEarlier (Some (meaning job.now)) (F.held files.old)) }
-    ensures early { IfErr result IsEarly }
-    ensures held { F.held files.new ≡ F.held files.old }
-    ensures sure { F.sure files.new ≡ F.sure files.old }
-    ensures counts { GoesOn (F.sure files.old) (F.faults files.old) (F.faults files.new) }
+    ensures status { IfErr result (EndsRun (Some (meaning job.now))
+        (files_seen F.held F.sure F.faults files.old)
+        (files_seen F.held F.sure F.faults files.new)) }
+    ensures files { LeavesFiles (files_seen F.held F.sure F.faults files.old)
+        (files_seen F.held F.sure F.faults files.new) }
 {
     let read = match supports_of::<F>(alloc, job, files) {
         Ok(read) => read,

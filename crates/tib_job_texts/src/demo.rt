@@ -2,7 +2,8 @@
 ghost use Rattle.std.specs.Prelude.{◌≡◌, ◌≤◌, ℕ, List, Option, Some, IfErr, IfOk};
 ghost use Rattle.tib_command.specs.Jobs.{meaning, most_demo};
 ghost use Rattle.tib_run_laws.specs.Answers.{IsAnswer};
-ghost use Rattle.tib_run_laws.specs.Causes.{HasCause, HasEarlier, IsEarly, levelled_of, scale_of, product_of};
+ghost use Rattle.tib_run_laws.specs.Causes.{levelled_of, scale_of, product_of};
+ghost use Rattle.tib_run_laws.specs.Steps.{EndsRun, FilesSeen};
 ghost use Rattle.tib_operations.specs.Made.{IsLimit};
 
 use std::alloc::Global;
@@ -30,11 +31,8 @@ pub(crate) fn demo_of_number<S: Semiring + Drop, G: Gate>(
     requires product { S.product ≡ product_of job.now.mode }
     ensures text { (held : List ℕ → Option (List ℕ)) → IfOk result
         (λ text. IsAnswer (meaning job.now) held text.bytes) }
-    ensures cause { (held : List ℕ → Option (List ℕ)) (before now : List ℕ → ℕ) →
-        IfErr result (HasCause (Some (meaning job.now)) held before now 0 0) }
-    ensures earlier { (held : List ℕ → Option (List ℕ)) →
-        IfErr result (HasEarlier (Some (meaning job.now)) held) }
-    ensures early { IfErr result IsEarly }
+    ensures status { (before after : FilesSeen) →
+        IfErr result (EndsRun (Some (meaning job.now)) before after) }
 {
     demo_of::<S, G>(alloc, job.demo, job.limit, gate)
 }
@@ -55,11 +53,8 @@ pub(crate) fn demo_of_number_together<
     requires product { S.product ≡ product_of job.now.mode }
     ensures text { (held : List ℕ → Option (List ℕ)) → IfOk result
         (λ text. IsAnswer (meaning job.now) held text.bytes) }
-    ensures cause { (held : List ℕ → Option (List ℕ)) (before now : List ℕ → ℕ) →
-        IfErr result (HasCause (Some (meaning job.now)) held before now 0 0) }
-    ensures earlier { (held : List ℕ → Option (List ℕ)) →
-        IfErr result (HasEarlier (Some (meaning job.now)) held) }
-    ensures early { IfErr result IsEarly }
+    ensures status { (before after : FilesSeen) →
+        IfErr result (EndsRun (Some (meaning job.now)) before after) }
 {
     demo_of_together::<S, R, G>(rt, alloc, job.demo, job.workers, job.limit, gate)
 }

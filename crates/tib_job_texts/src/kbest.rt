@@ -1,16 +1,17 @@
 // `kbest`: the cheapest trees of a grammar, each with its cost.
 ghost use Rattle.std.specs.Prelude.{◌≡◌, ◌<◌, Some, length, IfErr, IfOk};
-ghost use Rattle.tib_io.specs.Causes.{GoesOn};
 ghost use Rattle.tib_command.specs.Jobs.{meaning};
 ghost use Rattle.tib_run_laws.specs.Answers.{IsAnswer};
-ghost use Rattle.tib_run_laws.specs.Causes.{HasCause, HasEarlier, IsEarly, levelled_of, scale_of, product_of};
+ghost use Rattle.tib_run_laws.specs.Causes.{levelled_of, scale_of, product_of};
+ghost use Rattle.tib_run_laws.specs.Steps.{EndsRun, LeavesFiles, files_seen};
 ghost use Rattle.tib_operations.specs.Made.{IsLimit};
 
 use std::alloc::Global;
 use tib_command::{Job, Operation};
 use tib_cost::Semiring;
+use tib_grammar::Grammar;
 use tib_io::{Files, GrowingSink};
-use tib_job_files::grammar_in;
+use tib_job_files::value_in;
 use tib_operations::{Status, kbest_text};
 use tib_tree::Labels;
 
@@ -28,16 +29,14 @@ pub(crate) fn kbest_of_file<S: Semiring + Drop, F: Files>(
     requires mode { S.SCALE ≡ scale_of job.now.mode }
     requires product { S.product ≡ product_of job.now.mode }
     ensures text { IfOk result (λ text. IsAnswer (meaning job.now) (F.held files.old) text.bytes) }
-    ensures cause { IfErr result (HasCause (Some (meaning job.now)) (F.held files.old)
-        (F.faults files.old) (F.faults files.new) 0 0) }
-    ensures earlier { IfErr result (HasEarlier (Some (meaning job.now)) (F.held files.old)) }
-    ensures early { IfErr result IsEarly }
-    ensures held { F.held files.new ≡ F.held files.old }
-    ensures sure { F.sure files.new ≡ F.sure files.old }
-    ensures counts { GoesOn (F.sure files.old) (F.faults files.old) (F.faults files.new) }
+    ensures status { IfErr result (EndsRun (Some (meaning job.now))
+        (files_seen F.held F.sure F.faults files.old)
+        (files_seen F.held F.sure F.faults files.new)) }
+    ensures files { LeavesFiles (files_seen F.held F.sure F.faults files.old)
+        (files_seen F.held F.sure F.faults files.new) }
 {
     let mut labels = Labels::new(alloc);
-    let grammar = match grammar_in::<S, F>(alloc, job, 1, files, &mut labels) {
+    let grammar = match value_in::<Grammar<S>, F>(alloc, job, 1, files, &mut labels) {
         Ok(grammar) => grammar,
         Err(status) => return Err(status),
     };

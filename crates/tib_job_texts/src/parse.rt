@@ -1,9 +1,9 @@
 // `parse`: the canonical grammar of all trees that a tree-to-string transducer turns into the string of a file.
 ghost use Rattle.std.specs.Prelude.{◌≡◌, ◌≤◌, Some, length, IfErr, IfOk};
-ghost use Rattle.tib_io.specs.Causes.{GoesOn};
 ghost use Rattle.tib_command.specs.Jobs.{meaning};
 ghost use Rattle.tib_run_laws.specs.Answers.{IsAnswer};
-ghost use Rattle.tib_run_laws.specs.Causes.{HasCause, HasEarlier, IsEarly, scale_of, product_of};
+ghost use Rattle.tib_run_laws.specs.Causes.{scale_of, product_of};
+ghost use Rattle.tib_run_laws.specs.Steps.{EndsRun, LeavesFiles, files_seen};
 ghost use Rattle.tib_operations.specs.Made.{IsLimit};
 
 use std::alloc::Global;
@@ -30,13 +30,11 @@ pub(crate) fn parse_files<S: Semiring + Drop, F: Files, G: Gate>(
     requires mode { S.SCALE ≡ scale_of job.now.mode }
     requires product { S.product ≡ product_of job.now.mode }
     ensures text { IfOk result (λ text. IsAnswer (meaning job.now) (F.held files.old) text.bytes) }
-    ensures cause { IfErr result (HasCause (Some (meaning job.now)) (F.held files.old)
-        (F.faults files.old) (F.faults files.new) 0 0) }
-    ensures earlier { IfErr result (HasEarlier (Some (meaning job.now)) (F.held files.old)) }
-    ensures early { IfErr result IsEarly }
-    ensures held { F.held files.new ≡ F.held files.old }
-    ensures sure { F.sure files.new ≡ F.sure files.old }
-    ensures counts { GoesOn (F.sure files.old) (F.faults files.old) (F.faults files.new) }
+    ensures status { IfErr result (EndsRun (Some (meaning job.now))
+        (files_seen F.held F.sure F.faults files.old)
+        (files_seen F.held F.sure F.faults files.new)) }
+    ensures files { LeavesFiles (files_seen F.held F.sure F.faults files.old)
+        (files_seen F.held F.sure F.faults files.new) }
 {
     let read = match inputs_of::<S, F>(alloc, job, files) {
         Ok(read) => read,
@@ -71,13 +69,11 @@ pub(crate) fn parse_files_together<
     requires mode { S.SCALE ≡ scale_of job.now.mode }
     requires product { S.product ≡ product_of job.now.mode }
     ensures text { IfOk result (λ text. IsAnswer (meaning job.now) (F.held files.old) text.bytes) }
-    ensures cause { IfErr result (HasCause (Some (meaning job.now)) (F.held files.old)
-        (F.faults files.old) (F.faults files.new) 0 0) }
-    ensures earlier { IfErr result (HasEarlier (Some (meaning job.now)) (F.held files.old)) }
-    ensures early { IfErr result IsEarly }
-    ensures held { F.held files.new ≡ F.held files.old }
-    ensures sure { F.sure files.new ≡ F.sure files.old }
-    ensures counts { GoesOn (F.sure files.old) (F.faults files.old) (F.faults files.new) }
+    ensures status { IfErr result (EndsRun (Some (meaning job.now))
+        (files_seen F.held F.sure F.faults files.old)
+        (files_seen F.held F.sure F.faults files.new)) }
+    ensures files { LeavesFiles (files_seen F.held F.sure F.faults files.old)
+        (files_seen F.held F.sure F.faults files.new) }
 {
     let read = match inputs_of::<S, F>(alloc, job, files) {
         Ok(read) => read,

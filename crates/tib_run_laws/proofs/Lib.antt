@@ -3,6 +3,7 @@ pub mod OfOperations
 pub mod FilesAsked
 pub mod OfJobs
 pub mod Reached
+pub mod Steps
 pub mod Large
 pub mod Parsed
 pub mod Faults

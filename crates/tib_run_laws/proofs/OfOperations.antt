@@ -1,4 +1,4 @@
--- What each operation brings: that its text is one, that what it makes does not hang on the numbers of labels and is within the
+-- What each operation brings: that its text is one, that what it makes does not depend on the numbers of labels and is within the
 -- limit or has more parts than it, and that it has a text where that is within the limit.
 use Rattle.tib_cost.specs.declared.Scale.{Scale}
 use Rattle.std.proofs.Common.{◌≡◌, ℕ, Bool, List}

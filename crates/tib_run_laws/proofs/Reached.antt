@@ -120,6 +120,18 @@ class_early demanded statuses.WriteFault h = absurd h
 class_early demanded (statuses.TooLong n) h = absurd h
 class_early demanded statuses.OutOfMemory h = absurd h
 
+pub made_early : (P : Type 0) (limit : ℕ) (s : Status) → IsMadeFault P limit s → IsEarly s
+made_early P limit statuses.Done h = absurd h
+made_early P limit statuses.Usage h = absurd h
+made_early P limit (statuses.BadInput n fault) h = absurd h
+made_early P limit (statuses.Class n rule fault) h = absurd h
+made_early P limit (statuses.TooMany n) h = tt
+made_early P limit statuses.TreeTooLarge h = absurd h
+made_early P limit (statuses.ReadFault n) h = absurd h
+made_early P limit statuses.WriteFault h = absurd h
+made_early P limit (statuses.TooLong n) h = absurd h
+made_early P limit statuses.OutOfMemory h = tt
+
 -- a fault of what is made comes only where all files are of their kinds and no class is broken
 made_earlier : (P : Type 0) (limit : ℕ) (job : Option Asked) (held : List ℕ → Option (List ℕ)) (s : Status) → IsMadeFault P limit s → AreBefore job held (file_count job + 1) → HasClass job held → HasEarlier job held s
 made_earlier P limit job held statuses.Done h b c = tt

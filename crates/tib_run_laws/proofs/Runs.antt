@@ -1,7 +1,7 @@
 -- The promise of a run, for each way in which it ends.
 use Rattle.std.specs.Prelude.{◌≡◌, ℕ, ◌≤◌, true, false, List, length, Option, Some, None, Result, Ok, Err, refl}
 use Rattle.std.proofs.Common.{arith, subst}
-use Rattle.tib_io.specs.Causes.{GoesOn, Rose}
+use Rattle.tib_io.specs.Causes.{Rose}
 use Rattle.tib_io.specs.Pieces.{front_whole}
 use Rattle.tib_io.specs.Writes.{Takes, TakesFront, Calm}
 use Rattle.tib_tree.specs.Wrote.{Wrote}
@@ -9,10 +9,12 @@ use Rattle.tib_command.specs.Jobs.{Asked}
 use Rattle.tib_operations.specs.declared.status.Status.{Status}
 use Rattle.tib_operations.specs.declared.status.Status.TheVariants as statuses
 use Rattle.tib_run_laws.specs.Answers.{IsAnswer, StandsStill, WithinIsNotTooMuch}
-use Rattle.tib_run_laws.specs.Causes.{HasCause, HasEarlier, IsEarly}
+use Rattle.tib_run_laws.specs.Causes.{HasCause, IsEarly}
 use Rattle.tib_run_laws.specs.Kinds.{KindsHaveNoFault}
 use Rattle.tib_run_laws.specs.Run.{FilesSeen, SinkSeen, IsUntouched, IsRunOf, IsLogged}
+use Rattle.tib_run_laws.specs.Steps.{LeavesFiles, EndsRun}
 use Rattle.tib_run_laws.proofs.Complete.{complete}
+use Rattle.tib_run_laws.proofs.Steps.{leaves_all, ends_short}
 
 -- what ends before anything is written
 
@@ -38,34 +40,30 @@ stays (Some asked) held free a = λ below room. refl
 
 module _ (no_fault : KindsHaveNoFault) (apart : WithinIsNotTooMuch) where
   pub ended :
-      (job : Option Asked) (before after : FilesSeen) (out : SinkSeen) (s : Status) → IsEarly s → HasCause job before.held before.faults after.faults 0 0 s → HasEarlier job before.held s →
-      after.held ≡ before.held → after.sure ≡ before.sure → GoesOn before.sure before.faults after.faults → IsRunOf job before after out out s
-  ended job before after out s early cause earlier held sure counts =
-      let own = early_cause job before.held before.faults after.faults out.faults out.faults s early cause in
+      (job : Option Asked) (before after : FilesSeen) (out : SinkSeen) (s : Status) → EndsRun job before after s → LeavesFiles before after → IsRunOf job before after out out s
+  ended job before after out s ends left =
+      let own = early_cause job before.held before.faults after.faults out.faults out.faults s ends.early ends.cause in
       record {
         cause = own;
-        earlier = earlier;
-        text = λ e. absurd (not_done s early e);
-        finished = λ e. absurd (not_done s early e);
-        steady = λ e. absurd (not_done s early e);
-        front = λ e. absurd (not_fault s early e);
-        unfinished = λ e. absurd (not_fault s early e);
+        earlier = ends.earlier;
+        text = λ e. absurd (not_done s ends.early e);
+        finished = λ e. absurd (not_done s ends.early e);
+        steady = λ e. absurd (not_done s ends.early e);
+        front = λ e. absurd (not_fault s ends.early e);
+        unfinished = λ e. absurd (not_fault s ends.early e);
         untouched = as_it_was s out;
         later = omega arith;
         still = stays job before.held out.free out.faults;
-        held = held;
-        sure = sure;
-        counts = counts;
+        held = left.held;
+        sure = left.sure;
+        counts = left.counts;
         complete = complete no_fault apart job before.held before.faults after.faults out.faults out.faults s own;
       }
 
   -- the files were not read
 
-  unread : (files : FilesSeen) → GoesOn files.sure files.faults files.faults
-  unread files = record { later = λ name. omega arith; calm = λ name sure below. refl }
-
   pub no_memory : (job : Option Asked) (files : FilesSeen) (out : SinkSeen) → IsRunOf job files files out out statuses.OutOfMemory
-  no_memory job files out = ended job files files out statuses.OutOfMemory tt tt tt refl refl (unread files)
+  no_memory job files out = ended job files files out statuses.OutOfMemory (ends_short job files files) (leaves_all files)
 
   pub no_command : (job : Option Asked) (files : FilesSeen) (out : SinkSeen) → job ≡ None → IsRunOf job files files out out statuses.Usage
   no_command job files out none = record {
@@ -81,7 +79,7 @@ module _ (no_fault : KindsHaveNoFault) (apart : WithinIsNotTooMuch) where
     still = stays job files.held out.free out.faults;
     held = refl;
     sure = refl;
-    counts = unread files;
+    counts = (leaves_all files).counts;
     complete = complete no_fault apart job files.held files.faults files.faults out.faults out.faults statuses.Usage none;
   }
 
@@ -93,7 +91,7 @@ module _ (no_fault : KindsHaveNoFault) (apart : WithinIsNotTooMuch) where
 
   module _
       (asked : Asked) (before after : FilesSeen) (old new : SinkSeen) (text : List ℕ) (answers : IsAnswer asked before.held text) (later : old.faults ≤ new.faults)
-      (calm : Calm old.free (length text) old.faults new.faults) (held : after.held ≡ before.held) (sure : after.sure ≡ before.sure) (counts : GoesOn before.sure before.faults after.faults) where
+      (calm : Calm old.free (length text) old.faults new.faults) (left : LeavesFiles before after) where
     pub answered : Takes old.written new.written old.free new.free text → new.finished ≡ true → new.faults ≡ old.faults → IsRunOf (Some asked) before after old new statuses.Done
     answered taken finished steady = record {
       cause = refl;
@@ -106,9 +104,9 @@ module _ (no_fault : KindsHaveNoFault) (apart : WithinIsNotTooMuch) where
       untouched = tt;
       later = later;
       still = stands asked before.held old.free old.faults new.faults text answers calm;
-      held = held;
-      sure = sure;
-      counts = counts;
+      held = left.held;
+      sure = left.sure;
+      counts = left.counts;
       complete = complete no_fault apart (Some asked) before.held before.faults after.faults old.faults new.faults statuses.Done refl;
     }
 
@@ -124,9 +122,9 @@ module _ (no_fault : KindsHaveNoFault) (apart : WithinIsNotTooMuch) where
       untouched = tt;
       later = later;
       still = stands asked before.held old.free old.faults new.faults text answers calm;
-      held = held;
-      sure = sure;
-      counts = counts;
+      held = left.held;
+      sure = left.sure;
+      counts = left.counts;
       complete = complete no_fault apart (Some asked) before.held before.faults after.faults old.faults new.faults statuses.WriteFault (refl, rose);
     }
 

@@ -57,7 +57,7 @@ levelled_of modes.Bottleneck = true
 levelled_of modes.Widest = true
 levelled_of modes.Boolean = false
 
--- what the words say in numbers that an answer hangs on: how many parts are within the limit, how wide the beam is, how many trees are
+-- what the words say in numbers that an answer depends on: how many parts are within the limit, how wide the beam is, how many trees are
 -- listed, and the number of `demo`
 pub record Numbers : Type 0 where
   pub limit : ℕ

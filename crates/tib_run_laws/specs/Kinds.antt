@@ -4,6 +4,8 @@ use Rattle.tib_cost.specs.declared.Scale.TheVariants as scales
 use Rattle.std.specs.Prelude.{◌≡◌, ℕ, List, [], ◌∷◌, Option, Some, None, IfSome, IsSome, slice_get}
 use Rattle.std.proofs.Common.{zero, suc}
 use Rattle.tib_lex.specs.declared.fault.FileFault.{FileFault}
+use Rattle.tib_lex.specs.declared.fault.ReadError.{ReadError}
+use Rattle.tib_lex.specs.declared.fault.ReadError.TheVariants as errors
 use Rattle.tib_tree.specs.Grows.{AreDistinct}
 use Rattle.tib_tree.specs.Trees.{Tree}
 use Rattle.tib_tree.specs.TreesText.{IsFirstFault as IsFirstTreeFault}
@@ -149,6 +151,11 @@ HasFault scale (Some of_one_tree) bytes fault = IsOneTreeFault bytes fault
 HasFault scale (Some of_transducer) bytes fault = IsFirstTransducerFault scale bytes fault
 HasFault scale (Some of_string_transducer) bytes fault = IsFirstStringTransducerFault scale bytes fault
 HasFault scale (Some of_string) bytes fault = IsFirstStringFault bytes fault
+
+-- why the bytes gave no value of the kind: they have this fault, or memory was refused
+abbrev pub IsReadError : Scale → Kind → List ℕ → ReadError → Type 0
+IsReadError scale kind bytes (errors.Fault fault) = HasFault scale (Some kind) bytes fault
+IsReadError scale kind bytes errors.OutOfMemory = Unit {0}
 
 -- bytes of a kind have no fault as such
 abbrev pub KindsHaveNoFault : Type 0

@@ -1,23 +1,12 @@
 use Rattle.std.proofs.Common.{ℕ, List}
 use Rattle.std.specs.Prelude.{Option}
 use Rattle.tib_command.specs.Jobs.{meaning}
-use Rattle.tib_run_laws.proofs.Large.{compare_answer, compare_cause, compare_early, compare_first}
+use Rattle.tib_run_laws.proofs.Large.{compare_answer, compare_ends, compare_ends}
 use Rattle.tib_job_texts.proofs.compare.compare_files_together.Goals as goal
 
-pub returns-in-Err-comparison_of_together-clause-cause : goal.returns-in-Err-comparison_of_together-clause-cause
-returns-in-Err-comparison_of_together-clause-cause g c =
-    let held : List ℕ → Option (List ℕ) = g.F.Files.held c.args.files.now in
-    compare_cause (meaning c.args.job.now) held c.in-Ok.read.labels c.in-Ok.read.first c.in-Ok.read.second c.requires.operation c.in-Ok.ensures.texts (g.F.Files.faults c.args.files.now)
-    (g.F.Files.faults c.supports_of.new.files) 0 0 c.in-Err-comparison_of_together.status c.in-Err-comparison_of_together.ensures.err
-
-pub returns-in-Err-comparison_of_together-clause-earlier : goal.returns-in-Err-comparison_of_together-clause-earlier
-returns-in-Err-comparison_of_together-clause-earlier g c =
-    let held : List ℕ → Option (List ℕ) = g.F.Files.held c.args.files.now in
-    compare_first (meaning c.args.job.now) held c.in-Ok.read.labels c.in-Ok.read.first c.in-Ok.read.second c.requires.operation c.in-Ok.ensures.texts c.in-Err-comparison_of_together.status c.in-Err-comparison_of_together.ensures.err
-
-pub returns-in-Err-comparison_of_together-clause-early : goal.returns-in-Err-comparison_of_together-clause-early
-returns-in-Err-comparison_of_together-clause-early g c =
-    compare_early c.args.job.now.limit c.in-Ok.read.first c.in-Ok.read.second c.in-Err-comparison_of_together.status c.in-Err-comparison_of_together.ensures.err
+pub returns-in-Err-comparison_of_together-clause-status : goal.returns-in-Err-comparison_of_together-clause-status
+returns-in-Err-comparison_of_together-clause-status g c =
+    compare_ends (meaning c.args.job.now) c.in-Ok.read.labels c.in-Ok.read.first c.in-Ok.read.second c.requires.operation _ _ c.in-Ok.ensures.texts c.in-Err-comparison_of_together.status c.in-Err-comparison_of_together.ensures.err
 
 pub returns-clause-text : goal.returns-clause-text
 returns-clause-text g c =

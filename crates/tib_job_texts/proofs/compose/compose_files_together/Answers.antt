@@ -2,19 +2,13 @@ use Rattle.std.proofs.Common.{ℕ, List}
 use Rattle.std.specs.Prelude.{Option}
 use Rattle.tib_command.specs.Jobs.{meaning}
 use Rattle.tib_command.specs.declared.job.Operation.TheVariants as operations
-use Rattle.tib_run_laws.proofs.Reached.{made_first, made_cause, made_answer}
+use Rattle.tib_run_laws.proofs.Reached.{made_answer}
+use Rattle.tib_run_laws.proofs.Steps.{made_ends, made_ends}
 use Rattle.tib_job_texts.proofs.compose.compose_files_together.Goals as goal
 
-pub returns-in-Err-composition_of_together-clause-cause : goal.returns-in-Err-composition_of_together-clause-cause
-returns-in-Err-composition_of_together-clause-cause g c =
-    let held : List ℕ → Option (List ℕ) = g.F.Files.held c.args.files.now in
-    made_cause (meaning c.args.job.now) held operations.Compose g.S.Semiring.SCALE g.S.Semiring.product c.in-Ok.read.labels (c.in-Ok.read.first, (c.in-Ok.read.second, tt)) c.requires.operation c.requires.mode c.requires.product c.in-Ok.ensures.texts
-    (g.F.Files.faults c.args.files.now) (g.F.Files.faults c.transducers_of.new.files) 0 0 c.in-Err-composition_of_together.status c.in-Err-composition_of_together.ensures.err
-
-pub returns-in-Err-composition_of_together-clause-earlier : goal.returns-in-Err-composition_of_together-clause-earlier
-returns-in-Err-composition_of_together-clause-earlier g c =
-    let held : List ℕ → Option (List ℕ) = g.F.Files.held c.args.files.now in
-    made_first (meaning c.args.job.now) held operations.Compose g.S.Semiring.SCALE g.S.Semiring.product c.in-Ok.read.labels (c.in-Ok.read.first, (c.in-Ok.read.second, tt)) c.requires.operation c.requires.mode c.requires.product c.in-Ok.ensures.texts
+pub returns-in-Err-composition_of_together-clause-status : goal.returns-in-Err-composition_of_together-clause-status
+returns-in-Err-composition_of_together-clause-status g c =
+    made_ends (meaning c.args.job.now) operations.Compose g.S.Semiring.SCALE g.S.Semiring.product c.in-Ok.read.labels (c.in-Ok.read.first, (c.in-Ok.read.second, tt)) c.requires.operation c.requires.mode c.requires.product _ _ c.in-Ok.ensures.texts
     c.in-Err-composition_of_together.status c.in-Ok.ensures.class c.in-Err-composition_of_together.ensures.err
 
 pub returns-clause-text : goal.returns-clause-text

@@ -1,7 +1,7 @@
 use Rattle.std.proofs.lemmas.Result.{IfErr-weaker}
 use Rattle.tib_lex.proofs.Results.{ok_both}
 use Rattle.tib_command.specs.Jobs.{meaning}
-use Rattle.tib_run_laws.proofs.Large.{demo_answer, demo_cause, demo_early, demo_first}
+use Rattle.tib_run_laws.proofs.Large.{demo_answer, demo_ends}
 use Rattle.tib_job_texts.proofs.demo.demo_of_number_together.Goals as goal
 
 pub returns-clause-text : goal.returns-clause-text
@@ -10,20 +10,8 @@ returns-clause-text g c held =
     (λ text within is. demo_answer (meaning c.args.job.now) held g.S.Semiring.SCALE g.S.Semiring.LEVELLED g.S.Semiring.product c.requires.operation c.requires.mode c.requires.levelled c.requires.product text.bytes within is)
     c.demo_of_together.ensures.within c.demo_of_together.ensures.text
 
-pub returns-clause-cause : goal.returns-clause-cause
-returns-clause-cause g c held before now =
+pub returns-clause-status : goal.returns-clause-status
+returns-clause-status g c before after =
     IfErr-weaker c.demo_of_together.result _ _
-    (λ s h. demo_cause (meaning c.args.job.now) held g.S.Semiring.SCALE g.S.Semiring.LEVELLED g.S.Semiring.product c.requires.operation c.requires.mode c.requires.levelled c.requires.product before now 0 0 s h)
-    c.demo_of_together.ensures.err
-
-pub returns-clause-earlier : goal.returns-clause-earlier
-returns-clause-earlier g c held =
-    IfErr-weaker c.demo_of_together.result _ _
-    (λ s h. demo_first (meaning c.args.job.now) held g.S.Semiring.SCALE g.S.Semiring.LEVELLED g.S.Semiring.product c.requires.operation c.requires.mode c.requires.levelled c.requires.product s h)
-    c.demo_of_together.ensures.err
-
-pub returns-clause-early : goal.returns-clause-early
-returns-clause-early g c =
-    IfErr-weaker c.demo_of_together.result _ _
-    (λ s h. demo_early g.S.Semiring.LEVELLED g.S.Semiring.SCALE g.S.Semiring.product c.args.job.now.limit c.args.job.now.demo s h)
+    (λ s h. demo_ends (meaning c.args.job.now) g.S.Semiring.SCALE g.S.Semiring.LEVELLED g.S.Semiring.product c.requires.operation c.requires.mode c.requires.levelled c.requires.product before after s h)
     c.demo_of_together.ensures.err

@@ -2,19 +2,13 @@ use Rattle.std.proofs.Common.{ℕ, List}
 use Rattle.std.specs.Prelude.{Option}
 use Rattle.tib_command.specs.Jobs.{meaning}
 use Rattle.tib_command.specs.declared.job.Operation.TheVariants as operations
-use Rattle.tib_run_laws.proofs.Reached.{made_first, made_cause, made_answer}
+use Rattle.tib_run_laws.proofs.Reached.{made_answer}
+use Rattle.tib_run_laws.proofs.Steps.{made_ends}
 use Rattle.tib_job_texts.proofs.forward.forward_files.Goals as goal
 
-pub returns-in-Err-image_of-clause-cause : goal.returns-in-Err-image_of-clause-cause
-returns-in-Err-image_of-clause-cause g c =
-    let held : List ℕ → Option (List ℕ) = g.F.Files.held c.args.files.now in
-    made_cause (meaning c.args.job.now) held operations.Forward g.S.Semiring.SCALE g.S.Semiring.product c.in-Ok.read.labels (c.in-Ok.read.grammar, (c.in-Ok.read.transducer, tt)) c.requires.operation c.requires.mode c.requires.product c.in-Ok.ensures.texts
-    (g.F.Files.faults c.args.files.now) (g.F.Files.faults c.application_of.new.files) 0 0 c.in-Err-image_of.status c.in-Err-image_of.ensures.err
-
-pub returns-in-Err-image_of-clause-earlier : goal.returns-in-Err-image_of-clause-earlier
-returns-in-Err-image_of-clause-earlier g c =
-    let held : List ℕ → Option (List ℕ) = g.F.Files.held c.args.files.now in
-    made_first (meaning c.args.job.now) held operations.Forward g.S.Semiring.SCALE g.S.Semiring.product c.in-Ok.read.labels (c.in-Ok.read.grammar, (c.in-Ok.read.transducer, tt)) c.requires.operation c.requires.mode c.requires.product c.in-Ok.ensures.texts
+pub returns-in-Err-image_of-clause-status : goal.returns-in-Err-image_of-clause-status
+returns-in-Err-image_of-clause-status g c =
+    made_ends (meaning c.args.job.now) operations.Forward g.S.Semiring.SCALE g.S.Semiring.product c.in-Ok.read.labels (c.in-Ok.read.grammar, (c.in-Ok.read.transducer, tt)) c.requires.operation c.requires.mode c.requires.product _ _ c.in-Ok.ensures.texts
     c.in-Err-image_of.status c.in-Ok.ensures.class c.in-Err-image_of.ensures.err
 
 pub returns-clause-text : goal.returns-clause-text

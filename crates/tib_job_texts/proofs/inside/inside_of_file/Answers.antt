@@ -8,9 +8,9 @@ use Rattle.tib_job_texts.proofs.inside.inside_of_file.Goals as goal
 
 pub returns-in-Ok-inside_text-clause-text : goal.returns-in-Ok-inside_text-clause-text
 returns-in-Ok-inside_text-clause-text g c =
-    made_answer (meaning c.args.job.now) (g.F.Files.held c.args.files.now) operations.Inside g.S.Semiring.SCALE g.S.Semiring.product c.grammar_in.new.labels (c.in-Ok.grammar, tt) c.requires.operation c.requires.mode
+    made_answer (meaning c.args.job.now) (g.F.Files.held c.args.files.now) operations.Inside g.S.Semiring.SCALE g.S.Semiring.product c.value_in.new.labels (c.in-Ok.grammar, tt) c.requires.operation c.requires.mode
     c.requires.product
-    (one_file (meaning c.args.job.now) (g.F.Files.held c.args.files.now) g.S.Semiring.SCALE c.grammar_in.new.labels of_grammar c.in-Ok.grammar c.len.ensures.distinct c.in-Ok.ensures.text)
+    (one_file (meaning c.args.job.now) (g.F.Files.held c.args.files.now) g.S.Semiring.SCALE c.value_in.new.labels of_grammar c.in-Ok.grammar c.len.ensures.distinct c.in-Ok.ensures.text)
     c.in-Ok-inside_text.text.bytes tt tt (record {
       costs = c.in-Ok-inside.costs.items;
       counted = c.in-Ok-inside.ensures.length;

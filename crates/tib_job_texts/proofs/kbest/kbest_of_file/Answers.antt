@@ -2,31 +2,20 @@ use Rattle.std.proofs.Common.{ℕ, List}
 use Rattle.std.specs.Prelude.{Option}
 use Rattle.tib_command.specs.Jobs.{meaning}
 use Rattle.tib_run_laws.specs.Kinds.{of_grammar}
-use Rattle.tib_run_laws.proofs.Large.{kbest_cause, kbest_first, kbest_early, kbest_answer}
+use Rattle.tib_run_laws.proofs.Large.{kbest_answer, kbest_ends}
 use Rattle.tib_run_laws.proofs.Reached.{one_file}
 use Rattle.tib_job_texts.proofs.kbest.kbest_of_file.Goals as goal
 
-pub returns-in-Err-kbest_text-clause-cause : goal.returns-in-Err-kbest_text-clause-cause
-returns-in-Err-kbest_text-clause-cause g c =
+pub returns-in-Err-kbest_text-clause-status : goal.returns-in-Err-kbest_text-clause-status
+returns-in-Err-kbest_text-clause-status g c =
     let held : List ℕ → Option (List ℕ) = g.F.Files.held c.args.files.now in
-    kbest_cause (meaning c.args.job.now) held g.S.Semiring.SCALE g.S.Semiring.LEVELLED g.S.Semiring.product c.grammar_in.new.labels c.in-Ok.grammar c.requires.operation c.requires.mode c.requires.levelled c.requires.product
-    (one_file (meaning c.args.job.now) held g.S.Semiring.SCALE c.grammar_in.new.labels of_grammar c.in-Ok.grammar c.len.ensures.distinct c.in-Ok.ensures.text)
-    (g.F.Files.faults c.args.files.now) (g.F.Files.faults c.grammar_in.new.files) 0 0 c.in-Err-kbest_text.status c.in-Err-kbest_text.ensures.err
-
-pub returns-in-Err-kbest_text-clause-earlier : goal.returns-in-Err-kbest_text-clause-earlier
-returns-in-Err-kbest_text-clause-earlier g c =
-    let held : List ℕ → Option (List ℕ) = g.F.Files.held c.args.files.now in
-    kbest_first (meaning c.args.job.now) held g.S.Semiring.SCALE g.S.Semiring.LEVELLED g.S.Semiring.product c.grammar_in.new.labels c.in-Ok.grammar c.requires.operation c.requires.mode c.requires.levelled c.requires.product
-    (one_file (meaning c.args.job.now) held g.S.Semiring.SCALE c.grammar_in.new.labels of_grammar c.in-Ok.grammar c.len.ensures.distinct c.in-Ok.ensures.text)
+    kbest_ends (meaning c.args.job.now) g.S.Semiring.SCALE g.S.Semiring.LEVELLED g.S.Semiring.product c.value_in.new.labels c.in-Ok.grammar c.requires.operation c.requires.mode c.requires.levelled c.requires.product _ _
+    (one_file (meaning c.args.job.now) held g.S.Semiring.SCALE c.value_in.new.labels of_grammar c.in-Ok.grammar c.len.ensures.distinct c.in-Ok.ensures.text)
     c.in-Err-kbest_text.status c.in-Err-kbest_text.ensures.err
-
-pub returns-in-Err-kbest_text-clause-early : goal.returns-in-Err-kbest_text-clause-early
-returns-in-Err-kbest_text-clause-early g c =
-    kbest_early g.S.Semiring.LEVELLED g.S.Semiring.product c.args.job.now.limit c.args.job.now.k c.grammar_in.new.labels c.in-Ok.grammar c.in-Err-kbest_text.status c.in-Err-kbest_text.ensures.err
 
 pub returns-clause-text : goal.returns-clause-text
 returns-clause-text g c =
     let held : List ℕ → Option (List ℕ) = g.F.Files.held c.args.files.now in
-    kbest_answer (meaning c.args.job.now) held g.S.Semiring.SCALE g.S.Semiring.LEVELLED g.S.Semiring.product c.grammar_in.new.labels c.in-Ok.grammar c.requires.operation c.requires.mode c.requires.levelled c.requires.product
-    (one_file (meaning c.args.job.now) held g.S.Semiring.SCALE c.grammar_in.new.labels of_grammar c.in-Ok.grammar c.len.ensures.distinct c.in-Ok.ensures.text)
+    kbest_answer (meaning c.args.job.now) held g.S.Semiring.SCALE g.S.Semiring.LEVELLED g.S.Semiring.product c.value_in.new.labels c.in-Ok.grammar c.requires.operation c.requires.mode c.requires.levelled c.requires.product
+    (one_file (meaning c.args.job.now) held g.S.Semiring.SCALE c.value_in.new.labels of_grammar c.in-Ok.grammar c.len.ensures.distinct c.in-Ok.ensures.text)
     c.in-Ok-kbest_text.text.bytes c.in-Ok-kbest_text.ensures.within c.in-Ok-kbest_text.ensures.text

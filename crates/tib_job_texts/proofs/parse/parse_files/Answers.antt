@@ -2,25 +2,14 @@ use Rattle.std.proofs.Common.{ℕ, List, subst}
 use Rattle.std.specs.Prelude.{Option}
 use Rattle.tib_command.specs.Jobs.{meaning}
 use Rattle.tib_parse_text.specs.Parse.{HasParseText, IsParseTextFault, parse_makes}
-use Rattle.tib_run_laws.proofs.Parsed.{parse_answer, parse_cause, parse_early, parse_first}
+use Rattle.tib_run_laws.proofs.Parsed.{parse_answer, parse_ends}
 use Rattle.tib_job_texts.proofs.parse.parse_files.Goals as goal
 
-pub returns-in-Err-parse_of-clause-cause : goal.returns-in-Err-parse_of-clause-cause
-returns-in-Err-parse_of-clause-cause g c =
-    let held : List ℕ → Option (List ℕ) = g.F.Files.held c.args.files.now in
-    parse_cause (meaning c.args.job.now) held g.S.Semiring.SCALE g.S.Semiring.product c.in-Ok.read.labels c.in-Ok.read.transducer c.in-Ok.read.string.items c.requires.operation c.requires.mode c.requires.product
-    c.in-Ok.ensures.texts (g.F.Files.faults c.args.files.now) (g.F.Files.faults c.inputs_of.new.files) 0 0 c.in-Err-parse_of.status
-    (subst (λ (s : List ℕ). IsParseTextFault c.args.job.now.limit c.in-Ok.read.transducer s c.in-Err-parse_of.status) c.deref.ensures.value c.in-Err-parse_of.ensures.err)
-
-pub returns-in-Err-parse_of-clause-earlier : goal.returns-in-Err-parse_of-clause-earlier
-returns-in-Err-parse_of-clause-earlier g c =
-    let held : List ℕ → Option (List ℕ) = g.F.Files.held c.args.files.now in
-    parse_first (meaning c.args.job.now) held g.S.Semiring.SCALE g.S.Semiring.product c.in-Ok.read.labels c.in-Ok.read.transducer c.in-Ok.read.string.items c.requires.operation c.requires.mode c.requires.product
+pub returns-in-Err-parse_of-clause-status : goal.returns-in-Err-parse_of-clause-status
+returns-in-Err-parse_of-clause-status g c =
+    parse_ends (meaning c.args.job.now) g.S.Semiring.SCALE g.S.Semiring.product c.in-Ok.read.labels c.in-Ok.read.transducer c.in-Ok.read.string.items c.requires.operation c.requires.mode c.requires.product _ _
     c.in-Ok.ensures.texts c.in-Err-parse_of.status
     (subst (λ (s : List ℕ). IsParseTextFault c.args.job.now.limit c.in-Ok.read.transducer s c.in-Err-parse_of.status) c.deref.ensures.value c.in-Err-parse_of.ensures.err)
-
-pub returns-in-Err-parse_of-clause-early : goal.returns-in-Err-parse_of-clause-early
-returns-in-Err-parse_of-clause-early g c = parse_early c.args.job.now.limit c.in-Ok.read.transducer c.deref.result.now c.in-Err-parse_of.status c.in-Err-parse_of.ensures.err
 
 pub returns-clause-text : goal.returns-clause-text
 returns-clause-text g c =

@@ -1,7 +1,10 @@
+use Rattle.tib_run_laws.proofs.Steps.{leaves_all}
+use Rattle.tib_run_laws.specs.Run.{files_seen}
 use Rattle.tib_job_texts.proofs.together.text_together.Goals as goal
 
-pub returns-in-Demo-clause-cause : goal.returns-in-Demo-clause-cause
-returns-in-Demo-clause-cause g c = c.demo_of_number_together.ensures.cause (g.F.Files.held c.args.files.now) (g.F.Files.faults c.args.files.now) (g.F.Files.faults c.args.files.now)
+pub returns-in-Demo-clause-status : goal.returns-in-Demo-clause-status
+returns-in-Demo-clause-status g c =
+    c.demo_of_number_together.ensures.status (files_seen g.F.Files.held g.F.Files.sure g.F.Files.faults c.args.files.now) (files_seen g.F.Files.held g.F.Files.sure g.F.Files.faults c.args.files.now)
 
-pub returns-in-Demo-clause-earlier : goal.returns-in-Demo-clause-earlier
-returns-in-Demo-clause-earlier g c = c.demo_of_number_together.ensures.earlier (g.F.Files.held c.args.files.now)
+pub returns-in-Demo-clause-files : goal.returns-in-Demo-clause-files
+returns-in-Demo-clause-files g c = leaves_all (files_seen g.F.Files.held g.F.Files.sure g.F.Files.faults c.args.files.now)

@@ -5,16 +5,16 @@ use Rattle.tib_run_laws.proofs.Runs.{ended, answered, cut_short}
 use Rattle.tib_run.proofs.answer.answer_job.Goals as goal
 
 pub returns-in-Err : goal.returns-in-Err
-returns-in-Err g c = ended c.files_have_no_fault.ensures c.within_or_too_many.ensures.apart _ _ _ _ c.in-Err.status c.in-Err.ensures.early c.in-Err.ensures.cause c.in-Err.ensures.earlier c.in-Err.ensures.held c.in-Err.ensures.sure c.in-Err.ensures.counts
+returns-in-Err g c = ended c.files_have_no_fault.ensures c.within_or_too_many.ensures.apart _ _ _ _ c.in-Err.status c.in-Err.ensures.status c.in-Err.ensures.files
 
 pub returns-in-Ok-write_and_finish : goal.returns-in-Ok-write_and_finish
 returns-in-Ok-write_and_finish g c =
     let answers = subst (λ (text : List ℕ). IsAnswer (meaning c.args.job.now) (g.F.Files.held c.args.files.now) text) (sym c.bytes.ensures) c.in-Ok.ensures.text in
-    answered c.files_have_no_fault.ensures c.within_or_too_many.ensures.apart (meaning c.args.job.now) _ _ _ _ c.bytes.result.now answers c.in-Ok-write_and_finish.ensures.later c.in-Ok-write_and_finish.ensures.calm c.in-Ok.ensures.held c.in-Ok.ensures.sure c.in-Ok.ensures.counts
+    answered c.files_have_no_fault.ensures c.within_or_too_many.ensures.apart (meaning c.args.job.now) _ _ _ _ c.bytes.result.now answers c.in-Ok-write_and_finish.ensures.later c.in-Ok-write_and_finish.ensures.calm c.in-Ok.ensures.files
     c.in-Ok-write_and_finish.ensures.ok c.in-Ok-write_and_finish.ensures.finished c.in-Ok-write_and_finish.ensures.steady
 
 pub returns : goal.returns
 returns g c =
     let answers = subst (λ (text : List ℕ). IsAnswer (meaning c.args.job.now) (g.F.Files.held c.args.files.now) text) (sym c.bytes.ensures) c.in-Ok.ensures.text in
-    cut_short c.files_have_no_fault.ensures c.within_or_too_many.ensures.apart (meaning c.args.job.now) _ _ _ _ c.bytes.result.now answers c.in-Err-write_and_finish.ensures.later c.in-Err-write_and_finish.ensures.calm c.in-Ok.ensures.held c.in-Ok.ensures.sure c.in-Ok.ensures.counts
+    cut_short c.files_have_no_fault.ensures c.within_or_too_many.ensures.apart (meaning c.args.job.now) _ _ _ _ c.bytes.result.now answers c.in-Err-write_and_finish.ensures.later c.in-Err-write_and_finish.ensures.calm c.in-Ok.ensures.files
     c.in-Err-write_and_finish.ensures.err c.in-Err-write_and_finish.ensures.cause c.in-Err-write_and_finish.ensures.broken
