@@ -1,71 +1,94 @@
-// Keys, and the restrictions of one rule.
-use std::alloc::Global;
+// Keys of application, the restrictions of one rule, and what is answered as text.
+use crate::grammars::{write_number, write_rules};
+use crate::transducers::{Move, Node, rules};
+use std::alloc::{AllocError, Global};
 use std::test::Fail;
-use tib_apply::{Key, Restrictions};
-use tib_cost::{MinPlus, Semiring};
-use tib_grammar::{Item, Side};
-use tib_hunt::TableKey;
-use tib_transducer::{Pair, TransducerRule, Variable};
-use tib_tree::Label;
+use tib_apply::{ApplyError, Key, Restrictions};
+use tib_grammar::Rule;
+use tib_hunt::{Found, TableKey};
+
+fn write_key(text: &mut String, key: Key) -> Result<(), AllocError> {
+    write_number(text, key.first() as u64)?;
+    text.push_str(".")?;
+    write_number(text, key.second() as u64)?;
+    text.push_str(".")?;
+    write_number(text, key.restriction() as u64)?;
+    text.push_str(" ")
+}
+
+// The keys, the rules and the parts.
+fn write_found(alloc: Global, found: &Found<Key, Rule<u32>>) -> Result<String, AllocError> {
+    let mut text = String::new(alloc);
+    for key in &found.order {
+        write_key(&mut text, *key)?;
+    }
+    write_rules(&mut text, &found.rules, found.parts)?;
+    Ok(text)
+}
+
+/// What an application found, or its error.
+pub fn told(
+    alloc: Global,
+    answer: Result<Found<Key, Rule<u32>>, ApplyError>,
+) -> Result<String, Fail> {
+    match answer {
+        Ok(found) => Ok(write_found(alloc, &found)?),
+        Err(ApplyError::OutOfMemory) => Err("no memory".into()),
+        Err(error) => Ok(error.to_string(alloc)?),
+    }
+}
 
 #[test]
 fn a_restriction_is_an_entry_of_a_key(rt: HostRuntime) {
     let key = Key::new(3, 4, 5);
     assert_eq!(rt; (key.first(), key.second(), key.restriction()), (3, 4, 5));
-    assert_eq!(rt; key.entries(), 3);
-    assert_eq!(rt; key.shelf(), 4);
+    assert_eq!(rt; (key.entries(), key.shelf()), (3, 4));
     assert_eq!(rt; Key::new(3, 4, 0).entries(), 2);
     assert!(rt; Key::new(3, 4, 0) < key);
 }
 
-// A rule that leaves out variables with these labels.
-fn rule(alloc: Global, labels: &[Option<Label>]) -> Result<TransducerRule<u32>, Fail> {
-    if labels.len() > 99 {
-        return Err("too many labels".into());
-    }
-    let mut left = Vec::new(alloc);
-    left.push(Item::Label {
-        label: 0,
-        rank: labels.len() as u32,
-    })?;
-    for (number, label) in labels.iter().enumerate() {
-        left.push(Item::Hole(Variable {
-            number: number as u32,
-            label: *label,
-        }))?;
-    }
-    let mut right: Vec<Item<Pair<u32>>> = Vec::new(alloc);
-    right.push(Item::Label { label: 1, rank: 0 })?;
-    if left.len() > 999 || right.len() > 999 {
-        return Err("too many items".into());
-    }
-    match (Side::from_preorder(left), Side::from_preorder(right)) {
-        (Ok(left), Ok(right)) => Ok(TransducerRule {
-            state: 0,
-            left,
-            right,
-            cost: MinPlus::one(),
-        }),
-        _ => Err("no rule".into()),
-    }
-}
+// Two rules that leave out variables with some labels.
+static LEAVING: [Move; 2] = [
+    (
+        0,
+        &[
+            Node::Over(0, 3),
+            Node::Asks(0, 7),
+            Node::Plain(1),
+            Node::Asks(2, 5),
+        ],
+        &[Node::Over(1, 0)],
+        0,
+    ),
+    (
+        0,
+        &[
+            Node::Over(0, 3),
+            Node::Asks(0, 5),
+            Node::Asks(1, 9),
+            Node::Asks(2, 7),
+        ],
+        &[Node::Over(1, 0)],
+        0,
+    ),
+];
+
+// The number of a restriction, a label, and whether the restriction admits it.
+static ADMITTED: [(u32, u32, bool); 6] = [
+    (0, 7, true),
+    (1, 7, true),
+    (1, 5, false),
+    (2, 5, true),
+    (3, 9, true),
+    (4, 9, false),
+];
 
 #[test]
 fn labels_are_numbered_where_they_first_stand(rt: HostRuntime) -> Result<(), Fail> {
-    let alloc = rt.alloc();
-    let mut rules = Vec::new(alloc);
-    rules.push(rule(alloc, &[Some(7), None, Some(5)])?)?;
-    rules.push(rule(alloc, &[Some(5), Some(9), Some(7)])?)?;
-    let restrictions = Restrictions::new(alloc, &rules)?;
-    for (number, label, want) in [
-        (0, 7, true),
-        (1, 7, true),
-        (1, 5, false),
-        (2, 5, true),
-        (3, 9, true),
-        (4, 9, false),
-    ] {
-        assert_eq!(rt; restrictions.admits(number, label), want);
+    let rules = rules(rt.alloc(), &LEAVING)?;
+    let restrictions = Restrictions::new(rt.alloc(), &rules)?;
+    for (number, label, want) in &ADMITTED {
+        assert_eq!(rt; restrictions.admits(*number, *label), *want);
     }
     Ok(())
 }

@@ -1,17 +1,14 @@
 // The reached sets of small grammars, as text, and the limit.
-ghost use Rattle.std.specs.Prelude.{◌≤◌};
+ghost use Rattle.std.specs.Prelude.{◌≤◌, length};
 
+use crate::grammars::{Row, normal, write_number, write_rules};
 use std::alloc::{AllocError, Global};
 use std::test::Fail;
 use tib_cost::{Boolean, Bottleneck, Cost, MinPlus, Semiring};
 use tib_determinize::{Residuals, Vector, determinize, determinize_together};
-use tib_grammar::{Grammar, Item, Names, Rule, Side};
+use tib_grammar::Rule;
 use tib_hunt::{Found, HuntError, Open};
 use tib_normal::Normal;
-use tib_tree::Label;
-
-// A rule: its left state, its label, the states below it and its cost.
-type Row = (u32, Label, &'static [u32], u64);
 
 // q -> f(p) # 1, q -> f(r) # 3, p -> a # 2 and r -> a # 1.
 static AMBIGUOUS: [Row; 4] = [
@@ -49,35 +46,6 @@ static APART: [Row; 4] = [
     (2, 9, &[], 1),
 ];
 
-fn normal<S: Semiring + Drop>(alloc: Global, rows: &[Row]) -> Result<Normal<S>, Fail> {
-    let mut texts = Vec::new(alloc);
-    for text in ["q", "p", "r"] {
-        texts.push(text.as_bytes().to_vec(alloc)?)?;
-    }
-    let mut rules = Vec::new(alloc);
-    for (left, label, states, cost) in rows {
-        if states.len() > 9 {
-            return Err("too many states".into());
-        }
-        rules.push(Rule {
-            left: *left,
-            right: Side::over(alloc, *label, states)?,
-            cost: Cost::new(*cost).ok_or("cost")?,
-        })?;
-    }
-    if texts.len() > 9 || rules.len() > 9 {
-        return Err("too many".into());
-    }
-    let names = Names::from_list(alloc, texts)?.ok_or("names")?;
-    let grammar = Grammar::new(names, rules).ok_or("grammar")?;
-    Ok(Normal::new(alloc, grammar)?.ok_or("normal form")?)
-}
-
-fn write_number(text: &mut String, number: u64) -> Result<(), AllocError> {
-    let digits = number.to_string(*text.allocator())?;
-    text.push_str(digits.as_str())
-}
-
 // The states of a vector with their residuals.
 fn write_vector(text: &mut String, vector: &Vector) -> Result<(), AllocError> {
     for (state, residual) in vector.entries() {
@@ -89,21 +57,7 @@ fn write_vector(text: &mut String, vector: &Vector) -> Result<(), AllocError> {
     text.push_str("; ")
 }
 
-fn write_rule(text: &mut String, rule: &Rule<u32>) -> Result<(), AllocError> {
-    write_number(text, rule.left as u64)?;
-    text.push_str(" ->")?;
-    for item in rule.right.items() {
-        text.push_str(" ")?;
-        match item {
-            Item::Label { label, .. } => write_number(text, *label as u64)?,
-            Item::Hole(position) => write_number(text, *position as u64)?,
-        }
-    }
-    text.push_str(" # ")?;
-    write_number(text, rule.cost.get())?;
-    text.push_str("; ")
-}
-
+// The vectors, the rules and the parts, and behind another bar each position with the start, and the start's residual there.
 fn write_found(
     alloc: Global,
     found: &Found<Vector, Rule<u32>>,
@@ -113,17 +67,25 @@ fn write_found(
     for vector in &found.order {
         write_vector(&mut text, vector)?;
     }
-    for rule in &found.rules {
-        write_rule(&mut text, rule)?;
-    }
+    write_rules(&mut text, &found.rules, found.parts)?;
+    text.push_str(" | ")?;
     for (position, residual) in finals {
         write_number(&mut text, *position as u64)?;
         text.push_str(" at ")?;
         write_number(&mut text, residual.get())?;
-        text.push_str("; ")?;
     }
-    write_number(&mut text, found.parts)?;
     Ok(text)
+}
+
+// The finals of some vectors.
+fn finals<S: Semiring>(
+    alloc: Global,
+    normal: &Normal<S>,
+    order: &[Vector],
+) -> Result<Vec<(u32, Cost)>, AllocError>
+    requires { length order.now ≤ 20000000 }
+{
+    Residuals::new(alloc, normal)?.finals(alloc, order)
 }
 
 // The reached set and its finals, or the limit that it passes.
@@ -134,68 +96,54 @@ fn told<S: Semiring + Drop>(alloc: Global, rows: &[Row], limit: u64) -> Result<S
     let normal: Normal<S> = normal(alloc, rows)?;
     match determinize(alloc, &normal, limit, &Open) {
         Ok(found) => {
-            let residuals = Residuals::new(alloc, &normal)?;
-            let finals = residuals.finals(alloc, &found.order)?;
+            let finals = finals(alloc, &normal, &found.order)?;
             Ok(write_found(alloc, &found, &finals)?)
         }
-        Err(HuntError::TooMany { limit }) => {
-            let mut text = String::new(alloc);
-            text.push_str("more than ")?;
-            write_number(&mut text, limit)?;
-            Ok(text)
-        }
         Err(HuntError::OutOfMemory) => Err("no memory".into()),
+        Err(error) => Ok(error.to_string(alloc)?),
     }
 }
 
-#[test]
-fn residuals_are_kept(rt: HostRuntime) -> Result<(), Fail> {
-    let alloc = rt.alloc();
-    let text = told::<MinPlus>(alloc, &AMBIGUOUS, 100)?;
-    assert_eq!(rt;
-        text.as_str(),
-        "1.1 2.0 ; 0.0 ; 0 -> 8 # 1; 1 -> 7 0 # 2; 1 at 0; 10"
-    );
-    let text = told::<Bottleneck>(alloc, &AMBIGUOUS, 100)?;
-    assert_eq!(rt;
-        text.as_str(),
-        "1.2 2.0 ; 0.0 ; 0 -> 8 # 1; 1 -> 7 0 # 2; 1 at 0; 10"
-    );
-    Ok(())
-}
+static AMBIGUOUS_VECTORS: &str = "1.1 2.0 ; 0.0 ; | 0 > 8 # 1; 1 > 7 :0 # 2; 10 | 1 at 0";
+
+static BOTTLENECK_VECTORS: &str = "1.2 2.0 ; 0.0 ; | 0 > 8 # 1; 1 > 7 :0 # 2; 10 | 1 at 0";
+
+static SUBSETS: &str = "1.0 2.0 ; 0.0 ; | 0 > 8 # 0; 1 > 7 :0 # 0; 1 > 9 :1 :0 # 0; 14 | 1 at 0";
 
 #[test]
-fn subsets_without_costs(rt: HostRuntime) -> Result<(), Fail> {
-    let text = told::<Boolean>(rt.alloc(), &PLAIN, 100)?;
-    assert_eq!(rt;
-        text.as_str(),
-        "1.0 2.0 ; 0.0 ; 0 -> 8 # 0; 1 -> 7 0 # 0; 1 -> 9 1 0 # 0; 1 at 0; 14"
-    );
+fn residuals_are_kept(rt: HostRuntime) -> Result<(), Fail> {
+    let sums = told::<MinPlus>(rt.alloc(), &AMBIGUOUS, 100)?;
+    assert_eq!(rt; sums.as_str(), AMBIGUOUS_VECTORS);
+    let greatest = told::<Bottleneck>(rt.alloc(), &AMBIGUOUS, 100)?;
+    assert_eq!(rt; greatest.as_str(), BOTTLENECK_VECTORS);
+    let subsets = told::<Boolean>(rt.alloc(), &PLAIN, 100)?;
+    assert_eq!(rt; subsets.as_str(), SUBSETS);
     Ok(())
 }
 
 #[test]
 fn the_limit(rt: HostRuntime) -> Result<(), Fail> {
-    let alloc = rt.alloc();
-    let text = told::<MinPlus>(alloc, &AMBIGUOUS, 9)?;
-    assert_eq!(rt; text.as_str(), "more than 9");
-    let text = told::<MinPlus>(alloc, &ENDLESS, 50)?;
-    assert_eq!(rt; text.as_str(), "more than 50");
+    let text = told::<MinPlus>(rt.alloc(), &AMBIGUOUS, 9)?;
+    assert_eq!(rt; text.as_str(), "more than 9 parts");
+    let text = told::<MinPlus>(rt.alloc(), &ENDLESS, 50)?;
+    assert_eq!(rt; text.as_str(), "more than 50 parts");
     Ok(())
+}
+
+// How many vectors, rules and parts were reached.
+fn counts_of(answer: &Result<Found<Vector, Rule<u32>>, HuntError>) -> Option<(usize, usize, u64)> {
+    match answer {
+        Ok(found) => Some((found.order.len(), found.rules.len(), found.parts)),
+        Err(_) => None,
+    }
 }
 
 #[test]
 fn every_number_of_workers_reaches_the_same(rt: HostRuntime) -> Result<(), Fail> {
     let normal: Normal<MinPlus> = normal(rt.alloc(), &APART)?;
     for workers in 1..17 {
-        match determinize_together(&rt, rt.alloc(), &normal, workers, 100, &Open) {
-            Ok(found) => {
-                assert_eq!(rt; found.order.len(), 3);
-                assert_eq!(rt; found.rules.len(), 4);
-                assert_eq!(rt; found.parts, 16);
-            }
-            Err(_) => assert!(rt; false),
-        }
+        let answer = determinize_together(&rt, rt.alloc(), &normal, workers, 100, &Open);
+        assert_eq!(rt; counts_of(&answer), Some((3, 4, 16)));
     }
     Ok(())
 }

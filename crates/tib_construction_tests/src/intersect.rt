@@ -1,17 +1,14 @@
 // The edges of pairs of states of two small grammars, and their reached set, as text.
 ghost use Rattle.std.specs.Prelude.{◌≤◌};
 
+use crate::grammars::{Row, normal, write_number, write_rules};
 use std::alloc::{AllocError, Global};
 use std::test::Fail;
-use tib_cost::{Bottleneck, Cost, MOST, MinPlus, Semiring};
+use tib_cost::{Bottleneck, MOST, MinPlus, Semiring};
 use tib_grammar::{Grammar, Item, Names, Rule, Side};
 use tib_hunt::{Edges, Expand, ExpandError, Found, HuntError, Open, TableKey};
 use tib_intersect::{Pair, PairRule, Pairs, intersect, intersect_together};
 use tib_normal::Normal;
-use tib_tree::Label;
-
-// A rule: its left state, its label, the states below it and its cost.
-type Row = (u32, Label, &'static [u32], u64);
 
 static LEFT: [Row; 4] = [
     (0, 7, &[0, 1], 1),
@@ -29,47 +26,23 @@ static RIGHT: [Row; 5] = [
     (1, 8, &[], 6),
 ];
 
-fn normal<S: Semiring + Drop>(alloc: Global, rows: &[Row]) -> Result<Normal<S>, Fail> {
-    let mut texts = Vec::new(alloc);
-    for text in ["p", "q"] {
-        texts.push(text.as_bytes().to_vec(alloc)?)?;
-    }
-    let mut rules = Vec::new(alloc);
-    for (left, label, states, cost) in rows {
-        if states.len() > 9 {
-            return Err("too many states".into());
-        }
-        rules.push(Rule {
-            left: *left,
-            right: Side::over(alloc, *label, states)?,
-            cost: Cost::new(*cost).ok_or("cost")?,
-        })?;
-    }
-    if texts.len() > 9 || rules.len() > 9 {
-        return Err("too many".into());
-    }
-    let names = Names::from_list(alloc, texts)?.ok_or("names")?;
-    let grammar = Grammar::new(names, rules).ok_or("grammar")?;
-    Ok(Normal::new(alloc, grammar)?.ok_or("normal form")?)
-}
-
-fn write_number(text: &mut String, number: u64) -> Result<(), AllocError> {
-    let digits = number.to_string(*text.allocator())?;
-    text.push_str(digits.as_str())
+fn write_pair(text: &mut String, pair: Pair) -> Result<(), AllocError> {
+    write_number(text, pair.first() as u64)?;
+    text.push_str(".")?;
+    write_number(text, pair.second() as u64)?;
+    text.push_str(" ")
 }
 
 fn write_edge(text: &mut String, rule: &PairRule, ends: &[Pair]) -> Result<(), AllocError> {
     write_number(text, rule.label as u64)?;
+    text.push_str(" ")?;
     let first = rule.first_end as usize;
     for i in first..first + rule.rank as usize {
         if let Some(pair) = ends.get(i).copied() {
-            text.push_str(" ")?;
-            write_number(text, pair.first() as u64)?;
-            text.push_str(".")?;
-            write_number(text, pair.second() as u64)?;
+            write_pair(text, pair)?;
         }
     }
-    text.push_str(" # ")?;
+    text.push_str("# ")?;
     write_number(text, rule.cost.get())?;
     text.push_str("; ")
 }
@@ -181,42 +154,14 @@ fn a_key_has_two_entries_and_a_shelf(rt: HostRuntime) {
     assert!(rt; Pair::new(3, 9) < Pair::new(4, 0));
 }
 
-fn write_pair(text: &mut String, pair: Pair) -> Result<(), AllocError> {
-    write_number(text, pair.first() as u64)?;
-    text.push_str(".")?;
-    write_number(text, pair.second() as u64)?;
-    text.push_str(" ")
-}
-
-fn write_items(text: &mut String, items: &[Item<u32>]) -> Result<(), AllocError> {
-    for item in items {
-        match item {
-            Item::Label { label, .. } => write_number(text, *label as u64)?,
-            Item::Hole(position) => write_number(text, *position as u64)?,
-        }
-        text.push_str(" ")?;
-    }
-    Ok(())
-}
-
-fn write_rule(text: &mut String, rule: &Rule<u32>) -> Result<(), AllocError> {
-    write_number(text, rule.left as u64)?;
-    text.push_str(" -> ")?;
-    write_items(text, rule.right.items())?;
-    text.push_str("# ")?;
-    write_number(text, rule.cost.get())?;
-    text.push_str("; ")
-}
-
 // The order, the rules over its positions and the parts.
-fn write_found(text: &mut String, found: &Found<Pair, Rule<u32>>) -> Result<(), AllocError> {
+fn write_found(alloc: Global, found: &Found<Pair, Rule<u32>>) -> Result<String, AllocError> {
+    let mut text = String::new(alloc);
     for pair in &found.order {
-        write_pair(text, *pair)?;
+        write_pair(&mut text, *pair)?;
     }
-    for rule in &found.rules {
-        write_rule(text, rule)?;
-    }
-    write_number(text, found.parts)
+    write_rules(&mut text, &found.rules, found.parts)?;
+    Ok(text)
 }
 
 // The reached set of the two grammars above within a limit, or that it has more parts.
@@ -226,26 +171,29 @@ fn reached_between(alloc: Global, limit: u64) -> Result<String, Fail>
 {
     let left: Normal<MinPlus> = normal(alloc, &LEFT)?;
     let right = normal(alloc, &RIGHT)?;
-    let mut text = String::new(alloc);
     match intersect(alloc, &left, &right, limit, &Open) {
-        Ok(found) => write_found(&mut text, &found)?,
-        Err(HuntError::TooMany { limit }) => {
-            text.push_str("more than ")?;
-            write_number(&mut text, limit)?;
-        }
-        Err(HuntError::OutOfMemory) => return Err("no memory".into()),
+        Ok(found) => Ok(write_found(alloc, &found)?),
+        Err(HuntError::OutOfMemory) => Err("no memory".into()),
+        Err(error) => Ok(error.to_string(alloc)?),
     }
-    Ok(text)
 }
 
 #[test]
 fn three_pairs_are_reached_by_four_rules(rt: HostRuntime) -> Result<(), Fail> {
-    let all = "0.0 0.1 1.0 0 -> 7 1 2 # 5; 0 -> 8 # 7; 1 -> 8 # 8; 2 -> 8 # 8; 19";
-    for (limit, want) in [(20_000_000, all), (19, all), (18, "more than 18")] {
+    let all = "0.0 0.1 1.0 | 0 > 7 :1 :2 # 5; 0 > 8 # 7; 1 > 8 # 8; 2 > 8 # 8; 19";
+    for (limit, want) in [(20_000_000, all), (19, all), (18, "more than 18 parts")] {
         let text = reached_between(rt.alloc(), limit)?;
         assert_eq!(rt; text.as_str(), want);
     }
     Ok(())
+}
+
+// How many pairs, rules and parts were reached.
+fn counts_of(answer: &Result<Found<Pair, Rule<u32>>, HuntError>) -> Option<(usize, usize, u64)> {
+    match answer {
+        Ok(found) => Some((found.order.len(), found.rules.len(), found.parts)),
+        Err(_) => None,
+    }
 }
 
 #[test]
@@ -253,14 +201,8 @@ fn every_number_of_workers_reaches_the_three_pairs(rt: HostRuntime) -> Result<()
     let left: Normal<MinPlus> = normal(rt.alloc(), &LEFT)?;
     let right = normal(rt.alloc(), &RIGHT)?;
     for workers in 1..17 {
-        match intersect_together(&rt, rt.alloc(), &left, &right, workers, 19, &Open) {
-            Ok(found) => {
-                assert_eq!(rt; found.order.len(), 3);
-                assert_eq!(rt; found.rules.len(), 4);
-                assert_eq!(rt; found.parts, 19);
-            }
-            Err(_) => assert!(rt; false),
-        }
+        let answer = intersect_together(&rt, rt.alloc(), &left, &right, workers, 19, &Open);
+        assert_eq!(rt; counts_of(&answer), Some((3, 4, 19)));
     }
     Ok(())
 }
@@ -297,13 +239,7 @@ fn chain(alloc: Global, length: u32) -> Result<Normal<MinPlus>, Fail>
 fn more_pairs_than_65536_are_reached(rt: HostRuntime) -> Result<(), Fail> {
     let left = chain(rt.alloc(), 70_000)?;
     let right = chain(rt.alloc(), 70_000)?;
-    match intersect(rt.alloc(), &left, &right, 20_000_000, &Open) {
-        Ok(found) => {
-            assert_eq!(rt; found.order.len(), 70_001);
-            assert_eq!(rt; found.rules.len(), 70_001);
-            assert_eq!(rt; found.parts, 420_005);
-        }
-        Err(_) => assert!(rt; false),
-    }
+    let answer = intersect(rt.alloc(), &left, &right, 20_000_000, &Open);
+    assert_eq!(rt; counts_of(&answer), Some((70_001, 70_001, 420_005)));
     Ok(())
 }

@@ -13,6 +13,8 @@ mod determinize;
 #[cfg(test)]
 mod forward;
 #[cfg(test)]
+mod grammars;
+#[cfg(test)]
 mod image;
 #[cfg(test)]
 mod intersect;
@@ -20,3 +22,5 @@ mod intersect;
 mod matches;
 #[cfg(test)]
 mod parse;
+#[cfg(test)]
+mod transducers;

@@ -1,16 +1,14 @@
 // The matches of sides in a small grammar, as text. The labels are f 0, g 1 and a 2.
+use crate::grammars::{Row, normal, write_number};
 use std::alloc::{AllocError, Global};
 use std::test::Fail;
-use tib_cost::{Bottleneck, Cost, MOST, MinPlus, Semiring};
-use tib_grammar::{Grammar, Item, Names, Rule, Side};
-use tib_match::{HoleCost, Match, Within, few_matches, matches_within, search_matches};
+use tib_cost::{Bottleneck, MOST, MinPlus, Semiring};
+use tib_grammar::{Item, Side};
+use tib_match::{HoleCost, Match, Within, few_matches, search_matches};
 use tib_normal::Normal;
 use tib_tree::Label;
 
-// A rule: its left state, its label, the states below it and its cost.
-type Row = (u32, Label, &'static [u32], u64);
-
-// A side in preorder: a label over so many children, or a hole.
+// A side in preorder: a label over this many children, or a hole.
 type Shape = &'static [Option<(Label, u32)>];
 
 static RULES: [Row; 8] = [
@@ -24,34 +22,34 @@ static RULES: [Row; 8] = [
     (3, 1, &[3], MOST),
 ];
 
-fn normal<S: Semiring + Drop>(alloc: Global) -> Result<Normal<S>, Fail> {
-    let mut texts = Vec::new(alloc);
-    for text in ["p", "q", "r", "s"] {
-        texts.push(text.as_bytes().to_vec(alloc)?)?;
-    }
-    let mut rules = Vec::new(alloc);
-    for (left, label, states, cost) in &RULES {
-        if states.len() > 9 {
-            return Err("too many states".into());
-        }
-        rules.push(Rule {
-            left: *left,
-            right: Side::over(alloc, *label, states)?,
-            cost: Cost::new(*cost).ok_or("cost")?,
-        })?;
-    }
-    if texts.len() > 9 || rules.len() > 9 {
-        return Err("too many rules".into());
-    }
-    let names = Names::from_list(alloc, texts)?.ok_or("names")?;
-    let grammar = Grammar::new(names, rules).ok_or("grammar")?;
-    Ok(Normal::new(alloc, grammar)?.ok_or("normal form")?)
-}
+// A state, a side, and the matches of the side from the state: the states at its holes, and the cost.
+static ROWS: [(u32, Shape, &str); 10] = [
+    // x
+    (1, &[None], "1 # 0; "),
+    // f(x y)
+    (0, &[Some((0, 2)), None, None], "1 2 # 1; 2 2 # 2; "),
+    // f(g(x) y)
+    (0, &[Some((0, 2)), Some((1, 1)), None, None], "3 2 # 2; "),
+    // f(g(x) a)
+    (
+        0,
+        &[Some((0, 2)), Some((1, 1)), None, Some((2, 0))],
+        "3 # 4; ",
+    ),
+    // f(a a)
+    (0, &[Some((0, 2)), Some((2, 0)), Some((2, 0))], "# 6; "),
+    // a
+    (2, &[Some((2, 0))], "# 2; "),
+    (0, &[Some((2, 0))], ""),
+    // g(x)
+    (3, &[Some((1, 1)), None], "3 # 1000000000000000; "),
+    // g(g(x))
+    (1, &[Some((1, 1)), Some((1, 1)), None], ""),
+    // the label f over another number of children
+    (0, &[Some((0, 1)), None], ""),
+];
 
-fn side(alloc: Global, shape: Shape) -> Result<Side<u32>, Fail> {
-    if shape.len() > 99 {
-        return Err("too many items".into());
-    }
+fn side(alloc: Global, shape: &[Option<(Label, u32)>]) -> Result<Side<u32>, Fail> {
     let mut items = Vec::new(alloc);
     for item in shape {
         items.push(match item {
@@ -65,15 +63,7 @@ fn side(alloc: Global, shape: Shape) -> Result<Side<u32>, Fail> {
     if items.len() > 99 {
         return Err("too many items".into());
     }
-    match Side::from_preorder(items) {
-        Ok(side) => Ok(side),
-        Err(_) => Err("no side".into()),
-    }
-}
-
-fn write_number(text: &mut String, number: u64) -> Result<(), AllocError> {
-    let digits = number.to_string(*text.allocator())?;
-    text.push_str(digits.as_str())
+    Ok(Side::from_preorder(items).ok().ok_or("no side")?)
 }
 
 fn write_match(text: &mut String, one: &Match) -> Result<(), AllocError> {
@@ -94,81 +84,68 @@ fn write_matches(alloc: Global, matches: &[Match]) -> Result<String, AllocError>
     Ok(text)
 }
 
-// The text of an answer; none where there are more.
-fn write_answer(alloc: Global, answer: &Within) -> Result<String, AllocError> {
-    match answer {
-        Within::All(matches) => write_matches(alloc, matches),
-        Within::More => String::from_str(alloc, "more"),
+// The matches of a side from a state, read once from the front.
+fn few<S: Semiring>(
+    alloc: Global,
+    grammar: &Normal<S>,
+    state: u32,
+    side: &Side<u32>,
+) -> Result<String, Fail> {
+    if state >= grammar.grammar().states() {
+        return Err("no such state".into());
+    }
+    match few_matches(alloc, grammar, state, side, 1000)? {
+        Some(matches) => Ok(write_matches(alloc, &matches)?),
+        None => Err("it gave up".into()),
     }
 }
 
-fn holes_of(alloc: Global, shape: Shape) -> Result<Vec<HoleCost>, AllocError> {
+// A cost of nothing for each hole of a side.
+fn free_holes(alloc: Global, side: &Side<u32>) -> Result<Vec<HoleCost>, AllocError> {
     let mut costs = Vec::new(alloc);
-    for item in shape {
-        if item.is_none() {
+    for item in side.items() {
+        if let Item::Hole(_) = item {
             costs.push(HoleCost::Free)?;
         }
     }
     Ok(costs)
 }
 
-// The matches of a side from a state, read once from the front.
-fn few<S: Semiring + Drop>(alloc: Global, state: u32, shape: Shape) -> Result<String, Fail> {
-    let grammar: Normal<S> = normal(alloc)?;
-    let side = side(alloc, shape)?;
-    if state >= grammar.grammar().states() {
-        return Err("no such state".into());
-    }
-    match few_matches(alloc, &grammar, state, &side, 1000)? {
-        Some(matches) => Ok(write_matches(alloc, &matches)?),
-        None => Err("it gave up".into()),
-    }
-}
-
 // The same, searched for among boxes.
-fn searched<S: Semiring + Drop>(alloc: Global, state: u32, shape: Shape) -> Result<String, Fail> {
-    let grammar: Normal<S> = normal(alloc)?;
-    let side = side(alloc, shape)?;
+fn searched(
+    alloc: Global,
+    grammar: &Normal<MinPlus>,
+    state: u32,
+    side: &Side<u32>,
+) -> Result<String, Fail> {
     if state >= grammar.grammar().states() {
         return Err("no such state".into());
     }
-    let costs = holes_of(alloc, shape)?;
-    let answer = search_matches(alloc, &grammar, state, &side, S::one(), &costs, 9)?;
-    Ok(write_answer(alloc, &answer)?)
+    let costs = free_holes(alloc, side)?;
+    match search_matches(alloc, grammar, state, side, MinPlus::one(), &costs, 9)? {
+        Within::All(matches) => Ok(write_matches(alloc, &matches)?),
+        Within::More => Err("there are more".into()),
+    }
 }
 
 #[test]
 fn each_list_of_states_has_its_least_cost(rt: HostRuntime) -> Result<(), Fail> {
-    // x, f(x y), f(g(x) y), f(g(x) a), f(a a), a, g(g(x)), and a label over another number of children
-    let rows: [(u32, Shape, &str); 10] = [
-        (1, &[None], "1 # 0; "),
-        (0, &[Some((0, 2)), None, None], "1 2 # 1; 2 2 # 2; "),
-        (0, &[Some((0, 2)), Some((1, 1)), None, None], "3 2 # 2; "),
-        (
-            0,
-            &[Some((0, 2)), Some((1, 1)), None, Some((2, 0))],
-            "3 # 4; ",
-        ),
-        (0, &[Some((0, 2)), Some((2, 0)), Some((2, 0))], "# 6; "),
-        (2, &[Some((2, 0))], "# 2; "),
-        (0, &[Some((2, 0))], ""),
-        (3, &[Some((1, 1)), None], "3 # 1000000000000000; "),
-        (1, &[Some((1, 1)), Some((1, 1)), None], ""),
-        (0, &[Some((0, 1)), None], ""),
-    ];
-    for (state, shape, want) in rows {
-        let text = few::<MinPlus>(rt.alloc(), state, shape)?;
-        assert_eq!(rt; text.as_str(), want);
-        let other = searched::<MinPlus>(rt.alloc(), state, shape)?;
-        assert_eq!(rt; other.as_str(), want);
+    let grammar = normal(rt.alloc(), &RULES)?;
+    for (state, shape, want) in &ROWS {
+        let side = side(rt.alloc(), shape)?;
+        let text = few::<MinPlus>(rt.alloc(), &grammar, *state, &side)?;
+        assert_eq!(rt; text.as_str(), *want);
+        let other = searched(rt.alloc(), &grammar, *state, &side)?;
+        assert_eq!(rt; other.as_str(), *want);
     }
     Ok(())
 }
 
 #[test]
 fn a_product_is_that_of_the_semiring(rt: HostRuntime) -> Result<(), Fail> {
-    let shape: Shape = &[Some((0, 2)), Some((1, 1)), None, Some((2, 0))];
-    let text = few::<Bottleneck>(rt.alloc(), 0, shape)?;
+    let grammar = normal(rt.alloc(), &RULES)?;
+    let side = side(rt.alloc(), ROWS[3].1)?;
+    let text = few::<Bottleneck>(rt.alloc(), &grammar, 0, &side)?;
     assert_eq!(rt; text.as_str(), "3 # 2; ");
     Ok(())
 }

@@ -1,11 +1,12 @@
 // What small transducers of one state turn into one string, as text. The labels are S 0, a 1 and b 2, and the words u 3, v 4 and w 5.
+use crate::grammars::{names, write_number, write_rules};
 use std::alloc::{AllocError, Global};
 use std::sync::Wait;
 use std::test::Fail;
 use std::thread::Threads;
 use tib_apply::ApplyError;
 use tib_cost::{Cost, MinPlus};
-use tib_grammar::{Item, Names, Rule, Side};
+use tib_grammar::{Item, Rule, Side};
 use tib_hunt::{Found, Open};
 use tib_parse::{Key, parse, parse_together};
 use tib_strings::{StringRule, StringTransducer, Word, Words};
@@ -17,24 +18,24 @@ use tib_tree::Label;
 type Row = (Label, &'static [Option<Label>], &'static [Label], u64);
 
 // t.S(x0: x1:) -> t.x0 t.x1 # 1, t.a -> u # 0 and t.b -> u v # 2
-static SPELLING: [Row; 3] = [
+const SPELLING: [Row; 3] = [
     (0, &[None, None], &[0, 1], 1),
     (1, &[], &[3], 0),
     (2, &[], &[3, 4], 2),
 ];
 
 // t.S(x0:b x1:) -> t.x1 w t.x0 # 1, t.a -> u # 0 and t.b -> u v # 2
-static TURNING: [Row; 3] = [
+const TURNING: [Row; 3] = [
     (0, &[Some(2), None], &[1, 5, 0], 1),
     (1, &[], &[3], 0),
     (2, &[], &[3, 4], 2),
 ];
 
 // t.a -> # 4
-static EMPTY: [Row; 1] = [(1, &[], &[], 4)];
+const EMPTY: [Row; 1] = [(1, &[], &[], 4)];
 
 // t.S(x0: x1:) -> t.x0
-static DELETING: [Row; 1] = [(0, &[None, None], &[0], 1)];
+const DELETING: [Row; 1] = [(0, &[None, None], &[0], 1)];
 
 fn left_side(
     alloc: Global,
@@ -44,42 +45,39 @@ fn left_side(
     if variables.len() > 9 {
         return Err("too many variables".into());
     }
+    let rank = variables.len() as u32;
     let mut items = Vec::new(alloc);
-    items.push(Item::Label {
-        label: root,
-        rank: variables.len() as u32,
-    })?;
-    for (number, label) in variables.iter().enumerate() {
-        items.push(Item::Hole(Variable {
-            number: number as u32,
-            label: *label,
-        }))?;
+    items.push(Item::Label { label: root, rank })?;
+    for number in 0..rank {
+        let label = variables[number as usize];
+        items.push(Item::Hole(Variable { number, label }))?;
     }
     if items.len() > 10 {
         return Err("too many items".into());
     }
-    match Side::from_preorder(items) {
-        Ok(side) => Ok(side),
-        Err(_) => Err("no left side".into()),
+    Ok(Side::from_preorder(items).ok().ok_or("no left side")?)
+}
+
+// A word; below 3 the pair of the state t with the variable of this number.
+fn token(word: Label) -> Word<u32> {
+    if word < 3 {
+        return Word::Hole(Pair {
+            state: 0,
+            variable: word,
+        });
     }
+    Word::Word(word)
 }
 
 fn right_side(alloc: Global, words: &[Label]) -> Result<Words<u32>, Fail> {
     let mut tokens = Vec::new(alloc);
     for word in words {
-        if *word < 3 {
-            tokens.push(Word::Hole(Pair {
-                state: 0,
-                variable: *word,
-            }))?;
-        } else {
-            tokens.push(Word::Word(*word))?;
-        }
+        tokens.push(token(*word))?;
     }
     Ok(Words::from_list(tokens))
 }
 
-fn transducer(alloc: Global, rows: &[Row]) -> Result<StringTransducer<MinPlus>, Fail> {
+fn rules(alloc: Global, rows: &[Row]) -> Result<Vec<StringRule<u32>>, Fail> {
     let mut rules = Vec::new(alloc);
     for (root, variables, words, cost) in rows {
         rules.push(StringRule {
@@ -89,39 +87,15 @@ fn transducer(alloc: Global, rows: &[Row]) -> Result<StringTransducer<MinPlus>, 
             cost: Cost::new(*cost).ok_or("cost")?,
         })?;
     }
-    let mut list = Vec::new(alloc);
-    list.push(b"t".to_vec(alloc)?)?;
-    if rules.len() > 9 || list.len() > 9 {
+    Ok(rules)
+}
+
+fn transducer(alloc: Global, rows: &[Row]) -> Result<StringTransducer<MinPlus>, Fail> {
+    let rules = rules(alloc, rows)?;
+    if rules.len() > 9 {
         return Err("too many rules".into());
     }
-    let names = Names::from_list(alloc, list)?.ok_or("names")?;
-    Ok(StringTransducer::new(names, rules).ok_or("transducer")?)
-}
-
-fn write_number(text: &mut String, number: u64) -> Result<(), AllocError> {
-    let digits = number.to_string(*text.allocator())?;
-    text.push_str(digits.as_str())
-}
-
-// A rule: its left position, the items on the right, each position behind a colon, and the cost.
-fn write_rule(text: &mut String, rule: &Rule<u32>) -> Result<(), AllocError> {
-    write_number(text, rule.left as u64)?;
-    text.push_str(" >")?;
-    for item in rule.right.items() {
-        match item {
-            Item::Label { label, .. } => {
-                text.push_str(" ")?;
-                write_number(text, *label as u64)?;
-            }
-            Item::Hole(position) => {
-                text.push_str(" :")?;
-                write_number(text, *position as u64)?;
-            }
-        }
-    }
-    text.push_str(" # ")?;
-    write_number(text, rule.cost.get())?;
-    text.push_str("; ")
+    Ok(StringTransducer::new(names(alloc)?, rules).ok_or("transducer")?)
 }
 
 // The places and the restriction of a key.
@@ -134,26 +108,23 @@ fn write_key(text: &mut String, key: Key) -> Result<(), AllocError> {
     text.push_str(" ")
 }
 
-// The keys, the rules and the parts, or the error.
-fn write_answer(
-    alloc: Global,
-    answer: Result<Found<Key, Rule<u32>>, ApplyError>,
-) -> Result<String, Fail> {
-    let found = match answer {
-        Ok(found) => found,
-        Err(ApplyError::OutOfMemory) => return Err("no memory".into()),
-        Err(error) => return Ok(error.to_string(alloc)?),
-    };
+// The keys, the rules and the parts.
+fn write_found(alloc: Global, found: &Found<Key, Rule<u32>>) -> Result<String, AllocError> {
     let mut text = String::new(alloc);
     for key in &found.order {
         write_key(&mut text, *key)?;
     }
-    text.push_str("| ")?;
-    for rule in &found.rules {
-        write_rule(&mut text, rule)?;
-    }
-    write_number(&mut text, found.parts)?;
+    write_rules(&mut text, &found.rules, found.parts)?;
     Ok(text)
+}
+
+// What was found, or the error.
+fn told(alloc: Global, answer: Result<Found<Key, Rule<u32>>, ApplyError>) -> Result<String, Fail> {
+    match answer {
+        Ok(found) => Ok(write_found(alloc, &found)?),
+        Err(ApplyError::OutOfMemory) => Err("no memory".into()),
+        Err(error) => Ok(error.to_string(alloc)?),
+    }
 }
 
 // What is answered, by one worker or, where their number is not 0, by several.
@@ -170,51 +141,55 @@ fn parsed<R: Threads + Wait + Sync>(
     }
     let transducer = transducer(alloc, rows)?;
     if workers == 0 {
-        return write_answer(alloc, parse(alloc, &transducer, string, limit, &Open));
+        return told(alloc, parse(alloc, &transducer, string, limit, &Open));
     }
-    write_answer(
+    told(
         alloc,
         parse_together(rt, alloc, &transducer, string, workers, limit, &Open),
     )
 }
 
 // On u u v the keys at 0-1 and 1-3 give S(a b), and on u v u those at 0-2 and 2-3 give S(b a).
-static ON_UUV: &str =
+const ON_UUV: &str =
     "0-3.0 0-0.0 0-1.0 0-2.0 1-3.0 2-3.0 3-3.0 1-1.0 1-2.0 2-2.0 | 0 > 0 :1 :0 # 1; 0 > 0 :2 :4 # 1; 0 > 0 :3 :5 # 1; 0 > 0 :0 :6 # 1; 1 > 0 :1 :1 # 1; 2 > 0 :1 :2 # 1; 2 > 0 :2 :7 # 1; 2 > 1 # 0; 3 > 0 :1 :3 # 1; 3 > 0 :2 :8 # 1; 3 > 0 :3 :9 # 1; 4 > 0 :7 :4 # 1; 4 > 0 :8 :5 # 1; 4 > 0 :4 :6 # 1; 4 > 2 # 2; 5 > 0 :9 :5 # 1; 5 > 0 :5 :6 # 1; 6 > 0 :6 :6 # 1; 7 > 0 :7 :7 # 1; 8 > 0 :7 :8 # 1; 8 > 0 :8 :9 # 1; 8 > 1 # 0; 9 > 0 :9 :9 # 1; 126";
 
-static ON_UVU: &str =
+const ON_UVU: &str =
     "0-3.0 0-0.0 0-1.0 0-2.0 1-3.0 2-3.0 3-3.0 1-1.0 1-2.0 2-2.0 | 0 > 0 :1 :0 # 1; 0 > 0 :2 :4 # 1; 0 > 0 :3 :5 # 1; 0 > 0 :0 :6 # 1; 1 > 0 :1 :1 # 1; 2 > 0 :1 :2 # 1; 2 > 0 :2 :7 # 1; 2 > 1 # 0; 3 > 0 :1 :3 # 1; 3 > 0 :2 :8 # 1; 3 > 0 :3 :9 # 1; 3 > 2 # 2; 4 > 0 :7 :4 # 1; 4 > 0 :8 :5 # 1; 4 > 0 :4 :6 # 1; 5 > 0 :9 :5 # 1; 5 > 0 :5 :6 # 1; 5 > 1 # 0; 6 > 0 :6 :6 # 1; 7 > 0 :7 :7 # 1; 8 > 0 :7 :8 # 1; 8 > 0 :8 :9 # 1; 9 > 0 :9 :9 # 1; 126";
+
+// The rules of a transducer, a string, how many workers there are, or 0 for a hunt without them, a limit, and what is answered.
+type Case = (&'static [Row], &'static [Label], u32, u64, &'static str);
+
+static CASES: [Case; 11] = [
+    (&EMPTY, &[], 0, 6, "0-0.0 | 0 > 1 # 4; 6"),
+    (&EMPTY, &[], 0, 5, "more than 5 parts"),
+    (
+        &TURNING,
+        &[3, 5, 3, 4],
+        0,
+        99,
+        "0-4.0 0-1.0 2-4.1 | 0 > 0 :2 :1 # 1; 1 > 1 # 0; 2 > 2 # 2; 21",
+    ),
+    (
+        &TURNING,
+        &[3, 5, 3],
+        0,
+        99,
+        "0-3.0 0-1.0 2-3.1 | 0 > 0 :2 :1 # 1; 1 > 1 # 0; 19",
+    ),
+    (&DELETING, &[3], 0, 99, "rule 1: not nondeleting"),
+    (&SPELLING, &[3, 3, 4], 0, 126, ON_UUV),
+    (&SPELLING, &[3, 3, 4], 0, 125, "more than 125 parts"),
+    (&SPELLING, &[3, 3, 4], 1, 126, ON_UUV),
+    (&SPELLING, &[3, 3, 4], 4, 126, ON_UUV),
+    (&SPELLING, &[3, 3, 4], 16, 126, ON_UUV),
+    (&SPELLING, &[3, 4, 3], 0, 126, ON_UVU),
+];
 
 #[test]
 fn parsing_reaches(rt: HostRuntime) -> Result<(), Fail> {
-    let cases: [(&[Row], &[Label], u32, u64, &str); 11] = [
-        (&EMPTY, &[], 0, 6, "0-0.0 | 0 > 1 # 4; 6"),
-        (&EMPTY, &[], 0, 5, "more than 5 parts"),
-        (
-            &TURNING,
-            &[3, 5, 3, 4],
-            0,
-            99,
-            "0-4.0 0-1.0 2-4.1 | 0 > 0 :2 :1 # 1; 1 > 1 # 0; 2 > 2 # 2; 21",
-        ),
-        (
-            &TURNING,
-            &[3, 5, 3],
-            0,
-            99,
-            "0-3.0 0-1.0 2-3.1 | 0 > 0 :2 :1 # 1; 1 > 1 # 0; 19",
-        ),
-        (&DELETING, &[3], 0, 99, "rule 1: not nondeleting"),
-        (&SPELLING, &[3, 3, 4], 0, 126, ON_UUV),
-        (&SPELLING, &[3, 3, 4], 0, 125, "more than 125 parts"),
-        (&SPELLING, &[3, 3, 4], 1, 126, ON_UUV),
-        (&SPELLING, &[3, 3, 4], 4, 126, ON_UUV),
-        (&SPELLING, &[3, 3, 4], 16, 126, ON_UUV),
-        (&SPELLING, &[3, 4, 3], 0, 126, ON_UVU),
-    ];
-    for (rows, string, workers, limit, want) in cases {
-        let text = parsed(&rt, rt.alloc(), rows, string, workers, limit)?;
-        assert_eq!(rt; text.as_str(), want);
+    for (rows, string, workers, limit, want) in &CASES {
+        let text = parsed(&rt, rt.alloc(), rows, string, *workers, *limit)?;
+        assert_eq!(rt; text.as_str(), *want);
     }
     Ok(())
 }

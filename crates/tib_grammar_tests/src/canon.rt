@@ -1,14 +1,15 @@
 // Canonical forms, as text.
 ghost use Rattle.std.specs.Prelude.{◌≡◌, ◌<◌, length, IfOk};
 ghost use Rattle.tib_lex.specs.Lists.{Distinct};
+ghost use Rattle.tib_grammar_file.specs.Printed.{AreLabelled};
 
 use std::alloc::{AllocError, Global};
 use std::test::Fail;
-use tib_canon::{Begin, canonical, to_grammar};
+use tib_canon::{Begin, Printed, canonical, to_grammar};
 use tib_cost::{Boolean, MinPlus, Semiring};
 use tib_grammar_file::{print_grammar, read_grammar};
 use tib_hunt::Found;
-use tib_io::{Failed, GrowingSink};
+use tib_io::GrowingSink;
 use tib_table::TableKey;
 use tib_tree::Labels;
 
@@ -51,6 +52,20 @@ fn three_keys(alloc: Global) -> Result<Vec<Number>, AllocError>
     Ok(keys)
 }
 
+// The text of a form, which is what its grammar prints.
+fn printed<S: Semiring>(alloc: Global, form: &Printed<S>, labels: &Labels) -> Result<Vec<u8>, Fail>
+    requires { AreLabelled (length labels.now) form.now.grammar.rules }
+{
+    let mut sink = GrowingSink::new(alloc);
+    let Ok(()) = print_grammar(&form.grammar, labels, &mut sink) else {
+        return Err("no memory".into());
+    };
+    if sink.bytes() != form.text.bytes() {
+        return Err("the grammar prints as another text".into());
+    }
+    Ok(sink.bytes().to_vec(alloc)?)
+}
+
 // The canonical grammar over the three keys with the rules of a text, as it is printed.
 fn answer_over_keys(alloc: Global, text: &[u8], start: u32) -> Result<Vec<u8>, Fail>
     requires { start < 3 }
@@ -74,12 +89,7 @@ fn answer_over_keys(alloc: Global, text: &[u8], start: u32) -> Result<Vec<u8>, F
         parts: 0,
     };
     let form = to_grammar::<Boolean, Number>(alloc, found, Begin::At(start), &labels)?;
-    let mut sink = GrowingSink::new(alloc);
-    match print_grammar(&form.grammar, &labels, &mut sink) {
-        Ok(()) if sink.bytes() == form.text.bytes() => Ok(sink.bytes().to_vec(alloc)?),
-        Ok(()) => Err("the grammar prints as another text".into()),
-        Err(Failed) => Err("no memory".into()),
-    }
+    printed(alloc, &form, &labels)
 }
 
 // The canonical form of the grammar of a text, as it is printed.
@@ -93,12 +103,7 @@ fn answer<S: Semiring + Drop>(alloc: Global, text: &[u8]) -> Result<Vec<u8>, Fai
         Err(_) => return Err("the text was refused".into()),
     };
     let form = canonical(alloc, grammar, &labels)?;
-    let mut sink = GrowingSink::new(alloc);
-    match print_grammar(&form.grammar, &labels, &mut sink) {
-        Ok(()) if sink.bytes() == form.text.bytes() => Ok(sink.bytes().to_vec(alloc)?),
-        Ok(()) => Err("the grammar prints as another text".into()),
-        Err(Failed) => Err("no memory".into()),
-    }
+    printed(alloc, &form, &labels)
 }
 
 #[test]

@@ -1,84 +1,10 @@
 // Inside costs and trimmed grammars of small grammars, as text.
+use crate::rules::{Row, make_grammar, write_number, write_rule};
 use std::alloc::{AllocError, Global};
-use tib_cost::{Boolean, Bottleneck, Cost, MinPlus, Semiring};
-use tib_grammar::{Grammar, Item, Names, Rule, Side};
+use tib_cost::{Boolean, Bottleneck, MinPlus, Semiring};
+use tib_grammar::{Grammar, Names, Rule, Side};
 use tib_inside::{inside, trim, trim_normal, trim_rules};
 use tib_normal::Normal;
-
-/// A rule: its left state, the items of its right side (a label with its rank, or a state), and its
-/// cost.
-type Row<'a> = (u32, &'a [(u32, Option<u32>)], u64);
-
-fn make_rule(alloc: Global, row: Row) -> Result<Option<Rule<u32>>, AllocError> {
-    let (left, shape, cost) = row;
-    let mut items = Vec::new(alloc);
-    for (number, rank) in shape {
-        match rank {
-            Some(rank) => items.push(Item::Label {
-                label: *number,
-                rank: *rank,
-            })?,
-            None => items.push(Item::Hole(*number))?,
-        }
-    }
-    if items.len() > 100 {
-        return Ok(None);
-    }
-    match (Side::from_preorder(items), Cost::new(cost)) {
-        (Ok(right), Some(cost)) => Ok(Some(Rule { left, right, cost })),
-        _ => Ok(None),
-    }
-}
-
-/// A grammar whose states are named q, qq and so on.
-fn make_grammar<S: Drop>(
-    alloc: Global,
-    states: u8,
-    rows: &[Row],
-) -> Result<Option<Grammar<S>>, AllocError> {
-    let mut texts = Vec::new(alloc);
-    for n in 0..states {
-        texts.push(vec![in alloc; b'q'; n as usize + 1]?)?;
-    }
-    let mut rules = Vec::new(alloc);
-    for row in rows {
-        if let Some(rule) = make_rule(alloc, *row)? {
-            rules.push(rule)?;
-        }
-    }
-    if rules.len() > 100 || texts.len() > 300 {
-        return Ok(None);
-    }
-    match Names::from_list(alloc, texts)? {
-        Some(names) => Ok(Grammar::new(names, rules)),
-        None => Ok(None),
-    }
-}
-
-fn write_number(text: &mut String, number: u64) -> Result<(), AllocError> {
-    let digits = number.to_string(*text.allocator())?;
-    text.push_str(digits.as_str())
-}
-
-fn write_rule(text: &mut String, rule: &Rule<u32>) -> Result<(), AllocError> {
-    write_number(text, rule.left as u64)?;
-    text.push_str(" ->")?;
-    for item in rule.right.items() {
-        match item {
-            Item::Label { label, .. } => {
-                text.push_str(" f")?;
-                write_number(text, *label as u64)?;
-            }
-            Item::Hole(state) => {
-                text.push_str(" ")?;
-                write_number(text, *state as u64)?;
-            }
-        }
-    }
-    text.push_str(" # ")?;
-    write_number(text, rule.cost.get())?;
-    text.push_str("; ")
-}
 
 /// The lengths of the names, and the rules.
 fn text_of<S>(alloc: Global, grammar: &Grammar<S>) -> Result<String, AllocError> {

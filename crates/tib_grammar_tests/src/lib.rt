@@ -13,4 +13,6 @@ mod outsides;
 #[cfg(test)]
 mod prune;
 #[cfg(test)]
+mod rules;
+#[cfg(test)]
 mod weigh;

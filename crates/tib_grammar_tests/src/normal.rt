@@ -1,82 +1,9 @@
 // The normal forms of small grammars, as text.
+use crate::rules::{Row, make_grammar, make_rule, write_rule};
 use std::alloc::{AllocError, Global};
-use tib_cost::{Cost, MinPlus};
-use tib_grammar::{Grammar, Item, Names, Rule, Side};
+use tib_cost::MinPlus;
+use tib_grammar::{Grammar, Names, Rule};
 use tib_normal::{Normal, NormalError, normalize};
-
-/// A rule: its left state, the items of its right side (a label with its rank, or a state), and its
-/// cost.
-type Row<'a> = (u32, &'a [(u32, Option<u32>)], u64);
-
-fn make_rule(alloc: Global, row: Row) -> Result<Option<Rule<u32>>, AllocError> {
-    let (left, shape, cost) = row;
-    let mut items = Vec::new(alloc);
-    for (number, rank) in shape {
-        match rank {
-            Some(rank) => items.push(Item::Label {
-                label: *number,
-                rank: *rank,
-            })?,
-            None => items.push(Item::Hole(*number))?,
-        }
-    }
-    if items.len() > 100 {
-        return Ok(None);
-    }
-    match (Side::from_preorder(items), Cost::new(cost)) {
-        (Ok(right), Some(cost)) => Ok(Some(Rule { left, right, cost })),
-        _ => Ok(None),
-    }
-}
-
-fn make_grammar(
-    alloc: Global,
-    states: u8,
-    rows: &[Row],
-) -> Result<Option<Grammar<MinPlus>>, AllocError> {
-    let mut texts = Vec::new(alloc);
-    for n in 0..states {
-        texts.push(vec![in alloc; b'q'; n as usize + 1]?)?;
-    }
-    let mut rules = Vec::new(alloc);
-    for row in rows {
-        if let Some(rule) = make_rule(alloc, *row)? {
-            rules.push(rule)?;
-        }
-    }
-    if rules.len() > 100 || texts.len() > 300 {
-        return Ok(None);
-    }
-    match Names::from_list(alloc, texts)? {
-        Some(names) => Ok(Grammar::new(names, rules)),
-        None => Ok(None),
-    }
-}
-
-fn write_number(text: &mut String, number: u64) -> Result<(), AllocError> {
-    let digits = number.to_string(*text.allocator())?;
-    text.push_str(digits.as_str())
-}
-
-fn write_rule(text: &mut String, rule: &Rule<u32>) -> Result<(), AllocError> {
-    write_number(text, rule.left as u64)?;
-    text.push_str(" ->")?;
-    for item in rule.right.items() {
-        match item {
-            Item::Label { label, .. } => {
-                text.push_str(" f")?;
-                write_number(text, *label as u64)?;
-            }
-            Item::Hole(state) => {
-                text.push_str(" ")?;
-                write_number(text, *state as u64)?;
-            }
-        }
-    }
-    text.push_str(" # ")?;
-    write_number(text, rule.cost.get())?;
-    text.push_str("; ")
-}
 
 fn text_of(alloc: Global, grammar: &Grammar<MinPlus>) -> Result<String, AllocError> {
     let mut text = String::new(alloc);
@@ -86,7 +13,7 @@ fn text_of(alloc: Global, grammar: &Grammar<MinPlus>) -> Result<String, AllocErr
     Ok(text)
 }
 
-/// The normal form of some rules over so many states, as text.
+/// The normal form of some rules over this many states, as text.
 fn normal_text(alloc: Global, states: u8, rows: &[Row], limit: u64) -> Result<String, AllocError> {
     let grammar = match make_grammar(alloc, states, rows)? {
         Some(grammar) => grammar,
@@ -178,7 +105,7 @@ fn only_normal_grammars_are_taken(rt: HostRuntime) -> Result<(), AllocError> {
         (0, &[LABEL_F2, (0, None), (0, None)], 1),
         (0, &[LABEL_A0], 2),
     ];
-    if let Some(grammar) = make_grammar(alloc, 1, &rows)? {
+    if let Some(grammar) = make_grammar::<MinPlus>(alloc, 1, &rows)? {
         if let Some(normal) = Normal::new(alloc, grammar)? {
             let text = text_of(alloc, normal.grammar())?;
             assert!(rt; text.as_str() == "0 -> f0 0 0 # 1; 0 -> f2 # 2; ");
@@ -187,7 +114,7 @@ fn only_normal_grammars_are_taken(rt: HostRuntime) -> Result<(), AllocError> {
         }
     }
     let rows: [Row; 1] = [(0, &[LABEL_G1, LABEL_A0], 1)];
-    if let Some(grammar) = make_grammar(alloc, 1, &rows)? {
+    if let Some(grammar) = make_grammar::<MinPlus>(alloc, 1, &rows)? {
         assert!(rt; Normal::new(alloc, grammar)?.is_none());
     }
     Ok(())

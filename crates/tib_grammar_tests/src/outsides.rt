@@ -80,7 +80,7 @@ fn cost_but(rule: &Made, costs: &[Option<u64>], place: usize) -> Option<u64> {
     all
 }
 
-// The least cost of a run from each state whose tree has at most so many levels.
+// The least cost of a run from each state whose tree has at most this many levels.
 fn costs_within(
     alloc: Global,
     rules: &[Made],
@@ -99,7 +99,7 @@ fn costs_within(
     Ok(costs)
 }
 
-// The least cost of a run from the state 0 with one sub-run from this state left out, at most so many levels down.
+// The least cost of a run from the state 0 with one sub-run from this state left out, at most this many levels down.
 fn context_cost(rules: &[Made], costs: &[Option<u64>], state: u32, levels: u32) -> Option<u64> {
     let mut best = if state == 0 { Some(0) } else { None };
     if levels == 0 {

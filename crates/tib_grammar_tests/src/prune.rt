@@ -1,7 +1,8 @@
 // Outside costs and pruned grammars of small grammars, as text.
+use crate::rules::{make_names, write_number, write_rule};
 use std::alloc::{AllocError, Global};
 use tib_cost::{Bottleneck, Cost, MOST, MinPlus, Semiring};
-use tib_grammar::{Grammar, Item, Names, Rule, Side};
+use tib_grammar::{Grammar, Names, Rule, Side};
 use tib_normal::Normal;
 use tib_prune::{outside, prune, trim_with_insides};
 
@@ -26,49 +27,22 @@ fn make_normal<S: Drop>(
     states: u8,
     rows: &[Row],
 ) -> Result<Option<Normal<S>>, AllocError> {
-    let mut texts = Vec::new(alloc);
-    for n in 0..states {
-        texts.push(vec![in alloc; b'q'; n as usize + 1]?)?;
-    }
     let mut rules = Vec::new(alloc);
     for row in rows {
         if let Some(rule) = make_rule(alloc, *row)? {
             rules.push(rule)?;
         }
     }
-    if rules.len() > 100 || texts.len() > 300 {
+    if rules.len() > 100 {
         return Ok(None);
     }
-    let Some(names) = Names::from_list(alloc, texts)? else {
+    let Some(names) = make_names(alloc, states)? else {
         return Ok(None);
     };
     match Grammar::new(names, rules) {
         Some(grammar) => Normal::new(alloc, grammar),
         None => Ok(None),
     }
-}
-
-fn write_number(text: &mut String, number: u64) -> Result<(), AllocError> {
-    let digits = number.to_string(*text.allocator())?;
-    text.push_str(digits.as_str())
-}
-
-fn write_rule(text: &mut String, rule: &Rule<u32>) -> Result<(), AllocError> {
-    write_number(text, rule.left as u64)?;
-    text.push_str(" ->")?;
-    for item in rule.right.items() {
-        text.push_str(" ")?;
-        match item {
-            Item::Label { label, .. } => {
-                text.push_str("f")?;
-                write_number(text, *label as u64)?;
-            }
-            Item::Hole(state) => write_number(text, *state as u64)?,
-        }
-    }
-    text.push_str(" # ")?;
-    write_number(text, rule.cost.get())?;
-    text.push_str("; ")
 }
 
 /// The outside costs of some rules over this number of states.

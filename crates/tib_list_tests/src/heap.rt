@@ -3,6 +3,7 @@ ghost use Rattle.std.specs.Prelude.{ℕ};
 ghost use Rattle.std.specs.Ordering.{nat_cmp};
 ghost use Rattle.std.proofs.lemmas.Cmp.{nat_cmp_total};
 
+use std::alloc::Global;
 use std::cmp::Ordering;
 use std::test::Fail;
 use tib_heap::{Ranking, pop, push};
@@ -21,19 +22,26 @@ impl Ranking for Plain {
     ghost total = { λ _. nat_cmp_total };
 }
 
-#[test]
-fn numbers_come_out_in_order(rt: HostRuntime) -> Result<(), Fail> {
-    let mut heap = Vec::new(rt.alloc());
+// What six draws give, of which the last four come behind another number.
+fn drawn(alloc: Global) -> Result<[Option<u32>; 6], Fail> {
+    let mut heap = Vec::new(alloc);
     push(&Plain, &mut heap, 5)?;
     push(&Plain, &mut heap, 1)?;
     push(&Plain, &mut heap, 4)?;
     push(&Plain, &mut heap, 1)?;
-    assert_eq!(rt; pop(&Plain, &mut heap), Some(1));
-    assert_eq!(rt; pop(&Plain, &mut heap), Some(1));
+    let first = pop(&Plain, &mut heap);
+    let second = pop(&Plain, &mut heap);
     push(&Plain, &mut heap, 2)?;
-    assert_eq!(rt; pop(&Plain, &mut heap), Some(2));
-    assert_eq!(rt; pop(&Plain, &mut heap), Some(4));
-    assert_eq!(rt; pop(&Plain, &mut heap), Some(5));
-    assert_eq!(rt; pop(&Plain, &mut heap), None);
+    let third = pop(&Plain, &mut heap);
+    let fourth = pop(&Plain, &mut heap);
+    let fifth = pop(&Plain, &mut heap);
+    let last = pop(&Plain, &mut heap);
+    Ok([first, second, third, fourth, fifth, last])
+}
+
+#[test]
+fn numbers_come_out_in_order(rt: HostRuntime) -> Result<(), Fail> {
+    let drawn = drawn(rt.alloc())?;
+    assert_eq!(rt; drawn, [Some(1), Some(1), Some(2), Some(4), Some(5), None]);
     Ok(())
 }

@@ -1,6 +1,6 @@
 // Lists of best trees of small grammars, as text: each node as its label and its number of children.
 // A label's number is its place at first sight.
-ghost use Rattle.std.specs.Prelude.{IfOk, IfSome, length};
+ghost use Rattle.std.specs.Prelude.{◌<◌, IfOk, IfSome, length};
 ghost use Rattle.tib_grammar_file.specs.Printed.{AreLabelled};
 
 use std::alloc::{AllocError, Global};
@@ -16,7 +16,7 @@ pub(crate) fn write_number(text: &mut String, number: u64) -> Result<(), AllocEr
     text.push_str(digits.as_str())
 }
 
-fn write_tree(text: &mut String, tree: &Tree) -> Result<(), AllocError> {
+pub(crate) fn write_tree(text: &mut String, tree: &Tree) -> Result<(), AllocError> {
     for node in tree.nodes() {
         write_number(text, u64::from(node.label))?;
         text.push_str("/")?;
@@ -44,7 +44,7 @@ pub(crate) fn list_text(alloc: Global, list: &List) -> Result<String, AllocError
 }
 
 // The grammar of a text, where it is in normal form, with its labels.
-fn read<S: Semiring + Drop>(
+pub(crate) fn read<S: Semiring + Drop>(
     alloc: Global,
     text: &str,
 ) -> Result<Option<(Normal<S>, Labels)>, AllocError>
@@ -102,71 +102,82 @@ fn level_text(alloc: Global, text: &str) -> Result<String, AllocError> {
     }
 }
 
+// A grammar, and its best tree where costs are added.
+static SUMS: [(&str, &str); 6] = [
+    // a leaf is cheaper than what stands above it
+    ("q\nq -> S(q q) # 1\nq -> a # 2\n", "1/0 # 2; "),
+    // two runs give one tree
+    (
+        "q\nq -> f(p) # 1\nq -> f(r)\np -> a # 3\nr -> a # 5\n",
+        "0/1 1/0 # 4; ",
+    ),
+    // no run ends
+    ("q\nq -> f(q)\n", ""),
+    // at equal costs the tree with fewer nodes comes first
+    (
+        "q\nq -> f(p)\nq -> h(r)\np -> g(r)\nr -> a\n",
+        "1/1 3/0 # 0; ",
+    ),
+    // at equal sizes the label's text decides
+    ("q\nq -> h(r)\nq -> f(r)\nr -> c\nr -> b\n", "1/1 3/0 # 0; "),
+    // a tree above itself at no cost is never the first
+    (
+        "q\nq -> f(q)\nq -> g(p)\np -> f(p)\np -> a # 1\n",
+        "1/1 2/0 # 1; ",
+    ),
+];
+
 #[test]
 fn best_trees(rt: HostRuntime) -> Result<(), Fail> {
-    let rows = [
-        // a leaf is cheaper than what stands above it
-        ("q\nq -> S(q q) # 1\nq -> a # 2\n", "1/0 # 2; "),
-        // two runs give one tree
-        (
-            "q\nq -> f(p) # 1\nq -> f(r)\np -> a # 3\nr -> a # 5\n",
-            "0/1 1/0 # 4; ",
-        ),
-        // no run ends
-        ("q\nq -> f(q)\n", ""),
-        // at equal costs the tree with fewer nodes comes first
-        (
-            "q\nq -> f(p)\nq -> h(r)\np -> g(r)\nr -> a\n",
-            "1/1 3/0 # 0; ",
-        ),
-        // at equal sizes the label's text decides
-        ("q\nq -> h(r)\nq -> f(r)\nr -> c\nr -> b\n", "1/1 3/0 # 0; "),
-        // a tree above itself at no cost is never the first
-        (
-            "q\nq -> f(q)\nq -> g(p)\np -> f(p)\np -> a # 1\n",
-            "1/1 2/0 # 1; ",
-        ),
-    ];
-    for row in rows {
-        let text = best_text(rt.alloc(), row.0)?;
-        assert_eq!(rt; text.as_str(), row.1);
+    for (text, want) in &SUMS {
+        let told = best_text(rt.alloc(), text)?;
+        assert_eq!(rt; told.as_str(), *want);
     }
     Ok(())
 }
 
+// A grammar, and its best tree where the greatest cost counts.
+static LEVELS: [(&str, &str); 3] = [
+    // where d costs 5 anyway, the small c at 4 is better than the large tree at 0
+    (
+        "q\nq -> f(p r)\np -> g(s)\np -> c # 4\nr -> d # 5\ns -> g(t)\nt -> e\n",
+        "0/2 2/0 3/0 # 5; ",
+    ),
+    // a large tree at a lesser cost comes first
+    (
+        "q\nq -> a # 7\nq -> g(s) # 3\ns -> g(t) # 2\nt -> e # 1\n",
+        "1/1 1/1 2/0 # 3; ",
+    ),
+    ("q\nq -> f(q) # 3\n", ""),
+];
+
 #[test]
 fn best_trees_by_levels(rt: HostRuntime) -> Result<(), Fail> {
-    let rows = [
-        // where d costs 5 anyway, the small c at 4 is better than the large tree at 0
-        (
-            "q\nq -> f(p r)\np -> g(s)\np -> c # 4\nr -> d # 5\ns -> g(t)\nt -> e\n",
-            "0/2 2/0 3/0 # 5; ",
-        ),
-        // a large tree at a lesser cost comes first
-        (
-            "q\nq -> a # 7\nq -> g(s) # 3\ns -> g(t) # 2\nt -> e # 1\n",
-            "1/1 1/1 2/0 # 3; ",
-        ),
-        ("q\nq -> f(q) # 3\n", ""),
-    ];
-    for row in rows {
-        let text = level_text(rt.alloc(), row.0)?;
-        assert_eq!(rt; text.as_str(), row.1);
+    for (text, want) in &LEVELS {
+        let told = level_text(rt.alloc(), text)?;
+        assert_eq!(rt; told.as_str(), *want);
     }
     Ok(())
+}
+
+// The rule of the state of a number over two of the next.
+fn write_doubling(text: &mut String, state: u64) -> Result<(), AllocError>
+    requires { state < 256 }
+{
+    text.push_str("p")?;
+    write_number(text, state)?;
+    text.push_str(" -> f(p")?;
+    write_number(text, state + 1)?;
+    text.push_str(" p")?;
+    write_number(text, state + 1)?;
+    text.push_str(")\n")
 }
 
 // States p0 to the last one, each with a rule over two of the next, and a leaf.
 fn doubling(alloc: Global, last: u8) -> Result<String, AllocError> {
     let mut text = String::from_str(alloc, "p0\n")?;
     for i in 0..last {
-        text.push_str("p")?;
-        write_number(&mut text, u64::from(i))?;
-        text.push_str(" -> f(p")?;
-        write_number(&mut text, u64::from(i) + 1)?;
-        text.push_str(" p")?;
-        write_number(&mut text, u64::from(i) + 1)?;
-        text.push_str(")\n")?;
+        write_doubling(&mut text, u64::from(i))?;
     }
     text.push_str("p")?;
     write_number(&mut text, u64::from(last))?;
@@ -176,15 +187,10 @@ fn doubling(alloc: Global, last: u8) -> Result<String, AllocError> {
 
 #[test]
 fn a_tree_of_too_many_nodes(rt: HostRuntime) -> Result<(), Fail> {
-    let small = doubling(rt.alloc(), 12)?;
-    assert_eq!(rt;
-        best_text(rt.alloc(), small.as_str())?.as_str(),
-        "8191 nodes # 0; "
-    );
-    let large = doubling(rt.alloc(), 13)?;
-    assert_eq!(rt;
-        best_text(rt.alloc(), large.as_str())?.as_str(),
-        "too large: 0"
-    );
+    for (last, want) in [(12, "8191 nodes # 0; "), (13, "too large: 0")] {
+        let text = doubling(rt.alloc(), last)?;
+        let told = best_text(rt.alloc(), text.as_str())?;
+        assert_eq!(rt; told.as_str(), want);
+    }
     Ok(())
 }

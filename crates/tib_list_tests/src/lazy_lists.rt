@@ -123,46 +123,66 @@ fn best_text(alloc: Global, text: &str, k: u32) -> Result<String, AllocError> {
     }
 }
 
+const TOY: &str = "q\nq -> S(q q) # 1\nq -> a # 2\n";
+
+// A grammar, how many trees are asked for, and the list with the entries that were placed for it.
+static LISTS: [(&str, u32, &str); 4] = [
+    // one tree of one node, of one state
+    (TOY, 1, "1/0 # 2; by 1"),
+    // each further tree is one entry more
+    (
+        TOY,
+        3,
+        "1/0 # 2; 0/2 1/0 1/0 # 5; 0/2 1/0 0/2 1/0 1/0 # 8; by 3",
+    ),
+    // b is asked of p, though it stands in no listed tree
+    (
+        "q\nq -> f(p r)\np -> a\np -> b # 5\nr -> c\nr -> d # 1\n",
+        2,
+        "0/2 1/0 3/0 # 0; 0/2 1/0 4/0 # 1; by 6",
+    ),
+    (
+        "q\nq -> f(p)\nq -> f(r)\np -> a\nr -> a\n",
+        2,
+        "not in deterministic form",
+    ),
+];
+
 #[test]
 fn lists_and_steps(rt: HostRuntime) -> Result<(), Fail> {
-    let toy = "q\nq -> S(q q) # 1\nq -> a # 2\n";
-    // one tree of one node, of one state
-    let text = lazy_text(rt.alloc(), toy, 1, true)?;
-    assert_eq!(rt; text.as_str(), "1/0 # 2; by 1");
-    // each further tree is one entry more
-    let text = lazy_text(rt.alloc(), toy, 3, true)?;
-    assert_eq!(rt;
-        text.as_str(),
-        "1/0 # 2; 0/2 1/0 1/0 # 5; 0/2 1/0 0/2 1/0 1/0 # 8; by 3"
-    );
-    // b is asked of p, though it stands in no listed tree
-    let two = "q\nq -> f(p r)\np -> a\np -> b # 5\nr -> c\nr -> d # 1\n";
-    let text = lazy_text(rt.alloc(), two, 2, true)?;
-    assert_eq!(rt; text.as_str(), "0/2 1/0 3/0 # 0; 0/2 1/0 4/0 # 1; by 6");
-    let shared = "q\nq -> f(p)\nq -> f(r)\np -> a\nr -> a\n";
-    let text = lazy_text(rt.alloc(), shared, 2, true)?;
-    assert_eq!(rt; text.as_str(), "not in deterministic form");
+    for (text, k, want) in &LISTS {
+        let told = lazy_text(rt.alloc(), text, *k, true)?;
+        assert_eq!(rt; told.as_str(), *want);
+    }
     Ok(())
+}
+
+static TEXTS: [&str; 5] = [
+    "q\nq -> S(q q) # 1\nq -> a # 2\n",
+    // a finite list, and a state that stands twice below a rule
+    "q\nq -> f(p p)\np -> a\np -> b # 1\np -> c # 1\n",
+    // states above each other at no cost
+    "q\nq -> g(p)\np -> h(q)\nq -> a\np -> b\nq -> f(q p)\n",
+    // lists of different lengths below one rule
+    "q\nq -> f(p r s)\np -> a\nr -> b\nr -> g(r) # 2\ns -> c # 3\ns -> d\n",
+    "q\nq -> f(q r) # 1\nq -> e\nr -> g(q) # 2\nr -> h(r q)\nr -> k # 7\n",
+];
+
+// The least number of trees, below twelve, at which the two lists differ.
+fn first_difference(alloc: Global, text: &str) -> Result<Option<u32>, AllocError> {
+    for k in 1..12_u32 {
+        let lazily = lazy_text(alloc, text, k, false)?;
+        if lazily.as_str() != best_text(alloc, text, k)?.as_str() {
+            return Ok(Some(k));
+        }
+    }
+    Ok(None)
 }
 
 #[test]
 fn the_same_lists(rt: HostRuntime) -> Result<(), Fail> {
-    let texts = [
-        "q\nq -> S(q q) # 1\nq -> a # 2\n",
-        // a finite list, and a state that stands twice below a rule
-        "q\nq -> f(p p)\np -> a\np -> b # 1\np -> c # 1\n",
-        // states above each other at no cost
-        "q\nq -> g(p)\np -> h(q)\nq -> a\np -> b\nq -> f(q p)\n",
-        // lists of different lengths below one rule
-        "q\nq -> f(p r s)\np -> a\nr -> b\nr -> g(r) # 2\ns -> c # 3\ns -> d\n",
-        "q\nq -> f(q r) # 1\nq -> e\nr -> g(q) # 2\nr -> h(r q)\nr -> k # 7\n",
-    ];
-    for text in texts {
-        for k in 1..12_u32 {
-            let lazily = lazy_text(rt.alloc(), text, k, false)?;
-            let best = best_text(rt.alloc(), text, k)?;
-            assert_eq!(rt; lazily.as_str(), best.as_str());
-        }
+    for text in &TEXTS {
+        assert_eq!(rt; first_difference(rt.alloc(), text)?, None, "{text}");
     }
     Ok(())
 }

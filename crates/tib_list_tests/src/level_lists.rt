@@ -1,31 +1,13 @@
 // Lists of best trees of small grammars, as text: each node as its label and its number of children.
 // A label's number is its place at first sight.
-ghost use Rattle.std.specs.Prelude.{◌≡◌, IfOk, IfSome, length, true};
-ghost use Rattle.tib_grammar_file.specs.Printed.{AreLabelled};
+ghost use Rattle.std.specs.Prelude.{◌≡◌, true};
 
+use crate::k_best::{read, write_number, write_tree};
 use std::alloc::{AllocError, Global};
 use std::test::Fail;
 use tib_cost::{Bottleneck, Semiring, Widest};
-use tib_grammar_file::read_grammar;
 use tib_k_best::KBestError;
 use tib_level_lists::{Ranked, k_best_by_levels};
-use tib_normal::Normal;
-use tib_tree::{Labels, Tree};
-
-fn write_number(text: &mut String, number: u64) -> Result<(), AllocError> {
-    let digits = number.to_string(*text.allocator())?;
-    text.push_str(digits.as_str())
-}
-
-fn write_tree(text: &mut String, tree: &Tree) -> Result<(), AllocError> {
-    for node in tree.nodes() {
-        write_number(text, u64::from(node.label))?;
-        text.push_str("/")?;
-        write_number(text, u64::from(node.rank))?;
-        text.push_str(" ")?;
-    }
-    Ok(())
-}
 
 fn list_text(alloc: Global, list: &Ranked) -> Result<String, AllocError> {
     let mut text = String::new(alloc);
@@ -37,27 +19,6 @@ fn list_text(alloc: Global, list: &Ranked) -> Result<String, AllocError> {
         text.push_str("; ")?;
     }
     Ok(text)
-}
-
-// The grammar of a text, where it is in normal form, with its labels.
-fn read<S: Semiring + Drop>(
-    alloc: Global,
-    text: &str,
-) -> Result<Option<(Normal<S>, Labels)>, AllocError>
-    ensures { IfOk result (λ read. IfSome read (λ p. AreLabelled (length p.1) p.0.rules)) }
-{
-    let bytes = text.as_bytes();
-    let mut labels = Labels::new(alloc);
-    if bytes.len() > 10_000 {
-        return Ok(None);
-    }
-    let Ok(grammar) = read_grammar::<S>(alloc, bytes, &mut labels) else {
-        return Ok(None);
-    };
-    match Normal::new(alloc, grammar)? {
-        Some(normal) => Ok(Some((normal, labels))),
-        None => Ok(None),
-    }
 }
 
 fn answer_text(alloc: Global, answer: Result<Ranked, KBestError>) -> Result<String, AllocError> {
@@ -84,29 +45,31 @@ fn three_best<S: Semiring + Drop>(alloc: Global, text: &str) -> Result<String, A
     }
 }
 
+// A grammar, and its three best trees where the greatest cost counts.
+static ROWS: [(&str, &str); 4] = [
+    // at equal costs the smaller tree comes first, whatever its parts cost
+    (
+        "q\nq -> f(p r)\np -> c # 4\np -> g(s)\nr -> d # 5\ns -> g(t)\nt -> e\n",
+        "0/2 1/0 3/0 # 5; 0/2 2/1 2/1 4/0 3/0 # 5; ",
+    ),
+    // a large tree at a lesser cost comes first
+    (
+        "q\nq -> a # 7\nq -> g(s) # 3\ns -> g(t) # 2\nt -> e # 1\n",
+        "1/1 1/1 2/0 # 3; 0/0 # 7; ",
+    ),
+    // the second and third cost what their level does, and the first costs less
+    (
+        "q\nq -> a # 2\nq -> f(p)\nq -> c # 3\np -> a # 2\np -> b # 1\n",
+        "1/1 3/0 # 1; 0/0 # 2; 1/1 0/0 # 2; ",
+    ),
+    ("q\nq -> f(q) # 3\n", ""),
+];
+
 #[test]
 fn best_trees_by_levels(rt: HostRuntime) -> Result<(), Fail> {
-    let rows = [
-        // at equal costs the smaller tree comes first, whatever its parts cost
-        (
-            "q\nq -> f(p r)\np -> c # 4\np -> g(s)\nr -> d # 5\ns -> g(t)\nt -> e\n",
-            "0/2 1/0 3/0 # 5; 0/2 2/1 2/1 4/0 3/0 # 5; ",
-        ),
-        // a large tree at a lesser cost comes first
-        (
-            "q\nq -> a # 7\nq -> g(s) # 3\ns -> g(t) # 2\nt -> e # 1\n",
-            "1/1 1/1 2/0 # 3; 0/0 # 7; ",
-        ),
-        // the second and third cost what their level does, and the first costs less
-        (
-            "q\nq -> a # 2\nq -> f(p)\nq -> c # 3\np -> a # 2\np -> b # 1\n",
-            "1/1 3/0 # 1; 0/0 # 2; 1/1 0/0 # 2; ",
-        ),
-        ("q\nq -> f(q) # 3\n", ""),
-    ];
-    for row in rows {
-        let text = three_best::<Bottleneck>(rt.alloc(), row.0)?;
-        assert_eq!(rt; text.as_str(), row.1);
+    for (text, want) in &ROWS {
+        let told = three_best::<Bottleneck>(rt.alloc(), text)?;
+        assert_eq!(rt; told.as_str(), *want);
     }
     Ok(())
 }

@@ -95,24 +95,49 @@ fn labels_rank_by_their_bytes(rt: HostRuntime) -> Result<(), Fail> {
     Ok(())
 }
 
+// The numbers of a, b, f(a b), f(b a), f(a b) again and f(f(a b) a).
+fn insert_all(trees: &mut Trees) -> [Option<u32>; 6] {
+    let a = insert(trees, 2, &[]);
+    let b = insert(trees, 1, &[]);
+    let ab = insert(trees, 0, &[0, 1]);
+    let ba = insert(trees, 0, &[1, 0]);
+    let again = insert(trees, 0, &[0, 1]);
+    let deep = insert(trees, 0, &[2, 0]);
+    [a, b, ab, ba, again, deep]
+}
+
+// Two trees by their numbers, and their order.
+static ORDERS: [(u32, u32, Ordering); 4] = [
+    (0, 1, Ordering::Less),
+    (2, 3, Ordering::Less),
+    (4, 3, Ordering::Greater),
+    (3, 3, Ordering::Equal),
+];
+
 #[test]
 fn trees_share_what_stands_below_them(rt: HostRuntime) -> Result<(), Fail> {
-    let alloc = rt.alloc();
-    let ranks = ranks_of(alloc, b"f(b a)")?;
-    let mut trees = Trees::new(alloc);
-    assert_eq!(rt; insert(&mut trees, 2, &[]), Some(0));
-    assert_eq!(rt; insert(&mut trees, 1, &[]), Some(1));
-    assert_eq!(rt; insert(&mut trees, 0, &[0, 1]), Some(2));
-    assert_eq!(rt; insert(&mut trees, 0, &[1, 0]), Some(3));
-    assert_eq!(rt; insert(&mut trees, 0, &[0, 1]), Some(2));
-    assert_eq!(rt; insert(&mut trees, 0, &[2, 0]), Some(4));
+    let mut trees = Trees::new(rt.alloc());
+    let numbers = insert_all(&mut trees);
+    assert_eq!(rt;
+        numbers,
+        [Some(0), Some(1), Some(2), Some(3), Some(2), Some(4)]
+    );
+    let ranks = ranks_of(rt.alloc(), b"f(b a)")?;
+    for (one, other, want) in &ORDERS {
+        assert_eq!(rt; order_of(&trees, &ranks, *one, *other), Some(*want));
+    }
+    Ok(())
+}
+
+// The labels and ranks of f(f(a b) a).
+const DEEP: [(u32, u32); 5] = [(0, 2), (0, 2), (2, 0), (1, 0), (2, 0)];
+
+#[test]
+fn a_tree_is_given_with_its_nodes(rt: HostRuntime) -> Result<(), Fail> {
+    let mut trees = Trees::new(rt.alloc());
+    assert_eq!(rt; insert_all(&mut trees)[5], Some(4));
     assert_eq!(rt; size_of(&trees, 4), 5);
-    assert_eq!(rt; order_of(&trees, &ranks, 0, 1), Some(Ordering::Less));
-    assert_eq!(rt; order_of(&trees, &ranks, 2, 3), Some(Ordering::Less));
-    assert_eq!(rt; order_of(&trees, &ranks, 4, 3), Some(Ordering::Greater));
-    assert_eq!(rt; order_of(&trees, &ranks, 3, 3), Some(Ordering::Equal));
-    let nodes = nodes_of(alloc, &trees, 4)?;
-    let expected: [(u32, u32); 5] = [(0, 2), (0, 2), (2, 0), (1, 0), (2, 0)];
-    assert_eq!(rt; nodes.as_slice(), expected.as_slice());
+    let nodes = nodes_of(rt.alloc(), &trees, 4)?;
+    assert_eq!(rt; nodes.as_slice(), DEEP.as_slice());
     Ok(())
 }

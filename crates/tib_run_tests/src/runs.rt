@@ -335,7 +335,7 @@ fn the_mode_widest_is_as_worked_out(rt: HostRuntime) -> Result<(), Fail> {
     Ok(())
 }
 
-// How an operation on one or two files ends within a limit, by so many workers.
+// How an operation on one or two files ends within a limit, by this many workers.
 fn status_within<R: Threads + Wait + Sync>(
     rt: &R,
     alloc: Global,
@@ -358,7 +358,7 @@ fn status_within<R: Threads + Wait + Sync>(
     Ok(ran.status)
 }
 
-// Whether an operation is refused below so many parts, and answered with them, by so many workers.
+// Whether an operation is refused below this many parts, and answered with them, by this many workers.
 fn is_refused_below<R: Threads + Wait + Sync>(
     rt: &R,
     alloc: Global,
@@ -382,7 +382,7 @@ fn is_refused_below<R: Threads + Wait + Sync>(
     Ok(true)
 }
 
-// The first operation that is not refused just below its parts, by so many workers.
+// The first operation that is not refused just below its parts, by this many workers.
 fn first_unlimited<R: Threads + Wait + Sync>(
     rt: &R,
     alloc: Global,
@@ -465,7 +465,7 @@ fn files_are_as_long_as_they_may_be(rt: HostRuntime) -> Result<(), Fail> {
     Ok(())
 }
 
-// A tree of a label with so many children.
+// A tree of a label with this many children.
 fn wide_tree(alloc: Global, children: u32) -> Result<Vec<u8>, AllocError> {
     let mut tree = b"S(".to_vec(alloc)?;
     for _ in 0..children {
@@ -475,7 +475,7 @@ fn wide_tree(alloc: Global, children: u32) -> Result<Vec<u8>, AllocError> {
     Ok(tree)
 }
 
-// How a tree of a label with so many children is weighed.
+// How a tree of a label with this many children is weighed.
 fn weighed_wide<R: Threads + Wait + Sync>(
     rt: &R,
     alloc: Global,

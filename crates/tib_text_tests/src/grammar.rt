@@ -5,8 +5,8 @@ use tib_cost::{MinPlus, Semiring};
 use tib_grammar::*;
 use tib_tree::Label;
 
-// A label over states, or a lone state where there is no label.
-type Right<'a> = (Option<Label>, &'a [u32]);
+// A rule that costs nothing: its left state, its label, and the states below it, or the lone state where there is no label.
+type Row = (u32, Option<Label>, &'static [u32]);
 
 fn names(alloc: Global, texts: &[&str]) -> Result<Option<Names>, Fail> {
     let mut list = Vec::new(alloc);
@@ -17,6 +17,24 @@ fn names(alloc: Global, texts: &[&str]) -> Result<Option<Names>, Fail> {
         return Err("too many names".into());
     }
     Ok(Names::from_list(alloc, list)?)
+}
+
+static NAMES: [(&[&str], bool); 7] = [
+    (&["q", "q0", "x->", "é"], true),
+    (&["->"], false),
+    (&[""], false),
+    (&["q.x"], false),
+    (&["q r"], false),
+    (&["q#"], false),
+    (&["q", "p", "q"], false),
+];
+
+#[test]
+fn state_names_are_told_from_others(rt: HostRuntime) -> Result<(), Fail> {
+    for (texts, want) in &NAMES {
+        assert!(rt; names(rt.alloc(), texts)?.is_some() == *want);
+    }
+    Ok(())
 }
 
 // The states as items.
@@ -31,137 +49,147 @@ fn holes(alloc: Global, states: &[u32]) -> Result<Option<Side<u32>>, Fail> {
     Ok(Side::from_preorder(items).ok())
 }
 
-fn side(alloc: Global, right: Right<'_>) -> Result<Side<u32>, Fail> {
-    if right.1.len() > 1000 {
+// A label over states, or the states alone, which make a side where there is one of them.
+fn side(alloc: Global, root: Option<Label>, states: &[u32]) -> Result<Option<Side<u32>>, Fail> {
+    if states.len() > 1000 {
         return Err("too many states".into());
     }
-    match right.0 {
-        Some(label) => Ok(Side::over(alloc, label, right.1)?),
-        None => holes(alloc, right.1)?.ok_or_else(|| "no tree".into()),
+    match root {
+        Some(label) => Ok(Some(Side::over(alloc, label, states)?)),
+        None => holes(alloc, states),
     }
 }
 
-// Rules that cost nothing.
-fn rules(alloc: Global, table: &[(u32, Right<'_>)]) -> Result<Vec<Rule<u32>>, Fail> {
+// How many items a side has.
+fn count_items(alloc: Global, root: Option<Label>, states: &[u32]) -> Result<Option<usize>, Fail> {
+    match side(alloc, root, states)? {
+        Some(side) => Ok(Some(side.items().len())),
+        None => Ok(None),
+    }
+}
+
+#[test]
+fn a_side_is_one_tree(rt: HostRuntime) -> Result<(), Fail> {
+    assert_eq!(rt; count_items(rt.alloc(), Some(0), &[7, 8])?, Some(3));
+    assert_eq!(rt; count_items(rt.alloc(), None, &[7])?, Some(1));
+    assert_eq!(rt; count_items(rt.alloc(), None, &[7, 8])?, None);
+    Ok(())
+}
+
+fn rules(alloc: Global, rows: &[Row]) -> Result<Vec<Rule<u32>>, Fail> {
     let mut rules = Vec::new(alloc);
-    for (left, right) in table {
+    for (left, root, states) in rows {
         rules.push(Rule {
             left: *left,
-            right: side(alloc, *right)?,
+            right: side(alloc, *root, states)?.ok_or("no tree")?,
             cost: MinPlus::one(),
         })?;
     }
     Ok(rules)
 }
 
-fn grammar(
-    alloc: Global,
-    texts: &[&str],
-    table: &[(u32, Right<'_>)],
-) -> Result<Option<Grammar<MinPlus>>, Fail> {
-    let rules = rules(alloc, table)?;
+// The grammar of these names and rules, where they make one.
+fn made(alloc: Global, texts: &[&str], rows: &[Row]) -> Result<Option<Grammar<MinPlus>>, Fail> {
+    let rules = rules(alloc, rows)?;
     if rules.len() > 1000 {
         return Err("too many rules".into());
     }
-    match names(alloc, texts)? {
-        Some(names) => Ok(Grammar::new(names, rules)),
-        None => Err("no names".into()),
-    }
+    let names = names(alloc, texts)?.ok_or("no names")?;
+    Ok(Grammar::new(names, rules))
 }
 
-fn fault(
-    alloc: Global,
-    texts: &[&str],
-    table: &[(u32, Right<'_>)],
-) -> Result<Option<DeterminismFault>, Fail> {
-    match grammar(alloc, texts, table)? {
-        Some(grammar) => Ok(grammar.deterministic(alloc).err()),
-        None => Err("no grammar".into()),
-    }
+fn grammar(alloc: Global, texts: &[&str], rows: &[Row]) -> Result<Grammar<MinPlus>, Fail> {
+    Ok(made(alloc, texts, rows)?.ok_or("no grammar")?)
 }
 
-#[test]
-fn state_names_are_told_from_others(rt: HostRuntime) -> Result<(), Fail> {
-    let alloc = rt.alloc();
-    assert!(rt; names(alloc, &["q", "q0", "x->", "é"])?.is_some());
-    for other in ["->", "", "q.x", "q r", "q#"] {
-        assert!(rt; names(alloc, &[other])?.is_none());
-    }
-    assert!(rt; names(alloc, &["q", "p", "q"])?.is_none());
-    Ok(())
+// Whether the grammar is in normal form, how many states and rules it has, and how many rules its list.
+fn counts_of(grammar: &Grammar<MinPlus>) -> (bool, u32, u32, usize) {
+    (
+        grammar.is_normal(),
+        grammar.states(),
+        grammar.rules(),
+        grammar.rule_list().len(),
+    )
 }
 
-#[test]
-fn a_side_is_one_tree(rt: HostRuntime) -> Result<(), Fail> {
-    let alloc = rt.alloc();
-    assert_eq!(rt; side(alloc, (Some(0), &[7, 8]))?.items().len(), 3);
-    assert_eq!(rt; side(alloc, (None, &[7]))?.items().len(), 1);
-    assert!(rt; holes(alloc, &[7, 8])?.is_none());
-    Ok(())
+fn first_name(grammar: &Grammar<MinPlus>) -> Option<&[u8]> {
+    if grammar.states() == 0 {
+        return None;
+    }
+    Some(grammar.name(0))
+}
+
+fn cost_of_second(grammar: &Grammar<MinPlus>) -> Option<u64> {
+    if grammar.rules() < 2 {
+        return None;
+    }
+    Some(grammar.rule(2).cost.get())
+}
+
+// The number of the state q, and how many names and rules the parts of the grammar have.
+fn take_apart(grammar: Grammar<MinPlus>) -> (Option<u32>, u32, usize) {
+    let (names, rules) = grammar.into_parts();
+    (names.find(b"q"), names.len(), rules.len())
 }
 
 // q -> f(q q), q -> a
 #[test]
 fn a_grammar_gives_its_parts(rt: HostRuntime) -> Result<(), Fail> {
-    let alloc = rt.alloc();
-    let Some(grammar) = grammar(
-        alloc,
-        &["q"],
-        &[(0, (Some(0), &[0, 0])), (0, (Some(1), &[]))],
-    )?
-    else {
-        return Err("no grammar".into());
-    };
-    assert!(rt; grammar.is_normal());
-    assert_eq!(rt; (grammar.states(), grammar.rules()), (1, 2));
-    assert_eq!(rt; grammar.name(0), &b"q"[..]);
-    assert_eq!(rt; grammar.rule(2).cost.get(), 0);
-    assert_eq!(rt; grammar.rule_list().len(), 2);
-    let (names, rules) = grammar.into_parts();
-    assert_eq!(rt; names.find(&b"q"[..]), Some(0));
-    assert_eq!(rt; (names.len(), rules.len()), (1, 2));
+    let rows: [Row; 2] = [(0, Some(0), &[0, 0]), (0, Some(1), &[])];
+    let grammar = grammar(rt.alloc(), &["q"], &rows)?;
+    assert_eq!(rt; counts_of(&grammar), (true, 1, 2, 2));
+    assert_eq!(rt; first_name(&grammar), Some(b"q".as_slice()));
+    assert_eq!(rt; cost_of_second(&grammar), Some(0));
+    assert_eq!(rt; take_apart(grammar), (Some(0), 1, 2));
     Ok(())
+}
+
+// The names and rules of a grammar, and the first fault of its deterministic form.
+static FAULTS: [(&[&str], &[Row], Option<DeterminismFault>); 3] = [
+    // q -> f(p), q -> f(r), p -> a, r -> a
+    (
+        &["q", "p", "r"],
+        &[
+            (0, Some(0), &[1]),
+            (0, Some(0), &[2]),
+            (1, Some(1), &[]),
+            (2, Some(1), &[]),
+        ],
+        Some(DeterminismFault::Shared {
+            first: 3,
+            second: 4,
+        }),
+    ),
+    // q -> p, p -> f(q)
+    (
+        &["q", "p"],
+        &[(0, None, &[1]), (1, Some(0), &[0])],
+        Some(DeterminismFault::Chain { rule: 1 }),
+    ),
+    // q -> p, p -> f(p), p -> a
+    (
+        &["q", "p"],
+        &[(0, None, &[1]), (1, Some(0), &[1]), (1, Some(1), &[])],
+        None,
+    ),
+];
+
+fn fault(alloc: Global, texts: &[&str], rows: &[Row]) -> Result<Option<DeterminismFault>, Fail> {
+    Ok(grammar(alloc, texts, rows)?.deterministic(alloc).err())
 }
 
 #[test]
 fn the_first_fault_is_named(rt: HostRuntime) -> Result<(), Fail> {
-    let alloc = rt.alloc();
-    // q -> f(p), q -> f(r), p -> a, r -> a
-    let shared = fault(
-        alloc,
-        &["q", "p", "r"],
-        &[
-            (0, (Some(0), &[1])),
-            (0, (Some(0), &[2])),
-            (1, (Some(1), &[])),
-            (2, (Some(1), &[])),
-        ],
-    )?;
-    assert!(rt;
-        matches!(
-            &shared,
-            Some(DeterminismFault::Shared {
-                first: 3,
-                second: 4
-            })
-        )
-    );
-    // q -> p, p -> f(q)
-    let broken = fault(
-        alloc,
-        &["q", "p"],
-        &[(0, (None, &[1])), (1, (Some(0), &[0]))],
-    )?;
-    assert!(rt; matches!(&broken, Some(DeterminismFault::Chain { rule: 1 })));
-    // q -> p, p -> f(p), p -> a
-    let good = [
-        (0, (None, &[1][..])),
-        (1, (Some(0), &[1][..])),
-        (1, (Some(1), &[][..])),
-    ];
-    assert!(rt; fault(alloc, &["q", "p"], &good)?.is_none());
-    // q -> f(p), where p has no name
-    assert!(rt; grammar(alloc, &["q"], &[(0, (Some(0), &[1]))])?.is_none());
+    for (texts, rows, want) in &FAULTS {
+        assert!(rt; fault(rt.alloc(), texts, rows)? == *want);
+    }
+    Ok(())
+}
+
+// q -> f(p), where p has no name
+#[test]
+fn each_state_has_a_name(rt: HostRuntime) -> Result<(), Fail> {
+    assert!(rt; made(rt.alloc(), &["q"], &[(0, Some(0), &[1])])?.is_none());
     Ok(())
 }
 
@@ -176,61 +204,76 @@ fn renamed(grammar: Grammar<MinPlus>, numbers: &[u32]) -> Result<Vec<Rule<u32>>,
     Ok(rules)
 }
 
-// q -> f(q p r p), p -> f(r q), r -> p, where q gets the number 2, p 0 and r 1
-#[test]
-fn states_get_new_numbers(rt: HostRuntime) -> Result<(), Fail> {
-    let alloc = rt.alloc();
-    let Some(grammar) = grammar(
-        alloc,
-        &["q", "p", "r"],
+// q -> f(q p r p), p -> f(r q), r -> p
+static THREE: [Row; 3] = [
+    (0, Some(0), &[0, 1, 2, 1]),
+    (1, Some(0), &[2, 0]),
+    (2, None, &[1]),
+];
+
+// Their left states and items where q gets the number 2, p 0 and r 1.
+static RENAMED: [(u32, &[Item<u32>]); 3] = [
+    (
+        2,
         &[
-            (0, (Some(0), &[0, 1, 2, 1])),
-            (1, (Some(0), &[2, 0])),
-            (2, (None, &[1])),
-        ],
-    )?
-    else {
-        return Err("no grammar".into());
-    };
-    let rules = renamed(grammar, &[2, 0, 1])?;
-    let label = |rank| Item::Label { label: 0, rank };
-    let [first, second, third] = &rules[..] else {
-        return Err("not three rules".into());
-    };
-    assert_eq!(rt; (first.left, second.left, third.left), (2, 0, 1));
-    assert_eq!(rt;
-        first.right.items(),
-        &[
-            label(4),
+            Item::Label { label: 0, rank: 4 },
             Item::Hole(2),
             Item::Hole(0),
             Item::Hole(1),
-            Item::Hole(0)
-        ][..]
-    );
-    assert_eq!(rt;
-        second.right.items(),
-        &[label(2), Item::Hole(1), Item::Hole(2)][..]
-    );
-    assert_eq!(rt; third.right.items(), &[Item::Hole(0)][..]);
+            Item::Hole(0),
+        ],
+    ),
+    (
+        0,
+        &[
+            Item::Label { label: 0, rank: 2 },
+            Item::Hole(1),
+            Item::Hole(2),
+        ],
+    ),
+    (1, &[Item::Hole(0)]),
+];
+
+fn is_of(rule: &Rule<u32>, left: u32, items: &[Item<u32>]) -> bool {
+    rule.left == left && rule.right.items() == items
+}
+
+#[test]
+fn states_get_new_numbers(rt: HostRuntime) -> Result<(), Fail> {
+    let grammar = grammar(rt.alloc(), &["q", "p", "r"], &THREE)?;
+    let rules = renamed(grammar, &[2, 0, 1])?;
+    assert_eq!(rt; rules.len(), RENAMED.len());
+    for (rule, (left, items)) in rules.iter().zip(&RENAMED) {
+        assert!(rt; is_of(rule, *left, items));
+    }
     Ok(())
+}
+
+// The root of the first rule of a grammar in normal form.
+fn first_root(grammar: &Grammar<MinPlus>) -> Option<(Label, u32)> {
+    if grammar.rules() == 0 || !grammar.is_normal() {
+        return None;
+    }
+    Some(grammar.rule(1).root())
+}
+
+// The states below it.
+fn states_below(alloc: Global, grammar: &Grammar<MinPlus>) -> Result<Vec<u32>, Fail> {
+    let mut states = Vec::new(alloc);
+    if grammar.rules() == 0 || !grammar.is_normal() {
+        return Ok(states);
+    }
+    for item in grammar.rule(1).states_below() {
+        states.push(item.state())?;
+    }
+    Ok(states)
 }
 
 #[test]
 fn a_rule_gives_its_label_and_its_states(rt: HostRuntime) -> Result<(), Fail> {
-    let Some(grammar) = grammar(rt.alloc(), &["q", "r"], &[(0, (Some(7), &[1, 0]))])? else {
-        return Err("no grammar".into());
-    };
-    if grammar.rules() == 0 || !grammar.is_normal() {
-        return Err("not in normal form".into());
-    }
-    let rule = grammar.rule(1);
-    assert_eq!(rt; rule.root(), (7, 2));
-    let states: Vec<u32> = rule
-        .states_below()
-        .iter()
-        .map(Item::state)
-        .collect(rt.alloc())?;
+    let grammar = grammar(rt.alloc(), &["q", "r"], &[(0, Some(7), &[1, 0])])?;
+    assert_eq!(rt; first_root(&grammar), Some((7, 2)));
+    let states = states_below(rt.alloc(), &grammar)?;
     assert_eq!(rt; states.as_slice(), [1, 0].as_slice());
     Ok(())
 }

@@ -1,4 +1,7 @@
 // Lines, tokens and texts of small files.
+ghost use Rattle.std.specs.Prelude.{length, IfOk, All};
+ghost use Rattle.tib_lex.specs.Line.{Lies};
+
 use std::alloc::{AllocError, Global};
 use std::test::Fail;
 use tib_lex::{
@@ -28,20 +31,41 @@ fn lines_end_before_a_feed_or_with_the_file(rt: HostRuntime) -> Result<(), Fail>
     Ok(())
 }
 
-fn token(kind: Kind, start: u32, end: u32) -> Lexed {
-    Lexed::Token(Token { kind, start, end })
+// A line, a place in it, and the token that is read from there: its kind, its start and its end.
+type Row = (&'static [u8], u32, Kind, u32, u32);
+
+static TOKENS: [Row; 4] = [
+    (b" \t\rq->a", 0, Kind::Name, 3, 7),
+    (b"q -> a", 1, Kind::Arrow, 2, 4),
+    (b"\"a\\\"\"(", 0, Kind::Quoted, 0, 5),
+    (b"#", 0, Kind::Hash, 0, 1),
+];
+
+// What is read of a line from a place on; none where the line has no such place.
+fn read_from(line: &[u8], at: u32) -> Option<Lexed> {
+    if line.len() > 99 || at as usize > line.len() {
+        return None;
+    }
+    Some(next_token(line, at))
 }
 
 #[test]
-fn a_token_is_read_behind_white_space(rt: HostRuntime) -> Result<(), Fail> {
-    assert_eq!(rt; next_token(b" \t\rq->a", 0), token(Kind::Name, 3, 7));
-    assert_eq!(rt; next_token(b"q -> a", 1), token(Kind::Arrow, 2, 4));
-    assert_eq!(rt; next_token(b"\"a\\\"\"(", 0), token(Kind::Quoted, 0, 5));
-    assert_eq!(rt; next_token(b"#", 0), token(Kind::Hash, 0, 1));
-    assert_eq!(rt; next_token(b"  % (", 0), Lexed::End);
-    assert_eq!(rt; next_token(b" \"a\\n\"", 0), Lexed::BadToken { at: 1 });
-    assert_eq!(rt; next_token(b"\x7f", 0), Lexed::BadToken { at: 0 });
-    Ok(())
+fn a_token_is_read_behind_white_space(rt: HostRuntime) {
+    for (line, at, kind, start, end) in &TOKENS {
+        let token = Token {
+            kind: *kind,
+            start: *start,
+            end: *end,
+        };
+        assert_eq!(rt; read_from(line, *at), Some(Lexed::Token(token)));
+    }
+}
+
+#[test]
+fn a_line_ends_or_has_a_bad_token(rt: HostRuntime) {
+    assert_eq!(rt; read_from(b"  % (", 0), Some(Lexed::End));
+    assert_eq!(rt; read_from(b" \"a\\n\"", 0), Some(Lexed::BadToken { at: 1 }));
+    assert_eq!(rt; read_from(b"\x7f", 0), Some(Lexed::BadToken { at: 0 }));
 }
 
 // A line of this many names, and of a quoted token with as many bytes.
@@ -71,61 +95,93 @@ fn a_long_line_is_read(rt: HostRuntime) -> Result<(), Fail> {
     Ok(())
 }
 
+// A kind of fault, and its words.
+static KINDS: [(FaultKind, &str); 12] = [
+    (FaultKind::NoStart, "no start"),
+    (FaultKind::BadToken, "bad token"),
+    (FaultKind::BadRule, "bad rule"),
+    (FaultKind::BadTree, "bad tree"),
+    (FaultKind::LoneVariable, "lone variable on the left"),
+    (FaultKind::VariableTwice, "variable twice on the left"),
+    (FaultKind::LabelledVariable, "labelled variable"),
+    (FaultKind::UnknownVariable, "unknown variable"),
+    (FaultKind::NotWhole, "weight is not a whole number"),
+    (FaultKind::WeightTooLarge, "weight too large"),
+    (FaultKind::TooManyNodes, "too many nodes"),
+    (FaultKind::BadString, "bad string"),
+];
+
+fn words_of(alloc: Global, kind: FaultKind) -> Result<String, AllocError> {
+    format!(in alloc; "{kind}")
+}
+
+#[test]
+fn a_kind_of_fault_says_what_it_is(rt: HostRuntime) -> Result<(), Fail> {
+    for (kind, words) in &KINDS {
+        assert_eq!(rt; words_of(rt.alloc(), *kind)?.as_str(), *words);
+    }
+    Ok(())
+}
+
 fn text_of_fault(alloc: Global, error: ReadError) -> Result<String, AllocError> {
     format!(in alloc; "{error}")
 }
 
 #[test]
-fn a_fault_says_what_it_is(rt: HostRuntime) -> Result<(), Fail> {
-    let alloc = rt.alloc();
-    let kinds = [
-        (FaultKind::NoStart, "no start"),
-        (FaultKind::BadToken, "bad token"),
-        (FaultKind::BadRule, "bad rule"),
-        (FaultKind::BadTree, "bad tree"),
-        (FaultKind::LoneVariable, "lone variable on the left"),
-        (FaultKind::VariableTwice, "variable twice on the left"),
-        (FaultKind::LabelledVariable, "labelled variable"),
-        (FaultKind::UnknownVariable, "unknown variable"),
-        (FaultKind::NotWhole, "weight is not a whole number"),
-        (FaultKind::WeightTooLarge, "weight too large"),
-        (FaultKind::TooManyNodes, "too many nodes"),
-        (FaultKind::BadString, "bad string"),
-    ];
-    for (kind, words) in kinds {
-        assert_eq!(rt; format!(in alloc; "{kind}")?.as_str(), words);
-    }
+fn a_fault_says_its_line_and_what_it_is(rt: HostRuntime) -> Result<(), Fail> {
     let fault = FileFault {
         line: 7,
         kind: FaultKind::BadToken,
     };
-    assert_eq!(rt;
-        text_of_fault(alloc, ReadError::Fault(fault))?.as_str(),
-        "line 7: bad token"
-    );
-    assert_eq!(rt;
-        text_of_fault(alloc, ReadError::OutOfMemory)?.as_str(),
-        "out of memory"
-    );
+    let bad = text_of_fault(rt.alloc(), ReadError::Fault(fault))?;
+    assert_eq!(rt; bad.as_str(), "line 7: bad token");
+    let full = text_of_fault(rt.alloc(), ReadError::OutOfMemory)?;
+    assert_eq!(rt; full.as_str(), "out of memory");
     Ok(())
+}
+
+// The tokens of a short line; none where one of them is bad.
+fn tokens_of(alloc: Global, line: &[u8]) -> Result<Vec<Token>, Fail>
+    ensures { IfOk result (λ tokens. All (Lies (length line.now)) tokens.items) }
+{
+    let mut tokens = Vec::new(alloc);
+    if line.len() > 99 || !read_tokens(line, &mut tokens)? {
+        return Err("no tokens".into());
+    }
+    Ok(tokens)
+}
+
+// The text of the token at a place.
+fn text_at(alloc: Global, line: &[u8], place: usize) -> Result<Vec<u8>, Fail> {
+    match tokens_of(alloc, line)?.get(place) {
+        Some(token) => Ok(token_text(alloc, line, token)?),
+        None => Err("no such token".into()),
+    }
 }
 
 #[test]
 fn a_quoted_text_loses_its_quotes(rt: HostRuntime) -> Result<(), Fail> {
-    let alloc = rt.alloc();
     let line = b"f(\"\\\"\\\\\" )";
-    let mut tokens = Vec::new(alloc);
-    assert!(rt; read_tokens(line, &mut tokens)?);
-    assert_eq!(rt; tokens.len(), 4);
-    assert_eq!(rt;
-        token_text(alloc, line, &tokens[2])?.as_slice(),
-        b"\"\\".as_slice()
-    );
-    assert_eq!(rt;
-        token_text(alloc, line, &tokens[0])?.as_slice(),
-        b"f".as_slice()
-    );
-    assert_eq!(rt; name_text(line, tokens[0]), Some(b"f".as_slice()));
-    assert_eq!(rt; name_text(line, tokens[2]), None);
+    assert_eq!(rt; tokens_of(rt.alloc(), line)?.len(), 4);
+    let name = text_at(rt.alloc(), line, 0)?;
+    assert_eq!(rt; name.as_slice(), b"f".as_slice());
+    let quoted = text_at(rt.alloc(), line, 2)?;
+    assert_eq!(rt; quoted.as_slice(), b"\"\\".as_slice());
+    Ok(())
+}
+
+// The name at a place of a line, where a name stands there.
+fn name_at(alloc: Global, line: &[u8], place: usize) -> Result<Option<&[u8]>, Fail> {
+    match tokens_of(alloc, line)?.get(place) {
+        Some(token) => Ok(name_text(line, *token)),
+        None => Err("no such token".into()),
+    }
+}
+
+#[test]
+fn a_quoted_text_is_no_name(rt: HostRuntime) -> Result<(), Fail> {
+    let line = b"f(\"\\\"\\\\\" )";
+    assert_eq!(rt; name_at(rt.alloc(), line, 0)?, Some(b"f".as_slice()));
+    assert_eq!(rt; name_at(rt.alloc(), line, 2)?, None);
     Ok(())
 }

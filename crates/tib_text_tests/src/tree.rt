@@ -1,50 +1,43 @@
 // Tree files that are read, refused and printed.
-ghost use Rattle.std.specs.Prelude.{◌≤◌, length};
+ghost use Rattle.std.specs.Prelude.{length};
 ghost use Rattle.tib_lex.specs.Lists.{Each};
 ghost use Rattle.tib_tree.specs.Growth.{HasLabels};
 
 use std::alloc::{AllocError, Global};
 use std::test::Fail;
 use tib_io::{Failed, GrowingSink};
-use tib_lex::{FaultKind, FileFault, ReadError};
+use tib_lex::{FaultKind, ReadError};
 use tib_tree::{Labels, ShapeError, Tree, needs_quotes, print_tree, read_trees};
 
-fn count_trees(alloc: Global, bytes: &[u8]) -> Result<usize, ReadError>
-    requires { length bytes.now ≤ 8388608 }
-{
-    let mut labels = Labels::new(alloc);
-    match read_trees(alloc, bytes, &mut labels) {
-        Ok(trees) => Ok(trees.len()),
-        Err(error) => Err(error),
+// A file, and how many trees it has, or the line and the kind of its fault.
+type Row = (&'static [u8], Result<usize, (u32, FaultKind)>);
+
+static ROWS: [Row; 6] = [
+    (b"", Ok(0)),
+    (b"S(a a)\n\n% none\n \t\r\na()\r\n\"a b\"", Ok(3)),
+    (b"a\nS(\n\"a", Err((2, FaultKind::BadTree))),
+    (b"a b\n", Err((1, FaultKind::BadTree))),
+    (b"a(-> b)\n", Err((1, FaultKind::BadTree))),
+    (b"\n) \"a", Err((2, FaultKind::BadToken))),
+];
+
+// How many trees a file has, or the line and the kind of its fault; none where it is too long or memory was refused.
+fn count_trees(alloc: Global, bytes: &[u8]) -> Option<Result<usize, (u32, FaultKind)>> {
+    if bytes.len() > 8_388_608 {
+        return None;
+    }
+    match read_trees(alloc, bytes, &mut Labels::new(alloc)) {
+        Ok(trees) => Some(Ok(trees.len())),
+        Err(ReadError::Fault(fault)) => Some(Err((fault.line, fault.kind))),
+        Err(ReadError::OutOfMemory) => None,
     }
 }
 
-fn fault(line: u32, kind: FaultKind) -> Result<usize, ReadError> {
-    Err(ReadError::Fault(FileFault { line, kind }))
-}
-
 #[test]
-fn a_tree_file_gives_its_trees_or_its_first_fault(rt: HostRuntime) -> Result<(), Fail> {
-    let alloc = rt.alloc();
-    assert_eq!(rt; count_trees(alloc, b""), Ok(0));
-    assert_eq!(rt;
-        count_trees(alloc, b"S(a a)\n\n% none\n \t\r\na()\r\n\"a b\""),
-        Ok(3)
-    );
-    assert_eq!(rt;
-        count_trees(alloc, b"a\nS(\n\"a"),
-        fault(2, FaultKind::BadTree)
-    );
-    assert_eq!(rt; count_trees(alloc, b"a b\n"), fault(1, FaultKind::BadTree));
-    assert_eq!(rt;
-        count_trees(alloc, b"a(-> b)\n"),
-        fault(1, FaultKind::BadTree)
-    );
-    assert_eq!(rt;
-        count_trees(alloc, b"\n) \"a"),
-        fault(2, FaultKind::BadToken)
-    );
-    Ok(())
+fn a_tree_file_gives_its_trees_or_its_first_fault(rt: HostRuntime) {
+    for (bytes, want) in &ROWS {
+        assert_eq!(rt; count_trees(rt.alloc(), bytes), Some(*want));
+    }
 }
 
 // A label with this many children.
@@ -61,13 +54,11 @@ fn wide_tree(alloc: Global, children: u32) -> Result<Vec<u8>, AllocError> {
 fn a_tree_of_10001_nodes_is_too_large(rt: HostRuntime) -> Result<(), Fail> {
     let alloc = rt.alloc();
     let most = wide_tree(alloc, 9999)?;
-    assert!(rt; most.len() <= 8388608);
-    assert_eq!(rt; count_trees(alloc, &most), Ok(1));
+    assert_eq!(rt; count_trees(alloc, &most), Some(Ok(1)));
     let more = wide_tree(alloc, 10000)?;
-    assert!(rt; more.len() <= 8388608);
     assert_eq!(rt;
         count_trees(alloc, &more),
-        fault(1, FaultKind::TooManyNodes)
+        Some(Err((1, FaultKind::TooManyNodes)))
     );
     Ok(())
 }
@@ -88,32 +79,36 @@ fn many_trees(alloc: Global, count: u32) -> Result<Vec<u8>, AllocError> {
     Ok(bytes)
 }
 
+// How many trees and labels a file has, and the number of a label in it; none where it is refused.
+fn counts_and_number(alloc: Global, bytes: &[u8], label: &[u8]) -> Option<(usize, usize, u32)> {
+    if bytes.len() > 8_388_608 {
+        return None;
+    }
+    let mut labels = Labels::new(alloc);
+    match read_trees(alloc, bytes, &mut labels) {
+        Ok(trees) => Some((trees.len(), labels.len(), labels.find(label)?)),
+        Err(_) => None,
+    }
+}
+
 #[test]
 fn a_long_file_is_read_whole(rt: HostRuntime) -> Result<(), Fail> {
-    let alloc = rt.alloc();
-    let bytes = many_trees(alloc, 70_000)?;
-    assert!(rt; bytes.len() <= 8388608);
-    let mut labels = Labels::new(alloc);
-    match read_trees(alloc, &bytes, &mut labels) {
-        Ok(trees) => assert_eq!(rt; trees.len(), 70_000),
-        Err(_) => assert!(rt; false),
-    }
-    assert_eq!(rt; labels.len(), 70_000);
-    assert_eq!(rt; labels.find(b"A@@@"), Some(1));
+    let bytes = many_trees(rt.alloc(), 70_000)?;
+    let found = counts_and_number(rt.alloc(), &bytes, b"A@@@");
+    assert_eq!(rt; found, Some((70_000, 70_000, 1)));
     Ok(())
 }
 
 #[test]
+fn a_list_of_nodes_is_one_tree(rt: HostRuntime) {
+    let missing = Tree::from_preorder(rt.alloc(), &[(0, 2), (1, 0)]);
+    assert!(rt; matches!(missing, Err(ShapeError::NotATree)));
+}
+
+#[test]
 fn nodes_have_sizes_and_depths(rt: HostRuntime) -> Result<(), Fail> {
-    let alloc = rt.alloc();
-    assert!(rt;
-        matches!(
-            Tree::from_preorder(alloc, &[(0, 2), (1, 0)]),
-            Err(ShapeError::NotATree)
-        )
-    );
-    let tree = Tree::from_preorder(alloc, &[(0, 2), (1, 1), (2, 0), (1, 0)])?;
-    let mut sizes = Vec::new(alloc);
+    let tree = Tree::from_preorder(rt.alloc(), &[(0, 2), (1, 1), (2, 0), (1, 0)])?;
+    let mut sizes = Vec::new(rt.alloc());
     for node in tree.nodes() {
         sizes.push((node.label, node.rank, node.size, node.depth))?;
     }
@@ -133,33 +128,40 @@ fn print_first(trees: &[Tree], labels: &Labels, out: &mut GrowingSink) -> Result
     }
 }
 
+// What is printed of the first tree of a file, and how many labels the file has.
+fn printed(alloc: Global, bytes: &[u8]) -> Result<(Vec<u8>, usize), Fail> {
+    if bytes.len() > 8_388_608 {
+        return Err("too long".into());
+    }
+    let mut labels = Labels::new(alloc);
+    let Ok(trees) = read_trees(alloc, bytes, &mut labels) else {
+        return Err("the text was refused".into());
+    };
+    let mut out = GrowingSink::new(alloc);
+    let Ok(()) = print_first(&trees, &labels, &mut out) else {
+        return Err("the sink failed".into());
+    };
+    Ok((out.bytes().to_vec(alloc)?, labels.len()))
+}
+
 #[test]
 fn a_printed_tree_is_its_text(rt: HostRuntime) -> Result<(), Fail> {
-    let alloc = rt.alloc();
     let text = b"f(\"a b\" g(\"\\\"x\\\\\" h(\"->\")) \"\" \"1\xff)\" f)";
-    let mut labels = Labels::new(alloc);
-    let mut out = GrowingSink::new(alloc);
-    match read_trees(alloc, text, &mut labels) {
-        Ok(trees) => assert!(rt; print_first(&trees, &labels, &mut out).is_ok()),
-        Err(_) => assert!(rt; false),
-    }
-    assert_eq!(rt; out.bytes(), text.as_slice());
-    assert!(rt; needs_quotes(b"->"));
-    assert!(rt; !needs_quotes(b"->>"));
+    let (printed, _) = printed(rt.alloc(), text)?;
+    assert_eq!(rt; printed.as_slice(), text.as_slice());
     Ok(())
 }
 
 #[test]
+fn an_arrow_alone_needs_quotes(rt: HostRuntime) {
+    assert!(rt; needs_quotes(b"->") && !needs_quotes(b"->>"));
+}
+
+#[test]
 fn labels_that_come_again_keep_their_numbers(rt: HostRuntime) -> Result<(), Fail> {
-    let alloc = rt.alloc();
     let text = b"f(\"\" a abcdefg abcdefgh a(abcdefgh abcdefg) \"\" f)";
-    let mut labels = Labels::new(alloc);
-    let mut out = GrowingSink::new(alloc);
-    match read_trees(alloc, text, &mut labels) {
-        Ok(trees) => assert!(rt; print_first(&trees, &labels, &mut out).is_ok()),
-        Err(_) => assert!(rt; false),
-    }
-    assert_eq!(rt; out.bytes(), text.as_slice());
-    assert_eq!(rt; labels.len(), 5);
+    let (printed, labels) = printed(rt.alloc(), text)?;
+    assert_eq!(rt; printed.as_slice(), text.as_slice());
+    assert_eq!(rt; labels, 5);
     Ok(())
 }

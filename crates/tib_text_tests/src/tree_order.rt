@@ -1,11 +1,10 @@
 // Pairs of trees, by what decides their order.
-ghost use Rattle.std.specs.Prelude.{◌≤◌, length};
+ghost use Rattle.std.specs.Prelude.{length};
 ghost use Rattle.tib_lex.specs.Lists.{Each};
 ghost use Rattle.tib_tree.specs.Growth.{HasLabels};
 
 use std::alloc::Global;
 use std::cmp::Ordering;
-use std::test::Fail;
 use tib_tree::{Labels, Tree, read_trees};
 use tib_tree_order::compare;
 
@@ -20,9 +19,10 @@ fn order_of_two(labels: &Labels, trees: &[Tree]) -> Option<Ordering>
 }
 
 // The order of the two trees of a file, whose labels are numbered in the order of first sight.
-fn order_of(alloc: Global, bytes: &[u8]) -> Option<Ordering>
-    requires { length bytes.now ≤ 8388608 }
-{
+fn order_of(alloc: Global, bytes: &[u8]) -> Option<Ordering> {
+    if bytes.len() > 8_388_608 {
+        return None;
+    }
     let mut labels = Labels::new(alloc);
     match read_trees(alloc, bytes, &mut labels) {
         Ok(trees) => order_of_two(&labels, &trees),
@@ -30,18 +30,19 @@ fn order_of(alloc: Global, bytes: &[u8]) -> Option<Ordering>
     }
 }
 
+static ROWS: [(&[u8], Ordering); 7] = [
+    (b"z\na(a)", Ordering::Less),
+    (b"b\na", Ordering::Greater),
+    (b"ab\na", Ordering::Greater),
+    (b"f(a(a))\nf(a a)", Ordering::Less),
+    (b"f(b a(a))\nf(a(a) b)", Ordering::Less),
+    (b"f(b a)\nf(a b)", Ordering::Greater),
+    (b"f(b a)\nf(b a)", Ordering::Equal),
+];
+
 #[test]
-fn trees_compare_by_size_label_rank_and_children(rt: HostRuntime) -> Result<(), Fail> {
-    let alloc = rt.alloc();
-    assert_eq!(rt; order_of(alloc, b"z\na(a)"), Some(Ordering::Less));
-    assert_eq!(rt; order_of(alloc, b"b\na"), Some(Ordering::Greater));
-    assert_eq!(rt; order_of(alloc, b"ab\na"), Some(Ordering::Greater));
-    assert_eq!(rt; order_of(alloc, b"f(a(a))\nf(a a)"), Some(Ordering::Less));
-    assert_eq!(rt;
-        order_of(alloc, b"f(b a(a))\nf(a(a) b)"),
-        Some(Ordering::Less)
-    );
-    assert_eq!(rt; order_of(alloc, b"f(b a)\nf(a b)"), Some(Ordering::Greater));
-    assert_eq!(rt; order_of(alloc, b"f(b a)\nf(b a)"), Some(Ordering::Equal));
-    Ok(())
+fn trees_compare_by_size_label_rank_and_children(rt: HostRuntime) {
+    for (bytes, want) in &ROWS {
+        assert_eq!(rt; order_of(rt.alloc(), bytes), Some(*want));
+    }
 }

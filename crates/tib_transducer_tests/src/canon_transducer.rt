@@ -2,13 +2,14 @@
 ghost use Rattle.std.specs.Prelude.{◌≡◌, ◌<◌, ◌^◌, length, IfOk};
 ghost use Rattle.tib_lex.specs.Lists.{Distinct};
 ghost use Rattle.tib_canon_transducer.specs.Keys.{AreMovesOver};
+ghost use Rattle.tib_transducer_file.specs.Labelled.{AreLabelled};
 
 use std::alloc::{AllocError, Global};
 use std::test::Fail;
-use tib_canon_transducer::to_transducer;
+use tib_canon_transducer::{PrintedTransducer, to_transducer};
 use tib_cost::{MinPlus, Semiring};
 use tib_hunt::Found;
-use tib_io::{Failed, GrowingSink};
+use tib_io::GrowingSink;
 use tib_table::TableKey;
 use tib_transducer::TransducerRule;
 use tib_transducer_file::read_transducer;
@@ -79,6 +80,24 @@ fn rules_in<S: Semiring>(
     Ok(rules)
 }
 
+// The text of a form, which is what its transducer prints.
+fn printed<S: Semiring>(
+    alloc: Global,
+    form: &PrintedTransducer<S>,
+    labels: &Labels,
+) -> Result<Vec<u8>, Fail>
+    requires { AreLabelled (length labels.now) form.now.transducer.rules }
+{
+    let mut sink = GrowingSink::new(alloc);
+    let Ok(()) = print_transducer(&form.transducer, labels, &mut sink) else {
+        return Err("no memory".into());
+    };
+    if sink.bytes() != form.text.bytes() {
+        return Err("the transducer prints as another text".into());
+    }
+    Ok(sink.bytes().to_vec(alloc)?)
+}
+
 // The canonical transducer over the three keys with the rules of a text, as it is printed.
 fn answer<S: Semiring>(alloc: Global, text: &[u8], start: u32) -> Result<Vec<u8>, Fail>
     requires { start < 3 }
@@ -91,12 +110,7 @@ fn answer<S: Semiring>(alloc: Global, text: &[u8], start: u32) -> Result<Vec<u8>
         parts: 0,
     };
     let form = to_transducer::<S, Number>(alloc, found, start, &labels)?;
-    let mut sink = GrowingSink::new(alloc);
-    match print_transducer(&form.transducer, &labels, &mut sink) {
-        Ok(()) if sink.bytes() == form.text.bytes() => Ok(sink.bytes().to_vec(alloc)?),
-        Ok(()) => Err("the transducer prints as another text".into()),
-        Err(Failed) => Err("no memory".into()),
-    }
+    printed(alloc, &form, &labels)
 }
 
 const MOVES: &[u8] =

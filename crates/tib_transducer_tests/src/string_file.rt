@@ -2,9 +2,10 @@
 use std::alloc::Global;
 use std::test::Fail;
 use tib_cost::MinPlus;
+use tib_lex::ReadError;
 use tib_string_file::{read_string, read_string_transducer};
 use tib_strings::{StringRule, StringTransducer, Word};
-use tib_tree::Labels;
+use tib_tree::{Label, Labels};
 
 // A file, and the texts of its words, each with a bar behind it, or what is printed of its fault.
 type Row = (&'static [u8], &'static str);
@@ -41,28 +42,32 @@ static ROWS: [Row; 28] = [
     (b"a \"b\"\n-", "line 2: bad string"),
 ];
 
+// The texts of words, each with a bar behind it.
+fn texts_of(alloc: Global, words: &[Label], labels: &Labels) -> Result<Vec<u8>, Fail> {
+    let mut out = Vec::new(alloc);
+    for word in words {
+        if (*word as usize) < labels.len() {
+            out.extend_from_slice(labels.text(*word))?;
+            out.push(b'|')?;
+        }
+    }
+    Ok(out)
+}
+
+fn text_of_error(alloc: Global, error: ReadError) -> Result<Vec<u8>, Fail> {
+    Ok(error.to_string(alloc)?.as_bytes().to_vec(alloc)?)
+}
+
 // What is told of a file.
 fn told(alloc: Global, bytes: &[u8]) -> Result<Vec<u8>, Fail> {
     if bytes.len() > 8_388_608 {
         return Err("too many bytes".into());
     }
     let mut labels = Labels::new(alloc);
-    let mut out = Vec::new(alloc);
     match read_string(alloc, bytes, &mut labels) {
-        Ok(string) => {
-            for word in &string {
-                if (*word as usize) < labels.len() {
-                    out.extend_from_slice(labels.text(*word))?;
-                    out.push(b'|')?;
-                }
-            }
-        }
-        Err(error) => {
-            let text = format!(in alloc; "{error}")?;
-            out.extend_from_slice(text.as_bytes())?;
-        }
+        Ok(string) => texts_of(alloc, &string, &labels),
+        Err(error) => text_of_error(alloc, error),
     }
-    Ok(out)
 }
 
 #[test]
@@ -73,7 +78,7 @@ fn a_file_gives_its_string_or_its_fault(rt: HostRuntime) -> Result<(), Fail> {
     Ok(())
 }
 
-// How many words are read of a file of so many, or none where it has a fault.
+// How many words are read of a file of this many, or none where it has a fault.
 fn count(alloc: Global, words: usize) -> Result<Option<usize>, Fail> {
     let mut bytes = Vec::new(alloc);
     for _ in 0..words {
@@ -189,25 +194,29 @@ fn push_state(
     Ok(())
 }
 
+// The rules of a transducer.
+fn describe_all(
+    alloc: Global,
+    transducer: &StringTransducer<MinPlus>,
+    labels: &Labels,
+) -> Result<Vec<u8>, Fail> {
+    let mut out = Vec::new(alloc);
+    for rule in transducer.rule_list() {
+        describe(transducer, rule, labels, &mut out)?;
+    }
+    Ok(out)
+}
+
 // What is told of a transducer file.
 fn told_rules(alloc: Global, bytes: &[u8]) -> Result<Vec<u8>, Fail> {
     if bytes.len() > 8_388_608 {
         return Err("too many bytes".into());
     }
     let mut labels = Labels::new(alloc);
-    let mut out = Vec::new(alloc);
     match read_string_transducer::<MinPlus>(alloc, bytes, &mut labels) {
-        Ok(transducer) => {
-            for rule in transducer.rule_list() {
-                describe(&transducer, rule, &labels, &mut out)?;
-            }
-        }
-        Err(error) => {
-            let text = format!(in alloc; "{error}")?;
-            out.extend_from_slice(text.as_bytes())?;
-        }
+        Ok(transducer) => describe_all(alloc, &transducer, &labels),
+        Err(error) => text_of_error(alloc, error),
     }
-    Ok(out)
 }
 
 #[test]

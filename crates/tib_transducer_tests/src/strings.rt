@@ -1,19 +1,20 @@
 // Small transducers with one or two states, as written in comments: a label is a number here.
+use crate::transducer::names;
 use std::alloc::Global;
 use std::test::Fail;
 use tib_classes::ClassFault;
 use tib_cost::{MinPlus, Semiring};
-use tib_grammar::{Item, Names, Side};
+use tib_grammar::{Item, Side};
 use tib_strings::*;
 use tib_transducer::{Pair, Variable};
 
 // The names of the states, the variables below the label on the left, and the state and the variable of each pair on the right,
-// which stand between words. None where they make no transducer, else what the rule lacks.
+// which stand between words. None where they make no transducer, else the rule that lacks something and what it lacks.
 type Row = (
     &'static [&'static str],
     &'static [u32],
     &'static [(u32, u32)],
-    Option<Option<ClassFault>>,
+    Option<Option<(u32, ClassFault)>>,
 );
 
 static ROWS: [Row; 9] = [
@@ -26,21 +27,21 @@ static ROWS: [Row; 9] = [
         &["t"],
         &[0, 1],
         &[(0, 1)],
-        Some(Some(ClassFault::NotNondeleting)),
+        Some(Some((1, ClassFault::NotNondeleting))),
     ),
     // t.A(x0:) -> a t.x0 a t.x0 a
     (
         &["t"],
         &[0],
         &[(0, 0), (0, 0)],
-        Some(Some(ClassFault::NotLinear)),
+        Some(Some((1, ClassFault::NotLinear))),
     ),
     // t.A(x0: x1:) -> a t.x0 a t.x0 a
     (
         &["t"],
         &[0, 1],
         &[(0, 0), (0, 0)],
-        Some(Some(ClassFault::NotLinear)),
+        Some(Some((1, ClassFault::NotLinear))),
     ),
     // the state p has no name
     (&["t"], &[0], &[(1, 0)], None),
@@ -51,20 +52,6 @@ static ROWS: [Row; 9] = [
     // there is no state
     (&[], &[], &[], None),
 ];
-
-fn names(alloc: Global, texts: &[&str]) -> Result<Names, Fail> {
-    let mut list = Vec::new(alloc);
-    for text in texts {
-        list.push(text.as_bytes().to_vec(alloc)?)?;
-    }
-    if list.len() > 1000 {
-        return Err("too many names".into());
-    }
-    match Names::from_list(alloc, list)? {
-        Some(names) => Ok(names),
-        None => Err("no names".into()),
-    }
-}
 
 fn left_side(alloc: Global, variables: &[u32]) -> Result<Side<Variable>, Fail> {
     if variables.len() > 1000 {
@@ -84,10 +71,7 @@ fn left_side(alloc: Global, variables: &[u32]) -> Result<Side<Variable>, Fail> {
     if items.len() > 2000 {
         return Err("too many items".into());
     }
-    match Side::from_preorder(items) {
-        Ok(side) => Ok(side),
-        Err(_) => Err("no left side".into()),
-    }
+    Ok(Side::from_preorder(items).ok().ok_or("no left side")?)
 }
 
 fn right_side(alloc: Global, pairs: &[(u32, u32)]) -> Result<Words<u32>, Fail> {
@@ -103,8 +87,7 @@ fn right_side(alloc: Global, pairs: &[(u32, u32)]) -> Result<Words<u32>, Fail> {
     Ok(Words::from_list(words))
 }
 
-// Whether the row's rule makes a transducer, or none, as the row says, and lacks what it says.
-fn agrees(alloc: Global, row: &Row) -> Result<bool, Fail> {
+fn transducer(alloc: Global, row: &Row) -> Result<Option<StringTransducer<MinPlus>>, Fail> {
     let mut rules = Vec::new(alloc);
     rules.push(StringRule {
         state: 0,
@@ -115,21 +98,21 @@ fn agrees(alloc: Global, row: &Row) -> Result<bool, Fail> {
     if rules.len() > 1 {
         return Err("too many rules".into());
     }
-    let made = StringTransducer::<MinPlus>::new(names(alloc, row.0)?, rules);
-    match (made, row.3) {
-        (Some(transducer), Some(None)) => Ok(string_outside(&transducer).is_none()),
-        (Some(transducer), Some(Some(fault))) => Ok(
-            string_outside(&transducer) == Some((1, fault)),
-        ),
-        (None, None) => Ok(true),
-        _ => Ok(false),
+    Ok(StringTransducer::new(names(alloc, row.0)?, rules))
+}
+
+// What the row's rule lacks, where it makes a transducer.
+fn outside(alloc: Global, row: &Row) -> Result<Option<Option<(u32, ClassFault)>>, Fail> {
+    match transducer(alloc, row)? {
+        Some(transducer) => Ok(Some(string_outside(&transducer))),
+        None => Ok(None),
     }
 }
 
 #[test]
 fn a_rule_makes_a_transducer_where_it_has_its_shape(rt: HostRuntime) -> Result<(), Fail> {
     for row in &ROWS {
-        assert!(rt; agrees(rt.alloc(), row)?);
+        assert_eq!(rt; outside(rt.alloc(), row)?, row.3);
     }
     Ok(())
 }

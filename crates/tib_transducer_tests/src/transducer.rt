@@ -13,7 +13,7 @@ type Left = (Option<(Label, u32)>, u32, Option<Label>);
 // A label with its rank, or where there is none a state and a variable.
 type Right = (Option<(Label, u32)>, u32, u32);
 
-fn names(alloc: Global, texts: &[&str]) -> Result<Names, Fail> {
+pub(crate) fn names(alloc: Global, texts: &[&str]) -> Result<Names, Fail> {
     let mut list = Vec::new(alloc);
     for text in texts {
         list.push(text.as_bytes().to_vec(alloc)?)?;
@@ -21,10 +21,7 @@ fn names(alloc: Global, texts: &[&str]) -> Result<Names, Fail> {
     if list.len() > 1000 {
         return Err("too many names".into());
     }
-    match Names::from_list(alloc, list)? {
-        Some(names) => Ok(names),
-        None => Err("no names".into()),
-    }
+    Ok(Names::from_list(alloc, list)?.ok_or("no names")?)
 }
 
 fn left_side(alloc: Global, nodes: &[Left]) -> Result<Side<Variable>, Fail> {
@@ -44,10 +41,7 @@ fn left_side(alloc: Global, nodes: &[Left]) -> Result<Side<Variable>, Fail> {
     if items.len() > 1000 {
         return Err("too many items".into());
     }
-    match Side::from_preorder(items) {
-        Ok(side) => Ok(side),
-        Err(_) => Err("no left side".into()),
-    }
+    Ok(Side::from_preorder(items).ok().ok_or("no left side")?)
 }
 
 fn right_side(alloc: Global, nodes: &[Right]) -> Result<Side<Pair<u32>>, Fail> {
@@ -67,13 +61,10 @@ fn right_side(alloc: Global, nodes: &[Right]) -> Result<Side<Pair<u32>>, Fail> {
     if items.len() > 1000 {
         return Err("too many items".into());
     }
-    match Side::from_preorder(items) {
-        Ok(side) => Ok(side),
-        Err(_) => Err("no right side".into()),
-    }
+    Ok(Side::from_preorder(items).ok().ok_or("no right side")?)
 }
 
-// A transducer of one rule of the state 0 that costs nothing.
+// The transducer of one rule of the state 0 that costs nothing, where it makes one.
 fn of_one_rule(
     alloc: Global,
     texts: &[&str],
@@ -95,48 +86,90 @@ const LEFT: [Left; 3] = [(Some((0, 2)), 0, None), (None, 0, Some(2)), (None, 1, 
 
 const RIGHT: [Right; 3] = [(Some((1, 2)), 0, 0), (None, 0, 1), (None, 1, 0)];
 
+// How many states, rules and names it has, and how many rules its list.
+fn counts_of(transducer: &Transducer<MinPlus>) -> (u32, u32, u32, usize) {
+    (
+        transducer.states(),
+        transducer.rules(),
+        transducer.names().len(),
+        transducer.rule_list().len(),
+    )
+}
+
+fn name_of(transducer: &Transducer<MinPlus>, state: u32) -> Option<&[u8]> {
+    if state >= transducer.states() {
+        return None;
+    }
+    Some(transducer.name(state))
+}
+
+// The state of a rule, and how many items its left side has.
+fn rule_at(transducer: &Transducer<MinPlus>, number: u32) -> Option<(u32, usize)> {
+    if number == 0 || number > transducer.rules() {
+        return None;
+    }
+    let rule = transducer.rule(number);
+    Some((rule.state, rule.left.items().len()))
+}
+
 #[test]
 fn a_transducer_gives_its_parts(rt: HostRuntime) -> Result<(), Fail> {
-    let alloc = rt.alloc();
-    let Some(transducer) = of_one_rule(alloc, &["t", "p"], &LEFT, &RIGHT)? else {
-        return Err("no transducer".into());
-    };
-    assert_eq!(rt; (transducer.states(), transducer.rules()), (2, 1));
-    assert_eq!(rt; transducer.name(1), &b"p"[..]);
-    assert_eq!(rt; transducer.rule(1).left.items().len(), 3);
-    assert_eq!(rt; transducer.rule_list().len(), 1);
-    assert_eq!(rt; transducer.names().len(), 2);
+    let made = of_one_rule(rt.alloc(), &["t", "p"], &LEFT, &RIGHT)?;
+    let transducer = made.ok_or("no transducer")?;
+    assert_eq!(rt; counts_of(&transducer), (2, 1, 2, 1));
+    assert_eq!(rt; name_of(&transducer, 1), Some(b"p".as_slice()));
+    assert_eq!(rt; rule_at(&transducer, 1), Some((0, 3)));
     let (names, rules) = transducer.into_parts();
     assert_eq!(rt; (names.len(), rules.len()), (2, 1));
     Ok(())
 }
 
+// The names of the states, the two sides of a rule, and whether they make a transducer.
+type Row = (
+    &'static [&'static str],
+    &'static [Left],
+    &'static [Right],
+    bool,
+);
+
+static ROWS: [Row; 7] = [
+    // p has no name
+    (&["t"], &LEFT, &RIGHT, false),
+    // there is no name
+    (&[], &LEFT, &[(Some((2, 0)), 0, 0)], false),
+    // t.x0: -> t.x0
+    (&["t"], &[(None, 0, None)], &[(None, 0, 0)], false),
+    // t.A(x1: x0:) -> t.x0
+    (
+        &["t"],
+        &[(Some((0, 2)), 0, None), (None, 1, None), (None, 0, None)],
+        &[(None, 0, 0)],
+        false,
+    ),
+    // t.A(x0: x0:) -> t.x0
+    (
+        &["t"],
+        &[(Some((0, 2)), 0, None), (None, 0, None), (None, 0, None)],
+        &[(None, 0, 0)],
+        false,
+    ),
+    // t.A(x0:a x1:) -> t.x2, and with t.x1 in its place
+    (&["t"], &LEFT, &[(None, 0, 2)], false),
+    (&["t"], &LEFT, &[(None, 0, 1)], true),
+];
+
 #[test]
 fn rules_without_their_shape_make_no_transducer(rt: HostRuntime) -> Result<(), Fail> {
-    let alloc = rt.alloc();
-    // p has no name
-    assert!(rt; of_one_rule(alloc, &["t"], &LEFT, &RIGHT)?.is_none());
-    // there is no name
-    assert!(rt; of_one_rule(alloc, &[], &LEFT, &[(Some((2, 0)), 0, 0)])?.is_none());
-    // t.x0: -> t.x0
-    assert!(rt; of_one_rule(alloc, &["t"], &[(None, 0, None)], &[(None, 0, 0)])?.is_none());
-    // t.A(x1: x0:) -> t.x0
-    let turned = [(Some((0, 2)), 0, None), (None, 1, None), (None, 0, None)];
-    assert!(rt; of_one_rule(alloc, &["t"], &turned, &[(None, 0, 0)])?.is_none());
-    // t.A(x0: x0:) -> t.x0
-    let twice = [(Some((0, 2)), 0, None), (None, 0, None), (None, 0, None)];
-    assert!(rt; of_one_rule(alloc, &["t"], &twice, &[(None, 0, 0)])?.is_none());
-    // t.A(x0:a x1:) -> t.x2, and with t.x1 in its place
-    assert!(rt; of_one_rule(alloc, &["t"], &LEFT, &[(None, 0, 2)])?.is_none());
-    assert!(rt; of_one_rule(alloc, &["t"], &LEFT, &[(None, 0, 1)])?.is_some());
+    for (texts, left, right, want) in &ROWS {
+        assert!(rt; of_one_rule(rt.alloc(), texts, left, right)?.is_some() == *want);
+    }
     Ok(())
 }
 
-#[test]
-fn a_rule_past_65536_is_found(rt: HostRuntime) -> Result<(), Fail> {
-    let alloc = rt.alloc();
+// A transducer with this many rules, the first 65,536 of them of its start.
+fn of_many_rules(alloc: Global, count: u32) -> Result<Transducer<MinPlus>, Fail> {
     let mut rules = Vec::new(alloc);
-    for place in 0..65_537 {
+    for place in 0..count {
         rules.push(TransducerRule {
             state: place / 65_536,
             left: left_side(alloc, &LEFT)?,
@@ -147,12 +180,14 @@ fn a_rule_past_65536_is_found(rt: HostRuntime) -> Result<(), Fail> {
     if rules.len() > 100_000 {
         return Err("too many rules".into());
     }
-    let names = names(alloc, &["t", "p"])?;
-    let Some(transducer) = Transducer::<MinPlus>::new(names, rules) else {
-        return Err("no transducer".into());
-    };
+    Ok(Transducer::new(names(alloc, &["t", "p"])?, rules).ok_or("no transducer")?)
+}
+
+#[test]
+fn a_rule_past_65536_is_found(rt: HostRuntime) -> Result<(), Fail> {
+    let transducer = of_many_rules(rt.alloc(), 65_537)?;
     assert_eq!(rt; transducer.rules(), 65_537);
-    assert_eq!(rt; transducer.rule(65_536).state, 0);
-    assert_eq!(rt; transducer.rule(65_537).state, 1);
+    assert_eq!(rt; rule_at(&transducer, 65_536), Some((0, 3)));
+    assert_eq!(rt; rule_at(&transducer, 65_537), Some((1, 3)));
     Ok(())
 }

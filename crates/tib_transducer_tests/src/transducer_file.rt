@@ -3,267 +3,230 @@ use std::alloc::Global;
 use std::test::Fail;
 use tib_cost::{Boolean, Bottleneck, MinPlus, Semiring, Widest};
 use tib_grammar::{Item, Side};
-use tib_lex::{FaultKind, FileFault, ReadError};
-use tib_transducer::Variable;
+use tib_lex::{FaultKind, ReadError};
+use tib_transducer::{Transducer, Variable};
 use tib_transducer_file::read_transducer;
 use tib_tree::Labels;
 
-// What was read of a file: how many states, rules, labels and variables it has, and how many of the variables ask for a
-// label.
-#[derive(Clone, Copy, Debug, PartialEq, Eq)]
-struct Counts {
-    states: u32,
-    rules: u32,
-    labels: usize,
-    variables: u32,
-    asked: u32,
-}
+// What was read of a file: how many states, rules, labels and variables it has, and how many of the variables ask for a label.
+type Counts = (u32, u32, usize, u32, u32);
 
-// The variables of a side, and those that ask for a label, go to the others.
-fn count_variables(side: &Side<Variable>, counts: Counts) -> Counts {
-    let mut all = counts;
+// The variables of a side, and those that ask for a label.
+fn count_variables(side: &Side<Variable>) -> (u32, u32) {
+    let mut variables: u32 = 0;
+    let mut asked: u32 = 0;
     for item in side.items() {
         if let Item::Hole(variable) = item {
-            all.variables = all.variables.wrapping_add(1);
+            variables = variables.wrapping_add(1);
             if variable.label.is_some() {
-                all.asked = all.asked.wrapping_add(1);
+                asked = asked.wrapping_add(1);
             }
         }
     }
-    all
+    (variables, asked)
 }
 
-// What a file has, or its first fault.
+// What a transducer has.
+fn counts_of<S>(transducer: &Transducer<S>, labels: usize) -> Counts {
+    let mut variables: u32 = 0;
+    let mut asked: u32 = 0;
+    for rule in transducer.rule_list() {
+        let (here, asked_here) = count_variables(&rule.left);
+        variables = variables.wrapping_add(here);
+        asked = asked.wrapping_add(asked_here);
+    }
+    (
+        transducer.states(),
+        transducer.rules(),
+        labels,
+        variables,
+        asked,
+    )
+}
+
+// What a file has, or the line and the kind of its first fault.
 fn answer<S: Semiring + Drop>(
     alloc: Global,
     text: &[u8],
-) -> Result<Result<Counts, FileFault>, Fail> {
+) -> Result<Result<Counts, (u32, FaultKind)>, Fail> {
     if text.len() > 1_000_000 {
         return Err("too long".into());
     }
     let mut labels = Labels::new(alloc);
     match read_transducer::<S>(alloc, text, &mut labels) {
-        Ok(transducer) => {
-            let mut counts = Counts {
-                states: transducer.states(),
-                rules: transducer.rules(),
-                labels: labels.len(),
-                variables: 0,
-                asked: 0,
-            };
-            for n in 0..transducer.rules() {
-                counts = count_variables(&transducer.rule(n + 1).left, counts);
-            }
-            Ok(Ok(counts))
-        }
-        Err(ReadError::Fault(fault)) => Ok(Err(fault)),
+        Ok(transducer) => Ok(Ok(counts_of(&transducer, labels.len()))),
+        Err(ReadError::Fault(fault)) => Ok(Err((fault.line, fault.kind))),
         Err(ReadError::OutOfMemory) => Err("no memory".into()),
     }
 }
 
-// The fault of a file in a semiring.
-fn fault_of<S: Semiring + Drop>(alloc: Global, text: &str) -> Result<FileFault, Fail> {
-    match answer::<S>(alloc, text.as_bytes())? {
-        Ok(_) => Err("a fault was missed".into()),
-        Err(fault) => Ok(fault),
-    }
-}
-
-// What a file has that must be one.
-fn counts_of<S: Semiring + Drop>(alloc: Global, text: &str) -> Result<Counts, Fail> {
-    match answer::<S>(alloc, text.as_bytes())? {
-        Ok(counts) => Ok(counts),
-        Err(_) => Err("a transducer was refused".into()),
-    }
-}
+// A file, and what it has.
+static ROWS: [(&str, Counts); 23] = [
+    ("q\n", (1, 0, 0, 0, 0)),
+    ("% start\n\n q \r\n% end", (1, 0, 0, 0, 0)),
+    (
+        "q\nq.S(x0:NP VP(V(x1:) x2:)) -> S(p.x2 q.x0 \"is\" p.x1) # 3\n",
+        (2, 1, 5, 3, 1),
+    ),
+    ("q\nq.\"A\"(x5) -> \"x5:\"(q.x5)", (1, 1, 2, 1, 0)),
+    ("q\nq.x0() -> a", (1, 1, 2, 0, 0)),
+    ("q\nq.x0(x0) -> q.x0", (1, 1, 1, 1, 0)),
+    ("q\nq.A(x0:\"NP\" x1:\"a b\") -> q.x0", (1, 1, 3, 2, 2)),
+    ("q\nq.A(x0:\"NP\"(x1:) x2) -> f(q.x1 q.x2)", (1, 1, 3, 3, 0)),
+    ("q\nq.A(x0: \"NP\") -> q.x0 # 7", (1, 1, 2, 1, 0)),
+    ("q\nq.A(x0:\"\") -> q.x0", (1, 1, 2, 1, 1)),
+    ("q\nq.\"A.B\" -> a", (1, 1, 2, 0, 0)),
+    ("q\nx0:.A(x7) -> x0:.x7", (2, 1, 1, 1, 0)),
+    ("q\nq.A(x0:.x1) -> q.x0", (1, 1, 2, 1, 1)),
+    ("q\nq.A(x0:) -> q.x0:", (1, 1, 2, 1, 0)),
+    ("q\nq.A(x0:) -> \"q.x0\"", (1, 1, 2, 1, 0)),
+    ("q\nq.A(x0:) -> q.x1()", (1, 1, 2, 1, 0)),
+    ("q\nq.A(x0123456789) -> x0123456789", (1, 1, 2, 0, 0)),
+    ("q\nq.A(x999999999 x7 x0) -> p.x0", (2, 1, 1, 3, 0)),
+    ("q\nq.A(\"x0\" x1) -> a # 007.00", (1, 1, 3, 1, 0)),
+    ("q\nq.A(xy x) -> x", (1, 1, 3, 0, 0)),
+    ("q\nq.A.B -> a.b", (1, 1, 2, 0, 0)),
+    ("q\np.A -> q\nr.A -> p.x\n", (3, 2, 3, 0, 0)),
+    (
+        "q\nq.A(x1 x0) -> f(s.x0 r.x1) # 1 % end\n\nr.A -> A",
+        (3, 2, 2, 2, 0),
+    ),
+];
 
 #[test]
 fn rules_are_read(rt: HostRuntime) -> Result<(), Fail> {
-    for (text, states, rules, labels, variables, asked) in [
-        ("q\n", 1, 0, 0, 0, 0),
-        ("% start\n\n q \r\n% end", 1, 0, 0, 0, 0),
-        (
-            "q\nq.S(x0:NP VP(V(x1:) x2:)) -> S(p.x2 q.x0 \"is\" p.x1) # 3\n",
-            2,
-            1,
-            5,
-            3,
-            1,
-        ),
-        ("q\nq.\"A\"(x5) -> \"x5:\"(q.x5)", 1, 1, 2, 1, 0),
-        ("q\nq.x0() -> a", 1, 1, 2, 0, 0),
-        ("q\nq.x0(x0) -> q.x0", 1, 1, 1, 1, 0),
-        ("q\nq.A(x0:\"NP\" x1:\"a b\") -> q.x0", 1, 1, 3, 2, 2),
-        ("q\nq.A(x0:\"NP\"(x1:) x2) -> f(q.x1 q.x2)", 1, 1, 3, 3, 0),
-        ("q\nq.A(x0: \"NP\") -> q.x0 # 7", 1, 1, 2, 1, 0),
-        ("q\nq.A(x0:\"\") -> q.x0", 1, 1, 2, 1, 1),
-        ("q\nq.\"A.B\" -> a", 1, 1, 2, 0, 0),
-        ("q\nx0:.A(x7) -> x0:.x7", 2, 1, 1, 1, 0),
-        ("q\nq.A(x0:.x1) -> q.x0", 1, 1, 2, 1, 1),
-        ("q\nq.A(x0:) -> q.x0:", 1, 1, 2, 1, 0),
-        ("q\nq.A(x0:) -> \"q.x0\"", 1, 1, 2, 1, 0),
-        ("q\nq.A(x0:) -> q.x1()", 1, 1, 2, 1, 0),
-        ("q\nq.A(x0123456789) -> x0123456789", 1, 1, 2, 0, 0),
-        ("q\nq.A(x999999999 x7 x0) -> p.x0", 2, 1, 1, 3, 0),
-        ("q\nq.A(\"x0\" x1) -> a # 007.00", 1, 1, 3, 1, 0),
-        ("q\nq.A(xy x) -> x", 1, 1, 3, 0, 0),
-        ("q\nq.A.B -> a.b", 1, 1, 2, 0, 0),
-        ("q\np.A -> q\nr.A -> p.x\n", 3, 2, 3, 0, 0),
-        (
-            "q\nq.A(x1 x0) -> f(s.x0 r.x1) # 1 % end\n\nr.A -> A",
-            3,
-            2,
-            2,
-            2,
-            0,
-        ),
-    ] {
-        let want = Counts {
-            states,
-            rules,
-            labels,
-            variables,
-            asked,
-        };
-        let counts = counts_of::<MinPlus>(rt.alloc(), text)?;
-        assert_eq!(rt; counts, want, "{text}");
+    for (text, counts) in &ROWS {
+        let answer = answer::<MinPlus>(rt.alloc(), text.as_bytes())?;
+        assert_eq!(rt; answer, Ok(*counts), "{text}");
     }
     Ok(())
 }
+
+// A file, and the line and the kind of its first fault.
+static FAULTS: [(&str, (u32, FaultKind)); 48] = [
+    ("", (1, FaultKind::NoStart)),
+    ("\n% q\n", (1, FaultKind::NoStart)),
+    ("q r\n", (1, FaultKind::BadRule)),
+    ("\nq.A\n", (2, FaultKind::BadRule)),
+    ("\"q\"\n", (1, FaultKind::BadRule)),
+    ("\"q\n", (1, FaultKind::BadToken)),
+    ("q\nq.x0 -> a", (2, FaultKind::LoneVariable)),
+    ("q\nq.x0:NP -> a", (2, FaultKind::LoneVariable)),
+    ("q\nq.x0:\"NP\" -> a", (2, FaultKind::BadRule)),
+    ("q\nq.x0: -> q.x1 # 0.5", (2, FaultKind::LoneVariable)),
+    (
+        "q\nq.A(x0: x0:) -> q.x1 # 0.5",
+        (2, FaultKind::VariableTwice),
+    ),
+    ("q\nq.A(x0) -> q.x1 # 0.5", (2, FaultKind::UnknownVariable)),
+    ("q\nq.A(x000000000 x0) -> a", (2, FaultKind::VariableTwice)),
+    ("q\nq.A(x0:NP x0:VP) -> a", (2, FaultKind::VariableTwice)),
+    ("q\nq.A(x0:) -> x0", (2, FaultKind::BadRule)),
+    ("q\nq.A(x0:) -> x0:NP", (2, FaultKind::BadRule)),
+    ("q\nq. \"A\" -> a", (2, FaultKind::BadRule)),
+    ("q\nq -> a", (2, FaultKind::BadRule)),
+    ("q\n\"q.A\" -> a", (2, FaultKind::BadRule)),
+    ("q\n.A -> a", (2, FaultKind::BadRule)),
+    ("q\n->.A -> a", (2, FaultKind::BadRule)),
+    ("q\nq.A B -> a", (2, FaultKind::BadRule)),
+    ("q\nq.A -> a b", (2, FaultKind::BadRule)),
+    ("q\nq.A(-> a)", (2, FaultKind::BadRule)),
+    ("q\nq.A -> a # \"1\"", (2, FaultKind::BadRule)),
+    ("q\nq.A -> a # 1 1", (2, FaultKind::BadRule)),
+    ("q\nq.A -> \"", (2, FaultKind::BadToken)),
+    // each kind on several lines
+    ("q\nq.A -> \" # 0.5", (2, FaultKind::BadToken)),
+    ("q\nq.A -> a\nq.A -> \"\n\"", (3, FaultKind::BadToken)),
+    ("q\n\nq.A -> a\nq.A -> \"", (4, FaultKind::BadToken)),
+    ("q\nq.A a\nq.A -> \"", (2, FaultKind::BadRule)),
+    ("q\nq.A -> a\nq.A a", (3, FaultKind::BadRule)),
+    ("q\n\nq.A -> a\nq.A a\n", (4, FaultKind::BadRule)),
+    ("q\nq.x1 -> a\nq", (2, FaultKind::LoneVariable)),
+    ("q\nq.A -> a\nq.x1: -> a", (3, FaultKind::LoneVariable)),
+    ("q\n\nq.A -> a\nq.x1:B -> a", (4, FaultKind::LoneVariable)),
+    ("q\nq.A(x0 x0) -> a\nq", (2, FaultKind::VariableTwice)),
+    (
+        "q\nq.A -> a\nq.A(B(x0) x0:) -> a",
+        (3, FaultKind::VariableTwice),
+    ),
+    (
+        "q\n\nq.A -> a\nq.A(x0:B x00) -> a",
+        (4, FaultKind::VariableTwice),
+    ),
+    ("q\nq.A -> q.x0\nq", (2, FaultKind::UnknownVariable)),
+    (
+        "q\nq.A -> a\nq.A(x0) -> f(q.x1)",
+        (3, FaultKind::UnknownVariable),
+    ),
+    (
+        "q\n\nq.A(x0) -> q.x0\nq.A -> q.x0",
+        (4, FaultKind::UnknownVariable),
+    ),
+    ("q\nq.A -> a # 0.5\nq", (2, FaultKind::NotWhole)),
+    ("q\nq.A -> a\nq.A -> a # -1", (3, FaultKind::NotWhole)),
+    ("q\n\nq.A -> a # 1\nq.A -> a # x", (4, FaultKind::NotWhole)),
+    (
+        "q\nq.A -> a # 1000000000000001\nq",
+        (2, FaultKind::WeightTooLarge),
+    ),
+    (
+        "q\nq.A -> a\nq.A -> a # 1000000000000001.0",
+        (3, FaultKind::WeightTooLarge),
+    ),
+    (
+        "q\n\nq.A -> a # 1\nq.A -> a # 9999999999999999999999",
+        (4, FaultKind::WeightTooLarge),
+    ),
+];
 
 #[test]
 fn the_first_fault_is_named(rt: HostRuntime) -> Result<(), Fail> {
-    for (text, line, kind) in [
-        ("", 1, FaultKind::NoStart),
-        ("\n% q\n", 1, FaultKind::NoStart),
-        ("q r\n", 1, FaultKind::BadRule),
-        ("\nq.A\n", 2, FaultKind::BadRule),
-        ("\"q\"\n", 1, FaultKind::BadRule),
-        ("\"q\n", 1, FaultKind::BadToken),
-        ("q\nq.x0 -> a", 2, FaultKind::LoneVariable),
-        ("q\nq.x0:NP -> a", 2, FaultKind::LoneVariable),
-        ("q\nq.x0:\"NP\" -> a", 2, FaultKind::BadRule),
-        ("q\nq.x0: -> q.x1 # 0.5", 2, FaultKind::LoneVariable),
-        ("q\nq.A(x0: x0:) -> q.x1 # 0.5", 2, FaultKind::VariableTwice),
-        ("q\nq.A(x0) -> q.x1 # 0.5", 2, FaultKind::UnknownVariable),
-        ("q\nq.A(x000000000 x0) -> a", 2, FaultKind::VariableTwice),
-        ("q\nq.A(x0:NP x0:VP) -> a", 2, FaultKind::VariableTwice),
-        ("q\nq.A(x0:) -> x0", 2, FaultKind::BadRule),
-        ("q\nq.A(x0:) -> x0:NP", 2, FaultKind::BadRule),
-        ("q\nq. \"A\" -> a", 2, FaultKind::BadRule),
-        ("q\nq -> a", 2, FaultKind::BadRule),
-        ("q\n\"q.A\" -> a", 2, FaultKind::BadRule),
-        ("q\n.A -> a", 2, FaultKind::BadRule),
-        ("q\n->.A -> a", 2, FaultKind::BadRule),
-        ("q\nq.A B -> a", 2, FaultKind::BadRule),
-        ("q\nq.A -> a b", 2, FaultKind::BadRule),
-        ("q\nq.A(-> a)", 2, FaultKind::BadRule),
-        ("q\nq.A -> a # \"1\"", 2, FaultKind::BadRule),
-        ("q\nq.A -> a # 1 1", 2, FaultKind::BadRule),
-        ("q\nq.A -> \"", 2, FaultKind::BadToken),
-    ] {
-        let fault = fault_of::<MinPlus>(rt.alloc(), text)?;
-        assert_eq!(rt; fault, FileFault { line, kind }, "{text}");
-    }
-    Ok(())
-}
-
-#[test]
-fn each_fault_is_named_on_each_line(rt: HostRuntime) -> Result<(), Fail> {
-    for (text, line, kind) in [
-        ("q\nq.A -> \" # 0.5", 2, FaultKind::BadToken),
-        ("q\nq.A -> a\nq.A -> \"\n\"", 3, FaultKind::BadToken),
-        ("q\n\nq.A -> a\nq.A -> \"", 4, FaultKind::BadToken),
-        ("q\nq.A a\nq.A -> \"", 2, FaultKind::BadRule),
-        ("q\nq.A -> a\nq.A a", 3, FaultKind::BadRule),
-        ("q\n\nq.A -> a\nq.A a\n", 4, FaultKind::BadRule),
-        ("q\nq.x1 -> a\nq", 2, FaultKind::LoneVariable),
-        ("q\nq.A -> a\nq.x1: -> a", 3, FaultKind::LoneVariable),
-        ("q\n\nq.A -> a\nq.x1:B -> a", 4, FaultKind::LoneVariable),
-        ("q\nq.A(x0 x0) -> a\nq", 2, FaultKind::VariableTwice),
-        (
-            "q\nq.A -> a\nq.A(B(x0) x0:) -> a",
-            3,
-            FaultKind::VariableTwice,
-        ),
-        (
-            "q\n\nq.A -> a\nq.A(x0:B x00) -> a",
-            4,
-            FaultKind::VariableTwice,
-        ),
-        ("q\nq.A -> q.x0\nq", 2, FaultKind::UnknownVariable),
-        (
-            "q\nq.A -> a\nq.A(x0) -> f(q.x1)",
-            3,
-            FaultKind::UnknownVariable,
-        ),
-        (
-            "q\n\nq.A(x0) -> q.x0\nq.A -> q.x0",
-            4,
-            FaultKind::UnknownVariable,
-        ),
-        ("q\nq.A -> a # 0.5\nq", 2, FaultKind::NotWhole),
-        ("q\nq.A -> a\nq.A -> a # -1", 3, FaultKind::NotWhole),
-        ("q\n\nq.A -> a # 1\nq.A -> a # x", 4, FaultKind::NotWhole),
-        (
-            "q\nq.A -> a # 1000000000000001\nq",
-            2,
-            FaultKind::WeightTooLarge,
-        ),
-        (
-            "q\nq.A -> a\nq.A -> a # 1000000000000001.0",
-            3,
-            FaultKind::WeightTooLarge,
-        ),
-        (
-            "q\n\nq.A -> a # 1\nq.A -> a # 9999999999999999999999",
-            4,
-            FaultKind::WeightTooLarge,
-        ),
-    ] {
-        let fault = fault_of::<MinPlus>(rt.alloc(), text)?;
-        assert_eq!(rt; fault, FileFault { line, kind }, "{text}");
+    for (text, fault) in &FAULTS {
+        let answer = answer::<MinPlus>(rt.alloc(), text.as_bytes())?;
+        assert_eq!(rt; answer, Err(*fault), "{text}");
     }
     Ok(())
 }
 
 // One rule of weight 0.5 in each semiring.
+const HALF: &[u8] = b"q\nq.A -> a # 1\nq.A -> a # 0.5";
+
 #[test]
 fn each_semiring_reads_its_weights(rt: HostRuntime) -> Result<(), Fail> {
-    let text = "q\nq.A -> a # 1\nq.A -> a # 0.5";
-    let want = FileFault {
-        line: 3,
-        kind: FaultKind::NotWhole,
-    };
-    let plus = fault_of::<MinPlus>(rt.alloc(), text)?;
-    assert_eq!(rt; plus, want);
-    let bottleneck = fault_of::<Bottleneck>(rt.alloc(), text)?;
-    assert_eq!(rt; bottleneck, want);
-    let widest = fault_of::<Widest>(rt.alloc(), text)?;
-    assert_eq!(rt; widest, want);
-    let boolean = counts_of::<Boolean>(rt.alloc(), text)?;
-    assert_eq!(rt; boolean.rules, 2);
+    let fault = Err((3, FaultKind::NotWhole));
+    assert_eq!(rt; answer::<MinPlus>(rt.alloc(), HALF)?, fault);
+    assert_eq!(rt; answer::<Bottleneck>(rt.alloc(), HALF)?, fault);
+    assert_eq!(rt; answer::<Widest>(rt.alloc(), HALF)?, fault);
+    assert_eq!(rt; answer::<Boolean>(rt.alloc(), HALF)?, Ok((1, 2, 2, 0, 0)));
     Ok(())
+}
+
+const FILE: &[u8] =
+    b"q\nq.S(x0:\"NP\" x1:) -> S(p.x1 q.x0) # 3\np.NP(x0) -> r.x0\n\nr.\"A B\" -> \"a b\" # 7\nq.VP(V(x2) x1) -> f(q.x1 q.x2)\nq.A -> q.x() # 0\n";
+
+// Whether the front of the file up to a byte has rules, fewer than these lines, or a fault in the last of them.
+fn is_front_read(alloc: Global, end: usize, lines: u32) -> Result<bool, Fail> {
+    if end > FILE.len() {
+        return Err("no such byte".into());
+    }
+    match answer::<MinPlus>(alloc, &FILE[..end])? {
+        Ok((_, rules, ..)) => Ok(rules < lines),
+        Err((line, _)) => Ok(line == lines),
+    }
 }
 
 // A file that is cut off behind each of its bytes has rules, or a fault in its last line.
 #[test]
 fn each_front_of_a_file_is_read(rt: HostRuntime) -> Result<(), Fail> {
-    let text =
-        "q\nq.S(x0:\"NP\" x1:) -> S(p.x1 q.x0) # 3\np.NP(x0) -> r.x0\n\nr.\"A B\" -> \"a b\" # 7\nq.VP(V(x2) x1) -> f(q.x1 q.x2)\nq.A -> q.x() # 0\n";
-    let bytes = text.as_bytes();
     let mut lines: u32 = 1;
-    for end in 1..bytes.len() {
-        match answer::<MinPlus>(rt.alloc(), &bytes[..end])? {
-            Ok(counts) => assert!(rt; counts.rules < lines),
-            Err(fault) => assert_eq!(rt; fault.line, lines),
-        }
-        if bytes[end] == b'\n' {
+    for end in 1..FILE.len() {
+        assert!(rt; is_front_read(rt.alloc(), end, lines)?);
+        if FILE[end] == b'\n' {
             lines = lines.wrapping_add(1);
         }
     }
-    let all = counts_of::<MinPlus>(rt.alloc(), text)?;
-    assert_eq!(rt; all.rules, 5);
+    let all = answer::<MinPlus>(rt.alloc(), FILE)?;
+    assert_eq!(rt; all.map(|counts| counts.1), Ok(5));
     Ok(())
 }
 
@@ -283,22 +246,23 @@ fn repeated(
     Ok(text)
 }
 
+// What is answered where a front and a back stand about a number of leaves.
+fn answer_about(
+    alloc: Global,
+    front: &str,
+    leaves: u32,
+    back: &str,
+) -> Result<Result<Counts, (u32, FaultKind)>, Fail> {
+    let text = repeated(alloc, front.as_bytes(), b"a ", leaves, back.as_bytes())?;
+    answer::<MinPlus>(alloc, &text)
+}
+
 #[test]
 fn ten_thousand_nodes_are_read_and_no_more(rt: HostRuntime) -> Result<(), Fail> {
     for (front, back) in [("q\nq.f(", ") -> a"), ("q\nq.a -> f(", ")")] {
-        let few = repeated(rt.alloc(), front.as_bytes(), b"a ", 9_999, back.as_bytes())?;
-        assert!(rt; answer::<MinPlus>(rt.alloc(), &few)?.is_ok());
-        let many = repeated(rt.alloc(), front.as_bytes(), b"a ", 10_000, back.as_bytes())?;
-        match answer::<MinPlus>(rt.alloc(), &many)? {
-            Ok(_) => return Err("too many nodes were read".into()),
-            Err(fault) => assert_eq!(rt;
-                fault,
-                FileFault {
-                    line: 2,
-                    kind: FaultKind::TooManyNodes
-                }
-            ),
-        }
+        assert!(rt; answer_about(rt.alloc(), front, 9_999, back)?.is_ok());
+        let many = answer_about(rt.alloc(), front, 10_000, back)?;
+        assert_eq!(rt; many, Err((2, FaultKind::TooManyNodes)));
     }
     Ok(())
 }

@@ -107,7 +107,7 @@ static TRANSDUCER_FRONTS: [Front; 16] = [
     (59, Status::Done, SPELLED),
 ];
 
-// The answer on a front of so many bytes.
+// The answer on a front of this many bytes.
 fn front_at(fronts: &[Front], bytes: usize) -> Option<Front> {
     let mut last = None;
     for front in fronts {

@@ -45,7 +45,7 @@ pub static LIMITED_OTHERS: [Limited; 6] = [
     ("minplus", "compare", ONE_LEAF, OTHER_LEAF, 8),
 ];
 
-/// An operation whose first file is a comment of so many bytes, and how it ends.
+/// An operation whose first file is a comment of this many bytes, and how it ends.
 pub type Length = (&'static [&'static str], usize, Status);
 
 /// The lengths, at most 8,388,608 and one more.
