@@ -5,7 +5,7 @@ use Rattle.std.proofs.lemmas.List.{length-map}
 use Rattle.tib_lex.specs.Lists.{Has}
 use Rattle.tib_lex.proofs.Lists.{has_mapped}
 use Rattle.tib_lex.proofs.Members.{at_has}
-use Rattle.tib_tree.specs.Trees.{size}
+use Rattle.tib_tree.specs.Trees.{size, most_nodes}
 use Rattle.tib_k_best_laws.specs.Best.{Costed}
 use Rattle.tib_k_best_laws.specs.Pass.{zeros, offer, HasTree}
 use Rattle.tib_k_best_laws.specs.Pass as pass
@@ -126,7 +126,7 @@ module _ (product : ℕ → ℕ → ℕ) (x : ListsOf) (a : AskingOf) (k : IsAsk
   larger_least same =
       larger product x.labels x.rules (entries_of x) k.fronts above.state t.taken c.rule (t.preceded c.rule) (t.placed c.rule) sj.front sq.front p j sq.back sj.back sq.is (sj.long ∙ sym sq.long) stands_here end_p same some_above
 
-  small : (r : ℕ) → least_size (entries_of x r) ≤ 10000
+  small : (r : ℕ) → least_size (entries_of x r) ≤ most_nodes
   small r = by (entries_of x r) (λ z h.
       let e = has_mapped (told x.trees) (list_of x r) z h in
       let f = at_has (list_of x r) e.0 no_entry e.1 in
@@ -134,7 +134,7 @@ module _ (product : ℕ → ℕ → ℕ) (x : ListsOf) (a : AskingOf) (k : IsAsk
       let g : size z.0 ≡ size (tree_at x.trees (entry_at x r f.0).tree) = ap (λ (w : Costed). size w.0) (sym e.2) ∙ ap (λ (b : Entry). size (tree_at x.trees b.tree)) (sym f.2) in
       omega (arith, s, g))
     where
-      by : (xs : List Costed) → ((z : Costed) → Has xs z → size z.0 ≤ 10000) → least_size xs ≤ 10000
+      by : (xs : List Costed) → ((z : Costed) → Has xs z → size z.0 ≤ most_nodes) → least_size xs ≤ most_nodes
       by [] h = omega arith
       by (z ∷ zs) h = omega (arith, least_le (z ∷ zs) z (inl refl), h z (inl refl))
 

@@ -6,7 +6,7 @@ use Rattle.std.proofs.lemmas.List.{length-map, get_or-set_same, get_or-set_other
 use Rattle.tib_lex.specs.Lists.{Has}
 use Rattle.tib_lex.proofs.Lists.{append_nil}
 use Rattle.tib_lex.proofs.Members.{has_left}
-use Rattle.tib_tree.specs.Trees.{Tree, size, only}
+use Rattle.tib_tree.specs.Trees.{Tree, size, only, most_nodes}
 use Rattle.tib_tree.specs.Growth.{LabelsBelow}
 use Rattle.tib_grammar.specs.Range.{AreInRange}
 use Rattle.tib_k_best_laws.specs.Best.{Costed, IsNextAt, IsFrontAt}
@@ -48,7 +48,7 @@ pub record HasNew (x : ListsOf) (ts : List (Tree ℕ)) (n : ℕ) (t : Tree ℕ) 
   pub still : AreStill x.trees ts
   pub only : (m : ℕ) → m < length ts → (m < length x.trees) ⊎ (tree_at ts m ≡ tree_at ts n)
 
-module _ (x : ListsOf) (s : IsSound x) (ts : List (Tree ℕ)) (n : ℕ) (t : Tree ℕ) (h : HasNew x ts n t) (small : size t ≤ 10000) (labelled : LabelsBelow (length x.labels) (only t)) where
+module _ (x : ListsOf) (s : IsSound x) (ts : List (Tree ℕ)) (n : ℕ) (t : Tree ℕ) (h : HasNew x ts n t) (small : size t ≤ most_nodes) (labelled : LabelsBelow (length x.labels) (only t)) where
   -- what holds of each tree that was there, and of the new one, holds of each
   each_tree : (P : Tree ℕ → Type 0) → ((i : ℕ) → i < length x.trees → P (tree_at x.trees i)) → P t → (i : ℕ) → i < length ts → P (tree_at ts i)
   each_tree P old new i l = elim (h.only i l) [
@@ -77,7 +77,7 @@ module _ (x : ListsOf) (s : IsSound x) (ts : List (Tree ℕ)) (n : ℕ) (t : Tre
     listed = λ q j l. omega (arith, s.listed q j l, h.still.more);
     labelled = each_tree (λ u. LabelsBelow (length x.labels) (only u)) s.labelled labelled;
     few = s.few;
-    small = each_tree (λ u. size u ≤ 10000) s.small small;
+    small = each_tree (λ u. size u ≤ most_nodes) s.small small;
   }
 
   -- it is listed now
@@ -148,7 +148,7 @@ module _ (x : ListsOf) (s : IsSound x) (ts : List (Tree ℕ)) (n : ℕ) (t : Tre
         | inl f ↦ subst (λ (r : ℕ). length (list_of z r) < 2 ^ 32) (sym f) (omega (arith, few, long_here))
         | inr o ↦ omega (arith, s.few p, ap (λ (es : List Entry). length es) (list_there p o))
       ];
-      small = each_tree (λ w. size w ≤ 10000) s.small small;
+      small = each_tree (λ w. size w ≤ most_nodes) s.small small;
     }
 
     pub listed_now : (pairs now : List (ℕ × ℕ)) → AreListed x pairs → ((p : ℕ × ℕ) → Has pairs p → Has now p) → Has now (u, n) → ((p : ℕ × ℕ) → Has now p → Has pairs p ⊎ (p ≡ (u, n))) → AreListed z now

@@ -65,7 +65,7 @@ module _ (product : ℕ → ℕ → ℕ) (x : ListsOf) (s : AreSound product x) 
   pub made_all : ((n : ℕ) → length x.candidates ≤ n → n < length cs → IsMade product (grown x ts ls cs rs) n) → (n : ℕ) → n < length cs → IsMade product (grown x ts ls cs rs) n
   made_all new n h = elim (below_or n (length x.candidates)) [ inl l ↦ made_kept n l | inr l ↦ new n l h ]
 
--- what is known of lists does not hang on ranks and candidates
+-- what is known of lists does not depend on ranks and candidates
 pub sound_kept : (x : ListsOf) → IsSound x → (cs : List Candidate) (rs : List ℕ) → IsSound (grown x x.trees x.lists cs rs)
 sound_kept x s cs rs = record {
   normal = s.normal;
@@ -102,7 +102,7 @@ more_more x y z m n = record {
   ranks = (m.ranks.0 ++ n.ranks.0, n.ranks.1 ∙ ap (λ (rs : List ℕ). rs ++ n.ranks.0) m.ranks.1 ∙ append_assoc x.ranks m.ranks.0 n.ranks.0);
 }
 
--- what does not hang on candidates and ranks holds after as before
+-- what does not depend on candidates and ranks holds after as before
 pub more_keeps : (x y : ListsOf) → AreMoreCandidates x y → (P : ListsOf → Type 0) → P (grown x x.trees x.lists y.candidates y.ranks) → P y
 more_keeps x y m P p = subst P (sym m.same) p
 

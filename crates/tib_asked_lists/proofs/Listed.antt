@@ -7,7 +7,7 @@ use Rattle.tib_lex.specs.Lists.{Has}
 use Rattle.tib_lex.proofs.Lists.{has_mapped}
 use Rattle.tib_lex.proofs.Members.{at_has, has_right}
 use Rattle.tib_cost.specs.Semiring.{ProductLaws}
-use Rattle.tib_tree.specs.Trees.{Tree, size, only}
+use Rattle.tib_tree.specs.Trees.{Tree, size, only, most_nodes}
 use Rattle.tib_tree.specs.Growth.{LabelsBelow}
 use Rattle.tib_grammar.specs.Run.{rule_at}
 use Rattle.tib_k_best_laws.specs.Best.{Costed, IsNextAt, HasLarge}
@@ -118,7 +118,7 @@ module _ {levelled weighted : Bool} {product : ℕ → ℕ → ℕ} (laws : Prod
       (p.0, p.1, ap (λ (b : Entry). tree_at x.trees b.tree) p.2 ∙ ap (λ (y : Costed). y.0) e.2)
 
   -- a tree of more than 10,000 nodes is not listed, so it is next
-  pub large : 10000 < size tree → HasLarge product x.labels x.rules a.k u
+  pub large : most_nodes < size tree → HasLarge product x.labels x.rules a.k u
   large big = record {
     front = entries_of x u;
     is_front = i.fronts u;
@@ -128,7 +128,7 @@ module _ {levelled weighted : Bool} {product : ℕ → ℕ → ℕ} (laws : Prod
     large = big;
   }
 
-  module _ (small : size tree ≤ 10000) (pairs : List (ℕ × ℕ)) (y : ListsOf) (l : IsListing x u m a.listed y pairs) where
+  module _ (small : size tree ≤ most_nodes) (pairs : List (ℕ × ℕ)) (y : ListsOf) (l : IsListing x u m a.listed y pairs) where
     has_new : HasNew x l.trees l.number tree
     has_new = record { below = l.has.below; named = l.has.named; still = l.has.still; only = l.has.only }
 

@@ -70,7 +70,7 @@ fn add_raised<S: Semiring>(
     add::<S>(lists, heap, rule, raised)
 }
 
-// Offers a heap the candidate whose i-th rank is one higher, where there is such an entry.
+// Offers a heap the candidate whose i-th rank is one higher, where there is that entry.
 pub(crate) fn add_next<S: Semiring>(
     lists: &mut Lists,
     heap: &mut Vec<u32>,

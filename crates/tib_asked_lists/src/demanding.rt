@@ -47,7 +47,7 @@ impl Asking {
         self.last(demand.state)
     }
 
-    // Puts the demand for what stands behind the i-th of the ranks from `start` on onto the stack,
+    // Puts the demand for the entry after the i-th of the ranks from `start` on onto the stack,
     // unless it is met.
     fn push_demand<S: Semiring>(
         &self,
@@ -80,7 +80,7 @@ impl Asking {
         }
     }
 
-    // Puts the demands for what stands behind the ranks from `start` on onto the stack that are not
+    // Puts the demands for the entries after the ranks from `start` on onto the stack that are not
     // met. They have fewer nodes than the tree that the rule makes.
     fn push_demands<S: Semiring>(
         &self,

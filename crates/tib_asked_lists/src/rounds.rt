@@ -18,7 +18,7 @@ use tib_cost::Semiring;
 use tib_k_best_lists::Lists;
 
 impl Asking {
-    // Whether each state below a rule was asked for what stands behind its rank.
+    // Whether each state below a rule was asked for the entry after its rank.
     fn is_answered<S: Semiring>(&self, lists: &Lists, rule: u32, start: usize) -> bool
         requires kept { IsAsking S.product lists.now (asking_of self.now) }
         requires tuple { IsTuple lists.now rule (ranks_from lists.now rule start) }

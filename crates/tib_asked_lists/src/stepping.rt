@@ -17,7 +17,7 @@ use tib_cost::Semiring;
 use tib_k_best_lists::Lists;
 
 // The most nodes that a listed tree may have.
-const MOST_NODES: u64 = 10_000;
+const MOST_NODES: u64 = tib_tree::MOST_NODES as u64;
 
 impl Asking {
     // Lets a state take its least candidate, where the states below its last one were asked.

@@ -41,7 +41,7 @@ impl Asking {
         lists.len(question.state) < self.k as usize
     }
 
-    // The question for the i-th state below a rule, if it is to be asked for what stands behind the
+    // The question for the i-th state below a rule, if it is to be asked for the entry after the
     // i-th of the ranks from `start` on.
     pub(crate) fn below<S: Semiring>(
         &self,

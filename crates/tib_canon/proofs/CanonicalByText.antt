@@ -1,4 +1,4 @@
--- The text of the canonical form does not hang on the numbers of labels.
+-- The text of the canonical form does not depend on the numbers of labels.
 use Rattle.tib_cost.specs.declared.Scale.{Scale}
 use Rattle.std.proofs.Common.{◌≡◌, ℕ, ◌+◌, ◌<◌, List, [], ◌∷◌, length, get_or, refl, ap, sym, ◌∙◌, subst, arith, suc, inl, inr}
 use Rattle.std.proofs.lemmas.List.{length-map, get_or-map}

@@ -9,7 +9,7 @@ use Rattle.tib_grammar.specs.Run.{no_rule}
 use Rattle.tib_grammar.specs.declared.Rule.{Rule}
 use Rattle.tib_grammar_file.specs.Printable.{IsPlainCost, ArePrintable}
 use Rattle.tib_grammar_file.proofs.Plain.{are_labelled}
-use Rattle.tib_cost.specs.Semiring.{ProductLaws}
+use Rattle.tib_cost.specs.Semiring.{ProductLaws, most}
 use Rattle.tib_inside.specs.Settling.{costs_in}
 use Rattle.tib_inside.specs.Trimmed.{IsTrimmed}
 use Rattle.tib_inside.proofs.Keeping.{kept}
@@ -28,7 +28,7 @@ use Rattle.tib_canon.proofs.Within.{rules_safe}
 use Rattle.tib_lex.proofs.Members.{at_has}
 use Rattle.tib_grammar.specs.Series.{HasSameSeries}
 
-plain_within : (scale : Scale) (cost : ℕ) → IsPlainCost scale cost → cost ≤ 1000000000000000
+plain_within : (scale : Scale) (cost : ℕ) → IsPlainCost scale cost → cost ≤ most
 plain_within scales.Plain cost h = h
 plain_within scales.Reversed cost h = h
 plain_within scales.Unweighted cost h = omega (arith, h)

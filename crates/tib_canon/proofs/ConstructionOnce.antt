@@ -1,4 +1,4 @@
--- The canonical text of a construction does not hang on the numbers of labels.
+-- The canonical text of a construction does not depend on the numbers of labels.
 use Rattle.tib_cost.specs.declared.Scale.{Scale}
 use Rattle.std.proofs.Common.{◌≡◌, ℕ, ◌<◌, List, [], ◌∷◌, ◌++◌, length, map, get_or, suc, refl, ap, sym, ◌∙◌, subst}
 use Rattle.std.proofs.lemmas.List.{map-append}

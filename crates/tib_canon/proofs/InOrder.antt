@@ -1,4 +1,5 @@
 -- Sorted lines give a grammar in canonical order.
+use Rattle.tib_cost.specs.Semiring.{most}
 use Rattle.tib_lex.proofs.Lists.{Each-from, Ascends-from, has_mapped, mapped_has}
 use Rattle.tib_cost.specs.declared.Scale.{Scale}
 use Rattle.std.proofs.Common.{◌≡◌, ℕ, ◌<◌, ◌≤◌, List, [], ◌∷◌, length, map, get_or, refl, ap, sym, ◌∙◌, subst, arith, suc, inl, inr, ◌⊎◌}
@@ -46,7 +47,7 @@ pub record AreSorted (scale : Scale) (labels : List (List ℕ)) (g : GrammarOf) 
   pub sorted : IsSorted line_cmp now
   pub names : AreStateNames (names_of (length g.names))
   pub labels_apart : Distinct labels
-  pub safe : (m : ℕ) → m < length g.rules → (rule_at g.rules m).cost ≤ 1000000000000000 → IsSafe (names_of (length g.names)) labels (rule_at g.rules m)
+  pub safe : (m : ℕ) → m < length g.rules → (rule_at g.rules m).cost ≤ most → IsSafe (names_of (length g.names)) labels (rule_at g.rules m)
 
 module _ (scale : Scale) (labels : List (List ℕ)) (g : GrammarOf) (now : List Line) (s : AreSorted scale labels g now) where
   abbrev pub names : List (List ℕ)

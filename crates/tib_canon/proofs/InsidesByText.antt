@@ -1,4 +1,4 @@
--- Inside costs, live rules and useful states do not hang on labels.
+-- Inside costs, live rules and useful states do not depend on labels.
 use Rattle.std.proofs.Common.{ℕ, ◌≤◌, List, [], ◌∷◌, get_or, sym, ◌∙◌, subst, arith, Option}
 use Rattle.std.specs.Prelude.{Some, None}
 use Rattle.tib_lex.specs.Lists.{Has, Along}

@@ -1,4 +1,5 @@
 -- Sorted lines, by what the calls before them say.
+use Rattle.tib_cost.specs.Semiring.{most}
 use Rattle.tib_cost.specs.declared.Scale.{Scale}
 use Rattle.std.proofs.Common.{◌≡◌, ℕ, ◌<◌, ◌≤◌, List, [], ◌∷◌, ◌++◌, length, map, get_or, ap, sym, ◌∙◌, subst, arith}
 use Rattle.std.specs.Prelude.{IsPermutation, IsSorted, Some, slice_get}
@@ -35,12 +36,12 @@ distinct_texts texts d =
 
 pub rules_safe :
     (n : ℕ) (labels : List (List ℕ)) (rules : List (Rule ℕ)) → AreInRange n rules → SidesEndInHoles rules → AreLabelled (length labels) rules →
-    (m : ℕ) → m < length rules → (rule_at rules m).cost ≤ 1000000000000000 → IsSafe (names_of n) labels (rule_at rules m)
+    (m : ℕ) → m < length rules → (rule_at rules m).cost ≤ most → IsSafe (names_of n) labels (rule_at rules m)
 rules_safe n labels rules range leaves labelled m h within =
     let r : IsInRange (length (names_of n)) (rule_at rules m) = subst (λ k. IsInRange k (rule_at rules m)) (sym (length-names_of n)) (range m h) in
     record { left = r.0; right = fits_of (length (names_of n)) (length labels) (only (rule_at rules m).right) (leaves m h) (labelled m h) r.1; within = within }
 
--- the grammar of some rules over so many states, under canonical names
+-- the grammar of some rules over this many states, under canonical names
 abbrev pub over : ℕ → List (Rule ℕ) → GrammarOf
 over count rules = record { names = names_of count; rules = rules }
 

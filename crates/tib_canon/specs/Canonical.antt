@@ -15,12 +15,12 @@ use Rattle.tib_inside.specs.Trimmed.{IsTrimmed}
 abbrev pub name_of : ℕ → List ℕ
 name_of n = 113 ∷ decimal n
 
--- q0, q1, q2 and so on, so many
+-- q0, q1, q2 and so on, this many
 abbrev pub names_of : ℕ → List (List ℕ)
 names_of zero = []
 names_of (suc n) = names_of n ++ name_of n ∷ []
 
--- this holds of the grammar of some rules over so many states, whatever the names of the states
+-- this holds of the grammar of some rules over this many states, whatever the names of the states
 abbrev pub OverStates : ℕ → List (Rule ℕ) → (GrammarOf → Type 0) → Type 0
 OverStates states rules P = (names : List (List ℕ)) → length names ≡ states → P (record { names = names; rules = rules })
 

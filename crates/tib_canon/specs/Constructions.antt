@@ -39,7 +39,7 @@ pub record HasReachedWithin {K O E : Type 0} (p : Operation K O E) (limit : ℕ)
   pub reached : IsReachedSet p order edges
   pub within : parts_of p order edges ≤ limit
 
--- rules over so many states, with nothing below a state, that can be printed
+-- rules over this many states, with nothing below a state, that can be printed
 pub record AreRulesOver (scale : Scale) (labels : List (List ℕ)) (states : ℕ) (rules : List (Rule ℕ)) : Type 0 where
   pub in_range : AreInRange states rules
   pub leaves : SidesEndInHoles rules

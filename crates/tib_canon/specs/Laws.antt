@@ -160,7 +160,7 @@ OverKeysTextsAreRead {K} product cmp =
     IsCanonicalOverKeys product scale labels cmp order rules begin h →
     GrammarText scale labels (grammar_text scale labels h) h
 
--- the text of the canonical form of a normal form does not hang on the numbers of labels: grammars
+-- the text of the canonical form of a normal form does not depend on the numbers of labels: grammars
 -- that agree by the texts of their labels, each over a table of distinct labels of its own, have
 -- one such text
 abbrev pub CanonicalTextIsOne : (ℕ → ℕ → ℕ) → Type 0

@@ -1,4 +1,4 @@
--- The text of a canonical transducer does not hang on the numbers of labels.
+-- The text of a canonical transducer does not depend on the numbers of labels.
 use Rattle.tib_cost.specs.declared.Scale.{Scale}
 use Rattle.std.proofs.Common.{◌≡◌, ℕ, ◌<◌, ◌≤◌, List, [], ◌∷◌, ◌++◌, length, map, get_or, refl, ap, sym, ◌∙◌, subst, arith, inl, inr, Option}
 use Rattle.std.specs.Prelude.{Some, None, option_map}

@@ -1,4 +1,4 @@
--- The text of a composition does not hang on the numbers of labels.
+-- The text of a composition does not depend on the numbers of labels.
 use Rattle.tib_cost.specs.declared.Scale.{Scale}
 use Rattle.std.proofs.Common.{◌≡◌, ℕ, ◌<◌, List, [], ◌∷◌, ◌++◌, length, map, get_or, refl, ap, sym, ◌∙◌, subst, arith, zero, suc, Option}
 use Rattle.std.specs.Prelude.{Some, None}

@@ -140,7 +140,7 @@ module _
       moves_stand d.spare a.order once b.rules (moves_with f a.rules) over_same.over.within over_same.over.leaves range leaves
       (one_set d.problem laws a.order a.order (moves_over d.spare a.order b.rules) (moves_over d.spare a.order (moves_with f a.rules)) over_same.reached moved).1
 
-  -- the text does not hang on the numbers of labels
+  -- the text does not depend on the numbers of labels
   pub transducer_construction_once : transducer_text scale labels h ≡ transducer_text scale others i
   transducer_construction_once =
       text_once labels others f n d.problem.cmp laws.total_order scale a.order a.rules b.rules 0 h i to from a.over.leaves over_same.over.leaves

@@ -37,7 +37,7 @@ HasSeriesFrom product rules start moves =
     (t u : Tree ℕ) (v : Option ℕ) →
     IsTransducerSeriesAt product rules start t u v ↔ IsTransducerSeries product moves t u v
 
--- rules over so many states, which have their shape, and can be printed
+-- rules over this many states, which have their shape, and can be printed
 pub record AreMovesOver (scale : Scale) (labels : List (List ℕ)) (states : ℕ)
     (rules : List (TransducerRule ℕ)) : Type 0 where
   pub within : AreWithin states rules

@@ -59,7 +59,7 @@ pub record AreOneByText (labels others : List (List ℕ)) (xs ys : List (Transdu
   pub to : (r : TransducerRule ℕ) → Has xs r → (s : TransducerRule ℕ) × Has ys s × AreOneTransducerRule labels others r s
   pub from : (s : TransducerRule ℕ) → Has ys s → (r : TransducerRule ℕ) × Has xs r × AreOneTransducerRule labels others r s
 
--- the text does not hang on the numbers of labels: rules that agree by the texts of their labels,
+-- the text does not depend on the numbers of labels: rules that agree by the texts of their labels,
 -- each over a table of distinct labels of its own, have one text
 abbrev pub TransducerTextIsOne : {K : Type 0} → (K → K → Ordering) → Type 0
 TransducerTextIsOne {K} cmp =

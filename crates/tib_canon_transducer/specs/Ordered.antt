@@ -41,7 +41,7 @@ pub record IsTransducerInOrder (scale : Scale) (labels : List (List ℕ)) (t h :
   pub whole : (r : TransducerRule ℕ) → Has t.rules r → HasSides h.rules r
   pub ascends : Ascends (λ r s. move_cmp scale h.names labels r s ≡ Less) h.rules
 
--- the transducer of some rules over so many states, under canonical names
+-- the transducer of some rules over this many states, under canonical names
 abbrev pub over_numbers : ℕ → List (TransducerRule ℕ) → TransducerOf
 over_numbers states rules = record { names = names_of states; rules = rules }
 

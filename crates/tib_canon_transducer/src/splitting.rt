@@ -32,7 +32,7 @@ fn text_before<'a>(text: &'a [u8], end: usize) -> &'a [u8]
     &text[..end]
 }
 
-// What stands behind the byte at a place.
+// What follows the byte at a place.
 fn text_behind<'a>(text: &'a [u8], end: usize) -> &'a [u8]
     requires { end < length text.now }
     ensures { result.now ≡ drop (end + 1) text.now }

@@ -20,7 +20,7 @@ mode_in text = if bytes_eq text (codes "minplus") then Some m.MinPlus
     else (if bytes_eq text (codes "widest") then Some m.Widest
     else (if bytes_eq text (codes "boolean") then Some m.Boolean else None)))
 
--- decimal digits, at least one and at most so many
+-- decimal digits, at least one and at most this many
 abbrev pub is_numeral : ℕ → Text → Bool
 is_numeral digits text = nat_le 1 (length text) && (nat_le (length text) digits && all_ascii_digits text)
 

@@ -46,7 +46,7 @@ fn operation_in(text: &str) -> Option<Operation>
     }
 }
 
-/// The number that digits write, at least one and at most so many.
+/// The number that digits write, at least one and at most this many.
 fn numeral_in(text: &str, digits: usize) -> Option<u64>
     requires { digits ≤ 16 }
     ensures { result ≡ numeral_in digits text.now }
@@ -57,7 +57,7 @@ fn numeral_in(text: &str, digits: usize) -> Option<u64>
     text.parse::<u64>().ok()
 }
 
-/// The number that at most so many digits write, where it lies from `least` to `most`.
+/// The number that at most this many digits write, where it lies from `least` to `most`.
 fn number_in(text: &str, digits: usize, least: u64, most: u64) -> Option<u64>
     requires { digits ≤ 16 }
     ensures { result ≡ number_in digits least most text.now }

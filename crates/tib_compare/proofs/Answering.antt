@@ -40,7 +40,7 @@ marked_below second [] k e = absurd (cc)
 marked_below second (v ∷ order) zero e = omega arith
 marked_below second (v ∷ order) (suc k) e = omega (arith, marked_below second order k e)
 
-large_or_small : (n : ℕ) → (n ≤ 10000) ⊎ (10000 < n)
+large_or_small : (n : ℕ) → (n ≤ most_nodes) ⊎ (most_nodes < n)
 large_or_small n = grind arith
 
 module _

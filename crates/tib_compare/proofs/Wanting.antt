@@ -4,7 +4,7 @@ use Rattle.std.proofs.Common.{arith, ap, sym, ◌∙◌, subst, inl, inr, get_or
 use Rattle.tib_lex.specs.Lists.{Has, Along}
 use Rattle.tib_lex.proofs.Lists.{has_mapped, mapped_has}
 use Rattle.tib_lex.proofs.Members.{has_at, at_has, has_left, has_right, has_either}
-use Rattle.tib_tree.specs.Trees.{Tree, Trees, none, tree, only, sizes, size}
+use Rattle.tib_tree.specs.Trees.{Tree, Trees, none, tree, only, sizes, size, most_nodes}
 use Rattle.tib_grammar.specs.Sides.{label, holes}
 use Rattle.tib_grammar.specs.Run.{rule_at, no_rule, IsCost}
 use Rattle.tib_grammar.specs.Series.{IsSeriesAt}
@@ -187,7 +187,7 @@ module _ (marks : List Bool) (rules : List (Rule ℕ)) (normal : AreNormal rules
 
   -- a tree of at most 10,000 nodes with a run from the start has a cost there
   pub small_costs :
-      (t : Tree ℕ) (c : ℕ) → IsCost ◌+◌ (wanted marks rules) (0 ∷ []) (only t) c → size t ≤ 10000 → IsSeriesAt ◌+◌ (wanted marks rules) 0 t (Some c)
+      (t : Tree ℕ) (c : ℕ) → IsCost ◌+◌ (wanted marks rules) (0 ∷ []) (only t) c → size t ≤ most_nodes → IsSeriesAt ◌+◌ (wanted marks rules) 0 t (Some c)
   small_costs t c h low =
       let e : c ≡ node_cost * size t = wanted_cost 0 t c h in
       record {

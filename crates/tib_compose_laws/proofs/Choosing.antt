@@ -119,7 +119,7 @@ and_both : (a b : Bool) → a ≡ true → b ≡ true → (if a then b else fals
 and_both true b e d = d
 and_both false b e d = absurd (cc)
 
--- a rule that is told to read a label over so many variables does so
+-- a rule that is told to read a label over this many variables does so
 pub reads_over : (p f n : ℕ) (r : TransducerRule ℕ) → reads_label p f n r ≡ true → (r.state ≡ p) × IsOver r.left f n
 reads_over p f n r e =
     let a = and_first (nat_eq r.state p) (if is_label f r.left.label then (if are_holes r.left.kids then nat_eq (count r.left.kids) n else false) else false) e in

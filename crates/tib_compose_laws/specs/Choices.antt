@@ -29,7 +29,7 @@ are_holes none = true
 are_holes (tree (label f) kids rest) = false
 are_holes (tree (hole p) kids rest) = are_holes rest
 
--- whether the rule leads from the state p and reads the label f over so many variables
+-- whether the rule leads from the state p and reads the label f over this many variables
 abbrev pub reads_label : ℕ → ℕ → ℕ → TransducerRule ℕ → Bool
 reads_label p f n r =
     if nat_eq r.state p then (if is_label f r.left.label then (if are_holes r.left.kids then nat_eq (count r.left.kids) n else false) else false) else false

@@ -11,7 +11,7 @@ stands [] i f = false
 stands (g ∷ gs) zero f = nat_eq g f
 stands (g ∷ gs) (suc i) f = stands gs i f
 
--- at so many places from k on, each place before what f gives of it
+-- at this many places from k on, each place before what f gives of it
 abbrev pub over_places : (ℕ → List (List ℕ)) → ℕ → ℕ → List (List ℕ)
 over_places f k zero = []
 over_places f k (suc m) = map (λ (ks : List ℕ). k ∷ ks) (f k) ++ over_places f (suc k) m
@@ -22,7 +22,7 @@ cuts_of string [] i j = if nat_eq i j then [] ∷ [] else []
 cuts_of string (Word f ∷ ws) i j = if stands string i f then map (λ (ks : List ℕ). suc i ∷ ks) (cuts_of string ws (suc i) j) else []
 cuts_of string (Hole x ∷ ws) i j = over_places (λ k. cuts_of string ws k j) i (suc j - i)
 
--- f holds of one of so many places from k on
+-- f holds of one of this many places from k on
 abbrev pub any_from : (ℕ → Bool) → ℕ → ℕ → Bool
 any_from f k zero = false
 any_from f k (suc m) = if f k then true else any_from f (suc k) m

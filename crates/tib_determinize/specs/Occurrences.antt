@@ -14,7 +14,7 @@ use Rattle.tib_determinize.specs.Holders.{held}
 use Rattle.tib_determinize.specs.Shapes.{root_label}
 use Rattle.tib_determinize.specs.Vectors.{VectorOf}
 
--- the bucket of a label, of so many
+-- the bucket of a label, of this many
 abbrev pub bucket : ℕ → ℕ → ℕ
 bucket f many = if nat_eq many 0 then 0 else f % many
 

@@ -48,7 +48,7 @@ fn add(
     Ok(())
 }
 
-// The bucket of a label, of so many.
+// The bucket of a label, of this many buckets.
 fn bucket_of(label: Label, many: u32) -> u32
     ensures { result ≡ bucket label many }
 {
@@ -130,7 +130,7 @@ pub(crate) struct Occurrences {
 }
 
 impl Occurrences {
-    /// The places of rules by the states that stand there, each with the bucket of its rule's label, of so many. Err only if memory is
+    /// The places of rules by the states that stand there, each with the bucket of its rule's label, of this many. Err only if memory is
     /// refused. Cost: one step for each place.
     pub fn new(alloc: Global, rules: &[Rule<u32>], many: u32) -> Result<Occurrences, AllocError>
         requires normal { AreNormal rules.now }

@@ -8,7 +8,7 @@ use Rattle.std.specs.declared.cmp.Ordering.TheVariants.{Less, Equal, Greater}
 use Rattle.std.specs.Ordering.{is_gt, nat_cmp, ordering_then, ordering_reverse}
 use Rattle.tib_lex.specs.Lists.{Has}
 use Rattle.tib_cost.specs.Semiring.{most, ProductLaws}
-use Rattle.tib_tree.specs.Trees.{Tree, size, sizes, only, relabel}
+use Rattle.tib_tree.specs.Trees.{Tree, size, sizes, only, relabel, most_nodes}
 use Rattle.tib_tree.specs.Growth.{LabelsBelow, text_at}
 use Rattle.tib_tree_order.specs.Order.{tree_cmp_by}
 use Rattle.tib_tree_order.proofs.Relabelling.{sizes-relabel}
@@ -194,7 +194,7 @@ dropped product x m w t has =
 
 -- the first tree of a state is listed
 module _ {levelled weighted : Bool} {product : ℕ → ℕ → ℕ} (laws : ProductLaws levelled weighted product) (x : ListsOf) (orderly : IsOrderly product x.rules) (m : ℕ) (w : QueueOf) (t : IsTaken product x m w)
-    (free : length (list_of x (state_of x m)) ≡ 0) (small : size (tree_by x (candidate_at x m).rule (ranks_of x (candidate_at x m))) ≤ 10000) (y : ListsOf) (l : IsListed x m y) where
+    (free : length (list_of x (state_of x m)) ≡ 0) (small : size (tree_by x (candidate_at x m).rule (ranks_of x (candidate_at x m))) ≤ most_nodes) (y : ListsOf) (l : IsListed x m y) where
   abbrev before : QueueOf
   before = record { waiting = w.waiting; heap = t.heap }
 
@@ -287,7 +287,7 @@ module _ {levelled weighted : Bool} {product : ℕ → ℕ → ℕ} (laws : Prod
       | inl f ↦ let len : length (get_or ls p []) ≡ 1 = ap (λ (r : ℕ). length (get_or ls r [])) f ∙ ap (λ (es : List Entry). length es) alone in omega (arith, len)
       | inr n ↦ omega (arith, k.sound.few p, ap (λ (es : List Entry). length es) (there p n))
     ];
-    small = each_tree (λ u. size u ≤ 10000) k.sound.small small;
+    small = each_tree (λ u. size u ≤ most_nodes) k.sound.small small;
   }
 
   xs_nil : {A : Type 0} (xs ys : List A) → xs ++ ys ≡ [] → xs ≡ []

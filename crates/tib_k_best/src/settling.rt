@@ -12,7 +12,7 @@ use tib_cost::Semiring;
 use tib_k_best_lists::{Entry, Lists};
 
 // The most nodes that a listed tree may have.
-const MOST_NODES: u64 = 10_000;
+const MOST_NODES: u64 = tib_tree::MOST_NODES as u64;
 
 // Puts the tree of a candidate last on the list of its state.
 fn list(alloc: Global, lists: &mut Lists, candidate: u32) -> Result<(), AllocError>

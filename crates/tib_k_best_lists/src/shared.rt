@@ -63,7 +63,7 @@ impl Shared {
         self.trees.size(tree)
     }
 
-    /// The number of a tree, which goes last where it is new. Only want of memory is an error.
+    /// The number of a tree, which is appended where it is new. Only want of memory is an error.
     pub fn insert(&mut self, label: Label, children: &[u32]) -> Result<u32, AllocError>
         requires { NumbersBelow (length self.old) children.now }
         ensures { IfOk result (λ n. Inserts self.old label children.now n self.new) }

@@ -18,7 +18,7 @@ pub place_stays : {K : Type 0} (d : K) (order xs ys : List K) (p : Place) → Is
 place_stays d order xs ys (Known p) h = refl
 place_stays d order xs ys (End i) h = index_append xs ys i d h
 
--- so many ends from a number on are within
+-- this many ends from a number on are within
 pub ends_within : (n m i k : ℕ) → i + k ≤ m → Each (IsWithin n m) (ends_from i k)
 ends_within n m i zero h = tt
 ends_within n m i (suc k) h = (omega arith, ends_within n m (suc i) k (omega arith))

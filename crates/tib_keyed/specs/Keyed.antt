@@ -1,4 +1,4 @@
--- Operations whose edges hang on the key at a position alone.
+-- Operations whose edges depend on the key at a position alone.
 use Rattle.std.specs.Prelude.{◌≡◌, ℕ, ◌<◌, Bool, IsTrue, List, ◌∷◌}
 use Rattle.std.proofs.Common.{get_or}
 use Rattle.std.specs.declared.cmp.Ordering.{Ordering}

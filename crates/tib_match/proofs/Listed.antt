@@ -69,7 +69,7 @@ count_holes none h = refl
 count_holes (tree (label f) kids rest) h = absurd h
 count_holes (tree (hole p) kids rest) h = ap suc (count_holes rest h)
 
--- the rule n is one of the label f over so many states
+-- the rule n is one of the label f over this many states
 pub record IsListed (rules : List (Rule ℕ)) (f rank n : ℕ) : Type 0 where
   pub below : n < length rules
   pub root : (rule_at rules n).right.label ≡ label f

@@ -15,7 +15,7 @@ use tib_cost::{Cost, Semiring};
 use tib_grammar::{Item, Side};
 use tib_normal::Normal;
 
-/// How many partial matches may come up before `few_matches` gives up, where so many matches are wanted.
+/// How many partial matches may come up before `few_matches` gives up, where this many matches are wanted.
 pub fn partial_matches(most: u64) -> u64 {
     if most > 1_000_000_000_000 {
         return most;

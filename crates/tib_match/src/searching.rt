@@ -185,7 +185,7 @@ impl<'a, S: Semiring> Search<'a, S> {
         }
     }
 
-    // Searches box by box, until more than so many matches were found or no box is left.
+    // Searches box by box, until more than this many matches were found or no box is left.
     fn run<P>(&self, alloc: Global, side: &Side<P>, most: u64) -> Result<Within, AllocError>
         requires { self.now.state < length self.now.normal.now.names }
         ensures { IfOk result (AnswersWhere S.product self.now.normal.now.rules side.now

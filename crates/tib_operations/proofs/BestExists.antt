@@ -16,7 +16,7 @@ use Rattle.tib_k_best_laws.specs.Best.{Costed, Cheaper, IsTreeAt, IsFrontAt, IsK
 use Rattle.tib_k_best_laws.proofs.Fronts.{front_more, front_first, front_all, no_later_trans}
 use Rattle.tib_k_best_laws.proofs.Ranks.{cheaper_strict, trees_total, tree_below}
 
--- all lists of trees with so many nodes at most, over the first n labels
+-- all lists of trees with at most this many nodes, over the first n labels
 
 abbrev behind : ℕ → Trees ℕ → List (Trees ℕ) → List (Trees ℕ)
 behind f kids [] = []

@@ -1,4 +1,4 @@
--- What the image of a tree reaches does not hang on the numbers of labels.
+-- What the image of a tree reaches does not depend on the numbers of labels.
 use Rattle.std.proofs.Common.{◌≡◌, ℕ, ◌+◌, ◌<◌, List, ◌∷◌, ◌++◌, length, map, refl, sym, ap, ◌∙◌, subst, arith, get_or, suc, Option}
 use Rattle.std.specs.Prelude.{Some, None, option_map}
 use Rattle.std.proofs.lemmas.List.{length-map, map-append}

@@ -1,4 +1,4 @@
--- What pruning keeps does not hang on the labels of rules, nor on their order.
+-- What pruning keeps does not depend on the labels of rules, nor on their order.
 use Rattle.std.proofs.Common.{◌≡◌, ℕ, ◌<◌, List, [], ◌∷◌, length, map, refl, ap, sym, ◌∙◌, subst, arith, Option}
 use Rattle.std.specs.Prelude.{Some}
 use Rattle.std.proofs.lemmas.List.{length-map}

@@ -28,7 +28,7 @@ first_rules = codes "p0 -> e\np0 -> a(p0)\np0 -> b(p0)\np1 -> a(p0) # 1\n"
 abbrev pub demo_text : ℕ → List ℕ
 demo_text n = (codes "p" ++ decimal n ++ codes "\n") ++ (first_rules ++ steps_text (n - 1))
 
--- a line of so many states, a line of so many rules, and a line of a tree
+-- a line of this many states, a line of this many rules, and a line of a tree
 abbrev pub summary_text : ℕ → ℕ → List ℕ → List ℕ
 summary_text states rules line =
     (codes "states " ++ decimal states ++ codes "\n") ++ ((codes "rules " ++ decimal rules ++ codes "\n") ++ (codes "best " ++ line))

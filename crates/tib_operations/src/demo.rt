@@ -74,7 +74,7 @@ pub fn demo_text(alloc: Global, n: u32) -> Result<GrowingSink, Failed>
     Ok(text)
 }
 
-// The three lines of so many states, so many rules and a tree's line.
+// The three lines: how many states, how many rules, and a tree's line.
 fn summary_text(alloc: Global, states: u32, rules: u32, line: &[u8]) -> Result<GrowingSink, Failed>
     ensures { IfOk result (λ text. text.bytes ≡ summary_text states rules line.now) }
 {

@@ -11,7 +11,7 @@ use tib_cost::{Cost, Semiring};
 use tib_io::{Failed, GrowingSink, Sink, write_whole};
 use tib_tree::{Labels, Tree, print_tree};
 
-/// Writes what stands behind a tree or a state: its cost, which in Boolean is not printed, or that it has none.
+/// Writes what follows a tree or a state: its cost, which in Boolean is not printed, or that it has none.
 pub fn print_cost<S: Semiring, W: Sink>(cost: Option<Cost>, out: &mut W) -> Result<(), Failed>
     ensures { OnOk result (Takes (W.written out.old) (W.written out.new) (W.free out.old)
         (W.free out.new) (cost_text S.SCALE cost)) }

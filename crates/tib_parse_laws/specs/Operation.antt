@@ -61,8 +61,8 @@ OneParseSet =
     IsReachedSet (parse moves string) order edges → IsReachedSet (parse moves string) other more →
     (order ≡ other) × ((e : Rule (ℕ × ℕ × ℕ × ℕ)) → Has edges e → Has more e)
 
--- a key of one of so many states, with places that are in order and within a string of n words, and a restriction by one of
--- so many labels or by none
+-- a key of one of this many states, with places that are in order and within a string of n words, and a restriction by one of
+-- this many labels or by none
 pub record IsKey (states n labels : ℕ) (k : ℕ × ℕ × ℕ × ℕ) : Type 0 where
   pub state : k.0 < states
   pub from : k.1 ≤ k.2

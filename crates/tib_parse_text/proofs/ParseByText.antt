@@ -1,4 +1,4 @@
--- What parsing reaches does not hang on the numbers of labels.
+-- What parsing reaches does not depend on the numbers of labels.
 use Rattle.std.proofs.Common.{◌≡◌, ℕ, ◌<◌, List, length, map, get_or, refl, sym, ap, ◌∙◌, subst, arith}
 use Rattle.std.proofs.lemmas.List.{length-map}
 use Rattle.tib_tree.specs.Trees.{only, relabel_tree}

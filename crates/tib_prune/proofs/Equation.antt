@@ -33,7 +33,7 @@ module _ {levelled weighted : Bool} {product : ℕ → ℕ → ℕ} (laws : Prod
     state : get_or qs place 0 ≡ q
     others : IsRunCost product rules (without place qs) m
 
-  -- the sub-run that is left out hangs on the rule n at a place of its right side
+  -- the sub-run that is left out depends on the rule n at a place of its right side
   record IsLast (q : ℕ) (qs : List ℕ) (m : ℕ) : Type 0 where
     outer : Context ℕ
     rule : ℕ

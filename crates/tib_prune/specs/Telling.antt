@@ -30,7 +30,7 @@ IsToldBy product costs d (r ∷ rules) e =
 abbrev pub places_of : List (Rule ℕ) → ℕ
 places_of rules = sum_by (λ r. length (holes_of r.right)) rules
 
--- the entries that are wanted are added, at most so many, except those of states that have a cost
+-- the entries that are wanted are added, at most this many, except those of states that have a cost
 pub record Adds (outsides : ℕ → Option ℕ) (IsWanted : ℕ × ℕ → Type 0) (many : ℕ)
     (before after : List (ℕ × ℕ)) : Type 0 where
   pub kept : (e : ℕ × ℕ) → Contains before e → Contains after e

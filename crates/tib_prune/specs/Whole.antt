@@ -11,7 +11,7 @@ abbrev pub AreAllLive : (ℕ → ℕ → ℕ) → (ℕ → Option ℕ) → List 
 AreAllLive product insides rules =
     (n : ℕ) → n < length rules → is_some (rule_total product insides (rule_at rules n)) ≡ true
 
--- where each rule is live, each of so many states is reached
+-- where each rule is live, each of this many states is reached
 abbrev pub AreAllLedTo : List (Rule ℕ) → ℕ → Type 0
 AreAllLedTo rules states =
     (live : List Bool) → ((n : ℕ) → n < length rules → IsMarked live n) →

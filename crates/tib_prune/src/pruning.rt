@@ -167,7 +167,7 @@ fn through_costs<S: Semiring>(
     Ok(costs)
 }
 
-/// The least beam within which so many rules stay, or all that stand in runs.
+/// The least beam within which this many rules stay, or all that stand in runs.
 fn beam_for<S: Semiring>(
     alloc: Global,
     rules: &[Rule<u32>],
@@ -194,7 +194,7 @@ fn beam_for<S: Semiring>(
     }
 }
 
-/// The same with the least beam within which at least so many rules stay, or all that stand in runs,
+/// The same with the least beam within which at least this many rules stay, or all that stand in runs,
 /// and this beam. No clause says how many stay. Worst case: that of `prune_by_insides`, and
 /// O(r log r) steps for r rules.
 pub fn prune_to_count<S: Semiring>(

@@ -21,7 +21,7 @@ use Rattle.tib_tree_order.proofs.Relabelling.{same_text}
 use Rattle.tib_shared_trees.specs.Ranked.{AreRanksOf}
 use Rattle.tib_shared_trees.specs.TextOrder.{text_cmp, AreLabelsBelow, IsTextOrder}
 
--- what is read within a list hangs on no default
+-- what is read within a list depends on no default
 read_same : (xs : List ℕ) (i d e : ℕ) → i < length xs → get_or xs i d ≡ get_or xs i e
 read_same [] i d e h = absurd (omega arith)
 read_same (x ∷ xs) zero d e h = refl
