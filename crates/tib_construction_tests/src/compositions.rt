@@ -38,71 +38,71 @@ const X1: Node = Node::Plain(1);
 const X0_LOW: Node = Node::Asks(0, 1);
 
 // On the right q.x0 and q.x1, r.x0 and r.x1.
-const Q0: Node = Node::Reads(0, 0);
+const Q_X0: Node = Node::Reads(0, 0);
 
-const Q1: Node = Node::Reads(0, 1);
+const Q_X1: Node = Node::Reads(0, 1);
 
-const R0: Node = Node::Reads(1, 0);
+const R_X0: Node = Node::Reads(1, 0);
 
-const R1: Node = Node::Reads(1, 1);
+const R_X1: Node = Node::Reads(1, 1);
 
 // q.A(x0) -> F(q.x0 q.x0) # 1 and q.a -> b # 2
-const COPIES: [Move; 2] = [(0, &[A1, X0], &[F2, Q0, Q0], 1), (0, &[A0], &[B0], 2)];
+const COPIES: [Move; 2] = [(0, &[A1, X0], &[F2, Q_X0, Q_X0], 1), (0, &[A0], &[B0], 2)];
 
 // q.F(x0 x1) -> G(r.x1 q.x0) # 1, q.b -> c # 0 and r.b -> d # 4
 const TURNS: [Move; 3] = [
-    (0, &[F2, X0, X1], &[G2, R1, Q0], 1),
+    (0, &[F2, X0, X1], &[G2, R_X1, Q_X0], 1),
     (0, &[B0], &[C0], 0),
     (1, &[B0], &[D0], 4),
 ];
 
 // q.F(x0 x1) -> H(q.x1) # 1, q.a -> b # 0 and q.H(x0) -> q.x0 # 7
 const DELETES: [Move; 3] = [
-    (0, &[F2, X0, X1], &[H1, Q1], 1),
+    (0, &[F2, X0, X1], &[H1, Q_X1], 1),
     (0, &[A0], &[B0], 0),
-    (0, &[H1, X0], &[Q0], 7),
+    (0, &[H1, X0], &[Q_X0], 7),
 ];
 
 // q.H(x0) -> q.x0 # 2 and q.b -> c # 3
-const DROPS: [Move; 2] = [(0, &[H1, X0], &[Q0], 2), (0, &[B0], &[C0], 3)];
+const DROPS: [Move; 2] = [(0, &[H1, X0], &[Q_X0], 2), (0, &[B0], &[C0], 3)];
 
 // q.A(A(x0:a)) -> F(H(q.x0) b) # 1
-const EXTENDED: [Move; 1] = [(0, &[A1, A1, X0_LOW], &[F2, H1, Q0, B0], 1)];
+const EXTENDED: [Move; 1] = [(0, &[A1, A1, X0_LOW], &[F2, H1, Q_X0, B0], 1)];
 
 // q.F(x0 x1) -> G(q.x0 r.x1) # 1, q.H(x0) -> H(r.x0) # 1, q.H(x0) -> q.x0 # 5 and r.b -> c # 2
 const CHOOSES: [Move; 4] = [
-    (0, &[F2, X0, X1], &[G2, Q0, R1], 1),
-    (0, &[H1, X0], &[H1, R0], 1),
-    (0, &[H1, X0], &[Q0], 5),
+    (0, &[F2, X0, X1], &[G2, Q_X0, R_X1], 1),
+    (0, &[H1, X0], &[H1, R_X0], 1),
+    (0, &[H1, X0], &[Q_X0], 5),
     (1, &[B0], &[C0], 2),
 ];
 
 // q.A(x0) -> F(H(q.x0) H(q.x0)) # 0
-const COPIES_BELOW: [Move; 1] = [(0, &[A1, X0], &[F2, H1, Q0, H1, Q0], 0)];
+const COPIES_BELOW: [Move; 1] = [(0, &[A1, X0], &[F2, H1, Q_X0, H1, Q_X0], 0)];
 
 // q.F(x0 x1) -> G(q.x0 q.x1) # 0, q.H(x0) -> H(q.x0) # 1 and q.H(x0) -> q.x0 # 2
 const TWO_WAYS: [Move; 3] = [
-    (0, &[F2, X0, X1], &[G2, Q0, Q1], 0),
-    (0, &[H1, X0], &[H1, Q0], 1),
-    (0, &[H1, X0], &[Q0], 2),
+    (0, &[F2, X0, X1], &[G2, Q_X0, Q_X1], 0),
+    (0, &[H1, X0], &[H1, Q_X0], 1),
+    (0, &[H1, X0], &[Q_X0], 2),
 ];
 
 // q.A(x0) -> H(H(q.x0)) at one less than the greatest cost, and q.a -> b at the greatest cost
 const DEAR: [Move; 2] = [
-    (0, &[A1, X0], &[H1, H1, Q0], MOST - 1),
+    (0, &[A1, X0], &[H1, H1, Q_X0], MOST - 1),
     (0, &[A0], &[B0], MOST),
 ];
 
 // q.H(x0) -> H(q.x0) # 1, q.H(x0) -> K(q.x0) # 0, q.b -> c # 1 and q.b -> d # 0
 const ADDS: [Move; 4] = [
-    (0, &[H1, X0], &[H1, Q0], 1),
-    (0, &[H1, X0], &[K1, Q0], 0),
+    (0, &[H1, X0], &[H1, Q_X0], 1),
+    (0, &[H1, X0], &[K1, Q_X0], 0),
     (0, &[B0], &[C0], 1),
     (0, &[B0], &[D0], 0),
 ];
 
 // q.A(x0:a) -> A(q.x0)
-const ASKS: [Move; 1] = [(0, &[A1, X0_LOW], &[A1, Q0], 0)];
+const ASKS: [Move; 1] = [(0, &[A1, X0_LOW], &[A1, Q_X0], 0)];
 
 fn write_variable(text: &mut String, variable: &Variable) -> Result<(), AllocError> {
     text.push_str("x")?;
