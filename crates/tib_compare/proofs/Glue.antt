@@ -6,8 +6,8 @@ use Rattle.tib_tree.specs.Trees.{Tree}
 use Rattle.tib_grammar.specs.GrammarOf.{GrammarOf}
 use Rattle.tib_grammar.specs.declared.Rule.{Rule}
 use Rattle.tib_hunt.specs.Reached.{IfTooMany, IsBeyond}
-use Rattle.tib_hunt.specs.declared.found.HuntError.{HuntError}
-use Rattle.tib_hunt.specs.declared.found.HuntError.TheVariants.{TooMany, OutOfMemory}
+use Rattle.tib_hunt.specs.Reached.{HuntError}
+use Rattle.tib_hunt.specs.Reached.{TooMany, OutOfMemory}
 use Rattle.tib_determinize.specs.Vectors.{VectorOf}
 use Rattle.tib_determinize.specs.Determinization.{determinization}
 use Rattle.tib_compare.specs.Compared.{HasCost}

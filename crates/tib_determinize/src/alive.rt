@@ -86,7 +86,7 @@ pub(crate) fn begin_at<S: Semiring>(
     ensures whole { IfOk result (λ alive. BeginAll rules.now label rank place places.now
         alive.items) }
 {
-    let mut alive = Vec::new(alloc);
+    let mut alive = Vec::with_capacity(alloc, places.len())?;
     for one in places {
         if is_place_of(rules, label, rank, place, one) {
             alive.push(Alive {
@@ -128,7 +128,7 @@ pub(crate) fn narrow<S: Semiring>(
     ensures { IfOk result (λ left. left.items ≡ narrowed S.product rules.now place vector.now
         alive.now) }
 {
-    let mut left = Vec::new(alloc);
+    let mut left = Vec::with_capacity(alloc, alive.len())?;
     for one in alive {
         if let Some(weight) = weight::<S>(rules, place, vector, one) {
             left.push(Alive {

@@ -153,7 +153,7 @@ impl Occurrences {
     ) -> Result<Vec<Vec<Occurrence>>, AllocError>
         ensures { IfOk result (λ found. AreFound vector.now self.now.lists.items found.items) }
     {
-        let mut found = Vec::new(alloc);
+        let mut found = Vec::with_capacity(alloc, self.many as usize)?;
         let entries = vector.entries();
         for i in 0..entries.len() {
             add_all(alloc, &mut found, list_of(&self.lists, entries[i].0))?;

@@ -117,7 +117,7 @@ pub(crate) fn wanted_at(
         walk.now.position walk.now.last place alive.now w.items) }
     ensures ascends { IfOk result (λ w. AreAscending w.items) }
 {
-    let mut wanted = Vec::new(alloc);
+    let mut wanted = Vec::with_capacity(alloc, alive.len())?;
     for one in alive {
         add_wanted(walk, holders, place, one, &mut wanted)?;
     }

@@ -15,8 +15,8 @@ use Rattle.tib_hunt.specs.Reading.{Reading}
 use Rattle.tib_hunt.specs.Known.{NameEnds}
 use Rattle.tib_hunt.specs.declared.known.Ruled.{Ruled}
 use Rattle.tib_hunt.specs.Held.{Leads, IsBetween, edges_so_far}
-use Rattle.tib_hunt.specs.Shelved.{IsKnownRow, edges_of_rows, AreWorked}
-use Rattle.tib_hunt.specs.Jobs.{items_in, IsItemEnd, GivesEdges, ItemExceeds}
+use Rattle.tib_hunt.specs.Shelved.{IsKnownRow, edges_of_rows, AreWorked, AreApart}
+use Rattle.tib_hunt.specs.Jobs.{items_in, IsLackedEnd, GivesEdges, ItemExceeds}
 use Rattle.tib_hunt.proofs.Reaching.{Laws, later, later_is, fewer_parts, more_parts}
 use Rattle.tib_hunt.proofs.Holding.{leads_on}
 use Rattle.tib_hunt.proofs.Members.{Lists-parts, Lists-to, total_fewer}
@@ -126,7 +126,11 @@ module _ {P K O E R T : Type 0} (of : P → Operation K O E) (reading : Reading 
   end_at shelves n (suc j) i (row ∷ rows) a low at k h = end_at shelves (n + 1) j i rows a.2 (omega arith) (omega arith) k h
 
   module _ (shelf_of : K → ℕ) (shelves : List (List K)) (rows : List (Row (Ruled R))) (gathered : AreRows shelves 0 rows) (whole : length rows ≡ length order - first)
-      (are : AreShelves (IsItemEnd of about) shelf_of shelves) where
+      (are : AreShelves (IsLackedEnd of about) shelf_of shelves) where
+    -- the order has none of the keys on the shelves
+    pub gathered_apart : (lists : List (List K)) → lists ≡ shelves → AreApart order lists
+    gathered_apart lists same = subst (AreApart order) (sym same) (λ shelf k h. let n = place_of (on shelves shelf) k h in (are.held shelf n.0 k n.1).0.1)
+
     -- the rows that were gathered are those of a whole round
     pub gathered_whole : (admits : K → Type 0) (rules : List T) (was limit : ℕ) → IsBetween p admits reading first order rules was limit → (made : ℕ) → made ≡ parts_in rows → parts_in rows ≤ limit - was
         → (lists : List (List K)) → lists ≡ shelves → AreWorked p reading shelf_of order first lists rows was (was + made) limit
@@ -137,8 +141,8 @@ module _ {P K O E R T : Type 0} (of : P → Operation K O E) (reading : Reading 
           only = λ shelf k h.
               let n = place_of (on shelves shelf) k h in
               let w = are.held shelf n.0 k n.1 in
-              let below = w.0.1.1 in
-              (w.1, (w.0.0, w.0.1.0, omega arith, w.0.2));
+              let below = w.0.0.1.1 in
+              (w.1, (w.0.0.0, w.0.0.1.0, omega arith, w.0.0.2));
           stands = λ i k a l e. elim (end_at shelves 0 (i - first) i rows gathered (omega arith) (omega arith) k e) [
             | inl m ↦ inl m
             | inr n ↦ (let w = are.held n.0.shelf n.0.place k n.1 in inr (subst (λ (s : ℕ). Has (on shelves s) k) (sym w.1) (got_has (on shelves n.0.shelf) n.0.place k n.1)))

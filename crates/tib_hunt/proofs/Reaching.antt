@@ -11,8 +11,7 @@ use Rattle.tib_hunt.specs.Lawful.{IsLawful}
 use Rattle.tib_hunt.specs.Reading.{Reading}
 use Rattle.tib_hunt.specs.Reached.{IfTooMany, Operation, AreAscending, IsNew, AfterRounds, IsReached, AreEdges, IsBeyond}
 use Rattle.tib_hunt.specs.Held.{Leads}
-use Rattle.tib_hunt.specs.declared.found.HuntError.{HuntError}
-use Rattle.tib_hunt.specs.declared.found.HuntError.TheVariants.{TooMany, OutOfMemory}
+pub use Rattle.tib_numbered_keys.proofs.Limits.{IfTooMany-weaker}
 use Rattle.tib_hunt.proofs.Members.{total_fewer, same_ascending, Lists-parts, Lists-to}
 use Rattle.tib_lex.proofs.Members.{has_left, has_right}
 use Rattle.tib_lex.proofs.Lists.{total_append}
@@ -39,11 +38,6 @@ less≢greater e = subst IsNotGreater e tt
 -- of two keys not each is less than the other
 pub apart : {K : Type 0} (cmp : K → K → Ordering) → IsTotalOrder cmp → (x y : K) → cmp x y ≡ Less → cmp y x ≡ Less → ⊥
 apart cmp o x y a b = less≢greater (sym a ∙ o.antisymm x y ∙ ap ordering_reverse b)
-
--- an error that says P says Q, where Q follows from P
-pub IfTooMany-weaker : (limit : ℕ) (P Q : Type 0) (e : HuntError) → (P → Q) → IfTooMany limit P e → IfTooMany limit Q e
-IfTooMany-weaker limit P Q (TooMany n) f h = (h.0, f h.1)
-IfTooMany-weaker limit P Q OutOfMemory f h = tt
 
 -- The laws of an operation: its keys have a total order, an origin gives one edge, and the edges of a position stay when the order grows.
 pub record Laws {K O E : Type 0} (p : Operation K O E) : Type 0 where

@@ -7,7 +7,7 @@ use Rattle.tib_lex.specs.Lists.{Has, Each}
 use Rattle.tib_lex.proofs.Members.{has_at}
 use Rattle.tib_hunt.specs.EdgeLists.{AreListed, Exceeds}
 use Rattle.tib_hunt.specs.Expanded.{IsEndAt}
-use Rattle.tib_hunt.specs.Known.{AreSplit, split_has}
+use Rattle.tib_hunt.specs.Known.{AreSplit, split_has, split_lacks}
 use Rattle.tib_hunt.specs.declared.known.EndAt.{EndAt}
 use Rattle.tib_hunt.specs.declared.known.Ruled.{Ruled}
 use Rattle.tib_hunt.specs.Reached.{Operation}
@@ -22,6 +22,10 @@ items_in d = length d.1 - d.2
 -- k is an end of an edge of an item
 abbrev pub IsItemEnd : {P K O E : Type 0} → (P → Operation K O E) → P × List K × ℕ → K → Type 0
 IsItemEnd of d k = (i : ℕ) × IsItem d.2 (items_in d) i × IsEndAt (of d.0) d.1 i k
+
+-- k is an end of an edge of an item, and the order lacks it
+abbrev pub IsLackedEnd : {P K O E : Type 0} → (P → Operation K O E) → P × List K × ℕ → K → Type 0
+IsLackedEnd of d k = IsItemEnd of d k × (Has d.1 k → ⊥)
 
 -- each key of the order is admitted
 abbrev pub IsAdmitted : {P K : Type 0} → (P → K → Type 0) → P × List K × ℕ → Type 0
@@ -39,8 +43,11 @@ GivesEdges {P} {K} of reading d item lacked ruled parts =
 abbrev pub ItemExceeds : {P K O E : Type 0} → (P → Operation K O E) → P × List K × ℕ → ℕ → ℕ → Type 0
 ItemExceeds of d item budget = Exceeds ((of d.0).edge d.1 (d.2 + item)) (of d.0).edge_parts budget
 
--- the ends that an item hands on are ends of an item
+-- the ends that an item hands on are ends of an item that the order lacks
 pub ends_held : {P K O E R T : Type 0} (of : P → Operation K O E) (reading : Reading K E R T) (d : P × List K × ℕ) (item : ℕ) (lacked : List K) (ruled : Ruled R) (parts : ℕ)
-    → item < items_in d → GivesEdges of reading d item lacked ruled parts → All (IsItemEnd of d) lacked
+    → item < items_in d → GivesEdges of reading d item lacked ruled parts → All (IsLackedEnd of d) lacked
 ends_held of reading d item lacked ruled parts below given n k low =
-    (d.2 + item, (omega arith, omega arith), (given.2 (slice_index_or lacked n k)).0 (split_has d.1 given.0 given.3.0.items lacked given.3.2 (slice_index_or lacked n k) (has_at lacked n k low)))
+    let h = has_at lacked n k low in (
+      (d.2 + item, (omega arith, omega arith), (given.2 (slice_index_or lacked n k)).0 (split_has d.1 given.0 given.3.0.items lacked given.3.2 (slice_index_or lacked n k) h)),
+      split_lacks d.1 given.0 given.3.0.items lacked given.3.2 (slice_index_or lacked n k) h,
+    )

@@ -1,7 +1,7 @@
 -- The ends of an item, some of which the order has.
 use Rattle.std.specs.Prelude.{◌≡◌, ℕ, ◌<◌, List, [], ◌∷◌, Option, Some, None, length, map, slice_get, slice_index, slice_index_or}
 use Rattle.std.specs.Global.{Vec}
-use Rattle.std.proofs.Common.{◌∙◌, inl, inr, subst}
+use Rattle.std.proofs.Common.{◌∙◌, inl, inr, subst, sym}
 use Rattle.tib_lex.specs.Lists.{Has, Each}
 use Rattle.tib_table.specs.Known.{Names}
 use Rattle.tib_table.specs.declared.number.Number.{Number}
@@ -28,6 +28,16 @@ module _ {K : Type 0} (order : List K) where
   split_has (k ∷ ks) (Numbered ∷ ats) [] s x h = absurd s
   split_has (k ∷ ks) (Numbered ∷ ats) (l ∷ lacked) s x (inl e) = inl (s.0 ∙ e)
   split_has (k ∷ ks) (Numbered ∷ ats) (l ∷ lacked) s x (inr h) = inr (split_has ks ats lacked s.2 x h)
+
+  -- none of them stands in the order
+  pub split_lacks : (ks : List K) (ats : List EndAt) (lacked : List K) → AreSplit ks ats lacked → (x : K) → Has lacked x → Has order x → ⊥
+  split_lacks [] [] lacked s x h = absurd (subst (λ (l : List K). Has l x) s h)
+  split_lacks [] (at ∷ ats) lacked s x h = absurd s
+  split_lacks (k ∷ ks) [] lacked s x h = absurd s
+  split_lacks (k ∷ ks) (Position n ∷ ats) lacked s x h = split_lacks ks ats lacked s.1 x h
+  split_lacks (k ∷ ks) (Numbered ∷ ats) [] s x h = absurd s
+  split_lacks (k ∷ ks) (Numbered ∷ ats) (l ∷ lacked) s x (inl e) = λ m. s.1 (subst (Has order) (sym (s.0 ∙ e)) m)
+  split_lacks (k ∷ ks) (Numbered ∷ ats) (l ∷ lacked) s x (inr h) = split_lacks ks ats lacked s.2 x h
 
   -- each end stands at its position of the order, or has the next of the numbers, which names it on the shelves
   abbrev pub NameAt : List (List K) → List K → List EndAt → List Number → Type 0

@@ -11,6 +11,7 @@ pub mod RoundModel
 pub mod Known
 pub mod RoundLaw
 pub mod Shelved
+pub mod Divided
 pub mod States
 pub mod Jobs
 pub mod Answers

@@ -5,8 +5,9 @@ use Rattle.std.specs.declared.cmp.Ordering.TheVariants.{Less}
 use Rattle.tib_lex.specs.Lists.{Has, Ascends, total}
 pub use Rattle.tib_lex.specs.Limits.{most_parts}
 use Rattle.tib_hunt.specs.EdgeLists.{Lists, IsEnd}
-use Rattle.tib_hunt.specs.declared.found.HuntError.{HuntError}
-use Rattle.tib_hunt.specs.declared.found.HuntError.TheVariants.{TooMany, OutOfMemory}
+pub use Rattle.tib_numbered_keys.specs.declared.error.HuntError.{HuntError}
+pub use Rattle.tib_numbered_keys.specs.declared.error.HuntError.TheVariants.{TooMany, OutOfMemory}
+pub use Rattle.tib_numbered_keys.specs.Limits.{IfTooMany}
 
 -- What an operation hunts: the order of keys, the seeds, the edges of the seeds and of each position of an order, each by its origin, the
 -- keys at which an edge ends, and the parts of a key and of an edge.
@@ -70,8 +71,3 @@ module _ {K O E : Type 0} (p : Operation K O E) where
   -- The reached set has more parts than the limit, or is endless.
   abbrev pub IsBeyond : ℕ → Type 0
   IsBeyond limit = (order : List K) (es : List E) → IsReachedSet order es → limit < parts_of order es
-
--- where it is not for want of memory, the error names the limit, and P holds
-abbrev pub IfTooMany : ℕ → Type 0 → HuntError → Type 0
-IfTooMany limit P (TooMany n) = (n ≡ limit) × P
-IfTooMany limit P OutOfMemory = Unit {0}

@@ -4,6 +4,7 @@ use Rattle.tib_lex.specs.Lists.{Has, Each, Distinct, Along, total}
 use Rattle.tib_table.specs.Known.{on}
 use Rattle.tib_crew.specs.declared.row.Row.{Row as ItemRow}
 pub use Rattle.tib_crew.specs.Rows.{NameOn}
+pub use Rattle.tib_numbered_keys.specs.Numbered.{all_on}
 use Rattle.tib_hunt.specs.EdgeLists.{AreListed, Exceeds, IsEnd, IsWithin, key_at}
 use Rattle.tib_hunt.specs.Reached.{Operation, AreEdges}
 use Rattle.tib_hunt.specs.Reading.{Reading}
@@ -15,10 +16,9 @@ use Rattle.tib_hunt.specs.RoundLaw.{IsKept}
 use Rattle.tib_hunt.specs.declared.place.Place.{Place}
 
 module _ {K : Type 0} where
-  -- the keys of all shelves, one shelf after the other
-  abbrev pub all_on : List (List K) → List K
-  all_on [] = []
-  all_on (ks ∷ kss) = ks ++ all_on kss
+  -- no key on the shelves is one of the order
+  abbrev pub AreApart : List K → List (List K) → Type 0
+  AreApart order shelves = (shelf : ℕ) (k : K) → Has (on shelves shelf) k → Has order k → ⊥
 
   -- the state after keys are numbered, one after the other
   abbrev pub with_keys : (K → K → Bool) → (K → ℕ) → Core K → List K → Core K

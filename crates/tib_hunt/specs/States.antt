@@ -8,7 +8,7 @@ use Rattle.tib_hunt.specs.Numbered.{Name, IsInOrder}
 use Rattle.tib_hunt.specs.Rows.{NumberedRow, ReadAs, StayBelow}
 use Rattle.tib_hunt.specs.Held.{IsBetween, IsWithinRound}
 use Rattle.tib_hunt.specs.Known.{AreOn}
-use Rattle.tib_hunt.specs.Shelved.{placed_row, IsWorked, AreWorked}
+use Rattle.tib_hunt.specs.Shelved.{placed_row, IsWorked, AreWorked, AreApart}
 use Rattle.tib_hunt.specs.RoundModel.{Core}
 use Rattle.tib_hunt.specs.declared.hunting.HuntState.{HuntState}
 use Rattle.tib_hunt.specs.declared.hunting.TakenIn.{TakenIn}
@@ -43,6 +43,10 @@ module _ {K R : Type 0} where
   -- the keys of the shelves of a round
   abbrev pub shelves_of : Worked K R → List (List K)
   shelves_of worked = map (λ v. v.items) worked.shelves.items
+
+  -- the order has none of the keys of the shelves
+  abbrev pub LacksAll : List K → Worked K R → Type 0
+  LacksAll order worked = AreApart order (shelves_of worked)
 
   -- the keys of the shelves are at the positions that were taken in
   abbrev pub ArePlaced : List K → Worked K R → TakenIn K R → Type 0

@@ -6,10 +6,11 @@ ghost use Rattle.tib_hunt.specs.Rows.{numbered};
 ghost use Rattle.tib_hunt.specs.States.{IsBetweenRounds, IsExpanded};
 
 use crate::expand::Expand;
-use crate::found::{Gate, HuntError};
+use crate::found::Gate;
 use crate::hunting::HuntState;
 use crate::place::ExpandError;
 use std::alloc::Global;
+use tib_numbered_keys::HuntError;
 use tib_table::TableKey;
 
 // Expands the positions of the order from `first` on. Their ends are numbered as if they followed the order as they were found.

@@ -1,7 +1,5 @@
 //! What a hunt answers, and the gate that it calls for each item.
 
-use thiserror::Error;
-
 /// The reached set of an operation.
 #[derive(Drop)]
 pub struct Found<K, R> {
@@ -11,17 +9,6 @@ pub struct Found<K, R> {
     pub rules: Vec<R>,
     /// The parts of the keys and of the rules, added up.
     pub parts: u64,
-}
-
-/// Why a hunt answers no reached set.
-#[derive(Debug, Drop, PartialEq, Eq, Error)]
-pub enum HuntError {
-    /// The reached set has more parts than the limit.
-    #[error("more than {limit} parts")]
-    TooMany { limit: u64 },
-    /// Memory was refused.
-    #[error("out of memory")]
-    OutOfMemory,
 }
 
 /// Called once for each item, before it is expanded.

@@ -1,26 +1,23 @@
 //! The state of a hunt: its keys, rules, rows and parts, with the steps that begin it, take a round in and put its keys in order.
 
-ghost use Rattle.std.specs.Prelude.{◌≡◌, ◌+◌, ◌≤◌, ◌<◌, ◌^◌, ◌++◌, [], length, map, take, drop, IfOk, IfErr, OnOk};
+ghost use Rattle.std.specs.Prelude.{◌≡◌, ◌+◌, ◌≤◌, ◌<◌, ◌^◌, ◌++◌, [], true, length, map, take, drop, IfOk, IfErr, OnOk};
 ghost use Rattle.indexmap.specs.IndexSet.{insert_all};
-ghost use Rattle.tib_lex.specs.Lists.{Each, Distinct, total};
+ghost use Rattle.tib_lex.specs.Lists.{Has, Each, Distinct, total};
 ghost use Rattle.tib_hunt.specs.Reached.{IfTooMany, IsBeyond, most_parts};
 ghost use Rattle.tib_hunt.specs.Numbered.{key_parts, HaveMore, AddsParts, placed, keys_of};
 ghost use Rattle.tib_hunt.specs.Rows.{numbered, IsRowBelow};
 ghost use Rattle.tib_hunt.specs.Shelved.{all_on};
-ghost use Rattle.tib_hunt.specs.States.{AddsEdges, AreSettled, IsBetweenRounds, IsExpanded, WorksRound, shelves_of, ArePlaced, HavePositions, rows_in};
+ghost use Rattle.tib_hunt.specs.States.{AddsEdges, AreSettled, IsBetweenRounds, IsExpanded, WorksRound, shelves_of, ArePlaced, HavePositions, LacksAll, rows_in};
 
 use crate::expand::Expand;
-use crate::found::HuntError;
-use crate::fresh::{count_keys, find_shelves, put_fresh};
 use crate::known::Ruled;
-use crate::numbering::{number_ends, sort_new};
 use crate::place::{Edges, ExpandError};
-use crate::placing::place_rows;
 use crate::row::{Row, settle_rows};
 use crate::working::Worked;
 use indexmap::IndexSet;
 use std::alloc::{AllocError, Global};
 use tib_crew::Row as ItemRow;
+use tib_numbered_keys::{HuntError, count_keys, find_shelves, number_ends, put_fresh, sort_new};
 use tib_table::TableKey;
 
 /// The keys so far, the rules over their positions, the rows of the round, and the parts of all.
@@ -78,13 +75,17 @@ impl<E: Expand> HuntState<E> {
     }
 
     /// Takes in what a round made: its fresh keys, which are those of the shelves that the order lacks, and the positions of all keys of the
-    /// shelves. Adds the parts of the fresh keys; `TooMany` if that passes the limit.
+    /// shelves. Adds the parts of the fresh keys; `TooMany` if that passes the limit. `lacked` says that the order has none of the keys of
+    /// the shelves.
     pub fn take_in(
         &mut self,
         alloc: Global,
         limit: u64,
+        lacked: bool,
         worked: Worked<E::Key, E::Over>,
     ) -> Result<TakenIn<E::Key, E::Over>, HuntError>
+        requires lacked { lacked ≡ true → (k : E.Key) → Has (all_on (shelves_of worked)) k
+            → Has self.old.keys.keys k → ⊥ }
         requires once { Distinct (all_on (shelves_of worked)) }
         requires counted { total (key_parts E.Key.entries_of) self.old.keys.keys ≤ worked.parts }
         requires within { worked.parts ≤ limit }
@@ -114,6 +115,7 @@ impl<E: Expand> HuntState<E> {
         };
         let positions = match find_shelves(
             alloc,
+            lacked,
             &self.keys,
             &mut fresh,
             &mut self.parts,
@@ -128,44 +130,6 @@ impl<E: Expand> HuntState<E> {
             positions,
             rows,
         })
-    }
-
-    /// Appends the fresh keys in ascending order, and settles the rules of the rows.
-    pub fn settle_fresh(
-        &mut self,
-        alloc: Global,
-        problem: &E,
-        taken: TakenIn<E::Key, E::Over>,
-    ) -> Result<(), AllocError>
-        requires placed { taken.fresh.items ≡ placed 0 (keys_of taken.fresh.items) }
-        requires few { length (self.old.keys.keys ++ keys_of taken.fresh.items) < 2 ^ 32 }
-        requires distinct { Distinct (self.old.keys.keys ++ keys_of taken.fresh.items) }
-        requires on { HavePositions taken }
-        requires below { Each (IsRowBelow E.reading.places (length self.old.keys.keys)
-            (length (self.old.keys.keys ++ keys_of taken.fresh.items))) (rows_in taken) }
-        ensures rows { OnOk result (self.new.rows.items ≡ []) }
-        ensures parts { OnOk result (self.new.parts ≡ self.old.parts) }
-        ensures settled { OnOk result (AreSettled E.Key.cmp E.reading (length self.old.keys.keys)
-            self.old.keys.keys (keys_of taken.fresh.items) (rows_in taken) self.old self.new) }
-    {
-        let TakenIn {
-            fresh,
-            positions,
-            rows,
-        } = taken;
-        let first = self.keys.len() as u32;
-        let moved = put_fresh(alloc, &mut self.keys, fresh)?;
-        place_rows(
-            alloc,
-            problem,
-            rows,
-            &positions,
-            first,
-            &moved,
-            &mut self.rules,
-        )?;
-        self.rows = Vec::new(alloc);
-        Ok(())
     }
 
     /// Puts the keys from `first` on in ascending order, and settles the rows.
@@ -199,13 +163,15 @@ pub(crate) fn list_keys<K: TableKey + Drop>(
 }
 
 impl<E: Expand> HuntState<E> {
-    /// Takes in what a round made, or answers `TooMany` where the reached set passes the limit.
+    /// Takes in what a round made, or answers `TooMany` where the reached set passes the limit. `lacked` says that the order has none of
+    /// the keys of the shelves.
     pub fn take_round(
         &mut self,
         alloc: Global,
         problem: &E,
         limit: u64,
         first: u32,
+        lacked: bool,
         worked: Worked<E::Key, E::Over>,
     ) -> Result<TakenIn<E::Key, E::Over>, HuntError>
         requires limit { limit ≤ most_parts }
@@ -213,6 +179,7 @@ impl<E: Expand> HuntState<E> {
             first limit self.old }
         requires worked { WorksRound (E.hunted problem.now) E.reading E.Key.shelf_of
             self.old.keys.keys first self.old.parts limit worked }
+        requires lacked { lacked ≡ true → LacksAll self.old.keys.keys worked }
         ensures order { OnOk result (self.new.keys.keys ≡ self.old.keys.keys) }
         ensures placed { IfOk result (λ r. r.fresh.items ≡ placed 0 (keys_of r.fresh.items)) }
         ensures on { IfOk result HavePositions }
@@ -223,7 +190,7 @@ impl<E: Expand> HuntState<E> {
     {
         let _problem = problem;
         let _first = first;
-        match self.take_in(alloc, limit, worked) {
+        match self.take_in(alloc, limit, lacked, worked) {
             Ok(taken) => Ok(taken),
             Err(error) => Err(error),
         }
@@ -257,34 +224,5 @@ impl<E: Expand> HuntState<E> {
             return Err(HuntError::OutOfMemory);
         };
         Ok(state)
-    }
-
-    /// Ends a round: takes in what it made, and appends the new ends in ascending order.
-    pub fn end_round(
-        &mut self,
-        alloc: Global,
-        problem: &E,
-        limit: u64,
-        first: u32,
-        worked: Worked<E::Key, E::Over>,
-    ) -> Result<(), HuntError>
-        requires limit { limit ≤ most_parts }
-        requires between { IsBetweenRounds (E.hunted problem.now) (E.admits problem.now) E.reading
-            first limit self.old }
-        requires worked { WorksRound (E.hunted problem.now) E.reading E.Key.shelf_of
-            self.old.keys.keys first self.old.parts limit worked }
-        ensures between { OnOk result (IsBetweenRounds (E.hunted problem.now) (E.admits problem.now)
-            E.reading (length self.old.keys.keys) limit self.new) }
-        ensures rows { OnOk result (self.new.rows.items ≡ []) }
-        ensures more { IfErr result (IfTooMany limit (IsBeyond (E.hunted problem.now) limit)) }
-    {
-        let taken = match self.take_round(alloc, problem, limit, first, worked) {
-            Ok(taken) => taken,
-            Err(error) => return Err(error),
-        };
-        let Ok(()) = self.settle_fresh(alloc, problem, taken) else {
-            return Err(HuntError::OutOfMemory);
-        };
-        Ok(())
     }
 }

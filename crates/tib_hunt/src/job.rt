@@ -25,7 +25,7 @@ pub(crate) struct JobOf<'a, E: Expand, G: Gate> {
 }
 
 impl<'a, E: Expand, G: Gate> Problem for JobOf<'a, E, G> {
-    ghost use Rattle.tib_hunt.specs.Jobs.{IsItemEnd};
+    ghost use Rattle.tib_hunt.specs.Jobs.{IsLackedEnd};
 
     type Key = E::Key;
 
@@ -33,7 +33,7 @@ impl<'a, E: Expand, G: Gate> Problem for JobOf<'a, E, G> {
 
     ghost about = { λ j. (j.problem.now, j.keys.now.keys, j.first) };
 
-    ghost may_hold = { IsItemEnd E.hunted };
+    ghost may_hold = { IsLackedEnd E.hunted };
 }
 
 impl<'a, E: Expand, G: Gate> Task for JobOf<'a, E, G> {

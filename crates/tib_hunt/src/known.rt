@@ -3,9 +3,9 @@
 ghost use Rattle.std.specs.Prelude.{◌<◌, ◌^◌, length, IfOk};
 ghost use Rattle.tib_hunt.specs.Known.{AreSplit};
 
-use crate::fresh::find_position;
 use indexmap::IndexSet;
 use std::alloc::{AllocError, Global};
+use tib_numbered_keys::find_position;
 use tib_table::TableKey;
 
 /// Where an end of an item is: at a position of the order, or it has the next of the numbers on the shelves.

@@ -3,17 +3,17 @@
 //! several, who find the same whatever the order of their steps. It stands on `tib_crew` and on `tib_table`.
 #![tactic(auto)]
 
+mod dividing;
+mod ending;
 mod event;
 mod expand;
 mod few;
 mod found;
-mod fresh;
 mod hunting;
 mod itemized;
 mod job;
 mod known;
 pub mod laws;
-mod numbering;
 mod place;
 mod placing;
 mod reach;
@@ -27,10 +27,11 @@ mod works;
 
 pub use event::{Answer, Event};
 pub use expand::Expand;
-pub use found::{Found, Gate, HuntError, Open};
+pub use found::{Found, Gate, Open};
 pub use itemized::Itemized;
 pub use place::{Edges, ExpandError, Place};
 pub use reach::{MOST_PARTS, hunt, hunt_alone, hunts_have_a_limit};
 pub use round::Round;
 pub use round_of::RoundOf;
+pub use tib_numbered_keys::HuntError;
 pub use tib_table::TableKey;

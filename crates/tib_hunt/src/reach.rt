@@ -6,12 +6,13 @@ ghost use Rattle.tib_hunt.specs.Reached.{IfTooMany, IsBeyond, most_parts};
 ghost use Rattle.tib_hunt.specs.States.{IsBetweenRounds};
 
 use crate::expand::Expand;
-use crate::found::{Found, Gate, HuntError};
+use crate::found::{Found, Gate};
 use crate::hunting::{HuntState, list_keys};
 use crate::works::{round_alone, round_together};
 use std::alloc::{AllocError, Global};
 use std::sync::Wait;
 use std::thread::Threads;
+use tib_numbered_keys::HuntError;
 
 /// The greatest limit of parts.
 pub const MOST_PARTS: u64 = 20_000_000;

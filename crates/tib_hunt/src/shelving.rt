@@ -9,10 +9,10 @@ ghost use Rattle.tib_hunt.specs.RoundModel.{IsItem, next_item, with_draw, with_k
 ghost use Rattle.tib_hunt.specs.Shelved.{all_on, with_keys, NameOn, ShelvesHaveMore};
 
 use crate::event::{Answer, Event};
-use crate::found::HuntError;
 use crate::itemized::Itemized;
 use crate::round::Round;
 use std::alloc::{AllocError, Global};
+use tib_numbered_keys::HuntError;
 use tib_table::{Number, TableKey};
 
 /// Draws the next item of a round, or None where all are drawn.

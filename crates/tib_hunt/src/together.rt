@@ -4,10 +4,10 @@ ghost use Rattle.std.specs.Prelude.{◌≡◌, ◌≤◌, List, IfOk, IfErr};
 ghost use Rattle.tib_crew.specs.Rows.{parts_in};
 ghost use Rattle.tib_hunt.specs.Held.{IsBetween};
 ghost use Rattle.tib_hunt.specs.Reached.{IfTooMany, IsBeyond, most_parts};
-ghost use Rattle.tib_hunt.specs.States.{WorksRound};
+ghost use Rattle.tib_hunt.specs.States.{WorksRound, LacksAll};
 
 use crate::expand::Expand;
-use crate::found::{Gate, HuntError};
+use crate::found::Gate;
 use crate::job::JobOf;
 use crate::working::Worked;
 use indexmap::IndexSet;
@@ -15,6 +15,7 @@ use std::alloc::Global;
 use std::sync::Wait;
 use std::thread::Threads;
 use tib_crew::{Gathered, Row, Unperformed, perform_all};
+use tib_numbered_keys::HuntError;
 
 // The parts of all rows.
 fn count_parts<T>(rows: &[Row<T>]) -> u64
@@ -52,6 +53,7 @@ where
         (E.admits problem.now) E.reading first keys.now.keys rules parts limit }
     ensures worked { IfOk result (WorksRound (E.hunted problem.now) E.reading E.Key.shelf_of
         keys.now.keys first parts limit) }
+    ensures apart { IfOk result (LacksAll keys.now.keys) }
     ensures more { IfErr result (IfTooMany limit (IsBeyond (E.hunted problem.now) limit)) }
 {
     let job = JobOf {

@@ -12,7 +12,7 @@ ghost use Rattle.tib_hunt.specs.Shelved.{all_on, IsTooMuch};
 ghost use Rattle.tib_hunt.specs.States.{WorksItem, WorksRound};
 
 use crate::expand::Expand;
-use crate::found::{Gate, HuntError};
+use crate::found::Gate;
 use crate::known::Ruled;
 use crate::place::ExpandError;
 use crate::round::Round;
@@ -20,6 +20,7 @@ use crate::round_of::RoundOf;
 use crate::shelving::{draw_item, file_item, shelve_ends};
 use std::alloc::Global;
 use tib_crew::Row;
+use tib_numbered_keys::HuntError;
 use tib_table::TableKey;
 
 /// What a round makes: the keys on its shelves, the rows of its items, and the parts of all that was there before and of these rows.

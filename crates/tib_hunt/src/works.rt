@@ -6,13 +6,14 @@ ghost use Rattle.tib_hunt.specs.States.{IsBetweenRounds};
 
 use crate::expand::Expand;
 use crate::few::round_of_few;
-use crate::found::{Gate, HuntError};
+use crate::found::Gate;
 use crate::hunting::HuntState;
 use crate::together::work_together;
 use crate::working::work_round;
 use std::alloc::Global;
 use std::sync::Wait;
 use std::thread::Threads;
+use tib_numbered_keys::HuntError;
 
 /// Works the round that begins at the position `first` by one worker, on shelves if it has at least `many` items, and else on one list. The
 /// outcome is the same.
@@ -75,7 +76,7 @@ where
     let keys = &state.keys;
     let parts = state.parts;
     match work_together(rt, alloc, problem, keys, first, parts, limit, workers, gate) {
-        Ok(worked) => state.end_round(alloc, problem, limit, first, worked),
+        Ok(worked) => state.end_round_together(rt, alloc, problem, limit, first, workers, worked),
         Err(error) => Err(error),
     }
 }

@@ -2,7 +2,7 @@ use Rattle.std.proofs.Common.{◌∙◌, ap, arith, refl}
 use Rattle.tib_crew.specs.Rows.{parts_in}
 use Rattle.tib_hunt.proofs.Reaching.{hunt_of}
 use Rattle.tib_hunt.proofs.Advancing.{few_keys}
-use Rattle.tib_hunt.proofs.GatheredRows.{gathered_whole, too_little_beyond}
+use Rattle.tib_hunt.proofs.GatheredRows.{gathered_whole, gathered_apart, too_little_beyond}
 use Rattle.tib_hunt.proofs.together.work_together.Goals as goal
 
 pub invariant_of-job : goal.invariant_of-job
@@ -24,6 +24,11 @@ returns-clause-worked g c =
     let a = c.in-Ok.ensures in
     gathered_whole g.E.Expand.hunted g.E.Expand.reading c.args.problem.now c.args.keys.now.keys c.args.first g.E.Key.TableKey.shelf_of c.in-Ok.gathered.shelves c.in-Ok.gathered.rows.items a.rows a.len a.shelves
     (g.E.Expand.admits c.args.problem.now) c.requires.between.0 c.args.parts c.args.limit c.requires.between.1 c.count_parts-made.result (c.count_parts-made.ensures ∙ ap parts_in c.deref.ensures.value) a.within _ c.in-Ok-into_lists.ensures
+
+pub returns-clause-apart : goal.returns-clause-apart
+returns-clause-apart g c =
+    let a = c.in-Ok.ensures in
+    gathered_apart g.E.Expand.hunted g.E.Expand.reading c.args.problem.now c.args.keys.now.keys c.args.first g.E.Key.TableKey.shelf_of c.in-Ok.gathered.shelves c.in-Ok.gathered.rows.items a.rows a.len a.shelves _ c.in-Ok-into_lists.ensures
 
 pub returns-in-Err-More-clause-more : goal.returns-in-Err-More-clause-more
 returns-in-Err-More-clause-more g c =

@@ -6,11 +6,15 @@ use Rattle.tib_hunt.specs.Known.{AreOn}
 use Rattle.tib_hunt.specs.Shelved.{placed_row}
 use Rattle.tib_hunt.proofs.Reaching.{hunt_of}
 use Rattle.tib_hunt.proofs.Advancing.{end_admitted}
+use Rattle.tib_hunt.proofs.Underway.{all_somewhere}
 use Rattle.tib_hunt.proofs.Taken.{all_placed, once_there, enough_there, told_new, within_round}
 use Rattle.tib_hunt.proofs.hunting.HuntState.take_round.Goals as goal
 
 pub take_in-requires-clause-counted : goal.take_in-requires-clause-counted
 take_in-requires-clause-counted g c = enough_there (hunt_of (g.met.E.Expand.lawful c.args.problem.now) g.met.E.Key.Ord.total g.met.E.Key.TableKey.same g.met.E.Key.Eq.laws.refl) g.E.Key.TableKey.shelf_of (λ x. g.met.E.Key.TableKey.low x) c.args.self.now.keys.keys c.args.first c.args.self.now.rules.items c.args.self.now.parts c.args.limit c.requires.between (map (λ v. v.items) c.args.worked.shelves.items) c.args.worked.rows.items c.args.worked.parts c.requires.worked
+
+pub take_in-requires-clause-lacked : goal.take_in-requires-clause-lacked
+take_in-requires-clause-lacked g c lacked k h = let r = all_somewhere (map (λ v. v.items) c.args.worked.shelves.items) k h in c.requires.lacked lacked r.0 k r.1
 
 pub take_in-requires-clause-once : goal.take_in-requires-clause-once
 take_in-requires-clause-once g c = once_there (hunt_of (g.met.E.Expand.lawful c.args.problem.now) g.met.E.Key.Ord.total g.met.E.Key.TableKey.same g.met.E.Key.Eq.laws.refl) g.E.Key.TableKey.shelf_of (λ x. g.met.E.Key.TableKey.low x) c.args.self.now.keys.keys c.args.first c.args.self.now.rules.items c.args.self.now.parts c.args.limit c.requires.between (map (λ v. v.items) c.args.worked.shelves.items) c.args.worked.rows.items c.args.worked.parts c.requires.worked

@@ -1,0 +1,173 @@
+//! The end of a round: what it made is taken in, its new keys are appended in ascending order, and its rows are settled, by one thread or by
+//! several.
+
+ghost use Rattle.std.specs.Prelude.{◌≡◌, ◌≤◌, ◌<◌, ◌^◌, ◌++◌, [], length, IfErr, OnOk};
+ghost use Rattle.tib_lex.specs.Lists.{Each, Distinct};
+ghost use Rattle.tib_hunt.specs.Reached.{IfTooMany, IsBeyond, most_parts};
+ghost use Rattle.tib_hunt.specs.Numbered.{placed, keys_of};
+ghost use Rattle.tib_hunt.specs.Rows.{IsRowBelow};
+ghost use Rattle.tib_hunt.specs.States.{AreSettled, IsBetweenRounds, WorksRound, HavePositions, LacksAll, rows_in};
+
+use crate::dividing::place_together;
+use crate::expand::Expand;
+use crate::hunting::{HuntState, TakenIn};
+use crate::placing::place_rows;
+use crate::working::Worked;
+use std::alloc::{AllocError, Global};
+use std::thread::Threads;
+use tib_numbered_keys::{HuntError, put_fresh, put_fresh_together};
+
+impl<E: Expand> HuntState<E> {
+    // Appends the fresh keys in ascending order, and settles the rules of the rows.
+    fn settle_fresh(
+        &mut self,
+        alloc: Global,
+        problem: &E,
+        taken: TakenIn<E::Key, E::Over>,
+    ) -> Result<(), AllocError>
+        requires placed { taken.fresh.items ≡ placed 0 (keys_of taken.fresh.items) }
+        requires few { length (self.old.keys.keys ++ keys_of taken.fresh.items) < 2 ^ 32 }
+        requires distinct { Distinct (self.old.keys.keys ++ keys_of taken.fresh.items) }
+        requires on { HavePositions taken }
+        requires below { Each (IsRowBelow E.reading.places (length self.old.keys.keys)
+            (length (self.old.keys.keys ++ keys_of taken.fresh.items))) (rows_in taken) }
+        ensures rows { OnOk result (self.new.rows.items ≡ []) }
+        ensures parts { OnOk result (self.new.parts ≡ self.old.parts) }
+        ensures settled { OnOk result (AreSettled E.Key.cmp E.reading (length self.old.keys.keys)
+            self.old.keys.keys (keys_of taken.fresh.items) (rows_in taken) self.old self.new) }
+    {
+        let TakenIn {
+            fresh,
+            positions,
+            rows,
+        } = taken;
+        let first = self.keys.len() as u32;
+        let moved = put_fresh(alloc, &mut self.keys, fresh)?;
+        place_rows(
+            alloc,
+            problem,
+            rows,
+            &positions,
+            first,
+            &moved,
+            &mut self.rules,
+        )?;
+        self.rows = Vec::new(alloc);
+        Ok(())
+    }
+
+    // The same by several threads: the fresh keys and the rows are halved `times` times.
+    fn settle_together<R: Threads + Sync>(
+        &mut self,
+        rt: &R,
+        alloc: Global,
+        problem: &E,
+        times: u32,
+        taken: TakenIn<E::Key, E::Over>,
+    ) -> Result<(), AllocError>
+    where
+        E: Sync,
+        E::Key: Send + Sync,
+        E::Over: Send,
+        E::Rule: Send,
+        requires placed { taken.fresh.items ≡ placed 0 (keys_of taken.fresh.items) }
+        requires few { length (self.old.keys.keys ++ keys_of taken.fresh.items) < 2 ^ 32 }
+        requires distinct { Distinct (self.old.keys.keys ++ keys_of taken.fresh.items) }
+        requires on { HavePositions taken }
+        requires below { Each (IsRowBelow E.reading.places (length self.old.keys.keys)
+            (length (self.old.keys.keys ++ keys_of taken.fresh.items))) (rows_in taken) }
+        ensures rows { OnOk result (self.new.rows.items ≡ []) }
+        ensures parts { OnOk result (self.new.parts ≡ self.old.parts) }
+        ensures settled { OnOk result (AreSettled E.Key.cmp E.reading (length self.old.keys.keys)
+            self.old.keys.keys (keys_of taken.fresh.items) (rows_in taken) self.old self.new) }
+    {
+        let TakenIn {
+            fresh,
+            positions,
+            rows,
+        } = taken;
+        let first = self.keys.len() as u32;
+        let moved = put_fresh_together(rt, alloc, times, &mut self.keys, fresh)?;
+        place_together(
+            rt,
+            alloc,
+            problem,
+            rows,
+            &positions,
+            first,
+            &moved,
+            &mut self.rules,
+            times,
+        )?;
+        self.rows = Vec::new(alloc);
+        Ok(())
+    }
+
+    /// Ends a round: takes in what it made, and appends the new ends in ascending order.
+    pub fn end_round(
+        &mut self,
+        alloc: Global,
+        problem: &E,
+        limit: u64,
+        first: u32,
+        worked: Worked<E::Key, E::Over>,
+    ) -> Result<(), HuntError>
+        requires limit { limit ≤ most_parts }
+        requires between { IsBetweenRounds (E.hunted problem.now) (E.admits problem.now) E.reading
+            first limit self.old }
+        requires worked { WorksRound (E.hunted problem.now) E.reading E.Key.shelf_of
+            self.old.keys.keys first self.old.parts limit worked }
+        ensures between { OnOk result (IsBetweenRounds (E.hunted problem.now) (E.admits problem.now)
+            E.reading (length self.old.keys.keys) limit self.new) }
+        ensures rows { OnOk result (self.new.rows.items ≡ []) }
+        ensures more { IfErr result (IfTooMany limit (IsBeyond (E.hunted problem.now) limit)) }
+    {
+        let taken = match self.take_round(alloc, problem, limit, first, false, worked) {
+            Ok(taken) => taken,
+            Err(error) => return Err(error),
+        };
+        let Ok(()) = self.settle_fresh(alloc, problem, taken) else {
+            return Err(HuntError::OutOfMemory);
+        };
+        Ok(())
+    }
+
+    /// Ends a round of this number of workers, 1 or more: takes in what they made without a look-up, since the order has none of the keys of
+    /// their shelves, and has as many threads sort the new ends and settle the rows.
+    pub fn end_round_together<R: Threads + Sync>(
+        &mut self,
+        rt: &R,
+        alloc: Global,
+        problem: &E,
+        limit: u64,
+        first: u32,
+        workers: u32,
+        worked: Worked<E::Key, E::Over>,
+    ) -> Result<(), HuntError>
+    where
+        E: Sync,
+        E::Key: Send + Sync,
+        E::Over: Send,
+        E::Rule: Send,
+        requires workers { 1 ≤ workers }
+        requires limit { limit ≤ most_parts }
+        requires between { IsBetweenRounds (E.hunted problem.now) (E.admits problem.now) E.reading
+            first limit self.old }
+        requires worked { WorksRound (E.hunted problem.now) E.reading E.Key.shelf_of
+            self.old.keys.keys first self.old.parts limit worked }
+        requires apart { LacksAll self.old.keys.keys worked }
+        ensures between { OnOk result (IsBetweenRounds (E.hunted problem.now) (E.admits problem.now)
+            E.reading (length self.old.keys.keys) limit self.new) }
+        ensures rows { OnOk result (self.new.rows.items ≡ []) }
+        ensures more { IfErr result (IfTooMany limit (IsBeyond (E.hunted problem.now) limit)) }
+    {
+        let taken = match self.take_round(alloc, problem, limit, first, true, worked) {
+            Ok(taken) => taken,
+            Err(error) => return Err(error),
+        };
+        let Ok(()) = self.settle_together(rt, alloc, problem, workers.ilog2(), taken) else {
+            return Err(HuntError::OutOfMemory);
+        };
+        Ok(())
+    }
+}

@@ -1,0 +1,6 @@
+pub mod Limits
+pub mod Inserted
+pub mod Sights
+pub mod Placed
+pub mod FreshKeys
+mod Sorting
