@@ -2,7 +2,7 @@
 use Rattle.std.specs.Prelude.{◌≡◌, ℕ, ◌<◌, ◌≤◌, List, [], ◌∷◌, ◌++◌, length, map, refl}
 use Rattle.std.proofs.Common.{arith, subst, sym, ap, ◌∙◌}
 use Rattle.std.proofs.lemmas.List.{length-map}
-use Rattle.tib_lex.specs.Lists.{Each, total}
+use Rattle.tib_lex.specs.Lists.{Each}
 use Rattle.tib_lex.proofs.Members.{each_has, has_at}
 use Rattle.tib_lex.proofs.Lists.{each_left, each_right}
 use Rattle.tib_tree.specs.Trees.{Trees, none, tree, only}
@@ -12,6 +12,7 @@ use Rattle.tib_hunt.specs.Reached.{IsReachedSet, IsBeyond, parts_of}
 use Rattle.tib_hunt.specs.Rows.{AreBelow}
 use Rattle.tib_hunt.specs.Numbered.{key_parts}
 use Rattle.tib_keyed.specs.Ends.{key_at}
+use Rattle.tib_keyed.proofs.Limits.{each_counts}
 use Rattle.tib_transducer.specs.Rules.{transducer_rule, no_rule, states_in}
 use Rattle.tib_transducer.specs.Range.{AreShaped, AreWithin}
 use Rattle.tib_transducer.specs.TransducerOf.{TransducerOf}
@@ -46,23 +47,15 @@ rules_within n rules below m h =
     let here : Each (λ q. q < n) (places_of (transducer_rule rules m)) = each_has (λ rule. Each (λ q. q < n) (places_of rule)) rules (transducer_rule rules m) below (has_at rules m no_rule h) in
     (here.0, holes_below n (only (transducer_rule rules m).right) here.1)
 
-keys_least : (order : List (ℕ × ℕ)) → length order ≤ total (key_parts (λ k. 2)) order
-keys_least [] = omega arith
-keys_least (k ∷ order) = omega (arith, keys_least order)
-
-edges_least : (es : List (TransducerRule (ℕ × ℕ))) → length es ≤ total edge_parts es
-edges_least [] = omega arith
-edges_least (e ∷ es) = omega (arith, edges_least es)
-
 module _ (product : ℕ → ℕ → ℕ) (one two : List (TransducerRule ℕ)) (order : List (ℕ × ℕ)) (rules : List (TransducerRule ℕ)) (parts limit : ℕ)
     (counted : parts ≡ parts_of (composition product one two) order (map (named_transducer_rule (key_at order)) rules)) (within : parts ≤ limit) where
   -- there are no more pairs than the limit
   pub few_keys : length order ≤ limit
-  few_keys = omega (arith, keys_least order, counted, within)
+  few_keys = omega (arith, each_counts (key_parts (λ k. 2)) (λ k. omega arith) order, counted, within)
 
   -- there are no more rules than the limit
   pub few_rules : length rules ≤ limit
-  few_rules = omega (arith, edges_least (map (named_transducer_rule (key_at order)) rules), length-map rules (named_transducer_rule (key_at order)), counted, within)
+  few_rules = omega (arith, each_counts edge_parts (λ e. omega arith) (map (named_transducer_rule (key_at order)) rules), length-map rules (named_transducer_rule (key_at order)), counted, within)
 
 -- the same transducers under other names
 module _ (product : ℕ → ℕ → ℕ) (near far one two : TransducerOf) (same : near ≡ one) (other : far ≡ two) where

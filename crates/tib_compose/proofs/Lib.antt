@@ -13,3 +13,4 @@ mod FlatEdges
 mod Expanded
 mod Hunted
 mod Bounded
+mod Faults

@@ -1,10 +1,9 @@
 -- What composition owes of all its pairs, edges and rules.
-use Rattle.std.specs.Prelude.{◌≡◌, ℕ, ◌+◌, ◌<◌, List, [], ◌∷◌, ◌++◌, length, take, Option, refl}
-use Rattle.std.proofs.Common.{suc, arith, ap, sym, ◌∙◌, subst, get_or, inl, inr}
+use Rattle.std.specs.Prelude.{◌≡◌, ℕ, ◌<◌, List, [], ◌∷◌, ◌++◌, length, Option, refl}
+use Rattle.std.proofs.Common.{ap, ◌∙◌, subst, inl, inr}
 use Rattle.tib_lex.specs.Lists.{Has, Each}
 use Rattle.tib_lex.specs.PairOrder.{pair_cmp}
 use Rattle.tib_lex.proofs.Lists.{each_left, each_right}
-use Rattle.tib_lex.proofs.Places.{take_at}
 use Rattle.tib_tree.specs.Trees.{Trees, none, tree, only, relabel}
 use Rattle.tib_grammar.specs.Sides.{Symbol, label, hole, symbol_map, side_map}
 use Rattle.tib_grammar.specs.Range.{AllBelow}
@@ -19,6 +18,8 @@ use Rattle.tib_hunt.specs.declared.place.Place.{Place}
 use Rattle.tib_hunt.specs.declared.place.Place.TheVariants.{Known}
 use Rattle.tib_compose.specs.declared.placed_rule.PlacedRule.{PlacedRule}
 use Rattle.tib_keyed.specs.Ends.{key_at}
+use Rattle.tib_keyed.proofs.KeyOrders.{key_stays}
+use Rattle.tib_keyed.proofs.Pairs.{seed_within}
 use Rattle.tib_compose_laws.specs.Composition.{ends_of, composition}
 use Rattle.tib_compose_laws.proofs.Exact.{same_edge}
 use Rattle.tib_transducer.specs.declared.Pair.{Pair}
@@ -86,17 +87,6 @@ ends_within product one two m n order i o e k a b all low edge has =
     let here : IsKey m n (key_at order i) = each_has (IsKey m n) order (key_at order i) all (has_at order i (0, 0) low) in
     ends_are_in_range product one two m n (in_range m one a) (in_range n two b) (key_at order i) o e k here.1 edge has
 
--- two orders that agree up to a position have the same pair there
-pub key_stays : (xs ys : List (ℕ × ℕ)) (n : ℕ) → take (n + 1) xs ≡ take (n + 1) ys → key_at xs n ≡ key_at ys n
-key_stays xs ys n e =
-    let one : n + 1 ≡ suc n = omega arith in
-    let same : take (suc n) xs ≡ take (suc n) ys = subst (λ m. take m xs ≡ take m ys) one e in
-    sym (take_at xs n (0, 0)) ∙ ap (λ (zs : List (ℕ × ℕ)). get_or zs n (0, 0)) same ∙ take_at ys n (0, 0)
-
--- the pair of the starts is within
-pub seed_within : (m n : ℕ) (k : ℕ × ℕ) → 0 < m → 0 < n → k ≡ (0, 0) → IsKey m n k
-seed_within m n k x y e = (omega (arith, x, ap (λ (z : ℕ × ℕ). z.0) e), omega (arith, y, ap (λ (z : ℕ × ℕ). z.1) e))
-
 -- how rules over places and over positions are read as edges of pairs
 abbrev pub compose_reading : Reading (ℕ × ℕ) (TransducerRule (ℕ × ℕ)) PlacedRule (TransducerRule ℕ)
 compose_reading = record {
@@ -120,5 +110,5 @@ composition_is_lawful product one two m n first second low high = record {
   seeds_admitted = λ k is. seed_within m n k first second is;
   ends_admitted = λ order i o e k all below is has. ends_within product one two m n order i o e k low high all below is has;
   seeds_end = λ o e k is has. absurd is;
-  edges_stay = λ xs ys i o e x y same is. subst (λ k. IsComposeEdge product one two k o e) (key_stays xs ys i same) is;
+  edges_stay = λ xs ys i o e x y same is. subst (λ k. IsComposeEdge product one two k o e) (key_stays (0, 0) xs ys i same) is;
 }

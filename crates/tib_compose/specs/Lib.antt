@@ -2,7 +2,6 @@ pub mod Readers
 pub mod IsIndex
 pub mod ChoiceView
 pub mod EdgeLaws
-pub mod Answered
 pub mod NamedItems
 pub mod Ends
 pub mod PieceViews
@@ -13,8 +12,8 @@ pub mod Sources
 pub mod Listing
 pub mod Searches
 pub mod Walk
-pub mod Moves
 pub mod KeyEdges
 pub mod FlatSides
 pub mod Composed
 pub mod Bounding
+pub mod Faults

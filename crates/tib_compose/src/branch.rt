@@ -3,11 +3,11 @@
 ghost use Rattle.std.specs.Prelude.{IfOk};
 ghost use Rattle.tib_compose.specs.Branches.{IsTaken, IsAdvanced};
 
-use crate::key::Key;
 use crate::pending::{Pending, Piece};
 use std::alloc::AllocError;
 use tib_cost::Cost;
 use tib_grammar::Item;
+use tib_keyed::StatePair;
 use tib_transducer::Pair;
 use tib_tree::Label;
 
@@ -30,7 +30,7 @@ pub struct Branch {
     /// The cost of the rules so far.
     pub cost: Cost,
     /// What was put out.
-    pub done: Vec<Item<Pair<Key>>>,
+    pub done: Vec<Item<Pair<StatePair>>>,
     /// What is left.
     pub pending: Pending,
 }
@@ -53,7 +53,7 @@ impl Branch {
             Piece::Read { node, state } => match items.get(node as usize) {
                 Some(Item::Hole(pair)) => {
                     self.done.push(Item::Hole(Pair {
-                        state: Key::new(pair.state, state),
+                        state: StatePair::new(pair.state, state),
                         variable: pair.variable,
                     }))?;
                     Ok(None)

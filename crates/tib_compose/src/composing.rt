@@ -9,13 +9,12 @@ ghost use Rattle.tib_compose.specs.Composed.{AreOverOrder, HasPartsOf, IsCompose
 
 use crate::composite::Composite;
 use crate::error::ComposeError;
-use crate::key::Key;
 use std::alloc::Global;
 use std::sync::Wait;
 use std::thread::Threads;
-use tib_classes::ClassError;
 use tib_cost::Semiring;
-use tib_hunt::{Found, Gate, HuntError, hunt, hunt_alone};
+use tib_hunt::{Found, Gate, hunt, hunt_alone};
+use tib_keyed::StatePair;
 use tib_transducer::{Transducer, TransducerRule};
 
 /// The pairs of states that composition reaches from the pair of the starts, in the order by rounds, and the rules over their
@@ -31,7 +30,7 @@ pub fn compose<S: Semiring, G: Gate>(
     second: &Transducer<S>,
     limit: u64,
     gate: &G,
-) -> Result<Found<Key, TransducerRule<u32>>, ComposeError>
+) -> Result<Found<StatePair, TransducerRule<u32>>, ComposeError>
     requires some { 1 ≤ limit }
     requires limit { limit ≤ most_parts }
     ensures class { IfOk result (λ _. AllMeet (demands true true true true) second.now.rules) }
@@ -46,16 +45,9 @@ pub fn compose<S: Semiring, G: Gate>(
         IfErr result (IsComposeFault second.now.rules limit (IsBeyond hunted limit)) }
 {
     first.is_sound();
-    let composite = match Composite::new(alloc, first, second) {
-        Ok(composite) => composite,
-        Err(ClassError::Class { rule, fault }) => return Err(ComposeError::Class { rule, fault }),
-        Err(ClassError::OutOfMemory) => return Err(ComposeError::OutOfMemory),
-    };
-    match hunt_alone(alloc, &composite, limit, gate) {
-        Ok(found) => Ok(found),
-        Err(HuntError::TooMany { limit }) => Err(ComposeError::TooMany { limit }),
-        Err(HuntError::OutOfMemory) => Err(ComposeError::OutOfMemory),
-    }
+    let composite = Composite::new(alloc, first, second)?;
+    let found = hunt_alone(alloc, &composite, limit, gate)?;
+    Ok(found)
 }
 
 /// What `compose` answers, found by this number of workers, 1 to 16, whatever the order of their steps. It may wait for ever,
@@ -69,7 +61,7 @@ pub fn compose_together<S: Semiring + Sync, R: Threads + Wait + Sync, G: Gate + 
     workers: u32,
     limit: u64,
     gate: &G,
-) -> Result<Found<Key, TransducerRule<u32>>, ComposeError>
+) -> Result<Found<StatePair, TransducerRule<u32>>, ComposeError>
     requires workers { (1 ≤ workers) × (workers ≤ 16) }
     requires some { 1 ≤ limit }
     requires limit { limit ≤ most_parts }
@@ -85,14 +77,7 @@ pub fn compose_together<S: Semiring + Sync, R: Threads + Wait + Sync, G: Gate + 
         IfErr result (IsComposeFault second.now.rules limit (IsBeyond hunted limit)) }
 {
     first.is_sound();
-    let composite = match Composite::new(alloc, first, second) {
-        Ok(composite) => composite,
-        Err(ClassError::Class { rule, fault }) => return Err(ComposeError::Class { rule, fault }),
-        Err(ClassError::OutOfMemory) => return Err(ComposeError::OutOfMemory),
-    };
-    match hunt(rt, alloc, &composite, workers, limit, gate) {
-        Ok(found) => Ok(found),
-        Err(HuntError::TooMany { limit }) => Err(ComposeError::TooMany { limit }),
-        Err(HuntError::OutOfMemory) => Err(ComposeError::OutOfMemory),
-    }
+    let composite = Composite::new(alloc, first, second)?;
+    let found = hunt(rt, alloc, &composite, workers, limit, gate)?;
+    Ok(found)
 }

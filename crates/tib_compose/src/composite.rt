@@ -2,17 +2,16 @@
 
 ghost use Rattle.std.specs.Prelude.{◌≡◌, ℕ, ◌<◌, length, IfOk, IfErr, true};
 ghost use Rattle.tib_classes.specs.Outside.{demands, AllMeet};
-ghost use Rattle.tib_compose.specs.Answered.{IsClassFault};
+ghost use Rattle.tib_classes.specs.Faults.{IsClassFault};
 ghost use Rattle.tib_compose.specs.EdgeLaws.{StatesBelow};
 ghost use Rattle.tib_compose.specs.IsIndex.{IsIndex};
-ghost use Rattle.tib_compose.specs.Moves.{IsMoves};
+ghost use Rattle.tib_transducer.specs.Moves.{IsStateIndex};
 
 use crate::index::index_rules;
-use crate::moves::Moves;
 use std::alloc::Global;
 use tib_classes::{ClassError, first_outside};
 use tib_shapes::ShapeIndex;
-use tib_transducer::Transducer;
+use tib_transducer::{StateIndex, Transducer};
 
 /// The pairs of a state of the first transducer and a state of the second, reached from the pair of the starts.
 #[derive(Drop)]
@@ -22,9 +21,9 @@ pub struct Composite<'a, S> {
     /// The second transducer.
     pub second: &'a Transducer<S>,
     pub(crate) index: ShapeIndex,
-    pub(crate) moves: Moves,
+    pub(crate) moves: StateIndex,
     pub ghost indexed: { IsIndex second.now.rules index },
-    pub ghost moved: { IsMoves first.now.rules moves },
+    pub ghost moved: { IsStateIndex first.now.rules moves },
     pub ghost first_start: { 0 < length first.now.names },
     pub ghost second_start: { 0 < length second.now.names },
     pub ghost first_range: { StatesBelow (length first.now.names) first.now.rules },
@@ -51,7 +50,7 @@ impl<'a, S> Composite<'a, S> {
         }
         first.is_sound();
         second.is_sound();
-        let Ok(moves) = Moves::new(alloc, first) else {
+        let Ok(moves) = StateIndex::new(alloc, first) else {
             return Err(ClassError::OutOfMemory);
         };
         match index_rules(alloc, second.rule_list()) {

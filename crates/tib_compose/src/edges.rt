@@ -9,7 +9,6 @@ use crate::bounds::Bounds;
 use crate::composite::Composite;
 use crate::ends::ends_of;
 use crate::flat::flat_root;
-use crate::key::Key;
 use crate::listing::Listing;
 use crate::search::Search;
 use crate::source::Source;
@@ -17,6 +16,7 @@ use crate::translating::go_on;
 use std::alloc::{AllocError, Global};
 use tib_cost::Semiring;
 use tib_hunt::ExpandError;
+use tib_keyed::StatePair;
 use tib_transducer::TransducerRule;
 
 impl<'a, S: Semiring> Composite<'a, S> {
@@ -50,7 +50,7 @@ impl<'a, S: Semiring> Composite<'a, S> {
     fn search_rule(
         &self,
         alloc: Global,
-        key: Key,
+        key: StatePair,
         position: u32,
         listing: &mut Listing<'a>,
     ) -> Result<(), ExpandError>
@@ -90,7 +90,7 @@ impl<'a, S: Semiring> Composite<'a, S> {
     fn list_rule(
         &self,
         alloc: Global,
-        key: Key,
+        key: StatePair,
         position: u32,
         listing: &mut Listing<'a>,
     ) -> Result<(), ExpandError>
@@ -114,7 +114,7 @@ impl<'a, S: Semiring> Composite<'a, S> {
     pub(crate) fn list_edges(
         &self,
         alloc: Global,
-        key: Key,
+        key: StatePair,
         position: u32,
         budget: u64,
     ) -> Result<Listing<'a>, ExpandError>

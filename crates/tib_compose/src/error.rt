@@ -1,7 +1,8 @@
 //! What can be amiss in composing two transducers.
 
 use thiserror::Error;
-use tib_classes::ClassFault;
+use tib_classes::{ClassError, ClassFault};
+use tib_hunt::HuntError;
 
 /// Why two transducers were not composed.
 #[derive(Debug, Drop, Error)]
@@ -16,4 +17,32 @@ pub enum ComposeError {
     /// Memory was refused.
     #[error("out of memory")]
     OutOfMemory,
+}
+
+impl From<ClassError> for ComposeError {
+    ghost use Rattle.std.specs.Prelude.{◌≡◌};
+    ghost use Rattle.tib_compose.specs.Faults.{class_error};
+
+    ghost from_gives = { λ e r. r ≡ class_error e };
+
+    fn from(error: ClassError) -> ComposeError {
+        match error {
+            ClassError::Class { rule, fault } => ComposeError::Class { rule, fault },
+            ClassError::OutOfMemory => ComposeError::OutOfMemory,
+        }
+    }
+}
+
+impl From<HuntError> for ComposeError {
+    ghost use Rattle.std.specs.Prelude.{◌≡◌};
+    ghost use Rattle.tib_compose.specs.Faults.{hunt_error};
+
+    ghost from_gives = { λ e r. r ≡ hunt_error e };
+
+    fn from(error: HuntError) -> ComposeError {
+        match error {
+            HuntError::TooMany { limit } => ComposeError::TooMany { limit },
+            HuntError::OutOfMemory => ComposeError::OutOfMemory,
+        }
+    }
 }

@@ -2,12 +2,12 @@
 
 use crate::choice::Choice;
 use crate::composite::Composite;
-use crate::key::Key;
 use crate::placed_rule::PlacedRule;
 use crate::settling::settled_rule;
 use std::alloc::{AllocError, Global};
 use tib_cost::Semiring;
 use tib_hunt::{Edges, Expand, ExpandError};
+use tib_keyed::StatePair;
 use tib_transducer::TransducerRule;
 
 impl<'a, S: Semiring> Expand for Composite<'a, S> {
@@ -15,7 +15,7 @@ impl<'a, S: Semiring> Expand for Composite<'a, S> {
     ghost use Rattle.tib_compose_laws.specs.Composition.{composition};
     ghost use Rattle.tib_compose.specs.EdgeLaws.{compose_reading, composition_is_lawful};
 
-    type Key = Key;
+    type Key = StatePair;
 
     type Over = PlacedRule<'a>;
 
@@ -23,7 +23,7 @@ impl<'a, S: Semiring> Expand for Composite<'a, S> {
 
     type Origin = (u32, Choice);
 
-    type Edge = TransducerRule<Key>;
+    type Edge = TransducerRule<StatePair>;
 
     ghost hunted = { λ c. composition S.product c.first.now.rules c.second.now.rules };
 
@@ -31,9 +31,13 @@ impl<'a, S: Semiring> Expand for Composite<'a, S> {
 
     ghost reading = { compose_reading };
 
-    fn seeds(&self, alloc: Global, budget: u64) -> Result<Edges<Key, PlacedRule<'a>>, ExpandError> {
+    fn seeds(
+        &self,
+        alloc: Global,
+        budget: u64,
+    ) -> Result<Edges<StatePair, PlacedRule<'a>>, ExpandError> {
         let _budget = budget;
-        let Ok(ends) = Vec::from_array(alloc, [Key::new(0, 0)]) else {
+        let Ok(ends) = Vec::from_array(alloc, [StatePair::new(0, 0)]) else {
             return Err(ExpandError::OutOfMemory);
         };
         Ok(Edges {
@@ -46,10 +50,10 @@ impl<'a, S: Semiring> Expand for Composite<'a, S> {
     fn expand(
         &self,
         alloc: Global,
-        order: &[Key],
+        order: &[StatePair],
         n: u32,
         budget: u64,
-    ) -> Result<Edges<Key, PlacedRule<'a>>, ExpandError> {
+    ) -> Result<Edges<StatePair, PlacedRule<'a>>, ExpandError> {
         self.second.is_sound();
         match self.list_edges(alloc, order[n as usize], n, budget) {
             Ok(listing) => Ok(listing.into_edges()),

@@ -18,12 +18,12 @@ ghost use Rattle.tib_compose.specs.KeyEdges.{ListsRule, RuleOverruns};
 ghost use Rattle.tib_compose.specs.Listing.{IsWithinBudget};
 
 use crate::composite::Composite;
-use crate::key::Key;
 use crate::listing::Listing;
 use std::alloc::{AllocError, Global};
 use tib_cost::{Cost, Semiring};
 use tib_grammar::{Item, Side};
 use tib_hunt::ExpandError;
+use tib_keyed::StatePair;
 use tib_transducer::{Pair, TransducerRule, Variable};
 use tib_tree::Label;
 
@@ -61,7 +61,7 @@ pub(crate) fn flat_root(items: &[Item<Pair<u32>>]) -> Option<(Label, u32)>
 fn put_below(
     items: &[Item<Pair<u32>>],
     item: &Item<Pair<u32>>,
-    done: &mut Vec<Item<Pair<Key>>>,
+    done: &mut Vec<Item<Pair<StatePair>>>,
 ) -> Result<(), AllocError>
     ensures { OnOk result (PutsBelow items.now item.now done.old.items done.new.items) }
 {
@@ -75,7 +75,7 @@ fn put_below(
         }
         Item::Hole(pair) => match items.get(pair.variable as usize + 1) {
             Some(Item::Hole(below)) => {
-                let state = Key::new(below.state, pair.state);
+                let state = StatePair::new(below.state, pair.state);
                 done.push(Item::Hole(Pair {
                     state,
                     variable: below.variable,
@@ -91,7 +91,7 @@ fn put_below(
 fn put_right(
     items: &[Item<Pair<u32>>],
     right: &[Item<Pair<u32>>],
-    done: &mut Vec<Item<Pair<Key>>>,
+    done: &mut Vec<Item<Pair<StatePair>>>,
 ) -> Result<(), AllocError>
     ensures { OnOk result (PutsRight items.now right.now done.new.items) }
 {
@@ -106,7 +106,7 @@ fn put_right(
 fn list_kept<'a>(
     alloc: Global,
     left: &'a Side<Variable>,
-    done: &[Item<Pair<Key>>],
+    done: &[Item<Pair<StatePair>>],
     cost: Option<Cost>,
     listing: &mut Listing<'a>,
 ) -> Result<(), ExpandError>
@@ -134,7 +134,7 @@ impl<'a, S: Semiring> Composite<'a, S> {
         rule: &'a TransducerRule<u32>,
         items: &[Item<Pair<u32>>],
         position: u32,
-        done: &mut Vec<Item<Pair<Key>>>,
+        done: &mut Vec<Item<Pair<StatePair>>>,
         listing: &mut Listing<'a>,
     ) -> Result<(), ExpandError>
         requires within { IsWithinBudget listing.old }
@@ -165,7 +165,7 @@ impl<'a, S: Semiring> Composite<'a, S> {
     pub(crate) fn list_flat(
         &self,
         alloc: Global,
-        key: Key,
+        key: StatePair,
         position: u32,
         label: Label,
         rank: u32,

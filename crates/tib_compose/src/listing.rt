@@ -6,12 +6,12 @@ ghost use Rattle.tib_tree.specs.Trees.{preorder_of};
 ghost use Rattle.tib_hunt.specs.Reached.{most_parts};
 ghost use Rattle.tib_compose.specs.Listing.{IsAdded, IsPlacedRule, IsTooMuch, IsWithinBudget, keys_in, placed};
 
-use crate::key::Key;
 use crate::placed_rule::PlacedRule;
 use std::alloc::{AllocError, Global};
 use tib_cost::Cost;
 use tib_grammar::{Item, Side};
 use tib_hunt::{Edges, ExpandError, Place};
+use tib_keyed::StatePair;
 use tib_transducer::{Pair, Variable};
 
 /// The side of some items. Err also where they are no side, or too many to be counted.
@@ -30,8 +30,8 @@ fn placed_side(items: Vec<Item<Pair<Place>>>) -> Result<Side<Pair<Place>>, Alloc
 /// The items with a new end in place of the key of each pair.
 fn place_items(
     alloc: Global,
-    items: &[Item<Pair<Key>>],
-    ends: &mut Vec<Key>,
+    items: &[Item<Pair<StatePair>>],
+    ends: &mut Vec<StatePair>,
 ) -> Result<Vec<Item<Pair<Place>>>, AllocError>
     requires few { length ends.old.items + length items.now < 2 ^ 32 }
     ensures items { IfOk result (λ v. v.items ≡ placed (length ends.old.items) items.now) }
@@ -62,7 +62,7 @@ fn place_items(
 #[derive(Drop)]
 pub struct Listing<'a> {
     /// The ends, one after another.
-    pub ends: Vec<Key>,
+    pub ends: Vec<StatePair>,
     /// The rules over places.
     pub rules: Vec<PlacedRule<'a>>,
     /// The parts of the rules.
@@ -96,7 +96,7 @@ impl<'a> Listing<'a> {
         &mut self,
         alloc: Global,
         left: &'a Side<Variable>,
-        done: &[Item<Pair<Key>>],
+        done: &[Item<Pair<StatePair>>],
         cost: Cost,
     ) -> Result<PlacedRule<'a>, AllocError>
         requires few { length self.old.ends.items ≤ most_parts }
@@ -121,7 +121,7 @@ impl<'a> Listing<'a> {
         &mut self,
         alloc: Global,
         left: &'a Side<Variable>,
-        done: &[Item<Pair<Key>>],
+        done: &[Item<Pair<StatePair>>],
         cost: Cost,
     ) -> Result<(), ExpandError>
         requires within { IsWithinBudget self.old }
@@ -145,7 +145,7 @@ impl<'a> Listing<'a> {
     }
 
     /// The ends, the rules and their parts.
-    pub fn into_edges(self) -> Edges<Key, PlacedRule<'a>>
+    pub fn into_edges(self) -> Edges<StatePair, PlacedRule<'a>>
         ensures ends { result.ends.items ≡ self.entry.ends.items }
         ensures rules { result.rules.items ≡ self.entry.rules.items }
         ensures parts { result.parts ≡ self.entry.parts }

@@ -6,7 +6,8 @@ use Rattle.tib_hunt.specs.EdgeLists.{Lists}
 use Rattle.tib_hunt.specs.Reached.{AreEdges}
 use Rattle.tib_hunt.specs.Numbered.{key_parts}
 use Rattle.tib_keyed.proofs.KeyOrders.{edges_below as keyed_edges}
-use Rattle.tib_intersect.specs.PairEdges.{pair_at, IsPairEdge, ends_of, edge_parts}
+use Rattle.tib_keyed.specs.Ends.{key_at as pair_at}
+use Rattle.tib_intersect.specs.PairEdges.{IsPairEdge, ends_of, edge_parts}
 use Rattle.tib_intersect.specs.Intersection.{intersection}
 
 -- edges position by position are a list by position and origin

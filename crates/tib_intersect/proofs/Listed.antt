@@ -14,7 +14,7 @@ use Rattle.tib_grammar.proofs.Sides.{holes_of-over}
 use Rattle.tib_hunt.specs.EdgeLists.{IsWithin, key_at}
 use Rattle.tib_intersect.specs.declared.listing.Listing.{Listing}
 use Rattle.tib_intersect.specs.declared.pair_rule.PairRule.{PairRule}
-use Rattle.tib_intersect.specs.PairEdges.{pair_at, IsPairEdge, ends_of, edge_parts}
+use Rattle.tib_intersect.specs.PairEdges.{IsPairEdge, ends_of, edge_parts}
 use Rattle.tib_intersect.specs.PairRules.{places_of, Reads}
 use Rattle.tib_intersect.specs.Listing.{states_of, pairs_of, all_ends, Agree, IsAdded, IsPassed, IsNext, IsTooMuch, IsListed, Overruns, Stands}
 use Rattle.tib_intersect.specs.PairLaws.{reads_places}
@@ -22,7 +22,7 @@ use Rattle.tib_lex.proofs.Members.{distinct_more, each_has, has_at, has_left, ha
 use Rattle.tib_lex.proofs.Lists.{each_weaker, total_more}
 use Rattle.tib_lex.proofs.Places.{not_before, index_get}
 use Rattle.tib_lex.proofs.Alongs.{along_more, along_map}
-use Rattle.tib_keyed.specs.Ends.{ends_from}
+use Rattle.tib_keyed.specs.Ends.{ends_from, key_at as pair_at}
 use Rattle.tib_keyed.proofs.Ends.{within_wider, place_stays, ends_within}
 
 module _ {K : Type 0} where

@@ -13,7 +13,8 @@ use Rattle.tib_normal.specs.Rules.{rules_from}
 use Rattle.tib_shapes.specs.Places.{places_from}
 use Rattle.tib_shapes.proofs.Places.{places_are, place_is, is_place, places_once}
 use Rattle.tib_intersect.specs.declared.listing.Listing.{Listing}
-use Rattle.tib_intersect.specs.PairEdges.{pair_at, IsPairEdge}
+use Rattle.tib_keyed.specs.Ends.{key_at as pair_at}
+use Rattle.tib_intersect.specs.PairEdges.{IsPairEdge}
 use Rattle.tib_intersect.specs.PairRules.{Reads}
 use Rattle.tib_intersect.specs.Matching.{positions_with, has_shape}
 use Rattle.tib_intersect.specs.Listing.{states_of, Agree, IsListed, Stands, AreListedFrom}

@@ -1,7 +1,6 @@
 -- The reached set of the pairs as a grammar over the positions of its order.
 use Rattle.std.specs.Prelude.{◌≡◌, ℕ, ◌<◌, ◌≤◌, List, [], ◌∷◌, length, map, zip, refl}
 use Rattle.std.proofs.Common.{suc, arith, ap, sym, ◌∙◌, subst}
-use Rattle.tib_lex.specs.Lists.{total}
 use Rattle.tib_tree.specs.Trees.{Trees, none, tree, relabel}
 use Rattle.tib_grammar.specs.Sides.{Symbol, label, hole, holes, symbol_map, leaves}
 use Rattle.tib_grammar.specs.Run.{rule_at, no_rule}
@@ -10,7 +9,8 @@ use Rattle.tib_grammar.specs.declared.Rule.{Rule}
 use Rattle.tib_hunt.specs.Reached.{IsReachedSet, IsBeyond, parts_of}
 use Rattle.tib_hunt.specs.Rows.{AreBelow}
 use Rattle.tib_hunt.specs.Numbered.{key_parts}
-use Rattle.tib_intersect.specs.PairEdges.{pair_at, IsPairEdge, edge_parts}
+use Rattle.tib_keyed.specs.Ends.{key_at as pair_at}
+use Rattle.tib_intersect.specs.PairEdges.{IsPairEdge, edge_parts}
 use Rattle.tib_intersect.specs.PairGrammar.{IsPairGrammar, GivesEdge}
 use Rattle.tib_intersect.specs.Intersection.{intersection, HasRootOf}
 use Rattle.tib_intersect.proofs.Intersecting.{label-relabel, firsts-zip}
@@ -78,15 +78,11 @@ module _ (product : ℕ → ℕ → ℕ) (one two : List (Rule ℕ)) where
 
 -- parts
 
-pairs_least : (order : List (ℕ × ℕ)) → length order ≤ total (key_parts (λ k. 2)) order
-pairs_least [] = omega arith
-pairs_least (k ∷ order) = omega (arith, pairs_least order)
-
 module _ (product : ℕ → ℕ → ℕ) (one two : List (Rule ℕ)) (order : List (ℕ × ℕ)) (rules : List (Rule ℕ)) (parts limit : ℕ)
     (counted : parts ≡ parts_of (intersection product one two) order (map (named_rule (pair_at order)) rules)) (within : parts ≤ limit) where
   -- there are no more pairs than the limit
   pub few_pairs : length order ≤ limit
-  few_pairs = omega (arith, pairs_least order, counted, within)
+  few_pairs = omega (arith, each_counts (key_parts (λ k. 2)) (λ k. omega arith) order, counted, within)
 
   -- there are no more rules than the limit
   pub few_rules : length rules ≤ limit

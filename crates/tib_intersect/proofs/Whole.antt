@@ -7,7 +7,8 @@ use Rattle.tib_grammar.specs.declared.Rule.{Rule}
 use Rattle.tib_hunt.specs.EdgeLists.{key_at, IsWithin, IsEnd, Exceeds, AreListed}
 use Rattle.tib_intersect.specs.declared.listing.Listing.{Listing}
 use Rattle.tib_intersect.specs.declared.pair_rule.PairRule.{PairRule}
-use Rattle.tib_intersect.specs.PairEdges.{pair_at, IsPairEdge, ends_of, edge_parts}
+use Rattle.tib_keyed.specs.Ends.{key_at as pair_at}
+use Rattle.tib_intersect.specs.PairEdges.{IsPairEdge, ends_of, edge_parts}
 use Rattle.tib_intersect.specs.PairRules.{places_of, read_places, Reads}
 use Rattle.tib_intersect.specs.Listing.{all_ends, IsWithinBudget, AreListedFrom, Overruns}
 use Rattle.tib_intersect.specs.PairLaws.{same_edge}

@@ -7,7 +7,8 @@ use Rattle.tib_grammar.specs.Run.{rule_at}
 use Rattle.tib_grammar.specs.declared.Rule.{Rule}
 use Rattle.tib_hunt.specs.Reached.{most_parts}
 use Rattle.tib_intersect.specs.declared.listing.Listing.{Listing}
-use Rattle.tib_intersect.specs.PairEdges.{pair_at, IsPairEdge, ends_of, edge_parts}
+use Rattle.tib_keyed.specs.Ends.{key_at as pair_at}
+use Rattle.tib_intersect.specs.PairEdges.{IsPairEdge, ends_of, edge_parts}
 use Rattle.tib_intersect.specs.PairRules.{Reads}
 
 -- the states below the root of a rule

@@ -1,15 +1,10 @@
 -- The edges of pairs of states (the product construction of tree automata, Comon et al. 2007).
 use Rattle.std.specs.Prelude.{◌≡◌, ℕ, ◌<◌, ◌≤◌, ◌+◌, List, length, zip}
-use Rattle.std.proofs.Common.{get_or}
 use Rattle.tib_tree.specs.Trees.{size}
 use Rattle.tib_grammar.specs.Sides.{label, holes, holes_of, over}
 use Rattle.tib_grammar.specs.Run.{rule_at}
 use Rattle.tib_grammar.specs.declared.Rule.{Rule}
 use Rattle.tib_cost.specs.Semiring.{most}
-
--- the pair at a position of an order
-abbrev pub pair_at : List (ℕ × ℕ) → ℕ → ℕ × ℕ
-pair_at order n = get_or order n (0, 0)
 
 -- An edge of a pair of states: a rule of the one grammar from the first state and a rule of the other from the second,
 -- with the same label over as many states, put together. It leads to the pairs of their states, at the product of

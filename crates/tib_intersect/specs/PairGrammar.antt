@@ -9,7 +9,8 @@ use Rattle.tib_grammar.specs.GrammarOf.{named_rule}
 use Rattle.tib_grammar.specs.declared.Rule.{Rule}
 use Rattle.tib_cost.specs.Least.{times}
 use Rattle.tib_hunt.specs.EdgeLists.{Lists}
-use Rattle.tib_intersect.specs.PairEdges.{pair_at, IsPairEdge}
+use Rattle.tib_keyed.specs.Ends.{key_at as pair_at}
+use Rattle.tib_intersect.specs.PairEdges.{IsPairEdge}
 
 module _ (product : ℕ → ℕ → ℕ) (one two : List (Rule ℕ)) where
   -- the edge of a position of the order, by that position and its origin

@@ -1,10 +1,9 @@
 -- What holds of all edges of pairs and of all rules that stand for them.
-use Rattle.std.specs.Prelude.{◌≡◌, ℕ, ◌+◌, ◌<◌, List, [], ◌∷◌, map, take, zip, refl}
-use Rattle.std.proofs.Common.{suc, arith, ap, sym, ◌∙◌, subst, get_or, inl, inr}
+use Rattle.std.specs.Prelude.{◌≡◌, ℕ, ◌<◌, List, [], ◌∷◌, map, zip, refl}
+use Rattle.std.proofs.Common.{ap, sym, ◌∙◌, subst, inl, inr}
 use Rattle.tib_lex.specs.Lists.{Has, Each}
 use Rattle.tib_lex.specs.PairOrder.{pair_cmp}
 use Rattle.tib_lex.proofs.Lists.{map_same}
-use Rattle.tib_lex.proofs.Places.{take_at}
 use Rattle.tib_grammar.specs.Sides.{label, holes, holes_of, over}
 use Rattle.tib_grammar.specs.Run.{rule_at}
 use Rattle.tib_grammar.specs.declared.Rule.{Rule}
@@ -14,9 +13,11 @@ use Rattle.tib_grammar.proofs.Positions.{reads_positions}
 use Rattle.tib_hunt.specs.declared.place.Place.{Place}
 use Rattle.tib_hunt.specs.declared.place.Place.TheVariants.{Known}
 use Rattle.tib_intersect.specs.declared.pair_rule.PairRule.{PairRule}
-use Rattle.tib_intersect.specs.PairEdges.{pair_at, IsPairEdge, ends_of}
+use Rattle.tib_intersect.specs.PairEdges.{IsPairEdge, ends_of}
 use Rattle.tib_hunt.specs.Lawful.{IsLawful}
-use Rattle.tib_keyed.specs.Ends.{ends_from}
+use Rattle.tib_keyed.specs.Ends.{ends_from, key_at as pair_at}
+use Rattle.tib_keyed.proofs.KeyOrders.{key_stays}
+use Rattle.tib_keyed.proofs.Pairs.{seed_within}
 use Rattle.tib_intersect.specs.Intersection.{intersection}
 use Rattle.tib_intersect.specs.PairRules.{places_of, read_places, pair_reading}
 
@@ -60,17 +61,6 @@ ends_below product ones twos a b key o e k one two is has =
       two o.1 k.1 is.second (subst (λ (xs : List ℕ). Has xs k.1) (sym (holes_of-label (rule_at twos o.1).right.label (rule_at twos o.1).right.kids is.root is.second_root)) both.1),
     )
 
--- two orders that agree up to a position have the same pair there
-pub pair_stays : (xs ys : List (ℕ × ℕ)) (n : ℕ) → take (n + 1) xs ≡ take (n + 1) ys → pair_at xs n ≡ pair_at ys n
-pair_stays xs ys n e =
-    let one : n + 1 ≡ suc n = omega arith in
-    let same : take (suc n) xs ≡ take (suc n) ys = subst (λ m. take m xs ≡ take m ys) one e in
-    sym (take_at xs n (0, 0)) ∙ ap (λ (zs : List (ℕ × ℕ)). get_or zs n (0, 0)) same ∙ take_at ys n (0, 0)
-
--- the pair of the starts has its states in range
-pub seed_below : (a b : ℕ) (k : ℕ × ℕ) → 0 < a → 0 < b → k ≡ (0, 0) → (k.0 < a) × (k.1 < b)
-seed_below a b k x y e = (omega (arith, x, ap (λ (z : ℕ × ℕ). z.0) e), omega (arith, y, ap (λ (z : ℕ × ℕ). z.1) e))
-
 -- all that the intersection owes of its pairs, edges and rules
 pub pairs_are_lawful :
     (product : ℕ → ℕ → ℕ) (one two : List (Rule ℕ)) (a b : ℕ) → 0 < a → 0 < b → StatesBelow a one → StatesBelow b two →
@@ -82,8 +72,8 @@ pairs_are_lawful product one two a b left right low high = record {
   reads_positions = λ rule f g same. reads_positions rule f g same;
   one_edge = λ order n o e f x y. same_edge product one two (pair_at order n) o e f x y;
   one_seed_edge = λ o e f x y. absurd x;
-  seeds_admitted = λ k is. seed_below a b k left right is;
+  seeds_admitted = λ k is. seed_within a b k left right is;
   ends_admitted = λ order n o e k all below is has. ends_below product one two a b (pair_at order n) o e k low high is has;
   seeds_end = λ o e k is has. absurd is;
-  edges_stay = λ xs ys n o e x y same is. subst (λ k. IsPairEdge product one two k o e) (pair_stays xs ys n same) is;
+  edges_stay = λ xs ys n o e x y same is. subst (λ k. IsPairEdge product one two k o e) (key_stays (0, 0) xs ys n same) is;
 }

@@ -6,13 +6,13 @@ ghost use Rattle.tib_hunt.specs.EdgeLists.{IsWithin, position_of};
 ghost use Rattle.tib_keyed.specs.Ends.{ends_from};
 ghost use Rattle.tib_intersect.specs.PairRules.{places_of};
 
-use crate::pair::Pair;
 use crate::pair_rule::PairRule;
 use crate::pairs::Pairs;
 use std::alloc::{AllocError, Global};
 use tib_cost::Semiring;
 use tib_grammar::{Rule, Side};
 use tib_hunt::{Edges, Expand, ExpandError};
+use tib_keyed::StatePair;
 
 /// The positions of the ends of a rule.
 fn states_at<'e>(rule: &PairRule, ends: &'e [u32]) -> &'e [u32]
@@ -38,7 +38,7 @@ impl<'a, S: Semiring> Expand for Pairs<'a, S> {
     ghost use Rattle.tib_intersect.specs.PairLaws.{pairs_are_lawful};
     ghost use Rattle.tib_intersect.specs.PairRules.{pair_reading};
 
-    type Key = Pair;
+    type Key = StatePair;
 
     type Over = PairRule;
 
@@ -46,7 +46,7 @@ impl<'a, S: Semiring> Expand for Pairs<'a, S> {
 
     type Origin = (u32, u32);
 
-    type Edge = Rule<Pair>;
+    type Edge = Rule<StatePair>;
 
     ghost hunted = { λ p. intersection S.product p.left.now.rules p.right.now.rules };
 
@@ -54,9 +54,9 @@ impl<'a, S: Semiring> Expand for Pairs<'a, S> {
 
     ghost reading = { pair_reading };
 
-    fn seeds(&self, alloc: Global, budget: u64) -> Result<Edges<Pair, PairRule>, ExpandError> {
+    fn seeds(&self, alloc: Global, budget: u64) -> Result<Edges<StatePair, PairRule>, ExpandError> {
         let _budget = budget;
-        let Ok(ends) = Vec::from_array(alloc, [Pair::new(0, 0)]) else {
+        let Ok(ends) = Vec::from_array(alloc, [StatePair::new(0, 0)]) else {
             return Err(ExpandError::OutOfMemory);
         };
         Ok(Edges {
@@ -69,10 +69,10 @@ impl<'a, S: Semiring> Expand for Pairs<'a, S> {
     fn expand(
         &self,
         alloc: Global,
-        order: &[Pair],
+        order: &[StatePair],
         n: u32,
         budget: u64,
-    ) -> Result<Edges<Pair, PairRule>, ExpandError> {
+    ) -> Result<Edges<StatePair, PairRule>, ExpandError> {
         match self.list_edges(alloc, order[n as usize], n, budget) {
             Ok(listing) => Ok(listing.into_edges()),
             Err(fault) => Err(fault),

@@ -7,12 +7,10 @@ mod expand;
 mod index;
 pub mod laws;
 mod listing;
-mod pair;
 mod pair_rule;
 mod pairs;
 mod reached;
 
-pub use pair::Pair;
 pub use pair_rule::PairRule;
 pub use pairs::Pairs;
 pub use reached::{intersect, intersect_together};

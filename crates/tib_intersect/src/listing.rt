@@ -8,22 +8,26 @@ ghost use Rattle.tib_grammar.specs.declared.Rule.{Rule};
 ghost use Rattle.tib_intersect.specs.Listing.{states_of, pairs_of, Agree, IsNext, IsTooMuch, IsWithinBudget, ListsMatches, MatchesOverrun};
 ghost use Rattle.tib_grammar.specs.Items.{state_in};
 
-use crate::pair::Pair;
 use crate::pair_rule::PairRule;
 use std::alloc::{AllocError, Global};
 use tib_cost::Semiring;
 use tib_grammar::{Item, Rule};
 use tib_hunt::{Edges, ExpandError};
+use tib_keyed::StatePair;
 
 /// Appends the pairs of the states of the items to the ends.
-fn push_pairs(ends: &mut Vec<Pair>, one: &[Item<u32>], two: &[Item<u32>]) -> Result<(), AllocError>
+fn push_pairs(
+    ends: &mut Vec<StatePair>,
+    one: &[Item<u32>],
+    two: &[Item<u32>],
+) -> Result<(), AllocError>
     requires { length one.now ≡ length two.now }
     ensures { OnOk result (ends.new.items ≡ ends.old.items ++ zip (map state_in one.now)
         (map state_in two.now)) }
 {
     for i in 0..one.len() {
         let (first, second) = (&one[i], &two[i]);
-        ends.push(Pair::new(first.state(), second.state()))?;
+        ends.push(StatePair::new(first.state(), second.state()))?;
     }
     Ok(())
 }
@@ -31,7 +35,7 @@ fn push_pairs(ends: &mut Vec<Pair>, one: &[Item<u32>], two: &[Item<u32>]) -> Res
 /// The edges of the pair at a position, as far as they are listed, within a budget of parts.
 #[derive(Drop)]
 pub struct Listing {
-    ends: Vec<Pair>,
+    ends: Vec<StatePair>,
     rules: Vec<PairRule>,
     parts: u64,
     position: u32,
@@ -129,7 +133,7 @@ impl Listing {
     }
 
     /// The ends, the rules and their parts.
-    pub fn into_edges(self) -> Edges<Pair, PairRule>
+    pub fn into_edges(self) -> Edges<StatePair, PairRule>
         ensures ends { result.ends.items ≡ self.ends.items }
         ensures rules { result.rules.items ≡ self.rules.items }
         ensures parts { result.parts ≡ self.parts }

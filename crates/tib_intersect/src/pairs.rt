@@ -8,11 +8,11 @@ ghost use Rattle.tib_intersect.specs.Listing.{IsWithinBudget, ListsPair, PairOve
 
 use crate::index::index_rules;
 use crate::listing::Listing;
-use crate::pair::Pair;
 use crate::pair_rule::PairRule;
 use std::alloc::{AllocError, Global};
 use tib_cost::Semiring;
 use tib_hunt::ExpandError;
+use tib_keyed::StatePair;
 use tib_normal::Normal;
 use tib_shapes::ShapeIndex;
 
@@ -52,7 +52,7 @@ impl<'a, S: Semiring> Pairs<'a, S> {
     pub(crate) fn list_edges(
         &self,
         alloc: Global,
-        pair: Pair,
+        pair: StatePair,
         position: u32,
         budget: u64,
     ) -> Result<Listing, ExpandError>

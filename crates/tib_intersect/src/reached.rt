@@ -5,7 +5,6 @@ ghost use Rattle.tib_hunt.specs.Reached.{most_parts, IfTooMany, IsBeyond};
 ghost use Rattle.tib_intersect.specs.Answered.{IsIntersection, IsGrammar, HasParts, HaveRootsOf};
 ghost use Rattle.tib_intersect.specs.Intersection.{intersection};
 
-use crate::pair::Pair;
 use crate::pairs::Pairs;
 use std::alloc::Global;
 use std::sync::Wait;
@@ -13,6 +12,7 @@ use std::thread::Threads;
 use tib_cost::Semiring;
 use tib_grammar::Rule;
 use tib_hunt::{Found, Gate, HuntError, hunt, hunt_alone};
+use tib_keyed::StatePair;
 use tib_normal::Normal;
 
 /// The pairs that are reached from the pair of the starts, in the order by rounds, and the rules
@@ -28,7 +28,7 @@ pub fn intersect<S: Semiring, G: Gate>(
     right: &Normal<S>,
     limit: u64,
     gate: &G,
-) -> Result<Found<Pair, Rule<u32>>, HuntError>
+) -> Result<Found<StatePair, Rule<u32>>, HuntError>
     requires some { 1 ≤ limit }
     requires limit { limit ≤ most_parts }
     ensures reached { IfOk result (IsIntersection S.product left.now.rules right.now.rules) }
@@ -58,7 +58,7 @@ pub fn intersect_together<S: Semiring + Sync, R: Threads + Wait + Sync, G: Gate 
     workers: u32,
     limit: u64,
     gate: &G,
-) -> Result<Found<Pair, Rule<u32>>, HuntError>
+) -> Result<Found<StatePair, Rule<u32>>, HuntError>
     requires workers { (1 ≤ workers) × (workers ≤ 16) }
     requires some { 1 ≤ limit }
     requires limit { limit ≤ most_parts }

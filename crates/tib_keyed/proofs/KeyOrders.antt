@@ -1,6 +1,6 @@
 -- The order by rounds of a keyed operation begins with the start and has no key twice, its edges are those of its keys, and
 -- there is one reached set.
-use Rattle.std.specs.Prelude.{◌≡◌, ℕ, ◌+◌, ◌<◌, List, [], ◌∷◌, ◌++◌, length, map, refl}
+use Rattle.std.specs.Prelude.{◌≡◌, ℕ, ◌+◌, ◌<◌, List, [], ◌∷◌, ◌++◌, length, map, take, refl}
 use Rattle.std.proofs.Common.{zero, suc, arith, ap, sym, ◌∙◌, subst, get_or, inl, inr, length-append, append-nil}
 use Rattle.std.proofs.lemmas.Bool.{cases_lt}
 use Rattle.std.specs.declared.cmp.Ordering.{Ordering}
@@ -8,6 +8,7 @@ use Rattle.std.specs.declared.cmp.Ordering.TheVariants.{Less}
 use Rattle.std.specs.Cmp.{IsTotalOrder}
 use Rattle.tib_lex.specs.Lists.{Has, Distinct, Ascends, Along}
 use Rattle.tib_lex.proofs.Members.{each_has, has_left, has_right}
+use Rattle.tib_lex.proofs.Places.{take_at}
 use Rattle.tib_lex.proofs.Alongs.{along_of, along_back, along_append, along_map}
 use Rattle.tib_hunt.specs.EdgeLists.{Lists}
 use Rattle.tib_hunt.specs.Reached.{Operation, AfterRounds, IsReached, AreEdges, IsReachedSet}
@@ -23,6 +24,13 @@ ascending_once cmp total (x ∷ xs) a = (
   λ h. let itself = each_has (λ b. cmp x b ≡ Less) xs x a.0 h in apart cmp total x x itself itself,
   ascending_once cmp total xs a.1,
 )
+
+-- two orders that agree up to a position have the same key there
+pub key_stays : {K : Type 0} (d : K) (xs ys : List K) (n : ℕ) → take (n + 1) xs ≡ take (n + 1) ys → get_or xs n d ≡ get_or ys n d
+key_stays {K} d xs ys n e =
+    let one : n + 1 ≡ suc n = omega arith in
+    let same : take (suc n) xs ≡ take (suc n) ys = subst (λ m. take m xs ≡ take m ys) one e in
+    sym (take_at xs n d) ∙ ap (λ (zs : List K). get_or zs n d) same ∙ take_at ys n d
 
 -- an element stays where the list goes on
 pub at_append : {K : Type 0} (d : K) (xs ys : List K) (n : ℕ) → n < length xs → get_or (xs ++ ys) n d ≡ get_or xs n d

@@ -2,3 +2,4 @@ pub mod Tagged
 pub mod KeyOrders
 pub mod Ends
 pub mod Limits
+pub mod Pairs

@@ -6,7 +6,7 @@ use Rattle.tib_hunt.specs.declared.place.ExpandError.{ExpandError}
 use Rattle.tib_grammar.specs.GrammarOf.{GrammarOf}
 use Rattle.tib_grammar.specs.Forms.{AreNormal}
 use Rattle.tib_intersect.specs.Matching.{positions_with}
-use Rattle.tib_intersect.specs.PairEdges.{pair_at}
+use Rattle.tib_keyed.specs.Ends.{key_at as pair_at}
 use Rattle.tib_intersect.specs.declared.listing.Listing.{Listing}
 use Rattle.tib_intersect.specs.Listing.{Overruns}
 use Rattle.tib_intersect.proofs.Matches.{AreListedFor, positions_of, rule_in, rule_normal, matches_fit, matches_distinct, stands_here, fresh_here, listed_here, listed_all}

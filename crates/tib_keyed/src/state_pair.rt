@@ -1,18 +1,18 @@
-//! Pairs of states, the keys of the operation.
+//! Pairs of states, one of each of two machines, as the keys of an operation.
 
 ghost use Rattle.std.specs.Prelude.{◌≡◌};
 
 use std::marker::Model;
 use tib_hunt::TableKey;
 
-/// A state of the one grammar and a state of the other.
+/// A state of a first grammar or transducer and a state of a second one.
 #[derive(Clone, Copy, Debug, Drop, PartialEq, Eq, PartialOrd, Ord, Hash)]
-pub struct Pair {
+pub struct StatePair {
     first: u32,
     second: u32,
 }
 
-impl Model for Pair {
+impl Model for StatePair {
     ghost use Rattle.std.specs.Prelude.{ℕ};
     ghost use Rattle.std.specs.Coded.{coded×, coded_ℕ};
 
@@ -25,22 +25,22 @@ impl Model for Pair {
     ghost inverse = { λ k. record { first = k.0; second = k.1 } };
 }
 
-impl Pair {
+impl StatePair {
     /// The pair of these states.
-    pub fn new(first: u32, second: u32) -> Pair
+    pub fn new(first: u32, second: u32) -> StatePair
         ensures { result ≡ (first, second) }
     {
-        Pair { first, second }
+        StatePair { first, second }
     }
 
-    /// The state of the first grammar.
+    /// The state of the first one.
     pub fn first(self) -> u32
         ensures { result ≡ self.0 }
     {
         self.first
     }
 
-    /// The state of the second grammar.
+    /// The state of the second one.
     pub fn second(self) -> u32
         ensures { result ≡ self.1 }
     {
@@ -48,7 +48,7 @@ impl Pair {
     }
 }
 
-impl TableKey for Pair {
+impl TableKey for StatePair {
     ghost use Rattle.std.specs.Prelude.{◌%◌, ◌+◌, ◌*◌};
     ghost use Rattle.std.proofs.Common.{rules, arith, mod-lt};
 

@@ -1,6 +1,6 @@
 use Rattle.std.proofs.Common.{◌≡◌, ℕ, [], length}
 use Rattle.tib_transducer.specs.Moves.{held}
-use Rattle.tib_compose.proofs.moves.empty_buckets.Given as goal
+use Rattle.tib_transducer.proofs.index.empty_buckets.Given as goal
 
 abbrev pub invariant-loop : goal.invariant-loop
 invariant-loop l = record {

@@ -1,15 +1,15 @@
-// The positions of the rules of a transducer by their state.
+//! The positions of the rules of a transducer by their state.
+
 ghost use Rattle.std.specs.Prelude.{◌≡◌, ℕ, IfOk, List, [], length};
 ghost use Rattle.tib_transducer.specs.declared.TransducerRule.{TransducerRule};
-ghost use Rattle.tib_transducer.specs.Moves.{moves_of, held};
-ghost use Rattle.tib_compose.specs.Moves.{IsMoves};
+ghost use Rattle.tib_transducer.specs.Moves.{moves_of, held, IsStateIndex};
 
+use crate::Transducer;
 use std::alloc::{AllocError, Global};
-use tib_transducer::Transducer;
 
 /// For each state the positions of its rules, ascending.
 #[derive(Drop)]
-pub(crate) struct Moves {
+pub struct StateIndex {
     buckets: Vec<Vec<u32>>,
 }
 
@@ -25,23 +25,23 @@ fn empty_buckets(alloc: Global, states: u32) -> Result<Vec<Vec<u32>>, AllocError
     Ok(buckets)
 }
 
-impl Moves {
+impl StateIndex {
     /// The positions of the rules of a transducer by their state. Err only if memory is refused. Cost: one pass over the states and
     /// one over the rules.
-    pub fn new<S>(alloc: Global, transducer: &Transducer<S>) -> Result<Moves, AllocError>
-        ensures { IfOk result (IsMoves transducer.now.rules) }
+    pub fn new<S>(alloc: Global, transducer: &Transducer<S>) -> Result<StateIndex, AllocError>
+        ensures { IfOk result (IsStateIndex transducer.now.rules) }
     {
         transducer.is_sound();
         let mut buckets = empty_buckets(alloc, transducer.states())?;
         for (n, rule) in transducer.rule_list().iter().enumerate() {
             buckets[rule.state as usize].push(n as u32)?;
         }
-        Ok(Moves { buckets })
+        Ok(StateIndex { buckets })
     }
 
     /// The positions of the rules of a state, ascending. It takes no memory and one step.
     pub fn of(&self, state: u32) -> &[u32]
-        ensures { (rules : List (TransducerRule ℕ)) → IsMoves rules self.now → result.now
+        ensures { (rules : List (TransducerRule ℕ)) → IsStateIndex rules self.now → result.now
             ≡ moves_of state rules }
     {
         match self.buckets.get(state as usize) {

@@ -5,7 +5,7 @@ use Rattle.tib_transducer.specs.Rules.{transducer_rule, no_rule}
 use Rattle.tib_transducer.specs.declared.TransducerRule.{TransducerRule}
 use Rattle.tib_transducer.specs.Moves.{moves_of}
 use Rattle.tib_transducer.proofs.Moves.{held_next, state_below}
-use Rattle.tib_compose.proofs.moves.Moves.new.Goals as goal
+use Rattle.tib_transducer.proofs.index.StateIndex.new.Goals as goal
 
 pub index_mut-requires : goal.index_mut-requires
 index_mut-requires g c =

@@ -1,6 +1,6 @@
 use Rattle.std.proofs.Common.{◌≡◌, ℕ, length, take}
 use Rattle.tib_transducer.specs.Moves.{held, moves_of}
-use Rattle.tib_compose.proofs.moves.Moves.new.Given as goal
+use Rattle.tib_transducer.proofs.index.StateIndex.new.Given as goal
 
 abbrev pub invariant-loop-n : goal.invariant-loop-n
 invariant-loop-n g l = record {

@@ -3,7 +3,7 @@ use Rattle.std.proofs.lemmas.List.{length_push}
 use Rattle.std.specs.Global.{Vec}
 use Rattle.tib_transducer.specs.Moves.{held}
 use Rattle.tib_transducer.proofs.Moves.{held_empty}
-use Rattle.tib_compose.proofs.moves.empty_buckets.Goals as goal
+use Rattle.tib_transducer.proofs.index.empty_buckets.Goals as goal
 
 pub loop-preserved : goal.loop-preserved
 loop-preserved c = record {

@@ -1,0 +1,23 @@
+-- Why a composition answers nothing, by the error of the test of classes or of the hunt.
+use Rattle.std.specs.Prelude.{ℕ, List, true}
+use Rattle.tib_hunt.specs.Reached.{IfTooMany}
+use Rattle.tib_hunt.specs.Reached.{HuntError}
+use Rattle.tib_hunt.specs.Reached.{TooMany as OfParts, OutOfMemory as OfHuntMemory}
+use Rattle.tib_transducer.specs.declared.TransducerRule.{TransducerRule}
+use Rattle.tib_classes.specs.Outside.{demands}
+use Rattle.tib_classes.specs.Faults.{IsClassFault}
+use Rattle.tib_classes.specs.declared.error.ClassError.{ClassError}
+use Rattle.tib_classes.specs.declared.error.ClassError.TheVariants.{Class as OfRule, OutOfMemory as OfMemory}
+use Rattle.tib_compose.specs.Composed.{IsComposeFault}
+use Rattle.tib_compose.specs.Faults.{class_error, hunt_error}
+
+-- the first rule outside the classes is told
+pub class_fault : (two : List (TransducerRule ℕ)) (limit : ℕ) (Beyond : Type 0) (e : ClassError) → IsClassFault (demands true true true true) two e → IsComposeFault two limit Beyond (class_error e)
+class_fault two limit Beyond (OfRule rule fault) h = h
+class_fault two limit Beyond OfMemory h = h
+
+-- that there are too many parts is told, with what follows from what a hunt promises of it
+pub hunt_fault :
+    (two : List (TransducerRule ℕ)) (limit : ℕ) (Found Beyond : Type 0) → (Found → Beyond) → (e : HuntError) → IfTooMany limit Found e → IsComposeFault two limit Beyond (hunt_error e)
+hunt_fault two limit Found Beyond so (OfParts n) h = (h.0, so h.1)
+hunt_fault two limit Found Beyond so OfHuntMemory h = h
