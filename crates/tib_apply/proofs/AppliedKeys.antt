@@ -2,7 +2,7 @@
 use Rattle.std.specs.Prelude.{◌≡◌, ℕ, ◌<◌, ◌≤◌, List, [], ◌∷◌, length, map}
 use Rattle.std.proofs.Common.{arith, subst}
 use Rattle.std.proofs.lemmas.List.{length-map}
-use Rattle.tib_lex.specs.Lists.{Each, total}
+use Rattle.tib_lex.specs.Lists.{Each}
 use Rattle.tib_lex.proofs.Members.{each_has, has_at}
 use Rattle.tib_tree.specs.Trees.{only}
 use Rattle.tib_grammar.specs.Sides.{holes_of}
@@ -13,6 +13,7 @@ use Rattle.tib_grammar.specs.declared.Rule.{Rule}
 use Rattle.tib_hunt.specs.Reached.{IsReachedSet, IsBeyond, parts_of}
 use Rattle.tib_hunt.specs.Rows.{AreBelow}
 use Rattle.tib_hunt.specs.Numbered.{key_parts}
+use Rattle.tib_keyed.proofs.Limits.{each_counts}
 use Rattle.tib_transducer.specs.TransducerOf.{TransducerOf}
 use Rattle.tib_apply.specs.KeyGrammars.{key_at}
 use Rattle.tib_apply.specs.Operations.{key_entries, edge_parts, key_operation, inverse_image}
@@ -29,25 +30,15 @@ rules_in_range n rules below m h =
     let here : Each (λ q. q < n) (positions_of (rule_at rules m)) = each_has (λ rule. Each (λ q. q < n) (positions_of rule)) rules (rule_at rules m) below (has_at rules m no_rule h) in
     (here.0, all_below n (holes_of (rule_at rules m).right) (each_hole (λ q. q < n) (only (rule_at rules m).right) here.1))
 
--- each key has a part
-pub keys_least : (order : List (ℕ × ℕ × ℕ)) → length order ≤ total (key_parts key_entries) order
-keys_least [] = omega arith
-keys_least (k ∷ order) = omega (arith, keys_least order)
-
--- each edge has a part
-pub edges_least : (es : List (Rule (ℕ × ℕ × ℕ))) → length es ≤ total edge_parts es
-edges_least [] = omega arith
-edges_least (e ∷ es) = omega (arith, edges_least es)
-
 module _ {O : Type 0} (Edge : ℕ × ℕ × ℕ → O → Rule (ℕ × ℕ × ℕ) → Type 0) (order : List (ℕ × ℕ × ℕ)) (rules : List (Rule ℕ)) (parts limit : ℕ)
     (counted : parts ≡ parts_of (key_operation Edge) order (map (named_rule (key_at order)) rules)) (within : parts ≤ limit) where
   -- there are no more keys than the limit
   pub few_keys : length order ≤ limit
-  few_keys = omega (arith, keys_least order, counted, within)
+  few_keys = omega (arith, each_counts (key_parts key_entries) (λ k. omega arith) order, counted, within)
 
   -- there are no more rules than the limit
   pub few_rules : length rules ≤ limit
-  few_rules = omega (arith, edges_least (map (named_rule (key_at order)) rules), length-map rules (named_rule (key_at order)), counted, within)
+  few_rules = omega (arith, each_counts edge_parts (λ e. omega arith) (map (named_rule (key_at order)) rules), length-map rules (named_rule (key_at order)), counted, within)
 
 -- the same transducer and grammar under other names
 module _ (product : ℕ → ℕ → ℕ) (near : TransducerOf) (far : GrammarOf) (moves : TransducerOf) (grammar : GrammarOf) (same : near ≡ moves) (other : far ≡ grammar) where

@@ -1,19 +1,19 @@
 -- Why an application answers nothing, by the error of the test of classes or of the hunt.
 use Rattle.std.specs.Prelude.{ℕ, List}
 use Rattle.tib_hunt.specs.Reached.{IfTooMany}
-use Rattle.tib_hunt.specs.declared.found.HuntError.{HuntError}
-use Rattle.tib_hunt.specs.declared.found.HuntError.TheVariants.{TooMany as OfParts, OutOfMemory as OfHuntMemory}
+use Rattle.tib_hunt.specs.Reached.{HuntError}
+use Rattle.tib_hunt.specs.Reached.{TooMany as OfParts, OutOfMemory as OfHuntMemory}
 use Rattle.tib_transducer.specs.declared.TransducerRule.{TransducerRule}
 use Rattle.tib_classes.specs.Outside.{Demands}
+use Rattle.tib_classes.specs.Faults.{IsClassFault}
 use Rattle.tib_classes.specs.declared.error.ClassError.{ClassError}
 use Rattle.tib_classes.specs.declared.error.ClassError.TheVariants.{Class as OfRule, OutOfMemory as OfMemory}
 use Rattle.tib_apply.specs.Applied.{IsApplyFault}
 use Rattle.tib_apply.specs.Faults.{class_error, hunt_error}
-use Rattle.tib_apply.specs.ForwardLists.{IsClassErrorOf}
 
 -- the first rule outside the classes is told
 pub class_fault :
-    (demanded : Demands) (moves : List (TransducerRule ℕ)) (limit : ℕ) (Beyond : Type 0) (e : ClassError) → IsClassErrorOf demanded moves e → IsApplyFault demanded moves limit Beyond (class_error e)
+    (demanded : Demands) (moves : List (TransducerRule ℕ)) (limit : ℕ) (Beyond : Type 0) (e : ClassError) → IsClassFault demanded moves e → IsApplyFault demanded moves limit Beyond (class_error e)
 class_fault demanded moves limit Beyond (OfRule rule fault) h = h
 class_fault demanded moves limit Beyond OfMemory h = h
 

@@ -37,7 +37,9 @@ use Rattle.tib_apply.specs.Restrictions.{restricted_labels, Admits}
 use Rattle.tib_apply.specs.KeyGrammars.{key_at}
 use Rattle.tib_apply.specs.Forward.{forward_key, deleted}
 use Rattle.tib_apply.specs.ForwardPlans.{end_at, planned_end, left_out, asked_at, IsPlan, ArePlans, HasPlans}
-use Rattle.tib_apply.specs.ForwardListing.{IsListed, Overruns, AreListedFrom, IsAdded}
+use Rattle.tib_side_rules.specs.Listing.{IsListed, Overruns, AreListedFrom, IsAdded}
+use Rattle.tib_side_rules.proofs.MappedSides.{size_mapped}
+use Rattle.tib_side_rules.proofs.Listed.{listed_passed, listed_added, overruns_next, listed_first}
 use Rattle.tib_apply.specs.Operations.{edge_parts}
 use Rattle.tib_apply.specs.ForwardLists.{HoleStatesBelow, IsAtMatch, IsAffordable, ListsOrigin, OriginOverruns, ListsRule, RuleOverruns, HasRule}
 use Rattle.tib_apply.specs.LeastRuns.{deleted_in}
@@ -45,10 +47,8 @@ use Rattle.tib_apply.specs.TableEdges.{IsTableEdge}
 use Rattle.tib_apply.specs.declared.deleting.LeastRuns.{LeastRuns}
 use Rattle.tib_apply.specs.declared.forward_plan.PlannedEnd.{PlannedEnd}
 use Rattle.tib_apply.specs.declared.forward_plan.Plan.{Plan}
-use Rattle.tib_apply.specs.declared.forward_listing.ForwardListing.{ForwardListing}
+use Rattle.tib_apply.specs.ForwardRules.{ForwardListing}
 use Rattle.tib_apply.proofs.ForwardPlanned.{numbered_below, each_map, plan_at, plans_many}
-use Rattle.tib_apply.proofs.ForwardListed.{listed_passed, listed_added, overruns_next, listed_first}
-use Rattle.tib_apply.proofs.MappedSides.{size_mapped}
 use Rattle.tib_apply.proofs.MoreParts.{origins_apart, more_parts}
 pub use Rattle.tib_apply.proofs.MoreParts.{same_fault}
 pub use Rattle.tib_match.proofs.BoxSearch.{on_ok}
@@ -210,7 +210,7 @@ module _
       pub origin_added :
           (cost : ℕ) → Some cost ≡ cost_of r plan → (l n : ForwardListing) → IsAdded r.right (map (end_at found.0) plan.ends.items) cost l n → ListsOrigin (IsTableEdge product grammar moves runs key) key (m, found.0) l n
       origin_added cost e l n added order below is tried fresh listed =
-          listed_added (IsTableEdge product grammar moves runs key) order tried (m, found.0) fresh key (keys_for r) r.right cost (known.given cost e) l.position below is known.leaves l n refl
+          listed_added (IsTableEdge product grammar moves runs key) order tried (m, found.0) fresh key (keys_for r) r.right cost (known.given cost e) (0, 0, 0) l.position below is known.leaves l n refl
           (subst (λ ks. IsAdded r.right ks cost l n) known.keys added) listed
 
       -- its edge is too much

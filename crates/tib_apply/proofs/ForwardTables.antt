@@ -10,6 +10,7 @@ use Rattle.tib_cost.proofs.Least.{IsLeast-one, IsLeast-products, IsLeast-unique}
 use Rattle.tib_lex.proofs.Lists.{length_map}
 use Rattle.tib_hunt.specs.Reached.{AfterRounds, IsNew, AreEdges, IsReachedSet, IsBeyond}
 use Rattle.tib_hunt.specs.Numbered.{key_parts}
+use Rattle.tib_keyed.proofs.Limits.{each_counts}
 use Rattle.tib_hunt.proofs.Members.{Lists-to}
 use Rattle.tib_transducer.specs.TransducerOf.{TransducerOf}
 use Rattle.tib_transducer.specs.Rules.{transducer_rule, variables_of, variables_in}
@@ -20,7 +21,6 @@ use Rattle.tib_apply.specs.LeastRuns.{AreLeastRuns, asked_in, deleted_in}
 use Rattle.tib_apply.specs.Operations.{key_entries, edge_parts, key_operation, forward_image}
 use Rattle.tib_apply.specs.TableEdges.{IsTableEdge, table_image}
 use Rattle.tib_apply.specs.declared.deleting.LeastRuns.{LeastRuns}
-use Rattle.tib_apply.proofs.AppliedKeys.{keys_least, edges_least}
 
 -- two ways to tell the same edges reach the same
 module _
@@ -109,11 +109,11 @@ module _ (order : List (ℕ × ℕ × ℕ)) (rules : List (Rule ℕ)) (parts lim
     (counted : parts ≡ total (key_parts key_entries) order + total edge_parts (map (named_rule (key_at order)) rules)) (within : parts ≤ limit) where
   -- there are no more keys than the limit
   pub few_keys : length order ≤ limit
-  few_keys = omega (arith, keys_least order, counted, within)
+  few_keys = omega (arith, each_counts (key_parts key_entries) (λ k. omega arith) order, counted, within)
 
   -- there are no more rules than the limit
   pub few_rules : length rules ≤ limit
-  few_rules = omega (arith, edges_least (map (named_rule (key_at order)) rules), length_map (named_rule (key_at order)) rules, counted, within)
+  few_rules = omega (arith, each_counts edge_parts (λ e. omega arith) (map (named_rule (key_at order)) rules), length_map (named_rule (key_at order)) rules, counted, within)
 
 -- the same of the grammar and the transducer that were asked for
 module _

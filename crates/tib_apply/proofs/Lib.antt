@@ -16,8 +16,6 @@ pub mod MoreParts
 pub mod BackwardEdges
 pub mod PlaceNumbers
 pub mod AppliedKeys
-pub mod ForwardSettled
-pub mod ForwardListed
 pub mod RunCosts
 pub mod ForwardPlanned
 pub mod ForwardEdges

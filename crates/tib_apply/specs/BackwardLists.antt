@@ -9,9 +9,6 @@ use Rattle.tib_grammar.specs.declared.Item.{Item}
 use Rattle.tib_grammar.specs.declared.Item.TheVariants.{Label, Hole}
 use Rattle.tib_transducer.specs.declared.Variable.{Variable}
 use Rattle.tib_transducer.specs.declared.TransducerRule.{TransducerRule}
-use Rattle.tib_classes.specs.Outside.{Demands, IsFirstOutside}
-use Rattle.tib_classes.specs.declared.error.ClassError.{ClassError}
-use Rattle.tib_classes.specs.declared.error.ClassError.TheVariants.{Class, OutOfMemory}
 use Rattle.tib_apply.specs.Restrictions.{restriction, Admits}
 use Rattle.tib_apply.specs.Backward.{IsBackwardEdge, backward_key}
 use Rattle.tib_apply.specs.Listing.{AreListedFor, Overruns}
@@ -45,11 +42,6 @@ item_with f (Hole p) = Hole (f p)
 -- the number of a variable, counted from n
 abbrev pub number_from : ℕ → Variable → ℕ
 number_from n x = n + x.number
-
--- the error names the first rule outside the classes that are demanded, or says that memory was refused
-abbrev pub IsClassError : Demands → List (TransducerRule ℕ) → ClassError → Type 0
-IsClassError demanded moves (Class rule fault) = IsFirstOutside demanded moves (rule, fault)
-IsClassError demanded moves OutOfMemory = Unit {0}
 
 module _ (product : ℕ → ℕ → ℕ) (moves : List (TransducerRule ℕ)) (grammar : List (Rule ℕ)) (key : ℕ × ℕ × ℕ) where
   -- a list of the edges of rules at other positions gets those of the rule at one

@@ -1,6 +1,6 @@
 -- Which error of an application comes of an error of the test of classes, and of one of a hunt.
-use Rattle.tib_hunt.specs.declared.found.HuntError.{HuntError}
-use Rattle.tib_hunt.specs.declared.found.HuntError.TheVariants.{TooMany as OfParts, OutOfMemory as OfHuntMemory}
+use Rattle.tib_hunt.specs.Reached.{HuntError}
+use Rattle.tib_hunt.specs.Reached.{TooMany as OfParts, OutOfMemory as OfHuntMemory}
 use Rattle.tib_classes.specs.declared.error.ClassError.{ClassError}
 use Rattle.tib_classes.specs.declared.error.ClassError.TheVariants.{Class as OfRule, OutOfMemory as OfMemory}
 use Rattle.tib_apply.specs.declared.error.ApplyError.{ApplyError}

@@ -19,11 +19,11 @@ use Rattle.tib_apply.specs.KeyGrammars.{key_at}
 use Rattle.tib_apply.specs.Forward.{forward_key}
 use Rattle.tib_apply.specs.ForwardLists.{HoleStatesBelow}
 use Rattle.tib_apply.specs.ForwardRules.{forward_reading}
-use Rattle.tib_apply.specs.ForwardRuleLaws.{reads_places, reads_positions}
+use Rattle.tib_side_rules.specs.SideRuleLaws.{reads_places, reads_positions}
 use Rattle.tib_apply.specs.Operations.{key_cmp, key_entries}
 use Rattle.tib_apply.specs.TableEdges.{IsTableEdge, table_image}
 use Rattle.tib_apply.specs.declared.deleting.LeastRuns.{LeastRuns}
-use Rattle.tib_apply.specs.KeyLaws.{key_stays}
+use Rattle.tib_keyed.proofs.KeyOrders.{key_stays}
 
 -- an origin gives one edge
 pub same_table_edge :
@@ -112,5 +112,5 @@ forward_is_lawful product grammar moves runs n some range = record {
       table_ends_below product grammar moves runs n some range (key_at order m) o e k
       (each_has (λ (x : ℕ × ℕ × ℕ). x.0 < n) order (key_at order m) all (has_at order m (0, 0, 0) below)) is has;
   seeds_end = λ o e k is has. absurd is;
-  edges_stay = λ xs ys m o e x y same is. subst (λ k. IsTableEdge product grammar moves runs k o e) (key_stays xs ys m same) is;
+  edges_stay = λ xs ys m o e x y same is. subst (λ k. IsTableEdge product grammar moves runs k o e) (key_stays (0, 0, 0) xs ys m same) is;
 }

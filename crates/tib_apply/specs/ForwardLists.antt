@@ -1,5 +1,5 @@
 -- The edges of a key of forward application, listed match by match and rule by rule.
-use Rattle.std.specs.Prelude.{◌≡◌, ℕ, ◌<◌, ◌≤◌, List, [], ◌∷◌, ◌++◌, length, Some}
+use Rattle.std.specs.Prelude.{◌≡◌, ℕ, ◌<◌, ◌≤◌, List, ◌++◌, length, Some}
 use Rattle.tib_lex.specs.Lists.{Has}
 use Rattle.tib_grammar.specs.Sides.{label, holes_of}
 use Rattle.tib_grammar.specs.Run.{rule_at}
@@ -7,26 +7,18 @@ use Rattle.tib_grammar.specs.declared.Rule.{Rule}
 use Rattle.tib_cost.specs.Semiring.{most}
 use Rattle.tib_transducer.specs.Rules.{transducer_rule, variables_of, variables_in}
 use Rattle.tib_transducer.specs.declared.TransducerRule.{TransducerRule}
-use Rattle.tib_classes.specs.Outside.{Demands, IsFirstOutside}
-use Rattle.tib_classes.specs.declared.error.ClassError.{ClassError}
-use Rattle.tib_classes.specs.declared.error.ClassError.TheVariants.{Class, OutOfMemory}
 use Rattle.tib_match.specs.Matches.{IsMatch}
 use Rattle.tib_apply.specs.KeyGrammars.{key_at}
 use Rattle.tib_apply.specs.Restrictions.{restricted_labels, Admits}
 use Rattle.tib_apply.specs.Forward.{deleted}
 use Rattle.tib_apply.specs.LeastRuns.{deleted_in}
 use Rattle.tib_apply.specs.declared.deleting.LeastRuns.{LeastRuns}
-use Rattle.tib_apply.specs.ForwardListing.{IsListed, Overruns, AreListedFrom}
-use Rattle.tib_apply.specs.declared.forward_listing.ForwardListing.{ForwardListing}
+use Rattle.tib_side_rules.specs.Listing.{IsListed, Overruns, GetsOrigin, IsBeyond, HasEdges, AreBeyond}
+use Rattle.tib_apply.specs.ForwardRules.{ForwardListing}
 
 -- the states in the right sides of the rules are below a number
 abbrev pub HoleStatesBelow : ℕ → List (Rule ℕ) → Type 0
 HoleStatesBelow n rules = (m q : ℕ) → m < length rules → Has (holes_of (rule_at rules m).right) q → q < n
-
--- the error names the first rule outside the classes that are demanded, or says that memory was refused
-abbrev pub IsClassErrorOf : Demands → List (TransducerRule ℕ) → ClassError → Type 0
-IsClassErrorOf demanded moves (Class rule fault) = IsFirstOutside demanded moves (rule, fault)
-IsClassErrorOf demanded moves OutOfMemory = Unit {0}
 
 -- the left side of the rule at a position begins with a label that the restriction of the key admits, and has a match
 pub record IsAtMatch (product : ℕ → ℕ → ℕ) (grammar : List (Rule ℕ)) (moves : List (TransducerRule ℕ)) (key : ℕ × ℕ × ℕ) (m : ℕ) (found : List ℕ × ℕ) : Type 0 where
@@ -46,15 +38,11 @@ pub record IsAffordable (product : ℕ → ℕ → ℕ) (runs : LeastRuns) (rule
 module _ (Gives : ℕ × List ℕ → Rule (ℕ × ℕ × ℕ) → Type 0) (key : ℕ × ℕ × ℕ) where
   -- the list gets the edge of an origin, where it gives one
   abbrev pub ListsOrigin : ℕ × List ℕ → ForwardListing → ForwardListing → Type 0
-  ListsOrigin o old new =
-      (order : List (ℕ × ℕ × ℕ)) → old.position < length order → key_at order old.position ≡ key → (tried : List (ℕ × List ℕ)) → (Has tried o → ⊥) →
-      IsListed Gives order tried old → IsListed Gives order (tried ++ o ∷ []) new
+  ListsOrigin o old new = GetsOrigin Gives (0, 0, 0) key o old new
 
   -- with this edge there are more parts than the budget
   abbrev pub OriginOverruns : ℕ × List ℕ → ForwardListing → Type 0
-  OriginOverruns o old =
-      (order : List (ℕ × ℕ × ℕ)) → old.position < length order → key_at order old.position ≡ key → (tried : List (ℕ × List ℕ)) → (Has tried o → ⊥) →
-      IsListed Gives order tried old → Overruns Gives old.budget
+  OriginOverruns o old = IsBeyond Gives (0, 0, 0) key o old
 
   -- more origins were tried: all of one rule that give an edge, and no other
   pub record HasRule (order : List (ℕ × ℕ × ℕ)) (m : ℕ) (tried : List (ℕ × List ℕ)) (new : ForwardListing) : Type 0 where
@@ -77,8 +65,8 @@ module _ (Gives : ℕ × List ℕ → Rule (ℕ × ℕ × ℕ) → Type 0) (key 
 
   -- the list has every edge of the key, over each order in which the key has this position
   abbrev pub ListsKey : ℕ → ForwardListing → Type 0
-  ListsKey position l = (order : List (ℕ × ℕ × ℕ)) → position < length order → key_at order position ≡ key → AreListedFrom Gives order l
+  ListsKey position l = HasEdges Gives (0, 0, 0) key position l
 
   -- the edges of the key have more parts than the budget
   abbrev pub KeyOverruns : ℕ → ℕ → Type 0
-  KeyOverruns position budget = (order : List (ℕ × ℕ × ℕ)) → position < length order → key_at order position ≡ key → Overruns Gives budget
+  KeyOverruns position budget = AreBeyond Gives (0, 0, 0) key position budget

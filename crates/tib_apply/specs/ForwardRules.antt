@@ -1,50 +1,16 @@
--- Edges over places whose side is that of a transducer's rule, and how they are read.
-use Rattle.std.specs.Prelude.{◌≡◌, ℕ, ◌+◌, List, ◌∷◌, length}
-use Rattle.std.proofs.Common.{suc}
-use Rattle.tib_lex.specs.Lists.{Each}
-use Rattle.tib_tree.specs.Trees.{Trees, none, tree}
-use Rattle.tib_grammar.specs.Sides.{Symbol, label, hole, Side as SideFor, holes, holes_of, side_map}
-use Rattle.tib_grammar.specs.GrammarOf.{named_rule}
+-- Edges of forward application over places, and lists of these.
+use Rattle.std.specs.Prelude.{ℕ}
 use Rattle.tib_grammar.specs.declared.Rule.{Rule}
-use Rattle.tib_grammar.specs.Positions.{positions_of}
-use Rattle.tib_hunt.specs.declared.place.Place.{Place}
-use Rattle.tib_hunt.specs.declared.place.Place.TheVariants.{Known, End}
-use Rattle.tib_hunt.specs.EdgeLists.{IsWithin, key_at}
 use Rattle.tib_hunt.specs.Reading.{Reading}
-use Rattle.tib_keyed.specs.Ends.{ends_from}
-use Rattle.tib_apply.specs.declared.forward_rule.ForwardRule.{ForwardRule}
+use Rattle.tib_transducer.specs.declared.Pair.{Pair}
+use Rattle.tib_side_rules.specs.declared.side_rule.SideRule.{SideRule}
+use Rattle.tib_side_rules.specs.declared.side_listing.SideListing.{SideListing}
+use Rattle.tib_side_rules.specs.SideRules.{side_reading}
 
--- sides whose holes carry the numbers n, n + 1 and so on in preorder
-abbrev pub numbered : {P : Type 0} → ℕ → Trees (Symbol ℕ P) → Trees (Symbol ℕ ℕ)
-numbered n none = none
-numbered n (tree (label f) kids rest) = tree (label f) (numbered n kids) (numbered (n + length (holes kids)) rest)
-numbered n (tree (hole p) kids rest) = tree (hole n) none (numbered (suc n) rest)
-
-abbrev pub numbered_root : {P : Type 0} → ℕ → Symbol ℕ P → Trees (Symbol ℕ P) → SideFor ℕ ℕ
-numbered_root n (label f) kids = record { label = label f; kids = numbered n kids }
-numbered_root n (hole p) kids = record { label = hole n; kids = none }
-
-abbrev pub numbered_side : {P : Type 0} → ℕ → SideFor ℕ P → SideFor ℕ ℕ
-numbered_side n side = numbered_root n side.label side.kids
-
--- the places in a rule, its left one first
-abbrev pub places_of : ForwardRule → List Place
-places_of r = Known r.position ∷ ends_from r.first_end (length (holes_of r.right.now))
-
--- the edge that a rule over places stands for, where each place has its key
-abbrev pub read_places : {K : Type 0} → (Place → K) → ForwardRule → Rule K
-read_places f r = record { left = f (Known r.position); right = side_map (λ i. f (End i)) (numbered_side r.first_end r.right.now); cost = r.cost }
+-- a list of edges to right sides
+abbrev pub ForwardListing : Type 0
+ForwardListing = SideListing (ℕ × ℕ × ℕ) (Pair ℕ)
 
 -- how rules over places and over positions are read as edges
-abbrev pub forward_reading : Reading (ℕ × ℕ × ℕ) (Rule (ℕ × ℕ × ℕ)) ForwardRule (Rule ℕ)
-forward_reading = record {
-  places = λ r. places_of r;
-  positions = λ r. positions_of r;
-  read_places = λ f r. read_places f r;
-  read_positions = λ f r. named_rule f r;
-}
-
--- over the order and the ends the rule is within, and reads as the edge
-pub record Reads (order ends : List (ℕ × ℕ × ℕ)) (r : ForwardRule) (e : Rule (ℕ × ℕ × ℕ)) : Type 0 where
-  pub within : Each (IsWithin (length order) (length ends)) (places_of r)
-  pub read : (d : ℕ × ℕ × ℕ) → read_places (key_at d order ends) r ≡ e
+abbrev pub forward_reading : Reading (ℕ × ℕ × ℕ) (Rule (ℕ × ℕ × ℕ)) (SideRule (Pair ℕ)) (Rule ℕ)
+forward_reading = side_reading (ℕ × ℕ × ℕ) (Pair ℕ)

@@ -1,9 +1,8 @@
 -- What holds of operations over keys, and of all rules that stand for their edges.
-use Rattle.std.specs.Prelude.{◌≡◌, ℕ, ◌+◌, ◌<◌, List, [], ◌∷◌, length, map, take, refl}
-use Rattle.std.proofs.Common.{zero, suc, arith, ap, sym, ◌∙◌, subst, get_or}
+use Rattle.std.specs.Prelude.{◌≡◌, ℕ, ◌<◌, List, [], ◌∷◌, length, map, refl}
+use Rattle.std.proofs.Common.{zero, suc, arith, ap, sym, ◌∙◌, subst}
 use Rattle.tib_lex.specs.Lists.{Has, Each}
 use Rattle.tib_lex.proofs.Lists.{each_left, each_right}
-use Rattle.tib_lex.proofs.Places.{take_at}
 use Rattle.tib_tree.specs.Trees.{Trees, none, tree, relabel, only}
 use Rattle.tib_grammar.specs.Sides.{Symbol, label, hole, symbol_map, side_map, holes_of}
 use Rattle.tib_grammar.specs.GrammarOf.{named_rule}
@@ -11,6 +10,7 @@ use Rattle.tib_grammar.specs.declared.Rule.{Rule}
 use Rattle.tib_hunt.specs.declared.place.Place.{Place}
 use Rattle.tib_hunt.specs.declared.place.Place.TheVariants.{Known, End}
 use Rattle.tib_hunt.specs.Lawful.{IsLawful}
+use Rattle.tib_keyed.proofs.KeyOrders.{key_stays}
 use Rattle.tib_apply.specs.KeyGrammars.{key_at}
 use Rattle.tib_apply.specs.Operations.{key_cmp, key_entries, key_operation}
 use Rattle.tib_apply.specs.KeyRules.{carried, places_of, read_places, positions_of, key_reading}
@@ -58,13 +58,6 @@ reads_positions r f g h =
     ap (λ k. record { left = k; right = side_map f r.right; cost = r.cost }) h.0
     ∙ ap (λ s. record { left = g r.left; right = s; cost = r.cost }) (side_same f g r.right.label r.right.kids h.1)
 
--- two orders that agree up to a position have the same key there
-pub key_stays : (xs ys : List (ℕ × ℕ × ℕ)) (n : ℕ) → take (n + 1) xs ≡ take (n + 1) ys → key_at xs n ≡ key_at ys n
-key_stays xs ys n e =
-    let one : n + 1 ≡ suc n = omega arith in
-    let same : take (suc n) xs ≡ take (suc n) ys = subst (λ m. take m xs ≡ take m ys) one e in
-    sym (take_at xs n (0, 0, 0)) ∙ ap (λ (zs : List (ℕ × ℕ × ℕ)). get_or zs n (0, 0, 0)) same ∙ take_at ys n (0, 0, 0)
-
 -- the key at a position has what each key has
 key_has : (P : ℕ × ℕ × ℕ → Type 0) (order : List (ℕ × ℕ × ℕ)) (n : ℕ) → Each P order → n < length order → P (key_at order n)
 key_has P [] n h b = absurd (omega arith)
@@ -87,5 +80,5 @@ keys_are_lawful Edge admits one start ends = record {
   seeds_admitted = λ k is. subst admits (sym is) start;
   ends_admitted = λ order n o e k all below is has. ends (key_at order n) o e k (key_has admits order n all below) is has;
   seeds_end = λ o e k is has. absurd is;
-  edges_stay = λ xs ys n o e x y same is. subst (λ k. Edge k o e) (key_stays xs ys n same) is;
+  edges_stay = λ xs ys n o e x y same is. subst (λ k. Edge k o e) (key_stays (0, 0, 0) xs ys n same) is;
 }

@@ -5,19 +5,19 @@ ghost use Rattle.tib_tree.specs.Trees.{size};
 ghost use Rattle.tib_grammar.specs.Sides.{holes_of};
 ghost use Rattle.tib_grammar.specs.Range.{StatesBelow};
 ghost use Rattle.tib_classes.specs.Outside.{demands, AllMeet};
+ghost use Rattle.tib_classes.specs.Faults.{IsClassFault};
 ghost use Rattle.tib_hunt.specs.Reached.{most_parts};
 ghost use Rattle.tib_transducer.specs.Rules.{transducer_rule};
 ghost use Rattle.tib_transducer.specs.Range.{IsShaped};
 ghost use Rattle.tib_apply.specs.Restrictions.{restricted_labels};
 ghost use Rattle.tib_apply.specs.Backward.{IsBackwardEdge};
-ghost use Rattle.tib_apply.specs.Moves.{IsMoves};
+ghost use Rattle.tib_transducer.specs.Moves.{IsStateIndex};
 ghost use Rattle.tib_apply.specs.Listing.{AddsEdge, IsNext, IsTooMuch, IsWithinBudget, IsAlike, AreListedFrom};
-ghost use Rattle.tib_apply.specs.BackwardLists.{edge_to, backward_edge, AdmitsRule, IsClassError, ListsMove, MoveOverruns, MovesOverrun, IsCheap};
+ghost use Rattle.tib_apply.specs.BackwardLists.{edge_to, backward_edge, AdmitsRule, ListsMove, MoveOverruns, MovesOverrun, IsCheap};
 ghost use Rattle.tib_match.specs.Searching.{AreMatchesWhere, AreMoreWhere};
 
 use crate::edge_list::EdgeList;
 use crate::key::Key;
-use crate::moves::Moves;
 use crate::placing::{number_variables, push_keys, states_by_variable};
 use crate::restrictions::Restrictions;
 use std::alloc::{AllocError, Global};
@@ -27,7 +27,7 @@ use tib_grammar::{Item, Rule};
 use tib_hunt::ExpandError;
 use tib_match::{Match, Within, matches_within};
 use tib_normal::Normal;
-use tib_transducer::{Transducer, TransducerRule};
+use tib_transducer::{StateIndex, Transducer, TransducerRule};
 
 /// A linear and nondeleting transducer and a grammar, with what is looked up of them.
 #[derive(Drop)]
@@ -37,9 +37,9 @@ pub struct Backward<'a, S> {
     /// The grammar.
     pub grammar: &'a Normal<S>,
     restrictions: Restrictions,
-    moves: Moves,
+    moves: StateIndex,
     pub ghost numbered: { restrictions ≡ restricted_labels transducer.now.rules },
-    pub ghost indexed: { IsMoves transducer.now.rules moves },
+    pub ghost indexed: { IsStateIndex transducer.now.rules moves },
     pub ghost start: { 0 < length grammar.now.names },
     pub ghost range: { StatesBelow (length grammar.now.names) grammar.now.rules },
 }
@@ -57,7 +57,7 @@ impl<'a, S: Semiring> Backward<'a, S> {
         ensures grammar { IfOk result (λ b. b.grammar.now ≡ grammar.now) }
         ensures class { IfOk result (λ _. AllMeet (demands true true false false)
             transducer.now.rules) }
-        ensures fault { IfErr result (IsClassError (demands true true false false)
+        ensures fault { IfErr result (IsClassFault (demands true true false false)
             transducer.now.rules) }
     {
         if let Some((rule, fault)) = first_outside(transducer, true, true, false, false) {
@@ -67,7 +67,7 @@ impl<'a, S: Semiring> Backward<'a, S> {
         let Ok(restrictions) = Restrictions::new(alloc, transducer.rule_list()) else {
             return Err(ClassError::OutOfMemory);
         };
-        let Ok(moves) = Moves::new(alloc, transducer) else {
+        let Ok(moves) = StateIndex::new(alloc, transducer) else {
             return Err(ClassError::OutOfMemory);
         };
         Ok(Backward {

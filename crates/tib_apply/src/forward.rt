@@ -4,23 +4,23 @@ ghost use Rattle.std.specs.Prelude.{◌≡◌, ℕ, ◌<◌, ◌≤◌, length, 
 ghost use Rattle.tib_lex.specs.Lists.{Each};
 ghost use Rattle.tib_cost.specs.Least.{times};
 ghost use Rattle.tib_classes.specs.Outside.{demands, AllMeet};
+ghost use Rattle.tib_classes.specs.Faults.{IsClassFault};
 ghost use Rattle.tib_grammar.specs.Sides.{label as label_symbol};
 ghost use Rattle.tib_hunt.specs.Reached.{most_parts};
 ghost use Rattle.tib_transducer.specs.Rules.{transducer_rule};
 ghost use Rattle.tib_apply.specs.Restrictions.{restricted_labels, Admits};
 ghost use Rattle.tib_apply.specs.TableEdges.{IsTableEdge};
-ghost use Rattle.tib_apply.specs.ForwardListing.{IsWithinBudget};
+ghost use Rattle.tib_side_rules.specs.Listing.{IsWithinBudget};
 ghost use Rattle.tib_match.specs.Searching.{AreMatchesWhere, AreMoreWhere};
-ghost use Rattle.tib_apply.specs.ForwardLists.{HoleStatesBelow, IsClassErrorOf, IsAtMatch, IsAffordable, ListsOrigin, OriginOverruns, ListsRule, RuleOverruns, ListsKey, KeyOverruns};
+ghost use Rattle.tib_apply.specs.ForwardLists.{HoleStatesBelow, IsAtMatch, IsAffordable, ListsOrigin, OriginOverruns, ListsRule, RuleOverruns, ListsKey, KeyOverruns};
 ghost use Rattle.tib_apply.specs.ForwardPlans.{asked_at, HasPlans};
 ghost use Rattle.tib_apply.specs.LeastRuns.{AreLeastRuns, deleted_in};
-ghost use Rattle.tib_apply.specs.Moves.{IsMoves};
+ghost use Rattle.tib_transducer.specs.Moves.{IsStateIndex};
 
 use crate::deleting::{LeastRuns, product_of};
-use crate::forward_listing::ForwardListing;
+use crate::forward_listing::{ForwardListing, add_edge};
 use crate::forward_plan::{Plan, plans_of};
 use crate::key::Key;
-use crate::moves::Moves;
 use crate::restrictions::Restrictions;
 use std::alloc::{AllocError, Global};
 use tib_classes::{ClassError, first_outside};
@@ -29,7 +29,7 @@ use tib_grammar::Item;
 use tib_hunt::ExpandError;
 use tib_match::{Match, Within, few_matches, partial_matches, search_matches};
 use tib_normal::Normal;
-use tib_transducer::{Transducer, TransducerRule};
+use tib_transducer::{StateIndex, Transducer, TransducerRule};
 
 /// A grammar and a linear transducer, with what is looked up of them.
 #[derive(Drop)]
@@ -39,11 +39,11 @@ pub struct Forward<'a, S> {
     /// The transducer.
     pub transducer: &'a Transducer<S>,
     restrictions: Restrictions,
-    moves: Moves,
+    moves: StateIndex,
     plans: Vec<Plan>,
     runs: LeastRuns,
     pub ghost restricted: { restrictions ≡ restricted_labels transducer.now.rules },
-    pub ghost indexed: { IsMoves transducer.now.rules moves },
+    pub ghost indexed: { IsStateIndex transducer.now.rules moves },
     pub ghost planned: { HasPlans (restricted_labels transducer.now.rules) transducer.now.rules plans.items },
     pub ghost start: { 0 < length grammar.now.names },
     pub ghost range: { HoleStatesBelow (length grammar.now.names) grammar.now.rules },
@@ -63,7 +63,7 @@ impl<'a, S: Semiring> Forward<'a, S> {
         ensures least { IfOk result (λ f. AreLeastRuns S.product grammar.now.rules f.runs) }
         ensures class { IfOk result (λ _. AllMeet (demands true false false false)
             transducer.now.rules) }
-        ensures fault { IfErr result (IsClassErrorOf (demands true false false false)
+        ensures fault { IfErr result (IsClassFault (demands true false false false)
             transducer.now.rules) }
     {
         if let Some((rule, fault)) = first_outside(transducer, true, false, false, false) {
@@ -88,7 +88,7 @@ impl<'a, S: Semiring> Forward<'a, S> {
         grammar.grammar().is_sound();
         transducer.is_sound();
         let restrictions = Restrictions::new(alloc, transducer.rule_list())?;
-        let moves = Moves::new(alloc, transducer)?;
+        let moves = StateIndex::new(alloc, transducer)?;
         let plans = plans_of(alloc, &restrictions, transducer.rule_list())?;
         let runs = LeastRuns::new::<S>(alloc, grammar)?;
         Ok(Forward {
@@ -157,7 +157,13 @@ impl<'a, S: Semiring> Forward<'a, S> {
         let Some(cost) = self.edge_cost(rule, plan, found) else {
             return Ok(());
         };
-        listing.add(&rule.right, &plan.ends, found.states.as_slice(), cost)
+        add_edge(
+            listing,
+            &rule.right,
+            &plan.ends,
+            found.states.as_slice(),
+            cost,
+        )
     }
 
     /// The matches of the left side of the rule at a position that give an edge, among others; `More` where these are more than so

@@ -1,14 +1,14 @@
 //! Forward application as an operation: its seed, its edges, and the rules that stand for these.
 
 use crate::forward::Forward;
-use crate::forward_rule::ForwardRule;
-use crate::forward_settling::settle_rule;
+use crate::forward_listing::ForwardRule;
 use crate::key::Key;
 use std::alloc::{AllocError, Global};
 use std::collections::LinkedList;
 use tib_cost::Semiring;
 use tib_grammar::Rule;
 use tib_hunt::{Edges, Expand, ExpandError};
+use tib_side_rules::settled_side;
 
 impl<'a, S: Semiring> Expand for Forward<'a, S> {
     ghost use Rattle.std.specs.Prelude.{◌<◌, length};
@@ -67,7 +67,12 @@ impl<'a, S: Semiring> Expand for Forward<'a, S> {
         rule: &ForwardRule<'a>,
         ends: &[u32],
     ) -> Result<Rule<u32>, AllocError> {
-        settle_rule(alloc, rule, ends)
+        let right = settled_side(alloc, rule.side, ends, rule.first_end)?;
+        Ok(Rule {
+            left: rule.position,
+            right,
+            cost: rule.cost,
+        })
     }
 
     ghost lawful = { λ f. forward_is_lawful S.product f.grammar.now.rules f.transducer.now.rules f.runs

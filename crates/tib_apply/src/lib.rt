@@ -1,7 +1,8 @@
 //! Forward and backward application of a transducer to a grammar in normal form: the trees into which the transducer turns
 //! trees of the grammar, and the trees that it turns into trees of the grammar, each at the least cost. What is defined and
 //! proved of both stands here, for every semiring. `apply_forward` and `apply_backward` find what is reached by one worker,
-//! `apply_forward_together` and `apply_backward_together` by several. It stands on `tib_transducer`, `tib_match`, `tib_inside` and `tib_hunt`.
+//! `apply_forward_together` and `apply_backward_together` by several. It stands on `tib_transducer`, `tib_match`, `tib_inside`,
+//! `tib_hunt` and `tib_side_rules`.
 #![tactic(auto)]
 
 mod backward;
@@ -13,23 +14,18 @@ mod forward;
 mod forward_expand;
 mod forward_listing;
 mod forward_plan;
-mod forward_rule;
-mod forward_settling;
 mod image;
 mod key;
 pub mod laws;
-mod moves;
 mod placing;
 mod preimage;
 mod restrictions;
-mod settling;
 
 pub use backward::Backward;
 pub use error::ApplyError;
 pub use forward::Forward;
-pub use forward_rule::ForwardRule;
+pub use forward_listing::ForwardRule;
 pub use image::{apply_forward, apply_forward_together};
 pub use key::Key;
 pub use preimage::{apply_backward, apply_backward_together};
 pub use restrictions::Restrictions;
-pub use settling::settled_side;

@@ -1,8 +1,7 @@
 -- What the reached set says of its keys, rules and parts.
-use Rattle.std.specs.Prelude.{◌≡◌, ℕ, ◌≤◌, List, [], ◌∷◌, length, map}
+use Rattle.std.specs.Prelude.{◌≡◌, ℕ, ◌≤◌, List, length, map}
 use Rattle.std.proofs.Common.{arith, subst}
 use Rattle.std.proofs.lemmas.List.{length-map}
-use Rattle.tib_lex.specs.Lists.{total}
 use Rattle.tib_tree.specs.Trees.{Tree}
 use Rattle.tib_grammar.specs.GrammarOf.{named_rule}
 use Rattle.tib_grammar.specs.declared.Rule.{Rule}
@@ -13,15 +12,11 @@ use Rattle.tib_keyed.proofs.Limits.{each_counts}
 use Rattle.tib_transducer.specs.TransducerOf.{TransducerOf}
 use Rattle.tib_image.specs.Image.{key_entries, edge_parts, image_of}
 
-keys_least : (order : List (ℕ × ℕ)) → length order ≤ total (key_parts key_entries) order
-keys_least [] = omega arith
-keys_least (k ∷ order) = omega (arith, keys_least order)
-
 module _ (moves : TransducerOf) (t : Tree ℕ) where
   module _ (order : List (ℕ × ℕ)) (rules : List (Rule ℕ)) (parts limit : ℕ) (counted : parts ≡ parts_of (image_of moves.rules t) order (map (named_rule (key_at order)) rules)) (within : parts ≤ limit) where
     -- there are no more keys than the limit
     pub few_keys : length order ≤ limit
-    few_keys = omega (arith, keys_least order, counted, within)
+    few_keys = omega (arith, each_counts (key_parts key_entries) (λ k. omega arith) order, counted, within)
 
     -- there are no more rules than the limit
     pub few_rules : length rules ≤ limit

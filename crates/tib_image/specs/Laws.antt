@@ -6,31 +6,25 @@ use Rattle.tib_lex.proofs.Lists.{has_mapped}
 use Rattle.tib_lex.proofs.Members.{each_has, has_at}
 use Rattle.tib_tree.specs.Trees.{Tree, size, only}
 use Rattle.tib_grammar.specs.Sides.{holes_of}
-use Rattle.tib_grammar.specs.GrammarOf.{named_rule}
 use Rattle.tib_grammar.specs.declared.Rule.{Rule}
-use Rattle.tib_grammar.specs.Positions.{positions_of}
 use Rattle.tib_grammar.proofs.Sides.{holes-relabel}
 use Rattle.tib_hunt.specs.Lawful.{IsLawful}
 use Rattle.tib_hunt.specs.Reading.{Reading}
 use Rattle.tib_keyed.specs.Ends.{key_at}
-use Rattle.tib_intersect.specs.PairLaws.{pair_stays}
+use Rattle.tib_keyed.proofs.KeyOrders.{key_stays}
 use Rattle.tib_transducer.specs.Rules.{transducer_rule}
+use Rattle.tib_transducer.specs.declared.Pair.{Pair}
 use Rattle.tib_transducer.specs.declared.TransducerRule.{TransducerRule}
-use Rattle.tib_apply.specs.ForwardRules.{places_of, read_places}
-use Rattle.tib_apply.specs.ForwardRuleLaws.{reads_places, reads_positions}
-use Rattle.tib_apply.specs.declared.forward_rule.ForwardRule.{ForwardRule}
+use Rattle.tib_side_rules.specs.declared.side_rule.SideRule.{SideRule}
+use Rattle.tib_side_rules.specs.SideRules.{side_reading}
+use Rattle.tib_side_rules.specs.SideRuleLaws.{reads_places, reads_positions}
 use Rattle.tib_image.specs.Nodes.{subtree, nodes_of}
 use Rattle.tib_image.specs.Image.{pair_key, key_cmp, key_entries, image_of, IsImageEdge}
 use Rattle.tib_image.specs.Standing.{stands, nodes_within}
 
 -- how rules over places and over positions are read as edges
-abbrev pub image_reading : Reading (ℕ × ℕ) (Rule (ℕ × ℕ)) ForwardRule (Rule ℕ)
-image_reading = record {
-  places = λ r. places_of r;
-  positions = λ r. positions_of r;
-  read_places = λ f r. read_places f r;
-  read_positions = λ f r. named_rule f r;
-}
+abbrev pub image_reading : Reading (ℕ × ℕ) (Rule (ℕ × ℕ)) (SideRule (Pair ℕ)) (Rule ℕ)
+image_reading = side_reading (ℕ × ℕ) (Pair ℕ)
 
 -- an origin gives a key one edge
 pub same_edge : (moves : List (TransducerRule ℕ)) (t : Tree ℕ) (key : ℕ × ℕ) (o : ℕ) (e f : Rule (ℕ × ℕ)) → IsImageEdge moves t key o e → IsImageEdge moves t key o f → e ≡ f
@@ -71,5 +65,5 @@ image_is_lawful moves t = record {
   ends_admitted = λ order m o e k all below is has.
       ends_within moves t (key_at order m) o e k (each_has (λ (x : ℕ × ℕ). x.1 < size t) order (key_at order m) all (has_at order m (0, 0) below)) is has;
   seeds_end = λ o e k is has. absurd is;
-  edges_stay = λ xs ys m o e x y same is. subst (λ k. IsImageEdge moves t k o e) (pair_stays xs ys m same) is;
+  edges_stay = λ xs ys m o e x y same is. subst (λ k. IsImageEdge moves t k o e) (key_stays (0, 0) xs ys m same) is;
 }

@@ -2,12 +2,12 @@
 
 use crate::key::Key;
 use crate::operation::Image;
-use crate::settling::settle_rule;
 use std::alloc::{AllocError, Global};
-use tib_apply::ForwardRule;
 use tib_cost::Semiring;
 use tib_grammar::Rule;
 use tib_hunt::{Edges, Expand, ExpandError};
+use tib_side_rules::{SideRule, settled_side};
+use tib_transducer::Pair;
 
 impl<'a, S: Semiring> Expand for Image<'a, S> {
     ghost use Rattle.std.specs.Prelude.{◌<◌};
@@ -17,7 +17,7 @@ impl<'a, S: Semiring> Expand for Image<'a, S> {
 
     type Key = Key;
 
-    type Over = ForwardRule<'a>;
+    type Over = SideRule<'a, Pair<u32>>;
 
     type Rule = Rule<u32>;
 
@@ -35,7 +35,7 @@ impl<'a, S: Semiring> Expand for Image<'a, S> {
         &self,
         alloc: Global,
         budget: u64,
-    ) -> Result<Edges<Key, ForwardRule<'a>>, ExpandError> {
+    ) -> Result<Edges<Key, SideRule<'a, Pair<u32>>>, ExpandError> {
         let _budget = budget;
         let Ok(ends) = Vec::from_array(alloc, [Key::new(0, 0)]) else {
             return Err(ExpandError::OutOfMemory);
@@ -53,7 +53,7 @@ impl<'a, S: Semiring> Expand for Image<'a, S> {
         order: &[Key],
         n: u32,
         budget: u64,
-    ) -> Result<Edges<Key, ForwardRule<'a>>, ExpandError> {
+    ) -> Result<Edges<Key, SideRule<'a, Pair<u32>>>, ExpandError> {
         match self.list_edges(alloc, order[n as usize], n, budget) {
             Ok(listing) => Ok(listing.into_edges()),
             Err(fault) => Err(fault),
@@ -63,10 +63,15 @@ impl<'a, S: Semiring> Expand for Image<'a, S> {
     fn settle(
         &self,
         alloc: Global,
-        rule: &ForwardRule<'a>,
+        rule: &SideRule<'a, Pair<u32>>,
         ends: &[u32],
     ) -> Result<Rule<u32>, AllocError> {
-        settle_rule(alloc, rule, ends)
+        let right = settled_side(alloc, rule.side, ends, rule.first_end)?;
+        Ok(Rule {
+            left: rule.position,
+            right,
+            cost: rule.cost,
+        })
     }
 
     ghost lawful = { λ i. image_is_lawful i.transducer.now.rules i.tree.now };

@@ -2,7 +2,7 @@
 //! whose left sides match at the node. The transducer may copy, delete, be extended and be labelled. `Image` is this as an
 //! operation for `tib_hunt`, and `image` answers the keys that are reached, with their rules, as does `image_together` by several
 //! workers. It stands on `tib_transducer`, `tib_hunt` and `tib_keyed`; the index of its rules is that of `tib_shapes`, and its
-//! edges over places are those of `tib_apply`.
+//! edges over places are those of `tib_side_rules`.
 #![tactic(auto)]
 
 pub mod examples;
@@ -13,7 +13,6 @@ pub mod laws;
 mod listing;
 mod operation;
 mod reached;
-mod settling;
 mod walk;
 
 pub use key::Key;

@@ -7,11 +7,12 @@ ghost use Rattle.tib_transducer.specs.Rules.{transducer_rule};
 ghost use Rattle.tib_image.specs.Image.{IsImageEdge};
 ghost use Rattle.tib_image.specs.Nodes.{subtree};
 ghost use Rattle.tib_image.specs.IsIndex.{IsIndex};
-ghost use Rattle.tib_image.specs.Listing.{IsWithinBudget, ListsOrigin, OriginOverruns, ListsKey, KeyOverruns};
+ghost use Rattle.tib_side_rules.specs.Listing.{IsWithinBudget};
+ghost use Rattle.tib_image.specs.Listing.{ListsOrigin, OriginOverruns, ListsKey, KeyOverruns};
 
 use crate::index::index_rules;
 use crate::key::Key;
-use crate::listing::Listing;
+use crate::listing::{Listing, add_edge};
 use crate::walk::match_items;
 use std::alloc::{AllocError, Global};
 use tib_hunt::ExpandError;
@@ -93,7 +94,7 @@ impl<'a, S> Image<'a, S> {
         transducer.is_sound();
         let rule = &transducer.rule_list()[position as usize];
         match match_items(self.tree.nodes(), key.node(), rule.left.items(), found) {
-            Ok(true) => listing.add(&rule.right, found, rule.cost),
+            Ok(true) => add_edge(listing, &rule.right, found, rule.cost),
             Ok(false) => Ok(()),
             Err(_) => Err(ExpandError::OutOfMemory),
         }

@@ -5,8 +5,8 @@ use Rattle.std.proofs.lemmas.List.{length-map}
 use Rattle.tib_grammar.specs.GrammarOf.{named_rule}
 use Rattle.tib_grammar.specs.declared.Rule.{Rule}
 use Rattle.tib_hunt.specs.Reached.{IsReachedSet, IsBeyond, IfTooMany, parts_of}
-use Rattle.tib_hunt.specs.declared.found.HuntError.{HuntError}
-use Rattle.tib_hunt.specs.declared.found.HuntError.TheVariants.{TooMany as OfParts, OutOfMemory as OfHuntMemory}
+use Rattle.tib_hunt.specs.Reached.{HuntError}
+use Rattle.tib_hunt.specs.Reached.{TooMany as OfParts, OutOfMemory as OfHuntMemory}
 use Rattle.tib_hunt.specs.Numbered.{key_parts}
 use Rattle.tib_keyed.proofs.Limits.{each_counts}
 use Rattle.tib_classes.specs.declared.error.ClassError.{ClassError}

@@ -1,76 +1,28 @@
 -- Edges behind those that are listed.
-use Rattle.std.specs.Prelude.{◌≡◌, ℕ, ◌+◌, ◌<◌, List, [], ◌∷◌, ◌++◌, length, map, refl, slice_index_or, OnOk}
+use Rattle.std.specs.Prelude.{◌≡◌, ℕ, ◌+◌, ◌<◌, List, [], ◌∷◌, ◌++◌, length, map, refl, OnOk}
 use Rattle.std.proofs.Common.{arith, ap, sym, ◌∙◌, subst, get_or, append_assoc, Ok, Err}
 use Rattle.std.specs.declared.result.Result.{Result}
-use Rattle.std.proofs.lemmas.List.{length-append, map-append}
-use Rattle.tib_lex.specs.Lists.{Each, Along, total}
-use Rattle.tib_lex.proofs.Lists.{append_nil, each_weaker, total_append, total_more, length_map}
+use Rattle.std.proofs.lemmas.List.{map-append}
+use Rattle.tib_lex.specs.Lists.{Along, total}
+use Rattle.tib_lex.proofs.Lists.{append_nil, total_append, total_more}
 use Rattle.tib_lex.proofs.Alongs.{along_more, along_map}
-use Rattle.tib_lex.proofs.Places.{index_get}
 use Rattle.tib_tree.specs.Trees.{only, size}
 use Rattle.tib_grammar.specs.Sides.{Side as SideFor, holes_of, HolesAreLeaves, side_map}
 use Rattle.tib_grammar.specs.declared.Rule.{Rule}
 use Rattle.tib_grammar.specs.Positions.{all_ends}
 use Rattle.tib_grammar.proofs.Sides.{holes-relabel}
 use Rattle.tib_grammar.proofs.Positions.{all_ends-more}
-use Rattle.tib_hunt.specs.EdgeLists.{IsWithin, key_at}
-use Rattle.tib_keyed.specs.Ends.{ends_from}
-use Rattle.tib_keyed.proofs.Ends.{within_wider, place_stays, ends_within}
 use Rattle.tib_transducer.specs.declared.Variable.{Variable}
 use Rattle.tib_strings.specs.declared.StringRule.{StringRule}
-use Rattle.tib_apply.specs.ForwardRules.{numbered_side}
-use Rattle.tib_apply.proofs.MappedSides.{size_mapped}
-use Rattle.tib_apply.proofs.ForwardListed.{side_reads}
+use Rattle.tib_side_rules.specs.SideRules.{Reads}
+use Rattle.tib_side_rules.specs.Listing.{IsAdded, IsAlike}
+use Rattle.tib_side_rules.proofs.MappedSides.{size_mapped}
+use Rattle.tib_side_rules.proofs.Reading.{reads_longer, reads_new, nothing}
 use Rattle.tib_parse_laws.specs.Operation.{edge_parts}
-use Rattle.tib_parse.specs.ParseRules.{places_of, Reads}
-use Rattle.tib_parse.specs.ParseLaws.{reads_places}
-use Rattle.tib_parse.specs.Listing.{IsAdded, IsAlike, IsListed, Adds, Overruns, AreDone, cut_edge}
-use Rattle.tib_parse.specs.declared.parse_rule.ParseRule.{ParseRule}
-use Rattle.tib_parse.specs.declared.listing.Listing.{Listing}
-
-abbrev Keys : Type 0
-Keys = List (ℕ × ℕ × ℕ × ℕ)
+use Rattle.tib_parse.specs.Listing.{Listing, IsListed, Adds, Overruns, AreDone, cut_edge}
 
 abbrev Edges : Type 0
 Edges = List (Rule (ℕ × ℕ × ℕ × ℕ))
-
--- rules read over longer lists
-
-module _ (order : Keys) where
-  reads_longer : (xs ys : Keys) (r : ParseRule) (e : Rule (ℕ × ℕ × ℕ × ℕ)) → Reads order xs r e → Reads order (xs ++ ys) r e
-  reads_longer xs ys r e h = record {
-    within = each_weaker (IsWithin (length order) (length xs)) (IsWithin (length order) (length (xs ++ ys))) (places_of r)
-        (within_wider (length order) (length xs) (length (xs ++ ys)) (omega (arith, length-append xs ys))) h.within;
-    read = λ d.
-        reads_places r (key_at d order (xs ++ ys)) (key_at d order xs)
-        (each_weaker (IsWithin (length order) (length xs)) (λ p. key_at d order (xs ++ ys) p ≡ key_at d order xs p) (places_of r) (place_stays d order xs ys) h.within)
-        ∙ h.read d;
-  }
-
-  -- a rule over new ends behind the others
-  reads_new :
-      (xs : Keys) (key : ℕ × ℕ × ℕ × ℕ) (f : Variable → ℕ × ℕ × ℕ × ℕ) (r : ParseRule) (side : SideFor ℕ Variable) (n cost : ℕ) → HolesAreLeaves (only side) →
-      n < length order → get_or order n (0, 0, 0, 0) ≡ key → r.position ≡ n → r.left.now ≡ side → r.first_end ≡ length xs → r.cost ≡ cost →
-      Reads order (xs ++ map f (holes_of side)) r (record { left = key; right = side_map f side; cost = cost })
-  reads_new xs key f r side n cost leaves below is position left first costs = record {
-    within = (
-      subst (λ p. p < length order) (sym position) below,
-      subst (λ s. Each (IsWithin (length order) (length (xs ++ map f (holes_of side)))) (ends_from r.first_end (length (holes_of s)))) (sym left)
-          (ends_within (length order) (length (xs ++ map f (holes_of side))) r.first_end (length (holes_of side)) (omega (arith, first, length-append xs (map f (holes_of side)), length_map f (holes_of side)))),
-    );
-    read = λ d.
-        let all = xs ++ map f (holes_of side) in
-        ap (λ k. record { left = k; right = side_map (λ i. slice_index_or all i d) (numbered_side r.first_end r.left.now); cost = r.cost })
-        (ap (λ p. slice_index_or order p d) position ∙ index_get order n d (0, 0, 0, 0) below ∙ is)
-        ∙ ap (λ m. record { left = key; right = side_map (λ i. slice_index_or all i d) (numbered_side m r.left.now); cost = r.cost }) first
-        ∙ ap (λ s. record { left = key; right = side_map (λ i. slice_index_or all i d) (numbered_side (length xs) s); cost = r.cost }) left
-        ∙ ap (λ s. record { left = key; right = s; cost = r.cost }) (side_reads f d side xs leaves)
-        ∙ ap (λ c. record { left = key; right = side_map f side; cost = c }) costs;
-  }
-
-nothing : {A : Type 0} (xs : List A) → length xs ≡ 0 → xs ≡ []
-nothing [] h = refl
-nothing (x ∷ xs) h = absurd (omega arith)
 
 module _ (key : ℕ × ℕ × ℕ × ℕ) where
   -- nothing is listed at first
@@ -123,7 +75,7 @@ module _ (key : ℕ × ℕ × ℕ × ℕ) where
             in
             let here : Reads order m.ends.items added.rule edge =
             subst (λ es. Reads order es added.rule edge) (sym added.ends)
-            (reads_new order l.ends.items key f added.rule side l.position cost leaves low here_is added.position added.side added.first_end added.costs)
+            (reads_new order (0, 0, 0, 0) l.ends.items key f added.rule side l.position cost leaves low here_is added.position added.side added.first_end added.costs)
             in
             subst (λ rs. Along (Reads order m.ends.items) rs (front ++ edge ∷ [])) (sym added.rules) (along_more (Reads order m.ends.items) l.rules.items front added.rule edge old here);
         ends_are = added.ends ∙ ap (λ es. es ++ map f (holes_of side)) h.ends_are ∙ ap (λ zs. all_ends front ++ zs) (sym (holes-relabel f (only side))) ∙ sym (all_ends-more front edge);

@@ -1,34 +1,23 @@
 -- What a whole list of edges says.
-use Rattle.std.specs.Prelude.{◌≡◌, ℕ, ◌<◌, ◌≤◌, ◌↔◌, List, [], ◌∷◌, length, map, refl}
+use Rattle.std.specs.Prelude.{◌≡◌, ℕ, ◌<◌, ◌≤◌, ◌↔◌, List, length}
 use Rattle.std.proofs.Common.{arith, ap, sym, ◌∙◌, subst, get_or}
-use Rattle.tib_lex.specs.Lists.{Has, Each, Along, total}
+use Rattle.tib_lex.specs.Lists.{Has, Along, total}
 use Rattle.tib_lex.proofs.Alongs.{along_of, total_fewer}
 use Rattle.tib_grammar.specs.Sides.{holes_of}
 use Rattle.tib_grammar.specs.declared.Rule.{Rule}
-use Rattle.tib_hunt.specs.EdgeLists.{IsWithin, key_at, IsEnd, Exceeds, AreListed, Lists}
+use Rattle.tib_hunt.specs.EdgeLists.{IsEnd, Exceeds, AreListed, Lists}
 use Rattle.tib_strings.specs.declared.StringRule.{StringRule}
-use Rattle.tib_apply.proofs.ForwardListed.{both_ends}
+use Rattle.tib_side_rules.specs.declared.side_rule.SideRule.{SideRule}
+use Rattle.tib_side_rules.specs.SideRules.{places_of, read_places, Reads}
+use Rattle.tib_side_rules.specs.Listing.{IsWithinBudget}
+use Rattle.tib_side_rules.proofs.Reading.{reads_within, reads_all, both_ends}
+use Rattle.tib_transducer.specs.declared.Variable.{Variable}
 use Rattle.tib_parse_laws.specs.Parsing.{IsParseEdge}
 use Rattle.tib_parse_laws.specs.Operation.{edge_parts}
 use Rattle.tib_parse_laws.specs.Edges.{edges_of}
 use Rattle.tib_parse_laws.proofs.Listing.{edges_are_listed}
 use Rattle.tib_parse_laws.proofs.Reached.{same_edge}
-use Rattle.tib_parse.specs.ParseRules.{places_of, read_places, Reads}
-use Rattle.tib_parse.specs.Listing.{IsWithinBudget, IsListed}
-use Rattle.tib_parse.specs.declared.parse_rule.ParseRule.{ParseRule}
-use Rattle.tib_parse.specs.declared.listing.Listing.{Listing}
-
-module _ (order : List (ℕ × ℕ × ℕ × ℕ)) where
-  reads_within : (ends : List (ℕ × ℕ × ℕ × ℕ)) (rules : List ParseRule) (es : List (Rule (ℕ × ℕ × ℕ × ℕ))) → Along (Reads order ends) rules es → Each (λ r. Each (IsWithin (length order) (length ends)) (places_of r)) rules
-  reads_within ends [] es a = tt
-  reads_within ends (r ∷ rules) [] a = absurd a
-  reads_within ends (r ∷ rules) (e ∷ es) a = (a.0.within, reads_within ends rules es a.1)
-
-  reads_all : (ends : List (ℕ × ℕ × ℕ × ℕ)) (d : ℕ × ℕ × ℕ × ℕ) (rules : List ParseRule) (es : List (Rule (ℕ × ℕ × ℕ × ℕ))) → Along (Reads order ends) rules es → map (read_places (key_at d order ends)) rules ≡ es
-  reads_all ends d [] [] a = refl
-  reads_all ends d [] (e ∷ es) a = absurd a
-  reads_all ends d (r ∷ rules) [] a = absurd a
-  reads_all ends d (r ∷ rules) (e ∷ es) a = ap (λ x. x ∷ map (read_places (key_at d order ends)) rules) (a.0.read d) ∙ ap (λ xs. e ∷ xs) (reads_all ends d rules es a.1)
+use Rattle.tib_parse.specs.Listing.{Listing, IsListed}
 
 module _ (moves : List (StringRule ℕ)) (string : List ℕ) (key : ℕ × ℕ × ℕ × ℕ) where
   abbrev Gives : ℕ × List ℕ → Rule (ℕ × ℕ × ℕ × ℕ) → Type 0
@@ -42,7 +31,7 @@ module _ (moves : List (StringRule ℕ)) (string : List ℕ) (key : ℕ × ℕ �
 
   -- the rules of the list of all edges of the key are these
   pub whole_listed :
-      (order : List (ℕ × ℕ × ℕ × ℕ)) (l : Listing) (n : ℕ) (ends : List (ℕ × ℕ × ℕ × ℕ)) (rules : List ParseRule) (parts : ℕ) → l.position ≡ n → n < length order → get_or order n (0, 0, 0, 0) ≡ key →
+      (order : List (ℕ × ℕ × ℕ × ℕ)) (l : Listing) (n : ℕ) (ends : List (ℕ × ℕ × ℕ × ℕ)) (rules : List (SideRule Variable)) (parts : ℕ) → l.position ≡ n → n < length order → get_or order n (0, 0, 0, 0) ≡ key →
       ends ≡ l.ends.items → rules ≡ l.rules.items → parts ≡ l.parts → IsWithinBudget l → IsListed key (edges_of moves string key) l →
       AreListed Gives edge_parts places_of read_places order ends rules parts
   whole_listed order l n ends rules parts at low is e d p within h =

@@ -1,5 +1,4 @@
 pub mod Keys
-pub mod ParseRules
 pub mod ParseLaws
 pub mod Listing
 pub mod Moves

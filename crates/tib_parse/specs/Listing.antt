@@ -1,12 +1,13 @@
 -- The edges of a key, listed one after another.
-use Rattle.std.specs.Prelude.{◌≡◌, ℕ, ◌+◌, ◌<◌, ◌≤◌, List, [], ◌∷◌, ◌++◌, length, map}
+use Rattle.std.specs.Prelude.{◌≡◌, ℕ, ◌+◌, ◌<◌, List, [], ◌∷◌, ◌++◌, length, map}
 use Rattle.std.proofs.Common.{zero, suc, get_or}
 use Rattle.tib_lex.specs.Lists.{Each, Along, total}
-use Rattle.tib_tree.specs.Trees.{size}
-use Rattle.tib_grammar.specs.Sides.{Side as SideFor, label, holes_of, side_map}
+use Rattle.tib_grammar.specs.Sides.{label, holes_of, side_map}
 use Rattle.tib_grammar.specs.declared.Rule.{Rule}
 use Rattle.tib_grammar.specs.Positions.{all_ends}
-use Rattle.tib_hunt.specs.Reached.{most_parts}
+use Rattle.tib_side_rules.specs.declared.side_listing.SideListing.{SideListing}
+use Rattle.tib_side_rules.specs.SideRules.{Reads}
+use Rattle.tib_side_rules.specs.Listing.{IsAlike}
 use Rattle.tib_transducer.specs.declared.Variable.{Variable}
 use Rattle.tib_strings.specs.declared.StringRule.{StringRule}
 use Rattle.tib_strings.specs.Rules.{pairs_of}
@@ -15,9 +16,10 @@ use Rattle.tib_apply.specs.Restrictions.{restriction, Admits}
 use Rattle.tib_parse_laws.specs.Parsing.{parse_key}
 use Rattle.tib_parse_laws.specs.Operation.{edge_parts}
 use Rattle.tib_parse_laws.specs.Edges.{origins_at, edge_of}
-use Rattle.tib_parse.specs.ParseRules.{Reads}
-use Rattle.tib_parse.specs.declared.parse_rule.ParseRule.{ParseRule}
-use Rattle.tib_parse.specs.declared.listing.Listing.{Listing}
+
+-- a list of edges to left sides
+abbrev pub Listing : Type 0
+Listing = SideListing (ℕ × ℕ × ℕ × ℕ) Variable
 
 -- the key of a variable, where the states and the places of pairs are listed by the numbers of their variables
 abbrev pub variable_key : List ℕ → List (ℕ × ℕ × ℕ) → Variable → ℕ × ℕ × ℕ × ℕ
@@ -28,28 +30,6 @@ variable_key labels spans x =
 abbrev pub place_before : ℕ → List ℕ → ℕ → ℕ
 place_before i ks zero = i
 place_before i ks (suc n) = get_or ks n 0
-
--- the list with one rule over new ends behind it
-pub record IsAdded (left : SideFor ℕ Variable) (keys : List (ℕ × ℕ × ℕ × ℕ)) (cost : ℕ) (old new : Listing) : Type 0 where
-  pub ends : new.ends.items ≡ old.ends.items ++ keys
-  pub rule : ParseRule
-  pub rules : new.rules.items ≡ old.rules.items ++ rule ∷ []
-  pub position : rule.position ≡ old.position
-  pub side : rule.left.now ≡ left
-  pub first_end : rule.first_end ≡ length old.ends.items
-  pub costs : rule.cost ≡ cost
-  pub parts : new.parts ≡ old.parts + (1 + size left)
-
--- the list and its size stay within the budget
-pub record IsWithinBudget (l : Listing) : Type 0 where
-  pub few : length l.ends.items ≤ l.parts
-  pub within : l.parts ≤ l.budget
-  pub budget : l.budget ≤ most_parts
-
--- both lists are of the same position, within the same budget
-pub record IsAlike (old new : Listing) : Type 0 where
-  pub position : new.position ≡ old.position
-  pub budget : new.budget ≡ old.budget
 
 -- the edges of the key are listed, over each order in which the key has the list's position
 pub record IsListed (key : ℕ × ℕ × ℕ × ℕ) (es : List (Rule (ℕ × ℕ × ℕ × ℕ))) (l : Listing) : Type 0 where

@@ -1,21 +1,20 @@
 //! Parsing as an operation: its seed, its edges, and the rules that stand for these.
 
 use crate::key::Key;
+use crate::listing::ParseRule;
 use crate::operation::Parse;
-use crate::parse_rule::ParseRule;
-use crate::settling::settle_rule;
 use std::alloc::{AllocError, Global};
 use std::collections::LinkedList;
 use tib_cost::Semiring;
 use tib_grammar::Rule;
 use tib_hunt::{Edges, Expand, ExpandError};
+use tib_side_rules::settled_side;
 
 impl<'a, S: Semiring> Expand for Parse<'a, S> {
     ghost use Rattle.std.specs.Prelude.{length};
     ghost use Rattle.tib_parse_laws.specs.Restrictions.{restricted_labels};
     ghost use Rattle.tib_parse_laws.specs.Operation.{IsKey, parse};
-    ghost use Rattle.tib_parse.specs.ParseRules.{parse_reading};
-    ghost use Rattle.tib_parse.specs.ParseLaws.{parse_is_lawful, within_from};
+    ghost use Rattle.tib_parse.specs.ParseLaws.{parse_reading, parse_is_lawful, within_from};
 
     type Key = Key;
 
@@ -66,7 +65,12 @@ impl<'a, S: Semiring> Expand for Parse<'a, S> {
         rule: &ParseRule<'a>,
         ends: &[u32],
     ) -> Result<Rule<u32>, AllocError> {
-        settle_rule(alloc, rule, ends)
+        let right = settled_side(alloc, rule.side, ends, rule.first_end)?;
+        Ok(Rule {
+            left: rule.position,
+            right,
+            cost: rule.cost,
+        })
     }
 
     ghost lawful = { λ p. parse_is_lawful (length p.transducer.now.names) p.start p.transducer.now.rules

@@ -1,20 +1,21 @@
 //! The edges of a key, listed one after another within a budget of parts.
 
-ghost use Rattle.std.specs.Prelude.{◌≡◌, ◌+◌, ◌<◌, ◌≤◌, ◌++◌, ◌∷◌, [], length, map, OnOk, Err};
+ghost use Rattle.std.specs.Prelude.{◌≡◌, ◌+◌, ◌<◌, ◌++◌, ◌∷◌, [], length, map, OnOk, Err};
 ghost use Rattle.tib_lex.specs.Lists.{Each};
 ghost use Rattle.tib_tree.specs.Trees.{only, size};
 ghost use Rattle.tib_grammar.specs.Items.{holes_in};
 ghost use Rattle.tib_grammar.specs.Sides.{holes_of, HolesAreLeaves};
-ghost use Rattle.tib_parse.specs.Listing.{variable_key, IsAdded, IsWithinBudget, IsAlike};
+ghost use Rattle.tib_side_rules.specs.Listing.{IsAdded, IsWithinBudget, IsAlike};
+ghost use Rattle.tib_parse.specs.Listing.{variable_key};
 
 use crate::key::Key;
-use crate::parse_rule::ParseRule;
 use crate::spans::Span;
-use std::alloc::{AllocError, Global};
+use std::alloc::AllocError;
 use tib_apply::Restrictions;
 use tib_cost::Cost;
 use tib_grammar::{Item, Side};
-use tib_hunt::{Edges, ExpandError};
+use tib_hunt::ExpandError;
+use tib_side_rules::{SideListing, SideRule};
 use tib_transducer::Variable;
 
 /// Appends the key of the variable that an item may carry.
@@ -53,90 +54,36 @@ fn push_ends(
     Ok(())
 }
 
+/// An edge over places: it leads to the left side of a rule of the transducer.
+pub type ParseRule<'a> = SideRule<'a, Variable>;
+
 /// The edges of the key at a position, as far as they are listed, within a budget of parts.
-#[derive(Drop)]
-pub(crate) struct Listing<'a> {
-    ends: Vec<Key>,
-    rules: Vec<ParseRule<'a>>,
-    parts: u64,
-    position: u32,
-    budget: u64,
-}
+pub(crate) type Listing<'a> = SideListing<'a, Key, Variable>;
 
-impl<'a> Listing<'a> {
-    /// The empty list of edges of the key at a position.
-    pub(crate) fn new(alloc: Global, position: u32, budget: u64) -> Listing<'a>
-        ensures position { result.position ≡ position }
-        ensures budget { result.budget ≡ budget }
-        ensures ends { length result.ends.items ≡ 0 }
-        ensures rules { length result.rules.items ≡ 0 }
-        ensures parts { result.parts ≡ 0 }
-    {
-        Listing {
-            ends: Vec::new(alloc),
-            rules: Vec::new(alloc),
-            parts: 0,
-            position,
-            budget,
-        }
+/// Lists an edge to a left side, whose variables lead to the keys of the states and the places of their pairs, at a cost.
+/// `More` comes exactly where it has more parts than the budget leaves.
+pub(crate) fn add_edge<'a>(
+    listing: &mut Listing<'a>,
+    restrictions: &Restrictions,
+    left: &'a Side<Variable>,
+    spans: &[Span],
+    cost: Cost,
+) -> Result<(), ExpandError>
+    requires known { Each (λ x. x.number < length spans.now) (holes_of left.now) }
+    requires within { IsWithinBudget listing.old }
+    ensures added { OnOk result (IsAdded left.now
+        (map (variable_key restrictions.now spans.now) (holes_of left.now)) cost listing.old
+        listing.new) }
+    ensures more { result ≡ Err ExpandError.More →
+        listing.old.budget < listing.old.parts + (1 + size left.now) }
+    ensures within { OnOk result (IsWithinBudget listing.new) }
+    ensures alike { OnOk result (IsAlike listing.old listing.new) }
+    ensures leaves { HolesAreLeaves (only left.now) }
+{
+    let first_end = listing.next_end();
+    match push_ends(restrictions, left.items(), spans, &mut listing.ends) {
+        Ok(()) => {}
+        Err(_) => return Err(ExpandError::OutOfMemory),
     }
-
-    /// Lists an edge to a left side, whose variables lead to the keys of the states and the places of their pairs, at a cost.
-    /// `More` comes exactly where it has more parts than the budget leaves.
-    pub(crate) fn add(
-        &mut self,
-        restrictions: &Restrictions,
-        left: &'a Side<Variable>,
-        spans: &[Span],
-        cost: Cost,
-    ) -> Result<(), ExpandError>
-        requires known { Each (λ x. x.number < length spans.now) (holes_of left.now) }
-        requires within { IsWithinBudget self.old }
-        ensures added { OnOk result (IsAdded left.now
-            (map (variable_key restrictions.now spans.now) (holes_of left.now)) cost self.old
-            self.new) }
-        ensures more { result ≡ Err ExpandError.More →
-            self.old.budget < self.old.parts + (1 + size left.now) }
-        ensures within { OnOk result (IsWithinBudget self.new) }
-        ensures alike { OnOk result (IsAlike self.old self.new) }
-        ensures leaves { HolesAreLeaves (only left.now) }
-    {
-        let items = left.items();
-        let parts = self.parts + 1 + items.len() as u64;
-        if parts > self.budget {
-            return Err(ExpandError::More);
-        }
-        let first_end = self.ends.len() as u32;
-        match push_ends(restrictions, items, spans, &mut self.ends) {
-            Ok(()) => {}
-            Err(_) => return Err(ExpandError::OutOfMemory),
-        }
-        let rule = ParseRule {
-            position: self.position,
-            left,
-            first_end,
-            cost,
-        };
-        match self.rules.push(rule) {
-            Ok(()) => {}
-            Err(_) => return Err(ExpandError::OutOfMemory),
-        }
-        self.parts = parts;
-        Ok(())
-    }
-
-    /// The ends, the rules and their parts.
-    pub(crate) fn into_edges(self) -> Edges<Key, ParseRule<'a>>
-        ensures ends { result.ends.items ≡ self.entry.ends.items }
-        ensures rules { result.rules.items ≡ self.entry.rules.items }
-        ensures parts { result.parts ≡ self.entry.parts }
-    {
-        let Listing {
-            ends,
-            rules,
-            parts,
-            ..
-        } = self;
-        Edges { ends, rules, parts }
-    }
+    listing.add(left, first_end, cost)
 }

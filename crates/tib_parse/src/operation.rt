@@ -26,8 +26,8 @@ ghost use Rattle.tib_parse_laws.specs.Operation.{IsKey, edge_parts};
 ghost use Rattle.tib_parse_laws.specs.Edges.{edges_of};
 ghost use Rattle.tib_parse.specs.Moves.{IsMoves};
 ghost use Rattle.tib_parse.specs.ParseLaws.{AreStatesBelow};
+ghost use Rattle.tib_side_rules.specs.Listing.{IsWithinBudget};
 ghost use Rattle.tib_parse.specs.Listing.{
-  IsWithinBudget,
   IsListed,
   Adds,
   Overruns,
@@ -39,7 +39,7 @@ ghost use Rattle.tib_parse.specs.Listing.{
 ghost use Rattle.tib_parse.specs.Answered.{IsStringFault};
 
 use crate::key::Key;
-use crate::listing::Listing;
+use crate::listing::{Listing, add_edge};
 use crate::moves::Moves;
 use crate::readers::restrictions_of;
 use crate::spans::{Span, make_room, put_spans};
@@ -87,7 +87,7 @@ fn add_cut<'a>(
     ensures long { length spans.new.items ≡ length spans.old.items }
 {
     put_spans(rule.right.tokens(), key.from(), places, spans);
-    listing.add(restrictions, &rule.left, spans, rule.cost)
+    add_edge(listing, restrictions, &rule.left, spans, rule.cost)
 }
 
 /// Goes on to the next cut.

@@ -4,7 +4,7 @@ use Rattle.tib_lex.specs.Lists.{Each}
 use Rattle.tib_transducer.specs.Rules.{no_rule, transducer_rule}
 use Rattle.tib_apply.specs.Restrictions.{restricted_labels}
 use Rattle.tib_apply.specs.ForwardPlans.{IsPlan, end_at}
-use Rattle.tib_apply.specs.ForwardListing.{IsAdded}
+use Rattle.tib_side_rules.specs.Listing.{IsAdded}
 use Rattle.tib_apply.proofs.ForwardEdges.{match_facts, origin_passed, origin_added, origin_overruns, rule_here, on_ok}
 use Rattle.tib_apply.proofs.forward.Forward.list_match.Goals as goal
 
@@ -33,8 +33,8 @@ returns-in_default-clause-listed g c =
     origin_passed g.met.S.Semiring.laws c.args.self.now.grammar.now.rules moves c.args.self.now.runs c.args.key m c.args.found.now c.grammar.ensures.normal.normal c.requires.at c.index-plan.result.now
     c.index-rule_list-position.result facts c.args.listing.now (sym c.in_default.is ∙ c.edge_cost.ensures)
 
-pub add-requires-clause-below : goal.add-requires-clause-below
-add-requires-clause-below g c =
+pub add_edge-requires-clause-below : goal.add_edge-requires-clause-below
+add_edge-requires-clause-below g c =
     let moves = c.args.self.now.transducer.now.rules in
     let m = c.args.position in
     let below = subst (λ rs. m < length rs) (sym c.rule_list.ensures) c.requires.at.below in
@@ -59,12 +59,12 @@ returns-clause-listed g c =
     in
     let states = c.as_slice.ensures ∙ ap (λ f. f.0) c.found.view_is in
     let keys = ap (λ ss. map (end_at ss) c.deref.result.now) states ∙ ap (map (end_at c.args.found.now.0)) c.deref.ensures.value in
-    on_ok c.add.result _ _
+    on_ok c.add_edge.result _ _
     (λ added.
     origin_added g.met.S.Semiring.laws c.args.self.now.grammar.now.rules moves c.args.self.now.runs c.args.key m c.args.found.now c.grammar.ensures.normal.normal c.requires.at c.index-plan.result.now
-    c.index-rule_list-position.result facts c.in-Some.cost (sym c.in-Some.is ∙ c.edge_cost.ensures) c.args.listing.now c.add.new.self
-    (subst (λ ks. IsAdded c.index-rule_list-position.result.right ks c.in-Some.cost c.args.listing.now c.add.new.self) keys added))
-    c.add.ensures.added
+    c.index-rule_list-position.result facts c.in-Some.cost (sym c.in-Some.is ∙ c.edge_cost.ensures) c.args.listing.now c.add_edge.new.listing
+    (subst (λ ks. IsAdded c.index-rule_list-position.result.right ks c.in-Some.cost c.args.listing.now c.add_edge.new.listing) keys added))
+    c.add_edge.ensures.added
 
 pub returns-clause-more : goal.returns-clause-more
 returns-clause-more g c = λ e.
@@ -77,4 +77,4 @@ returns-clause-more g c = λ e.
     c.index-rule_list-position.result is (c.is_sound.ensures.shaped m c.requires.at.below) (c.is_sound.ensures.leaves m c.requires.at.below).1 planned
     in
     origin_overruns g.met.S.Semiring.laws c.args.self.now.grammar.now.rules moves c.args.self.now.runs c.args.key m c.args.found.now c.grammar.ensures.normal.normal c.requires.at c.index-plan.result.now
-    c.index-rule_list-position.result facts c.in-Some.cost (sym c.in-Some.is ∙ c.edge_cost.ensures) c.args.listing.now (c.add.ensures.more e)
+    c.index-rule_list-position.result facts c.in-Some.cost (sym c.in-Some.is ∙ c.edge_cost.ensures) c.args.listing.now (c.add_edge.ensures.more e)

@@ -2,11 +2,11 @@ use Rattle.std.proofs.Common.{◌≡◌, Err, ap, sym, ◌∙◌, subst}
 use Rattle.std.proofs.lemmas.List.{get_or_read}
 use Rattle.tib_apply.specs.KeyGrammars.{key_at}
 use Rattle.tib_apply.specs.ForwardLaws.{same_table_edge}
-use Rattle.tib_apply.specs.ForwardListing.{AreListedFrom, Overruns}
+use Rattle.tib_side_rules.specs.Listing.{AreListedFrom, Overruns}
 use Rattle.tib_apply.specs.TableEdges.{IsTableEdge}
-use Rattle.tib_apply.proofs.ForwardListed.{whole_listed, whole_ends, overruns_exceeds}
+use Rattle.tib_side_rules.proofs.Listed.{whole_listed, whole_ends, overruns_exceeds}
 use Rattle.tib_hunt.specs.declared.place.ExpandError.{ExpandError}
-use Rattle.tib_apply.specs.declared.forward_listing.ForwardListing.{ForwardListing}
+use Rattle.tib_apply.specs.ForwardRules.{ForwardListing}
 use Rattle.std.specs.declared.result.Result.{Result}
 use Rattle.tib_apply.proofs.forward_expand.ForwardExpand.expand.Goals as goal
 
@@ -35,6 +35,6 @@ returns-in-Err-clause-more g c = λ e.
     let order = c.args.order.now in
     let at = sym (get_or_read order c.args.n c.index-order-n.result c.requires.position c.index-order-n.is (0, 0, 0)) in
     let Table = IsTableEdge g.S.Semiring.product c.args.self.now.grammar.now.rules c.args.self.now.transducer.now.rules c.args.self.now.runs in
-    overruns_exceeds (Table (key_at order c.args.n)) order
+    overruns_exceeds (Table (key_at order c.args.n))
     (same_table_edge g.S.Semiring.product c.args.self.now.grammar.now.rules c.args.self.now.transducer.now.rules c.args.self.now.runs (key_at order c.args.n)) c.args.budget
     (subst (λ k. Overruns (Table k) c.args.budget) (sym at) (c.list_edges.ensures.more (c.in-Err.is ∙ fault_is c.in-Err.fault e) order c.requires.position at))

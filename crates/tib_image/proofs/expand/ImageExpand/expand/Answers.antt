@@ -2,10 +2,10 @@ use Rattle.std.proofs.Common.{◌≡◌, Err, ap, sym, ◌∙◌, subst}
 use Rattle.std.proofs.lemmas.List.{get_or_read}
 use Rattle.tib_image.specs.Image.{IsImageEdge}
 use Rattle.tib_image.specs.Laws.{same_edge}
-use Rattle.tib_image.specs.Listing.{AreListedFrom, Overruns}
-use Rattle.tib_image.proofs.Listed.{whole_listed, whole_ends, overruns_exceeds}
+use Rattle.tib_image.specs.Listing.{Listing}
+use Rattle.tib_side_rules.specs.Listing.{AreListedFrom, Overruns}
+use Rattle.tib_side_rules.proofs.Listed.{whole_listed, whole_ends, overruns_exceeds}
 use Rattle.tib_hunt.specs.declared.place.ExpandError.{ExpandError}
-use Rattle.tib_image.specs.declared.listing.Listing.{Listing}
 use Rattle.std.specs.declared.result.Result.{Result}
 use Rattle.tib_keyed.specs.Ends.{key_at}
 use Rattle.tib_image.proofs.expand.ImageExpand.expand.Goals as goal
@@ -34,5 +34,5 @@ returns-in-Err-clause-more g c = λ e.
     let order = c.args.order.now in
     let at = sym (get_or_read order c.args.n c.index-order-n.result c.requires.position c.index-order-n.is (0, 0)) in
     let Edge = IsImageEdge c.args.self.now.transducer.now.rules c.args.self.now.tree.now in
-    overruns_exceeds (Edge (key_at order c.args.n)) order (same_edge c.args.self.now.transducer.now.rules c.args.self.now.tree.now (key_at order c.args.n)) c.args.budget
+    overruns_exceeds (Edge (key_at order c.args.n)) (same_edge c.args.self.now.transducer.now.rules c.args.self.now.tree.now (key_at order c.args.n)) c.args.budget
     (subst (λ k. Overruns (Edge k) c.args.budget) (sym at) (c.list_edges.ensures.more (c.in-Err.is ∙ fault_is c.in-Err.fault e) order c.requires.position at))

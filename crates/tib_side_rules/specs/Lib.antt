@@ -1,0 +1,4 @@
+pub mod SideRules
+pub mod SideRuleLaws
+pub mod Settling
+pub mod Listing
