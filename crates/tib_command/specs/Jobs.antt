@@ -5,6 +5,8 @@ use Rattle.std.specs.List.{list_any}
 use Rattle.std.specs.String.{string_bytes}
 use Rattle.std.specs.Str.{bytes_eq, all_ascii_digits}
 use Rattle.std.specs.Str.Parse.{digits_value}
+use Rattle.tib_cost.specs.Semiring.{most}
+pub use Rattle.tib_lex.specs.Limits.{most_parts}
 use Rattle.tib_command.specs.declared.job.Mode.{Mode}
 use Rattle.tib_command.specs.declared.job.Mode.TheVariants as m
 use Rattle.tib_command.specs.declared.job.Operation.{Operation}
@@ -101,13 +103,9 @@ most_trees = 10000
 abbrev pub most_workers : ℕ
 most_workers = 16
 
--- the greatest limit on parts, which holds where none is given
-abbrev pub most_parts : ℕ
-most_parts = 20000000
-
--- the greatest beam
+-- the greatest beam, which is the greatest cost
 abbrev pub most_beam : ℕ
-most_beam = 1000000000000000
+most_beam = most
 
 -- a beam, in one to sixteen digits
 abbrev pub beam_in : Text → Option ℕ

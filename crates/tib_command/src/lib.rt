@@ -13,8 +13,6 @@ ghost use Rattle.tib_command.specs.Jobs.{job_of, meaning, most_beam, most_demo, 
 
 mod job;
 mod options;
-#[cfg(test)]
-mod tests;
 mod values;
 
 pub use job::{CommandError, Job, Mode, Operation};
@@ -28,11 +26,11 @@ pub const MOST_TREES: u64 = 10_000;
 /// The greatest number of workers (`-w`).
 pub const MOST_WORKERS: u64 = 16;
 
-/// The greatest limit on parts (`--limit`), which holds where none is given.
-pub const MOST_PARTS: u64 = 20_000_000;
+/// The greatest limit on parts (`--limit`), that of a hunt, which holds where none is given.
+pub const MOST_PARTS: u64 = tib_hunt::MOST_PARTS;
 
 /// The greatest beam (`--beam`), which is the greatest cost.
-pub const MOST_BEAM: u64 = 1_000_000_000_000_000;
+pub const MOST_BEAM: u64 = tib_cost::MOST;
 
 /// The greatest number that `demo` takes.
 pub const MOST_DEMO: u64 = 16;

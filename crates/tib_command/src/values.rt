@@ -115,7 +115,7 @@ pub(crate) struct Task {
 }
 
 /// The words as texts of their own.
-pub(crate) fn copied(alloc: Global, words: &[&str]) -> Result<Vec<String>, AllocError>
+fn copied(alloc: Global, words: &[&str]) -> Result<Vec<String>, AllocError>
     ensures texts { IfOk result (λ v. map (λ s. string_bytes s) v.items
         ≡ map (λ w. w.now) words.now) }
     ensures many { IfOk result (λ v. length v.items ≡ length words.now) }

@@ -1,6 +1,6 @@
 -- A rule's first candidate is made, and goes into the heap.
 use Rattle.std.specs.Prelude.{◌≡◌, ◌⊎◌, ℕ, ◌<◌, ◌≤◌, List, [], ◌∷◌, ◌++◌, length, take, drop, refl, Some, Result, Ok, Err, OnOk}
-use Rattle.std.proofs.Common.{suc, arith, ap, sym, ◌∙◌, subst, inl, inr, get_or, length-append}
+use Rattle.std.proofs.Common.{arith, ap, sym, ◌∙◌, subst, inl, inr, get_or, length-append}
 use Rattle.std.proofs.lemmas.List.{length-map}
 use Rattle.tib_lex.specs.Lists.{Has}
 use Rattle.tib_lex.proofs.Lists.{append_nil}
@@ -9,7 +9,7 @@ use Rattle.tib_tree.specs.Trees.{Tree, size}
 use Rattle.tib_grammar.specs.Run.{rule_at}
 use Rattle.tib_heap.specs.Heaps.{IsHeap, Adds}
 use Rattle.tib_k_best_laws.specs.Levels.{states_of}
-use Rattle.tib_k_best_laws.specs.Pass.{Entries, AreRanks, zeros, offer}
+use Rattle.tib_k_best_laws.specs.Pass.{AreRanks, zeros, offer}
 use Rattle.tib_k_best_lists.specs.ListsOf.{ListsOf}
 use Rattle.tib_k_best_lists.specs.Held.{list_of, entry_at, told, entries_of, candidate_at, no_candidate, ranks_of, ranks_from, tree_by, stands_for, offers_cmp, grown, with_ranks, with_candidate, AreMore, IsSound, IsTuple, IsCandidate, IsPriced, IsKnownBy, Makes}
 use Rattle.tib_k_best_lists.specs.declared.lists.Entry.{Entry}

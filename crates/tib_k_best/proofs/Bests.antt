@@ -1,6 +1,6 @@
 -- The first trees of the start, as the list of the best.
-use Rattle.std.specs.Prelude.{◌≡◌, ◌⊎◌, ℕ, ◌<◌, ◌≤◌, Bool, true, false, List, [], ◌∷◌, length, map, refl}
-use Rattle.std.proofs.Common.{arith, ap, sym, ◌∙◌, subst, inl, inr, get_or}
+use Rattle.std.specs.Prelude.{◌≡◌, ◌⊎◌, ℕ, ◌<◌, ◌≤◌, Bool, true, false, List, [], ◌∷◌, length, refl}
+use Rattle.std.proofs.Common.{arith, ap, sym, ◌∙◌, subst, inl, inr}
 use Rattle.std.proofs.lemmas.List.{length-map}
 use Rattle.tib_cost.specs.Semiring.{ProductLaws}
 use Rattle.tib_tree.specs.Grows.{AreDistinct}
@@ -78,10 +78,9 @@ pub best_first : (product : ℕ → ℕ → ℕ) (x y : ListsOf) (k : ℕ) → k
 best_first product x y k e r l f = subst (λ (n : ℕ). IsKBest product x.rules x.labels n (entries_of y 0)) (sym e) (best_over product x y 1 r l (entries_of y 0) (best_is product y f))
 
 pub best_listed :
-    (product : ℕ → ℕ → ℕ) (rules : List (Rule ℕ)) (labels : List (List ℕ)) (ranks : List ℕ) (states : ℕ) (x : ListsOf) (k : ℕ) → x ≡ empty_lists rules labels ranks states → (xs ys : List Costed) →
-    ys ≡ xs → IsKBest product x.rules x.labels k xs → IsKBest product rules labels k ys
-best_listed product rules labels ranks states x k e xs ys is h =
-    subst (λ (zs : List Costed). IsKBest product rules labels k zs) (sym is) (subst (λ (z : ListsOf). IsKBest product z.rules z.labels k xs) e h)
+    (product : ℕ → ℕ → ℕ) (rules : List (Rule ℕ)) (labels : List (List ℕ)) (ranks : List ℕ) (states : ℕ) (x : ListsOf) (k : ℕ) → x ≡ empty_lists rules labels ranks states → (xs : List Costed) →
+    IsKBest product x.rules x.labels k xs → IsKBest product rules labels k xs
+best_listed product rules labels ranks states x k e xs h = subst (λ (z : ListsOf). IsKBest product z.rules z.labels k xs) e h
 
 -- a fault of asked lists has its cause
 pub fault_cause :

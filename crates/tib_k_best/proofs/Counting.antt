@@ -14,7 +14,6 @@ use Rattle.tib_asked_lists.specs.Firsts.{AreFirsts}
 use Rattle.tib_asked_lists.proofs.Rounded.{held_few}
 use Rattle.tib_k_best.specs.LazyLists.{entries_in, IsCounted}
 use Rattle.tib_k_best.specs.Listing.{costed}
-use Rattle.tib_k_best.proofs.Bests.{best_listed}
 use Rattle.tib_k_best.proofs.Listing.{are_listed}
 use Rattle.tib_k_best.proofs.Starting.{as_many}
 
@@ -72,22 +71,36 @@ fronts_first product x y r l f q = fronts_same product x y r l q (f.fronts q)
 pub bound_first : (product : ℕ → ℕ → ℕ) (x y : ListsOf) → length y.lists ≡ length x.lists → AreFirsts product y → entries_held y ≤ length x.lists + nodes_of (entries_of y 0)
 bound_first product x y e f = omega (arith, e, held_few y.lists f.few)
 
--- what is read of the lists that are answered
-module _ (product : ℕ → ℕ → ℕ) (rules : List (Rule ℕ)) (labels : List (List ℕ)) (ranks : List ℕ) (states : ℕ) (x y : ListsOf) (e : x ≡ empty_lists rules labels ranks states) (ls : List (List Costed)) (l : ls ≡ map (costed y.trees) y.lists) where
-  read : (q : ℕ) → get_or ls q [] ≡ entries_of y q
-  read q = ap (λ (ms : List (List Costed)). get_or ms q []) l ∙ list_read y.trees y.lists q
-
-  pub lazy_best : (k : ℕ) → IsKBest product x.rules x.labels k (entries_of y 0) → IsKBest product rules labels k (get_or ls 0 [])
-  lazy_best k h = best_listed product rules labels ranks states x k e (entries_of y 0) (get_or ls 0 []) (read 0) h
-
-  pub lazy_fronts : ((q : ℕ) → IsFrontAt product x.labels x.rules q (entries_of y q)) → (q : ℕ) → IsFrontAt product labels rules q (get_or ls q [])
-  lazy_fronts h q = subst (λ (xs : List Costed). IsFrontAt product labels rules q xs) (sym (read q)) (subst (λ (z : ListsOf). IsFrontAt product z.labels z.rules q (entries_of y q)) e (h q))
-
+-- what is known of lists that began without a tree
+module _ (rules : List (Rule ℕ)) (labels : List (List ℕ)) (ranks : List ℕ) (states : ℕ) (x y : ListsOf) (e : x ≡ empty_lists rules labels ranks states) where
   many : length x.lists ≡ states
   many = ap (λ (z : ListsOf). length z.lists) e ∙ as_many Entry states
 
-  pub lazy_states : length y.lists ≡ length x.lists → length ls ≡ states
-  lazy_states s = ap (λ (ms : List (List Costed)). length ms) l ∙ length-map y.lists (costed y.trees) ∙ s ∙ many
+  pub states_listed : length y.lists ≡ length x.lists → length y.lists ≡ states
+  states_listed s = s ∙ many
 
-  pub lazy_bound : entries_held y ≤ length x.lists + nodes_of (entries_of y 0) → entries_in ls ≤ states + nodes_of (get_or ls 0 [])
-  lazy_bound h = omega (arith, h, many, ap nodes_of (read 0), ap entries_in l, as_many_in y.trees y.lists)
+  pub bound_listed : entries_held y ≤ length x.lists + nodes_of (entries_of y 0) → entries_held y ≤ states + nodes_of (entries_of y 0)
+  bound_listed h = omega (arith, h, many)
+
+  pub fronts_listed :
+      (product : ℕ → ℕ → ℕ) → ((q : ℕ) → IsFrontAt product x.labels x.rules q (entries_of y q)) → (q : ℕ) → IsFrontAt product labels rules q (entries_of y q)
+  fronts_listed product h q = subst (λ (z : ListsOf). IsFrontAt product z.labels z.rules q (entries_of y q)) e (h q)
+
+-- what is read of the lists that are answered
+module _ (y : ListsOf) (ls : List (List Costed)) (l : ls ≡ map (costed y.trees) y.lists) where
+  read : (q : ℕ) → get_or ls q [] ≡ entries_of y q
+  read q = ap (λ (ms : List (List Costed)). get_or ms q []) l ∙ list_read y.trees y.lists q
+
+  pub lazy_best : (product : ℕ → ℕ → ℕ) (rules : List (Rule ℕ)) (labels : List (List ℕ)) (k : ℕ) → IsKBest product rules labels k (entries_of y 0) → IsKBest product rules labels k (get_or ls 0 [])
+  lazy_best product rules labels k h = subst (λ (xs : List Costed). IsKBest product rules labels k xs) (sym (read 0)) h
+
+  pub lazy_fronts :
+      (product : ℕ → ℕ → ℕ) (rules : List (Rule ℕ)) (labels : List (List ℕ)) → ((q : ℕ) → IsFrontAt product labels rules q (entries_of y q)) → (q : ℕ) →
+      IsFrontAt product labels rules q (get_or ls q [])
+  lazy_fronts product rules labels h q = subst (λ (xs : List Costed). IsFrontAt product labels rules q xs) (sym (read q)) (h q)
+
+  pub lazy_states : (states : ℕ) → length y.lists ≡ states → length ls ≡ states
+  lazy_states states s = ap (λ (ms : List (List Costed)). length ms) l ∙ length-map y.lists (costed y.trees) ∙ s
+
+  pub lazy_bound : (states : ℕ) → entries_held y ≤ states + nodes_of (entries_of y 0) → entries_in ls ≤ states + nodes_of (get_or ls 0 [])
+  lazy_bound states h = omega (arith, h, ap nodes_of (read 0), ap entries_in l, as_many_in y.trees y.lists)

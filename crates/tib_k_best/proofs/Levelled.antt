@@ -1,21 +1,20 @@
 -- The rules of a level, and the search for the least level that has a tree.
-use Rattle.std.specs.Prelude.{◌≡◌, ◌⊎◌, ℕ, ◌+◌, ◌-◌, ◌<◌, ◌≤◌, Bool, true, false, IsTrue, List, [], ◌∷◌, ◌++◌, length, map, drop, nat_le, refl, IsPermutation, IsSorted}
+use Rattle.std.specs.Prelude.{◌≡◌, ◌⊎◌, ℕ, ◌+◌, ◌-◌, ◌<◌, ◌≤◌, Bool, true, false, List, [], ◌∷◌, ◌++◌, length, map, drop, nat_le, refl, IsPermutation, IsSorted}
 use Rattle.std.specs.Ordering.{nat_cmp, is_lt}
-use Rattle.std.proofs.Common.{zero, suc, arith, ap, sym, ◌∙◌, subst, inl, inr, get_or, length-append}
+use Rattle.std.proofs.Common.{zero, suc, arith, ap, sym, ◌∙◌, subst, inl, inr, get_or}
 use Rattle.std.proofs.lemmas.List.Sorted.{Contains-permutation, IsPermutation-sym}
 use Rattle.std.proofs.lemmas.Bool.Decides.{nat_tests}
-use Rattle.tib_lex.specs.Lists.{Has, Each}
+use Rattle.tib_lex.specs.Lists.{Has}
 use Rattle.tib_lex.proofs.Members.{at_has, has_at}
 use Rattle.tib_cost.specs.Semiring.{most, ProductLaws}
 use Rattle.tib_tree.specs.Trees.{only}
 use Rattle.tib_tree_order.proofs.Orderings.{nat_less}
 use Rattle.tib_grammar.specs.Forms.{AreNormal, IsNormalSide}
 use Rattle.tib_grammar.specs.Range.{AreInRange, IsInRange}
-use Rattle.tib_grammar.specs.Run.{rule_at, no_rule}
+use Rattle.tib_grammar.specs.Run.{rule_at}
 use Rattle.tib_grammar.specs.declared.Rule.{Rule}
 use Rattle.tib_grammar_file.specs.Printed.{AreLabelled, LabelsBelow}
-use Rattle.tib_k_best_laws.specs.First.{IsFirst, IsFront}
-use Rattle.tib_k_best_laws.specs.Best.{Cheaper, Costed, HasLarge, IsFrontAt, IsKBest, IsTreeAt}
+use Rattle.tib_k_best_laws.specs.Best.{Costed, IsKBest, IsTreeAt}
 use Rattle.tib_k_best_laws.specs.Levels.{free, level, IsLevel, IsOrderly}
 use Rattle.tib_k_best_laws.specs.Leveling.{AreAdded, AreBelow}
 use Rattle.tib_k_best_laws.proofs.Going.{grow}

@@ -16,21 +16,17 @@ use Rattle.tib_grammar.specs.Run.{rule_at}
 use Rattle.tib_k_best_laws.specs.Best.{Cheaper, IsTreeAt}
 use Rattle.tib_k_best_laws.specs.First.{NoLater, IsNext, IsFront}
 use Rattle.tib_k_best_laws.specs.Firsts.{IsReady, NoLarger}
-use Rattle.tib_k_best_laws.specs.Levels.{IsOrderly, root_of, states_of, trees_of}
-use Rattle.tib_k_best_laws.specs.Pass.{AreRanks, picked, zeros, offer}
-use Rattle.tib_k_best_laws.specs.Pass as pass
+use Rattle.tib_k_best_laws.specs.Levels.{IsOrderly, states_of}
+use Rattle.tib_k_best_laws.specs.Pass.{AreRanks, zeros, offer}
 use Rattle.tib_k_best_laws.proofs.Firsts.{firsts_are_best}
 use Rattle.tib_tree_order.proofs.Orderings.{nat_less}
 use Rattle.tib_k_best_laws.proofs.Growing.{no_smaller}
-use Rattle.tib_k_best_laws.proofs.Opening.{root_label}
 use Rattle.tib_k_best_laws.proofs.Ranks.{cheaper_total}
 use Rattle.tib_k_best_lists.specs.ListsOf.{ListsOf}
 use Rattle.tib_k_best_lists.specs.Seen.{tree_at}
-use Rattle.tib_k_best_lists.specs.Held.{no_entry, entry_at, list_of, told, entries_of, candidate_at, ranks_of, tree_by, stands_for, offers_cmp, with_entry, grown, AreMore, IsSound, IsTuple}
+use Rattle.tib_k_best_lists.specs.Held.{no_entry, entry_at, list_of, told, entries_of, candidate_at, ranks_of, tree_by, stands_for, offers_cmp, with_entry, grown, AreMore, IsSound}
 use Rattle.tib_k_best_lists.specs.Ordered.{offers_total}
 use Rattle.tib_k_best_lists.specs.declared.lists.Candidate.{Candidate}
-use Rattle.tib_k_best_lists.proofs.Children.{get_or-map}
-use Rattle.tib_k_best_lists.proofs.Comparing.{below_label}
 use Rattle.tib_k_best_lists.proofs.Offering.{rank_at}
 use Rattle.tib_asked_lists.specs.Firsts.{IsFromFirst}
 use Rattle.tib_k_best.specs.QueueOf.{QueueOf, waiting_at}

@@ -1,7 +1,6 @@
 -- The queue at first, when each rule has begun or waits, and when no candidate is left.
 use Rattle.std.specs.Prelude.{◌≡◌, ◌⊎◌, ℕ, ◌+◌, ◌<◌, ◌≤◌, List, [], ◌∷◌, length, replicate, map, refl, Bool, Option, Some, None, IfSome}
 use Rattle.std.proofs.Common.{zero, suc, arith, ap, sym, ◌∙◌, subst, inl, inr, get_or}
-use Rattle.std.proofs.lemmas.List.{length-map}
 use Rattle.tib_lex.specs.Lists.{Has}
 use Rattle.tib_cost.specs.Semiring.{ProductLaws}
 use Rattle.tib_grammar.specs.declared.Rule.{Rule}
@@ -13,7 +12,6 @@ use Rattle.tib_k_best_laws.proofs.Firsts.{firsts_are_best}
 use Rattle.tib_k_best_lists.specs.ListsOf.{ListsOf}
 use Rattle.tib_k_best_lists.specs.Held.{empty_lists, entries_of, list_of, offers_cmp, stands_for, told, IsKnownBy, IsSound}
 use Rattle.tib_k_best_lists.specs.declared.lists.Entry.{Entry}
-use Rattle.tib_k_best_lists.specs.declared.lists.Candidate.{Candidate}
 use Rattle.tib_k_best.specs.Causes.{IsCause}
 use Rattle.tib_asked_lists.specs.Firsts.{AreFirsts}
 use Rattle.tib_k_best.specs.QueueOf.{QueueOf, empty_queue, waiting_at}

@@ -1,5 +1,5 @@
 -- Where no state below a rule is without a tree, each has its first tree.
-use Rattle.std.specs.Prelude.{◌≡◌, ◌⊎◌, ℕ, ◌<◌, ◌++◌, List, [], ◌∷◌, length, map, Bool, Some, refl}
+use Rattle.std.specs.Prelude.{◌≡◌, ◌⊎◌, ℕ, ◌<◌, List, [], ◌∷◌, length, map, Bool, Some, refl}
 use Rattle.std.proofs.Common.{zero, suc, arith, ap, sym, ◌∙◌, subst, inl, inr, get_or}
 use Rattle.std.proofs.lemmas.List.{length-map}
 use Rattle.tib_lex.specs.Lists.{Along}
@@ -8,8 +8,8 @@ use Rattle.tib_lex.proofs.Members.{has_at}
 use Rattle.tib_cost.specs.Semiring.{ProductLaws}
 use Rattle.tib_tree.specs.Trees.{Tree, Trees, first_of, only}
 use Rattle.tib_tree.proofs.Fill.{only_tree}
-use Rattle.tib_grammar.specs.Forms.{AreNormal, IsLabel, IsNormalSide}
-use Rattle.tib_grammar.specs.GrammarOf.{GrammarOf, named_rule}
+use Rattle.tib_grammar.specs.Forms.{AreNormal, IsLabel}
+use Rattle.tib_grammar.specs.GrammarOf.{GrammarOf}
 use Rattle.tib_grammar.specs.Range.{AllBelow}
 use Rattle.tib_grammar.specs.Sides.{Side, Symbol, label, hole, holes, holes_of}
 use Rattle.tib_grammar.specs.declared.Rule.{Rule}

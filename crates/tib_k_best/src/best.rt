@@ -1,5 +1,5 @@
 // The best trees of a grammar.
-ghost use Rattle.std.specs.Prelude.{◌≡◌, ℕ, ◌<◌, ◌^◌, false, length, IfErr, IfOk, OnOk};
+ghost use Rattle.std.specs.Prelude.{◌≡◌, ℕ, ◌<◌, ◌^◌, false, length, IfErr, IfOk};
 ghost use Rattle.tib_grammar.specs.Forms.{AreNormal};
 ghost use Rattle.tib_grammar.specs.Range.{AreInRange};
 ghost use Rattle.tib_grammar.specs.Run.{rule_at};
@@ -7,79 +7,18 @@ ghost use Rattle.tib_grammar_file.specs.Printed.{AreLabelled};
 ghost use Rattle.tib_shared_trees.specs.Ranked.{AreRanksOf};
 ghost use Rattle.tib_k_best_laws.specs.Best.{IsKBest};
 ghost use Rattle.tib_k_best_laws.specs.Levels.{IsOrderly};
-ghost use Rattle.tib_k_best_lists.specs.Held.{empty_lists, entries_of, IsSound};
-ghost use Rattle.tib_k_best.specs.Causes.{IsCause, IsFaultOf};
+ghost use Rattle.tib_k_best.specs.Causes.{IsCause};
 ghost use Rattle.tib_k_best.specs.Trimmed.{HaveTreesBelow};
 
+use crate::asking::{Form, lists_of_rules};
 use crate::error::KBestError;
-use crate::first::first_trees;
 use crate::listed::List;
-use std::alloc::{AllocError, Global};
-use tib_asked_lists::{AskError, ask_best};
+use std::alloc::Global;
 use tib_cost::Semiring;
 use tib_grammar::Rule;
-use tib_k_best_lists::Lists;
 use tib_normal::Normal;
 use tib_shared_trees::label_ranks;
 use tib_tree::Labels;
-
-// Lists over rules in normal form, while no tree is known.
-pub(crate) fn empty<'a>(
-    alloc: Global,
-    rules: &'a [Rule<u32>],
-    states: usize,
-    labels: &'a Labels,
-    ranks: &'a [u32],
-) -> Result<Lists<'a>, AllocError>
-    requires normal { AreNormal rules.now }
-    requires range { AreInRange states rules.now }
-    requires labelled { AreLabelled (length labels.now) rules.now }
-    requires ranks { AreRanksOf labels.now ranks.now }
-    ensures sound { IfOk result IsSound }
-    ensures empty { IfOk result (λ x. x ≡ empty_lists rules.now labels.now ranks.now states) }
-{
-    labels.len();
-    Lists::new(alloc, rules, labels, ranks, states)
-}
-
-// A fault of asked lists as one of the list of best trees.
-pub(crate) fn fault_of(error: AskError) -> KBestError
-    ensures { IsFaultOf error result }
-{
-    match error {
-        AskError::TreeTooLarge { state } => KBestError::TreeTooLarge { state },
-        AskError::OutOfMemory => KBestError::OutOfMemory,
-    }
-}
-
-// Gives the start its k best trees.
-fn list_best<S: Semiring>(alloc: Global, lists: &mut Lists, k: u32) -> Result<(), KBestError>
-    requires few { length lists.old.rules < 2 ^ 32 }
-    requires orderly { IsOrderly S.product lists.old.rules }
-    requires sound { IsSound lists.old }
-    requires empty { lists.old ≡ empty_lists lists.old.rules lists.old.labels
-        lists.old.label_ranks (length lists.old.lists) }
-    requires start { 0 < length lists.old.lists }
-    requires some { 0 < k }
-    requires trimmed { 1 < k → HaveTreesBelow S.product lists.old.rules }
-    ensures best { OnOk result (IsKBest S.product lists.old.rules lists.old.labels k
-        (entries_of lists.new 0)) }
-    ensures sound { OnOk result (IsSound lists.new) }
-    ensures states { OnOk result (length lists.new.lists ≡ length lists.old.lists) }
-    ensures cause { IfErr result (IsCause S.product lists.old.labels lists.old.rules k) }
-{
-    match first_trees::<S>(alloc, lists) {
-        Ok(()) => {}
-        Err(error) => return Err(error),
-    }
-    if k == 1 {
-        return Ok(());
-    }
-    match ask_best::<S>(alloc, lists, k) {
-        Ok(()) => Ok(()),
-        Err(error) => Err(fault_of(error)),
-    }
-}
 
 /// The list of the k best trees of rules in normal form, over this number of states. `ranks` has the
 /// place of each label's text in order. The faults and the worst case are those of `k_best`.
@@ -103,13 +42,35 @@ pub fn best_of_rules<S: Semiring>(
     ensures best { IfOk result (λ xs. IsKBest S.product rules.now labels.now k xs) }
     ensures cause { IfErr result (IsCause S.product labels.now rules.now k) }
 {
-    let Ok(mut lists) = empty(alloc, rules, states, labels, ranks) else {
-        return Err(KBestError::OutOfMemory);
-    };
-    match list_best::<S>(alloc, &mut lists, k) {
-        Ok(()) => Ok(List::of_state(lists, 0)),
+    match lists_of_rules::<S>(alloc, rules, states, labels, ranks, k, Form::Any) {
+        Ok(lists) => Ok(List::of_state(lists, 0)),
         Err(error) => Err(error),
     }
+}
+
+// The k best trees of a grammar. No state below a rule may be without a tree where k is above 1.
+fn best_of_grammar<S: Semiring>(
+    alloc: Global,
+    normal: &Normal<S>,
+    labels: &Labels,
+    k: u32,
+) -> Result<List, KBestError>
+    requires flat { S.LEVELLED ≡ false }
+    requires free { S.WEIGHTED ≡ false → (n : ℕ) → n < length normal.now.rules →
+        (rule_at normal.now.rules n).cost ≡ 0 }
+    requires labelled { AreLabelled (length labels.now) normal.now.rules }
+    requires some { 0 < k }
+    requires trimmed { 1 < k → HaveTreesBelow S.product normal.now.rules }
+    ensures best { IfOk result (λ xs. IsKBest S.product normal.now.rules labels.now k xs) }
+    ensures cause { IfErr result (IsCause S.product labels.now normal.now.rules k) }
+{
+    let Ok(ranks) = label_ranks(alloc, labels) else {
+        return Err(KBestError::OutOfMemory);
+    };
+    let grammar = normal.grammar();
+    grammar.is_sound();
+    let states = grammar.states() as usize;
+    best_of_rules::<S>(alloc, grammar.rule_list(), states, labels, &ranks, k)
 }
 
 /// The best tree of a grammar, where it has one, in a semiring whose product is not the greater
@@ -128,13 +89,7 @@ pub fn best_tree<S: Semiring>(
     ensures best { IfOk result (λ xs. IsKBest S.product normal.now.rules labels.now 1 xs) }
     ensures cause { IfErr result (IsCause S.product labels.now normal.now.rules 1) }
 {
-    let Ok(ranks) = label_ranks(alloc, labels) else {
-        return Err(KBestError::OutOfMemory);
-    };
-    let grammar = normal.grammar();
-    grammar.is_sound();
-    let states = grammar.states() as usize;
-    best_of_rules::<S>(alloc, grammar.rule_list(), states, labels, &ranks, 1)
+    best_of_grammar::<S>(alloc, normal, labels, 1)
 }
 
 /// The k best trees of a grammar, or all where it has fewer, by cost and then in the order of trees,
@@ -157,11 +112,5 @@ pub fn k_best<S: Semiring>(
     ensures best { IfOk result (λ xs. IsKBest S.product normal.now.rules labels.now k xs) }
     ensures cause { IfErr result (IsCause S.product labels.now normal.now.rules k) }
 {
-    let Ok(ranks) = label_ranks(alloc, labels) else {
-        return Err(KBestError::OutOfMemory);
-    };
-    let grammar = normal.grammar();
-    grammar.is_sound();
-    let states = grammar.states() as usize;
-    best_of_rules::<S>(alloc, grammar.rule_list(), states, labels, &ranks, k)
+    best_of_grammar::<S>(alloc, normal, labels, k)
 }

@@ -1,5 +1,5 @@
 // The best trees of a grammar in deterministic form, with few entries for each.
-ghost use Rattle.std.specs.Prelude.{◌≡◌, ℕ, ◌<◌, ◌≤◌, ◌+◌, ◌^◌, [], false, length, map, IfErr, IfOk, OnOk};
+ghost use Rattle.std.specs.Prelude.{◌≡◌, ℕ, ◌<◌, ◌≤◌, ◌+◌, ◌^◌, [], false, length, map, IfErr, IfOk};
 ghost use Rattle.std.proofs.Common.{get_or};
 ghost use Rattle.tib_grammar.specs.Forms.{AreNormal, IsDeterministic};
 ghost use Rattle.tib_grammar.specs.Range.{AreInRange};
@@ -8,20 +8,18 @@ ghost use Rattle.tib_grammar_file.specs.Printed.{AreLabelled};
 ghost use Rattle.tib_shared_trees.specs.Ranked.{AreRanksOf};
 ghost use Rattle.tib_k_best_laws.specs.Best.{IsFrontAt, IsKBest};
 ghost use Rattle.tib_k_best_laws.specs.Levels.{IsOrderly};
-ghost use Rattle.tib_k_best_lists.specs.Held.{empty_lists, entries_of, IsSound};
+ghost use Rattle.tib_k_best_lists.specs.Held.{IsSound};
 ghost use Rattle.tib_asked_lists.specs.Demands.{entries_held, nodes_of};
 ghost use Rattle.tib_k_best.specs.Causes.{IsCause};
 ghost use Rattle.tib_k_best.specs.LazyLists.{entries_in};
 ghost use Rattle.tib_k_best.specs.Listing.{costed};
 ghost use Rattle.tib_k_best.specs.Trimmed.{HaveTreesBelow};
 
-use crate::best::{empty, fault_of};
+use crate::asking::{Form, lists_of_rules};
 use crate::error::KBestError;
-use crate::first::first_trees;
 use crate::listed::List;
 use std::alloc::Global;
 use std::marker::Model;
-use tib_asked_lists::ask_lazily;
 use tib_cost::Semiring;
 use tib_grammar::Rule;
 use tib_k_best_lists::{Entry, Lists, Shared};
@@ -107,40 +105,6 @@ impl LazyList {
     }
 }
 
-// Gives the start its k best trees.
-fn list_lazily<S: Semiring>(alloc: Global, lists: &mut Lists, k: u32) -> Result<(), KBestError>
-    requires few { length lists.old.rules < 2 ^ 32 }
-    requires orderly { IsOrderly S.product lists.old.rules }
-    requires form { IsDeterministic lists.old.rules }
-    requires sound { IsSound lists.old }
-    requires empty { lists.old ≡ empty_lists lists.old.rules lists.old.labels
-        lists.old.label_ranks (length lists.old.lists) }
-    requires start { 0 < length lists.old.lists }
-    requires some { 0 < k }
-    requires trimmed { HaveTreesBelow S.product lists.old.rules }
-    ensures best { OnOk result (IsKBest S.product lists.old.rules lists.old.labels k
-        (entries_of lists.new 0)) }
-    ensures fronts { OnOk result ((q : ℕ) → IsFrontAt S.product lists.old.labels lists.old.rules q
-        (entries_of lists.new q)) }
-    ensures sound { OnOk result (IsSound lists.new) }
-    ensures states { OnOk result (length lists.new.lists ≡ length lists.old.lists) }
-    ensures bound { OnOk result (entries_held lists.new
-        ≤ length lists.old.lists + nodes_of (entries_of lists.new 0)) }
-    ensures cause { IfErr result (IsCause S.product lists.old.labels lists.old.rules k) }
-{
-    match first_trees::<S>(alloc, lists) {
-        Ok(()) => {}
-        Err(error) => return Err(error),
-    }
-    if k == 1 {
-        return Ok(());
-    }
-    match ask_lazily::<S>(alloc, lists, k) {
-        Ok(()) => Ok(()),
-        Err(error) => Err(fault_of(error)),
-    }
-}
-
 /// The lists of rules in normal and in deterministic form, over this number of states. `ranks` has the
 /// place of each label's text in order. The faults and the worst case are those of `lazy_k_best`.
 pub fn lazy_of_rules<S: Semiring>(
@@ -168,11 +132,9 @@ pub fn lazy_of_rules<S: Semiring>(
     ensures bound { IfOk result (λ ls. entries_in ls ≤ states + nodes_of (get_or ls 0 [])) }
     ensures cause { IfErr result (IsCause S.product labels.now rules.now k) }
 {
-    let Ok(mut lists) = empty(alloc, rules, states as usize, labels, ranks) else {
-        return Err(KBestError::OutOfMemory);
-    };
-    match list_lazily::<S>(alloc, &mut lists, k) {
-        Ok(()) => Ok(LazyList::of_lists(lists)),
+    let states = states as usize;
+    match lists_of_rules::<S>(alloc, rules, states, labels, ranks, k, Form::Deterministic) {
+        Ok(lists) => Ok(LazyList::of_lists(lists)),
         Err(error) => Err(error),
     }
 }

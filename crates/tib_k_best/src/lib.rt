@@ -3,6 +3,7 @@
 #![tactic(auto)]
 
 mod advancing;
+mod asking;
 mod best;
 mod error;
 mod first;

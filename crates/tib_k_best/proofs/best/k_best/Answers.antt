@@ -1,10 +1,4 @@
-use Rattle.std.specs.Prelude.{ℕ, List}
-use Rattle.std.proofs.Common.{ap, subst, sym, ◌∙◌}
-use Rattle.tib_grammar.specs.GrammarOf.{GrammarOf}
-use Rattle.tib_grammar.specs.declared.Rule.{Rule}
-use Rattle.tib_k_best.specs.Trimmed.{HaveTreesBelow}
 use Rattle.tib_k_best.proofs.best.k_best.Goals as goal
 
-pub best_of_rules-requires-clause-trimmed : goal.best_of_rules-requires-clause-trimmed
-best_of_rules-requires-clause-trimmed g c = λ many.
-    subst (λ (rs : List (Rule ℕ)). HaveTreesBelow g.S.Semiring.product rs) (sym (c.rule_list.ensures ∙ ap (λ (h : GrammarOf). h.rules) c.grammar-grammar.ensures.same)) c.requires.trimmed
+pub best_of_grammar-requires-clause-trimmed : goal.best_of_grammar-requires-clause-trimmed
+best_of_grammar-requires-clause-trimmed g c = λ _. c.requires.trimmed

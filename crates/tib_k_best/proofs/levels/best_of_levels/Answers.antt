@@ -1,6 +1,6 @@
-use Rattle.std.specs.Prelude.{◌≡◌, ◌+◌, ◌-◌, ◌/◌, ◌<◌, ℕ, length}
+use Rattle.std.specs.Prelude.{◌+◌, ◌-◌, ◌/◌}
 use Rattle.std.proofs.Common.{arith, sym, ◌∙◌}
-use Rattle.tib_k_best.proofs.Levelled.{level_cause, search_begins, search_down, search_ends, search_up}
+use Rattle.tib_k_best.proofs.Levelled.{level_cause, search_down, search_ends, search_up}
 use Rattle.tib_k_best.proofs.levels.best_of_levels.Goals as goal
 
 pub returns-in-Err-clause-cause : goal.returns-in-Err-clause-cause

@@ -1,4 +1,4 @@
-use Rattle.std.specs.Prelude.{ℕ, List, map}
+use Rattle.std.specs.Prelude.{List, map}
 use Rattle.std.proofs.Common.{ap, ◌∙◌}
 use Rattle.tib_k_best_lists.specs.declared.lists.Entry.{Entry}
 use Rattle.tib_k_best.specs.Costs.{entry_at_cost}

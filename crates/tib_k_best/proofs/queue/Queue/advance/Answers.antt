@@ -1,4 +1,4 @@
-use Rattle.std.specs.Prelude.{◌≡◌, length}
+use Rattle.std.specs.Prelude.{◌≡◌}
 use Rattle.std.proofs.Common.{arith, subst, sym, ◌++◌, ◌∷◌, []}
 use Rattle.tib_k_best.specs.QueueOf.{QueueOf, waiting_at}
 use Rattle.tib_k_best.specs.Queues.{IsQueue, IsWaiting}

@@ -1,4 +1,4 @@
-use Rattle.std.specs.Prelude.{ℕ, List, length}
+use Rattle.std.specs.Prelude.{ℕ, List}
 use Rattle.std.proofs.Common.{subst, sym}
 use Rattle.tib_lex.specs.Lists.{Has}
 use Rattle.tib_heap.specs.Heaps.{IsHeap, Adds}

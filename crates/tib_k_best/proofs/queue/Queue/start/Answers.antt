@@ -1,4 +1,4 @@
-use Rattle.std.specs.Prelude.{ℕ, List, ◌-◌, length}
+use Rattle.std.specs.Prelude.{ℕ, List, ◌-◌}
 use Rattle.std.proofs.Common.{arith, rules, subst}
 use Rattle.tib_k_best.specs.Queues.{rules_before, IsQueue}
 use Rattle.tib_k_best.proofs.Starting.{before_more, all_begun}

@@ -1,11 +1,19 @@
 // Words with the jobs that they ask for, and words that are refused.
-use crate::values::copied;
-use crate::{CommandError, Job, Mode, Operation, read_words};
-use std::alloc::Global;
+use std::alloc::{AllocError, Global};
 use std::test::Fail;
+use tib_command::{CommandError, Job, Mode, Operation, read_words};
+
+// The words as texts of their own.
+fn texts_of(alloc: Global, words: &[&str]) -> Result<Vec<String>, AllocError> {
+    let mut texts = Vec::new(alloc);
+    for word in words {
+        texts.push(String::from_str(alloc, word)?)?;
+    }
+    Ok(texts)
+}
 
 fn job(alloc: Global, words: &[&str]) -> Result<Job, CommandError> {
-    let words = copied(alloc, words)?;
+    let words = texts_of(alloc, words)?;
     read_words(alloc, words.as_slice())
 }
 
@@ -465,16 +473,26 @@ static OTHER_OPTIONS: [&[&str]; 50] = [
     &["-k0000000000005", "weigh", "g", "t"],
 ];
 
+// Whether the files have these names.
+fn have_names(files: &[String], names: &[&str]) -> bool {
+    if files.len() != names.len() {
+        return false;
+    }
+    for at in 0..files.len() {
+        if files[at].as_str() != names[at] {
+            return false;
+        }
+    }
+    true
+}
+
 #[test]
 fn words_of_the_language_give_their_job(rt: HostRuntime) -> Result<(), Fail> {
     for (words, mode, operation, k, workers, limit, files) in &ACCEPTED {
         let job = job(rt.alloc(), words)?;
         assert_eq!(rt; (job.mode, job.operation), (*mode, *operation));
         assert_eq!(rt; (job.k, job.workers, job.limit), (*k, *workers, *limit));
-        assert_eq!(rt; job.files.len(), files.len());
-        for at in 0..files.len() {
-            assert!(rt; job.files[at].as_str() == files[at]);
-        }
+        assert!(rt; have_names(&job.files, files));
     }
     Ok(())
 }

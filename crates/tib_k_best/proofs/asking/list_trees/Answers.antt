@@ -1,0 +1,49 @@
+use Rattle.std.specs.Prelude.{◌<◌}
+use Rattle.std.proofs.Common.{arith, refl, subst, sym}
+use Rattle.tib_grammar.specs.Forms.{IsDeterministic}
+use Rattle.tib_k_best_laws.specs.Levels.{IsOrderly}
+use Rattle.tib_k_best.specs.Trimmed.{HaveTreesBelow}
+use Rattle.tib_k_best.proofs.Bests.{best_first, best_over, fault_cause}
+use Rattle.tib_k_best.proofs.Counting.{bound_first, fronts_first, fronts_same}
+use Rattle.tib_k_best.proofs.Starting.{cause_among}
+use Rattle.tib_k_best.proofs.Trimming.{trees_below}
+use Rattle.tib_k_best.proofs.asking.list_trees.Goals as goal
+
+pub returns-in-Err-clause-cause : goal.returns-in-Err-clause-cause
+returns-in-Err-clause-cause g c =
+    cause_among g.S.Semiring.product c.args.lists.now.labels c.args.lists.now.labels c.args.lists.now.rules c.args.lists.now.rules refl refl 1 c.args.k (omega (arith, c.requires.some)) c.in-Err.error c.in-Err.ensures.cause
+
+pub returns-then-k-eq1-clause-best : goal.returns-then-k-eq1-clause-best
+returns-then-k-eq1-clause-best g c =
+    best_first g.S.Semiring.product c.args.lists.now c.first_trees.new.lists c.args.k c.if-k-eq1.true c.in-Ok.ensures.rules c.in-Ok.ensures.labels c.in-Ok.ensures.firsts
+
+pub returns-then-k-eq1-clause-fronts : goal.returns-then-k-eq1-clause-fronts
+returns-then-k-eq1-clause-fronts g c = λ _.
+    fronts_first g.S.Semiring.product c.args.lists.now c.first_trees.new.lists c.in-Ok.ensures.rules c.in-Ok.ensures.labels c.in-Ok.ensures.firsts
+
+pub returns-then-k-eq1-clause-bound : goal.returns-then-k-eq1-clause-bound
+returns-then-k-eq1-clause-bound g c = λ _. bound_first g.S.Semiring.product c.args.lists.now c.first_trees.new.lists c.in-Ok.ensures.states c.in-Ok.ensures.firsts
+
+pub ask-requires-clause-orderly : goal.ask-requires-clause-orderly
+ask-requires-clause-orderly g c = subst (λ rs. IsOrderly g.S.Semiring.product rs) (sym c.in-Ok.ensures.rules) c.requires.orderly
+
+pub ask-requires-clause-form : goal.ask-requires-clause-form
+ask-requires-clause-form g c = λ is. subst (λ rs. IsDeterministic rs) (sym c.in-Ok.ensures.rules) (c.requires.form is)
+
+pub ask-requires-clause-trimmed : goal.ask-requires-clause-trimmed
+ask-requires-clause-trimmed g c =
+    let many : 1 < c.args.k = omega (arith, c.requires.some, c.if-k-eq1.false) in
+    trees_below g.S.Semiring.product c.first_trees.new.lists (subst (λ rs. HaveTreesBelow g.S.Semiring.product rs) (sym c.in-Ok.ensures.rules) (c.requires.trimmed many)) c.in-Ok.ensures.firsts
+
+pub returns-in-Ok-ask-clause-best : goal.returns-in-Ok-ask-clause-best
+returns-in-Ok-ask-clause-best g c =
+    best_over g.S.Semiring.product c.args.lists.now c.first_trees.new.lists c.args.k c.in-Ok.ensures.rules c.in-Ok.ensures.labels _ c.in-Ok-ask.ensures.best
+
+pub returns-in-Ok-ask-clause-fronts : goal.returns-in-Ok-ask-clause-fronts
+returns-in-Ok-ask-clause-fronts g c = λ is q.
+    fronts_same g.S.Semiring.product c.args.lists.now c.first_trees.new.lists c.in-Ok.ensures.rules c.in-Ok.ensures.labels q (c.in-Ok-ask.ensures.fronts is q)
+
+pub returns-in-Err-ask-clause-cause : goal.returns-in-Err-ask-clause-cause
+returns-in-Err-ask-clause-cause g c =
+    fault_cause g.S.Semiring.product c.args.lists.now c.first_trees.new.lists c.args.k c.in-Ok.ensures.rules c.in-Ok.ensures.labels c.in-Err-ask.error c.fault_of.result c.fault_of.ensures
+    c.in-Err-ask.ensures.cause
