@@ -1,5 +1,5 @@
 // Keys of application, the restrictions of one rule, and what is answered as text.
-use crate::grammars::{write_number, write_rules};
+use crate::grammars::{write_dotted, write_rules};
 use crate::transducers::{Move, Node, rules};
 use std::alloc::{AllocError, Global};
 use std::test::Fail;
@@ -8,12 +8,7 @@ use tib_grammar::Rule;
 use tib_hunt::{Found, TableKey};
 
 fn write_key(text: &mut String, key: Key) -> Result<(), AllocError> {
-    write_number(text, key.first() as u64)?;
-    text.push_str(".")?;
-    write_number(text, key.second() as u64)?;
-    text.push_str(".")?;
-    write_number(text, key.restriction() as u64)?;
-    text.push_str(" ")
+    write_dotted(text, key.first(), &[key.second(), key.restriction()])
 }
 
 // The keys, the rules and the parts.
@@ -38,13 +33,26 @@ pub fn told(
     }
 }
 
+// The numbers of a key, how many entries it has, and its shelf.
+fn numbers_of(key: Key) -> [u64; 5] {
+    [
+        key.first() as u64,
+        key.second() as u64,
+        key.restriction() as u64,
+        key.entries(),
+        key.shelf() as u64,
+    ]
+}
+
+fn is_before(first: Key, second: Key) -> bool {
+    first < second
+}
+
 #[test]
 fn a_restriction_is_an_entry_of_a_key(rt: HostRuntime) {
-    let key = Key::new(3, 4, 5);
-    assert_eq!(rt; (key.first(), key.second(), key.restriction()), (3, 4, 5));
-    assert_eq!(rt; (key.entries(), key.shelf()), (3, 4));
+    assert_eq!(rt; numbers_of(Key::new(3, 4, 5)), [3, 4, 5, 3, 4]);
     assert_eq!(rt; Key::new(3, 4, 0).entries(), 2);
-    assert!(rt; Key::new(3, 4, 0) < key);
+    assert!(rt; is_before(Key::new(3, 4, 0), Key::new(3, 4, 5)));
 }
 
 // Two rules that leave out variables with some labels.

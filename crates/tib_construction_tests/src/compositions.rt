@@ -1,15 +1,16 @@
 // What compositions of small transducers reach, as text. The labels are A 0, a 1, F 2, b 3, G 4, c 5, H 6, d 7 and K 8, the states q 0
 // and r 1.
-use crate::grammars::write_number;
+use crate::grammars::{write_cost, write_dotted, write_marked};
 use crate::transducers::{Move, Node, transducer};
 use std::alloc::{AllocError, Global};
 use std::sync::Wait;
 use std::test::Fail;
 use std::thread::Threads;
-use tib_compose::{ComposeError, Key, compose, compose_together};
+use tib_compose::{ComposeError, compose, compose_together};
 use tib_cost::MOST;
 use tib_grammar::Item;
 use tib_hunt::{Found, Open};
+use tib_keyed::StatePair;
 use tib_transducer::{Pair, TransducerRule, Variable};
 
 const A1: Node = Node::Over(0, 1);
@@ -105,84 +106,89 @@ const ADDS: [Move; 4] = [
 const ASKS: [Move; 1] = [(0, &[A1, X0_LOW], &[A1, Q_X0], 0)];
 
 fn write_variable(text: &mut String, variable: &Variable) -> Result<(), AllocError> {
-    text.push_str("x")?;
-    write_number(text, variable.number as u64)?;
-    if let Some(label) = variable.label {
-        text.push_str(":")?;
-        write_number(text, label as u64)?;
+    write_marked(text, " x", variable.number as u64)?;
+    match variable.label {
+        Some(label) => write_marked(text, ":", label as u64),
+        None => Ok(()),
     }
-    Ok(())
+}
+
+fn write_left_item(text: &mut String, item: &Item<Variable>) -> Result<(), AllocError> {
+    match item {
+        Item::Label { label, .. } => write_marked(text, " ", *label as u64),
+        Item::Hole(variable) => write_variable(text, variable),
+    }
 }
 
 // The labels and variables of a left side, each variable with the label that it asks for.
 fn write_left(text: &mut String, items: &[Item<Variable>]) -> Result<(), AllocError> {
     for item in items {
-        text.push_str(" ")?;
-        match item {
-            Item::Label { label, .. } => write_number(text, *label as u64)?,
-            Item::Hole(variable) => write_variable(text, variable)?,
-        }
+        write_left_item(text, item)?;
     }
-    Ok(())
+    text.push_str(" >")
 }
 
 fn write_pair(text: &mut String, pair: &Pair<u32>) -> Result<(), AllocError> {
-    text.push_str("@")?;
-    write_number(text, pair.state as u64)?;
-    text.push_str(".")?;
-    write_number(text, pair.variable as u64)
+    write_marked(text, " @", pair.state as u64)?;
+    write_marked(text, ".", pair.variable as u64)
+}
+
+fn write_right_item(text: &mut String, item: &Item<Pair<u32>>) -> Result<(), AllocError> {
+    match item {
+        Item::Label { label, .. } => write_marked(text, " ", *label as u64),
+        Item::Hole(pair) => write_pair(text, pair),
+    }
 }
 
 // The labels and pairs of a right side, each pair as the position and the variable.
 fn write_right(text: &mut String, items: &[Item<Pair<u32>>]) -> Result<(), AllocError> {
     for item in items {
-        text.push_str(" ")?;
-        match item {
-            Item::Label { label, .. } => write_number(text, *label as u64)?,
-            Item::Hole(pair) => write_pair(text, pair)?,
-        }
+        write_right_item(text, item)?;
     }
-    Ok(())
+    text.push_str(" ")
 }
 
 fn write_rule(text: &mut String, rule: &TransducerRule<u32>) -> Result<(), AllocError> {
-    write_number(text, rule.state as u64)?;
+    write_marked(text, "", rule.state as u64)?;
     write_left(text, rule.left.items())?;
-    text.push_str(" >")?;
     write_right(text, rule.right.items())?;
-    text.push_str(" # ")?;
-    write_number(text, rule.cost.get())?;
-    text.push_str("; ")
+    write_cost(text, rule.cost)
 }
 
-fn write_key(text: &mut String, key: Key) -> Result<(), AllocError> {
-    write_number(text, key.first() as u64)?;
-    text.push_str(".")?;
-    write_number(text, key.second() as u64)?;
-    text.push_str(" ")
+// Rules, and behind them the parts.
+fn write_rules(
+    text: &mut String,
+    rules: &[TransducerRule<u32>],
+    parts: u64,
+) -> Result<(), AllocError> {
+    text.push_str("| ")?;
+    for rule in rules {
+        write_rule(text, rule)?;
+    }
+    write_marked(text, "", parts)
+}
+
+fn write_states(text: &mut String, states: StatePair) -> Result<(), AllocError> {
+    write_dotted(text, states.first(), &[states.second()])
 }
 
 // The pairs, the rules over their positions and the parts.
 fn write_found(
     alloc: Global,
-    found: &Found<Key, TransducerRule<u32>>,
+    found: &Found<StatePair, TransducerRule<u32>>,
 ) -> Result<String, AllocError> {
     let mut text = String::new(alloc);
-    for key in &found.order {
-        write_key(&mut text, *key)?;
+    for states in &found.order {
+        write_states(&mut text, *states)?;
     }
-    text.push_str("| ")?;
-    for rule in &found.rules {
-        write_rule(&mut text, rule)?;
-    }
-    write_number(&mut text, found.parts)?;
+    write_rules(&mut text, &found.rules, found.parts)?;
     Ok(text)
 }
 
 // What was found, or the error.
 fn told(
     alloc: Global,
-    answer: Result<Found<Key, TransducerRule<u32>>, ComposeError>,
+    answer: Result<Found<StatePair, TransducerRule<u32>>, ComposeError>,
 ) -> Result<String, Fail> {
     match answer {
         Ok(found) => Ok(write_found(alloc, &found)?),

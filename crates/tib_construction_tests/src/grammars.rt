@@ -9,11 +9,13 @@ use tib_tree::Label;
 /// A rule of a grammar: its left state, its label, the states below it and its cost.
 pub type Row = (u32, Label, &'static [u32], u64);
 
+static NAMES: [&str; 4] = ["p", "q", "r", "s"];
+
 /// The names of four states.
 pub fn names(alloc: Global) -> Result<Names, Fail> {
     let mut texts = Vec::new(alloc);
-    for text in [b"p", b"q", b"r", b"s"] {
-        texts.push(text.to_vec(alloc)?)?;
+    for text in &NAMES {
+        texts.push(text.as_bytes().to_vec(alloc)?)?;
     }
     if texts.len() > 9 {
         return Err("too many names".into());
@@ -21,16 +23,22 @@ pub fn names(alloc: Global) -> Result<Names, Fail> {
     Ok(Names::from_list(alloc, texts)?.ok_or("names")?)
 }
 
+// The side of a label over states.
+fn side(alloc: Global, label: Label, states: &[u32]) -> Result<Side<u32>, Fail> {
+    if states.len() > 9 {
+        return Err("too many states".into());
+    }
+    Ok(Side::over(alloc, label, states)?)
+}
+
 fn rules(alloc: Global, rows: &[Row]) -> Result<Vec<Rule<u32>>, Fail> {
     let mut rules = Vec::new(alloc);
     for (left, label, states, cost) in rows {
-        if states.len() > 9 {
-            return Err("too many states".into());
-        }
+        let cost = Cost::new(*cost).ok_or("cost")?;
         rules.push(Rule {
             left: *left,
-            right: Side::over(alloc, *label, states)?,
-            cost: Cost::new(*cost).ok_or("cost")?,
+            right: side(alloc, *label, states)?,
+            cost,
         })?;
     }
     Ok(rules)
@@ -46,36 +54,48 @@ pub fn normal<S: Semiring + Drop>(alloc: Global, rows: &[Row]) -> Result<Normal<
     Ok(Normal::new(alloc, grammar)?.ok_or("normal form")?)
 }
 
-/// A number in decimal digits.
-pub fn write_number(text: &mut String, number: u64) -> Result<(), AllocError> {
+/// A mark, and behind it a number in decimal digits.
+pub fn write_marked(text: &mut String, mark: &str, number: u64) -> Result<(), AllocError> {
+    text.push_str(mark)?;
     let digits = number.to_string(*text.allocator())?;
     text.push_str(digits.as_str())
 }
 
-// The labels and positions of a side, each with a blank before it, and each position behind a colon.
+/// Numbers with a full stop between them, and a blank behind them.
+pub fn write_dotted(text: &mut String, first: u32, others: &[u32]) -> Result<(), AllocError> {
+    write_marked(text, "", first as u64)?;
+    for number in others {
+        write_marked(text, ".", *number as u64)?;
+    }
+    text.push_str(" ")
+}
+
+/// A cost as `# 5; `.
+pub fn write_cost(text: &mut String, cost: Cost) -> Result<(), AllocError> {
+    write_marked(text, "# ", cost.get())?;
+    text.push_str("; ")
+}
+
+// A blank before a label, and a colon before a position too.
+fn write_item(text: &mut String, item: &Item<u32>) -> Result<(), AllocError> {
+    match item {
+        Item::Label { label, .. } => write_marked(text, " ", *label as u64),
+        Item::Hole(position) => write_marked(text, " :", *position as u64),
+    }
+}
+
 fn write_items(text: &mut String, items: &[Item<u32>]) -> Result<(), AllocError> {
     for item in items {
-        match item {
-            Item::Label { label, .. } => {
-                text.push_str(" ")?;
-                write_number(text, *label as u64)?;
-            }
-            Item::Hole(position) => {
-                text.push_str(" :")?;
-                write_number(text, *position as u64)?;
-            }
-        }
+        write_item(text, item)?;
     }
-    Ok(())
+    text.push_str(" ")
 }
 
 fn write_rule(text: &mut String, rule: &Rule<u32>) -> Result<(), AllocError> {
-    write_number(text, rule.left as u64)?;
+    write_marked(text, "", rule.left as u64)?;
     text.push_str(" >")?;
     write_items(text, rule.right.items())?;
-    text.push_str(" # ")?;
-    write_number(text, rule.cost.get())?;
-    text.push_str("; ")
+    write_cost(text, rule.cost)
 }
 
 /// A bar, rules over positions as `0 > 7 :1 :2 # 5; `, and behind them the parts.
@@ -84,5 +104,5 @@ pub fn write_rules(text: &mut String, rules: &[Rule<u32>], parts: u64) -> Result
     for rule in rules {
         write_rule(text, rule)?;
     }
-    write_number(text, parts)
+    write_marked(text, "", parts)
 }

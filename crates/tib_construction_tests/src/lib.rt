@@ -1,5 +1,4 @@
-//! Tests of the constructions: matches, application, intersection, the image of a tree,
-//! composition, determinization, parsing.
+//! Tests of the constructions of transducers: application and composition.
 #![tactic(auto)]
 
 #[cfg(test)]
@@ -9,18 +8,8 @@ mod backward;
 #[cfg(test)]
 mod compositions;
 #[cfg(test)]
-mod determinize;
-#[cfg(test)]
 mod forward;
 #[cfg(test)]
 mod grammars;
-#[cfg(test)]
-mod image;
-#[cfg(test)]
-mod intersect;
-#[cfg(test)]
-mod matches;
-#[cfg(test)]
-mod parse;
 #[cfg(test)]
 mod transducers;

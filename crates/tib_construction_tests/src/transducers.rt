@@ -23,17 +23,15 @@ pub enum Node {
 /// A rule of a transducer: its state, its two sides and its cost.
 pub type Move = (u32, &'static [Node], &'static [Node], u64);
 
+fn hole(number: u32, label: Option<Label>) -> Item<Variable> {
+    Item::Hole(Variable { number, label })
+}
+
 fn left_item(node: Node) -> Option<Item<Variable>> {
     match node {
         Node::Over(label, rank) => Some(Item::Label { label, rank }),
-        Node::Plain(number) => Some(Item::Hole(Variable {
-            number,
-            label: None,
-        })),
-        Node::Asks(number, label) => Some(Item::Hole(Variable {
-            number,
-            label: Some(label),
-        })),
+        Node::Plain(number) => Some(hole(number, None)),
+        Node::Asks(number, label) => Some(hole(number, Some(label))),
         Node::Reads(..) => None,
     }
 }
@@ -50,7 +48,10 @@ fn right_item(node: Node) -> Option<Item<Pair<u32>>> {
 pub fn left_side(alloc: Global, nodes: &[Node]) -> Result<Side<Variable>, Fail> {
     let mut items = Vec::new(alloc);
     for node in nodes {
-        items.push(left_item(*node).ok_or("not on the left")?)?;
+        let Some(item) = left_item(*node) else {
+            return Err("not on the left".into());
+        };
+        items.push(item)?;
     }
     if items.len() > 99 {
         return Err("too many items".into());
@@ -62,7 +63,10 @@ pub fn left_side(alloc: Global, nodes: &[Node]) -> Result<Side<Variable>, Fail> 
 pub fn right_side(alloc: Global, nodes: &[Node]) -> Result<Side<Pair<u32>>, Fail> {
     let mut items = Vec::new(alloc);
     for node in nodes {
-        items.push(right_item(*node).ok_or("not on the right")?)?;
+        let Some(item) = right_item(*node) else {
+            return Err("not on the right".into());
+        };
+        items.push(item)?;
     }
     if items.len() > 99 {
         return Err("too many items".into());
@@ -74,11 +78,12 @@ pub fn right_side(alloc: Global, nodes: &[Node]) -> Result<Side<Pair<u32>>, Fail
 pub fn rules(alloc: Global, moves: &[Move]) -> Result<Vec<TransducerRule<u32>>, Fail> {
     let mut rules = Vec::new(alloc);
     for (state, left, right, cost) in moves {
+        let cost = Cost::new(*cost).ok_or("cost")?;
         rules.push(TransducerRule {
             state: *state,
             left: left_side(alloc, left)?,
             right: right_side(alloc, right)?,
-            cost: Cost::new(*cost).ok_or("cost")?,
+            cost,
         })?;
     }
     Ok(rules)

@@ -1,18 +1,9 @@
-//! Tests of what is computed from one grammar: its normal form, inside and outside costs, what is
-//! pruned, the costs of trees, its canonical form.
+//! Tests of what is computed from one grammar: its normal form, inside costs, what is trimmed.
 #![tactic(auto)]
 
-#[cfg(test)]
-mod canon;
 #[cfg(test)]
 mod inside;
 #[cfg(test)]
 mod normal;
 #[cfg(test)]
-mod outsides;
-#[cfg(test)]
-mod prune;
-#[cfg(test)]
 mod rules;
-#[cfg(test)]
-mod weigh;

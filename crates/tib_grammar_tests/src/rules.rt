@@ -1,96 +1,166 @@
-// Small grammars by their rules, and rules as text.
+// Small grammars by their rules, and whether rules and costs are as worked out.
 use std::alloc::{AllocError, Global};
-use tib_cost::Cost;
+use std::test::Fail;
+use tib_cost::{Cost, MinPlus, Semiring};
 use tib_grammar::{Grammar, Item, Names, Rule, Side};
+use tib_normal::Normal;
 
-/// A rule: its left state, the items of its right side (a label with its rank, or a state), and its
-/// cost.
-pub type Row<'a> = (u32, &'a [(u32, Option<u32>)], u64);
+/// An item of a right side: a label with its rank, or a state.
+pub type Part = (u32, Option<u32>);
 
-/// The rule of a row, where its items make a side and its cost is one.
-pub fn make_rule(alloc: Global, row: Row) -> Result<Option<Rule<u32>>, AllocError> {
-    let (left, shape, cost) = row;
+/// A rule: its left state, the items of its right side, and its cost.
+pub type Row = (u32, &'static [Part], u64);
+
+fn item_of(part: Part) -> Item<u32> {
+    match part.1 {
+        Some(rank) => Item::Label {
+            label: part.0,
+            rank,
+        },
+        None => Item::Hole(part.0),
+    }
+}
+
+fn items_of(alloc: Global, parts: &[Part]) -> Result<Vec<Item<u32>>, AllocError> {
     let mut items = Vec::new(alloc);
-    for (number, rank) in shape {
-        match rank {
-            Some(rank) => items.push(Item::Label {
-                label: *number,
-                rank: *rank,
-            })?,
-            None => items.push(Item::Hole(*number))?,
-        }
+    for part in parts {
+        items.push(item_of(*part))?;
     }
+    Ok(items)
+}
+
+fn side_of(alloc: Global, parts: &[Part]) -> Result<Side<u32>, Fail> {
+    let items = items_of(alloc, parts)?;
     if items.len() > 100 {
-        return Ok(None);
+        return Err("too many items".into());
     }
-    match (Side::from_preorder(items), Cost::new(cost)) {
-        (Ok(right), Some(cost)) => Ok(Some(Rule { left, right, cost })),
-        _ => Ok(None),
+    match Side::from_preorder(items) {
+        Ok(side) => Ok(side),
+        Err(_) => Err("not a tree".into()),
     }
 }
 
-/// The names q, qq and so on of this number of states.
-pub fn make_names(alloc: Global, states: u8) -> Result<Option<Names>, AllocError> {
-    let mut texts = Vec::new(alloc);
-    for n in 0..states {
-        texts.push(vec![in alloc; b'q'; n as usize + 1]?)?;
+/// The rule with this left state, these items on its right, and this cost.
+pub fn make_rule(alloc: Global, left: u32, parts: &[Part], cost: u64) -> Result<Rule<u32>, Fail> {
+    let right = side_of(alloc, parts)?;
+    match Cost::new(cost) {
+        Some(cost) => Ok(Rule { left, right, cost }),
+        None => Err("not a cost".into()),
     }
-    if texts.len() > 300 {
-        return Ok(None);
-    }
-    Names::from_list(alloc, texts)
 }
 
-/// The rule of a row, where its items make a side and its cost is one.
-pub fn make_rules(alloc: Global, rows: &[Row]) -> Result<Vec<Rule<u32>>, AllocError> {
+fn make_rules(alloc: Global, rows: &[Row]) -> Result<Vec<Rule<u32>>, Fail> {
     let mut rules = Vec::new(alloc);
-    for row in rows {
-        if let Some(rule) = make_rule(alloc, *row)? {
-            rules.push(rule)?;
-        }
+    for (left, parts, cost) in rows {
+        rules.push(make_rule(alloc, *left, *parts, *cost)?)?;
     }
     Ok(rules)
 }
 
-/// The grammar of these rules, whose states are named q, qq and so on.
-pub fn make_grammar<S: Drop>(
-    alloc: Global,
-    states: u8,
-    rows: &[Row],
-) -> Result<Option<Grammar<S>>, AllocError> {
+/// A rule of the state 0 for each of this number of labels, which costs nothing.
+pub fn wide_rules(alloc: Global, labels: u32) -> Result<Vec<Rule<u32>>, AllocError> {
+    let mut rules = Vec::new(alloc);
+    for label in 0..labels {
+        rules.push(Rule {
+            left: 0,
+            right: Side::over(alloc, label, &[])?,
+            cost: MinPlus::one(),
+        })?;
+    }
+    Ok(rules)
+}
+
+fn name_texts(alloc: Global, states: u8) -> Result<Vec<Vec<u8>>, AllocError> {
+    let mut texts = Vec::new(alloc);
+    for n in 0..states {
+        texts.push(vec![in alloc; b'q'; n as usize + 1]?)?;
+    }
+    Ok(texts)
+}
+
+/// The states with these names.
+pub fn named(alloc: Global, texts: Vec<Vec<u8>>) -> Result<Names, Fail> {
+    if texts.len() > 100_000 {
+        return Err("too many names".into());
+    }
+    match Names::from_list(alloc, texts)? {
+        Some(names) => Ok(names),
+        None => Err("not names".into()),
+    }
+}
+
+/// The grammar of these rules over these names.
+pub fn grammar_over<S>(names: Names, rules: Vec<Rule<u32>>) -> Result<Grammar<S>, Fail> {
+    if rules.len() > 100_000 {
+        return Err("too many rules".into());
+    }
+    match Grammar::new(names, rules) {
+        Some(grammar) => Ok(grammar),
+        None => Err("not a grammar".into()),
+    }
+}
+
+/// The grammar of these rules over this number of states, which are named q, qq and so on.
+pub fn grammar_of<S>(alloc: Global, states: u8, rules: Vec<Rule<u32>>) -> Result<Grammar<S>, Fail> {
+    let names = named(alloc, name_texts(alloc, states)?)?;
+    grammar_over(names, rules)
+}
+
+/// The grammar of these rows over this number of states.
+pub fn make_grammar<S>(alloc: Global, states: u8, rows: &[Row]) -> Result<Grammar<S>, Fail> {
     let rules = make_rules(alloc, rows)?;
-    if rules.len() > 100 {
-        return Ok(None);
-    }
-    match make_names(alloc, states)? {
-        Some(names) => Ok(Grammar::new(names, rules)),
-        None => Ok(None),
+    grammar_of(alloc, states, rules)
+}
+
+fn normal_of<S: Drop>(alloc: Global, grammar: Grammar<S>) -> Result<Normal<S>, Fail> {
+    match Normal::new(alloc, grammar)? {
+        Some(normal) => Ok(normal),
+        None => Err("not in normal form".into()),
     }
 }
 
-/// A number in decimal digits.
-pub fn write_number(text: &mut String, number: u64) -> Result<(), AllocError> {
-    let digits = number.to_string(*text.allocator())?;
-    text.push_str(digits.as_str())
+/// The grammar of these rows over this number of states, where it is in normal form.
+pub fn make_normal<S: Drop>(alloc: Global, states: u8, rows: &[Row]) -> Result<Normal<S>, Fail> {
+    let grammar = make_grammar::<S>(alloc, states, rows)?;
+    normal_of(alloc, grammar)
 }
 
-/// A rule as `0 -> f7 1 2 # 5; `.
-pub fn write_rule(text: &mut String, rule: &Rule<u32>) -> Result<(), AllocError> {
-    write_number(text, rule.left as u64)?;
-    text.push_str(" ->")?;
-    for item in rule.right.items() {
-        match item {
-            Item::Label { label, .. } => {
-                text.push_str(" f")?;
-                write_number(text, *label as u64)?;
-            }
-            Item::Hole(state) => {
-                text.push_str(" ")?;
-                write_number(text, *state as u64)?;
-            }
+fn are_parts(items: &[Item<u32>], parts: &[Part]) -> bool {
+    for (item, part) in items.iter().zip(parts) {
+        if *item != item_of(*part) {
+            return false;
         }
     }
-    text.push_str(" # ")?;
-    write_number(text, rule.cost.get())?;
-    text.push_str("; ")
+    items.len() == parts.len()
+}
+
+fn is_of_row(rule: &Rule<u32>, row: &Row) -> bool {
+    rule.left == row.0 && rule.cost.get() == row.2 && are_parts(rule.right.items(), row.1)
+}
+
+/// Whether the rules are those of the rows.
+pub fn are_of_rows(rules: &[Rule<u32>], rows: &[Row]) -> bool {
+    for (rule, row) in rules.iter().zip(rows) {
+        if !is_of_row(rule, row) {
+            return false;
+        }
+    }
+    rules.len() == rows.len()
+}
+
+fn number_of(cost: &Option<Cost>) -> Option<u64> {
+    match cost {
+        Some(cost) => Some(cost.get()),
+        None => None,
+    }
+}
+
+/// Whether the costs have these numbers.
+pub fn have_numbers(costs: &[Option<Cost>], numbers: &[Option<u64>]) -> bool {
+    for (cost, number) in costs.iter().zip(numbers) {
+        if number_of(cost) != *number {
+            return false;
+        }
+    }
+    costs.len() == numbers.len()
 }

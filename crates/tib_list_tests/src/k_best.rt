@@ -1,11 +1,11 @@
 // Lists of best trees of small grammars, as text: each node as its label and its number of children.
 // A label's number is its place at first sight.
-ghost use Rattle.std.specs.Prelude.{◌<◌, IfOk, IfSome, length};
+ghost use Rattle.std.specs.Prelude.{IfOk, IfSome, length};
 ghost use Rattle.tib_grammar_file.specs.Printed.{AreLabelled};
 
 use std::alloc::{AllocError, Global};
 use std::test::Fail;
-use tib_cost::{Bottleneck, MinPlus, Semiring};
+use tib_cost::{Bottleneck, Cost, MinPlus, Semiring};
 use tib_grammar_file::read_grammar;
 use tib_k_best::{KBestError, List, best_tree, best_tree_by_levels};
 use tib_normal::Normal;
@@ -26,19 +26,24 @@ pub(crate) fn write_tree(text: &mut String, tree: &Tree) -> Result<(), AllocErro
     Ok(())
 }
 
+// A tree, or the number of its nodes where it has 20 or more, and its cost.
+pub(crate) fn write_entry(text: &mut String, tree: &Tree, cost: Cost) -> Result<(), AllocError> {
+    if tree.nodes().len() < 20 {
+        write_tree(text, tree)?;
+    } else {
+        write_number(text, tree.nodes().len() as u64)?;
+        text.push_str(" nodes ")?;
+    }
+    text.push_str("# ")?;
+    write_number(text, cost.get())?;
+    text.push_str("; ")
+}
+
 pub(crate) fn list_text(alloc: Global, list: &List) -> Result<String, AllocError> {
     let mut text = String::new(alloc);
     for i in 0..list.len() {
         let tree = list.tree(alloc, i)?;
-        if tree.nodes().len() < 20 {
-            write_tree(&mut text, &tree)?;
-        } else {
-            write_number(&mut text, tree.nodes().len() as u64)?;
-            text.push_str(" nodes ")?;
-        }
-        text.push_str("# ")?;
-        write_number(&mut text, list.cost(i).get())?;
-        text.push_str("; ")?;
+        write_entry(&mut text, &tree, list.cost(i))?;
     }
     Ok(text)
 }
@@ -64,18 +69,22 @@ pub(crate) fn read<S: Semiring + Drop>(
     }
 }
 
+pub(crate) fn fault_text(alloc: Global, error: KBestError) -> Result<String, AllocError> {
+    let KBestError::TreeTooLarge { state } = error else {
+        return Err(AllocError);
+    };
+    let mut text = String::from_str(alloc, "too large: ")?;
+    write_number(&mut text, u64::from(state))?;
+    Ok(text)
+}
+
 pub(crate) fn answer_text(
     alloc: Global,
     answer: Result<List, KBestError>,
 ) -> Result<String, AllocError> {
     match answer {
         Ok(list) => list_text(alloc, &list),
-        Err(KBestError::OutOfMemory) => Err(AllocError),
-        Err(KBestError::TreeTooLarge { state }) => {
-            let mut text = String::from_str(alloc, "too large: ")?;
-            write_number(&mut text, u64::from(state))?;
-            Ok(text)
-        }
+        Err(error) => fault_text(alloc, error),
     }
 }
 
@@ -160,16 +169,17 @@ fn best_trees_by_levels(rt: HostRuntime) -> Result<(), Fail> {
     Ok(())
 }
 
-// The rule of the state of a number over two of the next.
-fn write_doubling(text: &mut String, state: u64) -> Result<(), AllocError>
-    requires { state < 256 }
-{
-    text.push_str("p")?;
-    write_number(text, state)?;
-    text.push_str(" -> f(p")?;
-    write_number(text, state + 1)?;
-    text.push_str(" p")?;
-    write_number(text, state + 1)?;
+// A word and the number of a state.
+fn write_state(text: &mut String, word: &str, state: u64) -> Result<(), AllocError> {
+    text.push_str(word)?;
+    write_number(text, state)
+}
+
+// The rule of a state over two of the next.
+fn write_doubling(text: &mut String, state: u64, next: u64) -> Result<(), AllocError> {
+    write_state(text, "p", state)?;
+    write_state(text, " -> f(p", next)?;
+    write_state(text, " p", next)?;
     text.push_str(")\n")
 }
 
@@ -177,10 +187,10 @@ fn write_doubling(text: &mut String, state: u64) -> Result<(), AllocError>
 fn doubling(alloc: Global, last: u8) -> Result<String, AllocError> {
     let mut text = String::from_str(alloc, "p0\n")?;
     for i in 0..last {
-        write_doubling(&mut text, u64::from(i))?;
+        let state = u64::from(i);
+        write_doubling(&mut text, state, state.wrapping_add(1))?;
     }
-    text.push_str("p")?;
-    write_number(&mut text, u64::from(last))?;
+    write_state(&mut text, "p", u64::from(last))?;
     text.push_str(" -> a\n")?;
     Ok(text)
 }

@@ -4,7 +4,7 @@ ghost use Rattle.tib_grammar.specs.Forms.{IsDeterministic};
 ghost use Rattle.tib_grammar_file.specs.Printed.{AreLabelled};
 ghost use Rattle.tib_k_best.specs.Trimmed.{HaveTreesBelow};
 
-use crate::k_best::{answer_text, list_text, write_number};
+use crate::k_best::{answer_text, fault_text, list_text, write_number};
 use std::alloc::{AllocError, Global};
 use std::test::Fail;
 use tib_cost::{MinPlus, Semiring};
@@ -106,7 +106,7 @@ fn lazy_text(alloc: Global, text: &str, k: u32, with_steps: bool) -> Result<Stri
     match lists_of::<MinPlus>(alloc, &normal, &labels, k) {
         Ok(None) => String::from_str(alloc, "not in deterministic form"),
         Ok(Some(lists)) => listed(alloc, lists, normal.grammar().states(), with_steps),
-        Err(error) => answer_text(alloc, Err(error)),
+        Err(error) => fault_text(alloc, error),
     }
 }
 
@@ -168,11 +168,17 @@ static TEXTS: [&str; 5] = [
     "q\nq -> f(q r) # 1\nq -> e\nr -> g(q) # 2\nr -> h(r q)\nr -> k # 7\n",
 ];
 
+// Whether the two lists of a number of trees are the same.
+fn are_same(alloc: Global, text: &str, k: u32) -> Result<bool, AllocError> {
+    let lazily = lazy_text(alloc, text, k, false)?;
+    let plainly = best_text(alloc, text, k)?;
+    Ok(lazily.as_str() == plainly.as_str())
+}
+
 // The least number of trees, below twelve, at which the two lists differ.
 fn first_difference(alloc: Global, text: &str) -> Result<Option<u32>, AllocError> {
     for k in 1..12_u32 {
-        let lazily = lazy_text(alloc, text, k, false)?;
-        if lazily.as_str() != best_text(alloc, text, k)?.as_str() {
+        if !are_same(alloc, text, k)? {
             return Ok(Some(k));
         }
     }
@@ -182,7 +188,8 @@ fn first_difference(alloc: Global, text: &str) -> Result<Option<u32>, AllocError
 #[test]
 fn the_same_lists(rt: HostRuntime) -> Result<(), Fail> {
     for text in &TEXTS {
-        assert_eq!(rt; first_difference(rt.alloc(), text)?, None, "{text}");
+        let difference = first_difference(rt.alloc(), text)?;
+        assert_eq!(rt; (*text, difference), (*text, None));
     }
     Ok(())
 }

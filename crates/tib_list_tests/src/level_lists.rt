@@ -2,7 +2,7 @@
 // A label's number is its place at first sight.
 ghost use Rattle.std.specs.Prelude.{◌≡◌, true};
 
-use crate::k_best::{read, write_number, write_tree};
+use crate::k_best::{fault_text, read, write_entry};
 use std::alloc::{AllocError, Global};
 use std::test::Fail;
 use tib_cost::{Bottleneck, Semiring, Widest};
@@ -13,10 +13,7 @@ fn list_text(alloc: Global, list: &Ranked) -> Result<String, AllocError> {
     let mut text = String::new(alloc);
     for i in 0..list.len() {
         let tree = list.tree(alloc, i)?;
-        write_tree(&mut text, &tree)?;
-        text.push_str("# ")?;
-        write_number(&mut text, list.cost(i).get())?;
-        text.push_str("; ")?;
+        write_entry(&mut text, &tree, list.cost(i))?;
     }
     Ok(text)
 }
@@ -24,12 +21,7 @@ fn list_text(alloc: Global, list: &Ranked) -> Result<String, AllocError> {
 fn answer_text(alloc: Global, answer: Result<Ranked, KBestError>) -> Result<String, AllocError> {
     match answer {
         Ok(list) => list_text(alloc, &list),
-        Err(KBestError::OutOfMemory) => Err(AllocError),
-        Err(KBestError::TreeTooLarge { state }) => {
-            let mut text = String::from_str(alloc, "too large: ")?;
-            write_number(&mut text, u64::from(state))?;
-            Ok(text)
-        }
+        Err(error) => fault_text(alloc, error),
     }
 }
 

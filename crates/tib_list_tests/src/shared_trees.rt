@@ -135,8 +135,8 @@ const DEEP: [(u32, u32); 5] = [(0, 2), (0, 2), (2, 0), (1, 0), (2, 0)];
 #[test]
 fn a_tree_is_given_with_its_nodes(rt: HostRuntime) -> Result<(), Fail> {
     let mut trees = Trees::new(rt.alloc());
-    assert_eq!(rt; insert_all(&mut trees)[5], Some(4));
-    assert_eq!(rt; size_of(&trees, 4), 5);
+    let deep = insert_all(&mut trees)[5];
+    assert_eq!(rt; (deep, size_of(&trees, 4)), (Some(4), 5));
     let nodes = nodes_of(rt.alloc(), &trees, 4)?;
     assert_eq!(rt; nodes.as_slice(), DEEP.as_slice());
     Ok(())

@@ -30,23 +30,22 @@ use composed_rows::COMPOSED;
 use demo_rows::{DEMONSTRATED, SEVEN};
 use determinized_rows::DETERMINIZED;
 use image_rows::IMAGED;
-use kbest_rows::LISTED;
+use kbest_rows::{LISTED, LISTED_OTHERS};
 use limits::{LENGTHS, LIMITED, LIMITED_OTHERS, Length, Limited};
 use parsed_rows::PARSED;
-use rows::{BINARY, INTERSECTED, ONE_FILE, RIGHT, Row, WEIGHED, WIDEST};
-use running::{Counting, Outside, Ran, SOUND, run_texts, run_through, run_words};
+use rows::{BINARY, INTERSECTED, ONE_FILE, PRUNED, RIGHT, Row, WEIGHED, WEIGHED_OTHERS, WIDEST};
+use running::{Calls, Counting, Outside, Ran, SOUND, run_through, run_words, run_words_alone};
 use transducer_rows::CHECKED;
 
-// How a run is to end: its status, how many bytes of the row's text are written, and how often the files are read and
-// the output is written to and finished.
-#[derive(Clone, Copy, Debug, PartialEq, Eq)]
+// How a run is to end: its status, the line on the log, and what goes over.
+#[derive(Drop)]
 struct Ending {
     status: Status,
-    bytes: usize,
-    reads: u64,
-    writes: u64,
-    finishes: u64,
+    line: &'static str,
+    calls: Calls,
 }
+
+const CANNOT_WRITE: &str = "tiburon: cannot write\n";
 
 // In how many pieces this number of bytes goes over.
 fn pieces(bytes: usize, most: usize) -> u64 {
@@ -56,100 +55,195 @@ fn pieces(bytes: usize, most: usize) -> u64 {
     (bytes as u64).div_ceil(most as u64)
 }
 
-// How often each file of a row is read: a file to its end, with a read that gives nothing.
-fn reads_of(row: &Row, most: usize) -> (u64, u64) {
-    let first = pieces(row.1.len(), most).saturating_add(1);
-    let second = pieces(row.2.len(), most).saturating_add(1);
-    if row.0.contains(&"demo") {
-        return (0, 0);
+// How often a text is read to its end, with a read that gives nothing.
+fn reads_to_end(text: &str, most: usize) -> u64 {
+    pieces(text.len(), most).saturating_add(1)
+}
+
+// How often the first file of a row is read.
+fn reads_of_first(row: &Row, most: usize) -> u64 {
+    if row.0.contains(&"demo") || row.3 == Status::Usage {
+        return 0;
+    }
+    reads_to_end(row.1, most)
+}
+
+// How often the second file of a row is read.
+fn reads_of_second(row: &Row, most: usize) -> u64 {
+    if !row.0.contains(&"T") || row.3 == Status::Usage {
+        return 0;
     }
     match row.3 {
-        Status::Usage => (0, 0),
-        Status::BadInput { file: 1, .. } => (first, 0),
-        _ => (first, if row.0.contains(&"T") { second } else { 0 }),
+        Status::BadInput { file: 1, .. } => 0,
+        _ => reads_to_end(row.2, most),
+    }
+}
+
+// How often the files of a row are read.
+fn reads_of(row: &Row, most: usize) -> u64 {
+    reads_of_first(row, most).saturating_add(reads_of_second(row, most))
+}
+
+// In how many pieces the text of a row is written.
+fn writes_of(row: &Row, most: usize) -> u64 {
+    pieces(row.4.len(), most)
+}
+
+// How a run ends whose read of this number fails.
+fn unread(row: &Row, read: u64, most: usize) -> Ending {
+    let (file, line) = if read < reads_of_first(row, most) {
+        (1, "tiburon: file 1: cannot be read\n")
+    } else {
+        (2, "tiburon: file 2: cannot be read\n")
+    };
+    Ending {
+        status: Status::ReadFault { file },
+        line,
+        calls: Calls {
+            bytes: 0,
+            reads: read.saturating_add(1),
+            writes: 0,
+            finishes: 0,
+        },
+    }
+}
+
+// How a run ends that writes nothing.
+fn untouched(row: &Row, most: usize) -> Ending {
+    Ending {
+        status: row.3,
+        line: row.5,
+        calls: Calls {
+            bytes: 0,
+            reads: reads_of(row, most),
+            writes: 0,
+            finishes: 0,
+        },
+    }
+}
+
+// How a run ends that is done.
+fn written(row: &Row, most: usize) -> Ending {
+    Ending {
+        status: row.3,
+        line: row.5,
+        calls: Calls {
+            bytes: row.4.len(),
+            reads: reads_of(row, most),
+            writes: writes_of(row, most),
+            finishes: 1,
+        },
+    }
+}
+
+// How a run ends whose output fails at the write of this number.
+fn cut_off(row: &Row, write: u64, most: usize) -> Ending {
+    Ending {
+        status: Status::WriteFault,
+        line: CANNOT_WRITE,
+        calls: Calls {
+            bytes: most.saturating_mul(write as usize),
+            reads: reads_of(row, most),
+            writes: write.saturating_add(1),
+            finishes: 0,
+        },
+    }
+}
+
+// How a run ends that writes its text, and cannot finish its output.
+fn unfinished(row: &Row, most: usize) -> Ending {
+    let done = written(row, most);
+    Ending {
+        status: Status::WriteFault,
+        line: CANNOT_WRITE,
+        calls: done.calls,
+    }
+}
+
+// How a run of a row ends in which no read fails, and perhaps this call of the output.
+fn ending_of_output(row: &Row, failing: Option<u64>, most: usize) -> Ending {
+    if row.3 != Status::Done {
+        return untouched(row, most);
+    }
+    let writes = writes_of(row, most);
+    match failing {
+        Some(call) if call < writes => cut_off(row, call, most),
+        Some(call) if call == writes => unfinished(row, most),
+        _ => written(row, most),
     }
 }
 
 // How a run of a row is to end over this outside.
-fn ending_of(row: &Row, outside: Outside) -> Ending {
-    let (first, second) = reads_of(row, outside.most);
-    let reads = first.saturating_add(second);
-    let bytes = row.4.len();
-    let writes = pieces(bytes, outside.most);
-    let untouched = Ending {
-        status: row.3,
-        bytes: 0,
-        reads,
-        writes: 0,
-        finishes: 0,
-    };
-    let whole = Ending {
-        bytes,
-        writes,
-        finishes: 1,
-        ..untouched
-    };
-    let fault = Status::WriteFault;
-    match (outside.failing_read, outside.failing_call) {
-        (Some(read), _) if read < reads => Ending {
-            status: Status::ReadFault {
-                file: if read < first { 1 } else { 2 },
-            },
-            reads: read.saturating_add(1),
-            ..untouched
-        },
-        _ if row.3 != Status::Done => untouched,
-        (_, Some(call)) if call < writes => Ending {
-            status: fault,
-            bytes: outside.most.saturating_mul(call as usize),
-            writes: call.saturating_add(1),
-            ..untouched
-        },
-        (_, Some(call)) if call == writes => Ending {
-            status: fault,
-            ..whole
-        },
-        _ => whole,
+fn ending_of(row: &Row, outside: &Outside) -> Ending {
+    let most = outside.most;
+    if let Some(read) = outside.failing_read {
+        if read < reads_of(row, most) {
+            return unread(row, read, most);
+        }
     }
+    ending_of_output(row, outside.failing_call, most)
 }
 
-// What the program writes of a status, where it is not the row's own.
-fn line_of(status: Status) -> &'static str {
-    match status {
-        Status::ReadFault { file: 1 } => "tiburon: file 1: cannot be read\n",
-        Status::ReadFault { .. } => "tiburon: file 2: cannot be read\n",
-        _ => "tiburon: cannot write\n",
+// Whether a front of a text was written, and a line on the log.
+fn has_texts(ran: &Ran, text: &str, line: &str) -> bool {
+    if ran.log.bytes() != line.as_bytes() {
+        return false;
     }
+    text.as_bytes().starts_with(ran.out.bytes())
 }
 
-// Whether a run of a row ended so.
-fn ended(row: &Row, ran: &Ran, ending: Ending) -> bool {
-    let line = if ending.status == row.3 {
-        row.5
-    } else {
-        line_of(ending.status)
-    };
-    let seen = Ending {
-        status: ran.status,
-        bytes: ran.out.bytes().len(),
-        reads: ran.reads,
-        writes: ran.writes,
-        finishes: ran.finishes,
-    };
-    seen == ending
-        && row.4.as_bytes().starts_with(ran.out.bytes())
-        && ran.log.bytes() == line.as_bytes()
+// Whether a run ended so.
+fn ended(ran: &Ran, text: &str, ending: &Ending) -> bool {
+    if ran.status != ending.status || ran.calls != ending.calls {
+        return false;
+    }
+    has_texts(ran, text, ending.line)
 }
 
-// Whether a row runs as it should over this outside.
-fn runs<R: Threads + Wait + Sync>(
+// The run of a row over this outside.
+fn run_row<R: Threads + Wait + Sync>(
     rt: &R,
     alloc: Global,
     row: &Row,
-    outside: Outside,
-) -> Result<bool, AllocError> {
-    let ran = run_texts(rt, alloc, row.0, row.1, row.2, outside)?;
-    Ok(ended(row, &ran, ending_of(row, outside)))
+    outside: &Outside,
+) -> Result<Ran, AllocError> {
+    run_words(
+        rt,
+        alloc,
+        row.0,
+        row.1.as_bytes(),
+        row.2.as_bytes(),
+        outside,
+    )
+}
+
+// Whether a row runs as it should over this outside, which it does not where memory is refused.
+fn runs<R: Threads + Wait + Sync>(rt: &R, alloc: Global, row: &Row, outside: &Outside) -> bool {
+    let Ok(ran) = run_row(rt, alloc, row, outside) else {
+        return false;
+    };
+    ended(&ran, row.4, &ending_of(row, outside))
+}
+
+// Whether a row runs as it should where the read of this number fails, and where the call of the output does.
+fn runs_with_fault<R: Threads + Wait + Sync>(
+    rt: &R,
+    alloc: Global,
+    row: &Row,
+    most: usize,
+    call: u64,
+) -> bool {
+    let reading = Outside {
+        failing_read: Some(call),
+        most,
+        ..SOUND
+    };
+    let writing = Outside {
+        failing_call: Some(call),
+        most,
+        ..SOUND
+    };
+    runs(rt, alloc, row, &reading) && runs(rt, alloc, row, &writing)
 }
 
 // Whether a row runs as it should where any one read fails, or any one call of the output, or none.
@@ -158,320 +252,441 @@ fn runs_throughout<R: Threads + Wait + Sync>(
     alloc: Global,
     row: &Row,
     most: usize,
-) -> Result<bool, AllocError> {
-    let sound = Outside { most, ..SOUND };
-    let calls = ending_of(row, sound).reads.max(pieces(row.4.len(), most));
+) -> bool {
+    let calls = reads_of(row, most).max(writes_of(row, most));
     for call in 0..=calls.saturating_add(1) {
-        let failing = Some(call);
-        let reading = Outside {
-            failing_read: failing,
-            ..sound
-        };
-        let writing = Outside {
-            failing_call: failing,
-            ..sound
-        };
-        if !runs(rt, alloc, row, reading)? || !runs(rt, alloc, row, writing)? {
-            return Ok(false);
+        if !runs_with_fault(rt, alloc, row, most, call) {
+            return false;
         }
     }
-    Ok(true)
+    true
+}
+
+// Whether a front of a row's text of this many bytes was written, and the run failed where there is a text.
+fn has_front(row: &Row, ran: &Ran, bytes: usize) -> bool {
+    if ran.calls.bytes != bytes {
+        return false;
+    }
+    if row.4.is_empty() {
+        return ran.status == row.3;
+    }
+    ran.status == Status::WriteFault
 }
 
 // Whether as much of a row's text is written as there is room for, one byte less than all.
-fn fills<R: Threads + Wait + Sync>(rt: &R, alloc: Global, row: &Row) -> Result<bool, AllocError> {
+fn fills<R: Threads + Wait + Sync>(rt: &R, alloc: Global, row: &Row) -> bool {
     let bytes = row.4.len().saturating_sub(1);
     let Ok(room) = u32::try_from(bytes) else {
-        return Ok(false);
+        return false;
     };
-    let status = if row.4.is_empty() {
-        row.3
-    } else {
-        Status::WriteFault
+    let Ok(ran) = run_row(rt, alloc, row, &Outside { room, ..SOUND }) else {
+        return false;
     };
-    let ran = run_texts(rt, alloc, row.0, row.1, row.2, Outside { room, ..SOUND })?;
-    Ok(ran.status == status && ran.out.bytes().len() == bytes)
+    has_front(row, &ran, bytes)
 }
 
-// Whether a row runs as it should one and two bytes at a time, and by two, four and sixteen workers.
-fn runs_otherwise<R: Threads + Wait + Sync>(
-    rt: &R,
-    alloc: Global,
-    row: &Row,
-) -> Result<bool, AllocError> {
-    for most in [1, 2] {
-        if !runs(rt, alloc, row, Outside { most, ..SOUND })? {
-            return Ok(false);
-        }
+// Whether a run ended with the status of a row, and wrote its text and nothing on the log.
+fn is_untold(row: &Row, ran: &Ran) -> bool {
+    if ran.status != row.3 || !ran.log.bytes().is_empty() {
+        return false;
     }
-    for workers in [Some("2"), Some("4"), Some("16")] {
-        if !runs(rt, alloc, row, Outside { workers, ..SOUND })? {
-            return Ok(false);
-        }
-    }
-    Ok(true)
+    ran.out.bytes() == row.4.as_bytes()
 }
+
+// What stands outside of a run in which nothing can be told on the log.
+const UNTOLD: Outside = Outside {
+    log_room: 0,
+    ..SOUND
+};
 
 // Whether a row ends with its status, and writes its text, where nothing can be told on the log.
-fn ends_untold<R: Threads + Wait + Sync>(
-    rt: &R,
-    alloc: Global,
-    row: &Row,
-) -> Result<bool, AllocError> {
-    let outside = Outside {
-        log_room: 0,
-        ..SOUND
+fn ends_untold<R: Threads + Wait + Sync>(rt: &R, alloc: Global, row: &Row) -> bool {
+    let Ok(ran) = run_row(rt, alloc, row, &UNTOLD) else {
+        return false;
     };
-    let ran = run_texts(rt, alloc, row.0, row.1, row.2, outside)?;
-    let written = ran.out.bytes() == row.4.as_bytes();
-    Ok(ran.status == row.3 && written && ran.log.bytes().is_empty())
+    is_untold(row, &ran)
+}
+
+// Whether a row runs as it should by one worker, whatever its words say of workers.
+fn runs_alone<R: Threads + Sync>(rt: &R, alloc: Global, row: &Row) -> bool {
+    let run = run_words_alone(rt, alloc, row.0, row.1.as_bytes(), row.2.as_bytes(), &SOUND);
+    let Ok(ran) = run else {
+        return false;
+    };
+    ended(&ran, row.4, &ending_of(row, &SOUND))
+}
+
+// What stands outside of runs in which nothing fails: one and two bytes go over at a time, or two, four and sixteen workers hunt.
+static OTHERWISE: [Outside; 5] = [
+    Outside { most: 1, ..SOUND },
+    Outside { most: 2, ..SOUND },
+    Outside {
+        workers: Some("2"),
+        ..SOUND
+    },
+    Outside {
+        workers: Some("4"),
+        ..SOUND
+    },
+    Outside {
+        workers: Some("16"),
+        ..SOUND
+    },
+];
+
+// Whether a row runs as it should one and two bytes at a time, by two, four and sixteen workers, and by one that hunts alone.
+fn runs_otherwise<R: Threads + Wait + Sync>(rt: &R, alloc: Global, row: &Row) -> bool {
+    for outside in &OTHERWISE {
+        if !runs(rt, alloc, row, outside) {
+            return false;
+        }
+    }
+    runs_alone(rt, alloc, row)
+}
+
+// Whether a row runs as it should whole and in pieces, with each call failing.
+fn runs_with_faults<R: Threads + Wait + Sync>(rt: &R, alloc: Global, row: &Row) -> bool {
+    runs_throughout(rt, alloc, row, 7) && runs_throughout(rt, alloc, row, SOUND.most)
 }
 
 // The first row that does not run as it should: whole and in pieces, with each call failing, by several workers, with room for
 // all its text or not, and with a log that takes nothing.
-fn first_wrong<R: Threads + Wait + Sync>(
-    rt: &R,
-    alloc: Global,
-    rows: &[Row],
-) -> Result<Option<usize>, AllocError> {
+fn first_wrong<R: Threads + Wait + Sync>(rt: &R, alloc: Global, rows: &[Row]) -> Option<usize> {
     for (number, row) in rows.iter().enumerate() {
-        for most in [7, SOUND.most] {
-            if !runs_throughout(rt, alloc, row, most)? {
-                return Ok(Some(number));
-            }
+        if !runs_with_faults(rt, alloc, row) || !runs_otherwise(rt, alloc, row) {
+            return Some(number);
         }
-        if !runs_otherwise(rt, alloc, row)? || !fills(rt, alloc, row)? {
-            return Ok(Some(number));
-        }
-        if !ends_untold(rt, alloc, row)? {
-            return Ok(Some(number));
+        if !fills(rt, alloc, row) || !ends_untold(rt, alloc, row) {
+            return Some(number);
         }
     }
-    Ok(None)
+    None
+}
+
+// Each table stands in a function of its own: a proof is dear in which several are in view, or one of more than some 24 rows.
+
+// The rows on `weigh`: costs, weights, and files that are no grammar.
+fn weighed() -> &'static [Row] {
+    &WEIGHED
+}
+
+// The other rows on `weigh`.
+fn weighed_others() -> &'static [Row] {
+    &WEIGHED_OTHERS
+}
+
+// The rows on `inside` and `normal`.
+fn one_file() -> &'static [Row] {
+    &ONE_FILE
+}
+
+// The rows on `prune`.
+fn pruned() -> &'static [Row] {
+    &PRUNED
+}
+
+// The rows on the mode widest.
+fn widest() -> &'static [Row] {
+    &WIDEST
+}
+
+// The rows on `kbest`: the order of trees.
+fn listed() -> &'static [Row] {
+    &LISTED
+}
+
+// The other rows on `kbest`.
+fn listed_others() -> &'static [Row] {
+    &LISTED_OTHERS
+}
+
+// The rows on `intersect`.
+fn intersected() -> &'static [Row] {
+    &INTERSECTED
+}
+
+// The rows on `compare`.
+fn compared() -> &'static [Row] {
+    &COMPARED
+}
+
+// The rows on `determinize`.
+fn determinized() -> &'static [Row] {
+    &DETERMINIZED
+}
+
+// The rows on `forward`.
+fn forward() -> &'static [Row] {
+    &FORWARD
+}
+
+// The rows on `backward`.
+fn backward() -> &'static [Row] {
+    &BACKWARD
+}
+
+// The rows on `image`.
+fn imaged() -> &'static [Row] {
+    &IMAGED
+}
+
+// The rows on `compose`.
+fn composed() -> &'static [Row] {
+    &COMPOSED
+}
+
+// The rows on `parse`.
+fn parsed() -> &'static [Row] {
+    &PARSED
+}
+
+// The rows on `check`.
+fn checked() -> &'static [Row] {
+    &CHECKED
+}
+
+// The rows on `demo`.
+fn demonstrated() -> &'static [Row] {
+    &DEMONSTRATED
 }
 
 #[test]
 fn trees_are_weighed_as_worked_out(rt: HostRuntime) -> Result<(), Fail> {
-    assert_eq!(rt; first_wrong(&rt, rt.alloc(), &WEIGHED)?, None);
+    assert_eq!(rt; first_wrong(&rt, rt.alloc(), weighed()), None);
+    assert_eq!(rt; first_wrong(&rt, rt.alloc(), weighed_others()), None);
     Ok(())
 }
 
 #[test]
 fn operations_on_one_file_are_as_worked_out(rt: HostRuntime) -> Result<(), Fail> {
-    assert_eq!(rt; first_wrong(&rt, rt.alloc(), &ONE_FILE)?, None);
-    Ok(())
-}
-
-#[test]
-fn intersections_are_as_worked_out(rt: HostRuntime) -> Result<(), Fail> {
-    assert_eq!(rt; first_wrong(&rt, rt.alloc(), &INTERSECTED)?, None);
-    Ok(())
-}
-
-#[test]
-fn outputs_of_a_transducer_are_as_worked_out(rt: HostRuntime) -> Result<(), Fail> {
-    assert_eq!(rt; first_wrong(&rt, rt.alloc(), &FORWARD)?, None);
-    Ok(())
-}
-
-#[test]
-fn inputs_of_a_transducer_are_as_worked_out(rt: HostRuntime) -> Result<(), Fail> {
-    assert_eq!(rt; first_wrong(&rt, rt.alloc(), &BACKWARD)?, None);
-    Ok(())
-}
-
-#[test]
-fn compositions_are_as_worked_out(rt: HostRuntime) -> Result<(), Fail> {
-    assert_eq!(rt; first_wrong(&rt, rt.alloc(), &COMPOSED)?, None);
-    Ok(())
-}
-
-#[test]
-fn outputs_on_one_tree_are_as_worked_out(rt: HostRuntime) -> Result<(), Fail> {
-    assert_eq!(rt; first_wrong(&rt, rt.alloc(), &IMAGED)?, None);
-    Ok(())
-}
-
-#[test]
-fn trees_of_a_string_are_as_worked_out(rt: HostRuntime) -> Result<(), Fail> {
-    assert_eq!(rt; first_wrong(&rt, rt.alloc(), &PARSED)?, None);
-    Ok(())
-}
-
-#[test]
-fn supports_are_compared_as_worked_out(rt: HostRuntime) -> Result<(), Fail> {
-    assert_eq!(rt; first_wrong(&rt, rt.alloc(), &COMPARED)?, None);
+    assert_eq!(rt; first_wrong(&rt, rt.alloc(), one_file()), None);
+    assert_eq!(rt; first_wrong(&rt, rt.alloc(), pruned()), None);
     Ok(())
 }
 
 #[test]
 fn cheapest_trees_are_as_worked_out(rt: HostRuntime) -> Result<(), Fail> {
-    assert_eq!(rt; first_wrong(&rt, rt.alloc(), &LISTED)?, None);
-    Ok(())
-}
-
-#[test]
-fn the_rows_on_demo_run(rt: HostRuntime) -> Result<(), Fail> {
-    assert_eq!(rt; first_wrong(&rt, rt.alloc(), &DEMONSTRATED)?, None);
-    assert!(rt; runs(&rt, rt.alloc(), &SEVEN, SOUND)?);
-    Ok(())
-}
-
-#[test]
-fn determinizations_are_as_worked_out(rt: HostRuntime) -> Result<(), Fail> {
-    assert_eq!(rt; first_wrong(&rt, rt.alloc(), &DETERMINIZED)?, None);
+    assert_eq!(rt; first_wrong(&rt, rt.alloc(), listed()), None);
+    assert_eq!(rt; first_wrong(&rt, rt.alloc(), listed_others()), None);
     Ok(())
 }
 
 #[test]
 fn classes_are_told_as_worked_out(rt: HostRuntime) -> Result<(), Fail> {
-    assert_eq!(rt; first_wrong(&rt, rt.alloc(), &CHECKED)?, None);
+    assert_eq!(rt; first_wrong(&rt, rt.alloc(), checked()), None);
     Ok(())
 }
 
 #[test]
-fn the_mode_widest_is_as_worked_out(rt: HostRuntime) -> Result<(), Fail> {
-    assert_eq!(rt; first_wrong(&rt, rt.alloc(), &WIDEST)?, None);
+fn intersections_are_as_worked_out(rt: HostRuntime) -> Result<(), Fail> {
+    assert_eq!(rt; first_wrong(&rt, rt.alloc(), intersected()), None);
     Ok(())
 }
 
-// How an operation on one or two files ends within a limit, by this many workers.
-fn status_within<R: Threads + Wait + Sync>(
+#[test]
+fn outputs_and_inputs_of_a_transducer_are_as_worked_out(rt: HostRuntime) -> Result<(), Fail> {
+    assert_eq!(rt; first_wrong(&rt, rt.alloc(), forward()), None);
+    assert_eq!(rt; first_wrong(&rt, rt.alloc(), backward()), None);
+    Ok(())
+}
+
+#[test]
+fn compositions_and_images_are_as_worked_out(rt: HostRuntime) -> Result<(), Fail> {
+    assert_eq!(rt; first_wrong(&rt, rt.alloc(), composed()), None);
+    assert_eq!(rt; first_wrong(&rt, rt.alloc(), imaged()), None);
+    Ok(())
+}
+
+#[test]
+fn trees_of_a_string_and_supports_are_as_worked_out(rt: HostRuntime) -> Result<(), Fail> {
+    assert_eq!(rt; first_wrong(&rt, rt.alloc(), parsed()), None);
+    assert_eq!(rt; first_wrong(&rt, rt.alloc(), compared()), None);
+    Ok(())
+}
+
+#[test]
+fn the_mode_widest_and_determinizations_are_as_worked_out(rt: HostRuntime) -> Result<(), Fail> {
+    assert_eq!(rt; first_wrong(&rt, rt.alloc(), widest()), None);
+    assert_eq!(rt; first_wrong(&rt, rt.alloc(), determinized()), None);
+    Ok(())
+}
+
+#[test]
+fn the_rows_on_demo_run(rt: HostRuntime) -> Result<(), Fail> {
+    assert_eq!(rt; first_wrong(&rt, rt.alloc(), demonstrated()), None);
+    assert!(rt; runs(&rt, rt.alloc(), &SEVEN, &SOUND));
+    Ok(())
+}
+
+// How a run of these words over the files of a row ends.
+fn status_of<R: Threads + Wait + Sync>(
     rt: &R,
     alloc: Global,
-    mode: &str,
-    operation: &str,
-    first: &str,
-    second: &str,
-    limit: u64,
-    workers: Option<&'static str>,
+    words: &[&str],
+    row: &Limited,
+    outside: &Outside,
 ) -> Result<Status, AllocError> {
-    let outside = Outside { workers, ..SOUND };
-    let option = format!(in alloc; "--limit={limit}")?;
-    let ran = if second.is_empty() {
-        let words = ["-m", mode, option.as_str(), operation, "G"];
-        run_texts(rt, alloc, &words, first, second, outside)?
-    } else {
-        let words = ["-m", mode, option.as_str(), operation, "G", "T"];
-        run_texts(rt, alloc, &words, first, second, outside)?
-    };
+    let ran = run_words(
+        rt,
+        alloc,
+        words,
+        row.2.as_bytes(),
+        row.3.as_bytes(),
+        outside,
+    )?;
     Ok(ran.status)
 }
 
-// Whether an operation is refused below this many parts, and answered with them, by this many workers.
+// How an operation on one or two files ends within a limit.
+fn status_within<R: Threads + Wait + Sync>(
+    rt: &R,
+    alloc: Global,
+    row: &Limited,
+    limit: u64,
+    outside: &Outside,
+) -> Result<Status, AllocError> {
+    let option = format!(in alloc; "--limit={limit}")?;
+    let words = ["-m", row.0, option.as_str(), row.1, "G", "T"];
+    let files = if row.3.is_empty() { 5 } else { 6 };
+    status_of(rt, alloc, &words[..files], row, outside)
+}
+
+// Whether an operation is refused below its parts, and answered with them.
 fn is_refused_below<R: Threads + Wait + Sync>(
     rt: &R,
     alloc: Global,
-    mode: &str,
-    operation: &str,
-    first: &str,
-    second: &str,
-    parts: u64,
-    workers: Option<&'static str>,
-) -> Result<bool, AllocError> {
-    for limit in 1..=parts {
-        let told = if limit < parts {
-            Status::TooMany { limit }
-        } else {
-            Status::Done
-        };
-        if status_within(rt, alloc, mode, operation, first, second, limit, workers)? != told {
-            return Ok(false);
+    row: &Limited,
+    outside: &Outside,
+) -> bool {
+    for limit in 1..row.4 {
+        if status_within(rt, alloc, row, limit, outside) != Ok(Status::TooMany { limit }) {
+            return false;
         }
     }
-    Ok(true)
+    status_within(rt, alloc, row, row.4, outside) == Ok(Status::Done)
 }
 
-// The first operation that is not refused just below its parts, by this many workers.
+// The first operation that is not refused just below its parts.
 fn first_unlimited<R: Threads + Wait + Sync>(
     rt: &R,
     alloc: Global,
     rows: &[Limited],
-    workers: Option<&'static str>,
-) -> Result<Option<usize>, AllocError> {
+    outside: &Outside,
+) -> Option<usize> {
     for (number, row) in rows.iter().enumerate() {
-        let (mode, operation, first, second, parts) = *row;
-        if !is_refused_below(rt, alloc, mode, operation, first, second, parts, workers)? {
-            return Ok(Some(number));
+        if !is_refused_below(rt, alloc, row, outside) {
+            return Some(number);
         }
     }
-    Ok(None)
+    None
+}
+
+// One worker hunts, or two, or sixteen.
+static BY_WORKERS: [Outside; 3] = [
+    SOUND,
+    Outside {
+        workers: Some("2"),
+        ..SOUND
+    },
+    Outside {
+        workers: Some("16"),
+        ..SOUND
+    },
+];
+
+// The same by one, two or sixteen workers.
+fn first_unlimited_of_any<R: Threads + Wait + Sync>(
+    rt: &R,
+    alloc: Global,
+    rows: &[Limited],
+) -> Option<usize> {
+    for outside in &BY_WORKERS {
+        if let Some(number) = first_unlimited(rt, alloc, rows, outside) {
+            return Some(number);
+        }
+    }
+    None
 }
 
 #[test]
 fn operations_are_refused_below_their_parts(rt: HostRuntime) -> Result<(), Fail> {
-    assert_eq!(rt; first_unlimited(&rt, rt.alloc(), &LIMITED, None)?, None);
+    assert_eq!(rt; first_unlimited_of_any(&rt, rt.alloc(), &LIMITED), None);
     assert_eq!(rt;
-        first_unlimited(&rt, rt.alloc(), &LIMITED, Some("2"))?,
-        None
-    );
-    assert_eq!(rt;
-        first_unlimited(&rt, rt.alloc(), &LIMITED, Some("16"))?,
+        first_unlimited_of_any(&rt, rt.alloc(), &LIMITED_OTHERS),
         None
     );
     Ok(())
 }
 
-#[test]
-fn the_others_are_refused_below_their_parts(rt: HostRuntime) -> Result<(), Fail> {
-    let rows = &LIMITED_OTHERS;
-    assert_eq!(rt; first_unlimited(&rt, rt.alloc(), rows, None)?, None);
-    assert_eq!(rt; first_unlimited(&rt, rt.alloc(), rows, Some("2"))?, None);
-    assert_eq!(rt; first_unlimited(&rt, rt.alloc(), rows, Some("16"))?, None);
-    Ok(())
+// How an intersection ends, and how often its gate was passed, and with which items, added up.
+fn passes<R: Threads + Wait + Sync>(
+    rt: &R,
+    alloc: Global,
+) -> Result<(Status, u64, u64), AllocError> {
+    let gate = Counting::new();
+    let words = ["intersect", "G", "T"];
+    let ran = run_through(
+        rt,
+        alloc,
+        &words,
+        BINARY.as_bytes(),
+        RIGHT.as_bytes(),
+        &SOUND,
+        &gate,
+    )?;
+    let passes = gate.passes.load(Ordering::SeqCst);
+    Ok((ran.status, passes, gate.items.load(Ordering::SeqCst)))
 }
 
 #[test]
 fn each_pair_passes_the_gate_once(rt: HostRuntime) -> Result<(), Fail> {
-    let left = BINARY.as_bytes().to_vec(rt.alloc())?;
-    let right = RIGHT.as_bytes().to_vec(rt.alloc())?;
-    let gate = Counting::new();
-    let words = ["intersect", "G", "T"];
-    let ran = run_through(&rt, rt.alloc(), &words, left, right, SOUND, &gate)?;
-    assert_eq!(rt; ran.status, Status::Done);
-    assert_eq!(rt; gate.passes.load(Ordering::SeqCst), 2);
-    assert_eq!(rt; gate.items.load(Ordering::SeqCst), 1);
+    assert_eq!(rt; passes(&rt, rt.alloc())?, (Status::Done, 2, 1));
     Ok(())
 }
 
-// How an operation ends whose first file is a comment of this number of bytes.
-fn status_of<R: Threads + Wait + Sync>(
-    rt: &R,
-    alloc: Global,
-    row: &Length,
-) -> Result<Status, AllocError> {
-    let file = vec![in alloc; b'%'; row.1]?;
-    let other = b"a".to_vec(alloc)?;
-    let ran = run_words(rt, alloc, row.0, file, other, SOUND)?;
-    Ok(ran.status)
+// Whether an operation ends as its row has it, on a file that is a front of a comment.
+fn ends_on<R: Threads + Wait + Sync>(rt: &R, alloc: Global, row: &Length, comment: &[u8]) -> bool {
+    let file = comment.get(..row.1).unwrap_or(comment);
+    let Ok(ran) = run_words(rt, alloc, row.0, file, b"a", &SOUND) else {
+        return false;
+    };
+    ran.status == row.2
 }
 
 // The first operation that takes a file of another length.
-fn first_length<R: Threads + Wait + Sync>(
-    rt: &R,
-    alloc: Global,
-) -> Result<Option<usize>, AllocError> {
+fn first_length<R: Threads + Wait + Sync>(rt: &R, alloc: Global, comment: &[u8]) -> Option<usize> {
     for (number, row) in LENGTHS.iter().enumerate() {
-        if status_of(rt, alloc, row)? != row.2 {
-            return Ok(Some(number));
+        if !ends_on(rt, alloc, row, comment) {
+            return Some(number);
         }
     }
-    Ok(None)
+    None
+}
+
+// A comment that is one byte too long for a file.
+fn comment(alloc: Global) -> Result<Vec<u8>, AllocError> {
+    vec![in alloc; b'%'; 8_388_609]
 }
 
 #[test]
 fn files_are_as_long_as_they_may_be(rt: HostRuntime) -> Result<(), Fail> {
-    assert_eq!(rt; first_length(&rt, rt.alloc())?, None);
+    let comment = comment(rt.alloc())?;
+    assert_eq!(rt; first_length(&rt, rt.alloc(), &comment), None);
     Ok(())
+}
+
+// Adds leaves and the bracket behind them to the text of a tree.
+fn add_leaves(tree: &mut Vec<u8>, children: u32) -> Result<(), AllocError> {
+    for _ in 0..children {
+        tree.extend_from_slice(b"a ")?;
+    }
+    tree.extend_from_slice(b")")
 }
 
 // A tree of a label with this many children.
 fn wide_tree(alloc: Global, children: u32) -> Result<Vec<u8>, AllocError> {
     let mut tree = b"S(".to_vec(alloc)?;
-    for _ in 0..children {
-        tree.extend_from_slice(b"a ")?;
-    }
-    tree.push(b')')?;
+    add_leaves(&mut tree, children)?;
     Ok(tree)
 }
 
@@ -482,8 +697,8 @@ fn weighed_wide<R: Threads + Wait + Sync>(
     children: u32,
 ) -> Result<Status, AllocError> {
     let tree = wide_tree(alloc, children)?;
-    let grammar = BINARY.as_bytes().to_vec(alloc)?;
-    let ran = run_words(rt, alloc, &["weigh", "G", "T"], grammar, tree, SOUND)?;
+    let words = ["weigh", "G", "T"];
+    let ran = run_words(rt, alloc, &words, BINARY.as_bytes(), &tree, &SOUND)?;
     Ok(ran.status)
 }
 

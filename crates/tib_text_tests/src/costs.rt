@@ -12,7 +12,10 @@ fn cost(n: u64) -> Result<Cost, Fail> {
 }
 
 fn number(cost: Option<Cost>) -> Option<u64> {
-    cost.map(|c| c.get())
+    match cost {
+        Some(cost) => Some(cost.get()),
+        None => None,
+    }
 }
 
 #[test]

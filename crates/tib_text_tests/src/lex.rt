@@ -2,6 +2,7 @@
 ghost use Rattle.std.specs.Prelude.{length, IfOk, All};
 ghost use Rattle.tib_lex.specs.Line.{Lies};
 
+use crate::texts::repeated;
 use std::alloc::{AllocError, Global};
 use std::test::Fail;
 use tib_lex::{
@@ -70,28 +71,30 @@ fn a_line_ends_or_has_a_bad_token(rt: HostRuntime) {
 
 // A line of this many names, and of a quoted token with as many bytes.
 fn long_line(alloc: Global, count: u32) -> Result<Vec<u8>, AllocError> {
-    let mut line = Vec::new(alloc);
-    for _ in 0..count {
-        line.extend_from_slice(b"a ")?;
+    let names = repeated(alloc, b"", b"a ", count, b"\"")?;
+    repeated(alloc, &names, b"b", count, b"\"")
+}
+
+// Where the first line of a long file ends.
+fn first_end(bytes: &[u8]) -> Option<u32> {
+    if bytes.len() > 8_388_608 {
+        return None;
     }
-    line.push(b'"')?;
-    for _ in 0..count {
-        line.push(b'b')?;
+    match next_line(bytes, 1, 0) {
+        Some(line) => Some(line.end),
+        None => None,
     }
-    line.push(b'"')?;
-    Ok(line)
 }
 
 #[test]
 fn a_long_line_is_read(rt: HostRuntime) -> Result<(), Fail> {
-    let alloc = rt.alloc();
-    let line = long_line(alloc, 70_000)?;
-    assert!(rt; line.len() <= 8_388_608);
-    let mut tokens = Vec::new(alloc);
-    assert!(rt; read_tokens(&line, &mut tokens)?);
-    assert_eq!(rt; tokens.len(), 70_001);
-    assert_eq!(rt; token_text(alloc, &line, &tokens[70_000])?.len(), 70_000);
-    assert_eq!(rt; next_line(&line, 1, 0).map(|line| line.end), Some(210_002));
+    let line = long_line(rt.alloc(), 70_000)?;
+    let tokens = tokens_of(rt.alloc(), &line)?.len();
+    let last = text_at(rt.alloc(), &line, 70_000)?.len();
+    assert_eq!(rt;
+        (tokens, last, first_end(&line)),
+        (70_001, 70_000, Some(210_002))
+    );
     Ok(())
 }
 
@@ -112,7 +115,7 @@ static KINDS: [(FaultKind, &str); 12] = [
 ];
 
 fn words_of(alloc: Global, kind: FaultKind) -> Result<String, AllocError> {
-    format!(in alloc; "{kind}")
+    kind.to_string(alloc)
 }
 
 #[test]
@@ -124,7 +127,7 @@ fn a_kind_of_fault_says_what_it_is(rt: HostRuntime) -> Result<(), Fail> {
 }
 
 fn text_of_fault(alloc: Global, error: ReadError) -> Result<String, AllocError> {
-    format!(in alloc; "{error}")
+    error.to_string(alloc)
 }
 
 #[test]
@@ -140,39 +143,47 @@ fn a_fault_says_its_line_and_what_it_is(rt: HostRuntime) -> Result<(), Fail> {
     Ok(())
 }
 
-// The tokens of a short line; none where one of them is bad.
+// The tokens of a line; an error where one of them is bad.
 fn tokens_of(alloc: Global, line: &[u8]) -> Result<Vec<Token>, Fail>
     ensures { IfOk result (λ tokens. All (Lies (length line.now)) tokens.items) }
 {
     let mut tokens = Vec::new(alloc);
-    if line.len() > 99 || !read_tokens(line, &mut tokens)? {
-        return Err("no tokens".into());
+    if line.len() > 8_388_608 {
+        return Err("too long".into());
+    }
+    let whole = read_tokens(line, &mut tokens)?;
+    if !whole {
+        return Err("a bad token".into());
     }
     Ok(tokens)
 }
 
 // The text of the token at a place.
 fn text_at(alloc: Global, line: &[u8], place: usize) -> Result<Vec<u8>, Fail> {
-    match tokens_of(alloc, line)?.get(place) {
+    let tokens = tokens_of(alloc, line)?;
+    match tokens.get(place) {
         Some(token) => Ok(token_text(alloc, line, token)?),
         None => Err("no such token".into()),
     }
 }
 
+// A place among the tokens of the line `f("\"\\" )`, and the text of the token there.
+static QUOTED: [(usize, &[u8]); 2] = [(0, b"f"), (2, b"\"\\")];
+
 #[test]
 fn a_quoted_text_loses_its_quotes(rt: HostRuntime) -> Result<(), Fail> {
     let line = b"f(\"\\\"\\\\\" )";
-    assert_eq!(rt; tokens_of(rt.alloc(), line)?.len(), 4);
-    let name = text_at(rt.alloc(), line, 0)?;
-    assert_eq!(rt; name.as_slice(), b"f".as_slice());
-    let quoted = text_at(rt.alloc(), line, 2)?;
-    assert_eq!(rt; quoted.as_slice(), b"\"\\".as_slice());
+    assert!(rt; tokens_of(rt.alloc(), line)?.len() == 4);
+    for (place, want) in &QUOTED {
+        assert!(rt; text_at(rt.alloc(), line, *place)?.as_slice() == *want);
+    }
     Ok(())
 }
 
 // The name at a place of a line, where a name stands there.
 fn name_at(alloc: Global, line: &[u8], place: usize) -> Result<Option<&[u8]>, Fail> {
-    match tokens_of(alloc, line)?.get(place) {
+    let tokens = tokens_of(alloc, line)?;
+    match tokens.get(place) {
         Some(token) => Ok(name_text(line, *token)),
         None => Err("no such token".into()),
     }

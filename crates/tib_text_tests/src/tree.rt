@@ -3,11 +3,12 @@ ghost use Rattle.std.specs.Prelude.{length};
 ghost use Rattle.tib_lex.specs.Lists.{Each};
 ghost use Rattle.tib_tree.specs.Growth.{HasLabels};
 
+use crate::texts::repeated;
 use std::alloc::{AllocError, Global};
 use std::test::Fail;
 use tib_io::{Failed, GrowingSink};
 use tib_lex::{FaultKind, ReadError};
-use tib_tree::{Labels, ShapeError, Tree, needs_quotes, print_tree, read_trees};
+use tib_tree::{Labels, Node, ShapeError, Tree, needs_quotes, print_tree, read_trees};
 
 // A file, and how many trees it has, or the line and the kind of its fault.
 type Row = (&'static [u8], Result<usize, (u32, FaultKind)>);
@@ -40,22 +41,12 @@ fn a_tree_file_gives_its_trees_or_its_first_fault(rt: HostRuntime) {
     }
 }
 
-// A label with this many children.
-fn wide_tree(alloc: Global, children: u32) -> Result<Vec<u8>, AllocError> {
-    let mut bytes = b"f(".to_vec(alloc)?;
-    for _ in 0..children {
-        bytes.extend_from_slice(b"a ")?;
-    }
-    bytes.push(b')')?;
-    Ok(bytes)
-}
-
 #[test]
 fn a_tree_of_10001_nodes_is_too_large(rt: HostRuntime) -> Result<(), Fail> {
     let alloc = rt.alloc();
-    let most = wide_tree(alloc, 9999)?;
+    let most = repeated(alloc, b"f(", b"a ", 9999, b")")?;
     assert_eq!(rt; count_trees(alloc, &most), Some(Ok(1)));
-    let more = wide_tree(alloc, 10000)?;
+    let more = repeated(alloc, b"f(", b"a ", 10000, b")")?;
     assert_eq!(rt;
         count_trees(alloc, &more),
         Some(Err((1, FaultKind::TooManyNodes)))
@@ -105,17 +96,26 @@ fn a_list_of_nodes_is_one_tree(rt: HostRuntime) {
     assert!(rt; matches!(missing, Err(ShapeError::NotATree)));
 }
 
+// A node's label, rank, size and depth.
+static NODES: [(u32, u32, u32, u32); 4] = [(0, 2, 4, 0), (1, 1, 2, 1), (2, 0, 1, 2), (1, 0, 1, 1)];
+
+fn is_of(node: &Node, want: &(u32, u32, u32, u32)) -> bool {
+    (node.label, node.rank, node.size, node.depth) == *want
+}
+
+fn are_of(nodes: &[Node], want: &[(u32, u32, u32, u32)]) -> bool {
+    for (node, want) in nodes.iter().zip(want) {
+        if !is_of(node, want) {
+            return false;
+        }
+    }
+    nodes.len() == want.len()
+}
+
 #[test]
 fn nodes_have_sizes_and_depths(rt: HostRuntime) -> Result<(), Fail> {
     let tree = Tree::from_preorder(rt.alloc(), &[(0, 2), (1, 1), (2, 0), (1, 0)])?;
-    let mut sizes = Vec::new(rt.alloc());
-    for node in tree.nodes() {
-        sizes.push((node.label, node.rank, node.size, node.depth))?;
-    }
-    assert_eq!(rt;
-        sizes.as_slice(),
-        [(0, 2, 4, 0), (1, 1, 2, 1), (2, 0, 1, 2), (1, 0, 1, 1)].as_slice()
-    );
+    assert!(rt; are_of(tree.nodes(), &NODES));
     Ok(())
 }
 

@@ -1,7 +1,7 @@
 // Small transducers of one state, as written in comments: a label is a number here, 0 for A, 1 for
 // B and 2 for a.
-use crate::transducer::names;
-use std::alloc::Global;
+use crate::transducer::{hole, left_of, made, right_of};
+use std::alloc::{AllocError, Global};
 use std::test::Fail;
 use tib_classes::*;
 use tib_cost::{MinPlus, Semiring};
@@ -20,6 +20,14 @@ enum Leaf {
 // What stands on the left, and the variables below B on the right.
 type Row<'a> = (&'a [Leaf], &'a [u32]);
 
+fn left_item(leaf: Leaf, number: u32) -> Item<Variable> {
+    match leaf {
+        Leaf::Plain => hole(number, None),
+        Leaf::Labelled => hole(number, Some(2)),
+        Leaf::Label => Item::Label { label: 2, rank: 0 },
+    }
+}
+
 fn left_side(alloc: Global, leaves: &[Leaf]) -> Result<Side<Variable>, Fail> {
     if leaves.len() > 1000 {
         return Err("too many leaves".into());
@@ -29,24 +37,10 @@ fn left_side(alloc: Global, leaves: &[Leaf]) -> Result<Side<Variable>, Fail> {
         label: 0,
         rank: leaves.len() as u32,
     })?;
-    for (place, leaf) in leaves.iter().enumerate() {
-        let number = place as u32;
-        items.push(match leaf {
-            Leaf::Plain => Item::Hole(Variable {
-                number,
-                label: None,
-            }),
-            Leaf::Labelled => Item::Hole(Variable {
-                number,
-                label: Some(2),
-            }),
-            Leaf::Label => Item::Label { label: 2, rank: 0 },
-        })?;
+    for place in 0..leaves.len() {
+        items.push(left_item(leaves[place], place as u32))?;
     }
-    if items.len() > 2000 {
-        return Err("too many items".into());
-    }
-    Ok(Side::from_preorder(items).ok().ok_or("no left side")?)
+    left_of(items)
 }
 
 fn right_side(alloc: Global, variables: &[u32]) -> Result<Side<Pair<u32>>, Fail> {
@@ -64,10 +58,7 @@ fn right_side(alloc: Global, variables: &[u32]) -> Result<Side<Pair<u32>>, Fail>
             variable: *variable,
         }))?;
     }
-    if items.len() > 2000 {
-        return Err("too many items".into());
-    }
-    Ok(Side::from_preorder(items).ok().ok_or("no right side")?)
+    right_of(items)
 }
 
 fn rules(alloc: Global, rows: &[Row<'_>]) -> Result<Vec<TransducerRule<u32>>, Fail> {
@@ -86,10 +77,7 @@ fn rules(alloc: Global, rows: &[Row<'_>]) -> Result<Vec<TransducerRule<u32>>, Fa
 // A transducer of these rules, which cost nothing.
 fn transducer(alloc: Global, rows: &[Row<'_>]) -> Result<Transducer<MinPlus>, Fail> {
     let rules = rules(alloc, rows)?;
-    if rules.len() > 1000 {
-        return Err("too many rules".into());
-    }
-    Ok(Transducer::new(names(alloc, &["t"])?, rules).ok_or("no transducer")?)
+    Ok(made(alloc, &["t"], rules)?.ok_or("no transducer")?)
 }
 
 // The rules that decide: not linear, not nondeleting, extended, labelled.
@@ -124,13 +112,16 @@ static DEMANDS: [([bool; 4], Option<(u32, ClassFault)>); 5] = [
     ([false, false, false, false], None),
 ];
 
+fn outside(t: &Transducer<MinPlus>, demands: [bool; 4]) -> Option<(u32, ClassFault)> {
+    first_outside(t, demands[0], demands[1], demands[2], demands[3])
+}
+
 #[test]
 fn the_first_rule_decides(rt: HostRuntime) -> Result<(), Fail> {
     let t = transducer(rt.alloc(), &RULES)?;
     assert_eq!(rt; deciding(&t), [Some(2), Some(3), Some(4), Some(5)]);
-    for ([linear, nondeleting, plain, unlabelled], want) in &DEMANDS {
-        let first = first_outside(&t, *linear, *nondeleting, *plain, *unlabelled);
-        assert_eq!(rt; first, *want);
+    for (demands, want) in &DEMANDS {
+        assert_eq!(rt; outside(&t, *demands), *want);
     }
     Ok(())
 }
@@ -141,34 +132,41 @@ fn deciding_of_many(alloc: Global, variables: &[u32]) -> Result<[Option<u32>; 4]
     Ok(deciding(&transducer(alloc, &[(&leaves, variables)])?))
 }
 
-#[test]
-fn each_of_many_variables_counts(rt: HostRuntime) -> Result<(), Fail> {
-    let mut each = Vec::new(rt.alloc());
-    for variable in 0..130 {
+// The variables 0 to 128, another one, and one more where there is one.
+fn variables(alloc: Global, last: u32, again: Option<u32>) -> Result<Vec<u32>, Fail> {
+    let mut each = Vec::new(alloc);
+    for variable in 0..129 {
         each.push(variable)?;
     }
-    let once = deciding_of_many(rt.alloc(), &each)?;
-    assert_eq!(rt; once, [None, None, None, None]);
-    // the variable 64 stands twice, and then 129 is left out
-    each.push(64)?;
-    let twice = deciding_of_many(rt.alloc(), &each)?;
-    assert_eq!(rt; twice, [Some(1), None, None, None]);
-    if let Some(last) = each.get_mut(129) {
-        *last = 128;
+    each.push(last)?;
+    if let Some(variable) = again {
+        each.push(variable)?;
     }
-    let out = deciding_of_many(rt.alloc(), &each)?;
-    assert_eq!(rt; out, [Some(1), Some(1), None, None]);
+    Ok(each)
+}
+
+#[test]
+fn each_of_many_variables_counts(rt: HostRuntime) -> Result<(), Fail> {
+    for (last, again, want) in [
+        (129, None, [None, None, None, None]),
+        // the variable 64 stands twice, and then 129 is left out
+        (129, Some(64), [Some(1), None, None, None]),
+        (128, Some(64), [Some(1), Some(1), None, None]),
+    ] {
+        let variables = variables(rt.alloc(), last, again)?;
+        assert_eq!(rt; deciding_of_many(rt.alloc(), &variables)?, want);
+    }
     Ok(())
+}
+
+// What is printed of the fault of a rule.
+fn words_of(alloc: Global, rule: u32, fault: ClassFault) -> Result<String, AllocError> {
+    ClassError::Class { rule, fault }.to_string(alloc)
 }
 
 #[test]
 fn faults_have_their_words(rt: HostRuntime) -> Result<(), Fail> {
-    let alloc = rt.alloc();
-    let fault = ClassError::Class {
-        rule: 3,
-        fault: ClassFault::NotNondeleting,
-    };
-    let words = format!(in alloc; "{fault}")?;
+    let words = words_of(rt.alloc(), 3, ClassFault::NotNondeleting)?;
     assert_eq!(rt; words.as_str(), "rule 3: not nondeleting");
     Ok(())
 }

@@ -1,10 +1,11 @@
 // Strings and tree-to-string transducers, and files that are none.
-use std::alloc::Global;
+use std::alloc::{AllocError, Global};
 use std::test::Fail;
 use tib_cost::MinPlus;
 use tib_lex::ReadError;
 use tib_string_file::{read_string, read_string_transducer};
 use tib_strings::{StringRule, StringTransducer, Word};
+use tib_transducer::Pair;
 use tib_tree::{Label, Labels};
 
 // A file, and the texts of its words, each with a bar behind it, or what is printed of its fault.
@@ -42,20 +43,30 @@ static ROWS: [Row; 28] = [
     (b"a \"b\"\n-", "line 2: bad string"),
 ];
 
+fn push_label(labels: &Labels, label: Label, out: &mut Vec<u8>) -> Result<(), AllocError> {
+    if label as usize >= labels.len() {
+        return Ok(());
+    }
+    out.extend_from_slice(labels.text(label))
+}
+
+fn push_word(labels: &Labels, word: Label, out: &mut Vec<u8>) -> Result<(), AllocError> {
+    push_label(labels, word, out)?;
+    out.extend_from_slice(b"|")
+}
+
 // The texts of words, each with a bar behind it.
-fn texts_of(alloc: Global, words: &[Label], labels: &Labels) -> Result<Vec<u8>, Fail> {
+fn texts_of(alloc: Global, words: &[Label], labels: &Labels) -> Result<Vec<u8>, AllocError> {
     let mut out = Vec::new(alloc);
     for word in words {
-        if (*word as usize) < labels.len() {
-            out.extend_from_slice(labels.text(*word))?;
-            out.push(b'|')?;
-        }
+        push_word(labels, *word, &mut out)?;
     }
     Ok(out)
 }
 
-fn text_of_error(alloc: Global, error: ReadError) -> Result<Vec<u8>, Fail> {
-    Ok(error.to_string(alloc)?.as_bytes().to_vec(alloc)?)
+fn text_of_error(alloc: Global, error: ReadError) -> Result<Vec<u8>, AllocError> {
+    let text = error.to_string(alloc)?;
+    text.as_bytes().to_vec(alloc)
 }
 
 // What is told of a file.
@@ -65,15 +76,21 @@ fn told(alloc: Global, bytes: &[u8]) -> Result<Vec<u8>, Fail> {
     }
     let mut labels = Labels::new(alloc);
     match read_string(alloc, bytes, &mut labels) {
-        Ok(string) => texts_of(alloc, &string, &labels),
-        Err(error) => text_of_error(alloc, error),
+        Ok(string) => Ok(texts_of(alloc, &string, &labels)?),
+        Err(error) => Ok(text_of_error(alloc, error)?),
     }
+}
+
+// Whether this is told of a file.
+fn is_told(alloc: Global, bytes: &[u8], want: &str) -> Result<bool, Fail> {
+    let found = told(alloc, bytes)?;
+    Ok(found.as_slice() == want.as_bytes())
 }
 
 #[test]
 fn a_file_gives_its_string_or_its_fault(rt: HostRuntime) -> Result<(), Fail> {
-    for row in &ROWS {
-        assert!(rt; told(rt.alloc(), row.0)?.as_slice() == row.1.as_bytes());
+    for (bytes, want) in &ROWS {
+        assert!(rt; is_told(rt.alloc(), bytes, want)?);
     }
     Ok(())
 }
@@ -95,8 +112,9 @@ fn count(alloc: Global, words: usize) -> Result<Option<usize>, Fail> {
 
 #[test]
 fn a_string_has_ten_thousand_words_at_most(rt: HostRuntime) -> Result<(), Fail> {
-    assert_eq!(rt; count(rt.alloc(), 10_000)?, Some(10_000));
-    assert_eq!(rt; count(rt.alloc(), 10_001)?, None);
+    for (words, want) in [(10_000, Some(10_000)), (10_001, None)] {
+        assert_eq!(rt; count(rt.alloc(), words)?, want);
+    }
     Ok(())
 }
 
@@ -155,43 +173,56 @@ static RULES: [Row; 34] = [
     ),
 ];
 
+fn push_state(
+    transducer: &StringTransducer<MinPlus>,
+    state: u32,
+    out: &mut Vec<u8>,
+) -> Result<(), AllocError> {
+    if state >= transducer.states() {
+        return Ok(());
+    }
+    out.extend_from_slice(transducer.name(state))
+}
+
+fn push_pair(
+    transducer: &StringTransducer<MinPlus>,
+    pair: &Pair<u32>,
+    out: &mut Vec<u8>,
+) -> Result<(), AllocError> {
+    push_state(transducer, pair.state, out)?;
+    if pair.variable >= 10 {
+        return Ok(());
+    }
+    out.push(b'0' + pair.variable as u8)?;
+    Ok(())
+}
+
+// A blank, and the text of a word, or a pair.
+fn push_token(
+    transducer: &StringTransducer<MinPlus>,
+    token: &Word<u32>,
+    labels: &Labels,
+    out: &mut Vec<u8>,
+) -> Result<(), AllocError> {
+    out.extend_from_slice(b" ")?;
+    match token {
+        Word::Word(label) => push_label(labels, *label, out),
+        Word::Hole(pair) => push_pair(transducer, pair, out),
+    }
+}
+
 // The state of a rule, and its words and pairs.
 fn describe(
     transducer: &StringTransducer<MinPlus>,
     rule: &StringRule<u32>,
     labels: &Labels,
     out: &mut Vec<u8>,
-) -> Result<(), Fail> {
+) -> Result<(), AllocError> {
     push_state(transducer, rule.state, out)?;
-    for word in rule.right.tokens() {
-        out.push(b' ')?;
-        match word {
-            Word::Word(label) => {
-                if (*label as usize) < labels.len() {
-                    out.extend_from_slice(labels.text(*label))?;
-                }
-            }
-            Word::Hole(pair) => {
-                push_state(transducer, pair.state, out)?;
-                if pair.variable < 10 {
-                    out.push(b'0' + pair.variable as u8)?;
-                }
-            }
-        }
+    for token in rule.right.tokens() {
+        push_token(transducer, token, labels, out)?;
     }
-    out.push(b'|')?;
-    Ok(())
-}
-
-fn push_state(
-    transducer: &StringTransducer<MinPlus>,
-    state: u32,
-    out: &mut Vec<u8>,
-) -> Result<(), Fail> {
-    if state < transducer.states() {
-        out.extend_from_slice(transducer.name(state))?;
-    }
-    Ok(())
+    out.extend_from_slice(b"|")
 }
 
 // The rules of a transducer.
@@ -199,7 +230,7 @@ fn describe_all(
     alloc: Global,
     transducer: &StringTransducer<MinPlus>,
     labels: &Labels,
-) -> Result<Vec<u8>, Fail> {
+) -> Result<Vec<u8>, AllocError> {
     let mut out = Vec::new(alloc);
     for rule in transducer.rule_list() {
         describe(transducer, rule, labels, &mut out)?;
@@ -214,15 +245,21 @@ fn told_rules(alloc: Global, bytes: &[u8]) -> Result<Vec<u8>, Fail> {
     }
     let mut labels = Labels::new(alloc);
     match read_string_transducer::<MinPlus>(alloc, bytes, &mut labels) {
-        Ok(transducer) => describe_all(alloc, &transducer, &labels),
-        Err(error) => text_of_error(alloc, error),
+        Ok(transducer) => Ok(describe_all(alloc, &transducer, &labels)?),
+        Err(error) => Ok(text_of_error(alloc, error)?),
     }
+}
+
+// Whether this is told of a transducer file.
+fn are_told(alloc: Global, bytes: &[u8], want: &str) -> Result<bool, Fail> {
+    let found = told_rules(alloc, bytes)?;
+    Ok(found.as_slice() == want.as_bytes())
 }
 
 #[test]
 fn a_file_gives_its_string_transducer_or_its_fault(rt: HostRuntime) -> Result<(), Fail> {
-    for row in &RULES {
-        assert!(rt; told_rules(rt.alloc(), row.0)?.as_slice() == row.1.as_bytes());
+    for (bytes, want) in &RULES {
+        assert!(rt; are_told(rt.alloc(), bytes, want)?);
     }
     Ok(())
 }

@@ -1,5 +1,5 @@
 // Small transducers with one or two states, as written in comments: a label is a number here.
-use crate::transducer::names;
+use crate::transducer::{hole, left_of, names};
 use std::alloc::Global;
 use std::test::Fail;
 use tib_classes::ClassFault;
@@ -63,15 +63,9 @@ fn left_side(alloc: Global, variables: &[u32]) -> Result<Side<Variable>, Fail> {
         rank: variables.len() as u32,
     })?;
     for number in variables {
-        items.push(Item::Hole(Variable {
-            number: *number,
-            label: None,
-        }))?;
+        items.push(hole(*number, None))?;
     }
-    if items.len() > 2000 {
-        return Err("too many items".into());
-    }
-    Ok(Side::from_preorder(items).ok().ok_or("no left side")?)
+    left_of(items)
 }
 
 fn right_side(alloc: Global, pairs: &[(u32, u32)]) -> Result<Words<u32>, Fail> {

@@ -24,44 +24,82 @@ pub(crate) fn names(alloc: Global, texts: &[&str]) -> Result<Names, Fail> {
     Ok(Names::from_list(alloc, list)?.ok_or("no names")?)
 }
 
-fn left_side(alloc: Global, nodes: &[Left]) -> Result<Side<Variable>, Fail> {
-    let mut items = Vec::new(alloc);
-    for (head, number, label) in nodes {
-        match head {
-            Some((head, rank)) => items.push(Item::Label {
-                label: *head,
-                rank: *rank,
-            })?,
-            None => items.push(Item::Hole(Variable {
-                number: *number,
-                label: *label,
-            }))?,
-        }
+/// A variable on the left, with the label that it asks for.
+pub(crate) fn hole(number: u32, label: Option<Label>) -> Item<Variable> {
+    Item::Hole(Variable { number, label })
+}
+
+fn left_item((head, number, label): Left) -> Item<Variable> {
+    match head {
+        Some((label, rank)) => Item::Label { label, rank },
+        None => hole(number, label),
     }
-    if items.len() > 1000 {
+}
+
+/// The left side of these items.
+pub(crate) fn left_of(items: Vec<Item<Variable>>) -> Result<Side<Variable>, Fail> {
+    if items.len() > 2000 {
         return Err("too many items".into());
     }
     Ok(Side::from_preorder(items).ok().ok_or("no left side")?)
 }
 
-fn right_side(alloc: Global, nodes: &[Right]) -> Result<Side<Pair<u32>>, Fail> {
+fn left_side(alloc: Global, nodes: &[Left]) -> Result<Side<Variable>, Fail> {
     let mut items = Vec::new(alloc);
-    for (head, state, variable) in nodes {
-        match head {
-            Some((head, rank)) => items.push(Item::Label {
-                label: *head,
-                rank: *rank,
-            })?,
-            None => items.push(Item::Hole(Pair {
-                state: *state,
-                variable: *variable,
-            }))?,
-        }
+    for node in nodes {
+        items.push(left_item(*node))?;
     }
-    if items.len() > 1000 {
+    left_of(items)
+}
+
+fn right_item((head, state, variable): Right) -> Item<Pair<u32>> {
+    match head {
+        Some((label, rank)) => Item::Label { label, rank },
+        None => Item::Hole(Pair { state, variable }),
+    }
+}
+
+/// The right side of these items.
+pub(crate) fn right_of(items: Vec<Item<Pair<u32>>>) -> Result<Side<Pair<u32>>, Fail> {
+    if items.len() > 2000 {
         return Err("too many items".into());
     }
     Ok(Side::from_preorder(items).ok().ok_or("no right side")?)
+}
+
+fn right_side(alloc: Global, nodes: &[Right]) -> Result<Side<Pair<u32>>, Fail> {
+    let mut items = Vec::new(alloc);
+    for node in nodes {
+        items.push(right_item(*node))?;
+    }
+    right_of(items)
+}
+
+/// The transducer of these rules, where they make one.
+pub(crate) fn made(
+    alloc: Global,
+    texts: &[&str],
+    rules: Vec<TransducerRule<u32>>,
+) -> Result<Option<Transducer<MinPlus>>, Fail> {
+    if rules.len() > 100_000 {
+        return Err("too many rules".into());
+    }
+    Ok(Transducer::new(names(alloc, texts)?, rules))
+}
+
+// A rule that costs nothing.
+fn free_rule(
+    alloc: Global,
+    state: u32,
+    left: &[Left],
+    right: &[Right],
+) -> Result<TransducerRule<u32>, Fail> {
+    Ok(TransducerRule {
+        state,
+        left: left_side(alloc, left)?,
+        right: right_side(alloc, right)?,
+        cost: MinPlus::one(),
+    })
 }
 
 // The transducer of one rule of the state 0 that costs nothing, where it makes one.
@@ -72,13 +110,8 @@ fn of_one_rule(
     right: &[Right],
 ) -> Result<Option<Transducer<MinPlus>>, Fail> {
     let mut rules = Vec::new(alloc);
-    rules.push(TransducerRule {
-        state: 0,
-        left: left_side(alloc, left)?,
-        right: right_side(alloc, right)?,
-        cost: MinPlus::one(),
-    })?;
-    Ok(Transducer::new(names(alloc, texts)?, rules))
+    rules.push(free_rule(alloc, 0, left, right)?)?;
+    made(alloc, texts, rules)
 }
 
 // t.A(x0:a x1:) -> B(t.x1 p.x0)
@@ -158,10 +191,15 @@ static ROWS: [Row; 7] = [
     (&["t"], &LEFT, &[(None, 0, 1)], true),
 ];
 
+// Whether a rule makes a transducer.
+fn makes_one(alloc: Global, texts: &[&str], left: &[Left], right: &[Right]) -> Result<bool, Fail> {
+    Ok(of_one_rule(alloc, texts, left, right)?.is_some())
+}
+
 #[test]
 fn rules_without_their_shape_make_no_transducer(rt: HostRuntime) -> Result<(), Fail> {
     for (texts, left, right, want) in &ROWS {
-        assert!(rt; of_one_rule(rt.alloc(), texts, left, right)?.is_some() == *want);
+        assert!(rt; makes_one(rt.alloc(), texts, left, right)? == *want);
     }
     Ok(())
 }
@@ -170,17 +208,9 @@ fn rules_without_their_shape_make_no_transducer(rt: HostRuntime) -> Result<(), F
 fn of_many_rules(alloc: Global, count: u32) -> Result<Transducer<MinPlus>, Fail> {
     let mut rules = Vec::new(alloc);
     for place in 0..count {
-        rules.push(TransducerRule {
-            state: place / 65_536,
-            left: left_side(alloc, &LEFT)?,
-            right: right_side(alloc, &RIGHT)?,
-            cost: MinPlus::one(),
-        })?;
+        rules.push(free_rule(alloc, place / 65_536, &LEFT, &RIGHT)?)?;
     }
-    if rules.len() > 100_000 {
-        return Err("too many rules".into());
-    }
-    Ok(Transducer::new(names(alloc, &["t", "p"])?, rules).ok_or("no transducer")?)
+    Ok(made(alloc, &["t", "p"], rules)?.ok_or("no transducer")?)
 }
 
 #[test]

@@ -16,14 +16,18 @@ fn count_variables(side: &Side<Variable>) -> (u32, u32) {
     let mut variables: u32 = 0;
     let mut asked: u32 = 0;
     for item in side.items() {
-        if let Item::Hole(variable) = item {
-            variables = variables.wrapping_add(1);
-            if variable.label.is_some() {
-                asked = asked.wrapping_add(1);
-            }
-        }
+        let (here, asked_here) = count_item(item);
+        variables = variables.wrapping_add(here);
+        asked = asked.wrapping_add(asked_here);
     }
     (variables, asked)
+}
+
+fn count_item(item: &Item<Variable>) -> (u32, u32) {
+    match item {
+        Item::Hole(variable) => (1, variable.label.is_some() as u32),
+        Item::Label { .. } => (0, 0),
+    }
 }
 
 // What a transducer has.
@@ -45,10 +49,10 @@ fn counts_of<S>(transducer: &Transducer<S>, labels: usize) -> Counts {
 }
 
 // What a file has, or the line and the kind of its first fault.
-fn answer<S: Semiring + Drop>(
-    alloc: Global,
-    text: &[u8],
-) -> Result<Result<Counts, (u32, FaultKind)>, Fail> {
+type Answer = Result<Counts, (u32, FaultKind)>;
+
+// What is answered of a file.
+fn answer<S: Semiring + Drop>(alloc: Global, text: &[u8]) -> Result<Answer, Fail> {
     if text.len() > 1_000_000 {
         return Err("too long".into());
     }
@@ -191,13 +195,21 @@ fn the_first_fault_is_named(rt: HostRuntime) -> Result<(), Fail> {
 // One rule of weight 0.5 in each semiring.
 const HALF: &[u8] = b"q\nq.A -> a # 1\nq.A -> a # 0.5";
 
+// What is answered of it, with sums, greatest weights, least weights and none.
+fn half_read(alloc: Global) -> Result<[Answer; 4], Fail> {
+    Ok([
+        answer::<MinPlus>(alloc, HALF)?,
+        answer::<Bottleneck>(alloc, HALF)?,
+        answer::<Widest>(alloc, HALF)?,
+        answer::<Boolean>(alloc, HALF)?,
+    ])
+}
+
 #[test]
 fn each_semiring_reads_its_weights(rt: HostRuntime) -> Result<(), Fail> {
     let fault = Err((3, FaultKind::NotWhole));
-    assert_eq!(rt; answer::<MinPlus>(rt.alloc(), HALF)?, fault);
-    assert_eq!(rt; answer::<Bottleneck>(rt.alloc(), HALF)?, fault);
-    assert_eq!(rt; answer::<Widest>(rt.alloc(), HALF)?, fault);
-    assert_eq!(rt; answer::<Boolean>(rt.alloc(), HALF)?, Ok((1, 2, 2, 0, 0)));
+    let read = Ok((1, 2, 2, 0, 0));
+    assert_eq!(rt; half_read(rt.alloc())?, [fault, fault, fault, read]);
     Ok(())
 }
 
@@ -247,12 +259,7 @@ fn repeated(
 }
 
 // What is answered where a front and a back stand about a number of leaves.
-fn answer_about(
-    alloc: Global,
-    front: &str,
-    leaves: u32,
-    back: &str,
-) -> Result<Result<Counts, (u32, FaultKind)>, Fail> {
+fn answer_about(alloc: Global, front: &str, leaves: u32, back: &str) -> Result<Answer, Fail> {
     let text = repeated(alloc, front.as_bytes(), b"a ", leaves, back.as_bytes())?;
     answer::<MinPlus>(alloc, &text)
 }

@@ -38,6 +38,12 @@ fn printed<S: Semiring + Drop>(alloc: Global, text: &[u8]) -> Result<Vec<u8>, Fa
     text_of(alloc, &transducer, &labels)
 }
 
+// Whether this is printed of the transducer of a text.
+fn prints<S: Semiring + Drop>(alloc: Global, text: &[u8], want: &[u8]) -> Result<bool, Fail> {
+    let found = printed::<S>(alloc, text)?;
+    Ok(found.as_slice() == want)
+}
+
 // A text, and what is printed of its transducer where nothing is weighed.
 static ROWS: [(&str, &str); 18] = [
     ("% start\n q \n", "q\n"),
@@ -66,29 +72,31 @@ static ROWS: [(&str, &str); 18] = [
 #[test]
 fn each_label_is_printed_as_it_reads(rt: HostRuntime) -> Result<(), Fail> {
     for (text, want) in &ROWS {
-        let found = printed::<Boolean>(rt.alloc(), text.as_bytes())?;
-        assert!(rt; found.as_slice() == want.as_bytes(), "{text}");
+        let holds = prints::<Boolean>(rt.alloc(), text.as_bytes(), want.as_bytes())?;
+        assert!(rt; holds, "{text}");
     }
     Ok(())
 }
+
+const READ: &[u8] = b"q\nq.A(x0:) -> q.x0 # 003.0\n";
+
+const PLAIN: &[u8] = b"q\nq.A(x0:) -> q.x0\n";
 
 const WEIGHED: &[u8] = b"q\nq.A(x0:) -> q.x0 # 3\n";
 
 #[test]
 fn weights_are_printed_where_they_are_kept(rt: HostRuntime) -> Result<(), Fail> {
-    let text = b"q\nq.A(x0:) -> q.x0 # 003.0\n";
-    let found = printed::<Boolean>(rt.alloc(), text)?;
-    assert!(rt; found.as_slice() == b"q\nq.A(x0:) -> q.x0\n".as_slice());
-    assert!(rt; printed::<MinPlus>(rt.alloc(), text)?.as_slice() == WEIGHED);
-    assert!(rt; printed::<Bottleneck>(rt.alloc(), text)?.as_slice() == WEIGHED);
-    assert!(rt; printed::<Widest>(rt.alloc(), text)?.as_slice() == WEIGHED);
+    assert!(rt; prints::<Boolean>(rt.alloc(), READ, PLAIN)?);
+    assert!(rt; prints::<MinPlus>(rt.alloc(), READ, WEIGHED)?);
+    assert!(rt; prints::<Bottleneck>(rt.alloc(), READ, WEIGHED)?);
+    assert!(rt; prints::<Widest>(rt.alloc(), READ, WEIGHED)?);
     Ok(())
 }
 
 // Whether what is printed of the transducer of a text is printed again as it stands.
 fn stays(alloc: Global, text: &str) -> Result<bool, Fail> {
     let once = printed::<MinPlus>(alloc, text.as_bytes())?;
-    Ok(printed::<MinPlus>(alloc, &once)? == once)
+    prints::<MinPlus>(alloc, &once, &once)
 }
 
 static TEXTS: [&str; 4] = [

@@ -1,47 +1,24 @@
 //! The claim counter drawn from by one and by two threads, and small tasks by several workers.
 
-ghost use Rattle.std.specs.Prelude.{◌≡◌};
+ghost use Rattle.std.specs.Prelude.{◌≡◌, ◌≤◌, ◌<◌};
+ghost use Rattle.tib_lex.specs.Limits.{most_parts};
 
-use std::alloc::{AllocError, Global};
+use crate::keys::{Pair, pair_of};
+use std::alloc::Global;
+use std::sync::Wait;
 use std::test::Fail;
 use std::thread::{Threads, join};
 use tib_crew::{Gathered, Items, Performed, Seat, Task, Unperformed, perform_all};
-use tib_table::{Problem, TableKey};
+use tib_table::Problem;
 
-#[derive(Clone, Copy, Debug, Drop, PartialEq, Eq, PartialOrd, Ord, Hash)]
-struct Node {
-    number: u64,
-}
-
-impl TableKey for Node {
-    ghost use Rattle.std.specs.Prelude.{◌%◌};
-    ghost use Rattle.std.proofs.Common.{rules, arith, mod-lt};
-
-    ghost shelf_of = { λ n. n.number % 16 };
-
-    ghost entries_of = { λ _. 1 };
-
-    fn shelf(&self) -> u32 {
-        (self.number % 16) as u32
-    }
-
-    fn entries(&self) -> u64 {
-        1
-    }
-
-    ghost low = { λ n. mod-lt n.number (Prim.omega arith) };
-
-    ghost same = { λ x y e. Prim.search rules };
-}
-
-/// So many items, each of which ends at two nodes and has two parts.
+/// A number of items, each of which ends at two keys and has two parts.
 #[derive(Clone, Copy, Drop)]
 struct Doubles {
     count: u32,
 }
 
 impl Problem for Doubles {
-    type Key = Node;
+    type Key = Pair;
 
     type Data = u32;
 
@@ -74,15 +51,13 @@ impl Task for Doubles {
         alloc: Global,
         item: u32,
         budget: u64,
-    ) -> Result<Performed<Node, u32>, Unperformed> {
+    ) -> Result<Performed<Pair, u32>, Unperformed> {
         if budget < 2 {
             return Err(Unperformed::More);
         }
         let mut ends = Vec::new(alloc);
         for number in [item / 2, item / 3] {
-            let Ok(()) = ends.push(Node {
-                number: number as u64,
-            }) else {
+            let Ok(()) = ends.push(pair_of(number as u64)) else {
                 return Err(Unperformed::OutOfMemory);
             };
         }
@@ -105,9 +80,7 @@ fn are_in_order(gathered: &Gathered<Doubles>, count: u32) -> bool {
         if row.item as usize != item || row.ends.len() != 2 {
             return false;
         }
-        let half = Node {
-            number: (row.item / 2) as u64,
-        };
+        let half = pair_of((row.item / 2) as u64);
         if gathered.shelves.key(row.ends[0]) != Some(&half) {
             return false;
         }
@@ -115,57 +88,78 @@ fn are_in_order(gathered: &Gathered<Doubles>, count: u32) -> bool {
     true
 }
 
-#[test]
-fn two_items_by_two_workers(rt: HostRuntime) -> Result<(), Fail> {
-    match perform_all(&rt, rt.alloc(), Doubles { count: 2 }, 2, 4) {
-        Ok(gathered) => assert!(rt; are_in_order(&gathered, 2)),
-        Err(_) => assert!(rt; false),
+// Whether items give their rows in order, by a number of workers and within a number of parts.
+fn perform_in_order<R: Threads + Wait + Sync>(
+    rt: &R,
+    alloc: Global,
+    count: u32,
+    workers: u32,
+    parts: u64,
+) -> Result<bool, Unperformed>
+    requires workers { (1 ≤ workers) × (workers ≤ 16) }
+    requires parts { parts ≤ most_parts }
+{
+    match perform_all(rt, alloc, Doubles { count }, workers, parts) {
+        Ok(gathered) => Ok(are_in_order(&gathered, count)),
+        Err(error) => Err(error),
     }
-    Ok(())
 }
 
 #[test]
-fn a_thousand_items_by_sixteen_workers(rt: HostRuntime) -> Result<(), Fail> {
-    match perform_all(&rt, rt.alloc(), Doubles { count: 1000 }, 16, 2000) {
-        Ok(gathered) => assert!(rt; are_in_order(&gathered, 1000)),
-        Err(_) => assert!(rt; false),
-    }
-    Ok(())
+fn two_items_by_two_workers(rt: HostRuntime) {
+    assert_eq!(rt; perform_in_order(&rt, rt.alloc(), 2, 2, 4), Ok(true));
 }
 
 #[test]
-fn one_part_too_few(rt: HostRuntime) -> Result<(), Fail> {
-    match perform_all(&rt, rt.alloc(), Doubles { count: 1000 }, 16, 1999) {
-        Ok(_) => assert!(rt; false),
-        Err(error) => assert_eq!(rt; error, Unperformed::More),
-    }
-    Ok(())
+fn a_thousand_items_by_sixteen_workers(rt: HostRuntime) {
+    assert_eq!(rt; perform_in_order(&rt, rt.alloc(), 1000, 16, 2000), Ok(true));
+}
+
+#[test]
+fn one_part_too_few(rt: HostRuntime) {
+    let performed = perform_in_order(&rt, rt.alloc(), 1000, 16, 1999);
+    assert_eq!(rt; performed, Err(Unperformed::More));
+}
+
+// What one seat draws, until there is nothing more, three items at most.
+fn draw_three(items: &Items, seat: &mut Seat) -> [Option<u64>; 3]
+    requires counter { seat.old.counter ≡ items.now }
+    requires going { seat.old.nones ≡ 0 }
+{
+    let Some(first) = items.draw(seat) else {
+        return [None; 3];
+    };
+    let Some(second) = items.draw(seat) else {
+        return [Some(first), None, None];
+    };
+    [Some(first), Some(second), items.draw(seat)]
 }
 
 #[test]
 fn two_items_are_drawn_and_then_none(rt: HostRuntime) -> Result<(), Fail> {
     let (items, mut seat) = Items::open(rt.alloc(), 2)?;
-    let first = items.draw(&mut seat);
-    assert_eq!(rt; first, Some(0));
-    let second = items.draw(&mut seat);
-    assert_eq!(rt; second, Some(1));
-    let third = items.draw(&mut seat);
-    assert_eq!(rt; third, None);
+    assert_eq!(rt; draw_three(&items, &mut seat), [Some(0), Some(1), None]);
     Ok(())
+}
+
+// What two seats draw, one item each, and what one of them draws then, which has joined the other.
+fn draw_by_two(items: &Items, seat: &mut Seat) -> Option<(u64, u64, Option<u64>)>
+    requires counter { seat.old.counter ≡ items.now }
+    requires shares { 1 < seat.old.shares }
+    requires going { seat.old.nones ≡ 0 }
+{
+    let mut other = items.split(seat);
+    let first = items.draw(&mut other)?;
+    let second = items.draw(seat)?;
+    items.join(seat, other);
+    Some((first, second, items.draw(seat)))
 }
 
 #[test]
 fn two_seats_draw_from_one_counter(rt: HostRuntime) -> Result<(), Fail> {
     let (items, mut seat) = Items::open(rt.alloc(), 2)?;
     assert_eq!(rt; items.count(), 2);
-    let mut other = items.split(&mut seat);
-    let first = items.draw(&mut other);
-    assert_eq!(rt; first, Some(0));
-    let second = items.draw(&mut seat);
-    assert_eq!(rt; second, Some(1));
-    items.join(&mut seat, other);
-    let third = items.draw(&mut seat);
-    assert_eq!(rt; third, None);
+    assert_eq!(rt; draw_by_two(&items, &mut seat), Some((0, 1, None)));
     Ok(())
 }
 

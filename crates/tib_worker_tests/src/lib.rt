@@ -4,6 +4,8 @@
 #[cfg(test)]
 mod crew;
 #[cfg(test)]
+mod keys;
+#[cfg(test)]
 mod table;
 #[cfg(test)]
 mod turn;

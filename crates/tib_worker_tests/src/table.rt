@@ -1,38 +1,12 @@
 // Tables that one thread or several fill.
 ghost use Rattle.std.specs.Prelude.{◌≡◌, ◌≤◌, ◌<◌, IfOk};
 
+use crate::keys::{Pair, pair_of};
 use std::alloc::{AllocError, Global};
 use std::sync::Wait;
 use std::test::Fail;
 use std::thread::{Threads, join};
-use tib_table::{Number, Problem, Seats, Shelf, Shelves, Table, TableKey};
-
-#[derive(Clone, Copy, Debug, Drop, PartialEq, Eq, PartialOrd, Ord, Hash)]
-struct Pair {
-    left: u64,
-    right: u64,
-}
-
-impl TableKey for Pair {
-    ghost use Rattle.std.specs.Prelude.{◌%◌};
-    ghost use Rattle.std.proofs.Common.{rules, arith, mod-lt};
-
-    ghost shelf_of = { λ p. p.left % 16 };
-
-    ghost entries_of = { λ _. 2 };
-
-    fn shelf(&self) -> u32 {
-        (self.left % 16) as u32
-    }
-
-    fn entries(&self) -> u64 {
-        2
-    }
-
-    ghost low = { λ p. mod-lt p.left (Prim.omega arith) };
-
-    ghost same = { λ x y e. Prim.search rules };
-}
+use tib_table::{Number, Problem, Seats, Shelf, Shelves, Table};
 
 /// A problem that may hold the pairs whose left number is at most this.
 #[derive(Clone, Copy, Drop)]
@@ -52,43 +26,83 @@ impl Problem for AtMost {
     ghost may_hold = { λ most pair. pair.left ≤ most };
 }
 
-fn pair_of(left: u64) -> Pair
-    ensures { result.left ≡ left }
+// The place of the key of a number.
+fn place_of(shelf: &mut Shelf<AtMost>, left: u64) -> Result<u64, AllocError>
+    requires { left ≤ shelf.old.about }
+    ensures { shelf.new.about ≡ shelf.old.about }
 {
-    Pair {
-        left,
-        right: left / 2,
+    match shelf.number(pair_of(left)) {
+        Ok(place) => Ok(place),
+        Err(_) => Err(AllocError),
     }
+}
+
+// The places of the keys of 7, 3 and 7 again, and how many keys there are then.
+fn place_three(shelf: &mut Shelf<AtMost>) -> Result<[u64; 4], AllocError>
+    requires { shelf.old.about ≡ 9 }
+{
+    let seven = place_of(shelf, 7)?;
+    let three = place_of(shelf, 3)?;
+    let again = place_of(shelf, 7)?;
+    Ok([seven, three, again, shelf.len()])
+}
+
+// The last key, three times.
+fn take_three(shelf: &mut Shelf<AtMost>) -> [Option<Pair>; 3] {
+    let last = shelf.take_last();
+    let next = shelf.take_last();
+    let rest = shelf.take_last();
+    [last, next, rest]
 }
 
 #[test]
 fn a_shelf_numbers_in_the_order_of_first_sight(rt: HostRuntime) -> Result<(), Fail> {
     let mut shelf = Shelf::open(rt.alloc(), AtMost { most: 9 });
-    let seven = shelf.number(pair_of(7)).map_err(|_| AllocError)?;
-    let three = shelf.number(pair_of(3)).map_err(|_| AllocError)?;
-    let again = shelf.number(pair_of(7)).map_err(|_| AllocError)?;
-    assert_eq!(rt; seven, 0);
-    assert_eq!(rt; three, 1);
-    assert_eq!(rt; again, 0);
-    assert_eq!(rt; shelf.len(), 2);
-    assert_eq!(rt; shelf.take_last(), Some(pair_of(3)));
-    assert_eq!(rt; shelf.take_last(), Some(pair_of(7)));
-    assert_eq!(rt; shelf.take_last(), None);
+    assert_eq!(rt; place_three(&mut shelf)?, [0, 1, 0, 2]);
+    let three = Some(pair_of(3));
+    let seven = Some(pair_of(7));
+    assert_eq!(rt; take_three(&mut shelf), [three, seven, None]);
     Ok(())
+}
+
+// The number of a key.
+fn number_once<R: Wait>(
+    rt: &R,
+    table: &Table<AtMost>,
+    seats: &mut Seats<AtMost>,
+    key: Pair,
+) -> Result<Number, AllocError>
+    requires table { seats.old.table ≡ table.now }
+    requires most { key.left ≤ table.now.about }
+    ensures { seats.new.table ≡ table.now }
+{
+    match table.number(rt, seats, key) {
+        Ok(number) => Ok(number),
+        Err(_) => Err(AllocError),
+    }
+}
+
+// The key of a number, the last two keys of its shelf, and then what the number names.
+fn keys_of(shelves: &mut Shelves<AtMost>, number: Number) -> [Option<Pair>; 4] {
+    let named = shelves.key(number).copied();
+    let last = shelves.take_last(number.shelf);
+    let next = shelves.take_last(number.shelf);
+    let rest = shelves.key(number).copied();
+    [named, last, next, rest]
 }
 
 #[test]
 fn a_key_has_one_number(rt: HostRuntime) -> Result<(), Fail> {
     let (table, mut seats) = Table::open(rt.alloc(), AtMost { most: 1 })?;
     let key = Pair { left: 1, right: 2 };
-    let first = table.number(&rt, &mut seats, key).map_err(|_| AllocError)?;
-    let second = table.number(&rt, &mut seats, key).map_err(|_| AllocError)?;
-    assert_eq!(rt; first, second);
+    let first = number_once(&rt, &table, &mut seats, key)?;
+    let second = number_once(&rt, &table, &mut seats, key)?;
     let mut shelves = table.close(&rt, seats);
-    assert_eq!(rt; shelves.key(first), Some(&key));
-    assert_eq!(rt; shelves.take_last(first.shelf), Some(key));
-    assert_eq!(rt; shelves.take_last(first.shelf), None);
-    assert_eq!(rt; shelves.key(first), None);
+    assert_eq!(rt; first, second);
+    assert_eq!(rt;
+        keys_of(&mut shelves, first),
+        [Some(key), Some(key), None, None]
+    );
     Ok(())
 }
 
@@ -121,10 +135,8 @@ fn number_all<R: Wait>(
     let mut numbers = Vec::new(alloc);
     for at in 0..keys {
         let left = if backwards { keys - 1 - at } else { at };
-        match table.number(rt, &mut seats, pair_of(left)) {
-            Ok(number) => numbers.push(number)?,
-            Err(_) => return Err(AllocError),
-        }
+        let number = number_once(rt, table, &mut seats, pair_of(left))?;
+        numbers.push(number)?;
     }
     Ok(Numbered { seats, numbers })
 }

@@ -10,8 +10,12 @@ pub const OTHER_LEAF: &str = "q\nq -> a\n";
 
 const ENDLESS: &str = "q\nq -> f(q)\n";
 
+// The start has one tree, of more than 10,000 nodes.
+const DEEP: &str =
+    "q\nq -> S(q13 q13 a)\nq13 -> S(q12 q12)\nq12 -> S(q11 q11)\nq11 -> S(q10 q10)\nq10 -> S(q9 q9)\nq9 -> S(q8 q8)\nq8 -> S(q7 q7)\nq7 -> S(q6 q6)\nq6 -> S(q5 q5)\nq5 -> S(q4 q4)\nq4 -> S(q3 q3)\nq3 -> S(q2 q2)\nq2 -> S(q1 q1)\nq1 -> S(q0 q0)\nq0 -> a\n";
+
 // The worked rows on `compare`.
-pub static COMPARED: [Row; 16] = [
+pub static COMPARED: [Row; 22] = [
     // each side has a tree that the other lacks, and the label of the second is less
     (
         &["compare", "--limit=8", "G", "T"],
@@ -160,5 +164,54 @@ pub static COMPARED: [Row; 16] = [
         Status::Usage,
         "",
         "tiburon: usage: tiburon [-m MODE] [-k N] [-w N] [--limit N] [--beam N] OPERATION FILE...\n",
+    ),
+    // neither grammar is in normal form or trimmed: p is of no use, and a chain leads to the others
+    (
+        &["--limit=1000", "compare", "G", "T"],
+        "q\nq -> S(a r)\nq -> r\nr -> b\np -> c\n",
+        "s\ns -> b\ns -> S(a b)\n",
+        Status::Done,
+        "same\n",
+        "",
+    ),
+    (
+        &["--limit=1000", "compare", "G", "T"],
+        "q\nq -> S(a r)\nr -> b\nr -> \"c d\"\n",
+        "s\ns -> S(a b)\n",
+        Status::Done,
+        "first S(a \"c d\")\n",
+        "",
+    ),
+    (
+        &["--limit=1000", "compare", "G", "T"],
+        ONE_LEAF,
+        OTHER_LEAF,
+        Status::Done,
+        "second a\n",
+        "",
+    ),
+    (
+        &["--limit=1000", "compare", "G", "T"],
+        "q\nq -> b\nq -> a\n",
+        "q\n",
+        Status::Done,
+        "first a\n",
+        "",
+    ),
+    (
+        &["--limit=1000", "compare", "G", "T"],
+        "q\n",
+        "q\n",
+        Status::Done,
+        "same\n",
+        "",
+    ),
+    (
+        &["--limit=1000", "compare", "G", "T"],
+        DEEP,
+        "q\n",
+        Status::TreeTooLarge,
+        "",
+        "tiburon: a tree has more than 10000 nodes\n",
     ),
 ];

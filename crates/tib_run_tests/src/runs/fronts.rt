@@ -1,7 +1,7 @@
 // `parse` on each front of the string's file, and of the transducer's.
 use super::parsed_rows::{SPELLED, SPELLING, WORDS};
-use super::running::{Outside, SOUND, run_words};
-use std::alloc::{AllocError, Global};
+use super::running::{Outside, Ran, SOUND, run_words};
+use std::alloc::Global;
 use std::sync::Wait;
 use std::test::Fail;
 use std::thread::Threads;
@@ -11,6 +11,12 @@ use tib_operations::Status;
 
 // From this number of bytes on, up to that of the next row, the fronts have this answer.
 type Front = (usize, Status, &'static str);
+
+// Four workers hunt.
+const BY_FOUR: Outside = Outside {
+    workers: Some("4"),
+    ..SOUND
+};
 
 const NO_START: Status = Status::BadInput {
     file: 1,
@@ -107,15 +113,23 @@ static TRANSDUCER_FRONTS: [Front; 16] = [
     (59, Status::Done, SPELLED),
 ];
 
-// The answer on a front of this many bytes.
-fn front_at(fronts: &[Front], bytes: usize) -> Option<Front> {
-    let mut last = None;
+// The answer on a front of this many bytes, and one that no run gives where there is none.
+fn front_at(fronts: &[Front], bytes: usize) -> Front {
+    let mut last = (0, Status::WriteFault, "none");
     for front in fronts {
         if front.0 <= bytes {
-            last = Some(*front);
+            last = *front;
         }
     }
     last
+}
+
+// Whether a run ended so, and wrote this.
+fn is_front(ran: &Ran, front: &Front) -> bool {
+    if ran.status != front.1 {
+        return false;
+    }
+    ran.out.bytes() == front.2.as_bytes()
 }
 
 // Whether `parse` answers so on files with these bytes.
@@ -124,63 +138,60 @@ fn answers<R: Threads + Wait + Sync>(
     alloc: Global,
     transducer: &[u8],
     string: &[u8],
-    workers: Option<&'static str>,
-    front: Option<Front>,
-) -> Result<bool, AllocError> {
-    let outside = Outside { workers, ..SOUND };
-    let first = transducer.to_vec(alloc)?;
-    let second = string.to_vec(alloc)?;
-    let ran = run_words(rt, alloc, &["parse", "G", "T"], first, second, outside)?;
-    let Some((_, status, text)) = front else {
-        return Ok(false);
+    outside: &Outside,
+    front: &Front,
+) -> bool {
+    let words = ["parse", "G", "T"];
+    let Ok(ran) = run_words(rt, alloc, &words, transducer, string, outside) else {
+        return false;
     };
-    Ok(ran.status == status && ran.out.bytes() == text.as_bytes())
+    is_front(&ran, front)
 }
 
 // The first front of the string's file with another answer.
 fn first_string<R: Threads + Wait + Sync>(
     rt: &R,
     alloc: Global,
-    workers: Option<&'static str>,
-) -> Result<Option<usize>, AllocError> {
-    let whole = QUOTED.as_bytes();
+    outside: &Outside,
+) -> Option<usize> {
     let transducer = SPELLING.as_bytes();
-    for bytes in 0..=whole.len() {
+    for bytes in 0..=QUOTED.len() {
+        let string = QUOTED.as_bytes().get(..bytes).unwrap_or(b"");
         let front = front_at(&STRING_FRONTS, bytes);
-        if !answers(rt, alloc, transducer, &whole[..bytes], workers, front)? {
-            return Ok(Some(bytes));
+        if !answers(rt, alloc, transducer, string, outside, &front) {
+            return Some(bytes);
         }
     }
-    Ok(None)
+    None
 }
 
 // The first front of the transducer's file with another answer.
 fn first_transducer<R: Threads + Wait + Sync>(
     rt: &R,
     alloc: Global,
-    workers: Option<&'static str>,
-) -> Result<Option<usize>, AllocError> {
-    let whole = SPELLING.as_bytes();
+    outside: &Outside,
+) -> Option<usize> {
     let string = WORDS.as_bytes();
-    for bytes in 0..=whole.len() {
+    for bytes in 0..=SPELLING.len() {
+        let transducer = SPELLING.as_bytes().get(..bytes).unwrap_or(b"");
         let front = front_at(&TRANSDUCER_FRONTS, bytes);
-        if !answers(rt, alloc, &whole[..bytes], string, workers, front)? {
-            return Ok(Some(bytes));
+        if !answers(rt, alloc, transducer, string, outside, &front) {
+            return Some(bytes);
         }
     }
-    Ok(None)
+    None
 }
 
 #[test]
-fn fronts_of_a_string_are_parsed(rt: HostRuntime) -> Result<(), Fail> {
-    assert_eq!(rt; first_string(&rt, rt.alloc(), None)?, None);
-    assert_eq!(rt; first_string(&rt, rt.alloc(), Some("4"))?, None);
+fn fronts_of_the_string_are_parsed(rt: HostRuntime) -> Result<(), Fail> {
+    assert_eq!(rt; first_string(&rt, rt.alloc(), &SOUND), None);
+    assert_eq!(rt; first_string(&rt, rt.alloc(), &BY_FOUR), None);
     Ok(())
 }
 
 #[test]
-fn fronts_of_a_transducer_parse(rt: HostRuntime) -> Result<(), Fail> {
-    assert_eq!(rt; first_transducer(&rt, rt.alloc(), None)?, None);
-    assert_eq!(rt; first_transducer(&rt, rt.alloc(), Some("4"))?, None);
+fn fronts_of_the_transducer_are_parsed(rt: HostRuntime) -> Result<(), Fail> {
+    assert_eq!(rt; first_transducer(&rt, rt.alloc(), &SOUND), None);
+    assert_eq!(rt; first_transducer(&rt, rt.alloc(), &BY_FOUR), None);
     Ok(())
 }

@@ -9,6 +9,11 @@ use std::thread::Threads;
 use tib_hunt::Gate;
 use tib_operations::Status;
 
+const TWO: Outside = Outside {
+    workers: Some("2"),
+    ..SOUND
+};
+
 // How often a worker looks for another before it gives up.
 const TURNS: u32 = 200_000_000;
 
@@ -69,22 +74,22 @@ fn run_meeting<R: Threads + Wait + Sync>(
     alloc: Global,
     gate: &Meeting,
 ) -> Result<Ran, AllocError> {
-    let outside = Outside {
-        workers: Some("2"),
-        ..SOUND
+    run_through(rt, alloc, SEVEN.0, b"", b"", &TWO, gate)
+}
+
+// How often workers met in this run, how it ended, and whether it wrote the row's text.
+fn met<R: Threads + Wait + Sync>(rt: &R, alloc: Global) -> Option<(u64, Status, bool)> {
+    let gate = Meeting::new();
+    let Ok(ran) = run_meeting(rt, alloc, &gate) else {
+        return None;
     };
-    let nothing = Vec::new(alloc);
-    let other = Vec::new(alloc);
-    run_through(rt, alloc, SEVEN.0, nothing, other, outside, gate)
+    let written = ran.out.bytes() == SEVEN.4.as_bytes();
+    Some((gate.met.load(Ordering::SeqCst), ran.status, written))
 }
 
 // The third round of the hunt has the items 2 and 3. A run whose work is done by one worker, or by several under one lock, gives up there.
 #[test]
 fn two_workers_meet(rt: HostRuntime) -> Result<(), Fail> {
-    let gate = Meeting::new();
-    let ran = run_meeting(&rt, rt.alloc(), &gate)?;
-    assert_eq!(rt; gate.met.load(Ordering::SeqCst), 2);
-    assert_eq!(rt; ran.status, Status::Done);
-    assert!(rt; ran.out.bytes() == SEVEN.4.as_bytes());
+    assert_eq!(rt; met(&rt, rt.alloc()), Some((2, Status::Done, true)));
     Ok(())
 }

@@ -33,8 +33,8 @@ const NESTED_NORMAL: &str = "q0\nq0 -> b # 3\nq0 -> f(q1 q0) # 3\nq1 -> g(q2) # 
 
 pub const TWO_WAYS: &str = "q\nq -> f(r) # 1\nq -> f(s) # 3\nr -> a # 2\ns -> a # 1\n";
 
-// The worked rows on `weigh`, and words that are no command.
-pub static WEIGHED: [Row; 27] = [
+// The worked rows on `weigh`: costs, weights, and files that are no grammar.
+pub static WEIGHED: [Row; 13] = [
     // the cost of a tree
     (
         &["weigh", "G", "T"],
@@ -182,6 +182,10 @@ pub static WEIGHED: [Row; 27] = [
         "",
         "tiburon: file 1: line 2: bad token\n",
     ),
+];
+
+// Those on rules of every form, limits, labels and both files, and words that are no command.
+pub static WEIGHED_OTHERS: [Row; 14] = [
     // a nested right side
     (
         &["weigh", "G", "T"],
@@ -316,7 +320,7 @@ pub static WEIGHED: [Row; 27] = [
 ];
 
 // Those on `inside` and `normal`.
-pub static ONE_FILE: [Row; 38] = [
+pub static ONE_FILE: [Row; 22] = [
     // one grammar alone
     // each state, one without a run among them
     (
@@ -530,6 +534,10 @@ pub static ONE_FILE: [Row; 38] = [
         "",
         "tiburon: usage: tiburon [-m MODE] [-k N] [-w N] [--limit N] [--beam N] OPERATION FILE...\n",
     ),
+];
+
+// Those on `prune`.
+pub static PRUNED: [Row; 16] = [
     // what costs no more than the cheapest tree
     (
         &["prune", "G"],

@@ -1,7 +1,7 @@
 // The reached sets of small grammars, as text, and the limit.
 ghost use Rattle.std.specs.Prelude.{◌≤◌, length};
 
-use crate::grammars::{Row, normal, write_number, write_rules};
+use crate::grammars::{Row, normal, write_dotted, write_marked, write_rules};
 use std::alloc::{AllocError, Global};
 use std::test::Fail;
 use tib_cost::{Boolean, Bottleneck, Cost, MinPlus, Semiring};
@@ -46,13 +46,15 @@ static APART: [Row; 4] = [
     (2, 9, &[], 1),
 ];
 
+fn write_final(text: &mut String, position: u32, residual: Cost) -> Result<(), AllocError> {
+    write_marked(text, "", position as u64)?;
+    write_marked(text, " at ", residual.get())
+}
+
 // The states of a vector with their residuals.
 fn write_vector(text: &mut String, vector: &Vector) -> Result<(), AllocError> {
     for (state, residual) in vector.entries() {
-        write_number(text, *state as u64)?;
-        text.push_str(".")?;
-        write_number(text, residual.get())?;
-        text.push_str(" ")?;
+        write_dotted(text, *state as u64, &[residual.get()])?;
     }
     text.push_str("; ")
 }
@@ -70,9 +72,7 @@ fn write_found(
     write_rules(&mut text, &found.rules, found.parts)?;
     text.push_str(" | ")?;
     for (position, residual) in finals {
-        write_number(&mut text, *position as u64)?;
-        text.push_str(" at ")?;
-        write_number(&mut text, residual.get())?;
+        write_final(&mut text, *position, *residual)?;
     }
     Ok(text)
 }

@@ -7,6 +7,7 @@ use std::alloc::{AllocError, Global};
 use std::test::Fail;
 use tib_canon::{Begin, Printed, canonical, to_grammar};
 use tib_cost::{Boolean, MinPlus, Semiring};
+use tib_grammar::Grammar;
 use tib_grammar_file::{print_grammar, read_grammar};
 use tib_hunt::Found;
 use tib_io::GrowingSink;
@@ -66,19 +67,30 @@ fn printed<S: Semiring>(alloc: Global, form: &Printed<S>, labels: &Labels) -> Re
     Ok(sink.bytes().to_vec(alloc)?)
 }
 
-// The canonical grammar over the three keys with the rules of a text, as it is printed.
-fn answer_over_keys(alloc: Global, text: &[u8], start: u32) -> Result<Vec<u8>, Fail>
-    requires { start < 3 }
+// The grammar of a text, with its labels.
+fn read<S: Semiring>(alloc: Global, text: &[u8]) -> Result<(Grammar<S>, Labels), Fail>
+    ensures { IfOk result (λ read. AreLabelled (length read.1) read.0.rules) }
 {
-    if text.len() > 100_000 {
+    if text.len() > 8_000_000 {
         return Err("too long".into());
     }
     let mut labels = Labels::new(alloc);
-    let grammar = match read_grammar::<Boolean>(alloc, text, &mut labels) {
-        Ok(grammar) => grammar,
-        Err(_) => return Err("the text was refused".into()),
-    };
-    if grammar.states() != 3 {
+    match read_grammar::<S>(alloc, text, &mut labels) {
+        Ok(grammar) => Ok((grammar, labels)),
+        Err(_) => Err("the text was refused".into()),
+    }
+}
+
+// The canonical grammar over the three keys with the rules of a grammar, as it is printed.
+fn over_keys(
+    alloc: Global,
+    grammar: Grammar<Boolean>,
+    labels: &Labels,
+    start: u32,
+) -> Result<Vec<u8>, Fail>
+    requires { AreLabelled (length labels.now) grammar.rules }
+{
+    if start > 2 || grammar.states() != 3 {
         return Err("not three states".into());
     }
     grammar.is_sound();
@@ -88,52 +100,53 @@ fn answer_over_keys(alloc: Global, text: &[u8], start: u32) -> Result<Vec<u8>, F
         rules,
         parts: 0,
     };
-    let form = to_grammar::<Boolean, Number>(alloc, found, Begin::At(start), &labels)?;
-    printed(alloc, &form, &labels)
+    let form = to_grammar::<Boolean, Number>(alloc, found, Begin::At(start), labels)?;
+    printed(alloc, &form, labels)
+}
+
+// The same of the rules of a text.
+fn answer_over_keys(alloc: Global, text: &[u8], start: u32) -> Result<Vec<u8>, Fail> {
+    let (grammar, labels) = read::<Boolean>(alloc, text)?;
+    over_keys(alloc, grammar, &labels, start)
 }
 
 // The canonical form of the grammar of a text, as it is printed.
-fn answer<S: Semiring + Drop>(alloc: Global, text: &[u8]) -> Result<Vec<u8>, Fail> {
-    if text.len() > 8_000_000 {
-        return Err("too long".into());
-    }
-    let mut labels = Labels::new(alloc);
-    let grammar = match read_grammar::<S>(alloc, text, &mut labels) {
-        Ok(grammar) => grammar,
-        Err(_) => return Err("the text was refused".into()),
-    };
+fn answer<S: Semiring>(alloc: Global, text: &[u8]) -> Result<Vec<u8>, Fail> {
+    let (grammar, labels) = read::<S>(alloc, text)?;
     let form = canonical(alloc, grammar, &labels)?;
     printed(alloc, &form, &labels)
 }
 
+// A grammar whose costs are added, and its canonical form.
+static SMALL: [(&[u8], &[u8]); 7] = [
+    (
+        b"q\nq -> f(s q) # 3\nq -> b # 3\nr -> b # 2\ns -> g(t)\nt -> a\n",
+        b"q0\nq0 -> b # 3\nq0 -> f(q1 q0) # 3\nq1 -> g(q2) # 0\nq2 -> a # 0\n",
+    ),
+    (
+        b"q\nq -> f(x y)\nx -> \"q\"\ny -> \"q0\"\n",
+        b"q0\nq0 -> f(q1 q2) # 0\nq1 -> q # 0\nq2 -> \"q0\" # 0\n",
+    ),
+    (
+        b"q\nq -> a # 5\nq -> a # 2\nq -> b\nq -> a # 10\n",
+        b"q0\nq0 -> a # 2\nq0 -> b # 0\n",
+    ),
+    (
+        b"q\nq -> a(q)\nq -> a # 10\nq -> B\n",
+        b"q0\nq0 -> B # 0\nq0 -> a # 10\nq0 -> a(q0) # 0\n",
+    ),
+    (b"q\n", b"q0\n"),
+    (b"q\nq -> f(q)\np -> a\n", b"q0\n"),
+    (
+        b"q\nq -> f(p r)\nr -> c\np -> c\n",
+        b"q0\nq0 -> f(q2 q1) # 0\nq1 -> c # 0\nq2 -> c # 0\n",
+    ),
+];
+
 #[test]
 fn small_grammars_have_their_forms(rt: HostRuntime) -> Result<(), Fail> {
-    for (text, want) in [
-        (
-            "q\nq -> f(s q) # 3\nq -> b # 3\nr -> b # 2\ns -> g(t)\nt -> a\n",
-            "q0\nq0 -> b # 3\nq0 -> f(q1 q0) # 3\nq1 -> g(q2) # 0\nq2 -> a # 0\n",
-        ),
-        (
-            "q\nq -> f(x y)\nx -> \"q\"\ny -> \"q0\"\n",
-            "q0\nq0 -> f(q1 q2) # 0\nq1 -> q # 0\nq2 -> \"q0\" # 0\n",
-        ),
-        (
-            "q\nq -> a # 5\nq -> a # 2\nq -> b\nq -> a # 10\n",
-            "q0\nq0 -> a # 2\nq0 -> b # 0\n",
-        ),
-        (
-            "q\nq -> a(q)\nq -> a # 10\nq -> B\n",
-            "q0\nq0 -> B # 0\nq0 -> a # 10\nq0 -> a(q0) # 0\n",
-        ),
-        ("q\n", "q0\n"),
-        ("q\nq -> f(q)\np -> a\n", "q0\n"),
-        (
-            "q\nq -> f(p r)\nr -> c\np -> c\n",
-            "q0\nq0 -> f(q2 q1) # 0\nq1 -> c # 0\nq2 -> c # 0\n",
-        ),
-    ] {
-        let printed = answer::<MinPlus>(rt.alloc(), text.as_bytes())?;
-        assert_eq!(rt; printed.as_slice(), want.as_bytes(), "{text}");
+    for (text, want) in &SMALL {
+        assert!(rt; answer::<MinPlus>(rt.alloc(), *text)?.as_slice() == *want);
     }
     Ok(())
 }
@@ -149,19 +162,18 @@ fn states_are_sorted_by_number(rt: HostRuntime) -> Result<(), Fail> {
     Ok(())
 }
 
+// The place of the start, and the canonical form over the three keys.
+static OVER_KEYS: [(u32, &[u8]); 2] = [
+    (0, b"q0\nq0 -> f(q1 q2)\nq1 -> x\nq2 -> g(q0)\nq2 -> y\n"),
+    (2, b"q0\nq0 -> g(q2)\nq0 -> y\nq1 -> x\nq2 -> f(q1 q0)\n"),
+];
+
 #[test]
 fn states_are_named_by_their_keys(rt: HostRuntime) -> Result<(), Fail> {
     let text = b"a\na -> f(b c)\nb -> x\nc -> y\nc -> g(a)\n";
-    let first = answer_over_keys(rt.alloc(), text, 0)?;
-    assert_eq!(rt;
-        first.as_slice(),
-        b"q0\nq0 -> f(q1 q2)\nq1 -> x\nq2 -> g(q0)\nq2 -> y\n".as_slice()
-    );
-    let last = answer_over_keys(rt.alloc(), text, 2)?;
-    assert_eq!(rt;
-        last.as_slice(),
-        b"q0\nq0 -> g(q2)\nq0 -> y\nq1 -> x\nq2 -> f(q1 q0)\n".as_slice()
-    );
+    for (start, want) in &OVER_KEYS {
+        assert!(rt; answer_over_keys(rt.alloc(), text, *start)?.as_slice() == *want);
+    }
     Ok(())
 }
 
@@ -182,31 +194,29 @@ fn wide_text(alloc: Global, count: u32, one_state: bool) -> Result<Vec<u8>, Allo
     Ok(text)
 }
 
+// How many lines a text has.
+fn count_lines(text: &[u8]) -> usize {
+    text.iter().filter(|byte| **byte == b'\n').count()
+}
+
 #[test]
 fn more_rules_than_16_bits_count_are_kept(rt: HostRuntime) -> Result<(), Fail> {
     let text = wide_text(rt.alloc(), 66_000, true)?;
     let printed = answer::<Boolean>(rt.alloc(), &text)?;
-    assert_eq!(rt;
-        printed.iter().filter(|byte| **byte == b'\n').count(),
-        66_001
-    );
+    assert!(rt; count_lines(&printed) == 66_001);
     Ok(())
+}
+
+// How many states and rules the grammar of a text has, and whether it is in deterministic form.
+fn measure(alloc: Global, text: &[u8]) -> Result<(u32, u32, bool), Fail> {
+    let (grammar, _) = read::<Boolean>(alloc, text)?;
+    let deterministic = grammar.deterministic(alloc).is_ok();
+    Ok((grammar.states(), grammar.rules(), deterministic))
 }
 
 #[test]
 fn more_states_than_16_bits_count_are_read(rt: HostRuntime) -> Result<(), Fail> {
-    let alloc = rt.alloc();
-    let text = wide_text(alloc, 66_000, false)?;
-    if text.len() > 8_000_000 {
-        return Err("too long".into());
-    }
-    let mut labels = Labels::new(alloc);
-    match read_grammar::<Boolean>(alloc, &text, &mut labels) {
-        Ok(grammar) => {
-            assert!(rt; grammar.states() == 66_001 && grammar.rules() == 66_000);
-            assert!(rt; grammar.deterministic(alloc).is_ok());
-        }
-        Err(_) => return Err("the text was refused".into()),
-    }
+    let text = wide_text(rt.alloc(), 66_000, false)?;
+    assert_eq!(rt; measure(rt.alloc(), &text)?, (66_001, 66_000, true));
     Ok(())
 }

@@ -1,10 +1,11 @@
 // Outside costs of grammars that are made by a row of numbers, against the least cost of all contexts of few levels.
 ghost use Rattle.std.specs.Prelude.{◌<◌};
 
+use crate::normals::{normal_of, number_of};
 use std::alloc::{AllocError, Global};
+use std::test::Fail;
 use tib_cost::{Cost, MinPlus};
-use tib_grammar::{Grammar, Names, Rule, Side};
-use tib_normal::Normal;
+use tib_grammar::{Rule, Side};
 use tib_prune::outside;
 
 const STATES: u32 = 3;
@@ -116,63 +117,63 @@ fn context_cost(rules: &[Made], costs: &[Option<u64>], state: u32, levels: u32) 
     best
 }
 
-// The rules over states that are named q, qq and qqq.
-fn make_normal(alloc: Global, made: &[Made]) -> Result<Option<Normal<MinPlus>>, AllocError> {
-    let mut texts = Vec::new(alloc);
-    for count in 1..=STATES {
-        texts.push(vec![in alloc; b'q'; count as usize]?)?;
+// The side of a rule.
+fn side_of(alloc: Global, made: &Made) -> Result<Side<u32>, AllocError> {
+    if made.count == 0 {
+        Side::over(alloc, made.label, &made.below[..0])
+    } else if made.count == 1 {
+        Side::over(alloc, made.label, &made.below[..1])
+    } else {
+        Side::over(alloc, made.label, &made.below[..])
     }
+}
+
+fn rules_of(alloc: Global, made: &[Made]) -> Result<Vec<Rule<u32>>, AllocError> {
     let mut rules = Vec::new(alloc);
-    for rule in made {
-        let below = if rule.count == 0 {
-            &rule.below[..0]
-        } else if rule.count == 1 {
-            &rule.below[..1]
-        } else {
-            &rule.below[..]
-        };
-        let right = Side::over(alloc, rule.label, below)?;
-        if let Some(cost) = Cost::new(rule.cost) {
+    for one in made {
+        let right = side_of(alloc, one)?;
+        if let Some(cost) = Cost::new(one.cost) {
             rules.push(Rule {
-                left: rule.left,
+                left: one.left,
                 right,
                 cost,
             })?;
         }
     }
-    if rules.len() > 100 || texts.len() > 300 {
-        return Ok(None);
-    }
-    let Some(names) = Names::from_list(alloc, texts)? else {
-        return Ok(None);
-    };
-    match Grammar::new(names, rules) {
-        Some(grammar) => Normal::new(alloc, grammar),
-        None => Ok(None),
-    }
+    Ok(rules)
 }
 
-// Whether the outside costs of these rules are the least costs of contexts.
-fn agrees(alloc: Global, made: &[Made]) -> Result<bool, AllocError> {
-    let Some(normal) = make_normal(alloc, made)? else {
-        return Ok(false);
-    };
-    let insides = costs_within(alloc, made, LEVELS)?;
-    let outsides = outside::<MinPlus>(alloc, &normal)?;
-    for (state, cost) in outsides.iter().enumerate() {
-        let plain = context_cost(made, &insides, state as u32, LEVELS);
-        if cost.map(|cost| cost.get()) != plain {
-            return Ok(false);
+fn outsides_of(alloc: Global, made: &[Made]) -> Result<Vec<Option<Cost>>, Fail> {
+    let rules = rules_of(alloc, made)?;
+    let normal = normal_of::<MinPlus>(alloc, STATES as u8, rules)?;
+    Ok(outside::<MinPlus>(alloc, &normal)?)
+}
+
+// Whether these are the least costs of contexts around each state.
+fn are_least(made: &[Made], insides: &[Option<u64>], outsides: &[Option<Cost>]) -> bool {
+    for state in 0..STATES {
+        let Some(cost) = outsides.get(state as usize) else {
+            return false;
+        };
+        if number_of(cost) != context_cost(made, insides, state, LEVELS) {
+            return false;
         }
     }
-    Ok(outsides.len() == STATES as usize)
+    outsides.len() == STATES as usize
+}
+
+// Whether the outside costs of the rules made from a seed are the least costs of contexts.
+fn agrees(alloc: Global, seed: u64) -> Result<bool, Fail> {
+    let made = make_rules(alloc, seed)?;
+    let insides = costs_within(alloc, &made, LEVELS)?;
+    let outsides = outsides_of(alloc, &made)?;
+    Ok(are_least(&made, &insides, &outsides))
 }
 
 #[test]
-fn outside_costs_are_those_of_all_contexts(rt: HostRuntime) -> Result<(), AllocError> {
+fn outside_costs_are_those_of_all_contexts(rt: HostRuntime) -> Result<(), Fail> {
     for seed in 0..300u64 {
-        let made = make_rules(rt.alloc(), seed)?;
-        assert!(rt; agrees(rt.alloc(), &made)?);
+        assert!(rt; agrees(rt.alloc(), seed)?);
     }
     Ok(())
 }

@@ -1,5 +1,5 @@
 // What is reached of small trees, as text. The labels are A 0, a 1, B 2, b 3, c 4, S 5 and Z 6.
-use crate::grammars::{write_number, write_rules};
+use crate::texts::{write_dotted, write_rules};
 use crate::transducers::{Move, Node, transducer};
 use std::alloc::{AllocError, Global};
 use std::sync::Wait;
@@ -144,8 +144,7 @@ fn tree(alloc: Global, items: &[(Label, u32)]) -> Result<Tree, Fail> {
 fn write_found(alloc: Global, found: &Found<Key, Rule<u32>>) -> Result<String, AllocError> {
     let mut text = String::new(alloc);
     for key in &found.order {
-        write_number(&mut text, key.node() as u64)?;
-        text.push_str(" ")?;
+        write_dotted(&mut text, key.node(), &[])?;
     }
     write_rules(&mut text, &found.rules, found.parts)?;
     Ok(text)

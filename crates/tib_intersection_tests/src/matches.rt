@@ -1,5 +1,5 @@
 // The matches of sides in a small grammar, as text. The labels are f 0, g 1 and a 2.
-use crate::grammars::{Row, normal, write_number};
+use crate::grammars::{Row, normal, write_cost, write_dotted};
 use std::alloc::{AllocError, Global};
 use std::test::Fail;
 use tib_cost::{Bottleneck, MOST, MinPlus, Semiring};
@@ -49,16 +49,17 @@ static ROWS: [(u32, Shape, &str); 10] = [
     (0, &[Some((0, 1)), None], ""),
 ];
 
+fn item(shape: Option<(Label, u32)>) -> Item<u32> {
+    match shape {
+        Some((label, rank)) => Item::Label { label, rank },
+        None => Item::Hole(0),
+    }
+}
+
 fn side(alloc: Global, shape: &[Option<(Label, u32)>]) -> Result<Side<u32>, Fail> {
     let mut items = Vec::new(alloc);
-    for item in shape {
-        items.push(match item {
-            Some((label, rank)) => Item::Label {
-                label: *label,
-                rank: *rank,
-            },
-            None => Item::Hole(0),
-        })?;
+    for part in shape {
+        items.push(item(*part))?;
     }
     if items.len() > 99 {
         return Err("too many items".into());
@@ -68,12 +69,9 @@ fn side(alloc: Global, shape: &[Option<(Label, u32)>]) -> Result<Side<u32>, Fail
 
 fn write_match(text: &mut String, one: &Match) -> Result<(), AllocError> {
     for state in one.states.as_slice() {
-        write_number(text, *state as u64)?;
-        text.push_str(" ")?;
+        write_dotted(text, *state as u64, &[])?;
     }
-    text.push_str("# ")?;
-    write_number(text, one.cost.get())?;
-    text.push_str("; ")
+    write_cost(text, one.cost)
 }
 
 fn write_matches(alloc: Global, matches: &[Match]) -> Result<String, AllocError> {
@@ -128,14 +126,35 @@ fn searched(
     }
 }
 
+// The matches of the side of a shape, read once from the front.
+fn few_of<S: Semiring>(
+    alloc: Global,
+    grammar: &Normal<S>,
+    state: u32,
+    shape: &[Option<(Label, u32)>],
+) -> Result<String, Fail> {
+    let side = side(alloc, shape)?;
+    few(alloc, grammar, state, &side)
+}
+
+// The same, searched for among boxes.
+fn searched_of(
+    alloc: Global,
+    grammar: &Normal<MinPlus>,
+    state: u32,
+    shape: &[Option<(Label, u32)>],
+) -> Result<String, Fail> {
+    let side = side(alloc, shape)?;
+    searched(alloc, grammar, state, &side)
+}
+
 #[test]
 fn each_list_of_states_has_its_least_cost(rt: HostRuntime) -> Result<(), Fail> {
     let grammar = normal(rt.alloc(), &RULES)?;
     for (state, shape, want) in &ROWS {
-        let side = side(rt.alloc(), shape)?;
-        let text = few::<MinPlus>(rt.alloc(), &grammar, *state, &side)?;
+        let text = few_of::<MinPlus>(rt.alloc(), &grammar, *state, shape)?;
         assert_eq!(rt; text.as_str(), *want);
-        let other = searched(rt.alloc(), &grammar, *state, &side)?;
+        let other = searched_of(rt.alloc(), &grammar, *state, shape)?;
         assert_eq!(rt; other.as_str(), *want);
     }
     Ok(())
@@ -144,8 +163,7 @@ fn each_list_of_states_has_its_least_cost(rt: HostRuntime) -> Result<(), Fail> {
 #[test]
 fn a_product_is_that_of_the_semiring(rt: HostRuntime) -> Result<(), Fail> {
     let grammar = normal(rt.alloc(), &RULES)?;
-    let side = side(rt.alloc(), ROWS[3].1)?;
-    let text = few::<Bottleneck>(rt.alloc(), &grammar, 0, &side)?;
+    let text = few_of::<Bottleneck>(rt.alloc(), &grammar, 0, ROWS[3].1)?;
     assert_eq!(rt; text.as_str(), "3 # 2; ");
     Ok(())
 }

@@ -1,5 +1,8 @@
 // Small grammars, as written in comments: a label is a number here, 0 for f, 1 for a.
-use std::alloc::Global;
+ghost use Rattle.std.specs.Prelude.{IfSome};
+ghost use Rattle.tib_grammar.specs.Forms.{IsNormalSide};
+
+use std::alloc::{AllocError, Global};
 use std::test::Fail;
 use tib_cost::{MinPlus, Semiring};
 use tib_grammar::*;
@@ -8,15 +11,24 @@ use tib_tree::Label;
 // A rule that costs nothing: its left state, its label, and the states below it, or the lone state where there is no label.
 type Row = (u32, Option<Label>, &'static [u32]);
 
-fn names(alloc: Global, texts: &[&str]) -> Result<Option<Names>, Fail> {
+fn bytes_of(alloc: Global, texts: &[&str]) -> Result<Vec<Vec<u8>>, AllocError> {
     let mut list = Vec::new(alloc);
     for text in texts {
         list.push(text.as_bytes().to_vec(alloc)?)?;
     }
+    Ok(list)
+}
+
+fn names(alloc: Global, texts: &[&str]) -> Result<Option<Names>, Fail> {
+    let list = bytes_of(alloc, texts)?;
     if list.len() > 1000 {
         return Err("too many names".into());
     }
     Ok(Names::from_list(alloc, list)?)
+}
+
+fn are_names(alloc: Global, texts: &[&str]) -> Result<bool, Fail> {
+    Ok(names(alloc, texts)?.is_some())
 }
 
 static NAMES: [(&[&str], bool); 7] = [
@@ -32,21 +44,29 @@ static NAMES: [(&[&str], bool); 7] = [
 #[test]
 fn state_names_are_told_from_others(rt: HostRuntime) -> Result<(), Fail> {
     for (texts, want) in &NAMES {
-        assert!(rt; names(rt.alloc(), texts)?.is_some() == *want);
+        assert!(rt; are_names(rt.alloc(), *texts)? == *want);
     }
     Ok(())
 }
 
 // The states as items.
-fn holes(alloc: Global, states: &[u32]) -> Result<Option<Side<u32>>, Fail> {
+fn holes(alloc: Global, states: &[u32]) -> Result<Vec<Item<u32>>, AllocError> {
     let mut items = Vec::new(alloc);
     for state in states {
         items.push(Item::Hole(*state))?;
     }
+    Ok(items)
+}
+
+fn side_of_holes(alloc: Global, states: &[u32]) -> Result<Option<Side<u32>>, Fail> {
+    let items = holes(alloc, states)?;
     if items.len() > 1000 {
         return Err("too many items".into());
     }
-    Ok(Side::from_preorder(items).ok())
+    match Side::from_preorder(items) {
+        Ok(side) => Ok(Some(side)),
+        Err(_) => Ok(None),
+    }
 }
 
 // A label over states, or the states alone, which make a side where there is one of them.
@@ -56,16 +76,21 @@ fn side(alloc: Global, root: Option<Label>, states: &[u32]) -> Result<Option<Sid
     }
     match root {
         Some(label) => Ok(Some(Side::over(alloc, label, states)?)),
-        None => holes(alloc, states),
+        None => side_of_holes(alloc, states),
     }
 }
 
 // How many items a side has.
-fn count_items(alloc: Global, root: Option<Label>, states: &[u32]) -> Result<Option<usize>, Fail> {
-    match side(alloc, root, states)? {
-        Some(side) => Ok(Some(side.items().len())),
-        None => Ok(None),
+fn count_of(side: Option<Side<u32>>) -> Option<usize> {
+    match side {
+        Some(side) => Some(side.items().len()),
+        None => None,
     }
+}
+
+fn count_items(alloc: Global, root: Option<Label>, states: &[u32]) -> Result<Option<usize>, Fail> {
+    let side = side(alloc, root, states)?;
+    Ok(count_of(side))
 }
 
 #[test]
@@ -96,6 +121,10 @@ fn made(alloc: Global, texts: &[&str], rows: &[Row]) -> Result<Option<Grammar<Mi
     }
     let names = names(alloc, texts)?.ok_or("no names")?;
     Ok(Grammar::new(names, rules))
+}
+
+fn is_made(alloc: Global, texts: &[&str], rows: &[Row]) -> Result<bool, Fail> {
+    Ok(made(alloc, texts, rows)?.is_some())
 }
 
 fn grammar(alloc: Global, texts: &[&str], rows: &[Row]) -> Result<Grammar<MinPlus>, Fail> {
@@ -174,8 +203,16 @@ static FAULTS: [(&[&str], &[Row], Option<DeterminismFault>); 3] = [
     ),
 ];
 
+fn fault_of(alloc: Global, grammar: &Grammar<MinPlus>) -> Option<DeterminismFault> {
+    match grammar.deterministic(alloc) {
+        Ok(_) => None,
+        Err(fault) => Some(fault),
+    }
+}
+
 fn fault(alloc: Global, texts: &[&str], rows: &[Row]) -> Result<Option<DeterminismFault>, Fail> {
-    Ok(grammar(alloc, texts, rows)?.deterministic(alloc).err())
+    let grammar = grammar(alloc, texts, rows)?;
+    Ok(fault_of(alloc, &grammar))
 }
 
 #[test]
@@ -189,7 +226,7 @@ fn the_first_fault_is_named(rt: HostRuntime) -> Result<(), Fail> {
 // q -> f(p), where p has no name
 #[test]
 fn each_state_has_a_name(rt: HostRuntime) -> Result<(), Fail> {
-    assert!(rt; made(rt.alloc(), &["q"], &[(0, Some(0), &[1])])?.is_none());
+    assert!(rt; !is_made(rt.alloc(), &["q"], &[(0, Some(0), &[1])])?);
     Ok(())
 }
 
@@ -238,42 +275,57 @@ fn is_of(rule: &Rule<u32>, left: u32, items: &[Item<u32>]) -> bool {
     rule.left == left && rule.right.items() == items
 }
 
+fn are_of(rules: &[Rule<u32>], want: &[(u32, &[Item<u32>])]) -> bool {
+    for (rule, (left, items)) in rules.iter().zip(want) {
+        if !is_of(rule, *left, *items) {
+            return false;
+        }
+    }
+    rules.len() == want.len()
+}
+
 #[test]
 fn states_get_new_numbers(rt: HostRuntime) -> Result<(), Fail> {
     let grammar = grammar(rt.alloc(), &["q", "p", "r"], &THREE)?;
     let rules = renamed(grammar, &[2, 0, 1])?;
-    assert_eq!(rt; rules.len(), RENAMED.len());
-    for (rule, (left, items)) in rules.iter().zip(&RENAMED) {
-        assert!(rt; is_of(rule, *left, items));
-    }
+    assert!(rt; are_of(&rules, &RENAMED));
     Ok(())
 }
 
-// The root of the first rule of a grammar in normal form.
-fn first_root(grammar: &Grammar<MinPlus>) -> Option<(Label, u32)> {
+// The first rule of a grammar in normal form.
+fn first_rule(grammar: &Grammar<MinPlus>) -> Option<&Rule<u32>>
+    ensures { IfSome result (λ rule. IsNormalSide rule.now.right) }
+{
     if grammar.rules() == 0 || !grammar.is_normal() {
         return None;
     }
-    Some(grammar.rule(1).root())
+    Some(grammar.rule(1))
 }
 
-// The states below it.
-fn states_below(alloc: Global, grammar: &Grammar<MinPlus>) -> Result<Vec<u32>, Fail> {
+// The root of a rule in normal form, and the states below it.
+fn root_and_states(alloc: Global, rule: &Rule<u32>) -> Result<(Label, u32, Vec<u32>), AllocError>
+    requires { IsNormalSide rule.now.right }
+{
+    let (label, rank) = rule.root();
     let mut states = Vec::new(alloc);
-    if grammar.rules() == 0 || !grammar.is_normal() {
-        return Ok(states);
-    }
-    for item in grammar.rule(1).states_below() {
+    for item in rule.states_below() {
         states.push(item.state())?;
     }
-    Ok(states)
+    Ok((label, rank, states))
+}
+
+fn first_of(alloc: Global, grammar: &Grammar<MinPlus>) -> Result<(Label, u32, Vec<u32>), Fail> {
+    match first_rule(grammar) {
+        Some(rule) => Ok(root_and_states(alloc, rule)?),
+        None => Err("no rule in normal form".into()),
+    }
 }
 
 #[test]
 fn a_rule_gives_its_label_and_its_states(rt: HostRuntime) -> Result<(), Fail> {
     let grammar = grammar(rt.alloc(), &["q", "r"], &[(0, Some(7), &[1, 0])])?;
-    assert_eq!(rt; first_root(&grammar), Some((7, 2)));
-    let states = states_below(rt.alloc(), &grammar)?;
-    assert_eq!(rt; states.as_slice(), [1, 0].as_slice());
+    let (label, rank, states) = first_of(rt.alloc(), &grammar)?;
+    assert_eq!(rt; (label, rank), (7, 2));
+    assert!(rt; states.as_slice() == [1, 0].as_slice());
     Ok(())
 }

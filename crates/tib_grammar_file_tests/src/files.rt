@@ -7,7 +7,8 @@ use std::test::Fail;
 use tib_cost::{Boolean, MinPlus, Semiring};
 use tib_grammar::Grammar;
 use tib_grammar_file::{print_grammar, read_grammar};
-use tib_io::{Failed, MemorySink};
+use tib_io::MemorySink;
+use tib_lex::ReadError;
 use tib_tree::Labels;
 
 // A text, and what is printed of its grammar or said of its first fault.
@@ -54,10 +55,14 @@ fn printed<S: Semiring>(
     requires { AreLabelled (length labels.now) grammar.now.rules }
 {
     let mut sink = MemorySink::new(alloc, Vec::new(alloc), 1_000_000)?;
-    match print_grammar(grammar, labels, &mut sink) {
-        Ok(()) => Ok(sink.bytes().to_vec(alloc)?),
-        Err(Failed) => Err("the sink failed".into()),
-    }
+    let Ok(()) = print_grammar(grammar, labels, &mut sink) else {
+        return Err("the sink failed".into());
+    };
+    Ok(sink.bytes().to_vec(alloc)?)
+}
+
+fn said_of(alloc: Global, error: ReadError) -> Result<Vec<u8>, Fail> {
+    Ok(error.to_string(alloc)?.into_bytes())
 }
 
 // What is printed of the grammar of a text, or said of the text's first fault.
@@ -68,7 +73,7 @@ fn answer<S: Semiring + Drop>(alloc: Global, text: &[u8]) -> Result<Vec<u8>, Fai
     let mut labels = Labels::new(alloc);
     match read_grammar::<S>(alloc, text, &mut labels) {
         Ok(grammar) => printed(alloc, &grammar, &labels),
-        Err(error) => Ok(error.to_string(alloc)?.as_bytes().to_vec(alloc)?),
+        Err(error) => said_of(alloc, error),
     }
 }
 

@@ -1,5 +1,5 @@
 // What small transducers of one state turn into one string, as text. The labels are S 0, a 1 and b 2, and the words u 3, v 4 and w 5.
-use crate::grammars::{names, write_number, write_rules};
+use crate::texts::{names, write_dotted, write_marked, write_rules};
 use std::alloc::{AllocError, Global};
 use std::sync::Wait;
 use std::test::Fail;
@@ -37,6 +37,10 @@ const EMPTY: [Row; 1] = [(1, &[], &[], 4)];
 // t.S(x0: x1:) -> t.x0
 const DELETING: [Row; 1] = [(0, &[None, None], &[0], 1)];
 
+fn variable(number: u32, label: Option<Label>) -> Item<Variable> {
+    Item::Hole(Variable { number, label })
+}
+
 fn left_side(
     alloc: Global,
     root: Label,
@@ -48,9 +52,8 @@ fn left_side(
     let rank = variables.len() as u32;
     let mut items = Vec::new(alloc);
     items.push(Item::Label { label: root, rank })?;
-    for number in 0..rank {
-        let label = variables[number as usize];
-        items.push(Item::Hole(Variable { number, label }))?;
+    for number in 0..variables.len() {
+        items.push(variable(number as u32, variables[number]))?;
     }
     if items.len() > 10 {
         return Err("too many items".into());
@@ -80,11 +83,12 @@ fn right_side(alloc: Global, words: &[Label]) -> Result<Words<u32>, Fail> {
 fn rules(alloc: Global, rows: &[Row]) -> Result<Vec<StringRule<u32>>, Fail> {
     let mut rules = Vec::new(alloc);
     for (root, variables, words, cost) in rows {
+        let cost = Cost::new(*cost).ok_or("cost")?;
         rules.push(StringRule {
             state: 0,
             left: left_side(alloc, *root, variables)?,
             right: right_side(alloc, words)?,
-            cost: Cost::new(*cost).ok_or("cost")?,
+            cost,
         })?;
     }
     Ok(rules)
@@ -100,12 +104,9 @@ fn transducer(alloc: Global, rows: &[Row]) -> Result<StringTransducer<MinPlus>, 
 
 // The places and the restriction of a key.
 fn write_key(text: &mut String, key: Key) -> Result<(), AllocError> {
-    write_number(text, key.from() as u64)?;
+    write_marked(text, "", key.from() as u64)?;
     text.push_str("-")?;
-    write_number(text, key.to() as u64)?;
-    text.push_str(".")?;
-    write_number(text, key.restriction() as u64)?;
-    text.push_str(" ")
+    write_dotted(text, key.to(), &[key.restriction()])
 }
 
 // The keys, the rules and the parts.

@@ -1,0 +1,5 @@
+//! Tests of canonical forms.
+#![tactic(auto)]
+
+#[cfg(test)]
+mod forms;
