@@ -15,9 +15,10 @@ use std::sync::Wait;
 use std::thread::Threads;
 use tib_canon_transducer::{PrintedTransducer, to_transducer};
 use tib_classes::first_outside;
-use tib_compose::{ComposeError, Key, compose, compose_together};
+use tib_compose::{ComposeError, compose, compose_together};
 use tib_cost::Semiring;
 use tib_hunt::{Found, Gate};
+use tib_keyed::StatePair;
 use tib_transducer::{Transducer, TransducerRule};
 use tib_tree::Labels;
 
@@ -40,7 +41,7 @@ fn canonical_of_moves<S: Semiring + Drop>(
     second: &Transducer<S>,
     labels: &Labels,
     limit: u64,
-    hunted: Result<Found<Key, TransducerRule<u32>>, ComposeError>,
+    hunted: Result<Found<StatePair, TransducerRule<u32>>, ComposeError>,
 ) -> Result<PrintedTransducer<S>, Status>
     requires first { AreMovesOver S.SCALE labels.now (length first.now.names) first.now.rules }
     requires second { AreMovesOver S.SCALE labels.now (length second.now.names) second.now.rules }
@@ -67,7 +68,7 @@ fn canonical_of_moves<S: Semiring + Drop>(
         Err(ComposeError::OutOfMemory) => return Err(Status::OutOfMemory),
         Err(ComposeError::Class { .. }) => unreachable!(),
     };
-    match to_transducer::<S, Key>(alloc, found, 0, labels) {
+    match to_transducer::<S, StatePair>(alloc, found, 0, labels) {
         Ok(canonical) => Ok(canonical),
         Err(AllocError) => Err(Status::OutOfMemory),
     }

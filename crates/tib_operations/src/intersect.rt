@@ -23,7 +23,8 @@ use tib_grammar::{Grammar, Rule};
 use tib_grammar_file::printable_is_labelled;
 use tib_hunt::{Found, Gate, HuntError};
 use tib_intersect::laws::{order_is_free, pairs_mean};
-use tib_intersect::{Pair, intersect, intersect_together};
+use tib_intersect::{intersect, intersect_together};
+use tib_keyed::StatePair;
 use tib_normal::Normal;
 use tib_tree::Labels;
 
@@ -34,7 +35,7 @@ fn canonical_of_pairs<S: Semiring + Drop>(
     two: &Normal<S>,
     labels: &Labels,
     limit: u64,
-    hunted: Result<Found<Pair, Rule<u32>>, HuntError>,
+    hunted: Result<Found<StatePair, Rule<u32>>, HuntError>,
 ) -> Result<Printed<S>, Status>
     requires one { ArePrintable S.SCALE labels.now one.now.rules }
     requires two { ArePrintable S.SCALE labels.now two.now.rules }
@@ -65,8 +66,8 @@ fn canonical_of_pairs<S: Semiring + Drop>(
     };
     pairs_mean::<S>();
     printable_is_labelled();
-    over_keys_texts_are_read::<S, Pair>();
-    match to_grammar::<S, Pair>(alloc, found, Begin::At(0), labels) {
+    over_keys_texts_are_read::<S, StatePair>();
+    match to_grammar::<S, StatePair>(alloc, found, Begin::At(0), labels) {
         Ok(canonical) => Ok(canonical),
         Err(AllocError) => Err(Status::OutOfMemory),
     }
