@@ -15,7 +15,7 @@ use crate::placing::place_rows;
 use crate::working::Worked;
 use std::alloc::{AllocError, Global};
 use std::thread::Threads;
-use tib_numbered_keys::{HuntError, put_fresh, put_fresh_together};
+use tib_numbered_keys::{HuntError, Lookup, put_fresh, put_fresh_together};
 
 impl<E: Expand> HuntState<E> {
     // Appends the fresh keys in ascending order, and settles the rules of the rows.
@@ -122,7 +122,7 @@ impl<E: Expand> HuntState<E> {
         ensures rows { OnOk result (self.new.rows.items ≡ []) }
         ensures more { IfErr result (IfTooMany limit (IsBeyond (E.hunted problem.now) limit)) }
     {
-        let taken = match self.take_round(alloc, problem, limit, first, false, worked) {
+        let taken = match self.take_round(alloc, problem, limit, first, Lookup::Needed, worked) {
             Ok(taken) => taken,
             Err(error) => return Err(error),
         };
@@ -161,7 +161,7 @@ impl<E: Expand> HuntState<E> {
         ensures rows { OnOk result (self.new.rows.items ≡ []) }
         ensures more { IfErr result (IfTooMany limit (IsBeyond (E.hunted problem.now) limit)) }
     {
-        let taken = match self.take_round(alloc, problem, limit, first, true, worked) {
+        let taken = match self.take_round(alloc, problem, limit, first, Lookup::Needless, worked) {
             Ok(taken) => taken,
             Err(error) => return Err(error),
         };

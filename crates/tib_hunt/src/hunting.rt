@@ -1,8 +1,9 @@
 //! The state of a hunt: its keys, rules, rows and parts, with the steps that begin it, take a round in and put its keys in order.
 
-ghost use Rattle.std.specs.Prelude.{◌≡◌, ◌+◌, ◌≤◌, ◌<◌, ◌^◌, ◌++◌, [], true, length, map, take, drop, IfOk, IfErr, OnOk};
+ghost use Rattle.std.specs.Prelude.{◌≡◌, ◌+◌, ◌≤◌, ◌<◌, ◌^◌, ◌++◌, [], length, map, take, drop, IfOk, IfErr, OnOk};
 ghost use Rattle.indexmap.specs.IndexSet.{insert_all};
 ghost use Rattle.tib_lex.specs.Lists.{Has, Each, Distinct, total};
+ghost use Rattle.tib_numbered_keys.specs.Lookups.{IsNeedless};
 ghost use Rattle.tib_hunt.specs.Reached.{IfTooMany, IsBeyond, most_parts};
 ghost use Rattle.tib_hunt.specs.Numbered.{key_parts, HaveMore, AddsParts, placed, keys_of};
 ghost use Rattle.tib_hunt.specs.Rows.{numbered, IsRowBelow};
@@ -17,7 +18,9 @@ use crate::working::Worked;
 use indexmap::IndexSet;
 use std::alloc::{AllocError, Global};
 use tib_crew::Row as ItemRow;
-use tib_numbered_keys::{HuntError, count_keys, find_shelves, number_ends, put_fresh, sort_new};
+use tib_numbered_keys::{
+    HuntError, Lookup, count_keys, find_shelves, number_ends, put_fresh, sort_new,
+};
 use tib_table::TableKey;
 
 /// The keys so far, the rules over their positions, the rows of the round, and the parts of all.
@@ -75,16 +78,16 @@ impl<E: Expand> HuntState<E> {
     }
 
     /// Takes in what a round made: its fresh keys, which are those of the shelves that the order lacks, and the positions of all keys of the
-    /// shelves. Adds the parts of the fresh keys; `TooMany` if that passes the limit. `lacked` says that the order has none of the keys of
-    /// the shelves.
+    /// shelves. Adds the parts of the fresh keys; `TooMany` if that passes the limit. A look-up is needless only where the order has none of the
+    /// keys of the shelves.
     pub fn take_in(
         &mut self,
         alloc: Global,
         limit: u64,
-        lacked: bool,
+        lookup: Lookup,
         worked: Worked<E::Key, E::Over>,
     ) -> Result<TakenIn<E::Key, E::Over>, HuntError>
-        requires lacked { lacked ≡ true → (k : E.Key) → Has (all_on (shelves_of worked)) k
+        requires lacked { IsNeedless lookup → (k : E.Key) → Has (all_on (shelves_of worked)) k
             → Has self.old.keys.keys k → ⊥ }
         requires once { Distinct (all_on (shelves_of worked)) }
         requires counted { total (key_parts E.Key.entries_of) self.old.keys.keys ≤ worked.parts }
@@ -115,7 +118,7 @@ impl<E: Expand> HuntState<E> {
         };
         let positions = match find_shelves(
             alloc,
-            lacked,
+            lookup,
             &self.keys,
             &mut fresh,
             &mut self.parts,
@@ -163,15 +166,15 @@ pub(crate) fn list_keys<K: TableKey + Drop>(
 }
 
 impl<E: Expand> HuntState<E> {
-    /// Takes in what a round made, or answers `TooMany` where the reached set passes the limit. `lacked` says that the order has none of
-    /// the keys of the shelves.
+    /// Takes in what a round made, or answers `TooMany` where the reached set passes the limit. A look-up is needless only where the order has
+    /// none of the keys of the shelves.
     pub fn take_round(
         &mut self,
         alloc: Global,
         problem: &E,
         limit: u64,
         first: u32,
-        lacked: bool,
+        lookup: Lookup,
         worked: Worked<E::Key, E::Over>,
     ) -> Result<TakenIn<E::Key, E::Over>, HuntError>
         requires limit { limit ≤ most_parts }
@@ -179,7 +182,7 @@ impl<E: Expand> HuntState<E> {
             first limit self.old }
         requires worked { WorksRound (E.hunted problem.now) E.reading E.Key.shelf_of
             self.old.keys.keys first self.old.parts limit worked }
-        requires lacked { lacked ≡ true → LacksAll self.old.keys.keys worked }
+        requires lacked { IsNeedless lookup → LacksAll self.old.keys.keys worked }
         ensures order { OnOk result (self.new.keys.keys ≡ self.old.keys.keys) }
         ensures placed { IfOk result (λ r. r.fresh.items ≡ placed 0 (keys_of r.fresh.items)) }
         ensures on { IfOk result HavePositions }
@@ -190,7 +193,7 @@ impl<E: Expand> HuntState<E> {
     {
         let _problem = problem;
         let _first = first;
-        match self.take_in(alloc, limit, lacked, worked) {
+        match self.take_in(alloc, limit, lookup, worked) {
             Ok(taken) => Ok(taken),
             Err(error) => Err(error),
         }

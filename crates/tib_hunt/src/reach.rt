@@ -157,8 +157,8 @@ pub fn hunt_alone<E: Expand, G: Gate>(
 /// takes one turn of a shelf. An item is expanded again, by the caller, where a worker has too small a share of what the limit leaves, or
 /// finds no memory; `TooMany` is answered by the caller alone, and so doesn't depend on the order of the workers' steps. Calls `gate` for
 /// each key before it is expanded, with the number of the worker that does it. It may wait for ever: while a turn of a shelf is held.
-/// Errors are those of `hunt_alone`, and so is the cost, but for the keys that are expanded again, and threads that are started for each
-/// round.
+/// Errors are those of `hunt_alone`, and so is the cost, but for the keys that are expanded again, and for threads: one for each worker is
+/// started in each round, and no more than that at the end of a round that made 1,024 rows or 2,048 fresh keys, or more of them.
 pub fn hunt<R: Threads + Wait + Sync, E: Expand + Sync, G: Gate + Sync>(
     rt: &R,
     alloc: Global,

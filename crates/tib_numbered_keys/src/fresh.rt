@@ -1,12 +1,13 @@
 //! The fresh keys of a round: those of its shelves that the order lacks, which are then appended to it in ascending order.
 
-ghost use Rattle.std.specs.Prelude.{◌≡◌, ℕ, ◌+◌, ◌-◌, ◌≤◌, ◌<◌, ◌^◌, ◌++◌, [], ◌∷◌, Some, true, min, length, map, slice_get, IfOk, IfErr, IfSome, IfNone, OnOk};
+ghost use Rattle.std.specs.Prelude.{◌≡◌, ℕ, ◌+◌, ◌-◌, ◌≤◌, ◌<◌, ◌^◌, ◌++◌, [], ◌∷◌, Some, min, length, map, slice_get, IfOk, IfErr, IfSome, IfNone, OnOk};
 ghost use Rattle.indexmap.specs.IndexSet.{insert_key, insert_all};
 ghost use Rattle.tib_lex.specs.Lists.{Has, Distinct, Along, total};
 ghost use Rattle.tib_lex.specs.Limits.{most_parts};
 ghost use Rattle.tib_numbered_keys.specs.Limits.{IfTooMany};
 ghost use Rattle.tib_numbered_keys.specs.Numbered.{key_parts, Name, HaveMore, KeyExceeds, AddsParts, placed, keys_of, IsInOrder};
 ghost use Rattle.tib_numbered_keys.specs.Numbered.{all_on};
+ghost use Rattle.tib_numbered_keys.specs.Lookups.{IsNeedless};
 
 use crate::error::HuntError;
 use crate::halves::sort_by_halves;
@@ -15,6 +16,15 @@ use indexmap::IndexSet;
 use std::alloc::{AllocError, Global};
 use std::thread::Threads;
 use tib_table::TableKey;
+
+/// Whether keys that come to an order are looked up in it.
+#[derive(Clone, Copy, Debug, Drop, PartialEq, Eq)]
+pub enum Lookup {
+    /// The order has none of them, so none is looked up.
+    Needless,
+    /// The order may have some of them.
+    Needed,
+}
 
 /// How many keys the shelves have, or the greatest `usize` if they have more.
 pub fn count_keys<K>(shelves: &[Vec<K>]) -> usize
@@ -35,16 +45,16 @@ pub fn find_position<K: TableKey + Drop>(keys: &IndexSet<K>, key: &K) -> Option<
     keys.get_index_of(key)
 }
 
-// The position of a key, or None where it is not in the order. It is not looked up where the order has none of the keys that come.
-fn find_unless<K: TableKey + Drop>(lacked: bool, keys: &IndexSet<K>, key: &K) -> Option<usize>
-    requires { lacked ≡ true → Has keys.now.keys key.now → ⊥ }
+// The position of a key, or None where it is not in the order.
+fn look_up<K: TableKey + Drop>(lookup: Lookup, keys: &IndexSet<K>, key: &K) -> Option<usize>
+    requires { IsNeedless lookup → Has keys.now.keys key.now → ⊥ }
     ensures some { IfSome result (λ n. slice_get keys.now.keys n ≡ Some key.now) }
     ensures none { IfNone result (Has keys.now.keys key.now → ⊥) }
 {
-    if lacked {
-        return None;
+    match lookup {
+        Lookup::Needless => None,
+        Lookup::Needed => find_position(keys, key),
     }
-    find_position(keys, key)
 }
 
 // Appends a key to the fresh ones. Adds the key's parts; `TooMany` if that passes the limit.
@@ -79,14 +89,14 @@ fn push_fresh<K: TableKey + Drop>(
 // The number of a key that is none of the fresh ones, where these follow the order. Appends a key that the order lacks to the fresh ones,
 // and adds its parts; `TooMany` if that passes the limit.
 fn find_key<K: TableKey + Drop>(
-    lacked: bool,
+    lookup: Lookup,
     keys: &IndexSet<K>,
     fresh: &mut Vec<(K, u32)>,
     parts: &mut u64,
     limit: u64,
     key: K,
 ) -> Result<u32, HuntError>
-    requires lacked { lacked ≡ true → Has keys.now.keys key → ⊥ }
+    requires lacked { IsNeedless lookup → Has keys.now.keys key → ⊥ }
     requires apart { Has (keys_of fresh.old.items) key → ⊥ }
     requires placed { fresh.old.items ≡ placed 0 (keys_of fresh.old.items) }
     requires counted { total (key_parts K.entries_of) (keys.now.keys ++ keys_of fresh.old.items)
@@ -105,7 +115,7 @@ fn find_key<K: TableKey + Drop>(
     ensures more { IfErr result (IfTooMany limit (KeyExceeds K.eq (key_parts K.entries_of)
         (keys.now.keys ++ keys_of fresh.old.items) key parts.old limit)) }
 {
-    if let Some(position) = find_unless(lacked, keys, &key) {
+    if let Some(position) = look_up(lookup, keys, &key) {
         return Ok(position as u32);
     }
     let number = (keys.len() + fresh.len()) as u32;
@@ -119,14 +129,14 @@ fn find_key<K: TableKey + Drop>(
 // and adds their parts; `TooMany` if that passes the limit.
 fn find_ends<K: TableKey + Drop>(
     alloc: Global,
-    lacked: bool,
+    lookup: Lookup,
     keys: &IndexSet<K>,
     fresh: &mut Vec<(K, u32)>,
     parts: &mut u64,
     limit: u64,
     ends: Vec<K>,
 ) -> Result<Vec<u32>, HuntError>
-    requires lacked { lacked ≡ true → (k : K) → Has ends.items k → Has keys.now.keys k → ⊥ }
+    requires lacked { IsNeedless lookup → (k : K) → Has ends.items k → Has keys.now.keys k → ⊥ }
     requires once { Distinct ends.items }
     requires apart { (k : K) → Has ends.items k → Has (keys_of fresh.old.items) k → ⊥ }
     requires placed { fresh.old.items ≡ placed 0 (keys_of fresh.old.items) }
@@ -150,7 +160,7 @@ fn find_ends<K: TableKey + Drop>(
         return Err(HuntError::OutOfMemory);
     };
     for key in ends {
-        let number = match find_key(lacked, keys, fresh, parts, limit, key) {
+        let number = match find_key(lookup, keys, fresh, parts, limit, key) {
             Ok(number) => number,
             Err(error) => return Err(error),
         };
@@ -162,18 +172,17 @@ fn find_ends<K: TableKey + Drop>(
 }
 
 /// The numbers of the keys of the shelves, where the fresh ones follow the order. Fills `fresh` with those that the order lacks, each with its
-/// index among them, and adds their parts; `TooMany` if that passes the limit. `lacked` says that the order has none of these keys: then none
-/// is looked up.
+/// index among them, and adds their parts; `TooMany` if that passes the limit. A look-up is needless only where the order has none of the keys.
 pub fn find_shelves<K: TableKey + Drop>(
     alloc: Global,
-    lacked: bool,
+    lookup: Lookup,
     keys: &IndexSet<K>,
     fresh: &mut Vec<(K, u32)>,
     parts: &mut u64,
     limit: u64,
     shelves: Vec<Vec<K>>,
 ) -> Result<Vec<Vec<u32>>, HuntError>
-    requires lacked { lacked ≡ true → (k : K) → Has (all_on (map (λ v. v.items) shelves.items)) k
+    requires lacked { IsNeedless lookup → (k : K) → Has (all_on (map (λ v. v.items) shelves.items)) k
         → Has keys.now.keys k → ⊥ }
     requires none { fresh.old.items ≡ [] }
     requires once { Distinct (all_on (map (λ v. v.items) shelves.items)) }
@@ -195,7 +204,7 @@ pub fn find_shelves<K: TableKey + Drop>(
         return Err(HuntError::OutOfMemory);
     };
     for shelf in shelves {
-        let numbers = match find_ends(alloc, lacked, keys, fresh, parts, limit, shelf) {
+        let numbers = match find_ends(alloc, lookup, keys, fresh, parts, limit, shelf) {
             Ok(numbers) => numbers,
             Err(error) => return Err(error),
         };

@@ -8,5 +8,5 @@ mod halves;
 mod numbering;
 
 pub use error::HuntError;
-pub use fresh::{count_keys, find_position, find_shelves, put_fresh, put_fresh_together};
+pub use fresh::{Lookup, count_keys, find_position, find_shelves, put_fresh, put_fresh_together};
 pub use numbering::{number_ends, sort_new};

@@ -1,4 +1,4 @@
-use Rattle.std.proofs.Common.{◌++◌, ◌<◌, length, map, sym, subst, true≢false, arith}
+use Rattle.std.proofs.Common.{◌++◌, ◌<◌, length, map, sym, subst, arith}
 use Rattle.tib_lex.specs.Lists.{Each, Distinct}
 use Rattle.tib_hunt.specs.Numbered.{keys_of}
 use Rattle.tib_hunt.specs.Rows.{IsRowBelow}
@@ -9,7 +9,7 @@ use Rattle.tib_hunt.proofs.Finding.{fresh_round_ends}
 use Rattle.tib_hunt.proofs.hunting.HuntState.end_round.Goals as goal
 
 pub take_round-requires-clause-lacked : goal.take_round-requires-clause-lacked
-take_round-requires-clause-lacked g c e = absurd (true≢false (sym e))
+take_round-requires-clause-lacked g c e = absurd e
 
 pub settle_fresh-requires-clause-few : goal.settle_fresh-requires-clause-few
 settle_fresh-requires-clause-few g c =
