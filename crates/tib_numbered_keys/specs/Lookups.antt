@@ -4,5 +4,5 @@ use Rattle.tib_numbered_keys.specs.declared.fresh.Lookup.TheVariants.{Needless, 
 
 -- no key is looked up, so the order must have none of those that come
 abbrev pub IsNeedless : Lookup → Type 0
-IsNeedless Needless = ⊤
+IsNeedless Needless = Unit {0}
 IsNeedless Needed = ⊥
