@@ -6,15 +6,17 @@ use crate::{
     write_and_finish, write_whole,
 };
 use std::alloc::{AllocError, Global};
-use std::test::Fail;
 
-// Whether the file of a name is read whole and has these bytes, or why it is not read.
-pub(crate) fn holds<F: Files>(
+/// Whether a file that was read whole has the bytes that it should have, or why it was not read.
+pub(crate) type Compared = Result<bool, FileError>;
+
+// Reads the file of a name, which should have these bytes.
+pub(crate) fn compare_file<F: Files>(
     alloc: Global,
     files: &mut F,
     name: &str,
     bytes: &[u8],
-) -> Result<bool, FileError> {
+) -> Compared {
     match read_file(alloc, files, name) {
         Ok(read) => Ok(read.as_slice() == bytes),
         Err(error) => Err(error),
@@ -24,105 +26,149 @@ pub(crate) fn holds<F: Files>(
 // Whether a sink that grows takes these bytes, and has them then.
 pub(crate) fn is_grown(alloc: Global, bytes: &[u8]) -> bool {
     let mut sink = GrowingSink::new(alloc);
-    write_and_finish(&mut sink, bytes).is_ok() && sink.bytes() == bytes
+    let taken = write_and_finish(&mut sink, bytes).is_ok();
+    taken & (sink.bytes() == bytes)
 }
 
-// The only file of a table of files, "f", with these bytes.
+// A table of one file, "f", with these bytes.
 fn one_file(alloc: Global, bytes: Vec<u8>) -> Result<Vec<(String, Vec<u8>)>, AllocError> {
+    let name = String::from_str(alloc, "f")?;
     let mut files = Vec::new(alloc);
-    files.push((String::from_str(alloc, "f")?, bytes))?;
+    files.push((name, bytes))?;
     Ok(files)
 }
 
-// What two reads one after the other say of the files of these names, whether each has the bytes
-// "abc". There is the file "f" alone, and the listed calls fail.
-fn read_twice(
-    alloc: Global,
-    failing: &[u64],
-    first: &str,
-    second: &str,
-) -> Result<[Result<bool, FileError>; 2], AllocError> {
-    let held = one_file(alloc, b"abc".to_vec(alloc)?)?;
-    let mut files = MemoryFiles::new(held, failing.to_vec(alloc)?);
-    let first = holds(alloc, &mut files, first, b"abc");
-    let second = holds(alloc, &mut files, second, b"abc");
-    Ok([first, second])
+// A table of one file, "f", with a copy of these bytes.
+fn copied(alloc: Global, bytes: &[u8]) -> Result<Vec<(String, Vec<u8>)>, AllocError> {
+    one_file(alloc, bytes.to_vec(alloc)?)
+}
+
+// The file "f" with the bytes "abc", where the listed calls fail.
+fn failing_at(alloc: Global, calls: &[u64]) -> Result<MemoryFiles, AllocError> {
+    let calls = calls.to_vec(alloc)?;
+    Ok(MemoryFiles::new(copied(alloc, b"abc")?, calls))
+}
+
+// Reads two files, each of which should have the bytes "abc".
+fn compare_two<F: Files>(alloc: Global, files: &mut F, first: &str, second: &str) -> [Compared; 2] {
+    let first = compare_file(alloc, files, first, b"abc");
+    [first, compare_file(alloc, files, second, b"abc")]
+}
+
+// Whether a file that is there is read, and one that isn't is a fault.
+fn is_one_there(alloc: Global) -> bool {
+    let Ok(mut files) = failing_at(alloc, &[]) else {
+        return false;
+    };
+    compare_two(alloc, &mut files, "f", "g") == [Ok(true), Err(FileError::ReadFault)]
+}
+
+// Whether a call that fails is a fault, and the next reading is none.
+fn is_one_read(alloc: Global) -> bool {
+    let Ok(mut files) = failing_at(alloc, &[1]) else {
+        return false;
+    };
+    compare_two(alloc, &mut files, "f", "f") == [Err(FileError::ReadFault), Ok(true)]
 }
 
 #[test]
 fn a_file_is_read_whole_or_its_fault_is_told(rt: HostRuntime) {
-    let fault = Err(FileError::ReadFault);
-    assert_eq!(rt;
-        read_twice(rt.alloc(), &[], "f", "g"),
-        Ok([Ok(true), fault])
-    );
-    assert_eq!(rt;
-        read_twice(rt.alloc(), &[1], "f", "f"),
-        Ok([fault, Ok(true)])
-    );
+    assert!(rt; is_one_there(rt.alloc()));
+    assert!(rt; is_one_read(rt.alloc()));
 }
 
-// How many bytes are read of a file that has so many.
-fn length_read(alloc: Global, length: usize) -> Result<usize, FileError> {
-    let held = one_file(alloc, vec![in alloc; b'%'; length]?)?;
-    let mut files = MemoryFiles::new(held, Vec::new(alloc));
-    Ok(read_file(alloc, &mut files, "f")?.len())
+// The file "f" of so many bytes.
+fn long_file(alloc: Global, length: usize) -> Result<MemoryFiles, AllocError> {
+    let bytes = vec![in alloc; b'%'; length]?;
+    Ok(MemoryFiles::new(one_file(alloc, bytes)?, Vec::new(alloc)))
+}
+
+// How many bytes are read of the file "f".
+fn length_read<F: Files>(alloc: Global, files: &mut F) -> Result<usize, FileError> {
+    match read_file(alloc, files, "f") {
+        Ok(bytes) => Ok(bytes.len()),
+        Err(error) => Err(error),
+    }
+}
+
+// Whether reading a file of so many bytes answers this.
+fn is_length_read(alloc: Global, length: usize, want: Result<usize, FileError>) -> bool {
+    match long_file(alloc, length) {
+        Ok(mut files) => length_read(alloc, &mut files) == want,
+        Err(_) => false,
+    }
 }
 
 #[test]
 fn a_file_has_a_greatest_length(rt: HostRuntime) {
-    assert_eq!(rt; length_read(rt.alloc(), 8_388_608), Ok(8_388_608));
-    assert_eq!(rt; length_read(rt.alloc(), 8_388_609), Err(FileError::TooLong));
+    assert!(rt; is_length_read(rt.alloc(), 8_388_608, Ok(8_388_608)));
+    assert!(rt; is_length_read(rt.alloc(), 8_388_609, Err(FileError::TooLong)));
 }
 
-// What four writes answer.
-fn write_four<S: Sink>(sink: &mut S) -> [Result<usize, Failed>; 4] {
+// Whether a sink with room for four bytes, of which the third call fails, takes what it has room
+// for.
+fn is_filled<S: Sink>(sink: &mut S) -> bool {
     let two = sink.write(b"ab");
     let none = sink.write(b"");
     let one = sink.write(b"c");
-    [two, none, one, sink.write(b"cde")]
+    let rest = sink.write(b"cde");
+    [two, none, one, rest] == [Ok(2), Ok(0), Err(Failed), Ok(2)]
 }
 
-// What one more byte and the end answer.
-fn write_and_end<S: Sink>(sink: &mut S) -> [Result<(), Failed>; 2] {
+// Whether a sink that is full takes no byte more, and ends well.
+fn is_full<S: Sink>(sink: &mut S) -> bool {
     let byte = write_whole(sink, b"f");
-    [byte, sink.finish()]
+    [byte, sink.finish()] == [Err(Failed), Ok(())]
+}
+
+// An empty sink with room for four bytes, of which the third call fails.
+fn small_sink(alloc: Global) -> Result<MemorySink, AllocError> {
+    MemorySink::new(alloc, [2].to_vec(alloc)?, 4)
+}
+
+// Whether a small sink is filled, and has the bytes that it took then.
+fn is_small_filled(alloc: Global) -> bool {
+    let Ok(mut sink) = small_sink(alloc) else {
+        return false;
+    };
+    let filled = is_filled(&mut sink);
+    let full = is_full(&mut sink);
+    filled & full & (sink.bytes() == b"abcd".as_slice())
 }
 
 #[test]
-fn sinks_take_what_they_have_room_for(rt: HostRuntime) -> Result<(), Fail> {
-    let alloc = rt.alloc();
-    let mut sink = MemorySink::new(alloc, [2].to_vec(alloc)?, 4)?;
-    assert_eq!(rt; write_four(&mut sink), [Ok(2), Ok(0), Err(Failed), Ok(2)]);
-    assert_eq!(rt; write_and_end(&mut sink), [Err(Failed), Ok(())]);
-    assert!(rt; sink.bytes() == b"abcd".as_slice());
-    assert!(rt; is_grown(alloc, b"abc"));
-    Ok(())
+fn sinks_take_what_they_have_room_for(rt: HostRuntime) {
+    assert!(rt; is_small_filled(rt.alloc()));
+    assert!(rt; is_grown(rt.alloc(), b"abc"));
 }
 
 // Whether the bytes "abcdefg" are read in pieces of at most `most` bytes.
-fn is_read_in_pieces(alloc: Global, most: u32) -> Result<bool, FileError>
+fn is_read_in_pieces(alloc: Global, most: u32) -> bool
     requires { 0 < most }
 {
-    let held = one_file(alloc, b"abcdefg".to_vec(alloc)?)?;
-    let mut files = MemoryFiles::short(held, Vec::new(alloc), most);
-    holds(alloc, &mut files, "f", b"abcdefg")
+    let Ok(file) = copied(alloc, b"abcdefg") else {
+        return false;
+    };
+    let mut files = MemoryFiles::short(file, Vec::new(alloc), most);
+    matches!(compare_file(alloc, &mut files, "f", b"abcdefg"), Ok(true))
 }
 
 // Whether the bytes "abcdefg" are written in pieces of at most `most` bytes.
-fn is_written_in_pieces(alloc: Global, most: u32) -> Result<bool, AllocError>
+fn is_written_in_pieces(alloc: Global, most: u32) -> bool
     requires { 0 < most }
 {
-    let mut sink = MemorySink::short(alloc, Vec::new(alloc), 7, most)?;
-    let written = write_and_finish(&mut sink, b"abcdefg").is_ok();
-    Ok(written && sink.bytes() == b"abcdefg".as_slice())
+    let Ok(mut sink) = MemorySink::short(alloc, Vec::new(alloc), 7, most) else {
+        return false;
+    };
+    let taken = write_and_finish(&mut sink, b"abcdefg").is_ok();
+    taken & (sink.bytes() == b"abcdefg".as_slice())
 }
 
 #[test]
 fn short_pieces_change_nothing(rt: HostRuntime) {
     let alloc = rt.alloc();
-    let one = (is_read_in_pieces(alloc, 1), is_written_in_pieces(alloc, 1));
-    let two = (is_read_in_pieces(alloc, 2), is_written_in_pieces(alloc, 2));
-    let all = (is_read_in_pieces(alloc, 7), is_written_in_pieces(alloc, 7));
-    assert_eq!(rt; [one, two, all], [(Ok(true), Ok(true)); 3]);
+    let one = is_read_in_pieces(alloc, 1) & is_written_in_pieces(alloc, 1);
+    let two = is_read_in_pieces(alloc, 2) & is_written_in_pieces(alloc, 2);
+    let all = is_read_in_pieces(alloc, 7) & is_written_in_pieces(alloc, 7);
+    assert!(rt; one & two & all);
 }
