@@ -182,8 +182,8 @@ pub fn find_shelves<K: TableKey + Drop>(
     limit: u64,
     shelves: Vec<Vec<K>>,
 ) -> Result<Vec<Vec<u32>>, HuntError>
-    requires lacked { IsNeedless lookup → (k : K) → Has (all_on (map (λ v. v.items) shelves.items)) k
-        → Has keys.now.keys k → ⊥ }
+    requires lacked { IsNeedless lookup → (k : K)
+        → Has (all_on (map (λ v. v.items) shelves.items)) k → Has keys.now.keys k → ⊥ }
     requires none { fresh.old.items ≡ [] }
     requires once { Distinct (all_on (map (λ v. v.items) shelves.items)) }
     requires counted { total (key_parts K.entries_of) keys.now.keys ≤ parts.old }
