@@ -1,18 +1,9 @@
-//! Tests of transducers: their rules, classes and files, those of tree-to-string transducers and
-//! strings, and canonical transducers.
+//! Tests of transducers and tree-to-string transducers as values: their rules and classes.
 #![tactic(auto)]
 
 #[cfg(test)]
-mod canon_transducer;
-#[cfg(test)]
 mod classes;
-#[cfg(test)]
-mod string_file;
 #[cfg(test)]
 mod strings;
 #[cfg(test)]
 mod transducer;
-#[cfg(test)]
-mod transducer_file;
-#[cfg(test)]
-mod transducer_print;

@@ -1,123 +1,166 @@
 // Small transducers, as written in comments: a label is a number here, 0 for A, 1 for B and 2 for
-// a.
-use std::alloc::Global;
+// a. Where what a maker is given makes nothing, it answers as where memory is refused, so the test fails.
+use std::alloc::{AllocError, Global};
 use std::test::Fail;
 use tib_cost::{MinPlus, Semiring};
 use tib_grammar::{Item, Names, Side};
 use tib_transducer::*;
 use tib_tree::Label;
 
-// A label with its rank, or where there is none a variable with its label.
-type Left = (Option<(Label, u32)>, u32, Option<Label>);
-
-// A label with its rank, or where there is none a state and a variable.
-type Right = (Option<(Label, u32)>, u32, u32);
-
-pub(crate) fn names(alloc: Global, texts: &[&str]) -> Result<Names, Fail> {
-    let mut list = Vec::new(alloc);
-    for text in texts {
-        list.push(text.as_bytes().to_vec(alloc)?)?;
-    }
-    if list.len() > 1000 {
-        return Err("too many names".into());
-    }
-    Ok(Names::from_list(alloc, list)?.ok_or("no names")?)
+/// An item of a left side: a label with its rank, or a variable with the label that it asks for.
+#[derive(Clone, Copy)]
+pub(crate) enum Left {
+    Label(Label, u32),
+    Variable(u32, Option<Label>),
 }
 
-/// A variable on the left, with the label that it asks for.
-pub(crate) fn hole(number: u32, label: Option<Label>) -> Item<Variable> {
-    Item::Hole(Variable { number, label })
+/// An item of a right side: a label with its rank, or a state and a variable.
+#[derive(Clone, Copy)]
+pub(crate) enum Right {
+    Label(Label, u32),
+    Pair(u32, u32),
 }
 
-fn left_item((head, number, label): Left) -> Item<Variable> {
-    match head {
-        Some((label, rank)) => Item::Label { label, rank },
-        None => hole(number, label),
+// The texts of names.
+fn texts_of(alloc: Global, names: &[&str]) -> Result<Vec<Vec<u8>>, AllocError> {
+    let mut texts = Vec::new(alloc);
+    for name in names {
+        texts.push(name.as_bytes().to_vec(alloc)?)?;
     }
+    Ok(texts)
+}
+
+/// The states with these names.
+pub(crate) fn names_of(alloc: Global, names: &[&str]) -> Result<Names, AllocError> {
+    let texts = texts_of(alloc, names)?;
+    if texts.len() > 1000 {
+        return Err(AllocError);
+    }
+    match Names::from_list(alloc, texts)? {
+        Some(names) => Ok(names),
+        None => Err(AllocError),
+    }
+}
+
+// The side of these items.
+fn side_of<P: Drop>(items: Vec<Item<P>>) -> Result<Side<P>, AllocError> {
+    if items.len() > 2000 {
+        return Err(AllocError);
+    }
+    match Side::from_preorder(items) {
+        Ok(side) => Ok(side),
+        Err(_) => Err(AllocError),
+    }
+}
+
+fn left_item(item: Left) -> Item<Variable> {
+    match item {
+        Left::Label(label, rank) => Item::Label { label, rank },
+        Left::Variable(number, label) => Item::Hole(Variable { number, label }),
+    }
+}
+
+fn left_items(alloc: Global, left: &[Left]) -> Result<Vec<Item<Variable>>, AllocError> {
+    let mut items = Vec::new(alloc);
+    for item in left {
+        items.push(left_item(*item))?;
+    }
+    Ok(items)
 }
 
 /// The left side of these items.
-pub(crate) fn left_of(items: Vec<Item<Variable>>) -> Result<Side<Variable>, Fail> {
-    if items.len() > 2000 {
-        return Err("too many items".into());
-    }
-    Ok(Side::from_preorder(items).ok().ok_or("no left side")?)
+pub(crate) fn left_side(alloc: Global, left: &[Left]) -> Result<Side<Variable>, AllocError> {
+    let items = left_items(alloc, left)?;
+    side_of(items)
 }
 
-fn left_side(alloc: Global, nodes: &[Left]) -> Result<Side<Variable>, Fail> {
+fn right_item(item: Right) -> Item<Pair<u32>> {
+    match item {
+        Right::Label(label, rank) => Item::Label { label, rank },
+        Right::Pair(state, variable) => Item::Hole(Pair { state, variable }),
+    }
+}
+
+fn right_items(alloc: Global, right: &[Right]) -> Result<Vec<Item<Pair<u32>>>, AllocError> {
     let mut items = Vec::new(alloc);
-    for node in nodes {
-        items.push(left_item(*node))?;
+    for item in right {
+        items.push(right_item(*item))?;
     }
-    left_of(items)
+    Ok(items)
 }
 
-fn right_item((head, state, variable): Right) -> Item<Pair<u32>> {
-    match head {
-        Some((label, rank)) => Item::Label { label, rank },
-        None => Item::Hole(Pair { state, variable }),
-    }
+// A rule of a state that costs nothing.
+fn rule_of(
+    alloc: Global,
+    state: u32,
+    left: &[Left],
+    right: &[Right],
+) -> Result<TransducerRule<u32>, AllocError> {
+    let left = left_side(alloc, left)?;
+    let right = side_of(right_items(alloc, right)?)?;
+    Ok(TransducerRule {
+        state,
+        left,
+        right,
+        cost: MinPlus::one(),
+    })
 }
 
-/// The right side of these items.
-pub(crate) fn right_of(items: Vec<Item<Pair<u32>>>) -> Result<Side<Pair<u32>>, Fail> {
-    if items.len() > 2000 {
-        return Err("too many items".into());
+/// The rules of the state 0 with these left and right sides.
+pub(crate) fn rules_of(
+    alloc: Global,
+    sides: &[(&[Left], &[Right])],
+) -> Result<Vec<TransducerRule<u32>>, AllocError> {
+    let mut rules = Vec::new(alloc);
+    for (left, right) in sides {
+        rules.push(rule_of(alloc, 0, left, right)?)?;
     }
-    Ok(Side::from_preorder(items).ok().ok_or("no right side")?)
-}
-
-fn right_side(alloc: Global, nodes: &[Right]) -> Result<Side<Pair<u32>>, Fail> {
-    let mut items = Vec::new(alloc);
-    for node in nodes {
-        items.push(right_item(*node))?;
-    }
-    right_of(items)
+    Ok(rules)
 }
 
 /// The transducer of these rules, where they make one.
 pub(crate) fn made(
     alloc: Global,
-    texts: &[&str],
+    names: &[&str],
     rules: Vec<TransducerRule<u32>>,
-) -> Result<Option<Transducer<MinPlus>>, Fail> {
+) -> Result<Option<Transducer<MinPlus>>, AllocError> {
     if rules.len() > 100_000 {
-        return Err("too many rules".into());
+        return Err(AllocError);
     }
-    Ok(Transducer::new(names(alloc, texts)?, rules))
-}
-
-// A rule that costs nothing.
-fn free_rule(
-    alloc: Global,
-    state: u32,
-    left: &[Left],
-    right: &[Right],
-) -> Result<TransducerRule<u32>, Fail> {
-    Ok(TransducerRule {
-        state,
-        left: left_side(alloc, left)?,
-        right: right_side(alloc, right)?,
-        cost: MinPlus::one(),
-    })
-}
-
-// The transducer of one rule of the state 0 that costs nothing, where it makes one.
-fn of_one_rule(
-    alloc: Global,
-    texts: &[&str],
-    left: &[Left],
-    right: &[Right],
-) -> Result<Option<Transducer<MinPlus>>, Fail> {
-    let mut rules = Vec::new(alloc);
-    rules.push(free_rule(alloc, 0, left, right)?)?;
-    made(alloc, texts, rules)
+    let names = names_of(alloc, names)?;
+    Ok(Transducer::new(names, rules))
 }
 
 // t.A(x0:a x1:) -> B(t.x1 p.x0)
-const LEFT: [Left; 3] = [(Some((0, 2)), 0, None), (None, 0, Some(2)), (None, 1, None)];
+const LEFT: [Left; 3] = [
+    Left::Label(0, 2),
+    Left::Variable(0, Some(2)),
+    Left::Variable(1, None),
+];
 
-const RIGHT: [Right; 3] = [(Some((1, 2)), 0, 0), (None, 0, 1), (None, 1, 0)];
+const RIGHT: [Right; 3] = [Right::Label(1, 2), Right::Pair(0, 1), Right::Pair(1, 0)];
+
+// The transducer of one rule of the state 0, where it makes one.
+fn of_one_rule(
+    alloc: Global,
+    names: &[&str],
+    left: &[Left],
+    right: &[Right],
+) -> Result<Option<Transducer<MinPlus>>, AllocError> {
+    made(alloc, names, rules_of(alloc, &[(left, right)])?)
+}
+
+// A transducer with this many rules, the first 65,536 of them of its start.
+fn of_many_rules(alloc: Global, count: u32) -> Result<Transducer<MinPlus>, AllocError> {
+    let mut rules = Vec::new(alloc);
+    for place in 0..count {
+        rules.push(rule_of(alloc, place / 65_536, &LEFT, &RIGHT)?)?;
+    }
+    match made(alloc, &["t", "p"], rules)? {
+        Some(transducer) => Ok(transducer),
+        None => Err(AllocError),
+    }
+}
 
 // How many states, rules and names it has, and how many rules its list.
 fn counts_of(transducer: &Transducer<MinPlus>) -> (u32, u32, u32, usize) {
@@ -129,31 +172,43 @@ fn counts_of(transducer: &Transducer<MinPlus>) -> (u32, u32, u32, usize) {
     )
 }
 
-fn name_of(transducer: &Transducer<MinPlus>, state: u32) -> Option<&[u8]> {
-    if state >= transducer.states() {
-        return None;
-    }
-    Some(transducer.name(state))
+fn is_name(transducer: &Transducer<MinPlus>, state: u32, name: &[u8]) -> bool {
+    state < transducer.states() && transducer.name(state) == name
 }
 
-// The state of a rule, and how many items its left side has.
-fn rule_at(transducer: &Transducer<MinPlus>, number: u32) -> Option<(u32, usize)> {
+// Whether this is the state of a rule, whose left side has three items.
+fn is_rule_of(transducer: &Transducer<MinPlus>, number: u32, state: u32) -> bool {
     if number == 0 || number > transducer.rules() {
-        return None;
+        return false;
     }
     let rule = transducer.rule(number);
-    Some((rule.state, rule.left.items().len()))
+    rule.state == state && rule.left.items().len() == 3
+}
+
+// How many names and rules it is taken apart into.
+fn counts_apart(transducer: Transducer<MinPlus>) -> (u32, usize) {
+    let (names, rules) = transducer.into_parts();
+    (names.len(), rules.len())
+}
+
+// Whether a transducer of one rule gives its parts.
+fn has_parts(transducer: &Transducer<MinPlus>) -> bool {
+    counts_of(transducer) == (2, 1, 2, 1)
+        && is_name(transducer, 1, b"p")
+        && is_rule_of(transducer, 1, 0)
+}
+
+// The same of the transducer of the one rule above, and how many names and rules it is taken apart into.
+fn parts_of_one(alloc: Global) -> Result<(bool, (u32, usize)), AllocError> {
+    match of_one_rule(alloc, &["t", "p"], &LEFT, &RIGHT)? {
+        Some(transducer) => Ok((has_parts(&transducer), counts_apart(transducer))),
+        None => Err(AllocError),
+    }
 }
 
 #[test]
 fn a_transducer_gives_its_parts(rt: HostRuntime) -> Result<(), Fail> {
-    let made = of_one_rule(rt.alloc(), &["t", "p"], &LEFT, &RIGHT)?;
-    let transducer = made.ok_or("no transducer")?;
-    assert_eq!(rt; counts_of(&transducer), (2, 1, 2, 1));
-    assert_eq!(rt; name_of(&transducer, 1), Some(b"p".as_slice()));
-    assert_eq!(rt; rule_at(&transducer, 1), Some((0, 3)));
-    let (names, rules) = transducer.into_parts();
-    assert_eq!(rt; (names.len(), rules.len()), (2, 1));
+    assert!(rt; parts_of_one(rt.alloc())? == (true, (2, 1)));
     Ok(())
 }
 
@@ -169,55 +224,72 @@ static ROWS: [Row; 7] = [
     // p has no name
     (&["t"], &LEFT, &RIGHT, false),
     // there is no name
-    (&[], &LEFT, &[(Some((2, 0)), 0, 0)], false),
+    (&[], &LEFT, &[Right::Label(2, 0)], false),
     // t.x0: -> t.x0
-    (&["t"], &[(None, 0, None)], &[(None, 0, 0)], false),
+    (
+        &["t"],
+        &[Left::Variable(0, None)],
+        &[Right::Pair(0, 0)],
+        false,
+    ),
     // t.A(x1: x0:) -> t.x0
     (
         &["t"],
-        &[(Some((0, 2)), 0, None), (None, 1, None), (None, 0, None)],
-        &[(None, 0, 0)],
+        &[
+            Left::Label(0, 2),
+            Left::Variable(1, None),
+            Left::Variable(0, None),
+        ],
+        &[Right::Pair(0, 0)],
         false,
     ),
     // t.A(x0: x0:) -> t.x0
     (
         &["t"],
-        &[(Some((0, 2)), 0, None), (None, 0, None), (None, 0, None)],
-        &[(None, 0, 0)],
+        &[
+            Left::Label(0, 2),
+            Left::Variable(0, None),
+            Left::Variable(0, None),
+        ],
+        &[Right::Pair(0, 0)],
         false,
     ),
     // t.A(x0:a x1:) -> t.x2, and with t.x1 in its place
-    (&["t"], &LEFT, &[(None, 0, 2)], false),
-    (&["t"], &LEFT, &[(None, 0, 1)], true),
+    (&["t"], &LEFT, &[Right::Pair(0, 2)], false),
+    (&["t"], &LEFT, &[Right::Pair(0, 1)], true),
 ];
 
+fn rows() -> &'static [Row] {
+    &ROWS
+}
+
 // Whether a rule makes a transducer.
-fn makes_one(alloc: Global, texts: &[&str], left: &[Left], right: &[Right]) -> Result<bool, Fail> {
-    Ok(of_one_rule(alloc, texts, left, right)?.is_some())
+fn makes_one(alloc: Global, row: &Row) -> Result<bool, AllocError> {
+    Ok(of_one_rule(alloc, row.0, row.1, row.2)?.is_some())
 }
 
 #[test]
 fn rules_without_their_shape_make_no_transducer(rt: HostRuntime) -> Result<(), Fail> {
-    for (texts, left, right, want) in &ROWS {
-        assert!(rt; makes_one(rt.alloc(), texts, left, right)? == *want);
+    for row in rows() {
+        assert!(rt; makes_one(rt.alloc(), row)? == row.3);
     }
     Ok(())
 }
 
-// A transducer with this many rules, the first 65,536 of them of its start.
-fn of_many_rules(alloc: Global, count: u32) -> Result<Transducer<MinPlus>, Fail> {
-    let mut rules = Vec::new(alloc);
-    for place in 0..count {
-        rules.push(free_rule(alloc, place / 65_536, &LEFT, &RIGHT)?)?;
-    }
-    Ok(made(alloc, &["t", "p"], rules)?.ok_or("no transducer")?)
+// Whether the rules of a transducer of 65,537 rules are found by their numbers.
+fn are_many_found(transducer: &Transducer<MinPlus>) -> bool {
+    transducer.rules() == 65_537
+        && is_rule_of(transducer, 65_536, 0)
+        && is_rule_of(transducer, 65_537, 1)
+}
+
+// The same of the transducer above.
+fn is_last_found(alloc: Global) -> Result<bool, AllocError> {
+    Ok(are_many_found(&of_many_rules(alloc, 65_537)?))
 }
 
 #[test]
 fn a_rule_past_65536_is_found(rt: HostRuntime) -> Result<(), Fail> {
-    let transducer = of_many_rules(rt.alloc(), 65_537)?;
-    assert_eq!(rt; transducer.rules(), 65_537);
-    assert_eq!(rt; rule_at(&transducer, 65_536), Some((0, 3)));
-    assert_eq!(rt; rule_at(&transducer, 65_537), Some((1, 3)));
+    assert!(rt; is_last_found(rt.alloc())?);
     Ok(())
 }

@@ -2,7 +2,8 @@
 ghost use Rattle.std.specs.Prelude.{length};
 ghost use Rattle.tib_transducer_file.specs.Labelled.{AreLabelled};
 
-use std::alloc::Global;
+use crate::texts::no_wrong;
+use std::alloc::{AllocError, Global};
 use std::test::Fail;
 use tib_cost::{Boolean, Bottleneck, MinPlus, Semiring, Widest};
 use tib_io::MemorySink;
@@ -16,32 +17,34 @@ fn text_of<S: Semiring>(
     alloc: Global,
     transducer: &Transducer<S>,
     labels: &Labels,
-) -> Result<Vec<u8>, Fail>
+) -> Result<Vec<u8>, AllocError>
     requires { AreLabelled (length labels.now) transducer.now.rules }
 {
     let mut sink = MemorySink::new(alloc, Vec::new(alloc), 1_000_000)?;
     let Ok(()) = print_transducer(transducer, labels, &mut sink) else {
-        return Err("the sink failed".into());
+        return Err(AllocError);
     };
-    Ok(sink.bytes().to_vec(alloc)?)
+    sink.bytes().to_vec(alloc)
 }
 
-// What is printed of the transducer of a text.
-fn printed<S: Semiring + Drop>(alloc: Global, text: &[u8]) -> Result<Vec<u8>, Fail> {
+// What is printed of the transducer of a text, or want of memory where it is none.
+fn printed<S: Semiring + Drop>(alloc: Global, text: &[u8]) -> Result<Vec<u8>, AllocError> {
     if text.len() > 1_000_000 {
-        return Err("too long".into());
+        return Err(AllocError);
     }
     let mut labels = Labels::new(alloc);
-    let Ok(transducer) = read_transducer::<S>(alloc, text, &mut labels) else {
-        return Err("a transducer was refused".into());
-    };
-    text_of(alloc, &transducer, &labels)
+    match read_transducer::<S>(alloc, text, &mut labels) {
+        Ok(transducer) => text_of(alloc, &transducer, &labels),
+        Err(_) => Err(AllocError),
+    }
 }
 
 // Whether this is printed of the transducer of a text.
-fn prints<S: Semiring + Drop>(alloc: Global, text: &[u8], want: &[u8]) -> Result<bool, Fail> {
-    let found = printed::<S>(alloc, text)?;
-    Ok(found.as_slice() == want)
+fn prints<S: Semiring + Drop>(alloc: Global, text: &[u8], want: &[u8]) -> bool {
+    match printed::<S>(alloc, text) {
+        Ok(found) => found.as_slice() == want,
+        Err(_) => false,
+    }
 }
 
 // A text, and what is printed of its transducer where nothing is weighed.
@@ -69,13 +72,23 @@ static ROWS: [(&str, &str); 18] = [
     ),
 ];
 
+fn rows() -> &'static [(&'static str, &'static str)] {
+    &ROWS
+}
+
+// The first of these texts of which something else is printed.
+fn first_wrong(alloc: Global, rows: &[(&'static str, &'static str)]) -> Option<&'static str> {
+    for (text, want) in rows {
+        if !prints::<Boolean>(alloc, text.as_bytes(), want.as_bytes()) {
+            return Some(text);
+        }
+    }
+    None
+}
+
 #[test]
 fn each_label_is_printed_as_it_reads(rt: HostRuntime) -> Result<(), Fail> {
-    for (text, want) in &ROWS {
-        let holds = prints::<Boolean>(rt.alloc(), text.as_bytes(), want.as_bytes())?;
-        assert!(rt; holds, "{text}");
-    }
-    Ok(())
+    no_wrong(first_wrong(rt.alloc(), rows()))
 }
 
 const READ: &[u8] = b"q\nq.A(x0:) -> q.x0 # 003.0\n";
@@ -84,19 +97,25 @@ const PLAIN: &[u8] = b"q\nq.A(x0:) -> q.x0\n";
 
 const WEIGHED: &[u8] = b"q\nq.A(x0:) -> q.x0 # 3\n";
 
+// Whether the weight is printed with sums, greatest weights and least weights, and not with none.
+fn are_weights_printed(alloc: Global) -> bool {
+    prints::<Boolean>(alloc, READ, PLAIN)
+        && prints::<MinPlus>(alloc, READ, WEIGHED)
+        && prints::<Bottleneck>(alloc, READ, WEIGHED)
+        && prints::<Widest>(alloc, READ, WEIGHED)
+}
+
 #[test]
-fn weights_are_printed_where_they_are_kept(rt: HostRuntime) -> Result<(), Fail> {
-    assert!(rt; prints::<Boolean>(rt.alloc(), READ, PLAIN)?);
-    assert!(rt; prints::<MinPlus>(rt.alloc(), READ, WEIGHED)?);
-    assert!(rt; prints::<Bottleneck>(rt.alloc(), READ, WEIGHED)?);
-    assert!(rt; prints::<Widest>(rt.alloc(), READ, WEIGHED)?);
-    Ok(())
+fn weights_are_printed_where_they_are_kept(rt: HostRuntime) {
+    assert!(rt; are_weights_printed(rt.alloc()));
 }
 
 // Whether what is printed of the transducer of a text is printed again as it stands.
-fn stays(alloc: Global, text: &str) -> Result<bool, Fail> {
-    let once = printed::<MinPlus>(alloc, text.as_bytes())?;
-    prints::<MinPlus>(alloc, &once, &once)
+fn stays(alloc: Global, text: &str) -> bool {
+    match printed::<MinPlus>(alloc, text.as_bytes()) {
+        Ok(once) => prints::<MinPlus>(alloc, &once, &once),
+        Err(_) => false,
+    }
 }
 
 static TEXTS: [&str; 4] = [
@@ -107,9 +126,8 @@ static TEXTS: [&str; 4] = [
 ];
 
 #[test]
-fn what_is_printed_is_read_and_printed_again(rt: HostRuntime) -> Result<(), Fail> {
+fn what_is_printed_is_read_and_printed_again(rt: HostRuntime) {
     for text in &TEXTS {
-        assert!(rt; stays(rt.alloc(), text)?, "{text}");
+        assert!(rt; stays(rt.alloc(), text), "{text}");
     }
-    Ok(())
 }

@@ -10,48 +10,21 @@ use tib_canon_transducer::{PrintedTransducer, to_transducer};
 use tib_cost::{MinPlus, Semiring};
 use tib_hunt::Found;
 use tib_io::GrowingSink;
-use tib_table::TableKey;
+use tib_keyed::StatePair;
 use tib_transducer::TransducerRule;
 use tib_transducer_file::read_transducer;
 use tib_transducer_print::print_transducer;
 use tib_tree::Labels;
 
-/// A number as a key.
-#[derive(Debug, Drop, PartialEq, Eq, PartialOrd, Ord, Hash)]
-struct Number {
-    number: u64,
-}
-
-impl TableKey for Number {
-    ghost use Rattle.std.specs.Prelude.{◌%◌};
-    ghost use Rattle.std.proofs.Common.{rules, arith, mod-lt};
-
-    ghost shelf_of = { λ k. k.number % 16 };
-
-    ghost entries_of = { λ _. 1 };
-
-    fn shelf(&self) -> u32 {
-        (self.number % 16) as u32
-    }
-
-    fn entries(&self) -> u64 {
-        1
-    }
-
-    ghost low = { λ k. mod-lt k.number (Prim.omega arith) };
-
-    ghost same = { λ x y e. Prim.search rules };
-}
-
 // Three keys in an order that does not ascend.
-fn three_keys(alloc: Global) -> Result<Vec<Number>, AllocError>
+fn three_keys(alloc: Global) -> Result<Vec<StatePair>, AllocError>
     ensures three { IfOk result (λ v. length v.items ≡ 3) }
     ensures distinct { IfOk result (λ v. Distinct v.items) }
 {
     let mut keys = Vec::new(alloc);
-    keys.push(Number { number: 9 })?;
-    keys.push(Number { number: 2 })?;
-    keys.push(Number { number: 7 })?;
+    keys.push(StatePair::new(9, 0))?;
+    keys.push(StatePair::new(2, 0))?;
+    keys.push(StatePair::new(7, 0))?;
     Ok(keys)
 }
 
@@ -60,21 +33,21 @@ fn rules_in<S: Semiring>(
     alloc: Global,
     text: &[u8],
     labels: &mut Labels,
-) -> Result<Vec<TransducerRule<u32>>, Fail>
+) -> Result<Vec<TransducerRule<u32>>, AllocError>
     requires { length labels.old ≡ 0 }
     ensures few { IfOk result (λ v. length v.items < 2 ^ 32) }
     ensures moves { IfOk result (λ v. AreMovesOver S.SCALE labels.new 3 v.items) }
 {
     if text.len() > 100_000 {
-        return Err("too long".into());
+        return Err(AllocError);
     }
     let transducer = match read_transducer::<S>(alloc, text, labels) {
         Ok(transducer) => transducer,
-        Err(_) => return Err("the text was refused".into()),
+        Err(_) => return Err(AllocError),
     };
     transducer.is_sound();
     if transducer.states() != 3 {
-        return Err("not three states".into());
+        return Err(AllocError);
     }
     let (_, rules) = transducer.into_parts();
     Ok(rules)
@@ -85,31 +58,32 @@ fn printed<S: Semiring>(
     alloc: Global,
     form: &PrintedTransducer<S>,
     labels: &Labels,
-) -> Result<Vec<u8>, Fail>
+) -> Result<Vec<u8>, AllocError>
     requires { AreLabelled (length labels.now) form.now.transducer.rules }
 {
     let mut sink = GrowingSink::new(alloc);
     let Ok(()) = print_transducer(&form.transducer, labels, &mut sink) else {
-        return Err("no memory".into());
+        return Err(AllocError);
     };
     if sink.bytes() != form.text.bytes() {
-        return Err("the transducer prints as another text".into());
+        return Err(AllocError);
     }
-    Ok(sink.bytes().to_vec(alloc)?)
+    sink.bytes().to_vec(alloc)
 }
 
 // The canonical transducer over the three keys with the rules of a text, as it is printed.
-fn answer<S: Semiring>(alloc: Global, text: &[u8], start: u32) -> Result<Vec<u8>, Fail>
+fn answer<S: Semiring>(alloc: Global, text: &[u8], start: u32) -> Result<Vec<u8>, AllocError>
     requires { start < 3 }
 {
+    let order = three_keys(alloc)?;
     let mut labels = Labels::new(alloc);
     let rules = rules_in::<S>(alloc, text, &mut labels)?;
     let found = Found {
-        order: three_keys(alloc)?,
+        order,
         rules,
         parts: 0,
     };
-    let form = to_transducer::<S, Number>(alloc, found, start, &labels)?;
+    let form = to_transducer::<S, StatePair>(alloc, found, start, &labels)?;
     printed(alloc, &form, &labels)
 }
 
@@ -129,9 +103,9 @@ static FORMS: [(u32, &[u8]); 2] = [
 ];
 
 // Whether this is printed of the canonical transducer of these moves with a start.
-fn prints(alloc: Global, start: u32, want: &[u8]) -> Result<bool, Fail> {
+fn prints(alloc: Global, start: u32, want: &[u8]) -> Result<bool, AllocError> {
     if start >= 3 {
-        return Err("no such start".into());
+        return Err(AllocError);
     }
     let found = answer::<MinPlus>(alloc, MOVES, start)?;
     Ok(found.as_slice() == want)

@@ -1,0 +1,5 @@
+//! Tests of canonical transducers.
+#![tactic(auto)]
+
+#[cfg(test)]
+mod canon_transducer;

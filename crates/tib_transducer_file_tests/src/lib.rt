@@ -1,0 +1,12 @@
+//! Tests of what is read from and printed to files of transducers, and read from files of strings
+//! and tree-to-string transducers.
+#![tactic(auto)]
+
+#[cfg(test)]
+mod string_file;
+#[cfg(test)]
+mod texts;
+#[cfg(test)]
+mod transducer_file;
+#[cfg(test)]
+mod transducer_print;
