@@ -1,34 +1,12 @@
 // Files and sinks in memory, read and written at each of their limits.
 ghost use Rattle.std.specs.Prelude.{◌<◌};
 
-use crate::{
-    Failed, FileError, Files, GrowingSink, MemoryFiles, MemorySink, Sink, read_file,
-    write_and_finish, write_whole,
-};
+use crate::compared::{Compared, compare_file, is_grown};
 use std::alloc::{AllocError, Global};
-
-/// Whether a file that was read whole has the bytes that it should have, or why it was not read.
-pub(crate) type Compared = Result<bool, FileError>;
-
-// Reads the file of a name, which should have these bytes.
-pub(crate) fn compare_file<F: Files>(
-    alloc: Global,
-    files: &mut F,
-    name: &str,
-    bytes: &[u8],
-) -> Compared {
-    match read_file(alloc, files, name) {
-        Ok(read) => Ok(read.as_slice() == bytes),
-        Err(error) => Err(error),
-    }
-}
-
-// Whether a sink that grows takes these bytes, and has them then.
-pub(crate) fn is_grown(alloc: Global, bytes: &[u8]) -> bool {
-    let mut sink = GrowingSink::new(alloc);
-    let taken = write_and_finish(&mut sink, bytes).is_ok();
-    taken & (sink.bytes() == bytes)
-}
+use tib_io::{
+    Failed, FileError, Files, MemoryFiles, MemorySink, Sink, read_file, write_and_finish,
+    write_whole,
+};
 
 // A table of one file, "f", with these bytes.
 fn one_file(alloc: Global, bytes: Vec<u8>) -> Result<Vec<(String, Vec<u8>)>, AllocError> {
