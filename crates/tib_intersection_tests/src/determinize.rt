@@ -1,9 +1,10 @@
-// The reached sets of small grammars, as text, and the limit.
-ghost use Rattle.std.specs.Prelude.{◌≤◌, length};
+// The reached sets of small grammars, and the limit.
+ghost use Rattle.std.specs.Prelude.{◌≤◌};
 
-use crate::grammars::{Row, normal, write_dotted, write_marked, write_rules};
-use std::alloc::{AllocError, Global};
-use std::test::Fail;
+use crate::grammars::{Row, are_rules, normal};
+use std::alloc::Global;
+use std::sync::Wait;
+use std::thread::Threads;
 use tib_cost::{Boolean, Bottleneck, Cost, MinPlus, Semiring};
 use tib_determinize::{Residuals, Vector, determinize, determinize_together};
 use tib_grammar::Rule;
@@ -46,88 +47,135 @@ static APART: [Row; 4] = [
     (2, 9, &[], 1),
 ];
 
-fn write_final(text: &mut String, position: u32, residual: Cost) -> Result<(), AllocError> {
-    write_marked(text, "", position as u64)?;
-    write_marked(text, " at ", residual.get())
+// A state or position, and a residual.
+type Entry = (u32, u64);
+
+// A reached set: its vectors, its rules, its parts, and the positions with the start, each with the start's residual there.
+type Wanted = (
+    &'static [&'static [Entry]],
+    &'static [Row],
+    u64,
+    &'static [Entry],
+);
+
+static SUMS: Wanted = (
+    &[&[(1, 1), (2, 0)], &[(0, 0)]],
+    &[(0, 8, &[], 1), (1, 7, &[0], 2)],
+    10,
+    &[(1, 0)],
+);
+
+static GREATEST: Wanted = (
+    &[&[(1, 2), (2, 0)], &[(0, 0)]],
+    &[(0, 8, &[], 1), (1, 7, &[0], 2)],
+    10,
+    &[(1, 0)],
+);
+
+static SUBSETS: Wanted = (
+    &[&[(1, 0), (2, 0)], &[(0, 0)]],
+    &[(0, 8, &[], 0), (1, 7, &[0], 0), (1, 9, &[1, 0], 0)],
+    14,
+    &[(1, 0)],
+);
+
+fn is_entry(state: u32, residual: Cost, entry: Entry) -> bool {
+    let (own, cost) = entry;
+    state == own && residual.get() == cost
 }
 
-// The states of a vector with their residuals.
-fn write_vector(text: &mut String, vector: &Vector) -> Result<(), AllocError> {
-    for (state, residual) in vector.entries() {
-        write_dotted(text, *state as u64, &[residual.get()])?;
+fn are_entries(entries: &[(u32, Cost)], wanted: &[Entry]) -> bool {
+    if entries.len() != wanted.len() {
+        return false;
     }
-    text.push_str("; ")
+    for i in 0..entries.len() {
+        if !is_entry(entries[i].0, entries[i].1, wanted[i]) {
+            return false;
+        }
+    }
+    true
 }
 
-// The vectors, the rules and the parts, and behind another bar each position with the start, and the start's residual there.
-fn write_found(
-    alloc: Global,
-    found: &Found<Vector, Rule<u32>>,
-    finals: &[(u32, Cost)],
-) -> Result<String, AllocError> {
-    let mut text = String::new(alloc);
-    for vector in &found.order {
-        write_vector(&mut text, vector)?;
+fn are_vectors(order: &[Vector], wanted: &[&'static [Entry]]) -> bool {
+    if order.len() != wanted.len() {
+        return false;
     }
-    write_rules(&mut text, &found.rules, found.parts)?;
-    text.push_str(" | ")?;
-    for (position, residual) in finals {
-        write_final(&mut text, *position, *residual)?;
+    for i in 0..order.len() {
+        if !are_entries(order[i].entries(), wanted[i]) {
+            return false;
+        }
     }
-    Ok(text)
+    true
 }
 
-// The finals of some vectors.
+// The positions with the start among some vectors, each with the start's residual there.
 fn finals<S: Semiring>(
     alloc: Global,
     normal: &Normal<S>,
     order: &[Vector],
-) -> Result<Vec<(u32, Cost)>, AllocError>
-    requires { length order.now ≤ 20000000 }
-{
-    Residuals::new(alloc, normal)?.finals(alloc, order)
+) -> Option<Vec<(u32, Cost)>> {
+    if order.len() > 99 {
+        return None;
+    }
+    Residuals::new(alloc, normal)
+        .ok()?
+        .finals(alloc, order)
+        .ok()
 }
 
-// The reached set and its finals, or the limit that it passes.
-fn told<S: Semiring + Drop>(alloc: Global, rows: &[Row], limit: u64) -> Result<String, Fail>
-    requires some { 1 ≤ limit }
-    requires limit { limit ≤ 20000000 }
-{
+// Whether a reached set is the one wanted; none where memory is refused.
+fn is_wanted<S: Semiring>(
+    alloc: Global,
+    normal: &Normal<S>,
+    found: &Found<Vector, Rule<u32>>,
+    wanted: &Wanted,
+) -> Option<bool> {
+    let (vectors, rules, parts, ends) = wanted;
+    let finals = finals(alloc, normal, &found.order)?;
+    let is_order = are_vectors(&found.order, vectors) && found.parts == *parts;
+    Some(is_order && are_rules(&found.rules, rules) && are_entries(&finals, ends))
+}
+
+// Whether the reached set of these rules is the one wanted; none where memory is refused, or there are more than a hundred parts.
+fn reaches<S: Semiring + Drop>(alloc: Global, rows: &[Row], wanted: &Wanted) -> Option<bool> {
     let normal: Normal<S> = normal(alloc, rows)?;
-    match determinize(alloc, &normal, limit, &Open) {
-        Ok(found) => {
-            let finals = finals(alloc, &normal, &found.order)?;
-            Ok(write_found(alloc, &found, &finals)?)
-        }
-        Err(HuntError::OutOfMemory) => Err("no memory".into()),
-        Err(error) => Ok(error.to_string(alloc)?),
+    let found = determinize(alloc, &normal, 100, &Open).ok()?;
+    is_wanted(alloc, &normal, &found, wanted)
+}
+
+#[test]
+fn residuals_are_kept(rt: HostRuntime) {
+    let sums = reaches::<MinPlus>(rt.alloc(), &AMBIGUOUS, &SUMS);
+    let greatest = reaches::<Bottleneck>(rt.alloc(), &AMBIGUOUS, &GREATEST);
+    let subsets = reaches::<Boolean>(rt.alloc(), &PLAIN, &SUBSETS);
+    assert_eq!(rt;
+        (sums, greatest, subsets),
+        (Some(true), Some(true), Some(true))
+    );
+}
+
+// The limit that an answer names.
+fn limit_of(answer: &Result<Found<Vector, Rule<u32>>, HuntError>) -> Option<u64> {
+    match answer {
+        Err(HuntError::TooMany { limit }) => Some(*limit),
+        _ => None,
     }
 }
 
-static AMBIGUOUS_VECTORS: &str = "1.1 2.0 ; 0.0 ; | 0 > 8 # 1; 1 > 7 :0 # 2; 10 | 1 at 0";
-
-static BOTTLENECK_VECTORS: &str = "1.2 2.0 ; 0.0 ; | 0 > 8 # 1; 1 > 7 :0 # 2; 10 | 1 at 0";
-
-static SUBSETS: &str = "1.0 2.0 ; 0.0 ; | 0 > 8 # 0; 1 > 7 :0 # 0; 1 > 9 :1 :0 # 0; 14 | 1 at 0";
-
-#[test]
-fn residuals_are_kept(rt: HostRuntime) -> Result<(), Fail> {
-    let sums = told::<MinPlus>(rt.alloc(), &AMBIGUOUS, 100)?;
-    assert_eq!(rt; sums.as_str(), AMBIGUOUS_VECTORS);
-    let greatest = told::<Bottleneck>(rt.alloc(), &AMBIGUOUS, 100)?;
-    assert_eq!(rt; greatest.as_str(), BOTTLENECK_VECTORS);
-    let subsets = told::<Boolean>(rt.alloc(), &PLAIN, 100)?;
-    assert_eq!(rt; subsets.as_str(), SUBSETS);
-    Ok(())
+// The same for these rules and this limit.
+fn limit_told(alloc: Global, rows: &[Row], limit: u64) -> Option<u64>
+    requires some { 1 ≤ limit }
+    requires limit { limit ≤ 20000000 }
+{
+    let normal: Normal<MinPlus> = normal(alloc, rows)?;
+    let answer = determinize(alloc, &normal, limit, &Open);
+    limit_of(&answer)
 }
 
 #[test]
-fn the_limit(rt: HostRuntime) -> Result<(), Fail> {
-    let text = told::<MinPlus>(rt.alloc(), &AMBIGUOUS, 9)?;
-    assert_eq!(rt; text.as_str(), "more than 9 parts");
-    let text = told::<MinPlus>(rt.alloc(), &ENDLESS, 50)?;
-    assert_eq!(rt; text.as_str(), "more than 50 parts");
-    Ok(())
+fn the_limit(rt: HostRuntime) {
+    assert_eq!(rt; limit_told(rt.alloc(), &AMBIGUOUS, 9), Some(9));
+    assert_eq!(rt; limit_told(rt.alloc(), &ENDLESS, 50), Some(50));
 }
 
 // How many vectors, rules and parts were reached.
@@ -138,12 +186,23 @@ fn counts_of(answer: &Result<Found<Vector, Rule<u32>>, HuntError>) -> Option<(us
     }
 }
 
+// The same by this number of workers, where two vectors stand in the first round.
+fn counts_together<R: Threads + Wait + Sync>(
+    rt: &R,
+    alloc: Global,
+    workers: u32,
+) -> Option<(usize, usize, u64)>
+    requires some { 1 ≤ workers }
+    requires workers { workers ≤ 16 }
+{
+    let normal: Normal<MinPlus> = normal(alloc, &APART)?;
+    let answer = determinize_together(rt, alloc, &normal, workers, 100, &Open);
+    counts_of(&answer)
+}
+
 #[test]
-fn every_number_of_workers_reaches_the_same(rt: HostRuntime) -> Result<(), Fail> {
-    let normal: Normal<MinPlus> = normal(rt.alloc(), &APART)?;
+fn every_number_of_workers_reaches_the_same(rt: HostRuntime) {
     for workers in 1..17 {
-        let answer = determinize_together(&rt, rt.alloc(), &normal, workers, 100, &Open);
-        assert_eq!(rt; counts_of(&answer), Some((3, 4, 16)));
+        assert_eq!(rt; counts_together(&rt, rt.alloc(), workers), Some((3, 4, 16)));
     }
-    Ok(())
 }

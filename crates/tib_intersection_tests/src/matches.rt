@@ -1,7 +1,6 @@
-// The matches of sides in a small grammar, as text. The labels are f 0, g 1 and a 2.
-use crate::grammars::{Row, normal, write_cost, write_dotted};
-use std::alloc::{AllocError, Global};
-use std::test::Fail;
+// The matches of sides in a small grammar. The labels are f 0, g 1 and a 2.
+use crate::grammars::{Row, normal};
+use std::alloc::Global;
 use tib_cost::{Bottleneck, MOST, MinPlus, Semiring};
 use tib_grammar::{Item, Side};
 use tib_match::{HoleCost, Match, Within, few_matches, search_matches};
@@ -10,6 +9,12 @@ use tib_tree::Label;
 
 // A side in preorder: a label over this many children, or a hole.
 type Shape = &'static [Option<(Label, u32)>];
+
+// The states at the holes of a side, and what it costs to match it so.
+type Wanted = (&'static [u32], u64);
+
+// A state, a side, and the matches of the side from the state.
+type Case = (u32, Shape, &'static [Wanted]);
 
 static RULES: [Row; 8] = [
     (0, 0, &[1, 2], 1),
@@ -22,32 +27,41 @@ static RULES: [Row; 8] = [
     (3, 1, &[3], MOST),
 ];
 
-// A state, a side, and the matches of the side from the state: the states at its holes, and the cost.
-static ROWS: [(u32, Shape, &str); 10] = [
+// f(g(x) a)
+const F_G_A: Shape = &[Some((0, 2)), Some((1, 1)), None, Some((2, 0))];
+
+static CASES: [Case; 10] = [
     // x
-    (1, &[None], "1 # 0; "),
+    (1, &[None], &[(&[1], 0)]),
     // f(x y)
-    (0, &[Some((0, 2)), None, None], "1 2 # 1; 2 2 # 2; "),
-    // f(g(x) y)
-    (0, &[Some((0, 2)), Some((1, 1)), None, None], "3 2 # 2; "),
-    // f(g(x) a)
     (
         0,
-        &[Some((0, 2)), Some((1, 1)), None, Some((2, 0))],
-        "3 # 4; ",
+        &[Some((0, 2)), None, None],
+        &[(&[1, 2], 1), (&[2, 2], 2)],
     ),
+    // f(g(x) y)
+    (
+        0,
+        &[Some((0, 2)), Some((1, 1)), None, None],
+        &[(&[3, 2], 2)],
+    ),
+    (0, F_G_A, &[(&[3], 4)]),
     // f(a a)
-    (0, &[Some((0, 2)), Some((2, 0)), Some((2, 0))], "# 6; "),
+    (0, &[Some((0, 2)), Some((2, 0)), Some((2, 0))], &[(&[], 6)]),
     // a
-    (2, &[Some((2, 0))], "# 2; "),
-    (0, &[Some((2, 0))], ""),
+    (2, &[Some((2, 0))], &[(&[], 2)]),
+    (0, &[Some((2, 0))], &[]),
     // g(x)
-    (3, &[Some((1, 1)), None], "3 # 1000000000000000; "),
+    (3, &[Some((1, 1)), None], &[(&[3], MOST)]),
     // g(g(x))
-    (1, &[Some((1, 1)), Some((1, 1)), None], ""),
+    (1, &[Some((1, 1)), Some((1, 1)), None], &[]),
     // the label f over another number of children
-    (0, &[Some((0, 1)), None], ""),
+    (0, &[Some((0, 1)), None], &[]),
 ];
+
+fn cases() -> &'static [Case] {
+    &CASES
+}
 
 fn item(shape: Option<(Label, u32)>) -> Item<u32> {
     match shape {
@@ -56,114 +70,108 @@ fn item(shape: Option<(Label, u32)>) -> Item<u32> {
     }
 }
 
-fn side(alloc: Global, shape: &[Option<(Label, u32)>]) -> Result<Side<u32>, Fail> {
+fn side(alloc: Global, shape: &[Option<(Label, u32)>]) -> Option<Side<u32>> {
     let mut items = Vec::new(alloc);
     for part in shape {
-        items.push(item(*part))?;
+        items.push(item(*part)).ok()?;
     }
     if items.len() > 99 {
-        return Err("too many items".into());
+        return None;
     }
-    Ok(Side::from_preorder(items).ok().ok_or("no side")?)
+    Side::from_preorder(items).ok()
 }
 
-fn write_match(text: &mut String, one: &Match) -> Result<(), AllocError> {
-    for state in one.states.as_slice() {
-        write_dotted(text, *state as u64, &[])?;
-    }
-    write_cost(text, one.cost)
+fn is_match(one: &Match, wanted: &Wanted) -> bool {
+    let (states, cost) = wanted;
+    one.cost.get() == *cost && one.states.as_slice() == *states
 }
 
-fn write_matches(alloc: Global, matches: &[Match]) -> Result<String, AllocError> {
-    let mut text = String::new(alloc);
-    for one in matches {
-        write_match(&mut text, one)?;
+fn are_matches(matches: &[Match], wanted: &[Wanted]) -> bool {
+    if matches.len() != wanted.len() {
+        return false;
     }
-    Ok(text)
+    for i in 0..matches.len() {
+        if !is_match(&matches[i], &wanted[i]) {
+            return false;
+        }
+    }
+    true
 }
 
-// The matches of a side from a state, read once from the front.
-fn few<S: Semiring>(
+// Whether the matches of a side from a state, read once from the front, are those wanted; none where memory is refused.
+fn few_agree<S: Semiring>(
     alloc: Global,
     grammar: &Normal<S>,
     state: u32,
     side: &Side<u32>,
-) -> Result<String, Fail> {
+    wanted: &[Wanted],
+) -> Option<bool> {
     if state >= grammar.grammar().states() {
-        return Err("no such state".into());
+        return None;
     }
-    match few_matches(alloc, grammar, state, side, 1000)? {
-        Some(matches) => Ok(write_matches(alloc, &matches)?),
-        None => Err("it gave up".into()),
-    }
+    let matches = few_matches(alloc, grammar, state, side, 1000).ok()??;
+    Some(are_matches(&matches, wanted))
 }
 
 // A cost of nothing for each hole of a side.
-fn free_holes(alloc: Global, side: &Side<u32>) -> Result<Vec<HoleCost>, AllocError> {
+fn free_holes(alloc: Global, side: &Side<u32>) -> Option<Vec<HoleCost>> {
     let mut costs = Vec::new(alloc);
     for item in side.items() {
         if let Item::Hole(_) = item {
-            costs.push(HoleCost::Free)?;
+            costs.push(HoleCost::Free).ok()?;
         }
     }
-    Ok(costs)
+    Some(costs)
+}
+
+fn is_all(answer: &Within, wanted: &[Wanted]) -> bool {
+    match answer {
+        Within::All(matches) => are_matches(matches, wanted),
+        Within::More => false,
+    }
 }
 
 // The same, searched for among boxes.
-fn searched(
+fn searched_agree(
     alloc: Global,
     grammar: &Normal<MinPlus>,
     state: u32,
     side: &Side<u32>,
-) -> Result<String, Fail> {
+    wanted: &[Wanted],
+) -> Option<bool> {
     if state >= grammar.grammar().states() {
-        return Err("no such state".into());
+        return None;
     }
     let costs = free_holes(alloc, side)?;
-    match search_matches(alloc, grammar, state, side, MinPlus::one(), &costs, 9)? {
-        Within::All(matches) => Ok(write_matches(alloc, &matches)?),
-        Within::More => Err("there are more".into()),
-    }
+    let answer = search_matches(alloc, grammar, state, side, MinPlus::one(), &costs, 9).ok()?;
+    Some(is_all(&answer, wanted))
 }
 
-// The matches of the side of a shape, read once from the front.
-fn few_of<S: Semiring>(
-    alloc: Global,
-    grammar: &Normal<S>,
-    state: u32,
-    shape: &[Option<(Label, u32)>],
-) -> Result<String, Fail> {
+// Whether both ways answer a case.
+fn both_agree(alloc: Global, case: &Case) -> Option<(bool, bool)> {
+    let (state, shape, wanted) = case;
+    let grammar = normal(alloc, &RULES)?;
     let side = side(alloc, shape)?;
-    few(alloc, grammar, state, &side)
+    let few = few_agree(alloc, &grammar, *state, &side, wanted)?;
+    let searched = searched_agree(alloc, &grammar, *state, &side, wanted)?;
+    Some((few, searched))
 }
 
-// The same, searched for among boxes.
-fn searched_of(
-    alloc: Global,
-    grammar: &Normal<MinPlus>,
-    state: u32,
-    shape: &[Option<(Label, u32)>],
-) -> Result<String, Fail> {
-    let side = side(alloc, shape)?;
-    searched(alloc, grammar, state, &side)
+// Whether f(g(x) a) has one match from the state 0, at this cost, over a semiring.
+fn costs<S: Semiring + Drop>(alloc: Global, cost: u64) -> Option<bool> {
+    let grammar: Normal<S> = normal(alloc, &RULES)?;
+    let side = side(alloc, F_G_A)?;
+    few_agree(alloc, &grammar, 0, &side, &[(&[3], cost)])
 }
 
 #[test]
-fn each_list_of_states_has_its_least_cost(rt: HostRuntime) -> Result<(), Fail> {
-    let grammar = normal(rt.alloc(), &RULES)?;
-    for (state, shape, want) in &ROWS {
-        let text = few_of::<MinPlus>(rt.alloc(), &grammar, *state, shape)?;
-        assert_eq!(rt; text.as_str(), *want);
-        let other = searched_of(rt.alloc(), &grammar, *state, shape)?;
-        assert_eq!(rt; other.as_str(), *want);
+fn each_list_of_states_has_its_least_cost(rt: HostRuntime) {
+    for case in cases() {
+        assert_eq!(rt; both_agree(rt.alloc(), case), Some((true, true)));
     }
-    Ok(())
 }
 
 #[test]
-fn a_product_is_that_of_the_semiring(rt: HostRuntime) -> Result<(), Fail> {
-    let grammar = normal(rt.alloc(), &RULES)?;
-    let text = few_of::<Bottleneck>(rt.alloc(), &grammar, 0, ROWS[3].1)?;
-    assert_eq!(rt; text.as_str(), "3 # 2; ");
-    Ok(())
+fn a_product_is_that_of_the_semiring(rt: HostRuntime) {
+    assert_eq!(rt; costs::<Bottleneck>(rt.alloc(), 2), Some(true));
 }
