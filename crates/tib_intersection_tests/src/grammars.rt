@@ -1,117 +1,129 @@
-// Small grammars by their rules, and rules over positions as text.
-use std::alloc::{AllocError, Global};
-use std::test::Fail;
+// Small grammars by their rules, and rules over positions compared with rows of the same form.
+use std::alloc::Global;
 use tib_cost::{Cost, Semiring};
 use tib_grammar::{Grammar, Item, Names, Rule, Side};
 use tib_normal::Normal;
 use tib_tree::Label;
 
-/// A rule of a grammar: its left state, its label, the states below it and its cost.
+/// A rule: its left state or position, its label, the states or positions below it and its cost.
 pub type Row = (u32, Label, &'static [u32], u64);
 
-static NAMES: [&str; 4] = ["p", "q", "r", "s"];
+static LETTERS: [u8; 16] = *b"abcdefghijklmnop";
 
-/// The names of four states.
-pub fn names(alloc: Global) -> Result<Names, Fail> {
+// The name of the state of this number: its eight digits to the base 16, the last one first, as letters.
+fn name(alloc: Global, state: u32) -> Option<Vec<u8>> {
+    let mut text = Vec::new(alloc);
+    let mut rest = state;
+    for _digit in 0..8 {
+        text.push(LETTERS[(rest % 16) as usize]).ok()?;
+        rest /= 16;
+    }
+    Some(text)
+}
+
+// The names of this many states.
+fn names(alloc: Global, many: u32) -> Option<Names> {
     let mut texts = Vec::new(alloc);
-    for text in &NAMES {
-        texts.push(text.as_bytes().to_vec(alloc)?)?;
+    for state in 0..many {
+        texts.push(name(alloc, state)?).ok()?;
     }
-    if texts.len() > 9 {
-        return Err("too many names".into());
+    if texts.len() > 1_000_000 {
+        return None;
     }
-    Ok(Names::from_list(alloc, texts)?.ok_or("names")?)
+    Names::from_list(alloc, texts).ok()?
 }
 
-// The side of a label over states.
-fn side(alloc: Global, label: Label, states: &[u32]) -> Result<Side<u32>, Fail> {
+/// The rule from a state to a label over states, at a cost.
+pub fn rule(
+    alloc: Global,
+    left: u32,
+    label: Label,
+    states: &[u32],
+    cost: u64,
+) -> Option<Rule<u32>> {
     if states.len() > 9 {
-        return Err("too many states".into());
+        return None;
     }
-    Ok(Side::over(alloc, label, states)?)
+    let right = Side::over(alloc, label, states).ok()?;
+    let cost = Cost::new(cost)?;
+    Some(Rule { left, right, cost })
 }
 
-fn rules(alloc: Global, rows: &[Row]) -> Result<Vec<Rule<u32>>, Fail> {
+fn rules(alloc: Global, rows: &[Row]) -> Option<Vec<Rule<u32>>> {
     let mut rules = Vec::new(alloc);
     for (left, label, states, cost) in rows {
-        let cost = Cost::new(*cost).ok_or("cost")?;
-        rules.push(Rule {
-            left: *left,
-            right: side(alloc, *label, states)?,
-            cost,
-        })?;
+        rules.push(rule(alloc, *left, *label, states, *cost)?).ok()?;
     }
-    Ok(rules)
+    Some(rules)
 }
 
-/// The grammar of these names and rules, whose start is the state 0.
+/// The grammar of these rules over this many states, whose start is the state 0; none where memory is refused.
 pub fn normal_of<S: Semiring + Drop>(
     alloc: Global,
-    names: Names,
+    states: u32,
     rules: Vec<Rule<u32>>,
-) -> Result<Normal<S>, Fail> {
+) -> Option<Normal<S>> {
     if rules.len() > 1_000_000 {
-        return Err("too many rules".into());
+        return None;
     }
-    let grammar = Grammar::new(names, rules).ok_or("grammar")?;
-    Ok(Normal::new(alloc, grammar)?.ok_or("normal form")?)
+    let grammar = Grammar::new(names(alloc, states)?, rules)?;
+    Normal::new(alloc, grammar).ok()?
 }
 
-/// The grammar of these rules, whose start is the state 0.
-pub fn normal<S: Semiring + Drop>(alloc: Global, rows: &[Row]) -> Result<Normal<S>, Fail> {
-    let rules = rules(alloc, rows)?;
-    normal_of(alloc, names(alloc)?, rules)
+/// The grammar of these rules over four states, whose start is the state 0; none where memory is refused.
+pub fn normal<S: Semiring + Drop>(alloc: Global, rows: &[Row]) -> Option<Normal<S>> {
+    normal_of(alloc, 4, rules(alloc, rows)?)
 }
 
-/// A mark, and behind it a number in decimal digits.
-pub fn write_marked(text: &mut String, mark: &str, number: u64) -> Result<(), AllocError> {
-    text.push_str(mark)?;
-    let digits = number.to_string(*text.allocator())?;
-    text.push_str(digits.as_str())
-}
-
-/// Numbers with a full stop between them, and a blank behind them.
-pub fn write_dotted(text: &mut String, first: u64, others: &[u64]) -> Result<(), AllocError> {
-    write_marked(text, "", first)?;
-    for number in others {
-        write_marked(text, ".", *number)?;
-    }
-    text.push_str(" ")
-}
-
-/// A cost as `# 5; `.
-pub fn write_cost(text: &mut String, cost: Cost) -> Result<(), AllocError> {
-    write_marked(text, "# ", cost.get())?;
-    text.push_str("; ")
-}
-
-// A blank before a label, and a colon before a position too.
-fn write_item(text: &mut String, item: &Item<u32>) -> Result<(), AllocError> {
+fn is_label(item: &Item<u32>, label: Label, many: usize) -> bool {
     match item {
-        Item::Label { label, .. } => write_marked(text, " ", *label as u64),
-        Item::Hole(position) => write_marked(text, " :", *position as u64),
+        Item::Label { label: own, rank } => *own == label && *rank as usize == many,
+        Item::Hole(_) => false,
     }
 }
 
-fn write_items(text: &mut String, items: &[Item<u32>]) -> Result<(), AllocError> {
-    for item in items {
-        write_item(text, item)?;
+fn is_state(item: &Item<u32>, state: u32) -> bool {
+    match item {
+        Item::Label { .. } => false,
+        Item::Hole(own) => *own == state,
     }
-    text.push_str(" ")
 }
 
-fn write_rule(text: &mut String, rule: &Rule<u32>) -> Result<(), AllocError> {
-    write_marked(text, "", rule.left as u64)?;
-    text.push_str(" >")?;
-    write_items(text, rule.right.items())?;
-    write_cost(text, rule.cost)
+fn are_states(items: &[Item<u32>], states: &[u32]) -> bool {
+    if items.len() != states.len() {
+        return false;
+    }
+    for i in 0..items.len() {
+        if !is_state(&items[i], states[i]) {
+            return false;
+        }
+    }
+    true
 }
 
-/// A bar, rules over positions as `0 > 7 :1 :2 # 5; `, and behind them the parts.
-pub fn write_rules(text: &mut String, rules: &[Rule<u32>], parts: u64) -> Result<(), AllocError> {
-    text.push_str("| ")?;
-    for rule in rules {
-        write_rule(text, rule)?;
+// Whether a side is this label over these states.
+fn is_over(items: &[Item<u32>], label: Label, states: &[u32]) -> bool {
+    if items.len() == 0 {
+        return false;
     }
-    write_marked(text, "", parts)
+    is_label(&items[0], label, states.len()) && are_states(&items[1..], states)
+}
+
+/// Whether a rule is that of a row.
+pub fn is_rule(rule: &Rule<u32>, row: &Row) -> bool {
+    let (left, label, states, cost) = row;
+    rule.left == *left && rule.cost.get() == *cost && is_over(rule.right.items(), *label, states)
+}
+
+/// Whether rules are those of the rows, in their order.
+pub fn are_rules(rules: &[Rule<u32>], rows: &[Row]) -> bool {
+    if rules.len() != rows.len() {
+        return false;
+    }
+    for i in 0..rules.len() {
+        if !is_rule(&rules[i], &rows[i]) {
+            return false;
+        }
+    }
+    true
 }

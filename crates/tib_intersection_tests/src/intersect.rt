@@ -1,13 +1,12 @@
-// The edges of pairs of states of two small grammars, and their reached set, as text.
-ghost use Rattle.std.specs.Prelude.{◌≤◌, length};
+// The edges of pairs of states of two small grammars, and their reached set.
+ghost use Rattle.std.specs.Prelude.{◌≤◌};
 
-use crate::grammars::{
-    Row, normal, normal_of, write_cost, write_dotted, write_marked, write_rules,
-};
-use std::alloc::{AllocError, Global};
-use std::test::Fail;
+use crate::grammars::{Row, are_rules, is_rule, normal, normal_of, rule};
+use std::alloc::Global;
+use std::sync::Wait;
+use std::thread::Threads;
 use tib_cost::{Bottleneck, MOST, MinPlus, Semiring};
-use tib_grammar::{Item, Names, Rule, Side};
+use tib_grammar::Rule;
 use tib_hunt::{Edges, Expand, ExpandError, Found, HuntError, Open, TableKey};
 use tib_intersect::{PairRule, Pairs, intersect, intersect_together};
 use tib_keyed::StatePair;
@@ -30,127 +29,151 @@ static RIGHT: [Row; 5] = [
     (1, 8, &[], 6),
 ];
 
-fn write_pair(text: &mut String, pair: StatePair) -> Result<(), AllocError> {
-    write_dotted(text, pair.first() as u64, &[pair.second() as u64])
-}
+// The first state and the second one.
+type States = (u32, u32);
 
-// The pairs that an edge leads to.
-fn write_ends(text: &mut String, rule: &PairRule, ends: &[StatePair]) -> Result<(), AllocError> {
-    let first = rule.first_end as usize;
-    for i in first..first + rule.rank as usize {
-        if let Some(pair) = ends.get(i).copied() {
-            write_pair(text, pair)?;
-        }
-    }
-    Ok(())
-}
+// An edge: its label, the pairs that it leads to, and its cost.
+type Edge = (Label, &'static [States], u64);
 
-fn write_edge(text: &mut String, rule: &PairRule, ends: &[StatePair]) -> Result<(), AllocError> {
-    write_dotted(text, rule.label as u64, &[])?;
-    write_ends(text, rule, ends)?;
-    write_cost(text, rule.cost)
-}
+// A pair, a budget, and the edges of the pair with their parts; none where these are more than the budget.
+type Case = (States, u64, Option<(&'static [Edge], u64)>);
 
-// Edges in order, and their parts.
-fn write_edges(alloc: Global, edges: &Edges<StatePair, PairRule>) -> Result<String, AllocError> {
-    let mut text = String::new(alloc);
-    for rule in &edges.rules {
-        write_edge(&mut text, rule, &edges.ends)?;
-    }
-    write_marked(&mut text, "", edges.parts)?;
-    Ok(text)
-}
+const OF_STARTS: &[Edge] = &[(7, &[(0, 1), (1, 0)], 5), (8, &[], 7)];
 
-// The edges, in order, or that they have more parts than the budget.
-fn told_edges(
-    alloc: Global,
-    answer: Result<Edges<StatePair, PairRule>, ExpandError>,
-) -> Result<String, Fail> {
-    match answer {
-        Ok(edges) => Ok(write_edges(alloc, &edges)?),
-        Err(ExpandError::More) => Ok(String::from_str(alloc, "more")?),
-        Err(ExpandError::OutOfMemory) => Err("no memory".into()),
-    }
-}
-
-// What is answered of a pair.
-fn edges_of<S: Semiring>(
-    alloc: Global,
-    pairs: &Pairs<S>,
-    pair: StatePair,
-    budget: u64,
-) -> Result<String, Fail> {
-    if pair.first() >= pairs.left.grammar().states() {
-        return Err("no such state".into());
-    }
-    if pair.second() >= pairs.right.grammar().states() || budget > 20_000_000 {
-        return Err("no such state".into());
-    }
-    told_edges(alloc, pairs.expand(alloc, &[pair], 0, budget))
-}
-
-// The same for a pair of the two grammars above.
-fn edges_between<S: Semiring + Drop>(
-    alloc: Global,
-    first: u32,
-    second: u32,
-    budget: u64,
-) -> Result<String, Fail> {
-    let left: Normal<S> = normal(alloc, &LEFT)?;
-    let right = normal(alloc, &RIGHT)?;
-    let pairs = Pairs::new(alloc, &left, &right)?;
-    edges_of(alloc, &pairs, StatePair::new(first, second), budget)
-}
-
-// The states of a pair, a budget, and what is answered.
-static EDGES: [(u32, u32, u64, &str); 6] = [
-    (0, 0, 20_000_000, "7 0.1 1.0 # 5; 8 # 7; 6"),
-    (0, 0, 6, "7 0.1 1.0 # 5; 8 # 7; 6"),
-    (0, 0, 5, "more"),
-    (0, 1, 2, "8 # 8; 2"),
-    (1, 0, 2, "8 # 8; 2"),
-    (1, 1, 1, "more"),
+static SUMS: [Case; 6] = [
+    ((0, 0), 20_000_000, Some((OF_STARTS, 6))),
+    ((0, 0), 6, Some((OF_STARTS, 6))),
+    ((0, 0), 5, None),
+    ((0, 1), 2, Some((&[(8, &[], 8)], 2))),
+    ((1, 0), 2, Some((&[(8, &[], 8)], 2))),
+    ((1, 1), 1, None),
 ];
 
-#[test]
-fn a_pair_has_an_edge_for_each_two_rules_that_agree(rt: HostRuntime) -> Result<(), Fail> {
-    for (first, second, budget, want) in &EDGES {
-        let text = edges_between::<MinPlus>(rt.alloc(), *first, *second, *budget)?;
-        assert_eq!(rt; text.as_str(), *want);
+static GREATEST: [Case; 1] = [(
+    (0, 0),
+    10,
+    Some((
+        &[
+            (7, &[(0, 1), (1, 0)], 4),
+            (8, &[], 5),
+            (7, &[(1, 1), (1, 0)], MOST),
+        ],
+        10,
+    )),
+)];
+
+fn sums() -> &'static [Case] {
+    &SUMS
+}
+
+fn greatest() -> &'static [Case] {
+    &GREATEST
+}
+
+fn are_pairs(pairs: &[StatePair], states: &[States]) -> bool {
+    if pairs.len() != states.len() {
+        return false;
     }
-    Ok(())
+    for i in 0..pairs.len() {
+        if (pairs[i].first(), pairs[i].second()) != states[i] {
+            return false;
+        }
+    }
+    true
 }
 
-#[test]
-fn a_product_is_that_of_the_semiring(rt: HostRuntime) -> Result<(), Fail> {
-    let text = edges_between::<Bottleneck>(rt.alloc(), 0, 0, 10)?;
-    assert_eq!(rt;
-        text.as_str(),
-        "7 0.1 1.0 # 4; 8 # 5; 7 1.1 1.0 # 1000000000000000; 10"
-    );
-    Ok(())
+// Whether the ends from one on, of this number, are these pairs.
+fn leads_to(ends: &[StatePair], first: usize, rank: usize, states: &[States]) -> bool {
+    if rank > ends.len() || first > ends.len() - rank {
+        return false;
+    }
+    are_pairs(&ends[first..first + rank], states)
 }
 
-fn seeds_of(alloc: Global, pairs: &Pairs<MinPlus>) -> Result<Edges<StatePair, PairRule>, Fail> {
-    match pairs.seeds(alloc, 0) {
-        Ok(seeds) => Ok(seeds),
-        Err(_) => Err("no seeds".into()),
+fn is_edge(rule: &PairRule, ends: &[StatePair], edge: &Edge) -> bool {
+    let (label, states, cost) = edge;
+    rule.label == *label
+        && rule.cost.get() == *cost
+        && leads_to(ends, rule.first_end as usize, rule.rank as usize, states)
+}
+
+fn are_edges(rules: &[PairRule], ends: &[StatePair], edges: &[Edge]) -> bool {
+    if rules.len() != edges.len() {
+        return false;
+    }
+    for i in 0..rules.len() {
+        if !is_edge(&rules[i], ends, &edges[i]) {
+            return false;
+        }
+    }
+    true
+}
+
+// Whether the edges of a pair are those wanted, or more than the budget where none are.
+fn is_wanted(
+    answer: &Result<Edges<StatePair, PairRule>, ExpandError>,
+    wanted: &Option<(&'static [Edge], u64)>,
+) -> bool {
+    match (answer, wanted) {
+        (Ok(found), Some((edges, parts))) => {
+            found.parts == *parts && are_edges(&found.rules, &found.ends, edges)
+        }
+        (Err(ExpandError::More), None) => true,
+        _ => false,
     }
 }
 
-// The seeds of the two grammars above.
-fn seeds(alloc: Global) -> Result<Edges<StatePair, PairRule>, Fail> {
-    let left = normal(alloc, &LEFT)?;
-    let right = normal(alloc, &RIGHT)?;
-    let pairs = Pairs::new(alloc, &left, &right)?;
-    seeds_of(alloc, &pairs)
+// Whether the answer to a case is the one wanted; none where there is no such state or budget.
+fn agrees<S: Semiring>(alloc: Global, pairs: &Pairs<S>, case: &Case) -> Option<bool> {
+    let ((first, second), budget, wanted) = case;
+    if *first >= pairs.left.grammar().states() {
+        return None;
+    }
+    if *second >= pairs.right.grammar().states() || *budget > 20_000_000 {
+        return None;
+    }
+    let answer = pairs.expand(alloc, &[StatePair::new(*first, *second)], 0, *budget);
+    Some(is_wanted(&answer, wanted))
 }
 
-// The rule of an edge from position 4 to the last two of the positions 9, 5 and 6.
-fn settled(alloc: Global) -> Result<Rule<u32>, Fail> {
-    let left: Normal<MinPlus> = normal(alloc, &LEFT)?;
+// The same for the pairs of the two grammars above.
+fn edges_agree<S: Semiring + Drop>(alloc: Global, case: &Case) -> Option<bool> {
+    let left: Normal<S> = normal(alloc, &LEFT)?;
     let right = normal(alloc, &RIGHT)?;
-    let pairs = Pairs::new(alloc, &left, &right)?;
+    let pairs = Pairs::new(alloc, &left, &right).ok()?;
+    agrees(alloc, &pairs, case)
+}
+
+#[test]
+fn a_pair_has_an_edge_for_each_two_rules_that_agree(rt: HostRuntime) {
+    for case in sums() {
+        assert_eq!(rt; edges_agree::<MinPlus>(rt.alloc(), case), Some(true));
+    }
+}
+
+#[test]
+fn a_product_is_that_of_the_semiring(rt: HostRuntime) {
+    for case in greatest() {
+        assert_eq!(rt; edges_agree::<Bottleneck>(rt.alloc(), case), Some(true));
+    }
+}
+
+// Whether seeds are the pair of the starts, with no edge.
+fn is_start(seeds: &Result<Edges<StatePair, PairRule>, ExpandError>) -> bool {
+    match seeds {
+        Ok(seeds) => seeds.rules.len() == 0 && are_pairs(&seeds.ends, &[(0, 0)]),
+        Err(_) => false,
+    }
+}
+
+// The same of those of the pairs of two grammars.
+fn is_seed(alloc: Global, pairs: &Pairs<MinPlus>) -> bool {
+    let seeds = pairs.seeds(alloc, 0);
+    is_start(&seeds)
+}
+
+// Whether an edge from position 4 to the last two of the positions 9, 5 and 6 is settled to a rule of them.
+fn settles(alloc: Global, pairs: &Pairs<MinPlus>) -> Option<bool> {
     let edge = PairRule {
         position: 4,
         label: 7,
@@ -158,82 +181,111 @@ fn settled(alloc: Global) -> Result<Rule<u32>, Fail> {
         rank: 2,
         cost: MinPlus::one(),
     };
-    Ok(pairs.settle(alloc, &edge, &[9, 5, 6])?)
+    let rule = pairs.settle(alloc, &edge, &[9, 5, 6]).ok()?;
+    Some(is_rule(&rule, &(4, 7, &[5, 6], 0)))
+}
+
+// Both, for the two grammars above.
+fn begins_and_settles(alloc: Global) -> Option<(bool, bool)> {
+    let left = normal(alloc, &LEFT)?;
+    let right = normal(alloc, &RIGHT)?;
+    let pairs = Pairs::new(alloc, &left, &right).ok()?;
+    Some((is_seed(alloc, &pairs), settles(alloc, &pairs)?))
 }
 
 #[test]
-fn the_seed_is_the_pair_of_the_starts(rt: HostRuntime) -> Result<(), Fail> {
-    let seeds = seeds(rt.alloc())?;
-    assert_eq!(rt; seeds.ends.as_slice(), [StatePair::new(0, 0)].as_slice());
-    assert_eq!(rt; seeds.rules.len(), 0);
-    Ok(())
-}
-
-#[test]
-fn an_edge_is_settled_over_positions(rt: HostRuntime) -> Result<(), Fail> {
-    let rule = settled(rt.alloc())?;
-    assert_eq!(rt; rule.left, 4);
-    let items = [
-        Item::Label { label: 7, rank: 2 },
-        Item::Hole(5),
-        Item::Hole(6),
-    ];
-    assert_eq!(rt; rule.right.items(), items.as_slice());
-    Ok(())
+fn the_seed_is_the_pair_of_the_starts_and_an_edge_is_settled_over_positions(rt: HostRuntime) {
+    assert_eq!(rt; begins_and_settles(rt.alloc()), Some((true, true)));
 }
 
 #[test]
 fn a_key_has_two_entries_and_a_shelf(rt: HostRuntime) {
     let key = StatePair::new(3, 4);
-    assert_eq!(rt; key.entries(), 2);
-    assert_eq!(rt; key.shelf(), 11);
+    assert_eq!(rt; (key.entries(), key.shelf()), (2, 11));
     assert!(rt; StatePair::new(3, 9) < StatePair::new(4, 0));
 }
 
-// The order, the rules over its positions and the parts.
-fn write_found(alloc: Global, found: &Found<StatePair, Rule<u32>>) -> Result<String, AllocError> {
-    let mut text = String::new(alloc);
-    for pair in &found.order {
-        write_pair(&mut text, *pair)?;
-    }
-    write_rules(&mut text, &found.rules, found.parts)?;
-    Ok(text)
-}
-
-// What was found, or the error.
-fn told(
+// What is answered, by one worker or, where their number is not 0, by several.
+fn reached<R: Threads + Wait + Sync>(
+    rt: &R,
     alloc: Global,
-    answer: Result<Found<StatePair, Rule<u32>>, HuntError>,
-) -> Result<String, Fail> {
+    left: &Normal<MinPlus>,
+    right: &Normal<MinPlus>,
+    workers: u32,
+    limit: u64,
+) -> Result<Found<StatePair, Rule<u32>>, HuntError>
+    requires workers { workers ≤ 16 }
+    requires some { 1 ≤ limit }
+    requires limit { limit ≤ 20000000 }
+{
+    if workers == 0 {
+        return intersect(alloc, left, right, limit, &Open);
+    }
+    intersect_together(rt, alloc, left, right, workers, limit, &Open)
+}
+
+static ALL: [Row; 4] = [
+    (0, 7, &[1, 2], 5),
+    (0, 8, &[], 7),
+    (1, 8, &[], 8),
+    (2, 8, &[], 8),
+];
+
+fn is_all(found: &Found<StatePair, Rule<u32>>) -> bool {
+    found.parts == 19
+        && are_pairs(&found.order, &[(0, 0), (0, 1), (1, 0)])
+        && are_rules(&found.rules, &ALL)
+}
+
+// Whether all of 19 parts was reached, or the limit is told where it is below them.
+fn is_answer(answer: &Result<Found<StatePair, Rule<u32>>, HuntError>, limit: u64) -> bool {
     match answer {
-        Ok(found) => Ok(write_found(alloc, &found)?),
-        Err(HuntError::OutOfMemory) => Err("no memory".into()),
-        Err(error) => Ok(error.to_string(alloc)?),
+        Ok(found) => limit >= 19 && is_all(found),
+        Err(HuntError::TooMany { limit: told }) => limit < 19 && *told == limit,
+        Err(HuntError::OutOfMemory) => false,
     }
 }
 
-// The reached set of the two grammars above within a limit, or that it has more parts.
-fn reached_between(alloc: Global, limit: u64) -> Result<String, Fail> {
-    if limit == 0 || limit > 20_000_000 {
-        return Err("no such limit".into());
+// The same for the two grammars above; none where there is no such limit or number of workers.
+fn reaches<R: Threads + Wait + Sync>(
+    rt: &R,
+    alloc: Global,
+    workers: u32,
+    limit: u64,
+) -> Option<bool> {
+    if workers > 16 || limit == 0 || limit > 20_000_000 {
+        return None;
     }
-    let left: Normal<MinPlus> = normal(alloc, &LEFT)?;
+    let left = normal(alloc, &LEFT)?;
     let right = normal(alloc, &RIGHT)?;
-    told(alloc, intersect(alloc, &left, &right, limit, &Open))
+    let answer = reached(rt, alloc, &left, &right, workers, limit);
+    Some(is_answer(&answer, limit))
 }
-
-const ALL: &str = "0.0 0.1 1.0 | 0 > 7 :1 :2 # 5; 0 > 8 # 7; 1 > 8 # 8; 2 > 8 # 8; 19";
-
-// A limit, and what is answered.
-static REACHED: [(u64, &str); 3] = [(20_000_000, ALL), (19, ALL), (18, "more than 18 parts")];
 
 #[test]
-fn three_pairs_are_reached_by_four_rules(rt: HostRuntime) -> Result<(), Fail> {
-    for (limit, want) in &REACHED {
-        let text = reached_between(rt.alloc(), *limit)?;
-        assert_eq!(rt; text.as_str(), *want);
+fn three_pairs_are_reached_by_four_rules(rt: HostRuntime) {
+    for limit in [20_000_000, 19, 18] {
+        assert_eq!(rt; reaches(&rt, rt.alloc(), 0, limit), Some(true));
     }
-    Ok(())
+}
+
+#[test]
+fn every_number_of_workers_reaches_the_three_pairs(rt: HostRuntime) {
+    for workers in 1..17 {
+        assert_eq!(rt; reaches(&rt, rt.alloc(), workers, 19), Some(true));
+    }
+}
+
+// The rules of one tree: `length` labels 7, each below the one before, and a label 8 below the last.
+fn links(alloc: Global, length: u32) -> Option<Vec<Rule<u32>>> {
+    let mut rules = Vec::new(alloc);
+    for state in 0..length {
+        rules
+            .push(rule(alloc, state, 7, &[state.wrapping_add(1)], 0)?)
+            .ok()?;
+    }
+    rules.push(rule(alloc, length, 8, &[], 0)?).ok()?;
+    Some(rules)
 }
 
 // How many pairs, rules and parts were reached.
@@ -246,76 +298,16 @@ fn counts_of(
     }
 }
 
-#[test]
-fn every_number_of_workers_reaches_the_three_pairs(rt: HostRuntime) -> Result<(), Fail> {
-    let left: Normal<MinPlus> = normal(rt.alloc(), &LEFT)?;
-    let right = normal(rt.alloc(), &RIGHT)?;
-    for workers in 1..17 {
-        let answer = intersect_together(&rt, rt.alloc(), &left, &right, workers, 19, &Open);
-        assert_eq!(rt; counts_of(&answer), Some((3, 4, 19)));
-    }
-    Ok(())
-}
-
-// The numbers up to one, that included, as names.
-fn numbers(alloc: Global, last: u32) -> Result<Vec<Vec<u8>>, AllocError> {
-    let mut texts = Vec::new(alloc);
-    for number in 0..=last {
-        texts.push(digits(alloc, number)?)?;
-    }
-    Ok(texts)
-}
-
-fn digits(alloc: Global, number: u32) -> Result<Vec<u8>, AllocError> {
-    let text = number.to_string(alloc)?;
-    text.as_bytes().to_vec(alloc)
-}
-
-fn free_rule(
-    alloc: Global,
-    left: u32,
-    label: Label,
-    states: &[u32],
-) -> Result<Rule<u32>, AllocError>
-    requires { length states.now ≤ 1 }
-{
-    Ok(Rule {
-        left,
-        right: Side::over(alloc, label, states)?,
-        cost: MinPlus::one(),
-    })
-}
-
-// The rules of one tree: `length` labels 7, each below the one before, and a label 8 below the last.
-fn links(alloc: Global, length: u32) -> Result<Vec<Rule<u32>>, AllocError>
-    requires { length ≤ 1000000 }
-{
-    let mut rules = Vec::new(alloc);
-    for state in 0..length {
-        rules.push(free_rule(alloc, state, 7, &[state + 1])?)?;
-    }
-    rules.push(free_rule(alloc, length, 8, &[])?)?;
-    Ok(rules)
-}
-
-// The grammar of this tree.
-fn chain(alloc: Global, length: u32) -> Result<Normal<MinPlus>, Fail>
-    requires { length ≤ 1000000 }
-{
-    let texts = numbers(alloc, length)?;
-    if texts.len() > 1_000_000 {
-        return Err("too many names".into());
-    }
-    let names = Names::from_list(alloc, texts)?.ok_or("names")?;
+// The same for the grammar of such a tree with itself.
+fn counts_of_chains(alloc: Global, length: u32) -> Option<(usize, usize, u64)> {
     let rules = links(alloc, length)?;
-    normal_of(alloc, names, rules)
+    let chain: Normal<MinPlus> = normal_of(alloc, length.wrapping_add(1), rules)?;
+    let answer = intersect(alloc, &chain, &chain, 20_000_000, &Open);
+    counts_of(&answer)
 }
 
 #[test]
-fn more_pairs_than_65536_are_reached(rt: HostRuntime) -> Result<(), Fail> {
-    let left = chain(rt.alloc(), 70_000)?;
-    let right = chain(rt.alloc(), 70_000)?;
-    let answer = intersect(rt.alloc(), &left, &right, 20_000_000, &Open);
-    assert_eq!(rt; counts_of(&answer), Some((70_001, 70_001, 420_005)));
-    Ok(())
+fn more_pairs_than_65536_are_reached(rt: HostRuntime) {
+    let counts = counts_of_chains(rt.alloc(), 70_000);
+    assert_eq!(rt; counts, Some((70_001, 70_001, 420_005)));
 }

@@ -1,11 +1,7 @@
-//! Tests of the constructions of grammars: matches, intersection, determinization.
+//! Tests of the intersection of grammars.
 #![tactic(auto)]
 
-#[cfg(test)]
-mod determinize;
 #[cfg(test)]
 mod grammars;
 #[cfg(test)]
 mod intersect;
-#[cfg(test)]
-mod matches;

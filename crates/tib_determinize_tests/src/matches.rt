@@ -1,0 +1,177 @@
+// The matches of sides in a small grammar. The labels are f 0, g 1 and a 2.
+use crate::grammars::{Row, normal};
+use std::alloc::Global;
+use tib_cost::{Bottleneck, MOST, MinPlus, Semiring};
+use tib_grammar::{Item, Side};
+use tib_match::{HoleCost, Match, Within, few_matches, search_matches};
+use tib_normal::Normal;
+use tib_tree::Label;
+
+// A side in preorder: a label over this many children, or a hole.
+type Shape = &'static [Option<(Label, u32)>];
+
+// The states at the holes of a side, and what it costs to match it so.
+type Wanted = (&'static [u32], u64);
+
+// A state, a side, and the matches of the side from the state.
+type Case = (u32, Shape, &'static [Wanted]);
+
+static RULES: [Row; 8] = [
+    (0, 0, &[1, 2], 1),
+    (0, 0, &[2, 2], 2),
+    (1, 1, &[3], 1),
+    (1, 2, &[], 5),
+    (2, 1, &[3], 4),
+    (2, 2, &[], 2),
+    (3, 2, &[], 7),
+    (3, 1, &[3], MOST),
+];
+
+// f(g(x) a)
+const F_G_A: Shape = &[Some((0, 2)), Some((1, 1)), None, Some((2, 0))];
+
+static CASES: [Case; 10] = [
+    // x
+    (1, &[None], &[(&[1], 0)]),
+    // f(x y)
+    (
+        0,
+        &[Some((0, 2)), None, None],
+        &[(&[1, 2], 1), (&[2, 2], 2)],
+    ),
+    // f(g(x) y)
+    (
+        0,
+        &[Some((0, 2)), Some((1, 1)), None, None],
+        &[(&[3, 2], 2)],
+    ),
+    (0, F_G_A, &[(&[3], 4)]),
+    // f(a a)
+    (0, &[Some((0, 2)), Some((2, 0)), Some((2, 0))], &[(&[], 6)]),
+    // a
+    (2, &[Some((2, 0))], &[(&[], 2)]),
+    (0, &[Some((2, 0))], &[]),
+    // g(x)
+    (3, &[Some((1, 1)), None], &[(&[3], MOST)]),
+    // g(g(x))
+    (1, &[Some((1, 1)), Some((1, 1)), None], &[]),
+    // the label f over another number of children
+    (0, &[Some((0, 1)), None], &[]),
+];
+
+fn cases() -> &'static [Case] {
+    &CASES
+}
+
+fn item(shape: Option<(Label, u32)>) -> Item<u32> {
+    match shape {
+        Some((label, rank)) => Item::Label { label, rank },
+        None => Item::Hole(0),
+    }
+}
+
+fn side(alloc: Global, shape: &[Option<(Label, u32)>]) -> Option<Side<u32>> {
+    let mut items = Vec::new(alloc);
+    for part in shape {
+        items.push(item(*part)).ok()?;
+    }
+    if items.len() > 99 {
+        return None;
+    }
+    Side::from_preorder(items).ok()
+}
+
+fn is_match(one: &Match, wanted: &Wanted) -> bool {
+    let (states, cost) = wanted;
+    one.cost.get() == *cost && one.states.as_slice() == *states
+}
+
+fn are_matches(matches: &[Match], wanted: &[Wanted]) -> bool {
+    if matches.len() != wanted.len() {
+        return false;
+    }
+    for i in 0..matches.len() {
+        if !is_match(&matches[i], &wanted[i]) {
+            return false;
+        }
+    }
+    true
+}
+
+// Whether the matches of a side from a state, read once from the front, are those wanted; none where memory is refused.
+fn few_agree<S: Semiring>(
+    alloc: Global,
+    grammar: &Normal<S>,
+    state: u32,
+    side: &Side<u32>,
+    wanted: &[Wanted],
+) -> Option<bool> {
+    if state >= grammar.grammar().states() {
+        return None;
+    }
+    let matches = few_matches(alloc, grammar, state, side, 1000).ok()??;
+    Some(are_matches(&matches, wanted))
+}
+
+// A cost of nothing for each hole of a side.
+fn free_holes(alloc: Global, side: &Side<u32>) -> Option<Vec<HoleCost>> {
+    let mut costs = Vec::new(alloc);
+    for item in side.items() {
+        if let Item::Hole(_) = item {
+            costs.push(HoleCost::Free).ok()?;
+        }
+    }
+    Some(costs)
+}
+
+fn is_all(answer: &Within, wanted: &[Wanted]) -> bool {
+    match answer {
+        Within::All(matches) => are_matches(matches, wanted),
+        Within::More => false,
+    }
+}
+
+// The same, searched for among boxes.
+fn searched_agree(
+    alloc: Global,
+    grammar: &Normal<MinPlus>,
+    state: u32,
+    side: &Side<u32>,
+    wanted: &[Wanted],
+) -> Option<bool> {
+    if state >= grammar.grammar().states() {
+        return None;
+    }
+    let costs = free_holes(alloc, side)?;
+    let answer = search_matches(alloc, grammar, state, side, MinPlus::one(), &costs, 9).ok()?;
+    Some(is_all(&answer, wanted))
+}
+
+// Whether both ways answer a case.
+fn both_agree(alloc: Global, case: &Case) -> Option<(bool, bool)> {
+    let (state, shape, wanted) = case;
+    let grammar = normal(alloc, &RULES)?;
+    let side = side(alloc, shape)?;
+    let few = few_agree(alloc, &grammar, *state, &side, wanted)?;
+    let searched = searched_agree(alloc, &grammar, *state, &side, wanted)?;
+    Some((few, searched))
+}
+
+// Whether f(g(x) a) has one match from the state 0, at this cost, over a semiring.
+fn costs<S: Semiring + Drop>(alloc: Global, cost: u64) -> Option<bool> {
+    let grammar: Normal<S> = normal(alloc, &RULES)?;
+    let side = side(alloc, F_G_A)?;
+    few_agree(alloc, &grammar, 0, &side, &[(&[3], cost)])
+}
+
+#[test]
+fn each_list_of_states_has_its_least_cost(rt: HostRuntime) {
+    for case in cases() {
+        assert_eq!(rt; both_agree(rt.alloc(), case), Some((true, true)));
+    }
+}
+
+#[test]
+fn a_product_is_that_of_the_semiring(rt: HostRuntime) {
+    assert_eq!(rt; costs::<Bottleneck>(rt.alloc(), 2), Some(true));
+}
