@@ -1,17 +1,16 @@
-// What compositions of small transducers reach, as text. The labels are A 0, a 1, F 2, b 3, G 4, c 5, H 6, d 7 and K 8, the states q 0
+// What compositions of small transducers reach. The labels are A 0, a 1, F 2, b 3, G 4, c 5, H 6, d 7 and K 8, the states q 0
 // and r 1.
-use crate::grammars::{write_cost, write_dotted, write_marked};
 use crate::transducers::{Move, Node, transducer};
-use std::alloc::{AllocError, Global};
+use std::alloc::Global;
 use std::sync::Wait;
-use std::test::Fail;
 use std::thread::Threads;
 use tib_compose::{ComposeError, compose, compose_together};
-use tib_cost::MOST;
+use tib_cost::{MOST, MinPlus};
 use tib_grammar::Item;
 use tib_hunt::{Found, Open};
 use tib_keyed::StatePair;
-use tib_transducer::{Pair, TransducerRule, Variable};
+use tib_transducer::{Pair, Transducer, TransducerRule, Variable};
+use tib_tree::Label;
 
 const A1: Node = Node::Over(0, 1);
 
@@ -105,163 +104,266 @@ const ADDS: [Move; 4] = [
 // q.A(x0:a) -> A(q.x0)
 const ASKS: [Move; 1] = [(0, &[A1, X0_LOW], &[A1, Q_X0], 0)];
 
-fn write_variable(text: &mut String, variable: &Variable) -> Result<(), AllocError> {
-    write_marked(text, " x", variable.number as u64)?;
-    match variable.label {
-        Some(label) => write_marked(text, ":", label as u64),
-        None => Ok(()),
+// Two transducers, and what their composition reaches: the pairs of states, the rules over their positions and the parts. In the rules
+// q and r are the positions 0 and 1.
+type Composition = (
+    &'static [Move],
+    &'static [Move],
+    &'static [(u32, u32)],
+    &'static [Move],
+    u64,
+);
+
+static COMPOSITIONS: [Composition; 9] = [
+    // two copies of a variable are read on from two states, and a pair without edges stays
+    (
+        &COPIES,
+        &TURNS,
+        &[(0, 0), (0, 1)],
+        &[
+            (0, &[A1, X0], &[G2, R_X0, Q_X0], 2),
+            (0, &[A0], &[C0], 2),
+            (1, &[A0], &[D0], 6),
+        ],
+        18,
+    ),
+    (
+        &DELETES,
+        &DROPS,
+        &[(0, 0)],
+        &[
+            (0, &[F2, X0, X1], &[Q_X1], 3),
+            (0, &[A0], &[C0], 3),
+            (0, &[H1, X0], &[Q_X0], 7),
+        ],
+        15,
+    ),
+    (
+        &EXTENDED,
+        &CHOOSES,
+        &[(0, 0), (0, 1)],
+        &[
+            (0, &[A1, A1, X0_LOW], &[G2, H1, R_X0, C0], 5),
+            (0, &[A1, A1, X0_LOW], &[G2, Q_X0, C0], 9),
+        ],
+        21,
+    ),
+    // where a side stands twice below a label each is translated by itself
+    (
+        &COPIES_BELOW,
+        &TWO_WAYS,
+        &[(0, 0)],
+        &[
+            (0, &[A1, X0], &[G2, H1, Q_X0, H1, Q_X0], 2),
+            (0, &[A1, X0], &[G2, H1, Q_X0, Q_X0], 3),
+            (0, &[A1, X0], &[G2, Q_X0, H1, Q_X0], 3),
+            (0, &[A1, X0], &[G2, Q_X0, Q_X0], 4),
+        ],
+        31,
+    ),
+    // what costs more than the greatest cost is no edge
+    (
+        &DEAR,
+        &ADDS,
+        &[(0, 0)],
+        &[
+            (0, &[A1, X0], &[H1, K1, Q_X0], MOST),
+            (0, &[A1, X0], &[K1, H1, Q_X0], MOST),
+            (0, &[A1, X0], &[K1, K1, Q_X0], MOST - 1),
+            (0, &[A0], &[D0], MOST),
+        ],
+        24,
+    ),
+    // these are refused
+    (&TURNS, &COPIES, &[], &[], 0),
+    (&COPIES, &DELETES, &[], &[], 0),
+    (&COPIES, &EXTENDED, &[], &[], 0),
+    (&COPIES, &ASKS, &[], &[], 0),
+];
+
+fn compositions() -> &'static [Composition] {
+    &COMPOSITIONS
+}
+
+// The place of a composition in the table above, how many workers there are, or 0 for a hunt without them, a limit, and the text of the
+// error, if there is one.
+type Run = (usize, u32, u64, Option<&'static str>);
+
+static RUNS: [Run; 16] = [
+    (0, 0, 18, None),
+    (0, 0, 17, Some("more than 17 parts")),
+    (0, 1, 18, None),
+    (0, 4, 17, Some("more than 17 parts")),
+    (1, 0, 99, None),
+    (1, 16, 99, None),
+    (2, 0, 21, None),
+    (2, 0, 20, Some("more than 20 parts")),
+    (2, 2, 21, None),
+    (3, 0, 99, None),
+    (4, 0, 99, None),
+    (4, 3, 99, None),
+    (5, 0, 99, Some("rule 1: not linear")),
+    (6, 0, 99, Some("rule 1: not nondeleting")),
+    (7, 0, 99, Some("rule 1: extended")),
+    (8, 4, 99, Some("rule 1: labelled")),
+];
+
+fn runs() -> &'static [Run] {
+    &RUNS
+}
+
+fn is_variable(variable: &Variable, number: u32, label: Option<Label>) -> bool {
+    variable.number == number && variable.label == label
+}
+
+fn is_left_item(item: &Item<Variable>, node: Node) -> bool {
+    match (item, node) {
+        (Item::Label { label, rank }, Node::Over(own, many)) => *label == own && *rank == many,
+        (Item::Hole(variable), Node::Plain(number)) => is_variable(variable, number, None),
+        (Item::Hole(variable), Node::Asks(number, label)) => {
+            is_variable(variable, number, Some(label))
+        }
+        _ => false,
     }
 }
 
-fn write_left_item(text: &mut String, item: &Item<Variable>) -> Result<(), AllocError> {
-    match item {
-        Item::Label { label, .. } => write_marked(text, " ", *label as u64),
-        Item::Hole(variable) => write_variable(text, variable),
+fn is_left(items: &[Item<Variable>], nodes: &[Node]) -> bool {
+    if items.len() != nodes.len() {
+        return false;
+    }
+    for i in 0..items.len() {
+        if !is_left_item(&items[i], nodes[i]) {
+            return false;
+        }
+    }
+    true
+}
+
+fn is_right_item(item: &Item<Pair<u32>>, node: Node) -> bool {
+    match (item, node) {
+        (Item::Label { label, rank }, Node::Over(own, many)) => *label == own && *rank == many,
+        (Item::Hole(pair), Node::Reads(position, variable)) => {
+            pair.state == position && pair.variable == variable
+        }
+        _ => false,
     }
 }
 
-// The labels and variables of a left side, each variable with the label that it asks for.
-fn write_left(text: &mut String, items: &[Item<Variable>]) -> Result<(), AllocError> {
-    for item in items {
-        write_left_item(text, item)?;
+// Each pair of a right side has a position and a variable.
+fn is_right(items: &[Item<Pair<u32>>], nodes: &[Node]) -> bool {
+    if items.len() != nodes.len() {
+        return false;
     }
-    text.push_str(" >")
-}
-
-fn write_pair(text: &mut String, pair: &Pair<u32>) -> Result<(), AllocError> {
-    write_marked(text, " @", pair.state as u64)?;
-    write_marked(text, ".", pair.variable as u64)
-}
-
-fn write_right_item(text: &mut String, item: &Item<Pair<u32>>) -> Result<(), AllocError> {
-    match item {
-        Item::Label { label, .. } => write_marked(text, " ", *label as u64),
-        Item::Hole(pair) => write_pair(text, pair),
+    for i in 0..items.len() {
+        if !is_right_item(&items[i], nodes[i]) {
+            return false;
+        }
     }
+    true
 }
 
-// The labels and pairs of a right side, each pair as the position and the variable.
-fn write_right(text: &mut String, items: &[Item<Pair<u32>>]) -> Result<(), AllocError> {
-    for item in items {
-        write_right_item(text, item)?;
+fn is_rule(rule: &TransducerRule<u32>, wanted: &Move) -> bool {
+    let (position, left, right, cost) = wanted;
+    rule.state == *position
+        && rule.cost.get() == *cost
+        && is_left(rule.left.items(), left)
+        && is_right(rule.right.items(), right)
+}
+
+fn are_rules(rules: &[TransducerRule<u32>], wanted: &[Move]) -> bool {
+    if rules.len() != wanted.len() {
+        return false;
     }
-    text.push_str(" ")
-}
-
-fn write_rule(text: &mut String, rule: &TransducerRule<u32>) -> Result<(), AllocError> {
-    write_marked(text, "", rule.state as u64)?;
-    write_left(text, rule.left.items())?;
-    write_right(text, rule.right.items())?;
-    write_cost(text, rule.cost)
-}
-
-// Rules, and behind them the parts.
-fn write_rules(
-    text: &mut String,
-    rules: &[TransducerRule<u32>],
-    parts: u64,
-) -> Result<(), AllocError> {
-    text.push_str("| ")?;
-    for rule in rules {
-        write_rule(text, rule)?;
+    for i in 0..rules.len() {
+        if !is_rule(&rules[i], &wanted[i]) {
+            return false;
+        }
     }
-    write_marked(text, "", parts)
+    true
 }
 
-fn write_states(text: &mut String, states: StatePair) -> Result<(), AllocError> {
-    write_dotted(text, states.first(), &[states.second()])
+fn are_pairs(pairs: &[StatePair], wanted: &[(u32, u32)]) -> bool {
+    if pairs.len() != wanted.len() {
+        return false;
+    }
+    for i in 0..pairs.len() {
+        if (pairs[i].first(), pairs[i].second()) != wanted[i] {
+            return false;
+        }
+    }
+    true
 }
 
-// The pairs, the rules over their positions and the parts.
-fn write_found(
+type Answer = Result<Found<StatePair, TransducerRule<u32>>, ComposeError>;
+
+fn is_composition(found: &Found<StatePair, TransducerRule<u32>>, wanted: &Composition) -> bool {
+    let (_, _, pairs, rules, parts) = wanted;
+    found.parts == *parts && are_pairs(&found.order, pairs) && are_rules(&found.rules, rules)
+}
+
+// Whether this is the text of an error; none where memory is refused.
+fn is_told(alloc: Global, error: &ComposeError, text: &str) -> Option<bool> {
+    let told = error.to_string(alloc).ok()?;
+    Some(told.as_str() == text)
+}
+
+// Whether an answer is the composition wanted, or where there is one the error.
+fn is_answer(
     alloc: Global,
-    found: &Found<StatePair, TransducerRule<u32>>,
-) -> Result<String, AllocError> {
-    let mut text = String::new(alloc);
-    for states in &found.order {
-        write_states(&mut text, *states)?;
-    }
-    write_rules(&mut text, &found.rules, found.parts)?;
-    Ok(text)
-}
-
-// What was found, or the error.
-fn told(
-    alloc: Global,
-    answer: Result<Found<StatePair, TransducerRule<u32>>, ComposeError>,
-) -> Result<String, Fail> {
-    match answer {
-        Ok(found) => Ok(write_found(alloc, &found)?),
-        Err(ComposeError::OutOfMemory) => Err("no memory".into()),
-        Err(error) => Ok(error.to_string(alloc)?),
+    answer: &Answer,
+    wanted: &Composition,
+    error: Option<&str>,
+) -> Option<bool> {
+    match (answer, error) {
+        (Ok(found), None) => Some(is_composition(found, wanted)),
+        (Err(own), Some(text)) => is_told(alloc, own, text),
+        _ => Some(false),
     }
 }
 
-// What is answered, by one worker or, where their number is not 0, by several.
+// What is answered, by one worker or, where their number is not 0, by several; none where there is no such limit or number of workers.
 fn composed<R: Threads + Wait + Sync>(
+    rt: &R,
+    alloc: Global,
+    first: &Transducer<MinPlus>,
+    second: &Transducer<MinPlus>,
+    workers: u32,
+    limit: u64,
+) -> Option<Answer> {
+    if limit == 0 || limit > 999 || workers > 16 {
+        return None;
+    }
+    if workers == 0 {
+        return Some(compose(alloc, first, second, limit, &Open));
+    }
+    Some(compose_together(rt, alloc, first, second, workers, limit, &Open))
+}
+
+// The same for these rules; none where memory is refused, too.
+fn composed_of<R: Threads + Wait + Sync>(
     rt: &R,
     alloc: Global,
     first: &[Move],
     second: &[Move],
     workers: u32,
     limit: u64,
-) -> Result<String, Fail> {
-    if limit == 0 || limit > 999 || workers > 16 {
-        return Err("no such limit".into());
-    }
+) -> Option<Answer> {
     let first = transducer(alloc, first)?;
     let second = transducer(alloc, second)?;
-    if workers == 0 {
-        return told(alloc, compose(alloc, &first, &second, limit, &Open));
-    }
-    told(
-        alloc,
-        compose_together(rt, alloc, &first, &second, workers, limit, &Open),
-    )
+    composed(rt, alloc, &first, &second, workers, limit)
 }
 
-// Two copies of a variable are read on from two states, a pair without edges stays, and where a side stands twice below a label each
-// is translated by itself.
-const TURNED: &str = "0.0 0.1 | 0 0 x0 > 4 @1.0 @0.0 # 2; 0 1 > 5 # 2; 1 1 > 7 # 6; 18";
-
-const DELETED: &str = "0.0 | 0 2 x0 x1 > @0.1 # 3; 0 1 > 5 # 3; 0 6 x0 > @0.0 # 7; 15";
-
-const CHOSEN: &str = "0.0 0.1 | 0 0 0 x0:1 > 4 6 @1.0 5 # 5; 0 0 0 x0:1 > 4 @0.0 5 # 9; 21";
-
-const FOUR_WAYS: &str =
-    "0.0 | 0 0 x0 > 4 6 @0.0 6 @0.0 # 2; 0 0 x0 > 4 6 @0.0 @0.0 # 3; 0 0 x0 > 4 @0.0 6 @0.0 # 3; 0 0 x0 > 4 @0.0 @0.0 # 4; 31";
-
-// What costs more than the greatest cost is no edge.
-const CHEAP: &str =
-    "0.0 | 0 0 x0 > 6 8 @0.0 # 1000000000000000; 0 0 x0 > 8 6 @0.0 # 1000000000000000; 0 0 x0 > 8 8 @0.0 # 999999999999999; 0 1 > 7 # 1000000000000000; 24";
-
-// The rules of two transducers, how many workers there are, or 0 for a hunt without them, a limit, and what is answered.
-type Case = (&'static [Move], &'static [Move], u32, u64, &'static str);
-
-static CASES: [Case; 16] = [
-    (&COPIES, &TURNS, 0, 18, TURNED),
-    (&COPIES, &TURNS, 0, 17, "more than 17 parts"),
-    (&COPIES, &TURNS, 1, 18, TURNED),
-    (&COPIES, &TURNS, 4, 17, "more than 17 parts"),
-    (&DELETES, &DROPS, 0, 99, DELETED),
-    (&DELETES, &DROPS, 16, 99, DELETED),
-    (&EXTENDED, &CHOOSES, 0, 21, CHOSEN),
-    (&EXTENDED, &CHOOSES, 0, 20, "more than 20 parts"),
-    (&EXTENDED, &CHOOSES, 2, 21, CHOSEN),
-    (&COPIES_BELOW, &TWO_WAYS, 0, 99, FOUR_WAYS),
-    (&DEAR, &ADDS, 0, 99, CHEAP),
-    (&DEAR, &ADDS, 3, 99, CHEAP),
-    (&TURNS, &COPIES, 0, 99, "rule 1: not linear"),
-    (&COPIES, &DELETES, 0, 99, "rule 1: not nondeleting"),
-    (&COPIES, &EXTENDED, 0, 99, "rule 1: extended"),
-    (&COPIES, &ASKS, 4, 99, "rule 1: labelled"),
-];
+// Whether a run reaches its composition, or answers its error.
+fn agrees<R: Threads + Wait + Sync>(rt: &R, alloc: Global, run: &Run) -> Option<bool> {
+    let (place, workers, limit, error) = run;
+    let wanted = compositions().get(*place)?;
+    let answer = composed_of(rt, alloc, wanted.0, wanted.1, *workers, *limit)?;
+    is_answer(alloc, &answer, wanted, *error)
+}
 
 #[test]
-fn composition_reaches(rt: HostRuntime) -> Result<(), Fail> {
-    for (first, second, workers, limit, want) in &CASES {
-        let text = composed(&rt, rt.alloc(), first, second, *workers, *limit)?;
-        assert_eq!(rt; text.as_str(), *want);
+fn composition_reaches(rt: HostRuntime) {
+    for run in runs() {
+        assert_eq!(rt; agrees(&rt, rt.alloc(), run), Some(true));
     }
-    Ok(())
 }

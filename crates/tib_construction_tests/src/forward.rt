@@ -1,9 +1,8 @@
-// What forward application reaches of small grammars, as text. The labels are f 0, g 1, a 2, h 3, k 4 and c 5.
-use crate::applications::told;
+// What forward application reaches of small grammars. The labels are f 0, g 1, a 2, h 3, k 4 and c 5.
+use crate::applications::{Answer, Wanted, agrees};
 use crate::grammars::{Row, normal};
 use crate::transducers::{Move, Node, transducer};
 use std::alloc::Global;
-use std::test::Fail;
 use tib_apply::apply_forward;
 use tib_cost::MOST;
 use tib_hunt::Open;
@@ -15,6 +14,10 @@ const G: Node = Node::Over(1, 1);
 const H: Node = Node::Over(3, 2);
 
 const K: Node = Node::Over(4, 1);
+
+const A: Node = Node::Over(2, 0);
+
+const C: Node = Node::Over(5, 0);
 
 // On the left x0 and x1, on the right t.x0 and t.x1.
 const X0: Node = Node::Plain(0);
@@ -44,74 +47,114 @@ const EXTENDED: Move = (0, &[F, G, X0, X1], &[H, READS_0, READS_1], 0);
 const COPIES: Move = (0, &[F, X0, X1], &[H, READS_0, READS_0], 0);
 
 // t.a -> c # 20
-const ENDS: Move = (0, &[Node::Over(2, 0)], &[Node::Over(5, 0)], 20);
+const ENDS: Move = (0, &[A], &[C], 20);
 
 // t.g(x0) -> t.x0 # 5
 const SKIPS: Move = (0, &[G, X0], &[READS_0], 5);
 
 // p -> f(q q) # 1, q -> g(q) # 3 and q -> a # 2
-const CHEAP: [Row; 3] = [(0, 0, &[1, 1], 1), (1, 1, &[1], 3), (1, 2, &[], 2)];
+static CHEAP: [Row; 3] = [(0, 0, &[1, 1], 1), (1, 1, &[1], 3), (1, 2, &[], 2)];
 
 // The same where the first rule has the greatest cost.
-const DEAR: [Row; 3] = [(0, 0, &[1, 1], MOST), (1, 1, &[1], 3), (1, 2, &[], 2)];
+static DEAR: [Row; 3] = [(0, 0, &[1, 1], MOST), (1, 1, &[1], 3), (1, 2, &[], 2)];
 
-// The rules of a grammar and of a transducer, a limit, and what is answered.
-type Case = (&'static [Row], &'static [Move], u64, &'static str);
+// The positions 1 and 2.
+const AT_1: Node = Node::At(1);
+
+const AT_2: Node = Node::At(2);
+
+// Whether the first rule of the grammar has the greatest cost, the rules of a transducer, a limit, and what is answered.
+type Case = (bool, &'static [Move], u64, Wanted);
 
 static CASES: [Case; 8] = [
     (
-        &CHEAP,
+        false,
         &[TURNS, ENDS, SKIPS],
         14,
-        "0.0.0 1.0.0 | 0 > 3 :1 :1 # 11; 1 > 5 # 22; 1 > :1 # 8; 14",
+        Ok((
+            &[(0, 0, 0), (1, 0, 0)],
+            &[(0, &[H, AT_1, AT_1], 11), (1, &[C], 22), (1, &[AT_1], 8)],
+            14,
+        )),
     ),
-    (&CHEAP, &[TURNS, ENDS, SKIPS], 13, "more than 13 parts"),
+    (false, &[TURNS, ENDS, SKIPS], 13, Err("more than 13 parts")),
     (
-        &CHEAP,
+        false,
         &[EXTENDED, ENDS],
         99,
-        "0.0.0 1.0.0 | 0 > 3 :1 :1 # 4; 1 > 5 # 22; 12",
+        Ok((
+            &[(0, 0, 0), (1, 0, 0)],
+            &[(0, &[H, AT_1, AT_1], 4), (1, &[C], 22)],
+            12,
+        )),
     ),
     (
-        &CHEAP,
+        false,
         &[KEEPS_G, ENDS, SKIPS],
         99,
-        "0.0.0 1.0.0 1.0.1 | 0 > 3 :2 :1 # 1; 1 > 5 # 22; 1 > :1 # 8; 2 > :1 # 8; 20",
+        Ok((
+            &[(0, 0, 0), (1, 0, 0), (1, 0, 1)],
+            &[
+                (0, &[H, AT_2, AT_1], 1),
+                (1, &[C], 22),
+                (1, &[AT_1], 8),
+                (2, &[AT_1], 8),
+            ],
+            20,
+        )),
     ),
     (
-        &CHEAP,
+        false,
         &[DELETES, ENDS],
         99,
-        "0.0.0 1.0.0 | 0 > 4 :1 # 3; 1 > 5 # 22; 11",
+        Ok((
+            &[(0, 0, 0), (1, 0, 0)],
+            &[(0, &[K, AT_1], 3), (1, &[C], 22)],
+            11,
+        )),
     ),
     (
-        &CHEAP,
+        false,
         &[DELETES_G, ENDS],
         99,
-        "0.0.0 1.0.0 | 0 > 4 :1 # 6; 1 > 5 # 22; 11",
+        Ok((
+            &[(0, 0, 0), (1, 0, 0)],
+            &[(0, &[K, AT_1], 6), (1, &[C], 22)],
+            11,
+        )),
     ),
-    (&DEAR, &[DELETES, ENDS], 99, "0.0.0 | 3"),
-    (&CHEAP, &[ENDS, COPIES], 99, "rule 2: not linear"),
+    (true, &[DELETES, ENDS], 99, Ok((&[(0, 0, 0)], &[], 3))),
+    (false, &[ENDS, COPIES], 99, Err("rule 2: not linear")),
 ];
 
-// What forward application answers, as text.
-fn applied(alloc: Global, rows: &[Row], moves: &[Move], limit: u64) -> Result<String, Fail> {
+fn cases() -> &'static [Case] {
+    &CASES
+}
+
+fn grammar_rows(is_dear: bool) -> &'static [Row] {
+    if is_dear { &DEAR } else { &CHEAP }
+}
+
+// What forward application answers; none where there is no such limit, or memory is refused.
+fn applied(alloc: Global, rows: &[Row], moves: &[Move], limit: u64) -> Option<Answer> {
     if limit == 0 || limit > 99 {
-        return Err("no such limit".into());
+        return None;
     }
     let grammar = normal(alloc, rows)?;
     let transducer = transducer(alloc, moves)?;
-    told(
-        alloc,
-        apply_forward(alloc, &grammar, &transducer, limit, &Open),
-    )
+    Some(apply_forward(alloc, &grammar, &transducer, limit, &Open))
+}
+
+// Whether that is what a case wants.
+fn answers(alloc: Global, case: &Case) -> Option<bool> {
+    let (is_dear, moves, limit, wanted) = case;
+    let answer = applied(alloc, grammar_rows(*is_dear), moves, *limit)?;
+    agrees(alloc, &answer, wanted)
 }
 
 #[test]
-fn forward_application_reaches(rt: HostRuntime) -> Result<(), Fail> {
-    for (rows, moves, limit, want) in &CASES {
-        let text = applied(rt.alloc(), rows, moves, *limit)?;
-        assert_eq!(rt; text.as_str(), *want);
+fn forward_application_reaches(rt: HostRuntime) {
+    for case in cases() {
+        assert_eq!(rt; answers(rt.alloc(), case), Some(true));
     }
-    Ok(())
 }

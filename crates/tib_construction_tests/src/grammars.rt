@@ -1,108 +1,54 @@
-// Small grammars by their rules, and rules over positions as text.
-use std::alloc::{AllocError, Global};
-use std::test::Fail;
-use tib_cost::{Cost, Semiring};
-use tib_grammar::{Grammar, Item, Names, Rule, Side};
+// Small grammars by their rules.
+use std::alloc::Global;
+use tib_cost::{Cost, MinPlus};
+use tib_grammar::{Grammar, Names, Rule, Side};
 use tib_normal::Normal;
 use tib_tree::Label;
 
 /// A rule of a grammar: its left state, its label, the states below it and its cost.
 pub type Row = (u32, Label, &'static [u32], u64);
 
-static NAMES: [&str; 4] = ["p", "q", "r", "s"];
+fn name(alloc: Global, letter: u8) -> Option<Vec<u8>> {
+    let mut text = Vec::new(alloc);
+    text.push(letter).ok()?;
+    Some(text)
+}
 
-/// The names of four states.
-pub fn names(alloc: Global) -> Result<Names, Fail> {
+/// The names of four states, p, q, r and s.
+pub fn names(alloc: Global) -> Option<Names> {
     let mut texts = Vec::new(alloc);
-    for text in &NAMES {
-        texts.push(text.as_bytes().to_vec(alloc)?)?;
+    for letter in b'p'..b't' {
+        texts.push(name(alloc, letter)?).ok()?;
     }
     if texts.len() > 9 {
-        return Err("too many names".into());
+        return None;
     }
-    Ok(Names::from_list(alloc, texts)?.ok_or("names")?)
+    Names::from_list(alloc, texts).ok()?
 }
 
-// The side of a label over states.
-fn side(alloc: Global, label: Label, states: &[u32]) -> Result<Side<u32>, Fail> {
+fn rule(alloc: Global, row: &Row) -> Option<Rule<u32>> {
+    let (left, label, states, cost) = row;
     if states.len() > 9 {
-        return Err("too many states".into());
+        return None;
     }
-    Ok(Side::over(alloc, label, states)?)
+    let right = Side::over(alloc, *label, states).ok()?;
+    let cost = Cost::new(*cost)?;
+    Some(Rule {
+        left: *left,
+        right,
+        cost,
+    })
 }
 
-fn rules(alloc: Global, rows: &[Row]) -> Result<Vec<Rule<u32>>, Fail> {
+/// The grammar of these rules, whose start is the state 0; none where memory is refused.
+pub fn normal(alloc: Global, rows: &[Row]) -> Option<Normal<MinPlus>> {
     let mut rules = Vec::new(alloc);
-    for (left, label, states, cost) in rows {
-        let cost = Cost::new(*cost).ok_or("cost")?;
-        rules.push(Rule {
-            left: *left,
-            right: side(alloc, *label, states)?,
-            cost,
-        })?;
+    for row in rows {
+        rules.push(rule(alloc, row)?).ok()?;
     }
-    Ok(rules)
-}
-
-/// The grammar of these rules, whose start is the state 0.
-pub fn normal<S: Semiring + Drop>(alloc: Global, rows: &[Row]) -> Result<Normal<S>, Fail> {
-    let rules = rules(alloc, rows)?;
     if rules.len() > 99 {
-        return Err("too many rules".into());
+        return None;
     }
-    let grammar = Grammar::new(names(alloc)?, rules).ok_or("grammar")?;
-    Ok(Normal::new(alloc, grammar)?.ok_or("normal form")?)
-}
-
-/// A mark, and behind it a number in decimal digits.
-pub fn write_marked(text: &mut String, mark: &str, number: u64) -> Result<(), AllocError> {
-    text.push_str(mark)?;
-    let digits = number.to_string(*text.allocator())?;
-    text.push_str(digits.as_str())
-}
-
-/// Numbers with a full stop between them, and a blank behind them.
-pub fn write_dotted(text: &mut String, first: u32, others: &[u32]) -> Result<(), AllocError> {
-    write_marked(text, "", first as u64)?;
-    for number in others {
-        write_marked(text, ".", *number as u64)?;
-    }
-    text.push_str(" ")
-}
-
-/// A cost as `# 5; `.
-pub fn write_cost(text: &mut String, cost: Cost) -> Result<(), AllocError> {
-    write_marked(text, "# ", cost.get())?;
-    text.push_str("; ")
-}
-
-// A blank before a label, and a colon before a position too.
-fn write_item(text: &mut String, item: &Item<u32>) -> Result<(), AllocError> {
-    match item {
-        Item::Label { label, .. } => write_marked(text, " ", *label as u64),
-        Item::Hole(position) => write_marked(text, " :", *position as u64),
-    }
-}
-
-fn write_items(text: &mut String, items: &[Item<u32>]) -> Result<(), AllocError> {
-    for item in items {
-        write_item(text, item)?;
-    }
-    text.push_str(" ")
-}
-
-fn write_rule(text: &mut String, rule: &Rule<u32>) -> Result<(), AllocError> {
-    write_marked(text, "", rule.left as u64)?;
-    text.push_str(" >")?;
-    write_items(text, rule.right.items())?;
-    write_cost(text, rule.cost)
-}
-
-/// A bar, rules over positions as `0 > 7 :1 :2 # 5; `, and behind them the parts.
-pub fn write_rules(text: &mut String, rules: &[Rule<u32>], parts: u64) -> Result<(), AllocError> {
-    text.push_str("| ")?;
-    for rule in rules {
-        write_rule(text, rule)?;
-    }
-    write_marked(text, "", parts)
+    let grammar = Grammar::new(names(alloc)?, rules)?;
+    Normal::new(alloc, grammar).ok()?
 }

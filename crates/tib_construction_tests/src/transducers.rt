@@ -1,7 +1,6 @@
 // Small transducers by their rules.
 use crate::grammars::names;
 use std::alloc::Global;
-use std::test::Fail;
 use tib_cost::{Cost, MinPlus};
 use tib_grammar::{Item, Side};
 use tib_transducer::{Pair, Transducer, TransducerRule, Variable};
@@ -18,6 +17,8 @@ pub enum Node {
     Asks(u32, Label),
     /// On the right, a state and the number of the variable that is read on from it.
     Reads(u32, u32),
+    /// In a rule of what is reached, a position.
+    At(u32),
 }
 
 /// A rule of a transducer: its state, its two sides and its cost.
@@ -32,7 +33,7 @@ fn left_item(node: Node) -> Option<Item<Variable>> {
         Node::Over(label, rank) => Some(Item::Label { label, rank }),
         Node::Plain(number) => Some(hole(number, None)),
         Node::Asks(number, label) => Some(hole(number, Some(label))),
-        Node::Reads(..) => None,
+        _ => None,
     }
 }
 
@@ -44,56 +45,56 @@ fn right_item(node: Node) -> Option<Item<Pair<u32>>> {
     }
 }
 
-/// The left side of these items.
-pub fn left_side(alloc: Global, nodes: &[Node]) -> Result<Side<Variable>, Fail> {
+/// The left side of these items; none where memory is refused.
+pub fn left_side(alloc: Global, nodes: &[Node]) -> Option<Side<Variable>> {
     let mut items = Vec::new(alloc);
     for node in nodes {
-        let Some(item) = left_item(*node) else {
-            return Err("not on the left".into());
-        };
-        items.push(item)?;
+        items.push(left_item(*node)?).ok()?;
     }
     if items.len() > 99 {
-        return Err("too many items".into());
+        return None;
     }
-    Ok(Side::from_preorder(items).ok().ok_or("no left side")?)
+    Side::from_preorder(items).ok()
 }
 
-/// The right side of these items.
-pub fn right_side(alloc: Global, nodes: &[Node]) -> Result<Side<Pair<u32>>, Fail> {
+fn right_side(alloc: Global, nodes: &[Node]) -> Option<Side<Pair<u32>>> {
     let mut items = Vec::new(alloc);
     for node in nodes {
-        let Some(item) = right_item(*node) else {
-            return Err("not on the right".into());
-        };
-        items.push(item)?;
+        items.push(right_item(*node)?).ok()?;
     }
     if items.len() > 99 {
-        return Err("too many items".into());
+        return None;
     }
-    Ok(Side::from_preorder(items).ok().ok_or("no right side")?)
+    Side::from_preorder(items).ok()
 }
 
-/// The rules of these moves.
-pub fn rules(alloc: Global, moves: &[Move]) -> Result<Vec<TransducerRule<u32>>, Fail> {
+fn rule(alloc: Global, one: &Move) -> Option<TransducerRule<u32>> {
+    let (state, left, right, cost) = one;
+    let left = left_side(alloc, left)?;
+    let right = right_side(alloc, right)?;
+    let cost = Cost::new(*cost)?;
+    Some(TransducerRule {
+        state: *state,
+        left,
+        right,
+        cost,
+    })
+}
+
+/// The rules of these moves; none where memory is refused.
+pub fn rules(alloc: Global, moves: &[Move]) -> Option<Vec<TransducerRule<u32>>> {
     let mut rules = Vec::new(alloc);
-    for (state, left, right, cost) in moves {
-        let cost = Cost::new(*cost).ok_or("cost")?;
-        rules.push(TransducerRule {
-            state: *state,
-            left: left_side(alloc, left)?,
-            right: right_side(alloc, right)?,
-            cost,
-        })?;
+    for one in moves {
+        rules.push(rule(alloc, one)?).ok()?;
     }
-    Ok(rules)
+    Some(rules)
 }
 
-/// The transducer of these rules, whose start is the state 0.
-pub fn transducer(alloc: Global, moves: &[Move]) -> Result<Transducer<MinPlus>, Fail> {
+/// The transducer of these rules, whose start is the state 0; none where memory is refused.
+pub fn transducer(alloc: Global, moves: &[Move]) -> Option<Transducer<MinPlus>> {
     let rules = rules(alloc, moves)?;
     if rules.len() > 99 {
-        return Err("too many rules".into());
+        return None;
     }
-    Ok(Transducer::new(names(alloc)?, rules).ok_or("transducer")?)
+    Transducer::new(names(alloc)?, rules)
 }
