@@ -1,13 +1,9 @@
-//! Tests of lists of best trees: heaps, shared trees, the lists and those by levels.
+//! Tests of lists of best trees: the best tree, the lists, those that are made as they are asked for, and those by levels.
 #![tactic(auto)]
 
-#[cfg(test)]
-mod heap;
 #[cfg(test)]
 mod k_best;
 #[cfg(test)]
 mod lazy_lists;
 #[cfg(test)]
 mod level_lists;
-#[cfg(test)]
-mod shared_trees;
