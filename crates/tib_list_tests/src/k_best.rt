@@ -5,9 +5,9 @@ ghost use Rattle.tib_grammar_file.specs.Printed.{AreLabelled};
 
 use std::alloc::{AllocError, Global};
 use std::test::Fail;
-use tib_cost::{Bottleneck, Cost, MinPlus, Semiring};
+use tib_cost::{Cost, MinPlus, Semiring};
 use tib_grammar_file::read_grammar;
-use tib_k_best::{KBestError, List, best_tree, best_tree_by_levels};
+use tib_k_best::{KBestError, List, best_tree};
 use tib_normal::Normal;
 use tib_tree::{Labels, Tree};
 
@@ -98,19 +98,6 @@ fn best_text(alloc: Global, text: &str) -> Result<String, AllocError> {
     }
 }
 
-/// The best tree of a grammar where the greatest cost counts.
-fn level_text(alloc: Global, text: &str) -> Result<String, AllocError> {
-    match read::<Bottleneck>(alloc, text)? {
-        Some((normal, labels)) => {
-            answer_text(
-                alloc,
-                best_tree_by_levels::<Bottleneck>(alloc, &normal, &labels),
-            )
-        }
-        None => String::from_str(alloc, "not in normal form"),
-    }
-}
-
 // A grammar, and its best tree where costs are added.
 static SUMS: [(&str, &str); 6] = [
     // a leaf is cheaper than what stands above it
@@ -140,30 +127,6 @@ static SUMS: [(&str, &str); 6] = [
 fn best_trees(rt: HostRuntime) -> Result<(), Fail> {
     for (text, want) in &SUMS {
         let told = best_text(rt.alloc(), text)?;
-        assert_eq!(rt; told.as_str(), *want);
-    }
-    Ok(())
-}
-
-// A grammar, and its best tree where the greatest cost counts.
-static LEVELS: [(&str, &str); 3] = [
-    // where d costs 5 anyway, the small c at 4 is better than the large tree at 0
-    (
-        "q\nq -> f(p r)\np -> g(s)\np -> c # 4\nr -> d # 5\ns -> g(t)\nt -> e\n",
-        "0/2 2/0 3/0 # 5; ",
-    ),
-    // a large tree at a lesser cost comes first
-    (
-        "q\nq -> a # 7\nq -> g(s) # 3\ns -> g(t) # 2\nt -> e # 1\n",
-        "1/1 1/1 2/0 # 3; ",
-    ),
-    ("q\nq -> f(q) # 3\n", ""),
-];
-
-#[test]
-fn best_trees_by_levels(rt: HostRuntime) -> Result<(), Fail> {
-    for (text, want) in &LEVELS {
-        let told = level_text(rt.alloc(), text)?;
         assert_eq!(rt; told.as_str(), *want);
     }
     Ok(())

@@ -1,18 +1,30 @@
 // Lists of best trees of grammars in deterministic form, by `lazy_k_best` and by `k_best`.
-ghost use Rattle.std.specs.Prelude.{◌≡◌, ◌<◌, IfOk, IfSome, false, length, true};
+ghost use Rattle.std.specs.Prelude.{◌≡◌, ◌<◌, IfOk, IfSome, false, length, true, ℕ};
 ghost use Rattle.tib_grammar.specs.Forms.{IsDeterministic};
 ghost use Rattle.tib_grammar_file.specs.Printed.{AreLabelled};
 ghost use Rattle.tib_k_best.specs.Trimmed.{HaveTreesBelow};
 
-use crate::k_best::{answer_text, fault_text, list_text, write_number};
+use crate::k_best::{answer_text, fault_text, list_text, read, write_number};
 use std::alloc::{AllocError, Global};
 use std::test::Fail;
 use tib_cost::{MinPlus, Semiring};
-use tib_grammar_file::read_grammar;
 use tib_inside::trim_normal;
 use tib_k_best::{KBestError, LazyList, List, k_best, lazy_k_best, trimmed_has_trees};
 use tib_normal::Normal;
 use tib_tree::Labels;
+
+// The trimmed grammar of one in normal form. Its labels are those of the other.
+fn trimmed_of<S: Semiring + Drop>(alloc: Global, normal: Normal<S>) -> Result<Normal<S>, AllocError>
+    ensures labelled { IfOk result (λ n. (many : ℕ) → AreLabelled many normal.rules →
+        AreLabelled many n.rules) }
+    ensures trimmed { IfOk result (λ n. HaveTreesBelow S.product n.rules) }
+{
+    normal.grammar();
+    let trimmed = trim_normal::<S>(alloc, normal)?;
+    trimmed.grammar();
+    trimmed_has_trees::<S>();
+    Ok(trimmed)
+}
 
 // The trimmed grammar of a text, where it is in normal form, with its labels.
 fn read_trimmed<S: Semiring + Drop>(
@@ -23,22 +35,13 @@ fn read_trimmed<S: Semiring + Drop>(
     ensures trimmed { IfOk result (λ read. IfSome read (λ p.
         HaveTreesBelow S.product p.0.rules)) }
 {
-    let bytes = text.as_bytes();
-    let mut labels = Labels::new(alloc);
-    if bytes.len() > 10_000 {
-        return Ok(None);
+    match read::<S>(alloc, text)? {
+        Some((normal, labels)) => {
+            let trimmed = trimmed_of::<S>(alloc, normal)?;
+            Ok(Some((trimmed, labels)))
+        }
+        None => Ok(None),
     }
-    let Ok(grammar) = read_grammar::<S>(alloc, bytes, &mut labels) else {
-        return Ok(None);
-    };
-    let Some(normal) = Normal::new(alloc, grammar)? else {
-        return Ok(None);
-    };
-    normal.grammar();
-    let trimmed = trim_normal::<S>(alloc, normal)?;
-    trimmed.grammar();
-    trimmed_has_trees::<S>();
-    Ok(Some((trimmed, labels)))
 }
 
 // The lists of all states, if the grammar is in deterministic form.

@@ -1,13 +1,7 @@
-//! Tests of lists of best trees: heaps, shared trees, the lists and those by levels.
+//! Tests of lists of best trees: the best tree, the lists, and those that are made as they are asked for.
 #![tactic(auto)]
 
-#[cfg(test)]
-mod heap;
 #[cfg(test)]
 mod k_best;
 #[cfg(test)]
 mod lazy_lists;
-#[cfg(test)]
-mod level_lists;
-#[cfg(test)]
-mod shared_trees;

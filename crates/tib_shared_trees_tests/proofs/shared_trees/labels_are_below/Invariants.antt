@@ -1,6 +1,6 @@
 use Rattle.std.proofs.Common.{◌≡◌, ℕ, List, ◌∷◌, ◌<◌, ◌≤◌, ◌-◌, length}
 use Rattle.std.specs.Prelude.{slice_get, Some}
-use Rattle.tib_list_tests.proofs.shared_trees.labels_are_below.Given as goal
+use Rattle.tib_shared_trees_tests.proofs.shared_trees.labels_are_below.Given as goal
 
 abbrev pub invariant-loop-i : goal.invariant-loop-i
 invariant-loop-i l =

@@ -1,6 +1,6 @@
 use Rattle.std.proofs.Common.{arith, subst, ◌<◌}
 use Rattle.tib_lex.proofs.Members.{at_has}
-use Rattle.tib_list_tests.proofs.shared_trees.are_below.Goals as goal
+use Rattle.tib_shared_trees_tests.proofs.shared_trees.are_below.Goals as goal
 
 pub returns : goal.returns
 returns c = λ _ m h.

@@ -1,8 +1,7 @@
-// Lists of best trees of small grammars, as text: each node as its label and its number of children.
-// A label's number is its place at first sight.
+// Lists of best trees of small grammars, as text.
 ghost use Rattle.std.specs.Prelude.{◌≡◌, true};
 
-use crate::k_best::{fault_text, read, write_entry};
+use crate::texts::{fault_text, read, write_entry};
 use std::alloc::{AllocError, Global};
 use std::test::Fail;
 use tib_cost::{Bottleneck, Semiring, Widest};

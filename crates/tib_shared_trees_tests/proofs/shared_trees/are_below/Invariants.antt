@@ -1,5 +1,5 @@
 use Rattle.std.proofs.Common.{ℕ, ◌<◌, ◌≤◌, ◌-◌, length, get_or}
-use Rattle.tib_list_tests.proofs.shared_trees.are_below.Given as goal
+use Rattle.tib_shared_trees_tests.proofs.shared_trees.are_below.Given as goal
 
 abbrev pub invariant-loop-i : goal.invariant-loop-i
 invariant-loop-i l =

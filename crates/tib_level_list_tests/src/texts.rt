@@ -1,0 +1,69 @@
+// Small grammars read from texts, and trees as text: each node as its label and its number of children.
+// A label's number is its place at first sight.
+ghost use Rattle.std.specs.Prelude.{IfOk, IfSome, length};
+ghost use Rattle.tib_grammar_file.specs.Printed.{AreLabelled};
+
+use std::alloc::{AllocError, Global};
+use tib_cost::{Cost, Semiring};
+use tib_grammar_file::read_grammar;
+use tib_k_best::KBestError;
+use tib_normal::Normal;
+use tib_tree::{Labels, Tree};
+
+fn write_number(text: &mut String, number: u64) -> Result<(), AllocError> {
+    let digits = number.to_string(*text.allocator())?;
+    text.push_str(digits.as_str())
+}
+
+fn write_tree(text: &mut String, tree: &Tree) -> Result<(), AllocError> {
+    for node in tree.nodes() {
+        write_number(text, u64::from(node.label))?;
+        text.push_str("/")?;
+        write_number(text, u64::from(node.rank))?;
+        text.push_str(" ")?;
+    }
+    Ok(())
+}
+
+// A tree, or the number of its nodes where it has 20 or more, and its cost.
+pub(crate) fn write_entry(text: &mut String, tree: &Tree, cost: Cost) -> Result<(), AllocError> {
+    if tree.nodes().len() < 20 {
+        write_tree(text, tree)?;
+    } else {
+        write_number(text, tree.nodes().len() as u64)?;
+        text.push_str(" nodes ")?;
+    }
+    text.push_str("# ")?;
+    write_number(text, cost.get())?;
+    text.push_str("; ")
+}
+
+// The grammar of a text, where it is in normal form, with its labels.
+pub(crate) fn read<S: Semiring + Drop>(
+    alloc: Global,
+    text: &str,
+) -> Result<Option<(Normal<S>, Labels)>, AllocError>
+    ensures { IfOk result (λ read. IfSome read (λ p. AreLabelled (length p.1) p.0.rules)) }
+{
+    let bytes = text.as_bytes();
+    let mut labels = Labels::new(alloc);
+    if bytes.len() > 10_000 {
+        return Ok(None);
+    }
+    let Ok(grammar) = read_grammar::<S>(alloc, bytes, &mut labels) else {
+        return Ok(None);
+    };
+    match Normal::new(alloc, grammar)? {
+        Some(normal) => Ok(Some((normal, labels))),
+        None => Ok(None),
+    }
+}
+
+pub(crate) fn fault_text(alloc: Global, error: KBestError) -> Result<String, AllocError> {
+    let KBestError::TreeTooLarge { state } = error else {
+        return Err(AllocError);
+    };
+    let mut text = String::from_str(alloc, "too large: ")?;
+    write_number(&mut text, u64::from(state))?;
+    Ok(text)
+}
