@@ -4,10 +4,10 @@ use Rattle.tib_hunt.specs.Reached.{IfTooMany}
 use Rattle.tib_hunt.specs.Reached.{HuntError}
 use Rattle.tib_hunt.specs.Reached.{TooMany as OfParts, OutOfMemory as OfHuntMemory}
 use Rattle.tib_transducer.specs.declared.TransducerRule.{TransducerRule}
-use Rattle.tib_classes.specs.Outside.{Demands}
-use Rattle.tib_classes.specs.Faults.{IsClassFault}
-use Rattle.tib_classes.specs.declared.error.ClassError.{ClassError}
-use Rattle.tib_classes.specs.declared.error.ClassError.TheVariants.{Class as OfRule, OutOfMemory as OfMemory}
+use Rattle.tib_transducer.specs.Outside.{Demands}
+use Rattle.tib_transducer.specs.Faults.{IsClassFault}
+use Rattle.tib_transducer.specs.declared.error.ClassError.{ClassError}
+use Rattle.tib_transducer.specs.declared.error.ClassError.TheVariants.{Class as OfRule, OutOfMemory as OfMemory}
 use Rattle.tib_apply.specs.Applied.{IsApplyFault}
 use Rattle.tib_apply.specs.Faults.{class_error, hunt_error}
 

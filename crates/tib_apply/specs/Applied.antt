@@ -6,7 +6,7 @@ use Rattle.tib_grammar.specs.declared.Rule.{Rule}
 use Rattle.tib_hunt.specs.Reached.{Operation, IsReachedSet, parts_of}
 use Rattle.tib_hunt.specs.declared.found.Found.{Found}
 use Rattle.tib_transducer.specs.declared.TransducerRule.{TransducerRule}
-use Rattle.tib_classes.specs.Outside.{Demands, IsFirstOutside}
+use Rattle.tib_transducer.specs.Outside.{Demands, IsFirstOutside}
 use Rattle.tib_apply.specs.KeyGrammars.{key_at}
 use Rattle.tib_apply.specs.declared.error.ApplyError.{ApplyError}
 use Rattle.tib_apply.specs.declared.error.ApplyError.TheVariants.{Class, TooMany, OutOfMemory}

@@ -4,8 +4,8 @@ ghost use Rattle.tib_cost.specs.Semiring.{most};
 ghost use Rattle.tib_tree.specs.Trees.{size};
 ghost use Rattle.tib_grammar.specs.Sides.{holes_of};
 ghost use Rattle.tib_grammar.specs.Range.{StatesBelow};
-ghost use Rattle.tib_classes.specs.Outside.{demands, AllMeet};
-ghost use Rattle.tib_classes.specs.Faults.{IsClassFault};
+ghost use Rattle.tib_transducer.specs.Outside.{demands, AllMeet};
+ghost use Rattle.tib_transducer.specs.Faults.{IsClassFault};
 ghost use Rattle.tib_hunt.specs.Reached.{most_parts};
 ghost use Rattle.tib_transducer.specs.Rules.{transducer_rule};
 ghost use Rattle.tib_transducer.specs.Range.{IsShaped};
@@ -21,13 +21,12 @@ use crate::key::Key;
 use crate::placing::{number_variables, push_keys, states_by_variable};
 use crate::restrictions::Restrictions;
 use std::alloc::{AllocError, Global};
-use tib_classes::{ClassError, first_outside};
 use tib_cost::{Cost, Semiring};
 use tib_grammar::{Item, Rule};
 use tib_hunt::ExpandError;
 use tib_match::{Match, Within, matches_within};
 use tib_normal::Normal;
-use tib_transducer::{StateIndex, Transducer, TransducerRule};
+use tib_transducer::{ClassError, StateIndex, Transducer, TransducerRule, first_outside};
 
 /// A linear and nondeleting transducer and a grammar, with what is looked up of them.
 #[derive(Drop)]

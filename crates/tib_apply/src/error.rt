@@ -1,7 +1,7 @@
 // What can be amiss in applying a transducer.
 use thiserror::Error;
-use tib_classes::{ClassError, ClassFault};
 use tib_hunt::HuntError;
+use tib_transducer::{ClassError, ClassFault};
 
 /// Why a transducer was not applied to a grammar.
 #[derive(Debug, Drop, Error)]

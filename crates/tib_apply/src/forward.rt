@@ -3,14 +3,14 @@
 ghost use Rattle.std.specs.Prelude.{◌≡◌, ℕ, ◌<◌, ◌≤◌, length, map, Some, true, false, IsTrue, IfOk, IfErr, OnOk, Err};
 ghost use Rattle.tib_lex.specs.Lists.{Each};
 ghost use Rattle.tib_cost.specs.Least.{times};
-ghost use Rattle.tib_classes.specs.Outside.{demands, AllMeet};
-ghost use Rattle.tib_classes.specs.Faults.{IsClassFault};
+ghost use Rattle.tib_transducer.specs.Outside.{demands, AllMeet};
+ghost use Rattle.tib_transducer.specs.Faults.{IsClassFault};
 ghost use Rattle.tib_grammar.specs.Sides.{label as label_symbol};
 ghost use Rattle.tib_hunt.specs.Reached.{most_parts};
 ghost use Rattle.tib_transducer.specs.Rules.{transducer_rule};
 ghost use Rattle.tib_apply.specs.Restrictions.{restricted_labels, Admits};
 ghost use Rattle.tib_apply.specs.TableEdges.{IsTableEdge};
-ghost use Rattle.tib_side_rules.specs.Listing.{IsWithinBudget};
+ghost use Rattle.tib_keyed.specs.Listing.{IsWithinBudget};
 ghost use Rattle.tib_match.specs.Searching.{AreMatchesWhere, AreMoreWhere};
 ghost use Rattle.tib_apply.specs.ForwardLists.{HoleStatesBelow, IsAtMatch, IsAffordable, ListsOrigin, OriginOverruns, ListsRule, RuleOverruns, ListsKey, KeyOverruns};
 ghost use Rattle.tib_apply.specs.ForwardPlans.{asked_at, HasPlans};
@@ -23,13 +23,12 @@ use crate::forward_plan::{Plan, plans_of};
 use crate::key::Key;
 use crate::restrictions::Restrictions;
 use std::alloc::{AllocError, Global};
-use tib_classes::{ClassError, first_outside};
 use tib_cost::{Cost, Semiring};
 use tib_grammar::Item;
 use tib_hunt::ExpandError;
 use tib_match::{Match, Within, few_matches, partial_matches, search_matches};
 use tib_normal::Normal;
-use tib_transducer::{StateIndex, Transducer, TransducerRule};
+use tib_transducer::{ClassError, StateIndex, Transducer, TransducerRule, first_outside};
 
 /// A grammar and a linear transducer, with what is looked up of them.
 #[derive(Drop)]

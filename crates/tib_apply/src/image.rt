@@ -1,6 +1,6 @@
 // Forward application: the keys that are reached, with their rules.
 ghost use Rattle.std.specs.Prelude.{◌≤◌, length, IfOk, IfErr, true, false};
-ghost use Rattle.tib_classes.specs.Outside.{demands, AllMeet};
+ghost use Rattle.tib_transducer.specs.Outside.{demands, AllMeet};
 ghost use Rattle.tib_hunt.specs.Reached.{most_parts, IsBeyond};
 ghost use Rattle.tib_apply.specs.Applied.{IsReachedBy, HasPartsOf, AreOverOrder, IsApplyFault};
 ghost use Rattle.tib_apply.specs.Operations.{forward_image};

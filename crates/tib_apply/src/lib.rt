@@ -2,7 +2,7 @@
 //! trees of the grammar, and the trees that it turns into trees of the grammar, each at the least cost. What is defined and
 //! proved of both stands here, for every semiring. `apply_forward` and `apply_backward` find what is reached by one worker,
 //! `apply_forward_together` and `apply_backward_together` by several. It stands on `tib_transducer`, `tib_match`, `tib_inside`,
-//! `tib_hunt` and `tib_side_rules`.
+//! `tib_hunt` and `tib_keyed`.
 #![tactic(auto)]
 
 mod backward;

@@ -6,10 +6,10 @@ use Rattle.tib_lex.proofs.Lists.{append_nil, has_mapped}
 use Rattle.tib_cost.specs.Semiring.{most}
 use Rattle.tib_tree.specs.Trees.{size}
 use Rattle.tib_grammar.specs.Run.{rule_at}
-use Rattle.tib_heap.specs.Heaps.{IsHeap, Adds}
-use Rattle.tib_k_best_laws.specs.Levels.{states_of}
-use Rattle.tib_k_best_laws.specs.Pass.{AreRanks, offer}
-use Rattle.tib_k_best_laws.specs.Pass as pass
+use Rattle.tib_shared_trees.specs.Heaps.{IsHeap, Adds}
+use Rattle.tib_k_best_lists.specs.Levels.{states_of}
+use Rattle.tib_k_best_lists.specs.Pass.{AreRanks, offer}
+use Rattle.tib_k_best_lists.specs.Pass as pass
 use Rattle.tib_k_best_lists.specs.ListsOf.{ListsOf}
 use Rattle.tib_k_best_lists.specs.Held.{entries_of, candidate_at, no_candidate, tuple_of, ranks_from, ranks_of, tree_by, with_ranks, with_candidate, AreMore, IsTuple, IsCandidate, IsPriced, IsKnownBy, Makes}
 use Rattle.tib_k_best_lists.specs.declared.lists.Candidate.{Candidate}

@@ -8,11 +8,11 @@ use Rattle.tib_lex.specs.Lists.{Has}
 use Rattle.tib_lex.proofs.Members.{has_at, has_left, has_right, has_either}
 use Rattle.tib_grammar.specs.Run.{rule_at}
 use Rattle.tib_grammar.specs.declared.Rule.{Rule}
-use Rattle.tib_k_best_laws.specs.Best.{Costed}
-use Rattle.tib_k_best_laws.specs.Lazy.{IsWhole}
-use Rattle.tib_k_best_laws.specs.Levels.{states_of}
-use Rattle.tib_k_best_laws.specs.Pass.{Entries, AreRanks, zeros, HasTree}
-use Rattle.tib_k_best_laws.proofs.Keeping.{get_or-front}
+use Rattle.tib_k_best_lists.specs.Best.{Costed}
+use Rattle.tib_k_best_lists.specs.Lazy.{IsWhole}
+use Rattle.tib_k_best_lists.specs.Levels.{states_of}
+use Rattle.tib_k_best_lists.specs.Pass.{Entries, AreRanks, zeros, HasTree}
+use Rattle.tib_k_best_lists.proofs.Keeping.{get_or-front}
 use Rattle.tib_k_best_lists.specs.ListsOf.{ListsOf}
 use Rattle.tib_k_best_lists.specs.Held.{no_entry, list_of, entry_at, told, entries_of, candidate_at, ranks_of, tree_by}
 use Rattle.tib_k_best_lists.specs.declared.lists.Entry.{Entry}

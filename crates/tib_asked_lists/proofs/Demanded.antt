@@ -6,9 +6,9 @@ use Rattle.std.proofs.lemmas.List.Sums.{sum_by-cons, sum_by_push, sum_by_more, s
 use Rattle.tib_lex.specs.Lists.{Has}
 use Rattle.tib_lex.proofs.Members.{has_left, has_right, has_either}
 use Rattle.tib_tree.specs.Trees.{size, sizes}
-use Rattle.tib_k_best_laws.specs.Levels.{states_at, trees_of}
-use Rattle.tib_k_best_laws.specs.Pass.{Entries, AreRanks, picked, entry_at}
-use Rattle.tib_k_best_laws.specs.Walks.{pairs}
+use Rattle.tib_k_best_lists.specs.Levels.{states_at, trees_of}
+use Rattle.tib_k_best_lists.specs.Pass.{Entries, AreRanks, picked, entry_at}
+use Rattle.tib_k_best_lists.specs.Walks.{pairs}
 use Rattle.tib_k_best_lists.specs.ListsOf.{ListsOf}
 use Rattle.tib_k_best_lists.specs.Held.{list_of, told, entries_of, tree_by, IsTuple}
 use Rattle.tib_k_best_lists.proofs.Offering.{rank_at, ranks_long}

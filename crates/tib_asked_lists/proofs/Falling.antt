@@ -7,13 +7,13 @@ use Rattle.tib_lex.proofs.Members.{at_has, each_of, each_has, has_right}
 use Rattle.tib_tree.specs.Trees.{Tree, size, sizes}
 use Rattle.tib_grammar.specs.Run.{rule_at}
 use Rattle.tib_grammar.specs.declared.Rule.{Rule}
-use Rattle.tib_k_best_laws.specs.Best.{Costed, IsFrontAt}
-use Rattle.tib_k_best_laws.specs.Levels.{made, states_of, trees_of}
-use Rattle.tib_k_best_laws.specs.Pass.{Entries, no_entry, entry_at, picked, zeros, offer, HasTree}
-use Rattle.tib_k_best_laws.specs.Pass as pass
-use Rattle.tib_k_best_laws.proofs.Growing.{size-trees_of}
-use Rattle.tib_k_best_laws.proofs.Settling.{apart_at}
-use Rattle.tib_k_best_laws.proofs.Telling.{AreApart, has_or, no_fewer, some_new}
+use Rattle.tib_k_best_lists.specs.Best.{Costed, IsFrontAt}
+use Rattle.tib_k_best_lists.specs.Levels.{made, states_of, trees_of}
+use Rattle.tib_k_best_lists.specs.Pass.{Entries, no_entry, entry_at, picked, zeros, offer, HasTree}
+use Rattle.tib_k_best_lists.specs.Pass as pass
+use Rattle.tib_k_best_lists.proofs.FrontsGrowing.{size-trees_of}
+use Rattle.tib_k_best_lists.proofs.Settling.{apart_at}
+use Rattle.tib_k_best_lists.proofs.Telling.{AreApart, has_or, no_fewer, some_new}
 use Rattle.tib_asked_lists.specs.Stacks.{least_size}
 use Rattle.tib_asked_lists.proofs.Kept.{below_or}
 

@@ -6,9 +6,9 @@ use Rattle.tib_lex.specs.Lists.{Has}
 use Rattle.tib_lex.proofs.Lists.{has_mapped}
 use Rattle.tib_lex.proofs.Members.{at_has}
 use Rattle.tib_tree.specs.Trees.{size, most_nodes}
-use Rattle.tib_k_best_laws.specs.Best.{Costed}
-use Rattle.tib_k_best_laws.specs.Pass.{zeros, offer, HasTree}
-use Rattle.tib_k_best_laws.specs.Pass as pass
+use Rattle.tib_k_best_lists.specs.Best.{Costed}
+use Rattle.tib_k_best_lists.specs.Pass.{zeros, offer, HasTree}
+use Rattle.tib_k_best_lists.specs.Pass as pass
 use Rattle.tib_k_best_lists.specs.ListsOf.{ListsOf}
 use Rattle.tib_k_best_lists.specs.Seen.{tree_at}
 use Rattle.tib_k_best_lists.specs.Held.{no_entry, list_of, entry_at, told, entries_of, candidate_at, tuple_of, ranks_of, below_of}

@@ -5,9 +5,9 @@ use Rattle.std.proofs.lemmas.List.{length-map}
 use Rattle.tib_lex.specs.Lists.{Has}
 use Rattle.tib_cost.specs.Semiring.{most}
 use Rattle.tib_grammar.specs.Run.{rule_at}
-use Rattle.tib_k_best_laws.specs.Levels.{states_of, states_at}
-use Rattle.tib_k_best_laws.specs.Pass.{Entries, AreRanks, zeros, zeros_at, offer}
-use Rattle.tib_k_best_laws.specs.Pass as pass
+use Rattle.tib_k_best_lists.specs.Levels.{states_of, states_at}
+use Rattle.tib_k_best_lists.specs.Pass.{Entries, AreRanks, zeros, zeros_at, offer}
+use Rattle.tib_k_best_lists.specs.Pass as pass
 use Rattle.tib_k_best_lists.specs.ListsOf.{ListsOf}
 use Rattle.tib_k_best_lists.specs.Held.{list_of, told, entries_of, ranks_from, ranks_of, below_of, raise, grown, IsSound, IsTuple}
 use Rattle.tib_k_best_lists.specs.declared.lists.Candidate.{Candidate}

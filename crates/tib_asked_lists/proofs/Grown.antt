@@ -9,12 +9,12 @@ use Rattle.tib_lex.proofs.Members.{has_left}
 use Rattle.tib_tree.specs.Trees.{Tree, size, only, most_nodes}
 use Rattle.tib_tree.specs.Growth.{LabelsBelow}
 use Rattle.tib_grammar.specs.Range.{AreInRange}
-use Rattle.tib_k_best_laws.specs.Best.{Costed, IsNextAt, IsFrontAt}
-use Rattle.tib_k_best_laws.specs.Lazy.{IsKept, IsWhole, IsGrown}
-use Rattle.tib_k_best_laws.specs.Pass.{Entries, HasTree}
-use Rattle.tib_k_best_laws.specs.Pass as pass
-use Rattle.tib_k_best_laws.proofs.Going.{grow}
-use Rattle.tib_k_best_laws.proofs.Keeping.{keeps, get_or-front}
+use Rattle.tib_k_best_lists.specs.Best.{Costed, IsNextAt, IsFrontAt}
+use Rattle.tib_k_best_lists.specs.Lazy.{IsKept, IsWhole, IsGrown}
+use Rattle.tib_k_best_lists.specs.Pass.{Entries, HasTree}
+use Rattle.tib_k_best_lists.specs.Pass as pass
+use Rattle.tib_k_best_lists.proofs.Going.{grow}
+use Rattle.tib_k_best_lists.proofs.Keeping.{keeps, get_or-front}
 use Rattle.tib_k_best_lists.specs.ListsOf.{ListsOf}
 use Rattle.tib_k_best_lists.specs.Seen.{tree_at, AreStill}
 use Rattle.tib_k_best_lists.specs.Held.{no_entry, list_of, entry_at, told, entries_of, grown, AreMore, IsSound}

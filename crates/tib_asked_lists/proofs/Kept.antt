@@ -5,9 +5,9 @@ use Rattle.tib_lex.specs.Lists.{Has}
 use Rattle.tib_lex.proofs.Lists.{append_nil}
 use Rattle.tib_cost.specs.Semiring.{most}
 use Rattle.tib_tree.specs.Trees.{Tree}
-use Rattle.tib_heap.specs.Heaps.{IsHeap}
-use Rattle.tib_k_best_laws.specs.Pass.{offer}
-use Rattle.tib_k_best_laws.specs.Pass as pass
+use Rattle.tib_shared_trees.specs.Heaps.{IsHeap}
+use Rattle.tib_k_best_lists.specs.Pass.{offer}
+use Rattle.tib_k_best_lists.specs.Pass as pass
 use Rattle.tib_k_best_lists.specs.ListsOf.{ListsOf}
 use Rattle.tib_k_best_lists.specs.Held.{list_of, entries_of, candidate_at, tuple_of, ranks_of, stands_for, offers_cmp, grown, AreMore, IsSound, IsPriced, IsKnownBy}
 use Rattle.tib_k_best_lists.specs.declared.lists.Entry.{Entry}

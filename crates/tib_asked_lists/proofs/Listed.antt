@@ -10,12 +10,12 @@ use Rattle.tib_cost.specs.Semiring.{ProductLaws}
 use Rattle.tib_tree.specs.Trees.{Tree, size, only, most_nodes}
 use Rattle.tib_tree.specs.Growth.{LabelsBelow}
 use Rattle.tib_grammar.specs.Run.{rule_at}
-use Rattle.tib_k_best_laws.specs.Best.{Costed, IsNextAt, HasLarge}
-use Rattle.tib_k_best_laws.specs.Lazy.{IsKept, IsWhole}
-use Rattle.tib_k_best_laws.specs.Levels.{IsOrderly, states_at}
-use Rattle.tib_k_best_laws.specs.Pass.{Entries, AreRanks, zeros_at, offer, HasTree}
-use Rattle.tib_k_best_laws.specs.Pass as pass
-use Rattle.tib_k_best_laws.proofs.Keeping.{keeps}
+use Rattle.tib_k_best_lists.specs.Best.{Costed, IsNextAt, HasLarge}
+use Rattle.tib_k_best_lists.specs.Lazy.{IsKept, IsWhole}
+use Rattle.tib_k_best_lists.specs.Levels.{IsOrderly, states_at}
+use Rattle.tib_k_best_lists.specs.Pass.{Entries, AreRanks, zeros_at, offer, HasTree}
+use Rattle.tib_k_best_lists.specs.Pass as pass
+use Rattle.tib_k_best_lists.proofs.Keeping.{keeps}
 use Rattle.tib_k_best_lists.specs.ListsOf.{ListsOf}
 use Rattle.tib_k_best_lists.specs.Seen.{tree_at}
 use Rattle.tib_k_best_lists.specs.Held.{no_entry, list_of, entry_at, told, entries_of, candidate_at, tuple_of, ranks_of, tree_by, stands_for, grown, AreMore}
@@ -171,7 +171,7 @@ module _ {levelled weighted : Bool} {product : ℕ → ℕ → ℕ} (laws : Prod
     dropped_here h = record {
       lists = record { sound = sound_trees x i.lists.sound l.trees l.number tree has_new small labelled; made = made_kept product x i.lists l.trees x.lists x.candidates x.ranks more_same_trees };
       started = subst (λ (es : Entries). (n : ℕ) → n < length x.rules → AreRanks es (states_at x.rules n) (zeros_at x.rules n)) (sym entries_same) i.started;
-      fronts = subst (λ (es : Entries). (q : ℕ) → Rattle.tib_k_best_laws.specs.Best.IsFrontAt product x.labels x.rules q (es q)) (sym entries_same) i.fronts;
+      fronts = subst (λ (es : Entries). (q : ℕ) → Rattle.tib_k_best_lists.specs.Best.IsFrontAt product x.labels x.rules q (es q)) (sym entries_same) i.fronts;
       few = i.few;
       small = i.small;
       long = i.long;

@@ -7,9 +7,9 @@ use Rattle.std.proofs.lemmas.List.Sums.{sum_by-set}
 use Rattle.std.specs.Global.{Vec}
 use Rattle.tib_lex.specs.Lists.{Has}
 use Rattle.tib_cost.specs.Semiring.{ProductLaws}
-use Rattle.tib_k_best_laws.specs.Best.{IsFrontAt}
-use Rattle.tib_k_best_laws.specs.Lazy.{IsWhole}
-use Rattle.tib_k_best_laws.specs.Levels.{IsOrderly}
+use Rattle.tib_k_best_lists.specs.Best.{IsFrontAt}
+use Rattle.tib_k_best_lists.specs.Lazy.{IsWhole}
+use Rattle.tib_k_best_lists.specs.Levels.{IsOrderly}
 use Rattle.tib_k_best_lists.specs.ListsOf.{ListsOf}
 use Rattle.tib_k_best_lists.specs.Held.{list_of, entries_of, candidate_at, below_of, grown}
 use Rattle.tib_k_best_lists.proofs.Children.{get_or-map}

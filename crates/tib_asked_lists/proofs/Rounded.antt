@@ -9,12 +9,12 @@ use Rattle.tib_lex.proofs.Members.{has_left, has_right, has_either}
 use Rattle.tib_cost.specs.Semiring.{ProductLaws}
 use Rattle.tib_tree.specs.Trees.{Tree, size}
 use Rattle.tib_grammar.specs.declared.Rule.{Rule}
-use Rattle.tib_k_best_laws.specs.Best.{Costed, IsFrontAt, IsKBest}
-use Rattle.tib_k_best_laws.specs.Lazy.{IsWhole}
-use Rattle.tib_k_best_laws.specs.Levels.{IsOrderly}
-use Rattle.tib_k_best_laws.specs.Pass.{entry_at, no_entry, HasTree}
-use Rattle.tib_k_best_laws.proofs.Going.{grow}
-use Rattle.tib_k_best_laws.proofs.Keeping.{get_or-front}
+use Rattle.tib_k_best_lists.specs.Best.{Costed, IsFrontAt, IsKBest}
+use Rattle.tib_k_best_lists.specs.Lazy.{IsWhole}
+use Rattle.tib_k_best_lists.specs.Levels.{IsOrderly}
+use Rattle.tib_k_best_lists.specs.Pass.{entry_at, no_entry, HasTree}
+use Rattle.tib_k_best_lists.proofs.Going.{grow}
+use Rattle.tib_k_best_lists.proofs.Keeping.{get_or-front}
 use Rattle.tib_k_best_lists.specs.ListsOf.{ListsOf}
 use Rattle.tib_k_best_lists.specs.Held.{list_of, told, entries_of, candidate_at, no_candidate, ranks_from, ranks_of, tree_by}
 use Rattle.tib_k_best_lists.specs.declared.lists.Entry.{Entry}

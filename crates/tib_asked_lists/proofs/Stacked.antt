@@ -3,7 +3,7 @@ use Rattle.std.specs.Prelude.{◌≡◌, ◌⊎◌, ℕ, ◌+◌, ◌<◌, ◌�
 use Rattle.std.proofs.Common.{arith, ap, sym, ◌∙◌, subst, inl, inr, get_or}
 use Rattle.tib_lex.specs.Lists.{Has}
 use Rattle.tib_lex.proofs.Members.{has_left, has_right, has_either}
-use Rattle.tib_k_best_laws.specs.Levels.{states_at}
+use Rattle.tib_k_best_lists.specs.Levels.{states_at}
 use Rattle.tib_k_best_lists.specs.ListsOf.{ListsOf}
 use Rattle.tib_k_best_lists.specs.Held.{list_of, candidate_at, below_of, ranks_of, ranks_from}
 use Rattle.tib_k_best_lists.specs.declared.lists.Candidate.{Candidate}

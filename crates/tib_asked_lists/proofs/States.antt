@@ -5,10 +5,10 @@ use Rattle.tib_lex.specs.Lists.{Has}
 use Rattle.tib_lex.proofs.Members.{has_left}
 use Rattle.tib_tree.specs.Trees.{Tree}
 use Rattle.tib_grammar.specs.Run.{rule_at}
-use Rattle.tib_k_best_laws.specs.Lazy.{IsKept, IsWhole}
-use Rattle.tib_k_best_laws.specs.Levels.{states_of}
-use Rattle.tib_k_best_laws.specs.Pass.{zeros, HasTree}
-use Rattle.tib_k_best_laws.specs.Pass as pass
+use Rattle.tib_k_best_lists.specs.Lazy.{IsKept, IsWhole}
+use Rattle.tib_k_best_lists.specs.Levels.{states_of}
+use Rattle.tib_k_best_lists.specs.Pass.{zeros, HasTree}
+use Rattle.tib_k_best_lists.specs.Pass as pass
 use Rattle.tib_k_best_lists.specs.ListsOf.{ListsOf}
 use Rattle.tib_k_best_lists.specs.Held.{entries_of, candidate_at, tuple_of, ranks_of, tree_by, grown, AreMore}
 use Rattle.tib_k_best_lists.specs.declared.lists.Entry.{Entry}

@@ -7,12 +7,12 @@ use Rattle.tib_lex.proofs.Lists.{has_mapped, head_is, tail_is}
 use Rattle.tib_lex.proofs.Members.{at_has, has_at}
 use Rattle.tib_cost.specs.Semiring.{most}
 use Rattle.tib_grammar.specs.Run.{rule_at}
-use Rattle.tib_heap.specs.Heaps.{IsHeap}
-use Rattle.tib_k_best_laws.specs.Lazy.{IsKept, IsAsked}
-use Rattle.tib_k_best_laws.specs.Levels.{states_at}
-use Rattle.tib_k_best_laws.specs.Pass.{AreRanks, zeros, zeros_at, offer, HasTree, IsKnown}
-use Rattle.tib_k_best_laws.specs.Pass as pass
-use Rattle.tib_k_best_laws.proofs.Keeping.{keeps}
+use Rattle.tib_shared_trees.specs.Heaps.{IsHeap}
+use Rattle.tib_k_best_lists.specs.Lazy.{IsKept, IsAsked}
+use Rattle.tib_k_best_lists.specs.Levels.{states_at}
+use Rattle.tib_k_best_lists.specs.Pass.{AreRanks, zeros, zeros_at, offer, HasTree, IsKnown}
+use Rattle.tib_k_best_lists.specs.Pass as pass
+use Rattle.tib_k_best_lists.proofs.Keeping.{keeps}
 use Rattle.tib_k_best_lists.specs.ListsOf.{ListsOf}
 use Rattle.tib_k_best_lists.specs.Held.{list_of, told, entries_of, candidate_at, tuple_of, ranks_of, below_of, raise, tree_by, IsLast}
 use Rattle.tib_k_best_lists.specs.declared.lists.Candidate.{Candidate}

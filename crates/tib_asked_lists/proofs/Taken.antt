@@ -8,16 +8,16 @@ use Rattle.tib_cost.specs.Semiring.{ProductLaws}
 use Rattle.tib_tree.specs.Trees.{Tree, only}
 use Rattle.tib_tree.specs.Growth.{LabelsBelow}
 use Rattle.tib_grammar.specs.Run.{rule_at}
-use Rattle.tib_heap.specs.Heaps.{TakesFirst}
-use Rattle.tib_k_best_laws.specs.Best.{Cheaper, IsNextAt, IsFrontAt}
-use Rattle.tib_k_best_laws.specs.First.{NoLater}
-use Rattle.tib_k_best_laws.specs.Lazy.{IsKept, IsWhole}
-use Rattle.tib_k_best_laws.specs.Levels.{IsOrderly, root_of, states_of, trees_of}
-use Rattle.tib_k_best_laws.specs.Pass.{AreRanks, picked, offer, HasTree}
-use Rattle.tib_k_best_laws.specs.Pass as pass
-use Rattle.tib_k_best_laws.proofs.Asking.{asking}
-use Rattle.tib_k_best_laws.proofs.Opening.{root_label}
-use Rattle.tib_k_best_laws.proofs.Ordered.{ordered}
+use Rattle.tib_shared_trees.specs.Heaps.{TakesFirst}
+use Rattle.tib_k_best_lists.specs.Best.{Cheaper, IsNextAt, IsFrontAt}
+use Rattle.tib_k_best_lists.specs.First.{NoLater}
+use Rattle.tib_k_best_lists.specs.Lazy.{IsKept, IsWhole}
+use Rattle.tib_k_best_lists.specs.Levels.{IsOrderly, root_of, states_of, trees_of}
+use Rattle.tib_k_best_lists.specs.Pass.{AreRanks, picked, offer, HasTree}
+use Rattle.tib_k_best_lists.specs.Pass as pass
+use Rattle.tib_k_best_lists.proofs.Asking.{asking}
+use Rattle.tib_k_best_lists.proofs.Opening.{root_label}
+use Rattle.tib_k_best_lists.proofs.Ordered.{ordered}
 use Rattle.tib_k_best_lists.specs.ListsOf.{ListsOf}
 use Rattle.tib_k_best_lists.specs.Held.{no_entry, list_of, told, entries_of, candidate_at, tuple_of, ranks_of, tree_by, stands_for, IsSound, IsTuple}
 use Rattle.tib_k_best_lists.specs.declared.lists.Candidate.{Candidate}

@@ -6,11 +6,11 @@ use Rattle.tib_lex.specs.Lists.{Has}
 use Rattle.tib_tree.specs.Trees.{Tree}
 use Rattle.tib_grammar.specs.Run.{rule_at}
 use Rattle.tib_grammar.specs.declared.Rule.{Rule}
-use Rattle.tib_heap.specs.Heaps.{IsHeap, TakesFirst}
-use Rattle.tib_k_best_laws.specs.Best.{IsFrontAt}
-use Rattle.tib_k_best_laws.specs.Lazy.{IsKept, IsWhole}
-use Rattle.tib_k_best_laws.specs.Pass.{HasTree, zeros}
-use Rattle.tib_k_best_laws.specs.Pass as pass
+use Rattle.tib_shared_trees.specs.Heaps.{IsHeap, TakesFirst}
+use Rattle.tib_k_best_lists.specs.Best.{IsFrontAt}
+use Rattle.tib_k_best_lists.specs.Lazy.{IsKept, IsWhole}
+use Rattle.tib_k_best_lists.specs.Pass.{HasTree, zeros}
+use Rattle.tib_k_best_lists.specs.Pass as pass
 use Rattle.tib_k_best_lists.specs.ListsOf.{ListsOf}
 use Rattle.tib_k_best_lists.specs.Seen.{tree_at}
 use Rattle.tib_k_best_lists.specs.Held.{list_of, entry_at, entries_of, candidate_at, tuple_of, ranks_of, rule_of, below_of, tree_by, with_trees, with_entry, HasNumber}

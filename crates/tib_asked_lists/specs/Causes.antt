@@ -1,6 +1,6 @@
 -- The causes of faults.
 use Rattle.std.specs.Prelude.{ℕ}
-use Rattle.tib_k_best_laws.specs.Best.{HasLarge}
+use Rattle.tib_k_best_lists.specs.Best.{HasLarge}
 use Rattle.tib_k_best_lists.specs.ListsOf.{ListsOf}
 use Rattle.tib_asked_lists.specs.declared.error.AskError.{AskError}
 use Rattle.tib_asked_lists.specs.declared.error.AskError.TheVariants.{TreeTooLarge, OutOfMemory}

@@ -4,8 +4,8 @@ use Rattle.std.proofs.Common.{suc, get_or}
 use Rattle.std.proofs.Math.ListN.{set}
 use Rattle.tib_lex.specs.Lists.{Has}
 use Rattle.tib_tree.specs.Trees.{size}
-use Rattle.tib_k_best_laws.specs.Best.{Costed}
-use Rattle.tib_k_best_laws.specs.Pass.{Entries, entry_at, no_entry}
+use Rattle.tib_k_best_lists.specs.Best.{Costed}
+use Rattle.tib_k_best_lists.specs.Pass.{Entries, entry_at, no_entry}
 use Rattle.tib_k_best_lists.specs.ListsOf.{ListsOf}
 use Rattle.tib_k_best_lists.specs.Held.{list_of, entries_of, candidate_at, tree_by, ranks_of}
 use Rattle.tib_k_best_lists.specs.declared.lists.Entry.{Entry}

@@ -3,9 +3,9 @@ use Rattle.std.specs.Prelude.{◌≡◌, ℕ, ◌<◌, ◌≤◌, [], length}
 use Rattle.std.proofs.Common.{get_or}
 use Rattle.tib_cost.specs.Semiring.{most}
 use Rattle.tib_grammar.specs.Run.{rule_at}
-use Rattle.tib_k_best_laws.specs.Best.{Costed, IsTreeAt, IsFrontAt}
-use Rattle.tib_k_best_laws.specs.Levels.{states_of}
-use Rattle.tib_k_best_laws.specs.Pass.{zeros}
+use Rattle.tib_k_best_lists.specs.Best.{Costed, IsTreeAt, IsFrontAt}
+use Rattle.tib_k_best_lists.specs.Levels.{states_of}
+use Rattle.tib_k_best_lists.specs.Pass.{zeros}
 use Rattle.tib_k_best_lists.specs.ListsOf.{ListsOf}
 use Rattle.tib_k_best_lists.specs.Held.{list_of, entry_at, entries_of, told, candidate_at, ranks_of, stands_for, IsSound, IsCandidate, IsPriced}
 use Rattle.tib_k_best_lists.specs.declared.lists.Entry.{Entry}

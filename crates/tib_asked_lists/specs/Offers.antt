@@ -4,10 +4,10 @@ use Rattle.std.proofs.Common.{get_or}
 use Rattle.std.specs.declared.cmp.Ordering.{Ordering}
 use Rattle.tib_lex.specs.Lists.{Has}
 use Rattle.tib_cost.specs.Semiring.{most}
-use Rattle.tib_heap.specs.Heaps.{IsHeap}
-use Rattle.tib_k_best_laws.specs.Levels.{states_at}
-use Rattle.tib_k_best_laws.specs.Pass.{AreRanks, zeros_at, offer}
-use Rattle.tib_k_best_laws.specs.Pass as pass
+use Rattle.tib_shared_trees.specs.Heaps.{IsHeap}
+use Rattle.tib_k_best_lists.specs.Levels.{states_at}
+use Rattle.tib_k_best_lists.specs.Pass.{AreRanks, zeros_at, offer}
+use Rattle.tib_k_best_lists.specs.Pass as pass
 use Rattle.tib_k_best_lists.specs.ListsOf.{ListsOf}
 use Rattle.tib_k_best_lists.specs.Held.{list_of, entries_of, tuple_of, ranks_of, below_of, raise, stands_for, offers_cmp, grown, IsLast, IsSound}
 use Rattle.tib_k_best_lists.specs.declared.lists.Candidate.{Candidate}

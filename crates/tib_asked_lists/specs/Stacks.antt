@@ -3,7 +3,7 @@ use Rattle.std.specs.Prelude.{◌≡◌, ◌⊎◌, ℕ, ◌≤◌, ◌+◌, ◌
 use Rattle.std.proofs.Common.{suc}
 use Rattle.tib_lex.specs.Lists.{Has}
 use Rattle.tib_tree.specs.Trees.{size}
-use Rattle.tib_k_best_laws.specs.Best.{Costed}
+use Rattle.tib_k_best_lists.specs.Best.{Costed}
 use Rattle.tib_k_best_lists.specs.ListsOf.{ListsOf}
 use Rattle.tib_k_best_lists.specs.Held.{list_of, entries_of, candidate_at, below_of}
 use Rattle.tib_asked_lists.specs.declared.asking.Stage.TheVariants.{Whole}

@@ -2,15 +2,15 @@
 ghost use Rattle.std.specs.Prelude.{◌≡◌, ◌+◌, ◌<◌, ℕ, length, OnOk};
 ghost use Rattle.std.proofs.Common.{get_or};
 ghost use Rattle.tib_grammar.specs.Run.{rule_at};
-ghost use Rattle.tib_k_best_laws.specs.Levels.{states_of, states_at};
-ghost use Rattle.tib_k_best_laws.specs.Pass.{zeros_at, AreRanks};
+ghost use Rattle.tib_k_best_lists.specs.Levels.{states_of, states_at};
+ghost use Rattle.tib_k_best_lists.specs.Pass.{zeros_at, AreRanks};
 ghost use Rattle.tib_k_best_lists.specs.Held.{entries_of, list_of, raise, ranks_from, IsTuple};
 ghost use Rattle.tib_asked_lists.specs.Offers.{IsHeld, IsOffered};
 
 use std::alloc::AllocError;
 use tib_cost::Semiring;
-use tib_heap::push;
 use tib_k_best_lists::Lists;
+use tib_shared_trees::push;
 
 // Makes a rule with the ranks from `start` on a candidate and puts it into a heap, unless it costs
 // more than the greatest cost.

@@ -1,8 +1,8 @@
 // The best trees of the start.
 ghost use Rattle.std.specs.Prelude.{◌≡◌, ◌<◌, ◌≤◌, ◌+◌, ℕ, length, IfErr, OnOk};
 ghost use Rattle.tib_grammar.specs.Forms.{IsDeterministic};
-ghost use Rattle.tib_k_best_laws.specs.Best.{IsFrontAt, IsKBest};
-ghost use Rattle.tib_k_best_laws.specs.Levels.{IsOrderly};
+ghost use Rattle.tib_k_best_lists.specs.Best.{IsFrontAt, IsKBest};
+ghost use Rattle.tib_k_best_lists.specs.Levels.{IsOrderly};
 ghost use Rattle.tib_k_best_lists.specs.Held.{entries_of, IsSound};
 ghost use Rattle.tib_asked_lists.specs.AskingOf.{asking_of};
 ghost use Rattle.tib_asked_lists.specs.Asks.{IsAsking, StaysAsking, StaysGrammar};

@@ -3,8 +3,8 @@ ghost use Rattle.std.specs.Prelude.{◌≡◌, ◌<◌, ◌≤◌, ◌+◌, ℕ,
 ghost use Rattle.std.proofs.Common.{get_or};
 ghost use Rattle.tib_lex.specs.Lists.{Has};
 ghost use Rattle.tib_tree.specs.Trees.{size};
-ghost use Rattle.tib_k_best_laws.specs.Levels.{states_at};
-ghost use Rattle.tib_k_best_laws.specs.Pass.{entry_at};
+ghost use Rattle.tib_k_best_lists.specs.Levels.{states_at};
+ghost use Rattle.tib_k_best_lists.specs.Pass.{entry_at};
 ghost use Rattle.tib_k_best_lists.specs.Held.{entries_of, list_of, ranks_from, tree_by, IsTuple};
 ghost use Rattle.tib_asked_lists.specs.AskingOf.{asking_of, state_at};
 ghost use Rattle.tib_asked_lists.specs.Asks.{IsAsking};

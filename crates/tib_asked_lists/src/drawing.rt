@@ -9,8 +9,8 @@ use crate::asking::{Asked, Stage};
 use crate::followers::{add_firsts, add_followers};
 use std::alloc::AllocError;
 use tib_cost::Semiring;
-use tib_heap::pop;
 use tib_k_best_lists::Lists;
+use tib_shared_trees::pop;
 
 impl Asked {
     // Offers the first candidates of a state's rules, where this was not done before.

@@ -1,8 +1,8 @@
 // Demands that are met, those below others first.
 ghost use Rattle.std.specs.Prelude.{◌≡◌, ◌<◌, ◌≤◌, ◌+◌, ℕ, length, IfErr, IfNone, IfSome, IsTrue, OnOk};
 ghost use Rattle.std.proofs.Common.{get_or};
-ghost use Rattle.tib_k_best_laws.specs.Best.{IsFrontAt, IsKBest};
-ghost use Rattle.tib_k_best_laws.specs.Levels.{states_at, IsOrderly};
+ghost use Rattle.tib_k_best_lists.specs.Best.{IsFrontAt, IsKBest};
+ghost use Rattle.tib_k_best_lists.specs.Levels.{states_at, IsOrderly};
 ghost use Rattle.tib_k_best_lists.specs.Held.{below_of, candidate_at, entries_of, list_of, ranks_from, IsSound, IsTuple};
 ghost use Rattle.tib_asked_lists.specs.AskingOf.{asking_of, state_at};
 ghost use Rattle.tib_asked_lists.specs.Asks.{AreAnswered, IsAnswered, IsAsking, IsTaking, StaysAsking, StaysGrammar};

@@ -1,6 +1,6 @@
 // One step of a state among the others.
 ghost use Rattle.std.specs.Prelude.{◌≡◌, ◌<◌, ℕ, length, IfErr, IfNone, IfOk, OnOk};
-ghost use Rattle.tib_k_best_laws.specs.Levels.{IsOrderly};
+ghost use Rattle.tib_k_best_lists.specs.Levels.{IsOrderly};
 ghost use Rattle.tib_k_best_lists.specs.Held.{below_of, candidate_at, list_of};
 ghost use Rattle.tib_asked_lists.specs.AskingOf.{asking_of, state_at};
 ghost use Rattle.tib_asked_lists.specs.Asks.{AreAnswered, HasDrawn, IsAsking, IsTaking, StaysAsking, StaysGrammar, turns_left};

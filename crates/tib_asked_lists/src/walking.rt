@@ -1,7 +1,7 @@
 // A state asked for one tree more, from below.
 ghost use Rattle.std.specs.Prelude.{◌≡◌, ◌<◌, ◌≤◌, ◌+◌, length, IfErr, IfNone, IfOk, IfSome, IsTrue, OnOk};
 ghost use Rattle.std.proofs.Common.{get_or};
-ghost use Rattle.tib_k_best_laws.specs.Levels.{IsOrderly, states_at};
+ghost use Rattle.tib_k_best_lists.specs.Levels.{IsOrderly, states_at};
 ghost use Rattle.tib_k_best_lists.specs.Held.{below_of, candidate_at, list_of, ranks_from, IsTuple};
 ghost use Rattle.tib_asked_lists.specs.AskingOf.{asking_of};
 ghost use Rattle.tib_asked_lists.specs.Asks.{IsAnswered, IsAsking, StaysAsking, StaysGrammar, turns_left};

@@ -1,4 +1,6 @@
-//! The canonical form of a grammar: trimmed, with canonical names, equal rules merged, and sorted.
+//! Canonical forms. That of a grammar is trimmed, with canonical names, equal rules merged, and sorted. In that of a reached set as a
+//! transducer the states are the keys, the start first and the others in ascending order, equal rules are merged at the least cost, and
+//! the rules are sorted; nothing is trimmed.
 #![tactic(auto)]
 
 mod begin;
@@ -9,8 +11,16 @@ mod merging;
 mod names;
 mod numbering;
 mod ordering;
+mod renaming;
+mod splitting;
 mod taking;
 mod texts;
+mod transducer_keys;
+mod transducer_laws;
+mod transducer_lines;
+mod transducer_merging;
+mod transducer_ordering;
+mod transducer_taking;
 
 pub use begin::{Begin, Finals, to_grammar};
 pub use form::canonical;
@@ -29,3 +39,10 @@ pub use names::numbered_names;
 pub use numbering::{numbers_of, states_by_keys};
 pub use ordering::Printed;
 pub use texts::text_of;
+pub use transducer_keys::to_transducer;
+pub use transducer_laws::{
+    canonical_transducers_exist, composition_text_is_one, compositions_have_texts,
+    compositions_have_their_series, keys_have_one_transducer, keys_keep_the_transducer_series,
+    transducer_text_is_one, transducer_texts_are_read,
+};
+pub use transducer_ordering::PrintedTransducer;

@@ -1,12 +1,12 @@
 // Canonical transducers, as text.
 ghost use Rattle.std.specs.Prelude.{◌≡◌, ◌<◌, ◌^◌, length, IfOk};
 ghost use Rattle.tib_lex.specs.Lists.{Distinct};
-ghost use Rattle.tib_canon_transducer.specs.Keys.{AreMovesOver};
+ghost use Rattle.tib_canon.specs.TransducerKeys.{AreMovesOver};
 ghost use Rattle.tib_transducer_file.specs.Labelled.{AreLabelled};
 
 use std::alloc::{AllocError, Global};
 use std::test::Fail;
-use tib_canon_transducer::{PrintedTransducer, to_transducer};
+use tib_canon::{PrintedTransducer, to_transducer};
 use tib_cost::{MinPlus, Semiring};
 use tib_hunt::Found;
 use tib_io::GrowingSink;

@@ -4,7 +4,7 @@ use Rattle.std.proofs.Common.{zero, suc, arith, ap, sym, ◌∙◌, subst, inl, 
 use Rattle.std.specs.declared.cmp.Ordering.TheVariants.{Less}
 use Rattle.tib_lex.specs.Lists.{Has}
 use Rattle.tib_tree.specs.Trees.{Tree, only, size, most_nodes}
-use Rattle.tib_tree_order.specs.Order.{tree_cmp_by}
+use Rattle.tib_tree.specs.Order.{tree_cmp_by}
 use Rattle.tib_grammar.specs.Run.{IsCost}
 use Rattle.tib_grammar.specs.Forms.{AreNormal}
 use Rattle.tib_grammar.specs.Range.{AreInRange}
@@ -14,7 +14,7 @@ use Rattle.tib_cost.specs.Semiring.{boolean_laws}
 use Rattle.tib_determinize.specs.Vectors.{VectorOf, vector_at}
 use Rattle.tib_determinize.specs.VectorGrammar.{IsVectorGrammar, IsDeterminized}
 use Rattle.tib_determinize.proofs.Found.{vector_grammar}
-use Rattle.tib_k_best_laws.specs.Best.{Costed, Cheaper, IsTreeAt, IsKBest}
+use Rattle.tib_k_best_lists.specs.Best.{Costed, Cheaper, IsTreeAt, IsKBest}
 use Rattle.tib_compare.specs.Compared.{AreFree, HasCost, Agree, IsOnlyIn, IsInOne, IsLeastOnly, IsCompared, IsTooLarge, IsSmall}
 use Rattle.tib_compare.specs.Beside.{beside}
 use Rattle.tib_compare.specs.Wanted.{differs, node_cost, wanted}

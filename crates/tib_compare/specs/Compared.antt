@@ -7,7 +7,7 @@ use Rattle.tib_grammar.specs.Run.{rule_at}
 use Rattle.tib_grammar.specs.Series.{IsSeries}
 use Rattle.tib_grammar.specs.declared.Rule.{Rule}
 use Rattle.tib_grammar_file.specs.Printed.{AreLabelled}
-use Rattle.tib_tree_order.specs.Order.{tree_cmp_by}
+use Rattle.tib_tree.specs.Order.{tree_cmp_by}
 use Rattle.tib_compare.specs.declared.compared.Compared.{Compared}
 use Rattle.tib_compare.specs.declared.compared.Compared.TheVariants.{Same, First, Second}
 

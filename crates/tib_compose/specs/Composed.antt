@@ -8,7 +8,7 @@ use Rattle.tib_keyed.specs.Ends.{key_at}
 use Rattle.tib_transducer.specs.Range.{AreShaped, AreWithin}
 use Rattle.tib_transducer.specs.Rules.{transducer_rule}
 use Rattle.tib_transducer.specs.declared.TransducerRule.{TransducerRule}
-use Rattle.tib_classes.specs.Outside.{demands, IsFirstOutside}
+use Rattle.tib_transducer.specs.Outside.{demands, IsFirstOutside}
 use Rattle.tib_compose_laws.specs.Composition.{composition}
 use Rattle.tib_compose_laws.specs.Named.{named_transducer_rule}
 use Rattle.tib_compose.specs.declared.error.ComposeError.{ComposeError}

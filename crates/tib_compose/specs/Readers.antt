@@ -2,8 +2,8 @@
 use Rattle.std.specs.Prelude.{◌≡◌, ℕ, ◌<◌, List, [], ◌∷◌, ◌++◌, length, if◌then◌else◌}
 use Rattle.std.proofs.Common.{zero, suc}
 use Rattle.tib_grammar.specs.Sides.{label, AreHoles}
-use Rattle.tib_shapes.specs.Positions.{positions_of}
-use Rattle.tib_shapes.specs.declared.buckets.ShapeIndex.{ShapeIndex}
+use Rattle.tib_keyed.specs.Positions.{positions_of}
+use Rattle.tib_keyed.specs.declared.buckets.ShapeIndex.{ShapeIndex}
 use Rattle.tib_transducer.specs.Rules.{transducer_rule}
 use Rattle.tib_transducer.specs.declared.TransducerRule.{TransducerRule}
 use Rattle.tib_compose_laws.specs.Choices.{reads_label}

@@ -1,7 +1,7 @@
 //! The composition of two transducers: the pairs that are reached, with their rules.
 
 ghost use Rattle.std.specs.Prelude.{◌≤◌, length, IfOk, IfErr, true};
-ghost use Rattle.tib_classes.specs.Outside.{demands, AllMeet};
+ghost use Rattle.tib_transducer.specs.Outside.{demands, AllMeet};
 ghost use Rattle.tib_hunt.specs.Reached.{most_parts, IsBeyond};
 ghost use Rattle.tib_transducer.specs.Range.{AreShaped};
 ghost use Rattle.tib_compose_laws.specs.Composition.{composition};

@@ -1,17 +1,16 @@
 //! The pairs of the states of two transducers, as what is hunted.
 
 ghost use Rattle.std.specs.Prelude.{◌≡◌, ℕ, ◌<◌, length, IfOk, IfErr, true};
-ghost use Rattle.tib_classes.specs.Outside.{demands, AllMeet};
-ghost use Rattle.tib_classes.specs.Faults.{IsClassFault};
+ghost use Rattle.tib_transducer.specs.Outside.{demands, AllMeet};
+ghost use Rattle.tib_transducer.specs.Faults.{IsClassFault};
 ghost use Rattle.tib_compose.specs.EdgeLaws.{StatesBelow};
 ghost use Rattle.tib_compose.specs.IsIndex.{IsIndex};
 ghost use Rattle.tib_transducer.specs.Moves.{IsStateIndex};
 
 use crate::index::index_rules;
 use std::alloc::Global;
-use tib_classes::{ClassError, first_outside};
-use tib_shapes::ShapeIndex;
-use tib_transducer::{StateIndex, Transducer};
+use tib_keyed::ShapeIndex;
+use tib_transducer::{ClassError, StateIndex, Transducer, first_outside};
 
 /// The pairs of a state of the first transducer and a state of the second, reached from the pair of the starts.
 #[derive(Drop)]

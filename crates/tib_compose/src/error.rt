@@ -1,8 +1,8 @@
 //! What can be amiss in composing two transducers.
 
 use thiserror::Error;
-use tib_classes::{ClassError, ClassFault};
 use tib_hunt::HuntError;
+use tib_transducer::{ClassError, ClassFault};
 
 /// Why two transducers were not composed.
 #[derive(Debug, Drop, Error)]

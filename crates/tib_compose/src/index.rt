@@ -8,7 +8,7 @@ ghost use Rattle.tib_compose.specs.Readers.{AreFlat, IsFlat};
 
 use std::alloc::{AllocError, Global};
 use tib_grammar::Item;
-use tib_shapes::{Shape, ShapeIndex};
+use tib_keyed::{Shape, ShapeIndex};
 use tib_transducer::TransducerRule;
 
 /// The shape of a rule: its state, and the label and the rank that it reads.

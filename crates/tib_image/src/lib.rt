@@ -1,8 +1,8 @@
 //! All outputs of a transducer on one tree: keys of a state of the transducer and a node of the tree, reached along the rules
 //! whose left sides match at the node. The transducer may copy, delete, be extended and be labelled. `Image` is this as an
 //! operation for `tib_hunt`, and `image` answers the keys that are reached, with their rules, as does `image_together` by several
-//! workers. It stands on `tib_transducer`, `tib_hunt` and `tib_keyed`; the index of its rules is that of `tib_shapes`, and its
-//! edges over places are those of `tib_side_rules`.
+//! workers. It stands on `tib_transducer`, `tib_hunt` and `tib_keyed`, which has the index of its rules
+//! and its edges over places.
 #![tactic(auto)]
 
 pub mod examples;

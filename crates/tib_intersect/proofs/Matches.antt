@@ -10,8 +10,8 @@ use Rattle.tib_grammar.specs.Run.{rule_at, no_rule}
 use Rattle.tib_grammar.specs.Forms.{AreNormal, IsNormalSide}
 use Rattle.tib_grammar.specs.declared.Rule.{Rule}
 use Rattle.tib_normal.specs.Rules.{rules_from}
-use Rattle.tib_shapes.specs.Places.{places_from}
-use Rattle.tib_shapes.proofs.Places.{places_are, place_is, is_place, places_once}
+use Rattle.tib_keyed.specs.Places.{places_from}
+use Rattle.tib_keyed.proofs.Places.{places_are, place_is, is_place, places_once}
 use Rattle.tib_intersect.specs.declared.listing.Listing.{Listing}
 use Rattle.tib_keyed.specs.Ends.{key_at as pair_at}
 use Rattle.tib_intersect.specs.PairEdges.{IsPairEdge}

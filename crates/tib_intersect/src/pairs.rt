@@ -12,9 +12,8 @@ use crate::pair_rule::PairRule;
 use std::alloc::{AllocError, Global};
 use tib_cost::Semiring;
 use tib_hunt::ExpandError;
-use tib_keyed::StatePair;
+use tib_keyed::{ShapeIndex, StatePair};
 use tib_normal::Normal;
-use tib_shapes::ShapeIndex;
 
 /// The pairs of a state of the one grammar and a state of the other, reached from the pair of the starts.
 #[derive(Drop)]

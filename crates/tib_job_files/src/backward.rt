@@ -1,10 +1,10 @@
 // The files of `backward`: a transducer and a grammar.
 ghost use Rattle.std.specs.Prelude.{[], ◌∷◌, ◌≡◌, Some, length, IfErr, IfOk};
 ghost use Rattle.tib_command.specs.Jobs.{meaning};
-ghost use Rattle.tib_run_laws.specs.Kinds.{AreTexts, of_grammar, of_transducer};
-ghost use Rattle.tib_run_laws.specs.Causes.{bytes_of, scale_of, product_of};
-ghost use Rattle.tib_run_laws.specs.Steps.{EndsRun, LeavesFiles, files_seen};
-ghost use Rattle.tib_classes.specs.Outside.{AllMeet};
+ghost use Rattle.tib_job_files.specs.Kinds.{AreTexts, of_grammar, of_transducer};
+ghost use Rattle.tib_job_files.specs.Causes.{bytes_of, scale_of, product_of};
+ghost use Rattle.tib_job_files.specs.Steps.{EndsRun, LeavesFiles, files_seen};
+ghost use Rattle.tib_transducer.specs.Outside.{AllMeet};
 ghost use Rattle.tib_grammar_file.specs.Printable.{ArePrintable};
 ghost use Rattle.tib_operations.specs.Moves.{ArePlainMoves};
 ghost use Rattle.tib_operations.specs.Backward.{linear_nondeleting};

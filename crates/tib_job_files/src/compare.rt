@@ -1,9 +1,9 @@
 // The files of `compare`: two grammars, of which only their trees count. They are read in Boolean, whatever the mode.
 ghost use Rattle.std.specs.Prelude.{[], ◌∷◌, ◌≡◌, Some, length, IfErr, IfOk};
 ghost use Rattle.tib_command.specs.Jobs.{meaning};
-ghost use Rattle.tib_run_laws.specs.Kinds.{AreTexts, of_support};
-ghost use Rattle.tib_run_laws.specs.Causes.{bytes_of, scale_of};
-ghost use Rattle.tib_run_laws.specs.Steps.{EndsRun, LeavesFiles, files_seen};
+ghost use Rattle.tib_job_files.specs.Kinds.{AreTexts, of_support};
+ghost use Rattle.tib_job_files.specs.Causes.{bytes_of, scale_of};
+ghost use Rattle.tib_job_files.specs.Steps.{EndsRun, LeavesFiles, files_seen};
 ghost use Rattle.tib_cost.specs.declared.Scale.TheVariants.{Unweighted};
 ghost use Rattle.tib_grammar_file.specs.Printable.{ArePrintable};
 

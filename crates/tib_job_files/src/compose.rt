@@ -1,11 +1,11 @@
 // The files of `compose`: two transducers.
 ghost use Rattle.std.specs.Prelude.{[], ◌∷◌, ◌≡◌, Some, length, IfErr, IfOk};
 ghost use Rattle.tib_command.specs.Jobs.{meaning};
-ghost use Rattle.tib_run_laws.specs.Kinds.{AreTexts, of_transducer};
-ghost use Rattle.tib_run_laws.specs.Causes.{bytes_of, scale_of, product_of};
-ghost use Rattle.tib_run_laws.specs.Steps.{EndsRun, LeavesFiles, files_seen};
-ghost use Rattle.tib_classes.specs.Outside.{AllMeet};
-ghost use Rattle.tib_canon_transducer.specs.Keys.{AreMovesOver};
+ghost use Rattle.tib_job_files.specs.Kinds.{AreTexts, of_transducer};
+ghost use Rattle.tib_job_files.specs.Causes.{bytes_of, scale_of, product_of};
+ghost use Rattle.tib_job_files.specs.Steps.{EndsRun, LeavesFiles, files_seen};
+ghost use Rattle.tib_transducer.specs.Outside.{AllMeet};
+ghost use Rattle.tib_canon.specs.TransducerKeys.{AreMovesOver};
 ghost use Rattle.tib_operations.specs.Compose.{plain};
 
 use crate::files::value_in;

@@ -1,9 +1,9 @@
 // The file of `determinize`: a grammar.
 ghost use Rattle.std.specs.Prelude.{[], ◌∷◌, ◌≡◌, Some, length, IfErr, IfOk};
 ghost use Rattle.tib_command.specs.Jobs.{meaning};
-ghost use Rattle.tib_run_laws.specs.Kinds.{AreTexts, of_grammar};
-ghost use Rattle.tib_run_laws.specs.Causes.{bytes_of, scale_of};
-ghost use Rattle.tib_run_laws.specs.Steps.{EndsRun, LeavesFiles, files_seen};
+ghost use Rattle.tib_job_files.specs.Kinds.{AreTexts, of_grammar};
+ghost use Rattle.tib_job_files.specs.Causes.{bytes_of, scale_of};
+ghost use Rattle.tib_job_files.specs.Steps.{EndsRun, LeavesFiles, files_seen};
 ghost use Rattle.tib_grammar_file.specs.Printable.{ArePrintable};
 
 use crate::files::value_in;

@@ -3,9 +3,9 @@ ghost use Rattle.std.specs.Prelude.{◌≡◌, ◌≤◌, ◌<◌, ◌+◌, ◌-
 ghost use Rattle.tib_cost.specs.declared.Scale.{Scale};
 ghost use Rattle.tib_io.specs.Reads.{most_bytes};
 ghost use Rattle.tib_command.specs.Jobs.{meaning};
-ghost use Rattle.tib_run_laws.specs.Kinds.{Kind, IsReadError, OfFile, Told, file_at, kind_at};
-ghost use Rattle.tib_run_laws.specs.Causes.{scale_of};
-ghost use Rattle.tib_run_laws.specs.Steps.{LeavesFiles, StopsAtFile, files_seen};
+ghost use Rattle.tib_job_files.specs.Kinds.{Kind, IsReadError, OfFile, Told, file_at, kind_at};
+ghost use Rattle.tib_job_files.specs.Causes.{scale_of};
+ghost use Rattle.tib_job_files.specs.Steps.{LeavesFiles, StopsAtFile, files_seen};
 ghost use Rattle.tib_operations.specs.FileTexts.{IsShort};
 ghost use Rattle.tib_tree.specs.Grows.{Grows};
 

@@ -1,10 +1,10 @@
 // The files of `parse`: a tree-to-string transducer and a string.
 ghost use Rattle.std.specs.Prelude.{[], ◌∷◌, ◌≡◌, Some, length, IfErr, IfOk};
 ghost use Rattle.tib_command.specs.Jobs.{meaning};
-ghost use Rattle.tib_run_laws.specs.Kinds.{AreTexts, of_string_transducer, of_string};
-ghost use Rattle.tib_run_laws.specs.Causes.{bytes_of, scale_of};
-ghost use Rattle.tib_run_laws.specs.Steps.{EndsRun, LeavesFiles, files_seen};
-ghost use Rattle.tib_parse_text.specs.Words.{ArePlainWords};
+ghost use Rattle.tib_job_files.specs.Kinds.{AreTexts, of_string_transducer, of_string};
+ghost use Rattle.tib_job_files.specs.Causes.{bytes_of, scale_of};
+ghost use Rattle.tib_job_files.specs.Steps.{EndsRun, LeavesFiles, files_seen};
+ghost use Rattle.tib_further_operations.specs.Words.{ArePlainWords};
 
 use crate::files::value_in;
 use std::alloc::Global;

@@ -5,12 +5,11 @@ use tib_cost::{Boolean, Semiring};
 use tib_grammar::Grammar;
 use tib_grammar_file::{read_grammar, read_grammars_are_printable};
 use tib_lex::ReadError;
-use tib_one_tree::read_one_tree;
 use tib_string_file::{read_string, read_string_transducer};
 use tib_strings::StringTransducer;
 use tib_transducer::Transducer;
 use tib_transducer_file::read_transducer;
-use tib_tree::{Label, Labels, Tree, read_trees};
+use tib_tree::{Label, Labels, Tree, read_one_tree, read_trees};
 
 /// A grammar of which only its trees count, read in Boolean whatever the mode of the job.
 #[derive(Drop)]
@@ -23,7 +22,7 @@ impl<S: Semiring> FileValue for Grammar<S> {
     ghost use Rattle.std.specs.Prelude.{◌≡◌};
     ghost use Rattle.tib_grammar_file.specs.Printable.{ArePrintable};
     ghost use Rattle.tib_operations.specs.FileTexts.{IsRead};
-    ghost use Rattle.tib_run_laws.specs.Kinds.{of_grammar};
+    ghost use Rattle.tib_job_files.specs.Kinds.{of_grammar};
 
     ghost kind = { of_grammar };
 
@@ -42,7 +41,7 @@ impl<S: Semiring> FileValue for Grammar<S> {
 impl FileValue for Support {
     ghost use Rattle.tib_cost.specs.declared.Scale.TheVariants.{Unweighted};
     ghost use Rattle.tib_grammar_file.specs.Printable.{ArePrintable};
-    ghost use Rattle.tib_run_laws.specs.Kinds.{of_support, IsSupportRead};
+    ghost use Rattle.tib_job_files.specs.Kinds.{of_support, IsSupportRead};
 
     ghost kind = { of_support };
 
@@ -66,7 +65,7 @@ impl FileValue for Vec<Tree> {
     ghost use Rattle.tib_tree.specs.Grows.{AreDistinct};
     ghost use Rattle.tib_tree.specs.Growth.{HasLabels};
     ghost use Rattle.tib_operations.specs.FileTexts.{ListsTrees};
-    ghost use Rattle.tib_run_laws.specs.Kinds.{of_trees};
+    ghost use Rattle.tib_job_files.specs.Kinds.{of_trees};
 
     ghost kind = { of_trees };
 
@@ -90,7 +89,7 @@ impl FileValue for Vec<Tree> {
 impl FileValue for Tree {
     ghost use Rattle.std.specs.Prelude.{[], ◌∷◌};
     ghost use Rattle.tib_operations.specs.FileTexts.{ListsTrees};
-    ghost use Rattle.tib_run_laws.specs.Kinds.{of_one_tree};
+    ghost use Rattle.tib_job_files.specs.Kinds.{of_one_tree};
 
     ghost kind = { of_one_tree };
 
@@ -107,10 +106,10 @@ impl FileValue for Tree {
 
 impl<S: Semiring> FileValue for Transducer<S> {
     ghost use Rattle.std.specs.Prelude.{◌≡◌, length};
-    ghost use Rattle.tib_canon_transducer.specs.Keys.{AreMovesOver};
+    ghost use Rattle.tib_canon.specs.TransducerKeys.{AreMovesOver};
     ghost use Rattle.tib_operations.specs.FileTexts.{IsTransducerRead};
     ghost use Rattle.tib_operations.specs.Moves.{ArePlainMoves};
-    ghost use Rattle.tib_run_laws.specs.Kinds.{of_transducer};
+    ghost use Rattle.tib_job_files.specs.Kinds.{of_transducer};
 
     ghost kind = { of_transducer };
 
@@ -128,8 +127,8 @@ impl<S: Semiring> FileValue for Transducer<S> {
 
 impl<S: Semiring> FileValue for StringTransducer<S> {
     ghost use Rattle.std.specs.Prelude.{◌≡◌};
-    ghost use Rattle.tib_parse_text.specs.Words.{ArePlainWords};
-    ghost use Rattle.tib_run_laws.specs.Kinds.{of_string_transducer, IsStringTransducerRead};
+    ghost use Rattle.tib_further_operations.specs.Words.{ArePlainWords};
+    ghost use Rattle.tib_job_files.specs.Kinds.{of_string_transducer, IsStringTransducerRead};
 
     ghost kind = { of_string_transducer };
 
@@ -146,7 +145,7 @@ impl<S: Semiring> FileValue for StringTransducer<S> {
 
 // The words of a string.
 impl FileValue for Vec<Label> {
-    ghost use Rattle.tib_run_laws.specs.Kinds.{of_string, IsStringRead};
+    ghost use Rattle.tib_job_files.specs.Kinds.{of_string, IsStringRead};
 
     ghost kind = { of_string };
 

@@ -1,9 +1,9 @@
 // `backward`: the canonical grammar of the trees that a transducer turns into those of a grammar, at the least products of costs.
 ghost use Rattle.std.specs.Prelude.{◌≡◌, ◌≤◌, Some, length, IfErr, IfOk};
 ghost use Rattle.tib_command.specs.Jobs.{meaning};
-ghost use Rattle.tib_run_laws.specs.Answers.{IsAnswer};
-ghost use Rattle.tib_run_laws.specs.Causes.{scale_of, product_of};
-ghost use Rattle.tib_run_laws.specs.Steps.{EndsRun, LeavesFiles, files_seen};
+ghost use Rattle.tib_job_files.specs.Answers.{IsAnswer};
+ghost use Rattle.tib_job_files.specs.Causes.{scale_of, product_of};
+ghost use Rattle.tib_job_files.specs.Steps.{EndsRun, LeavesFiles, files_seen};
 ghost use Rattle.tib_operations.specs.Made.{IsLimit};
 
 use std::alloc::Global;

@@ -2,15 +2,15 @@
 // in Boolean, whatever the mode.
 ghost use Rattle.std.specs.Prelude.{◌≡◌, ◌≤◌, Some, length, IfErr, IfOk};
 ghost use Rattle.tib_command.specs.Jobs.{meaning};
-ghost use Rattle.tib_run_laws.specs.Answers.{IsAnswer};
-ghost use Rattle.tib_run_laws.specs.Steps.{EndsRun, LeavesFiles, files_seen};
+ghost use Rattle.tib_job_files.specs.Answers.{IsAnswer};
+ghost use Rattle.tib_job_files.specs.Steps.{EndsRun, LeavesFiles, files_seen};
 ghost use Rattle.tib_operations.specs.Made.{IsLimit};
 
 use std::alloc::Global;
 use std::sync::Wait;
 use std::thread::Threads;
 use tib_command::{Job, Operation};
-use tib_compare_text::{comparison_of, comparison_of_together};
+use tib_further_operations::{comparison_of, comparison_of_together};
 use tib_hunt::Gate;
 use tib_io::{Files, GrowingSink};
 use tib_job_files::compare::supports_of;

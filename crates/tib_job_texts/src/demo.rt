@@ -1,9 +1,9 @@
 // `demo`: how large the determinization of a grammar is that is made for a number, and its cheapest tree.
 ghost use Rattle.std.specs.Prelude.{◌≡◌, ◌≤◌, ℕ, List, Option, Some, IfErr, IfOk};
 ghost use Rattle.tib_command.specs.Jobs.{meaning, most_demo};
-ghost use Rattle.tib_run_laws.specs.Answers.{IsAnswer};
-ghost use Rattle.tib_run_laws.specs.Causes.{levelled_of, scale_of, product_of};
-ghost use Rattle.tib_run_laws.specs.Steps.{EndsRun, FilesSeen};
+ghost use Rattle.tib_job_files.specs.Answers.{IsAnswer};
+ghost use Rattle.tib_job_files.specs.Causes.{levelled_of, scale_of, product_of};
+ghost use Rattle.tib_job_files.specs.Steps.{EndsRun, FilesSeen};
 ghost use Rattle.tib_operations.specs.Made.{IsLimit};
 
 use std::alloc::Global;

@@ -1,9 +1,9 @@
 // `inside`: each state of a grammar with its inside cost.
 ghost use Rattle.std.specs.Prelude.{◌≡◌, Some, length, IfErr, IfOk};
 ghost use Rattle.tib_command.specs.Jobs.{meaning};
-ghost use Rattle.tib_run_laws.specs.Answers.{IsAnswer};
-ghost use Rattle.tib_run_laws.specs.Causes.{scale_of, product_of};
-ghost use Rattle.tib_run_laws.specs.Steps.{EndsRun, LeavesFiles, files_seen};
+ghost use Rattle.tib_job_files.specs.Answers.{IsAnswer};
+ghost use Rattle.tib_job_files.specs.Causes.{scale_of, product_of};
+ghost use Rattle.tib_job_files.specs.Steps.{EndsRun, LeavesFiles, files_seen};
 
 use std::alloc::Global;
 use tib_command::{Job, Operation};

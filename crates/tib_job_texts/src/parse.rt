@@ -1,9 +1,9 @@
 // `parse`: the canonical grammar of all trees that a tree-to-string transducer turns into the string of a file.
 ghost use Rattle.std.specs.Prelude.{◌≡◌, ◌≤◌, Some, length, IfErr, IfOk};
 ghost use Rattle.tib_command.specs.Jobs.{meaning};
-ghost use Rattle.tib_run_laws.specs.Answers.{IsAnswer};
-ghost use Rattle.tib_run_laws.specs.Causes.{scale_of, product_of};
-ghost use Rattle.tib_run_laws.specs.Steps.{EndsRun, LeavesFiles, files_seen};
+ghost use Rattle.tib_job_files.specs.Answers.{IsAnswer};
+ghost use Rattle.tib_job_files.specs.Causes.{scale_of, product_of};
+ghost use Rattle.tib_job_files.specs.Steps.{EndsRun, LeavesFiles, files_seen};
 ghost use Rattle.tib_operations.specs.Made.{IsLimit};
 
 use std::alloc::Global;
@@ -11,11 +11,11 @@ use std::sync::Wait;
 use std::thread::Threads;
 use tib_command::{Job, Operation};
 use tib_cost::Semiring;
+use tib_further_operations::{parse_of, parse_of_together};
 use tib_hunt::Gate;
 use tib_io::{Files, GrowingSink};
 use tib_job_files::parse::inputs_of;
 use tib_operations::Status;
-use tib_parse_text::{parse_of, parse_of_together};
 
 /// The whole text of a job that asks for the trees that a transducer turns into a string, or the status with which the run ends.
 pub(crate) fn parse_files<S: Semiring + Drop, F: Files, G: Gate>(

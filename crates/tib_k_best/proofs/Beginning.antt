@@ -7,9 +7,9 @@ use Rattle.tib_lex.proofs.Lists.{append_nil}
 use Rattle.tib_cost.specs.Semiring.{most}
 use Rattle.tib_tree.specs.Trees.{Tree, size}
 use Rattle.tib_grammar.specs.Run.{rule_at}
-use Rattle.tib_heap.specs.Heaps.{IsHeap, Adds}
-use Rattle.tib_k_best_laws.specs.Levels.{states_of}
-use Rattle.tib_k_best_laws.specs.Pass.{AreRanks, zeros, offer}
+use Rattle.tib_shared_trees.specs.Heaps.{IsHeap, Adds}
+use Rattle.tib_k_best_lists.specs.Levels.{states_of}
+use Rattle.tib_k_best_lists.specs.Pass.{AreRanks, zeros, offer}
 use Rattle.tib_k_best_lists.specs.ListsOf.{ListsOf}
 use Rattle.tib_k_best_lists.specs.Held.{list_of, entry_at, told, entries_of, candidate_at, no_candidate, ranks_of, ranks_from, tree_by, stands_for, offers_cmp, grown, with_ranks, with_candidate, AreMore, IsSound, IsTuple, IsCandidate, IsPriced, IsKnownBy, Makes}
 use Rattle.tib_k_best_lists.specs.declared.lists.Entry.{Entry}

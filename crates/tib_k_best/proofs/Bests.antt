@@ -10,9 +10,9 @@ use Rattle.tib_grammar.specs.Run.{rule_at}
 use Rattle.tib_grammar.specs.declared.Rule.{Rule}
 use Rattle.tib_grammar_file.specs.Printed.{AreLabelled}
 use Rattle.tib_shared_trees.specs.Ranked.{AreRanksOf}
-use Rattle.tib_k_best_laws.specs.Best.{Costed, HasLarge, IsKBest}
-use Rattle.tib_k_best_laws.specs.Levels.{IsOrderly}
-use Rattle.tib_k_best_laws.proofs.Going.{grow}
+use Rattle.tib_k_best_lists.specs.Best.{Costed, HasLarge, IsKBest}
+use Rattle.tib_k_best_lists.specs.Levels.{IsOrderly}
+use Rattle.tib_k_best_lists.proofs.Going.{grow}
 use Rattle.tib_k_best_lists.specs.ListsOf.{ListsOf}
 use Rattle.tib_k_best_lists.specs.Held.{empty_lists, entries_of, list_of, told, IsSound}
 use Rattle.tib_k_best_lists.specs.declared.lists.Entry.{Entry}

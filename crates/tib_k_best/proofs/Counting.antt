@@ -5,7 +5,7 @@ use Rattle.std.proofs.lemmas.List.{length-map}
 use Rattle.std.proofs.lemmas.List.Sums.{sum_by-cons, sum_by_more, sum_by-take-le}
 use Rattle.tib_tree.specs.Trees.{Tree}
 use Rattle.tib_grammar.specs.declared.Rule.{Rule}
-use Rattle.tib_k_best_laws.specs.Best.{Costed, IsFrontAt, IsKBest}
+use Rattle.tib_k_best_lists.specs.Best.{Costed, IsFrontAt, IsKBest}
 use Rattle.tib_k_best_lists.specs.ListsOf.{ListsOf}
 use Rattle.tib_k_best_lists.specs.Held.{empty_lists, entries_of, list_of, told, IsSound}
 use Rattle.tib_k_best_lists.specs.declared.lists.Entry.{Entry}

@@ -8,17 +8,17 @@ use Rattle.tib_lex.specs.Lists.{Has}
 use Rattle.tib_lex.proofs.Members.{at_has, has_at}
 use Rattle.tib_cost.specs.Semiring.{most, ProductLaws}
 use Rattle.tib_tree.specs.Trees.{only}
-use Rattle.tib_tree_order.proofs.Orderings.{nat_less}
+use Rattle.tib_tree.proofs.Orderings.{nat_less}
 use Rattle.tib_grammar.specs.Forms.{AreNormal, IsNormalSide}
 use Rattle.tib_grammar.specs.Range.{AreInRange, IsInRange}
 use Rattle.tib_grammar.specs.Run.{rule_at}
 use Rattle.tib_grammar.specs.declared.Rule.{Rule}
 use Rattle.tib_grammar_file.specs.Printed.{AreLabelled, LabelsBelow}
-use Rattle.tib_k_best_laws.specs.Best.{Costed, IsKBest, IsTreeAt}
-use Rattle.tib_k_best_laws.specs.Levels.{free, level, IsLevel, IsOrderly}
-use Rattle.tib_k_best_laws.specs.Leveling.{AreAdded, AreBelow}
-use Rattle.tib_k_best_laws.proofs.Going.{grow}
-use Rattle.tib_k_best_laws.proofs.Leveling.{levels_list_best}
+use Rattle.tib_k_best_lists.specs.Best.{Costed, IsKBest, IsTreeAt}
+use Rattle.tib_k_best_lists.specs.Levels.{free, level, IsLevel, IsOrderly}
+use Rattle.tib_k_best_lists.specs.Leveling.{AreAdded, AreBelow}
+use Rattle.tib_k_best_lists.proofs.Going.{grow}
+use Rattle.tib_k_best_lists.proofs.Leveling.{levels_list_best}
 use Rattle.tib_k_best_lists.proofs.Children.{get_or-default}
 use Rattle.tib_k_best.specs.Causes.{IsCause, IsLevelCause}
 use Rattle.tib_k_best.specs.Costs.{at_cost, AreCosts, IsBestOf, IsSearched}

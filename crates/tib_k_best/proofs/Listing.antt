@@ -3,8 +3,8 @@ use Rattle.std.specs.Prelude.{◌≡◌, ◌<◌, ◌≤◌, ℕ, List, [], ◌�
 use Rattle.std.proofs.Common.{zero, suc, arith, ap, sym, ◌∙◌, subst, get_or}
 use Rattle.std.proofs.lemmas.List.{length-map}
 use Rattle.tib_tree.specs.Trees.{Tree, most_nodes, size}
-use Rattle.tib_k_best_laws.specs.Best.{Costed}
-use Rattle.tib_k_best_laws.specs.Pass as pass
+use Rattle.tib_k_best_lists.specs.Best.{Costed}
+use Rattle.tib_k_best_lists.specs.Pass as pass
 use Rattle.tib_k_best_lists.specs.ListsOf.{ListsOf}
 use Rattle.tib_k_best_lists.specs.Held.{list_of, no_entry, told, IsSound}
 use Rattle.tib_k_best_lists.specs.Seen.{tree_at}

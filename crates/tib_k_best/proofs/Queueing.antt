@@ -6,7 +6,7 @@ use Rattle.std.proofs.lemmas.List.{get_or-set_same, get_or-set_other}
 use Rattle.std.proofs.lemmas.List.Sums.{sum_by-set}
 use Rattle.tib_lex.specs.Lists.{Has}
 use Rattle.tib_grammar.specs.Run.{rule_at}
-use Rattle.tib_k_best_laws.specs.Levels.{states_of}
+use Rattle.tib_k_best_lists.specs.Levels.{states_of}
 use Rattle.tib_k_best_lists.specs.ListsOf.{ListsOf}
 use Rattle.tib_k_best_lists.specs.Held.{list_of}
 use Rattle.tib_k_best_lists.specs.declared.lists.Entry.{Entry}

@@ -4,11 +4,11 @@ use Rattle.std.proofs.Common.{zero, suc, arith, ap, sym, ◌∙◌, subst, inl, 
 use Rattle.tib_lex.specs.Lists.{Has}
 use Rattle.tib_cost.specs.Semiring.{ProductLaws}
 use Rattle.tib_grammar.specs.declared.Rule.{Rule}
-use Rattle.tib_heap.specs.Heaps.{IsHeap, TakesFirst}
-use Rattle.tib_k_best_laws.specs.Best.{Cheaper, HasLarge, IsTreeAt}
-use Rattle.tib_k_best_laws.specs.First.{IsFront}
-use Rattle.tib_k_best_laws.specs.Levels.{IsOrderly}
-use Rattle.tib_k_best_laws.proofs.Firsts.{firsts_are_best}
+use Rattle.tib_shared_trees.specs.Heaps.{IsHeap, TakesFirst}
+use Rattle.tib_k_best_lists.specs.Best.{Cheaper, HasLarge, IsTreeAt}
+use Rattle.tib_k_best_lists.specs.First.{IsFront}
+use Rattle.tib_k_best_lists.specs.Levels.{IsOrderly}
+use Rattle.tib_k_best_lists.proofs.Firsts.{firsts_are_best}
 use Rattle.tib_k_best_lists.specs.ListsOf.{ListsOf}
 use Rattle.tib_k_best_lists.specs.Held.{empty_lists, entries_of, list_of, offers_cmp, stands_for, told, IsKnownBy, IsSound}
 use Rattle.tib_k_best_lists.specs.declared.lists.Entry.{Entry}

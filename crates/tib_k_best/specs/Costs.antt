@@ -4,8 +4,8 @@ use Rattle.std.proofs.Common.{get_or}
 use Rattle.tib_lex.specs.Lists.{Has}
 use Rattle.tib_cost.specs.Semiring.{most}
 use Rattle.tib_grammar.specs.declared.Rule.{Rule}
-use Rattle.tib_k_best_laws.specs.Best.{Costed, IsKBest, IsTreeAt}
-use Rattle.tib_k_best_laws.specs.Levels.{level}
+use Rattle.tib_k_best_lists.specs.Best.{Costed, IsKBest, IsTreeAt}
+use Rattle.tib_k_best_lists.specs.Levels.{level}
 use Rattle.tib_k_best_lists.specs.declared.lists.Entry.{Entry}
 
 -- the costs of all rules, ascending

@@ -2,7 +2,7 @@
 use Rattle.std.specs.Prelude.{◌≡◌, ℕ, ◌<◌, List, [], length, sum_by}
 use Rattle.std.proofs.Common.{get_or}
 use Rattle.tib_tree.specs.Trees.{Tree}
-use Rattle.tib_k_best_laws.specs.Best.{Costed}
+use Rattle.tib_k_best_lists.specs.Best.{Costed}
 use Rattle.tib_k_best_lists.specs.declared.lists.Entry.{Entry}
 use Rattle.tib_k_best.specs.Listing.{AreListed}
 

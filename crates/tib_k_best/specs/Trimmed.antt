@@ -5,8 +5,8 @@ use Rattle.tib_grammar.specs.Forms.{AreNormal}
 use Rattle.tib_grammar.specs.GrammarOf.{GrammarOf}
 use Rattle.tib_grammar.specs.declared.Rule.{Rule}
 use Rattle.tib_inside.specs.Trimmed.{HasSeriesOfEach, IsTrimmed}
-use Rattle.tib_k_best_laws.specs.Best.{Costed, IsTreeAt}
-use Rattle.tib_k_best_laws.specs.Levels.{states_at}
+use Rattle.tib_k_best_lists.specs.Best.{Costed, IsTreeAt}
+use Rattle.tib_k_best_lists.specs.Levels.{states_at}
 
 -- no state below a rule is without a tree
 abbrev pub HaveTreesBelow : (ℕ → ℕ → ℕ) → List (Rule ℕ) → Type 0

@@ -1,7 +1,7 @@
 // How a rule goes on when states below it get their first trees.
 ghost use Rattle.std.specs.Prelude.{◌≡◌, ℕ, ◌<◌, ◌≤◌, ◌+◌, ◌∷◌, [], List, length, OnOk};
 ghost use Rattle.tib_grammar.specs.Run.{rule_at};
-ghost use Rattle.tib_k_best_laws.specs.Levels.{states_of};
+ghost use Rattle.tib_k_best_lists.specs.Levels.{states_of};
 ghost use Rattle.tib_k_best_lists.specs.Held.{list_of, IsSound};
 ghost use Rattle.tib_k_best.specs.Queues.{left_over, HasTrees, IsNextMissing, IsQueue, IsReleased, StaysSame};
 ghost use Rattle.tib_k_best.specs.QueueOf.{waiting_at};
@@ -9,8 +9,8 @@ ghost use Rattle.tib_k_best.specs.QueueOf.{waiting_at};
 use crate::queue::{Queue, Waiting};
 use std::alloc::AllocError;
 use tib_cost::Semiring;
-use tib_heap::push;
 use tib_k_best_lists::Lists;
+use tib_shared_trees::push;
 
 // The first place from one on whose state has no tree; the number of the states where each has one.
 fn next_missing(lists: &Lists, rule: u32, from: usize) -> usize

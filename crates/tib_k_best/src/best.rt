@@ -5,8 +5,8 @@ ghost use Rattle.tib_grammar.specs.Range.{AreInRange};
 ghost use Rattle.tib_grammar.specs.Run.{rule_at};
 ghost use Rattle.tib_grammar_file.specs.Printed.{AreLabelled};
 ghost use Rattle.tib_shared_trees.specs.Ranked.{AreRanksOf};
-ghost use Rattle.tib_k_best_laws.specs.Best.{IsKBest};
-ghost use Rattle.tib_k_best_laws.specs.Levels.{IsOrderly};
+ghost use Rattle.tib_k_best_lists.specs.Best.{IsKBest};
+ghost use Rattle.tib_k_best_lists.specs.Levels.{IsOrderly};
 ghost use Rattle.tib_k_best.specs.Causes.{IsCause};
 ghost use Rattle.tib_k_best.specs.Trimmed.{HaveTreesBelow};
 

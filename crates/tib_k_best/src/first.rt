@@ -1,6 +1,6 @@
 // The first tree of each state.
 ghost use Rattle.std.specs.Prelude.{◌≡◌, ℕ, ◌+◌, ◌<◌, ◌^◌, [], length, IfErr, IfNone, IfSome, OnOk};
-ghost use Rattle.tib_k_best_laws.specs.Levels.{IsOrderly};
+ghost use Rattle.tib_k_best_lists.specs.Levels.{IsOrderly};
 ghost use Rattle.tib_k_best_lists.specs.Held.{empty_lists, list_of, IsSound};
 ghost use Rattle.tib_k_best.specs.Causes.{IsCause};
 ghost use Rattle.tib_asked_lists.specs.Firsts.{AreFirsts};
@@ -10,8 +10,8 @@ use crate::error::KBestError;
 use crate::queue::Queue;
 use std::alloc::{AllocError, Global};
 use tib_cost::Semiring;
-use tib_heap::pop;
 use tib_k_best_lists::Lists;
+use tib_shared_trees::pop;
 
 impl Queue {
     // Lets each rule wait for a state, or makes its first candidate, while no state has a tree.

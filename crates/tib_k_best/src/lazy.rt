@@ -6,8 +6,8 @@ ghost use Rattle.tib_grammar.specs.Range.{AreInRange};
 ghost use Rattle.tib_grammar.specs.Run.{rule_at};
 ghost use Rattle.tib_grammar_file.specs.Printed.{AreLabelled};
 ghost use Rattle.tib_shared_trees.specs.Ranked.{AreRanksOf};
-ghost use Rattle.tib_k_best_laws.specs.Best.{IsFrontAt, IsKBest};
-ghost use Rattle.tib_k_best_laws.specs.Levels.{IsOrderly};
+ghost use Rattle.tib_k_best_lists.specs.Best.{IsFrontAt, IsKBest};
+ghost use Rattle.tib_k_best_lists.specs.Levels.{IsOrderly};
 ghost use Rattle.tib_k_best_lists.specs.Held.{IsSound};
 ghost use Rattle.tib_asked_lists.specs.Demands.{entries_held, nodes_of};
 ghost use Rattle.tib_k_best.specs.Causes.{IsCause};
@@ -39,7 +39,7 @@ pub struct LazyList {
 impl Model for LazyList {
     ghost use Rattle.std.specs.Prelude.{List as ListFor, map};
     ghost use Rattle.std.specs.Coded.{coded_list};
-    ghost use Rattle.tib_k_best_laws.specs.Best.{Costed};
+    ghost use Rattle.tib_k_best_lists.specs.Best.{Costed};
     ghost use Rattle.tib_k_best_lists.specs.ListsOf.{items_of};
     ghost use Rattle.tib_k_best.specs.LazyLists.{IsCounted};
     ghost use Rattle.tib_k_best.specs.Listing.{costed, costed_code};

@@ -7,8 +7,8 @@ ghost use Rattle.tib_grammar.specs.Range.{AreInRange};
 ghost use Rattle.tib_grammar.specs.Sides.{holes};
 ghost use Rattle.tib_grammar_file.specs.Printed.{AreLabelled};
 ghost use Rattle.tib_shared_trees.specs.Ranked.{AreRanksOf};
-ghost use Rattle.tib_k_best_laws.specs.Best.{IsKBest};
-ghost use Rattle.tib_k_best_laws.specs.Levels.{free, level};
+ghost use Rattle.tib_k_best_lists.specs.Best.{IsKBest};
+ghost use Rattle.tib_k_best_lists.specs.Levels.{free, level};
 ghost use Rattle.tib_k_best.specs.Causes.{IsCause, IsLevelCause};
 ghost use Rattle.tib_k_best.specs.Costs.{AreCosts};
 

@@ -2,7 +2,7 @@
 ghost use Rattle.std.specs.Prelude.{◌≡◌, ℕ, ◌<◌, ◌≤◌, [], length, map, IfOk};
 ghost use Rattle.std.proofs.Common.{get_or};
 ghost use Rattle.tib_tree.specs.Trees.{most_nodes, size};
-ghost use Rattle.tib_k_best_laws.specs.Pass.{no_entry};
+ghost use Rattle.tib_k_best_lists.specs.Pass.{no_entry};
 ghost use Rattle.tib_k_best_lists.specs.Held.{entries_of, IsSound};
 ghost use Rattle.tib_k_best.specs.Costs.{at_cost, entry_at_cost};
 ghost use Rattle.tib_k_best.specs.Listing.{costed, AreListed};
@@ -22,7 +22,7 @@ pub struct List {
 
 impl Model for List {
     ghost use Rattle.std.specs.Prelude.{List as ListFor};
-    ghost use Rattle.tib_k_best_laws.specs.Best.{Costed};
+    ghost use Rattle.tib_k_best_lists.specs.Best.{Costed};
     ghost use Rattle.tib_k_best.specs.Listing.{costed, costed_code, AreListed};
 
     ghost Value = { ListFor Costed };

@@ -1,6 +1,6 @@
 // First trees, state by state, the least candidate first (Knuth 1977).
 ghost use Rattle.std.specs.Prelude.{◌≡◌, ◌<◌, ◌≤◌, length, OnOk, IfErr};
-ghost use Rattle.tib_k_best_laws.specs.Levels.{IsOrderly};
+ghost use Rattle.tib_k_best_lists.specs.Levels.{IsOrderly};
 ghost use Rattle.tib_k_best_lists.specs.Held.{candidate_at, IsCandidate, IsSound};
 ghost use Rattle.tib_k_best.specs.Causes.{IsCause};
 ghost use Rattle.tib_k_best.specs.Queues.{left_over, IsListed, IsSettled, IsTaken};

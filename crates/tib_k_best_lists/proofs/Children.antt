@@ -12,9 +12,9 @@ use Rattle.tib_grammar.specs.Sides.{Symbol, label, hole, holes, holes_of, AreHol
 use Rattle.tib_grammar.specs.declared.Item.{Item}
 use Rattle.tib_grammar.specs.declared.Item.TheVariants.{Label}
 use Rattle.tib_grammar.specs.declared.Rule.{Rule}
-use Rattle.tib_k_best_laws.specs.Levels.{states_of}
-use Rattle.tib_k_best_laws.specs.Pass.{AreRanks}
-use Rattle.tib_k_best_laws.specs.Pass as pass
+use Rattle.tib_k_best_lists.specs.Levels.{states_of}
+use Rattle.tib_k_best_lists.specs.Pass.{AreRanks}
+use Rattle.tib_k_best_lists.specs.Pass as pass
 use Rattle.tib_k_best_lists.specs.ListsOf.{ListsOf}
 use Rattle.tib_k_best_lists.specs.Held.{no_entry, list_of, entry_at, entries_of, told, ranks_from, IsSound, IsTuple}
 use Rattle.tib_k_best_lists.proofs.Offering.{ranks_long, rank_at}

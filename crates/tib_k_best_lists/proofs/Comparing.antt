@@ -12,14 +12,14 @@ use Rattle.tib_lex.proofs.Numbers.{nat_three}
 use Rattle.tib_tree.specs.Trees.{Tree, Trees, none, tree, count, sizes, size, relabel}
 use Rattle.tib_tree.specs.Growth.{text_at}
 use Rattle.tib_tree.proofs.Counts.{count-relabel, sizes-relabel}
-use Rattle.tib_tree_order.specs.Order.{tree_cmp_by}
+use Rattle.tib_tree.specs.Order.{tree_cmp_by}
 use Rattle.tib_grammar.specs.Run.{rule_at}
 use Rattle.tib_grammar.specs.Sides.{Symbol, label, hole}
 use Rattle.tib_grammar.specs.declared.Rule.{Rule}
 use Rattle.tib_grammar_file.specs.Printed.{LabelsBelow}
-use Rattle.tib_k_best_laws.specs.Levels.{root_of, states_of, trees_of}
-use Rattle.tib_k_best_laws.specs.Pass.{Entries, AreRanks, picked, entry_at}
-use Rattle.tib_tree_order.proofs.Orderings.{nat_less, then_assoc}
+use Rattle.tib_k_best_lists.specs.Levels.{root_of, states_of, trees_of}
+use Rattle.tib_k_best_lists.specs.Pass.{Entries, AreRanks, picked, entry_at}
+use Rattle.tib_tree.proofs.Orderings.{nat_less, then_assoc}
 use Rattle.tib_k_best_lists.specs.ListsOf.{ListsOf}
 use Rattle.tib_k_best_lists.specs.Held.{IsSound}
 use Rattle.tib_k_best_lists.specs.Ordered.{roots_cmp, kids_cmp}

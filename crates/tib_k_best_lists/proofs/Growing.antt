@@ -6,10 +6,10 @@ use Rattle.tib_tree.specs.Trees.{Tree, size}
 use Rattle.tib_grammar.specs.Run.{rule_at}
 use Rattle.std.specs.declared.cmp.Ordering.{Ordering}
 use Rattle.std.specs.Ordering.{is_gt}
-use Rattle.tib_heap.specs.Heaps.{IsHeap, at, up}
-use Rattle.tib_k_best_laws.specs.Levels.{states_of, made}
-use Rattle.tib_k_best_laws.specs.Pass.{Entries, AreRanks, picked, offer, no_entry}
-use Rattle.tib_k_best_laws.proofs.Keeping.{get_or-front}
+use Rattle.tib_shared_trees.specs.Heaps.{IsHeap, at, up}
+use Rattle.tib_k_best_lists.specs.Levels.{states_of, made}
+use Rattle.tib_k_best_lists.specs.Pass.{Entries, AreRanks, picked, offer, no_entry}
+use Rattle.tib_k_best_lists.proofs.Keeping.{get_or-front}
 use Rattle.tib_k_best_lists.specs.ListsOf.{ListsOf}
 use Rattle.tib_k_best_lists.specs.Seen.{tree_at}
 use Rattle.tib_k_best_lists.specs.Held as held

@@ -4,9 +4,9 @@ use Rattle.std.proofs.Common.{zero, suc, arith, ap, sym, ◌∙◌, subst, inl, 
 use Rattle.tib_lex.specs.Lists.{Has}
 use Rattle.tib_tree.specs.Trees.{Tree, Trees, tree}
 use Rattle.tib_shared_trees.specs.Numbers.{NumbersBelow}
-use Rattle.tib_k_best_laws.specs.Levels.{trees_of}
-use Rattle.tib_k_best_laws.specs.Pass.{Entries, AreRanks, picked, zeros, entry_at}
-use Rattle.tib_k_best_laws.proofs.Keeping.{get_or-front}
+use Rattle.tib_k_best_lists.specs.Levels.{trees_of}
+use Rattle.tib_k_best_lists.specs.Pass.{Entries, AreRanks, picked, zeros, entry_at}
+use Rattle.tib_k_best_lists.proofs.Keeping.{get_or-front}
 use Rattle.std.specs.Global.{Vec}
 use Rattle.std.proofs.Math.ListN.{set}
 use Rattle.std.proofs.lemmas.List.{map-set}

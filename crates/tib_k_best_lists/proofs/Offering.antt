@@ -5,8 +5,8 @@ use Rattle.tib_tree.specs.Trees.{size, sizes}
 use Rattle.tib_cost.specs.Semiring.{most, cut, ProductLaws}
 use Rattle.tib_cost.proofs.Times.{cut-above}
 use Rattle.tib_cost.proofs.Least.{cut-cases}
-use Rattle.tib_k_best_laws.specs.Levels.{trees_of, total}
-use Rattle.tib_k_best_laws.specs.Pass.{Entries, entry_at, picked, AreRanks}
+use Rattle.tib_k_best_lists.specs.Levels.{trees_of, total}
+use Rattle.tib_k_best_lists.specs.Pass.{Entries, entry_at, picked, AreRanks}
 
 pub ranks_long : (entries : Entries) (qs js : List ℕ) → AreRanks entries qs js → length js ≡ length qs
 ranks_long entries [] [] r = refl

@@ -5,9 +5,9 @@ use Rattle.tib_lex.specs.Lists.{Has}
 use Rattle.tib_tree.specs.Trees.{Tree, Trees, none, tree, only}
 use Rattle.tib_tree.specs.Growth.{LabelsBelow}
 use Rattle.tib_tree.specs.Grows.{Adds, AreDistinct}
-use Rattle.tib_tree_order.proofs.TreeOrder.{only_same}
+use Rattle.tib_tree.proofs.TreeOrder.{only_same}
 use Rattle.tib_shared_trees.specs.Numbers.{AreNamed, IsNamed, NumbersBelow, RootsBelow, NumbersNameTrees, label_of, children_of}
-use Rattle.tib_k_best_laws.proofs.Keeping.{get_or-front}
+use Rattle.tib_k_best_lists.proofs.Keeping.{get_or-front}
 use Rattle.tib_k_best_lists.specs.Seen.{no_tree, tree_at, row, shaped, seen_from, seen, AreShapes, AreStill, Inserts}
 
 pub last_at : {A : Type 0} (xs : List A) (y d : A) → get_or (xs ++ y ∷ []) (length xs) d ≡ y

@@ -5,7 +5,7 @@ use Rattle.std.proofs.Math.ListN.{set}
 use Rattle.std.specs.declared.cmp.Ordering.{Ordering}
 use Rattle.std.specs.Ordering.{nat_cmp, ordering_then}
 use Rattle.tib_cost.specs.Semiring.{most}
-use Rattle.tib_tree_order.specs.Order.{tree_cmp_by}
+use Rattle.tib_tree.specs.Order.{tree_cmp_by}
 use Rattle.tib_shared_trees.specs.Ranked.{AreRanksOf}
 use Rattle.tib_tree.specs.Trees.{Tree, only, size, most_nodes}
 use Rattle.tib_tree.specs.Growth.{LabelsBelow}
@@ -15,8 +15,8 @@ use Rattle.tib_grammar.specs.Range.{AreInRange}
 use Rattle.tib_grammar.specs.Run.{rule_at}
 use Rattle.tib_grammar.specs.declared.Rule.{Rule}
 use Rattle.tib_grammar_file.specs.Printed.{AreLabelled}
-use Rattle.tib_k_best_laws.specs.Levels.{root_of, trees_of, states_of}
-use Rattle.tib_k_best_laws.specs.Pass.{Entries, AreRanks, picked, offer}
+use Rattle.tib_k_best_lists.specs.Levels.{root_of, trees_of, states_of}
+use Rattle.tib_k_best_lists.specs.Pass.{Entries, AreRanks, picked, offer}
 use Rattle.tib_k_best_lists.specs.Seen.{tree_at, AreStill}
 use Rattle.tib_k_best_lists.specs.ListsOf.{ListsOf}
 use Rattle.tib_k_best_lists.specs.declared.lists.Entry.{Entry}

@@ -3,3 +3,12 @@ pub mod Seen
 pub mod ListsOf
 pub mod Held
 pub mod Ordered
+-- The definitions of lists of best trees, and what holds of them.
+pub mod First
+pub mod Best
+pub mod Levels
+pub mod Pass
+pub mod Firsts
+pub mod Lazy
+pub mod Walks
+pub mod Leveling

@@ -9,10 +9,10 @@ use Rattle.std.proofs.lemmas.Cmp.{nat_cmp_total, alike_right}
 use Rattle.std.proofs.Common.{ap, sym, ◌∙◌}
 use Rattle.tib_tree.specs.Trees.{Tree, Trees, count, relabel, size}
 use Rattle.tib_tree.specs.Growth.{text_at}
-use Rattle.tib_tree_order.specs.Order.{tree_cmp_by, trees_cmp}
-use Rattle.tib_tree_order.proofs.TreeOrder.{tree_total, then_reverse}
+use Rattle.tib_tree.specs.Order.{tree_cmp_by, trees_cmp}
+use Rattle.tib_tree.proofs.TreeOrder.{tree_total, then_reverse}
 use Rattle.tib_tree.specs.Trees.{relabel_tree}
-use Rattle.tib_tree_order.proofs.Orderings.{then_Equal}
+use Rattle.tib_tree.proofs.Orderings.{then_Equal}
 use Rattle.tib_k_best_lists.specs.ListsOf.{ListsOf}
 use Rattle.tib_k_best_lists.specs.Held.{offers_cmp, stands_for}
 

@@ -3,8 +3,8 @@ ghost use Rattle.std.specs.Prelude.{◌≡◌, ◌+◌, ◌<◌, ◌≤◌, ◌+
 ghost use Rattle.std.proofs.Common.{get_or};
 ghost use Rattle.tib_grammar.specs.Run.{rule_at};
 ghost use Rattle.tib_shared_trees.specs.Numbers.{NumbersBelow};
-ghost use Rattle.tib_k_best_laws.specs.Levels.{states_of};
-ghost use Rattle.tib_k_best_laws.specs.Pass.{zeros};
+ghost use Rattle.tib_k_best_lists.specs.Levels.{states_of};
+ghost use Rattle.tib_k_best_lists.specs.Pass.{zeros};
 ghost use Rattle.tib_k_best_lists.specs.Seen.{row};
 ghost use Rattle.tib_k_best_lists.specs.Held.{list_of, ranks_from, raise, tree_by, with_entry, with_ranks, HasNumber, IsLast, IsSound, IsTuple, Makes};
 

@@ -4,8 +4,8 @@ ghost use Rattle.std.proofs.Common.{get_or};
 ghost use Rattle.tib_cost.specs.Semiring.{cut};
 ghost use Rattle.tib_tree.specs.Trees.{size};
 ghost use Rattle.tib_grammar.specs.Run.{rule_at};
-ghost use Rattle.tib_k_best_laws.specs.Levels.{states_of};
-ghost use Rattle.tib_k_best_laws.specs.Pass.{offer, entry_at};
+ghost use Rattle.tib_k_best_lists.specs.Levels.{states_of};
+ghost use Rattle.tib_k_best_lists.specs.Pass.{offer, entry_at};
 ghost use Rattle.tib_k_best_lists.specs.Held.{entries_of, ranks_from, told, tree_by, IsSound, IsTuple};
 
 use crate::lists::{Entry, Lists};

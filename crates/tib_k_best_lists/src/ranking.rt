@@ -1,14 +1,14 @@
 // The order of candidates, by what they stand for.
 ghost use Rattle.std.specs.Prelude.{◌≡◌, ◌<◌, length};
 ghost use Rattle.tib_grammar.specs.Run.{rule_at};
-ghost use Rattle.tib_tree_order.specs.Order.{tree_cmp_by};
-ghost use Rattle.tib_k_best_laws.specs.Levels.{states_of};
+ghost use Rattle.tib_tree.specs.Order.{tree_cmp_by};
+ghost use Rattle.tib_k_best_lists.specs.Levels.{states_of};
 ghost use Rattle.tib_k_best_lists.specs.Held.{ranks_of, tree_by, IsSound, IsTuple, IsCandidate};
 ghost use Rattle.tib_k_best_lists.specs.Ordered.{kids_cmp, roots_cmp};
 
 use crate::lists::{Candidate, Lists};
 use std::cmp::Ordering;
-use tib_heap::Ranking;
+use tib_shared_trees::Ranking;
 
 impl<'a> Lists<'a> {
     // The order of the roots of two candidates' trees: by size, then by the label's place, then by

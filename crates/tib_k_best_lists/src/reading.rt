@@ -2,7 +2,7 @@
 ghost use Rattle.std.specs.Prelude.{◌≡◌, ℕ, ◌<◌, [], length, map, replicate, IfOk};
 ghost use Rattle.std.proofs.Common.{get_or};
 ghost use Rattle.tib_grammar.specs.Run.{rule_at};
-ghost use Rattle.tib_k_best_laws.specs.Levels.{states_of};
+ghost use Rattle.tib_k_best_lists.specs.Levels.{states_of};
 ghost use Rattle.tib_k_best_lists.specs.ListsOf.{items_of};
 ghost use Rattle.tib_k_best_lists.specs.Seen.{tree_at};
 ghost use Rattle.tib_k_best_lists.specs.Held.{candidate_at, empty_lists, list_of, ranks_from, IsSound, IsTuple};

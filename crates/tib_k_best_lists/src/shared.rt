@@ -3,7 +3,7 @@ ghost use Rattle.std.specs.Prelude.{◌≡◌, ℕ, ◌<◌, ◌≤◌, [], leng
 ghost use Rattle.tib_tree.specs.Trees.{most_nodes, only, size};
 ghost use Rattle.tib_tree.specs.Growth.{LabelsBelow};
 ghost use Rattle.tib_tree.specs.Grows.{AreDistinct};
-ghost use Rattle.tib_tree_order.specs.Order.{tree_cmp_by};
+ghost use Rattle.tib_tree.specs.Order.{tree_cmp_by};
 ghost use Rattle.tib_shared_trees.specs.Numbers.{NumbersBelow, told_size, most_size};
 ghost use Rattle.tib_shared_trees.specs.Ranked.{AreRanksOf};
 ghost use Rattle.tib_k_best_lists.specs.Seen.{Inserts, tree_at};

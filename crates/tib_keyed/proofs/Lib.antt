@@ -3,3 +3,10 @@ pub mod KeyOrders
 pub mod Ends
 pub mod Limits
 pub mod Pairs
+pub mod Kept
+pub mod Places
+pub mod MappedSides
+pub mod Reading
+pub mod Listed
+pub mod Added
+pub mod Settled

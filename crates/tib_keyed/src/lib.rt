@@ -1,10 +1,20 @@
-//! Operations whose edges depend on the key at a position alone, from one start: intersection, and the composition and
-//! application of transducers. What they have in common stands here once: their order begins with the start, has no key
-//! twice, and their edges are those of its keys; and pairs of states, the keys of intersection and of composition. It
-//! stands on `tib_hunt`.
+//! What operations over keys have in common. Where the edges depend on the key at a position alone, from one start, the order begins
+//! with the start, has no key twice, and its edges are those of its keys: intersection, and the composition and application of
+//! transducers. Pairs of states are the keys of intersection and of composition. Edges over places that borrow a side serve the
+//! operations whose keys lead to the sides of rules: forward application, the image of a tree, and parsing. An index gives the
+//! positions of the rules of a state, a label and a rank. It stands on `tib_grammar` and `tib_hunt`.
 #![tactic(auto)]
 
+mod buckets;
 pub mod laws;
+mod settling;
+mod shape_index;
+mod side_listing;
+mod side_rule;
 mod state_pair;
 
+pub use buckets::{Shape, ShapeIndex};
+pub use settling::settled_side;
+pub use side_listing::SideListing;
+pub use side_rule::SideRule;
 pub use state_pair::StatePair;

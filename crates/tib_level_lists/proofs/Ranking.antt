@@ -10,14 +10,14 @@ use Rattle.tib_lex.proofs.Numbers.{nat_eq_cases}
 use Rattle.tib_cost.specs.Semiring.{most, ProductLaws}
 use Rattle.tib_grammar.specs.Forms.{AreNormal}
 use Rattle.tib_grammar.specs.declared.Rule.{Rule}
-use Rattle.tib_tree_order.specs.Order.{tree_cmp_by}
+use Rattle.tib_tree.specs.Order.{tree_cmp_by}
 use Rattle.tib_inside.proofs.Chosen.{ascends_at}
-use Rattle.tib_k_best_laws.specs.Best.{Cheaper, Costed, IsFrontAt, IsKBest, IsTreeAt}
-use Rattle.tib_k_best_laws.specs.Levels.{level}
-use Rattle.tib_k_best_laws.specs.Leveling.{AreAdded, AreBelow}
-use Rattle.tib_k_best_laws.specs.Pass.{HasTree, no_entry}
-use Rattle.tib_k_best_laws.proofs.Going.{grow}
-use Rattle.tib_k_best_laws.proofs.Telling.{has_or, no_fewer}
+use Rattle.tib_k_best_lists.specs.Best.{Cheaper, Costed, IsFrontAt, IsKBest, IsTreeAt}
+use Rattle.tib_k_best_lists.specs.Levels.{level}
+use Rattle.tib_k_best_lists.specs.Leveling.{AreAdded, AreBelow}
+use Rattle.tib_k_best_lists.specs.Pass.{HasTree, no_entry}
+use Rattle.tib_k_best_lists.proofs.Going.{grow}
+use Rattle.tib_k_best_lists.proofs.Telling.{has_or, no_fewer}
 use Rattle.tib_level_lists.specs.RankedOf.{ranked_of, told_at, told_below, AreRanked}
 use Rattle.tib_level_lists.specs.Splits.{AreUnder, IsSplit, IsSplitAt, IsWhole}
 use Rattle.tib_level_lists.specs.Weights.{places_from, AreByCost, AreWeights, CostFirst, HaveCosts}

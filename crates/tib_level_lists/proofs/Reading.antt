@@ -4,8 +4,8 @@ use Rattle.std.proofs.Common.{arith, ap, sym, ◌∙◌, subst, inl, inr, get_or
 use Rattle.std.proofs.lemmas.List.{get_or_append_left, length-map}
 use Rattle.tib_lex.proofs.Lists.{append_nil}
 use Rattle.tib_tree.specs.Trees.{most_nodes, size}
-use Rattle.tib_k_best_laws.specs.Best.{Costed}
-use Rattle.tib_k_best_laws.specs.Pass.{no_entry}
+use Rattle.tib_k_best_lists.specs.Best.{Costed}
+use Rattle.tib_k_best_lists.specs.Pass.{no_entry}
 use Rattle.tib_k_best_lists.proofs.Children.{get_or-map}
 use Rattle.tib_level_lists.specs.RankedOf.{ranked_of, told_at, told_below, AreRanked}
 use Rattle.tib_level_lists.specs.Weights.{AreNumbered}

@@ -13,8 +13,8 @@ use Rattle.tib_grammar.specs.declared.Rule.{Rule}
 use Rattle.tib_grammar_file.specs.Printed.{AreLabelled, LabelsBelow}
 use Rattle.tib_inside.specs.Trimmed.{IsTrimmed}
 use Rattle.tib_inside.proofs.Keeping.{as_many, named_at}
-use Rattle.tib_k_best_laws.specs.Levels.{IsOrderly}
-use Rattle.tib_k_best_laws.specs.Best.{Costed, HasLarge, IsKBest, IsTreeAt}
+use Rattle.tib_k_best_lists.specs.Levels.{IsOrderly}
+use Rattle.tib_k_best_lists.specs.Best.{Costed, HasLarge, IsKBest, IsTreeAt}
 use Rattle.tib_k_best_lists.proofs.Children.{get_or-map}
 use Rattle.tib_k_best.specs.Causes.{IsCause}
 use Rattle.tib_k_best.specs.Trimmed.{HaveTreesBelow, TrimmedHasTrees}

@@ -5,10 +5,10 @@ use Rattle.std.proofs.Common.{suc, get_or}
 use Rattle.tib_lex.specs.Lists.{Each, Ascends}
 use Rattle.tib_cost.specs.Semiring.{most}
 use Rattle.tib_grammar.specs.declared.Rule.{Rule}
-use Rattle.tib_tree_order.specs.Order.{tree_cmp_by}
-use Rattle.tib_k_best_laws.specs.Best.{Costed, IsKBest, IsTreeAt}
-use Rattle.tib_k_best_laws.specs.Levels.{level}
-use Rattle.tib_k_best_laws.specs.Pass.{HasTree}
+use Rattle.tib_tree.specs.Order.{tree_cmp_by}
+use Rattle.tib_k_best_lists.specs.Best.{Costed, IsKBest, IsTreeAt}
+use Rattle.tib_k_best_lists.specs.Levels.{level}
+use Rattle.tib_k_best_lists.specs.Pass.{HasTree}
 
 -- exactly the trees that cost less than c, fewer than k, in the order of trees
 pub record AreUnder (product : ℕ → ℕ → ℕ) (labels : List (List ℕ)) (rules : List (Rule ℕ)) (c k : ℕ)

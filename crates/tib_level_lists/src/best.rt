@@ -2,7 +2,7 @@
 ghost use Rattle.std.specs.Prelude.{◌≡◌, ◌<◌, true, length, IfErr, IfOk};
 ghost use Rattle.tib_grammar_file.specs.Printed.{AreLabelled};
 ghost use Rattle.tib_grammar.specs.Forms.{AreNormal};
-ghost use Rattle.tib_k_best_laws.specs.Best.{IsKBest};
+ghost use Rattle.tib_k_best_lists.specs.Best.{IsKBest};
 ghost use Rattle.tib_k_best.specs.Causes.{IsLevelCause};
 ghost use Rattle.tib_level_lists.specs.Splits.{IsSplit};
 

@@ -8,8 +8,8 @@ ghost use Rattle.tib_grammar.specs.Series.{HaveSameSeries};
 ghost use Rattle.tib_grammar_file.specs.Printed.{AreLabelled};
 ghost use Rattle.tib_inside.specs.Trimmed.{AreTrimmed, HaveSeriesOfEach};
 ghost use Rattle.tib_shared_trees.specs.Ranked.{AreRanksOf};
-ghost use Rattle.tib_k_best_laws.specs.Best.{IsKBest};
-ghost use Rattle.tib_k_best_laws.specs.Levels.{level};
+ghost use Rattle.tib_k_best_lists.specs.Best.{IsKBest};
+ghost use Rattle.tib_k_best_lists.specs.Levels.{level};
 ghost use Rattle.tib_k_best.specs.Causes.{IsCause};
 ghost use Rattle.tib_level_lists.specs.Levels.{IsRenamed, IsTrimmedLevel, NamesBelow};
 

@@ -2,7 +2,7 @@
 ghost use Rattle.std.specs.Prelude.{◌≡◌, ℕ, ◌<◌, ◌≤◌, length, IfOk};
 ghost use Rattle.std.proofs.Common.{get_or};
 ghost use Rattle.tib_tree.specs.Trees.{most_nodes, size};
-ghost use Rattle.tib_k_best_laws.specs.Pass.{no_entry};
+ghost use Rattle.tib_k_best_lists.specs.Pass.{no_entry};
 ghost use Rattle.tib_level_lists.specs.RankedOf.{ranked_of, AreRanked};
 
 use crate::search::Split;
@@ -26,7 +26,7 @@ pub struct Ranked {
 
 impl Model for Ranked {
     ghost use Rattle.std.specs.Prelude.{List as ListFor};
-    ghost use Rattle.tib_k_best_laws.specs.Best.{Costed};
+    ghost use Rattle.tib_k_best_lists.specs.Best.{Costed};
     ghost use Rattle.tib_k_best.specs.Listing.{costed_code};
     ghost use Rattle.tib_level_lists.specs.RankedOf.{ranked_of, AreRanked};
 

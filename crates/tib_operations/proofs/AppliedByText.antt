@@ -23,7 +23,7 @@ use Rattle.tib_canon.proofs.EdgesByText.{key_with, edge_with, holes_kept}
 use Rattle.tib_canon.proofs.ReachedAlike.{AreProblemsAlike, reached_alike}
 use Rattle.tib_canon.proofs.SameRules.{same_rules}
 use Rattle.tib_canon.proofs.TrimmedByText.{grammar_with}
-use Rattle.tib_canon_transducer.proofs.Relabelled.{left_with}
+use Rattle.tib_canon.proofs.Relabelled.{left_with}
 use Rattle.tib_operations.specs.Made.{HasReachedFrom}
 use Rattle.tib_operations.specs.Forward.{forwarding}
 use Rattle.tib_operations.specs.Backward.{inverting}

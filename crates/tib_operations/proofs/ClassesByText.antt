@@ -7,9 +7,9 @@ use Rattle.tib_transducer.specs.Rules.{transducer_rule}
 use Rattle.tib_transducer.specs.Classes.{IsLinear, IsNondeleting, IsExtended, IsLabelled}
 use Rattle.tib_transducer.specs.declared.TransducerRule.{TransducerRule}
 use Rattle.tib_transducer_file.specs.ByText.{AreOneTransducerRule}
-use Rattle.tib_classes.specs.Outside.{Demands, Meets, AllMeet, IsFaultOf, IsFirstOutside}
-use Rattle.tib_classes.specs.declared.error.ClassFault.{ClassFault}
-use Rattle.tib_classes.specs.declared.error.ClassFault.TheVariants as classes
+use Rattle.tib_transducer.specs.Outside.{Demands, Meets, AllMeet, IsFaultOf, IsFirstOutside}
+use Rattle.tib_transducer.specs.declared.error.ClassFault.{ClassFault}
+use Rattle.tib_transducer.specs.declared.error.ClassFault.TheVariants as classes
 use Rattle.tib_operations.specs.Classes.{Demanded, nothing_demanded, demanded_of}
 use Rattle.tib_operations.proofs.OfCheck.{linear_to, linear_from, nondeleting_to, nondeleting_from, extended_to, extended_from, labelled_to, labelled_from, rules_long, rule_at}
 

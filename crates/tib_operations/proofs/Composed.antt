@@ -9,17 +9,17 @@ use Rattle.tib_transducer.specs.Range.{AreWithin}
 use Rattle.tib_transducer.specs.TransducerOf.{TransducerOf}
 use Rattle.tib_transducer.specs.declared.TransducerRule.{TransducerRule}
 use Rattle.tib_transducer_print.specs.Printed.{transducer_text}
-use Rattle.tib_classes.specs.Outside.{AllMeet}
+use Rattle.tib_transducer.specs.Outside.{AllMeet}
 use Rattle.tib_canon.proofs.ReachedOnce.{order_once}
 use Rattle.tib_compose_laws.specs.Plain.{ArePlain}
 use Rattle.tib_compose_laws.specs.Composition.{composition}
 use Rattle.tib_compose_laws.proofs.Exact.{composition_laws}
-use Rattle.tib_canon_transducer.specs.Composing.{composing, HasComposeText}
-use Rattle.tib_canon_transducer.specs.Constructions.{moves_over, IsCanonicalTransducerOf}
-use Rattle.tib_canon_transducer.specs.Keys.{IsCanonicalTransducer, AreMovesOver}
-use Rattle.tib_canon_transducer.proofs.Compose.{compose_plain, compose_series}
-use Rattle.tib_canon_transducer.proofs.Construct.{found_moves, found_stand}
-use Rattle.tib_canon_transducer.proofs.Texts.{transducer_read}
+use Rattle.tib_canon.specs.Composing.{composing, HasComposeText}
+use Rattle.tib_canon.specs.TransducerConstructions.{moves_over, IsCanonicalTransducerOf}
+use Rattle.tib_canon.specs.TransducerKeys.{IsCanonicalTransducer, AreMovesOver}
+use Rattle.tib_canon.proofs.Compose.{compose_plain, compose_series}
+use Rattle.tib_canon.proofs.TransducerConstruct.{found_moves, found_stand}
+use Rattle.tib_canon.proofs.TransducerTexts.{transducer_read}
 use Rattle.tib_operations.specs.Compose.{plain}
 
 pub are_plain : (rules : List (TransducerRule ℕ)) → AllMeet plain rules → ArePlain rules

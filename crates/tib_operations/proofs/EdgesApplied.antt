@@ -24,7 +24,7 @@ use Rattle.tib_apply.specs.Forward.{IsForwardEdge, deleted, forward_key, BeginsW
 use Rattle.tib_apply.specs.Backward.{IsBackwardEdge, backward_key}
 use Rattle.tib_canon.proofs.EdgesByText.{key_with, edge_with}
 use Rattle.tib_canon.proofs.NormalByText.{label_found}
-use Rattle.tib_canon_transducer.proofs.Relabelled.{variable_with, node_with, left_with}
+use Rattle.tib_canon.proofs.Relabelled.{variable_with, node_with, left_with}
 use Rattle.tib_operations.proofs.TransducerTables.{right_with, rule_with as move_with, holes_noted, variables_with}
 use Rattle.tib_operations.proofs.MovesByText.{moves_with, move_at, pairs_with, admits_to, admits_from, forward_side, backward_side}
 

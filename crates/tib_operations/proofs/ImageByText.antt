@@ -17,7 +17,7 @@ use Rattle.tib_image.specs.Image.{pair_key, image_of, IsImageEdge}
 use Rattle.tib_image.specs.Nodes.{subtrees, subtree, Match, variable_nodes, nodes_of}
 use Rattle.tib_canon.proofs.EdgesByText.{key_with, edge_with, holes_kept}
 use Rattle.tib_canon.proofs.ReachedAlike.{AreProblemsAlike, reached_alike}
-use Rattle.tib_canon_transducer.proofs.Relabelled.{left_with}
+use Rattle.tib_canon.proofs.Relabelled.{left_with}
 use Rattle.tib_operations.proofs.MovesByText.{moves_with, move_at}
 use Rattle.tib_operations.proofs.Tables.{sizes_kept}
 use Rattle.tib_operations.proofs.TransducerTables.{right_with, rule_with}

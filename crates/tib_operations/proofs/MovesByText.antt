@@ -19,7 +19,7 @@ use Rattle.tib_apply.specs.Restrictions.{with_label, labels_of, all_labels, with
 use Rattle.tib_apply.specs.Forward.{forward_key}
 use Rattle.tib_apply.specs.Backward.{states_at, backward_key}
 use Rattle.tib_canon.proofs.EdgesByText.{key_with}
-use Rattle.tib_canon_transducer.proofs.Relabelled.{variable_with, node_with, left_with, left_given, right_given}
+use Rattle.tib_canon.proofs.Relabelled.{variable_with, node_with, left_with, left_given, right_given}
 use Rattle.tib_operations.proofs.TransducerTables.{right_with, rule_with, holes_noted, variables_with}
 
 abbrev pub moves_with : (ℕ → ℕ) → List (TransducerRule ℕ) → List (TransducerRule ℕ)

@@ -12,7 +12,7 @@ use Rattle.tib_grammar_file.proofs.Renumbering.{renumbering}
 use Rattle.tib_transducer.specs.Range.{AreShaped}
 use Rattle.tib_transducer.specs.TransducerOf.{TransducerOf}
 use Rattle.tib_transducer_file.specs.ByText.{AreOneTransducer}
-use Rattle.tib_classes.specs.Outside.{AllMeet}
+use Rattle.tib_transducer.specs.Outside.{AllMeet}
 use Rattle.tib_apply.specs.Backward.{IsBackwardEdge}
 use Rattle.tib_apply.specs.Operations.{key_cmp}
 use Rattle.tib_apply.proofs.Preimages.{backward_means}

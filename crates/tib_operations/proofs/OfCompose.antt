@@ -22,14 +22,14 @@ use Rattle.tib_transducer_file.specs.ByText.{AreOneTransducer}
 use Rattle.tib_transducer_file.specs.TransducerText.{ReadsAs}
 use Rattle.tib_transducer_print.specs.ByName.{IsPlainLabel, IsPlainAsked, IsPlainOnLeft, IsPlainOnRight, IsPrintable}
 use Rattle.tib_transducer_print.proofs.ReadBack.{read_back}
-use Rattle.tib_classes.specs.Outside.{AllMeet}
+use Rattle.tib_transducer.specs.Outside.{AllMeet}
 use Rattle.tib_canon.specs.Constructions.{HasReachedWithin}
 use Rattle.tib_compose_laws.specs.Composition.{composition, edge_parts}
-use Rattle.tib_canon_transducer.specs.Keys.{AreMovesOver}
-use Rattle.tib_canon_transducer.proofs.Compose.{compose_there}
-use Rattle.tib_canon_transducer.proofs.ComposeByText.{compose_alike, moves_given}
-use Rattle.tib_canon_transducer.proofs.Relabelled.{left_with, right_with, move_with, moves_with}
-use Rattle.tib_canon_transducer.proofs.Texts.{text_moves}
+use Rattle.tib_canon.specs.TransducerKeys.{AreMovesOver}
+use Rattle.tib_canon.proofs.Compose.{compose_there}
+use Rattle.tib_canon.proofs.ComposeByText.{compose_alike, moves_given}
+use Rattle.tib_canon.proofs.Relabelled.{left_with, right_with, move_with, moves_with}
+use Rattle.tib_canon.proofs.TransducerTexts.{text_moves}
 use Rattle.tib_operations.specs.Compose.{plain, compose_makes, HasComposeText}
 use Rattle.tib_operations.proofs.Composed.{are_plain}
 use Rattle.tib_operations.proofs.MadeParts.{IsEither}

@@ -16,7 +16,7 @@ use Rattle.tib_transducer.specs.Range.{AreShaped}
 use Rattle.tib_transducer.specs.TransducerOf.{TransducerOf}
 use Rattle.tib_transducer.specs.declared.TransducerRule.{TransducerRule}
 use Rattle.tib_transducer_file.specs.ByText.{AreOneTransducer}
-use Rattle.tib_classes.specs.Outside.{AllMeet}
+use Rattle.tib_transducer.specs.Outside.{AllMeet}
 use Rattle.tib_apply.specs.Forward.{IsForwardEdge}
 use Rattle.tib_apply.specs.Operations.{key_cmp}
 use Rattle.tib_apply.proofs.Images.{forward_means}

@@ -23,7 +23,7 @@ use Rattle.tib_transducer_file.specs.Rule.{Parts, RuleLine, label_of, numbers_in
 use Rattle.tib_transducer_file.specs.Value.{IsAsked, IsLeftSymbol, IsLeftNode, IsRootItem, IsLeftSide, IsRightSymbol, IsRightNode, IsRule}
 use Rattle.tib_transducer_file.specs.TransducerText.{IsSmallRule, ReadsAs}
 use Rattle.tib_transducer_file.proofs.FileRead.{rule_grows}
-use Rattle.tib_canon_transducer.proofs.Relabelled.{variable_with, node_with, left_with}
+use Rattle.tib_canon.proofs.Relabelled.{variable_with, node_with, left_with}
 use Rattle.tib_operations.proofs.Tables.{all_more, moved, moves}
 
 -- a transducer with each label exchanged for another

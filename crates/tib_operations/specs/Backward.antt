@@ -7,7 +7,7 @@ use Rattle.tib_grammar.specs.Series.{IsSeries}
 use Rattle.tib_grammar.specs.declared.Rule.{Rule}
 use Rattle.tib_transducer.specs.TransducerOf.{TransducerOf}
 use Rattle.tib_transducer.specs.declared.TransducerRule.{TransducerRule}
-use Rattle.tib_classes.specs.Outside.{Demands, demands}
+use Rattle.tib_transducer.specs.Outside.{Demands, demands}
 use Rattle.tib_apply.specs.Backward.{IsBackwardSeries}
 use Rattle.tib_apply.specs.Operations.{inverse_image}
 use Rattle.tib_canon.specs.Constructions.{Construction, at_first, IsCanonicalFrom, HasGrammarText}

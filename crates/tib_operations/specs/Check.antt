@@ -4,7 +4,7 @@ use Rattle.tib_transducer.specs.Rules.{transducer_rule}
 use Rattle.tib_transducer.specs.Classes.{IsLinear, IsNondeleting, IsExtended, IsLabelled}
 use Rattle.tib_transducer.specs.TransducerOf.{TransducerOf}
 use Rattle.tib_transducer.specs.declared.TransducerRule.{TransducerRule}
-use Rattle.tib_classes.specs.Outside.{IsFirst}
+use Rattle.tib_transducer.specs.Outside.{IsFirst}
 use Rattle.tib_operations.specs.Made.{Made, nothing}
 
 -- the number of the first rule of which it holds, from 1 on, and none where it holds of no rule

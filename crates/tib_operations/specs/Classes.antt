@@ -1,8 +1,8 @@
 -- The classes that operations demand of transducers.
 use Rattle.std.specs.Prelude.{◌≡◌, ℕ, List}
 use Rattle.tib_transducer.specs.declared.TransducerRule.{TransducerRule}
-use Rattle.tib_classes.specs.Outside.{Demands, AllMeet, IsFirstOutside}
-use Rattle.tib_classes.specs.declared.error.ClassFault.{ClassFault}
+use Rattle.tib_transducer.specs.Outside.{Demands, AllMeet, IsFirstOutside}
+use Rattle.tib_transducer.specs.declared.error.ClassFault.{ClassFault}
 use Rattle.tib_operations.specs.declared.status.Status.{Status}
 use Rattle.tib_operations.specs.declared.status.Status.TheVariants as statuses
 

@@ -6,9 +6,8 @@ ghost use Rattle.tib_operations.specs.Check.{IsFirstSuch, HasClasses, class_line
 
 use crate::pieces::write_about;
 use std::alloc::Global;
-use tib_classes::{extended, labelled, not_linear, not_nondeleting};
 use tib_io::{Failed, GrowingSink, Sink, write_whole};
-use tib_transducer::Transducer;
+use tib_transducer::{Transducer, extended, labelled, not_linear, not_nondeleting};
 
 // The first rule that is not linear.
 fn first_not_linear<S>(transducer: &Transducer<S>) -> Option<u32>

@@ -1,11 +1,10 @@
 // The class that an operation demands of a transducer of a file.
 ghost use Rattle.std.specs.Prelude.{IfErr, IfOk, false};
-ghost use Rattle.tib_classes.specs.Outside.{demands, AllMeet};
+ghost use Rattle.tib_transducer.specs.Outside.{demands, AllMeet};
 ghost use Rattle.tib_operations.specs.Classes.{demanded_of, IsClassFault};
 
 use crate::status::Status;
-use tib_classes::first_outside;
-use tib_transducer::Transducer;
+use tib_transducer::{Transducer, first_outside};
 
 /// Answers Ok where each rule of the transducer of a file, counted from 1, is linear and nondeleting, each where it is demanded;
 /// otherwise the status that names the first rule that is not. It takes no memory.

@@ -1,10 +1,10 @@
 // `compose`: the canonical transducer that does what the first and then the second does.
 ghost use Rattle.std.specs.Prelude.{◌≤◌, length, IfErr, IfOk};
-ghost use Rattle.tib_classes.specs.Outside.{AllMeet};
+ghost use Rattle.tib_transducer.specs.Outside.{AllMeet};
 ghost use Rattle.tib_hunt.specs.Reached.{IsBeyond};
 ghost use Rattle.tib_compose_laws.specs.Composition.{composition};
 ghost use Rattle.tib_compose.specs.Composed.{AreOverOrder, HasPartsOf, IsComposeFault, IsReachedBy};
-ghost use Rattle.tib_canon_transducer.specs.Keys.{AreMovesOver};
+ghost use Rattle.tib_canon.specs.TransducerKeys.{AreMovesOver};
 ghost use Rattle.tib_operations.specs.Classes.{demanded_of, IsClassFault};
 ghost use Rattle.tib_operations.specs.Compose.{plain, compose_makes, HasComposeText};
 ghost use Rattle.tib_operations.specs.Made.{IsLimit, IsMadeFault};
@@ -13,13 +13,12 @@ use crate::status::Status;
 use std::alloc::{AllocError, Global};
 use std::sync::Wait;
 use std::thread::Threads;
-use tib_canon_transducer::{PrintedTransducer, to_transducer};
-use tib_classes::first_outside;
+use tib_canon::{PrintedTransducer, to_transducer};
 use tib_compose::{ComposeError, compose, compose_together};
 use tib_cost::Semiring;
 use tib_hunt::{Found, Gate};
 use tib_keyed::StatePair;
-use tib_transducer::{Transducer, TransducerRule};
+use tib_transducer::{Transducer, TransducerRule, first_outside};
 use tib_tree::Labels;
 
 /// Answers Ok where each rule of the transducer of a file, counted from 1, is linear, nondeleting, not extended and not labelled;

@@ -1,6 +1,6 @@
 // `forward`: the canonical grammar of the trees into which a transducer turns those of a grammar, at the least products of costs.
 ghost use Rattle.std.specs.Prelude.{◌≡◌, ◌≤◌, length, IfErr, IfOk, true, false};
-ghost use Rattle.tib_classes.specs.Outside.{demands, AllMeet};
+ghost use Rattle.tib_transducer.specs.Outside.{demands, AllMeet};
 ghost use Rattle.tib_grammar_file.specs.GrammarText.{GrammarText};
 ghost use Rattle.tib_grammar_file.specs.Printable.{ArePrintable};
 ghost use Rattle.tib_grammar_file.specs.Printed.{grammar_text};

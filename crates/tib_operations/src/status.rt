@@ -2,8 +2,8 @@
 ghost use Rattle.std.specs.Prelude.{◌≡◌};
 ghost use Rattle.tib_operations.specs.Codes.{code_of};
 
-use tib_classes::ClassFault;
 use tib_lex::FileFault;
+use tib_transducer::ClassFault;
 
 /// How a run ended. `file` counts the files of the command from 1.
 #[derive(Clone, Copy, Debug, PartialEq, Eq)]

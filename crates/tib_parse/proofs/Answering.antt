@@ -9,14 +9,14 @@ use Rattle.tib_hunt.specs.Reached.{HuntError}
 use Rattle.tib_hunt.specs.Reached.{TooMany as OfParts, OutOfMemory as OfHuntMemory}
 use Rattle.tib_hunt.specs.Numbered.{key_parts}
 use Rattle.tib_keyed.proofs.Limits.{each_counts}
-use Rattle.tib_classes.specs.declared.error.ClassError.{ClassError}
-use Rattle.tib_classes.specs.declared.error.ClassError.TheVariants.{Class as OfRule, OutOfMemory as OfMemory}
+use Rattle.tib_transducer.specs.declared.error.ClassError.{ClassError}
+use Rattle.tib_transducer.specs.declared.error.ClassError.TheVariants.{Class as OfRule, OutOfMemory as OfMemory}
 use Rattle.tib_strings.specs.Range.{AreLinear, AreNondeleting}
 use Rattle.tib_strings.specs.StringTransducerOf.{StringTransducerOf}
 use Rattle.tib_strings.specs.declared.StringRule.{StringRule}
 use Rattle.tib_apply.specs.Faults.{class_error, hunt_error}
-use Rattle.tib_parse_laws.specs.Parsing.{key_at}
-use Rattle.tib_parse_laws.specs.Operation.{key_entries, edge_parts, parse}
+use Rattle.tib_parse.specs.Parsing.{key_at}
+use Rattle.tib_parse.specs.Operation.{key_entries, edge_parts, parse}
 use Rattle.tib_parse.specs.Answered.{IsStringFault, IsParseFault}
 
 module _ (moves : StringTransducerOf) (string : List ℕ) where

@@ -4,3 +4,12 @@ mod Spanned
 mod Ruling
 mod Reading
 mod Answering
+pub mod Restricting
+pub mod Leaves
+pub mod StringRuns
+pub mod EachKey
+pub mod Reached
+pub mod Covering
+pub mod Parses
+pub mod Listing
+pub mod KeyRanges

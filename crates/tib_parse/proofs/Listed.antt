@@ -14,11 +14,11 @@ use Rattle.tib_grammar.proofs.Sides.{holes-relabel}
 use Rattle.tib_grammar.proofs.Positions.{all_ends-more}
 use Rattle.tib_transducer.specs.declared.Variable.{Variable}
 use Rattle.tib_strings.specs.declared.StringRule.{StringRule}
-use Rattle.tib_side_rules.specs.SideRules.{Reads}
-use Rattle.tib_side_rules.specs.Listing.{IsAdded, IsAlike}
-use Rattle.tib_side_rules.proofs.MappedSides.{size_mapped}
-use Rattle.tib_side_rules.proofs.Reading.{reads_longer, reads_new, nothing}
-use Rattle.tib_parse_laws.specs.Operation.{edge_parts}
+use Rattle.tib_keyed.specs.SideRules.{Reads}
+use Rattle.tib_keyed.specs.Listing.{IsAdded, IsAlike}
+use Rattle.tib_keyed.proofs.MappedSides.{size_mapped}
+use Rattle.tib_keyed.proofs.Reading.{reads_longer, reads_new, nothing}
+use Rattle.tib_parse.specs.Operation.{edge_parts}
 use Rattle.tib_parse.specs.Listing.{Listing, IsListed, Adds, Overruns, AreDone, cut_edge}
 
 abbrev Edges : Type 0

@@ -7,16 +7,16 @@ use Rattle.tib_grammar.specs.Sides.{holes_of}
 use Rattle.tib_grammar.specs.declared.Rule.{Rule}
 use Rattle.tib_hunt.specs.EdgeLists.{IsEnd, Exceeds, AreListed, Lists}
 use Rattle.tib_strings.specs.declared.StringRule.{StringRule}
-use Rattle.tib_side_rules.specs.declared.side_rule.SideRule.{SideRule}
-use Rattle.tib_side_rules.specs.SideRules.{places_of, read_places, Reads}
-use Rattle.tib_side_rules.specs.Listing.{IsWithinBudget}
-use Rattle.tib_side_rules.proofs.Reading.{reads_within, reads_all, both_ends}
+use Rattle.tib_keyed.specs.declared.side_rule.SideRule.{SideRule}
+use Rattle.tib_keyed.specs.SideRules.{places_of, read_places, Reads}
+use Rattle.tib_keyed.specs.Listing.{IsWithinBudget}
+use Rattle.tib_keyed.proofs.Reading.{reads_within, reads_all, both_ends}
 use Rattle.tib_transducer.specs.declared.Variable.{Variable}
-use Rattle.tib_parse_laws.specs.Parsing.{IsParseEdge}
-use Rattle.tib_parse_laws.specs.Operation.{edge_parts}
-use Rattle.tib_parse_laws.specs.Edges.{edges_of}
-use Rattle.tib_parse_laws.proofs.Listing.{edges_are_listed}
-use Rattle.tib_parse_laws.proofs.Reached.{same_edge}
+use Rattle.tib_parse.specs.Parsing.{IsParseEdge}
+use Rattle.tib_parse.specs.Operation.{edge_parts}
+use Rattle.tib_parse.specs.Edges.{edges_of}
+use Rattle.tib_parse.proofs.Listing.{edges_are_listed}
+use Rattle.tib_parse.proofs.Reached.{same_edge}
 use Rattle.tib_parse.specs.Listing.{Listing, IsListed}
 
 module _ (moves : List (StringRule ℕ)) (string : List ℕ) (key : ℕ × ℕ × ℕ × ℕ) where

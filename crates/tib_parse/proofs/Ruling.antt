@@ -21,11 +21,11 @@ use Rattle.tib_strings.specs.Rules.{string_rule, no_rule, pairs_of}
 use Rattle.tib_strings.specs.Range.{IsShaped}
 use Rattle.tib_strings.specs.declared.Word.{Word as Token}
 use Rattle.tib_strings.specs.declared.StringRule.{StringRule}
-use Rattle.tib_side_rules.proofs.MappedSides.{holes_within}
-use Rattle.tib_cuts.specs.CutLists.{cuts_of}
-use Rattle.tib_parse_laws.proofs.Listing.{root_of, root_is}
-use Rattle.tib_parse_laws.specs.Restrictions.{as_rule, restricted_labels}
-use Rattle.tib_parse_laws.specs.Edges.{admits_root, fits_key, origins_at, origins_below, edge_of, edges_of}
+use Rattle.tib_keyed.proofs.MappedSides.{holes_within}
+use Rattle.tib_strings.specs.CutLists.{cuts_of}
+use Rattle.tib_parse.proofs.Listing.{root_of, root_is}
+use Rattle.tib_parse.specs.Restrictions.{as_rule, restricted_labels}
+use Rattle.tib_parse.specs.Edges.{admits_root, fits_key, origins_at, origins_below, edge_of, edges_of}
 use Rattle.tib_parse.specs.Listing.{edges_at, edges_at_all, cut_edge, HasPlaces, AdmitsRule}
 use Rattle.std.proofs.lemmas.List.{map-append}
 

@@ -10,8 +10,8 @@ use Rattle.tib_strings.specs.Rules.{pairs_of}
 use Rattle.tib_strings.specs.declared.Word.{Word as Token}
 use Rattle.tib_strings.specs.declared.Word.TheVariants.{Word, Hole}
 use Rattle.tib_apply.specs.Restrictions.{restriction}
-use Rattle.tib_cuts.specs.Cuts.{spans}
-use Rattle.tib_parse_laws.specs.Parsing.{span_at, parse_key}
+use Rattle.tib_strings.specs.Cuts.{spans}
+use Rattle.tib_parse.specs.Parsing.{span_at, parse_key}
 use Rattle.tib_parse.specs.Listing.{variable_key, place_before}
 
 -- the keys of variables

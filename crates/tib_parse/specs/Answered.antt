@@ -8,15 +8,15 @@ use Rattle.tib_grammar.specs.Range.{AreInRange}
 use Rattle.tib_grammar.specs.declared.Rule.{Rule}
 use Rattle.tib_hunt.specs.Reached.{IsReachedSet, IsBeyond, parts_of}
 use Rattle.tib_hunt.specs.declared.found.Found.{Found}
-use Rattle.tib_classes.specs.declared.error.ClassError.{ClassError}
-use Rattle.tib_classes.specs.declared.error.ClassError.TheVariants.{Class as OfRule, OutOfMemory as OfMemory}
+use Rattle.tib_transducer.specs.declared.error.ClassError.{ClassError}
+use Rattle.tib_transducer.specs.declared.error.ClassError.TheVariants.{Class as OfRule, OutOfMemory as OfMemory}
 use Rattle.tib_strings.specs.Faults.{IsFirstFault}
 use Rattle.tib_strings.specs.Range.{AreLinear, AreNondeleting}
 use Rattle.tib_strings.specs.declared.StringRule.{StringRule}
 use Rattle.tib_apply.specs.declared.error.ApplyError.{ApplyError}
 use Rattle.tib_apply.specs.declared.error.ApplyError.TheVariants.{Class, TooMany, OutOfMemory}
-use Rattle.tib_parse_laws.specs.Parsing.{key_at}
-use Rattle.tib_parse_laws.specs.Operation.{parse}
+use Rattle.tib_parse.specs.Parsing.{key_at}
+use Rattle.tib_parse.specs.Operation.{parse}
 
 -- the edges that the rules stand for over the order
 abbrev pub edges_over : ℕ → Found (ℕ × ℕ × ℕ × ℕ) (Rule ℕ) → List (Rule (ℕ × ℕ × ℕ × ℕ))

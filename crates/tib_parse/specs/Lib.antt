@@ -3,3 +3,8 @@ pub mod ParseLaws
 pub mod Listing
 pub mod Moves
 pub mod Answered
+pub mod Restrictions
+pub mod Parsing
+pub mod Operation
+pub mod Edges
+pub mod Examples

@@ -5,17 +5,17 @@ use Rattle.tib_lex.specs.Lists.{Each, Along, total}
 use Rattle.tib_grammar.specs.Sides.{label, holes_of, side_map}
 use Rattle.tib_grammar.specs.declared.Rule.{Rule}
 use Rattle.tib_grammar.specs.Positions.{all_ends}
-use Rattle.tib_side_rules.specs.declared.side_listing.SideListing.{SideListing}
-use Rattle.tib_side_rules.specs.SideRules.{Reads}
-use Rattle.tib_side_rules.specs.Listing.{IsAlike}
+use Rattle.tib_keyed.specs.declared.side_listing.SideListing.{SideListing}
+use Rattle.tib_keyed.specs.SideRules.{Reads}
+use Rattle.tib_keyed.specs.Listing.{IsAlike}
 use Rattle.tib_transducer.specs.declared.Variable.{Variable}
 use Rattle.tib_strings.specs.declared.StringRule.{StringRule}
 use Rattle.tib_strings.specs.Rules.{pairs_of}
-use Rattle.tib_cuts.specs.Cuts.{spans as cut_spans}
+use Rattle.tib_strings.specs.Cuts.{spans as cut_spans}
 use Rattle.tib_apply.specs.Restrictions.{restriction, Admits}
-use Rattle.tib_parse_laws.specs.Parsing.{parse_key}
-use Rattle.tib_parse_laws.specs.Operation.{edge_parts}
-use Rattle.tib_parse_laws.specs.Edges.{origins_at, edge_of}
+use Rattle.tib_parse.specs.Parsing.{parse_key}
+use Rattle.tib_parse.specs.Operation.{edge_parts}
+use Rattle.tib_parse.specs.Edges.{origins_at, edge_of}
 
 -- a list of edges to left sides
 abbrev pub Listing : Type 0

@@ -2,7 +2,7 @@
 use Rattle.std.specs.Prelude.{◌≡◌, ℕ, List, map}
 use Rattle.tib_strings.specs.declared.StringRule.{StringRule}
 use Rattle.tib_transducer.specs.Moves.{moves_of, held}
-use Rattle.tib_parse_laws.specs.Restrictions.{as_rule}
+use Rattle.tib_parse.specs.Restrictions.{as_rule}
 use Rattle.tib_parse.specs.declared.moves.Moves.{Moves}
 
 -- each state has the positions of its rules

@@ -12,14 +12,14 @@ use Rattle.tib_transducer.specs.declared.Variable.{Variable}
 use Rattle.tib_strings.specs.Rules.{string_rule, states_in}
 use Rattle.tib_strings.specs.Range.{AreWithin}
 use Rattle.tib_strings.specs.declared.StringRule.{StringRule}
-use Rattle.tib_side_rules.specs.declared.side_rule.SideRule.{SideRule}
-use Rattle.tib_side_rules.specs.SideRules.{side_reading}
-use Rattle.tib_side_rules.specs.SideRuleLaws.{reads_places, reads_positions}
-use Rattle.tib_parse_laws.specs.Restrictions.{restricted_labels}
-use Rattle.tib_parse_laws.specs.Parsing.{first_key, key_at, IsParseEdge}
-use Rattle.tib_parse_laws.specs.Operation.{IsKey, key_cmp, key_entries, parse}
-use Rattle.tib_parse_laws.proofs.KeyRanges.{ends_within}
-use Rattle.tib_parse_laws.proofs.Reached.{same_edge}
+use Rattle.tib_keyed.specs.declared.side_rule.SideRule.{SideRule}
+use Rattle.tib_keyed.specs.SideRules.{side_reading}
+use Rattle.tib_keyed.specs.SideRuleLaws.{reads_places, reads_positions}
+use Rattle.tib_parse.specs.Restrictions.{restricted_labels}
+use Rattle.tib_parse.specs.Parsing.{first_key, key_at, IsParseEdge}
+use Rattle.tib_parse.specs.Operation.{IsKey, key_cmp, key_entries, parse}
+use Rattle.tib_parse.proofs.KeyRanges.{ends_within}
+use Rattle.tib_parse.proofs.Reached.{same_edge}
 
 -- how rules over places and over positions are read as edges
 abbrev pub parse_reading : Reading (ℕ × ℕ × ℕ × ℕ) (Rule (ℕ × ℕ × ℕ × ℕ)) (SideRule Variable) (Rule ℕ)

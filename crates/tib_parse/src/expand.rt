@@ -8,12 +8,12 @@ use std::collections::LinkedList;
 use tib_cost::Semiring;
 use tib_grammar::Rule;
 use tib_hunt::{Edges, Expand, ExpandError};
-use tib_side_rules::settled_side;
+use tib_keyed::settled_side;
 
 impl<'a, S: Semiring> Expand for Parse<'a, S> {
     ghost use Rattle.std.specs.Prelude.{length};
-    ghost use Rattle.tib_parse_laws.specs.Restrictions.{restricted_labels};
-    ghost use Rattle.tib_parse_laws.specs.Operation.{IsKey, parse};
+    ghost use Rattle.tib_parse.specs.Restrictions.{restricted_labels};
+    ghost use Rattle.tib_parse.specs.Operation.{IsKey, parse};
     ghost use Rattle.tib_parse.specs.ParseLaws.{parse_reading, parse_is_lawful, within_from};
 
     type Key = Key;

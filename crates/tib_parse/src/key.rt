@@ -73,7 +73,7 @@ impl Key {
 impl TableKey for Key {
     ghost use Rattle.std.specs.Prelude.{◌%◌, ◌+◌, ◌*◌};
     ghost use Rattle.std.proofs.Common.{rules, arith, mod-lt};
-    ghost use Rattle.tib_parse_laws.specs.Operation.{key_entries};
+    ghost use Rattle.tib_parse.specs.Operation.{key_entries};
 
     ghost shelf_of = { λ k. (k.0 % 16 + 3 * (k.1 % 16) + 5 * (k.2 % 16) + 7 * (k.3 % 16)) % 16 };
 

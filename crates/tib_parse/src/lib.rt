@@ -1,10 +1,13 @@
-//! Parsing by tree-to-string transducers carried out: the trees that a linear and nondeleting transducer turns into one string, each at the
-//! least cost, as keys of a state, two places of the string and a restriction that are reached along edges. `parse` finds them by one worker,
-//! `parse_together` by several. It stands on `tib_parse_laws`, `tib_cuts`, `tib_strings`, `tib_apply`, `tib_hunt` and `tib_side_rules`.
+//! Parsing by tree-to-string transducers: the trees that a linear and nondeleting transducer turns into one string, each at the least cost,
+//! as keys of a state, two places of the string and a restriction that are reached along edges. What is defined and proved of it stands
+//! here, for every semiring; `parse` finds the keys by one worker, `parse_together` by several. It stands on `tib_strings`, `tib_apply`,
+//! whose restrictions are the same, `tib_hunt` and `tib_keyed`.
 #![tactic(auto)]
 
+pub mod examples;
 mod expand;
 mod key;
+pub mod laws;
 mod listing;
 mod moves;
 mod operation;

@@ -3,7 +3,7 @@
 ghost use Rattle.std.specs.Prelude.{◌≡◌, ℕ, IfOk, List, [], length, map};
 ghost use Rattle.tib_strings.specs.declared.StringRule.{StringRule};
 ghost use Rattle.tib_transducer.specs.Moves.{moves_of, held};
-ghost use Rattle.tib_parse_laws.specs.Restrictions.{as_rule};
+ghost use Rattle.tib_parse.specs.Restrictions.{as_rule};
 ghost use Rattle.tib_parse.specs.Moves.{IsMoves};
 
 use std::alloc::{AllocError, Global};

@@ -20,13 +20,13 @@ ghost use Rattle.tib_lex.specs.Lists.{total};
 ghost use Rattle.tib_hunt.specs.Reached.{most_parts};
 ghost use Rattle.tib_strings.specs.Rules.{string_rule};
 ghost use Rattle.tib_strings.specs.Range.{AreLinear, AreNondeleting};
-ghost use Rattle.tib_cuts.specs.Remaining.{IsSearch, GoesTo, remaining};
-ghost use Rattle.tib_parse_laws.specs.Restrictions.{restricted_labels};
-ghost use Rattle.tib_parse_laws.specs.Operation.{IsKey, edge_parts};
-ghost use Rattle.tib_parse_laws.specs.Edges.{edges_of};
+ghost use Rattle.tib_strings.specs.Remaining.{IsSearch, GoesTo, remaining};
+ghost use Rattle.tib_parse.specs.Restrictions.{restricted_labels};
+ghost use Rattle.tib_parse.specs.Operation.{IsKey, edge_parts};
+ghost use Rattle.tib_parse.specs.Edges.{edges_of};
 ghost use Rattle.tib_parse.specs.Moves.{IsMoves};
 ghost use Rattle.tib_parse.specs.ParseLaws.{AreStatesBelow};
-ghost use Rattle.tib_side_rules.specs.Listing.{IsWithinBudget};
+ghost use Rattle.tib_keyed.specs.Listing.{IsWithinBudget};
 ghost use Rattle.tib_parse.specs.Listing.{
   IsListed,
   Adds,
@@ -45,11 +45,10 @@ use crate::readers::restrictions_of;
 use crate::spans::{Span, make_room, put_spans};
 use std::alloc::Global;
 use tib_apply::Restrictions;
-use tib_classes::ClassError;
-use tib_cuts::Cuts;
 use tib_grammar::Item;
 use tib_hunt::ExpandError;
-use tib_strings::{StringRule, StringTransducer, string_outside};
+use tib_strings::{Cuts, StringRule, StringTransducer, string_outside};
+use tib_transducer::ClassError;
 use tib_tree::Label;
 
 /// Whether the restriction of a key admits what a rule reads.

@@ -6,6 +6,7 @@ ghost use Rattle.tib_strings.specs.Range.{AreLinear, AreNondeleting};
 ghost use Rattle.tib_parse.specs.Answered.{IsParsed, AreOverOrder, HasParts, HasStringSeries, IsParseFault};
 
 use crate::key::Key;
+use crate::laws::reached_parses;
 use crate::operation::Parse;
 use std::alloc::Global;
 use std::sync::Wait;
@@ -14,7 +15,6 @@ use tib_apply::ApplyError;
 use tib_cost::Semiring;
 use tib_grammar::Rule;
 use tib_hunt::{Found, Gate, hunt, hunt_alone};
-use tib_parse_laws::laws::reached_parses;
 use tib_strings::StringTransducer;
 use tib_tree::Label;
 
@@ -23,7 +23,7 @@ use tib_tree::Label;
 /// the transducer is not linear and nondeleting: it names the first such rule, and linear comes before nondeleting. `TooMany` exactly where
 /// it is and the keys and rules have more parts than the limit, 1 to `MOST_PARTS` of tib_hunt; `OutOfMemory` if memory is refused, or where
 /// the string has 2^32 words or more. Calls `gate` once for each key. Cost: for each key and each rule of its state one step for each token of
-/// its right side and each place between those of the key, and the search for its cuts (`Cuts` of tib_cuts), beside the hunt's own
+/// its right side and each place between those of the key, and the search for its cuts (`Cuts` of tib_strings), beside the hunt's own
 /// (`hunt_alone`).
 pub fn parse<S: Semiring, G: Gate>(
     alloc: Global,

@@ -3,7 +3,7 @@
 ghost use Rattle.std.specs.Prelude.{◌≡◌, IfOk, map};
 ghost use Rattle.tib_tree.specs.Trees.{none};
 ghost use Rattle.tib_grammar.specs.Sides.{label};
-ghost use Rattle.tib_parse_laws.specs.Restrictions.{as_rule, restricted_labels};
+ghost use Rattle.tib_parse.specs.Restrictions.{as_rule, restricted_labels};
 
 use std::alloc::{AllocError, Global};
 use tib_apply::Restrictions;

@@ -4,8 +4,8 @@ ghost use Rattle.std.specs.Prelude.{◌≡◌, ℕ, ◌<◌, ◌≤◌, length, 
 ghost use Rattle.std.proofs.Common.{get_or};
 ghost use Rattle.tib_lex.specs.Lists.{Each};
 ghost use Rattle.tib_strings.specs.Rules.{pairs_of};
-ghost use Rattle.tib_cuts.specs.Cuts.{spans as spans_of};
-ghost use Rattle.tib_parse_laws.specs.Parsing.{span_at};
+ghost use Rattle.tib_strings.specs.Cuts.{spans as spans_of};
+ghost use Rattle.tib_parse.specs.Parsing.{span_at};
 ghost use Rattle.tib_parse.specs.Listing.{place_before};
 
 use std::alloc::AllocError;

@@ -1,6 +1,6 @@
 pub mod Log
-pub use Rattle.tib_run_laws.specs.Kinds
-pub use Rattle.tib_run_laws.specs.Causes
-pub use Rattle.tib_run_laws.specs.Answers
-pub use Rattle.tib_run_laws.specs.Run
-pub use Rattle.tib_run_laws.specs.Laws
+pub use Rattle.tib_job_files.specs.Kinds
+pub use Rattle.tib_job_files.specs.Causes
+pub use Rattle.tib_job_files.specs.Answers
+pub use Rattle.tib_job_files.specs.Run
+pub use Rattle.tib_job_files.specs.Laws

@@ -3,8 +3,8 @@ use Rattle.std.specs.Prelude.{ℕ, List, [], ◌++◌, codes, decimal}
 use Rattle.tib_lex.specs.declared.fault.FaultKind.{FaultKind}
 use Rattle.tib_lex.specs.declared.fault.FaultKind.TheVariants as kinds
 use Rattle.tib_lex.specs.declared.fault.FileFault.{FileFault}
-use Rattle.tib_classes.specs.declared.error.ClassFault.{ClassFault}
-use Rattle.tib_classes.specs.declared.error.ClassFault.TheVariants as classes
+use Rattle.tib_transducer.specs.declared.error.ClassFault.{ClassFault}
+use Rattle.tib_transducer.specs.declared.error.ClassFault.TheVariants as classes
 use Rattle.tib_operations.specs.declared.status.Status.{Status}
 use Rattle.tib_operations.specs.declared.status.Status.TheVariants as statuses
 

@@ -1,8 +1,8 @@
 // The answer of a job by one worker: its whole text, and the writing of it.
 ghost use Rattle.std.specs.Prelude.{◌≡◌, ◌<◌, ◌≤◌, Some, length};
 ghost use Rattle.tib_command.specs.Jobs.{meaning, most_demo, word_count};
-ghost use Rattle.tib_run_laws.specs.Causes.{levelled_of, scale_of, product_of};
-ghost use Rattle.tib_run_laws.specs.Run.{IsRunOf, files_seen, sink_seen};
+ghost use Rattle.tib_job_files.specs.Causes.{levelled_of, scale_of, product_of};
+ghost use Rattle.tib_job_files.specs.Run.{IsRunOf, files_seen, sink_seen};
 ghost use Rattle.tib_operations.specs.Made.{IsLimit};
 ghost use Rattle.tib_operations.specs.Prune.{IsBeam};
 
@@ -12,9 +12,9 @@ use tib_command::{Job, Operation};
 use tib_cost::Semiring;
 use tib_hunt::Gate;
 use tib_io::{Failed, Files, Sink, write_and_finish};
+use tib_job_files::{files_have_no_fault, within_or_too_many};
 use tib_job_texts::text_of;
 use tib_operations::Status;
-use tib_run_laws::{files_have_no_fault, within_or_too_many};
 
 /// Writes the answer of the job, which one worker makes.
 pub(crate) fn answer_job<S: Semiring + Sync + Drop, R: Threads + Sync, F: Files, O: Sink, G: Gate>(

@@ -2,7 +2,7 @@
 ghost use Rattle.std.specs.Prelude.{◌≡◌, ◌<◌, ◌≤◌, Some, length, map, string_bytes};
 ghost use Rattle.tib_command.specs.Jobs.{job_of, meaning, most_demo, word_count};
 ghost use Rattle.tib_run.specs.Log.{line_of};
-ghost use Rattle.tib_run_laws.specs.Run.{IsRunOf, IsLogged, files_seen, sink_seen};
+ghost use Rattle.tib_job_files.specs.Run.{IsRunOf, IsLogged, files_seen, sink_seen};
 ghost use Rattle.tib_operations.specs.Made.{IsLimit};
 ghost use Rattle.tib_operations.specs.Prune.{IsBeam};
 
@@ -16,8 +16,8 @@ use tib_command::{CommandError, Job, Mode, Operation, read_words};
 use tib_cost::{Boolean, Bottleneck, MinPlus, Widest};
 use tib_hunt::Gate;
 use tib_io::{Files, Sink};
+use tib_job_files::{files_have_no_fault, within_or_too_many};
 use tib_operations::Status;
-use tib_run_laws::{files_have_no_fault, within_or_too_many};
 
 // Does a job with one worker.
 fn perform_job<R: Threads + Sync, F: Files, O: Sink, G: Gate>(

@@ -4,10 +4,10 @@ ghost use Rattle.tib_tree.specs.Wrote.{Wrote};
 ghost use Rattle.tib_run.specs.Log.{class_words, kind_words, line_of, plain_line_of};
 
 use itoa::Buffer;
-use tib_classes::ClassFault;
 use tib_io::{Failed, Sink};
 use tib_lex::FaultKind;
 use tib_operations::{Status, write_about, write_both, write_piece};
+use tib_transducer::ClassFault;
 
 // The words of a fault, with the end of their line.
 #[tactic(auto, unfolding(crate::specs::Log::kind_words))]

@@ -1,8 +1,8 @@
 // The run of a job by its workers.
 ghost use Rattle.std.specs.Prelude.{◌≡◌, ◌<◌, ◌≤◌, Some, length, map, string_bytes};
 ghost use Rattle.tib_command.specs.Jobs.{job_of, meaning, most_demo, word_count};
-ghost use Rattle.tib_run_laws.specs.Causes.{levelled_of, scale_of, product_of};
-ghost use Rattle.tib_run_laws.specs.Run.{IsRunOf, files_seen, sink_seen};
+ghost use Rattle.tib_job_files.specs.Causes.{levelled_of, scale_of, product_of};
+ghost use Rattle.tib_job_files.specs.Run.{IsRunOf, files_seen, sink_seen};
 ghost use Rattle.tib_operations.specs.Made.{IsLimit};
 ghost use Rattle.tib_operations.specs.Prune.{IsBeam};
 
@@ -13,9 +13,9 @@ use tib_command::{CommandError, Job, Mode, Operation, read_words};
 use tib_cost::{Boolean, Bottleneck, MinPlus, Semiring, Widest};
 use tib_hunt::Gate;
 use tib_io::{Failed, Files, Sink, write_and_finish};
+use tib_job_files::{files_have_no_fault, within_or_too_many};
 use tib_job_texts::text_together;
 use tib_operations::Status;
-use tib_run_laws::{files_have_no_fault, within_or_too_many};
 
 // Writes the answer of the job, which its workers make.
 fn answer_together<

@@ -12,10 +12,10 @@ use Rattle.tib_tree.specs.Trees.{Tree, Trees, none, tree, only, count, sizes, si
 use Rattle.tib_tree.specs.Growth.{text_at, LabelsBelow}
 use Rattle.tib_tree.specs.Grows.{AreDistinct}
 use Rattle.tib_tree.proofs.Counts.{sizes-relabel, count-relabel}
-use Rattle.tib_tree_order.specs.Order.{trees_cmp, tree_cmp_by}
-use Rattle.tib_tree_order.proofs.Orderings.{three_ways, nat_itself, nat_equal, then_decided, then_Equal}
-use Rattle.tib_tree_order.proofs.Relabelling.{same_text}
-use Rattle.tib_tree_order.proofs.TreeOrder.{only_same, trees_total}
+use Rattle.tib_tree.specs.Order.{trees_cmp, tree_cmp_by}
+use Rattle.tib_tree.proofs.Orderings.{three_ways, nat_itself, nat_equal, then_decided, then_Equal}
+use Rattle.tib_tree.proofs.Relabelling.{same_text}
+use Rattle.tib_tree.proofs.TreeOrder.{only_same, trees_total}
 use Rattle.tib_shared_trees.specs.Numbers.{AreNamed, IsNamed, IsFirstOther, IsDecided, RootsBelow, label_of, children_of, label_at, children_at, told_size, most_size}
 use Rattle.tib_shared_trees.specs.Ranked.{AreRanksOf, IsOneSmall, IsOrderOf, IsRootOrder, root_order}
 use Rattle.tib_shared_trees.proofs.Numbers.{one_tree, named}

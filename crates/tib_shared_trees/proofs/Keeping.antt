@@ -8,8 +8,8 @@ use Rattle.tib_lex.specs.Lists.{Has, total}
 use Rattle.tib_tree.specs.Trees.{Tree, Trees, none, tree, only, sizes}
 use Rattle.tib_tree.specs.Grows.{Grows}
 use Rattle.tib_tree.proofs.Growing.{grows_more}
-use Rattle.tib_tree_order.proofs.Relabelling.{got}
-use Rattle.tib_tree_order.proofs.TreeOrder.{only_same}
+use Rattle.tib_tree.proofs.Relabelling.{got}
+use Rattle.tib_tree.proofs.TreeOrder.{only_same}
 use Rattle.tib_shared_trees.specs.Numbers.{AreNamed, IsNamed, NumbersBelow, label_of, children_of, label_at, children_at, told_size, most_size}
 use Rattle.tib_shared_trees.specs.Kept.{AreKept}
 use Rattle.tib_shared_trees.proofs.Numbers.{one_tree, grown}

@@ -5,3 +5,4 @@ pub mod Descending
 pub mod Remaining
 pub mod Placed
 pub mod Callers
+pub mod Heaping

@@ -9,11 +9,11 @@ use Rattle.std.proofs.Common.{zero, suc, arith, ap, sym, ◌∙◌, subst}
 use Rattle.tib_tree.specs.Trees.{Tree, Trees, none, tree, count, sizes, relabel}
 use Rattle.tib_tree.specs.Growth.{text_at, LabelsBelow}
 use Rattle.tib_tree.specs.Grows.{Grows, AreDistinct}
-use Rattle.tib_tree_order.specs.Order.{trees_cmp, tree_cmp_by}
+use Rattle.tib_tree.specs.Order.{trees_cmp, tree_cmp_by}
 use Rattle.tib_shared_trees.specs.Numbers.{AreNamed, IsFirstOther, IsDecided, NumbersNameTrees}
-use Rattle.tib_tree_order.proofs.TreeOrder.{trees_total, trees_same}
-use Rattle.tib_tree_order.proofs.Orderings.{then_decided}
-use Rattle.tib_tree_order.proofs.Relabelling.{relabel-same}
+use Rattle.tib_tree.proofs.TreeOrder.{trees_total, trees_same}
+use Rattle.tib_tree.proofs.Orderings.{then_decided}
+use Rattle.tib_tree.proofs.Relabelling.{relabel-same}
 use Rattle.std.specs.FinMap.{slice_cmp-IsAntisymmetric, nat_cmp-IsAntisymmetric}
 
 pub one_tree : (shapes : List (List ℕ)) (ns : List ℕ) (ts us : Trees ℕ) → AreNamed shapes ns ts → AreNamed shapes ns us → ts ≡ us

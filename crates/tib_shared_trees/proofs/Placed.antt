@@ -16,8 +16,8 @@ use denote.Param.Members.{Mut}
 use denote.Ref.{Bor}
 use Rattle.tib_tree.specs.Growth.{text_at}
 use Rattle.tib_tree.specs.Grows.{AreDistinct}
-use Rattle.tib_tree_order.proofs.Orderings.{three_ways}
-use Rattle.tib_tree_order.proofs.Relabelling.{same_text}
+use Rattle.tib_tree.proofs.Orderings.{three_ways}
+use Rattle.tib_tree.proofs.Relabelling.{same_text}
 use Rattle.tib_shared_trees.specs.Ranked.{AreRanksOf}
 use Rattle.tib_shared_trees.specs.TextOrder.{text_cmp, AreLabelsBelow, IsTextOrder}
 

@@ -8,7 +8,7 @@ use Rattle.tib_lex.specs.Lists.{Has}
 use Rattle.tib_lex.proofs.Members.{has_either}
 use Rattle.tib_tree.specs.Trees.{Tree, Trees, none, tree, only, size, sizes, count, join, preorder, preorder_of, preorder-join, parse_of, most_nodes}
 use Rattle.tib_tree.proofs.Counts.{length-preorder}
-use Rattle.tib_tree_order.proofs.TreeOrder.{only_same}
+use Rattle.tib_tree.proofs.TreeOrder.{only_same}
 use Rattle.tib_shared_trees.specs.Numbers.{AreNamed, IsNamed, NumbersBelow, label_at, children_at, back}
 use Rattle.tib_shared_trees.proofs.Descending.{read_shape, count_named}
 

@@ -4,3 +4,5 @@ pub mod Ranked
 pub mod Kept
 pub mod ShapeList
 pub mod TextOrder
+-- Heaps, as lists.
+pub mod Heaps

@@ -7,7 +7,7 @@ use Rattle.tib_lex.specs.Lists.{Has}
 use Rattle.tib_tree.specs.Trees.{Tree, Trees, none, tree, only, relabel, size}
 use Rattle.tib_tree.specs.Growth.{text_at, LabelsBelow}
 use Rattle.tib_tree.specs.Grows.{Grows, AreDistinct}
-use Rattle.tib_tree_order.specs.Order.{trees_cmp, tree_cmp_by}
+use Rattle.tib_tree.specs.Order.{trees_cmp, tree_cmp_by}
 
 -- the trees that numbers name
 abbrev pub AreNamed : List (List ℕ) → List ℕ → Trees ℕ → Type 0

@@ -7,7 +7,7 @@ use Rattle.std.proofs.Common.{get_or}
 use Rattle.tib_tree.specs.Trees.{Tree, size}
 use Rattle.tib_tree.specs.Growth.{text_at}
 use Rattle.tib_tree.specs.Grows.{AreDistinct}
-use Rattle.tib_tree_order.specs.Order.{tree_cmp_by}
+use Rattle.tib_tree.specs.Order.{tree_cmp_by}
 use Rattle.tib_shared_trees.specs.Numbers.{IsNamed, told_size, most_size, label_at, children_at}
 
 -- labels compare as their ranks do

@@ -5,8 +5,8 @@ use Rattle.tib_transducer.specs.declared.Variable.{Variable}
 use Rattle.tib_strings.specs.Rules.{string_rule}
 use Rattle.tib_strings.specs.Range.{IsLinear, IsNondeleting}
 use Rattle.tib_strings.specs.declared.StringRule.{StringRule}
-use Rattle.tib_classes.specs.declared.error.ClassFault.{ClassFault}
-use Rattle.tib_classes.specs.declared.error.ClassFault.TheVariants.{NotLinear, NotNondeleting, Extended, Labelled}
+use Rattle.tib_transducer.specs.declared.error.ClassFault.{ClassFault}
+use Rattle.tib_transducer.specs.declared.error.ClassFault.TheVariants.{NotLinear, NotNondeleting, Extended, Labelled}
 
 -- the number of each variable is among some
 abbrev pub AreAmong : List ℕ → List Variable → Type 0

@@ -5,3 +5,9 @@ pub mod Series
 pub mod StringTransducerOf
 pub mod StringTransducerView
 pub mod Faults
+pub mod Cuts
+pub mod CutLists
+pub mod Stacks
+pub mod Bounds
+pub mod Search
+pub mod Remaining

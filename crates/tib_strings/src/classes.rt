@@ -7,9 +7,8 @@ ghost use Rattle.tib_strings.specs.Range.{IsLinear, IsNondeleting, AreLinear, Ar
 ghost use Rattle.tib_strings.specs.Faults.{AreAmong, IsFirstFault, HasFault};
 
 use crate::{StringRule, StringTransducer, Word};
-use tib_classes::ClassFault;
 use tib_grammar::Item;
-use tib_transducer::Variable;
+use tib_transducer::{ClassFault, Variable};
 
 // Whether a pair among some words has the variable.
 fn stands_among(words: &[Word<u32>], variable: u32) -> bool

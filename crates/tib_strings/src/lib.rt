@@ -1,14 +1,23 @@
 //! Tree-to-string transducers as values: rules that read a tree and put out a list of words. Their runs, what these read, put out and
-//! cost, their series, and the first rule that is not linear or not nondeleting. It stands on `tib_grammar`, `tib_transducer` and `tib_classes`.
+//! cost, their series, and the first rule that is not linear or not nondeleting; and the cuts of a list of words and pairs over the places
+//! of a string, which say how a right side can put out a part of the string. Cuts are listed one by one, from the least places on, and no
+//! part of a list of places is tried that leads to no cut behind its last pair. It stands on `tib_grammar` and `tib_transducer`.
 #![tactic(auto)]
 
 ghost use Rattle.std.specs.Prelude.{◌≡◌};
 
+mod bounds;
 mod classes;
+pub mod cut_laws;
 pub mod laws;
+mod search;
+mod stepping;
 mod transducers;
 
+ghost use Rattle.std.specs.Prelude.{◌≡◌};
+
 pub use classes::string_outside;
+pub use search::Cuts;
 use std::marker::{Model, PhantomData};
 use tib_cost::Cost;
 use tib_grammar::{Names, Side};

@@ -1,8 +1,7 @@
 // Files of one tree, of none and of several.
 use std::alloc::Global;
 use tib_lex::{FaultKind, FileFault, ReadError};
-use tib_one_tree::read_one_tree;
-use tib_tree::{Labels, Tree};
+use tib_tree::{Labels, Tree, read_one_tree};
 
 // A file, and the label of its tree, or the line and the kind of its fault.
 type Row = (&'static [u8], Result<&'static str, (u32, FaultKind)>);

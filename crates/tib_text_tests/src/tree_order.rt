@@ -5,8 +5,7 @@ ghost use Rattle.tib_tree.specs.Growth.{HasLabels};
 
 use std::alloc::Global;
 use std::cmp::Ordering;
-use tib_tree::{Labels, Tree, read_trees};
-use tib_tree_order::compare;
+use tib_tree::{Labels, Tree, compare, read_trees};
 
 // The order of two trees.
 fn order_of_two(labels: &Labels, trees: &[Tree]) -> Option<Ordering>

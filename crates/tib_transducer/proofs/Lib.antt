@@ -6,3 +6,6 @@ pub mod Selecting
 pub mod Itemizing
 pub mod Moves
 pub mod NamedItems
+mod Counting
+mod Labels
+mod Standing

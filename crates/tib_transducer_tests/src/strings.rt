@@ -2,10 +2,9 @@
 use crate::transducer::{Left, left_side, names_of};
 use std::alloc::{AllocError, Global};
 use std::test::Fail;
-use tib_classes::ClassFault;
 use tib_cost::{MinPlus, Semiring};
 use tib_strings::*;
-use tib_transducer::Pair;
+use tib_transducer::{ClassFault, Pair};
 
 // What a transducer's first rule lacks that lacks something: none where there is no transducer, and no rule where none lacks anything.
 type Lack = Option<Option<(u32, ClassFault)>>;

@@ -20,3 +20,9 @@ pub mod PlainTexts
 pub mod Keys
 pub mod Shaping
 pub mod Counts
+pub mod Orderings
+pub mod Relabelling
+pub mod TreeOrder
+pub mod ByNodes
+pub mod Counting
+pub mod Exact

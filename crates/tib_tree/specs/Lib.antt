@@ -20,3 +20,9 @@ pub mod Wrote
 pub mod Writing
 pub mod Recent
 pub mod Shaped
+-- The order of trees.
+pub mod Order
+-- The definitions of files of one tree.
+pub mod OneTree
+pub mod OneTreeLaws
+pub mod Found

@@ -1,8 +1,8 @@
 // The worked rows on `forward` and `backward`.
 use crate::runs::rows::{BINARY, Row};
-use tib_classes::ClassFault;
 use tib_lex::{FaultKind, FileFault};
 use tib_operations::Status;
+use tib_transducer::ClassFault;
 
 pub const DELETED_FROM: &str = "q\nq -> A(r s) # 0\nr -> b # 1\ns -> c # 4\ns -> d # 2\n";
 

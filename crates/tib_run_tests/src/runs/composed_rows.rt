@@ -1,8 +1,8 @@
 // The worked rows on `compose`.
 use crate::runs::rows::Row;
-use tib_classes::ClassFault;
 use tib_lex::{FaultKind, FileFault};
 use tib_operations::Status;
+use tib_transducer::ClassFault;
 
 /// A transducer whose right side has two labels.
 pub const TWO_LABELS: &str = "q\nq.A(x0:) -> B(C(q.x0)) # 1\nq.a -> b # 2\n";

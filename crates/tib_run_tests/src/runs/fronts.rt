@@ -5,9 +5,9 @@ use std::alloc::Global;
 use std::sync::Wait;
 use std::test::Fail;
 use std::thread::Threads;
-use tib_classes::ClassFault;
 use tib_lex::{FaultKind, FileFault};
 use tib_operations::Status;
+use tib_transducer::ClassFault;
 
 // From this number of bytes on, up to that of the next row, the fronts have this answer.
 type Front = (usize, Status, &'static str);

@@ -1,8 +1,8 @@
 // The worked rows on `parse`.
 use crate::runs::rows::Row;
-use tib_classes::ClassFault;
 use tib_lex::{FaultKind, FileFault};
 use tib_operations::Status;
+use tib_transducer::ClassFault;
 
 pub const WORDS: &str = "u u v\n";
 

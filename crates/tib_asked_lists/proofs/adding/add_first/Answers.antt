@@ -1,5 +1,5 @@
-use Rattle.tib_k_best_laws.specs.Levels.{states_at}
-use Rattle.tib_k_best_laws.specs.Pass.{zeros_at}
+use Rattle.tib_k_best_lists.specs.Levels.{states_at}
+use Rattle.tib_k_best_lists.specs.Pass.{zeros_at}
 use Rattle.tib_asked_lists.proofs.Added.{ranks_put, on_ok}
 use Rattle.tib_asked_lists.proofs.Followed.{zeros_long}
 use Rattle.tib_asked_lists.proofs.adding.add_first.Goals as goal

@@ -1,6 +1,6 @@
 use Rattle.std.specs.Prelude.{ℕ, List}
 use Rattle.std.proofs.Common.{◌∙◌}
-use Rattle.tib_k_best_laws.specs.Levels.{states_at}
+use Rattle.tib_k_best_lists.specs.Levels.{states_at}
 use Rattle.tib_k_best_lists.specs.Held.{ranks_from, raise, entries_of}
 use Rattle.tib_k_best_lists.proofs.Made.{length-raise}
 use Rattle.tib_k_best_lists.proofs.Offering.{ranks_long}

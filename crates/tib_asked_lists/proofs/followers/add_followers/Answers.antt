@@ -1,7 +1,7 @@
 use Rattle.std.specs.Prelude.{ℕ, List, length, ◌<◌, ◌≡◌}
 use Rattle.std.proofs.Common.{arith, subst, ap}
 use Rattle.tib_grammar.specs.Run.{rule_at}
-use Rattle.tib_k_best_laws.specs.Levels.{states_of, states_at}
+use Rattle.tib_k_best_lists.specs.Levels.{states_of, states_at}
 use Rattle.tib_k_best_lists.specs.ListsOf.{ListsOf}
 use Rattle.tib_k_best_lists.specs.Held.{candidate_at, below_of, IsLast}
 use Rattle.tib_k_best_lists.specs.declared.lists.Candidate.{Candidate}

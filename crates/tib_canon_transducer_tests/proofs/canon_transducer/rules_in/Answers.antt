@@ -1,6 +1,6 @@
 use Rattle.std.proofs.Common.{arith, length, ◌≡◌}
 use Rattle.tib_transducer_print.proofs.ReadBack.{read_back}
-use Rattle.tib_canon_transducer.proofs.Texts.{text_moves}
+use Rattle.tib_canon.proofs.TransducerTexts.{text_moves}
 use Rattle.tib_canon_transducer_tests.proofs.canon_transducer.rules_in.Goals as goal
 
 pub returns-clause-moves : goal.returns-clause-moves

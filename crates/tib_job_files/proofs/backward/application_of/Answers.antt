@@ -3,9 +3,9 @@ use Rattle.std.specs.Prelude.{Option, Some}
 use Rattle.tib_command.specs.Jobs.{meaning}
 use Rattle.tib_command.specs.declared.job.Operation.TheVariants as operations
 use Rattle.tib_operations.proofs.PlainMoves.{moves_grown}
-use Rattle.tib_run_laws.specs.Kinds.{of_transducer, of_grammar}
-use Rattle.tib_run_laws.proofs.Reached.{before_second, two_files}
-use Rattle.tib_run_laws.proofs.Steps.{ends_later, class_ends}
+use Rattle.tib_job_files.specs.Kinds.{of_transducer, of_grammar}
+use Rattle.tib_job_files.proofs.Reached.{before_second, two_files}
+use Rattle.tib_job_files.proofs.Steps.{ends_later, class_ends}
 use Rattle.tib_job_files.proofs.backward.application_of.Goals as goal
 
 pub returns-clause-transducer : goal.returns-clause-transducer

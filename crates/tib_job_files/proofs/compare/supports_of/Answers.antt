@@ -3,10 +3,10 @@ use Rattle.std.proofs.Common.{ℕ, List, refl}
 use Rattle.std.specs.Prelude.{Option, Some}
 use Rattle.tib_command.specs.Jobs.{meaning}
 use Rattle.tib_command.specs.declared.job.Operation.TheVariants as operations
-use Rattle.tib_run_laws.specs.Causes.{scale_of}
-use Rattle.tib_run_laws.specs.Kinds.{of_support}
-use Rattle.tib_run_laws.proofs.Reached.{before_second, two_files}
-use Rattle.tib_run_laws.proofs.Steps.{ends_later}
+use Rattle.tib_job_files.specs.Causes.{scale_of}
+use Rattle.tib_job_files.specs.Kinds.{of_support}
+use Rattle.tib_job_files.proofs.Reached.{before_second, two_files}
+use Rattle.tib_job_files.proofs.Steps.{ends_later}
 use Rattle.tib_job_files.proofs.compare.supports_of.Goals as goal
 
 pub returns-clause-first : goal.returns-clause-first

@@ -1,8 +1,8 @@
 use Rattle.std.proofs.Common.{ℕ, List}
 use Rattle.std.specs.Prelude.{Option}
 use Rattle.tib_command.specs.Jobs.{meaning}
-use Rattle.tib_run_laws.specs.Kinds.{of_grammar}
-use Rattle.tib_run_laws.proofs.Reached.{one_file}
+use Rattle.tib_job_files.specs.Kinds.{of_grammar}
+use Rattle.tib_job_files.proofs.Reached.{one_file}
 use Rattle.tib_job_files.proofs.determinize.source_of.Goals as goal
 
 pub returns-clause-texts : goal.returns-clause-texts

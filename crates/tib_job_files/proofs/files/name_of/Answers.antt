@@ -1,7 +1,7 @@
 use Rattle.std.proofs.Common.{arith, ◌-◌}
 use Rattle.std.specs.String.{string_bytes}
 use Rattle.tib_command.specs.Jobs.{meaning}
-use Rattle.tib_run_laws.proofs.Reached.{name_at, file_named}
+use Rattle.tib_job_files.proofs.Reached.{name_at, file_named}
 use Rattle.tib_job_files.proofs.files.name_of.Goals as goal
 
 pub returns : goal.returns

@@ -2,8 +2,8 @@ use Rattle.std.proofs.Common.{ℕ, List}
 use Rattle.std.specs.Prelude.{Option}
 use Rattle.tib_command.specs.Jobs.{meaning}
 use Rattle.tib_command.specs.declared.job.Operation.TheVariants as operations
-use Rattle.tib_run_laws.proofs.Reached.{made_answer}
-use Rattle.tib_run_laws.proofs.Steps.{made_ends, made_ends}
+use Rattle.tib_job_files.proofs.Reached.{made_answer}
+use Rattle.tib_job_files.proofs.Steps.{made_ends, made_ends}
 use Rattle.tib_job_texts.proofs.backward.backward_files_together.Goals as goal
 
 pub returns-in-Err-preimage_of_together-clause-status : goal.returns-in-Err-preimage_of_together-clause-status

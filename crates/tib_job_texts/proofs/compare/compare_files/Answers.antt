@@ -1,7 +1,7 @@
 use Rattle.std.proofs.Common.{ℕ, List}
 use Rattle.std.specs.Prelude.{Option}
 use Rattle.tib_command.specs.Jobs.{meaning}
-use Rattle.tib_run_laws.proofs.Large.{compare_answer, compare_ends, compare_ends}
+use Rattle.tib_job_files.proofs.Large.{compare_answer, compare_ends, compare_ends}
 use Rattle.tib_job_texts.proofs.compare.compare_files.Goals as goal
 
 pub returns-in-Err-comparison_of-clause-status : goal.returns-in-Err-comparison_of-clause-status

@@ -1,7 +1,7 @@
 use Rattle.std.proofs.lemmas.Result.{IfErr-weaker}
 use Rattle.tib_lex.proofs.Results.{ok_both}
 use Rattle.tib_command.specs.Jobs.{meaning}
-use Rattle.tib_run_laws.proofs.Large.{demo_answer, demo_ends}
+use Rattle.tib_job_files.proofs.Large.{demo_answer, demo_ends}
 use Rattle.tib_job_texts.proofs.demo.demo_of_number.Goals as goal
 
 pub returns-clause-text : goal.returns-clause-text

@@ -1,9 +1,9 @@
 use Rattle.std.proofs.Common.{ℕ, List, ap, ◌∙◌}
 use Rattle.tib_command.specs.Jobs.{meaning}
 use Rattle.tib_command.specs.declared.job.Operation.TheVariants as operations
-use Rattle.tib_run_laws.specs.Kinds.{of_grammar}
+use Rattle.tib_job_files.specs.Kinds.{of_grammar}
 use Rattle.tib_operations.specs.Text.{inside_lines}
-use Rattle.tib_run_laws.proofs.Reached.{one_file, made_answer}
+use Rattle.tib_job_files.proofs.Reached.{one_file, made_answer}
 use Rattle.tib_job_texts.proofs.inside.inside_of_file.Goals as goal
 
 pub returns-in-Ok-inside_text-clause-text : goal.returns-in-Ok-inside_text-clause-text

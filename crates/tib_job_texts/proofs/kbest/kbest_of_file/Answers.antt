@@ -1,9 +1,9 @@
 use Rattle.std.proofs.Common.{ℕ, List}
 use Rattle.std.specs.Prelude.{Option}
 use Rattle.tib_command.specs.Jobs.{meaning}
-use Rattle.tib_run_laws.specs.Kinds.{of_grammar}
-use Rattle.tib_run_laws.proofs.Large.{kbest_answer, kbest_ends}
-use Rattle.tib_run_laws.proofs.Reached.{one_file}
+use Rattle.tib_job_files.specs.Kinds.{of_grammar}
+use Rattle.tib_job_files.proofs.Large.{kbest_answer, kbest_ends}
+use Rattle.tib_job_files.proofs.Reached.{one_file}
 use Rattle.tib_job_texts.proofs.kbest.kbest_of_file.Goals as goal
 
 pub returns-in-Err-kbest_text-clause-status : goal.returns-in-Err-kbest_text-clause-status

@@ -2,9 +2,9 @@ use Rattle.std.proofs.Common.{ℕ, List}
 use Rattle.std.specs.Prelude.{Option}
 use Rattle.tib_command.specs.Jobs.{meaning}
 use Rattle.tib_command.specs.declared.job.Operation.TheVariants as operations
-use Rattle.tib_run_laws.specs.Kinds.{of_grammar}
-use Rattle.tib_run_laws.proofs.Reached.{one_file, made_answer}
-use Rattle.tib_run_laws.proofs.Steps.{made_ends}
+use Rattle.tib_job_files.specs.Kinds.{of_grammar}
+use Rattle.tib_job_files.proofs.Reached.{one_file, made_answer}
+use Rattle.tib_job_files.proofs.Steps.{made_ends}
 use Rattle.tib_job_texts.proofs.normal.normal_of_file.Goals as goal
 
 pub returns-in-Err-canonical_normal-clause-status : goal.returns-in-Err-canonical_normal-clause-status

@@ -1,8 +1,8 @@
 use Rattle.std.proofs.Common.{ℕ, List, subst}
 use Rattle.std.specs.Prelude.{Option}
 use Rattle.tib_command.specs.Jobs.{meaning}
-use Rattle.tib_parse_text.specs.Parse.{HasParseText, IsParseTextFault, parse_makes}
-use Rattle.tib_run_laws.proofs.Parsed.{parse_answer, parse_ends}
+use Rattle.tib_further_operations.specs.Parse.{HasParseText, IsParseTextFault, parse_makes}
+use Rattle.tib_job_files.proofs.Parsed.{parse_answer, parse_ends}
 use Rattle.tib_job_texts.proofs.parse.parse_files_together.Goals as goal
 
 pub returns-in-Err-parse_of_together-clause-status : goal.returns-in-Err-parse_of_together-clause-status

@@ -1,5 +1,5 @@
-use Rattle.tib_run_laws.proofs.Steps.{leaves_all}
-use Rattle.tib_run_laws.specs.Run.{files_seen}
+use Rattle.tib_job_files.proofs.Steps.{leaves_all}
+use Rattle.tib_job_files.specs.Run.{files_seen}
 use Rattle.tib_job_texts.proofs.together.text_together.Goals as goal
 
 pub returns-in-Demo-clause-status : goal.returns-in-Demo-clause-status

@@ -2,9 +2,9 @@ use Rattle.std.proofs.Common.{ℕ, List, refl}
 use Rattle.std.specs.Prelude.{Option, Some}
 use Rattle.tib_command.specs.Jobs.{meaning}
 use Rattle.tib_command.specs.declared.job.Operation.TheVariants as operations
-use Rattle.tib_run_laws.specs.Kinds.{of_grammar, of_trees}
-use Rattle.tib_run_laws.proofs.Reached.{before_second, two_files, made_answer}
-use Rattle.tib_run_laws.proofs.Steps.{made_ends, ends_later}
+use Rattle.tib_job_files.specs.Kinds.{of_grammar, of_trees}
+use Rattle.tib_job_files.proofs.Reached.{before_second, two_files, made_answer}
+use Rattle.tib_job_files.proofs.Steps.{made_ends, ends_later}
 use Rattle.tib_job_texts.proofs.weigh.weigh_files.Goals as goal
 
 pub returns-in-Err-costs_of-clause-status : goal.returns-in-Err-costs_of-clause-status

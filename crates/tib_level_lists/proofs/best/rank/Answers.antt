@@ -1,6 +1,6 @@
 use Rattle.std.specs.Prelude.{ℕ, ◌-◌, List, take}
 use Rattle.std.proofs.Common.{arith, ap, sym, ◌∙◌, subst}
-use Rattle.tib_k_best_laws.specs.Best.{IsKBest}
+use Rattle.tib_k_best_lists.specs.Best.{IsKBest}
 use Rattle.tib_level_lists.specs.Weights.{places_from, AreByCost}
 use Rattle.tib_level_lists.proofs.Ranking.{are_ranked, at_costs, below_costs, ranked_best, split_few}
 use Rattle.tib_level_lists.proofs.best.rank.Goals as goal

@@ -6,8 +6,8 @@ use Rattle.tib_grammar_file.specs.Printed.{AreLabelled}
 use Rattle.tib_k_best.proofs.Levelled.{level_labelled, level_normal, level_orderly}
 use Rattle.tib_k_best.specs.Causes.{IsCause}
 use Rattle.tib_k_best.specs.Trimmed.{HaveTreesBelow}
-use Rattle.tib_k_best_laws.specs.Best.{IsKBest}
-use Rattle.tib_k_best_laws.specs.Levels.{level, IsOrderly}
+use Rattle.tib_k_best_lists.specs.Best.{IsKBest}
+use Rattle.tib_k_best_lists.specs.Levels.{level, IsOrderly}
 use Rattle.tib_level_lists.specs.Levels.{IsRenamed}
 use Rattle.tib_level_lists.proofs.Trimming.{trimmed_best, trimmed_cause, trimmed_labelled, trimmed_normal, trimmed_orderly, trimmed_trees}
 use Rattle.tib_level_lists.proofs.level.best_of_level.Goals as goal

@@ -1,5 +1,5 @@
 use Rattle.std.proofs.Common.{ℕ, ◌<◌, ◌≤◌, get_or}
-use Rattle.tib_k_best_laws.specs.Pass.{no_entry}
+use Rattle.tib_k_best_lists.specs.Pass.{no_entry}
 use Rattle.tib_operations.proofs.kbest.are_within.Given as goal
 
 abbrev pub invariant-loop-i : goal.invariant-loop-i

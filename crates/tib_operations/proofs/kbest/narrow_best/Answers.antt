@@ -4,8 +4,8 @@ use Rattle.std.proofs.lemmas.List.{get_or_default}
 use Rattle.tib_lex.proofs.Lists.{Each-from}
 use Rattle.tib_grammar.specs.GrammarOf.{GrammarOf}
 use Rattle.tib_inside.specs.Inside.{IsInside}
-use Rattle.tib_k_best_laws.specs.Best.{Costed}
-use Rattle.tib_k_best_laws.specs.Pass.{no_entry}
+use Rattle.tib_k_best_lists.specs.Best.{Costed}
+use Rattle.tib_k_best_lists.specs.Pass.{no_entry}
 use Rattle.tib_operations.proofs.NarrowBest.{narrow}
 use Rattle.tib_operations.proofs.OfPrune.{kept_printable}
 use Rattle.tib_operations.proofs.kbest.narrow_best.Goals as goal

@@ -3,9 +3,9 @@ use Rattle.tib_lex.specs.Lists.{Each}
 use Rattle.tib_grammar.specs.Sides.{holes_of}
 use Rattle.tib_strings.specs.Rules.{pairs_of}
 use Rattle.tib_strings.specs.declared.Word.{Word as Token}
-use Rattle.tib_cuts.specs.Cuts.{spans}
-use Rattle.tib_parse_laws.specs.Parsing.{parse_key}
-use Rattle.tib_side_rules.specs.Listing.{IsAdded}
+use Rattle.tib_strings.specs.Cuts.{spans}
+use Rattle.tib_parse.specs.Parsing.{parse_key}
+use Rattle.tib_keyed.specs.Listing.{IsAdded}
 use Rattle.tib_parse.proofs.Listed.{adds_edge, overruns_edge, both_ok}
 use Rattle.tib_parse.proofs.Spanned.{keys_same, spans_at}
 use Rattle.tib_parse.proofs.operation.add_cut.Goals as goal

@@ -1,5 +1,5 @@
 use Rattle.std.proofs.Common.{◌<◌, ap, sym, ◌∙◌, subst, [], ◌∷◌, ℕ, List, length, arith, refl}
-use Rattle.tib_cuts.specs.Remaining.{remaining, GoesTo}
+use Rattle.tib_strings.specs.Remaining.{remaining, GoesTo}
 use Rattle.tib_parse.specs.Listing.{Adds, Overruns, HasPlaces, cut_edge}
 use Rattle.tib_parse.proofs.Listed.{done_first, done_next, done_overruns, done_all}
 use Rattle.tib_parse.proofs.operation.add_cuts.Goals as goal

@@ -1,6 +1,6 @@
 use Rattle.std.proofs.Common.{◌≡◌, length}
-use Rattle.tib_cuts.specs.Remaining.{IsSearch, remaining}
-use Rattle.tib_side_rules.specs.Listing.{IsWithinBudget}
+use Rattle.tib_strings.specs.Remaining.{IsSearch, remaining}
+use Rattle.tib_keyed.specs.Listing.{IsWithinBudget}
 use Rattle.tib_parse.specs.Listing.{AreDone}
 use Rattle.tib_parse.proofs.operation.add_cuts.Given as goal
 

@@ -1,7 +1,7 @@
 use Rattle.std.proofs.Common.{length}
 use Rattle.std.proofs.lemmas.Result.{err_from_is_err_and}
 use Rattle.tib_grammar.proofs.Positions.{rules_in_range}
-use Rattle.tib_parse_laws.specs.Parsing.{first_key}
+use Rattle.tib_parse.specs.Parsing.{first_key}
 use Rattle.tib_parse.proofs.Answering.{few_keys, few_rules, reached_of, parts_are, beyond_of, class_fault, hunt_fault}
 use Rattle.tib_parse.proofs.reached.parse_together.Goals as goal
 

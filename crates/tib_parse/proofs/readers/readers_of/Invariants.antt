@@ -1,5 +1,5 @@
 use Rattle.std.proofs.Common.{◌≡◌, map, take}
-use Rattle.tib_parse_laws.specs.Restrictions.{as_rule}
+use Rattle.tib_parse.specs.Restrictions.{as_rule}
 use Rattle.tib_parse.proofs.readers.readers_of.Given as goal
 
 abbrev pub invariant-loop-rule : goal.invariant-loop-rule

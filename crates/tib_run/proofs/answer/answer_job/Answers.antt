@@ -1,7 +1,7 @@
 use Rattle.std.proofs.Common.{List, ℕ, subst, sym}
 use Rattle.tib_command.specs.Jobs.{meaning}
-use Rattle.tib_run_laws.specs.Answers.{IsAnswer}
-use Rattle.tib_run_laws.proofs.Runs.{ended, answered, cut_short}
+use Rattle.tib_job_files.specs.Answers.{IsAnswer}
+use Rattle.tib_job_files.proofs.Runs.{ended, answered, cut_short}
 use Rattle.tib_run.proofs.answer.answer_job.Goals as goal
 
 pub returns-in-Err : goal.returns-in-Err

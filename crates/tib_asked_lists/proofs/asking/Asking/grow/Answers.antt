@@ -1,7 +1,7 @@
 use Rattle.std.specs.Prelude.{ℕ, List}
 use Rattle.std.proofs.Common.{subst, sym}
 use Rattle.tib_grammar.specs.declared.Rule.{Rule}
-use Rattle.tib_k_best_laws.specs.Levels.{IsOrderly}
+use Rattle.tib_k_best_lists.specs.Levels.{IsOrderly}
 use Rattle.tib_asked_lists.specs.AskingOf.{asking_of}
 use Rattle.tib_asked_lists.proofs.Rounded.{none_listed, on_both, one_listed, one_more}
 use Rattle.tib_asked_lists.proofs.asking.Asking.grow.Goals as goal

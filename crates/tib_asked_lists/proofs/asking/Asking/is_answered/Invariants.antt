@@ -1,6 +1,6 @@
 use Rattle.std.specs.Prelude.{◌<◌, ℕ}
 use Rattle.std.proofs.Common.{get_or}
-use Rattle.tib_k_best_laws.specs.Levels.{states_at}
+use Rattle.tib_k_best_lists.specs.Levels.{states_at}
 use Rattle.tib_k_best_lists.specs.Held.{ranks_from}
 use Rattle.tib_asked_lists.specs.Asks.{IsAnswered}
 use Rattle.tib_asked_lists.proofs.asking.Asking.is_answered.Given as goal

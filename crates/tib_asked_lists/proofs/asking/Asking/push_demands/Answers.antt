@@ -1,5 +1,5 @@
 use Rattle.std.proofs.Common.{arith}
-use Rattle.tib_k_best_laws.specs.Levels.{states_at}
+use Rattle.tib_k_best_lists.specs.Levels.{states_at}
 use Rattle.tib_k_best_lists.specs.Held.{entries_of, ranks_from}
 use Rattle.tib_asked_lists.proofs.Demanded.{named_next, named_fewer}
 use Rattle.tib_asked_lists.proofs.asking.Asking.push_demands.Goals as goal

@@ -1,6 +1,6 @@
 use Rattle.std.specs.Prelude.{◌+◌, ◌≤◌, take}
-use Rattle.tib_k_best_laws.specs.Levels.{states_at}
-use Rattle.tib_k_best_laws.specs.Walks.{pairs}
+use Rattle.tib_k_best_lists.specs.Levels.{states_at}
+use Rattle.tib_k_best_lists.specs.Walks.{pairs}
 use Rattle.tib_k_best_lists.specs.Held.{entries_of, ranks_from}
 use Rattle.tib_asked_lists.specs.AskingOf.{asking_of}
 use Rattle.tib_asked_lists.specs.Demands.{nodes_behind, named_nodes, AreUnmet}

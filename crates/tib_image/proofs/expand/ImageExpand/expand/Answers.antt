@@ -3,8 +3,8 @@ use Rattle.std.proofs.lemmas.List.{get_or_read}
 use Rattle.tib_image.specs.Image.{IsImageEdge}
 use Rattle.tib_image.specs.Laws.{same_edge}
 use Rattle.tib_image.specs.Listing.{Listing}
-use Rattle.tib_side_rules.specs.Listing.{AreListedFrom, Overruns}
-use Rattle.tib_side_rules.proofs.Listed.{whole_listed, whole_ends, overruns_exceeds}
+use Rattle.tib_keyed.specs.Listing.{AreListedFrom, Overruns}
+use Rattle.tib_keyed.proofs.Listed.{whole_listed, whole_ends, overruns_exceeds}
 use Rattle.tib_hunt.specs.declared.place.ExpandError.{ExpandError}
 use Rattle.std.specs.declared.result.Result.{Result}
 use Rattle.tib_keyed.specs.Ends.{key_at}

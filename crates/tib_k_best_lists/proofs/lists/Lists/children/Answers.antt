@@ -2,7 +2,7 @@ use Rattle.std.proofs.Common.{arith, ap}
 use Rattle.std.specs.Prelude.{ℕ, length}
 use Rattle.tib_tree.specs.Trees.{Tree}
 use Rattle.tib_grammar.specs.Run.{rule_at}
-use Rattle.tib_k_best_laws.specs.Levels.{states_of}
+use Rattle.tib_k_best_lists.specs.Levels.{states_of}
 use Rattle.tib_k_best_lists.specs.Held.{entries_of, ranks_from}
 use Rattle.tib_k_best_lists.proofs.Made.{comes_next, comes_all, below_snoc}
 use Rattle.tib_k_best_lists.proofs.lists.Lists.children.Goals as goal

@@ -1,8 +1,8 @@
 use Rattle.std.specs.Prelude.{◌≡◌, ◌++◌, ℕ, List, length, drop}
 use Rattle.tib_grammar.specs.Run.{rule_at}
 use Rattle.tib_shared_trees.specs.Numbers.{NumbersBelow}
-use Rattle.tib_k_best_laws.specs.Levels.{states_of, trees_of}
-use Rattle.tib_k_best_laws.specs.Pass.{picked}
+use Rattle.tib_k_best_lists.specs.Levels.{states_of, trees_of}
+use Rattle.tib_k_best_lists.specs.Pass.{picked}
 use Rattle.tib_k_best_lists.specs.Seen.{row}
 use Rattle.tib_k_best_lists.specs.Held.{entries_of, ranks_from}
 use Rattle.tib_k_best_lists.proofs.lists.Lists.children.Given as goal

@@ -3,9 +3,9 @@ use Rattle.std.specs.declared.cmp.Ordering.{Ordering}
 use Rattle.std.specs.Ordering.{ordering_then}
 use Rattle.std.proofs.Common.{arith, ap, ◌∙◌, sym}
 use Rattle.tib_tree.specs.Trees.{Tree}
-use Rattle.tib_tree_order.specs.Order.{tree_cmp_by}
-use Rattle.tib_k_best_laws.specs.Levels.{trees_of}
-use Rattle.tib_k_best_laws.specs.Pass.{picked}
+use Rattle.tib_tree.specs.Order.{tree_cmp_by}
+use Rattle.tib_k_best_lists.specs.Levels.{trees_of}
+use Rattle.tib_k_best_lists.specs.Pass.{picked}
 use Rattle.tib_k_best_lists.specs.ListsOf.{ListsOf}
 use Rattle.tib_k_best_lists.specs.Seen.{tree_at}
 use Rattle.tib_k_best_lists.specs.Ordered.{kids_cmp}

@@ -1,7 +1,7 @@
 use Rattle.std.specs.Prelude.{◌≡◌, drop}
 use Rattle.tib_grammar.specs.Run.{rule_at}
-use Rattle.tib_k_best_laws.specs.Levels.{states_of, trees_of}
-use Rattle.tib_k_best_laws.specs.Pass.{picked}
+use Rattle.tib_k_best_lists.specs.Levels.{states_of, trees_of}
+use Rattle.tib_k_best_lists.specs.Pass.{picked}
 use Rattle.tib_k_best_lists.specs.Ordered.{kids_cmp}
 use Rattle.tib_k_best_lists.specs.Held.{entries_of, ranks_of, tree_by}
 use Rattle.tib_k_best_lists.proofs.lists.Lists.compare_children.Given as goal

@@ -3,7 +3,7 @@ use Rattle.std.specs.Prelude.{ℕ}
 use Rattle.tib_tree.specs.Trees.{Tree}
 use Rattle.tib_cost.proofs.Times.{cut-some}
 use Rattle.tib_grammar.specs.Run.{rule_at}
-use Rattle.tib_k_best_laws.specs.Levels.{states_of}
+use Rattle.tib_k_best_lists.specs.Levels.{states_of}
 use Rattle.tib_k_best_lists.specs.Held.{entries_of, ranks_from}
 use Rattle.tib_k_best_lists.proofs.Offering.{total_from, total_begins, total_step, too_dear}
 use Rattle.tib_k_best_lists.proofs.lists.Lists.cost_of.Goals as goal

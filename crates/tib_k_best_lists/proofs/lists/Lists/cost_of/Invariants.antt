@@ -1,6 +1,6 @@
 use Rattle.std.proofs.Common.{◌≡◌, ◌≤◌, length}
 use Rattle.tib_grammar.specs.Run.{rule_at}
-use Rattle.tib_k_best_laws.specs.Levels.{states_of}
+use Rattle.tib_k_best_lists.specs.Levels.{states_of}
 use Rattle.tib_k_best_lists.specs.Held.{entries_of, ranks_from}
 use Rattle.tib_k_best_lists.proofs.Offering.{total_from}
 use Rattle.tib_k_best_lists.proofs.lists.Lists.cost_of.Given as goal

@@ -3,7 +3,7 @@ use Rattle.std.specs.Prelude.{ℕ}
 use Rattle.tib_grammar.specs.Run.{rule_at}
 use Rattle.tib_grammar.specs.declared.Rule.{Rule}
 use Rattle.tib_grammar.specs.Sides.{holes}
-use Rattle.tib_k_best_laws.specs.Levels.{states_of}
+use Rattle.tib_k_best_lists.specs.Levels.{states_of}
 use Rattle.tib_k_best_lists.specs.ListsOf.{ListsOf}
 use Rattle.tib_k_best_lists.proofs.Children.{rule_read, state_at, below_at, states_below}
 use Rattle.tib_k_best_lists.proofs.lists.Lists.state.Goals as goal

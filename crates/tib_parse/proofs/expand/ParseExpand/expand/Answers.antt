@@ -7,10 +7,10 @@ use Rattle.tib_hunt.specs.declared.place.ExpandError.{ExpandError}
 use Rattle.tib_lex.specs.Lists.{Has}
 use Rattle.std.specs.Prelude.{◌↔◌}
 use Rattle.tib_grammar.specs.Sides.{holes_of}
-use Rattle.tib_parse_laws.specs.Restrictions.{restricted_labels}
-use Rattle.tib_parse_laws.specs.Parsing.{first_key, IsParseEdge}
-use Rattle.tib_parse_laws.specs.Operation.{IsKey, edge_parts}
-use Rattle.tib_side_rules.specs.SideRules.{places_of, read_places}
+use Rattle.tib_parse.specs.Restrictions.{restricted_labels}
+use Rattle.tib_parse.specs.Parsing.{first_key, IsParseEdge}
+use Rattle.tib_parse.specs.Operation.{IsKey, edge_parts}
+use Rattle.tib_keyed.specs.SideRules.{places_of, read_places}
 use Rattle.tib_parse.specs.Listing.{Listing}
 use Rattle.tib_parse.proofs.Reading.{whole_listed, whole_ends, overruns_exceeds}
 use Rattle.tib_parse.proofs.expand.ParseExpand.expand.Goals as goal

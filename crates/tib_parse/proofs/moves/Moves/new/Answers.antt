@@ -7,7 +7,7 @@ use Rattle.tib_strings.specs.Rules.{string_rule, no_rule}
 use Rattle.tib_strings.specs.declared.StringRule.{StringRule}
 use Rattle.tib_transducer.specs.Moves.{moves_of}
 use Rattle.tib_transducer.proofs.Moves.{held_next}
-use Rattle.tib_parse_laws.specs.Restrictions.{as_rule}
+use Rattle.tib_parse.specs.Restrictions.{as_rule}
 use Rattle.tib_parse.proofs.moves.Moves.new.Goals as goal
 
 pub index_mut-requires : goal.index_mut-requires

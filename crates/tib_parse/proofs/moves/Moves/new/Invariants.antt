@@ -1,6 +1,6 @@
 use Rattle.std.proofs.Common.{◌≡◌, ℕ, length, map, take}
 use Rattle.tib_transducer.specs.Moves.{held, moves_of}
-use Rattle.tib_parse_laws.specs.Restrictions.{as_rule}
+use Rattle.tib_parse.specs.Restrictions.{as_rule}
 use Rattle.tib_parse.proofs.moves.Moves.new.Given as goal
 
 abbrev pub invariant-loop-n : goal.invariant-loop-n

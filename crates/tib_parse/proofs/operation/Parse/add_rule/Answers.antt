@@ -5,8 +5,8 @@ use Rattle.tib_tree.specs.Trees.{size}
 use Rattle.tib_strings.specs.Rules.{string_rule, no_rule}
 use Rattle.tib_strings.specs.Range.{IsShaped}
 use Rattle.tib_strings.specs.declared.StringRule.{StringRule}
-use Rattle.tib_side_rules.proofs.MappedSides.{items_size}
-use Rattle.tib_cuts.specs.Remaining.{FindsCuts}
+use Rattle.tib_keyed.proofs.MappedSides.{items_size}
+use Rattle.tib_strings.specs.Remaining.{FindsCuts}
 use Rattle.tib_parse.specs.Listing.{Adds, Overruns, cut_edge}
 use Rattle.tib_parse.proofs.Listed.{adds_none}
 use Rattle.tib_parse.proofs.Ruling.{places_enough, none_fit, some_fit}

@@ -3,7 +3,7 @@ use Rattle.tib_lex.specs.Lists.{total}
 use Rattle.tib_lex.proofs.Lists.{total_append}
 use Rattle.tib_lex.proofs.Places.{take_whole}
 use Rattle.tib_apply.proofs.MoreParts.{same_fault}
-use Rattle.tib_parse_laws.specs.Operation.{edge_parts}
+use Rattle.tib_parse.specs.Operation.{edge_parts}
 use Rattle.tib_parse.specs.Listing.{IsListed, edges_at, edges_at_all}
 use Rattle.tib_parse.proofs.Listed.{listed_first}
 use Rattle.tib_parse.proofs.Ruling.{all_next, all_split, all_edges, move_here, moves_are}

@@ -1,5 +1,5 @@
 use Rattle.std.proofs.Common.{◌≡◌, take}
-use Rattle.tib_side_rules.specs.Listing.{IsWithinBudget}
+use Rattle.tib_keyed.specs.Listing.{IsWithinBudget}
 use Rattle.tib_parse.specs.Listing.{IsListed, edges_at_all}
 use Rattle.tib_parse.proofs.operation.Parse.list_edges.Given as goal
 

@@ -1,6 +1,6 @@
 use Rattle.std.proofs.Common.{ap, ◌∙◌, List, ℕ, length, arith}
 use Rattle.tib_strings.specs.declared.StringRule.{StringRule}
-use Rattle.tib_parse_laws.specs.Restrictions.{restricted_labels}
+use Rattle.tib_parse.specs.Restrictions.{restricted_labels}
 use Rattle.tib_parse.specs.ParseLaws.{states_below}
 use Rattle.tib_parse.proofs.operation.Parse.new.Goals as goal
 

@@ -2,7 +2,7 @@ use Rattle.std.proofs.Common.{ap, sym, ◌∙◌, length, get_or, refl, arith, s
 use Rattle.std.specs.declared.cmp.Ordering.TheVariants.{Equal}
 use Rattle.tib_shared_trees.specs.Ranked.{IsOrderOf}
 use Rattle.tib_lex.proofs.Members.{has_at}
-use Rattle.tib_tree_order.proofs.Orderings.{is_tied, is_decided}
+use Rattle.tib_tree.proofs.Orderings.{is_tied, is_decided}
 use Rattle.tib_shared_trees.proofs.Descending.{order_itself, order_roots, order_down, order_none}
 use Rattle.tib_shared_trees.proofs.kept.Trees.compare.Goals as goal
 

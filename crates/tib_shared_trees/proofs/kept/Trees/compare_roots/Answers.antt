@@ -1,5 +1,5 @@
 use Rattle.std.proofs.Common.{ap, sym, ◌∙◌, get_or, length}
-use Rattle.tib_tree_order.proofs.Orderings.{is_tied, is_decided, nat_equal}
+use Rattle.tib_tree.proofs.Orderings.{is_tied, is_decided, nat_equal}
 use Rattle.tib_shared_trees.proofs.Descending.{roots_by_size, roots_by_rank, roots_by_count}
 use Rattle.tib_shared_trees.specs.Numbers.{told_size}
 use Rattle.tib_shared_trees.proofs.kept.Trees.compare_roots.Goals as goal

@@ -1,5 +1,0 @@
-use Rattle.tib_canon_transducer.proofs.Compose.{compose_series}
-use Rattle.tib_canon_transducer.proofs.laws.compositions_have_their_series.Goals as goal
-
-pub returns : goal.returns
-returns g c = compose_series g.met.S.Semiring.laws

@@ -1,5 +1,0 @@
-use Rattle.std.proofs.Common.{◌≡◌, take, map}
-use Rattle.tib_canon_transducer.proofs.lines.positions_of.Given as goal
-
-abbrev pub invariant-loop-line : goal.invariant-loop-line
-invariant-loop-line l = l.positions.items ≡ map (λ line. line.position) (take l.line-index l.lines)

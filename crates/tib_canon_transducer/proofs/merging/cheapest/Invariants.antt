@@ -1,6 +1,0 @@
-use Rattle.std.proofs.Common.{map}
-use Rattle.tib_canon_transducer.specs.Merging.{IsChoosing}
-use Rattle.tib_canon_transducer.proofs.merging.cheapest.Given as goal
-
-abbrev pub invariant-loop-n : goal.invariant-loop-n
-invariant-loop-n l = IsChoosing l.rules l.n (map (λ k. (k.0, k.1.now, k.2.now)) l.sides.keys) l.best.items

@@ -1,5 +1,0 @@
-mod BothByText
-mod OfForms
-mod AnswersByText
-mod AnswersExist
-pub mod OfCompare

@@ -1,6 +1,0 @@
-pub mod Cuts
-pub mod CutLists
-pub mod Stacks
-pub mod Bounds
-pub mod Search
-pub mod Remaining

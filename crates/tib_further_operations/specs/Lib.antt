@@ -1,0 +1,4 @@
+pub mod Words
+pub mod ByText
+pub mod Parse
+pub mod Compare

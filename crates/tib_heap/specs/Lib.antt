@@ -1,2 +1,0 @@
--- Heaps, as lists.
-pub mod Heaps

@@ -1,9 +1,0 @@
--- The definitions of lists of best trees, and what holds of them.
-pub mod First
-pub mod Best
-pub mod Levels
-pub mod Pass
-pub mod Firsts
-pub mod Lazy
-pub mod Walks
-pub mod Leveling

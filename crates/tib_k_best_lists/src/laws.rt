@@ -1,0 +1,87 @@
+// What holds of lists of best trees, in every semiring.
+ghost use Rattle.std.specs.Prelude.{IsTrue};
+ghost use Rattle.tib_k_best_lists.specs.Best.{CostsAreOrdered, AreRanked, OneKBest, FrontsGrow, LargeIsListed};
+ghost use Rattle.tib_k_best_lists.specs.Levels.{GrowsAlongRules};
+ghost use Rattle.tib_k_best_lists.specs.Pass.{PassListsBest, PassGoesOn};
+ghost use Rattle.tib_k_best_lists.specs.Firsts.{FirstsAreBest};
+ghost use Rattle.tib_k_best_lists.specs.Lazy.{AskingListsBest, AskingKeeps, NoDuplicates};
+ghost use Rattle.tib_k_best_lists.specs.Leveling.{LevelsListBest};
+ghost use Rattle.tib_k_best_lists.specs.Walks.{WalksAreShort};
+
+use tib_cost::Semiring;
+
+/// Trees with costs are in a strict order, which is total on the trees that a grammar gives a cost.
+pub fn costs_are_ranked<S: Semiring>()
+    ensures { AreRanked S.product }
+{}
+
+/// The order of trees with costs, with three answers, is total on all trees with costs.
+pub fn costs_are_ordered()
+    ensures { CostsAreOrdered }
+{}
+
+/// There is one list of the k best trees.
+pub fn one_k_best<S: Semiring>()
+    ensures { OneKBest S.product }
+{}
+
+/// A rule's tree comes earlier where one child does, and every child comes before it.
+pub fn order_goes_up_the_rules<S: Semiring>()
+    ensures { GrowsAlongRules S.product }
+{}
+
+/// In a pass over all states that takes the least candidate, what it takes is the next tree of its
+/// state; and where no candidate waits, every list is whole or full.
+pub fn pass_lists_best<S: Semiring>()
+    ensures { PassListsBest S.product }
+{}
+
+/// Where the children of a state were asked, its least candidate is its next tree; and where none
+/// waits, its list is whole.
+pub fn asking_lists_best<S: Semiring>()
+    ensures { AskingListsBest S.product }
+{}
+
+/// Where the product is the greater cost, the best trees are those of the levels, from the least
+/// on, each level giving those that no earlier one gave.
+pub fn levels_list_best<S: Semiring>()
+    ensures { IsTrue S.LEVELLED → LevelsListBest S.product }
+{}
+
+/// What each state keeps between two asks is kept while lists grow, when the states below were
+/// asked, and when a candidate is taken.
+pub fn asking_goes_on<S: Semiring>()
+    ensures { AskingKeeps S.product }
+{}
+
+/// What holds between two steps of the pass holds after a step.
+pub fn pass_goes_on<S: Semiring>()
+    ensures { PassGoesOn S.product }
+{}
+
+/// A front grows by the next tree, and is the list of the k best when it has k trees, or all.
+pub fn fronts_grow<S: Semiring>()
+    ensures { FrontsGrow S.product }
+{}
+
+/// Of the trees that rules make of first trees, one that is no later than others of its state, and
+/// no larger than any, is the first tree of its state.
+pub fn firsts_are_best<S: Semiring>()
+    ensures { FirstsAreBest S.product }
+{}
+
+/// In deterministic form two candidates stand for different trees, so no tree is taken twice.
+pub fn candidates_are_apart<S: Semiring>()
+    ensures { NoDuplicates S.product }
+{}
+
+/// A large tree that is next behind a front shorter than k stands in every list of the k least
+/// trees.
+pub fn large_is_listed<S: Semiring>()
+    ensures { LargeIsListed S.product }
+{}
+
+/// A round asks no more states than the tree that it goes down has nodes.
+pub fn walks_are_short<S: Semiring>()
+    ensures { WalksAreShort S.product }
+{}

@@ -1,8 +1,0 @@
-// What holds of every file of one tree.
-ghost use Rattle.tib_one_tree.specs.Laws.{TextsHaveNone, FaultsAreOne};
-
-/// The text of one tree has no fault as such, and bytes have one fault at most.
-pub fn one_tree_or_fault()
-    ensures none { TextsHaveNone }
-    ensures one { FaultsAreOne }
-{}

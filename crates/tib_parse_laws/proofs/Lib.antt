@@ -1,9 +1,0 @@
-pub mod Restricting
-pub mod Leaves
-pub mod StringRuns
-pub mod EachKey
-pub mod Reached
-pub mod Covering
-pub mod Parses
-pub mod Listing
-pub mod KeyRanges

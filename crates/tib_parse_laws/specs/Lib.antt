@@ -1,5 +1,0 @@
-pub mod Restrictions
-pub mod Parsing
-pub mod Operation
-pub mod Edges
-pub mod Examples

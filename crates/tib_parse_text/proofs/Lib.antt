@@ -1,7 +1,0 @@
-pub mod WordsByText
-pub mod ParseByText
-pub mod WordsRead
-pub mod OneString
-pub mod DemandByText
-pub mod Telling
-pub mod OfParse

@@ -1,4 +1,0 @@
-pub mod SideRules
-pub mod SideRuleLaws
-pub mod Settling
-pub mod Listing

@@ -1,0 +1,8 @@
+// What holds of every file of one tree.
+ghost use Rattle.tib_tree.specs.OneTreeLaws.{TextsHaveNone, FaultsAreOne};
+
+/// The text of one tree has no fault as such, and bytes have one fault at most.
+pub fn one_tree_or_fault()
+    ensures none { TextsHaveNone }
+    ensures one { FaultsAreOne }
+{}

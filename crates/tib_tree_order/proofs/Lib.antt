@@ -1,4 +1,0 @@
-pub mod Orderings
-pub mod Relabelling
-pub mod TreeOrder
-pub mod ByNodes

@@ -1,2 +1,0 @@
--- The order of trees.
-pub mod Order
