@@ -14,8 +14,6 @@ mod search;
 mod stepping;
 mod transducers;
 
-ghost use Rattle.std.specs.Prelude.{◌≡◌};
-
 pub use classes::string_outside;
 pub use search::Cuts;
 use std::marker::{Model, PhantomData};
