@@ -1,5 +1,7 @@
-//! Tests of canonical forms.
+//! Tests of canonical forms: of grammars, and of transducers.
 #![tactic(auto)]
 
 #[cfg(test)]
 mod forms;
+#[cfg(test)]
+mod transducers;

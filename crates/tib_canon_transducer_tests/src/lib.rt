@@ -1,5 +1,0 @@
-//! Tests of canonical transducers.
-#![tactic(auto)]
-
-#[cfg(test)]
-mod canon_transducer;
