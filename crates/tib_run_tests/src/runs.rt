@@ -4,7 +4,6 @@ use std::sync::Wait;
 use std::sync::atomic::Ordering;
 use std::test::Fail;
 use std::thread::Threads;
-use tib_lex::{FaultKind, FileFault};
 use tib_operations::Status;
 
 mod applied_rows;
@@ -12,11 +11,8 @@ mod compared_rows;
 mod composed_rows;
 mod demo_rows;
 mod determinized_rows;
-mod fronts;
 mod image_rows;
 mod kbest_rows;
-mod large;
-mod limits;
 mod meeting;
 mod parsed_rows;
 mod rows;
@@ -31,7 +27,6 @@ use demo_rows::{DEMONSTRATED, SEVEN};
 use determinized_rows::DETERMINIZED;
 use image_rows::IMAGED;
 use kbest_rows::{LISTED, LISTED_OTHERS};
-use limits::{LENGTHS, LIMITED, LIMITED_OTHERS, Length, Limited};
 use parsed_rows::PARSED;
 use rows::{BINARY, INTERSECTED, ONE_FILE, PRUNED, RIGHT, Row, WEIGHED, WEIGHED_OTHERS, WIDEST};
 use running::{Calls, Counting, Outside, Ran, SOUND, run_through, run_words, run_words_alone};
@@ -518,106 +513,6 @@ fn the_rows_on_demo_run(rt: HostRuntime) -> Result<(), Fail> {
     Ok(())
 }
 
-// How a run of these words over the files of a row ends.
-fn status_of<R: Threads + Wait + Sync>(
-    rt: &R,
-    alloc: Global,
-    words: &[&str],
-    row: &Limited,
-    outside: &Outside,
-) -> Result<Status, AllocError> {
-    let ran = run_words(
-        rt,
-        alloc,
-        words,
-        row.2.as_bytes(),
-        row.3.as_bytes(),
-        outside,
-    )?;
-    Ok(ran.status)
-}
-
-// How an operation on one or two files ends within a limit.
-fn status_within<R: Threads + Wait + Sync>(
-    rt: &R,
-    alloc: Global,
-    row: &Limited,
-    limit: u64,
-    outside: &Outside,
-) -> Result<Status, AllocError> {
-    let option = format!(in alloc; "--limit={limit}")?;
-    let words = ["-m", row.0, option.as_str(), row.1, "G", "T"];
-    let files = if row.3.is_empty() { 5 } else { 6 };
-    status_of(rt, alloc, &words[..files], row, outside)
-}
-
-// Whether an operation is refused below its parts, and answered with them.
-fn is_refused_below<R: Threads + Wait + Sync>(
-    rt: &R,
-    alloc: Global,
-    row: &Limited,
-    outside: &Outside,
-) -> bool {
-    for limit in 1..row.4 {
-        if status_within(rt, alloc, row, limit, outside) != Ok(Status::TooMany { limit }) {
-            return false;
-        }
-    }
-    status_within(rt, alloc, row, row.4, outside) == Ok(Status::Done)
-}
-
-// The first operation that is not refused just below its parts.
-fn first_unlimited<R: Threads + Wait + Sync>(
-    rt: &R,
-    alloc: Global,
-    rows: &[Limited],
-    outside: &Outside,
-) -> Option<usize> {
-    for (number, row) in rows.iter().enumerate() {
-        if !is_refused_below(rt, alloc, row, outside) {
-            return Some(number);
-        }
-    }
-    None
-}
-
-// One worker hunts, or two, or sixteen.
-static BY_WORKERS: [Outside; 3] = [
-    SOUND,
-    Outside {
-        workers: Some("2"),
-        ..SOUND
-    },
-    Outside {
-        workers: Some("16"),
-        ..SOUND
-    },
-];
-
-// The same by one, two or sixteen workers.
-fn first_unlimited_of_any<R: Threads + Wait + Sync>(
-    rt: &R,
-    alloc: Global,
-    rows: &[Limited],
-) -> Option<usize> {
-    for outside in &BY_WORKERS {
-        if let Some(number) = first_unlimited(rt, alloc, rows, outside) {
-            return Some(number);
-        }
-    }
-    None
-}
-
-#[test]
-fn operations_are_refused_below_their_parts(rt: HostRuntime) -> Result<(), Fail> {
-    assert_eq!(rt; first_unlimited_of_any(&rt, rt.alloc(), &LIMITED), None);
-    assert_eq!(rt;
-        first_unlimited_of_any(&rt, rt.alloc(), &LIMITED_OTHERS),
-        None
-    );
-    Ok(())
-}
-
 // How an intersection ends, and how often its gate was passed, and with which items, added up.
 fn passes<R: Threads + Wait + Sync>(
     rt: &R,
@@ -641,76 +536,5 @@ fn passes<R: Threads + Wait + Sync>(
 #[test]
 fn each_pair_passes_the_gate_once(rt: HostRuntime) -> Result<(), Fail> {
     assert_eq!(rt; passes(&rt, rt.alloc())?, (Status::Done, 2, 1));
-    Ok(())
-}
-
-// Whether an operation ends as its row has it, on a file that is a front of a comment.
-fn ends_on<R: Threads + Wait + Sync>(rt: &R, alloc: Global, row: &Length, comment: &[u8]) -> bool {
-    let file = comment.get(..row.1).unwrap_or(comment);
-    let Ok(ran) = run_words(rt, alloc, row.0, file, b"a", &SOUND) else {
-        return false;
-    };
-    ran.status == row.2
-}
-
-// The first operation that takes a file of another length.
-fn first_length<R: Threads + Wait + Sync>(rt: &R, alloc: Global, comment: &[u8]) -> Option<usize> {
-    for (number, row) in LENGTHS.iter().enumerate() {
-        if !ends_on(rt, alloc, row, comment) {
-            return Some(number);
-        }
-    }
-    None
-}
-
-// A comment that is one byte too long for a file.
-fn comment(alloc: Global) -> Result<Vec<u8>, AllocError> {
-    vec![in alloc; b'%'; 8_388_609]
-}
-
-#[test]
-fn files_are_as_long_as_they_may_be(rt: HostRuntime) -> Result<(), Fail> {
-    let comment = comment(rt.alloc())?;
-    assert_eq!(rt; first_length(&rt, rt.alloc(), &comment), None);
-    Ok(())
-}
-
-// Adds leaves and the bracket behind them to the text of a tree.
-fn add_leaves(tree: &mut Vec<u8>, children: u32) -> Result<(), AllocError> {
-    for _ in 0..children {
-        tree.extend_from_slice(b"a ")?;
-    }
-    tree.extend_from_slice(b")")
-}
-
-// A tree of a label with this many children.
-fn wide_tree(alloc: Global, children: u32) -> Result<Vec<u8>, AllocError> {
-    let mut tree = b"S(".to_vec(alloc)?;
-    add_leaves(&mut tree, children)?;
-    Ok(tree)
-}
-
-// How a tree of a label with this many children is weighed.
-fn weighed_wide<R: Threads + Wait + Sync>(
-    rt: &R,
-    alloc: Global,
-    children: u32,
-) -> Result<Status, AllocError> {
-    let tree = wide_tree(alloc, children)?;
-    let words = ["weigh", "G", "T"];
-    let ran = run_words(rt, alloc, &words, BINARY.as_bytes(), &tree, &SOUND)?;
-    Ok(ran.status)
-}
-
-#[test]
-fn trees_are_as_large_as_they_may_be(rt: HostRuntime) -> Result<(), Fail> {
-    let fault = FileFault {
-        line: 1,
-        kind: FaultKind::TooManyNodes,
-    };
-    let large = Status::BadInput { file: 2, fault };
-    assert_eq!(rt; weighed_wide(&rt, rt.alloc(), 10_000)?, large);
-    // What is written has no room.
-    assert_eq!(rt; weighed_wide(&rt, rt.alloc(), 9_999)?, Status::WriteFault);
     Ok(())
 }

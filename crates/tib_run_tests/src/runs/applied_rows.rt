@@ -4,18 +4,18 @@ use tib_lex::{FaultKind, FileFault};
 use tib_operations::Status;
 use tib_transducer::ClassFault;
 
-pub const DELETED_FROM: &str = "q\nq -> A(r s) # 0\nr -> b # 1\ns -> c # 4\ns -> d # 2\n";
+const DELETED_FROM: &str = "q\nq -> A(r s) # 0\nr -> b # 1\ns -> c # 4\ns -> d # 2\n";
 
 // The first rule leaves x1 out.
-pub const DELETING: &str = "t\nt.A(x0: x1:) -> B(t.x0) # 1\nt.b -> e # 0\n";
+const DELETING: &str = "t\nt.A(x0: x1:) -> B(t.x0) # 1\nt.b -> e # 0\n";
 
 const PARTS: &str = "q\nq -> S(p p) # 0\np -> NP(a) # 1\np -> VP(a) # 2\n";
 
 const ASKING: &str = "t\nt.S(x0:NP x1:) -> Z(t.x0) # 1\nt.NP(x0:) -> n # 0\nt.VP(x0:) -> v # 0\n";
 
-pub const SWAPPING: &str = "t\nt.A(x0: x1:) -> B(t.x1 t.x0) # 1\nt.a -> b # 0\nt.c -> d # 2\n";
+const SWAPPING: &str = "t\nt.A(x0: x1:) -> B(t.x1 t.x0) # 1\nt.a -> b # 0\nt.c -> d # 2\n";
 
-pub const SWAPPED_FROM: &str = "s\ns -> B(u v) # 3\nu -> b # 0\nv -> d # 1\n";
+const SWAPPED_FROM: &str = "s\ns -> B(u v) # 3\nu -> b # 0\nv -> d # 1\n";
 
 const SWAPPED: &str = "q0\nq0 -> A(q2 q1) # 4\nq1 -> a # 0\nq2 -> c # 3\n";
 

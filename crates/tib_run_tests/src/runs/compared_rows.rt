@@ -4,9 +4,9 @@ use crate::runs::rows::{BINARY, RIGHT, Row};
 use tib_lex::{FaultKind, FileFault};
 use tib_operations::Status;
 
-pub const ONE_LEAF: &str = "p\np -> b\n";
+const ONE_LEAF: &str = "p\np -> b\n";
 
-pub const OTHER_LEAF: &str = "q\nq -> a\n";
+const OTHER_LEAF: &str = "q\nq -> a\n";
 
 const ENDLESS: &str = "q\nq -> f(q)\n";
 

@@ -5,10 +5,10 @@ use tib_operations::Status;
 use tib_transducer::ClassFault;
 
 /// A transducer whose right side has two labels.
-pub const TWO_LABELS: &str = "q\nq.A(x0:) -> B(C(q.x0)) # 1\nq.a -> b # 2\n";
+const TWO_LABELS: &str = "q\nq.A(x0:) -> B(C(q.x0)) # 1\nq.a -> b # 2\n";
 
 /// One that translates these labels.
-pub const TRANSLATING: &str = "p\np.B(x0:) -> p.x0 # 3\np.C(x0:) -> D(p.x0) # 0\np.b -> e # 1\n";
+const TRANSLATING: &str = "p\np.B(x0:) -> p.x0 # 3\np.C(x0:) -> D(p.x0) # 0\np.b -> e # 1\n";
 
 const COPYING: &str = "q\nq.A(B(x0:) x1:) -> F(q.x0 q.x0) # 1\nq.a -> b # 2\n";
 

@@ -3,7 +3,7 @@ use crate::runs::rows::Row;
 use tib_lex::{FaultKind, FileFault};
 use tib_operations::Status;
 
-pub const AMBIGUOUS: &str = "q\nq -> f(p) # 1\nq -> f(r) # 3\np -> a # 2\nr -> a # 1\n";
+const AMBIGUOUS: &str = "q\nq -> f(p) # 1\nq -> f(r) # 3\np -> a # 2\nr -> a # 1\n";
 
 const DETERMINED: &str = "q0\nq0 -> q1 # 0\nq1 -> f(q2) # 2\nq2 -> a # 1\n";
 

@@ -3,9 +3,9 @@ use crate::runs::rows::Row;
 use tib_lex::{FaultKind, FileFault};
 use tib_operations::Status;
 
-pub const DOUBLED: &str = "A(a)";
+const DOUBLED: &str = "A(a)";
 
-pub const DOUBLING: &str = "t\nt.A(x0:) -> B(t.x0 t.x0) # 1\nt.a -> b # 0\nt.a -> c # 2\n";
+const DOUBLING: &str = "t\nt.A(x0:) -> B(t.x0 t.x0) # 1\nt.a -> b # 0\nt.a -> c # 2\n";
 
 const OUTPUTS: &str = "q0\nq0 -> B(q1 q1) # 1\nq1 -> b # 0\nq1 -> c # 2\n";
 

@@ -4,11 +4,11 @@ use tib_lex::{FaultKind, FileFault};
 use tib_operations::Status;
 use tib_transducer::ClassFault;
 
-pub const WORDS: &str = "u u v\n";
+const WORDS: &str = "u u v\n";
 
-pub const SPELLING: &str = "t\nt.S(x0: x1:) -> t.x0 t.x1 # 1\nt.a -> u # 0\nt.b -> u v # 2\n";
+const SPELLING: &str = "t\nt.S(x0: x1:) -> t.x0 t.x1 # 1\nt.a -> u # 0\nt.b -> u v # 2\n";
 
-pub const SPELLED: &str = "q0\nq0 -> S(q1 q2) # 1\nq1 -> a # 0\nq2 -> b # 2\n";
+const SPELLED: &str = "q0\nq0 -> S(q1 q2) # 1\nq1 -> a # 0\nq2 -> b # 2\n";
 
 const SILENT: &str = "t\nt.a -> *e* # 4\n";
 
