@@ -8,8 +8,8 @@ pub mod Restricting
 pub mod Leaves
 pub mod StringRuns
 pub mod EachKey
-pub mod Reached
+pub mod ReachedParses
 pub mod Covering
 pub mod Parses
-pub mod Listing
+pub mod EdgesListed
 pub mod KeyRanges

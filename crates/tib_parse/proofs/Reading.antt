@@ -15,8 +15,8 @@ use Rattle.tib_transducer.specs.declared.Variable.{Variable}
 use Rattle.tib_parse.specs.Parsing.{IsParseEdge}
 use Rattle.tib_parse.specs.Operation.{edge_parts}
 use Rattle.tib_parse.specs.Edges.{edges_of}
-use Rattle.tib_parse.proofs.Listing.{edges_are_listed}
-use Rattle.tib_parse.proofs.Reached.{same_edge}
+use Rattle.tib_parse.proofs.EdgesListed.{edges_are_listed}
+use Rattle.tib_parse.proofs.ReachedParses.{same_edge}
 use Rattle.tib_parse.specs.Listing.{Listing, IsListed}
 
 module _ (moves : List (StringRule ℕ)) (string : List ℕ) (key : ℕ × ℕ × ℕ × ℕ) where

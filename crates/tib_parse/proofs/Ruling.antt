@@ -23,7 +23,7 @@ use Rattle.tib_strings.specs.declared.Word.{Word as Token}
 use Rattle.tib_strings.specs.declared.StringRule.{StringRule}
 use Rattle.tib_keyed.proofs.MappedSides.{holes_within}
 use Rattle.tib_strings.specs.CutLists.{cuts_of}
-use Rattle.tib_parse.proofs.Listing.{root_of, root_is}
+use Rattle.tib_parse.proofs.EdgesListed.{root_of, root_is}
 use Rattle.tib_parse.specs.Restrictions.{as_rule, restricted_labels}
 use Rattle.tib_parse.specs.Edges.{admits_root, fits_key, origins_at, origins_below, edge_of, edges_of}
 use Rattle.tib_parse.specs.Listing.{edges_at, edges_at_all, cut_edge, HasPlaces, AdmitsRule}

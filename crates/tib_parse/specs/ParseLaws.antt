@@ -19,7 +19,7 @@ use Rattle.tib_parse.specs.Restrictions.{restricted_labels}
 use Rattle.tib_parse.specs.Parsing.{first_key, key_at, IsParseEdge}
 use Rattle.tib_parse.specs.Operation.{IsKey, key_cmp, key_entries, parse}
 use Rattle.tib_parse.proofs.KeyRanges.{ends_within}
-use Rattle.tib_parse.proofs.Reached.{same_edge}
+use Rattle.tib_parse.proofs.ReachedParses.{same_edge}
 
 -- how rules over places and over positions are read as edges
 abbrev pub parse_reading : Reading (ℕ × ℕ × ℕ × ℕ) (Rule (ℕ × ℕ × ℕ × ℕ)) (SideRule Variable) (Rule ℕ)

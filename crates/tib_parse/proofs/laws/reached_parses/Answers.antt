@@ -1,5 +1,5 @@
 use Rattle.tib_parse.proofs.laws.reached_parses.Goals as goal
-use Rattle.tib_parse.proofs.Reached.{reached_grammar}
+use Rattle.tib_parse.proofs.ReachedParses.{reached_grammar}
 use Rattle.tib_parse.proofs.Parses.{parse_means}
 
 pub returns : goal.returns
