@@ -2,15 +2,21 @@
 //! the costs. It stands among the crates so that it is proved and run with everything else.
 #![tactic(auto)]
 
+ghost use Rattle.std.specs.Prelude.{◌≤◌, length, IfOk};
+ghost use Rattle.std.specs.Thread.{IsSync};
+ghost use Rattle.tib_io.specs.Reads.{most_bytes};
+ghost use Rattle.tib_example.specs.Costs.{AreCosts};
+
 use std::alloc::Global;
 use std::println;
 use std::process::ExitCode;
+use std::thread::Threads;
 use tib_cost::{Cost, MinPlus};
 use tib_grammar_file::read_grammar;
 use tib_lex::ReadError;
 use tib_normal::{NormalError, normalize};
 use tib_tree::{Labels, read_trees};
-use tib_weigh::weigh;
+use tib_weigh::weigh_all;
 
 // The cost of a tree that the grammar counts: one for each `s`.
 const GRAMMAR: &[u8] = b"q\nq -> s(q) # 1\nq -> zero\n";
@@ -25,14 +31,23 @@ enum Failure {
     OutOfMemory,
 }
 
-// The costs of the trees by the grammar.
-fn costs(alloc: Global) -> Result<Vec<Option<Cost>>, Failure> {
+// The costs of the trees of one text by the grammar of another.
+fn costs<R: Threads + Sync>(
+    rt: &R,
+    alloc: Global,
+    grammar: &[u8],
+    trees: &[u8],
+) -> Result<Vec<Option<Cost>>, Failure>
+    requires grammar { length grammar.now ≤ most_bytes }
+    requires trees { length trees.now ≤ most_bytes }
+    ensures { IfOk result (λ costs. AreCosts grammar.now trees.now costs.items) }
+{
     let mut labels = Labels::new(alloc);
-    let grammar = match read_grammar::<MinPlus>(alloc, GRAMMAR, &mut labels) {
+    let grammar = match read_grammar::<MinPlus>(alloc, grammar, &mut labels) {
         Ok(grammar) => grammar,
         Err(error) => return Err(Failure::Read(error)),
     };
-    let trees = match read_trees(alloc, TREES, &mut labels) {
+    let trees = match read_trees(alloc, trees, &mut labels) {
         Ok(trees) => trees,
         Err(error) => return Err(Failure::Read(error)),
     };
@@ -41,20 +56,15 @@ fn costs(alloc: Global) -> Result<Vec<Option<Cost>>, Failure> {
         Err(NormalError::TooMany { .. }) => return Err(Failure::Large),
         Err(NormalError::OutOfMemory) => return Err(Failure::OutOfMemory),
     };
-    let mut costs = Vec::new(alloc);
-    for tree in trees.iter() {
-        let Ok(cost) = weigh(alloc, &normal, tree) else {
-            return Err(Failure::OutOfMemory);
-        };
-        let Ok(()) = costs.push(cost) else {
-            return Err(Failure::OutOfMemory);
-        };
-    }
+    grammar.is_sound();
+    let Ok(costs) = weigh_all(rt, alloc, &normal, &trees) else {
+        return Err(Failure::OutOfMemory);
+    };
     Ok(costs)
 }
 
 fn main(rt: HostRuntime) -> ExitCode {
-    let Ok(costs) = costs(rt.alloc()) else {
+    let Ok(costs) = costs(&rt, rt.alloc(), GRAMMAR, TREES) else {
         return ExitCode::from(1);
     };
     for cost in costs.iter() {

@@ -4,7 +4,6 @@ mod Spanned
 mod Ruling
 mod Reading
 mod Answering
-pub mod Restricting
 pub mod Leaves
 pub mod StringRuns
 pub mod EachKey
@@ -12,4 +11,4 @@ pub mod ReachedParses
 pub mod Covering
 pub mod Parses
 pub mod EdgesListed
-pub mod KeyRanges
+pub mod KeysWithin

@@ -34,7 +34,7 @@ use Rattle.tib_match.proofs.Steps.{one_of, below_same}
 use Rattle.tib_transducer.proofs.Itemizing.{restore, joined}
 use Rattle.tib_parse.proofs.StringRuns.{one_more, one_run, length-strings}
 use Rattle.tib_apply.proofs.Restricting.{IsListed, AreAdmitted, binds}
-use Rattle.tib_parse.proofs.Restricting.{are_listed}
+use Rattle.tib_parse.specs.RestrictedLabels.{are_listed}
 use Rattle.tib_lex.proofs.Lists.{map_twice, each_mapped as each_map}
 use Rattle.tib_apply.proofs.Leaves.{place_number, all_stand, count-bound, root_label, map_same_at, get_map, map_long, each_to, all_below, picked_admitted}
 use Rattle.tib_parse.proofs.Leaves.{state_of, span_of, restriction_of, pairs_along}

@@ -1,6 +1,6 @@
 -- The reached set of parsing.
 use Rattle.std.specs.Prelude.{◌≡◌, ℕ, List, length, map}
-use Rattle.std.proofs.Common.{arith, ap, sym, ◌∙◌}
+use Rattle.std.proofs.Common.{arith, ap}
 use Rattle.std.specs.Cmp.{IsTotalOrder}
 use Rattle.std.proofs.lemmas.Cmp.{then_total, on_total, nat_cmp_total}
 use Rattle.tib_lex.specs.Lists.{Has}
@@ -12,6 +12,7 @@ use Rattle.tib_hunt.specs.Reached.{IsReachedSet}
 use Rattle.tib_hunt.specs.Numbered.{key_parts}
 use Rattle.tib_parse.specs.Parsing.{first_key, key_at, IsParseEdge, IsParseGrammar}
 use Rattle.tib_parse.specs.Operation.{key_cmp, key_entries, edge_parts, parse}
+use Rattle.tib_parse.specs.ParseLaws.{same_edge}
 use Rattle.tib_strings.specs.declared.StringRule.{StringRule}
 use Rattle.tib_keyed.proofs.KeyOrders.{order_begins, order_once, edges_below, one_set}
 
@@ -37,17 +38,6 @@ module _ (moves : List (StringRule ℕ)) (string : List ℕ) where
         in_range = range;
         edges = edges_below key_cmp (first_key (length string)) (IsParseEdge moves string) (λ e. holes_of e.right) (key_parts key_entries) edge_parts order (length order) (map (named_rule (key_at (length string) order)) rules) reached.1;
       }
-
-same_rule : {K : Type 0} (e f : Rule K) → e.left ≡ f.left → e.right ≡ f.right → e.cost ≡ f.cost → e ≡ f
-same_rule e f left right costs =
-    ap (λ l. record { left = l; right = e.right; cost = e.cost }) left
-    ∙ ap (λ r. record { left = f.left; right = r; cost = e.cost }) right
-    ∙ ap (λ c. record { left = f.left; right = f.right; cost = c }) costs
-
--- an origin gives a key one edge
-pub same_edge :
-    (moves : List (StringRule ℕ)) (string : List ℕ) (key : ℕ × ℕ × ℕ × ℕ) (o : ℕ × List ℕ) (e f : Rule (ℕ × ℕ × ℕ × ℕ)) → IsParseEdge moves string key o e → IsParseEdge moves string key o f → e ≡ f
-same_edge moves string key o e f h k = same_rule e f (h.left ∙ sym k.left) (h.right ∙ sym k.right) (h.costs ∙ sym k.costs)
 
 pub one_parse_set :
     (moves : List (StringRule ℕ)) (string : List ℕ) (order other : List (ℕ × ℕ × ℕ × ℕ)) (edges more : List (Rule (ℕ × ℕ × ℕ × ℕ))) → IsReachedSet (parse moves string) order edges →

@@ -16,7 +16,7 @@ use Rattle.tib_parse.specs.Parsing.{IsParseEdge}
 use Rattle.tib_parse.specs.Operation.{edge_parts}
 use Rattle.tib_parse.specs.Edges.{edges_of}
 use Rattle.tib_parse.proofs.EdgesListed.{edges_are_listed}
-use Rattle.tib_parse.proofs.ReachedParses.{same_edge}
+use Rattle.tib_parse.specs.ParseLaws.{same_edge}
 use Rattle.tib_parse.specs.Listing.{Listing, IsListed}
 
 module _ (moves : List (StringRule ℕ)) (string : List ℕ) (key : ℕ × ℕ × ℕ × ℕ) where

@@ -8,3 +8,5 @@ pub mod Parsing
 pub mod Operation
 pub mod Edges
 pub mod Examples
+pub mod RestrictedLabels
+pub mod KeyRanges

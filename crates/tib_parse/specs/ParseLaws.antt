@@ -1,6 +1,6 @@
 -- What holds of all edges of parsing, and of all rules that stand for them.
 use Rattle.std.specs.Prelude.{◌≡◌, ℕ, ◌<◌, List, [], ◌∷◌, length, refl}
-use Rattle.std.proofs.Common.{arith, sym, subst, inl, inr}
+use Rattle.std.proofs.Common.{arith, ap, sym, ◌∙◌, subst, inl, inr}
 use Rattle.tib_lex.specs.Lists.{Has}
 use Rattle.tib_lex.proofs.Members.{each_has, has_at}
 use Rattle.tib_grammar.specs.declared.Rule.{Rule}
@@ -18,12 +18,22 @@ use Rattle.tib_keyed.specs.SideRuleLaws.{reads_places, reads_positions}
 use Rattle.tib_parse.specs.Restrictions.{restricted_labels}
 use Rattle.tib_parse.specs.Parsing.{first_key, key_at, IsParseEdge}
 use Rattle.tib_parse.specs.Operation.{IsKey, key_cmp, key_entries, parse}
-use Rattle.tib_parse.proofs.KeyRanges.{ends_within}
-use Rattle.tib_parse.proofs.ReachedParses.{same_edge}
+use Rattle.tib_parse.specs.KeyRanges.{ends_within}
 
 -- how rules over places and over positions are read as edges
 abbrev pub parse_reading : Reading (ℕ × ℕ × ℕ × ℕ) (Rule (ℕ × ℕ × ℕ × ℕ)) (SideRule Variable) (Rule ℕ)
 parse_reading = side_reading (ℕ × ℕ × ℕ × ℕ) Variable
+
+same_rule : {K : Type 0} (e f : Rule K) → e.left ≡ f.left → e.right ≡ f.right → e.cost ≡ f.cost → e ≡ f
+same_rule e f left right costs =
+    ap (λ l. record { left = l; right = e.right; cost = e.cost }) left
+    ∙ ap (λ r. record { left = f.left; right = r; cost = e.cost }) right
+    ∙ ap (λ c. record { left = f.left; right = f.right; cost = c }) costs
+
+-- an origin gives a key one edge
+pub same_edge :
+    (moves : List (StringRule ℕ)) (string : List ℕ) (key : ℕ × ℕ × ℕ × ℕ) (o : ℕ × List ℕ) (e f : Rule (ℕ × ℕ × ℕ × ℕ)) → IsParseEdge moves string key o e → IsParseEdge moves string key o f → e ≡ f
+same_edge moves string key o e f h k = same_rule e f (h.left ∙ sym k.left) (h.right ∙ sym k.right) (h.costs ∙ sym k.costs)
 
 -- the states of all rules are below n
 abbrev pub AreStatesBelow : ℕ → List (StringRule ℕ) → Type 0

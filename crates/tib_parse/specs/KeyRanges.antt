@@ -1,4 +1,4 @@
--- The keys that parsing reaches are of states in range, over places of the string in order.
+-- The ends of an edge of a key are of states in range, over places of the string in order, where the key is.
 use Rattle.std.specs.Prelude.{◌≡◌, ℕ, ◌<◌, ◌≤◌, List, [], ◌∷◌, length, map}
 use Rattle.std.proofs.Common.{arith, ap, ◌∙◌, subst, inl, inr}
 use Rattle.tib_lex.specs.Lists.{Has, Each}
@@ -8,8 +8,6 @@ use Rattle.tib_grammar.specs.Range.{AllBelow}
 use Rattle.tib_grammar.specs.declared.Rule.{Rule}
 use Rattle.tib_grammar.proofs.Sides.{holes-relabel}
 use Rattle.tib_grammar.proofs.Members.{each_has}
-use Rattle.tib_hunt.specs.Reached.{IsReached}
-use Rattle.tib_hunt.specs.Numbered.{key_parts}
 use Rattle.tib_transducer.specs.Rules.{variables_of}
 use Rattle.tib_transducer.specs.declared.Variable.{Variable}
 use Rattle.tib_transducer.specs.declared.Pair.{Pair}
@@ -17,17 +15,16 @@ use Rattle.tib_strings.specs.Rules.{string_rule, pairs_of}
 use Rattle.tib_strings.specs.Range.{AreWithin}
 use Rattle.tib_parse.specs.Restrictions.{restricted_labels}
 use Rattle.tib_strings.specs.Cuts.{IsCut, spans}
-use Rattle.tib_parse.specs.Parsing.{first_key, span_at, parse_key, IsParseEdge}
-use Rattle.tib_parse.specs.Operation.{IsKey, key_cmp, key_entries, edge_parts, parse}
+use Rattle.tib_parse.specs.Parsing.{span_at, parse_key, IsParseEdge}
+use Rattle.tib_parse.specs.Operation.{IsKey}
 use Rattle.tib_strings.specs.declared.Word.{Word as Token}
 use Rattle.tib_strings.specs.declared.Word.TheVariants.{Word, Hole}
 use Rattle.tib_strings.specs.declared.StringRule.{StringRule}
 use Rattle.tib_lex.proofs.Numbers.{nat_eq_cases}
 use Rattle.tib_apply.proofs.Restricting.{IsListed}
 use Rattle.tib_lex.proofs.Lists.{has_mapped}
-use Rattle.tib_parse.proofs.Restricting.{are_listed, restriction_within}
+use Rattle.tib_parse.specs.RestrictedLabels.{are_listed, restriction_within}
 use Rattle.tib_strings.proofs.Cutting.{IsRange, cut_up, after_up}
-use Rattle.tib_parse.proofs.EachKey.{order_each}
 
 -- the places at the pairs are in order, and within the string where the cut ends in it
 cut_ranges : (string : List ℕ) (ws : List (Token ℕ)) (i j : ℕ) (ks : List ℕ) → IsCut string ws i j ks → j ≤ length string → Each (IsRange string) (spans ws i ks)
@@ -66,10 +63,3 @@ module _ (states : ℕ) (some : 0 < states) (moves : List (StringRule ℕ)) (wit
       let p = span_placed states some string v.0.number pairs ss (within o.0 edge.below).1 (cut_ranges string (string_rule moves o.0).right k.1 k.2 o.1 edge.is_cut good.to) in
       let listed : IsListed (restricted_labels moves) v.0 = each_has (IsListed (restricted_labels moves)) (variables_of (string_rule moves o.0).left) v.0 (are_listed moves o.0 edge.below) v.1 in
       subst Good v.2 (record { state = p.state; from = p.from; to = p.to; restricted = restriction_within (restricted_labels moves) v.0.label listed })
-
-  pub keys_within : (order : List (ℕ × ℕ × ℕ × ℕ)) → IsReached (parse moves string) order → (k : ℕ × ℕ × ℕ × ℕ) → Has order k → Good k
-  keys_within order reached k h =
-      order_each key_cmp (first_key (length string)) (IsParseEdge moves string) (λ e. holes_of e.right) (key_parts key_entries) edge_parts Good
-      (record { state = some; from = omega arith; to = omega arith; restricted = omega arith })
-      ends_within
-      reached.0 reached.1 order reached.2 k h
