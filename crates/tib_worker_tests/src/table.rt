@@ -37,31 +37,29 @@ fn place_of(shelf: &mut Shelf<AtMost>, left: u64) -> Result<u64, AllocError>
     }
 }
 
-// The places of the keys of 7, 3 and 7 again, and how many keys there are then.
-fn place_three(shelf: &mut Shelf<AtMost>) -> Result<[u64; 4], AllocError>
+// Whether the keys of 7, 3 and 7 again have the places 0, 1 and 0, and there are two keys then.
+fn places_three(shelf: &mut Shelf<AtMost>) -> Result<bool, AllocError>
     requires { shelf.old.about ≡ 9 }
 {
     let seven = place_of(shelf, 7)?;
     let three = place_of(shelf, 3)?;
     let again = place_of(shelf, 7)?;
-    Ok([seven, three, again, shelf.len()])
+    Ok(seven == 0 && three == 1 && again == 0 && shelf.len() == 2)
 }
 
-// The last key, three times.
-fn take_three(shelf: &mut Shelf<AtMost>) -> [Option<Pair>; 3] {
+// Whether the last keys are those of 3 and of 7, and there is none then.
+fn takes_both(shelf: &mut Shelf<AtMost>) -> bool {
     let last = shelf.take_last();
     let next = shelf.take_last();
     let rest = shelf.take_last();
-    [last, next, rest]
+    last == Some(pair_of(3)) && next == Some(pair_of(7)) && rest.is_none()
 }
 
 #[test]
 fn a_shelf_numbers_in_the_order_of_first_sight(rt: HostRuntime) -> Result<(), Fail> {
     let mut shelf = Shelf::open(rt.alloc(), AtMost { most: 9 });
-    assert_eq!(rt; place_three(&mut shelf)?, [0, 1, 0, 2]);
-    let three = Some(pair_of(3));
-    let seven = Some(pair_of(7));
-    assert_eq!(rt; take_three(&mut shelf), [three, seven, None]);
+    assert!(rt; places_three(&mut shelf)?);
+    assert!(rt; takes_both(&mut shelf));
     Ok(())
 }
 
@@ -82,13 +80,12 @@ fn number_once<R: Wait>(
     }
 }
 
-// The key of a number, the last two keys of its shelf, and then what the number names.
-fn keys_of(shelves: &mut Shelves<AtMost>, number: Number) -> [Option<Pair>; 4] {
-    let named = shelves.key(number).copied();
-    let last = shelves.take_last(number.shelf);
-    let next = shelves.take_last(number.shelf);
-    let rest = shelves.key(number).copied();
-    [named, last, next, rest]
+// Whether a number names this key, which is the only one of its shelf, and then none.
+fn names_only(shelves: &mut Shelves<AtMost>, number: Number, key: Pair) -> bool {
+    if shelves.key(number) != Some(&key) || shelves.take_last(number.shelf) != Some(key) {
+        return false;
+    }
+    shelves.take_last(number.shelf).is_none() && shelves.key(number).is_none()
 }
 
 #[test]
@@ -98,11 +95,8 @@ fn a_key_has_one_number(rt: HostRuntime) -> Result<(), Fail> {
     let first = number_once(&rt, &table, &mut seats, key)?;
     let second = number_once(&rt, &table, &mut seats, key)?;
     let mut shelves = table.close(&rt, seats);
-    assert_eq!(rt; first, second);
-    assert_eq!(rt;
-        keys_of(&mut shelves, first),
-        [Some(key), Some(key), None, None]
-    );
+    assert!(rt; first == second);
+    assert!(rt; names_only(&mut shelves, first, key));
     Ok(())
 }
 

@@ -43,6 +43,11 @@ fn append_in_turn<R: Wait>(
     appended
 }
 
+// Whether just these numbers stand there, in order.
+fn has_pushed(numbers: &Numbers, wanted: &[u64]) -> bool {
+    numbers.list.as_slice() == wanted
+}
+
 #[test]
 fn two_passes_push_in_turn(rt: HostRuntime) -> Result<(), Fail> {
     let alloc = rt.alloc();
@@ -55,7 +60,7 @@ fn two_passes_push_in_turn(rt: HostRuntime) -> Result<(), Fail> {
     append_in_turn(&rt, &lock, &mut second, 9)?;
     lock.join(&mut first, second);
     let numbers = lock.close(&rt, first);
-    assert_eq!(rt; numbers.list.as_slice(), [7, 8, 9].as_slice());
+    assert!(rt; has_pushed(&numbers, &[7, 8, 9]));
     Ok(())
 }
 
@@ -110,13 +115,13 @@ fn append_in_two_threads<R: Threads + Wait + Sync>(
     )
 }
 
-// How many numbers stand there, and their sum.
-fn count_and_sum(numbers: &[u64]) -> (usize, u64) {
-    let mut sum = 0u64;
+// Whether so many numbers stand there, with this sum.
+fn count_and_sum_are(numbers: &[u64], count: usize, sum: u64) -> bool {
+    let mut found = 0u64;
     for &n in numbers {
-        sum = sum.wrapping_add(n);
+        found = found.wrapping_add(n);
     }
-    (numbers.len(), sum)
+    numbers.len() == count && found == sum
 }
 
 #[test]
@@ -133,6 +138,6 @@ fn two_threads_take_a_thousand_turns_each(rt: HostRuntime) -> Result<(), Fail> {
     first.appended?;
     appended?;
     let numbers = lock.close(&rt, first.pass);
-    assert_eq!(rt; count_and_sum(&numbers.list), (2000, 1_999_000));
+    assert!(rt; count_and_sum_are(&numbers.list, 2000, 1_999_000));
     Ok(())
 }
