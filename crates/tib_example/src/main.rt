@@ -2,9 +2,11 @@
 //! the costs. It stands among the crates so that it is proved and run with everything else.
 #![tactic(auto)]
 
-ghost use Rattle.std.specs.Prelude.{◌≤◌, length, IfOk};
+ghost use Rattle.std.specs.Prelude.{◌≤◌, ◌+◌, length, IfOk};
+ghost use Rattle.std.specs.List.{AllZip};
 ghost use Rattle.std.specs.Thread.{IsSync};
 ghost use Rattle.tib_io.specs.Reads.{most_bytes};
+ghost use Rattle.tib_grammar.specs.Series.{IsSeries};
 ghost use Rattle.tib_example.specs.Costs.{AreCosts};
 
 use std::alloc::Global;
@@ -12,10 +14,11 @@ use std::println;
 use std::process::ExitCode;
 use std::thread::Threads;
 use tib_cost::{Cost, MinPlus};
+use tib_grammar::Grammar;
 use tib_grammar_file::read_grammar;
 use tib_lex::ReadError;
 use tib_normal::{NormalError, normalize};
-use tib_tree::{Labels, read_trees};
+use tib_tree::{Labels, Tree, read_trees};
 use tib_weigh::weigh_all;
 
 // The cost of a tree that the grammar counts: one for each `s`.
@@ -29,6 +32,28 @@ enum Failure {
     Read(ReadError),
     Large,
     OutOfMemory,
+}
+
+// The cost that a grammar gives each of these trees.
+fn weighed<R: Threads + Sync>(
+    rt: &R,
+    alloc: Global,
+    grammar: &Grammar<MinPlus>,
+    trees: &[Tree],
+) -> Result<Vec<Option<Cost>>, Failure>
+    ensures { IfOk result (λ costs. AllZip (λ t v. IsSeries ◌+◌ grammar.now.rules t v) trees.now
+        costs.items) }
+{
+    let normal = match normalize(alloc, grammar, 1000) {
+        Ok(normal) => normal,
+        Err(NormalError::TooMany { .. }) => return Err(Failure::Large),
+        Err(NormalError::OutOfMemory) => return Err(Failure::OutOfMemory),
+    };
+    grammar.is_sound();
+    match weigh_all(rt, alloc, &normal, trees) {
+        Ok(costs) => Ok(costs),
+        Err(_) => Err(Failure::OutOfMemory),
+    }
 }
 
 // The costs of the trees of one text by the grammar of another.
@@ -51,16 +76,7 @@ fn costs<R: Threads + Sync>(
         Ok(trees) => trees,
         Err(error) => return Err(Failure::Read(error)),
     };
-    let normal = match normalize(alloc, &grammar, 1000) {
-        Ok(normal) => normal,
-        Err(NormalError::TooMany { .. }) => return Err(Failure::Large),
-        Err(NormalError::OutOfMemory) => return Err(Failure::OutOfMemory),
-    };
-    grammar.is_sound();
-    let Ok(costs) = weigh_all(rt, alloc, &normal, &trees) else {
-        return Err(Failure::OutOfMemory);
-    };
-    Ok(costs)
+    weighed(rt, alloc, &grammar, &trees)
 }
 
 fn main(rt: HostRuntime) -> ExitCode {
