@@ -1,8 +1,6 @@
 // The run over memory: words and files, and what is answered, written and told.
 use std::alloc::{AllocError, Global};
 use std::sync::Wait;
-use std::sync::atomic::Ordering;
-use std::test::Fail;
 use std::thread::Threads;
 use tib_operations::Status;
 
@@ -11,6 +9,7 @@ mod compared_rows;
 mod composed_rows;
 mod demo_rows;
 mod determinized_rows;
+mod gates;
 mod image_rows;
 mod kbest_rows;
 mod meeting;
@@ -25,11 +24,12 @@ use compared_rows::COMPARED;
 use composed_rows::COMPOSED;
 use demo_rows::{DEMONSTRATED, SEVEN};
 use determinized_rows::DETERMINIZED;
+use gates::{Counting, Watch};
 use image_rows::IMAGED;
 use kbest_rows::{LISTED, LISTED_OTHERS};
 use parsed_rows::PARSED;
 use rows::{BINARY, INTERSECTED, ONE_FILE, PRUNED, RIGHT, Row, WEIGHED, WEIGHED_OTHERS, WIDEST};
-use running::{Calls, Counting, Outside, Ran, SOUND, run_through, run_words, run_words_alone};
+use running::{Calls, Outside, Ran, SOUND, run_through, run_words, run_words_alone};
 use transducer_rows::CHECKED;
 
 // How a run is to end: its status, the line on the log, and what goes over.
@@ -446,95 +446,75 @@ fn demonstrated() -> &'static [Row] {
 }
 
 #[test]
-fn trees_are_weighed_as_worked_out(rt: HostRuntime) -> Result<(), Fail> {
+fn trees_are_weighed_as_worked_out(rt: HostRuntime) {
     assert_eq!(rt; first_wrong(&rt, rt.alloc(), weighed()), None);
     assert_eq!(rt; first_wrong(&rt, rt.alloc(), weighed_others()), None);
-    Ok(())
 }
 
 #[test]
-fn operations_on_one_file_are_as_worked_out(rt: HostRuntime) -> Result<(), Fail> {
+fn operations_on_one_file_are_as_worked_out(rt: HostRuntime) {
     assert_eq!(rt; first_wrong(&rt, rt.alloc(), one_file()), None);
     assert_eq!(rt; first_wrong(&rt, rt.alloc(), pruned()), None);
-    Ok(())
 }
 
 #[test]
-fn cheapest_trees_are_as_worked_out(rt: HostRuntime) -> Result<(), Fail> {
+fn cheapest_trees_are_as_worked_out(rt: HostRuntime) {
     assert_eq!(rt; first_wrong(&rt, rt.alloc(), listed()), None);
     assert_eq!(rt; first_wrong(&rt, rt.alloc(), listed_others()), None);
-    Ok(())
 }
 
 #[test]
-fn classes_are_told_as_worked_out(rt: HostRuntime) -> Result<(), Fail> {
+fn classes_are_told_as_worked_out(rt: HostRuntime) {
     assert_eq!(rt; first_wrong(&rt, rt.alloc(), checked()), None);
-    Ok(())
 }
 
 #[test]
-fn intersections_are_as_worked_out(rt: HostRuntime) -> Result<(), Fail> {
+fn intersections_are_as_worked_out(rt: HostRuntime) {
     assert_eq!(rt; first_wrong(&rt, rt.alloc(), intersected()), None);
-    Ok(())
 }
 
 #[test]
-fn outputs_and_inputs_of_a_transducer_are_as_worked_out(rt: HostRuntime) -> Result<(), Fail> {
+fn outputs_and_inputs_of_a_transducer_are_as_worked_out(rt: HostRuntime) {
     assert_eq!(rt; first_wrong(&rt, rt.alloc(), forward()), None);
     assert_eq!(rt; first_wrong(&rt, rt.alloc(), backward()), None);
-    Ok(())
 }
 
 #[test]
-fn compositions_and_images_are_as_worked_out(rt: HostRuntime) -> Result<(), Fail> {
+fn compositions_and_images_are_as_worked_out(rt: HostRuntime) {
     assert_eq!(rt; first_wrong(&rt, rt.alloc(), composed()), None);
     assert_eq!(rt; first_wrong(&rt, rt.alloc(), imaged()), None);
-    Ok(())
 }
 
 #[test]
-fn trees_of_a_string_and_supports_are_as_worked_out(rt: HostRuntime) -> Result<(), Fail> {
+fn trees_of_a_string_and_supports_are_as_worked_out(rt: HostRuntime) {
     assert_eq!(rt; first_wrong(&rt, rt.alloc(), parsed()), None);
     assert_eq!(rt; first_wrong(&rt, rt.alloc(), compared()), None);
-    Ok(())
 }
 
 #[test]
-fn the_mode_widest_and_determinizations_are_as_worked_out(rt: HostRuntime) -> Result<(), Fail> {
+fn the_mode_widest_and_determinizations_are_as_worked_out(rt: HostRuntime) {
     assert_eq!(rt; first_wrong(&rt, rt.alloc(), widest()), None);
     assert_eq!(rt; first_wrong(&rt, rt.alloc(), determinized()), None);
-    Ok(())
 }
 
 #[test]
-fn the_rows_on_demo_run(rt: HostRuntime) -> Result<(), Fail> {
+fn the_rows_on_demo_run(rt: HostRuntime) {
     assert_eq!(rt; first_wrong(&rt, rt.alloc(), demonstrated()), None);
     assert!(rt; runs(&rt, rt.alloc(), &SEVEN, &SOUND));
-    Ok(())
 }
 
-// How an intersection ends, and how often its gate was passed, and with which items, added up.
-fn passes<R: Threads + Wait + Sync>(
-    rt: &R,
-    alloc: Global,
-) -> Result<(Status, u64, u64), AllocError> {
-    let gate = Counting::new();
+// Whether an intersection is done whose gate is passed so often, with items of this sum.
+fn passes_are<R: Threads + Wait + Sync>(rt: &R, alloc: Global, passes: u64, items: u64) -> bool {
+    let gate = Watch::Count(Counting::new());
     let words = ["intersect", "G", "T"];
-    let ran = run_through(
-        rt,
-        alloc,
-        &words,
-        BINARY.as_bytes(),
-        RIGHT.as_bytes(),
-        &SOUND,
-        &gate,
-    )?;
-    let passes = gate.passes.load(Ordering::SeqCst);
-    Ok((ran.status, passes, gate.items.load(Ordering::SeqCst)))
+    let first = BINARY.as_bytes();
+    let Ok(ran) = run_through(rt, alloc, &words, first, RIGHT.as_bytes(), &SOUND, &gate) else {
+        return false;
+    };
+    ran.status == Status::Done && gate.counts_are(passes, items)
 }
 
 #[test]
-fn each_pair_passes_the_gate_once(rt: HostRuntime) -> Result<(), Fail> {
-    assert_eq!(rt; passes(&rt, rt.alloc())?, (Status::Done, 2, 1));
-    Ok(())
+fn each_pair_passes_the_gate_once(rt: HostRuntime) {
+    assert!(rt; passes_are(&rt, rt.alloc(), 2, 1));
 }

@@ -1,10 +1,9 @@
 // A run over memory, and what is seen of it.
+use super::gates::Watch;
 use super::watched::Watched;
 use std::alloc::{AllocError, Global};
 use std::sync::Wait;
-use std::sync::atomic::{AtomicU64, Ordering};
 use std::thread::Threads;
-use tib_hunt::{Gate, Open};
 use tib_io::{MemoryFiles, MemorySink};
 use tib_operations::Status;
 use tib_run::{run, run_alone};
@@ -47,30 +46,6 @@ pub struct Ran {
     pub out: MemorySink,
     pub log: MemorySink,
     pub calls: Calls,
-}
-
-/// A gate that counts the items with which a worker passes, and adds them up.
-#[derive(Drop)]
-pub struct Counting {
-    pub passes: AtomicU64,
-    pub items: AtomicU64,
-}
-
-impl Counting {
-    /// A gate that nobody passed.
-    pub fn new() -> Counting {
-        Counting {
-            passes: AtomicU64::new(0),
-            items: AtomicU64::new(0),
-        }
-    }
-}
-
-impl Gate for Counting {
-    fn pass(&self, _worker: u32, item: u32) {
-        self.passes.fetch_add(1, Ordering::SeqCst);
-        self.items.fetch_add(u64::from(item), Ordering::SeqCst);
-    }
 }
 
 // Adds a word.
@@ -189,14 +164,14 @@ fn seen(status: Status, given: Given) -> Ran {
 }
 
 /// The run of these words over the files `G` and `T`, with this gate.
-pub fn run_through<R: Threads + Wait + Sync, G: Gate + Sync>(
+pub fn run_through<R: Threads + Wait + Sync>(
     rt: &R,
     alloc: Global,
     asked: &[&str],
     first: &[u8],
     second: &[u8],
     outside: &Outside,
-    gate: &G,
+    gate: &Watch,
 ) -> Result<Ran, AllocError> {
     let mut given = prepare(alloc, asked, first, second, outside)?;
     let status = run(
@@ -220,7 +195,7 @@ pub fn run_words<R: Threads + Wait + Sync>(
     second: &[u8],
     outside: &Outside,
 ) -> Result<Ran, AllocError> {
-    run_through(rt, alloc, asked, first, second, outside, &Open)
+    run_through(rt, alloc, asked, first, second, outside, &Watch::Nothing)
 }
 
 /// The same by one worker, whatever the words say of workers.
@@ -240,7 +215,7 @@ pub fn run_words_alone<R: Threads + Sync>(
         &mut given.files,
         &mut given.out,
         &mut given.log,
-        &Open,
+        &Watch::Nothing,
     );
     Ok(seen(status, given))
 }
