@@ -13,13 +13,11 @@ use Rattle.tib_parse.specs.KeyRanges.{ends_within}
 use Rattle.tib_strings.specs.declared.StringRule.{StringRule}
 use Rattle.tib_parse.proofs.EachKey.{order_each}
 
-module _ (states : ℕ) (some : 0 < states) (moves : List (StringRule ℕ)) (within : AreWithin states moves) (string : List ℕ) where
-  abbrev Good : ℕ × ℕ × ℕ × ℕ → Type 0
-  Good k = IsKey states (length string) (length (restricted_labels moves)) k
-
-  pub keys_within : (order : List (ℕ × ℕ × ℕ × ℕ)) → IsReached (parse moves string) order → (k : ℕ × ℕ × ℕ × ℕ) → Has order k → Good k
-  keys_within order reached k h =
-      order_each key_cmp (first_key (length string)) (IsParseEdge moves string) (λ e. holes_of e.right) (key_parts key_entries) edge_parts Good
-      (record { state = some; from = omega arith; to = omega arith; restricted = omega arith })
-      (ends_within states some moves within string)
-      reached.0 reached.1 order reached.2 k h
+pub keys_within :
+    (states : ℕ) → 0 < states → (moves : List (StringRule ℕ)) → AreWithin states moves → (string : List ℕ) (order : List (ℕ × ℕ × ℕ × ℕ)) → IsReached (parse moves string) order →
+    (k : ℕ × ℕ × ℕ × ℕ) → Has order k → IsKey states (length string) (length (restricted_labels moves)) k
+keys_within states some moves within string order reached k h =
+    order_each key_cmp (first_key (length string)) (IsParseEdge moves string) (λ e. holes_of e.right) (key_parts key_entries) edge_parts (IsKey states (length string) (length (restricted_labels moves)))
+    (record { state = some; from = omega arith; to = omega arith; restricted = omega arith })
+    (ends_within states some moves within string)
+    reached.0 reached.1 order reached.2 k h
