@@ -17,6 +17,6 @@ returns g c =
       grows = c.read_trees.ensures.grows;
       reads = c.in-Ok.ensures.text;
       text = c.in-Ok-read_trees.ensures.trees.0;
-      series = subst (λ ts. AllZip (λ t v. IsSeries ◌+◌ c.in-Ok.grammar.rules t v) ts costs.items) c.deref.ensures.value zip
+      series = subst (λ ts. AllZip (λ t v. IsSeries ◌+◌ c.in-Ok.grammar.rules t v) ts costs.items) c.deref.ensures.value zip;
     })
     c.weighed.ensures
