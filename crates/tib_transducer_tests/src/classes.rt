@@ -4,7 +4,10 @@ use crate::transducer::{Left, Right, made, rules_of};
 use std::alloc::{AllocError, Global};
 use std::test::Fail;
 use tib_cost::MinPlus;
-use tib_transducer::{Transducer, extended, first_outside, labelled, not_linear, not_nondeleting};
+use tib_transducer::{
+    ClassError, ClassFault, Transducer, extended, first_outside, labelled, not_linear,
+    not_nondeleting,
+};
 
 // What stands on the left, and on the right.
 type Row<'a> = (&'a [Left], &'a [Right]);
