@@ -1,11 +1,14 @@
 // `kbest`: the cheapest trees of a grammar, each with its cost.
-ghost use Rattle.std.specs.Prelude.{◌≡◌, ◌<◌, ◌≤◌, ◌^◌, ◌++◌, ℕ, length, IfErr, IfOk, IfSome, IsTrue, OnOk};
+ghost use Rattle.std.specs.Prelude.{◌≡◌, ◌<◌, ◌≤◌, ◌^◌, ◌++◌, ℕ, Some, false, length, IfErr, IfOk, IfSome, IsTrue, OnOk};
 ghost use Rattle.std.proofs.Common.{get_or};
+ghost use Rattle.tib_grammar.specs.Run.{rule_at};
 ghost use Rattle.tib_grammar_file.specs.Printable.{ArePrintable};
+ghost use Rattle.tib_grammar_file.specs.Printed.{AreLabelled};
 ghost use Rattle.tib_lex.specs.Lists.{Each};
 ghost use Rattle.tib_tree.specs.Growth.{HasLabels};
 ghost use Rattle.tib_k_best_lists.specs.Best.{IsKBest};
 ghost use Rattle.tib_k_best_lists.specs.Pass.{no_entry};
+ghost use Rattle.tib_k_best.specs.Trimmed.{HaveTreesBelow};
 ghost use Rattle.tib_operations.specs.KBest.{costed_line, costed_lines, HasKBestText, IsKBestFault, kbest_makes};
 ghost use Rattle.tib_operations.specs.Made.{IsLimit};
 ghost use Rattle.tib_prune.specs.Loop.{AreInsidesOfAll};
@@ -61,6 +64,22 @@ fn list_text<S: Semiring>(
     Ok(text)
 }
 
+// The lines of a list, or the status of a run that finds no memory for them.
+fn text_of_list<S: Semiring>(
+    alloc: Global,
+    list: &Ranked,
+    labels: &Labels,
+) -> Result<GrowingSink, Status>
+    requires { Each (λ x. HasLabels labels.now x.0) list.now }
+    ensures text { IfOk result (λ text. text.bytes ≡ costed_lines S.SCALE labels.now list.now) }
+    ensures err { IfErr result (λ status. status ≡ Status.OutOfMemory) }
+{
+    match list_text::<S>(alloc, list, labels) {
+        Ok(text) => Ok(text),
+        Err(Failed) => Err(Status::OutOfMemory),
+    }
+}
+
 // Whether each tree of a list costs at most a bound.
 fn are_within(list: &Ranked, bound: u64) -> bool
     ensures { IsTrue result → (i : ℕ) → i < length list.now → (get_or list.now i no_entry).1
@@ -86,6 +105,43 @@ fn is_full(list: &Ranked, k: u32, bound: u64) -> bool
     are_within(list, bound)
 }
 
+// A list that was found, where it has k trees, each of which costs at most a bound.
+fn full_list(found: Option<Ranked>, k: u32, bound: u64) -> Option<Ranked>
+    ensures { IfSome result (λ xs. (found ≡ Some xs) × (length xs ≡ k)
+        × ((i : ℕ) → i < length xs → (get_or xs i no_entry).1 ≤ bound)) }
+{
+    let Some(list) = found else {
+        return None;
+    };
+    if is_full(&list, k, bound) {
+        Some(list)
+    } else {
+        None
+    }
+}
+
+// The k cheapest trees of a trimmed normal form; none where a tree is too large. Only want of memory is an error.
+fn small_best<S: Semiring>(
+    alloc: Global,
+    form: &Normal<S>,
+    labels: &Labels,
+    k: u32,
+) -> Result<Option<Ranked>, AllocError>
+    requires free { S.WEIGHTED ≡ false → (n : ℕ) → n < length form.now.rules →
+        (rule_at form.now.rules n).cost ≡ 0 }
+    requires labelled { AreLabelled (length labels.now) form.now.rules }
+    requires some { 0 < k }
+    requires trimmed { HaveTreesBelow S.product form.now.rules }
+    ensures best { IfOk result (λ found. IfSome found (λ xs. IsKBest S.product form.now.rules
+        labels.now k xs)) }
+{
+    match best_trees::<S>(alloc, form, labels, k) {
+        Ok(list) => Ok(Some(list)),
+        Err(KBestError::TreeTooLarge { .. }) => Ok(None),
+        Err(KBestError::OutOfMemory) => Err(AllocError),
+    }
+}
+
 // The k cheapest trees of some rules that were kept; none where a tree is too large. Only want of memory is an error.
 fn kept_best<S: Semiring + Drop>(
     alloc: Global,
@@ -107,11 +163,7 @@ fn kept_best<S: Semiring + Drop>(
     trimmed_is_printable();
     trimmed_has_trees::<S>();
     printable_is_labelled();
-    match best_trees::<S>(alloc, &trimmed, labels, k) {
-        Ok(list) => Ok(Some(list)),
-        Err(KBestError::TreeTooLarge { .. }) => Ok(None),
-        Err(KBestError::OutOfMemory) => Err(AllocError),
-    }
+    small_best::<S>(alloc, &trimmed, labels, k)
 }
 
 // How many rules are kept to find k trees among them: a guess, which decides the time alone.
@@ -143,13 +195,8 @@ fn narrow_best<S: Semiring + Drop>(
     };
     let pruned = prune_to_count::<S>(alloc, form, insides, rules_for(k))?;
     let (kept, beam) = pruned;
-    let Some(list) = kept_best::<S>(alloc, kept, labels, k)? else {
-        return Ok(None);
-    };
-    if !is_full(&list, k, best.get() + beam.get()) {
-        return Ok(None);
-    }
-    Ok(Some(list))
+    let found = kept_best::<S>(alloc, kept, labels, k)?;
+    Ok(full_list(found, k, best.get() + beam.get()))
 }
 
 // The list of the k cheapest trees of a grammar, found among the rules within a beam; none where it was not found there; or the
@@ -260,8 +307,8 @@ pub fn kbest_text<S: Semiring + Drop>(
         Err(status) => return Err(status),
     };
     list.is_small();
-    match list_text::<S>(alloc, &list, labels) {
+    match text_of_list::<S>(alloc, &list, labels) {
         Ok(text) => Ok(text),
-        Err(Failed) => Err(Status::OutOfMemory),
+        Err(status) => Err(status),
     }
 }

@@ -1,6 +1,7 @@
 use Rattle.std.proofs.Common.{rules, arith, ap, ◌∙◌, ◌+◌, ◌<◌, ◌≤◌, length, subst}
-use Rattle.std.specs.Prelude.{IsTrue, None, Option, ℕ}
+use Rattle.std.specs.Prelude.{None, Option, ℕ}
 use Rattle.std.proofs.lemmas.List.{get_or_default}
+use Rattle.std.proofs.lemmas.Option.{IfSome_then}
 use Rattle.tib_lex.proofs.Lists.{Each-from}
 use Rattle.tib_grammar.specs.GrammarOf.{GrammarOf}
 use Rattle.tib_inside.specs.Inside.{IsInside}
@@ -16,12 +17,12 @@ kept_best-requires-clause-printable g c =
 
 pub returns : goal.returns
 returns g c =
-    let yes : IsTrue c.is_full.result = search rules in
-    let same = rw c.in-Some-2.is at c.in_ok-list.ensures.best in
     let some : 0 < length c.args.insides.now = omega (arith, subst (λ (n : GrammarOf). 0 < length n.names) c.grammar.ensures.same c.is_sound.ensures.start, c.requires.length) in
     record {
-      best = narrow g.S.Semiring.product c.args.form.rules c.in_ok-pruned.pruned.0.rules c.in-Some.best c.in_ok-pruned.pruned.1
+      best = IfSome_then c.full_list.result c.full_list.ensures (λ xs p.
+          let same = rw p.0 at c.in_ok-found.ensures.best in
+          narrow g.S.Semiring.product c.args.form.rules c.in_ok-pruned.pruned.0.rules c.in-Some.best c.in_ok-pruned.pruned.1
           (subst (λ (v : Option ℕ). IsInside g.S.Semiring.product c.args.form.rules 0 v) (get_or_default c.args.insides.now 0 None _ some ∙ c.in-Some.is) (c.requires.insides 0)) c.in_ok-pruned.ensures.cheap
-          c.in_ok-pruned.ensures.costs c.args.labels.now c.args.k c.in-Some-2.list same (c.is_full.ensures.full yes)
-          (Each-from (λ (x : Costed). x.1 ≤ c.in-Some.best + c.in_ok-pruned.pruned.1) c.in-Some-2.list no_entry (λ i h. omega (arith, c.is_full.ensures.within yes i h, c.get.ensures.same, c.get-2.ensures.same)));
+          c.in_ok-pruned.ensures.costs c.args.labels.now c.args.k xs same p.1
+          (Each-from (λ (x : Costed). x.1 ≤ c.in-Some.best + c.in_ok-pruned.pruned.1) xs no_entry (λ i h. omega (arith, p.2 i h, c.get.ensures.same, c.get-2.ensures.same))));
     }
