@@ -1,20 +1,81 @@
 // The k best trees by levels.
-ghost use Rattle.std.specs.Prelude.{◌≡◌, ◌<◌, true, length, IfErr, IfOk};
+ghost use Rattle.std.specs.Prelude.{◌≡◌, ◌<◌, ℕ, List as ListFor, true, length, take, IfErr, IfOk};
 ghost use Rattle.tib_grammar_file.specs.Printed.{AreLabelled};
 ghost use Rattle.tib_grammar.specs.Forms.{AreNormal};
 ghost use Rattle.tib_k_best_lists.specs.Best.{IsKBest};
 ghost use Rattle.tib_k_best.specs.Causes.{IsLevelCause};
+ghost use Rattle.tib_level_lists.specs.RankedOf.{ranked_of, AreRanked};
 ghost use Rattle.tib_level_lists.specs.Splits.{IsSplit};
+ghost use Rattle.tib_level_lists.specs.Weights.{places_from, AreByCost, AreWeights, HaveCosts};
 
 use crate::ranked::Ranked;
 use crate::search::{Split, split_levels};
 use crate::weights::{by_cost, first_places, weights_of};
 use std::alloc::{AllocError, Global};
-use tib_cost::Semiring;
-use tib_k_best::KBestError;
+use tib_cost::{Cost, Semiring};
+use tib_k_best::{KBestError, List};
 use tib_normal::Normal;
 use tib_shared_trees::label_ranks;
 use tib_tree::Labels;
+
+// What the trees of a list cost in the whole grammar, each with its place, by cost.
+fn first_of<S: Semiring>(
+    alloc: Global,
+    normal: &Normal<S>,
+    below: &List,
+) -> Result<Vec<(Cost, u32)>, AllocError>
+    requires { HaveCosts S.product normal.now.rules below.now }
+    ensures { IfOk result (λ v. (ws : ListFor ℕ)
+        × AreWeights S.product normal.now.rules below.now ws × AreByCost ws v.items) }
+{
+    below.len();
+    let weights = weights_of::<S>(alloc, normal, below)?;
+    let first = by_cost(alloc, &weights)?;
+    Ok(first)
+}
+
+// The first places of trees that cost this much in the whole grammar, or all.
+fn rest_of<S: Semiring>(
+    alloc: Global,
+    normal: &Normal<S>,
+    at: &List,
+    cost: Cost,
+    most: usize,
+) -> Result<Vec<u32>, AllocError>
+    requires { HaveCosts S.product normal.now.rules at.now }
+    ensures { IfOk result (λ v. (ws : ListFor ℕ)
+        × AreWeights S.product normal.now.rules at.now ws
+        × (v.items ≡ take most (places_from cost 0 ws))) }
+{
+    at.len();
+    let weights = weights_of::<S>(alloc, normal, at)?;
+    let rest = first_places(alloc, &weights, cost, most)?;
+    Ok(rest)
+}
+
+// The places of the trees below the cost by what they cost, and of those that cost as much, k in
+// all.
+fn places<S: Semiring>(
+    alloc: Global,
+    normal: &Normal<S>,
+    split: &Split,
+    labels: &Labels,
+    k: u32,
+) -> Result<(Vec<(Cost, u32)>, Vec<u32>), AllocError>
+    requires levelled { S.LEVELLED ≡ true }
+    requires normal { AreNormal normal.now.rules }
+    requires split { IsSplit S.product labels.now normal.now.rules k split.now.cost
+        split.now.below split.now.at }
+    ensures ranked { IfOk result (λ p. AreRanked split.now.below split.now.at p.0.items
+        p.1.items) }
+    ensures best { IfOk result (λ p. IsKBest S.product normal.now.rules labels.now k
+        (ranked_of split.now.below split.now.at split.now.cost p.0.items p.1.items)) }
+{
+    let first = first_of::<S>(alloc, normal, &split.below)?;
+    let count = first.len();
+    let rest = rest_of::<S>(alloc, normal, &split.at, split.cost, k as usize - count)?;
+    Ok((first, rest))
+}
 
 // The trees below the cost by what they cost, and then those that cost as much, k in all.
 fn rank<S: Semiring>(
@@ -30,13 +91,7 @@ fn rank<S: Semiring>(
         split.at }
     ensures { IfOk result (λ xs. IsKBest S.product normal.now.rules labels.now k xs) }
 {
-    split.below.len();
-    split.at.len();
-    let weights = weights_of::<S>(alloc, normal, &split.below)?;
-    let first = by_cost(alloc, &weights)?;
-    let weights_at = weights_of::<S>(alloc, normal, &split.at)?;
-    let count = first.len();
-    let rest = first_places(alloc, &weights_at, split.cost, k as usize - count)?;
+    let (first, rest) = places::<S>(alloc, normal, &split, labels, k)?;
     Ok(Ranked::new(split, first, rest))
 }
 

@@ -1,13 +1,14 @@
 // The k best trees in every semiring.
-ghost use Rattle.std.specs.Prelude.{◌≡◌, ◌⊎◌, ℕ, ◌<◌, false, true, length, IfErr, IfOk, IsTrue};
+ghost use Rattle.std.specs.Prelude.{◌≡◌, ◌⊎◌, ℕ, ◌<◌, List as ListFor, [], false, true, length, IfErr, IfOk, IsTrue};
 ghost use Rattle.tib_grammar.specs.Forms.{IsDeterministic};
 ghost use Rattle.tib_grammar.specs.Run.{rule_at};
 ghost use Rattle.tib_grammar_file.specs.Printed.{AreLabelled};
-ghost use Rattle.tib_k_best_lists.specs.Best.{IsKBest};
+ghost use Rattle.tib_k_best_lists.specs.Best.{Costed, IsKBest};
 ghost use Rattle.tib_k_best_lists.specs.Levels.{IsOrderly};
 ghost use Rattle.tib_k_best.specs.Causes.{IsCause, IsLevelCause};
 ghost use Rattle.tib_k_best.specs.Trimmed.{HaveTreesBelow};
 ghost use Rattle.tib_shared_trees.specs.Ranked.{AreRanksOf};
+ghost use Rattle.tib_level_lists.specs.RankedOf.{ranked_of, AreRanked};
 
 use crate::best::k_best_by_levels;
 use crate::level::no_trees;
@@ -46,6 +47,37 @@ fn is_levelled<S: Semiring>() -> bool
     keeps_one::<S>()
 }
 
+// The cost of each tree of a list with its place, in order.
+fn in_order(alloc: Global, list: &List) -> Result<Vec<(Cost, u32)>, AllocError>
+    ensures ranked { IfOk result (λ v. (at : ListFor Costed) → AreRanked list.now at v.items []) }
+    ensures same { IfOk result (λ v. (at : ListFor Costed) (c : ℕ) →
+        ranked_of list.now at c v.items [] ≡ list.now) }
+{
+    list.len();
+    let costs = costs_of(alloc, list)?;
+    let first = numbered(alloc, &costs)?;
+    Ok(first)
+}
+
+// All trees below a cost, and none at it.
+fn all_below<S: Semiring>(
+    alloc: Global,
+    list: List,
+    labels: &Labels,
+    ranks: &[u32],
+) -> Result<Split, AllocError>
+    requires ranks { AreRanksOf labels.now ranks.now }
+    ensures { IfOk result (λ s. s.below ≡ list) }
+{
+    let at = no_trees::<S>(alloc, labels, ranks)?;
+    let cost = S::one();
+    Ok(Split {
+        below: list,
+        at,
+        cost,
+    })
+}
+
 // The trees of a list, in order.
 fn flat<S: Semiring>(
     alloc: Global,
@@ -56,15 +88,8 @@ fn flat<S: Semiring>(
     requires ranks { AreRanksOf labels.now ranks.now }
     ensures { IfOk result (λ xs. xs ≡ list) }
 {
-    let at = no_trees::<S>(alloc, labels, ranks)?;
-    let costs = costs_of(alloc, &list)?;
-    let first = numbered(alloc, &costs)?;
-    let cost = S::one();
-    let split = Split {
-        below: list,
-        at,
-        cost,
-    };
+    let first = in_order(alloc, &list)?;
+    let split = all_below::<S>(alloc, list, labels, ranks)?;
     Ok(Ranked::new(split, first, Vec::new(alloc)))
 }
 
