@@ -45,19 +45,46 @@ pub fn supports_of<F: Files>(alloc: Global, job: &Job, files: &mut F) -> Result<
         (files_seen F.held F.sure F.faults files.new) }
 {
     let mut labels = Labels::new(alloc);
-    let first = match value_in::<Support, F>(alloc, job, 1, files, &mut labels) {
+    match values_over::<F>(alloc, job, files, &mut labels) {
+        Ok((first, second)) => Ok(Supports {
+            labels,
+            first,
+            second,
+        }),
+        Err(status) => Err(status),
+    }
+}
+
+// Both values, over a table of labels that is empty.
+fn values_over<F: Files>(
+    alloc: Global,
+    job: &Job,
+    files: &mut F,
+    labels: &mut Labels,
+) -> Result<(Grammar<Boolean>, Grammar<Boolean>), Status>
+    requires operation { job.now.operation ≡ Operation.Compare }
+    requires files { length job.now.files.items ≡ 2 }
+    requires labels { labels.old ≡ [] }
+    ensures texts { IfOk result (λ r. AreTexts (scale_of job.now.mode) labels.new
+        (bytes_of (meaning job.now) (F.held files.old)) (of_support ∷ of_support ∷ [])
+        (r.0, (r.1, tt))) }
+    ensures first { IfOk result (λ r. ArePrintable Unweighted labels.new r.0.rules) }
+    ensures second { IfOk result (λ r. ArePrintable Unweighted labels.new r.1.rules) }
+    ensures status { IfErr result (EndsRun (Some (meaning job.now))
+        (files_seen F.held F.sure F.faults files.old)
+        (files_seen F.held F.sure F.faults files.new)) }
+    ensures files { LeavesFiles (files_seen F.held F.sure F.faults files.old)
+        (files_seen F.held F.sure F.faults files.new) }
+{
+    let first = match value_in::<Support, F>(alloc, job, 1, files, labels) {
         Ok(support) => support.grammar,
         Err(status) => return Err(status),
     };
-    let second = match value_in::<Support, F>(alloc, job, 2, files, &mut labels) {
+    let second = match value_in::<Support, F>(alloc, job, 2, files, labels) {
         Ok(support) => support.grammar,
         Err(status) => return Err(status),
     };
     labels.len();
     printable_stays();
-    Ok(Supports {
-        labels,
-        first,
-        second,
-    })
+    Ok((first, second))
 }

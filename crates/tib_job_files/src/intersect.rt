@@ -48,19 +48,47 @@ pub fn grammars_of<S: Semiring + Drop, F: Files>(
         (files_seen F.held F.sure F.faults files.new) }
 {
     let mut labels = Labels::new(alloc);
-    let first = match value_in::<Grammar<S>, F>(alloc, job, 1, files, &mut labels) {
+    match values_over::<S, F>(alloc, job, files, &mut labels) {
+        Ok((first, second)) => Ok(Grammars {
+            labels,
+            first,
+            second,
+        }),
+        Err(status) => Err(status),
+    }
+}
+
+// Both values, over a table of labels that is empty.
+fn values_over<S: Semiring + Drop, F: Files>(
+    alloc: Global,
+    job: &Job,
+    files: &mut F,
+    labels: &mut Labels,
+) -> Result<(Grammar<S>, Grammar<S>), Status>
+    requires operation { job.now.operation ≡ Operation.Intersect }
+    requires files { length job.now.files.items ≡ 2 }
+    requires mode { S.SCALE ≡ scale_of job.now.mode }
+    requires labels { labels.old ≡ [] }
+    ensures texts { IfOk result (λ r. AreTexts S.SCALE labels.new
+        (bytes_of (meaning job.now) (F.held files.old)) (of_grammar ∷ of_grammar ∷ [])
+        (r.0, (r.1, tt))) }
+    ensures first { IfOk result (λ r. ArePrintable S.SCALE labels.new r.0.rules) }
+    ensures second { IfOk result (λ r. ArePrintable S.SCALE labels.new r.1.rules) }
+    ensures status { IfErr result (EndsRun (Some (meaning job.now))
+        (files_seen F.held F.sure F.faults files.old)
+        (files_seen F.held F.sure F.faults files.new)) }
+    ensures files { LeavesFiles (files_seen F.held F.sure F.faults files.old)
+        (files_seen F.held F.sure F.faults files.new) }
+{
+    let first = match value_in::<Grammar<S>, F>(alloc, job, 1, files, labels) {
         Ok(first) => first,
         Err(status) => return Err(status),
     };
-    let second = match value_in::<Grammar<S>, F>(alloc, job, 2, files, &mut labels) {
+    let second = match value_in::<Grammar<S>, F>(alloc, job, 2, files, labels) {
         Ok(second) => second,
         Err(status) => return Err(status),
     };
     labels.len();
     printable_stays();
-    Ok(Grammars {
-        labels,
-        first,
-        second,
-    })
+    Ok((first, second))
 }

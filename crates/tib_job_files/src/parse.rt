@@ -46,18 +46,45 @@ pub fn inputs_of<S: Semiring + Drop, F: Files>(
         (files_seen F.held F.sure F.faults files.new) }
 {
     let mut labels = Labels::new(alloc);
-    let transducer = match value_in::<StringTransducer<S>, F>(alloc, job, 1, files, &mut labels) {
+    match values_over::<S, F>(alloc, job, files, &mut labels) {
+        Ok((transducer, string)) => Ok(Inputs {
+            labels,
+            transducer,
+            string,
+        }),
+        Err(status) => Err(status),
+    }
+}
+
+// Both values, over a table of labels that is empty.
+fn values_over<S: Semiring + Drop, F: Files>(
+    alloc: Global,
+    job: &Job,
+    files: &mut F,
+    labels: &mut Labels,
+) -> Result<(StringTransducer<S>, Vec<Label>), Status>
+    requires operation { job.now.operation ≡ Operation.Parse }
+    requires files { length job.now.files.items ≡ 2 }
+    requires mode { S.SCALE ≡ scale_of job.now.mode }
+    requires labels { labels.old ≡ [] }
+    ensures texts { IfOk result (λ r. AreTexts S.SCALE labels.new
+        (bytes_of (meaning job.now) (F.held files.old)) (of_string_transducer ∷ of_string ∷ [])
+        (r.0, (r.1.items, tt))) }
+    ensures transducer { IfOk result (λ r. ArePlainWords S.SCALE labels.new r.0.rules) }
+    ensures status { IfErr result (EndsRun (Some (meaning job.now))
+        (files_seen F.held F.sure F.faults files.old)
+        (files_seen F.held F.sure F.faults files.new)) }
+    ensures files { LeavesFiles (files_seen F.held F.sure F.faults files.old)
+        (files_seen F.held F.sure F.faults files.new) }
+{
+    let transducer = match value_in::<StringTransducer<S>, F>(alloc, job, 1, files, labels) {
         Ok(transducer) => transducer,
         Err(status) => return Err(status),
     };
-    let string = match value_in::<Vec<Label>, F>(alloc, job, 2, files, &mut labels) {
+    let string = match value_in::<Vec<Label>, F>(alloc, job, 2, files, labels) {
         Ok(string) => string,
         Err(status) => return Err(status),
     };
     labels.len();
-    Ok(Inputs {
-        labels,
-        transducer,
-        string,
-    })
+    Ok((transducer, string))
 }

@@ -5,7 +5,7 @@ use Rattle.tib_command.specs.declared.job.Operation.TheVariants as operations
 use Rattle.tib_job_files.specs.Kinds.{of_grammar}
 use Rattle.tib_job_files.proofs.Reached.{before_second, two_files}
 use Rattle.tib_job_files.proofs.Steps.{ends_later}
-use Rattle.tib_job_files.proofs.intersect.grammars_of.Goals as goal
+use Rattle.tib_job_files.proofs.intersect.values_over.Goals as goal
 
 pub returns-clause-first : goal.returns-clause-first
 returns-clause-first g c = c.printable_stays.ensures g.S.Semiring.SCALE c.value_in.new.labels c.value_in-2.new.labels c.in-Ok.first.rules c.in-Ok.ensures.sound c.in-Ok-value_in.ensures.grows

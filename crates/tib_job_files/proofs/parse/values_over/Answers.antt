@@ -6,7 +6,7 @@ use Rattle.tib_further_operations.proofs.WordsRead.{words_grown}
 use Rattle.tib_job_files.specs.Kinds.{of_string_transducer, of_string}
 use Rattle.tib_job_files.proofs.Reached.{before_second, two_files}
 use Rattle.tib_job_files.proofs.Steps.{ends_later}
-use Rattle.tib_job_files.proofs.parse.inputs_of.Goals as goal
+use Rattle.tib_job_files.proofs.parse.values_over.Goals as goal
 
 pub returns-clause-transducer : goal.returns-clause-transducer
 returns-clause-transducer g c = words_grown g.S.Semiring.SCALE c.value_in.new.labels c.value_in-2.new.labels c.in-Ok.transducer.rules c.in-Ok-value_in.ensures.grows c.in-Ok.ensures.sound

@@ -7,7 +7,7 @@ use Rattle.tib_job_files.specs.Causes.{scale_of}
 use Rattle.tib_job_files.specs.Kinds.{of_support}
 use Rattle.tib_job_files.proofs.Reached.{before_second, two_files}
 use Rattle.tib_job_files.proofs.Steps.{ends_later}
-use Rattle.tib_job_files.proofs.compare.supports_of.Goals as goal
+use Rattle.tib_job_files.proofs.compare.values_over.Goals as goal
 
 pub returns-clause-first : goal.returns-clause-first
 returns-clause-first g c = c.printable_stays.ensures Unweighted c.value_in.new.labels c.value_in-2.new.labels c.in-Ok.support.grammar.rules c.in-Ok.ensures.sound c.in-Ok-value_in.ensures.grows
