@@ -1,5 +1,5 @@
 // `check`: the classes of a transducer, and which rule decides each.
-ghost use Rattle.std.specs.Prelude.{◌≡◌, Some, length, IfErr, IfOk};
+ghost use Rattle.std.specs.Prelude.{◌≡◌, Some, [], length, IfErr, IfOk};
 ghost use Rattle.tib_command.specs.Jobs.{meaning};
 ghost use Rattle.tib_job_files.specs.Answers.{IsAnswer};
 ghost use Rattle.tib_job_files.specs.Causes.{scale_of, product_of};
@@ -32,7 +32,29 @@ pub(crate) fn check_file<S: Semiring, F: Files>(
         (files_seen F.held F.sure F.faults files.new) }
 {
     let mut labels = Labels::new(alloc);
-    let transducer = match value_in::<Transducer<S>, F>(alloc, job, 1, files, &mut labels) {
+    check_over::<S, F>(alloc, job, files, &mut labels)
+}
+
+// The same over a table of labels that is empty.
+fn check_over<S: Semiring, F: Files>(
+    alloc: Global,
+    job: &Job,
+    files: &mut F,
+    labels: &mut Labels,
+) -> Result<GrowingSink, Status>
+    requires operation { job.now.operation ≡ Operation.Check }
+    requires files { length job.now.files.items ≡ 1 }
+    requires mode { S.SCALE ≡ scale_of job.now.mode }
+    requires product { S.product ≡ product_of job.now.mode }
+    requires labels { labels.old ≡ [] }
+    ensures text { IfOk result (λ text. IsAnswer (meaning job.now) (F.held files.old) text.bytes) }
+    ensures status { IfErr result (EndsRun (Some (meaning job.now))
+        (files_seen F.held F.sure F.faults files.old)
+        (files_seen F.held F.sure F.faults files.new)) }
+    ensures files { LeavesFiles (files_seen F.held F.sure F.faults files.old)
+        (files_seen F.held F.sure F.faults files.new) }
+{
+    let transducer = match value_in::<Transducer<S>, F>(alloc, job, 1, files, labels) {
         Ok(transducer) => transducer,
         Err(status) => return Err(status),
     };

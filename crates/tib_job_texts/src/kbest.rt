@@ -1,5 +1,5 @@
 // `kbest`: the cheapest trees of a grammar, each with its cost.
-ghost use Rattle.std.specs.Prelude.{◌≡◌, ◌<◌, Some, length, IfErr, IfOk};
+ghost use Rattle.std.specs.Prelude.{◌≡◌, ◌<◌, Some, [], length, IfErr, IfOk};
 ghost use Rattle.tib_command.specs.Jobs.{meaning};
 ghost use Rattle.tib_job_files.specs.Answers.{IsAnswer};
 ghost use Rattle.tib_job_files.specs.Causes.{levelled_of, scale_of, product_of};
@@ -36,14 +36,38 @@ pub(crate) fn kbest_of_file<S: Semiring + Drop, F: Files>(
         (files_seen F.held F.sure F.faults files.new) }
 {
     let mut labels = Labels::new(alloc);
-    let grammar = match value_in::<Grammar<S>, F>(alloc, job, 1, files, &mut labels) {
+    kbest_over::<S, F>(alloc, job, files, &mut labels)
+}
+
+// The same over a table of labels that is empty.
+fn kbest_over<S: Semiring + Drop, F: Files>(
+    alloc: Global,
+    job: &Job,
+    files: &mut F,
+    labels: &mut Labels,
+) -> Result<GrowingSink, Status>
+    requires operation { job.now.operation ≡ Operation.KBest }
+    requires files { length job.now.files.items ≡ 1 }
+    requires limit { IsLimit job.now.limit }
+    requires some { 0 < job.now.k }
+    requires levelled { S.LEVELLED ≡ levelled_of job.now.mode }
+    requires mode { S.SCALE ≡ scale_of job.now.mode }
+    requires product { S.product ≡ product_of job.now.mode }
+    requires labels { labels.old ≡ [] }
+    ensures text { IfOk result (λ text. IsAnswer (meaning job.now) (F.held files.old) text.bytes) }
+    ensures status { IfErr result (EndsRun (Some (meaning job.now))
+        (files_seen F.held F.sure F.faults files.old)
+        (files_seen F.held F.sure F.faults files.new)) }
+    ensures files { LeavesFiles (files_seen F.held F.sure F.faults files.old)
+        (files_seen F.held F.sure F.faults files.new) }
+{
+    let grammar = match value_in::<Grammar<S>, F>(alloc, job, 1, files, labels) {
         Ok(grammar) => grammar,
         Err(status) => return Err(status),
     };
     labels.len();
-    let text = match kbest_text::<S>(alloc, &grammar, &labels, job.limit, job.k) {
-        Ok(text) => text,
-        Err(status) => return Err(status),
-    };
-    Ok(text)
+    match kbest_text::<S>(alloc, &grammar, labels, job.limit, job.k) {
+        Ok(text) => Ok(text),
+        Err(status) => Err(status),
+    }
 }

@@ -5,29 +5,25 @@ use Rattle.tib_command.specs.declared.job.Operation.TheVariants as operations
 use Rattle.tib_job_files.specs.Kinds.{of_grammar, of_trees}
 use Rattle.tib_job_files.proofs.Reached.{before_second, two_files, made_answer}
 use Rattle.tib_job_files.proofs.Steps.{made_ends, ends_later}
-use Rattle.tib_job_texts.proofs.weigh.weigh_files.Goals as goal
+use Rattle.tib_job_texts.proofs.weigh.weigh_over.Goals as goal
 
-pub returns-in-Err-costs_of-clause-status : goal.returns-in-Err-costs_of-clause-status
-returns-in-Err-costs_of-clause-status g c =
+pub returns-clause-status : goal.returns-clause-status
+returns-clause-status g c =
     let held : List ℕ → Option (List ℕ) = g.F.Files.held c.args.files.now in
     made_ends (meaning c.args.job.now) operations.Weigh g.S.Semiring.SCALE g.S.Semiring.product c.value_in-2.new.labels (c.in-Ok.grammar, (c.in-Ok-value_in.trees.items, tt)) c.requires.operation c.requires.mode
     c.requires.product _ _
     (two_files (meaning c.args.job.now) held (g.F.Files.held c.value_in.new.files) g.S.Semiring.SCALE c.value_in.new.labels c.value_in-2.new.labels of_grammar of_trees c.in-Ok.grammar c.in-Ok-value_in.trees.items
     c.in-Ok-value_in.ensures.sound.0 c.in-Ok-value_in.ensures.grows c.in-Ok.ensures.files.held c.in-Ok.ensures.text c.in-Ok-value_in.ensures.text)
-    c.in-Err-costs_of.status tt c.in-Err-costs_of.ensures.err
+    c.in-Err-weighed_trees.status tt c.in-Err-weighed_trees.ensures.err
 
-pub returns-in-Ok-weighed_text-clause-text : goal.returns-in-Ok-weighed_text-clause-text
-returns-in-Ok-weighed_text-clause-text g c =
+pub returns-in-Ok-weighed_trees-clause-text : goal.returns-in-Ok-weighed_trees-clause-text
+returns-in-Ok-weighed_trees-clause-text g c =
     let held : List ℕ → Option (List ℕ) = g.F.Files.held c.args.files.now in
     made_answer (meaning c.args.job.now) held operations.Weigh g.S.Semiring.SCALE g.S.Semiring.product c.value_in-2.new.labels (c.in-Ok.grammar, (c.in-Ok-value_in.trees.items, tt)) c.requires.operation c.requires.mode
     c.requires.product
     (two_files (meaning c.args.job.now) held (g.F.Files.held c.value_in.new.files) g.S.Semiring.SCALE c.value_in.new.labels c.value_in-2.new.labels of_grammar of_trees c.in-Ok.grammar c.in-Ok-value_in.trees.items
     c.in-Ok-value_in.ensures.sound.0 c.in-Ok-value_in.ensures.grows c.in-Ok.ensures.files.held c.in-Ok.ensures.text c.in-Ok-value_in.ensures.text)
-    c.in-Ok-weighed_text.text.bytes tt c.in-Ok-costs_of.ensures.within (record {
-      costs = c.in-Ok-costs_of.costs.items;
-      weights = rw (← c.deref.ensures.value) c.in-Ok-costs_of.ensures.weights;
-      are = rw (← c.deref-2.ensures.value, ← c.deref-3.ensures.value) c.in-Ok-weighed_text.ensures;
-    })
+    c.in-Ok-weighed_trees.text.bytes tt c.in-Ok-weighed_trees.ensures.within (rw (← c.deref.ensures.value) c.in-Ok-weighed_trees.ensures.text)
 
 pub returns-in-Err-value_in-clause-status : goal.returns-in-Err-value_in-clause-status
 returns-in-Err-value_in-clause-status g c =

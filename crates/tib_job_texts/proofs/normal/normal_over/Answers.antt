@@ -5,18 +5,18 @@ use Rattle.tib_command.specs.declared.job.Operation.TheVariants as operations
 use Rattle.tib_job_files.specs.Kinds.{of_grammar}
 use Rattle.tib_job_files.proofs.Reached.{one_file, made_answer}
 use Rattle.tib_job_files.proofs.Steps.{made_ends}
-use Rattle.tib_job_texts.proofs.normal.normal_of_file.Goals as goal
+use Rattle.tib_job_texts.proofs.normal.normal_over.Goals as goal
 
-pub returns-in-Err-canonical_normal-clause-status : goal.returns-in-Err-canonical_normal-clause-status
-returns-in-Err-canonical_normal-clause-status g c =
+pub returns-clause-status : goal.returns-clause-status
+returns-clause-status g c =
     let held : List ℕ → Option (List ℕ) = g.F.Files.held c.args.files.now in
     made_ends (meaning c.args.job.now) operations.Normal g.S.Semiring.SCALE g.S.Semiring.product c.value_in.new.labels (c.in-Ok.grammar, tt) c.requires.operation c.requires.mode c.requires.product _ _
     (one_file (meaning c.args.job.now) held g.S.Semiring.SCALE c.value_in.new.labels of_grammar c.in-Ok.grammar c.len.ensures.distinct c.in-Ok.ensures.text)
-    c.in-Err-canonical_normal.status tt c.in-Err-canonical_normal.ensures.err
+    c.in-Err-normal_text.status tt c.in-Err-normal_text.ensures.err
 
-pub returns-clause-text : goal.returns-clause-text
-returns-clause-text g c =
+pub returns-in-Ok-normal_text-clause-text : goal.returns-in-Ok-normal_text-clause-text
+returns-in-Ok-normal_text-clause-text g c =
     let held : List ℕ → Option (List ℕ) = g.F.Files.held c.args.files.now in
     made_answer (meaning c.args.job.now) held operations.Normal g.S.Semiring.SCALE g.S.Semiring.product c.value_in.new.labels (c.in-Ok.grammar, tt) c.requires.operation c.requires.mode c.requires.product
     (one_file (meaning c.args.job.now) held g.S.Semiring.SCALE c.value_in.new.labels of_grammar c.in-Ok.grammar c.len.ensures.distinct c.in-Ok.ensures.text)
-    c.in-Ok-canonical_normal.canonical.text.bytes tt c.in-Ok-canonical_normal.ensures.within c.in-Ok-canonical_normal.ensures.text
+    c.in-Ok-normal_text.text.bytes tt c.in-Ok-normal_text.ensures.within c.in-Ok-normal_text.ensures.text

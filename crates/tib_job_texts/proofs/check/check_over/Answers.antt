@@ -2,7 +2,7 @@ use Rattle.tib_command.specs.Jobs.{meaning}
 use Rattle.tib_command.specs.declared.job.Operation.TheVariants as operations
 use Rattle.tib_job_files.specs.Kinds.{of_transducer}
 use Rattle.tib_job_files.proofs.Reached.{one_file, made_answer}
-use Rattle.tib_job_texts.proofs.check.check_file.Goals as goal
+use Rattle.tib_job_texts.proofs.check.check_over.Goals as goal
 
 pub returns-in-Ok-classes_text-clause-text : goal.returns-in-Ok-classes_text-clause-text
 returns-in-Ok-classes_text-clause-text g c =
