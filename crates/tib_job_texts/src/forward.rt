@@ -40,7 +40,7 @@ pub(crate) fn forward_files<S: Semiring + Drop, F: Files, G: Gate>(
         Err(status) => return Err(status),
     };
     let limit = job.limit;
-    let canonical = match image_of::<S, G>(
+    match image_of::<S, G>(
         alloc,
         &read.grammar,
         &read.transducer,
@@ -48,10 +48,9 @@ pub(crate) fn forward_files<S: Semiring + Drop, F: Files, G: Gate>(
         limit,
         gate,
     ) {
-        Ok(canonical) => canonical,
-        Err(status) => return Err(status),
-    };
-    Ok(canonical.text)
+        Ok(canonical) => Ok(canonical.text),
+        Err(status) => Err(status),
+    }
 }
 
 /// The same by the workers of the job.
@@ -80,7 +79,7 @@ pub(crate) fn forward_files_together<
     };
     let workers = job.workers;
     let limit = job.limit;
-    let canonical = match image_of_together::<S, R, G>(
+    match image_of_together::<S, R, G>(
         rt,
         alloc,
         &read.grammar,
@@ -90,8 +89,7 @@ pub(crate) fn forward_files_together<
         limit,
         gate,
     ) {
-        Ok(canonical) => canonical,
-        Err(status) => return Err(status),
-    };
-    Ok(canonical.text)
+        Ok(canonical) => Ok(canonical.text),
+        Err(status) => Err(status),
+    }
 }

@@ -40,18 +40,10 @@ pub(crate) fn intersect_files<S: Semiring + Drop, F: Files, G: Gate>(
         Err(status) => return Err(status),
     };
     let limit = job.limit;
-    let canonical = match intersection_of::<S, G>(
-        alloc,
-        &read.first,
-        &read.second,
-        &read.labels,
-        limit,
-        gate,
-    ) {
-        Ok(canonical) => canonical,
-        Err(status) => return Err(status),
-    };
-    Ok(canonical.text)
+    match intersection_of::<S, G>(alloc, &read.first, &read.second, &read.labels, limit, gate) {
+        Ok(canonical) => Ok(canonical.text),
+        Err(status) => Err(status),
+    }
 }
 
 /// The same by the workers of the job.
@@ -80,7 +72,7 @@ pub(crate) fn intersect_files_together<
     };
     let workers = job.workers;
     let limit = job.limit;
-    let canonical = match intersection_of_together::<S, R, G>(
+    match intersection_of_together::<S, R, G>(
         rt,
         alloc,
         &read.first,
@@ -90,8 +82,7 @@ pub(crate) fn intersect_files_together<
         limit,
         gate,
     ) {
-        Ok(canonical) => canonical,
-        Err(status) => return Err(status),
-    };
-    Ok(canonical.text)
+        Ok(canonical) => Ok(canonical.text),
+        Err(status) => Err(status),
+    }
 }
