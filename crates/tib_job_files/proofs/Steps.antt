@@ -9,7 +9,7 @@ use Rattle.tib_operations.specs.Made.{IsMadeFault}
 use Rattle.tib_operations.specs.declared.status.Status.{Status}
 use Rattle.tib_operations.specs.declared.status.Status.TheVariants as statuses
 use Rattle.tib_job_files.specs.Kinds.{kinds_of, ValuesOf, AreTexts}
-use Rattle.tib_job_files.specs.Causes.{numbers_of, HasCause, AreBefore, makes, demanded, bytes_of, scale_of, product_of}
+use Rattle.tib_job_files.specs.Causes.{numbers_of, HasCause, HasEarlier, AreBefore, makes, demanded, bytes_of, scale_of, product_of}
 use Rattle.tib_job_files.specs.Run.{FilesSeen}
 use Rattle.tib_job_files.specs.Steps.{LeavesFiles, EndsRun, StopsAtFile}
 use Rattle.tib_job_files.proofs.Reached.{about_early, about_earlier, cause_earlier, made_early, made_cause, made_first, class_early, class_cause, class_first}
@@ -33,6 +33,17 @@ ends_later job file before middle after s are left stop =
       cause = cause_earlier job before.held before.faults middle.faults after.faults 0 0 s left.counts.later here;
       earlier = about_earlier job before.held file s stop.about are;
       early = about_early file s stop.about;
+    }
+
+-- the run ends in a part behind another
+pub ends_behind : (job : Option Asked) (before middle after : FilesSeen) (s : Status) → LeavesFiles before middle → EndsRun job middle after s → EndsRun job before after s
+ends_behind job before middle after s left ends =
+    let here : HasCause job before.held middle.faults after.faults 0 0 s =
+    subst (λ (held : List ℕ → Option (List ℕ)). HasCause job held middle.faults after.faults 0 0 s) left.held ends.cause in
+    record {
+      cause = cause_earlier job before.held before.faults middle.faults after.faults 0 0 s left.counts.later here;
+      earlier = subst (λ (held : List ℕ → Option (List ℕ)). HasEarlier job held s) left.held ends.earlier;
+      early = ends.early;
     }
 
 -- the run ends behind all files, whose values are known

@@ -1,24 +1,8 @@
-use Rattle.std.proofs.Common.{ℕ, List, subst}
-use Rattle.std.specs.Prelude.{Option, Some}
-use Rattle.tib_command.specs.Jobs.{Asked, meaning}
+use Rattle.std.specs.Prelude.{Some}
+use Rattle.tib_command.specs.Jobs.{meaning}
 use Rattle.tib_operations.proofs.PlainMoves.{moves_grown}
-use Rattle.tib_operations.specs.declared.status.Status.{Status}
-use Rattle.tib_job_files.specs.Causes.{HasCause, HasEarlier}
-use Rattle.tib_job_files.specs.Run.{FilesSeen}
-use Rattle.tib_job_files.specs.Steps.{LeavesFiles, EndsRun}
-use Rattle.tib_job_files.proofs.Reached.{cause_earlier}
+use Rattle.tib_job_files.proofs.Steps.{ends_behind}
 use Rattle.tib_job_files.proofs.backward.values_over.Goals as goal
-
--- the run ends in a part behind another
-ends_behind : (job : Option Asked) (before middle after : FilesSeen) (s : Status) → LeavesFiles before middle → EndsRun job middle after s → EndsRun job before after s
-ends_behind job before middle after s left ends =
-    let here : HasCause job before.held middle.faults after.faults 0 0 s =
-    subst (λ (held : List ℕ → Option (List ℕ)). HasCause job held middle.faults after.faults 0 0 s) left.held ends.cause in
-    record {
-      cause = cause_earlier job before.held before.faults middle.faults after.faults 0 0 s left.counts.later here;
-      earlier = subst (λ (held : List ℕ → Option (List ℕ)). HasEarlier job held s) left.held ends.earlier;
-      early = ends.early;
-    }
 
 pub returns-in-Ok-grammar_behind-clause-transducer : goal.returns-in-Ok-grammar_behind-clause-transducer
 returns-in-Ok-grammar_behind-clause-transducer g c =
