@@ -1,6 +1,8 @@
 // `weigh`: each tree of the second file with its cost by the grammar of the first.
-ghost use Rattle.std.specs.Prelude.{◌≡◌, Some, [], length, IfErr, IfOk};
+ghost use Rattle.std.specs.Prelude.{◌≡◌, ◌≤◌, Some, [], length, IfErr, IfOk};
 ghost use Rattle.tib_command.specs.Jobs.{meaning};
+ghost use Rattle.tib_job_files.specs.Kinds.{OfFile, Told};
+ghost use Rattle.tib_operations.specs.FileTexts.{IsRead, most_bytes};
 ghost use Rattle.tib_job_files.specs.Causes.{scale_of, product_of};
 ghost use Rattle.tib_job_files.specs.Steps.{EndsRun, LeavesFiles, files_seen};
 ghost use Rattle.tib_job_files.specs.Answers.{IsAnswer};
@@ -67,11 +69,41 @@ fn weigh_over<S: Semiring + Sync + Drop, R: Threads + Sync, F: Files>(
         Ok(grammar) => grammar,
         Err(status) => return Err(status),
     };
+    match weigh_by::<S, R, F>(rt, alloc, job, files, labels, &grammar) {
+        Ok(text) => Ok(text),
+        Err(status) => Err(status),
+    }
+}
+
+// The same where the grammar of the first file was read.
+fn weigh_by<S: Semiring + Sync + Drop, R: Threads + Sync, F: Files>(
+    rt: &R,
+    alloc: Global,
+    job: &Job,
+    files: &mut F,
+    labels: &mut Labels,
+    grammar: &Grammar<S>,
+) -> Result<GrowingSink, Status>
+    requires operation { job.now.operation ≡ Operation.Weigh }
+    requires files { length job.now.files.items ≡ 2 }
+    requires limit { IsLimit job.now.limit }
+    requires mode { S.SCALE ≡ scale_of job.now.mode }
+    requires product { S.product ≡ product_of job.now.mode }
+    requires few { length labels.old ≤ most_bytes }
+    requires grammar { OfFile (Some (meaning job.now)) 1 (Told (F.held files.old)
+        (IsRead S.SCALE labels.old grammar.now)) }
+    ensures text { IfOk result (λ text. IsAnswer (meaning job.now) (F.held files.old) text.bytes) }
+    ensures status { IfErr result (EndsRun (Some (meaning job.now))
+        (files_seen F.held F.sure F.faults files.old)
+        (files_seen F.held F.sure F.faults files.new)) }
+    ensures files { LeavesFiles (files_seen F.held F.sure F.faults files.old)
+        (files_seen F.held F.sure F.faults files.new) }
+{
     let trees = match value_in::<Vec<Tree>, F>(alloc, job, 2, files, labels) {
         Ok(trees) => trees,
         Err(status) => return Err(status),
     };
-    match weighed_trees::<S, R>(rt, alloc, &grammar, &trees, labels, job.limit) {
+    match weighed_trees::<S, R>(rt, alloc, grammar, &trees, labels, job.limit) {
         Ok(text) => Ok(text),
         Err(status) => Err(status),
     }

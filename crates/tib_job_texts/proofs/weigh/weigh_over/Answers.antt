@@ -1,33 +1,28 @@
-use Rattle.std.proofs.Common.{ℕ, List, refl}
+use Rattle.std.proofs.Common.{ℕ, List, subst}
 use Rattle.std.specs.Prelude.{Option, Some}
-use Rattle.tib_command.specs.Jobs.{meaning}
-use Rattle.tib_command.specs.declared.job.Operation.TheVariants as operations
-use Rattle.tib_job_files.specs.Kinds.{of_grammar, of_trees}
-use Rattle.tib_job_files.proofs.Reached.{before_second, two_files, made_answer}
-use Rattle.tib_job_files.proofs.Steps.{made_ends, ends_later}
+use Rattle.tib_command.specs.Jobs.{Asked, meaning}
+use Rattle.tib_operations.specs.declared.status.Status.{Status}
+use Rattle.tib_job_files.specs.Answers.{IsAnswer}
+use Rattle.tib_job_files.specs.Causes.{HasCause, HasEarlier}
+use Rattle.tib_job_files.specs.Run.{FilesSeen}
+use Rattle.tib_job_files.specs.Steps.{EndsRun, LeavesFiles}
+use Rattle.tib_job_files.proofs.Reached.{cause_earlier}
 use Rattle.tib_job_texts.proofs.weigh.weigh_over.Goals as goal
 
+-- the run ends behind a step
+ends_behind : (job : Option Asked) (before middle after : FilesSeen) (s : Status) → LeavesFiles before middle → EndsRun job middle after s → EndsRun job before after s
+ends_behind job before middle after s left ends =
+    let here : HasCause job before.held middle.faults after.faults 0 0 s =
+    subst (λ (held : List ℕ → Option (List ℕ)). HasCause job held middle.faults after.faults 0 0 s) left.held ends.cause in
+    record {
+      cause = cause_earlier job before.held before.faults middle.faults after.faults 0 0 s left.counts.later here;
+      earlier = subst (λ (held : List ℕ → Option (List ℕ)). HasEarlier job held s) left.held ends.earlier;
+      early = ends.early;
+    }
+
 pub returns-clause-status : goal.returns-clause-status
-returns-clause-status g c =
-    let held : List ℕ → Option (List ℕ) = g.F.Files.held c.args.files.now in
-    made_ends (meaning c.args.job.now) operations.Weigh g.S.Semiring.SCALE g.S.Semiring.product c.value_in-2.new.labels (c.in-Ok.grammar, (c.in-Ok-value_in.trees.items, tt)) c.requires.operation c.requires.mode
-    c.requires.product _ _
-    (two_files (meaning c.args.job.now) held (g.F.Files.held c.value_in.new.files) g.S.Semiring.SCALE c.value_in.new.labels c.value_in-2.new.labels of_grammar of_trees c.in-Ok.grammar c.in-Ok-value_in.trees.items
-    c.in-Ok-value_in.ensures.sound.0 c.in-Ok-value_in.ensures.grows c.in-Ok.ensures.files.held c.in-Ok.ensures.text c.in-Ok-value_in.ensures.text)
-    c.in-Err-weighed_trees.status tt c.in-Err-weighed_trees.ensures.err
+returns-clause-status g c = ends_behind (Some (meaning c.args.job.now)) _ _ _ c.in-Err-weigh_by.status c.in-Ok.ensures.files c.in-Err-weigh_by.ensures.status
 
-pub returns-in-Ok-weighed_trees-clause-text : goal.returns-in-Ok-weighed_trees-clause-text
-returns-in-Ok-weighed_trees-clause-text g c =
-    let held : List ℕ → Option (List ℕ) = g.F.Files.held c.args.files.now in
-    made_answer (meaning c.args.job.now) held operations.Weigh g.S.Semiring.SCALE g.S.Semiring.product c.value_in-2.new.labels (c.in-Ok.grammar, (c.in-Ok-value_in.trees.items, tt)) c.requires.operation c.requires.mode
-    c.requires.product
-    (two_files (meaning c.args.job.now) held (g.F.Files.held c.value_in.new.files) g.S.Semiring.SCALE c.value_in.new.labels c.value_in-2.new.labels of_grammar of_trees c.in-Ok.grammar c.in-Ok-value_in.trees.items
-    c.in-Ok-value_in.ensures.sound.0 c.in-Ok-value_in.ensures.grows c.in-Ok.ensures.files.held c.in-Ok.ensures.text c.in-Ok-value_in.ensures.text)
-    c.in-Ok-weighed_trees.text.bytes tt c.in-Ok-weighed_trees.ensures.within (rw (← c.deref.ensures.value) c.in-Ok-weighed_trees.ensures.text)
-
-pub returns-in-Err-value_in-clause-status : goal.returns-in-Err-value_in-clause-status
-returns-in-Err-value_in-clause-status g c =
-    ends_later (Some (meaning c.args.job.now)) 2 _ _ _ c.in-Err-value_in.status
-    (before_second (meaning c.args.job.now) (g.F.Files.held c.args.files.now) operations.Weigh g.S.Semiring.SCALE c.value_in.new.labels of_grammar c.in-Ok.grammar c.requires.operation refl c.requires.mode
-    c.in-Ok.ensures.text)
-    c.in-Ok.ensures.files c.in-Err-value_in.ensures.status
+pub returns-in-Ok-weigh_by-clause-text : goal.returns-in-Ok-weigh_by-clause-text
+returns-in-Ok-weigh_by-clause-text g c =
+    subst (λ (held : List ℕ → Option (List ℕ)). IsAnswer (meaning c.args.job.now) held c.in-Ok-weigh_by.text.bytes) c.in-Ok.ensures.files.held c.in-Ok-weigh_by.ensures.text
