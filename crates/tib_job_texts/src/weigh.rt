@@ -69,10 +69,7 @@ fn weigh_over<S: Semiring + Sync + Drop, R: Threads + Sync, F: Files>(
         Ok(grammar) => grammar,
         Err(status) => return Err(status),
     };
-    match weigh_by::<S, R, F>(rt, alloc, job, files, labels, &grammar) {
-        Ok(text) => Ok(text),
-        Err(status) => Err(status),
-    }
+    weigh_by::<S, R, F>(rt, alloc, job, files, labels, &grammar)
 }
 
 // The same where the grammar of the first file was read.

@@ -1,5 +1,6 @@
 use Rattle.std.proofs.Common.{ℕ, List, subst}
-use Rattle.std.specs.Prelude.{Option, Some}
+use Rattle.std.specs.Prelude.{Option, Some, IfOk}
+use Rattle.std.proofs.lemmas.Result.{IfErr-weaker}
 use Rattle.tib_command.specs.Jobs.{Asked, meaning}
 use Rattle.tib_operations.specs.declared.status.Status.{Status}
 use Rattle.tib_job_files.specs.Answers.{IsAnswer}
@@ -21,8 +22,8 @@ ends_behind job before middle after s left ends =
     }
 
 pub returns-clause-status : goal.returns-clause-status
-returns-clause-status g c = ends_behind (Some (meaning c.args.job.now)) _ _ _ c.in-Err-weigh_by.status c.in-Ok.ensures.files c.in-Err-weigh_by.ensures.status
+returns-clause-status g c = IfErr-weaker c.weigh_by.result _ _ (λ status e. ends_behind (Some (meaning c.args.job.now)) _ _ _ status c.in-Ok.ensures.files e) c.weigh_by.ensures.status
 
-pub returns-in-Ok-weigh_by-clause-text : goal.returns-in-Ok-weigh_by-clause-text
-returns-in-Ok-weigh_by-clause-text g c =
-    subst (λ (held : List ℕ → Option (List ℕ)). IsAnswer (meaning c.args.job.now) held c.in-Ok-weigh_by.text.bytes) c.in-Ok.ensures.files.held c.in-Ok-weigh_by.ensures.text
+pub returns-clause-text : goal.returns-clause-text
+returns-clause-text g c =
+    subst (λ (held : List ℕ → Option (List ℕ)). IfOk c.weigh_by.result (λ text. IsAnswer (meaning c.args.job.now) held text.bytes)) c.in-Ok.ensures.files.held c.weigh_by.ensures.text
