@@ -66,8 +66,5 @@ fn kbest_over<S: Semiring + Drop, F: Files>(
         Err(status) => return Err(status),
     };
     labels.len();
-    match kbest_text::<S>(alloc, &grammar, labels, job.limit, job.k) {
-        Ok(text) => Ok(text),
-        Err(status) => Err(status),
-    }
+    kbest_text::<S>(alloc, &grammar, labels, job.limit, job.k)
 }

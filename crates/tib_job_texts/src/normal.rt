@@ -63,10 +63,7 @@ fn normal_over<S: Semiring + Drop, F: Files>(
         Err(status) => return Err(status),
     };
     labels.len();
-    match normal_text::<S>(alloc, &grammar, labels, job.limit) {
-        Ok(text) => Ok(text),
-        Err(status) => Err(status),
-    }
+    normal_text::<S>(alloc, &grammar, labels, job.limit)
 }
 
 // The text of the canonical form of a grammar's normal form, or the status where there is none.

@@ -65,10 +65,7 @@ fn prune_over<S: Semiring + Drop, F: Files>(
         Err(status) => return Err(status),
     };
     labels.len();
-    match pruned_text::<S>(alloc, &grammar, labels, job.limit, job.beam) {
-        Ok(text) => Ok(text),
-        Err(status) => Err(status),
-    }
+    pruned_text::<S>(alloc, &grammar, labels, job.limit, job.beam)
 }
 
 // The text of the canonical form of what pruning leaves, or the status where there is none.

@@ -1,5 +1,7 @@
 use Rattle.std.proofs.Common.{ℕ, List}
 use Rattle.std.specs.Prelude.{Option}
+use Rattle.std.proofs.lemmas.Result.{IfErr-weaker}
+use Rattle.tib_lex.proofs.Results.{ok_both}
 use Rattle.tib_command.specs.Jobs.{meaning}
 use Rattle.tib_command.specs.declared.job.Operation.TheVariants as operations
 use Rattle.tib_job_files.specs.Kinds.{of_grammar}
@@ -10,13 +12,13 @@ use Rattle.tib_job_texts.proofs.normal.normal_over.Goals as goal
 pub returns-clause-status : goal.returns-clause-status
 returns-clause-status g c =
     let held : List ℕ → Option (List ℕ) = g.F.Files.held c.args.files.now in
-    made_ends (meaning c.args.job.now) operations.Normal g.S.Semiring.SCALE g.S.Semiring.product c.value_in.new.labels (c.in-Ok.grammar, tt) c.requires.operation c.requires.mode c.requires.product _ _
+    IfErr-weaker c.normal_text.result _ _ (λ status e. made_ends (meaning c.args.job.now) operations.Normal g.S.Semiring.SCALE g.S.Semiring.product c.value_in.new.labels (c.in-Ok.grammar, tt) c.requires.operation c.requires.mode c.requires.product _ _
     (one_file (meaning c.args.job.now) held g.S.Semiring.SCALE c.value_in.new.labels of_grammar c.in-Ok.grammar c.len.ensures.distinct c.in-Ok.ensures.text)
-    c.in-Err-normal_text.status tt c.in-Err-normal_text.ensures.err
+    status tt e) c.normal_text.ensures.err
 
-pub returns-in-Ok-normal_text-clause-text : goal.returns-in-Ok-normal_text-clause-text
-returns-in-Ok-normal_text-clause-text g c =
+pub returns-clause-text : goal.returns-clause-text
+returns-clause-text g c =
     let held : List ℕ → Option (List ℕ) = g.F.Files.held c.args.files.now in
-    made_answer (meaning c.args.job.now) held operations.Normal g.S.Semiring.SCALE g.S.Semiring.product c.value_in.new.labels (c.in-Ok.grammar, tt) c.requires.operation c.requires.mode c.requires.product
+    ok_both c.normal_text.result _ _ _ (λ text t w. made_answer (meaning c.args.job.now) held operations.Normal g.S.Semiring.SCALE g.S.Semiring.product c.value_in.new.labels (c.in-Ok.grammar, tt) c.requires.operation c.requires.mode c.requires.product
     (one_file (meaning c.args.job.now) held g.S.Semiring.SCALE c.value_in.new.labels of_grammar c.in-Ok.grammar c.len.ensures.distinct c.in-Ok.ensures.text)
-    c.in-Ok-normal_text.text.bytes tt c.in-Ok-normal_text.ensures.within c.in-Ok-normal_text.ensures.text
+    text.bytes tt w t) c.normal_text.ensures.text c.normal_text.ensures.within
