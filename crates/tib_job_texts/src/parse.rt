@@ -4,6 +4,8 @@ ghost use Rattle.tib_command.specs.Jobs.{meaning};
 ghost use Rattle.tib_job_files.specs.Answers.{IsAnswer};
 ghost use Rattle.tib_job_files.specs.Causes.{scale_of, product_of};
 ghost use Rattle.tib_job_files.specs.Steps.{EndsRun, LeavesFiles, files_seen};
+ghost use Rattle.tib_further_operations.specs.Parse.{HasParseText, IsParseTextFault, parse_demands, parse_makes};
+ghost use Rattle.tib_further_operations.specs.Words.{ArePlainWords};
 ghost use Rattle.tib_operations.specs.Made.{IsLimit};
 
 use std::alloc::Global;
@@ -14,7 +16,7 @@ use tib_cost::Semiring;
 use tib_further_operations::{parse_of, parse_of_together};
 use tib_hunt::Gate;
 use tib_io::{Files, GrowingSink};
-use tib_job_files::parse::inputs_of;
+use tib_job_files::parse::{Inputs, inputs_of};
 use tib_operations::Status;
 
 /// The whole text of a job that asks for the trees that a transducer turns into a string, or the status with which the run ends.
@@ -41,7 +43,27 @@ pub(crate) fn parse_files<S: Semiring + Drop, F: Files, G: Gate>(
         Err(status) => return Err(status),
     };
     let limit = job.limit;
-    let canonical = match parse_of::<S, G>(
+    parse_text::<S, G>(alloc, &read, limit, gate)
+}
+
+// The text of the trees that a transducer turns into a string, or the status with which the run ends.
+fn parse_text<S: Semiring + Drop, G: Gate>(
+    alloc: Global,
+    read: &Inputs<S>,
+    limit: u64,
+    gate: &G,
+) -> Result<GrowingSink, Status>
+    requires transducer { ArePlainWords S.SCALE read.now.labels read.now.transducer.rules }
+    requires limit { IsLimit limit }
+    ensures text { IfOk result (λ text. HasParseText S.SCALE S.product limit read.now.labels
+        read.now.transducer read.now.string.items text.bytes) }
+    ensures within { IfOk result (λ _. (parse_makes limit read.now.transducer
+        read.now.string.items).within) }
+    ensures met { IfOk result (λ _. (parse_demands read.now.transducer).met) }
+    ensures err { IfErr result (IsParseTextFault limit read.now.transducer
+        read.now.string.items) }
+{
+    match parse_of::<S, G>(
         alloc,
         &read.transducer,
         &read.string,
@@ -49,10 +71,9 @@ pub(crate) fn parse_files<S: Semiring + Drop, F: Files, G: Gate>(
         limit,
         gate,
     ) {
-        Ok(canonical) => canonical,
-        Err(status) => return Err(status),
-    };
-    Ok(canonical.text)
+        Ok(canonical) => Ok(canonical.text),
+        Err(status) => Err(status),
+    }
 }
 
 /// The same by the workers of the job.
@@ -81,7 +102,30 @@ pub(crate) fn parse_files_together<
     };
     let workers = job.workers;
     let limit = job.limit;
-    let canonical = match parse_of_together::<S, R, G>(
+    parse_text_together::<S, R, G>(rt, alloc, &read, workers, limit, gate)
+}
+
+// The same by this number of workers, 1 to 16.
+fn parse_text_together<S: Semiring + Sync + Drop, R: Threads + Wait + Sync, G: Gate + Sync>(
+    rt: &R,
+    alloc: Global,
+    read: &Inputs<S>,
+    workers: u32,
+    limit: u64,
+    gate: &G,
+) -> Result<GrowingSink, Status>
+    requires transducer { ArePlainWords S.SCALE read.now.labels read.now.transducer.rules }
+    requires workers { (1 ≤ workers) × (workers ≤ 16) }
+    requires limit { IsLimit limit }
+    ensures text { IfOk result (λ text. HasParseText S.SCALE S.product limit read.now.labels
+        read.now.transducer read.now.string.items text.bytes) }
+    ensures within { IfOk result (λ _. (parse_makes limit read.now.transducer
+        read.now.string.items).within) }
+    ensures met { IfOk result (λ _. (parse_demands read.now.transducer).met) }
+    ensures err { IfErr result (IsParseTextFault limit read.now.transducer
+        read.now.string.items) }
+{
+    match parse_of_together::<S, R, G>(
         rt,
         alloc,
         &read.transducer,
@@ -91,8 +135,7 @@ pub(crate) fn parse_files_together<
         limit,
         gate,
     ) {
-        Ok(canonical) => canonical,
-        Err(status) => return Err(status),
-    };
-    Ok(canonical.text)
+        Ok(canonical) => Ok(canonical.text),
+        Err(status) => Err(status),
+    }
 }
