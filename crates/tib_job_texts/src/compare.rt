@@ -38,18 +38,7 @@ pub(crate) fn compare_files<F: Files, G: Gate>(
         Err(status) => return Err(status),
     };
     let limit = job.limit;
-    let text = match comparison_of::<G>(
-        alloc,
-        &read.first,
-        &read.second,
-        &read.labels,
-        limit,
-        gate,
-    ) {
-        Ok(text) => text,
-        Err(status) => return Err(status),
-    };
-    Ok(text)
+    comparison_of::<G>(alloc, &read.first, &read.second, &read.labels, limit, gate)
 }
 
 /// The same by the workers of the job.
@@ -77,7 +66,7 @@ pub(crate) fn compare_files_together<R: Threads + Wait + Sync, F: Files, G: Gate
     };
     let workers = job.workers;
     let limit = job.limit;
-    let text = match comparison_of_together::<R, G>(
+    comparison_of_together::<R, G>(
         rt,
         alloc,
         &read.first,
@@ -86,9 +75,5 @@ pub(crate) fn compare_files_together<R: Threads + Wait + Sync, F: Files, G: Gate
         workers,
         limit,
         gate,
-    ) {
-        Ok(text) => text,
-        Err(status) => return Err(status),
-    };
-    Ok(text)
+    )
 }
