@@ -1,1 +1,2 @@
 mod Pairwise
+mod Failing

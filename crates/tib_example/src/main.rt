@@ -2,12 +2,12 @@
 //! the costs. It stands among the crates so that it is proved and run with everything else.
 #![tactic(auto)]
 
-ghost use Rattle.std.specs.Prelude.{◌≤◌, ◌+◌, length, IfOk};
+ghost use Rattle.std.specs.Prelude.{◌≤◌, ◌+◌, length, IfErr, IfOk};
 ghost use Rattle.std.specs.List.{AllZip};
 ghost use Rattle.std.specs.Thread.{IsSync};
 ghost use Rattle.tib_io.specs.Reads.{most_bytes};
 ghost use Rattle.tib_grammar.specs.Series.{IsSeries};
-ghost use Rattle.tib_example.specs.Costs.{AreCosts};
+ghost use Rattle.tib_example.specs.Costs.{AreCosts, IsFailure, IsUnweighed};
 
 use std::alloc::Global;
 use std::println;
@@ -41,8 +41,9 @@ fn weighed<R: Threads + Sync>(
     grammar: &Grammar<MinPlus>,
     trees: &[Tree],
 ) -> Result<Vec<Option<Cost>>, Failure>
-    ensures { IfOk result (λ costs. AllZip (λ t v. IsSeries ◌+◌ grammar.now.rules t v) trees.now
-        costs.items) }
+    ensures costs { IfOk result (λ costs. AllZip (λ t v. IsSeries ◌+◌ grammar.now.rules t v)
+        trees.now costs.items) }
+    ensures failure { IfErr result (IsUnweighed grammar.now) }
 {
     let normal = match normalize(alloc, grammar, 1000) {
         Ok(normal) => normal,
@@ -65,7 +66,8 @@ fn costs<R: Threads + Sync>(
 ) -> Result<Vec<Option<Cost>>, Failure>
     requires grammar { length grammar.now ≤ most_bytes }
     requires trees { length trees.now ≤ most_bytes }
-    ensures { IfOk result (λ costs. AreCosts grammar.now trees.now costs.items) }
+    ensures costs { IfOk result (λ costs. AreCosts grammar.now trees.now costs.items) }
+    ensures failure { IfErr result (IsFailure grammar.now trees.now) }
 {
     let mut labels = Labels::new(alloc);
     let grammar = match read_grammar::<MinPlus>(alloc, grammar, &mut labels) {
