@@ -1,6 +1,6 @@
 -- Lemmas on sparse vectors.
 use Rattle.std.proofs.Common.{◌≡◌, ℕ, ◌+◌, ◌<◌, ◌≤◌, List, [], ◌∷◌, ◌++◌, length, get_or, drop, zero, suc, refl, arith, ap, ◌∙◌, subst, true, false, inl, inr, add-one}
-use Rattle.std.specs.Prelude.{◌⊎◌, nat_eq, Option, None, Some, if◌then◌else◌, min}
+use Rattle.std.specs.Prelude.{nat_eq, Option, None, Some, if◌then◌else◌, min}
 use Rattle.tib_lex.specs.Lists.{Each}
 use Rattle.tib_lex.proofs.Numbers.{nat_eq_cases}
 use Rattle.tib_cost.specs.Least.{lesser}

@@ -1,6 +1,6 @@
 -- Members of lists to which one was put last, and members by their places.
-use Rattle.std.specs.Prelude.{◌≡◌, ℕ, ◌<◌, ◌⊎◌, List, [], ◌∷◌, ◌++◌, length, refl}
-use Rattle.std.proofs.Common.{zero, suc, arith, inl, inr, get_or, Contains}
+use Rattle.std.specs.Prelude.{◌≡◌, ◌⊎◌, List, [], ◌∷◌, ◌++◌, refl}
+use Rattle.std.proofs.Common.{zero, suc, arith, inl, inr, Contains}
 use Rattle.tib_lex.specs.Lists.{Has}
 use Rattle.tib_lex.proofs.Members.{has_left, has_right, has_either}
 

@@ -5,7 +5,7 @@ use Rattle.tib_lex.specs.Lists.{Has, Ascends, Each}
 use Rattle.tib_cost.specs.Semiring.{most}
 use Rattle.tib_cost.specs.Least.{IsLeast}
 use Rattle.tib_tree.specs.Trees.{Trees}
-use Rattle.tib_grammar.specs.Sides.{Symbol, label, hole, over, Side as SideFor}
+use Rattle.tib_grammar.specs.Sides.{Symbol, label, over, Side as SideFor}
 use Rattle.tib_grammar.specs.Run.{rule_at}
 use Rattle.tib_grammar.proofs.Sides.{label_is_no_hole, same_hole, same_label}
 use Rattle.tib_grammar.specs.declared.Rule.{Rule}

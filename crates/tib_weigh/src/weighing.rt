@@ -1,5 +1,5 @@
 // The cost of a tree, and of many.
-ghost use Rattle.std.specs.Prelude.{◌≡◌, ℕ, ◌+◌, ◌-◌, ◌<◌, ◌≤◌, ◌^◌, length, take, IfOk, vec_len, []};
+ghost use Rattle.std.specs.Prelude.{◌≡◌, ℕ, ◌+◌, ◌-◌, ◌<◌, ◌≤◌, ◌^◌, length, take, IfOk, IfSome, vec_len, []};
 ghost use Rattle.tib_grammar.specs.Series.{IsSeries};
 ghost use Rattle.std.specs.List.{AllZip};
 ghost use Rattle.std.specs.Thread.{IsSync};
@@ -12,9 +12,10 @@ ghost use Rattle.tib_weigh.specs.Vectors.{vectors, IsNodeVector};
 use crate::found::Found;
 use crate::index::Index;
 use crate::node::put_node_vector;
+use crate::pieces::{LEAST_PIECE, halvings, middle_of, nodes_of};
 use crate::vector::{Entry, cost_at};
 use std::alloc::{AllocError, Global};
-use std::thread::{Threads, available_parallelism, join};
+use std::thread::{Threads, join};
 use tib_cost::{Cost, Semiring};
 use tib_normal::Normal;
 use tib_tree::{Label, Tree};
@@ -188,31 +189,13 @@ fn weigh_each<S: Semiring>(
     Ok(costs)
 }
 
-// How many nodes the trees have, counted up to the greatest number.
-fn nodes_of(trees: &[Tree]) -> usize {
-    let mut nodes: usize = 0;
-    for tree in trees {
-        nodes = nodes.saturating_add(tree.nodes().len());
-    }
-    nodes
-}
-
-// How many of the first trees have about this number of nodes together: at least one, and not all.
-fn first_with(trees: &[Tree], nodes: usize) -> usize
-    requires { 2 ≤ length trees.now }
-    ensures { (1 ≤ result) × (result < length trees.now) }
+// Where to part the trees. A piece of fewer nodes than there are states is not worth its room, which has a place for each.
+fn middle_for<S: Semiring>(normal: &Normal<S>, trees: &[Tree], times: u32) -> Option<usize>
+    ensures { IfSome result (λ n. (0 < times) × (1 ≤ n) × (n < length trees.now)) }
 {
-    let mut so_far = trees[0].nodes().len();
-    let mut n = 1;
-    while n < trees.len() - 1 && so_far < nodes {
-        so_far = so_far.saturating_add(trees[n].nodes().len());
-        n += 1;
-    }
-    n
+    let states = normal.grammar().states() as usize;
+    middle_of(trees, times, LEAST_PIECE.max(states))
 }
-
-// How few nodes are worth a thread of their own.
-const LEAST_PIECE: usize = 1024;
 
 // The costs of the trees, in order. The work is halved by nodes `times` times, and each half has a thread of its own.
 #[cycle(halves)]
@@ -228,11 +211,10 @@ fn weigh_halves<S: Semiring + Sync, R: Threads + Sync>(
     ensures { IfOk result (λ vs. AllZip (λ t v. IsSeries S.product normal.now.rules t v) trees.now
         vs.items) }
 {
-    let half = nodes_of(trees) / 2;
-    if times == 0 || trees.len() < 2 || half < LEAST_PIECE {
+    let Some(middle) = middle_for::<S>(normal, trees, times) else {
         return weigh_each::<S>(alloc, normal, index, trees);
-    }
-    let (front, back) = trees.split_at(first_with(trees, half));
+    };
+    let (front, back) = trees.split_at(middle);
     let of_front = move || -> Result<Vec<Option<Cost>>, AllocError>
         requires { IsSync R.row × IsSync S.row × (0 < times) × IsIndex S.product normal.now.rules
             index.now }
@@ -250,15 +232,6 @@ fn weigh_halves<S: Semiring + Sync, R: Threads + Sync>(
     let rest = second?;
     costs.extend_from_slice(&rest)?;
     Ok(costs)
-}
-
-// How many times the work is halved: two pieces for each processor, up to 32 of these, since pieces differ in length.
-fn halvings<R: Threads>(rt: &R) -> u32 {
-    let processors = match available_parallelism(rt) {
-        Ok(count) => count.get(),
-        Err(_) => 1,
-    };
-    processors.min(32).saturating_mul(2).ilog2()
 }
 
 /// The costs of the trees, in order, found in several threads: each is what `weigh` gives.

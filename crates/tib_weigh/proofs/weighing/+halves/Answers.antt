@@ -13,8 +13,8 @@ returns g t c =
     let R : Tree ℕ → Option ℕ → Type 0 = λ t v. IsSeries g.S.Semiring.product c.args.normal.now.rules t v in
     let parts : c.split_at.result.0.now ++ c.split_at.result.1.now ≡ c.args.trees.now =
     ap (λ (xs : List (Tree ℕ)). xs ++ c.split_at.result.1.now) c.split_at.ensures.front
-    ∙ ap (λ (xs : List (Tree ℕ)). take c.first_with.result c.args.trees.now ++ xs) c.split_at.ensures.back
-    ∙ take-append-drop c.first_with.result c.args.trees.now
+    ∙ ap (λ (xs : List (Tree ℕ)). take c.in-Some.middle c.args.trees.now ++ xs) c.split_at.ensures.back
+    ∙ take-append-drop c.in-Some.middle c.args.trees.now
     in
     let first : AllZip R c.split_at.result.0.now c.in_ok-costs.costs.items = IfOk-at_ok (λ vs. AllZip R c.split_at.result.0.now vs.items) c.in_ok-costs.was c.join-first.ensures.first in
     let second : AllZip R c.split_at.result.1.now c.in_ok-rest.rest.items = IfOk-at_ok (λ vs. AllZip R c.split_at.result.1.now vs.items) c.in_ok-rest.was c.join-first.ensures.second in

@@ -1,5 +1,5 @@
 use Rattle.std.proofs.Common.{◌<◌, ◌≤◌, ◌-◌, length}
-use Rattle.tib_weigh.proofs.weighing.first_with.Given as goal
+use Rattle.tib_weigh.proofs.pieces.first_with.Given as goal
 
 abbrev pub invariant-loop-n : goal.invariant-loop-n
 invariant-loop-n l = record { some : 1 ≤ l.n; within : l.n < length l.trees }

@@ -1,0 +1,57 @@
+// How the work on a list of trees is shared among threads.
+ghost use Rattle.std.specs.Prelude.{◌<◌, ◌≤◌, length, IfSome};
+
+use std::thread::{Threads, available_parallelism};
+use tib_tree::Tree;
+
+/// How few nodes are worth a thread of their own.
+pub const LEAST_PIECE: usize = 1024;
+
+// How many nodes the trees have, counted up to the greatest number.
+pub(crate) fn nodes_of(trees: &[Tree]) -> usize {
+    let mut nodes: usize = 0;
+    for tree in trees {
+        nodes = nodes.saturating_add(tree.nodes().len());
+    }
+    nodes
+}
+
+// How many of the first trees have about this number of nodes together: at least one, and not all.
+fn first_with(trees: &[Tree], nodes: usize) -> usize
+    requires { 2 ≤ length trees.now }
+    ensures { (1 ≤ result) × (result < length trees.now) }
+{
+    let mut so_far = trees[0].nodes().len();
+    let mut n = 1;
+    while n < trees.len() - 1 && so_far < nodes {
+        so_far = so_far.saturating_add(trees[n].nodes().len());
+        n += 1;
+    }
+    n
+}
+
+/// Where to part the trees into two pieces of about as many nodes, each for a thread of its own: how many trees the first
+/// piece has. None where they are not to be parted `times` times more, are fewer than two, or have too few nodes for two
+/// pieces of the `least` number. Takes no memory. Worst case: O(n) steps for n trees.
+pub fn middle_of(trees: &[Tree], times: u32, least: usize) -> Option<usize>
+    ensures { IfSome result (λ n. (0 < times) × (1 ≤ n) × (n < length trees.now)) }
+{
+    if times == 0 || trees.len() < 2 {
+        return None;
+    }
+    let half = nodes_of(trees) / 2;
+    if half < least {
+        return None;
+    }
+    Some(first_with(trees, half))
+}
+
+/// How many times trees are parted for all processors: into four pieces for each, up to 32 of these, since pieces differ in
+/// length. Takes no memory.
+pub fn halvings<R: Threads>(rt: &R) -> u32 {
+    let processors = match available_parallelism(rt) {
+        Ok(count) => count.get(),
+        Err(_) => 1,
+    };
+    processors.min(32).saturating_mul(4).ilog2()
+}
