@@ -126,7 +126,7 @@ fn weighed_trees<S: Semiring + Sync + Drop, R: Threads + Sync>(
         Ok(costs) => costs,
         Err(status) => return Err(status),
     };
-    match weighed_text::<S>(alloc, trees, labels, &costs) {
+    match weighed_text::<S, R>(rt, alloc, trees, labels, &costs) {
         Ok(text) => Ok(text),
         Err(Failed) => Err(Status::OutOfMemory),
     }

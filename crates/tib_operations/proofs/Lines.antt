@@ -30,6 +30,15 @@ lines_more line xs cs i x c h e at there =
     let long : length (take i xs) ≡ length (take i cs) = take_long xs i h ∙ sym (take_long cs i (omega arith)) in
     rw (take_more xs i x h, take_more cs i c (omega arith), ← at, ← there) (append_one line (take i xs) (take i cs) x c long)
 
+-- the lines of the things of two lists
+pub lines_append : {A : Type 0} (line : A → Option ℕ → List ℕ) (xs ys : List A) (cs ds : List (Option ℕ)) → length cs ≡ length xs →
+    lines_of_all line xs cs ++ lines_of_all line ys ds ≡ lines_of_all line (xs ++ ys) (cs ++ ds)
+lines_append line [] ys [] ds e = refl
+lines_append line [] ys (c ∷ cs) ds e = absurd (omega arith)
+lines_append line (x ∷ xs) ys [] ds e = absurd (omega arith)
+lines_append line (x ∷ xs) ys (c ∷ cs) ds e =
+    append_assoc (line x c) (lines_of_all line xs cs) (lines_of_all line ys ds) ∙ ap (λ z. line x c ++ z) (lines_append line xs ys cs ds (omega arith))
+
 -- an element by its place
 pub got : {A : Type 0} (xs : List A) (i : ℕ) (x : A) → slice_get xs i ≡ Some x → x ≡ get_or xs i x
 got [] i x e = absurd (cc e)

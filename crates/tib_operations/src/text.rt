@@ -1,5 +1,6 @@
 // The text of weighed trees.
-ghost use Rattle.std.specs.Prelude.{◌≡◌, ◌+◌, ◌++◌, length, IfOk, OnOk};
+ghost use Rattle.std.specs.Prelude.{◌≡◌, ◌+◌, ◌<◌, ◌++◌, length, IfOk, OnOk};
+ghost use Rattle.std.specs.Thread.{IsSync};
 ghost use Rattle.tib_io.specs.Writes.{Takes};
 ghost use Rattle.tib_lex.specs.Lists.{Each};
 ghost use Rattle.tib_tree.specs.Growth.{HasLabels};
@@ -7,9 +8,11 @@ ghost use Rattle.tib_operations.specs.Text.{cost_text, weighed_line, weighed_lin
 
 use crate::pieces::write_about;
 use std::alloc::Global;
+use std::thread::{Threads, join};
 use tib_cost::{Cost, Semiring};
 use tib_io::{Failed, GrowingSink, Sink, write_whole};
 use tib_tree::{Labels, Tree, print_tree};
+use tib_weigh::{LEAST_PIECE, halvings, middle_of};
 
 /// Writes what follows a tree or a state: its cost, which in Boolean is not printed, or that it has none.
 pub fn print_cost<S: Semiring, W: Sink>(cost: Option<Cost>, out: &mut W) -> Result<(), Failed>
@@ -60,8 +63,8 @@ pub(crate) fn add_line<S: Semiring>(
     print_line::<S, GrowingSink>(tree, labels, cost, text)
 }
 
-/// The lines of the trees with their costs. It fails only for want of memory.
-pub fn weighed_text<S: Semiring>(
+// The lines of the trees with their costs, in this thread.
+fn lines_of_each<S: Semiring>(
     alloc: Global,
     trees: &[Tree],
     labels: &Labels,
@@ -77,4 +80,66 @@ pub fn weighed_text<S: Semiring>(
         add_line::<S>(&mut text, &trees[i], labels, costs[i])?;
     }
     Ok(text)
+}
+
+// Puts a text behind another one.
+fn add_text(text: &mut GrowingSink, rest: &GrowingSink) -> Result<(), Failed>
+    ensures { OnOk result (text.new.bytes ≡ text.old.bytes ++ rest.now.bytes) }
+{
+    write_whole(text, rest.bytes())
+}
+
+// The lines of the trees with their costs. The work is halved by nodes `times` times, and each half has a thread of its own.
+#[cycle(lines)]
+fn lines_of_halves<S: Semiring + Sync, R: Threads + Sync>(
+    rt: &R,
+    alloc: Global,
+    trees: &[Tree],
+    labels: &Labels,
+    costs: &[Option<Cost>],
+    times: u32,
+) -> Result<GrowingSink, Failed>
+    requires labels { Each (HasLabels labels.now) trees.now }
+    requires many { length costs.now ≡ length trees.now }
+    ensures { IfOk result (λ text. text.bytes ≡ weighed_lines S.SCALE labels.now trees.now
+        costs.now) }
+{
+    let Some(middle) = middle_of(trees, times, LEAST_PIECE) else {
+        return lines_of_each::<S>(alloc, trees, labels, costs);
+    };
+    let (front, back) = trees.split_at(middle);
+    let (front_costs, back_costs) = costs.split_at(middle);
+    let of_front = move || -> Result<GrowingSink, Failed>
+        requires { IsSync R.row × IsSync S.row × (0 < times) × Each (HasLabels labels.now)
+            front.now × (length front_costs.now ≡ length front.now) }
+        ensures { IfOk result (λ text. text.bytes ≡ weighed_lines S.SCALE labels.entry.now
+            front.entry.now front_costs.entry.now) }
+    { lines_of_halves::<S, R>(rt, alloc, front, labels, front_costs, times - 1) };
+    let of_back = move || -> Result<GrowingSink, Failed>
+        requires { IsSync R.row × IsSync S.row × (0 < times) × Each (HasLabels labels.now)
+            back.now × (length back_costs.now ≡ length back.now) }
+        ensures { IfOk result (λ text. text.bytes ≡ weighed_lines S.SCALE labels.entry.now
+            back.entry.now back_costs.entry.now) }
+    { lines_of_halves::<S, R>(rt, alloc, back, labels, back_costs, times - 1) };
+    let (first, second) = join(rt, of_front, of_back);
+    let mut text = first?;
+    let rest = second?;
+    add_text(&mut text, &rest)?;
+    Ok(text)
+}
+
+/// The lines of the trees with their costs, printed in several threads. It fails only for want of memory.
+pub fn weighed_text<S: Semiring + Sync, R: Threads + Sync>(
+    rt: &R,
+    alloc: Global,
+    trees: &[Tree],
+    labels: &Labels,
+    costs: &[Option<Cost>],
+) -> Result<GrowingSink, Failed>
+    requires labels { Each (HasLabels labels.now) trees.now }
+    requires many { length costs.now ≡ length trees.now }
+    ensures { IfOk result (λ text. text.bytes ≡ weighed_lines S.SCALE labels.now trees.now
+        costs.now) }
+{
+    lines_of_halves::<S, R>(rt, alloc, trees, labels, costs, halvings(rt))
 }

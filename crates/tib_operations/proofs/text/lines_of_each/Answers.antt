@@ -2,7 +2,7 @@ use Rattle.std.proofs.Common.{ℕ, List, ◌++◌, ap, sym, ◌∙◌}
 use Rattle.tib_operations.specs.Text.{weighed_line}
 use Rattle.tib_tree.specs.Growth.{HasLabels}
 use Rattle.tib_operations.proofs.Lines.{lines_more, each_at}
-use Rattle.tib_operations.proofs.text.weighed_text.Goals as goal
+use Rattle.tib_operations.proofs.text.lines_of_each.Goals as goal
 
 pub loop-i-preserved : goal.loop-i-preserved
 loop-i-preserved g c =
