@@ -6,7 +6,7 @@ use std::thread::Threads;
 use tib_cost::{Boolean, Bottleneck, Cost, MOST, MinPlus, Semiring};
 use tib_normal::Normal;
 use tib_tree::{Label, Tree};
-use tib_weigh::{weigh, weigh_all};
+use tib_weigh::{halvings, middle_of, weigh, weigh_all};
 
 // `q -> S(q q) # 1` and `q -> a # 2`.
 static BINARY: [Row; 2] = [(0, 0, &[0, 0], 1), (0, 1, &[], 2)];
@@ -137,5 +137,22 @@ fn are_in_order(costs: &[Option<Cost>]) -> bool {
 fn many_trees_are_weighed_in_order(rt: HostRuntime) -> Result<(), Fail> {
     let costs = costs_of_many(&rt, rt.alloc(), 70_000)?;
     assert!(rt; costs.len() == 70_000 && are_in_order(&costs));
+    Ok(())
+}
+
+// Whether seventy trees, which have 90 nodes, are parted behind 45 of these, and not where too much is asked.
+fn are_parted(alloc: Global) -> Result<bool, Fail> {
+    let trees = many_trees(alloc, 70)?;
+    let parted = middle_of(&trees, 1, 45) == Some(35);
+    let too_few = middle_of(&trees, 1, 46).is_some()
+        || middle_of(&trees[..trees.len().min(1)], 1, 0).is_some();
+    Ok(parted && !too_few && middle_of(&trees, 0, 45).is_none())
+}
+
+#[test]
+fn trees_are_parted_by_nodes(rt: HostRuntime) -> Result<(), Fail> {
+    assert!(rt; are_parted(rt.alloc())?);
+    let times = halvings(&rt);
+    assert!(rt; 2 <= times && times <= 7);
     Ok(())
 }
