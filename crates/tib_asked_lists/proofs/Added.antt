@@ -6,7 +6,7 @@ use Rattle.tib_lex.proofs.Lists.{append_nil, has_mapped}
 use Rattle.tib_cost.specs.Semiring.{most}
 use Rattle.tib_tree.specs.Trees.{size}
 use Rattle.tib_grammar.specs.Run.{rule_at}
-use Rattle.tib_shared_trees.specs.Heaps.{IsHeap, Adds}
+use Rattle.tib_k_best_lists.specs.Heaps.{IsHeap, Adds}
 use Rattle.tib_k_best_lists.specs.Levels.{states_of}
 use Rattle.tib_k_best_lists.specs.Pass.{AreRanks, offer}
 use Rattle.tib_k_best_lists.specs.Pass as pass

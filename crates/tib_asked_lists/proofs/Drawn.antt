@@ -2,7 +2,7 @@
 use Rattle.std.specs.Prelude.{◌≡◌, ℕ, ◌<◌, List, [], ◌∷◌, length, refl}
 use Rattle.std.proofs.Common.{suc, arith, sym, ◌∙◌, subst, inl, inr, get_or}
 use Rattle.tib_lex.specs.Lists.{Has}
-use Rattle.tib_shared_trees.specs.Heaps.{IsHeap}
+use Rattle.tib_k_best_lists.specs.Heaps.{IsHeap}
 use Rattle.tib_k_best_lists.specs.Lazy.{IsKept}
 use Rattle.tib_k_best_lists.specs.ListsOf.{ListsOf}
 use Rattle.tib_k_best_lists.specs.Held.{entries_of, candidate_at, tuple_of, ranks_of, below_of, grown}

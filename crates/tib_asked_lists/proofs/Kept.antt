@@ -5,7 +5,7 @@ use Rattle.tib_lex.specs.Lists.{Has}
 use Rattle.tib_lex.proofs.Lists.{append_nil}
 use Rattle.tib_cost.specs.Semiring.{most}
 use Rattle.tib_tree.specs.Trees.{Tree}
-use Rattle.tib_shared_trees.specs.Heaps.{IsHeap}
+use Rattle.tib_k_best_lists.specs.Heaps.{IsHeap}
 use Rattle.tib_k_best_lists.specs.Pass.{offer}
 use Rattle.tib_k_best_lists.specs.Pass as pass
 use Rattle.tib_k_best_lists.specs.ListsOf.{ListsOf}

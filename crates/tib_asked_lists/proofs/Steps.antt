@@ -7,7 +7,7 @@ use Rattle.tib_lex.proofs.Lists.{has_mapped, head_is, tail_is}
 use Rattle.tib_lex.proofs.Members.{at_has, has_at}
 use Rattle.tib_cost.specs.Semiring.{most}
 use Rattle.tib_grammar.specs.Run.{rule_at}
-use Rattle.tib_shared_trees.specs.Heaps.{IsHeap}
+use Rattle.tib_k_best_lists.specs.Heaps.{IsHeap}
 use Rattle.tib_k_best_lists.specs.Lazy.{IsKept, IsAsked}
 use Rattle.tib_k_best_lists.specs.Levels.{states_at}
 use Rattle.tib_k_best_lists.specs.Pass.{AreRanks, zeros, zeros_at, offer, HasTree, IsKnown}

@@ -8,7 +8,7 @@ use Rattle.tib_cost.specs.Semiring.{ProductLaws}
 use Rattle.tib_tree.specs.Trees.{Tree, only}
 use Rattle.tib_tree.specs.Growth.{LabelsBelow}
 use Rattle.tib_grammar.specs.Run.{rule_at}
-use Rattle.tib_shared_trees.specs.Heaps.{TakesFirst}
+use Rattle.tib_k_best_lists.specs.Heaps.{TakesFirst}
 use Rattle.tib_k_best_lists.specs.Best.{Cheaper, IsNextAt, IsFrontAt}
 use Rattle.tib_k_best_lists.specs.First.{NoLater}
 use Rattle.tib_k_best_lists.specs.Lazy.{IsKept, IsWhole}

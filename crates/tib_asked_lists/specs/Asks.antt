@@ -6,7 +6,7 @@ use Rattle.tib_lex.specs.Lists.{Has}
 use Rattle.tib_tree.specs.Trees.{Tree}
 use Rattle.tib_grammar.specs.Run.{rule_at}
 use Rattle.tib_grammar.specs.declared.Rule.{Rule}
-use Rattle.tib_shared_trees.specs.Heaps.{IsHeap, TakesFirst}
+use Rattle.tib_k_best_lists.specs.Heaps.{IsHeap, TakesFirst}
 use Rattle.tib_k_best_lists.specs.Best.{IsFrontAt}
 use Rattle.tib_k_best_lists.specs.Lazy.{IsKept, IsWhole}
 use Rattle.tib_k_best_lists.specs.Pass.{HasTree, zeros}

@@ -4,7 +4,7 @@ use Rattle.std.proofs.Common.{get_or}
 use Rattle.std.specs.declared.cmp.Ordering.{Ordering}
 use Rattle.tib_lex.specs.Lists.{Has}
 use Rattle.tib_cost.specs.Semiring.{most}
-use Rattle.tib_shared_trees.specs.Heaps.{IsHeap}
+use Rattle.tib_k_best_lists.specs.Heaps.{IsHeap}
 use Rattle.tib_k_best_lists.specs.Levels.{states_at}
 use Rattle.tib_k_best_lists.specs.Pass.{AreRanks, zeros_at, offer}
 use Rattle.tib_k_best_lists.specs.Pass as pass

@@ -10,7 +10,7 @@ ghost use Rattle.tib_asked_lists.specs.Offers.{IsHeld, IsOffered};
 use std::alloc::AllocError;
 use tib_cost::Semiring;
 use tib_k_best_lists::Lists;
-use tib_shared_trees::push;
+use tib_k_best_lists::heap::push;
 
 // Makes a rule with the ranks from `start` on a candidate and puts it into a heap, unless it costs
 // more than the greatest cost.

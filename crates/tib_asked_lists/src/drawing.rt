@@ -10,7 +10,7 @@ use crate::followers::{add_firsts, add_followers};
 use std::alloc::AllocError;
 use tib_cost::Semiring;
 use tib_k_best_lists::Lists;
-use tib_shared_trees::pop;
+use tib_k_best_lists::heap::pop;
 
 impl Asked {
     // Offers the first candidates of a state's rules, where this was not done before.

@@ -28,14 +28,14 @@ use Rattle.tib_transducer_print.specs.Printed.{transducer_text}
 use Rattle.tib_canon.specs.Constructions.{HasReachedWithin}
 use Rattle.tib_canon.proofs.ReachedOnce.{edge_given, ends_stand}
 use Rattle.tib_canon.proofs.Sorting.{both_equal, number_same}
-use Rattle.tib_compose_laws.specs.Plain.{ArePlain}
-use Rattle.tib_compose_laws.specs.Translations.{plug, AreTranslations, translated, choice_cost}
-use Rattle.tib_compose_laws.specs.Composing.{IsComposeEdge, IsComposite}
-use Rattle.tib_compose_laws.specs.Composition.{ends_of, edge_parts, composition}
-use Rattle.tib_compose_laws.proofs.Composed.{is_composed}
-use Rattle.tib_compose_laws.proofs.Exact.{composition_laws, reached_is_composite}
-use Rattle.tib_compose_laws.proofs.Flattened.{translations_end_in_holes}
-use Rattle.tib_compose_laws.proofs.Standing.{variables_translated, variables_each}
+use Rattle.tib_keyed.specs.Plain.{ArePlain}
+use Rattle.tib_keyed.specs.Translations.{plug, AreTranslations, translated, choice_cost}
+use Rattle.tib_keyed.specs.Composing.{IsComposeEdge, IsComposite}
+use Rattle.tib_keyed.specs.Composition.{ends_of, edge_parts, composition}
+use Rattle.tib_keyed.proofs.Composed.{is_composed}
+use Rattle.tib_keyed.proofs.Exact.{composition_laws, reached_is_composite}
+use Rattle.tib_keyed.proofs.Flattened.{translations_end_in_holes}
+use Rattle.tib_keyed.proofs.Standing.{variables_translated, variables_each}
 use Rattle.tib_canon.specs.Composing.{composing, HasComposeSeries, HasComposeText}
 use Rattle.tib_canon.specs.TransducerConstructions.{IsCanonicalTransducerOf}
 use Rattle.tib_canon.specs.TransducerKeys.{AreMovesOver}

@@ -33,7 +33,7 @@ use Rattle.tib_canon.proofs.ConstructionExists.{few_keys}
 use Rattle.tib_canon.proofs.PlacesIn.{place_in, stands_at, map_itself}
 use Rattle.tib_canon.proofs.ReachedOnce.{one_set, order_once, key_same, reached_apart}
 use Rattle.tib_transducer.specs.NamedPairs.{named_pair}
-use Rattle.tib_compose_laws.specs.Named.{named_transducer_rule}
+use Rattle.tib_keyed.specs.Named.{named_transducer_rule}
 use Rattle.tib_canon.specs.TransducerConstructions.{TransducerConstruction, moves_over, IsCanonicalTransducerOf}
 use Rattle.tib_canon.specs.TransducerKeys.{IsCanonicalTransducer, AreMovesOver}
 use Rattle.tib_canon.proofs.TransducerByText.{text_once}

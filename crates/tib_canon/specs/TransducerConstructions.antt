@@ -7,7 +7,7 @@ use Rattle.tib_transducer.specs.TransducerOf.{TransducerOf}
 use Rattle.tib_transducer.specs.declared.TransducerRule.{TransducerRule}
 use Rattle.tib_transducer_print.specs.ByName.{ReadsBack}
 use Rattle.tib_transducer_print.specs.Printed.{transducer_text}
-use Rattle.tib_compose_laws.specs.Named.{named_transducer_rule}
+use Rattle.tib_keyed.specs.Named.{named_transducer_rule}
 use Rattle.tib_canon.specs.TransducerKeys.{IsCanonicalTransducer, AreMovesOver}
 
 -- A construction of a transducer: what it hunts, where edges are rules over keys, and a key that

@@ -10,8 +10,8 @@ use Rattle.tib_transducer_file.specs.ByText.{AreOneTransducerRule, AreOneTransdu
 use Rattle.tib_transducer_print.specs.ByName.{states_of, ReadsBack}
 use Rattle.tib_transducer_print.specs.Printed.{transducer_text}
 use Rattle.tib_canon.specs.Constructions.{HasReachedWithin}
-use Rattle.tib_compose_laws.specs.Plain.{ArePlain}
-use Rattle.tib_compose_laws.specs.Composition.{composition}
+use Rattle.tib_keyed.specs.Plain.{ArePlain}
+use Rattle.tib_keyed.specs.Composition.{composition}
 use Rattle.tib_canon.specs.Composing.{composing, HasComposeSeries, HasComposeText}
 use Rattle.tib_canon.specs.TransducerConstructions.{IsCanonicalTransducerOf}
 use Rattle.tib_canon.specs.TransducerKeys.{IsCanonicalTransducer, HasSeriesFrom, AreMovesOver}

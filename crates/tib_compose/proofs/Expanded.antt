@@ -9,12 +9,12 @@ use Rattle.tib_hunt.specs.EdgeLists.{Lists, AreListed, IsEnd, Exceeds}
 use Rattle.tib_keyed.specs.Ends.{key_at}
 use Rattle.tib_transducer.specs.Range.{AreShaped}
 use Rattle.tib_transducer.specs.declared.TransducerRule.{TransducerRule}
-use Rattle.tib_compose_laws.specs.Choices.{edges_of}
-use Rattle.tib_compose_laws.specs.Composing.{IsComposeEdge}
-use Rattle.tib_compose_laws.specs.Composition.{ends_of, edge_parts}
-use Rattle.tib_compose_laws.specs.Named.{named_transducer_rule}
-use Rattle.tib_compose_laws.proofs.EdgeList.{edges_are_listed}
-use Rattle.tib_compose_laws.proofs.Exact.{same_edge}
+use Rattle.tib_keyed.specs.Choices.{edges_of}
+use Rattle.tib_keyed.specs.Composing.{IsComposeEdge}
+use Rattle.tib_keyed.specs.Composition.{ends_of, edge_parts}
+use Rattle.tib_keyed.specs.Named.{named_transducer_rule}
+use Rattle.tib_keyed.proofs.EdgeList.{edges_are_listed}
+use Rattle.tib_keyed.proofs.Exact.{same_edge}
 use Rattle.tib_compose.specs.EdgeLaws.{places_of, rule_of}
 use Rattle.tib_compose.specs.Listing.{IsListing, IsWithinBudget, all_ends}
 use Rattle.tib_compose.specs.declared.listing.Listing.{Listing}

@@ -16,10 +16,10 @@ use Rattle.tib_transducer.specs.Rules.{no_rule, transducer_rule}
 use Rattle.tib_transducer.specs.declared.Pair.{Pair}
 use Rattle.tib_transducer.specs.declared.Variable.{Variable}
 use Rattle.tib_transducer.specs.declared.TransducerRule.{TransducerRule}
-use Rattle.tib_compose_laws.specs.Choices.{reads_label}
-use Rattle.tib_compose_laws.specs.Composition.{edge_parts}
-use Rattle.tib_compose_laws.proofs.Pieces.{goes_by_pieces}
-use Rattle.tib_compose_laws.specs.Pieces.{Piece as PieceOf, Result, GoesByPieces, pieces_of, results, results_by, read}
+use Rattle.tib_keyed.specs.Choices.{reads_label}
+use Rattle.tib_keyed.specs.Composition.{edge_parts}
+use Rattle.tib_keyed.proofs.Pieces.{goes_by_pieces}
+use Rattle.tib_keyed.specs.Pieces.{Piece as PieceOf, Result, GoesByPieces, pieces_of, results, results_by, read}
 use Rattle.tib_compose.specs.Ends.{IsSkipped}
 use Rattle.tib_compose.specs.FlatSides.{ArePairsFrom, IsFlatOver, KeptOverruns, ListsKept, PutsBelow, PutsRight, flat_results, kept, leaf}
 use Rattle.tib_compose.specs.KeyEdges.{rule_edges}

@@ -18,10 +18,10 @@ use Rattle.tib_transducer.specs.Range.{AreShaped, AreWithin}
 use Rattle.tib_transducer.specs.TransducerOf.{TransducerOf}
 use Rattle.tib_transducer.specs.declared.Pair.{Pair}
 use Rattle.tib_transducer.specs.declared.TransducerRule.{TransducerRule}
-use Rattle.tib_compose_laws.specs.Composition.{composition, edge_parts}
-use Rattle.tib_compose_laws.specs.Named.{named_transducer_rule}
-use Rattle.tib_compose_laws.proofs.Exact.{reached_is_composite}
-use Rattle.tib_compose_laws.proofs.Standing.{composite_is_shaped}
+use Rattle.tib_keyed.specs.Composition.{composition, edge_parts}
+use Rattle.tib_keyed.specs.Named.{named_transducer_rule}
+use Rattle.tib_keyed.proofs.Exact.{reached_is_composite}
+use Rattle.tib_keyed.proofs.Standing.{composite_is_shaped}
 use Rattle.tib_compose.specs.EdgeLaws.{places_of, all_states}
 
 below_append : (n : ℕ) (xs ys : List ℕ) → AllBelow n xs → AllBelow n ys → AllBelow n (xs ++ ys)

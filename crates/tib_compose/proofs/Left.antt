@@ -12,12 +12,12 @@ use Rattle.tib_cost.specs.Least.{times}
 use Rattle.tib_lex.proofs.Numbers.{nat_le_cases}
 use Rattle.tib_transducer.specs.declared.Pair.{Pair}
 use Rattle.tib_transducer.specs.declared.TransducerRule.{TransducerRule}
-use Rattle.tib_compose_laws.specs.Translations.{choice_cost}
-use Rattle.tib_compose_laws.specs.Choices.{choices_at, choices_of}
-use Rattle.tib_compose_laws.specs.Completions.{completions}
-use Rattle.tib_compose_laws.specs.Pieces.{Piece as PieceOf, put, read, sides_of, states_of}
-use Rattle.tib_compose_laws.proofs.Choosing.{has_joins}
-use Rattle.tib_compose_laws.proofs.Searching.{cost_join}
+use Rattle.tib_keyed.specs.Translations.{choice_cost}
+use Rattle.tib_keyed.specs.Choices.{choices_at, choices_of}
+use Rattle.tib_keyed.specs.Completions.{completions}
+use Rattle.tib_keyed.specs.Pieces.{Piece as PieceOf, put, read, sides_of, states_of}
+use Rattle.tib_keyed.proofs.Choosing.{has_joins}
+use Rattle.tib_keyed.proofs.Searching.{cost_join}
 use Rattle.tib_compose.specs.PieceViews.{piece_of}
 use Rattle.tib_compose.specs.Pending.{IsAtLeast, task_at, BoundsPiece, BoundsAll, Stands, Holds, Extends}
 use Rattle.tib_compose.specs.declared.pending.Piece.{Piece}

@@ -22,8 +22,8 @@ use Rattle.tib_transducer.specs.declared.Variable.{Variable}
 use Rattle.tib_transducer.specs.declared.TransducerRule.{TransducerRule}
 use Rattle.tib_transducer.specs.NamedPairs.{named_pair, named_item}
 use Rattle.tib_transducer.proofs.NamedItems.{preorder-named}
-use Rattle.tib_compose_laws.specs.Composition.{ends_of, edge_parts}
-use Rattle.tib_compose_laws.specs.Named.{named_transducer_rule}
+use Rattle.tib_keyed.specs.Composition.{ends_of, edge_parts}
+use Rattle.tib_keyed.specs.Named.{named_transducer_rule}
 use Rattle.tib_compose.specs.EdgeLaws.{places_of, rule_of, all_states, reads_rule}
 use Rattle.tib_compose.specs.Listing.{placed, keys_in, all_ends, edge_of, IsAdded, IsTooMuch, IsListing}
 use Rattle.tib_compose.specs.declared.listing.Listing.{Listing}

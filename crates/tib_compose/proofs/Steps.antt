@@ -16,9 +16,9 @@ use Rattle.tib_transducer.specs.Rules.{transducer_rule}
 use Rattle.tib_transducer.specs.declared.Pair.{Pair}
 use Rattle.tib_transducer.specs.declared.Variable.{Variable}
 use Rattle.tib_transducer.specs.declared.TransducerRule.{TransducerRule}
-use Rattle.tib_compose_laws.specs.Choices.{reads_label}
-use Rattle.tib_compose_laws.specs.Composition.{edge_parts}
-use Rattle.tib_compose_laws.specs.Pieces.{Piece as PieceOf, Result, results, pieces_of}
+use Rattle.tib_keyed.specs.Choices.{reads_label}
+use Rattle.tib_keyed.specs.Composition.{edge_parts}
+use Rattle.tib_keyed.specs.Pieces.{Piece as PieceOf, Result, results, pieces_of}
 use Rattle.tib_compose.specs.Branches.{IsAdvanced}
 use Rattle.tib_compose.specs.Listing.{edge_of, IsListing, IsAdded, IsTooMuch}
 use Rattle.tib_compose.specs.Pending.{BoundsAll, Holds, Stands, Extends}

@@ -18,12 +18,12 @@ use Rattle.tib_transducer.specs.Range.{AreShaped}
 use Rattle.tib_transducer.specs.declared.Pair.{Pair}
 use Rattle.tib_transducer.specs.declared.Variable.{Variable}
 use Rattle.tib_transducer.specs.declared.TransducerRule.{TransducerRule}
-use Rattle.tib_compose_laws.specs.Choices.{reads_label}
-use Rattle.tib_compose_laws.specs.Translations.{choice_cost}
-use Rattle.tib_compose_laws.specs.Completions.{completions}
-use Rattle.tib_compose_laws.specs.Composition.{edge_parts}
-use Rattle.tib_compose_laws.specs.Pieces.{Piece as PieceOf, Result, results, results_by, result_of, sides_of, states_of, pieces_of}
-use Rattle.tib_compose_laws.proofs.Choosing.{within_sides, reads_over}
+use Rattle.tib_keyed.specs.Choices.{reads_label}
+use Rattle.tib_keyed.specs.Translations.{choice_cost}
+use Rattle.tib_keyed.specs.Completions.{completions}
+use Rattle.tib_keyed.specs.Composition.{edge_parts}
+use Rattle.tib_keyed.specs.Pieces.{Piece as PieceOf, Result, results, results_by, result_of, sides_of, states_of, pieces_of}
+use Rattle.tib_keyed.proofs.Choosing.{within_sides, reads_over}
 use Rattle.tib_compose.specs.Listing.{edge_of}
 use Rattle.tib_compose.specs.Pending.{IsAtLeast, BoundsAll, Stands, Extends, task_at}
 use Rattle.tib_compose.specs.PieceViews.{kids_there, AreKnown, IsKnown}

@@ -15,11 +15,11 @@ use Rattle.tib_transducer.specs.declared.Pair.{Pair}
 use Rattle.tib_transducer.specs.declared.TransducerRule.{TransducerRule}
 use Rattle.tib_transducer.specs.Moves.{moves_of}
 use Rattle.tib_transducer.proofs.Moves.{moves_next, own}
-use Rattle.tib_compose_laws.specs.Translations.{translated, choice_cost}
-use Rattle.tib_compose_laws.specs.Choices.{choices_of, cheap, edge_from, edges_of, origins_of}
-use Rattle.tib_compose_laws.specs.Composition.{edge_parts}
-use Rattle.tib_compose_laws.specs.Flat.{substituted}
-use Rattle.tib_compose_laws.specs.Pieces.{Result, results, read, put}
+use Rattle.tib_keyed.specs.Translations.{translated, choice_cost}
+use Rattle.tib_keyed.specs.Choices.{choices_of, cheap, edge_from, edges_of, origins_of}
+use Rattle.tib_keyed.specs.Composition.{edge_parts}
+use Rattle.tib_keyed.specs.Flat.{substituted}
+use Rattle.tib_keyed.specs.Pieces.{Result, results, read, put}
 use Rattle.tib_compose.specs.KeyEdges.{rule_edges}
 use Rattle.tib_compose.specs.Listing.{edge_of, IsListing}
 use Rattle.tib_compose.specs.PieceViews.{side_there}

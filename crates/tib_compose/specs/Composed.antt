@@ -9,8 +9,8 @@ use Rattle.tib_transducer.specs.Range.{AreShaped, AreWithin}
 use Rattle.tib_transducer.specs.Rules.{transducer_rule}
 use Rattle.tib_transducer.specs.declared.TransducerRule.{TransducerRule}
 use Rattle.tib_transducer.specs.Outside.{demands, IsFirstOutside}
-use Rattle.tib_compose_laws.specs.Composition.{composition}
-use Rattle.tib_compose_laws.specs.Named.{named_transducer_rule}
+use Rattle.tib_keyed.specs.Composition.{composition}
+use Rattle.tib_keyed.specs.Named.{named_transducer_rule}
 use Rattle.tib_compose.specs.declared.error.ComposeError.{ComposeError}
 use Rattle.tib_compose.specs.declared.error.ComposeError.TheVariants.{Class, TooMany, OutOfMemory}
 

@@ -8,9 +8,9 @@ use Rattle.tib_transducer.specs.Rules.{transducer_rule}
 use Rattle.tib_transducer.specs.declared.Pair.{Pair}
 use Rattle.tib_transducer.specs.declared.Variable.{Variable}
 use Rattle.tib_transducer.specs.declared.TransducerRule.{TransducerRule}
-use Rattle.tib_compose_laws.specs.Choices.{reads_label}
-use Rattle.tib_compose_laws.specs.Composition.{edge_parts}
-use Rattle.tib_compose_laws.specs.Pieces.{Piece as PieceOf, Result, GoesByPieces, pieces_of, results}
+use Rattle.tib_keyed.specs.Choices.{reads_label}
+use Rattle.tib_keyed.specs.Composition.{edge_parts}
+use Rattle.tib_keyed.specs.Pieces.{Piece as PieceOf, Result, GoesByPieces, pieces_of, results}
 use Rattle.tib_compose.specs.Listing.{IsListing}
 use Rattle.tib_compose.specs.PieceViews.{AreKnown, IsKnown, kids_there, piece_below}
 use Rattle.tib_compose.specs.Searches.{reader_results}

@@ -6,8 +6,8 @@ use Rattle.tib_tree.specs.Trees.{preorder_of}
 use Rattle.tib_grammar.specs.Items.{pairs_of}
 use Rattle.tib_transducer.specs.Rules.{transducer_rule}
 use Rattle.tib_transducer.specs.declared.TransducerRule.{TransducerRule}
-use Rattle.tib_compose_laws.specs.Choices.{choices_of, cheap, edge_from, edges_of}
-use Rattle.tib_compose_laws.specs.Composition.{edge_parts}
+use Rattle.tib_keyed.specs.Choices.{choices_of, cheap, edge_from, edges_of}
+use Rattle.tib_keyed.specs.Composition.{edge_parts}
 use Rattle.tib_compose.specs.Listing.{IsListing}
 use Rattle.tib_compose.specs.Sources.{IsSource}
 use Rattle.tib_compose.specs.Walk.{AreReady}

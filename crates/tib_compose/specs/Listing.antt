@@ -15,8 +15,8 @@ use Rattle.tib_transducer.specs.Rules.{states_in}
 use Rattle.tib_transducer.specs.declared.Pair.{Pair}
 use Rattle.tib_transducer.specs.declared.Variable.{Variable}
 use Rattle.tib_transducer.specs.declared.TransducerRule.{TransducerRule}
-use Rattle.tib_compose_laws.specs.Composition.{ends_of, edge_parts}
-use Rattle.tib_compose_laws.specs.Named.{named_transducer_rule}
+use Rattle.tib_keyed.specs.Composition.{ends_of, edge_parts}
+use Rattle.tib_keyed.specs.Named.{named_transducer_rule}
 use Rattle.tib_compose.specs.EdgeLaws.{places_of, rule_of}
 use Rattle.tib_compose.specs.declared.listing.Listing.{Listing}
 use Rattle.tib_compose.specs.declared.placed_rule.PlacedRule.{PlacedRule}

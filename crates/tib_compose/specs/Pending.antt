@@ -7,10 +7,10 @@ use Rattle.tib_grammar.specs.Sides.{Symbol}
 use Rattle.tib_cost.specs.Semiring.{most}
 use Rattle.tib_transducer.specs.declared.Pair.{Pair}
 use Rattle.tib_transducer.specs.declared.TransducerRule.{TransducerRule}
-use Rattle.tib_compose_laws.specs.Translations.{choice_cost}
-use Rattle.tib_compose_laws.specs.Choices.{choices_of}
-use Rattle.tib_compose_laws.specs.Completions.{completions}
-use Rattle.tib_compose_laws.specs.Pieces.{Piece as PieceOf, put, read, sides_of, states_of}
+use Rattle.tib_keyed.specs.Translations.{choice_cost}
+use Rattle.tib_keyed.specs.Choices.{choices_of}
+use Rattle.tib_keyed.specs.Completions.{completions}
+use Rattle.tib_keyed.specs.Pieces.{Piece as PieceOf, put, read, sides_of, states_of}
 use Rattle.tib_compose.specs.PieceViews.{piece_of}
 use Rattle.tib_compose.specs.declared.pending.Piece.{Piece}
 use Rattle.tib_compose.specs.declared.pending.Piece.TheVariants.{Put, Read}

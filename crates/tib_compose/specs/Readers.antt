@@ -6,7 +6,7 @@ use Rattle.tib_keyed.specs.Positions.{positions_of}
 use Rattle.tib_keyed.specs.declared.buckets.ShapeIndex.{ShapeIndex}
 use Rattle.tib_transducer.specs.Rules.{transducer_rule}
 use Rattle.tib_transducer.specs.declared.TransducerRule.{TransducerRule}
-use Rattle.tib_compose_laws.specs.Choices.{reads_label}
+use Rattle.tib_keyed.specs.Choices.{reads_label}
 
 -- the positions, of the first m, of the rules that lead from the state p and read the label f over n variables
 abbrev pub readers : List (TransducerRule ℕ) → ℕ → ℕ → ℕ → ℕ → List ℕ

@@ -10,7 +10,7 @@ use Rattle.tib_transducer.specs.declared.Pair.{Pair}
 use Rattle.tib_transducer.specs.declared.Variable.{Variable}
 use Rattle.tib_transducer.specs.declared.TransducerRule.{TransducerRule}
 use Rattle.tib_grammar.specs.Sides.{Side as SideFor}
-use Rattle.tib_compose_laws.specs.Pieces.{Piece as PieceOf, read, Result, pieces_of, results}
+use Rattle.tib_keyed.specs.Pieces.{Piece as PieceOf, read, Result, pieces_of, results}
 use Rattle.tib_compose.specs.Listing.{edge_of, IsListing}
 use Rattle.tib_compose.specs.Pending.{Stands, Holds}
 use Rattle.tib_compose.specs.PieceViews.{kids_there, side_there}

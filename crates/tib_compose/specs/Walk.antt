@@ -7,9 +7,9 @@ use Rattle.tib_transducer.specs.Rules.{transducer_rule}
 use Rattle.tib_transducer.specs.Range.{AreShaped}
 use Rattle.tib_transducer.specs.declared.Variable.{Variable}
 use Rattle.tib_transducer.specs.declared.TransducerRule.{TransducerRule}
-use Rattle.tib_compose_laws.specs.Choices.{reads_label}
-use Rattle.tib_compose_laws.specs.Composition.{edge_parts}
-use Rattle.tib_compose_laws.specs.Pieces.{Piece as PieceOf, Result, results, GoesByPieces}
+use Rattle.tib_keyed.specs.Choices.{reads_label}
+use Rattle.tib_keyed.specs.Composition.{edge_parts}
+use Rattle.tib_keyed.specs.Pieces.{Piece as PieceOf, Result, results, GoesByPieces}
 use Rattle.tib_compose.specs.Listing.{edge_of, IsListing}
 use Rattle.tib_compose.specs.Pending.{Extends, Holds}
 use Rattle.tib_compose.specs.PieceViews.{kids_there}

@@ -4,7 +4,7 @@ ghost use Rattle.std.specs.Prelude.{◌≤◌, length, IfOk, IfErr, true};
 ghost use Rattle.tib_transducer.specs.Outside.{demands, AllMeet};
 ghost use Rattle.tib_hunt.specs.Reached.{most_parts, IsBeyond};
 ghost use Rattle.tib_transducer.specs.Range.{AreShaped};
-ghost use Rattle.tib_compose_laws.specs.Composition.{composition};
+ghost use Rattle.tib_keyed.specs.Composition.{composition};
 ghost use Rattle.tib_compose.specs.Composed.{AreOverOrder, HasPartsOf, IsComposeFault, IsReachedBy};
 
 use crate::composite::Composite;
@@ -19,7 +19,7 @@ use tib_transducer::{Transducer, TransducerRule};
 
 /// The pairs of states that composition reaches from the pair of the starts, in the order by rounds, and the rules over their
 /// positions. As a transducer whose start is position 0 they turn each tree into each other at the least cost over all trees
-/// between (`composes_series` of tib_compose_laws). `Class` exactly where the second transducer is not linear, nondeleting, not
+/// between (`composes_series` of tib_keyed). `Class` exactly where the second transducer is not linear, nondeleting, not
 /// extended and not labelled; `TooMany` exactly where they have more parts than the limit, 1 to `MOST_PARTS` of tib_hunt;
 /// `OutOfMemory` if memory is refused. Calls `gate` once for each pair. Cost: that of `Composite::new`, and for each pair and
 /// each rule of its state of the first transducer a search of the translations of the rule's right side, beside the hunt's own

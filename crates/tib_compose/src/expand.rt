@@ -12,7 +12,7 @@ use tib_transducer::TransducerRule;
 
 impl<'a, S: Semiring> Expand for Composite<'a, S> {
     ghost use Rattle.std.specs.Prelude.{◌<◌, length};
-    ghost use Rattle.tib_compose_laws.specs.Composition.{composition};
+    ghost use Rattle.tib_keyed.specs.Composition.{composition};
     ghost use Rattle.tib_compose.specs.EdgeLaws.{compose_reading, composition_is_lawful};
 
     type Key = StatePair;

@@ -2,7 +2,7 @@
 
 ghost use Rattle.std.specs.Prelude.{◌≡◌, ℕ, ◌<◌, ◌^◌, IfOk, length};
 ghost use Rattle.tib_grammar.specs.ShapeBuckets.{same_shape};
-ghost use Rattle.tib_compose_laws.specs.Choices.{reads_label};
+ghost use Rattle.tib_keyed.specs.Choices.{reads_label};
 ghost use Rattle.tib_compose.specs.IsIndex.{IsIndex};
 ghost use Rattle.tib_compose.specs.Readers.{AreFlat, IsFlat};
 

@@ -5,7 +5,7 @@ ghost use Rattle.tib_grammar.specs.Sides.{Symbol};
 ghost use Rattle.tib_cost.specs.Least.{times};
 ghost use Rattle.tib_transducer.specs.declared.Pair.{Pair as PairOf};
 ghost use Rattle.tib_transducer.specs.declared.TransducerRule.{TransducerRule as RuleOf};
-ghost use Rattle.tib_compose_laws.specs.Pieces.{Piece as PieceOf};
+ghost use Rattle.tib_keyed.specs.Pieces.{Piece as PieceOf};
 ghost use Rattle.tib_compose.specs.Pending.{BoundsAll, Holds, IsPushed, TakesNext};
 
 use std::alloc::{AllocError, Global};

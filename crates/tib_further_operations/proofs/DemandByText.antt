@@ -13,8 +13,8 @@ use Rattle.tib_strings.specs.StringTransducerOf.{StringTransducerOf}
 use Rattle.tib_strings.specs.declared.StringRule.{StringRule}
 use Rattle.tib_strings.specs.declared.Word.{Word as Token}
 use Rattle.tib_strings.specs.declared.Word.TheVariants.{Word, Hole}
-use Rattle.tib_string_file.specs.ByText.{AgreeOnRight, AreOneStringRule, AreOneStringTransducer}
-use Rattle.tib_string_file.specs.Value.{nodes_of}
+use Rattle.tib_strings.specs.ByText.{AgreeOnRight, AreOneStringRule, AreOneStringTransducer}
+use Rattle.tib_strings.specs.RuleValue.{nodes_of}
 use Rattle.tib_operations.proofs.ClassesByText.{IsOneDemand, IsDecided}
 use Rattle.tib_operations.proofs.OfCheck.{variables_along, all_used, all_used_back}
 use Rattle.tib_further_operations.specs.Parse.{parse_demands}

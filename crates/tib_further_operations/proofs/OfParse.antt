@@ -25,7 +25,7 @@ use Rattle.tib_strings.specs.Range.{AreShaped, AreLinear, AreNondeleting}
 use Rattle.tib_strings.specs.Rules.{string_rule, pairs_of}
 use Rattle.tib_strings.specs.StringTransducerOf.{StringTransducerOf}
 use Rattle.tib_strings.specs.declared.StringRule.{StringRule}
-use Rattle.tib_string_file.specs.ByText.{AreOneStringTransducer}
+use Rattle.tib_strings.specs.ByText.{AreOneStringTransducer}
 use Rattle.tib_strings.specs.Cuts.{spans}
 use Rattle.tib_parse.specs.Restrictions.{restricted_labels}
 use Rattle.tib_parse.specs.Parsing.{first_key, key_at, parse_key, IsParseEdge}

@@ -5,9 +5,9 @@ use Rattle.std.proofs.lemmas.Option.{get_or_from_slice_get}
 use Rattle.tib_lex.specs.Lists.{Along}
 use Rattle.tib_tree.specs.Growth.{text_at}
 use Rattle.tib_tree.specs.Written.{Item}
-use Rattle.tib_string_file.specs.Listed.{IsNamed}
-use Rattle.tib_string_file.specs.StringText.{ReadsAsString, words_of_string}
-use Rattle.tib_string_file.proofs.Strings.{one_text}
+use Rattle.tib_strings.specs.Listed.{IsNamed}
+use Rattle.tib_strings.specs.StringText.{ReadsAsString, words_of_string}
+use Rattle.tib_strings.proofs.Strings.{one_text}
 use Rattle.tib_further_operations.specs.ByText.{AreOneString}
 
 words_agree :

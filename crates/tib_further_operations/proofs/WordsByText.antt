@@ -15,8 +15,8 @@ use Rattle.tib_strings.specs.Rules.{no_rule, string_rule, pairs_of}
 use Rattle.tib_strings.specs.declared.StringRule.{StringRule}
 use Rattle.tib_strings.specs.declared.Word.{Word as Token}
 use Rattle.tib_strings.specs.declared.Word.TheVariants.{Word, Hole}
-use Rattle.tib_string_file.specs.ByText.{AgreeOnLeft, AgreeOnRight, AreOneStringRule}
-use Rattle.tib_string_file.specs.Value.{nodes_of}
+use Rattle.tib_strings.specs.ByText.{AgreeOnLeft, AgreeOnRight, AreOneStringRule}
+use Rattle.tib_strings.specs.RuleValue.{nodes_of}
 use Rattle.tib_strings.specs.Cuts.{IsStep, IsCut, spans}
 use Rattle.tib_apply.specs.Restrictions.{labels_of, all_labels, once, restricted_labels as labels_of_rules, Admits}
 use Rattle.tib_parse.specs.Restrictions.{as_rule, restricted_labels}

@@ -12,11 +12,11 @@ use Rattle.tib_strings.specs.Range.{AreShaped}
 use Rattle.tib_strings.specs.Rules.{string_rule}
 use Rattle.tib_strings.specs.StringTransducerOf.{StringTransducerOf}
 use Rattle.tib_strings.specs.declared.StringRule.{StringRule}
-use Rattle.tib_string_file.specs.Rule.{Parts, SpellsRule, RuleLine}
-use Rattle.tib_string_file.specs.Listed.{SpellsList}
-use Rattle.tib_string_file.specs.TransducerText.{ReadsAs}
-use Rattle.tib_string_file.specs.Value.{IsRule}
-use Rattle.tib_string_file.proofs.ShapesRead.{left_ends, rules_shaped}
+use Rattle.tib_strings.specs.RuleText.{Parts, SpellsRule, RuleLine}
+use Rattle.tib_strings.specs.Listed.{SpellsList}
+use Rattle.tib_strings.specs.TransducerText.{ReadsAs}
+use Rattle.tib_strings.specs.RuleValue.{IsRule}
+use Rattle.tib_strings.proofs.ShapesRead.{left_ends, rules_shaped}
 use Rattle.tib_transducer_file.specs.Pieces.{Piece}
 use Rattle.tib_transducer_file.specs.TransducerText.{SpellsLineBy}
 use Rattle.tib_transducer_file.proofs.RulesHave.{file_has}

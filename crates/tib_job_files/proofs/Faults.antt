@@ -11,8 +11,8 @@ use Rattle.tib_grammar_file.proofs.FirstFaults.{fault_once}
 use Rattle.tib_grammar_file.proofs.TextRead.{no_text}
 use Rattle.tib_grammar_file.specs.FaultLaws.{TextsHaveNone}
 use Rattle.tib_transducer_file.proofs.FaultsOnce.{fault_once as transducer_fault_once, no_text as no_transducer_text}
-use Rattle.tib_string_file.proofs.FaultsOnce.{fault_once as string_transducer_fault_once, no_text as no_string_transducer_text}
-use Rattle.tib_string_file.proofs.Strings.{no_fault as no_string_text, one_fault as one_string_fault}
+use Rattle.tib_strings.proofs.FaultsOnce.{fault_once as string_transducer_fault_once, no_text as no_string_transducer_text}
+use Rattle.tib_strings.proofs.Strings.{no_fault as no_string_text, one_fault as one_string_fault}
 use Rattle.tib_tree.specs.Laws.{FaultsAlone}
 use Rattle.tib_tree.specs.OneTreeLaws.{TextsHaveNone as TreesHaveNone}
 use Rattle.tib_tree.proofs.Exact.{no_fault as no_tree_fault, one_fault as one_tree_fault}

@@ -21,9 +21,9 @@ use Rattle.tib_operations.proofs.ReadSound.{IsSound, read_sound}
 use Rattle.tib_transducer_file.specs.ByText.{AreOneTransducer}
 use Rattle.tib_transducer_file.proofs.OneByText.{one_by_text as one_transducer}
 use Rattle.tib_operations.proofs.TransducerTables.{transducer_over, transducer_grown}
-use Rattle.tib_string_file.specs.ByText.{AreOneStringTransducer}
-use Rattle.tib_string_file.proofs.OneByText.{one_by_text as one_string_transducer}
-use Rattle.tib_string_file.proofs.OverTables.{string_over, string_grown, string_transducer_over, string_transducer_grown}
+use Rattle.tib_strings.specs.ByText.{AreOneStringTransducer}
+use Rattle.tib_strings.proofs.OneByText.{one_by_text as one_string_transducer}
+use Rattle.tib_strings.proofs.OverTables.{string_over, string_grown, string_transducer_over, string_transducer_grown}
 use Rattle.tib_further_operations.specs.ByText.{AreOneString}
 use Rattle.tib_further_operations.proofs.OneString.{one_string}
 use Rattle.tib_further_operations.proofs.WordsRead.{IsSoundStringTransducer, string_transducer_sound}

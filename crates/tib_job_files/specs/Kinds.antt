@@ -15,10 +15,10 @@ use Rattle.tib_grammar_file.specs.Faults.{IsFirstFault}
 use Rattle.tib_transducer.specs.TransducerOf.{TransducerOf}
 use Rattle.tib_transducer_file.specs.Faults.{IsFirstFault as IsFirstTransducerFault}
 use Rattle.tib_strings.specs.StringTransducerOf.{StringTransducerOf}
-use Rattle.tib_string_file.specs.StringText.{ReadsAsString}
-use Rattle.tib_string_file.specs.StringFaults.{IsFirstStringFault}
-use Rattle.tib_string_file.specs.TransducerText.{ReadsAs as ReadsAsStringTransducer}
-use Rattle.tib_string_file.specs.Faults.{IsFirstFault as IsFirstStringTransducerFault}
+use Rattle.tib_strings.specs.StringText.{ReadsAsString}
+use Rattle.tib_strings.specs.StringFaults.{IsFirstStringFault}
+use Rattle.tib_strings.specs.TransducerText.{ReadsAs as ReadsAsStringTransducer}
+use Rattle.tib_strings.specs.FileFaults.{IsFirstFault as IsFirstStringTransducerFault}
 use Rattle.tib_command.specs.Jobs.{Asked}
 use Rattle.tib_operations.specs.FileTexts.{IsShort, IsRead, ListsTrees, IsTransducerRead}
 use Rattle.tib_command.specs.declared.job.Operation.{Operation}

@@ -7,7 +7,7 @@ use Rattle.tib_lex.proofs.Lists.{append_nil}
 use Rattle.tib_cost.specs.Semiring.{most}
 use Rattle.tib_tree.specs.Trees.{Tree, size}
 use Rattle.tib_grammar.specs.Run.{rule_at}
-use Rattle.tib_shared_trees.specs.Heaps.{IsHeap, Adds}
+use Rattle.tib_k_best_lists.specs.Heaps.{IsHeap, Adds}
 use Rattle.tib_k_best_lists.specs.Levels.{states_of}
 use Rattle.tib_k_best_lists.specs.Pass.{AreRanks, zeros, offer}
 use Rattle.tib_k_best_lists.specs.ListsOf.{ListsOf}

@@ -9,7 +9,7 @@ use Rattle.tib_grammar.specs.Range.{AreInRange}
 use Rattle.tib_grammar.specs.Run.{rule_at}
 use Rattle.tib_grammar.specs.declared.Rule.{Rule}
 use Rattle.tib_grammar_file.specs.Printed.{AreLabelled}
-use Rattle.tib_shared_trees.specs.Ranked.{AreRanksOf}
+use Rattle.tib_k_best_lists.specs.Ranked.{AreRanksOf}
 use Rattle.tib_k_best_lists.specs.Best.{Costed, HasLarge, IsKBest}
 use Rattle.tib_k_best_lists.specs.Levels.{IsOrderly}
 use Rattle.tib_k_best_lists.proofs.Going.{grow}

@@ -4,7 +4,7 @@ use Rattle.std.proofs.Common.{zero, suc, arith, ap, sym, ◌∙◌, subst, inl, 
 use Rattle.tib_lex.specs.Lists.{Has}
 use Rattle.tib_cost.specs.Semiring.{ProductLaws}
 use Rattle.tib_grammar.specs.declared.Rule.{Rule}
-use Rattle.tib_shared_trees.specs.Heaps.{IsHeap, TakesFirst}
+use Rattle.tib_k_best_lists.specs.Heaps.{IsHeap, TakesFirst}
 use Rattle.tib_k_best_lists.specs.Best.{Cheaper, HasLarge, IsTreeAt}
 use Rattle.tib_k_best_lists.specs.First.{IsFront}
 use Rattle.tib_k_best_lists.specs.Levels.{IsOrderly}

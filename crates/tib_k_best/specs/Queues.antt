@@ -4,7 +4,7 @@ use Rattle.std.proofs.Math.ListN.{set}
 use Rattle.std.proofs.Common.{zero, suc, get_or}
 use Rattle.tib_lex.specs.Lists.{Has}
 use Rattle.tib_grammar.specs.Run.{rule_at}
-use Rattle.tib_shared_trees.specs.Heaps.{IsHeap, TakesFirst}
+use Rattle.tib_k_best_lists.specs.Heaps.{IsHeap, TakesFirst}
 use Rattle.tib_k_best_lists.specs.Best.{IsFrontAt}
 use Rattle.tib_k_best_lists.specs.Firsts.{IsReady}
 use Rattle.tib_k_best_lists.specs.Levels.{states_of}

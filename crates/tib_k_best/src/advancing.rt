@@ -10,7 +10,7 @@ use crate::queue::{Queue, Waiting};
 use std::alloc::AllocError;
 use tib_cost::Semiring;
 use tib_k_best_lists::Lists;
-use tib_shared_trees::push;
+use tib_k_best_lists::heap::push;
 
 // The first place from one on whose state has no tree; the number of the states where each has one.
 fn next_missing(lists: &Lists, rule: u32, from: usize) -> usize

@@ -4,7 +4,7 @@ ghost use Rattle.tib_grammar.specs.Forms.{AreNormal};
 ghost use Rattle.tib_grammar.specs.Range.{AreInRange};
 ghost use Rattle.tib_grammar.specs.Run.{rule_at};
 ghost use Rattle.tib_grammar_file.specs.Printed.{AreLabelled};
-ghost use Rattle.tib_shared_trees.specs.Ranked.{AreRanksOf};
+ghost use Rattle.tib_k_best_lists.specs.Ranked.{AreRanksOf};
 ghost use Rattle.tib_k_best_lists.specs.Best.{IsKBest};
 ghost use Rattle.tib_k_best_lists.specs.Levels.{IsOrderly};
 ghost use Rattle.tib_k_best.specs.Causes.{IsCause};
@@ -16,8 +16,8 @@ use crate::listed::List;
 use std::alloc::Global;
 use tib_cost::Semiring;
 use tib_grammar::Rule;
+use tib_k_best_lists::label_ranks;
 use tib_normal::Normal;
-use tib_shared_trees::label_ranks;
 use tib_tree::Labels;
 
 /// The list of the k best trees of rules in normal form, over this number of states. `ranks` has the

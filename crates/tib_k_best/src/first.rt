@@ -11,7 +11,7 @@ use crate::queue::Queue;
 use std::alloc::{AllocError, Global};
 use tib_cost::Semiring;
 use tib_k_best_lists::Lists;
-use tib_shared_trees::pop;
+use tib_k_best_lists::heap::pop;
 
 impl Queue {
     // Lets each rule wait for a state, or makes its first candidate, while no state has a tree.

@@ -5,7 +5,7 @@ ghost use Rattle.tib_grammar.specs.Forms.{AreNormal, IsDeterministic};
 ghost use Rattle.tib_grammar.specs.Range.{AreInRange};
 ghost use Rattle.tib_grammar.specs.Run.{rule_at};
 ghost use Rattle.tib_grammar_file.specs.Printed.{AreLabelled};
-ghost use Rattle.tib_shared_trees.specs.Ranked.{AreRanksOf};
+ghost use Rattle.tib_k_best_lists.specs.Ranked.{AreRanksOf};
 ghost use Rattle.tib_k_best_lists.specs.Best.{IsFrontAt, IsKBest};
 ghost use Rattle.tib_k_best_lists.specs.Levels.{IsOrderly};
 ghost use Rattle.tib_k_best_lists.specs.Held.{IsSound};
@@ -22,9 +22,8 @@ use std::alloc::Global;
 use std::marker::Model;
 use tib_cost::Semiring;
 use tib_grammar::Rule;
-use tib_k_best_lists::{Entry, Lists, Shared};
+use tib_k_best_lists::{Entry, Lists, Shared, label_ranks};
 use tib_normal::Normal;
-use tib_shared_trees::label_ranks;
 use tib_tree::Labels;
 
 /// The lists of all states, each from its best tree on: that of the start, and of the others what it

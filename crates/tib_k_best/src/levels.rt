@@ -6,7 +6,7 @@ ghost use Rattle.tib_grammar.specs.Forms.{AreNormal, IsNormalSide};
 ghost use Rattle.tib_grammar.specs.Range.{AreInRange};
 ghost use Rattle.tib_grammar.specs.Sides.{holes};
 ghost use Rattle.tib_grammar_file.specs.Printed.{AreLabelled};
-ghost use Rattle.tib_shared_trees.specs.Ranked.{AreRanksOf};
+ghost use Rattle.tib_k_best_lists.specs.Ranked.{AreRanksOf};
 ghost use Rattle.tib_k_best_lists.specs.Best.{IsKBest};
 ghost use Rattle.tib_k_best_lists.specs.Levels.{free, level};
 ghost use Rattle.tib_k_best.specs.Causes.{IsCause, IsLevelCause};
@@ -18,8 +18,8 @@ use crate::listed::List;
 use std::alloc::{AllocError, Global};
 use tib_cost::{Cost, Semiring};
 use tib_grammar::{Rule, Side};
+use tib_k_best_lists::label_ranks;
 use tib_normal::Normal;
-use tib_shared_trees::label_ranks;
 use tib_tree::Labels;
 
 // How many states stand below a rule.

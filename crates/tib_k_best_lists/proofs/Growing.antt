@@ -6,7 +6,7 @@ use Rattle.tib_tree.specs.Trees.{Tree, size}
 use Rattle.tib_grammar.specs.Run.{rule_at}
 use Rattle.std.specs.declared.cmp.Ordering.{Ordering}
 use Rattle.std.specs.Ordering.{is_gt}
-use Rattle.tib_shared_trees.specs.Heaps.{IsHeap, at, up}
+use Rattle.tib_k_best_lists.specs.Heaps.{IsHeap, at, up}
 use Rattle.tib_k_best_lists.specs.Levels.{states_of, made}
 use Rattle.tib_k_best_lists.specs.Pass.{Entries, AreRanks, picked, offer, no_entry}
 use Rattle.tib_k_best_lists.proofs.Keeping.{get_or-front}

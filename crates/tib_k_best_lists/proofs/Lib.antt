@@ -22,3 +22,11 @@ pub mod Apart
 pub mod Large
 pub mod Walks
 pub mod Examples
+pub mod Numbers
+pub mod Keys
+pub mod TreesKept
+pub mod Descending
+pub mod Remaining
+pub mod Placed
+pub mod Callers
+pub mod Heaping

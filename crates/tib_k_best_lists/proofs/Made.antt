@@ -3,7 +3,7 @@ use Rattle.std.specs.Prelude.{◌≡◌, ◌⊎◌, ℕ, ◌+◌, ◌<◌, ◌�
 use Rattle.std.proofs.Common.{zero, suc, arith, ap, sym, ◌∙◌, subst, inl, inr, get_or, append_assoc}
 use Rattle.tib_lex.specs.Lists.{Has}
 use Rattle.tib_tree.specs.Trees.{Tree, Trees, tree}
-use Rattle.tib_shared_trees.specs.Numbers.{NumbersBelow}
+use Rattle.tib_k_best_lists.specs.Numbers.{NumbersBelow}
 use Rattle.tib_k_best_lists.specs.Levels.{trees_of}
 use Rattle.tib_k_best_lists.specs.Pass.{Entries, AreRanks, picked, zeros, entry_at}
 use Rattle.tib_k_best_lists.proofs.Keeping.{get_or-front}

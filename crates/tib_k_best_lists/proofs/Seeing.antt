@@ -6,7 +6,7 @@ use Rattle.tib_tree.specs.Trees.{Tree, Trees, none, tree, only}
 use Rattle.tib_tree.specs.Growth.{LabelsBelow}
 use Rattle.tib_tree.specs.Grows.{Adds, AreDistinct}
 use Rattle.tib_tree.proofs.TreeOrder.{only_same}
-use Rattle.tib_shared_trees.specs.Numbers.{AreNamed, IsNamed, NumbersBelow, RootsBelow, NumbersNameTrees, label_of, children_of}
+use Rattle.tib_k_best_lists.specs.Numbers.{AreNamed, IsNamed, NumbersBelow, RootsBelow, NumbersNameTrees, label_of, children_of}
 use Rattle.tib_k_best_lists.proofs.Keeping.{get_or-front}
 use Rattle.tib_k_best_lists.specs.Seen.{no_tree, tree_at, row, shaped, seen_from, seen, AreShapes, AreStill, Inserts}
 

@@ -6,7 +6,7 @@ use Rattle.std.specs.declared.cmp.Ordering.{Ordering}
 use Rattle.std.specs.Ordering.{nat_cmp, ordering_then}
 use Rattle.tib_cost.specs.Semiring.{most}
 use Rattle.tib_tree.specs.Order.{tree_cmp_by}
-use Rattle.tib_shared_trees.specs.Ranked.{AreRanksOf}
+use Rattle.tib_k_best_lists.specs.Ranked.{AreRanksOf}
 use Rattle.tib_tree.specs.Trees.{Tree, only, size, most_nodes}
 use Rattle.tib_tree.specs.Growth.{LabelsBelow}
 use Rattle.tib_tree.specs.Grows.{AreDistinct}

@@ -12,3 +12,10 @@ pub mod Firsts
 pub mod Lazy
 pub mod Walks
 pub mod Leveling
+-- Trees by numbers, and heaps as lists.
+pub mod Numbers
+pub mod Ranked
+pub mod Kept
+pub mod ShapeList
+pub mod TextOrder
+pub mod Heaps

@@ -2,7 +2,7 @@
 use Rattle.std.specs.Prelude.{◌≡◌, ◌⊎◌, ℕ, ◌<◌, ◌≤◌, List, [], ◌∷◌, ◌++◌, length, slice_get, Some}
 use Rattle.std.proofs.Common.{get_or}
 use Rattle.tib_tree.specs.Trees.{Tree, Trees, none, tree}
-use Rattle.tib_shared_trees.specs.Numbers.{label_of, children_of, NumbersBelow}
+use Rattle.tib_k_best_lists.specs.Numbers.{label_of, children_of, NumbersBelow}
 
 -- what is read past an end
 abbrev pub no_tree : Tree ℕ

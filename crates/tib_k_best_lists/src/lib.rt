@@ -1,17 +1,28 @@
 //! What the list of the k best trees of a grammar is, what holds of the ways to make it, and the
 //! lists of the best trees of each state with the candidates for them: a candidate is a rule with a
 //! rank for each state below it, and stands for the tree that the rule makes of the trees with these
-//! ranks. It stands on `tib_cost`, `tib_grammar` and `tib_shared_trees`.
+//! ranks. Trees share what stands below them: each is kept once, as its label
+//! and the numbers of its children, so equal numbers are equal trees; two trees are compared by going
+//! down where their numbers differ, and a number's tree is built on demand. A binary heap of numbers,
+//! whose order another value tells, holds candidates. It stands on `tib_cost` and `tib_grammar`.
 #![tactic(auto)]
 
+mod building;
+pub mod heap;
+mod kept;
 mod laws;
 mod lists;
 mod making;
 mod offers;
 mod ranking;
 mod reading;
+mod shape_set;
 mod shared;
+mod text_ranks;
+mod tree_laws;
+mod tree_order;
 
+pub use kept::Trees;
 pub use laws::{
     asking_goes_on, asking_lists_best, candidates_are_apart, costs_are_ordered, costs_are_ranked,
     firsts_are_best, fronts_grow, large_is_listed, levels_list_best, one_k_best,
@@ -19,3 +30,5 @@ pub use laws::{
 };
 pub use lists::{Candidate, Entry, Lists};
 pub use shared::Shared;
+pub use text_ranks::label_ranks;
+pub use tree_laws::numbers_name_trees;

@@ -2,7 +2,7 @@
 ghost use Rattle.std.specs.Prelude.{◌≡◌, ◌+◌, ◌<◌, ◌≤◌, ◌++◌, ◌^◌, length, take, drop, replicate, IfOk, OnOk};
 ghost use Rattle.std.proofs.Common.{get_or};
 ghost use Rattle.tib_grammar.specs.Run.{rule_at};
-ghost use Rattle.tib_shared_trees.specs.Numbers.{NumbersBelow};
+ghost use Rattle.tib_k_best_lists.specs.Numbers.{NumbersBelow};
 ghost use Rattle.tib_k_best_lists.specs.Levels.{states_of};
 ghost use Rattle.tib_k_best_lists.specs.Pass.{zeros};
 ghost use Rattle.tib_k_best_lists.specs.Seen.{row};

@@ -6,9 +6,9 @@ ghost use Rattle.tib_k_best_lists.specs.Levels.{states_of};
 ghost use Rattle.tib_k_best_lists.specs.Held.{ranks_of, tree_by, IsSound, IsTuple, IsCandidate};
 ghost use Rattle.tib_k_best_lists.specs.Ordered.{kids_cmp, roots_cmp};
 
+use crate::heap::Ranking;
 use crate::lists::{Candidate, Lists};
 use std::cmp::Ordering;
-use tib_shared_trees::Ranking;
 
 impl<'a> Lists<'a> {
     // The order of the roots of two candidates' trees: by size, then by the label's place, then by

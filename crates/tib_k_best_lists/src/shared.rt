@@ -4,14 +4,15 @@ ghost use Rattle.tib_tree.specs.Trees.{most_nodes, only, size};
 ghost use Rattle.tib_tree.specs.Growth.{LabelsBelow};
 ghost use Rattle.tib_tree.specs.Grows.{AreDistinct};
 ghost use Rattle.tib_tree.specs.Order.{tree_cmp_by};
-ghost use Rattle.tib_shared_trees.specs.Numbers.{NumbersBelow, told_size, most_size};
-ghost use Rattle.tib_shared_trees.specs.Ranked.{AreRanksOf};
+ghost use Rattle.tib_k_best_lists.specs.Numbers.{NumbersBelow, told_size, most_size};
+ghost use Rattle.tib_k_best_lists.specs.Ranked.{AreRanksOf};
 ghost use Rattle.tib_k_best_lists.specs.Seen.{Inserts, tree_at};
 
+use crate::kept::Trees;
+use crate::tree_laws::numbers_name_trees;
 use std::alloc::{AllocError, Global};
 use std::cmp::Ordering;
 use std::marker::Model;
-use tib_shared_trees::{Trees, numbers_name_trees};
 use tib_tree::{Label, Labels, Tree};
 
 /// Distinct trees by numbers.

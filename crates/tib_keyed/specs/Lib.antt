@@ -6,3 +6,15 @@ pub mod SideRules
 pub mod SideRuleLaws
 pub mod Settling
 pub mod Listing
+pub mod Named
+pub mod Plain
+pub mod Translations
+pub mod Composing
+pub mod Composition
+pub mod Completions
+pub mod Leasts
+pub mod Flat
+pub mod Numbering
+pub mod Choices
+pub mod Examples
+pub mod Pieces

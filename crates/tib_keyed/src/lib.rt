@@ -2,10 +2,13 @@
 //! with the start, has no key twice, and its edges are those of its keys: intersection, and the composition and application of
 //! transducers. Pairs of states are the keys of intersection and of composition. Edges over places that borrow a side serve the
 //! operations whose keys lead to the sides of rules: forward application, the image of a tree, and parsing. An index gives the
-//! positions of the rules of a state, a label and a rank. It stands on `tib_grammar` and `tib_hunt`.
+//! positions of the rules of a state, a label and a rank. Beside them stands what holds of the composition of two transducers: the
+//! composite transducer has the series of the composition. It stands on `tib_grammar`, `tib_hunt` and `tib_transducer`.
 #![tactic(auto)]
 
 mod buckets;
+pub mod composition;
+pub mod composition_examples;
 pub mod laws;
 mod settling;
 mod shape_index;

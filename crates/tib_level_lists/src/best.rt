@@ -14,8 +14,8 @@ use crate::weights::{by_cost, first_places, weights_of};
 use std::alloc::{AllocError, Global};
 use tib_cost::{Cost, Semiring};
 use tib_k_best::{KBestError, List};
+use tib_k_best_lists::label_ranks;
 use tib_normal::Normal;
-use tib_shared_trees::label_ranks;
 use tib_tree::Labels;
 
 // What the trees of a list cost in the whole grammar, each with its place, by cost.

@@ -7,7 +7,7 @@ ghost use Rattle.tib_k_best_lists.specs.Best.{Costed, IsKBest};
 ghost use Rattle.tib_k_best_lists.specs.Levels.{IsOrderly};
 ghost use Rattle.tib_k_best.specs.Causes.{IsCause, IsLevelCause};
 ghost use Rattle.tib_k_best.specs.Trimmed.{HaveTreesBelow};
-ghost use Rattle.tib_shared_trees.specs.Ranked.{AreRanksOf};
+ghost use Rattle.tib_k_best_lists.specs.Ranked.{AreRanksOf};
 ghost use Rattle.tib_level_lists.specs.RankedOf.{ranked_of, AreRanked};
 
 use crate::best::k_best_by_levels;
@@ -19,8 +19,8 @@ use std::alloc::{AllocError, Global};
 use tib_cost::{Cost, Semiring};
 use tib_grammar::Grammar;
 use tib_k_best::{KBestError, List, best_of_rules, lazy_of_rules};
+use tib_k_best_lists::label_ranks;
 use tib_normal::Normal;
-use tib_shared_trees::label_ranks;
 use tib_tree::Labels;
 
 // Whether the product of 1 and 1 is 1, as it is where the product is the greater factor.

@@ -7,7 +7,7 @@ ghost use Rattle.tib_grammar.specs.Range.{AreInRange};
 ghost use Rattle.tib_grammar.specs.Series.{HaveSameSeries};
 ghost use Rattle.tib_grammar_file.specs.Printed.{AreLabelled};
 ghost use Rattle.tib_inside.specs.Trimmed.{AreTrimmed, HaveSeriesOfEach};
-ghost use Rattle.tib_shared_trees.specs.Ranked.{AreRanksOf};
+ghost use Rattle.tib_k_best_lists.specs.Ranked.{AreRanksOf};
 ghost use Rattle.tib_k_best_lists.specs.Best.{IsKBest};
 ghost use Rattle.tib_k_best_lists.specs.Levels.{level};
 ghost use Rattle.tib_k_best.specs.Causes.{IsCause};

@@ -11,9 +11,9 @@ use Rattle.tib_transducer.specs.declared.TransducerRule.{TransducerRule}
 use Rattle.tib_transducer_print.specs.Printed.{transducer_text}
 use Rattle.tib_transducer.specs.Outside.{AllMeet}
 use Rattle.tib_canon.proofs.ReachedOnce.{order_once}
-use Rattle.tib_compose_laws.specs.Plain.{ArePlain}
-use Rattle.tib_compose_laws.specs.Composition.{composition}
-use Rattle.tib_compose_laws.proofs.Exact.{composition_laws}
+use Rattle.tib_keyed.specs.Plain.{ArePlain}
+use Rattle.tib_keyed.specs.Composition.{composition}
+use Rattle.tib_keyed.proofs.Exact.{composition_laws}
 use Rattle.tib_canon.specs.Composing.{composing, HasComposeText}
 use Rattle.tib_canon.specs.TransducerConstructions.{moves_over, IsCanonicalTransducerOf}
 use Rattle.tib_canon.specs.TransducerKeys.{IsCanonicalTransducer, AreMovesOver}

@@ -4,7 +4,7 @@ use Rattle.tib_hunt.specs.Reached.{IsBeyond}
 use Rattle.tib_transducer.specs.TransducerOf.{TransducerOf}
 use Rattle.tib_transducer.specs.Outside.{Demands, demands}
 use Rattle.tib_canon.specs.Constructions.{HasReachedWithin}
-use Rattle.tib_compose_laws.specs.Composition.{composition}
+use Rattle.tib_keyed.specs.Composition.{composition}
 pub use Rattle.tib_canon.specs.Composing.{composing, HasComposeSeries, HasComposeText}
 use Rattle.tib_operations.specs.Classes.{Demanded, demanded_of}
 use Rattle.tib_operations.specs.Made.{Made}

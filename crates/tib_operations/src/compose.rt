@@ -2,7 +2,7 @@
 ghost use Rattle.std.specs.Prelude.{◌≤◌, length, IfErr, IfOk};
 ghost use Rattle.tib_transducer.specs.Outside.{AllMeet};
 ghost use Rattle.tib_hunt.specs.Reached.{IsBeyond};
-ghost use Rattle.tib_compose_laws.specs.Composition.{composition};
+ghost use Rattle.tib_keyed.specs.Composition.{composition};
 ghost use Rattle.tib_compose.specs.Composed.{AreOverOrder, HasPartsOf, IsComposeFault, IsReachedBy};
 ghost use Rattle.tib_canon.specs.TransducerKeys.{AreMovesOver};
 ghost use Rattle.tib_operations.specs.Classes.{demanded_of, IsClassFault};

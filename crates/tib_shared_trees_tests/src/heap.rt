@@ -6,7 +6,7 @@ ghost use Rattle.std.proofs.lemmas.Cmp.{nat_cmp_total};
 use std::alloc::Global;
 use std::cmp::Ordering;
 use std::test::Fail;
-use tib_shared_trees::{Ranking, pop, push};
+use tib_k_best_lists::heap::{Ranking, pop, push};
 
 struct Plain;
 

@@ -1,7 +1,12 @@
 //! Tree-to-string transducers as values: rules that read a tree and put out a list of words. Their runs, what these read, put out and
 //! cost, their series, and the first rule that is not linear or not nondeleting; and the cuts of a list of words and pairs over the places
 //! of a string, which say how a right side can put out a part of the string. Cuts are listed one by one, from the least places on, and no
-//! part of a list of places is tried that leads to no cut behind its last pair. It stands on `tib_grammar` and `tib_transducer`.
+//! part of a list of places is tried that leads to no cut behind its last pair.
+//!
+//! Strings and such transducers are read from text as well: `read_string` takes the bytes of a file and gives the string whose text they
+//! are, as a list of labels, and `read_string_transducer` the transducer; or the first fault of the file. It stands on the lines and tokens
+//! of `tib_lex`, the labels of `tib_tree`, the weights of `tib_grammar_file`, and `tib_transducer` and the text of its transducers in
+//! `tib_transducer_file`.
 #![tactic(auto)]
 
 ghost use Rattle.std.specs.Prelude.{◌≡◌};
@@ -10,17 +15,34 @@ mod bounds;
 mod classes;
 pub mod cut_laws;
 pub mod laws;
+mod list;
+mod right;
 mod search;
 mod stepping;
+mod string_file;
+mod string_laws;
+mod transducer_file;
+mod transducer_laws;
 mod transducers;
 
 pub use classes::string_outside;
 pub use search::Cuts;
 use std::marker::{Model, PhantomData};
+pub use string_file::read_string;
+pub use string_laws::{
+    one_string_by_text, string_faults_are_one, string_faults_are_read,
+    string_files_are_texts_or_faulty, text_has_one_string,
+};
 use tib_cost::Cost;
 use tib_grammar::{Names, Side};
 use tib_transducer::{Pair, Variable};
 use tib_tree::Label;
+pub use transducer_file::read_string_transducer;
+pub use transducer_laws::{
+    one_string_transducer_by_text, string_transducer_faults_are_one,
+    string_transducer_faults_are_read, string_transducer_files_are_texts_or_faulty,
+    text_has_one_string_transducer,
+};
 
 /// A token of a right side: a word, or a hole where what is read on from a state at a variable is put out.
 #[derive(Debug, PartialEq, Eq, Hash, Drop)]

@@ -1,7 +1,7 @@
 //! Weighted top-down tree transducers as text. `read_transducer` takes the bytes of a file and gives the transducer whose text
 //! they are, or the first fault of the file. It stands on the lines and tokens of `tib_lex`, the labels of `tib_tree`, the
 //! weights of `tib_grammar_file` and the transducers of `tib_transducer`. `read_file` reads files of
-//! another kind too, whose rules have something else on the right (`tib_string_file`): what that is, and how it is read, an `impl` of
+//! another kind too, whose rules have something else on the right (`tib_strings`): what that is, and how it is read, an `impl` of
 //! `RightReader` says.
 #![tactic(auto)]
 

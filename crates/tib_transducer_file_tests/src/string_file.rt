@@ -4,8 +4,7 @@ use std::alloc::{AllocError, Global};
 use std::test::Fail;
 use tib_cost::MinPlus;
 use tib_lex::ReadError;
-use tib_string_file::{read_string, read_string_transducer};
-use tib_strings::{StringRule, StringTransducer, Word};
+use tib_strings::{StringRule, StringTransducer, Word, read_string, read_string_transducer};
 use tib_transducer::Pair;
 use tib_tree::{Label, Labels};
 

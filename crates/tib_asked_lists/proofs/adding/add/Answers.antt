@@ -1,6 +1,6 @@
 use Rattle.std.specs.Prelude.{◌≡◌, ◌+◌, ℕ, List, length}
 use Rattle.std.proofs.Common.{arith}
-use Rattle.tib_shared_trees.specs.Heaps.{Adds}
+use Rattle.tib_k_best_lists.specs.Heaps.{Adds}
 use Rattle.tib_k_best_lists.specs.Held.{ranks_from}
 use Rattle.tib_asked_lists.proofs.Added.{offers_none, begins, on_ok_both}
 use Rattle.tib_asked_lists.proofs.adding.add.Goals as goal

@@ -4,7 +4,7 @@ use Rattle.tib_hunt.specs.declared.place.ExpandError.{ExpandError}
 use Rattle.tib_lex.specs.Lists.{Has, total}
 use Rattle.tib_transducer.specs.Moves.{moves_of}
 use Rattle.tib_transducer.proofs.Moves.{move_is}
-use Rattle.tib_compose_laws.specs.Composition.{edge_parts}
+use Rattle.tib_keyed.specs.Composition.{edge_parts}
 use Rattle.tib_compose.specs.KeyEdges.{rule_edges}
 use Rattle.tib_compose.specs.Listing.{IsListing}
 use Rattle.tib_compose.specs.Searches.{all_of}

@@ -3,7 +3,7 @@ use Rattle.tib_lex.specs.Lists.{total}
 use Rattle.tib_cost.specs.Semiring.{cut}
 use Rattle.tib_tree.specs.Trees.{preorder_of}
 use Rattle.tib_transducer.specs.Rules.{no_rule, transducer_rule}
-use Rattle.tib_compose_laws.specs.Composition.{edge_parts}
+use Rattle.tib_keyed.specs.Composition.{edge_parts}
 use Rattle.tib_compose.specs.FlatSides.{KeptOverruns, ListsKept}
 use Rattle.tib_compose.specs.Listing.{IsListing}
 use Rattle.tib_compose.specs.Walk.{result_edges}

@@ -7,7 +7,7 @@ use Rattle.tib_tree.specs.Trees.{preorder_of}
 use Rattle.tib_grammar.specs.Items.{pairs_of}
 use Rattle.tib_transducer.specs.Rules.{no_rule, transducer_rule}
 use Rattle.tib_transducer.specs.declared.TransducerRule.{TransducerRule}
-use Rattle.tib_compose_laws.specs.Composition.{edge_parts}
+use Rattle.tib_keyed.specs.Composition.{edge_parts}
 use Rattle.tib_compose.specs.KeyEdges.{rule_edges, IsSourceOf}
 use Rattle.tib_compose.specs.Listing.{IsListing}
 use Rattle.tib_compose.specs.Walk.{AreReady, StepComes, IsOnBranch}

@@ -1,8 +1,8 @@
 use Rattle.std.proofs.Common.{◌≡◌, ◌<◌, Err, ap, sym, ◌∙◌, subst}
 use Rattle.std.proofs.lemmas.List.{get_or_read}
 use Rattle.tib_lex.specs.Lists.{total}
-use Rattle.tib_compose_laws.specs.Choices.{edges_of}
-use Rattle.tib_compose_laws.specs.Composition.{edge_parts}
+use Rattle.tib_keyed.specs.Choices.{edges_of}
+use Rattle.tib_keyed.specs.Composition.{edge_parts}
 use Rattle.tib_compose.specs.Listing.{IsListing}
 use Rattle.tib_compose.proofs.Expanded.{whole_listed, whole_ends, overruns_exceeds}
 use Rattle.tib_hunt.specs.declared.place.ExpandError.{ExpandError}

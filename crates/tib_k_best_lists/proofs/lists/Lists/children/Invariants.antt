@@ -1,6 +1,6 @@
 use Rattle.std.specs.Prelude.{◌≡◌, ◌++◌, ℕ, List, length, drop}
 use Rattle.tib_grammar.specs.Run.{rule_at}
-use Rattle.tib_shared_trees.specs.Numbers.{NumbersBelow}
+use Rattle.tib_k_best_lists.specs.Numbers.{NumbersBelow}
 use Rattle.tib_k_best_lists.specs.Levels.{states_of, trees_of}
 use Rattle.tib_k_best_lists.specs.Pass.{picked}
 use Rattle.tib_k_best_lists.specs.Seen.{row}

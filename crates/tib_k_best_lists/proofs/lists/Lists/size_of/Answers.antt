@@ -4,7 +4,7 @@ use Rattle.tib_tree.specs.Trees.{Tree, size}
 use Rattle.tib_grammar.specs.Run.{rule_at}
 use Rattle.tib_k_best_lists.specs.Levels.{states_of}
 use Rattle.tib_k_best_lists.specs.Held.{entries_of, ranks_from, IsSound}
-use Rattle.tib_shared_trees.specs.Numbers.{told_size}
+use Rattle.tib_k_best_lists.specs.Numbers.{told_size}
 use Rattle.tib_k_best_lists.specs.Seen.{tree_at}
 use Rattle.tib_k_best_lists.specs.ListsOf.{ListsOf}
 use Rattle.tib_k_best_lists.proofs.Offering.{nodes_from, nodes_begin, nodes_step}

@@ -3,7 +3,7 @@ use Rattle.std.proofs.Common.{arith, ap, ◌∙◌, subst, sym, inl}
 use Rattle.tib_tree.specs.Trees.{Tree, only, size}
 use Rattle.tib_tree.specs.Growth.{LabelsBelow}
 use Rattle.tib_tree.specs.Order.{tree_cmp_by}
-use Rattle.tib_shared_trees.specs.Numbers.{RootsBelow, most_size}
+use Rattle.tib_k_best_lists.specs.Numbers.{RootsBelow, most_size}
 use Rattle.tib_k_best_lists.specs.Seen.{seen, tree_at}
 use Rattle.tib_k_best_lists.proofs.Seeing.{is_named, seen_long, roots_below}
 use Rattle.tib_k_best_lists.proofs.shared.Shared.compare.Goals as goal

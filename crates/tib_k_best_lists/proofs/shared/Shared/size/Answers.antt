@@ -1,7 +1,7 @@
 use Rattle.std.specs.Prelude.{◌≡◌, ℕ, List, length}
 use Rattle.std.proofs.Common.{arith, ap, ◌∙◌}
 use Rattle.tib_tree.specs.Trees.{Tree}
-use Rattle.tib_shared_trees.specs.Numbers.{told_size}
+use Rattle.tib_k_best_lists.specs.Numbers.{told_size}
 use Rattle.tib_k_best_lists.specs.Seen.{seen, tree_at}
 use Rattle.tib_k_best_lists.proofs.Seeing.{is_named, seen_long}
 use Rattle.tib_k_best_lists.proofs.shared.Shared.size.Goals as goal

@@ -1,7 +1,7 @@
 use Rattle.std.specs.Prelude.{◌≡◌, ◌≤◌, ℕ, List, length, Result, Ok, Err, IfOk}
 use Rattle.std.proofs.Common.{arith, ap, sym, subst, ◌∙◌}
 use Rattle.tib_tree.specs.Trees.{Tree, most_nodes, size}
-use Rattle.tib_shared_trees.specs.Numbers.{IsNamed}
+use Rattle.tib_k_best_lists.specs.Numbers.{IsNamed}
 use Rattle.tib_k_best_lists.specs.Seen.{seen, tree_at}
 use Rattle.tib_k_best_lists.proofs.Seeing.{named_tree, seen_long}
 use Rattle.tib_k_best_lists.proofs.shared.Shared.tree.Goals as goal

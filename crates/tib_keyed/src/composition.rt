@@ -1,0 +1,97 @@
+// What holds of the composite transducer, in every semiring.
+ghost use Rattle.tib_keyed.specs.Composing.{CompositeIsShaped, RunsHaveTriples, TriplesHaveRuns, IsComposed, ComposesSeries};
+ghost use Rattle.tib_keyed.specs.Composition.{EndsAreInRange, IsOneSet, ReachedIsComposite};
+ghost use Rattle.tib_keyed.specs.Completions.{SearchIsWhole, SearchPutsOut};
+ghost use Rattle.tib_keyed.specs.Leasts.{LeastsAreLeast};
+ghost use Rattle.tib_keyed.specs.Flat.{TranslatesInPreorder, TranslationsEndInHoles};
+ghost use Rattle.tib_keyed.specs.Pieces.{SearchGoesByPieces};
+ghost use Rattle.tib_keyed.specs.Numbering.{NumberedSeries};
+ghost use Rattle.tib_keyed.specs.Choices.{ChoicesAreAll, EdgesAreListed};
+
+use tib_cost::Semiring;
+
+/// Each run of the composite transducer has a middle tree and two runs, whose costs have its cost as their product.
+pub fn runs_have_triples<S: Semiring>()
+    ensures { RunsHaveTriples S.product }
+{}
+
+/// A middle tree and two runs, whose costs have a product of at most the greatest cost, have a run of the composite
+/// transducer at that product.
+pub fn triples_have_runs<S: Semiring>()
+    ensures { TriplesHaveRuns S.product }
+{}
+
+/// The series of the composite transducer is the least cost over all middle trees and two runs.
+pub fn composed<S: Semiring>()
+    ensures { IsComposed S.product }
+{}
+
+/// The series of the composite transducer is the least product of the two series over all middle trees.
+pub fn composes_series<S: Semiring>()
+    ensures { ComposesSeries S.product }
+{}
+
+/// The reached set of the pairs is the composite transducer.
+pub fn reached_is_composite<S: Semiring>()
+    ensures { ReachedIsComposite S.product }
+{}
+
+/// Two reached sets have the same pairs in the same order, and the same edges.
+pub fn reached_set_is_one<S: Semiring>()
+    ensures { IsOneSet S.product }
+{}
+
+/// The rules of the composite transducer have their shape where those of the first do.
+pub fn composite_is_shaped<S: Semiring>()
+    ensures { CompositeIsShaped S.product }
+{}
+
+/// The choices that translate a side are listed, each once.
+pub fn choices_are_all()
+    ensures { ChoicesAreAll }
+{}
+
+/// The edges of a pair are listed, each as often as origins give it.
+pub fn edges_are_listed<S: Semiring>()
+    ensures { EdgesAreListed S.product }
+{}
+
+/// New numbers of the states keep the series of each.
+pub fn numbers_keep_the_series<S: Semiring>()
+    ensures { NumberedSeries S.product }
+{}
+
+/// The ends of an edge are within the states of the two transducers.
+pub fn ends_are_in_range<S: Semiring>()
+    ensures { EndsAreInRange S.product }
+{}
+
+/// The translation by a rule is the preorder of its right side with the translations below in place of its pairs.
+pub fn translates_in_preorder()
+    ensures { TranslatesInPreorder }
+{}
+
+/// Nothing stands below a hole of a translation.
+pub fn translations_end_in_holes()
+    ensures { TranslationsEndInHoles }
+{}
+
+/// A search that takes the first side first and tries each rule finds all choices that translate a side, in their order.
+pub fn search_is_whole<S: Semiring>()
+    ensures { SearchIsWhole S.product }
+{}
+
+/// Such a search puts out the preorder of each translation from left to right.
+pub fn search_puts_out()
+    ensures { SearchPutsOut }
+{}
+
+/// A search that puts out one piece after another finds what comes of all choices, in their order.
+pub fn search_goes_by_pieces<S: Semiring>()
+    ensures { SearchGoesByPieces S.product }
+{}
+
+/// The least cost of a choice that translates a side goes by recursion on the side.
+pub fn leasts_are_least<S: Semiring>()
+    ensures { LeastsAreLeast S.product }
+{}

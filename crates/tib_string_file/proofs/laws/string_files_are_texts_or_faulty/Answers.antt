@@ -1,5 +1,0 @@
-use Rattle.tib_string_file.proofs.Strings.{text_or_fault}
-use Rattle.tib_string_file.proofs.laws.string_files_are_texts_or_faulty.Goals as goal
-
-pub returns : goal.returns
-returns c = text_or_fault

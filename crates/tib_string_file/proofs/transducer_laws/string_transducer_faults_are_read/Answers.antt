@@ -1,5 +1,0 @@
-use Rattle.tib_string_file.proofs.FaultsOnce.{faults_exact}
-use Rattle.tib_string_file.proofs.transducer_laws.string_transducer_faults_are_read.Goals as goal
-
-pub returns : goal.returns
-returns c = faults_exact

@@ -1,5 +1,0 @@
-use Rattle.tib_string_file.proofs.OneTransducer.{one_transducer}
-use Rattle.tib_string_file.proofs.transducer_laws.text_has_one_string_transducer.Goals as goal
-
-pub returns : goal.returns
-returns c = one_transducer

@@ -1,0 +1,14 @@
+use Rattle.std.proofs.Common.{◌≡◌, ◌≤◌, ◌+◌, ◌-◌, length, drop}
+use Rattle.tib_lex.specs.Lines.{lines_of}
+use Rattle.tib_strings.specs.StringReading.{string_from}
+use Rattle.tib_strings.proofs.string_file.find_string.Given as goal
+
+abbrev pub invariant-loop-line : goal.invariant-loop-line
+invariant-loop-line l = record {
+  within : l.at ≤ length l.bytes;
+  number : l.number ≤ l.at + 1;
+  left : string_from l.number (lines_of (drop l.at l.bytes)) ≡ string_from 1 (lines_of l.bytes);
+}
+
+abbrev pub decreases-loop-line : goal.decreases-loop-line
+decreases-loop-line l = length l.bytes - l.at
