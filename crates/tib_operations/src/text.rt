@@ -128,7 +128,8 @@ fn lines_of_halves<S: Semiring + Sync, R: Threads + Sync>(
     Ok(text)
 }
 
-/// The lines of the trees with their costs, printed in several threads. It fails only for want of memory.
+/// The lines of the trees with their costs, printed in several threads. It fails only for want of memory. Worst case: one pass
+/// over the nodes, and each byte is moved once for each time that the trees are parted, seven times at most.
 pub fn weighed_text<S: Semiring + Sync, R: Threads + Sync>(
     rt: &R,
     alloc: Global,
