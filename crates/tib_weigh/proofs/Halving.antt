@@ -1,6 +1,6 @@
 -- Counting the nodes of trees, up to the greatest number.
 use Rattle.std.proofs.Common.{◌≡◌, ◌⊎◌, ◌≤◌, ◌<◌, ◌+◌, ◌-◌, ◌^◌, ℕ, List, length, take, get_or, min, ap, sym, ◌∙◌, arith, suc, inl, inr, ◌*◌}
-use Rattle.std.proofs.lemmas.List.{take_more, take_all, length-map}
+use Rattle.std.proofs.lemmas.List.{take_more, length-map}
 use Rattle.std.proofs.lemmas.Bool.{cases_lt}
 use Rattle.std.proofs.Math.Pow.{pow_mono}
 use Rattle.tib_lex.specs.Lists.{total}
@@ -17,10 +17,6 @@ many_nodes t ns e = sym (length-map ns pair_of) ∙ ap length e ∙ ap (λ (n : 
 -- what is cut at the greatest number and added to is what is added up and then cut
 cut_once : (a b m : ℕ) → min (min a m + b) m ≡ min (a + b) m
 cut_once a b m = omega arith
-
--- the first trees up to the end are all
-pub all_counted : (ts : List (Tree ℕ)) (n : ℕ) → length ts ≤ n → take n ts ≡ ts
-all_counted ts n le = take_all n ts le
 
 -- the nodes of one tree more among the first ones
 pub one_more : (ts : List (Tree ℕ)) (n so_far more : ℕ) (d : Tree ℕ) → n < length ts →

@@ -11,7 +11,7 @@ nodes_among ts = min (total size ts) (2 ^ 64 - 1)
 abbrev pub half_of : List (Tree ℕ) → ℕ
 half_of ts = nodes_among ts / 2
 
--- the first n trees are the fewest that have so many nodes; they are at least one tree, and at most all but one
+-- the first n trees are the fewest that have so many nodes, but one tree where none is asked for, and all but one where only all have as many
 pub record AreFirstWith (ts : List (Tree ℕ)) (nodes n : ℕ) : Type 0 where
   pub enough : (nodes ≤ total size (take n ts)) ⊎ (length ts ≡ n + 1)
   pub needed : (n ≡ 1) ⊎ (total size (take (n - 1) ts) < nodes)
