@@ -12,10 +12,10 @@ use Rattle.tib_hunt.specs.Reading.{Reading}
 use Rattle.tib_hunt.specs.Rows.{NumberedRow, read_rows}
 use Rattle.tib_hunt.specs.Held.{Leads}
 use Rattle.tib_hunt.proofs.Reaching.{IsHunt, edges_stay, beyond, beyond_more, in_reached, seeds_reached}
-use Rattle.tib_numbered_keys.proofs.Sights.{take_front, total_least}
+use Rattle.tib_table.proofs.Sights.{take_front, total_least}
 use Rattle.tib_hunt.proofs.Settling.{Settled}
 use Rattle.tib_hunt.proofs.Holding.{edges_so_far, IsHeld, IsBetween, IsWithinRound, added, more_edges, finished, settled_edges, round_done, leads_on}
-use Rattle.tib_numbered_keys.proofs.Inserted.{Inserted, inserted}
+use Rattle.tib_table.proofs.Inserted.{Inserted, inserted}
 use Rattle.tib_lex.proofs.Members.{each_of, has_either, has_left, has_right}
 use Rattle.tib_lex.proofs.Lists.{total_append}
 

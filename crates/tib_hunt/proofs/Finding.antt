@@ -11,7 +11,7 @@ use Rattle.tib_hunt.specs.Rows.{NumberedRow, read_rows, ReadAs, StayBelow, AreBe
 use Rattle.tib_hunt.specs.Held.{at}
 use Rattle.tib_hunt.proofs.Reaching.{IsHunt}
 use Rattle.tib_hunt.proofs.Holding.{IsHeld, IsBetween, IsWithinRound}
-use Rattle.tib_numbered_keys.proofs.Sights.{take_front, drop_front}
+use Rattle.tib_table.proofs.Sights.{take_front, drop_front}
 use Rattle.tib_hunt.proofs.Advancing.{round_ends, hunt_begins, seeds_held}
 
 module _ {K O E R T : Type 0} {p : Operation K O E} {admits : K → Type 0} {reading : Reading K E R T}

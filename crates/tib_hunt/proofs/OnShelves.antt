@@ -11,10 +11,10 @@ use Rattle.tib_table.specs.declared.number.Number.{Number}
 use Rattle.tib_hunt.specs.Reached.{IfTooMany}
 use Rattle.tib_hunt.specs.RoundModel.{Core, with_key}
 use Rattle.tib_hunt.specs.Shelved.{all_on, with_keys, NameOn, ShelvesHaveMore}
-use Rattle.tib_numbered_keys.specs.declared.error.HuntError.{HuntError}
+use Rattle.tib_table.specs.declared.error.HuntError.{HuntError}
 use Rattle.tib_hunt.proofs.Reaching.{IfTooMany-weaker}
-use Rattle.tib_numbered_keys.proofs.Inserted.{not_any}
-use Rattle.tib_numbered_keys.proofs.Sights.{along_snoc, get_left}
+use Rattle.tib_table.proofs.Inserted.{not_any}
+use Rattle.tib_table.proofs.Sights.{along_snoc, get_left}
 use Rattle.tib_lex.proofs.Lists.{total_append}
 use Rattle.tib_lex.proofs.Members.{has_left}
 

@@ -11,7 +11,7 @@ use Rattle.tib_hunt.specs.Lawful.{IsLawful}
 use Rattle.tib_hunt.specs.Reading.{Reading}
 use Rattle.tib_hunt.specs.Reached.{IfTooMany, Operation, AreAscending, IsNew, AfterRounds, IsReached, AreEdges, IsBeyond}
 use Rattle.tib_hunt.specs.Held.{Leads}
-pub use Rattle.tib_numbered_keys.proofs.Limits.{IfTooMany-weaker}
+pub use Rattle.tib_table.proofs.Limits.{IfTooMany-weaker}
 use Rattle.tib_hunt.proofs.Members.{total_fewer, same_ascending, Lists-parts, Lists-to}
 use Rattle.tib_lex.proofs.Members.{has_left, has_right}
 use Rattle.tib_lex.proofs.Lists.{total_append}

@@ -19,12 +19,12 @@ use Rattle.tib_hunt.specs.declared.known.EndAt.{EndAt}
 use Rattle.tib_hunt.specs.declared.known.EndAt.TheVariants.{Position, Numbered}
 use Rattle.tib_hunt.specs.declared.known.Ruled.{Ruled}
 use Rattle.tib_hunt.specs.Held.{at, Leads, IsBetween as Between, IsWithinRound as WithinRound, edges_so_far as all_edges}
-use Rattle.tib_numbered_keys.specs.declared.error.HuntError.{HuntError}
+use Rattle.tib_table.specs.declared.error.HuntError.{HuntError}
 use Rattle.tib_hunt.specs.declared.place.Place.{Place}
 use Rattle.tib_crew.specs.declared.row.Row.{Row as ItemRow}
 use Rattle.tib_hunt.proofs.Reaching.{IfTooMany-weaker, IsHunt, beyond}
 use Rattle.tib_hunt.proofs.Holding.{same_place, named_below, as_many, rules_same, leads_on}
-use Rattle.tib_numbered_keys.proofs.Inserted.{Inserted, inserted}
+use Rattle.tib_table.proofs.Inserted.{Inserted, inserted}
 use Rattle.tib_hunt.proofs.KnownEnds.{got_left}
 use Rattle.tib_hunt.proofs.Underway.{on_all, all_somewhere, distinct_all, stands_whole}
 use Rattle.tib_lex.proofs.Members.{each_of, has_either, has_left}

@@ -17,14 +17,14 @@ use Rattle.tib_hunt.specs.declared.event.Event.TheVariants.{Draw, File}
 use Rattle.tib_hunt.specs.RoundLaw.{IsKept}
 use Rattle.tib_hunt.specs.Shelved.{all_on, with_keys, NameOn, ShelvesHaveMore, IsShelvedRow, edges_of_rows, IsWorked, IsTooMuch, IsUnderway as Underway, IsKnownRow, AreWorked}
 use Rattle.tib_hunt.specs.Held.{IsBetween as Between, edges_so_far as all_edges}
-use Rattle.tib_numbered_keys.specs.declared.error.HuntError.{HuntError}
+use Rattle.tib_table.specs.declared.error.HuntError.{HuntError}
 use Rattle.tib_crew.specs.declared.row.Row.{Row as ItemRow}
 use Rattle.tib_hunt.specs.Known.{NameEnds}
 use Rattle.tib_hunt.specs.declared.known.Ruled.{Ruled}
 use Rattle.tib_hunt.proofs.Reaching.{IfTooMany-weaker, IsHunt, beyond, beyond_more, in_reached}
 use Rattle.tib_hunt.proofs.Holding.{leads_on}
-use Rattle.tib_numbered_keys.proofs.Inserted.{any_has, not_any}
-use Rattle.tib_numbered_keys.proofs.Sights.{along_snoc}
+use Rattle.tib_table.proofs.Inserted.{any_has, not_any}
+use Rattle.tib_table.proofs.Sights.{along_snoc}
 use Rattle.tib_hunt.proofs.OnShelves.{still_name}
 use Rattle.tib_hunt.proofs.Runs.{has_snoc, has_last, begins, kept_after, kept_keys, KeptWith}
 use Rattle.tib_lex.proofs.Members.{has_either, has_left, has_right}

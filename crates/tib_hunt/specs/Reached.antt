@@ -5,9 +5,9 @@ use Rattle.std.specs.declared.cmp.Ordering.TheVariants.{Less}
 use Rattle.tib_lex.specs.Lists.{Has, Ascends, total}
 pub use Rattle.tib_lex.specs.Limits.{most_parts}
 use Rattle.tib_hunt.specs.EdgeLists.{Lists, IsEnd}
-pub use Rattle.tib_numbered_keys.specs.declared.error.HuntError.{HuntError}
-pub use Rattle.tib_numbered_keys.specs.declared.error.HuntError.TheVariants.{TooMany, OutOfMemory}
-pub use Rattle.tib_numbered_keys.specs.Limits.{IfTooMany}
+pub use Rattle.tib_table.specs.declared.error.HuntError.{HuntError}
+pub use Rattle.tib_table.specs.declared.error.HuntError.TheVariants.{TooMany, OutOfMemory}
+pub use Rattle.tib_table.specs.Limits.{IfTooMany}
 
 -- What an operation hunts: the order of keys, the seeds, the edges of the seeds and of each position of an order, each by its origin, the
 -- keys at which an edge ends, and the parts of a key and of an edge.

@@ -4,7 +4,7 @@ use Rattle.tib_lex.specs.Lists.{Has, Each, Distinct, Along, total}
 use Rattle.tib_table.specs.Known.{on}
 use Rattle.tib_crew.specs.declared.row.Row.{Row as ItemRow}
 pub use Rattle.tib_crew.specs.Rows.{NameOn}
-pub use Rattle.tib_numbered_keys.specs.Numbered.{all_on}
+pub use Rattle.tib_table.specs.Numbered.{all_on}
 use Rattle.tib_hunt.specs.EdgeLists.{AreListed, Exceeds, IsEnd, IsWithin, key_at}
 use Rattle.tib_hunt.specs.Reached.{Operation, AreEdges}
 use Rattle.tib_hunt.specs.Reading.{Reading}

@@ -15,7 +15,7 @@ use crate::placing::place_rows;
 use crate::working::Worked;
 use std::alloc::{AllocError, Global};
 use std::thread::Threads;
-use tib_numbered_keys::{HuntError, Lookup, put_fresh, put_fresh_together};
+use tib_table::{HuntError, Lookup, put_fresh, put_fresh_together};
 
 impl<E: Expand> HuntState<E> {
     // Appends the fresh keys in ascending order, and settles the rules of the rows.

@@ -10,8 +10,7 @@ use crate::found::Gate;
 use crate::hunting::HuntState;
 use crate::place::ExpandError;
 use std::alloc::Global;
-use tib_numbered_keys::HuntError;
-use tib_table::TableKey;
+use tib_table::{HuntError, TableKey};
 
 // Expands the positions of the order from `first` on. Their ends are numbered as if they followed the order as they were found.
 fn expand_few<E: Expand, G: Gate>(

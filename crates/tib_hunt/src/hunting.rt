@@ -3,7 +3,7 @@
 ghost use Rattle.std.specs.Prelude.{◌≡◌, ◌+◌, ◌≤◌, ◌<◌, ◌^◌, ◌++◌, [], length, map, take, drop, IfOk, IfErr, OnOk};
 ghost use Rattle.indexmap.specs.IndexSet.{insert_all};
 ghost use Rattle.tib_lex.specs.Lists.{Has, Each, Distinct, total};
-ghost use Rattle.tib_numbered_keys.specs.Lookups.{IsNeedless};
+ghost use Rattle.tib_table.specs.Lookups.{IsNeedless};
 ghost use Rattle.tib_hunt.specs.Reached.{IfTooMany, IsBeyond, most_parts};
 ghost use Rattle.tib_hunt.specs.Numbered.{key_parts, HaveMore, AddsParts, placed, keys_of};
 ghost use Rattle.tib_hunt.specs.Rows.{numbered, IsRowBelow};
@@ -18,10 +18,9 @@ use crate::working::Worked;
 use indexmap::IndexSet;
 use std::alloc::{AllocError, Global};
 use tib_crew::Row as ItemRow;
-use tib_numbered_keys::{
-    HuntError, Lookup, count_keys, find_shelves, number_ends, put_fresh, sort_new,
+use tib_table::{
+    HuntError, Lookup, TableKey, count_keys, find_shelves, number_ends, put_fresh, sort_new,
 };
-use tib_table::TableKey;
 
 /// The keys so far, the rules over their positions, the rows of the round, and the parts of all.
 #[derive(Drop)]

@@ -5,8 +5,7 @@ ghost use Rattle.tib_hunt.specs.Known.{AreSplit};
 
 use indexmap::IndexSet;
 use std::alloc::{AllocError, Global};
-use tib_numbered_keys::find_position;
-use tib_table::TableKey;
+use tib_table::{TableKey, find_position};
 
 /// Where an end of an item is: at a position of the order, or it has the next of the numbers on the shelves.
 #[derive(Clone, Copy, Debug, Drop, PartialEq, Eq)]

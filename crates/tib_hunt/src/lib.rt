@@ -33,5 +33,4 @@ pub use place::{Edges, ExpandError, Place};
 pub use reach::{MOST_PARTS, hunt, hunt_alone, hunts_have_a_limit};
 pub use round::Round;
 pub use round_of::RoundOf;
-pub use tib_numbered_keys::HuntError;
-pub use tib_table::TableKey;
+pub use tib_table::{HuntError, TableKey};

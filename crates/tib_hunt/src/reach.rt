@@ -12,7 +12,7 @@ use crate::works::{round_alone, round_together};
 use std::alloc::{AllocError, Global};
 use std::sync::Wait;
 use std::thread::Threads;
-use tib_numbered_keys::HuntError;
+use tib_table::HuntError;
 
 /// The greatest limit of parts.
 pub const MOST_PARTS: u64 = 20_000_000;

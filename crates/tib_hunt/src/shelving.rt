@@ -12,8 +12,7 @@ use crate::event::{Answer, Event};
 use crate::itemized::Itemized;
 use crate::round::Round;
 use std::alloc::{AllocError, Global};
-use tib_numbered_keys::HuntError;
-use tib_table::{Number, TableKey};
+use tib_table::{HuntError, Number, TableKey};
 
 /// Draws the next item of a round, or None where all are drawn.
 pub(crate) fn draw_item<P: Itemized>(round: &mut Round<P>) -> Result<Option<u32>, AllocError>

@@ -15,7 +15,7 @@ use std::alloc::Global;
 use std::sync::Wait;
 use std::thread::Threads;
 use tib_crew::{Gathered, Row, Unperformed, perform_all};
-use tib_numbered_keys::HuntError;
+use tib_table::HuntError;
 
 // The parts of all rows.
 fn count_parts<T>(rows: &[Row<T>]) -> u64

@@ -20,8 +20,7 @@ use crate::round_of::RoundOf;
 use crate::shelving::{draw_item, file_item, shelve_ends};
 use std::alloc::Global;
 use tib_crew::Row;
-use tib_numbered_keys::HuntError;
-use tib_table::TableKey;
+use tib_table::{HuntError, TableKey};
 
 /// What a round makes: the keys on its shelves, the rows of its items, and the parts of all that was there before and of these rows.
 #[derive(Drop)]

@@ -13,7 +13,7 @@ use crate::working::work_round;
 use std::alloc::Global;
 use std::sync::Wait;
 use std::thread::Threads;
-use tib_numbered_keys::HuntError;
+use tib_table::HuntError;
 
 /// Works the round that begins at the position `first` by one worker, on shelves if it has at least `many` items, and else on one list. The
 /// outcome is the same.

@@ -1,5 +1,11 @@
+pub mod Closing
+pub mod FreshKeys
+pub mod Inserted
+pub mod Joining
+pub mod Limits
 pub mod Logs
 pub mod Passes
-pub mod Joining
-pub mod Closing
+pub mod Placed
+pub mod Sights
+mod Sorting
 pub mod Taking

@@ -1,20 +1,29 @@
-//! Keys that are numbered in the order of first sight, by many threads at once. A table has sixteen
-//! shelves, each under a turn lock, and a key names its shelf; its number is that shelf and its
-//! place there. Whatever the threads do, a number that a thread was given names its key in the
-//! closed table, and no key has two numbers. It stands on `tib_turn` and on `indexmap`.
+//! Keys that are numbered in the order of first sight. A table, of which many threads number keys at
+//! once, has sixteen shelves, each under a turn lock, and a key names its shelf; its number is that
+//! shelf and its place there. Whatever the threads do, a number that a thread was given names its key
+//! in the closed table, and no key has two numbers. Beside it stand keys in one order, numbered
+//! within a limit of parts, of which the new ones are put in ascending order. It stands on `tib_turn`
+//! and on `indexmap`.
 #![tactic(auto)]
 
 mod board;
+mod error;
+mod fresh;
+mod halves;
 mod key;
 mod number;
+mod numbering;
 mod problem;
 mod shelf;
 mod shelves;
 mod table;
 mod turns;
 
+pub use error::HuntError;
+pub use fresh::{Lookup, count_keys, find_position, find_shelves, put_fresh, put_fresh_together};
 pub use key::TableKey;
 pub use number::Number;
+pub use numbering::{number_ends, sort_new};
 pub use problem::{Entry, Problem};
 pub use shelf::Shelf;
 pub use shelves::Shelves;

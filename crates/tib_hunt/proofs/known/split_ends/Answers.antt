@@ -3,7 +3,7 @@ use Rattle.std.specs.Vec.Iter.{into_iter_items}
 use Rattle.tib_hunt.specs.Known.{AreSplit}
 use Rattle.tib_hunt.specs.declared.known.EndAt.TheVariants.{Numbered}
 use Rattle.tib_hunt.proofs.KnownEnds.{split_known, split_lacked}
-use Rattle.tib_numbered_keys.proofs.Placed.{rest_next}
+use Rattle.tib_table.proofs.Placed.{rest_next}
 use Rattle.tib_hunt.proofs.known.split_ends.Goals as goal
 
 pub loop-key-preserved-in-Some-find_position : goal.loop-key-preserved-in-Some-find_position

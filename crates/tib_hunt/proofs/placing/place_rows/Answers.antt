@@ -3,7 +3,7 @@ use Rattle.std.specs.Vec.Iter.{into_iter_items}
 use Rattle.tib_hunt.specs.Rows.{IsRowBelow}
 use Rattle.tib_hunt.specs.Known.{AreOn}
 use Rattle.tib_hunt.specs.Shelved.{placed_row}
-use Rattle.tib_numbered_keys.proofs.Placed.{rest_next}
+use Rattle.tib_table.proofs.Placed.{rest_next}
 use Rattle.tib_hunt.proofs.Settling.{rows_more, each_back, each_next}
 use Rattle.tib_hunt.proofs.placing.place_rows.Goals as goal
 

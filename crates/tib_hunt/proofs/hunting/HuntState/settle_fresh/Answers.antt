@@ -4,7 +4,7 @@ use Rattle.tib_hunt.specs.Numbered.{keys_of, moved_to}
 use Rattle.tib_hunt.specs.Rows.{read_rows, IsRowBelow, AreBelow}
 use Rattle.tib_hunt.specs.Known.{AreOn}
 use Rattle.tib_hunt.specs.Shelved.{placed_row}
-use Rattle.tib_numbered_keys.proofs.FreshKeys.{moved_bound}
+use Rattle.tib_table.proofs.FreshKeys.{moved_bound}
 use Rattle.tib_hunt.proofs.hunting.HuntState.settle_fresh.Goals as goal
 
 pub overflow_cast-first : goal.overflow_cast-first

@@ -1,6 +1,0 @@
-pub mod Limits
-pub mod Inserted
-pub mod Sights
-pub mod Placed
-pub mod FreshKeys
-mod Sorting

@@ -1,7 +1,0 @@
-use Rattle.std.specs.Vec.Iter.{into_iter_items}
-use Rattle.tib_numbered_keys.specs.Numbered.{key_parts}
-use Rattle.tib_numbered_keys.proofs.Sights.{SoFar}
-use Rattle.tib_numbered_keys.proofs.numbering.number_ends.Given as goal
-
-abbrev pub invariant-loop-key : goal.invariant-loop-key
-invariant-loop-key g l = SoFar g.K.PartialEq.eq (key_parts g.K.TableKey.entries_of) l.fn.keys.keys l.fn.ends.items l.yielded (into_iter_items l.key-iterator) l.fn.parts l.limit l.keys.keys l.numbers.items l.parts

@@ -1,8 +1,0 @@
--- Whether keys are looked up.
-use Rattle.tib_numbered_keys.specs.declared.fresh.Lookup.{Lookup}
-use Rattle.tib_numbered_keys.specs.declared.fresh.Lookup.TheVariants.{Needless, Needed}
-
--- no key is looked up, so the order must have none of those that come
-abbrev pub IsNeedless : Lookup → Type 0
-IsNeedless Needless = Unit {0}
-IsNeedless Needed = ⊥
