@@ -8,7 +8,7 @@ use Rattle.tib_operations.specs.Demo.{HasDemoText, IsDemoFault, demo_makes}
 use Rattle.tib_operations.specs.KBest.{HasKBestText, IsKBestFault, kbest_makes}
 use Rattle.tib_operations.specs.declared.status.Status.{Status}
 use Rattle.tib_operations.specs.declared.status.Status.TheVariants as statuses
-use Rattle.tib_further_operations.specs.Compare.{HasCompareText, IsCompareFault, compare_makes}
+use Rattle.tib_job_files.specs.Compare.{HasCompareText, IsCompareFault, compare_makes}
 use Rattle.tib_job_files.specs.Kinds.{of_grammar, of_support, AreTexts}
 use Rattle.tib_job_files.specs.Answers.{IsAnswer}
 use Rattle.tib_job_files.specs.Causes.{HasCause, HasEarlier, IsEarly, bytes_of, levelled_of, product_of, scale_of}

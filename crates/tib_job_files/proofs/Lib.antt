@@ -1,13 +1,25 @@
-pub mod FileValues
-pub mod OfOperations
-pub mod FilesAsked
-pub mod OfJobs
-pub mod Reached
-pub mod Steps
-pub mod Large
-pub mod Parsed
-pub mod Faults
+mod AnswersByText
+mod AnswersExist
+mod BothByText
 pub mod Complete
-pub mod Runs
+pub mod DemandByText
+pub mod Faults
+pub mod FileValues
+pub mod FilesAsked
+pub mod Large
+pub mod OfCompare
+mod OfForms
+pub mod OfJobs
+pub mod OfOperations
+pub mod OfParse
 pub mod OneStatus
+pub mod OneString
+pub mod ParseByText
+pub mod Parsed
+pub mod Reached
+pub mod Runs
 mod RunsAlike
+pub mod Steps
+pub mod Telling
+pub mod WordsByText
+pub mod WordsRead

@@ -6,7 +6,7 @@ use Rattle.tib_command.specs.Jobs.{Asked}
 use Rattle.tib_command.specs.declared.job.Operation.TheVariants as operations
 use Rattle.tib_operations.specs.declared.status.Status.{Status}
 use Rattle.tib_operations.specs.declared.status.Status.TheVariants as statuses
-use Rattle.tib_further_operations.specs.Parse.{HasParseText, IsParseTextFault, parse_demands, parse_makes}
+use Rattle.tib_job_files.specs.Parse.{HasParseText, IsParseTextFault, parse_demands, parse_makes}
 use Rattle.tib_job_files.specs.Kinds.{of_string_transducer, of_string, AreTexts}
 use Rattle.tib_job_files.specs.Answers.{IsAnswer}
 use Rattle.tib_job_files.specs.Causes.{HasCause, HasEarlier, IsEarly, bytes_of, product_of, scale_of}

@@ -1,6 +1,10 @@
-pub mod Kinds
-pub mod Causes
 pub mod Answers
+pub mod ByText
+pub mod Causes
+pub mod Compare
+pub mod Kinds
+pub mod Laws
+pub mod Parse
 pub mod Run
 pub mod Steps
-pub mod Laws
+pub mod Words

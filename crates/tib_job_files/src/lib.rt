@@ -1,10 +1,15 @@
 //! What a run of the program promises, over the words, the files, the output and the log that it sees, with the laws of its answers: a job
 //! whose files are told is answered by one text and ends with one status; and the values of a command's files, or the status with which the
-//! run ends: each kind of file, and all files of each operation that hunts. All labels of a command stand in one table.
+//! run ends: each kind of file, and all files of each operation that hunts. All labels of a command stand in one table. Beside the operations
+//! of `tib_operations`, of whose forms, statuses and texts they make use, stand two more, which know neither words nor files. `parse`: the
+//! text of the canonical grammar of all trees that a linear and nondeleting tree-to-string transducer turns into one string, each at its
+//! least cost. `compare`: one line that says that the same trees have a cost in two grammars without costs, or names the least tree that has
+//! one in exactly one of them.
 #![tactic(auto)]
 
 pub mod backward;
 pub mod compare;
+mod compare_text;
 pub mod compose;
 pub mod determinize;
 mod files;
@@ -13,12 +18,15 @@ pub mod image;
 pub mod intersect;
 mod laws;
 pub mod parse;
+mod parse_text;
 mod values;
 
+pub use compare_text::{comparison_of, comparison_of_together};
 pub use files::{FileValue, value_in};
 pub use laws::{
     answers_are_one, answers_exclude_too_many, answers_exist, files_have_no_fault,
     in_class_or_outside, jobs_have_answers, runs_end_alike, statuses_are_one, texts_are_one,
     within_or_too_many,
 };
+pub use parse_text::{parse_of, parse_of_together};
 pub use values::Support;

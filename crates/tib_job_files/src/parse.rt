@@ -4,7 +4,7 @@ ghost use Rattle.tib_command.specs.Jobs.{meaning};
 ghost use Rattle.tib_job_files.specs.Kinds.{AreTexts, of_string_transducer, of_string};
 ghost use Rattle.tib_job_files.specs.Causes.{bytes_of, scale_of};
 ghost use Rattle.tib_job_files.specs.Steps.{EndsRun, LeavesFiles, files_seen};
-ghost use Rattle.tib_further_operations.specs.Words.{ArePlainWords};
+ghost use Rattle.tib_job_files.specs.Words.{ArePlainWords};
 
 use crate::files::value_in;
 use std::alloc::Global;

@@ -126,7 +126,7 @@ impl<S: Semiring> FileValue for Transducer<S> {
 
 impl<S: Semiring> FileValue for StringTransducer<S> {
     ghost use Rattle.std.specs.Prelude.{◌≡◌};
-    ghost use Rattle.tib_further_operations.specs.Words.{ArePlainWords};
+    ghost use Rattle.tib_job_files.specs.Words.{ArePlainWords};
     ghost use Rattle.tib_job_files.specs.Kinds.{of_string_transducer, IsStringTransducerRead};
 
     ghost kind = { of_string_transducer };

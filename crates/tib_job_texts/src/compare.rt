@@ -10,10 +10,10 @@ use std::alloc::Global;
 use std::sync::Wait;
 use std::thread::Threads;
 use tib_command::{Job, Operation};
-use tib_further_operations::{comparison_of, comparison_of_together};
 use tib_hunt::Gate;
 use tib_io::{Files, GrowingSink};
 use tib_job_files::compare::supports_of;
+use tib_job_files::{comparison_of, comparison_of_together};
 use tib_operations::Status;
 
 /// The whole text of a job that compares the trees of two grammars, or the status with which the run ends.

@@ -4,8 +4,8 @@ ghost use Rattle.tib_command.specs.Jobs.{meaning};
 ghost use Rattle.tib_job_files.specs.Answers.{IsAnswer};
 ghost use Rattle.tib_job_files.specs.Causes.{scale_of, product_of};
 ghost use Rattle.tib_job_files.specs.Steps.{EndsRun, LeavesFiles, files_seen};
-ghost use Rattle.tib_further_operations.specs.Parse.{HasParseText, IsParseTextFault, parse_demands, parse_makes};
-ghost use Rattle.tib_further_operations.specs.Words.{ArePlainWords};
+ghost use Rattle.tib_job_files.specs.Parse.{HasParseText, IsParseTextFault, parse_demands, parse_makes};
+ghost use Rattle.tib_job_files.specs.Words.{ArePlainWords};
 ghost use Rattle.tib_operations.specs.Made.{IsLimit};
 
 use std::alloc::Global;
@@ -13,10 +13,10 @@ use std::sync::Wait;
 use std::thread::Threads;
 use tib_command::{Job, Operation};
 use tib_cost::Semiring;
-use tib_further_operations::{parse_of, parse_of_together};
 use tib_hunt::Gate;
 use tib_io::{Files, GrowingSink};
 use tib_job_files::parse::{Inputs, inputs_of};
+use tib_job_files::{parse_of, parse_of_together};
 use tib_operations::Status;
 
 /// The whole text of a job that asks for the trees that a transducer turns into a string, or the status with which the run ends.

@@ -2,7 +2,7 @@ use Rattle.std.proofs.Common.{ℕ, List, refl}
 use Rattle.std.specs.Prelude.{Option, Some}
 use Rattle.tib_command.specs.Jobs.{meaning}
 use Rattle.tib_command.specs.declared.job.Operation.TheVariants as operations
-use Rattle.tib_further_operations.proofs.WordsRead.{words_grown}
+use Rattle.tib_job_files.proofs.WordsRead.{words_grown}
 use Rattle.tib_job_files.specs.Kinds.{of_string_transducer, of_string}
 use Rattle.tib_job_files.proofs.Reached.{before_second, two_files}
 use Rattle.tib_job_files.proofs.Steps.{ends_later}

@@ -3,7 +3,7 @@ use Rattle.std.specs.Prelude.{Option}
 use Rattle.std.proofs.lemmas.Result.{IfErr-weaker}
 use Rattle.tib_lex.proofs.Results.{ok_both}
 use Rattle.tib_command.specs.Jobs.{meaning}
-use Rattle.tib_further_operations.specs.Parse.{parse_demands, parse_makes}
+use Rattle.tib_job_files.specs.Parse.{parse_demands, parse_makes}
 use Rattle.tib_job_files.proofs.Parsed.{parse_answer, parse_ends}
 use Rattle.tib_job_texts.proofs.parse.parse_files.Goals as goal
 

@@ -1,5 +1,5 @@
 use Rattle.std.proofs.Common.{ℕ, List, subst}
-use Rattle.tib_further_operations.specs.Parse.{HasParseText, IsParseTextFault, parse_makes}
+use Rattle.tib_job_files.specs.Parse.{HasParseText, IsParseTextFault, parse_makes}
 use Rattle.tib_job_texts.proofs.parse.parse_text_together.Goals as goal
 
 pub returns-in-Err-clause-err : goal.returns-in-Err-clause-err

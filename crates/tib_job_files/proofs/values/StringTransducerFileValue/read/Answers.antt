@@ -1,5 +1,5 @@
 use Rattle.std.proofs.lemmas.Result.{IfOk-weaker}
-use Rattle.tib_further_operations.proofs.WordsRead.{words_plain}
+use Rattle.tib_job_files.proofs.WordsRead.{words_plain}
 use Rattle.tib_job_files.proofs.values.StringTransducerFileValue.read.Goals as goal
 
 pub returns-clause-sound : goal.returns-clause-sound

@@ -1,4 +1,0 @@
-pub mod Words
-pub mod ByText
-pub mod Parse
-pub mod Compare
