@@ -12,4 +12,4 @@ loop-tree-preserved c =
     (c.size_of.ensures ∙ ap size c.tree-item.is)
 
 pub returns : goal.returns
-returns c = c.loop-tree.invariant ∙ ap (λ ts. min (total size ts) (2 ^ 64 - 1)) (take_all c.args.trees.now c.loop-tree.tree-index c.loop-tree-test.false)
+returns c = c.loop-tree.invariant ∙ ap (λ ts. min (total size ts) (2 ^ 64 - 1)) (take_all c.loop-tree.tree-index c.args.trees.now c.loop-tree-test.false)
