@@ -23,8 +23,8 @@ use Rattle.tib_transducer.specs.TransducerOf.{TransducerOf}
 use Rattle.tib_transducer.specs.declared.Variable.{Variable}
 use Rattle.tib_transducer.specs.declared.Pair.{Pair}
 use Rattle.tib_transducer.specs.declared.TransducerRule.{TransducerRule}
-use Rattle.tib_transducer_print.specs.ByName.{IsPlainLabel, IsPlainOnLeft, IsPlainOnRight, IsPrintable}
-use Rattle.tib_transducer_print.specs.Printed.{transducer_text}
+use Rattle.tib_transducer_file.specs.ByName.{IsPlainLabel, IsPlainOnLeft, IsPlainOnRight, IsPrintable}
+use Rattle.tib_transducer_file.specs.Printed.{transducer_text}
 use Rattle.tib_canon.specs.Constructions.{HasReachedWithin}
 use Rattle.tib_canon.proofs.ReachedOnce.{edge_given, ends_stand}
 use Rattle.tib_canon.proofs.Sorting.{both_equal, number_same}

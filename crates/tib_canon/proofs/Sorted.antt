@@ -25,10 +25,10 @@ use Rattle.tib_transducer.specs.declared.Variable.{Variable}
 use Rattle.tib_transducer.specs.declared.Pair.{Pair}
 use Rattle.tib_transducer.specs.declared.TransducerRule.{TransducerRule}
 use Rattle.tib_transducer_file.specs.Labelled.{IsAskedBelow, IsBelowOnLeft, IsBelowOnRight, AreLabelled}
-use Rattle.tib_transducer_print.specs.ByName.{IsPrintable, IsPlainAsked, IsPlainOnLeft, IsPlainOnRight, line_text}
-use Rattle.tib_transducer_print.specs.Printed.{rule_text, rules_text, transducer_text}
-use Rattle.tib_transducer_print.proofs.Fitting.{IsGood}
-use Rattle.tib_transducer_print.proofs.PrintedBytes.{lines_in, transducer_lines}
+use Rattle.tib_transducer_file.specs.ByName.{IsPrintable, IsPlainAsked, IsPlainOnLeft, IsPlainOnRight, line_text}
+use Rattle.tib_transducer_file.specs.Printed.{rule_text, rules_text, transducer_text}
+use Rattle.tib_transducer_file.proofs.Fitting.{IsGood}
+use Rattle.tib_transducer_file.proofs.PrintedBytes.{lines_in, transducer_lines}
 use Rattle.tib_canon.specs.Lines.{lines_text}
 use Rattle.tib_canon.specs.declared.lines.Line.{Line}
 use Rattle.tib_canon.proofs.Permuting.{has_permuted, distinct_permuted, distinct_at}

@@ -25,8 +25,8 @@ use Rattle.tib_transducer.specs.declared.Pair.{Pair}
 use Rattle.tib_transducer.specs.declared.TransducerRule.{TransducerRule}
 use Rattle.tib_transducer.specs.NamedPairs.{named_pair}
 use Rattle.tib_transducer_file.specs.ByText.{AskForOneText, AgreeOnLeft, AgreeOnRight, AreOneTransducerRule}
-use Rattle.tib_transducer_print.specs.ByName.{line_text}
-use Rattle.tib_transducer_print.specs.Printed.{rule_text, rules_text, transducer_text}
+use Rattle.tib_transducer_file.specs.ByName.{line_text}
+use Rattle.tib_transducer_file.specs.Printed.{rule_text, rules_text, transducer_text}
 use Rattle.tib_keyed.specs.Named.{named_transducer_rule}
 use Rattle.tib_canon.specs.TransducerKeys.{IsTransducerOverKeys, IsCanonicalTransducer}
 use Rattle.tib_canon.specs.TransducerLaws.{AreOneByText}

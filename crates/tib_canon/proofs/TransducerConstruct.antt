@@ -26,8 +26,8 @@ use Rattle.tib_transducer.specs.TransducerOf.{TransducerOf}
 use Rattle.tib_transducer.specs.declared.Variable.{Variable}
 use Rattle.tib_transducer.specs.declared.Pair.{Pair}
 use Rattle.tib_transducer.specs.declared.TransducerRule.{TransducerRule}
-use Rattle.tib_transducer_print.specs.ByName.{IsPlainLabel, IsPlainOnLeft, IsPlainOnRight, IsPrintable, states_of, ReadsBack}
-use Rattle.tib_transducer_print.specs.Printed.{transducer_text}
+use Rattle.tib_transducer_file.specs.ByName.{IsPlainLabel, IsPlainOnLeft, IsPlainOnRight, IsPrintable, states_of, ReadsBack}
+use Rattle.tib_transducer_file.specs.Printed.{transducer_text}
 use Rattle.tib_canon.specs.Constructions.{HasReachedWithin}
 use Rattle.tib_canon.proofs.ConstructionExists.{few_keys}
 use Rattle.tib_canon.proofs.PlacesIn.{place_in, stands_at, map_itself}

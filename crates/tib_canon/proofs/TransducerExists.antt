@@ -16,8 +16,8 @@ use Rattle.tib_inside.proofs.Chosen.{distinct_at}
 use Rattle.tib_transducer.specs.Range.{AreWithin}
 use Rattle.tib_transducer.specs.TransducerOf.{TransducerOf}
 use Rattle.tib_transducer.specs.declared.TransducerRule.{TransducerRule}
-use Rattle.tib_transducer_print.specs.ByName.{line_text}
-use Rattle.tib_transducer_print.proofs.Fitting.{IsGood}
+use Rattle.tib_transducer_file.specs.ByName.{line_text}
+use Rattle.tib_transducer_file.proofs.Fitting.{IsGood}
 use Rattle.tib_keyed.specs.Named.{named_transducer_rule}
 use Rattle.tib_grammar.specs.Renaming.{number_in}
 use Rattle.tib_canon.specs.Canonical.{names_of}

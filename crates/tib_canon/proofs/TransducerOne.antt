@@ -11,7 +11,7 @@ use Rattle.tib_transducer.specs.TransducerOf.{TransducerOf}
 use Rattle.tib_transducer.specs.Series.{Covers, HaveSameSeries}
 use Rattle.tib_transducer.specs.declared.TransducerRule.{TransducerRule}
 use Rattle.tib_transducer.proofs.Covering.{same_series, covers_members}
-use Rattle.tib_transducer_print.specs.ByName.{IsPrintable, line_text}
+use Rattle.tib_transducer_file.specs.ByName.{IsPrintable, line_text}
 use Rattle.tib_canon.specs.Canonical.{names_of}
 use Rattle.tib_canon.proofs.One.{ascending_same, one_less}
 use Rattle.tib_canon.proofs.StateNames.{length-names_of}

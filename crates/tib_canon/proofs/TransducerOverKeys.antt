@@ -19,7 +19,7 @@ use Rattle.tib_transducer.specs.TransducerOf.{TransducerOf}
 use Rattle.tib_transducer.specs.declared.Pair.{Pair}
 use Rattle.tib_transducer.specs.declared.TransducerRule.{TransducerRule}
 use Rattle.tib_transducer_file.specs.Labelled.{AreLabelled}
-use Rattle.tib_transducer_print.specs.ByName.{IsPrintable, IsPlainOnRight}
+use Rattle.tib_transducer_file.specs.ByName.{IsPrintable, IsPlainOnRight}
 use Rattle.tib_canon.specs.Keys.{AreByKeys}
 use Rattle.tib_canon.proofs.StateNames.{length-names_of}
 use Rattle.tib_canon.proofs.OverKeys.{number_back}

@@ -22,10 +22,10 @@ use Rattle.tib_transducer_file.specs.Value.{IsAsked, IsLeftSymbol, IsLeftNode, I
 use Rattle.tib_transducer_file.proofs.PiecesRead.{pieces_read}
 use Rattle.tib_transducer_file.proofs.RulesRead.{parts_forth}
 use Rattle.tib_transducer_file.proofs.OneByText.{once_each, pair_same}
-use Rattle.tib_transducer_print.specs.ByName.{named_rule, line_text}
-use Rattle.tib_transducer_print.specs.Printed.{variable_text, pair_text, side_text, rule_text}
-use Rattle.tib_transducer_print.proofs.Fitting.{IsGood, LineOf, rule_line}
-use Rattle.tib_transducer_print.proofs.RulesBack.{rules_own}
+use Rattle.tib_transducer_file.specs.ByName.{named_rule, line_text}
+use Rattle.tib_transducer_file.specs.Printed.{variable_text, pair_text, side_text, rule_text}
+use Rattle.tib_transducer_file.proofs.Fitting.{IsGood, LineOf, rule_line}
+use Rattle.tib_transducer_file.proofs.RulesBack.{rules_own}
 
 -- a rule is printed as its line and a line feed
 

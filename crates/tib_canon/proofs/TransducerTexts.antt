@@ -12,9 +12,9 @@ use Rattle.tib_transducer.specs.Range.{IsWithin, AreWithin}
 use Rattle.tib_transducer.specs.Rules.{states_in}
 use Rattle.tib_transducer.specs.TransducerOf.{TransducerOf}
 use Rattle.tib_transducer.specs.declared.TransducerRule.{TransducerRule}
-use Rattle.tib_transducer_print.specs.ByName.{HasText, ReadsBack, states_of}
-use Rattle.tib_transducer_print.specs.Printed.{transducer_text}
-use Rattle.tib_transducer_print.proofs.FileBack.{prints_back}
+use Rattle.tib_transducer_file.specs.ByName.{HasText, ReadsBack, states_of}
+use Rattle.tib_transducer_file.specs.Printed.{transducer_text}
+use Rattle.tib_transducer_file.proofs.FileBack.{prints_back}
 use Rattle.tib_canon.proofs.StateNames.{length-names_of, are_state_names}
 use Rattle.tib_keyed.specs.Named.{named_transducer_rule}
 use Rattle.tib_canon.specs.TransducerKeys.{IsCanonicalTransducer, AreMovesOver}

@@ -8,7 +8,7 @@ use Rattle.std.specs.Cmp.Lexicographic.{slice_cmp}
 use Rattle.tib_lex.specs.Lists.{Has, Ascends}
 use Rattle.tib_transducer.specs.TransducerOf.{TransducerOf}
 use Rattle.tib_transducer.specs.declared.TransducerRule.{TransducerRule}
-use Rattle.tib_transducer_print.specs.ByName.{line_text}
+use Rattle.tib_transducer_file.specs.ByName.{line_text}
 use Rattle.tib_canon.specs.Canonical.{names_of}
 
 -- rules stand in the order of their states, and those of one state in the order of their lines, as

@@ -5,8 +5,8 @@ use Rattle.std.proofs.Common.{get_or}
 use Rattle.tib_hunt.specs.Reached.{Operation, IsReachedSet, parts_of}
 use Rattle.tib_transducer.specs.TransducerOf.{TransducerOf}
 use Rattle.tib_transducer.specs.declared.TransducerRule.{TransducerRule}
-use Rattle.tib_transducer_print.specs.ByName.{ReadsBack}
-use Rattle.tib_transducer_print.specs.Printed.{transducer_text}
+use Rattle.tib_transducer_file.specs.ByName.{ReadsBack}
+use Rattle.tib_transducer_file.specs.Printed.{transducer_text}
 use Rattle.tib_keyed.specs.Named.{named_transducer_rule}
 use Rattle.tib_canon.specs.TransducerKeys.{IsCanonicalTransducer, AreMovesOver}
 

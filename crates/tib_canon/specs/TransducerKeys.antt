@@ -8,7 +8,7 @@ use Rattle.tib_transducer.specs.Range.{AreWithin, AreShaped, EndInHoles}
 use Rattle.tib_transducer.specs.Series.{IsTransducerSeriesAt, IsTransducerSeries}
 use Rattle.tib_transducer.specs.TransducerOf.{TransducerOf}
 use Rattle.tib_transducer.specs.declared.TransducerRule.{TransducerRule}
-use Rattle.tib_transducer_print.specs.ByName.{IsPrintable}
+use Rattle.tib_transducer_file.specs.ByName.{IsPrintable}
 use Rattle.tib_canon.specs.Canonical.{names_of}
 use Rattle.tib_canon.specs.Keys.{AreByKeys}
 use Rattle.tib_keyed.specs.Numbering.{AreRenumbered}

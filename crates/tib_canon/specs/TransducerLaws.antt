@@ -7,8 +7,8 @@ use Rattle.tib_transducer.specs.Range.{AreShaped, EndInHoles}
 use Rattle.tib_transducer.specs.TransducerOf.{TransducerOf}
 use Rattle.tib_transducer.specs.declared.TransducerRule.{TransducerRule}
 use Rattle.tib_transducer_file.specs.ByText.{AreOneTransducerRule, AreOneTransducer}
-use Rattle.tib_transducer_print.specs.ByName.{states_of, ReadsBack}
-use Rattle.tib_transducer_print.specs.Printed.{transducer_text}
+use Rattle.tib_transducer_file.specs.ByName.{states_of, ReadsBack}
+use Rattle.tib_transducer_file.specs.Printed.{transducer_text}
 use Rattle.tib_canon.specs.Constructions.{HasReachedWithin}
 use Rattle.tib_keyed.specs.Plain.{ArePlain}
 use Rattle.tib_keyed.specs.Composition.{composition}

@@ -3,7 +3,7 @@ ghost use Rattle.std.specs.Prelude.{◌≡◌, ◌<◌, ◌^◌, length, IfOk};
 ghost use Rattle.tib_lex.specs.Lists.{Distinct};
 ghost use Rattle.tib_transducer.specs.Range.{AreWithin, EndInHoles};
 ghost use Rattle.tib_transducer_file.specs.Labelled.{AreLabelled};
-ghost use Rattle.tib_transducer_print.specs.Printed.{transducer_text};
+ghost use Rattle.tib_transducer_file.specs.Printed.{transducer_text};
 ghost use Rattle.tib_canon.specs.TransducerKeys.{AreMovesOver, IsTransducerOverKeys, IsCanonicalTransducer, HasSeriesFrom};
 ghost use Rattle.tib_canon.specs.Ordered.{over_numbers};
 

@@ -3,8 +3,8 @@ ghost use Rattle.std.specs.Prelude.{◌≡◌, ◌<◌, ◌^◌, length, IfOk};
 ghost use Rattle.tib_lex.specs.Lists.{Each, Ascends};
 ghost use Rattle.tib_transducer.specs.Range.{AreWithin, AreShaped};
 ghost use Rattle.tib_transducer_file.specs.Labelled.{AreLabelled};
-ghost use Rattle.tib_transducer_print.specs.ByName.{IsPrintable};
-ghost use Rattle.tib_transducer_print.specs.Printed.{transducer_text};
+ghost use Rattle.tib_transducer_file.specs.ByName.{IsPrintable};
+ghost use Rattle.tib_transducer_file.specs.Printed.{transducer_text};
 ghost use Rattle.tib_canon.specs.Canonical.{names_of};
 ghost use Rattle.tib_canon.specs.TransducerKeys.{AreMovesOver};
 ghost use Rattle.tib_canon.specs.Ordered.{Differ, AreMerged, IsSortedForm, over_numbers, IsTransducerInOrder};
@@ -18,7 +18,7 @@ use std::alloc::{AllocError, Global};
 use tib_cost::Semiring;
 use tib_io::{Failed, GrowingSink};
 use tib_transducer::{Transducer, TransducerRule};
-use tib_transducer_print::print_transducer;
+use tib_transducer_file::print_transducer;
 use tib_tree::Labels;
 
 /// A transducer, and its text as it is printed.

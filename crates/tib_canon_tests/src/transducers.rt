@@ -12,8 +12,7 @@ use tib_hunt::Found;
 use tib_io::GrowingSink;
 use tib_keyed::StatePair;
 use tib_transducer::TransducerRule;
-use tib_transducer_file::read_transducer;
-use tib_transducer_print::print_transducer;
+use tib_transducer_file::{print_transducer, read_transducer};
 use tib_tree::Labels;
 
 // Three keys in an order that does not ascend.

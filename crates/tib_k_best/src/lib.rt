@@ -1,24 +1,34 @@
 //! Lists of the best trees of a grammar in normal form: first trees (Knuth 1977), and lists that grow
-//! where a tree is asked for (`tib_asked_lists`).
+//! where a tree is asked for (`tib_asked_lists`). Where the product is the greater factor, the least level
+//! with k trees is found by halves, and the trees below it are weighed and sorted.
 #![tactic(auto)]
 
 mod advancing;
 mod asking;
 mod best;
 mod error;
+mod every;
 mod first;
 mod laws;
 mod lazy;
+mod level;
+mod level_best;
 mod levels;
 mod listed;
 mod queue;
+mod ranked;
+mod search;
 mod settling;
+mod weights;
 
 pub use best::{best_of_rules, best_tree, k_best};
 pub use error::KBestError;
+pub use every::best_trees;
 pub use first::first_trees;
 pub use laws::trimmed_has_trees;
 pub use lazy::{LazyList, lazy_k_best, lazy_of_rules};
+pub use level_best::k_best_by_levels;
 pub use levels::{best_tree_by_levels, level_rules, sorted_costs};
 pub use listed::List;
 pub use queue::{Queue, Waiting};
+pub use ranked::Ranked;

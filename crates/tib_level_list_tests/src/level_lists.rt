@@ -5,8 +5,7 @@ use crate::texts::{fault_text, read, write_entry};
 use std::alloc::{AllocError, Global};
 use std::test::Fail;
 use tib_cost::{Bottleneck, Semiring, Widest};
-use tib_k_best::KBestError;
-use tib_level_lists::{Ranked, k_best_by_levels};
+use tib_k_best::{KBestError, Ranked, k_best_by_levels};
 
 fn list_text(alloc: Global, list: &Ranked) -> Result<String, AllocError> {
     let mut text = String::new(alloc);

@@ -8,7 +8,7 @@ use Rattle.tib_hunt.specs.Reached.{IsReachedSet, parts_of}
 use Rattle.tib_transducer.specs.Range.{AreWithin}
 use Rattle.tib_transducer.specs.TransducerOf.{TransducerOf}
 use Rattle.tib_transducer.specs.declared.TransducerRule.{TransducerRule}
-use Rattle.tib_transducer_print.specs.Printed.{transducer_text}
+use Rattle.tib_transducer_file.specs.Printed.{transducer_text}
 use Rattle.tib_transducer.specs.Outside.{AllMeet}
 use Rattle.tib_canon.proofs.ReachedOnce.{order_once}
 use Rattle.tib_keyed.specs.Plain.{ArePlain}

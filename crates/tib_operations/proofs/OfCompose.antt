@@ -20,8 +20,8 @@ use Rattle.tib_transducer.specs.declared.Pair.{Pair}
 use Rattle.tib_transducer.specs.declared.TransducerRule.{TransducerRule}
 use Rattle.tib_transducer_file.specs.ByText.{AreOneTransducer}
 use Rattle.tib_transducer_file.specs.TransducerText.{ReadsAs}
-use Rattle.tib_transducer_print.specs.ByName.{IsPlainLabel, IsPlainAsked, IsPlainOnLeft, IsPlainOnRight, IsPrintable}
-use Rattle.tib_transducer_print.proofs.ReadBack.{read_back}
+use Rattle.tib_transducer_file.specs.ByName.{IsPlainLabel, IsPlainAsked, IsPlainOnLeft, IsPlainOnRight, IsPrintable}
+use Rattle.tib_transducer_file.proofs.ReadBack.{read_back}
 use Rattle.tib_transducer.specs.Outside.{AllMeet}
 use Rattle.tib_canon.specs.Constructions.{HasReachedWithin}
 use Rattle.tib_keyed.specs.Composition.{composition, edge_parts}

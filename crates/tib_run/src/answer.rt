@@ -6,6 +6,7 @@ ghost use Rattle.tib_job_files.specs.Run.{IsRunOf, files_seen, sink_seen};
 ghost use Rattle.tib_operations.specs.Made.{IsLimit};
 ghost use Rattle.tib_operations.specs.Prune.{IsBeam};
 
+use crate::text_alone::text_of;
 use std::alloc::Global;
 use std::thread::Threads;
 use tib_command::{Job, Operation};
@@ -13,7 +14,6 @@ use tib_cost::Semiring;
 use tib_hunt::Gate;
 use tib_io::{Failed, Files, Sink, write_and_finish};
 use tib_job_files::{files_have_no_fault, within_or_too_many};
-use tib_job_texts::text_of;
 use tib_operations::Status;
 
 /// Writes the answer of the job, which one worker makes.

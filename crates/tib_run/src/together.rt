@@ -6,6 +6,7 @@ ghost use Rattle.tib_job_files.specs.Run.{IsRunOf, files_seen, sink_seen};
 ghost use Rattle.tib_operations.specs.Made.{IsLimit};
 ghost use Rattle.tib_operations.specs.Prune.{IsBeam};
 
+use crate::text_together::text_together;
 use std::alloc::Global;
 use std::sync::Wait;
 use std::thread::Threads;
@@ -14,7 +15,6 @@ use tib_cost::{Boolean, Bottleneck, MinPlus, Semiring, Widest};
 use tib_hunt::Gate;
 use tib_io::{Failed, Files, Sink, write_and_finish};
 use tib_job_files::{files_have_no_fault, within_or_too_many};
-use tib_job_texts::text_together;
 use tib_operations::Status;
 
 // Writes the answer of the job, which its workers make.

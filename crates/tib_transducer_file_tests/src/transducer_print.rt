@@ -8,8 +8,7 @@ use std::test::Fail;
 use tib_cost::{Boolean, Bottleneck, MinPlus, Semiring, Widest};
 use tib_io::MemorySink;
 use tib_transducer::Transducer;
-use tib_transducer_file::read_transducer;
-use tib_transducer_print::print_transducer;
+use tib_transducer_file::{print_transducer, read_transducer};
 use tib_tree::Labels;
 
 // What is printed of a transducer.

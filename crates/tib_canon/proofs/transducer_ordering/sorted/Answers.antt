@@ -1,6 +1,6 @@
 use Rattle.std.proofs.Common.{◌<◌, ◌∙◌, [], ◌∷◌, length, map, refl, sym, ap, subst, get_or}
 use Rattle.tib_transducer.specs.Range.{AreWithin}
-use Rattle.tib_transducer_print.proofs.PrintedBytes.{lines_in}
+use Rattle.tib_transducer_file.proofs.PrintedBytes.{lines_in}
 use Rattle.tib_canon.proofs.Merged.{kept_within, kept_shaped}
 use Rattle.tib_canon.proofs.Sorted.{sorted_ready, has_lines, many_lines, given_below, given_apart, few_rules, stand, form_is, text_is, all_labelled}
 use Rattle.tib_canon.proofs.transducer_ordering.sorted.Goals as goal

@@ -1,5 +1,5 @@
 use Rattle.std.proofs.Common.{arith, length, ◌≡◌}
-use Rattle.tib_transducer_print.proofs.ReadBack.{read_back}
+use Rattle.tib_transducer_file.proofs.ReadBack.{read_back}
 use Rattle.tib_canon.proofs.TransducerTexts.{text_moves}
 use Rattle.tib_canon_tests.proofs.transducers.rules_in.Goals as goal
 

@@ -1,4 +1,4 @@
-use Rattle.tib_level_lists.proofs.Trimming.{labelled_kept}
+use Rattle.tib_k_best.proofs.LevelTrimming.{labelled_kept}
 use Rattle.tib_list_tests.proofs.lazy_lists.trimmed_of.Goals as goal
 
 pub returns-clause-labelled : goal.returns-clause-labelled

@@ -1,0 +1,170 @@
+-- A level that is trimmed: it stays in normal form, has the trees of the level, and its faults are those of the level.
+use Rattle.std.specs.Prelude.{◌≡◌, ◌⊎◌, ◌↔◌, ℕ, ◌+◌, ◌<◌, ◌≤◌, Some, List, [], ◌∷◌, length, map, refl}
+use Rattle.std.proofs.Common.{zero, suc, arith, ap, sym, ◌∙◌, subst, inl, inr, get_or}
+use Rattle.std.proofs.lemmas.List.{length-map}
+use Rattle.tib_lex.proofs.Members.{each_has, each_of, has_at}
+use Rattle.tib_tree.specs.Trees.{Tree, Trees, none, tree, only, relabel}
+use Rattle.tib_grammar.specs.Forms.{AreNormal, IsLabel, IsNormalSide}
+use Rattle.tib_grammar.specs.GrammarOf.{GrammarOf}
+use Rattle.tib_grammar.specs.Range.{AreInRange}
+use Rattle.tib_grammar.specs.Run.{rule_at, AreRuns}
+use Rattle.tib_grammar.specs.Sides.{Symbol, label, hole, AreHoles, symbol_map, side_map}
+use Rattle.tib_grammar.specs.declared.Rule.{Rule}
+use Rattle.tib_grammar_file.specs.Printed.{AreLabelled, LabelsBelow}
+use Rattle.tib_inside.specs.Trimmed.{IsTrimmed}
+use Rattle.tib_inside.proofs.Keeping.{as_many, named_at}
+use Rattle.tib_k_best_lists.specs.Levels.{IsOrderly}
+use Rattle.tib_k_best_lists.specs.Best.{Costed, HasLarge, IsKBest, IsTreeAt}
+use Rattle.tib_k_best_lists.proofs.Children.{get_or-map}
+use Rattle.tib_k_best.specs.Causes.{IsCause}
+use Rattle.tib_k_best.specs.Trimmed.{HaveTreesBelow, TrimmedHasTrees}
+use Rattle.tib_k_best.specs.declared.error.KBestError.{KBestError}
+use Rattle.tib_k_best.specs.declared.error.KBestError.TheVariants.{TreeTooLarge, OutOfMemory}
+use Rattle.tib_k_best.specs.Levels.{IsRenamed, IsTrimmedLevel, NamesBelow}
+use Rattle.tib_inside.proofs.StillNormal.{side_normal}
+
+-- a rule under other states has the same labels
+labels_back : (n : ℕ) (g : ℕ → ℕ) (ts : Trees (Symbol ℕ ℕ)) → LabelsBelow n (relabel (symbol_map g) ts) → LabelsBelow n ts
+labels_back n g none h = tt
+labels_back n g (tree (label f) kids rest) h = (h.0, labels_back n g kids h.1, labels_back n g rest h.2)
+labels_back n g (tree (hole q) kids rest) h = labels_back n g rest h
+
+-- a state that has a tree is below the number of states
+state_below : (product : ℕ → ℕ → ℕ) (rules : List (Rule ℕ)) (n q : ℕ) (y : Costed) → AreInRange n rules → IsTreeAt product rules q y → q < n
+state_below product rules n q y range t = by t.attained.0.runs t.attained.0.are_runs
+  where
+    by : (runs : Trees ℕ) → AreRuns rules (q ∷ []) runs → q < n
+    by none a = absurd a
+    by (tree m runs rest) a = subst (λ p. p < n) a.1 (range m a.0).0
+
+-- a name for each state, which tells its number
+
+abbrev names_from : ℕ → ℕ → List (List ℕ)
+names_from i zero = []
+names_from i (suc n) = (i ∷ []) ∷ names_from (suc i) n
+
+name_at : (i n q : ℕ) → q < n → get_or (names_from i n) q [] ≡ (i + q) ∷ []
+name_at i zero q h = absurd (omega arith)
+name_at i (suc n) zero h = ap (λ m. m ∷ []) (plus_none i)
+  where
+    plus_none : (m : ℕ) → m ≡ m + 0
+    plus_none m = omega arith
+name_at i (suc n) (suc q) h = name_at (suc i) n q (omega arith) ∙ ap (λ m. m ∷ []) (shifted i q)
+  where
+    shifted : (a b : ℕ) → suc a + b ≡ a + suc b
+    shifted a b = omega arith
+
+name_past : (i n q : ℕ) → n ≤ q → get_or (names_from i n) q [] ≡ []
+name_past i zero q h = refl
+name_past i (suc n) zero h = absurd (omega arith)
+name_past i (suc n) (suc q) h = name_past (suc i) n q (omega arith)
+
+below_or : (a b : ℕ) → (a < b) ⊎ (b ≤ a)
+below_or a b = grind arith
+
+name_tells : (n p q : ℕ) → q < n → get_or (names_from 0 n) q [] ≡ get_or (names_from 0 n) p [] → p ≡ q
+name_tells n p q h e = elim (below_or p n) [
+  | inl l ↦
+      let same : (0 + q) ∷ [] ≡ (0 + p) ∷ [] = sym (name_at 0 n q h) ∙ e ∙ name_at 0 n p l in
+      let tells : 0 + q ≡ 0 + p = cc in
+      omega (arith, tells)
+  | inr l ↦ absurd (let none : (0 + q) ∷ [] ≡ [] = sym (name_at 0 n q h) ∙ e ∙ name_past 0 n p l in cc)
+]
+
+-- the rules that are left have labels of the same table
+pub labelled_kept : (product : ℕ → ℕ → ℕ) (before after : GrammarOf) → IsTrimmed product before after → (many : ℕ) → AreLabelled many before.rules → AreLabelled many after.rules
+labelled_kept product before after is many labelled n h =
+    let place : get_or is.rules n 0 < length before.rules = ((is.are_rules (get_or is.rules n 0)).0 (has_at is.rules n 0 (omega (arith, h, as_many product before after is)))).0.below in
+    labels_back many (λ i. get_or is.states i 0) (only (rule_at after.rules n).right)
+    (subst (λ (r : Rule ℕ). LabelsBelow many (only r.right)) (sym (named_at product before after is n h)) (labelled (get_or is.rules n 0) place))
+
+module _ (product : ℕ → ℕ → ℕ) (old : List (Rule ℕ)) (count : ℕ) (states : List ℕ) (new : List (Rule ℕ)) (t : IsTrimmedLevel product old count states new) where
+  abbrev named : ℕ → List ℕ
+  named q = get_or (names_from 0 count) q []
+
+  abbrev before : GrammarOf
+  before = record { names = names_from 0 count; rules = old }
+
+  abbrev after : GrammarOf
+  after = record { names = map named states; rules = new }
+
+  abbrev is : IsTrimmed product before after
+  is = t.trimmed (names_from 0 count)
+
+  old_place : (n : ℕ) → n < length new → get_or is.rules n 0 < length old
+  old_place n h = ((is.are_rules (get_or is.rules n 0)).0 (has_at is.rules n 0 (omega (arith, h, as_many product before after is)))).0.below
+
+  pub trimmed_normal : AreNormal old → AreNormal new
+  trimmed_normal normal n h =
+      side_normal (λ i. get_or is.states i 0) (rule_at new n).right (subst (λ (r : Rule ℕ). IsNormalSide r.right) (sym (named_at product before after is n h)) (normal (get_or is.rules n 0) (old_place n h)))
+
+  pub trimmed_labelled : (many : ℕ) → AreLabelled many old → AreLabelled many new
+  trimmed_labelled many labelled = labelled_kept product before after is many labelled
+
+  pub trimmed_trees : AreNormal old → TrimmedHasTrees product → HaveTreesBelow product new
+  trimmed_trees normal law = law before after normal (trimmed_normal normal) is (t.each (names_from 0 count))
+
+  -- a rule of a trimmed level costs nothing where none of the level does
+  trimmed_free : ((n : ℕ) → n < length old → (rule_at old n).cost ≡ 0) → (n : ℕ) → n < length new → (rule_at new n).cost ≡ 0
+  trimmed_free free n h = ap (λ (r : Rule ℕ). r.cost) (named_at product before after is n h) ∙ free (get_or is.rules n 0) (old_place n h)
+
+  pub trimmed_orderly : IsOrderly product old → IsOrderly product new
+  trimmed_orderly o = elim o [ inl strict ↦ inl strict | inr free ↦ inr (trimmed_free free) ]
+
+  -- the list of the k best trees
+  pub trimmed_best : (labels : List (List ℕ)) (k : ℕ) (xs : List Costed) → IsKBest product new labels k xs → IsKBest product old labels k xs
+  trimmed_best labels k xs b = record {
+    members = each_of (IsTreeAt product old 0) xs (λ x h. (t.series x.0 (Some x.1)).1 (each_has (IsTreeAt product new 0) xs x b.members h));
+    ascends = b.ascends;
+    few = b.few;
+    others = λ y m n. b.others y ((t.series y.0 (Some y.1)).0 m) n;
+  }
+
+  many_states : length is.states ≡ length states
+  many_states = sym (length-map is.states named) ∙ ap length (sym is.names) ∙ length-map states named
+
+  same_state : (i : ℕ) → i < length states → get_or is.states i 0 ≡ get_or states i 0
+  same_state i h =
+      name_tells count (get_or is.states i 0) (get_or states i 0) (t.below i h)
+      (sym (get_or-map named states i 0 [] h) ∙ ap (λ ns. get_or ns i []) is.names ∙ get_or-map named is.states i 0 [] (omega (arith, h, many_states)))
+
+  series_at : (q : ℕ) → q < length states → (y : Costed) → IsTreeAt product old (get_or states q 0) y ↔ IsTreeAt product new q y
+  series_at q h y = subst (λ p. IsTreeAt product old p y ↔ IsTreeAt product new q y) (same_state q h) (t.each (names_from 0 count) is q (omega (arith, h, many_states)) y.0 (Some y.1))
+
+  large_back : (labels : List (List ℕ)) (k q : ℕ) → q < length states → HasLarge product labels new k q → HasLarge product labels old k (get_or states q 0)
+  large_back labels k q h l =
+      let p : ℕ = get_or states q 0 in
+      let to : (y : Costed) → IsTreeAt product old p y → IsTreeAt product new q y = λ y. (series_at q h y).0 in
+      let back : (y : Costed) → IsTreeAt product new q y → IsTreeAt product old p y = λ y. (series_at q h y).1 in
+      record {
+        front = l.front;
+        is_front = record {
+          members = each_of (IsTreeAt product old p) l.front (λ x m. back x (each_has (IsTreeAt product new q) l.front x l.is_front.members m));
+          ascends = l.is_front.ascends;
+          others = λ y m n. l.is_front.others y (to y m) n;
+        };
+        few = l.few;
+        tree = l.tree;
+        next = record { member = back l.tree l.next.member; new = l.next.new; least = λ y m n. l.next.least y (to y m) n };
+        large = l.large;
+      }
+
+  pub names_below : (labels : List (List ℕ)) (k : ℕ) (e : KBestError) → IsCause product labels new k e → NamesBelow (length states) e
+  names_below labels k (TreeTooLarge q) l = state_below product new (length states) q l.tree t.range l.next.member
+  names_below labels k OutOfMemory l = tt
+
+  -- a fault of the trimmed level is one of the level
+  pub trimmed_cause : (labels : List (List ℕ)) (k : ℕ) (e d : KBestError) → IsRenamed states e d → IsCause product labels new k e → IsCause product labels old k d
+  trimmed_cause labels k (TreeTooLarge q) d is_now l =
+      subst (IsCause product labels old k) (sym is_now) (large_back labels k q (state_below product new (length states) q l.tree t.range l.next.member) l)
+  trimmed_cause labels k OutOfMemory d is_now l = subst (IsCause product labels old k) (sym is_now) tt
+
+-- rules give no tree where there is none
+pub no_trees_of : (product : ℕ → ℕ → ℕ) (labels : List (List ℕ)) (k : ℕ) (rules : List (Rule ℕ)) → rules ≡ [] → (xs : List Costed) → IsKBest product rules labels k xs → xs ≡ []
+no_trees_of product labels k rules e [] b = refl
+no_trees_of product labels k rules e (x ∷ xs) b =
+    absurd (by (b.members.0).attained.0.runs (subst (λ rs. AreRuns rs (0 ∷ []) (b.members.0).attained.0.runs) e (b.members.0).attained.0.are_runs))
+  where
+    by : (runs : Trees ℕ) → AreRuns [] (0 ∷ []) runs → ⊥
+    by none a = absurd a
+    by (tree m runs rest) a = omega (arith, a.0)

@@ -1,6 +1,0 @@
-use Rattle.std.proofs.Common.{◌≡◌, length}
-use Rattle.tib_level_lists.specs.Weights.{CostAsListed}
-use Rattle.tib_level_lists.proofs.weights.costs_of.Given as goal
-
-abbrev pub invariant-loop-i : goal.invariant-loop-i
-invariant-loop-i l = (length l.costs.items ≡ l.i) × CostAsListed l.list l.costs.items

@@ -1,7 +1,0 @@
-use Rattle.std.proofs.Common.{◌≡◌, ◌++◌}
-use Rattle.std.specs.Prelude.{drop}
-use Rattle.tib_level_lists.specs.Weights.{places_from}
-use Rattle.tib_level_lists.proofs.weights.places_of.Given as goal
-
-abbrev pub invariant-loop-place : goal.invariant-loop-place
-invariant-loop-place l = l.places.items ++ places_from l.cost l.place (drop l.place l.weights) ≡ places_from l.cost 0 l.weights

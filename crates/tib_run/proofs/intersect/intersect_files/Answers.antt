@@ -1,0 +1,18 @@
+use Rattle.std.proofs.Common.{ℕ, List}
+use Rattle.std.specs.Prelude.{Option}
+use Rattle.tib_command.specs.Jobs.{meaning}
+use Rattle.tib_command.specs.declared.job.Operation.TheVariants as operations
+use Rattle.tib_job_files.proofs.Reached.{made_answer}
+use Rattle.tib_job_files.proofs.Steps.{made_ends}
+use Rattle.tib_run.proofs.intersect.intersect_files.Goals as goal
+
+pub returns-clause-status : goal.returns-clause-status
+returns-clause-status g c =
+    made_ends (meaning c.args.job.now) operations.Intersect g.S.Semiring.SCALE g.S.Semiring.product c.in-Ok.read.labels (c.in-Ok.read.first, (c.in-Ok.read.second, tt)) c.requires.operation c.requires.mode c.requires.product _ _ c.in-Ok.ensures.texts
+    c.in-Err-intersection_of.status tt c.in-Err-intersection_of.ensures.err
+
+pub returns-in-Ok-intersection_of-clause-text : goal.returns-in-Ok-intersection_of-clause-text
+returns-in-Ok-intersection_of-clause-text g c =
+    let held : List ℕ → Option (List ℕ) = g.F.Files.held c.args.files.now in
+    made_answer (meaning c.args.job.now) held operations.Intersect g.S.Semiring.SCALE g.S.Semiring.product c.in-Ok.read.labels (c.in-Ok.read.first, (c.in-Ok.read.second, tt)) c.requires.operation c.requires.mode c.requires.product c.in-Ok.ensures.texts
+    c.in-Ok-intersection_of.canonical.text.bytes tt c.in-Ok-intersection_of.ensures.within c.in-Ok-intersection_of.ensures.text

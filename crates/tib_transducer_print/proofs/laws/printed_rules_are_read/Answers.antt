@@ -1,5 +1,0 @@
-use Rattle.tib_transducer_print.proofs.RulesBack.{prints_rules}
-use Rattle.tib_transducer_print.proofs.laws.printed_rules_are_read.Goals as goal
-
-pub returns : goal.returns
-returns c = prints_rules
