@@ -1,11 +1,23 @@
--- The definitions of the image of one tree.
-pub mod Nodes
-pub mod Image
-pub mod Standing
-pub mod Laws
+-- The definitions of the image of one tree, and of the trees of one string.
 pub mod Answered
-pub mod Shapes
-pub mod IsIndex
-pub mod Walk
-pub mod Listing
 pub mod Examples
+pub mod Image
+pub mod IsIndex
+pub mod KeyRanges
+pub mod Laws
+pub mod Listing
+pub mod Nodes
+pub mod ParseAnswered
+pub mod ParseEdges
+pub mod ParseExamples
+pub mod ParseKeys
+pub mod ParseLaws
+pub mod ParseListing
+pub mod ParseMoves
+pub mod ParseOperation
+pub mod Parsing
+pub mod RestrictedLabels
+pub mod Restrictions
+pub mod Shapes
+pub mod Standing
+pub mod Walk

@@ -8,7 +8,7 @@ use tib_apply::ApplyError;
 use tib_cost::{Cost, MinPlus};
 use tib_grammar::{Item, Rule, Side};
 use tib_hunt::{Found, Open};
-use tib_parse::{Key, parse, parse_together};
+use tib_image::parse::{Key, parse, parse_together};
 use tib_strings::{StringRule, StringTransducer, Word, Words};
 use tib_transducer::{Pair, Variable};
 use tib_tree::Label;

@@ -27,12 +27,12 @@ use Rattle.tib_strings.specs.StringTransducerOf.{StringTransducerOf}
 use Rattle.tib_strings.specs.declared.StringRule.{StringRule}
 use Rattle.tib_strings.specs.ByText.{AreOneStringTransducer}
 use Rattle.tib_strings.specs.Cuts.{spans}
-use Rattle.tib_parse.specs.Restrictions.{restricted_labels}
-use Rattle.tib_parse.specs.Parsing.{first_key, key_at, parse_key, IsParseEdge}
-use Rattle.tib_parse.specs.Operation.{key_cmp, key_entries, edge_parts, parse}
-use Rattle.tib_parse.proofs.Parses.{parse_means}
-use Rattle.tib_parse.proofs.ReachedParses.{key_total, reached_grammar}
-use Rattle.tib_parse.specs.ParseLaws.{same_edge}
+use Rattle.tib_image.specs.Restrictions.{restricted_labels}
+use Rattle.tib_image.specs.Parsing.{first_key, key_at, parse_key, IsParseEdge}
+use Rattle.tib_image.specs.ParseOperation.{key_cmp, key_entries, edge_parts, parse}
+use Rattle.tib_image.proofs.Parses.{parse_means}
+use Rattle.tib_image.proofs.ReachedParses.{key_total, reached_grammar}
+use Rattle.tib_image.specs.ParseLaws.{same_edge}
 use Rattle.tib_canon.specs.Constructions.{at_first, edges_over, AreRulesOver, IsCanonicalOf}
 use Rattle.tib_canon.specs.Keys.{IsCanonicalOverKeys}
 use Rattle.tib_canon.specs.declared.begin.Begin.{Begin}

@@ -10,9 +10,9 @@ use Rattle.tib_strings.specs.Rules.{string_rule, pairs_of}
 use Rattle.tib_strings.specs.declared.StringRule.{StringRule}
 use Rattle.tib_strings.specs.Cuts.{IsCut, spans}
 use Rattle.tib_apply.specs.Restrictions.{Admits}
-use Rattle.tib_parse.specs.Restrictions.{restricted_labels}
-use Rattle.tib_parse.specs.Parsing.{first_key, parse_key, IsParseEdge}
-use Rattle.tib_parse.specs.Operation.{parse}
+use Rattle.tib_image.specs.Restrictions.{restricted_labels}
+use Rattle.tib_image.specs.Parsing.{first_key, parse_key, IsParseEdge}
+use Rattle.tib_image.specs.ParseOperation.{parse}
 use Rattle.tib_canon.proofs.EdgesByText.{key_with, edge_with, holes_kept}
 use Rattle.tib_canon.proofs.ReachedAlike.{AreProblemsAlike, reached_alike}
 use Rattle.tib_canon.proofs.Relabelled.{left_with}

@@ -8,8 +8,8 @@ use Rattle.tib_strings.specs.Range.{AreLinear, AreNondeleting}
 use Rattle.tib_strings.specs.declared.StringRule.{StringRule}
 use Rattle.tib_apply.specs.declared.error.ApplyError.{ApplyError}
 use Rattle.tib_apply.specs.declared.error.ApplyError.TheVariants.{Class, TooMany}
-use Rattle.tib_parse.specs.Operation.{parse}
-use Rattle.tib_parse.specs.Answered.{IsParseFault}
+use Rattle.tib_image.specs.ParseOperation.{parse}
+use Rattle.tib_image.specs.ParseAnswered.{IsParseFault}
 
 module _ (moves : List (StringRule ℕ)) (string : List ℕ) (limit : ℕ) (error : ApplyError) where
   pub told_class : (rule : ℕ) (fault : ClassFault) → error ≡ Class rule fault → IsParseFault moves string limit error → IsFirstFault moves rule fault

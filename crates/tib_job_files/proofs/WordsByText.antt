@@ -19,8 +19,8 @@ use Rattle.tib_strings.specs.ByText.{AgreeOnLeft, AgreeOnRight, AreOneStringRule
 use Rattle.tib_strings.specs.RuleValue.{nodes_of}
 use Rattle.tib_strings.specs.Cuts.{IsStep, IsCut, spans}
 use Rattle.tib_apply.specs.Restrictions.{labels_of, all_labels, once, restricted_labels as labels_of_rules, Admits}
-use Rattle.tib_parse.specs.Restrictions.{as_rule, restricted_labels}
-use Rattle.tib_parse.specs.Parsing.{span_at, parse_key}
+use Rattle.tib_image.specs.Restrictions.{as_rule, restricted_labels}
+use Rattle.tib_image.specs.Parsing.{span_at, parse_key}
 use Rattle.tib_canon.proofs.EdgesByText.{key_with}
 use Rattle.tib_canon.proofs.Relabelled.{variable_with, left_with, left_given}
 use Rattle.tib_operations.proofs.MovesByText.{moves_with, restricted_with, restriction_with, admits_to, admits_from, side_keyed}

@@ -9,7 +9,7 @@ use Rattle.tib_strings.specs.Range.{AreLinear, AreNondeleting}
 use Rattle.tib_strings.specs.Series.{IsStringSeries}
 use Rattle.tib_strings.specs.StringTransducerOf.{StringTransducerOf}
 use Rattle.tib_strings.specs.declared.StringRule.{StringRule}
-use Rattle.tib_parse.specs.Operation.{parse}
+use Rattle.tib_image.specs.ParseOperation.{parse}
 use Rattle.tib_canon.specs.Constructions.{Construction, at_first, IsCanonicalFrom, HasGrammarText}
 use Rattle.tib_operations.specs.Classes.{Demanded}
 use Rattle.tib_operations.specs.Made.{Made, reached_set}

@@ -1,7 +1,7 @@
 // `parse`: the canonical grammar of all trees that a tree-to-string transducer turns into one string.
 ghost use Rattle.std.specs.Prelude.{◌≤◌, length, IfErr, IfOk};
 ghost use Rattle.tib_strings.specs.Range.{AreLinear, AreNondeleting};
-ghost use Rattle.tib_parse.specs.Answered.{IsParsed, AreOverOrder, HasParts, IsParseFault};
+ghost use Rattle.tib_image.specs.ParseAnswered.{IsParsed, AreOverOrder, HasParts, IsParseFault};
 ghost use Rattle.tib_operations.specs.Made.{IsLimit};
 ghost use Rattle.tib_job_files.specs.Parse.{HasParseText, parse_makes, parse_demands, IsParseTextFault};
 ghost use Rattle.tib_job_files.specs.Words.{ArePlainWords};
@@ -15,8 +15,8 @@ use tib_cost::Semiring;
 use tib_grammar::Rule;
 use tib_grammar_file::printable_is_labelled;
 use tib_hunt::{Found, Gate};
+use tib_image::parse::{Key, parse, parse_together};
 use tib_operations::Status;
-use tib_parse::{Key, parse, parse_together};
 use tib_strings::StringTransducer;
 use tib_tree::{Label, Labels};
 
@@ -67,7 +67,7 @@ fn canonical_of_parse<S: Semiring + Drop>(
 /// The canonical grammar of the trees that a transducer, which is the first file, turns into a string, each at its least cost; or the status
 /// with which the run ends. `Class` names the first rule that is not linear or not nondeleting; `TooMany` comes where there is none and the
 /// reached keys have more parts than the limit; `OutOfMemory` where memory is refused or the string has 2^32 words or more. No normal form is
-/// made. The time is that of the edges of the keys that are reached (`parse` of tib_parse).
+/// made. The time is that of the edges of the keys that are reached (`parse` of tib_image).
 pub fn parse_of<S: Semiring + Drop, G: Gate>(
     alloc: Global,
     transducer: &StringTransducer<S>,

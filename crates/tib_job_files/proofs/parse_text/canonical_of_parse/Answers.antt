@@ -2,7 +2,7 @@ use Rattle.std.proofs.Common.{ℕ, List, refl, arith, subst, sym}
 use Rattle.std.proofs.lemmas.Result.{IfOk-at_ok, IfErr-at_err}
 use Rattle.tib_grammar_file.specs.GrammarText.{GrammarText}
 use Rattle.tib_hunt.specs.Reached.{IsBeyond}
-use Rattle.tib_parse.proofs.ReachedParses.{reached_grammar}
+use Rattle.tib_image.proofs.ReachedParses.{reached_grammar}
 use Rattle.tib_canon.specs.Constructions.{IsCanonicalOf}
 use Rattle.tib_canon.specs.declared.begin.Begin.TheVariants.{At}
 use Rattle.tib_operations.proofs.MadeParts.{canonical_within}

@@ -1,5 +1,0 @@
-use Rattle.tib_parse.proofs.laws.parse_is_reached.Goals as goal
-use Rattle.tib_parse.proofs.ReachedParses.{reached_grammar}
-
-pub returns : goal.returns
-returns c moves string order rules range reached = reached_grammar moves string order rules range reached

@@ -1,5 +1,0 @@
-use Rattle.tib_parse.proofs.laws.parse_means.Goals as goal
-use Rattle.tib_parse.proofs.Parses.{parse_means}
-
-pub returns : goal.returns
-returns g c moves shaped linear nondeleting string order rules found t v = parse_means g.met.S.Semiring.laws moves shaped linear nondeleting string order rules found t v

@@ -1,7 +1,0 @@
-use Rattle.std.proofs.Common.{◌≡◌, ◌++◌, map, take}
-use Rattle.tib_grammar.specs.Items.{holes_in}
-use Rattle.tib_parse.specs.Listing.{variable_key}
-use Rattle.tib_parse.proofs.listing.push_ends.Given as goal
-
-abbrev pub invariant-loop-item : goal.invariant-loop-item
-invariant-loop-item l = l.ends.items ≡ l.initial.ends.items ++ map (variable_key l.restrictions l.spans) (holes_in (take l.item-index l.items))
