@@ -3,10 +3,10 @@
 #![tactic(auto)]
 
 #[cfg(test)]
+mod print;
+#[cfg(test)]
 mod string_file;
 #[cfg(test)]
 mod texts;
 #[cfg(test)]
 mod transducer_file;
-#[cfg(test)]
-mod transducer_print;
