@@ -1,5 +1,5 @@
 -- Rules in slots, by the state at one child place.
-use Rattle.std.specs.Prelude.{◌≡◌, ℕ, ◌<◌, ◌%◌, List, [], length, map, get_or}
+use Rattle.std.specs.Prelude.{◌≡◌, ℕ, ◌<◌, ◌≤◌, ◌+◌, ◌%◌, List, [], ◌∷◌, length, map, get_or, slice_range}
 use Rattle.std.specs.Global.{Vec}
 use Rattle.tib_lex.specs.Lists.{Has}
 use Rattle.tib_tree.specs.Trees.{count}
@@ -35,6 +35,17 @@ pub record IsReady (rules : List (Rule ℕ)) (n j : ℕ) (r : Ready) : Type 0 wh
 
 abbrev pub lists_of : List (Vec Ready) → List (List Ready)
 lists_of slots = map (λ s. s.items) slots
+
+-- the slots that start at these places, each with what stands before the next one's start
+abbrev pub slots_of : List ℕ → List Ready → List (List Ready)
+slots_of [] rs = []
+slots_of (a ∷ []) rs = []
+slots_of (a ∷ b ∷ more) rs = slice_range rs a b ∷ slots_of (b ∷ more) rs
+
+-- none of these places is behind the next one, nor behind the first n
+pub record IsParting (starts : List ℕ) (n : ℕ) : Type 0 where
+  pub ordered : (s : ℕ) → s + 1 < length starts → get_or starts s 0 ≤ get_or starts (s + 1) 0
+  pub within : (s : ℕ) → s < length starts → get_or starts s 0 ≤ n
 
 -- the slot of a state
 abbrev pub slot_at : List (List Ready) → ℕ → List Ready

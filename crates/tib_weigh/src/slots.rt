@@ -1,18 +1,21 @@
 // Rules in slots, by the states at one child place.
 ghost use Rattle.std.specs.Prelude.{◌≡◌, ℕ, ◌%◌, ◌<◌, length, IfOk, vec_len, get_or, []};
 ghost use Rattle.tib_grammar.specs.Forms.{AreNormal};
-ghost use Rattle.tib_weigh.specs.Buckets.{lists_of, slot_at, AgreeBeside, AreRules, HoldsAll, IsRuleOver, HoldsOnly};
+ghost use Rattle.tib_weigh.specs.Buckets.{lists_of, slots_of, slot_at, AgreeBeside, AreRules, HoldsAll, IsRuleOver, HoldsOnly, IsParting};
 
 use crate::ready::{Ready, agree_beside};
 use std::alloc::{AllocError, Global};
 use tib_grammar::Rule;
 
 /// Some rules by the states at one of their child places. A state has the slot of its rest by the number of slots, so a
-/// slot may hold rules of further states too.
+/// slot may hold rules of further states too. The rules of all slots lie one behind the other, so that those that are
+/// looked at one after another are near in memory; a slot ends where the next one starts.
 #[derive(Drop)]
 pub(crate) struct Slots {
-    lists: Vec<Vec<Ready>>,
-    ghost some: { 0 < vec_len lists },
+    starts: Vec<usize>,
+    ready: Vec<Ready>,
+    ghost some: { 1 < vec_len starts },
+    ghost parting: { IsParting starts.items (vec_len ready) },
 }
 
 // The slot of a state.
@@ -90,6 +93,20 @@ fn filed(
     Ok(made)
 }
 
+// The rules of all slots, one slot behind the other.
+fn flattened(alloc: Global, lists: &[Vec<Ready>]) -> Result<Slots, AllocError>
+    requires some { 0 < length lists.now }
+    ensures { IfOk result (λ s. slots_of s.starts.items s.ready.items ≡ lists_of lists.now) }
+{
+    let mut ready = Vec::new(alloc);
+    let mut starts = vec![in alloc; 0; 1]?;
+    for list in lists {
+        ready.extend_from_slice(list)?;
+        starts.push(ready.len())?;
+    }
+    Ok(Slots { starts, ready })
+}
+
 impl Slots {
     /// The rules at some positions in this number of slots, by the states at a child place.
     pub(crate) fn new(
@@ -105,26 +122,28 @@ impl Slots {
         requires place { place < rank }
         requires some { 0 < slots }
         ensures all { IfOk result (λ s. HoldsAll rules.now place positions.now
-            (lists_of s.lists.items)) }
+            (slots_of s.starts.items s.ready.items)) }
         ensures only { IfOk result (λ s. HoldsOnly rules.now rank place positions.now
-            (lists_of s.lists.items)) }
+            (slots_of s.starts.items s.ready.items)) }
     {
         let lists = filed(alloc, rules, positions, place, rank, slots)?;
-        Ok(Slots { lists })
+        flattened(alloc, &lists)
     }
 
     /// The rules in the slot of a state.
     pub(crate) fn at(&self, state: u32) -> &[Ready]
-        ensures { result.now ≡ slot_at (lists_of self.now.lists.items) state }
+        ensures { result.now ≡ slot_at (slots_of self.now.starts.items self.now.ready.items)
+            state }
     {
-        &self.lists[slot_of(state, self.lists.len())]
+        let slot = slot_of(state, self.starts.len() - 1);
+        &self.ready[self.starts[slot]..self.starts[slot + 1]]
     }
 
     /// How many slots have a rule: about as many as there are states at the child place.
     pub(crate) fn used(&self) -> usize {
         let mut used: usize = 0;
-        for list in &self.lists {
-            if !list.is_empty() {
+        for slot in 1..self.starts.len() {
+            if self.starts[slot - 1] < self.starts[slot] {
                 used = used.saturating_add(1);
             }
         }
