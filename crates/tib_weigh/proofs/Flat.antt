@@ -1,10 +1,11 @@
 -- Slots of which the records lie one behind the other.
-use Rattle.std.specs.Prelude.{◌≡◌, ◌⊎◌, ℕ, ◌+◌, ◌-◌, ◌<◌, ◌≤◌, List, [], ◌∷◌, ◌++◌, length, take, slice_range, refl}
+use Rattle.std.specs.Prelude.{◌≡◌, ◌⊎◌, ℕ, ◌+◌, ◌-◌, ◌%◌, ◌<◌, ◌≤◌, List, [], ◌∷◌, ◌++◌, length, take, slice_range, refl}
 use Rattle.std.proofs.Common.{arith, zero, suc, ap, sym, ◌∙◌, inl, inr, get_or}
 use Rattle.std.proofs.lemmas.List.{take-append-le, drop-append-le, length-drop, length-append, get_or_append_left}
+use Rattle.std.proofs.lemmas.Nat.{mod_below}
 use Rattle.std.proofs.Math.Seq.{drop-append_seam, take-length, get_or-append_seam}
 use Rattle.tib_weigh.specs.declared.ready.Ready.{Ready}
-use Rattle.tib_weigh.specs.Buckets.{slots_of, IsParting}
+use Rattle.tib_weigh.specs.Buckets.{slots_of, slot_at, IsParting}
 
 -- what stands between two places of a front
 slice_front : (rs xs : List Ready) (a b : ℕ) → a ≤ length rs → b ≤ length rs → slice_range (rs ++ xs) a b ≡ slice_range rs a b
@@ -32,7 +33,7 @@ slots_more (a ∷ b ∷ more) (suc n) rs xs long last within =
     ∙ ap (λ (ls : List (List Ready)). slice_range rs a b ∷ ls) rest
 
 -- what a slot has
-pub slots_at : (starts : List ℕ) (rs : List Ready) (s : ℕ) → s + 1 < length starts → get_or (slots_of starts rs) s [] ≡ slice_range rs (get_or starts s 0) (get_or starts (s + 1) 0)
+slots_at : (starts : List ℕ) (rs : List Ready) (s : ℕ) → s + 1 < length starts → get_or (slots_of starts rs) s [] ≡ slice_range rs (get_or starts s 0) (get_or starts (s + 1) 0)
 slots_at [] rs s h = absurd (omega (arith, h))
 slots_at (a ∷ []) rs s h = absurd (omega (arith, h))
 slots_at (a ∷ b ∷ more) rs zero h = refl
@@ -41,10 +42,23 @@ slots_at (a ∷ b ∷ more) rs (suc s) h =
     slots_at (b ∷ more) rs s (omega (arith, h)) ∙ ap (λ i. slice_range rs (get_or (b ∷ more) s 0) (get_or (a ∷ b ∷ more) i 0)) next
 
 -- how many slots there are
-pub slots_many : (starts : List ℕ) (rs : List Ready) → 0 < length starts → length (slots_of starts rs) ≡ length starts - 1
+slots_many : (starts : List ℕ) (rs : List Ready) → 0 < length starts → length (slots_of starts rs) ≡ length starts - 1
 slots_many [] rs h = absurd (omega (arith, h))
 slots_many (a ∷ []) rs h = refl
 slots_many (a ∷ b ∷ more) rs h = let rest = slots_many (b ∷ more) rs (omega arith) in omega (arith, rest)
+
+-- the slot of a state is one of them
+pub slot_below : (starts : List ℕ) (state slot : ℕ) → 1 < length starts → slot ≡ state % (length starts - 1) → slot + 1 < length starts
+slot_below starts state slot some is = omega (arith, is, mod_below state (length starts - 1) (omega (arith, some)))
+
+-- and what it has
+pub slot_there :
+    (starts : List ℕ) (rs : List Ready) (state slot : ℕ) → 1 < length starts → slot ≡ state % (length starts - 1) →
+    slot_at (slots_of starts rs) state ≡ slice_range rs (get_or starts slot 0) (get_or starts (slot + 1) 0)
+slot_there starts rs state slot some is =
+    ap (λ n. get_or (slots_of starts rs) (state % n) []) (slots_many starts rs (omega (arith, some)))
+    ∙ ap (λ s. get_or (slots_of starts rs) s []) (sym is)
+    ∙ slots_at starts rs slot (slot_below starts state slot some is)
 
 -- a list of records more behind the others
 pub record FlatMore (starts : List ℕ) (rs : List Ready) (made : List (List Ready)) (n : ℕ) : Type 0 where

@@ -125,6 +125,7 @@ impl Shape {
         rank: u32,
         stack: &[Vec<Entry>],
         found: &mut Found,
+        picked: &mut Vec<Entry>,
         vector: &mut Vec<Entry>,
     ) -> Result<(), AllocError>
         requires normal { AreNormal rules.now }
@@ -144,7 +145,15 @@ impl Shape {
             ≡ length found.old.costs.items) }
     {
         let place = self.best_place(stack);
-        try_table::<S>(found, &self.tables[place], rules, stack, place, rank)?;
+        try_table::<S>(
+            found,
+            picked,
+            &self.tables[place],
+            rules,
+            stack,
+            place,
+            rank,
+        )?;
         found.move_into(vector)
     }
 }

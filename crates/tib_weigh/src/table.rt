@@ -1,5 +1,5 @@
 // The rules of a label and rank by the states at one child place.
-ghost use Rattle.std.specs.Prelude.{◌≡◌, ℕ, ◌<◌, length, IfOk};
+ghost use Rattle.std.specs.Prelude.{◌≡◌, ℕ, ◌<◌, length, IfOk, [], false};
 ghost use Rattle.tib_grammar.specs.Forms.{AreNormal};
 ghost use Rattle.tib_weigh.specs.Buckets.{AreRules};
 ghost use Rattle.tib_weigh.specs.Tables.{bucket, IsTable};
@@ -45,6 +45,13 @@ impl Table {
     /// About how many rules this number of states leaves.
     pub(crate) fn left_by(&self, states: usize) -> usize {
         states.saturating_mul(self.average)
+    }
+
+    /// Whether there are such rules as `at` gives for a state.
+    pub(crate) fn has(&self, state: u32) -> bool
+        ensures { result ≡ false → bucket self.now state ≡ [] }
+    {
+        self.slots.has(state)
     }
 
     /// The rules of a state, and maybe rules of others.

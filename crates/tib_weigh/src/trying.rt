@@ -1,7 +1,7 @@
 // The costs at a node from a table of its rules: only the rules are tried that one child can serve.
 ghost use Rattle.std.specs.Prelude.{◌≡◌, ◌⊎◌, ℕ, ◌+◌, ◌-◌, ◌<◌, ◌≤◌, length, map, IfOk, None, Some, nat_eq, get_or, [], if◌then◌else◌};
 ghost use Rattle.tib_cost.specs.Least.{lesser as lesser_of, times as times_of};
-ghost use Rattle.tib_lex.specs.Lists.{Each};
+ghost use Rattle.tib_lex.specs.Lists.{Each, Has};
 ghost use Rattle.tib_grammar.specs.Forms.{AreNormal};
 ghost use Rattle.tib_weigh.specs.Buckets.{IsRuleOver};
 ghost use Rattle.tib_weigh.specs.Entries.{cost_in, IsAscending};
@@ -12,6 +12,7 @@ ghost use Rattle.tib_weigh.specs.Worth.{times_beside, rest_worth, worth, HasTrie
 ghost use Rattle.tib_grammar.specs.Items.{state_in};
 
 use crate::found::Found;
+use crate::picking::pick;
 use crate::ready::Ready;
 use crate::table::Table;
 use crate::vector::{Entry, cost_at};
@@ -26,7 +27,9 @@ pub(crate) struct Rest {
     pub cost: Option<Cost>,
 }
 
-// The product of the costs of the last trees of the stack at the states of the holes, but for one child place.
+// The product of the costs of the last trees of the stack at the states of the holes, but for one child place. It is taken once
+// for many rules, so it stands apart from the loop over these.
+#[inline(never)]
 fn product_beside<S: Semiring>(
     holes: &[Item<u32>],
     stack: &[Vec<Entry>],
@@ -146,11 +149,13 @@ fn try_slot<S: Semiring>(
     Ok(())
 }
 
-// Tries the rules of a table at a child place for the entries of the vector there.
+// Tries the rules of a table at a child place for some entries of the vector there. It stands apart from its callers when it is
+// compiled, so that what its loop needs stays in registers.
+#[inline(never)]
 fn try_entries<S: Semiring>(
     found: &mut Found,
     table: &Table,
-    vector: &[Entry],
+    entries: &[Entry],
     rules: &[Rule<u32>],
     stack: &[Vec<Entry>],
     place: usize,
@@ -159,30 +164,32 @@ fn try_entries<S: Semiring>(
     requires normal { AreNormal rules.now }
     requires sound { (q : ℕ) → AreSound rules.now rank (length found.old.costs.items)
         (bucket table.now q) }
-    requires vector { vector.now ≡ get_or (vectors stack.now) place [] }
-    requires ascends { IsAscending vector.now }
+    requires here { (e : Entry) → Has entries.now e →
+        cost_in (get_or (vectors stack.now) place []) e.state ≡ Some e.cost }
     requires enough { rank ≤ length stack.now }
     requires ascend { Each IsAscending (vectors stack.now) }
     requires blank { IsBlank found.old }
     ensures noted { IfOk result (λ _. IsNoted found.new) }
     ensures long { IfOk result (λ _. length found.new.costs.items ≡ length found.old.costs.items) }
     ensures tried { IfOk result (λ _. HasTriedAll (worth S.product rules.now place
-        (vectors stack.now)) vector.now (bucket table.now) (cost_of found.new)) }
+        (vectors stack.now)) entries.now (bucket table.now) (cost_of found.new)) }
 {
     let mut last = Rest {
         position: None,
         cost: None,
     };
-    for entry in vector {
+    for entry in entries {
         let ready = table.at(entry.state);
         try_slot::<S>(found, &mut last, ready, entry, rules, stack, place, rank)?;
     }
     Ok(())
 }
 
-/// Tries the rules of a table at a child place that the vector there serves.
+/// Tries the rules of a table at a child place that the vector there serves. The list is there for its room, and what it
+/// holds is of no account.
 pub(crate) fn try_table<S: Semiring>(
     found: &mut Found,
+    picked: &mut Vec<Entry>,
     table: &Table,
     rules: &[Rule<u32>],
     stack: &[Vec<Entry>],
@@ -203,5 +210,6 @@ pub(crate) fn try_table<S: Semiring>(
         (cost_of found.new)) }
 {
     let vector = &stack[stack.len() - 1 - place];
-    try_entries::<S>(found, table, vector, rules, stack, place, rank)
+    let many = pick(table, vector, picked)?;
+    try_entries::<S>(found, table, &picked[..many], rules, stack, place, rank)
 }

@@ -20,10 +20,11 @@ use tib_cost::{Cost, Semiring};
 use tib_normal::Normal;
 use tib_tree::{Label, Tree};
 
-// What is used again from node to node: the costs by state, and vectors that no tree needs any more.
+// What is used again from node to node: the costs by state, the entries that are tried, and vectors that no tree needs any more.
 #[derive(Drop)]
 struct Room {
     found: Found,
+    picked: Vec<Entry>,
     spare: Vec<Vec<Entry>>,
 }
 
@@ -35,6 +36,7 @@ impl Room {
     {
         Ok(Room {
             found: Found::new(alloc, states)?,
+            picked: Vec::new(alloc),
             spare: Vec::new(alloc),
         })
     }
@@ -72,6 +74,7 @@ fn put_vector_at<S: Semiring>(
     normal: &Normal<S>,
     index: &Index,
     found: &mut Found,
+    picked: &mut Vec<Entry>,
     label: Label,
     rank: u32,
     stack: &[Vec<Entry>],
@@ -98,7 +101,7 @@ fn put_vector_at<S: Semiring>(
     if rank == 0 {
         return vector.extend_from_slice(shape.leaf());
     }
-    shape.put_vector::<S>(rules, rank, stack, found, vector)
+    shape.put_vector::<S>(rules, rank, stack, found, picked, vector)
 }
 
 // The cost of a tree, with an index of the rules, which may lack some or all of them. In a bottom-up pass the vector of a
@@ -128,6 +131,7 @@ fn weigh_by<S: Semiring>(
             normal,
             index,
             &mut room.found,
+            &mut room.picked,
             node.label,
             node.rank,
             &stack,

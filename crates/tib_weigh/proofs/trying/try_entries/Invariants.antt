@@ -10,5 +10,5 @@ invariant-loop-entry g l = record {
   last : IsRemembered g.S.Semiring.product l.rules l.place (vectors l.stack) l.last;
   noted : IsNoted l.found;
   long : length l.found.costs.items ≡ length l.fn.found.costs.items;
-  tried : HasTriedAll (worth g.S.Semiring.product l.rules l.place (vectors l.stack)) (take l.entry-index l.vector) (bucket l.table) (cost_of l.found);
+  tried : HasTriedAll (worth g.S.Semiring.product l.rules l.place (vectors l.stack)) (take l.entry-index l.entries) (bucket l.table) (cost_of l.found);
 }

@@ -1,0 +1,40 @@
+// The entries of a vector for whose states a table has rules.
+ghost use Rattle.std.specs.Prelude.{◌≤◌, length, take, IfOk};
+ghost use Rattle.tib_weigh.specs.Picks.{IsPicked};
+
+use crate::table::Table;
+use crate::vector::Entry;
+use std::alloc::AllocError;
+
+// Has a list be as long as a vector.
+fn make_room(picked: &mut Vec<Entry>, vector: &[Entry]) -> Result<(), AllocError>
+    ensures { IfOk result (λ _. length vector.now ≤ length picked.new.items) }
+{
+    if picked.len() < vector.len() {
+        picked.extend_from_slice(vector)?;
+    }
+    Ok(())
+}
+
+/// Puts the entries of a vector for whose states a table has rules in front of what a list holds already, in their order, and
+/// tells how many they are. Each entry is put there, and the next takes its place where the table has nothing for it: so no
+/// branch hangs on that, which a processor would guess wrong every other time.
+#[inline(never)]
+pub(crate) fn pick(
+    table: &Table,
+    vector: &[Entry],
+    picked: &mut Vec<Entry>,
+) -> Result<usize, AllocError>
+    ensures within { IfOk result (λ n. n ≤ length picked.new.items) }
+    ensures picked { IfOk result (λ n. IsPicked table.now vector.now (take n picked.new.items)) }
+{
+    make_room(picked, vector)?;
+    let mut many = 0;
+    for entry in vector {
+        picked[many] = *entry;
+        if table.has(entry.state) {
+            many += 1;
+        }
+    }
+    Ok(many)
+}
