@@ -12,11 +12,13 @@ use tib_grammar::Rule;
 // How many slots a table has at most for each of its rules.
 const SLOTS_A_RULE: usize = 4;
 
-/// Some rules by the states at one of their child places, and how many there are of a state on average.
+/// Some rules by the states at one of their child places, how many there are of a state on average, and whether many slots
+/// have none.
 #[derive(Drop)]
 pub(crate) struct Table {
     slots: Slots,
     average: usize,
+    is_sparse: bool,
 }
 
 impl Table {
@@ -38,13 +40,22 @@ impl Table {
         let most = positions.len().saturating_mul(SLOTS_A_RULE);
         let many = most.min(states as usize).max(1);
         let slots = Slots::new(alloc, rules, positions, place, rank, many)?;
-        let average = positions.len().div_ceil(slots.used().max(1));
-        Ok(Table { slots, average })
+        let used = slots.used();
+        Ok(Table {
+            average: positions.len().div_ceil(used.max(1)),
+            is_sparse: used.saturating_mul(4) < many.saturating_mul(3),
+            slots,
+        })
     }
 
     /// About how many rules this number of states leaves.
     pub(crate) fn left_by(&self, states: usize) -> usize {
         states.saturating_mul(self.average)
+    }
+
+    /// Whether at least a fourth of the slots have no rule.
+    pub(crate) fn is_sparse(&self) -> bool {
+        self.is_sparse
     }
 
     /// Whether there are such rules as `at` gives for a state.

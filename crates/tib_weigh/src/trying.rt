@@ -20,6 +20,9 @@ use std::alloc::AllocError;
 use tib_cost::{Cost, Semiring};
 use tib_grammar::{Item, Rule};
 
+// The fewest entries of a vector of which those with rules are put together first.
+const LEAST_PICKED: usize = 16;
+
 /// The product of the costs at all child places but one, for the states below the rule at a position.
 #[derive(Drop)]
 pub(crate) struct Rest {
@@ -210,6 +213,9 @@ pub(crate) fn try_table<S: Semiring>(
         (cost_of found.new)) }
 {
     let vector = &stack[stack.len() - 1 - place];
+    if vector.len() < LEAST_PICKED || !table.is_sparse() {
+        return try_entries::<S>(found, table, vector, rules, stack, place, rank);
+    }
     let many = pick(table, vector, picked)?;
     try_entries::<S>(found, table, &picked[..many], rules, stack, place, rank)
 }
