@@ -1,11 +1,15 @@
 -- Slots of which the records lie one behind the other.
-use Rattle.std.specs.Prelude.{◌≡◌, ◌⊎◌, ℕ, ◌+◌, ◌-◌, ◌%◌, ◌<◌, ◌≤◌, List, [], ◌∷◌, ◌++◌, length, take, slice_range, refl}
+use Rattle.std.specs.Prelude.{◌≡◌, ◌⊎◌, ℕ, ◌+◌, ◌-◌, ◌%◌, ◌<◌, ◌≤◌, List, [], ◌∷◌, ◌++◌, length, take, drop, slice_range, refl}
 use Rattle.std.proofs.Common.{arith, zero, suc, ap, sym, ◌∙◌, inl, inr, get_or}
-use Rattle.std.proofs.lemmas.List.{take-append-le, drop-append-le, length-drop, length-append, get_or_append_left}
+use Rattle.std.proofs.lemmas.List.{take-append-le, drop-append-le, length-take, length-drop, length-append, get_or_append_left}
 use Rattle.std.proofs.lemmas.Nat.{mod_below}
 use Rattle.std.proofs.Math.Seq.{drop-append_seam, take-length, get_or-append_seam}
 use Rattle.tib_weigh.specs.declared.ready.Ready.{Ready}
 use Rattle.tib_weigh.specs.Buckets.{slots_of, slot_at, IsParting}
+
+-- a number that is at most another is that one or less
+pub same_or_less : (i m : ℕ) → i ≤ m → (i ≡ m) ⊎ (i < m)
+same_or_less i m h = grind arith
 
 -- what stands between two places of a front
 slice_front : (rs xs : List Ready) (a b : ℕ) → a ≤ length rs → b ≤ length rs → slice_range (rs ++ xs) a b ≡ slice_range rs a b
@@ -17,6 +21,10 @@ slice_back : (rs xs : List Ready) → slice_range (rs ++ xs) (length rs) (length
 slice_back rs xs =
     let rest : length rs + length xs - length rs ≡ length xs = omega arith in
     ap (λ (l : List Ready). take (length rs + length xs - length rs) l) (drop-append_seam rs xs) ∙ ap (λ n. take n xs) rest ∙ take-length xs
+
+-- from one place to a later one something stands
+pub slice_some : (rs : List Ready) (a b : ℕ) → a < b → b ≤ length rs → 0 < length (slice_range rs a b)
+slice_some rs a b low high = omega (arith, length-take (b - a) (drop a rs), length-drop a rs, low, high)
 
 -- one slot more
 slots_more :
@@ -82,18 +90,15 @@ flat_more starts rs xs made n starts' rs' was more pushed =
       long = longer;
       last = at_end;
       parting = record {
-        ordered = λ s h. ordered s (less_or_same s n (omega (arith, h, longer))) before at_end end;
-        within = λ s h. within s (less_or_same s (n + 1) (omega (arith, h, longer))) before at_end end;
+        ordered = λ s h. ordered s (same_or_less s n (omega (arith, h, longer))) before at_end end;
+        within = λ s h. within s (same_or_less s (n + 1) (omega (arith, h, longer))) before at_end end;
       };
     }
   where
-    less_or_same : (s m : ℕ) → s ≤ m → (s < m) ⊎ (s ≡ m)
-    less_or_same s m h = grind arith
+    ordered : (s : ℕ) → (s ≡ n) ⊎ (s < n) → ((s : ℕ) → s < n + 1 → get_or starts' s 0 ≡ get_or starts s 0) → get_or starts' (n + 1) 0 ≡ length rs' → length rs' ≡ length rs + length xs → get_or starts' s 0 ≤ get_or starts' (s + 1) 0
+    ordered s (inr h) before at_end end = omega (arith, before s (omega (arith, h)), before (s + 1) (omega (arith, h)), was.parting.ordered s (omega (arith, h, was.long)))
+    ordered s (inl e) before at_end end = rw e (omega (arith, before n (omega arith), at_end, end, was.last))
 
-    ordered : (s : ℕ) → (s < n) ⊎ (s ≡ n) → ((s : ℕ) → s < n + 1 → get_or starts' s 0 ≡ get_or starts s 0) → get_or starts' (n + 1) 0 ≡ length rs' → length rs' ≡ length rs + length xs → get_or starts' s 0 ≤ get_or starts' (s + 1) 0
-    ordered s (inl h) before at_end end = omega (arith, before s (omega (arith, h)), before (s + 1) (omega (arith, h)), was.parting.ordered s (omega (arith, h, was.long)))
-    ordered s (inr e) before at_end end = rw e (omega (arith, before n (omega arith), at_end, end, was.last))
-
-    within : (s : ℕ) → (s < n + 1) ⊎ (s ≡ n + 1) → ((s : ℕ) → s < n + 1 → get_or starts' s 0 ≡ get_or starts s 0) → get_or starts' (n + 1) 0 ≡ length rs' → length rs' ≡ length rs + length xs → get_or starts' s 0 ≤ length rs'
-    within s (inl h) before at_end end = omega (arith, before s h, end, was.parting.within s (omega (arith, h, was.long)))
-    within s (inr e) before at_end end = rw e (omega (arith, at_end))
+    within : (s : ℕ) → (s ≡ n + 1) ⊎ (s < n + 1) → ((s : ℕ) → s < n + 1 → get_or starts' s 0 ≡ get_or starts s 0) → get_or starts' (n + 1) 0 ≡ length rs' → length rs' ≡ length rs + length xs → get_or starts' s 0 ≤ length rs'
+    within s (inr h) before at_end end = omega (arith, before s h, end, was.parting.within s (omega (arith, h, was.long)))
+    within s (inl e) before at_end end = rw e (omega (arith, at_end))

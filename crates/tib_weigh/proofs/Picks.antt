@@ -1,5 +1,5 @@
 -- Entries that are picked, and what is tried with them.
-use Rattle.std.specs.Prelude.{◌≡◌, ℕ, List, [], ◌∷◌, ◌++◌, Option, Some}
+use Rattle.std.specs.Prelude.{◌≡◌, ℕ, ◌<◌, List, [], ◌∷◌, ◌++◌, length, Option, Some}
 use Rattle.std.proofs.Common.{subst, inl, inr}
 use Rattle.tib_lex.specs.Lists.{Has}
 use Rattle.tib_lex.proofs.Members.{at_has}
@@ -14,11 +14,15 @@ use Rattle.tib_weigh.proofs.Members.{has_first, has_last, has_or_last}
 use Rattle.tib_weigh.proofs.Tries.{cost_at_entry}
 
 -- an entry more that is picked
-pub pick_more : (t : Table) (v picked : List Entry) (e : Entry) → IsPicked t v picked → IsPicked t (v ++ e ∷ []) (picked ++ e ∷ [])
-pick_more t v picked e was = record {
+pub pick_more : (t : Table) (v picked : List Entry) (e : Entry) → 0 < length (bucket t e.state) → IsPicked t v picked → IsPicked t (v ++ e ∷ []) (picked ++ e ∷ [])
+pick_more t v picked e some was = record {
   members = λ x h. elim (has_or_last picked e x h) [
     | inl a ↦ has_first v e x (was.members x a)
     | inr same ↦ subst (Has (v ++ e ∷ [])) same (has_last v e)
+  ];
+  served = λ x h. elim (has_or_last picked e x h) [
+    | inl a ↦ was.served x a
+    | inr same ↦ subst (λ (y : Entry). 0 < length (bucket t y.state)) same some
   ];
   others = λ x h. elim (has_or_last v e x h) [
     | inl a ↦ elim (was.others x a) [ inl b ↦ inl (has_first picked e x b) | inr none ↦ inr none ]
@@ -30,6 +34,7 @@ pick_more t v picked e was = record {
 pub pick_none : (t : Table) (v picked : List Entry) (e : Entry) → bucket t e.state ≡ [] → IsPicked t v picked → IsPicked t (v ++ e ∷ []) picked
 pick_none t v picked e none was = record {
   members = λ x h. has_first v e x (was.members x h);
+  served = was.served;
   others = λ x h. elim (has_or_last v e x h) [
     | inl a ↦ was.others x a
     | inr same ↦ inr (subst (λ (y : Entry). bucket t y.state ≡ []) same none)

@@ -13,6 +13,7 @@ use Rattle.tib_weigh.specs.declared.index.Shape.{Shape}
 use Rattle.tib_weigh.specs.declared.index.Index.{Index}
 use Rattle.tib_weigh.specs.Tables.{IsTable}
 use Rattle.tib_weigh.specs.Shapes.{IsShape, IsIndex}
+use Rattle.tib_weigh.proofs.Flat.{same_or_less}
 
 -- a table more
 pub tables_more :
@@ -20,9 +21,6 @@ pub tables_more :
     ((j : ℕ) (t : Table) → j < k → t ≡ get_or old j t → IsTable rules n ps j t) → (j : ℕ) (t : Table) → j < k + 1 → t ≡ get_or new j t → IsTable rules n ps j t
 tables_more rules n ps k old new made pushed long is each j t h at = by (same_or_less j k (omega arith))
   where
-    same_or_less : (i m : ℕ) → i ≤ m → (i ≡ m) ⊎ (i < m)
-    same_or_less i m h = grind arith
-
     by : (j ≡ k) ⊎ (j < k) → IsTable rules n ps j t
     by (inl same) =
         let t_is : t ≡ made = at ∙ ap (λ (xs : List Table). get_or xs j t) pushed ∙ ap (λ i. get_or (old ++ made ∷ []) i t) (same ∙ sym long) ∙ get_or-append_seam old made [] t in

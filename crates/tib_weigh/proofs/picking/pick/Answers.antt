@@ -27,7 +27,7 @@ loop-entry-preserved c =
             few = omega (arith, w.many-is, was.few);
             long = long;
             picked = taken (λ es. IsPicked table es (take c.if-has.many (slice_set before many entry))) vector i entry c.loop-entry-test.true c.entry-item.is
-                (subst (IsPicked table (take i vector ++ entry ∷ [])) (sym front) (pick_more table (take i vector) (take many before) entry was.picked));
+                (subst (IsPicked table (take i vector ++ entry ∷ [])) (sym front) (pick_more table (take i vector) (take many before) entry (c.has.ensures.some w.if-has.true) was.picked));
           }
       | else-has w ↦
           let front : take c.if-has.many (slice_set before many entry) ≡ take many before =
@@ -36,6 +36,6 @@ loop-entry-preserved c =
             few = omega (arith, w.many-is, was.few);
             long = long;
             picked = taken (λ es. IsPicked table es (take c.if-has.many (slice_set before many entry))) vector i entry c.loop-entry-test.true c.entry-item.is
-                (subst (IsPicked table (take i vector ++ entry ∷ [])) (sym front) (pick_none table (take i vector) (take many before) entry (c.has.ensures w.if-has.false) was.picked));
+                (subst (IsPicked table (take i vector ++ entry ∷ [])) (sym front) (pick_none table (take i vector) (take many before) entry (c.has.ensures.none w.if-has.false) was.picked));
           }
     ]
