@@ -2,6 +2,7 @@
 use Rattle.std.specs.Prelude.{◌≡◌, ℕ, ◌+◌, ◌<◌, ◌≤◌, max, List, [], ◌∷◌, ◌++◌, length, map, filter, Bool, refl}
 use Rattle.std.proofs.Common.{arith, ap, sym, ◌∙◌, subst, inl, inr, length-append}
 use Rattle.tib_lex.specs.Lists.{Has}
+use Rattle.tib_lex.proofs.Booleans.{bool_cases}
 use Rattle.tib_lex.proofs.Lists.{has_mapped, length_map}
 use Rattle.tib_lex.proofs.Members.{has_at, at_has, has_either}
 use Rattle.tib_tree.specs.Trees.{Trees, Tree, none, tree, only}
@@ -13,6 +14,7 @@ use Rattle.tib_grammar.specs.declared.Rule.{Rule}
 use Rattle.tib_grammar.proofs.Sides.{holes_of-over}
 use Rattle.tib_grammar.proofs.NormalRuns.{label_named}
 use Rattle.tib_grammar_file.specs.Printed.{LabelsBelow, AreLabelled}
+use Rattle.tib_weigh.proofs.Filters.{filtered_has}
 use Rattle.tib_k_best_lists.specs.Levels.{root_of, states_of}
 use Rattle.tib_determinize.specs.Vectors.{VectorOf}
 use Rattle.tib_determinize.specs.VectorGrammar.{IsVectorGrammar}
@@ -20,8 +22,6 @@ use Rattle.tib_compare.specs.Beside.{moved, raised, beside}
 use Rattle.tib_compare.specs.Wanted.{is_marked, node_cost, wanted}
 use Rattle.tib_compare.proofs.Raising.{root_back, moved_normal}
 use Rattle.tib_compare.proofs.Sides.{states_below}
-use Rattle.tib_compare.proofs.Reading.{bool_two}
-use Rattle.tib_compare.proofs.Wanting.{filtered_has}
 
 holes_labelled : (n : ℕ) (ts : Trees (Symbol ℕ ℕ)) → AreHoles ts → LabelsBelow n ts
 holes_labelled n none a = tt
@@ -109,7 +109,7 @@ module _ (marks : List Bool) (rules : List (Rule ℕ)) (normal : AreNormal rules
 
   filter_few : (rs : List (Rule ℕ)) → length (filter (is_marked marks) rs) ≤ length rs
   filter_few [] = omega arith
-  filter_few (r ∷ rs) = elim (bool_two (is_marked marks r)) [
+  filter_few (r ∷ rs) = elim (bool_cases (is_marked marks r)) [
     | inl t ↦ let k = filter_few rs in rw t (omega (arith, k))
     | inr t ↦ let k = filter_few rs in rw t (omega (arith, k))
   ]

@@ -2,6 +2,7 @@
 use Rattle.std.specs.Prelude.{◌≡◌, ◌⊎◌, ℕ, ◌<◌, ◌≤◌, max, List, [], ◌∷◌, length, Bool, true, false, not, nat_eq, if◌then◌else◌, Option, None, Some, refl}
 use Rattle.std.proofs.Common.{arith, ap, sym, ◌∙◌, subst, inl, inr, true≢false}
 use Rattle.tib_lex.specs.Lists.{Has}
+use Rattle.tib_lex.proofs.Booleans.{bool_cases}
 use Rattle.tib_lex.proofs.Numbers.{nat_eq_cases}
 use Rattle.tib_tree.specs.Trees.{Tree, only}
 use Rattle.tib_grammar.specs.Sides.{label, holes}
@@ -39,10 +40,6 @@ has_held q (x ∷ v) r h = elim (nat_eq_cases x.0 q) [
     | inr m ↦ has_held q v r m
   ]
 ]
-
-pub bool_two : (b : Bool) → (b ≡ true) ⊎ (b ≡ false)
-bool_two true = inl refl
-bool_two false = inr refl
 
 -- the tree has a run to a vector that tells the two starts apart
 abbrev pub IsToldApart : List VectorOf → List (Rule ℕ) → ℕ → Tree ℕ → Type 0
@@ -101,7 +98,7 @@ module _
       (s.0, c.2.0, s.1)
 
   pub told_one : (second : ℕ) (t : Tree ℕ) → IsToldApart order new second t → HasOneRun rules second t
-  told_one second t (k, d, h, e) = elim (bool_two (holds 0 (vector_at order k))) [
+  told_one second t (k, d, h, e) = elim (bool_cases (holds 0 (vector_at order k))) [
     | inl a ↦
         let b : not (holds second (vector_at order k)) ≡ true = sym (ap (λ (x : Bool). if x then not (holds second (vector_at order k)) else holds second (vector_at order k)) a) ∙ e in
         inl (held_run t k d h 0 a, λ r. not_both (holds second (vector_at order k)) b (run_held t k d h second r))
@@ -118,9 +115,9 @@ module _
   pub either : (second : ℕ) (t : Tree ℕ) → HasRun rules 0 t ⊎ HasRun rules second t → IsToldApart order new second t ⊎ (HasRun rules 0 t × HasRun rules second t)
   either second t r =
       let v : (k : ℕ) × (d : ℕ) × IsCost max new (k ∷ []) (only t) d = elim r [ inl a ↦ run_to_vector t 0 a | inr a ↦ run_to_vector t second a ] in
-      elim (bool_two (differs second (vector_at order v.0))) [
+      elim (bool_cases (differs second (vector_at order v.0))) [
         | inl e ↦ inl (v.0, v.1, v.2, e)
-        | inr e ↦ elim (bool_two (holds 0 (vector_at order v.0))) [
+        | inr e ↦ elim (bool_cases (holds 0 (vector_at order v.0))) [
           | inl a ↦
               let b : not (holds second (vector_at order v.0)) ≡ false =
               sym (ap (λ (x : Bool). if x then not (holds second (vector_at order v.0)) else holds second (vector_at order v.0)) a) ∙ e

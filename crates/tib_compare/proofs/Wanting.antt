@@ -1,5 +1,5 @@
 -- The runs of the wanted rules from their start are those of marked positions.
-use Rattle.std.specs.Prelude.{◌≡◌, ◌⊎◌, ℕ, ◌+◌, ◌*◌, ◌<◌, ◌≤◌, max, List, [], ◌∷◌, ◌++◌, length, map, filter, Bool, true, false, cond, Some, refl}
+use Rattle.std.specs.Prelude.{◌≡◌, ◌⊎◌, ℕ, ◌+◌, ◌*◌, ◌<◌, ◌≤◌, max, List, [], ◌∷◌, ◌++◌, length, map, filter, Bool, true, false, Some, refl}
 use Rattle.std.proofs.Common.{arith, ap, sym, ◌∙◌, subst, inl, inr, get_or}
 use Rattle.tib_lex.specs.Lists.{Has, Along}
 use Rattle.tib_lex.proofs.Lists.{has_mapped, mapped_has}
@@ -13,6 +13,7 @@ use Rattle.tib_grammar.specs.declared.Rule.{Rule}
 use Rattle.tib_grammar.proofs.NormalRuns.{IsLeast-no_states}
 use Rattle.tib_grammar.proofs.Opening.{open_cost, close_cost}
 use Rattle.tib_cost.specs.Semiring.{boolean_laws, sum_laws, most}
+use Rattle.tib_weigh.proofs.Filters.{filtered_has, has_filtered}
 use Rattle.tib_k_best_lists.specs.Best.{HasLarge}
 use Rattle.tib_k_best_lists.specs.Levels.{states_of}
 use Rattle.tib_compare.specs.Beside.{moved}
@@ -20,35 +21,6 @@ use Rattle.tib_compare.specs.Wanted.{ArePriced, is_marked, node_cost, wanted}
 use Rattle.tib_compare.proofs.Mirrored.{IsMirrored, Mirrors, carried}
 use Rattle.tib_compare.proofs.Raising.{IsRaised, along_lowered, moved_normal, moved_states, normal_from, moved_forth, moved_back, root_back}
 use Rattle.tib_compare.proofs.Bounds.{by_nodes}
-use Rattle.tib_compare.proofs.Reading.{bool_two}
-
--- what a filter keeps
-pub filtered_has : {A : Type 0} (test : A → Bool) (xs : List A) (x : A) → Has (filter test xs) x → Has xs x × (test x ≡ true)
-filtered_has test [] x h = absurd h
-filtered_has {A} test (y ∷ ys) x h = elim (bool_two (test y)) [
-  | inl t ↦
-      let k : Has (y ∷ filter test ys) x = subst (λ (b : Bool). Has (cond b (y ∷ filter test ys) (filter test ys)) x) t h in
-      elim k [
-        | inl e ↦ (inl e, subst (λ (z : A). test z ≡ true) e t)
-        | inr m ↦ let f = filtered_has test ys x m in (inr f.0, f.1)
-      ]
-  | inr t ↦
-      let k : Has (filter test ys) x = subst (λ (b : Bool). Has (cond b (y ∷ filter test ys) (filter test ys)) x) t h in
-      let f = filtered_has test ys x k in
-      (inr f.0, f.1)
-]
-
-pub has_filtered : {A : Type 0} (test : A → Bool) (xs : List A) (x : A) → Has xs x → test x ≡ true → Has (filter test xs) x
-has_filtered test [] x h t = absurd h
-has_filtered {A} test (y ∷ ys) x h t = elim h [
-  | inl e ↦
-      let u : test y ≡ true = ap test e ∙ t in
-      subst (λ (b : Bool). Has (cond b (y ∷ filter test ys) (filter test ys)) x) (sym u) (inl e)
-  | inr m ↦ elim (bool_two (test y)) [
-    | inl u ↦ subst (λ (b : Bool). Has (cond b (y ∷ filter test ys) (filter test ys)) x) (sym u) (inr (has_filtered test ys x m t))
-    | inr u ↦ subst (λ (b : Bool). Has (cond b (y ∷ filter test ys) (filter test ys)) x) (sym u) (has_filtered test ys x m t)
-  ]
-]
 
 -- where each node costs as much, no tree that has a cost is too large
 pub none_large : (labels : List (List ℕ)) (rules : List (Rule ℕ)) → AreNormal rules → ArePriced rules → (k q : ℕ) → HasLarge ◌+◌ labels rules k q → ⊥

@@ -26,6 +26,10 @@ slice_back rs xs =
 pub slice_some : (rs : List Ready) (a b : ℕ) → a < b → b ≤ length rs → 0 < length (slice_range rs a b)
 slice_some rs a b low high = omega (arith, length-take (b - a) (drop a rs), length-drop a rs, low, high)
 
+-- and where something stands, the later place is another one
+pub some_slice : (rs : List Ready) (a b : ℕ) → 0 < length (slice_range rs a b) → a < b
+some_slice rs a b some = omega (arith, length-take (b - a) (drop a rs), length-drop a rs, some)
+
 -- one slot more
 slots_more :
     (starts : List ℕ) (n : ℕ) (rs xs : List Ready) → length starts ≡ n + 1 → get_or starts n 0 ≡ length rs → ((s : ℕ) → s < length starts → get_or starts s 0 ≤ length rs) →

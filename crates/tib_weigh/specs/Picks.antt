@@ -1,12 +1,13 @@
 -- The entries of a vector for whose states a table has rules.
-use Rattle.std.specs.Prelude.{◌≡◌, ◌⊎◌, ◌<◌, List, [], length}
-use Rattle.tib_lex.specs.Lists.{Has}
+use Rattle.std.specs.Prelude.{Bool, List, length, filter, nat_lt}
 use Rattle.tib_weigh.specs.Tables.{bucket}
 use Rattle.tib_weigh.specs.declared.table.Table.{Table}
 use Rattle.tib_weigh.specs.declared.vector.Entry.{Entry}
 
--- they are entries of the vector for which the table has rules, and it has nothing for the others
-pub record IsPicked (t : Table) (v picked : List Entry) : Type 0 where
-  pub members : (e : Entry) → Has picked e → Has v e
-  pub served : (e : Entry) → Has picked e → 0 < length (bucket t e.state)
-  pub others : (e : Entry) → Has v e → Has picked e ⊎ (bucket t e.state ≡ [])
+-- whether a table has rules for the state of an entry
+abbrev pub is_served : Table → Entry → Bool
+is_served t e = nat_lt 0 (length (bucket t e.state))
+
+-- the entries of which this holds, each once and in their order
+abbrev pub picks : Table → List Entry → List Entry
+picks t v = filter (is_served t) v

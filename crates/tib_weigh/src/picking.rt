@@ -1,6 +1,6 @@
 // The entries of a vector for whose states a table has rules.
-ghost use Rattle.std.specs.Prelude.{◌≤◌, length, take, IfOk};
-ghost use Rattle.tib_weigh.specs.Picks.{IsPicked};
+ghost use Rattle.std.specs.Prelude.{◌≡◌, ◌≤◌, length, take, IfOk};
+ghost use Rattle.tib_weigh.specs.Picks.{picks};
 
 use crate::table::Table;
 use crate::vector::Entry;
@@ -26,7 +26,7 @@ pub(crate) fn pick(
     picked: &mut Vec<Entry>,
 ) -> Result<usize, AllocError>
     ensures within { IfOk result (λ n. n ≤ length picked.new.items) }
-    ensures picked { IfOk result (λ n. IsPicked table.now vector.now (take n picked.new.items)) }
+    ensures picked { IfOk result (λ n. take n picked.new.items ≡ picks table.now vector.now) }
 {
     make_room(picked, vector)?;
     let mut many = 0;

@@ -1,5 +1,5 @@
 // Rules in slots, by the states at one child place.
-ghost use Rattle.std.specs.Prelude.{◌≡◌, ℕ, ◌%◌, ◌<◌, length, IfOk, vec_len, get_or, [], true, false};
+ghost use Rattle.std.specs.Prelude.{◌≡◌, ℕ, ◌%◌, ◌<◌, length, IfOk, vec_len, get_or, [], nat_lt};
 ghost use Rattle.tib_grammar.specs.Forms.{AreNormal};
 ghost use Rattle.tib_weigh.specs.Buckets.{lists_of, slots_of, slot_at, AgreeBeside, AreRules, HoldsAll, IsRuleOver, HoldsOnly, IsParting};
 
@@ -141,10 +141,8 @@ impl Slots {
 
     /// Whether there is a rule in the slot of a state.
     pub(crate) fn has(&self, state: u32) -> bool
-        ensures some { result ≡ true → 0 < length (slot_at (slots_of self.now.starts.items
-            self.now.ready.items) state) }
-        ensures none { result ≡ false → slot_at (slots_of self.now.starts.items
-            self.now.ready.items) state ≡ [] }
+        ensures { result ≡ nat_lt 0 (length (slot_at (slots_of self.now.starts.items
+            self.now.ready.items) state)) }
     {
         let slot = slot_of(state, self.starts.len() - 1);
         self.starts[slot] < self.starts[slot + 1]

@@ -1,5 +1,5 @@
 // The rules of a label and rank by the states at one child place.
-ghost use Rattle.std.specs.Prelude.{◌≡◌, ℕ, ◌<◌, length, IfOk, [], true, false};
+ghost use Rattle.std.specs.Prelude.{◌≡◌, ℕ, ◌<◌, length, IfOk, nat_lt};
 ghost use Rattle.tib_grammar.specs.Forms.{AreNormal};
 ghost use Rattle.tib_weigh.specs.Buckets.{AreRules};
 ghost use Rattle.tib_weigh.specs.Tables.{bucket, IsTable};
@@ -60,8 +60,7 @@ impl Table {
 
     /// Whether there are such rules as `at` gives for a state.
     pub(crate) fn has(&self, state: u32) -> bool
-        ensures some { result ≡ true → 0 < length (bucket self.now state) }
-        ensures none { result ≡ false → bucket self.now state ≡ [] }
+        ensures { result ≡ nat_lt 0 (length (bucket self.now state)) }
     {
         self.slots.has(state)
     }

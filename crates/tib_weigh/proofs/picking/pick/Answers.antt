@@ -1,8 +1,8 @@
-use Rattle.std.proofs.Common.{arith, ◌≡◌, ◌∙◌, ◌∷◌, ◌++◌, ◌<◌, ◌≤◌, List, [], ap, sym, subst, length, length-set, take, slice_set}
+use Rattle.std.proofs.Common.{arith, ◌≡◌, ◌∙◌, ◌∷◌, ◌++◌, ◌<◌, ◌≤◌, List, [], ap, sym, length, length-set, take, slice_set}
 use Rattle.std.proofs.lemmas.List.{take_more_set, take-set}
 use Rattle.tib_weigh.specs.declared.vector.Entry.{Entry}
 use Rattle.tib_weigh.specs.declared.table.Table.{Table}
-use Rattle.tib_weigh.specs.Picks.{IsPicked}
+use Rattle.tib_weigh.specs.Picks.{picks}
 use Rattle.tib_weigh.proofs.Picks.{pick_more, pick_none}
 use Rattle.tib_weigh.proofs.Tries.{taken}
 use Rattle.tib_weigh.proofs.picking.pick.Goals.{then-has, else-has}
@@ -26,8 +26,8 @@ loop-entry-preserved c =
           record {
             few = omega (arith, w.many-is, was.few);
             long = long;
-            picked = taken (λ es. IsPicked table es (take c.if-has.many (slice_set before many entry))) vector i entry c.loop-entry-test.true c.entry-item.is
-                (subst (IsPicked table (take i vector ++ entry ∷ [])) (sym front) (pick_more table (take i vector) (take many before) entry (c.has.ensures.some w.if-has.true) was.picked));
+            picked = taken (λ es. take c.if-has.many (slice_set before many entry) ≡ picks table es) vector i entry c.loop-entry-test.true c.entry-item.is
+                (front ∙ pick_more table (take i vector) (take many before) entry (sym c.has.ensures ∙ w.if-has.true) was.picked);
           }
       | else-has w ↦
           let front : take c.if-has.many (slice_set before many entry) ≡ take many before =
@@ -35,7 +35,7 @@ loop-entry-preserved c =
           record {
             few = omega (arith, w.many-is, was.few);
             long = long;
-            picked = taken (λ es. IsPicked table es (take c.if-has.many (slice_set before many entry))) vector i entry c.loop-entry-test.true c.entry-item.is
-                (subst (IsPicked table (take i vector ++ entry ∷ [])) (sym front) (pick_none table (take i vector) (take many before) entry (c.has.ensures.none w.if-has.false) was.picked));
+            picked = taken (λ es. take c.if-has.many (slice_set before many entry) ≡ picks table es) vector i entry c.loop-entry-test.true c.entry-item.is
+                (front ∙ pick_none table (take i vector) (take many before) entry (sym c.has.ensures ∙ w.if-has.false) was.picked);
           }
     ]
