@@ -1,10 +1,16 @@
 // Files of one tree, of none and of several.
+ghost use Rattle.std.specs.Prelude.{◌≡◌, ◌≤◌, [], length};
+ghost use Rattle.tib_io.specs.Reads.{most_bytes};
+
 use std::alloc::Global;
 use tib_lex::{FaultKind, FileFault, ReadError};
 use tib_tree::{Labels, Tree, read_one_tree};
 
-// A file, and the label of its tree, or the line and the kind of its fault.
-type Row = (&'static [u8], Result<&'static str, (u32, FaultKind)>);
+// The label of a tree, or the line and the kind of a fault.
+type Wanted = Result<&'static str, (u32, FaultKind)>;
+
+// A file, and what is read of it.
+type Row = (&'static [u8], Wanted);
 
 static ROWS: [Row; 12] = [
     (b"A(a)", Ok("A")),
@@ -32,31 +38,48 @@ fn begins_with(tree: &Tree, labels: &Labels, label: &str) -> bool {
     }
 }
 
-fn is_fault(error: ReadError, line: u32, kind: FaultKind) -> bool {
-    error == ReadError::Fault(FileFault { line, kind })
+// Whether such a tree was wanted.
+fn is_wanted(tree: &Tree, labels: &Labels, want: &Wanted) -> bool {
+    match want {
+        Ok(label) => begins_with(tree, labels, *label),
+        Err(_) => false,
+    }
 }
 
-// Whether the file is read as its row says.
-fn reads(alloc: Global, bytes: &[u8], want: Result<&str, (u32, FaultKind)>) -> bool {
-    if bytes.len() > 8_388_608 {
+// Whether such an error was wanted.
+fn is_fault(error: ReadError, want: &Wanted) -> bool {
+    match want {
+        Ok(_) => false,
+        Err((line, kind)) => error == fault_of(*line, *kind),
+    }
+}
+
+fn fault_of(line: u32, kind: FaultKind) -> ReadError {
+    ReadError::Fault(FileFault { line, kind })
+}
+
+// Whether a file is read as it is wanted, into a table without labels.
+fn reads_into(alloc: Global, bytes: &[u8], want: &Wanted, labels: &mut Labels) -> bool
+    requires short { length bytes.now ≤ most_bytes }
+    requires new { labels.old ≡ [] }
+{
+    match read_one_tree(alloc, bytes, labels) {
+        Ok(tree) => is_wanted(&tree, labels, want),
+        Err(error) => is_fault(error, want),
+    }
+}
+
+// Whether the file of a row is read as the row says.
+fn reads(alloc: Global, row: &Row) -> bool {
+    if row.0.len() > 8_388_608 {
         return false;
     }
-    let mut labels = Labels::new(alloc);
-    match read_one_tree(alloc, bytes, &mut labels) {
-        Ok(tree) => match want {
-            Ok(label) => begins_with(&tree, &labels, label),
-            Err(_) => false,
-        },
-        Err(error) => match want {
-            Ok(_) => false,
-            Err((line, kind)) => is_fault(error, line, kind),
-        },
-    }
+    reads_into(alloc, row.0, &row.1, &mut Labels::new(alloc))
 }
 
 #[test]
 fn a_file_gives_its_one_tree_or_its_fault(rt: HostRuntime) {
-    for (bytes, want) in &ROWS {
-        assert!(rt; reads(rt.alloc(), *bytes, *want));
+    for row in &ROWS {
+        assert!(rt; reads(rt.alloc(), row));
     }
 }

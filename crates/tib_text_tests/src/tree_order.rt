@@ -1,5 +1,6 @@
 // Pairs of trees, by what decides their order.
-ghost use Rattle.std.specs.Prelude.{length};
+ghost use Rattle.std.specs.Prelude.{◌≡◌, ◌≤◌, [], length};
+ghost use Rattle.tib_io.specs.Reads.{most_bytes};
 ghost use Rattle.tib_lex.specs.Lists.{Each};
 ghost use Rattle.tib_tree.specs.Growth.{HasLabels};
 
@@ -17,16 +18,23 @@ fn order_of_two(labels: &Labels, trees: &[Tree]) -> Option<Ordering>
     }
 }
 
+// The order of the two trees of a file, which is read into a table without labels.
+fn order_in(alloc: Global, bytes: &[u8], labels: &mut Labels) -> Option<Ordering>
+    requires short { length bytes.now ≤ most_bytes }
+    requires new { labels.old ≡ [] }
+{
+    match read_trees(alloc, bytes, labels) {
+        Ok(trees) => order_of_two(labels, &trees),
+        Err(_) => None,
+    }
+}
+
 // The order of the two trees of a file, whose labels are numbered in the order of first sight.
 fn order_of(alloc: Global, bytes: &[u8]) -> Option<Ordering> {
     if bytes.len() > 8_388_608 {
         return None;
     }
-    let mut labels = Labels::new(alloc);
-    match read_trees(alloc, bytes, &mut labels) {
-        Ok(trees) => order_of_two(&labels, &trees),
-        Err(_) => None,
-    }
+    order_in(alloc, bytes, &mut Labels::new(alloc))
 }
 
 static ROWS: [(&[u8], Ordering); 7] = [
@@ -42,6 +50,6 @@ static ROWS: [(&[u8], Ordering); 7] = [
 #[test]
 fn trees_compare_by_size_label_rank_and_children(rt: HostRuntime) {
     for (bytes, want) in &ROWS {
-        assert_eq!(rt; order_of(rt.alloc(), bytes), Some(*want));
+        assert!(rt; order_of(rt.alloc(), bytes) == Some(*want));
     }
 }
