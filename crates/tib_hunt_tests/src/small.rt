@@ -1,14 +1,17 @@
 // Small hunts: what they reach, how many parts that has, and what a limit leaves.
-ghost use Rattle.std.specs.Prelude.{◌≡◌, ◌<◌, ◌+◌, ◌-◌, ℕ, [], ◌∷◌, length, IfOk, IfErr};
+ghost use Rattle.std.specs.Prelude.{◌≡◌, ◌<◌, ◌≤◌, ◌+◌, ◌-◌, ℕ, [], ◌∷◌, length, IfOk, IfErr, OnOk};
+ghost use Rattle.tib_lex.specs.Lists.{Has};
+ghost use Rattle.tib_table.specs.Known.{on};
 ghost use Rattle.tib_hunt.specs.EdgeLists.{IsWithin, position_of};
+ghost use Rattle.tib_hunt.specs.Reached.{most_parts};
+ghost use Rattle.tib_hunt.specs.RoundModel.{opened};
 ghost use Rattle.tib_hunt.specs.declared.place.Place.{Place};
 ghost use Rattle.std.proofs.Common.{◌∙◌, sym};
 
 use std::alloc::{AllocError, Global};
-use std::test::Fail;
 use tib_hunt::{
-    Answer, Edges, Event, Expand, ExpandError, HuntError, Itemized, Open, Place, Round, RoundOf,
-    hunt_alone,
+    Answer, Edges, Event, Expand, ExpandError, Found, HuntError, Itemized, Open, Place, Round,
+    RoundOf, hunt_alone,
 };
 use tib_table::{Number, Problem, TableKey};
 
@@ -127,62 +130,111 @@ impl Expand for Sevens {
     } };
 }
 
-// The answers of a draw, of the number of the node 7, of the filing of the item that was drawn, and of another draw.
-fn take_one_item<P: Itemized + Problem<Key = Node> + Copy>(
-    alloc: Global,
-    problem: P,
-) -> Result<(Answer, Answer, Answer, Answer), AllocError>
+// The answers of a draw in a new round, and of the number of the node 7.
+fn draw_and_number<P: Itemized + Problem<Key = Node>>(
+    round: &mut Round<P>,
+) -> Result<(Answer, Answer), AllocError>
+    requires new { round.old.core ≡ opened }
+    requires one { P.count_of round.old.about ≡ 1 }
+    requires first { P.first_of round.old.about ≡ 0 }
+    requires seven { P.is_end round.old.about 0 (record { number = 7 }) }
+    ensures about { round.new.about ≡ round.old.about }
+    ensures drawn { OnOk result (round.new.core.drawn ≡ 1) }
+    ensures filed { OnOk result (round.new.core.filed ≡ []) }
+    ensures shelved { OnOk result (Has (on round.new.core.shelves 7) (record { number = 7 })) }
+{
+    let drawn = round.step(Event::Draw)?;
+    let key = Node { number: 7 };
+    let numbered = round.step(Event::Number { key })?;
+    Ok((drawn, numbered))
+}
+
+// The answers of those two events, of the filing of the item that was drawn, and of another draw.
+fn take_one_item<P: Itemized + Problem<Key = Node>>(
+    round: &mut Round<P>,
+) -> Result<[Answer; 4], AllocError>
+    requires new { round.old.core ≡ opened }
+    requires one { P.count_of round.old.about ≡ 1 }
+    requires first { P.first_of round.old.about ≡ 0 }
+    requires seven { P.is_end round.old.about 0 (record { number = 7 }) }
+    requires only { (k : Node) → P.is_end round.old.about 0 k → k ≡ record { number = 7 } }
+{
+    let (drawn, numbered) = draw_and_number(round)?;
+    let filed = round.step(Event::File { item: 0 })?;
+    let none = round.step(Event::Draw)?;
+    Ok([drawn, numbered, filed, none])
+}
+
+// What those events are answered where the item ends at the node 7 alone.
+const ANSWERS: [Answer; 4] = [
+    Answer::Drawn(Some(0)),
+    Answer::Numbered(Number { shelf: 7, place: 0 }),
+    Answer::Filed,
+    Answer::Drawn(None),
+];
+
+// Whether a round of one item, which ends at the node 7 alone, has these answers.
+fn takes_one_item<P: Itemized + Problem<Key = Node> + Copy>(alloc: Global, problem: P) -> bool
     requires one { P.count_of (P.about problem) ≡ 1 }
     requires first { P.first_of (P.about problem) ≡ 0 }
     requires seven { P.is_end (P.about problem) 0 (record { number = 7 }) }
     requires only { (k : Node) → P.is_end (P.about problem) 0 k → k ≡ record { number = 7 } }
 {
-    let mut round = Round::open(alloc, problem)?;
-    let drawn = round.step(Event::Draw)?;
-    let key = Node { number: 7 };
-    let numbered = round.step(Event::Number { key })?;
-    let filed = round.step(Event::File { item: 0 })?;
-    let none = round.step(Event::Draw)?;
-    Ok((drawn, numbered, filed, none))
+    match Round::open(alloc, problem) {
+        Ok(mut round) => take_one_item(&mut round) == Ok(ANSWERS),
+        Err(_) => false,
+    }
 }
 
-#[test]
-fn a_round_of_the_one_seed(rt: HostRuntime) -> Result<(), Fail> {
-    let alloc = rt.alloc();
-    let order = [Node { number: 5 }];
+// The order of the one seed.
+static SEED: [Node; 1] = [Node { number: 5 }];
+
+// Whether a round of the one seed has these answers.
+fn takes_the_seed(alloc: Global) -> bool {
     let round = RoundOf {
         problem: &Sevens,
-        order: &order,
+        order: &SEED,
         first: 0,
     };
-    let (drawn, numbered, filed, none) = take_one_item(alloc, &round)?;
-    assert_eq!(rt; drawn, Answer::Drawn(Some(0)));
-    assert_eq!(rt; numbered, Answer::Numbered(Number { shelf: 7, place: 0 }));
-    assert_eq!(rt; filed, Answer::Filed);
-    assert_eq!(rt; none, Answer::Drawn(None));
-    Ok(())
+    takes_one_item(alloc, &round)
 }
 
 #[test]
-fn sevens_are_found_within_seven_parts(rt: HostRuntime) -> Result<(), Fail> {
-    match hunt_alone(rt.alloc(), &Sevens, 7, &Open) {
-        Ok(found) => {
-            assert_eq!(rt; found.parts, 7);
-            assert_eq!(rt; found.order.len(), 2);
-            assert_eq!(rt; found.rules.len(), 2);
-        }
-        Err(_) => assert!(rt; false),
+fn a_round_of_the_one_seed(rt: HostRuntime) {
+    assert!(rt; takes_the_seed(rt.alloc()));
+}
+
+// Whether so many keys and rules were found, with so many parts.
+pub(crate) fn has_sizes<K, R>(found: &Found<K, R>, keys: usize, rules: usize, parts: u64) -> bool {
+    found.order.len() == keys && found.rules.len() == rules && found.parts == parts
+}
+
+// Whether seven parts are room for what an operation reaches, and that has two keys, two rules and seven parts.
+fn finds_seven_parts<E: Expand>(alloc: Global, problem: &E) -> bool {
+    match hunt_alone(alloc, problem, 7, &Open) {
+        Ok(found) => has_sizes(&found, 2, 2, 7),
+        Err(_) => false,
     }
-    Ok(())
 }
 
 #[test]
-fn sevens_have_more_than_six_parts(rt: HostRuntime) -> Result<(), Fail> {
-    match hunt_alone(rt.alloc(), &Sevens, 6, &Open) {
-        Ok(_) => assert!(rt; false),
-        Err(error) => assert_eq!(rt; error, HuntError::TooMany { limit: 6 }),
+fn sevens_are_found_within_seven_parts(rt: HostRuntime) {
+    assert!(rt; finds_seven_parts(rt.alloc(), &Sevens));
+}
+
+// Whether what an operation reaches has more parts than the limit.
+fn exceeds<E: Expand>(alloc: Global, problem: &E, limit: u64) -> bool
+    requires { (1 ≤ limit) × (limit ≤ most_parts) }
+{
+    match hunt_alone(alloc, problem, limit, &Open) {
+        Ok(_) => false,
+        Err(error) => error == HuntError::TooMany { limit },
     }
-    Ok(())
+}
+
+#[test]
+fn sevens_have_more_than_six_parts(rt: HostRuntime) {
+    assert!(rt; exceeds(rt.alloc(), &Sevens, 6));
 }
 
 /// An operation whose seed is the node 1, and of which each of the first four positions n has one edge, to the nodes 15 + n and 18 - n. The first round appends
@@ -313,33 +365,39 @@ pub(crate) fn position_at(place: Place, ends: &[u32]) -> u32
     }
 }
 
-#[test]
-fn fans_are_found_in_the_order_by_rounds(rt: HostRuntime) -> Result<(), Fail> {
-    match hunt_alone(rt.alloc(), &Fans, 13, &Open) {
-        Ok(found) => {
-            let numbers: [u32; 5] = [1, 15, 18, 16, 17];
-            for (place, number) in numbers.into_iter().enumerate() {
-                assert_eq!(rt; found.order.get(place), Some(&Node { number }));
-            }
-            assert_eq!(rt; found.order.len(), 5);
-            assert_eq!(rt;
-                &found.rules[..],
-                &[(1u32, 2u32), (3, 4), (4, 3), (2, 1)][..]
-            );
-            assert_eq!(rt; found.parts, 13);
-        }
-        Err(_) => assert!(rt; false),
+// The keys that fans reach, in the order by rounds.
+static FANNED: [Node; 5] = [
+    Node { number: 1 },
+    Node { number: 15 },
+    Node { number: 18 },
+    Node { number: 16 },
+    Node { number: 17 },
+];
+
+// The rules of fans, over places of that order.
+static FOLDS: [(u32, u32); 4] = [(1, 2), (3, 4), (4, 3), (2, 1)];
+
+// Whether all keys and rules of fans were found, in order, and thirteen parts.
+fn are_fans(found: &Found<Node, (u32, u32)>) -> bool {
+    &found.order[..] == &FANNED[..] && &found.rules[..] == &FOLDS[..] && found.parts == 13
+}
+
+// Whether thirteen parts are room for what fans reach.
+fn finds_fans(alloc: Global) -> bool {
+    match hunt_alone(alloc, &Fans, 13, &Open) {
+        Ok(found) => are_fans(&found),
+        Err(_) => false,
     }
-    Ok(())
 }
 
 #[test]
-fn fans_have_more_than_twelve_parts(rt: HostRuntime) -> Result<(), Fail> {
+fn fans_are_found_in_the_order_by_rounds(rt: HostRuntime) {
+    assert!(rt; finds_fans(rt.alloc()));
+}
+
+#[test]
+fn fans_have_more_than_twelve_parts(rt: HostRuntime) {
     for limit in 1..13 {
-        match hunt_alone(rt.alloc(), &Fans, limit, &Open) {
-            Ok(_) => assert!(rt; false),
-            Err(error) => assert_eq!(rt; error, HuntError::TooMany { limit }),
-        }
+        assert!(rt; exceeds(rt.alloc(), &Fans, limit));
     }
-    Ok(())
 }

@@ -1,13 +1,15 @@
 //! Hunts of more keys than 65,536, in many rounds of two items and in a few of many, with the passes of their gate; and hunts that must agree:
 //! on shelves and on one list, by one worker and by several.
 ghost use Rattle.std.specs.Prelude.{◌≡◌, ◌<◌, ◌≤◌, ◌+◌, ◌*◌, [], ◌∷◌, IfOk, IfErr};
+ghost use Rattle.tib_hunt.specs.Reached.{most_parts};
 ghost use Rattle.tib_hunt.specs.declared.place.Place.{Place};
 ghost use Rattle.std.proofs.Common.{◌∙◌, sym};
 
 use crate::small::{Node, position_at};
 use std::alloc::{AllocError, Global};
+use std::sync::Wait;
 use std::sync::atomic::{AtomicU64, Ordering};
-use std::test::Fail;
+use std::thread::Threads;
 use tib_hunt::{
     Edges, Expand, ExpandError, Found, Gate, HuntError, MOST_PARTS, Open, Place, hunt, hunt_alone,
 };
@@ -154,27 +156,41 @@ impl Gate for Counting {
     }
 }
 
-#[test]
-fn many_strands_are_found_and_each_item_passes_once(rt: HostRuntime) -> Result<(), Fail> {
-    for (times, length, keys, parts, sum) in [
-        (1, 70_000, 70_002, 210_004, 2_450_105_001),
-        (2, 35_000, 70_001, 175_001, 2_450_035_000),
-    ] {
-        let gate = Counting {
-            passes: AtomicU64::new(0),
-            sum: AtomicU64::new(0),
-        };
-        match hunt_alone(rt.alloc(), &Strands { times, length }, MOST_PARTS, &gate) {
-            Ok(found) => {
-                assert_eq!(rt; found.order.len(), keys);
-                assert_eq!(rt; found.parts, parts);
-            }
-            Err(_) => assert!(rt; false),
-        }
-        assert_eq!(rt; gate.passes.load(Ordering::SeqCst), keys as u64);
-        assert_eq!(rt; gate.sum.load(Ordering::SeqCst), sum);
+// Whether strands are found that have so many keys and parts.
+fn finds(alloc: Global, strands: &Strands, gate: &Counting, keys: usize, parts: u64) -> bool {
+    match hunt_alone(alloc, strands, MOST_PARTS, gate) {
+        Ok(found) => found.order.len() == keys && found.parts == parts,
+        Err(_) => false,
     }
-    Ok(())
+}
+
+// Whether strands have so many keys and parts, and as many items pass, with this sum.
+fn pass_once(alloc: Global, strands: &Strands, keys: usize, parts: u64, sum: u64) -> bool {
+    let gate = Counting {
+        passes: AtomicU64::new(0),
+        sum: AtomicU64::new(0),
+    };
+    finds(alloc, strands, &gate, keys, parts)
+        && gate.passes.load(Ordering::SeqCst) == keys as u64
+        && gate.sum.load(Ordering::SeqCst) == sum
+}
+
+/// Strands in rounds of two items.
+const NARROW: Strands = Strands {
+    times: 1,
+    length: 70_000,
+};
+
+/// Strands in rounds that become twice as large each time.
+const WIDE: Strands = Strands {
+    times: 2,
+    length: 35_000,
+};
+
+#[test]
+fn many_strands_are_found_and_each_item_passes_once(rt: HostRuntime) {
+    assert!(rt; pass_once(rt.alloc(), &NARROW, 70_002, 210_004, 2_450_105_001));
+    assert!(rt; pass_once(rt.alloc(), &WIDE, 70_001, 175_001, 2_450_035_000));
 }
 
 // Whether two hunts gave the same answer.
@@ -202,18 +218,41 @@ fn are_same(one: &Found<Node, (u32, u32)>, other: &Found<Node, (u32, u32)>) -> b
     &one.rules[..] == &other.rules[..] && one.parts == other.parts
 }
 
+/// A few strands.
+const FEW: Strands = Strands {
+    times: 2,
+    length: 40,
+};
+
+// Whether a crew of so many workers finds what one worker found.
+fn finds_as_well<R: Threads + Wait + Sync>(
+    rt: &R,
+    alloc: Global,
+    workers: u32,
+    limit: u64,
+    plain: &Result<Found<Node, (u32, u32)>, HuntError>,
+) -> bool
+    requires workers { (1 ≤ workers) × (workers ≤ 16) }
+    requires limit { (1 ≤ limit) × (limit ≤ most_parts) }
+{
+    let found = hunt(rt, alloc, &FEW, workers, limit, &Open);
+    agree(&found, plain)
+}
+
+// Whether a crew of so many workers and one worker alone give the same answer.
+fn crew_agrees<R: Threads + Wait + Sync>(rt: &R, alloc: Global, workers: u32, limit: u64) -> bool
+    requires workers { (1 ≤ workers) × (workers ≤ 16) }
+    requires limit { (1 ≤ limit) × (limit ≤ most_parts) }
+{
+    let plain = hunt_alone(alloc, &FEW, limit, &Open);
+    finds_as_well(rt, alloc, workers, limit, &plain)
+}
+
 #[test]
-fn crews_find_the_strands_that_one_worker_finds(rt: HostRuntime) -> Result<(), Fail> {
-    let strands = Strands {
-        times: 2,
-        length: 40,
-    };
+fn crews_find_the_strands_that_one_worker_finds(rt: HostRuntime) {
     for workers in [2, 3, 16] {
         for limit in 1..210 {
-            let plain = hunt_alone(rt.alloc(), &strands, limit, &Open);
-            let found = hunt(&rt, rt.alloc(), &strands, workers, limit, &Open);
-            assert!(rt; agree(&found, &plain));
+            assert!(rt; crew_agrees(&rt, rt.alloc(), workers, limit));
         }
     }
-    Ok(())
 }

@@ -7,12 +7,14 @@ ghost use Rattle.std.specs.Ordering.{nat_cmp, as_partial_cmp};
 ghost use Rattle.std.specs.Prelude.{◌≡◌, ◌≤◌, ℕ, ◌∷◌, [], length, nat_eq, if◌then◌else◌, IfOk};
 ghost use Rattle.std.proofs.Common.{◌∙◌, rules, sym};
 
+use crate::small::has_sizes;
 use std::alloc::{AllocError, Global};
 use std::cmp::Ordering as Order;
 use std::hash::{Hash, Hasher};
 use std::marker::Model;
+use std::sync::Wait;
 use std::sync::atomic::{AtomicU64, Ordering};
-use std::test::Fail;
+use std::thread::Threads;
 use tib_hunt::{Edges, Expand, ExpandError, Open, hunt};
 use tib_table::TableKey;
 
@@ -273,34 +275,42 @@ impl<'a> Expand for Meeting<'a> {
     } };
 }
 
-#[test]
-fn two_workers_number(rt: HostRuntime) -> Result<(), Fail> {
+// Whether the keys are 0, 1 and 2, in this order.
+fn are_three(order: &[Flagged]) -> bool {
+    match order {
+        [zero, one, two] => zero.number == 0 && one.number == 1 && two.number == 2,
+        _ => false,
+    }
+}
+
+// Whether two workers find the numbers 0, 1 and 2, three rules and six parts.
+fn finds_three<R: Threads + Wait + Sync>(rt: &R, alloc: Global, meeting: &Meeting) -> bool {
+    match hunt(rt, alloc, meeting, 2, 1000, &Open) {
+        Ok(found) => are_three(&found.order) && has_sizes(&found, 3, 3, 6),
+        Err(_) => false,
+    }
+}
+
+// Whether two workers who wait for each other find the three, and none gives up.
+fn both_meet<R: Threads + Wait + Sync>(rt: &R, alloc: Global) -> bool {
     let numbered = AtomicU64::new(0);
     let meeting = Meeting::new(&numbered, true, 0);
-    match hunt(&rt, rt.alloc(), &meeting, 2, 1000, &Open) {
-        Ok(found) => {
-            assert_eq!(rt; found.order.len(), 3);
-            assert_eq!(rt; found.order[0].number, 0);
-            assert_eq!(rt; found.order[1].number, 1);
-            assert_eq!(rt; found.order[2].number, 2);
-        }
-        Err(_) => assert!(rt; false),
-    }
-    assert_eq!(rt; meeting.gave_up.load(Ordering::SeqCst), 0);
-    Ok(())
+    finds_three(rt, alloc, &meeting) && meeting.gave_up.load(Ordering::SeqCst) == 0
 }
 
 #[test]
-fn an_item_that_a_worker_has_no_memory_for_is_found(rt: HostRuntime) -> Result<(), Fail> {
+fn two_workers_number(rt: HostRuntime) {
+    assert!(rt; both_meet(&rt, rt.alloc()));
+}
+
+// Whether two workers find the three where the first expansion is refused.
+fn finds_what_is_refused_once<R: Threads + Wait + Sync>(rt: &R, alloc: Global) -> bool {
     let numbered = AtomicU64::new(0);
     let meeting = Meeting::new(&numbered, false, 1);
-    match hunt(&rt, rt.alloc(), &meeting, 2, 1000, &Open) {
-        Ok(found) => {
-            assert_eq!(rt; found.order.len(), 3);
-            assert_eq!(rt; found.rules.len(), 3);
-            assert_eq!(rt; found.parts, 6);
-        }
-        Err(_) => assert!(rt; false),
-    }
-    Ok(())
+    finds_three(rt, alloc, &meeting)
+}
+
+#[test]
+fn an_item_that_a_worker_has_no_memory_for_is_found(rt: HostRuntime) {
+    assert!(rt; finds_what_is_refused_once(&rt, rt.alloc()));
 }
