@@ -6,7 +6,6 @@ ghost use Rattle.tib_lex.specs.Limits.{most_parts};
 use crate::keys::{Pair, pair_of};
 use std::alloc::Global;
 use std::sync::Wait;
-use std::test::Fail;
 use std::thread::{Threads, join};
 use tib_crew::{Gathered, Items, Performed, Seat, Task, Unperformed, perform_all};
 use tib_table::Problem;
@@ -88,8 +87,8 @@ fn are_in_order(gathered: &Gathered<Doubles>, count: u32) -> bool {
     true
 }
 
-// Whether items give their rows in order, by a number of workers and within a number of parts.
-fn perform_in_order<R: Threads + Wait + Sync>(
+// Whether items are performed by a number of workers and within a number of parts, and give their rows in order.
+fn performs<R: Threads + Wait + Sync>(
     rt: &R,
     alloc: Global,
     count: u32,
@@ -107,18 +106,17 @@ fn perform_in_order<R: Threads + Wait + Sync>(
 
 #[test]
 fn two_items_by_two_workers(rt: HostRuntime) {
-    assert_eq!(rt; perform_in_order(&rt, rt.alloc(), 2, 2, 4), Ok(true));
+    assert!(rt; performs(&rt, rt.alloc(), 2, 2, 4) == Ok(true));
 }
 
 #[test]
 fn a_thousand_items_by_sixteen_workers(rt: HostRuntime) {
-    assert_eq!(rt; perform_in_order(&rt, rt.alloc(), 1000, 16, 2000), Ok(true));
+    assert!(rt; performs(&rt, rt.alloc(), 1000, 16, 2000) == Ok(true));
 }
 
 #[test]
 fn one_part_too_few(rt: HostRuntime) {
-    let performed = perform_in_order(&rt, rt.alloc(), 1000, 16, 1999);
-    assert_eq!(rt; performed, Err(Unperformed::More));
+    assert!(rt; performs(&rt, rt.alloc(), 1000, 16, 1999) == Err(Unperformed::More));
 }
 
 // What one seat draws, until there is nothing more, three items at most.
@@ -135,11 +133,17 @@ fn draw_three(items: &Items, seat: &mut Seat) -> [Option<u64>; 3]
     [Some(first), Some(second), items.draw(seat)]
 }
 
+// Whether one seat draws the two items and then none.
+fn draws_both(alloc: Global) -> bool {
+    match Items::open(alloc, 2) {
+        Ok((items, mut seat)) => draw_three(&items, &mut seat) == [Some(0), Some(1), None],
+        Err(_) => false,
+    }
+}
+
 #[test]
-fn two_items_are_drawn_and_then_none(rt: HostRuntime) -> Result<(), Fail> {
-    let (items, mut seat) = Items::open(rt.alloc(), 2)?;
-    assert_eq!(rt; draw_three(&items, &mut seat), [Some(0), Some(1), None]);
-    Ok(())
+fn two_items_are_drawn_and_then_none(rt: HostRuntime) {
+    assert!(rt; draws_both(rt.alloc()));
 }
 
 // What two seats draw, one item each, and what one of them draws then, which has joined the other.
@@ -155,12 +159,26 @@ fn draw_by_two(items: &Items, seat: &mut Seat) -> Option<(u64, u64, Option<u64>)
     Some((first, second, items.draw(seat)))
 }
 
+// Whether two items are counted, and two seats draw one each and then none.
+fn draws_by_two(items: &Items, seat: &mut Seat) -> bool
+    requires counter { seat.old.counter ≡ items.now }
+    requires shares { 1 < seat.old.shares }
+    requires going { seat.old.nones ≡ 0 }
+{
+    items.count() == 2 && draw_by_two(items, seat) == Some((0, 1, None))
+}
+
+// The same of a new counter of two items.
+fn two_draw(alloc: Global) -> bool {
+    match Items::open(alloc, 2) {
+        Ok((items, mut seat)) => draws_by_two(&items, &mut seat),
+        Err(_) => false,
+    }
+}
+
 #[test]
-fn two_seats_draw_from_one_counter(rt: HostRuntime) -> Result<(), Fail> {
-    let (items, mut seat) = Items::open(rt.alloc(), 2)?;
-    assert_eq!(rt; items.count(), 2);
-    assert_eq!(rt; draw_by_two(&items, &mut seat), Some((0, 1, None)));
-    Ok(())
+fn two_seats_draw_from_one_counter(rt: HostRuntime) {
+    assert!(rt; two_draw(rt.alloc()));
 }
 
 #[derive(Drop)]
@@ -198,15 +216,44 @@ fn draw_in_two_threads<R: Threads>(rt: &R, items: &Items, first: Seat, second: S
     )
 }
 
-#[test]
-fn two_threads_draw_different_items(rt: HostRuntime) -> Result<(), Fail> {
-    let (items, mut first) = Items::open(rt.alloc(), 2)?;
-    let second = items.split(&mut first);
-    let (first, second) = draw_in_two_threads(&rt, &items, first, second);
+// Whether these are the items 0 and 1, in any order.
+fn are_both(one: Option<u64>, other: Option<u64>) -> bool {
+    let in_order = one == Some(0) && other == Some(1);
+    let the_other_way = one == Some(1) && other == Some(0);
+    in_order || the_other_way
+}
+
+// Whether two draws gave both items, whose seats are joined.
+fn gave_both(items: &Items, first: Draw, second: Draw) -> bool
+    requires first { first.seat.counter ≡ items.now }
+    requires second { second.seat.counter ≡ items.now }
+{
     let Draw { mut seat, item } = first;
     items.join(&mut seat, second.seat);
-    let in_order = item == Some(0) && second.item == Some(1);
-    let the_other_way = item == Some(1) && second.item == Some(0);
-    assert!(rt; in_order || the_other_way);
-    Ok(())
+    are_both(item, second.item)
+}
+
+// Whether two threads draw both items.
+fn threads_draw_both<R: Threads>(rt: &R, items: &Items, seat: Seat) -> bool
+    requires counter { seat.counter ≡ items.now }
+    requires shares { 1 < seat.shares }
+    requires going { seat.nones ≡ 0 }
+{
+    let mut first = seat;
+    let second = items.split(&mut first);
+    let (first, second) = draw_in_two_threads(rt, items, first, second);
+    gave_both(items, first, second)
+}
+
+// The same of a new counter of two items.
+fn two_threads_draw<R: Threads>(rt: &R, alloc: Global) -> bool {
+    match Items::open(alloc, 2) {
+        Ok((items, seat)) => threads_draw_both(rt, &items, seat),
+        Err(_) => false,
+    }
+}
+
+#[test]
+fn two_threads_draw_different_items(rt: HostRuntime) {
+    assert!(rt; two_threads_draw(&rt, rt.alloc()));
 }

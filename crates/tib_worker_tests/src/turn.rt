@@ -2,9 +2,8 @@
 ghost use Rattle.std.specs.Prelude.{◌≡◌, ◌≤◌, false};
 ghost use Rattle.tib_turn.specs.Prefixes.{IsPrefix};
 
-use std::alloc::AllocError;
+use std::alloc::Global;
 use std::sync::Wait;
-use std::test::Fail;
 use std::thread::{Threads, join};
 use tib_turn::{Grows, Pass, TurnLock};
 
@@ -19,11 +18,11 @@ impl Grows for Numbers {
     ghost log = { λ n. n.list.items };
 }
 
-fn append(numbers: &mut Numbers, n: u64) -> Result<(), AllocError>
+// Whether memory was found for one more number.
+fn append(numbers: &mut Numbers, n: u64) -> bool
     ensures { IsPrefix numbers.old.list.items numbers.new.list.items }
 {
-    numbers.list.push(n)?;
-    Ok(())
+    numbers.list.push(n).is_ok()
 }
 
 fn append_in_turn<R: Wait>(
@@ -31,7 +30,7 @@ fn append_in_turn<R: Wait>(
     lock: &TurnLock<Numbers>,
     pass: &mut Pass<Numbers>,
     n: u64,
-) -> Result<(), AllocError>
+) -> bool
     requires lock { pass.old.lock ≡ lock.now }
     requires outside { pass.old.inside ≡ false }
     ensures lock { pass.new.lock ≡ lock.now }
@@ -48,29 +47,55 @@ fn has_pushed(numbers: &Numbers, wanted: &[u64]) -> bool {
     numbers.list.as_slice() == wanted
 }
 
-#[test]
-fn two_passes_push_in_turn(rt: HostRuntime) -> Result<(), Fail> {
-    let alloc = rt.alloc();
-    let numbers = Numbers {
-        list: Vec::from_array(alloc, [7])?,
+// Appends 8 by one pass and 9 by another, which is joined again.
+fn append_by_two<R: Wait>(rt: &R, lock: &TurnLock<Numbers>, first: &mut Pass<Numbers>) -> bool
+    requires lock { first.old.lock ≡ lock.now }
+    requires outside { first.old.inside ≡ false }
+    ensures lock { first.new.lock ≡ lock.now }
+    ensures outside { first.new.inside ≡ false }
+{
+    let eight = append_in_turn(rt, lock, first, 8);
+    let mut second = lock.split(first);
+    let nine = append_in_turn(rt, lock, &mut second, 9);
+    lock.join(first, second);
+    eight && nine
+}
+
+// Whether two passes append to the list of 7 in a lock.
+fn two_append<R: Wait>(rt: &R, lock: TurnLock<Numbers>, first: Pass<Numbers>) -> bool
+    requires lock { first.lock ≡ lock }
+    requires outside { first.inside ≡ false }
+{
+    let mut first = first;
+    let appended = append_by_two(rt, &lock, &mut first);
+    let numbers = lock.close(rt, first);
+    appended && has_pushed(&numbers, &[7, 8, 9])
+}
+
+// Whether two passes append in turn to a new list.
+fn two_push<R: Wait>(rt: &R, alloc: Global) -> bool {
+    let Ok(list) = Vec::from_array(alloc, [7]) else {
+        return false;
     };
-    let (lock, mut first) = TurnLock::open(alloc, numbers).map_err(|_| AllocError)?;
-    append_in_turn(&rt, &lock, &mut first, 8)?;
-    let mut second = lock.split(&mut first);
-    append_in_turn(&rt, &lock, &mut second, 9)?;
-    lock.join(&mut first, second);
-    let numbers = lock.close(&rt, first);
-    assert!(rt; has_pushed(&numbers, &[7, 8, 9]));
-    Ok(())
+    match TurnLock::open(alloc, Numbers { list }) {
+        Ok((lock, first)) => two_append(rt, lock, first),
+        Err(_) => false,
+    }
+}
+
+#[test]
+fn two_passes_push_in_turn(rt: HostRuntime) {
+    assert!(rt; two_push(&rt, rt.alloc()));
 }
 
 /// How many turns each of two threads takes.
 const TURNS: u64 = 1000;
 
+/// The pass of a thread, and whether it appended all its numbers.
 #[derive(Drop)]
 struct Held {
     pass: Pass<Numbers>,
-    appended: Result<(), AllocError>,
+    appended: bool,
 }
 
 // Appends the numbers from the first one on, each in a turn of its own.
@@ -82,10 +107,10 @@ fn append_all<R: Wait>(rt: &R, lock: &TurnLock<Numbers>, pass: Pass<Numbers>, fi
     ensures outside { result.pass.inside ≡ false }
 {
     let mut pass = pass;
-    let mut appended = Ok(());
+    let mut appended = true;
     for n in first..first + TURNS {
-        if append_in_turn(rt, lock, &mut pass, n).is_err() {
-            appended = Err(AllocError);
+        if !append_in_turn(rt, lock, &mut pass, n) {
+            appended = false;
         }
     }
     Held { pass, appended }
@@ -124,20 +149,62 @@ fn count_and_sum_are(numbers: &[u64], count: usize, sum: u64) -> bool {
     numbers.len() == count && found == sum
 }
 
-#[test]
-fn two_threads_take_a_thousand_turns_each(rt: HostRuntime) -> Result<(), Fail> {
-    let alloc = rt.alloc();
-    let numbers = Numbers {
-        list: Vec::new(alloc),
-    };
-    let (lock, mut first) = TurnLock::open(alloc, numbers).map_err(|_| AllocError)?;
+// One pass of two threads, and whether both appended all their numbers.
+fn join_both(lock: &TurnLock<Numbers>, first: Held, second: Held) -> Held
+    requires first { (first.pass.lock ≡ lock.now) × (first.pass.inside ≡ false) }
+    requires second { (second.pass.lock ≡ lock.now) × (second.pass.inside ≡ false) }
+    ensures lock { result.pass.lock ≡ lock.now }
+    ensures outside { result.pass.inside ≡ false }
+{
+    let Held { mut pass, appended } = first;
+    lock.join(&mut pass, second.pass);
+    Held {
+        pass,
+        appended: appended && second.appended,
+    }
+}
+
+// The same of a lock to which two threads append their numbers.
+fn append_by_threads<R: Threads + Wait + Sync>(
+    rt: &R,
+    lock: &TurnLock<Numbers>,
+    first: Pass<Numbers>,
+) -> Held
+    requires lock { first.lock ≡ lock.now }
+    requires outside { first.inside ≡ false }
+    ensures lock { result.pass.lock ≡ lock.now }
+    ensures outside { result.pass.inside ≡ false }
+{
+    let mut first = first;
     let second = lock.split(&mut first);
-    let (mut first, second) = append_in_two_threads(&rt, &lock, first, second);
-    let Held { pass, appended } = second;
-    lock.join(&mut first.pass, pass);
-    first.appended?;
-    appended?;
-    let numbers = lock.close(&rt, first.pass);
-    assert!(rt; count_and_sum_are(&numbers.list, 2000, 1_999_000));
-    Ok(())
+    let (first, second) = append_in_two_threads(rt, lock, first, second);
+    join_both(lock, first, second)
+}
+
+// Whether a lock holds all numbers of two threads, 0 to 1999, when it is closed.
+fn two_threads_append<R: Threads + Wait + Sync>(
+    rt: &R,
+    lock: TurnLock<Numbers>,
+    first: Pass<Numbers>,
+) -> bool
+    requires lock { first.lock ≡ lock }
+    requires outside { first.inside ≡ false }
+{
+    let Held { pass, appended } = append_by_threads(rt, &lock, first);
+    let numbers = lock.close(rt, pass);
+    appended && count_and_sum_are(&numbers.list, 2000, 1_999_000)
+}
+
+// The same of a new lock.
+fn two_threads_push<R: Threads + Wait + Sync>(rt: &R, alloc: Global) -> bool {
+    let list = Vec::new(alloc);
+    match TurnLock::open(alloc, Numbers { list }) {
+        Ok((lock, first)) => two_threads_append(rt, lock, first),
+        Err(_) => false,
+    }
+}
+
+#[test]
+fn two_threads_take_a_thousand_turns_each(rt: HostRuntime) {
+    assert!(rt; two_threads_push(&rt, rt.alloc()));
 }
