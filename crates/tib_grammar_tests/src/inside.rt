@@ -2,23 +2,30 @@
 use crate::rules::{
     Row, are_of_rows, grammar_of, have_numbers, make_grammar, make_normal, wide_rules,
 };
-use std::alloc::{AllocError, Global};
-use std::test::Fail;
-use tib_cost::{Boolean, Bottleneck, Cost, MOST, MinPlus, Semiring};
+use std::alloc::Global;
+use tib_cost::{Boolean, Bottleneck, MOST, MinPlus, Semiring};
 use tib_grammar::Grammar;
-use tib_inside::{TrimmedRules, inside, trim, trim_normal, trim_rules};
-use tib_normal::Normal;
+use tib_inside::{inside, trim, trim_normal, trim_rules};
 
-/// Whether the inside costs of some rules over this number of states have these numbers.
+/// Whether the inside costs of a grammar have these numbers.
+fn are_insides<S: Semiring>(alloc: Global, grammar: &Grammar<S>, numbers: &[Option<u64>]) -> bool {
+    match inside::<S>(alloc, grammar) {
+        Ok(costs) => have_numbers(&costs, numbers),
+        Err(_) => false,
+    }
+}
+
+/// The same of the grammar of some rules over this number of states.
 fn has_insides<S: Semiring + Drop>(
     alloc: Global,
     states: u8,
     rows: &[Row],
     numbers: &[Option<u64>],
-) -> Result<bool, Fail> {
-    let grammar = make_grammar::<S>(alloc, states, rows)?;
-    let costs = inside::<S>(alloc, &grammar)?;
-    Ok(have_numbers(&costs, numbers))
+) -> bool {
+    match make_grammar::<S>(alloc, states, rows) {
+        Some(grammar) => are_insides(alloc, &grammar, numbers),
+        None => false,
+    }
 }
 
 /// Whether the names of a grammar's states have these lengths.
@@ -37,29 +44,57 @@ fn is_of(grammar: &Grammar<MinPlus>, lengths: &[usize], rows: &[Row]) -> bool {
 }
 
 /// The trimmed grammar of some rules over this number of states.
-fn trimmed_of(alloc: Global, states: u8, rows: &[Row]) -> Result<Grammar<MinPlus>, Fail> {
-    let grammar = make_grammar::<MinPlus>(alloc, states, rows)?;
-    Ok(trim::<MinPlus>(alloc, grammar)?)
+fn trimmed(alloc: Global, states: u8, rows: &[Row]) -> Option<Grammar<MinPlus>> {
+    trim::<MinPlus>(alloc, make_grammar::<MinPlus>(alloc, states, rows)?).ok()
 }
 
-/// The trimmed grammar of some rules in normal form over this number of states.
-fn trimmed_normal(alloc: Global, states: u8, rows: &[Row]) -> Result<Normal<MinPlus>, Fail> {
-    let normal = make_normal::<MinPlus>(alloc, states, rows)?;
-    Ok(trim_normal::<MinPlus>(alloc, normal)?)
+/// Whether trimming some rules over this number of states leaves names of these lengths, and
+/// these rules.
+fn is_trimmed_to(alloc: Global, states: u8, rows: &[Row], lengths: &[usize], kept: &[Row]) -> bool {
+    match trimmed(alloc, states, rows) {
+        Some(grammar) => is_of(&grammar, lengths, kept),
+        None => false,
+    }
 }
 
-/// The rules of a grammar without its names, trimmed.
-fn trim_parts(alloc: Global, grammar: Grammar<MinPlus>) -> Result<TrimmedRules, AllocError> {
+/// The same of rules in normal form.
+fn is_normal_trimmed_to(
+    alloc: Global,
+    states: u8,
+    rows: &[Row],
+    lengths: &[usize],
+    kept: &[Row],
+) -> bool {
+    let Some(normal) = make_normal::<MinPlus>(alloc, states, rows) else {
+        return false;
+    };
+    match trim_normal::<MinPlus>(alloc, normal) {
+        Ok(trimmed) => is_of(trimmed.grammar(), lengths, kept),
+        Err(_) => false,
+    }
+}
+
+/// Whether trimming the rules of a grammar without its names leaves these states and rules.
+fn are_rules_trimmed_to(
+    alloc: Global,
+    grammar: Grammar<MinPlus>,
+    states: &[u32],
+    kept: &[Row],
+) -> bool {
     grammar.is_sound();
     let count = grammar.states();
     let (_, rules) = grammar.into_parts();
-    trim_rules::<MinPlus>(alloc, rules, count)
+    match trim_rules::<MinPlus>(alloc, rules, count) {
+        Ok(trimmed) => trimmed.states.as_slice() == states && are_of_rows(&trimmed.rules, kept),
+        Err(_) => false,
+    }
 }
 
-/// The trimmed rules of a grammar of this number of states.
-fn trimmed_rules(alloc: Global, states: u8, rows: &[Row]) -> Result<TrimmedRules, Fail> {
-    let grammar = make_grammar::<MinPlus>(alloc, states, rows)?;
-    Ok(trim_parts(alloc, grammar)?)
+fn are_useless_rules_trimmed(alloc: Global) -> bool {
+    match make_grammar::<MinPlus>(alloc, 4, &USELESS) {
+        Some(grammar) => are_rules_trimmed_to(alloc, grammar, &[0, 3], &USELESS_KEPT),
+        None => false,
+    }
 }
 
 const LABEL_F2: (u32, Option<u32>) = (0, Some(2));
@@ -118,11 +153,10 @@ static INSIDES: [(u8, &[Row], &[Option<u64>]); 3] = [
 ];
 
 #[test]
-fn inside_costs_are_as_worked_out(rt: HostRuntime) -> Result<(), Fail> {
+fn inside_costs_are_as_worked_out(rt: HostRuntime) {
     for (states, rows, numbers) in &INSIDES {
-        assert!(rt; has_insides::<MinPlus>(rt.alloc(), *states, *rows, *numbers)?);
+        assert!(rt; has_insides::<MinPlus>(rt.alloc(), *states, *rows, *numbers));
     }
-    Ok(())
 }
 
 static GREATEST: [Option<u64>; 4] = [Some(2), Some(1), Some(2), None];
@@ -130,10 +164,9 @@ static GREATEST: [Option<u64>; 4] = [Some(2), Some(1), Some(2), None];
 static ANY: [Option<u64>; 3] = [Some(0), Some(0), None];
 
 #[test]
-fn inside_costs_are_those_of_the_semiring(rt: HostRuntime) -> Result<(), Fail> {
-    assert!(rt; has_insides::<Bottleneck>(rt.alloc(), 4, &WORKED, &GREATEST)?);
-    assert!(rt; has_insides::<Boolean>(rt.alloc(), 3, &UNWEIGHTED, &ANY)?);
-    Ok(())
+fn inside_costs_are_those_of_the_semiring(rt: HostRuntime) {
+    assert!(rt; has_insides::<Bottleneck>(rt.alloc(), 4, &WORKED, &GREATEST));
+    assert!(rt; has_insides::<Boolean>(rt.alloc(), 3, &UNWEIGHTED, &ANY));
 }
 
 const WORKED_KEPT: [Row; 4] = [
@@ -153,36 +186,42 @@ static TRIMMED: [(u8, &[Row], &[usize], &[Row]); 3] = [
 ];
 
 #[test]
-fn what_no_run_uses_is_left_out(rt: HostRuntime) -> Result<(), Fail> {
+fn what_no_run_uses_is_left_out(rt: HostRuntime) {
     for (states, rows, lengths, kept) in &TRIMMED {
-        let trimmed = trimmed_of(rt.alloc(), *states, *rows)?;
-        assert!(rt; is_of(&trimmed, *lengths, *kept));
+        assert!(rt; is_trimmed_to(rt.alloc(), *states, *rows, *lengths, *kept));
     }
-    Ok(())
 }
 
 #[test]
-fn rules_and_normal_forms_are_trimmed(rt: HostRuntime) -> Result<(), Fail> {
-    let trimmed = trimmed_rules(rt.alloc(), 4, &USELESS)?;
-    assert!(rt; trimmed.states.as_slice() == [0, 3].as_slice());
-    assert!(rt; are_of_rows(&trimmed.rules, &USELESS_KEPT));
-    let normal = trimmed_normal(rt.alloc(), 4, &WORKED)?;
-    assert!(rt; is_of(normal.grammar(), &[1, 2, 3], &WORKED_KEPT));
-    Ok(())
+fn rules_and_normal_forms_are_trimmed(rt: HostRuntime) {
+    assert!(rt; are_useless_rules_trimmed(rt.alloc()));
+    assert!(rt; is_normal_trimmed_to(rt.alloc(), 4, &WORKED, &[1, 2, 3], &WORKED_KEPT));
 }
 
-// The inside costs of a grammar of one state with this number of rules, and how many of the rules are kept.
-fn measure_wide(alloc: Global, labels: u32) -> Result<(Vec<Option<Cost>>, u32), Fail> {
-    let rules = wide_rules(alloc, labels)?;
-    let grammar = grammar_of::<MinPlus>(alloc, 1, rules)?;
-    let costs = inside::<MinPlus>(alloc, &grammar)?;
-    let trimmed = trim::<MinPlus>(alloc, grammar)?;
-    Ok((costs, trimmed.rules()))
+// Whether trimming a grammar leaves this number of rules.
+fn keeps(alloc: Global, grammar: Grammar<MinPlus>, rules: u32) -> bool {
+    match trim::<MinPlus>(alloc, grammar) {
+        Ok(trimmed) => trimmed.rules() == rules,
+        Err(_) => false,
+    }
+}
+
+// The grammar of one state with this number of rules.
+fn wide_grammar(alloc: Global, labels: u32) -> Option<Grammar<MinPlus>> {
+    grammar_of::<MinPlus>(alloc, 1, wide_rules(alloc, labels)?)
+}
+
+// Whether its inside cost is 0, and trimming keeps all of its rules.
+fn is_wide_kept(alloc: Global, labels: u32) -> bool {
+    match wide_grammar(alloc, labels) {
+        Some(grammar) => {
+            are_insides(alloc, &grammar, &[Some(0)]) && keeps(alloc, grammar, labels)
+        }
+        None => false,
+    }
 }
 
 #[test]
-fn more_rules_than_16_bits_count_are_kept(rt: HostRuntime) -> Result<(), Fail> {
-    let (costs, kept) = measure_wide(rt.alloc(), 70_000)?;
-    assert!(rt; have_numbers(&costs, &[Some(0)]) && kept == 70_000);
-    Ok(())
+fn more_rules_than_16_bits_count_are_kept(rt: HostRuntime) {
+    assert!(rt; is_wide_kept(rt.alloc(), 70_000));
 }

@@ -1,7 +1,6 @@
 // The normal forms of small grammars.
 use crate::rules::{Row, are_of_rows, grammar_over, make_grammar, make_normal, make_rule, named};
-use std::alloc::{AllocError, Global};
-use std::test::Fail;
+use std::alloc::Global;
 use tib_cost::{MOST, MinPlus};
 use tib_grammar::{Grammar, Rule};
 use tib_normal::{Normal, NormalError, normalize};
@@ -15,32 +14,29 @@ fn are_wanted(rules: &[Rule<u32>], want: Option<&[Row]>) -> bool {
 }
 
 // Whether the normal form within a limit has these rules, or has too many parts where there are none.
-fn is_within(
-    alloc: Global,
-    grammar: &Grammar<MinPlus>,
-    limit: u64,
-    want: Option<&[Row]>,
-) -> Result<bool, AllocError> {
+fn is_within(alloc: Global, grammar: &Grammar<MinPlus>, limit: u64, want: Option<&[Row]>) -> bool {
     if limit < 1 || limit > 20_000_000 {
-        return Ok(false);
+        return false;
     }
     match normalize::<MinPlus>(alloc, grammar, limit) {
-        Ok(normal) => Ok(are_wanted(normal.grammar().rule_list(), want)),
-        Err(NormalError::TooMany { .. }) => Ok(want.is_none()),
-        Err(NormalError::OutOfMemory) => Err(AllocError),
+        Ok(normal) => are_wanted(normal.grammar().rule_list(), want),
+        Err(error) => want.is_none() && is_too_many(&error),
+    }
+}
+
+fn is_too_many(error: &NormalError) -> bool {
+    match error {
+        NormalError::TooMany { .. } => true,
+        NormalError::OutOfMemory => false,
     }
 }
 
 /// The same of the normal form of some rules over this number of states.
-fn has_form(
-    alloc: Global,
-    states: u8,
-    rows: &[Row],
-    limit: u64,
-    want: Option<&[Row]>,
-) -> Result<bool, Fail> {
-    let grammar = make_grammar::<MinPlus>(alloc, states, rows)?;
-    Ok(is_within(alloc, &grammar, limit, want)?)
+fn has_form(alloc: Global, states: u8, rows: &[Row], limit: u64, want: Option<&[Row]>) -> bool {
+    match make_grammar::<MinPlus>(alloc, states, rows) {
+        Some(grammar) => is_within(alloc, &grammar, limit, want),
+        None => false,
+    }
 }
 
 const LABEL_F2: (u32, Option<u32>) = (0, Some(2));
@@ -116,51 +112,73 @@ static FORMS: [(u8, &[Row], u64, Option<&[Row]>); 7] = [
 ];
 
 #[test]
-fn normal_forms_are_as_worked_out(rt: HostRuntime) -> Result<(), Fail> {
+fn normal_forms_are_as_worked_out(rt: HostRuntime) {
     for (states, rows, limit, want) in &FORMS {
-        assert!(rt; has_form(rt.alloc(), *states, *rows, *limit, *want)?);
+        assert!(rt; has_form(rt.alloc(), *states, *rows, *limit, *want));
     }
-    Ok(())
 }
 
-// How many rules of a grammar in normal form have the label 2 over no state, and over one.
-fn counts_with_2(normal: &Normal<MinPlus>) -> (usize, usize) {
-    (normal.rules_with(2, 0).len(), normal.rules_with(2, 1).len())
+// Whether a grammar in normal form has these rules, of which one has the label 2 over no state,
+// and none has it over one.
+fn has_one_with_2(normal: &Normal<MinPlus>, rows: &[Row]) -> bool {
+    normal.rules_with(2, 0).len() == 1
+        && normal.rules_with(2, 1).len() == 0
+        && are_of_rows(normal.grammar().rule_list(), rows)
+}
+
+fn is_small_taken(alloc: Global) -> bool {
+    match make_normal::<MinPlus>(alloc, 1, &SMALL) {
+        Some(normal) => has_one_with_2(&normal, &SMALL),
+        None => false,
+    }
 }
 
 static ONE_NESTED: [Row; 1] = [(0, &[LABEL_G1, LABEL_A0], 1)];
 
-fn is_taken(alloc: Global, rows: &[Row]) -> Result<bool, Fail> {
-    let grammar = make_grammar::<MinPlus>(alloc, 1, rows)?;
-    Ok(Normal::new(alloc, grammar)?.is_some())
+// Whether a grammar is told not to be in normal form.
+fn is_refused(alloc: Global, grammar: Grammar<MinPlus>) -> bool {
+    match Normal::new(alloc, grammar) {
+        Ok(made) => made.is_none(),
+        Err(_) => false,
+    }
+}
+
+fn is_nested_refused(alloc: Global) -> bool {
+    match make_grammar::<MinPlus>(alloc, 1, &ONE_NESTED) {
+        Some(grammar) => is_refused(alloc, grammar),
+        None => false,
+    }
 }
 
 #[test]
-fn only_normal_grammars_are_taken(rt: HostRuntime) -> Result<(), Fail> {
-    let normal = make_normal::<MinPlus>(rt.alloc(), 1, &SMALL)?;
-    assert!(rt; are_of_rows(normal.grammar().rule_list(), &SMALL));
-    assert_eq!(rt; counts_with_2(&normal), (1, 0));
-    assert!(rt; !is_taken(rt.alloc(), &ONE_NESTED)?);
-    Ok(())
+fn only_normal_grammars_are_taken(rt: HostRuntime) {
+    assert!(rt; is_small_taken(rt.alloc()) && is_nested_refused(rt.alloc()));
 }
 
 /// The rules of a chain of states, each of which leads to the next at cost 1; the last one has a
 /// rule of cost 0.
-fn chain_rules(alloc: Global, states: u32) -> Result<Vec<Rule<u32>>, Fail> {
+fn chain_rules(alloc: Global, states: u32) -> Option<Vec<Rule<u32>>> {
     let mut rules = Vec::new(alloc);
     for n in 1..states {
-        rules.push(make_rule(alloc, n - 1, &[(n, None)], 1)?)?;
+        rules.push(make_rule(alloc, n - 1, &[(n, None)], 1)?).ok()?;
     }
-    rules.push(make_rule(alloc, states - states.min(1), &[LABEL_A0], 0)?)?;
-    Ok(rules)
+    rules
+        .push(make_rule(alloc, states - states.min(1), &[LABEL_A0], 0)?)
+        .ok()?;
+    Some(rules)
 }
 
-fn number_texts(alloc: Global, count: u32) -> Result<Vec<Vec<u8>>, AllocError> {
+fn number_texts(alloc: Global, count: u32) -> Option<Vec<Vec<u8>>> {
     let mut texts = Vec::new(alloc);
     for n in 0..count {
-        texts.push(n.to_string(alloc)?.into_bytes())?;
+        texts.push(n.to_string(alloc).ok()?.into_bytes()).ok()?;
     }
-    Ok(texts)
+    Some(texts)
+}
+
+fn chain_grammar(alloc: Global, states: u32) -> Option<Grammar<MinPlus>> {
+    let names = named(alloc, number_texts(alloc, states)?)?;
+    grammar_over::<MinPlus>(names, chain_rules(alloc, states)?)
 }
 
 // How many rules there are, and what the first of them costs.
@@ -182,20 +200,19 @@ fn measure_within(grammar: &Grammar<MinPlus>, alloc: Global, limit: u64) -> Opti
     }
 }
 
-/// How many rules the normal form of a chain of 70,000 states has, and what the first of them
-/// costs.
-fn measure_chain(alloc: Global, limit: u64) -> Result<Option<(usize, u64)>, Fail> {
-    let rules = chain_rules(alloc, 70_000)?;
-    let names = named(alloc, number_texts(alloc, 70_000)?)?;
-    let grammar = grammar_over::<MinPlus>(names, rules)?;
-    Ok(measure_within(&grammar, alloc, limit))
+// Whether a chain of 70,000 states has a normal form of a part for each state, and two for each
+// rule, and none with a part less.
+fn is_chain_followed(alloc: Global) -> bool {
+    match chain_grammar(alloc, 70_000) {
+        Some(grammar) => {
+            measure_within(&grammar, alloc, 210_000) == Some((70_000, 69_999))
+                && measure_within(&grammar, alloc, 209_999) == None
+        }
+        None => false,
+    }
 }
 
 #[test]
-fn long_chains_are_followed(rt: HostRuntime) -> Result<(), Fail> {
-    // a part for each state, and two for each rule
-    let within = measure_chain(rt.alloc(), 210_000)?;
-    let beyond = measure_chain(rt.alloc(), 209_999)?;
-    assert_eq!(rt; (within, beyond), (Some((70_000, 69_999)), None));
-    Ok(())
+fn long_chains_are_followed(rt: HostRuntime) {
+    assert!(rt; is_chain_followed(rt.alloc()));
 }

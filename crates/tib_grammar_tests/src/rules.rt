@@ -1,6 +1,5 @@
 // Small grammars by their rules, and whether rules and costs are as worked out.
-use std::alloc::{AllocError, Global};
-use std::test::Fail;
+use std::alloc::Global;
 use tib_cost::{Cost, MinPlus, Semiring};
 use tib_grammar::{Grammar, Item, Names, Rule, Side};
 use tib_normal::Normal;
@@ -21,117 +20,105 @@ fn item_of(part: Part) -> Item<u32> {
     }
 }
 
-fn items_of(alloc: Global, parts: &[Part]) -> Result<Vec<Item<u32>>, AllocError> {
+fn items_of(alloc: Global, parts: &[Part]) -> Option<Vec<Item<u32>>> {
     let mut items = Vec::new(alloc);
     for part in parts {
-        items.push(item_of(*part))?;
+        items.push(item_of(*part)).ok()?;
     }
-    Ok(items)
+    Some(items)
 }
 
-fn side_of(alloc: Global, parts: &[Part]) -> Result<Side<u32>, Fail> {
+fn side_of(alloc: Global, parts: &[Part]) -> Option<Side<u32>> {
     let items = items_of(alloc, parts)?;
     if items.len() > 100 {
-        return Err("too many items".into());
+        return None;
     }
-    match Side::from_preorder(items) {
-        Ok(side) => Ok(side),
-        Err(_) => Err("not a tree".into()),
-    }
+    Side::from_preorder(items).ok()
 }
 
 /// The rule with this left state, these items on its right, and this cost.
-pub fn make_rule(alloc: Global, left: u32, parts: &[Part], cost: u64) -> Result<Rule<u32>, Fail> {
+pub fn make_rule(alloc: Global, left: u32, parts: &[Part], cost: u64) -> Option<Rule<u32>> {
+    let cost = Cost::new(cost)?;
     let right = side_of(alloc, parts)?;
-    match Cost::new(cost) {
-        Some(cost) => Ok(Rule { left, right, cost }),
-        None => Err("not a cost".into()),
-    }
+    Some(Rule { left, right, cost })
 }
 
-fn make_rules(alloc: Global, rows: &[Row]) -> Result<Vec<Rule<u32>>, Fail> {
+fn make_rules(alloc: Global, rows: &[Row]) -> Option<Vec<Rule<u32>>> {
     let mut rules = Vec::new(alloc);
     for (left, parts, cost) in rows {
-        rules.push(make_rule(alloc, *left, *parts, *cost)?)?;
+        rules.push(make_rule(alloc, *left, *parts, *cost)?).ok()?;
     }
-    Ok(rules)
+    Some(rules)
+}
+
+fn leaf_rule(alloc: Global, label: u32) -> Option<Rule<u32>> {
+    let right = Side::over(alloc, label, &[]).ok()?;
+    Some(Rule {
+        left: 0,
+        right,
+        cost: MinPlus::one(),
+    })
 }
 
 /// A rule of the state 0 for each of this number of labels, which costs nothing.
-pub fn wide_rules(alloc: Global, labels: u32) -> Result<Vec<Rule<u32>>, AllocError> {
+pub fn wide_rules(alloc: Global, labels: u32) -> Option<Vec<Rule<u32>>> {
     let mut rules = Vec::new(alloc);
     for label in 0..labels {
-        rules.push(Rule {
-            left: 0,
-            right: Side::over(alloc, label, &[])?,
-            cost: MinPlus::one(),
-        })?;
+        rules.push(leaf_rule(alloc, label)?).ok()?;
     }
-    Ok(rules)
+    Some(rules)
 }
 
-fn name_texts(alloc: Global, states: u8) -> Result<Vec<Vec<u8>>, AllocError> {
+fn name_texts(alloc: Global, states: u8) -> Option<Vec<Vec<u8>>> {
     let mut texts = Vec::new(alloc);
     for n in 0..states {
-        texts.push(vec![in alloc; b'q'; n as usize + 1]?)?;
+        texts.push(vec![in alloc; b'q'; n as usize + 1].ok()?).ok()?;
     }
-    Ok(texts)
+    Some(texts)
 }
 
 /// The states with these names.
-pub fn named(alloc: Global, texts: Vec<Vec<u8>>) -> Result<Names, Fail> {
+pub fn named(alloc: Global, texts: Vec<Vec<u8>>) -> Option<Names> {
     if texts.len() > 100_000 {
-        return Err("too many names".into());
+        return None;
     }
-    match Names::from_list(alloc, texts)? {
-        Some(names) => Ok(names),
-        None => Err("not names".into()),
-    }
+    Names::from_list(alloc, texts).ok()?
 }
 
 /// The grammar of these rules over these names.
-pub fn grammar_over<S>(names: Names, rules: Vec<Rule<u32>>) -> Result<Grammar<S>, Fail> {
+pub fn grammar_over<S>(names: Names, rules: Vec<Rule<u32>>) -> Option<Grammar<S>> {
     if rules.len() > 100_000 {
-        return Err("too many rules".into());
+        return None;
     }
-    match Grammar::new(names, rules) {
-        Some(grammar) => Ok(grammar),
-        None => Err("not a grammar".into()),
-    }
+    Grammar::new(names, rules)
 }
 
 /// The grammar of these rules over this number of states, which are named q, qq and so on.
-pub fn grammar_of<S>(alloc: Global, states: u8, rules: Vec<Rule<u32>>) -> Result<Grammar<S>, Fail> {
+pub fn grammar_of<S>(alloc: Global, states: u8, rules: Vec<Rule<u32>>) -> Option<Grammar<S>> {
     let names = named(alloc, name_texts(alloc, states)?)?;
     grammar_over(names, rules)
 }
 
 /// The grammar of these rows over this number of states.
-pub fn make_grammar<S>(alloc: Global, states: u8, rows: &[Row]) -> Result<Grammar<S>, Fail> {
-    let rules = make_rules(alloc, rows)?;
-    grammar_of(alloc, states, rules)
-}
-
-fn normal_of<S: Drop>(alloc: Global, grammar: Grammar<S>) -> Result<Normal<S>, Fail> {
-    match Normal::new(alloc, grammar)? {
-        Some(normal) => Ok(normal),
-        None => Err("not in normal form".into()),
-    }
+pub fn make_grammar<S>(alloc: Global, states: u8, rows: &[Row]) -> Option<Grammar<S>> {
+    grammar_of(alloc, states, make_rules(alloc, rows)?)
 }
 
 /// The grammar of these rows over this number of states, where it is in normal form.
-pub fn make_normal<S: Drop>(alloc: Global, states: u8, rows: &[Row]) -> Result<Normal<S>, Fail> {
-    let grammar = make_grammar::<S>(alloc, states, rows)?;
-    normal_of(alloc, grammar)
+pub fn make_normal<S: Drop>(alloc: Global, states: u8, rows: &[Row]) -> Option<Normal<S>> {
+    Normal::new(alloc, make_grammar::<S>(alloc, states, rows)?).ok()?
 }
 
 fn are_parts(items: &[Item<u32>], parts: &[Part]) -> bool {
-    for (item, part) in items.iter().zip(parts) {
-        if *item != item_of(*part) {
+    if items.len() != parts.len() {
+        return false;
+    }
+    for i in 0..items.len() {
+        if items[i] != item_of(parts[i]) {
             return false;
         }
     }
-    items.len() == parts.len()
+    true
 }
 
 fn is_of_row(rule: &Rule<u32>, row: &Row) -> bool {
@@ -140,12 +127,15 @@ fn is_of_row(rule: &Rule<u32>, row: &Row) -> bool {
 
 /// Whether the rules are those of the rows.
 pub fn are_of_rows(rules: &[Rule<u32>], rows: &[Row]) -> bool {
-    for (rule, row) in rules.iter().zip(rows) {
-        if !is_of_row(rule, row) {
+    if rules.len() != rows.len() {
+        return false;
+    }
+    for i in 0..rules.len() {
+        if !is_of_row(&rules[i], &rows[i]) {
             return false;
         }
     }
-    rules.len() == rows.len()
+    true
 }
 
 fn number_of(cost: &Option<Cost>) -> Option<u64> {
@@ -157,10 +147,13 @@ fn number_of(cost: &Option<Cost>) -> Option<u64> {
 
 /// Whether the costs have these numbers.
 pub fn have_numbers(costs: &[Option<Cost>], numbers: &[Option<u64>]) -> bool {
-    for (cost, number) in costs.iter().zip(numbers) {
-        if number_of(cost) != *number {
+    if costs.len() != numbers.len() {
+        return false;
+    }
+    for i in 0..costs.len() {
+        if number_of(&costs[i]) != numbers[i] {
             return false;
         }
     }
-    costs.len() == numbers.len()
+    true
 }
