@@ -3,7 +3,6 @@ ghost use Rattle.std.specs.Prelude.{length};
 ghost use Rattle.tib_grammar_file.specs.Printed.{AreLabelled};
 
 use std::alloc::Global;
-use std::test::Fail;
 use tib_cost::{Boolean, MinPlus, Semiring};
 use tib_grammar::Grammar;
 use tib_grammar_file::{print_grammar, read_grammar};
@@ -46,87 +45,109 @@ static ROWS: [Row; 17] = [
     ("q\n\nq -> a)\nq -> \"", "line 3: bad rule"),
 ];
 
-// What is printed of a grammar.
-fn printed<S: Semiring>(
+fn rows() -> &'static [Row] {
+    &ROWS
+}
+
+// Whether this is printed of a grammar.
+fn is_printed_as<S: Semiring>(
     alloc: Global,
     grammar: &Grammar<S>,
     labels: &Labels,
-) -> Result<Vec<u8>, Fail>
+    want: &[u8],
+) -> bool
     requires { AreLabelled (length labels.now) grammar.now.rules }
 {
-    let mut sink = MemorySink::new(alloc, Vec::new(alloc), 1_000_000)?;
-    let Ok(()) = print_grammar(grammar, labels, &mut sink) else {
-        return Err("the sink failed".into());
+    let Ok(mut sink) = MemorySink::new(alloc, Vec::new(alloc), 1_000_000) else {
+        return false;
     };
-    Ok(sink.bytes().to_vec(alloc)?)
+    let Ok(()) = print_grammar(grammar, labels, &mut sink) else {
+        return false;
+    };
+    sink.bytes() == want
 }
 
-fn said_of(alloc: Global, error: ReadError) -> Result<Vec<u8>, Fail> {
-    Ok(error.to_string(alloc)?.into_bytes())
+fn is_said_as(alloc: Global, error: ReadError, want: &[u8]) -> bool {
+    match error.to_string(alloc) {
+        Ok(said) => said.as_bytes() == want,
+        Err(_) => false,
+    }
 }
 
-// What is printed of the grammar of a text, or said of the text's first fault.
-fn answer<S: Semiring + Drop>(alloc: Global, text: &[u8]) -> Result<Vec<u8>, Fail> {
+// Whether this is printed of the grammar of a text, or said of the text's first fault.
+fn is_answered<S: Semiring + Drop>(alloc: Global, text: &[u8], want: &[u8]) -> bool {
     if text.len() > 1_000_000 {
-        return Err("too long".into());
+        return false;
     }
     let mut labels = Labels::new(alloc);
     match read_grammar::<S>(alloc, text, &mut labels) {
-        Ok(grammar) => printed(alloc, &grammar, &labels),
-        Err(error) => said_of(alloc, error),
+        Ok(grammar) => is_printed_as(alloc, &grammar, &labels, want),
+        Err(error) => is_said_as(alloc, error, want),
     }
 }
 
 #[test]
-fn a_file_gives_its_grammar_or_its_first_fault(rt: HostRuntime) -> Result<(), Fail> {
-    for (text, want) in &ROWS {
-        let told = answer::<MinPlus>(rt.alloc(), text.as_bytes())?;
-        assert!(rt; told.as_slice() == want.as_bytes(), "{text}");
+fn a_file_gives_its_grammar_or_its_first_fault(rt: HostRuntime) {
+    for (text, want) in rows() {
+        assert!(rt;
+            is_answered::<MinPlus>(rt.alloc(), text.as_bytes(), want.as_bytes()),
+            "{text}"
+        );
     }
-    Ok(())
 }
 
+static WEIGHTS: &[u8] = b"q\nq -> a # 0.5\nq -> b # x\n";
+
 #[test]
-fn any_name_is_a_weight_where_nothing_is_weighed(rt: HostRuntime) -> Result<(), Fail> {
-    let told = answer::<Boolean>(rt.alloc(), b"q\nq -> a # 0.5\nq -> b # x\n")?;
-    assert_eq!(rt; told.as_slice(), b"q\nq -> a\nq -> b\n".as_slice());
-    Ok(())
+fn any_name_is_a_weight_where_nothing_is_weighed(rt: HostRuntime) {
+    assert!(rt; is_answered::<Boolean>(rt.alloc(), WEIGHTS, b"q\nq -> a\nq -> b\n"));
 }
 
 // A front, a number of pieces, and a back.
-fn repeated(
-    alloc: Global,
-    front: &[u8],
-    piece: &[u8],
-    count: u32,
-    back: &[u8],
-) -> Result<Vec<u8>, Fail> {
-    let mut text = Vec::from_slice(alloc, front)?;
+fn repeated(alloc: Global, front: &[u8], piece: &[u8], count: u32, back: &[u8]) -> Option<Vec<u8>> {
+    let mut text = Vec::from_slice(alloc, front).ok()?;
     for _ in 0..count {
-        text.extend_from_slice(piece)?;
+        text.extend_from_slice(piece).ok()?;
     }
-    text.extend_from_slice(back)?;
-    Ok(text)
+    text.extend_from_slice(back).ok()?;
+    Some(text)
 }
 
-// What is told of a grammar of one rule with so many nodes and one more.
-fn answer_of_nodes(alloc: Global, count: u32) -> Result<Vec<u8>, Fail> {
-    let text = repeated(alloc, b"q\nq -> f(", b"a ", count, b")")?;
-    answer::<MinPlus>(alloc, &text)
+// Whether the grammar of one rule, whose label stands over this number of leaves, is answered so.
+fn are_leaves_answered(alloc: Global, leaves: u32, want: &[u8]) -> bool {
+    match repeated(alloc, b"q\nq -> f(", b"a ", leaves, b")") {
+        Some(text) => is_answered::<MinPlus>(alloc, &text, want),
+        None => false,
+    }
+}
+
+// Whether a rule of 9,999 leaves is printed with all of them.
+fn are_leaves_printed(alloc: Global) -> bool {
+    match repeated(alloc, b"q\nq -> f(", b"a ", 9_998, b"a) # 0\n") {
+        Some(want) => are_leaves_answered(alloc, 9_999, &want),
+        None => false,
+    }
+}
+
+// Whether a rule of 10,000 leaves, with its label, is told to have too many nodes.
+fn are_leaves_too_many(alloc: Global) -> bool {
+    are_leaves_answered(alloc, 10_000, b"line 2: too many nodes")
 }
 
 #[test]
-fn ten_thousand_nodes_are_read_and_no_more(rt: HostRuntime) -> Result<(), Fail> {
-    let few = answer_of_nodes(rt.alloc(), 9_999)?;
-    assert!(rt; few.starts_with(b"q\nq -> f(a a "));
-    let many = answer_of_nodes(rt.alloc(), 10_000)?;
-    assert_eq!(rt; many.as_slice(), b"line 2: too many nodes".as_slice());
-    Ok(())
+fn ten_thousand_nodes_are_read_and_no_more(rt: HostRuntime) {
+    assert!(rt; are_leaves_printed(rt.alloc()) && are_leaves_too_many(rt.alloc()));
+}
+
+// Whether a grammar of this number of equal rules is printed as it was read.
+fn are_rules_printed(alloc: Global, rules: u32) -> bool {
+    match repeated(alloc, b"q\n", b"q -> a\n", rules, b"") {
+        Some(text) => is_answered::<Boolean>(alloc, &text, &text),
+        None => false,
+    }
 }
 
 #[test]
-fn seventy_thousand_rules_are_read(rt: HostRuntime) -> Result<(), Fail> {
-    let text = repeated(rt.alloc(), b"q\n", b"q -> a\n", 70_000, b"")?;
-    assert!(rt; answer::<Boolean>(rt.alloc(), &text)? == text);
-    Ok(())
+fn seventy_thousand_rules_are_read(rt: HostRuntime) {
+    assert!(rt; are_rules_printed(rt.alloc(), 70_000));
 }

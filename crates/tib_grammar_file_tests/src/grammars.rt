@@ -2,8 +2,7 @@
 ghost use Rattle.std.specs.Prelude.{IfSome};
 ghost use Rattle.tib_grammar.specs.Forms.{IsNormalSide};
 
-use std::alloc::{AllocError, Global};
-use std::test::Fail;
+use std::alloc::Global;
 use tib_cost::{MinPlus, Semiring};
 use tib_grammar::*;
 use tib_tree::Label;
@@ -11,24 +10,29 @@ use tib_tree::Label;
 // A rule that costs nothing: its left state, its label, and the states below it, or the lone state where there is no label.
 type Row = (u32, Option<Label>, &'static [u32]);
 
-fn bytes_of(alloc: Global, texts: &[&str]) -> Result<Vec<Vec<u8>>, AllocError> {
+fn bytes_of(alloc: Global, texts: &[&str]) -> Option<Vec<Vec<u8>>> {
     let mut list = Vec::new(alloc);
     for text in texts {
-        list.push(text.as_bytes().to_vec(alloc)?)?;
+        list.push(text.as_bytes().to_vec(alloc).ok()?).ok()?;
     }
-    Ok(list)
+    Some(list)
 }
 
-fn names(alloc: Global, texts: &[&str]) -> Result<Option<Names>, Fail> {
+// The states of these names, where they are names; none at all where memory is refused.
+fn read_names(alloc: Global, texts: &[&str]) -> Option<Option<Names>> {
     let list = bytes_of(alloc, texts)?;
     if list.len() > 1000 {
-        return Err("too many names".into());
+        return None;
     }
-    Ok(Names::from_list(alloc, list)?)
+    Names::from_list(alloc, list).ok()
 }
 
-fn are_names(alloc: Global, texts: &[&str]) -> Result<bool, Fail> {
-    Ok(names(alloc, texts)?.is_some())
+// Whether the texts are names of states, or are none, as is wanted.
+fn are_told(alloc: Global, texts: &[&str], want: bool) -> bool {
+    match read_names(alloc, texts) {
+        Some(names) => names.is_some() == want,
+        None => false,
+    }
 }
 
 static NAMES: [(&[&str], bool); 7] = [
@@ -41,136 +45,160 @@ static NAMES: [(&[&str], bool); 7] = [
     (&["q", "p", "q"], false),
 ];
 
-#[test]
-fn state_names_are_told_from_others(rt: HostRuntime) -> Result<(), Fail> {
+fn are_all_told(alloc: Global) -> bool {
     for (texts, want) in &NAMES {
-        assert!(rt; are_names(rt.alloc(), *texts)? == *want);
+        if !are_told(alloc, *texts, *want) {
+            return false;
+        }
     }
-    Ok(())
+    true
+}
+
+#[test]
+fn state_names_are_told_from_others(rt: HostRuntime) {
+    assert!(rt; are_all_told(rt.alloc()));
 }
 
 // The states as items.
-fn holes(alloc: Global, states: &[u32]) -> Result<Vec<Item<u32>>, AllocError> {
+fn holes(alloc: Global, states: &[u32]) -> Option<Vec<Item<u32>>> {
     let mut items = Vec::new(alloc);
     for state in states {
-        items.push(Item::Hole(*state))?;
+        items.push(Item::Hole(*state)).ok()?;
     }
-    Ok(items)
+    Some(items)
 }
 
-fn side_of_holes(alloc: Global, states: &[u32]) -> Result<Option<Side<u32>>, Fail> {
+// The side of the states alone, where they are one tree; none at all where memory is refused.
+fn side_of_holes(alloc: Global, states: &[u32]) -> Option<Option<Side<u32>>> {
     let items = holes(alloc, states)?;
     if items.len() > 1000 {
-        return Err("too many items".into());
+        return None;
     }
-    match Side::from_preorder(items) {
-        Ok(side) => Ok(Some(side)),
-        Err(_) => Ok(None),
-    }
+    Some(Side::from_preorder(items).ok())
 }
 
-// A label over states, or the states alone, which make a side where there is one of them.
-fn side(alloc: Global, root: Option<Label>, states: &[u32]) -> Result<Option<Side<u32>>, Fail> {
+// The same of a label over states, or of the states alone where there is no label.
+fn side(alloc: Global, root: Option<Label>, states: &[u32]) -> Option<Option<Side<u32>>> {
     if states.len() > 1000 {
-        return Err("too many states".into());
+        return None;
     }
     match root {
-        Some(label) => Ok(Some(Side::over(alloc, label, states)?)),
+        Some(label) => Some(Some(Side::over(alloc, label, states).ok()?)),
         None => side_of_holes(alloc, states),
     }
 }
 
 // How many items a side has.
-fn count_of(side: Option<Side<u32>>) -> Option<usize> {
+fn count_of(side: &Option<Side<u32>>) -> Option<usize> {
     match side {
         Some(side) => Some(side.items().len()),
         None => None,
     }
 }
 
-fn count_items(alloc: Global, root: Option<Label>, states: &[u32]) -> Result<Option<usize>, Fail> {
-    let side = side(alloc, root, states)?;
-    Ok(count_of(side))
+// Whether a label over states, or the states alone, are a side of this number of items, or none.
+fn has_items(alloc: Global, root: Option<Label>, states: &[u32], want: Option<usize>) -> bool {
+    match side(alloc, root, states) {
+        Some(side) => count_of(&side) == want,
+        None => false,
+    }
 }
+
+static SIDES: [(Option<Label>, &[u32], Option<usize>); 3] = [
+    (Some(0), &[7, 8], Some(3)),
+    (None, &[7], Some(1)),
+    (None, &[7, 8], None),
+];
 
 #[test]
-fn a_side_is_one_tree(rt: HostRuntime) -> Result<(), Fail> {
-    assert_eq!(rt; count_items(rt.alloc(), Some(0), &[7, 8])?, Some(3));
-    assert_eq!(rt; count_items(rt.alloc(), None, &[7])?, Some(1));
-    assert_eq!(rt; count_items(rt.alloc(), None, &[7, 8])?, None);
-    Ok(())
-}
-
-fn rules(alloc: Global, rows: &[Row]) -> Result<Vec<Rule<u32>>, Fail> {
-    let mut rules = Vec::new(alloc);
-    for (left, root, states) in rows {
-        rules.push(Rule {
-            left: *left,
-            right: side(alloc, *root, states)?.ok_or("no tree")?,
-            cost: MinPlus::one(),
-        })?;
+fn a_side_is_one_tree(rt: HostRuntime) {
+    for (root, states, want) in &SIDES {
+        assert!(rt; has_items(rt.alloc(), *root, *states, *want));
     }
-    Ok(rules)
 }
 
-// The grammar of these names and rules, where they make one.
-fn made(alloc: Global, texts: &[&str], rows: &[Row]) -> Result<Option<Grammar<MinPlus>>, Fail> {
+fn rule(alloc: Global, row: &Row) -> Option<Rule<u32>> {
+    let (left, root, states) = row;
+    let right = side(alloc, *root, *states)??;
+    Some(Rule {
+        left: *left,
+        right,
+        cost: MinPlus::one(),
+    })
+}
+
+fn rules(alloc: Global, rows: &[Row]) -> Option<Vec<Rule<u32>>> {
+    let mut rules = Vec::new(alloc);
+    for row in rows {
+        rules.push(rule(alloc, row)?).ok()?;
+    }
+    Some(rules)
+}
+
+// The grammar of these names and rules, where they make one; none at all where memory is refused.
+fn made(alloc: Global, texts: &[&str], rows: &[Row]) -> Option<Option<Grammar<MinPlus>>> {
     let rules = rules(alloc, rows)?;
     if rules.len() > 1000 {
-        return Err("too many rules".into());
-    }
-    let names = names(alloc, texts)?.ok_or("no names")?;
-    Ok(Grammar::new(names, rules))
-}
-
-fn is_made(alloc: Global, texts: &[&str], rows: &[Row]) -> Result<bool, Fail> {
-    Ok(made(alloc, texts, rows)?.is_some())
-}
-
-fn grammar(alloc: Global, texts: &[&str], rows: &[Row]) -> Result<Grammar<MinPlus>, Fail> {
-    Ok(made(alloc, texts, rows)?.ok_or("no grammar")?)
-}
-
-// Whether the grammar is in normal form, how many states and rules it has, and how many rules its list.
-fn counts_of(grammar: &Grammar<MinPlus>) -> (bool, u32, u32, usize) {
-    (
-        grammar.is_normal(),
-        grammar.states(),
-        grammar.rules(),
-        grammar.rule_list().len(),
-    )
-}
-
-fn first_name(grammar: &Grammar<MinPlus>) -> Option<&[u8]> {
-    if grammar.states() == 0 {
         return None;
     }
-    Some(grammar.name(0))
+    Some(Grammar::new(read_names(alloc, texts)??, rules))
 }
 
-fn cost_of_second(grammar: &Grammar<MinPlus>) -> Option<u64> {
-    if grammar.rules() < 2 {
-        return None;
+fn grammar(alloc: Global, texts: &[&str], rows: &[Row]) -> Option<Grammar<MinPlus>> {
+    made(alloc, texts, rows)?
+}
+
+fn is_refused(alloc: Global, texts: &[&str], rows: &[Row]) -> bool {
+    match made(alloc, texts, rows) {
+        Some(made) => made.is_none(),
+        None => false,
     }
-    Some(grammar.rule(2).cost.get())
 }
 
-// The number of the state q, and how many names and rules the parts of the grammar have.
-fn take_apart(grammar: Grammar<MinPlus>) -> (Option<u32>, u32, usize) {
+// Whether the grammar is in normal form, and has one state and two rules.
+fn has_counts(grammar: &Grammar<MinPlus>) -> bool {
+    grammar.is_normal()
+        && grammar.states() == 1
+        && grammar.rules() == 2
+        && grammar.rule_list().len() == 2
+}
+
+fn is_first_name(grammar: &Grammar<MinPlus>, name: &[u8]) -> bool {
+    grammar.states() > 0 && grammar.name(0) == name
+}
+
+fn is_cost_of_second(grammar: &Grammar<MinPlus>, cost: u64) -> bool {
+    grammar.rules() >= 2 && grammar.rule(2).cost.get() == cost
+}
+
+// Whether the parts of the grammar are one name, which is q, and two rules.
+fn comes_apart(grammar: Grammar<MinPlus>) -> bool {
     let (names, rules) = grammar.into_parts();
-    (names.find(b"q"), names.len(), rules.len())
+    names.find(b"q") == Some(0) && names.len() == 1 && rules.len() == 2
 }
 
 // q -> f(q q), q -> a
+static TREES: [Row; 2] = [(0, Some(0), &[0, 0]), (0, Some(1), &[])];
+
+fn trees_come_apart(alloc: Global) -> bool {
+    match grammar(alloc, &["q"], &TREES) {
+        Some(grammar) => comes_apart(grammar),
+        None => false,
+    }
+}
+
+fn trees_have_parts(alloc: Global) -> bool {
+    match grammar(alloc, &["q"], &TREES) {
+        Some(grammar) => {
+            has_counts(&grammar) && is_first_name(&grammar, b"q") && is_cost_of_second(&grammar, 0)
+        }
+        None => false,
+    }
+}
+
 #[test]
-fn a_grammar_gives_its_parts(rt: HostRuntime) -> Result<(), Fail> {
-    let rows: [Row; 2] = [(0, Some(0), &[0, 0]), (0, Some(1), &[])];
-    let grammar = grammar(rt.alloc(), &["q"], &rows)?;
-    assert_eq!(rt; counts_of(&grammar), (true, 1, 2, 2));
-    assert_eq!(rt; first_name(&grammar), Some(b"q".as_slice()));
-    assert_eq!(rt; cost_of_second(&grammar), Some(0));
-    assert_eq!(rt; take_apart(grammar), (Some(0), 1, 2));
-    Ok(())
+fn a_grammar_gives_its_parts(rt: HostRuntime) {
+    assert!(rt; trees_have_parts(rt.alloc()) && trees_come_apart(rt.alloc()));
 }
 
 // The names and rules of a grammar, and the first fault of its deterministic form.
@@ -210,35 +238,30 @@ fn fault_of(alloc: Global, grammar: &Grammar<MinPlus>) -> Option<DeterminismFaul
     }
 }
 
-fn fault(alloc: Global, texts: &[&str], rows: &[Row]) -> Result<Option<DeterminismFault>, Fail> {
-    let grammar = grammar(alloc, texts, rows)?;
-    Ok(fault_of(alloc, &grammar))
+// Whether this is the first fault of the grammar of these names and rules.
+fn is_first_fault(
+    alloc: Global,
+    texts: &[&str],
+    rows: &[Row],
+    want: &Option<DeterminismFault>,
+) -> bool {
+    match grammar(alloc, texts, rows) {
+        Some(grammar) => fault_of(alloc, &grammar) == *want,
+        None => false,
+    }
 }
 
 #[test]
-fn the_first_fault_is_named(rt: HostRuntime) -> Result<(), Fail> {
+fn the_first_fault_is_named(rt: HostRuntime) {
     for (texts, rows, want) in &FAULTS {
-        assert!(rt; fault(rt.alloc(), texts, rows)? == *want);
+        assert!(rt; is_first_fault(rt.alloc(), *texts, *rows, want));
     }
-    Ok(())
 }
 
 // q -> f(p), where p has no name
 #[test]
-fn each_state_has_a_name(rt: HostRuntime) -> Result<(), Fail> {
-    assert!(rt; !is_made(rt.alloc(), &["q"], &[(0, Some(0), &[1])])?);
-    Ok(())
-}
-
-// The rules of a grammar under new numbers of states.
-fn renamed(grammar: Grammar<MinPlus>, numbers: &[u32]) -> Result<Vec<Rule<u32>>, Fail> {
-    grammar.is_sound();
-    if numbers.len() != grammar.states() as usize {
-        return Err("not a number for each state".into());
-    }
-    let (_, mut rules) = grammar.into_parts();
-    rename_rules(&mut rules, numbers);
-    Ok(rules)
+fn each_state_has_a_name(rt: HostRuntime) {
+    assert!(rt; is_refused(rt.alloc(), &["q"], &[(0, Some(0), &[1])]));
 }
 
 // q -> f(q p r p), p -> f(r q), r -> p
@@ -248,8 +271,11 @@ static THREE: [Row; 3] = [
     (2, None, &[1]),
 ];
 
-// Their left states and items where q gets the number 2, p 0 and r 1.
-static RENAMED: [(u32, &[Item<u32>]); 3] = [
+// A rule: its left state, and its items.
+type Wanted = (u32, &'static [Item<u32>]);
+
+// The same rules where q gets the number 2, p 0 and r 1.
+static RENAMED: [Wanted; 3] = [
     (
         2,
         &[
@@ -271,25 +297,43 @@ static RENAMED: [(u32, &[Item<u32>]); 3] = [
     (1, &[Item::Hole(0)]),
 ];
 
-fn is_of(rule: &Rule<u32>, left: u32, items: &[Item<u32>]) -> bool {
-    rule.left == left && rule.right.items() == items
+fn is_of(rule: &Rule<u32>, want: &Wanted) -> bool {
+    rule.left == want.0 && rule.right.items() == want.1
 }
 
-fn are_of(rules: &[Rule<u32>], want: &[(u32, &[Item<u32>])]) -> bool {
-    for (rule, (left, items)) in rules.iter().zip(want) {
-        if !is_of(rule, *left, *items) {
+fn are_of(rules: &[Rule<u32>], want: &[Wanted]) -> bool {
+    if rules.len() != want.len() {
+        return false;
+    }
+    for i in 0..rules.len() {
+        if !is_of(&rules[i], &want[i]) {
             return false;
         }
     }
-    rules.len() == want.len()
+    true
+}
+
+// Whether these are the rules of a grammar under new numbers of states.
+fn are_renamed(grammar: Grammar<MinPlus>, numbers: &[u32], want: &[Wanted]) -> bool {
+    grammar.is_sound();
+    if numbers.len() != grammar.states() as usize {
+        return false;
+    }
+    let (_, mut rules) = grammar.into_parts();
+    rename_rules(&mut rules, numbers);
+    are_of(&rules, want)
+}
+
+fn three_are_renamed(alloc: Global) -> bool {
+    match grammar(alloc, &["q", "p", "r"], &THREE) {
+        Some(grammar) => are_renamed(grammar, &[2, 0, 1], &RENAMED),
+        None => false,
+    }
 }
 
 #[test]
-fn states_get_new_numbers(rt: HostRuntime) -> Result<(), Fail> {
-    let grammar = grammar(rt.alloc(), &["q", "p", "r"], &THREE)?;
-    let rules = renamed(grammar, &[2, 0, 1])?;
-    assert!(rt; are_of(&rules, &RENAMED));
-    Ok(())
+fn states_get_new_numbers(rt: HostRuntime) {
+    assert!(rt; three_are_renamed(rt.alloc()));
 }
 
 // The first rule of a grammar in normal form.
@@ -302,30 +346,42 @@ fn first_rule(grammar: &Grammar<MinPlus>) -> Option<&Rule<u32>>
     Some(grammar.rule(1))
 }
 
-// The root of a rule in normal form, and the states below it.
-fn root_and_states(alloc: Global, rule: &Rule<u32>) -> Result<(Label, u32, Vec<u32>), AllocError>
-    requires { IsNormalSide rule.now.right }
-{
-    let (label, rank) = rule.root();
-    let mut states = Vec::new(alloc);
-    for item in rule.states_below() {
-        states.push(item.state())?;
+fn are_states(items: &[Item<u32>], states: &[u32]) -> bool {
+    if items.len() != states.len() {
+        return false;
     }
-    Ok((label, rank, states))
+    for i in 0..items.len() {
+        if items[i].state() != states[i] {
+            return false;
+        }
+    }
+    true
 }
 
-fn first_of(alloc: Global, grammar: &Grammar<MinPlus>) -> Result<(Label, u32, Vec<u32>), Fail> {
+// Whether the root of a rule in normal form is this label, and these are the states below it.
+fn is_over(rule: &Rule<u32>, label: Label, states: &[u32]) -> bool
+    requires { IsNormalSide rule.now.right }
+{
+    let (own, rank) = rule.root();
+    own == label && rank as usize == states.len() && are_states(rule.states_below(), states)
+}
+
+fn is_first_over(grammar: &Grammar<MinPlus>, label: Label, states: &[u32]) -> bool {
     match first_rule(grammar) {
-        Some(rule) => Ok(root_and_states(alloc, rule)?),
-        None => Err("no rule in normal form".into()),
+        Some(rule) => is_over(rule, label, states),
+        None => false,
+    }
+}
+
+// q -> b(r q), where b is the label 7
+fn is_seven_over_two(alloc: Global) -> bool {
+    match grammar(alloc, &["q", "r"], &[(0, Some(7), &[1, 0])]) {
+        Some(grammar) => is_first_over(&grammar, 7, &[1, 0]),
+        None => false,
     }
 }
 
 #[test]
-fn a_rule_gives_its_label_and_its_states(rt: HostRuntime) -> Result<(), Fail> {
-    let grammar = grammar(rt.alloc(), &["q", "r"], &[(0, Some(7), &[1, 0])])?;
-    let (label, rank, states) = first_of(rt.alloc(), &grammar)?;
-    assert_eq!(rt; (label, rank), (7, 2));
-    assert!(rt; states.as_slice() == [1, 0].as_slice());
-    Ok(())
+fn a_rule_gives_its_label_and_its_states(rt: HostRuntime) {
+    assert!(rt; is_seven_over_two(rt.alloc()));
 }
