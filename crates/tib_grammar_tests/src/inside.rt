@@ -15,15 +15,10 @@ fn are_insides<S: Semiring>(alloc: Global, grammar: &Grammar<S>, numbers: &[Opti
     }
 }
 
-/// The same of the grammar of some rules over this number of states.
-fn has_insides<S: Semiring + Drop>(
-    alloc: Global,
-    states: u8,
-    rows: &[Row],
-    numbers: &[Option<u64>],
-) -> bool {
-    match make_grammar::<S>(alloc, states, rows) {
-        Some(grammar) => are_insides(alloc, &grammar, numbers),
+/// The same of the grammar of a row.
+fn has_insides<S: Semiring + Drop>(alloc: Global, row: &Inside) -> bool {
+    match make_grammar::<S>(alloc, row.0, row.1) {
+        Some(grammar) => are_insides(alloc, &grammar, row.2),
         None => false,
     }
 }
@@ -48,28 +43,21 @@ fn trimmed(alloc: Global, states: u8, rows: &[Row]) -> Option<Grammar<MinPlus>> 
     trim::<MinPlus>(alloc, make_grammar::<MinPlus>(alloc, states, rows)?).ok()
 }
 
-/// Whether trimming some rules over this number of states leaves names of these lengths, and
-/// these rules.
-fn is_trimmed_to(alloc: Global, states: u8, rows: &[Row], lengths: &[usize], kept: &[Row]) -> bool {
-    match trimmed(alloc, states, rows) {
-        Some(grammar) => is_of(&grammar, lengths, kept),
+/// Whether trimming the rules of a row leaves the names and rules of the row.
+fn is_trimmed(alloc: Global, row: &Trimmed) -> bool {
+    match trimmed(alloc, row.0, row.1) {
+        Some(grammar) => is_of(&grammar, row.2, row.3),
         None => false,
     }
 }
 
 /// The same of rules in normal form.
-fn is_normal_trimmed_to(
-    alloc: Global,
-    states: u8,
-    rows: &[Row],
-    lengths: &[usize],
-    kept: &[Row],
-) -> bool {
-    let Some(normal) = make_normal::<MinPlus>(alloc, states, rows) else {
+fn is_normal_trimmed(alloc: Global, row: &Trimmed) -> bool {
+    let Some(normal) = make_normal::<MinPlus>(alloc, row.0, row.1) else {
         return false;
     };
     match trim_normal::<MinPlus>(alloc, normal) {
-        Ok(trimmed) => is_of(trimmed.grammar(), lengths, kept),
+        Ok(trimmed) => is_of(trimmed.grammar(), row.2, row.3),
         Err(_) => false,
     }
 }
@@ -91,8 +79,8 @@ fn are_rules_trimmed_to(
 }
 
 fn are_useless_rules_trimmed(alloc: Global) -> bool {
-    match make_grammar::<MinPlus>(alloc, 4, &USELESS) {
-        Some(grammar) => are_rules_trimmed_to(alloc, grammar, &[0, 3], &USELESS_KEPT),
+    match make_grammar::<MinPlus>(alloc, 4, USELESS) {
+        Some(grammar) => are_rules_trimmed_to(alloc, grammar, &[0, 3], USELESS_KEPT),
         None => false,
     }
 }
@@ -106,7 +94,7 @@ const LABEL_A0: (u32, Option<u32>) = (2, Some(0));
 const LABEL_B0: (u32, Option<u32>) = (3, Some(0));
 
 // q -> A(r s) # 0, r -> b # 1, s -> c # 4, s -> d # 2, u -> B(u) # 0
-const WORKED: [Row; 5] = [
+const WORKED: &[Row] = &[
     (0, &[LABEL_F2, (1, None), (2, None)], 0),
     (1, &[LABEL_A0], 1),
     (2, &[LABEL_A0], 4),
@@ -115,7 +103,7 @@ const WORKED: [Row; 5] = [
 ];
 
 // Sides of several labels, a state that stands twice, chains, and a cycle of cost 0.
-const NESTED: [Row; 5] = [
+const NESTED: &[Row] = &[
     (0, &[LABEL_F2, LABEL_G1, (1, None), (1, None)], 3),
     (1, &[(2, None)], 0),
     (2, &[(1, None)], 0),
@@ -124,17 +112,17 @@ const NESTED: [Row; 5] = [
 ];
 
 // The greatest cost is a cost, and one more is none.
-const CUT: [Row; 4] = [
+const CUT: &[Row] = &[
     (0, &[LABEL_G1, (1, None)], 1),
     (1, &[LABEL_A0], MOST),
     (2, &[(1, None)], 0),
     (3, &[(0, None)], 0),
 ];
 
-const UNWEIGHTED: [Row; 2] = [(0, &[(1, None)], 0), (1, &[LABEL_A0], 0)];
+const UNWEIGHTED: &[Row] = &[(0, &[(1, None)], 0), (1, &[LABEL_A0], 0)];
 
 // State 1 has a run but is not reached, state 2 has none, and the last rule costs too much.
-const USELESS: [Row; 5] = [
+const USELESS: &[Row] = &[
     (1, &[LABEL_A0], 0),
     (0, &[LABEL_F2, (3, None), (2, None)], 0),
     (3, &[LABEL_B0], 1),
@@ -143,59 +131,66 @@ const USELESS: [Row; 5] = [
 ];
 
 // The start has no run.
-const ENDLESS: [Row; 2] = [(0, &[LABEL_G1, (0, None)], 0), (1, &[LABEL_A0], 0)];
+const ENDLESS: &[Row] = &[(0, &[LABEL_G1, (0, None)], 0), (1, &[LABEL_A0], 0)];
 
-// How many states there are, the rules, and the inside costs where costs are added.
-static INSIDES: [(u8, &[Row], &[Option<u64>]); 3] = [
-    (4, &WORKED, &[Some(3), Some(1), Some(2), None]),
-    (3, &NESTED, &[Some(17), Some(7), Some(7)]),
-    (4, &CUT, &[None, Some(MOST), Some(MOST), None]),
+// How many states there are, the rules, and the inside costs.
+type Inside = (u8, &'static [Row], &'static [Option<u64>]);
+
+// Where costs are added.
+static INSIDES: [Inside; 3] = [
+    (4, WORKED, &[Some(3), Some(1), Some(2), None]),
+    (3, NESTED, &[Some(17), Some(7), Some(7)]),
+    (4, CUT, &[None, Some(MOST), Some(MOST), None]),
 ];
 
 #[test]
 fn inside_costs_are_as_worked_out(rt: HostRuntime) {
-    for (states, rows, numbers) in &INSIDES {
-        assert!(rt; has_insides::<MinPlus>(rt.alloc(), *states, *rows, *numbers));
+    for row in &INSIDES {
+        assert!(rt; has_insides::<MinPlus>(rt.alloc(), row));
     }
 }
 
-static GREATEST: [Option<u64>; 4] = [Some(2), Some(1), Some(2), None];
+// Where the greater cost counts, and where all costs are 0.
+static GREATEST: Inside = (4, WORKED, &[Some(2), Some(1), Some(2), None]);
 
-static ANY: [Option<u64>; 3] = [Some(0), Some(0), None];
+static ANY: Inside = (3, UNWEIGHTED, &[Some(0), Some(0), None]);
 
 #[test]
 fn inside_costs_are_those_of_the_semiring(rt: HostRuntime) {
-    assert!(rt; has_insides::<Bottleneck>(rt.alloc(), 4, &WORKED, &GREATEST));
-    assert!(rt; has_insides::<Boolean>(rt.alloc(), 3, &UNWEIGHTED, &ANY));
+    assert!(rt; has_insides::<Bottleneck>(rt.alloc(), &GREATEST));
+    assert!(rt; has_insides::<Boolean>(rt.alloc(), &ANY));
 }
 
-const WORKED_KEPT: [Row; 4] = [
+const WORKED_KEPT: &[Row] = &[
     (0, &[LABEL_F2, (1, None), (2, None)], 0),
     (1, &[LABEL_A0], 1),
     (2, &[LABEL_A0], 4),
     (2, &[LABEL_B0], 2),
 ];
 
-const USELESS_KEPT: [Row; 2] = [(1, &[LABEL_B0], 1), (0, &[LABEL_G1, (1, None)], 2)];
+const USELESS_KEPT: &[Row] = &[(1, &[LABEL_B0], 1), (0, &[LABEL_G1, (1, None)], 2)];
 
 // How many states there are, the rules, the lengths of the names that are left, and the rules that are.
-static TRIMMED: [(u8, &[Row], &[usize], &[Row]); 3] = [
-    (4, &WORKED, &[1, 2, 3], &WORKED_KEPT),
-    (4, &USELESS, &[1, 4], &USELESS_KEPT),
-    (2, &ENDLESS, &[1], &[]),
+type Trimmed = (u8, &'static [Row], &'static [usize], &'static [Row]);
+
+static TRIMMED: [Trimmed; 3] = [
+    (4, WORKED, &[1, 2, 3], WORKED_KEPT),
+    (4, USELESS, &[1, 4], USELESS_KEPT),
+    (2, ENDLESS, &[1], &[]),
 ];
 
 #[test]
 fn what_no_run_uses_is_left_out(rt: HostRuntime) {
-    for (states, rows, lengths, kept) in &TRIMMED {
-        assert!(rt; is_trimmed_to(rt.alloc(), *states, *rows, *lengths, *kept));
+    for row in &TRIMMED {
+        assert!(rt; is_trimmed(rt.alloc(), row));
     }
 }
 
+static NORMAL: Trimmed = (4, WORKED, &[1, 2, 3], WORKED_KEPT);
+
 #[test]
 fn rules_and_normal_forms_are_trimmed(rt: HostRuntime) {
-    assert!(rt; are_useless_rules_trimmed(rt.alloc()));
-    assert!(rt; is_normal_trimmed_to(rt.alloc(), 4, &WORKED, &[1, 2, 3], &WORKED_KEPT));
+    assert!(rt; are_useless_rules_trimmed(rt.alloc()) && is_normal_trimmed(rt.alloc(), &NORMAL));
 }
 
 // Whether trimming a grammar leaves this number of rules.
