@@ -74,16 +74,26 @@ fn is_said_as(alloc: Global, error: ReadError, want: &[u8]) -> bool {
     }
 }
 
-// Whether this is printed of the grammar of a text, or said of the text's first fault.
-fn is_answered<S: Semiring + Drop>(alloc: Global, text: &[u8], want: &[u8]) -> bool {
-    if text.len() > 1_000_000 {
+// Whether this is printed of the grammar of a text, or said of the text's first fault; false where there are many labels before.
+fn is_answered_over<S: Semiring + Drop>(
+    alloc: Global,
+    text: &[u8],
+    labels: &mut Labels,
+    want: &[u8],
+) -> bool {
+    if text.len() > 1_000_000 || labels.len() > 1_000_000 {
         return false;
     }
-    let mut labels = Labels::new(alloc);
-    match read_grammar::<S>(alloc, text, &mut labels) {
-        Ok(grammar) => is_printed_as(alloc, &grammar, &labels, want),
+    match read_grammar::<S>(alloc, text, labels) {
+        Ok(grammar) => is_printed_as(alloc, &grammar, labels, want),
         Err(error) => is_said_as(alloc, error, want),
     }
+}
+
+// The same without any label before.
+fn is_answered<S: Semiring + Drop>(alloc: Global, text: &[u8], want: &[u8]) -> bool {
+    let mut labels = Labels::new(alloc);
+    is_answered_over::<S>(alloc, text, &mut labels, want)
 }
 
 #[test]

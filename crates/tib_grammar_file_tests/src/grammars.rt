@@ -1,6 +1,7 @@
 // Small grammars, as written in comments: a label is a number here, 0 for f, 1 for a.
-ghost use Rattle.std.specs.Prelude.{IfSome};
+ghost use Rattle.std.specs.Prelude.{IfSome, length};
 ghost use Rattle.tib_grammar.specs.Forms.{IsNormalSide};
+ghost use Rattle.tib_grammar.specs.Range.{AreInRange};
 
 use std::alloc::Global;
 use tib_cost::{MinPlus, Semiring};
@@ -45,18 +46,11 @@ static NAMES: [(&[&str], bool); 7] = [
     (&["q", "p", "q"], false),
 ];
 
-fn are_all_told(alloc: Global) -> bool {
-    for (texts, want) in &NAMES {
-        if !are_told(alloc, *texts, *want) {
-            return false;
-        }
-    }
-    true
-}
-
 #[test]
 fn state_names_are_told_from_others(rt: HostRuntime) {
-    assert!(rt; are_all_told(rt.alloc()));
+    for (texts, want) in &NAMES {
+        assert!(rt; are_told(rt.alloc(), *texts, *want));
+    }
 }
 
 // The states as items.
@@ -171,10 +165,18 @@ fn is_cost_of_second(grammar: &Grammar<MinPlus>, cost: u64) -> bool {
     grammar.rules() >= 2 && grammar.rule(2).cost.get() == cost
 }
 
-// Whether the parts of the grammar are one name, which is q, and two rules.
+fn has_parts(grammar: &Grammar<MinPlus>) -> bool {
+    has_counts(grammar) && is_first_name(grammar, b"q") && is_cost_of_second(grammar, 0)
+}
+
+// Whether the parts of a grammar are one name, which is q, and two rules.
+fn are_parts(names: &Names, rules: &[Rule<u32>]) -> bool {
+    names.find(b"q") == Some(0) && names.len() == 1 && rules.len() == 2
+}
+
 fn comes_apart(grammar: Grammar<MinPlus>) -> bool {
     let (names, rules) = grammar.into_parts();
-    names.find(b"q") == Some(0) && names.len() == 1 && rules.len() == 2
+    are_parts(&names, &rules)
 }
 
 // q -> f(q q), q -> a
@@ -189,9 +191,7 @@ fn trees_come_apart(alloc: Global) -> bool {
 
 fn trees_have_parts(alloc: Global) -> bool {
     match grammar(alloc, &["q"], &TREES) {
-        Some(grammar) => {
-            has_counts(&grammar) && is_first_name(&grammar, b"q") && is_cost_of_second(&grammar, 0)
-        }
+        Some(grammar) => has_parts(&grammar),
         None => false,
     }
 }
@@ -238,6 +238,10 @@ fn fault_of(alloc: Global, grammar: &Grammar<MinPlus>) -> Option<DeterminismFaul
     }
 }
 
+fn has_fault(alloc: Global, grammar: &Grammar<MinPlus>, want: &Option<DeterminismFault>) -> bool {
+    fault_of(alloc, grammar) == *want
+}
+
 // Whether this is the first fault of the grammar of these names and rules.
 fn is_first_fault(
     alloc: Global,
@@ -246,7 +250,7 @@ fn is_first_fault(
     want: &Option<DeterminismFault>,
 ) -> bool {
     match grammar(alloc, texts, rows) {
-        Some(grammar) => fault_of(alloc, &grammar) == *want,
+        Some(grammar) => has_fault(alloc, &grammar, want),
         None => false,
     }
 }
@@ -313,15 +317,20 @@ fn are_of(rules: &[Rule<u32>], want: &[Wanted]) -> bool {
     true
 }
 
-// Whether these are the rules of a grammar under new numbers of states.
+// Whether rules under new numbers of states are these.
+fn are_rules_renamed(rules: &mut [Rule<u32>], numbers: &[u32], want: &[Wanted]) -> bool
+    requires { AreInRange (length numbers.now) rules.old }
+{
+    rename_rules(rules, numbers);
+    are_of(rules, want)
+}
+
+// The same of the rules of a grammar.
 fn are_renamed(grammar: Grammar<MinPlus>, numbers: &[u32], want: &[Wanted]) -> bool {
     grammar.is_sound();
-    if numbers.len() != grammar.states() as usize {
-        return false;
-    }
+    let states = grammar.states() as usize;
     let (_, mut rules) = grammar.into_parts();
-    rename_rules(&mut rules, numbers);
-    are_of(&rules, want)
+    numbers.len() == states && are_rules_renamed(&mut rules, numbers, want)
 }
 
 fn three_are_renamed(alloc: Global) -> bool {
