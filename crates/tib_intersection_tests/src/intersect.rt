@@ -123,38 +123,57 @@ fn is_wanted(
     }
 }
 
-// Whether the answer to a case is the one wanted; none where there is no such state or budget.
-fn agrees<S: Semiring>(alloc: Global, pairs: &Pairs<S>, case: &Case) -> Option<bool> {
+// Whether the answer to a case is the one wanted; false where there is no such state or budget.
+fn agrees<S: Semiring>(alloc: Global, pairs: &Pairs<S>, case: &Case) -> bool {
     let ((first, second), budget, wanted) = case;
     if *first >= pairs.left.grammar().states() {
-        return None;
+        return false;
     }
     if *second >= pairs.right.grammar().states() || *budget > 20_000_000 {
-        return None;
+        return false;
     }
     let answer = pairs.expand(alloc, &[StatePair::new(*first, *second)], 0, *budget);
-    Some(is_wanted(&answer, wanted))
+    is_wanted(&answer, wanted)
 }
 
-// The same for the pairs of the two grammars above.
-fn edges_agree<S: Semiring + Drop>(alloc: Global, case: &Case) -> Option<bool> {
-    let left: Normal<S> = normal(alloc, &LEFT)?;
-    let right = normal(alloc, &RIGHT)?;
-    let pairs = Pairs::new(alloc, &left, &right).ok()?;
-    agrees(alloc, &pairs, case)
+// The same for the pairs of two grammars.
+fn pairs_agree<S: Semiring>(
+    alloc: Global,
+    left: &Normal<S>,
+    right: &Normal<S>,
+    case: &Case,
+) -> bool {
+    match Pairs::new(alloc, left, right) {
+        Ok(pairs) => agrees(alloc, &pairs, case),
+        Err(_) => false,
+    }
+}
+
+// The two grammars above.
+fn both<S: Semiring + Drop>(alloc: Global) -> Option<(Normal<S>, Normal<S>)> {
+    let left = normal(alloc, &LEFT)?;
+    Some((left, normal(alloc, &RIGHT)?))
+}
+
+// The same for their pairs.
+fn edges_agree<S: Semiring + Drop>(alloc: Global, case: &Case) -> bool {
+    match both::<S>(alloc) {
+        Some((left, right)) => pairs_agree(alloc, &left, &right, case),
+        None => false,
+    }
 }
 
 #[test]
 fn a_pair_has_an_edge_for_each_two_rules_that_agree(rt: HostRuntime) {
     for case in sums() {
-        assert_eq!(rt; edges_agree::<MinPlus>(rt.alloc(), case), Some(true));
+        assert!(rt; edges_agree::<MinPlus>(rt.alloc(), case));
     }
 }
 
 #[test]
 fn a_product_is_that_of_the_semiring(rt: HostRuntime) {
     for case in greatest() {
-        assert_eq!(rt; edges_agree::<Bottleneck>(rt.alloc(), case), Some(true));
+        assert!(rt; edges_agree::<Bottleneck>(rt.alloc(), case));
     }
 }
 
@@ -172,8 +191,12 @@ fn is_seed(alloc: Global, pairs: &Pairs<MinPlus>) -> bool {
     is_start(&seeds)
 }
 
+fn is_settled(rule: &Rule<u32>) -> bool {
+    is_rule(rule, &(4, 7, &[5, 6], 0))
+}
+
 // Whether an edge from position 4 to the last two of the positions 9, 5 and 6 is settled to a rule of them.
-fn settles(alloc: Global, pairs: &Pairs<MinPlus>) -> Option<bool> {
+fn settles(alloc: Global, pairs: &Pairs<MinPlus>) -> bool {
     let edge = PairRule {
         position: 4,
         label: 7,
@@ -181,28 +204,40 @@ fn settles(alloc: Global, pairs: &Pairs<MinPlus>) -> Option<bool> {
         rank: 2,
         cost: MinPlus::one(),
     };
-    let rule = pairs.settle(alloc, &edge, &[9, 5, 6]).ok()?;
-    Some(is_rule(&rule, &(4, 7, &[5, 6], 0)))
+    match pairs.settle(alloc, &edge, &[9, 5, 6]) {
+        Ok(rule) => is_settled(&rule),
+        Err(_) => false,
+    }
 }
 
-// Both, for the two grammars above.
-fn begins_and_settles(alloc: Global) -> Option<(bool, bool)> {
-    let left = normal(alloc, &LEFT)?;
-    let right = normal(alloc, &RIGHT)?;
-    let pairs = Pairs::new(alloc, &left, &right).ok()?;
-    Some((is_seed(alloc, &pairs), settles(alloc, &pairs)?))
+// Both, for the pairs of two grammars.
+fn begin_and_settle(alloc: Global, left: &Normal<MinPlus>, right: &Normal<MinPlus>) -> bool {
+    match Pairs::new(alloc, left, right) {
+        Ok(pairs) => is_seed(alloc, &pairs) && settles(alloc, &pairs),
+        Err(_) => false,
+    }
+}
+
+// The same for the two grammars above.
+fn both_begin_and_settle(alloc: Global) -> bool {
+    match both::<MinPlus>(alloc) {
+        Some((left, right)) => begin_and_settle(alloc, &left, &right),
+        None => false,
+    }
 }
 
 #[test]
 fn the_seed_is_the_pair_of_the_starts_and_an_edge_is_settled_over_positions(rt: HostRuntime) {
-    assert_eq!(rt; begins_and_settles(rt.alloc()), Some((true, true)));
+    assert!(rt; both_begin_and_settle(rt.alloc()));
+}
+
+fn is_filed(key: StatePair) -> bool {
+    key.entries() == 2 && key.shelf() == 11
 }
 
 #[test]
 fn a_key_has_two_entries_and_a_shelf(rt: HostRuntime) {
-    let key = StatePair::new(3, 4);
-    assert_eq!(rt; (key.entries(), key.shelf()), (2, 11));
-    assert!(rt; StatePair::new(3, 9) < StatePair::new(4, 0));
+    assert!(rt; is_filed(StatePair::new(3, 4)) && StatePair::new(3, 9) < StatePair::new(4, 0));
 }
 
 // What is answered, by one worker or, where their number is not 0, by several.
@@ -246,33 +281,41 @@ fn is_answer(answer: &Result<Found<StatePair, Rule<u32>>, HuntError>, limit: u64
     }
 }
 
-// The same for the two grammars above; none where there is no such limit or number of workers.
-fn reaches<R: Threads + Wait + Sync>(
+// The same for two grammars; false where there is no such limit or number of workers.
+fn reach_all<R: Threads + Wait + Sync>(
     rt: &R,
     alloc: Global,
+    left: &Normal<MinPlus>,
+    right: &Normal<MinPlus>,
     workers: u32,
     limit: u64,
-) -> Option<bool> {
+) -> bool {
     if workers > 16 || limit == 0 || limit > 20_000_000 {
-        return None;
+        return false;
     }
-    let left = normal(alloc, &LEFT)?;
-    let right = normal(alloc, &RIGHT)?;
-    let answer = reached(rt, alloc, &left, &right, workers, limit);
-    Some(is_answer(&answer, limit))
+    let answer = reached(rt, alloc, left, right, workers, limit);
+    is_answer(&answer, limit)
+}
+
+// The same for the two grammars above.
+fn reaches<R: Threads + Wait + Sync>(rt: &R, alloc: Global, workers: u32, limit: u64) -> bool {
+    match both::<MinPlus>(alloc) {
+        Some((left, right)) => reach_all(rt, alloc, &left, &right, workers, limit),
+        None => false,
+    }
 }
 
 #[test]
 fn three_pairs_are_reached_by_four_rules(rt: HostRuntime) {
     for limit in [20_000_000, 19, 18] {
-        assert_eq!(rt; reaches(&rt, rt.alloc(), 0, limit), Some(true));
+        assert!(rt; reaches(&rt, rt.alloc(), 0, limit));
     }
 }
 
 #[test]
 fn every_number_of_workers_reaches_the_three_pairs(rt: HostRuntime) {
     for workers in 1..17 {
-        assert_eq!(rt; reaches(&rt, rt.alloc(), workers, 19), Some(true));
+        assert!(rt; reaches(&rt, rt.alloc(), workers, 19));
     }
 }
 
@@ -288,26 +331,31 @@ fn links(alloc: Global, length: u32) -> Option<Vec<Rule<u32>>> {
     Some(rules)
 }
 
-// How many pairs, rules and parts were reached.
-fn counts_of(
-    answer: &Result<Found<StatePair, Rule<u32>>, HuntError>,
-) -> Option<(usize, usize, u64)> {
-    match answer {
-        Ok(found) => Some((found.order.len(), found.rules.len(), found.parts)),
-        Err(_) => None,
+// The grammar of such a tree.
+fn chain(alloc: Global, length: u32) -> Option<Normal<MinPlus>> {
+    normal_of(alloc, length.wrapping_add(1), links(alloc, length)?)
+}
+
+fn has_counts(found: &Found<StatePair, Rule<u32>>) -> bool {
+    found.order.len() == 70_001 && found.rules.len() == 70_001 && found.parts == 420_005
+}
+
+// Whether a grammar with itself reaches 70,001 pairs by as many rules, and 420,005 parts.
+fn reaches_itself(alloc: Global, grammar: &Normal<MinPlus>) -> bool {
+    match intersect(alloc, grammar, grammar, 20_000_000, &Open) {
+        Ok(found) => has_counts(&found),
+        Err(_) => false,
     }
 }
 
-// The same for the grammar of such a tree with itself.
-fn counts_of_chains(alloc: Global, length: u32) -> Option<(usize, usize, u64)> {
-    let rules = links(alloc, length)?;
-    let chain: Normal<MinPlus> = normal_of(alloc, length.wrapping_add(1), rules)?;
-    let answer = intersect(alloc, &chain, &chain, 20_000_000, &Open);
-    counts_of(&answer)
+fn chain_reaches_itself(alloc: Global) -> bool {
+    match chain(alloc, 70_000) {
+        Some(grammar) => reaches_itself(alloc, &grammar),
+        None => false,
+    }
 }
 
 #[test]
 fn more_pairs_than_65536_are_reached(rt: HostRuntime) {
-    let counts = counts_of_chains(rt.alloc(), 70_000);
-    assert_eq!(rt; counts, Some((70_001, 70_001, 420_005)));
+    assert!(rt; chain_reaches_itself(rt.alloc()));
 }
