@@ -6,6 +6,7 @@ pub mod Lines
 pub mod FormSeries
 pub mod PairsByText
 pub mod FormsByText
+pub mod Handed
 pub mod MadeParts
 pub mod OfWeigh
 pub mod OfInside

@@ -103,13 +103,7 @@ pub fn preimage_of<S: Semiring + Drop, G: Gate>(
     };
     form.grammar();
     let hunted = apply_backward::<S, G>(alloc, transducer, &form, limit, gate);
-    let canonical = match canonical_of_preimage::<S>(
-        alloc, transducer, &form, labels, limit, hunted,
-    ) {
-        Ok(canonical) => canonical,
-        Err(status) => return Err(status),
-    };
-    Ok(canonical)
+    canonical_of_preimage::<S>(alloc, transducer, &form, labels, limit, hunted)
 }
 
 /// What `preimage_of` answers, with the keys hunted by this number of workers, 1 to 16, whatever the order of their steps. It may wait
@@ -145,11 +139,5 @@ pub fn preimage_of_together<S: Semiring + Sync + Drop, R: Threads + Wait + Sync,
     let hunted = apply_backward_together::<S, R, G>(
         rt, alloc, transducer, &form, workers, limit, gate,
     );
-    let canonical = match canonical_of_preimage::<S>(
-        alloc, transducer, &form, labels, limit, hunted,
-    ) {
-        Ok(canonical) => canonical,
-        Err(status) => return Err(status),
-    };
-    Ok(canonical)
+    canonical_of_preimage::<S>(alloc, transducer, &form, labels, limit, hunted)
 }

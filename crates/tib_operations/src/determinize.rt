@@ -113,11 +113,7 @@ pub fn determinization_of<S: Semiring + Drop, G: Gate>(
     };
     trimmed_forms_have_the_same_rules();
     let hunted = determinize::<S, G>(alloc, &form, limit, gate);
-    let canonical = match canonical_of_vectors::<S>(alloc, &form, labels, limit, hunted) {
-        Ok(canonical) => canonical,
-        Err(status) => return Err(status),
-    };
-    Ok(canonical)
+    canonical_of_vectors::<S>(alloc, &form, labels, limit, hunted)
 }
 
 /// What `determinization_of` answers, with the vectors hunted by this number of workers, 1 to 16, whatever the order of their
@@ -152,9 +148,5 @@ pub fn determinization_of_together<
     };
     trimmed_forms_have_the_same_rules();
     let hunted = determinize_together::<S, R, G>(rt, alloc, &form, workers, limit, gate);
-    let canonical = match canonical_of_vectors::<S>(alloc, &form, labels, limit, hunted) {
-        Ok(canonical) => canonical,
-        Err(status) => return Err(status),
-    };
-    Ok(canonical)
+    canonical_of_vectors::<S>(alloc, &form, labels, limit, hunted)
 }

@@ -108,11 +108,7 @@ pub fn image_of<S: Semiring + Drop, G: Gate>(
     };
     form.grammar();
     let hunted = apply_forward::<S, G>(alloc, &form, transducer, limit, gate);
-    let canonical = match canonical_of_image::<S>(alloc, &form, transducer, labels, limit, hunted) {
-        Ok(canonical) => canonical,
-        Err(status) => return Err(status),
-    };
-    Ok(canonical)
+    canonical_of_image::<S>(alloc, &form, transducer, labels, limit, hunted)
 }
 
 /// What `image_of` answers, with the keys hunted by this number of workers, 1 to 16, whatever the order of their steps. It may wait
@@ -148,9 +144,5 @@ pub fn image_of_together<S: Semiring + Sync + Drop, R: Threads + Wait + Sync, G:
     let hunted = apply_forward_together::<S, R, G>(
         rt, alloc, &form, transducer, workers, limit, gate,
     );
-    let canonical = match canonical_of_image::<S>(alloc, &form, transducer, labels, limit, hunted) {
-        Ok(canonical) => canonical,
-        Err(status) => return Err(status),
-    };
-    Ok(canonical)
+    canonical_of_image::<S>(alloc, &form, transducer, labels, limit, hunted)
 }

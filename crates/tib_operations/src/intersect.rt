@@ -104,11 +104,7 @@ pub fn intersection_of<S: Semiring + Drop, G: Gate>(
     trimmed_forms_have_the_same_rules();
     order_is_free::<S>();
     let hunted = intersect::<S, G>(alloc, &one, &two, limit, gate);
-    let canonical = match canonical_of_pairs::<S>(alloc, &one, &two, labels, limit, hunted) {
-        Ok(canonical) => canonical,
-        Err(status) => return Err(status),
-    };
-    Ok(canonical)
+    canonical_of_pairs::<S>(alloc, &one, &two, labels, limit, hunted)
 }
 
 /// What `intersection_of` answers, with the pairs hunted by this number of workers, 1 to 16, whatever the order of their steps. It
@@ -149,9 +145,5 @@ pub fn intersection_of_together<
     trimmed_forms_have_the_same_rules();
     order_is_free::<S>();
     let hunted = intersect_together::<S, R, G>(rt, alloc, &one, &two, workers, limit, gate);
-    let canonical = match canonical_of_pairs::<S>(alloc, &one, &two, labels, limit, hunted) {
-        Ok(canonical) => canonical,
-        Err(status) => return Err(status),
-    };
-    Ok(canonical)
+    canonical_of_pairs::<S>(alloc, &one, &two, labels, limit, hunted)
 }

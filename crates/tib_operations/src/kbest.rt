@@ -306,8 +306,5 @@ pub fn kbest_text<S: Semiring + Drop>(
         Err(status) => return Err(status),
     };
     list.is_small();
-    match text_of_list::<S>(alloc, &list, labels) {
-        Ok(text) => Ok(text),
-        Err(status) => Err(status),
-    }
+    text_of_list::<S>(alloc, &list, labels)
 }

@@ -54,8 +54,5 @@ pub fn costs_of<S: Semiring + Sync + Drop, R: Threads + Sync>(
         Ok(normal) => normal,
         Err(status) => return Err(status),
     };
-    match costs_by::<S, R>(rt, alloc, &normal, trees) {
-        Ok(costs) => Ok(costs),
-        Err(status) => Err(status),
-    }
+    costs_by::<S, R>(rt, alloc, &normal, trees)
 }
