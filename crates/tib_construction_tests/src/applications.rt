@@ -4,6 +4,7 @@ use std::alloc::Global;
 use tib_apply::{ApplyError, Key, Restrictions};
 use tib_grammar::{Item, Rule};
 use tib_hunt::{Found, TableKey};
+use tib_transducer::TransducerRule;
 
 /// The two states and the restriction of a key.
 pub type Numbers = (u32, u32, u32);
@@ -79,41 +80,36 @@ fn is_reached(found: &Found<Key, Rule<u32>>, wanted: &Reached) -> bool {
     found.parts == *parts && are_keys(&found.order, keys) && are_rules(&found.rules, edges)
 }
 
-// Whether this is the text of an error; none where memory is refused.
-fn is_told(alloc: Global, error: &ApplyError, text: &str) -> Option<bool> {
-    let told = error.to_string(alloc).ok()?;
-    Some(told.as_str() == text)
-}
-
-/// Whether an answer is the one wanted; none where memory is refused.
-pub fn agrees(alloc: Global, answer: &Answer, wanted: &Wanted) -> Option<bool> {
-    match (answer, wanted) {
-        (Ok(found), Ok(reached)) => Some(is_reached(found, reached)),
-        (Err(error), Err(text)) => is_told(alloc, error, text),
-        _ => Some(false),
+// Whether this is the text of an error; false where memory is refused.
+fn is_told(alloc: Global, error: &ApplyError, text: &str) -> bool {
+    match error.to_string(alloc) {
+        Ok(told) => told.as_str() == text,
+        Err(_) => false,
     }
 }
 
-// The numbers of a key, how many entries it has, and its shelf.
-fn numbers_of(key: Key) -> [u64; 5] {
-    [
-        key.first() as u64,
-        key.second() as u64,
-        key.restriction() as u64,
-        key.entries(),
-        key.shelf() as u64,
-    ]
+/// Whether an answer is the one wanted; false where memory is refused.
+pub fn agrees(alloc: Global, answer: &Answer, wanted: &Wanted) -> bool {
+    match (answer, wanted) {
+        (Ok(found), Ok(reached)) => is_reached(found, reached),
+        (Err(error), Err(text)) => is_told(alloc, error, text),
+        _ => false,
+    }
 }
 
-fn is_before(first: Key, second: Key) -> bool {
-    first < second
+// Whether a key has these numbers, this many entries, and this shelf.
+fn is_filed(key: Key, numbers: Numbers, entries: u64, shelf: u32) -> bool {
+    is_key(key, numbers) && key.entries() == entries && key.shelf() == shelf
+}
+
+// Whether this holds of a key with a restriction, and one without it has an entry less and stands before.
+fn are_filed(restricted: Key, free: Key) -> bool {
+    is_filed(restricted, (3, 4, 5), 3, 4) && free.entries() == 2 && free < restricted
 }
 
 #[test]
 fn a_restriction_is_an_entry_of_a_key(rt: HostRuntime) {
-    assert_eq!(rt; numbers_of(Key::new(3, 4, 5)), [3, 4, 5, 3, 4]);
-    assert_eq!(rt; Key::new(3, 4, 0).entries(), 2);
-    assert!(rt; is_before(Key::new(3, 4, 0), Key::new(3, 4, 5)));
+    assert!(rt; are_filed(Key::new(3, 4, 5), Key::new(3, 4, 0)));
 }
 
 const F3: Node = Node::Over(0, 3);
@@ -150,16 +146,26 @@ fn admitted() -> &'static [(u32, u32, bool)] {
     &ADMITTED
 }
 
-// Whether a restriction of the rules above admits a label; none where memory is refused.
-fn admits(alloc: Global, number: u32, label: u32) -> Option<bool> {
-    let rules = rules(alloc, &LEAVING)?;
-    let restrictions = Restrictions::new(alloc, &rules).ok()?;
-    Some(restrictions.admits(number, label))
+// Whether a restriction of some rules admits a label, or does not, as wanted; false where memory is refused.
+fn admits(alloc: Global, rules: &[TransducerRule<u32>], row: &(u32, u32, bool)) -> bool {
+    let (number, label, wanted) = row;
+    match Restrictions::new(alloc, rules) {
+        Ok(restrictions) => restrictions.admits(*number, *label) == *wanted,
+        Err(_) => false,
+    }
+}
+
+// The same for the rules above.
+fn is_admitted(alloc: Global, row: &(u32, u32, bool)) -> bool {
+    match rules(alloc, &LEAVING) {
+        Some(rules) => admits(alloc, &rules, row),
+        None => false,
+    }
 }
 
 #[test]
 fn labels_are_numbered_where_they_first_stand(rt: HostRuntime) {
-    for (number, label, wanted) in admitted() {
-        assert_eq!(rt; admits(rt.alloc(), *number, *label), Some(*wanted));
+    for row in admitted() {
+        assert!(rt; is_admitted(rt.alloc(), row));
     }
 }

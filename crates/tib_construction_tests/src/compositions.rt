@@ -1,5 +1,7 @@
 // What compositions of small transducers reach. The labels are A 0, a 1, F 2, b 3, G 4, c 5, H 6, d 7 and K 8, the states q 0
 // and r 1.
+ghost use Rattle.std.specs.Prelude.{◌≤◌};
+
 use crate::transducers::{Move, Node, transducer};
 use std::alloc::Global;
 use std::sync::Wait;
@@ -301,27 +303,24 @@ fn is_composition(found: &Found<StatePair, TransducerRule<u32>>, wanted: &Compos
     found.parts == *parts && are_pairs(&found.order, pairs) && are_rules(&found.rules, rules)
 }
 
-// Whether this is the text of an error; none where memory is refused.
-fn is_told(alloc: Global, error: &ComposeError, text: &str) -> Option<bool> {
-    let told = error.to_string(alloc).ok()?;
-    Some(told.as_str() == text)
-}
-
-// Whether an answer is the composition wanted, or where there is one the error.
-fn is_answer(
-    alloc: Global,
-    answer: &Answer,
-    wanted: &Composition,
-    error: Option<&str>,
-) -> Option<bool> {
-    match (answer, error) {
-        (Ok(found), None) => Some(is_composition(found, wanted)),
-        (Err(own), Some(text)) => is_told(alloc, own, text),
-        _ => Some(false),
+// Whether this is the text of an error; false where memory is refused.
+fn is_told(alloc: Global, error: &ComposeError, text: &str) -> bool {
+    match error.to_string(alloc) {
+        Ok(told) => told.as_str() == text,
+        Err(_) => false,
     }
 }
 
-// What is answered, by one worker or, where their number is not 0, by several; none where there is no such limit or number of workers.
+// Whether an answer is the composition wanted, or where there is one the error.
+fn is_answer(alloc: Global, answer: &Answer, wanted: &Composition, error: Option<&str>) -> bool {
+    match (answer, error) {
+        (Ok(found), None) => is_composition(found, wanted),
+        (Err(own), Some(text)) => is_told(alloc, own, text),
+        _ => false,
+    }
+}
+
+// What is answered, by one worker or, where their number is not 0, by several.
 fn composed<R: Threads + Wait + Sync>(
     rt: &R,
     alloc: Global,
@@ -329,41 +328,73 @@ fn composed<R: Threads + Wait + Sync>(
     second: &Transducer<MinPlus>,
     workers: u32,
     limit: u64,
-) -> Option<Answer> {
-    if limit == 0 || limit > 999 || workers > 16 {
-        return None;
-    }
+) -> Answer
+    requires workers { workers ≤ 16 }
+    requires some { 1 ≤ limit }
+    requires limit { limit ≤ 999 }
+{
     if workers == 0 {
-        return Some(compose(alloc, first, second, limit, &Open));
+        return compose(alloc, first, second, limit, &Open);
     }
-    Some(compose_together(rt, alloc, first, second, workers, limit, &Open))
+    compose_together(rt, alloc, first, second, workers, limit, &Open)
 }
 
-// The same for these rules; none where memory is refused, too.
-fn composed_of<R: Threads + Wait + Sync>(
+// Whether two transducers reach the composition wanted, or answer the error of a run; false where there is no such limit or number
+// of workers.
+fn answers<R: Threads + Wait + Sync>(
     rt: &R,
     alloc: Global,
-    first: &[Move],
-    second: &[Move],
-    workers: u32,
-    limit: u64,
-) -> Option<Answer> {
-    let first = transducer(alloc, first)?;
-    let second = transducer(alloc, second)?;
-    composed(rt, alloc, &first, &second, workers, limit)
+    first: &Transducer<MinPlus>,
+    second: &Transducer<MinPlus>,
+    wanted: &Composition,
+    run: &Run,
+) -> bool {
+    let (_, workers, limit, error) = run;
+    if *limit == 0 || *limit > 999 || *workers > 16 {
+        return false;
+    }
+    let answer = composed(rt, alloc, first, second, *workers, *limit);
+    is_answer(alloc, &answer, wanted, *error)
 }
 
-// Whether a run reaches its composition, or answers its error.
-fn agrees<R: Threads + Wait + Sync>(rt: &R, alloc: Global, run: &Run) -> Option<bool> {
-    let (place, workers, limit, error) = run;
-    let wanted = compositions().get(*place)?;
-    let answer = composed_of(rt, alloc, wanted.0, wanted.1, *workers, *limit)?;
-    is_answer(alloc, &answer, wanted, *error)
+// The same for the second transducer of the composition; false where memory is refused, too.
+fn reaches_second<R: Threads + Wait + Sync>(
+    rt: &R,
+    alloc: Global,
+    first: &Transducer<MinPlus>,
+    wanted: &Composition,
+    run: &Run,
+) -> bool {
+    match transducer(alloc, wanted.1) {
+        Some(second) => answers(rt, alloc, first, &second, wanted, run),
+        None => false,
+    }
+}
+
+// The same for the first transducer of the composition, too.
+fn reaches<R: Threads + Wait + Sync>(
+    rt: &R,
+    alloc: Global,
+    wanted: &Composition,
+    run: &Run,
+) -> bool {
+    match transducer(alloc, wanted.0) {
+        Some(first) => reaches_second(rt, alloc, &first, wanted, run),
+        None => false,
+    }
+}
+
+// The same for the composition of a run; false where there is none.
+fn agrees<R: Threads + Wait + Sync>(rt: &R, alloc: Global, run: &Run) -> bool {
+    match compositions().get(run.0) {
+        Some(wanted) => reaches(rt, alloc, wanted, run),
+        None => false,
+    }
 }
 
 #[test]
 fn composition_reaches(rt: HostRuntime) {
     for run in runs() {
-        assert_eq!(rt; agrees(&rt, rt.alloc(), run), Some(true));
+        assert!(rt; agrees(&rt, rt.alloc(), run));
     }
 }

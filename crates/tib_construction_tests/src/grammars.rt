@@ -31,8 +31,8 @@ fn rule(alloc: Global, row: &Row) -> Option<Rule<u32>> {
     if states.len() > 9 {
         return None;
     }
-    let right = Side::over(alloc, *label, states).ok()?;
     let cost = Cost::new(*cost)?;
+    let right = Side::over(alloc, *label, states).ok()?;
     Some(Rule {
         left: *left,
         right,
@@ -40,15 +40,23 @@ fn rule(alloc: Global, row: &Row) -> Option<Rule<u32>> {
     })
 }
 
-/// The grammar of these rules, whose start is the state 0; none where memory is refused.
-pub fn normal(alloc: Global, rows: &[Row]) -> Option<Normal<MinPlus>> {
+fn rules(alloc: Global, rows: &[Row]) -> Option<Vec<Rule<u32>>> {
     let mut rules = Vec::new(alloc);
     for row in rows {
         rules.push(rule(alloc, row)?).ok()?;
     }
+    Some(rules)
+}
+
+fn grammar(alloc: Global, rows: &[Row]) -> Option<Grammar<MinPlus>> {
+    let rules = rules(alloc, rows)?;
     if rules.len() > 99 {
         return None;
     }
-    let grammar = Grammar::new(names(alloc)?, rules)?;
-    Normal::new(alloc, grammar).ok()?
+    Grammar::new(names(alloc)?, rules)
+}
+
+/// The grammar of these rules, whose start is the state 0; none where memory is refused.
+pub fn normal(alloc: Global, rows: &[Row]) -> Option<Normal<MinPlus>> {
+    Normal::new(alloc, grammar(alloc, rows)?).ok()?
 }

@@ -70,9 +70,9 @@ fn right_side(alloc: Global, nodes: &[Node]) -> Option<Side<Pair<u32>>> {
 
 fn rule(alloc: Global, one: &Move) -> Option<TransducerRule<u32>> {
     let (state, left, right, cost) = one;
+    let cost = Cost::new(*cost)?;
     let left = left_side(alloc, left)?;
     let right = right_side(alloc, right)?;
-    let cost = Cost::new(*cost)?;
     Some(TransducerRule {
         state: *state,
         left,
