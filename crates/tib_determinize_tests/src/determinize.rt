@@ -108,101 +108,137 @@ fn are_vectors(order: &[Vector], wanted: &[&'static [Entry]]) -> bool {
     true
 }
 
-// The positions with the start among some vectors, each with the start's residual there.
-fn finals<S: Semiring>(
+// Whether the positions with the start among some vectors, each with the start's residual there, are those wanted.
+fn are_finals<S: Semiring>(
+    alloc: Global,
+    residuals: &Residuals<S>,
+    order: &[Vector],
+    wanted: &[Entry],
+) -> bool {
+    if order.len() > 99 {
+        return false;
+    }
+    match residuals.finals(alloc, order) {
+        Ok(finals) => are_entries(&finals, wanted),
+        Err(_) => false,
+    }
+}
+
+// The same for the residuals of a grammar; false where memory is refused.
+fn ends<S: Semiring>(
     alloc: Global,
     normal: &Normal<S>,
     order: &[Vector],
-) -> Option<Vec<(u32, Cost)>> {
-    if order.len() > 99 {
-        return None;
+    wanted: &[Entry],
+) -> bool {
+    match Residuals::new(alloc, normal) {
+        Ok(residuals) => are_finals(alloc, &residuals, order, wanted),
+        Err(_) => false,
     }
-    Residuals::new(alloc, normal)
-        .ok()?
-        .finals(alloc, order)
-        .ok()
 }
 
-// Whether a reached set is the one wanted; none where memory is refused.
+// Whether a reached set is the one wanted; false where memory is refused.
 fn is_wanted<S: Semiring>(
     alloc: Global,
     normal: &Normal<S>,
     found: &Found<Vector, Rule<u32>>,
     wanted: &Wanted,
-) -> Option<bool> {
-    let (vectors, rules, parts, ends) = wanted;
-    let finals = finals(alloc, normal, &found.order)?;
+) -> bool {
+    let (vectors, rules, parts, finals) = wanted;
     let is_order = are_vectors(&found.order, vectors) && found.parts == *parts;
-    Some(is_order && are_rules(&found.rules, rules) && are_entries(&finals, ends))
+    is_order && are_rules(&found.rules, rules) && ends(alloc, normal, &found.order, finals)
 }
 
-// Whether the reached set of these rules is the one wanted; none where memory is refused, or there are more than a hundred parts.
-fn reaches<S: Semiring + Drop>(alloc: Global, rows: &[Row], wanted: &Wanted) -> Option<bool> {
-    let normal: Normal<S> = normal(alloc, rows)?;
-    let found = determinize(alloc, &normal, 100, &Open).ok()?;
-    is_wanted(alloc, &normal, &found, wanted)
+// Whether the reached set of a grammar is the one wanted; false where memory is refused, or there are more than a hundred parts.
+fn reaches<S: Semiring>(alloc: Global, normal: &Normal<S>, wanted: &Wanted) -> bool {
+    match determinize(alloc, normal, 100, &Open) {
+        Ok(found) => is_wanted(alloc, normal, &found, wanted),
+        Err(_) => false,
+    }
+}
+
+// The same for the grammar of these rules.
+fn rows_reach<S: Semiring + Drop>(alloc: Global, rows: &[Row], wanted: &Wanted) -> bool {
+    match normal::<S>(alloc, rows) {
+        Some(normal) => reaches(alloc, &normal, wanted),
+        None => false,
+    }
+}
+
+// Whether each of three semirings has its residuals.
+fn all_reach(alloc: Global) -> bool {
+    rows_reach::<MinPlus>(alloc, &AMBIGUOUS, &SUMS)
+        && rows_reach::<Bottleneck>(alloc, &AMBIGUOUS, &GREATEST)
+        && rows_reach::<Boolean>(alloc, &PLAIN, &SUBSETS)
 }
 
 #[test]
 fn residuals_are_kept(rt: HostRuntime) {
-    let sums = reaches::<MinPlus>(rt.alloc(), &AMBIGUOUS, &SUMS);
-    let greatest = reaches::<Bottleneck>(rt.alloc(), &AMBIGUOUS, &GREATEST);
-    let subsets = reaches::<Boolean>(rt.alloc(), &PLAIN, &SUBSETS);
-    assert_eq!(rt;
-        (sums, greatest, subsets),
-        (Some(true), Some(true), Some(true))
-    );
+    assert!(rt; all_reach(rt.alloc()));
 }
 
-// The limit that an answer names.
-fn limit_of(answer: &Result<Found<Vector, Rule<u32>>, HuntError>) -> Option<u64> {
-    match answer {
-        Err(HuntError::TooMany { limit }) => Some(*limit),
-        _ => None,
-    }
-}
-
-// The same for these rules and this limit.
-fn limit_told(alloc: Global, rows: &[Row], limit: u64) -> Option<u64>
+// Whether a limit is told where a grammar has more parts.
+fn stops<S: Semiring>(alloc: Global, normal: &Normal<S>, limit: u64) -> bool
     requires some { 1 ≤ limit }
     requires limit { limit ≤ 20000000 }
 {
-    let normal: Normal<MinPlus> = normal(alloc, rows)?;
-    let answer = determinize(alloc, &normal, limit, &Open);
-    limit_of(&answer)
+    match determinize(alloc, normal, limit, &Open) {
+        Err(HuntError::TooMany { limit: told }) => told == limit,
+        _ => false,
+    }
+}
+
+// The same for the grammar of these rules.
+fn rows_stop(alloc: Global, rows: &[Row], limit: u64) -> bool
+    requires some { 1 ≤ limit }
+    requires limit { limit ≤ 20000000 }
+{
+    match normal::<MinPlus>(alloc, rows) {
+        Some(normal) => stops(alloc, &normal, limit),
+        None => false,
+    }
 }
 
 #[test]
 fn the_limit(rt: HostRuntime) {
-    assert_eq!(rt; limit_told(rt.alloc(), &AMBIGUOUS, 9), Some(9));
-    assert_eq!(rt; limit_told(rt.alloc(), &ENDLESS, 50), Some(50));
+    assert!(rt; rows_stop(rt.alloc(), &AMBIGUOUS, 9) && rows_stop(rt.alloc(), &ENDLESS, 50));
 }
 
-// How many vectors, rules and parts were reached.
-fn counts_of(answer: &Result<Found<Vector, Rule<u32>>, HuntError>) -> Option<(usize, usize, u64)> {
-    match answer {
-        Ok(found) => Some((found.order.len(), found.rules.len(), found.parts)),
-        Err(_) => None,
-    }
+// Whether three vectors, four rules and sixteen parts were reached.
+fn has_counts(found: &Found<Vector, Rule<u32>>) -> bool {
+    found.order.len() == 3 && found.rules.len() == 4 && found.parts == 16
 }
 
-// The same by this number of workers, where two vectors stand in the first round.
-fn counts_together<R: Threads + Wait + Sync>(
+// The same of what this number of workers reaches of a grammar.
+fn reaches_together<R: Threads + Wait + Sync>(
     rt: &R,
     alloc: Global,
+    normal: &Normal<MinPlus>,
     workers: u32,
-) -> Option<(usize, usize, u64)>
+) -> bool
     requires some { 1 ≤ workers }
     requires workers { workers ≤ 16 }
 {
-    let normal: Normal<MinPlus> = normal(alloc, &APART)?;
-    let answer = determinize_together(rt, alloc, &normal, workers, 100, &Open);
-    counts_of(&answer)
+    match determinize_together(rt, alloc, normal, workers, 100, &Open) {
+        Ok(found) => has_counts(&found),
+        Err(_) => false,
+    }
+}
+
+// The same of the grammar of which two vectors stand in the first round.
+fn apart_together<R: Threads + Wait + Sync>(rt: &R, alloc: Global, workers: u32) -> bool
+    requires some { 1 ≤ workers }
+    requires workers { workers ≤ 16 }
+{
+    match normal(alloc, &APART) {
+        Some(normal) => reaches_together(rt, alloc, &normal, workers),
+        None => false,
+    }
 }
 
 #[test]
 fn every_number_of_workers_reaches_the_same(rt: HostRuntime) {
     for workers in 1..17 {
-        assert_eq!(rt; counts_together(&rt, rt.alloc(), workers), Some((3, 4, 16)));
+        assert!(rt; apart_together(&rt, rt.alloc(), workers));
     }
 }

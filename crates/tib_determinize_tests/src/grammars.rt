@@ -27,32 +27,40 @@ fn names(alloc: Global) -> Option<Names> {
     Names::from_list(alloc, texts).ok()?
 }
 
-// The rule from a state to a label over states, at a cost.
-fn rule(alloc: Global, left: u32, label: Label, states: &[u32], cost: u64) -> Option<Rule<u32>> {
+// The rule of a row.
+fn rule(alloc: Global, row: &Row) -> Option<Rule<u32>> {
+    let (left, label, states, cost) = row;
     if states.len() > 9 {
         return None;
     }
-    let right = Side::over(alloc, label, states).ok()?;
-    let cost = Cost::new(cost)?;
-    Some(Rule { left, right, cost })
+    let cost = Cost::new(*cost)?;
+    let right = Side::over(alloc, *label, states).ok()?;
+    Some(Rule {
+        left: *left,
+        right,
+        cost,
+    })
 }
 
 fn rules(alloc: Global, rows: &[Row]) -> Option<Vec<Rule<u32>>> {
     let mut rules = Vec::new(alloc);
-    for (left, label, states, cost) in rows {
-        rules.push(rule(alloc, *left, *label, states, *cost)?).ok()?;
+    for row in rows {
+        rules.push(rule(alloc, row)?).ok()?;
     }
     Some(rules)
 }
 
-/// The grammar of these rules over four states, whose start is the state 0; none where memory is refused.
-pub fn normal<S: Semiring + Drop>(alloc: Global, rows: &[Row]) -> Option<Normal<S>> {
+fn grammar<S: Semiring>(alloc: Global, rows: &[Row]) -> Option<Grammar<S>> {
     let rules = rules(alloc, rows)?;
     if rules.len() > 99 {
         return None;
     }
-    let grammar = Grammar::new(names(alloc)?, rules)?;
-    Normal::new(alloc, grammar).ok()?
+    Grammar::new(names(alloc)?, rules)
+}
+
+/// The grammar of these rules over four states, whose start is the state 0; none where memory is refused.
+pub fn normal<S: Semiring + Drop>(alloc: Global, rows: &[Row]) -> Option<Normal<S>> {
+    Normal::new(alloc, grammar(alloc, rows)?).ok()?
 }
 
 fn is_label(item: &Item<u32>, label: Label, many: usize) -> bool {

@@ -1,4 +1,6 @@
 // The matches of sides in a small grammar. The labels are f 0, g 1 and a 2.
+ghost use Rattle.std.specs.Prelude.{◌<◌, length};
+
 use crate::grammars::{Row, normal};
 use std::alloc::Global;
 use tib_cost::{Bottleneck, MOST, MinPlus, Semiring};
@@ -98,19 +100,20 @@ fn are_matches(matches: &[Match], wanted: &[Wanted]) -> bool {
     true
 }
 
-// Whether the matches of a side from a state, read once from the front, are those wanted; none where memory is refused.
+// Whether the matches of a side from a state, read once from the front, are those wanted; false where memory is refused.
 fn few_agree<S: Semiring>(
     alloc: Global,
     grammar: &Normal<S>,
     state: u32,
     side: &Side<u32>,
     wanted: &[Wanted],
-) -> Option<bool> {
-    if state >= grammar.grammar().states() {
-        return None;
+) -> bool
+    requires { state < length grammar.now.names }
+{
+    match few_matches(alloc, grammar, state, side, 1000) {
+        Ok(Some(matches)) => are_matches(&matches, wanted),
+        _ => false,
     }
-    let matches = few_matches(alloc, grammar, state, side, 1000).ok()??;
-    Some(are_matches(&matches, wanted))
 }
 
 // A cost of nothing for each hole of a side.
@@ -124,54 +127,97 @@ fn free_holes(alloc: Global, side: &Side<u32>) -> Option<Vec<HoleCost>> {
     Some(costs)
 }
 
-fn is_all(answer: &Within, wanted: &[Wanted]) -> bool {
-    match answer {
-        Within::All(matches) => are_matches(matches, wanted),
-        Within::More => false,
-    }
-}
-
-// The same, searched for among boxes.
+// The same, searched for among boxes, with these costs at the holes.
 fn searched_agree(
     alloc: Global,
     grammar: &Normal<MinPlus>,
     state: u32,
     side: &Side<u32>,
+    costs: &[HoleCost],
     wanted: &[Wanted],
-) -> Option<bool> {
-    if state >= grammar.grammar().states() {
-        return None;
+) -> bool
+    requires { state < length grammar.now.names }
+{
+    match search_matches(alloc, grammar, state, side, MinPlus::one(), costs, 9) {
+        Ok(Within::All(matches)) => are_matches(&matches, wanted),
+        _ => false,
     }
-    let costs = free_holes(alloc, side)?;
-    let answer = search_matches(alloc, grammar, state, side, MinPlus::one(), &costs, 9).ok()?;
-    Some(is_all(&answer, wanted))
+}
+
+// The same, where holes cost nothing.
+fn free_agree(
+    alloc: Global,
+    grammar: &Normal<MinPlus>,
+    state: u32,
+    side: &Side<u32>,
+    wanted: &[Wanted],
+) -> bool
+    requires { state < length grammar.now.names }
+{
+    match free_holes(alloc, side) {
+        Some(costs) => searched_agree(alloc, grammar, state, side, &costs, wanted),
+        None => false,
+    }
 }
 
 // Whether both ways answer a case.
-fn both_agree(alloc: Global, case: &Case) -> Option<(bool, bool)> {
-    let (state, shape, wanted) = case;
-    let grammar = normal(alloc, &RULES)?;
-    let side = side(alloc, shape)?;
-    let few = few_agree(alloc, &grammar, *state, &side, wanted)?;
-    let searched = searched_agree(alloc, &grammar, *state, &side, wanted)?;
-    Some((few, searched))
+fn both_agree(alloc: Global, grammar: &Normal<MinPlus>, side: &Side<u32>, case: &Case) -> bool {
+    let (state, _, wanted) = case;
+    if *state >= grammar.grammar().states() {
+        return false;
+    }
+    let few = few_agree(alloc, grammar, *state, side, wanted);
+    few && free_agree(alloc, grammar, *state, side, wanted)
 }
 
-// Whether f(g(x) a) has one match from the state 0, at this cost, over a semiring.
-fn costs<S: Semiring + Drop>(alloc: Global, cost: u64) -> Option<bool> {
-    let grammar: Normal<S> = normal(alloc, &RULES)?;
-    let side = side(alloc, F_G_A)?;
-    few_agree(alloc, &grammar, 0, &side, &[(&[3], cost)])
+// The same for the side of the case; false where memory is refused.
+fn side_agrees(alloc: Global, grammar: &Normal<MinPlus>, case: &Case) -> bool {
+    match side(alloc, case.1) {
+        Some(side) => both_agree(alloc, grammar, &side, case),
+        None => false,
+    }
+}
+
+// The same in the grammar above.
+fn agrees(alloc: Global, case: &Case) -> bool {
+    match normal(alloc, &RULES) {
+        Some(grammar) => side_agrees(alloc, &grammar, case),
+        None => false,
+    }
+}
+
+// Whether a side has one match from the state 0, with the state 3 at its hole, at the cost 2.
+fn costs_two<S: Semiring>(alloc: Global, grammar: &Normal<S>, side: &Side<u32>) -> bool {
+    if grammar.grammar().states() == 0 {
+        return false;
+    }
+    few_agree(alloc, grammar, 0, side, &[(&[3], 2)])
+}
+
+// The same of f(g(x) a); false where memory is refused.
+fn side_costs_two<S: Semiring>(alloc: Global, grammar: &Normal<S>) -> bool {
+    match side(alloc, F_G_A) {
+        Some(side) => costs_two(alloc, grammar, &side),
+        None => false,
+    }
+}
+
+// The same in the grammar above, where the cost of a product is the greatest of its costs.
+fn greatest_is_two(alloc: Global) -> bool {
+    match normal::<Bottleneck>(alloc, &RULES) {
+        Some(grammar) => side_costs_two(alloc, &grammar),
+        None => false,
+    }
 }
 
 #[test]
 fn each_list_of_states_has_its_least_cost(rt: HostRuntime) {
     for case in cases() {
-        assert_eq!(rt; both_agree(rt.alloc(), case), Some((true, true)));
+        assert!(rt; agrees(rt.alloc(), case));
     }
 }
 
 #[test]
 fn a_product_is_that_of_the_semiring(rt: HostRuntime) {
-    assert_eq!(rt; costs::<Bottleneck>(rt.alloc(), 2), Some(true));
+    assert!(rt; greatest_is_two(rt.alloc()));
 }
