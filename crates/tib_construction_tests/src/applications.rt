@@ -1,10 +1,15 @@
 // Keys of application, the restrictions of one rule, and what is reached compared with what is wanted.
-use crate::transducers::{Move, Node, rules};
+ghost use Rattle.std.specs.Prelude.{◌≤◌};
+
+use crate::grammars::{Row, normal};
+use crate::transducers::{Move, Node, rules, transducer};
 use std::alloc::Global;
-use tib_apply::{ApplyError, Key, Restrictions};
+use tib_apply::{ApplyError, Key, Restrictions, apply_backward, apply_forward};
+use tib_cost::MinPlus;
 use tib_grammar::{Item, Rule};
-use tib_hunt::{Found, TableKey};
-use tib_transducer::TransducerRule;
+use tib_hunt::{Found, Open, TableKey};
+use tib_normal::Normal;
+use tib_transducer::{Transducer, TransducerRule};
 
 /// The two states and the restriction of a key.
 pub type Numbers = (u32, u32, u32);
@@ -18,8 +23,18 @@ pub type Reached = (&'static [Numbers], &'static [Edge], u64);
 /// What is reached, or the text of the error.
 pub type Wanted = Result<Reached, &'static str>;
 
-/// What an application answers.
-pub type Answer = Result<Found<Key, Rule<u32>>, ApplyError>;
+/// The way in which a transducer is applied.
+#[derive(Clone, Copy)]
+pub enum Direction {
+    Forward,
+    Backward,
+}
+
+/// The rules of a transducer and of a grammar, a limit, and what is answered.
+pub type Case = (&'static [Move], &'static [Row], u64, Wanted);
+
+// What an application answers.
+type Answer = Result<Found<Key, Rule<u32>>, ApplyError>;
 
 fn is_key(key: Key, wanted: Numbers) -> bool {
     let (first, second, restriction) = wanted;
@@ -75,25 +90,83 @@ fn are_rules(rules: &[Rule<u32>], edges: &[Edge]) -> bool {
     true
 }
 
-fn is_reached(found: &Found<Key, Rule<u32>>, wanted: &Reached) -> bool {
-    let (keys, edges, parts) = wanted;
+fn is_reached(found: &Found<Key, Rule<u32>>, wanted: &Wanted) -> bool {
+    let Ok((keys, edges, parts)) = wanted else {
+        return false;
+    };
     found.parts == *parts && are_keys(&found.order, keys) && are_rules(&found.rules, edges)
 }
 
-// Whether this is the text of an error; false where memory is refused.
-fn is_told(alloc: Global, error: &ApplyError, text: &str) -> bool {
+// Whether the text of an error is the one wanted; false where memory is refused.
+fn is_told(alloc: Global, error: &ApplyError, wanted: &Wanted) -> bool {
+    let Err(text) = wanted else {
+        return false;
+    };
     match error.to_string(alloc) {
-        Ok(told) => told.as_str() == text,
+        Ok(told) => told.as_str() == *text,
         Err(_) => false,
     }
 }
 
-/// Whether an answer is the one wanted; false where memory is refused.
-pub fn agrees(alloc: Global, answer: &Answer, wanted: &Wanted) -> bool {
-    match (answer, wanted) {
-        (Ok(found), Ok(reached)) => is_reached(found, reached),
-        (Err(error), Err(text)) => is_told(alloc, error, text),
-        _ => false,
+// Whether an answer is the one wanted; false where memory is refused.
+fn is_wanted(alloc: Global, answer: Answer, wanted: &Wanted) -> bool {
+    match answer {
+        Ok(found) => is_reached(&found, wanted),
+        Err(error) => is_told(alloc, &error, wanted),
+    }
+}
+
+// What an application in a direction answers.
+fn applied(
+    alloc: Global,
+    direction: Direction,
+    transducer: &Transducer<MinPlus>,
+    grammar: &Normal<MinPlus>,
+    limit: u64,
+) -> Answer
+    requires some { 1 ≤ limit }
+    requires limit { limit ≤ 99 }
+{
+    match direction {
+        Direction::Forward => apply_forward(alloc, grammar, transducer, limit, &Open),
+        Direction::Backward => apply_backward(alloc, transducer, grammar, limit, &Open),
+    }
+}
+
+// Whether that is what a case wants; false where there is no such limit.
+fn answers(
+    alloc: Global,
+    direction: Direction,
+    transducer: &Transducer<MinPlus>,
+    grammar: &Normal<MinPlus>,
+    case: &Case,
+) -> bool {
+    let limit = case.2;
+    if limit == 0 || limit > 99 {
+        return false;
+    }
+    let answer = applied(alloc, direction, transducer, grammar, limit);
+    is_wanted(alloc, answer, &case.3)
+}
+
+// The same for the grammar of the case; false where memory is refused, too.
+fn answers_rows(
+    alloc: Global,
+    direction: Direction,
+    transducer: &Transducer<MinPlus>,
+    case: &Case,
+) -> bool {
+    match normal(alloc, case.1) {
+        Some(grammar) => answers(alloc, direction, transducer, &grammar, case),
+        None => false,
+    }
+}
+
+/// Whether an application in a direction answers what a case wants; false where memory is refused, too.
+pub fn reaches(alloc: Global, direction: Direction, case: &Case) -> bool {
+    match transducer(alloc, case.0) {
+        Some(transducer) => answers_rows(alloc, direction, &transducer, case),
+        None => false,
     }
 }
 
@@ -146,11 +219,16 @@ fn admitted() -> &'static [(u32, u32, bool)] {
     &ADMITTED
 }
 
-// Whether a restriction of some rules admits a label, or does not, as wanted; false where memory is refused.
-fn admits(alloc: Global, rules: &[TransducerRule<u32>], row: &(u32, u32, bool)) -> bool {
+// Whether a restriction admits a label, or does not, as wanted.
+fn admits(restrictions: &Restrictions, row: &(u32, u32, bool)) -> bool {
     let (number, label, wanted) = row;
+    restrictions.admits(*number, *label) == *wanted
+}
+
+// The same for the restrictions of some rules; false where memory is refused.
+fn rules_admit(alloc: Global, rules: &[TransducerRule<u32>], row: &(u32, u32, bool)) -> bool {
     match Restrictions::new(alloc, rules) {
-        Ok(restrictions) => restrictions.admits(*number, *label) == *wanted,
+        Ok(restrictions) => admits(&restrictions, row),
         Err(_) => false,
     }
 }
@@ -158,7 +236,7 @@ fn admits(alloc: Global, rules: &[TransducerRule<u32>], row: &(u32, u32, bool)) 
 // The same for the rules above.
 fn is_admitted(alloc: Global, row: &(u32, u32, bool)) -> bool {
     match rules(alloc, &LEAVING) {
-        Some(rules) => admits(alloc, &rules, row),
+        Some(rules) => rules_admit(alloc, &rules, row),
         None => false,
     }
 }

@@ -1,14 +1,9 @@
 // What backward application reaches of small grammars. On the left the labels are f 0, g 1, a 2 and b 3, on the right h 4,
 // k 5 and c 6.
-use crate::applications::{Wanted, agrees};
-use crate::grammars::{Row, normal};
-use crate::transducers::{Move, Node, transducer};
-use std::alloc::Global;
-use tib_apply::apply_backward;
-use tib_cost::{MOST, MinPlus};
-use tib_hunt::Open;
-use tib_normal::Normal;
-use tib_transducer::Transducer;
+use crate::applications::{Case, Direction, reaches};
+use crate::grammars::Row;
+use crate::transducers::{Move, Node};
+use tib_cost::MOST;
 
 const F: Node = Node::Over(0, 2);
 
@@ -75,9 +70,6 @@ const KEPT: [Row; 2] = [(0, 5, &[1], 5), (1, 6, &[], 6)];
 
 const LEAF: [Row; 1] = [(0, 6, &[], 1)];
 
-// The rules of a transducer and of a grammar, a limit, and what is answered.
-type Case = (&'static [Move], &'static [Row], u64, Wanted);
-
 static CASES: [Case; 6] = [
     (
         &TURNS,
@@ -116,40 +108,9 @@ fn cases() -> &'static [Case] {
     &CASES
 }
 
-// Whether backward application answers what a case wants; false where there is no such limit.
-fn answers(
-    alloc: Global,
-    transducer: &Transducer<MinPlus>,
-    grammar: &Normal<MinPlus>,
-    case: &Case,
-) -> bool {
-    let (_, _, limit, wanted) = case;
-    if *limit == 0 || *limit > 99 {
-        return false;
-    }
-    let answer = apply_backward(alloc, transducer, grammar, *limit, &Open);
-    agrees(alloc, &answer, wanted)
-}
-
-// The same for the grammar of the case; false where memory is refused, too.
-fn answers_rows(alloc: Global, transducer: &Transducer<MinPlus>, case: &Case) -> bool {
-    match normal(alloc, case.1) {
-        Some(grammar) => answers(alloc, transducer, &grammar, case),
-        None => false,
-    }
-}
-
-// The same for the transducer of the case, too.
-fn reaches(alloc: Global, case: &Case) -> bool {
-    match transducer(alloc, case.0) {
-        Some(transducer) => answers_rows(alloc, &transducer, case),
-        None => false,
-    }
-}
-
 #[test]
 fn backward_application_reaches(rt: HostRuntime) {
     for case in cases() {
-        assert!(rt; reaches(rt.alloc(), case));
+        assert!(rt; reaches(rt.alloc(), Direction::Backward, case));
     }
 }

@@ -106,14 +106,18 @@ const ADDS: [Move; 4] = [
 // q.A(x0:a) -> A(q.x0)
 const ASKS: [Move; 1] = [(0, &[A1, X0_LOW], &[A1, Q_X0], 0)];
 
-// Two transducers, and what their composition reaches: the pairs of states, the rules over their positions and the parts. In the rules
-// q and r are the positions 0 and 1.
+// How many workers there are, or 0 for a hunt without them, a limit, and the text of the error, if there is one.
+type Run = (u32, u64, Option<&'static str>);
+
+// Two transducers, what their composition reaches (the pairs of states, the rules over their positions and the parts), and its runs. In
+// the rules q and r are the positions 0 and 1.
 type Composition = (
     &'static [Move],
     &'static [Move],
     &'static [(u32, u32)],
     &'static [Move],
     u64,
+    &'static [Run],
 );
 
 static COMPOSITIONS: [Composition; 9] = [
@@ -128,6 +132,12 @@ static COMPOSITIONS: [Composition; 9] = [
             (1, &[A0], &[D0], 6),
         ],
         18,
+        &[
+            (0, 18, None),
+            (0, 17, Some("more than 17 parts")),
+            (1, 18, None),
+            (4, 17, Some("more than 17 parts")),
+        ],
     ),
     (
         &DELETES,
@@ -139,6 +149,7 @@ static COMPOSITIONS: [Composition; 9] = [
             (0, &[H1, X0], &[Q_X0], 7),
         ],
         15,
+        &[(0, 99, None), (16, 99, None)],
     ),
     (
         &EXTENDED,
@@ -149,6 +160,11 @@ static COMPOSITIONS: [Composition; 9] = [
             (0, &[A1, A1, X0_LOW], &[G2, Q_X0, C0], 9),
         ],
         21,
+        &[
+            (0, 21, None),
+            (0, 20, Some("more than 20 parts")),
+            (2, 21, None),
+        ],
     ),
     // where a side stands twice below a label each is translated by itself
     (
@@ -162,6 +178,7 @@ static COMPOSITIONS: [Composition; 9] = [
             (0, &[A1, X0], &[G2, Q_X0, Q_X0], 4),
         ],
         31,
+        &[(0, 99, None)],
     ),
     // what costs more than the greatest cost is no edge
     (
@@ -175,43 +192,45 @@ static COMPOSITIONS: [Composition; 9] = [
             (0, &[A0], &[D0], MOST),
         ],
         24,
+        &[(0, 99, None), (3, 99, None)],
     ),
     // these are refused
-    (&TURNS, &COPIES, &[], &[], 0),
-    (&COPIES, &DELETES, &[], &[], 0),
-    (&COPIES, &EXTENDED, &[], &[], 0),
-    (&COPIES, &ASKS, &[], &[], 0),
+    (
+        &TURNS,
+        &COPIES,
+        &[],
+        &[],
+        0,
+        &[(0, 99, Some("rule 1: not linear"))],
+    ),
+    (
+        &COPIES,
+        &DELETES,
+        &[],
+        &[],
+        0,
+        &[(0, 99, Some("rule 1: not nondeleting"))],
+    ),
+    (
+        &COPIES,
+        &EXTENDED,
+        &[],
+        &[],
+        0,
+        &[(0, 99, Some("rule 1: extended"))],
+    ),
+    (
+        &COPIES,
+        &ASKS,
+        &[],
+        &[],
+        0,
+        &[(4, 99, Some("rule 1: labelled"))],
+    ),
 ];
 
 fn compositions() -> &'static [Composition] {
     &COMPOSITIONS
-}
-
-// The place of a composition in the table above, how many workers there are, or 0 for a hunt without them, a limit, and the text of the
-// error, if there is one.
-type Run = (usize, u32, u64, Option<&'static str>);
-
-static RUNS: [Run; 16] = [
-    (0, 0, 18, None),
-    (0, 0, 17, Some("more than 17 parts")),
-    (0, 1, 18, None),
-    (0, 4, 17, Some("more than 17 parts")),
-    (1, 0, 99, None),
-    (1, 16, 99, None),
-    (2, 0, 21, None),
-    (2, 0, 20, Some("more than 20 parts")),
-    (2, 2, 21, None),
-    (3, 0, 99, None),
-    (4, 0, 99, None),
-    (4, 3, 99, None),
-    (5, 0, 99, Some("rule 1: not linear")),
-    (6, 0, 99, Some("rule 1: not nondeleting")),
-    (7, 0, 99, Some("rule 1: extended")),
-    (8, 4, 99, Some("rule 1: labelled")),
-];
-
-fn runs() -> &'static [Run] {
-    &RUNS
 }
 
 fn is_variable(variable: &Variable, number: u32, label: Option<Label>) -> bool {
@@ -299,12 +318,15 @@ fn are_pairs(pairs: &[StatePair], wanted: &[(u32, u32)]) -> bool {
 type Answer = Result<Found<StatePair, TransducerRule<u32>>, ComposeError>;
 
 fn is_composition(found: &Found<StatePair, TransducerRule<u32>>, wanted: &Composition) -> bool {
-    let (_, _, pairs, rules, parts) = wanted;
+    let (_, _, pairs, rules, parts, _) = wanted;
     found.parts == *parts && are_pairs(&found.order, pairs) && are_rules(&found.rules, rules)
 }
 
-// Whether this is the text of an error; false where memory is refused.
-fn is_told(alloc: Global, error: &ComposeError, text: &str) -> bool {
+// Whether this is the text of an error, if one is wanted; false where memory is refused.
+fn is_told(alloc: Global, error: &ComposeError, wanted: Option<&str>) -> bool {
+    let Some(text) = wanted else {
+        return false;
+    };
     match error.to_string(alloc) {
         Ok(told) => told.as_str() == text,
         Err(_) => false,
@@ -312,11 +334,10 @@ fn is_told(alloc: Global, error: &ComposeError, text: &str) -> bool {
 }
 
 // Whether an answer is the composition wanted, or where there is one the error.
-fn is_answer(alloc: Global, answer: &Answer, wanted: &Composition, error: Option<&str>) -> bool {
-    match (answer, error) {
-        (Ok(found), None) => is_composition(found, wanted),
-        (Err(own), Some(text)) => is_told(alloc, own, text),
-        _ => false,
+fn is_answer(alloc: Global, answer: Answer, wanted: &Composition, error: Option<&str>) -> bool {
+    match answer {
+        Ok(found) => error.is_none() && is_composition(&found, wanted),
+        Err(own) => is_told(alloc, &own, error),
     }
 }
 
@@ -349,12 +370,12 @@ fn answers<R: Threads + Wait + Sync>(
     wanted: &Composition,
     run: &Run,
 ) -> bool {
-    let (_, workers, limit, error) = run;
+    let (workers, limit, error) = run;
     if *limit == 0 || *limit > 999 || *workers > 16 {
         return false;
     }
     let answer = composed(rt, alloc, first, second, *workers, *limit);
-    is_answer(alloc, &answer, wanted, *error)
+    is_answer(alloc, answer, wanted, *error)
 }
 
 // The same for the second transducer of the composition; false where memory is refused, too.
@@ -384,17 +405,19 @@ fn reaches<R: Threads + Wait + Sync>(
     }
 }
 
-// The same for the composition of a run; false where there is none.
-fn agrees<R: Threads + Wait + Sync>(rt: &R, alloc: Global, run: &Run) -> bool {
-    match compositions().get(run.0) {
-        Some(wanted) => reaches(rt, alloc, wanted, run),
-        None => false,
+// The same for each run of the composition.
+fn agrees<R: Threads + Wait + Sync>(rt: &R, alloc: Global, wanted: &Composition) -> bool {
+    for run in wanted.5 {
+        if !reaches(rt, alloc, wanted, run) {
+            return false;
+        }
     }
+    true
 }
 
 #[test]
 fn composition_reaches(rt: HostRuntime) {
-    for run in runs() {
-        assert!(rt; agrees(&rt, rt.alloc(), run));
+    for composition in compositions() {
+        assert!(rt; agrees(&rt, rt.alloc(), composition));
     }
 }

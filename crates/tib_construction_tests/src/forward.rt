@@ -1,13 +1,8 @@
 // What forward application reaches of small grammars. The labels are f 0, g 1, a 2, h 3, k 4 and c 5.
-use crate::applications::{Wanted, agrees};
-use crate::grammars::{Row, normal};
-use crate::transducers::{Move, Node, transducer};
-use std::alloc::Global;
-use tib_apply::apply_forward;
-use tib_cost::{MOST, MinPlus};
-use tib_hunt::Open;
-use tib_normal::Normal;
-use tib_transducer::Transducer;
+use crate::applications::{Case, Direction, reaches};
+use crate::grammars::Row;
+use crate::transducers::{Move, Node};
+use tib_cost::MOST;
 
 const F: Node = Node::Over(0, 2);
 
@@ -55,23 +50,20 @@ const ENDS: Move = (0, &[A], &[C], 20);
 const SKIPS: Move = (0, &[G, X0], &[READS_0], 5);
 
 // p -> f(q q) # 1, q -> g(q) # 3 and q -> a # 2
-static CHEAP: [Row; 3] = [(0, 0, &[1, 1], 1), (1, 1, &[1], 3), (1, 2, &[], 2)];
+const CHEAP: [Row; 3] = [(0, 0, &[1, 1], 1), (1, 1, &[1], 3), (1, 2, &[], 2)];
 
 // The same where the first rule has the greatest cost.
-static DEAR: [Row; 3] = [(0, 0, &[1, 1], MOST), (1, 1, &[1], 3), (1, 2, &[], 2)];
+const DEAR: [Row; 3] = [(0, 0, &[1, 1], MOST), (1, 1, &[1], 3), (1, 2, &[], 2)];
 
 // The positions 1 and 2.
 const AT_1: Node = Node::At(1);
 
 const AT_2: Node = Node::At(2);
 
-// Whether the first rule of the grammar has the greatest cost, the rules of a transducer, a limit, and what is answered.
-type Case = (bool, &'static [Move], u64, Wanted);
-
 static CASES: [Case; 8] = [
     (
-        false,
         &[TURNS, ENDS, SKIPS],
+        &CHEAP,
         14,
         Ok((
             &[(0, 0, 0), (1, 0, 0)],
@@ -79,10 +71,10 @@ static CASES: [Case; 8] = [
             14,
         )),
     ),
-    (false, &[TURNS, ENDS, SKIPS], 13, Err("more than 13 parts")),
+    (&[TURNS, ENDS, SKIPS], &CHEAP, 13, Err("more than 13 parts")),
     (
-        false,
         &[EXTENDED, ENDS],
+        &CHEAP,
         99,
         Ok((
             &[(0, 0, 0), (1, 0, 0)],
@@ -91,8 +83,8 @@ static CASES: [Case; 8] = [
         )),
     ),
     (
-        false,
         &[KEEPS_G, ENDS, SKIPS],
+        &CHEAP,
         99,
         Ok((
             &[(0, 0, 0), (1, 0, 0), (1, 0, 1)],
@@ -106,8 +98,8 @@ static CASES: [Case; 8] = [
         )),
     ),
     (
-        false,
         &[DELETES, ENDS],
+        &CHEAP,
         99,
         Ok((
             &[(0, 0, 0), (1, 0, 0)],
@@ -116,8 +108,8 @@ static CASES: [Case; 8] = [
         )),
     ),
     (
-        false,
         &[DELETES_G, ENDS],
+        &CHEAP,
         99,
         Ok((
             &[(0, 0, 0), (1, 0, 0)],
@@ -125,52 +117,17 @@ static CASES: [Case; 8] = [
             11,
         )),
     ),
-    (true, &[DELETES, ENDS], 99, Ok((&[(0, 0, 0)], &[], 3))),
-    (false, &[ENDS, COPIES], 99, Err("rule 2: not linear")),
+    (&[DELETES, ENDS], &DEAR, 99, Ok((&[(0, 0, 0)], &[], 3))),
+    (&[ENDS, COPIES], &CHEAP, 99, Err("rule 2: not linear")),
 ];
 
 fn cases() -> &'static [Case] {
     &CASES
 }
 
-fn grammar_rows(is_dear: bool) -> &'static [Row] {
-    if is_dear { &DEAR } else { &CHEAP }
-}
-
-// Whether forward application answers what a case wants; false where there is no such limit.
-fn answers(
-    alloc: Global,
-    transducer: &Transducer<MinPlus>,
-    grammar: &Normal<MinPlus>,
-    case: &Case,
-) -> bool {
-    let (_, _, limit, wanted) = case;
-    if *limit == 0 || *limit > 99 {
-        return false;
-    }
-    let answer = apply_forward(alloc, grammar, transducer, *limit, &Open);
-    agrees(alloc, &answer, wanted)
-}
-
-// The same for the grammar of the case; false where memory is refused, too.
-fn answers_rows(alloc: Global, transducer: &Transducer<MinPlus>, case: &Case) -> bool {
-    match normal(alloc, grammar_rows(case.0)) {
-        Some(grammar) => answers(alloc, transducer, &grammar, case),
-        None => false,
-    }
-}
-
-// The same for the transducer of the case, too.
-fn reaches(alloc: Global, case: &Case) -> bool {
-    match transducer(alloc, case.1) {
-        Some(transducer) => answers_rows(alloc, &transducer, case),
-        None => false,
-    }
-}
-
 #[test]
 fn forward_application_reaches(rt: HostRuntime) {
     for case in cases() {
-        assert!(rt; reaches(rt.alloc(), case));
+        assert!(rt; reaches(rt.alloc(), Direction::Forward, case));
     }
 }
