@@ -1,55 +1,66 @@
 // What is reached of small trees, as text. The labels are A 0, a 1, B 2, b 3, c 4, S 5 and Z 6.
-use crate::texts::{write_dotted, write_rules};
-use crate::transducers::{Move, Node, transducer};
+use crate::texts::{is_text, write_dotted, write_rules};
+use crate::transducers::{Left, Move, Right, transducer};
 use std::alloc::{AllocError, Global};
 use std::sync::Wait;
-use std::test::Fail;
 use std::thread::Threads;
+use tib_cost::MinPlus;
 use tib_grammar::Rule;
 use tib_hunt::{Found, HuntError, Open, TableKey};
 use tib_image::{Key, image, image_together};
+use tib_transducer::Transducer;
 use tib_tree::{Label, Tree};
 
-// On the left x0 and x1, on the right t.x0 and t.x1.
-const X0: Node = Node::Plain(0);
+// On the left x0: and x1:, on the right t.x0 and t.x1.
+const X0: Left = Left::Variable(0, None);
 
-const X1: Node = Node::Plain(1);
+const X1: Left = Left::Variable(1, None);
 
-const READS_0: Node = Node::Reads(0, 0);
+const T_X0: Right = Right::Reads(0, 0);
 
-const READS_1: Node = Node::Reads(0, 1);
+const T_X1: Right = Right::Reads(0, 1);
 
-const OVER_A: Node = Node::Over(0, 1);
+const OVER_A: Left = Left::Over(0, 1);
 
-const OVER_B: Node = Node::Over(2, 2);
+const OVER_S: Left = Left::Over(5, 2);
 
-const OVER_S: Node = Node::Over(5, 2);
+const OVER_B: Right = Right::Over(2, 2);
 
-const OVER_Z: Node = Node::Over(6, 1);
+const OVER_Z: Right = Right::Over(6, 1);
 
 // t.A(x0:) -> B(t.x0 t.x0) # 1
-const COPIES: Move = (0, &[OVER_A, X0], &[OVER_B, READS_0, READS_0], 1);
+const COPIES: Move = (0, &[OVER_A, X0], &[OVER_B, T_X0, T_X0], 1);
 
 // t.a -> b # 0
-const TO_B: Move = (0, &[Node::Over(1, 0)], &[Node::Over(3, 0)], 0);
+const TO_B: Move = (0, &[Left::Over(1, 0)], &[Right::Over(3, 0)], 0);
 
 // t.a -> c # 2
-const TO_C: Move = (0, &[Node::Over(1, 0)], &[Node::Over(4, 0)], 2);
+const TO_C: Move = (0, &[Left::Over(1, 0)], &[Right::Over(4, 0)], 2);
 
 // t.b -> c # 0
-const B_TO_C: Move = (0, &[Node::Over(3, 0)], &[Node::Over(4, 0)], 0);
+const B_TO_C: Move = (0, &[Left::Over(3, 0)], &[Right::Over(4, 0)], 0);
 
 // t.S(x0:b x1:) -> Z(t.x1) # 0
-const ASKS_B: Move = (0, &[OVER_S, Node::Asks(0, 3), X1], &[OVER_Z, READS_1], 0);
+const ASKS_B: Move = (
+    0,
+    &[OVER_S, Left::Variable(0, Some(3)), X1],
+    &[OVER_Z, T_X1],
+    0,
+);
 
 // t.S(x0:a x1:) -> Z(t.x1) # 0
-const ASKS_A: Move = (0, &[OVER_S, Node::Asks(0, 1), X1], &[OVER_Z, READS_1], 0);
+const ASKS_A: Move = (
+    0,
+    &[OVER_S, Left::Variable(0, Some(1)), X1],
+    &[OVER_Z, T_X1],
+    0,
+);
 
 // t.B(x0: x1:) -> B(t.x0 t.x1) # 1
-const PASSES: Move = (0, &[OVER_B, X0, X1], &[OVER_B, READS_0, READS_1], 1);
+const PASSES: Move = (0, &[Left::Over(2, 2), X0, X1], &[OVER_B, T_X0, T_X1], 1);
 
 // t.A(A(x0:)) -> t.x0 # 7
-const EXTENDED: Move = (0, &[OVER_A, OVER_A, X0], &[READS_0], 7);
+const EXTENDED: Move = (0, &[OVER_A, OVER_A, X0], &[T_X0], 7);
 
 // The rules of a transducer, the labels and ranks of a tree in preorder, how many workers there are, or 0 for a hunt without them, a
 // limit, and what is answered.
@@ -133,11 +144,15 @@ static CASES: [Case; 10] = [
     ),
 ];
 
-fn tree(alloc: Global, items: &[(Label, u32)]) -> Result<Tree, Fail> {
+fn cases() -> &'static [Case] {
+    &CASES
+}
+
+fn tree(alloc: Global, items: &[(Label, u32)]) -> Option<Tree> {
     if items.len() > 99 {
-        return Err("too many nodes".into());
+        return None;
     }
-    Ok(Tree::from_preorder(alloc, items).ok().ok_or("no tree")?)
+    Tree::from_preorder(alloc, items).ok()
 }
 
 // The nodes of the keys, the rules over the positions of the order and the parts.
@@ -150,51 +165,68 @@ fn write_found(alloc: Global, found: &Found<Key, Rule<u32>>) -> Result<String, A
     Ok(text)
 }
 
-// What was found, or the error.
-fn told(alloc: Global, answer: Result<Found<Key, Rule<u32>>, HuntError>) -> Result<String, Fail> {
+// Whether this is what was found, or the text of the error.
+fn is_told(alloc: Global, answer: Result<Found<Key, Rule<u32>>, HuntError>, want: &str) -> bool {
     match answer {
-        Ok(found) => Ok(write_found(alloc, &found)?),
-        Err(HuntError::OutOfMemory) => Err("no memory".into()),
-        Err(error) => Ok(error.to_string(alloc)?),
+        Ok(found) => is_text(write_found(alloc, &found), want),
+        Err(error) => is_text(error.to_string(alloc), want),
     }
 }
 
-// What is answered, by one worker or, where their number is not 0, by several.
-fn reached<R: Threads + Wait + Sync>(
+// Whether a case is answered so, by one worker or, where their number is not 0, by several; false where there is no such limit or number
+// of workers.
+fn is_answered<R: Threads + Wait + Sync>(
     rt: &R,
     alloc: Global,
-    moves: &[Move],
-    items: &[(Label, u32)],
-    workers: u32,
-    limit: u64,
-) -> Result<String, Fail> {
-    if limit == 0 || limit > 99 || workers > 16 {
-        return Err("no such limit".into());
+    transducer: &Transducer<MinPlus>,
+    tree: &Tree,
+    case: &Case,
+) -> bool {
+    let (_, _, workers, limit, want) = case;
+    if *limit == 0 || *limit > 99 || *workers > 16 {
+        return false;
     }
-    let transducer = transducer(alloc, moves)?;
-    let tree = tree(alloc, items)?;
-    if workers == 0 {
-        return told(alloc, image(alloc, &transducer, &tree, limit, &Open));
+    if *workers == 0 {
+        return is_told(alloc, image(alloc, transducer, tree, *limit, &Open), want);
     }
-    told(
-        alloc,
-        image_together(rt, alloc, &transducer, &tree, workers, limit, &Open),
-    )
+    let answer = image_together(rt, alloc, transducer, tree, *workers, *limit, &Open);
+    is_told(alloc, answer, want)
+}
+
+// The same, with the tree of the case.
+fn is_tree_answered<R: Threads + Wait + Sync>(
+    rt: &R,
+    alloc: Global,
+    transducer: &Transducer<MinPlus>,
+    case: &Case,
+) -> bool {
+    match tree(alloc, case.1) {
+        Some(tree) => is_answered(rt, alloc, transducer, &tree, case),
+        None => false,
+    }
+}
+
+// The same, with its transducer.
+fn is_case_answered<R: Threads + Wait + Sync>(rt: &R, alloc: Global, case: &Case) -> bool {
+    match transducer(alloc, case.0) {
+        Some(transducer) => is_tree_answered(rt, alloc, &transducer, case),
+        None => false,
+    }
 }
 
 #[test]
-fn images_are_reached(rt: HostRuntime) -> Result<(), Fail> {
-    for (moves, items, workers, limit, want) in &CASES {
-        let text = reached(&rt, rt.alloc(), moves, items, *workers, *limit)?;
-        assert_eq!(rt; text.as_str(), *want);
+fn images_are_reached(rt: HostRuntime) {
+    for case in cases() {
+        assert!(rt; is_case_answered(&rt, rt.alloc(), case));
     }
-    Ok(())
+}
+
+// Whether a key has the state 3, the node 4, two entries and the shelf 10.
+fn is_filed(key: Key) -> bool {
+    key.state() == 3 && key.node() == 4 && key.entries() == 2 && key.shelf() == 10
 }
 
 #[test]
 fn keys_are_told_by_their_numbers(rt: HostRuntime) {
-    let key = Key::new(3, 4);
-    assert_eq!(rt; (key.state(), key.node()), (3, 4));
-    assert_eq!(rt; (key.entries(), key.shelf()), (2, 10));
-    assert!(rt; Key::new(3, 3) < key);
+    assert!(rt; is_filed(Key::new(3, 4)) && Key::new(3, 3) < Key::new(3, 4));
 }

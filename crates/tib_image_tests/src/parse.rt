@@ -1,65 +1,48 @@
 // What small transducers of one state turn into one string, as text. The labels are S 0, a 1 and b 2, and the words u 3, v 4 and w 5.
-use crate::texts::{names, write_dotted, write_marked, write_rules};
+use crate::texts::{is_text, names, write_dotted, write_marked, write_rules};
+use crate::transducers::{Left, left_side};
 use std::alloc::{AllocError, Global};
 use std::sync::Wait;
-use std::test::Fail;
 use std::thread::Threads;
 use tib_apply::ApplyError;
 use tib_cost::{Cost, MinPlus};
-use tib_grammar::{Item, Rule, Side};
+use tib_grammar::Rule;
 use tib_hunt::{Found, Open};
 use tib_image::parse::{Key, parse, parse_together};
 use tib_strings::{StringRule, StringTransducer, Word, Words};
-use tib_transducer::{Pair, Variable};
+use tib_transducer::Pair;
 use tib_tree::Label;
 
-// A rule: its label, the labels that the variables below it ask for, its words, where those below 3 are pairs with the variable of this
-// number, and its cost.
-type Row = (Label, &'static [Option<Label>], &'static [Label], u64);
+// A rule: its left side, its words, where those below 3 are pairs with the variable of this number, and its cost.
+type Row = (&'static [Left], &'static [Label], u64);
 
-// t.S(x0: x1:) -> t.x0 t.x1 # 1, t.a -> u # 0 and t.b -> u v # 2
-const SPELLING: [Row; 3] = [
-    (0, &[None, None], &[0, 1], 1),
-    (1, &[], &[3], 0),
-    (2, &[], &[3, 4], 2),
-];
+const X0: Left = Left::Variable(0, None);
 
-// t.S(x0:b x1:) -> t.x1 w t.x0 # 1, t.a -> u # 0 and t.b -> u v # 2
+const X1: Left = Left::Variable(1, None);
+
+const S: Left = Left::Over(0, 2);
+
+// t.a -> u # 0
+const A_TO_U: Row = (&[Left::Over(1, 0)], &[3], 0);
+
+// t.b -> u v # 2
+const B_TO_UV: Row = (&[Left::Over(2, 0)], &[3, 4], 2);
+
+// t.S(x0: x1:) -> t.x0 t.x1 # 1
+const SPELLING: [Row; 3] = [(&[S, X0, X1], &[0, 1], 1), A_TO_U, B_TO_UV];
+
+// t.S(x0:b x1:) -> t.x1 w t.x0 # 1
 const TURNING: [Row; 3] = [
-    (0, &[Some(2), None], &[1, 5, 0], 1),
-    (1, &[], &[3], 0),
-    (2, &[], &[3, 4], 2),
+    (&[S, Left::Variable(0, Some(2)), X1], &[1, 5, 0], 1),
+    A_TO_U,
+    B_TO_UV,
 ];
 
 // t.a -> # 4
-const EMPTY: [Row; 1] = [(1, &[], &[], 4)];
+const EMPTY: [Row; 1] = [(&[Left::Over(1, 0)], &[], 4)];
 
-// t.S(x0: x1:) -> t.x0
-const DELETING: [Row; 1] = [(0, &[None, None], &[0], 1)];
-
-fn variable(number: u32, label: Option<Label>) -> Item<Variable> {
-    Item::Hole(Variable { number, label })
-}
-
-fn left_side(
-    alloc: Global,
-    root: Label,
-    variables: &[Option<Label>],
-) -> Result<Side<Variable>, Fail> {
-    if variables.len() > 9 {
-        return Err("too many variables".into());
-    }
-    let rank = variables.len() as u32;
-    let mut items = Vec::new(alloc);
-    items.push(Item::Label { label: root, rank })?;
-    for number in 0..variables.len() {
-        items.push(variable(number as u32, variables[number]))?;
-    }
-    if items.len() > 10 {
-        return Err("too many items".into());
-    }
-    Ok(Side::from_preorder(items).ok().ok_or("no left side")?)
-}
+// t.S(x0: x1:) -> t.x0 # 1
+const DELETING: [Row; 1] = [(&[S, X0, X1], &[0], 1)];
 
 // A word; below 3 the pair of the state t with the variable of this number.
 fn token(word: Label) -> Word<u32> {
@@ -72,34 +55,40 @@ fn token(word: Label) -> Word<u32> {
     Word::Word(word)
 }
 
-fn right_side(alloc: Global, words: &[Label]) -> Result<Words<u32>, Fail> {
+fn right_side(alloc: Global, words: &[Label]) -> Option<Words<u32>> {
     let mut tokens = Vec::new(alloc);
     for word in words {
-        tokens.push(token(*word))?;
+        tokens.push(token(*word)).ok()?;
     }
-    Ok(Words::from_list(tokens))
+    Some(Words::from_list(tokens))
 }
 
-fn rules(alloc: Global, rows: &[Row]) -> Result<Vec<StringRule<u32>>, Fail> {
+fn rule_of(alloc: Global, row: &Row) -> Option<StringRule<u32>> {
+    let (left, words, cost) = row;
+    let cost = Cost::new(*cost)?;
+    let left = left_side(alloc, left)?;
+    Some(StringRule {
+        state: 0,
+        left,
+        right: right_side(alloc, words)?,
+        cost,
+    })
+}
+
+fn rules_of(alloc: Global, rows: &[Row]) -> Option<Vec<StringRule<u32>>> {
     let mut rules = Vec::new(alloc);
-    for (root, variables, words, cost) in rows {
-        let cost = Cost::new(*cost).ok_or("cost")?;
-        rules.push(StringRule {
-            state: 0,
-            left: left_side(alloc, *root, variables)?,
-            right: right_side(alloc, words)?,
-            cost,
-        })?;
+    for row in rows {
+        rules.push(rule_of(alloc, row)?).ok()?;
     }
-    Ok(rules)
+    Some(rules)
 }
 
-fn transducer(alloc: Global, rows: &[Row]) -> Result<StringTransducer<MinPlus>, Fail> {
-    let rules = rules(alloc, rows)?;
+fn transducer(alloc: Global, rows: &[Row]) -> Option<StringTransducer<MinPlus>> {
+    let rules = rules_of(alloc, rows)?;
     if rules.len() > 9 {
-        return Err("too many rules".into());
+        return None;
     }
-    Ok(StringTransducer::new(names(alloc)?, rules).ok_or("transducer")?)
+    StringTransducer::new(names(alloc)?, rules)
 }
 
 // The places and the restriction of a key.
@@ -117,37 +106,6 @@ fn write_found(alloc: Global, found: &Found<Key, Rule<u32>>) -> Result<String, A
     }
     write_rules(&mut text, &found.rules, found.parts)?;
     Ok(text)
-}
-
-// What was found, or the error.
-fn told(alloc: Global, answer: Result<Found<Key, Rule<u32>>, ApplyError>) -> Result<String, Fail> {
-    match answer {
-        Ok(found) => Ok(write_found(alloc, &found)?),
-        Err(ApplyError::OutOfMemory) => Err("no memory".into()),
-        Err(error) => Ok(error.to_string(alloc)?),
-    }
-}
-
-// What is answered, by one worker or, where their number is not 0, by several.
-fn parsed<R: Threads + Wait + Sync>(
-    rt: &R,
-    alloc: Global,
-    rows: &[Row],
-    string: &[Label],
-    workers: u32,
-    limit: u64,
-) -> Result<String, Fail> {
-    if limit == 0 || limit > 999 || workers > 16 {
-        return Err("no such limit".into());
-    }
-    let transducer = transducer(alloc, rows)?;
-    if workers == 0 {
-        return told(alloc, parse(alloc, &transducer, string, limit, &Open));
-    }
-    told(
-        alloc,
-        parse_together(rt, alloc, &transducer, string, workers, limit, &Open),
-    )
 }
 
 // On u u v the keys at 0-1 and 1-3 give S(a b), and on u v u those at 0-2 and 2-3 give S(b a).
@@ -186,11 +144,48 @@ static CASES: [Case; 11] = [
     (&SPELLING, &[3, 4, 3], 0, 126, ON_UVU),
 ];
 
-#[test]
-fn parsing_reaches(rt: HostRuntime) -> Result<(), Fail> {
-    for (rows, string, workers, limit, want) in &CASES {
-        let text = parsed(&rt, rt.alloc(), rows, string, *workers, *limit)?;
-        assert_eq!(rt; text.as_str(), *want);
+fn cases() -> &'static [Case] {
+    &CASES
+}
+
+// Whether this is what was found, or the text of the error.
+fn is_told(alloc: Global, answer: Result<Found<Key, Rule<u32>>, ApplyError>, want: &str) -> bool {
+    match answer {
+        Ok(found) => is_text(write_found(alloc, &found), want),
+        Err(error) => is_text(error.to_string(alloc), want),
     }
-    Ok(())
+}
+
+// Whether a case is answered so, by one worker or, where their number is not 0, by several; false where there is no such limit or number
+// of workers.
+fn is_answered<R: Threads + Wait + Sync>(
+    rt: &R,
+    alloc: Global,
+    transducer: &StringTransducer<MinPlus>,
+    case: &Case,
+) -> bool {
+    let (_, string, workers, limit, want) = case;
+    if *limit == 0 || *limit > 999 || *workers > 16 {
+        return false;
+    }
+    if *workers == 0 {
+        return is_told(alloc, parse(alloc, transducer, string, *limit, &Open), want);
+    }
+    let answer = parse_together(rt, alloc, transducer, string, *workers, *limit, &Open);
+    is_told(alloc, answer, want)
+}
+
+// The same, with the transducer of the case.
+fn is_case_answered<R: Threads + Wait + Sync>(rt: &R, alloc: Global, case: &Case) -> bool {
+    match transducer(alloc, case.0) {
+        Some(transducer) => is_answered(rt, alloc, &transducer, case),
+        None => false,
+    }
+}
+
+#[test]
+fn parsing_reaches(rt: HostRuntime) {
+    for case in cases() {
+        assert!(rt; is_case_answered(&rt, rt.alloc(), case));
+    }
 }

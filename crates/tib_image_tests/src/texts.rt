@@ -1,21 +1,34 @@
 // The names of states, and rules over positions as text.
 use std::alloc::{AllocError, Global};
-use std::test::Fail;
 use tib_cost::Cost;
 use tib_grammar::{Item, Names, Rule};
 
 static NAMES: [&str; 4] = ["p", "q", "r", "s"];
 
-/// The names of four states.
-pub fn names(alloc: Global) -> Result<Names, Fail> {
+// Their texts.
+fn name_texts(alloc: Global) -> Option<Vec<Vec<u8>>> {
     let mut texts = Vec::new(alloc);
     for text in &NAMES {
-        texts.push(text.as_bytes().to_vec(alloc)?)?;
+        texts.push(text.as_bytes().to_vec(alloc).ok()?).ok()?;
     }
+    Some(texts)
+}
+
+/// The names of four states.
+pub fn names(alloc: Global) -> Option<Names> {
+    let texts = name_texts(alloc)?;
     if texts.len() > 9 {
-        return Err("too many names".into());
+        return None;
     }
-    Ok(Names::from_list(alloc, texts)?.ok_or("names")?)
+    Names::from_list(alloc, texts).ok()?
+}
+
+/// Whether a text was made, and is this one.
+pub fn is_text(text: Result<String, AllocError>, want: &str) -> bool {
+    match text {
+        Ok(text) => text.as_str() == want,
+        Err(_) => false,
+    }
 }
 
 /// A mark, and behind it a number in decimal digits.

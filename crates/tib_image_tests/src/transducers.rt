@@ -1,99 +1,102 @@
 // Small transducers by their rules.
 use crate::texts::names;
 use std::alloc::Global;
-use std::test::Fail;
 use tib_cost::{Cost, MinPlus};
 use tib_grammar::{Item, Side};
 use tib_transducer::{Pair, Transducer, TransducerRule, Variable};
 use tib_tree::Label;
 
-/// An item of a side.
+/// An item of a left side.
 #[derive(Clone, Copy)]
-pub enum Node {
+pub enum Left {
     /// A label over this many children.
     Over(Label, u32),
-    /// On the left, the variable of this number.
-    Plain(u32),
-    /// On the left, the variable of this number, which asks for a label.
-    Asks(u32, Label),
-    /// On the right, a state and the number of the variable that is read on from it.
+    /// The variable of this number, and the label that it asks for.
+    Variable(u32, Option<Label>),
+}
+
+/// An item of a right side.
+#[derive(Clone, Copy)]
+pub enum Right {
+    /// A label over this many children.
+    Over(Label, u32),
+    /// A state and the number of the variable that is read on from it.
     Reads(u32, u32),
 }
 
 /// A rule of a transducer: its state, its two sides and its cost.
-pub type Move = (u32, &'static [Node], &'static [Node], u64);
+pub type Move = (u32, &'static [Left], &'static [Right], u64);
 
-fn hole(number: u32, label: Option<Label>) -> Item<Variable> {
-    Item::Hole(Variable { number, label })
-}
-
-fn left_item(node: Node) -> Option<Item<Variable>> {
-    match node {
-        Node::Over(label, rank) => Some(Item::Label { label, rank }),
-        Node::Plain(number) => Some(hole(number, None)),
-        Node::Asks(number, label) => Some(hole(number, Some(label))),
-        Node::Reads(..) => None,
-    }
-}
-
-fn right_item(node: Node) -> Option<Item<Pair<u32>>> {
-    match node {
-        Node::Over(label, rank) => Some(Item::Label { label, rank }),
-        Node::Reads(state, variable) => Some(Item::Hole(Pair { state, variable })),
-        _ => None,
-    }
-}
-
-// The left side of these items.
-fn left_side(alloc: Global, nodes: &[Node]) -> Result<Side<Variable>, Fail> {
-    let mut items = Vec::new(alloc);
-    for node in nodes {
-        let Some(item) = left_item(*node) else {
-            return Err("not on the left".into());
-        };
-        items.push(item)?;
-    }
+// The side of these items.
+fn side_of<P: Drop>(items: Vec<Item<P>>) -> Option<Side<P>> {
     if items.len() > 99 {
-        return Err("too many items".into());
+        return None;
     }
-    Ok(Side::from_preorder(items).ok().ok_or("no left side")?)
+    Side::from_preorder(items).ok()
 }
 
-// The right side of these items.
-fn right_side(alloc: Global, nodes: &[Node]) -> Result<Side<Pair<u32>>, Fail> {
+fn left_item(item: Left) -> Item<Variable> {
+    match item {
+        Left::Over(label, rank) => Item::Label { label, rank },
+        Left::Variable(number, label) => Item::Hole(Variable { number, label }),
+    }
+}
+
+fn left_items(alloc: Global, left: &[Left]) -> Option<Vec<Item<Variable>>> {
     let mut items = Vec::new(alloc);
-    for node in nodes {
-        let Some(item) = right_item(*node) else {
-            return Err("not on the right".into());
-        };
-        items.push(item)?;
+    for item in left {
+        items.push(left_item(*item)).ok()?;
     }
-    if items.len() > 99 {
-        return Err("too many items".into());
+    Some(items)
+}
+
+/// The left side of these items.
+pub fn left_side(alloc: Global, left: &[Left]) -> Option<Side<Variable>> {
+    side_of(left_items(alloc, left)?)
+}
+
+fn right_item(item: Right) -> Item<Pair<u32>> {
+    match item {
+        Right::Over(label, rank) => Item::Label { label, rank },
+        Right::Reads(state, variable) => Item::Hole(Pair { state, variable }),
     }
-    Ok(Side::from_preorder(items).ok().ok_or("no right side")?)
+}
+
+fn right_items(alloc: Global, right: &[Right]) -> Option<Vec<Item<Pair<u32>>>> {
+    let mut items = Vec::new(alloc);
+    for item in right {
+        items.push(right_item(*item)).ok()?;
+    }
+    Some(items)
+}
+
+fn rule_of(alloc: Global, row: &Move) -> Option<TransducerRule<u32>> {
+    let (state, left, right, cost) = row;
+    let cost = Cost::new(*cost)?;
+    let left = left_side(alloc, left)?;
+    let right = side_of(right_items(alloc, right)?)?;
+    Some(TransducerRule {
+        state: *state,
+        left,
+        right,
+        cost,
+    })
 }
 
 // The rules of these moves.
-fn rules(alloc: Global, moves: &[Move]) -> Result<Vec<TransducerRule<u32>>, Fail> {
+fn rules_of(alloc: Global, moves: &[Move]) -> Option<Vec<TransducerRule<u32>>> {
     let mut rules = Vec::new(alloc);
-    for (state, left, right, cost) in moves {
-        let cost = Cost::new(*cost).ok_or("cost")?;
-        rules.push(TransducerRule {
-            state: *state,
-            left: left_side(alloc, left)?,
-            right: right_side(alloc, right)?,
-            cost,
-        })?;
+    for row in moves {
+        rules.push(rule_of(alloc, row)?).ok()?;
     }
-    Ok(rules)
+    Some(rules)
 }
 
 /// The transducer of these rules, whose start is the state 0.
-pub fn transducer(alloc: Global, moves: &[Move]) -> Result<Transducer<MinPlus>, Fail> {
-    let rules = rules(alloc, moves)?;
+pub fn transducer(alloc: Global, moves: &[Move]) -> Option<Transducer<MinPlus>> {
+    let rules = rules_of(alloc, moves)?;
     if rules.len() > 99 {
-        return Err("too many rules".into());
+        return None;
     }
-    Ok(Transducer::new(names(alloc)?, rules).ok_or("transducer")?)
+    Transducer::new(names(alloc)?, rules)
 }
