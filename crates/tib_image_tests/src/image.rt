@@ -62,6 +62,10 @@ const PASSES: Move = (0, &[Left::Over(2, 2), X0, X1], &[OVER_B, T_X0, T_X1], 1);
 // t.A(A(x0:)) -> t.x0 # 7
 const EXTENDED: Move = (0, &[OVER_A, OVER_A, X0], &[T_X0], 7);
 
+const COPYING: &[Move] = &[COPIES, TO_B, TO_C];
+
+const PASSING: &[Move] = &[PASSES, TO_B, TO_C];
+
 // The rules of a transducer, the labels and ranks of a tree in preorder, how many workers there are, or 0 for a hunt without them, a
 // limit, and what is answered.
 type Case = (
@@ -77,55 +81,31 @@ const BOTH: &str = "0 1 2 | 0 > 2 :1 :2 # 1; 1 > 3 # 0; 1 > 4 # 2; 2 > 3 # 0; 2 
 static CASES: [Case; 10] = [
     // a copy leads to one key
     (
-        &[COPIES, TO_B, TO_C],
+        COPYING,
         &[(0, 1), (1, 0)],
         0,
         14,
         "0 1 | 0 > 2 :1 :1 # 1; 1 > 3 # 0; 1 > 4 # 2; 14",
     ),
+    (COPYING, &[(0, 1), (1, 0)], 0, 13, "more than 13 parts"),
     (
-        &[COPIES, TO_B, TO_C],
-        &[(0, 1), (1, 0)],
-        0,
-        13,
-        "more than 13 parts",
-    ),
-    (
-        &[COPIES, TO_B, TO_C],
+        COPYING,
         &[(0, 1), (5, 0)],
         0,
         99,
         "0 1 | 0 > 2 :1 :1 # 1; 10",
     ),
     (
-        &[COPIES, TO_B, TO_C],
+        COPYING,
         &[(0, 1), (0, 1), (0, 1), (1, 0)],
         0,
         99,
         "0 1 2 3 | 0 > 2 :1 :1 # 1; 1 > 2 :2 :2 # 1; 2 > 2 :3 :3 # 1; 3 > 3 # 0; 3 > 4 # 2; 28",
     ),
     // every number of workers reaches the same
-    (
-        &[PASSES, TO_B, TO_C],
-        &[(2, 2), (1, 0), (1, 0)],
-        1,
-        99,
-        BOTH,
-    ),
-    (
-        &[PASSES, TO_B, TO_C],
-        &[(2, 2), (1, 0), (1, 0)],
-        2,
-        99,
-        BOTH,
-    ),
-    (
-        &[PASSES, TO_B, TO_C],
-        &[(2, 2), (1, 0), (1, 0)],
-        16,
-        99,
-        BOTH,
-    ),
+    (PASSING, &[(2, 2), (1, 0), (1, 0)], 1, 99, BOTH),
+    (PASSING, &[(2, 2), (1, 0), (1, 0)], 2, 99, BOTH),
+    (PASSING, &[(2, 2), (1, 0), (1, 0)], 16, 99, BOTH),
     // labels are asked for, and nodes are passed
     (&[ASKS_B, B_TO_C], &[(5, 2), (1, 0), (3, 0)], 0, 99, "0 | 3"),
     (

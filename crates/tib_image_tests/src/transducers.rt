@@ -70,11 +70,16 @@ fn right_items(alloc: Global, right: &[Right]) -> Option<Vec<Item<Pair<u32>>>> {
     Some(items)
 }
 
+// The right side of these items.
+fn right_side(alloc: Global, right: &[Right]) -> Option<Side<Pair<u32>>> {
+    side_of(right_items(alloc, right)?)
+}
+
 fn rule_of(alloc: Global, row: &Move) -> Option<TransducerRule<u32>> {
     let (state, left, right, cost) = row;
     let cost = Cost::new(*cost)?;
     let left = left_side(alloc, left)?;
-    let right = side_of(right_items(alloc, right)?)?;
+    let right = right_side(alloc, right)?;
     Some(TransducerRule {
         state: *state,
         left,
