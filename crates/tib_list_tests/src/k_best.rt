@@ -1,10 +1,9 @@
 // Lists of best trees of small grammars, as text: each node as its label and its number of children.
 // A label's number is its place at first sight.
-ghost use Rattle.std.specs.Prelude.{IfOk, IfSome, length};
+ghost use Rattle.std.specs.Prelude.{[], ◌≡◌, IfSome, length};
 ghost use Rattle.tib_grammar_file.specs.Printed.{AreLabelled};
 
 use std::alloc::{AllocError, Global};
-use std::test::Fail;
 use tib_cost::{Cost, MinPlus, Semiring};
 use tib_grammar_file::read_grammar;
 use tib_k_best::{KBestError, List, best_tree};
@@ -39,63 +38,75 @@ pub(crate) fn write_entry(text: &mut String, tree: &Tree, cost: Cost) -> Result<
     text.push_str("; ")
 }
 
-pub(crate) fn list_text(alloc: Global, list: &List) -> Result<String, AllocError> {
-    let mut text = String::new(alloc);
+pub(crate) fn write_list(text: &mut String, list: &List) -> Result<(), AllocError> {
     for i in 0..list.len() {
-        let tree = list.tree(alloc, i)?;
-        write_entry(&mut text, &tree, list.cost(i))?;
+        let tree = list.tree(*text.allocator(), i)?;
+        write_entry(text, &tree, list.cost(i))?;
     }
-    Ok(text)
+    Ok(())
 }
 
-// The grammar of a text, where it is in normal form, with its labels.
-pub(crate) fn read<S: Semiring + Drop>(
-    alloc: Global,
-    text: &str,
-) -> Result<Option<(Normal<S>, Labels)>, AllocError>
-    ensures { IfOk result (λ read. IfSome read (λ p. AreLabelled (length p.1) p.0.rules)) }
-{
-    let bytes = text.as_bytes();
-    let mut labels = Labels::new(alloc);
-    if bytes.len() > 10_000 {
-        return Ok(None);
-    }
-    let Ok(grammar) = read_grammar::<S>(alloc, bytes, &mut labels) else {
-        return Ok(None);
-    };
-    match Normal::new(alloc, grammar)? {
-        Some(normal) => Ok(Some((normal, labels))),
-        None => Ok(None),
-    }
-}
-
-pub(crate) fn fault_text(alloc: Global, error: KBestError) -> Result<String, AllocError> {
+pub(crate) fn write_fault(text: &mut String, error: KBestError) -> Result<(), AllocError> {
     let KBestError::TreeTooLarge { state } = error else {
         return Err(AllocError);
     };
-    let mut text = String::from_str(alloc, "too large: ")?;
-    write_number(&mut text, u64::from(state))?;
-    Ok(text)
+    text.push_str("too large: ")?;
+    write_number(text, u64::from(state))
 }
 
-pub(crate) fn answer_text(
-    alloc: Global,
+pub(crate) fn write_answer(
+    text: &mut String,
     answer: Result<List, KBestError>,
-) -> Result<String, AllocError> {
+) -> Result<(), AllocError> {
     match answer {
-        Ok(list) => list_text(alloc, &list),
-        Err(error) => fault_text(alloc, error),
+        Ok(list) => write_list(text, &list),
+        Err(error) => write_fault(text, error),
     }
 }
 
-/// The best tree of a grammar where costs are added.
-fn best_text(alloc: Global, text: &str) -> Result<String, AllocError> {
-    match read::<MinPlus>(alloc, text)? {
-        Some((normal, labels)) => {
-            answer_text(alloc, best_tree::<MinPlus>(alloc, &normal, &labels))
-        }
-        None => String::from_str(alloc, "not in normal form"),
+// The grammar of a text, where it is in normal form. Its labels go into a table that had none.
+pub(crate) fn read<S: Semiring + Drop>(
+    alloc: Global,
+    text: &str,
+    labels: &mut Labels,
+) -> Option<Normal<S>>
+    requires { labels.old ≡ [] }
+    ensures { IfSome result (λ n. AreLabelled (length labels.new) n.rules) }
+{
+    let bytes = text.as_bytes();
+    if bytes.len() > 10_000 {
+        return None;
     }
+    match read_grammar::<S>(alloc, bytes, labels) {
+        Ok(grammar) => match Normal::new(alloc, grammar) {
+            Ok(Some(normal)) => Some(normal),
+            _ => None,
+        },
+        Err(_) => None,
+    }
+}
+
+// Whether the best tree of a grammar, where costs are added, is written as it is wanted.
+fn is_best(normal: &Normal<MinPlus>, labels: &Labels, told: &mut String, want: &str) -> bool
+    requires { AreLabelled (length labels.now) normal.now.rules }
+{
+    let answer = best_tree::<MinPlus>(*told.allocator(), normal, labels);
+    write_answer(told, answer).is_ok() && told.as_str() == want
+}
+
+// The same for the grammar of a text, whose labels go into a table that had none.
+fn is_best_over(alloc: Global, text: &str, labels: &mut Labels, want: &str) -> bool
+    requires { labels.old ≡ [] }
+{
+    match read::<MinPlus>(alloc, text, labels) {
+        Some(normal) => is_best(&normal, labels, &mut String::new(alloc), want),
+        None => false,
+    }
+}
+
+// The same for the grammar of a text; false where it is not in normal form.
+fn is_best_of(alloc: Global, text: &str, want: &str) -> bool {
+    is_best_over(alloc, text, &mut Labels::new(alloc), want)
 }
 
 // A grammar, and its best tree where costs are added.
@@ -124,12 +135,10 @@ static SUMS: [(&str, &str); 6] = [
 ];
 
 #[test]
-fn best_trees(rt: HostRuntime) -> Result<(), Fail> {
+fn best_trees(rt: HostRuntime) {
     for (text, want) in &SUMS {
-        let told = best_text(rt.alloc(), text)?;
-        assert_eq!(rt; told.as_str(), *want);
+        assert!(rt; is_best_of(rt.alloc(), text, want));
     }
-    Ok(())
 }
 
 // A word and the number of a state.
@@ -147,23 +156,25 @@ fn write_doubling(text: &mut String, state: u64, next: u64) -> Result<(), AllocE
 }
 
 // States p0 to the last one, each with a rule over two of the next, and a leaf.
-fn doubling(alloc: Global, last: u8) -> Result<String, AllocError> {
-    let mut text = String::from_str(alloc, "p0\n")?;
+fn write_doublings(text: &mut String, last: u8) -> Result<(), AllocError> {
+    text.push_str("p0\n")?;
     for i in 0..last {
         let state = u64::from(i);
-        write_doubling(&mut text, state, state.wrapping_add(1))?;
+        write_doubling(text, state, state.wrapping_add(1))?;
     }
-    write_state(&mut text, "p", u64::from(last))?;
-    text.push_str(" -> a\n")?;
-    Ok(text)
+    write_state(text, "p", u64::from(last))?;
+    text.push_str(" -> a\n")
+}
+
+// Whether the best tree of the grammar of these states is written as it is wanted.
+fn is_best_of_doublings(alloc: Global, last: u8, want: &str) -> bool {
+    let mut text = String::new(alloc);
+    write_doublings(&mut text, last).is_ok() && is_best_of(alloc, text.as_str(), want)
 }
 
 #[test]
-fn a_tree_of_too_many_nodes(rt: HostRuntime) -> Result<(), Fail> {
+fn a_tree_of_too_many_nodes(rt: HostRuntime) {
     for (last, want) in [(12, "8191 nodes # 0; "), (13, "too large: 0")] {
-        let text = doubling(rt.alloc(), last)?;
-        let told = best_text(rt.alloc(), text.as_str())?;
-        assert_eq!(rt; told.as_str(), want);
+        assert!(rt; is_best_of_doublings(rt.alloc(), last, want));
     }
-    Ok(())
 }

@@ -1,15 +1,14 @@
 // Lists of best trees of grammars in deterministic form, by `lazy_k_best` and by `k_best`.
-ghost use Rattle.std.specs.Prelude.{◌≡◌, ◌<◌, IfOk, IfSome, false, length, true, ℕ};
+ghost use Rattle.std.specs.Prelude.{[], ◌≡◌, ◌+◌, ◌<◌, IfOk, IfSome, length, ℕ};
 ghost use Rattle.tib_grammar.specs.Forms.{IsDeterministic};
 ghost use Rattle.tib_grammar_file.specs.Printed.{AreLabelled};
 ghost use Rattle.tib_k_best.specs.Trimmed.{HaveTreesBelow};
 
-use crate::k_best::{answer_text, fault_text, list_text, read, write_number};
+use crate::k_best::{read, write_answer, write_fault, write_list, write_number};
 use std::alloc::{AllocError, Global};
-use std::test::Fail;
 use tib_cost::{MinPlus, Semiring};
 use tib_inside::trim_normal;
-use tib_k_best::{KBestError, LazyList, List, k_best, lazy_k_best, trimmed_has_trees};
+use tib_k_best::{LazyList, List, k_best, lazy_k_best, trimmed_has_trees};
 use tib_normal::Normal;
 use tib_tree::Labels;
 
@@ -26,44 +25,22 @@ fn trimmed_of<S: Semiring + Drop>(alloc: Global, normal: Normal<S>) -> Result<No
     Ok(trimmed)
 }
 
-// The trimmed grammar of a text, where it is in normal form, with its labels.
+// The trimmed grammar of a text, where it is in normal form. Its labels go into a table that had none.
 fn read_trimmed<S: Semiring + Drop>(
     alloc: Global,
     text: &str,
-) -> Result<Option<(Normal<S>, Labels)>, AllocError>
-    ensures labelled { IfOk result (λ read. IfSome read (λ p. AreLabelled (length p.1) p.0.rules)) }
-    ensures trimmed { IfOk result (λ read. IfSome read (λ p.
-        HaveTreesBelow S.product p.0.rules)) }
+    labels: &mut Labels,
+) -> Option<Normal<S>>
+    requires { labels.old ≡ [] }
+    ensures labelled { IfSome result (λ n. AreLabelled (length labels.new) n.rules) }
+    ensures trimmed { IfSome result (λ n. HaveTreesBelow S.product n.rules) }
 {
-    match read::<S>(alloc, text)? {
-        Some((normal, labels)) => {
-            let trimmed = trimmed_of::<S>(alloc, normal)?;
-            Ok(Some((trimmed, labels)))
-        }
-        None => Ok(None),
-    }
-}
-
-// The lists of all states, if the grammar is in deterministic form.
-fn lists_of<S: Semiring>(
-    alloc: Global,
-    normal: &Normal<S>,
-    labels: &Labels,
-    k: u32,
-) -> Result<Option<LazyList>, KBestError>
-    requires labelled { AreLabelled (length labels.now) normal.now.rules }
-    requires flat { S.LEVELLED ≡ false }
-    requires weighted { S.WEIGHTED ≡ true }
-    requires trimmed { HaveTreesBelow S.product normal.now.rules }
-    requires some { 0 < k }
-{
-    match normal.grammar().deterministic(alloc) {
-        Ok(_) => {}
-        Err(_) => return Ok(None),
-    }
-    match lazy_k_best::<S>(alloc, normal, labels, k) {
-        Ok(lists) => Ok(Some(lists)),
-        Err(error) => Err(error),
+    match read::<S>(alloc, text, labels) {
+        Some(normal) => match trimmed_of::<S>(alloc, normal) {
+            Ok(trimmed) => Some(trimmed),
+            Err(_) => None,
+        },
+        None => None,
     }
 }
 
@@ -77,53 +54,133 @@ fn nodes_of(alloc: Global, list: &List) -> Result<u64, AllocError> {
     Ok(nodes)
 }
 
-// A list as text, and whether no more entries were placed for it than states and nodes of its trees.
-fn listed(
-    alloc: Global,
+// A list, and whether no more entries were placed for it than states and nodes of its trees.
+fn write_counted(
+    told: &mut String,
+    list: &List,
+    steps: u64,
+    states: u32,
+    with_steps: bool,
+) -> Result<(), AllocError> {
+    write_list(told, list)?;
+    if with_steps {
+        told.push_str("by ")?;
+        write_number(told, steps)?;
+    }
+    let nodes = nodes_of(*told.allocator(), list)?;
+    if steps > nodes.saturating_add(u64::from(states)) {
+        told.push_str(", too many")?;
+    }
+    Ok(())
+}
+
+// The same for the start's list among those of all states.
+fn write_lists(
+    told: &mut String,
     lists: LazyList,
     states: u32,
     with_steps: bool,
-) -> Result<String, AllocError> {
+) -> Result<(), AllocError> {
     let steps = lists.steps();
-    let list = lists.into_list();
-    let mut text = list_text(alloc, &list)?;
-    if with_steps {
-        text.push_str("by ")?;
-        write_number(&mut text, steps)?;
-    }
-    let nodes = nodes_of(alloc, &list)?;
-    if steps > nodes.saturating_add(u64::from(states)) {
-        text.push_str(", too many")?;
-    }
-    Ok(text)
+    write_counted(told, &lists.into_list(), steps, states, with_steps)
 }
 
-// The k best trees of a grammar by `lazy_k_best`.
-fn lazy_text(alloc: Global, text: &str, k: u32, with_steps: bool) -> Result<String, AllocError> {
-    if k == 0 {
-        return String::from_str(alloc, "");
+// The k best trees of a grammar in deterministic form by `lazy_k_best`.
+fn write_asked(
+    told: &mut String,
+    normal: &Normal<MinPlus>,
+    labels: &Labels,
+    k: u32,
+    with_steps: bool,
+) -> Result<(), AllocError>
+    requires labelled { AreLabelled (length labels.now) normal.now.rules }
+    requires trimmed { HaveTreesBelow ◌+◌ normal.now.rules }
+    requires form { IsDeterministic normal.now.rules }
+    requires some { 0 < k }
+{
+    match lazy_k_best::<MinPlus>(*told.allocator(), normal, labels, k) {
+        Ok(lists) => write_lists(told, lists, normal.grammar().states(), with_steps),
+        Err(error) => write_fault(told, error),
     }
-    let Some((normal, labels)) = read_trimmed::<MinPlus>(alloc, text)? else {
-        return String::from_str(alloc, "not in normal form");
-    };
-    match lists_of::<MinPlus>(alloc, &normal, &labels, k) {
-        Ok(None) => String::from_str(alloc, "not in deterministic form"),
-        Ok(Some(lists)) => listed(alloc, lists, normal.grammar().states(), with_steps),
-        Err(error) => fault_text(alloc, error),
+}
+
+// The same if the grammar is in deterministic form.
+fn write_if_deterministic(
+    told: &mut String,
+    normal: &Normal<MinPlus>,
+    labels: &Labels,
+    k: u32,
+    with_steps: bool,
+) -> Result<(), AllocError>
+    requires labelled { AreLabelled (length labels.now) normal.now.rules }
+    requires trimmed { HaveTreesBelow ◌+◌ normal.now.rules }
+    requires some { 0 < k }
+{
+    match normal.grammar().deterministic(*told.allocator()) {
+        Ok(_) => write_asked(told, normal, labels, k, with_steps),
+        Err(_) => told.push_str("not in deterministic form"),
     }
+}
+
+// The same for the grammar of a text, whose labels go into a table that had none; whether it was written.
+fn is_written_over(
+    told: &mut String,
+    text: &str,
+    labels: &mut Labels,
+    k: u32,
+    with_steps: bool,
+) -> bool
+    requires labels { labels.old ≡ [] }
+    requires some { 0 < k }
+{
+    match read_trimmed::<MinPlus>(*told.allocator(), text, labels) {
+        Some(normal) => write_if_deterministic(told, &normal, labels, k, with_steps).is_ok(),
+        None => false,
+    }
+}
+
+// The k best trees of the grammar of a text by `lazy_k_best`; whether they were written.
+fn is_written_lazily(told: &mut String, text: &str, k: u32, with_steps: bool) -> bool {
+    let mut labels = Labels::new(*told.allocator());
+    k > 0 && is_written_over(told, text, &mut labels, k, with_steps)
 }
 
 // The k best trees of a grammar by `k_best`.
-fn best_text(alloc: Global, text: &str, k: u32) -> Result<String, AllocError> {
-    if k == 0 {
-        return String::from_str(alloc, "");
+fn write_best(
+    told: &mut String,
+    normal: &Normal<MinPlus>,
+    labels: &Labels,
+    k: u32,
+) -> Result<(), AllocError>
+    requires labelled { AreLabelled (length labels.now) normal.now.rules }
+    requires trimmed { HaveTreesBelow ◌+◌ normal.now.rules }
+    requires some { 0 < k }
+{
+    let answer = k_best::<MinPlus>(*told.allocator(), normal, labels, k);
+    write_answer(told, answer)
+}
+
+// The same for the grammar of a text, whose labels go into a table that had none; whether it was written.
+fn is_best_written_over(told: &mut String, text: &str, labels: &mut Labels, k: u32) -> bool
+    requires labels { labels.old ≡ [] }
+    requires some { 0 < k }
+{
+    match read_trimmed::<MinPlus>(*told.allocator(), text, labels) {
+        Some(normal) => write_best(told, &normal, labels, k).is_ok(),
+        None => false,
     }
-    match read_trimmed::<MinPlus>(alloc, text)? {
-        Some((normal, labels)) => {
-            answer_text(alloc, k_best::<MinPlus>(alloc, &normal, &labels, k))
-        }
-        None => String::from_str(alloc, "not in normal form"),
-    }
+}
+
+// The k best trees of the grammar of a text by `k_best`; whether they were written.
+fn is_written_at_once(told: &mut String, text: &str, k: u32) -> bool {
+    let mut labels = Labels::new(*told.allocator());
+    k > 0 && is_best_written_over(told, text, &mut labels, k)
+}
+
+// Whether the k best trees of the grammar of a text are written as wanted, with the entries that were placed.
+fn is_listed_as(alloc: Global, text: &str, k: u32, want: &str) -> bool {
+    let mut told = String::new(alloc);
+    is_written_lazily(&mut told, text, k, true) && told.as_str() == want
 }
 
 const TOY: &str = "q\nq -> S(q q) # 1\nq -> a # 2\n";
@@ -152,12 +209,10 @@ static LISTS: [(&str, u32, &str); 4] = [
 ];
 
 #[test]
-fn lists_and_steps(rt: HostRuntime) -> Result<(), Fail> {
+fn lists_and_steps(rt: HostRuntime) {
     for (text, k, want) in &LISTS {
-        let told = lazy_text(rt.alloc(), text, *k, true)?;
-        assert_eq!(rt; told.as_str(), *want);
+        assert!(rt; is_listed_as(rt.alloc(), text, *k, want));
     }
-    Ok(())
 }
 
 static TEXTS: [&str; 5] = [
@@ -171,40 +226,38 @@ static TEXTS: [&str; 5] = [
     "q\nq -> f(q r) # 1\nq -> e\nr -> g(q) # 2\nr -> h(r q)\nr -> k # 7\n",
 ];
 
-// Whether there are lists of a number of trees, and both are the same. A grammar that is in no normal form has none.
-fn are_same(alloc: Global, text: &str, k: u32) -> Result<bool, AllocError> {
-    let lazily = lazy_text(alloc, text, k, false)?;
-    let plainly = best_text(alloc, text, k)?;
-    Ok(lazily.as_str() == plainly.as_str() && !lazily.as_str().starts_with("not in"))
+// Whether there are lists of a number of trees, and both are the same.
+fn are_same(alloc: Global, text: &str, k: u32) -> bool {
+    let mut lazily = String::new(alloc);
+    let mut at_once = String::new(alloc);
+    is_written_lazily(&mut lazily, text, k, false)
+        && is_written_at_once(&mut at_once, text, k)
+        && lazily.as_str() == at_once.as_str()
 }
 
-// The least number of trees, below twelve, at which the two lists differ.
-fn first_difference(alloc: Global, text: &str) -> Result<Option<u32>, AllocError> {
+// Whether they are the same for each number of trees below twelve.
+fn are_always_same(alloc: Global, text: &str) -> bool {
     for k in 1..12_u32 {
-        if !are_same(alloc, text, k)? {
-            return Ok(Some(k));
+        if !are_same(alloc, text, k) {
+            return false;
         }
     }
-    Ok(None)
+    true
 }
 
 #[test]
-fn the_same_lists(rt: HostRuntime) -> Result<(), Fail> {
+fn the_same_lists(rt: HostRuntime) {
     for text in &TEXTS {
-        let difference = first_difference(rt.alloc(), text)?;
-        assert_eq!(rt; (*text, difference), (*text, None));
+        assert!(rt; are_always_same(rt.alloc(), text));
     }
-    Ok(())
 }
 
 #[test]
-fn large_trees_that_nobody_asks_for(rt: HostRuntime) -> Result<(), Fail> {
+fn large_trees_that_nobody_asks_for(rt: HostRuntime) {
     // the second tree of p has 16,384 nodes
     let text = "q\nq -> a # 1\nq -> b # 2\nq -> h(p) # 5\np -> f(y t0)\ny -> c\ny -> k(t0)\n\
         t0 -> g(t1 t1)\nt1 -> g(t2 t2)\nt2 -> g(t3 t3)\nt3 -> g(t4 t4)\nt4 -> g(t5 t5)\n\
         t5 -> g(t6 t6)\nt6 -> g(t7 t7)\nt7 -> g(t8 t8)\nt8 -> g(t9 t9)\nt9 -> g(t10 t10)\n\
         t10 -> g(t11 t11)\nt11 -> g(t12 t12)\nt12 -> e\n";
-    let found = lazy_text(rt.alloc(), text, 2, true)?;
-    assert_eq!(rt; found.as_str(), "0/0 # 1; 1/0 # 2; by 17");
-    Ok(())
+    assert!(rt; is_listed_as(rt.alloc(), text, 2, "0/0 # 1; 1/0 # 2; by 17"));
 }
