@@ -1,37 +1,50 @@
 // The best tree of small grammars, where the greatest cost counts.
-use crate::texts::{fault_text, read, write_entry};
+ghost use Rattle.std.specs.Prelude.{[], ◌≡◌, length};
+ghost use Rattle.tib_grammar_file.specs.Printed.{AreLabelled};
+
+use crate::texts::{read, write_entry, write_fault};
 use std::alloc::{AllocError, Global};
-use std::test::Fail;
 use tib_cost::Bottleneck;
 use tib_k_best::{KBestError, List, best_tree_by_levels};
+use tib_normal::Normal;
+use tib_tree::Labels;
 
-fn list_text(alloc: Global, list: &List) -> Result<String, AllocError> {
-    let mut text = String::new(alloc);
+fn write_list(text: &mut String, list: &List) -> Result<(), AllocError> {
     for i in 0..list.len() {
-        let tree = list.tree(alloc, i)?;
-        write_entry(&mut text, &tree, list.cost(i))?;
+        let tree = list.tree(*text.allocator(), i)?;
+        write_entry(text, &tree, list.cost(i))?;
     }
-    Ok(text)
+    Ok(())
 }
 
-fn answer_text(alloc: Global, answer: Result<List, KBestError>) -> Result<String, AllocError> {
+fn write_answer(text: &mut String, answer: Result<List, KBestError>) -> Result<(), AllocError> {
     match answer {
-        Ok(list) => list_text(alloc, &list),
-        Err(error) => fault_text(alloc, error),
+        Ok(list) => write_list(text, &list),
+        Err(error) => write_fault(text, error),
     }
 }
 
-/// The best tree of a grammar where the greatest cost counts.
-fn level_text(alloc: Global, text: &str) -> Result<String, AllocError> {
-    match read::<Bottleneck>(alloc, text)? {
-        Some((normal, labels)) => {
-            answer_text(
-                alloc,
-                best_tree_by_levels::<Bottleneck>(alloc, &normal, &labels),
-            )
-        }
-        None => String::from_str(alloc, "not in normal form"),
+// Whether the best tree of a grammar, where the greatest cost counts, is written as it is wanted.
+fn is_best(normal: &Normal<Bottleneck>, labels: &Labels, told: &mut String, want: &str) -> bool
+    requires { AreLabelled (length labels.now) normal.now.rules }
+{
+    let answer = best_tree_by_levels::<Bottleneck>(*told.allocator(), normal, labels);
+    write_answer(told, answer).is_ok() && told.as_str() == want
+}
+
+// The same for the grammar of a text, whose labels go into a table that had none.
+fn is_best_over(alloc: Global, text: &str, labels: &mut Labels, want: &str) -> bool
+    requires { labels.old ≡ [] }
+{
+    match read::<Bottleneck>(alloc, text, labels) {
+        Some(normal) => is_best(&normal, labels, &mut String::new(alloc), want),
+        None => false,
     }
+}
+
+// The same for the grammar of a text; false where it is not in normal form.
+fn is_best_of(alloc: Global, text: &str, want: &str) -> bool {
+    is_best_over(alloc, text, &mut Labels::new(alloc), want)
 }
 
 // A grammar, and its best tree where the greatest cost counts.
@@ -50,10 +63,8 @@ static LEVELS: [(&str, &str); 3] = [
 ];
 
 #[test]
-fn best_trees_by_levels(rt: HostRuntime) -> Result<(), Fail> {
+fn best_trees_by_levels(rt: HostRuntime) {
     for (text, want) in &LEVELS {
-        let told = level_text(rt.alloc(), text)?;
-        assert_eq!(rt; told.as_str(), *want);
+        assert!(rt; is_best_of(rt.alloc(), text, want));
     }
-    Ok(())
 }

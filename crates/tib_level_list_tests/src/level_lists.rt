@@ -1,38 +1,59 @@
 // Lists of best trees of small grammars, as text.
-ghost use Rattle.std.specs.Prelude.{◌≡◌, true};
+ghost use Rattle.std.specs.Prelude.{[], ◌≡◌, length, true};
+ghost use Rattle.tib_grammar_file.specs.Printed.{AreLabelled};
 
-use crate::texts::{fault_text, read, write_entry};
+use crate::texts::{read, write_entry, write_fault};
 use std::alloc::{AllocError, Global};
-use std::test::Fail;
 use tib_cost::{Bottleneck, Semiring, Widest};
 use tib_k_best::{KBestError, Ranked, k_best_by_levels};
+use tib_normal::Normal;
+use tib_tree::Labels;
 
-fn list_text(alloc: Global, list: &Ranked) -> Result<String, AllocError> {
-    let mut text = String::new(alloc);
+fn write_list(text: &mut String, list: &Ranked) -> Result<(), AllocError> {
     for i in 0..list.len() {
-        let tree = list.tree(alloc, i)?;
-        write_entry(&mut text, &tree, list.cost(i))?;
+        let tree = list.tree(*text.allocator(), i)?;
+        write_entry(text, &tree, list.cost(i))?;
     }
-    Ok(text)
+    Ok(())
 }
 
-fn answer_text(alloc: Global, answer: Result<Ranked, KBestError>) -> Result<String, AllocError> {
+fn write_answer(text: &mut String, answer: Result<Ranked, KBestError>) -> Result<(), AllocError> {
     match answer {
-        Ok(list) => list_text(alloc, &list),
-        Err(error) => fault_text(alloc, error),
+        Ok(list) => write_list(text, &list),
+        Err(error) => write_fault(text, error),
     }
 }
 
-/// The three best trees of a grammar.
-fn three_best<S: Semiring + Drop>(alloc: Global, text: &str) -> Result<String, AllocError>
+// Whether the three best trees of a grammar are written as they are wanted.
+fn are_best<S: Semiring>(normal: &Normal<S>, labels: &Labels, told: &mut String, want: &str) -> bool
+    requires levelled { S.LEVELLED ≡ true }
+    requires labelled { AreLabelled (length labels.now) normal.now.rules }
+{
+    let answer = k_best_by_levels::<S>(*told.allocator(), normal, labels, 3);
+    write_answer(told, answer).is_ok() && told.as_str() == want
+}
+
+// The same for the grammar of a text, whose labels go into a table that had none.
+fn are_best_over<S: Semiring + Drop>(
+    alloc: Global,
+    text: &str,
+    labels: &mut Labels,
+    want: &str,
+) -> bool
+    requires levelled { S.LEVELLED ≡ true }
+    requires labels { labels.old ≡ [] }
+{
+    match read::<S>(alloc, text, labels) {
+        Some(normal) => are_best::<S>(&normal, labels, &mut String::new(alloc), want),
+        None => false,
+    }
+}
+
+// The same for the grammar of a text; false where it is not in normal form.
+fn are_best_of<S: Semiring + Drop>(alloc: Global, text: &str, want: &str) -> bool
     requires { S.LEVELLED ≡ true }
 {
-    match read::<S>(alloc, text)? {
-        Some((normal, labels)) => {
-            answer_text(alloc, k_best_by_levels::<S>(alloc, &normal, &labels, 3))
-        }
-        None => String::from_str(alloc, "not in normal form"),
-    }
+    are_best_over::<S>(alloc, text, &mut Labels::new(alloc), want)
 }
 
 // A grammar, and its three best trees where the greatest cost counts.
@@ -56,21 +77,16 @@ static ROWS: [(&str, &str); 4] = [
 ];
 
 #[test]
-fn best_trees_by_levels(rt: HostRuntime) -> Result<(), Fail> {
+fn best_trees_by_levels(rt: HostRuntime) {
     for (text, want) in &ROWS {
-        let told = three_best::<Bottleneck>(rt.alloc(), text)?;
-        assert_eq!(rt; told.as_str(), *want);
+        assert!(rt; are_best_of::<Bottleneck>(rt.alloc(), text, want));
     }
-    Ok(())
 }
 
 #[test]
-fn widest_trees(rt: HostRuntime) -> Result<(), Fail> {
+fn widest_trees(rt: HostRuntime) {
     // a cost is what is left of 10^15 beside the weight
-    let text = three_best::<Widest>(rt.alloc(), "q\nq -> a # 7\nq -> b # 9\nq -> f(p)\np -> a\n")?;
-    assert_eq!(rt;
-        text.as_str(),
-        "2/1 0/0 # 0; 1/0 # 999999999999991; 0/0 # 999999999999993; "
-    );
-    Ok(())
+    let text = "q\nq -> a # 7\nq -> b # 9\nq -> f(p)\np -> a\n";
+    let want = "2/1 0/0 # 0; 1/0 # 999999999999991; 0/0 # 999999999999993; ";
+    assert!(rt; are_best_of::<Widest>(rt.alloc(), text, want));
 }

@@ -1,6 +1,6 @@
 // Small grammars read from texts, and trees as text: each node as its label and its number of children.
 // A label's number is its place at first sight.
-ghost use Rattle.std.specs.Prelude.{IfOk, IfSome, length};
+ghost use Rattle.std.specs.Prelude.{[], ◌≡◌, IfSome, length};
 ghost use Rattle.tib_grammar_file.specs.Printed.{AreLabelled};
 
 use std::alloc::{AllocError, Global};
@@ -38,32 +38,32 @@ pub(crate) fn write_entry(text: &mut String, tree: &Tree, cost: Cost) -> Result<
     text.push_str("; ")
 }
 
-// The grammar of a text, where it is in normal form, with its labels.
-pub(crate) fn read<S: Semiring + Drop>(
-    alloc: Global,
-    text: &str,
-) -> Result<Option<(Normal<S>, Labels)>, AllocError>
-    ensures { IfOk result (λ read. IfSome read (λ p. AreLabelled (length p.1) p.0.rules)) }
-{
-    let bytes = text.as_bytes();
-    let mut labels = Labels::new(alloc);
-    if bytes.len() > 10_000 {
-        return Ok(None);
-    }
-    let Ok(grammar) = read_grammar::<S>(alloc, bytes, &mut labels) else {
-        return Ok(None);
-    };
-    match Normal::new(alloc, grammar)? {
-        Some(normal) => Ok(Some((normal, labels))),
-        None => Ok(None),
-    }
-}
-
-pub(crate) fn fault_text(alloc: Global, error: KBestError) -> Result<String, AllocError> {
+pub(crate) fn write_fault(text: &mut String, error: KBestError) -> Result<(), AllocError> {
     let KBestError::TreeTooLarge { state } = error else {
         return Err(AllocError);
     };
-    let mut text = String::from_str(alloc, "too large: ")?;
-    write_number(&mut text, u64::from(state))?;
-    Ok(text)
+    text.push_str("too large: ")?;
+    write_number(text, u64::from(state))
+}
+
+// The grammar of a text, where it is in normal form. Its labels go into a table that had none.
+pub(crate) fn read<S: Semiring + Drop>(
+    alloc: Global,
+    text: &str,
+    labels: &mut Labels,
+) -> Option<Normal<S>>
+    requires { labels.old ≡ [] }
+    ensures { IfSome result (λ n. AreLabelled (length labels.new) n.rules) }
+{
+    let bytes = text.as_bytes();
+    if bytes.len() > 10_000 {
+        return None;
+    }
+    match read_grammar::<S>(alloc, bytes, labels) {
+        Ok(grammar) => match Normal::new(alloc, grammar) {
+            Ok(Some(normal)) => Some(normal),
+            _ => None,
+        },
+        Err(_) => None,
+    }
 }
