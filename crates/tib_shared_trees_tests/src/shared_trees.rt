@@ -2,11 +2,10 @@
 ghost use Rattle.std.specs.Prelude.{◌≤◌, length, IsTrue};
 ghost use Rattle.tib_k_best_lists.specs.Numbers.{NumbersBelow, RootsBelow};
 
-use std::alloc::{AllocError, Global};
+use std::alloc::Global;
 use std::cmp::Ordering;
-use std::test::Fail;
 use tib_k_best_lists::{Trees, label_ranks};
-use tib_tree::{Labels, read_trees};
+use tib_tree::{Labels, Node, read_trees};
 
 // Whether each number is below a count.
 fn are_below(numbers: &[u32], count: usize) -> bool
@@ -56,17 +55,27 @@ fn order_of(trees: &Trees, ranks: &[u32], one: u32, other: u32) -> Option<Orderi
     Some(trees.compare(ranks, one, other))
 }
 
-// The labels and ranks of a tree's nodes, none where it is unknown or large.
-fn nodes_of(alloc: Global, trees: &Trees, tree: u32) -> Result<Vec<(u32, u32)>, AllocError> {
-    let mut nodes = Vec::new(alloc);
+fn are_nodes(nodes: &[Node], wanted: &[(u32, u32)]) -> bool {
+    if nodes.len() != wanted.len() {
+        return false;
+    }
+    for i in 0..nodes.len() {
+        if (nodes[i].label, nodes[i].rank) != wanted[i] {
+            return false;
+        }
+    }
+    true
+}
+
+// Whether the nodes of a tree have these labels and ranks; false where it is unknown or large.
+fn has_nodes(alloc: Global, trees: &Trees, tree: u32, wanted: &[(u32, u32)]) -> bool {
     if tree as usize >= trees.len() || trees.size(tree) > 10_000 {
-        return Ok(nodes);
+        return false;
     }
-    let tree = trees.tree(alloc, tree)?;
-    for node in tree.nodes() {
-        nodes.push((node.label, node.rank))?;
+    match trees.tree(alloc, tree) {
+        Ok(tree) => are_nodes(tree.nodes(), wanted),
+        Err(_) => false,
     }
-    Ok(nodes)
 }
 
 fn size_of(trees: &Trees, tree: u32) -> u32 {
@@ -77,22 +86,28 @@ fn size_of(trees: &Trees, tree: u32) -> u32 {
 }
 
 // The ranks of the labels of a tree, numbered in the order of first sight.
-fn ranks_of(alloc: Global, bytes: &[u8]) -> Result<Vec<u32>, AllocError>
+fn ranks_of(alloc: Global, bytes: &[u8]) -> Option<Vec<u32>>
     requires { length bytes.now ≤ 8388608 }
 {
     let mut labels = Labels::new(alloc);
     match read_trees(alloc, bytes, &mut labels) {
-        Ok(_) => label_ranks(alloc, &labels),
-        Err(_) => Err(AllocError),
+        Ok(_) => label_ranks(alloc, &labels).ok(),
+        Err(_) => None,
+    }
+}
+
+fn have_ranks(alloc: Global, bytes: &[u8], wanted: &[u32]) -> bool
+    requires { length bytes.now ≤ 8388608 }
+{
+    match ranks_of(alloc, bytes) {
+        Some(ranks) => ranks.as_slice() == wanted,
+        None => false,
     }
 }
 
 #[test]
-fn labels_rank_by_their_bytes(rt: HostRuntime) -> Result<(), Fail> {
-    let alloc = rt.alloc();
-    let ranks = ranks_of(alloc, b"b(a ab \"\")")?;
-    assert_eq!(rt; ranks.as_slice(), [3u32, 1, 2, 0].as_slice());
-    Ok(())
+fn labels_rank_by_their_bytes(rt: HostRuntime) {
+    assert!(rt; have_ranks(rt.alloc(), b"b(a ab \"\")", &[3, 1, 2, 0]));
 }
 
 // The numbers of a, b, f(a b), f(b a), f(a b) again and f(f(a b) a).
@@ -114,30 +129,48 @@ static ORDERS: [(u32, u32, Ordering); 4] = [
     (3, 3, Ordering::Equal),
 ];
 
-#[test]
-fn trees_share_what_stands_below_them(rt: HostRuntime) -> Result<(), Fail> {
-    let mut trees = Trees::new(rt.alloc());
-    let numbers = insert_all(&mut trees);
-    assert_eq!(rt;
-        numbers,
-        [Some(0), Some(1), Some(2), Some(3), Some(2), Some(4)]
-    );
-    let ranks = ranks_of(rt.alloc(), b"f(b a)")?;
+fn are_ordered(trees: &Trees, ranks: &[u32]) -> bool {
     for (one, other, want) in &ORDERS {
-        assert_eq!(rt; order_of(&trees, &ranks, *one, *other), Some(*want));
+        if order_of(trees, ranks, *one, *other) != Some(*want) {
+            return false;
+        }
     }
-    Ok(())
+    true
+}
+
+// Whether trees that were inserted have these orders.
+fn have_orders(alloc: Global, trees: &Trees) -> bool {
+    match ranks_of(alloc, b"f(b a)") {
+        Some(ranks) => are_ordered(trees, &ranks),
+        None => false,
+    }
+}
+
+static NUMBERS: [Option<u32>; 6] = [Some(0), Some(1), Some(2), Some(3), Some(2), Some(4)];
+
+// Whether all trees get their numbers and have their orders.
+fn are_shared(alloc: Global) -> bool {
+    let mut trees = Trees::new(alloc);
+    insert_all(&mut trees) == NUMBERS && have_orders(alloc, &trees)
+}
+
+#[test]
+fn trees_share_what_stands_below_them(rt: HostRuntime) {
+    assert!(rt; are_shared(rt.alloc()));
 }
 
 // The labels and ranks of f(f(a b) a).
-const DEEP: [(u32, u32); 5] = [(0, 2), (0, 2), (2, 0), (1, 0), (2, 0)];
+static DEEP: [(u32, u32); 5] = [(0, 2), (0, 2), (2, 0), (1, 0), (2, 0)];
+
+// Whether the last tree has the number 4, five nodes, and these labels and ranks.
+fn is_deep_given(alloc: Global) -> bool {
+    let mut trees = Trees::new(alloc);
+    insert_all(&mut trees)[5] == Some(4)
+        && size_of(&trees, 4) == 5
+        && has_nodes(alloc, &trees, 4, &DEEP)
+}
 
 #[test]
-fn a_tree_is_given_with_its_nodes(rt: HostRuntime) -> Result<(), Fail> {
-    let mut trees = Trees::new(rt.alloc());
-    let deep = insert_all(&mut trees)[5];
-    assert_eq!(rt; (deep, size_of(&trees, 4)), (Some(4), 5));
-    let nodes = nodes_of(rt.alloc(), &trees, 4)?;
-    assert_eq!(rt; nodes.as_slice(), DEEP.as_slice());
-    Ok(())
+fn a_tree_is_given_with_its_nodes(rt: HostRuntime) {
+    assert!(rt; is_deep_given(rt.alloc()));
 }
