@@ -6,6 +6,7 @@ use Rattle.std.specs.declared.cmp.Ordering.TheVariants.{Less}
 use Rattle.tib_cost.specs.declared.Scale.TheVariants.{Unweighted}
 use Rattle.tib_cost.specs.Semiring.{boolean_laws}
 use Rattle.tib_lex.specs.Lists.{Has}
+use Rattle.tib_lex.proofs.Booleans.{bool_cases}
 use Rattle.tib_lex.proofs.Lists.{has_mapped}
 use Rattle.tib_lex.proofs.Members.{has_at, at_has, has_either}
 use Rattle.tib_tree.specs.Grows.{AreDistinct}
@@ -41,7 +42,6 @@ use Rattle.tib_compare.proofs.Answering.{told_in_one, agree_unless, same_answer,
 use Rattle.tib_compare.proofs.Bounds.{cost_runs, run_at}
 use Rattle.tib_compare.proofs.OneAnswer.{one_first}
 use Rattle.tib_compare.proofs.Ordering.{not_both_before}
-use Rattle.tib_compare.proofs.Reading.{bool_two}
 use Rattle.tib_operations.proofs.BestExists.{first_there}
 use Rattle.tib_operations.proofs.PlainVectors.{vector_same, vectors_plain}
 
@@ -113,7 +113,7 @@ none_more second v order e n (suc k) h = n k (omega (arith, h))
 
 some_or_none : (second : ℕ) (order : List VectorOf) → SomeDiffers second order ⊎ NoneDiffers second order
 some_or_none second [] = inr (λ k h. absurd (omega (arith, h)))
-some_or_none second (v ∷ order) = elim (bool_two (differs second v)) [
+some_or_none second (v ∷ order) = elim (bool_cases (differs second v)) [
   | inl t ↦ inl (0, omega arith, t)
   | inr f ↦ elim (some_or_none second order) [ inl m ↦ inl (suc m.0, omega (arith, m.1), m.2) | inr n ↦ inr (none_more second v order f n) ]
 ]
