@@ -344,18 +344,18 @@ fn runs_with_faults<R: Threads + Wait + Sync>(rt: &R, alloc: Global, row: &Row) 
     runs_throughout(rt, alloc, row, 7) && runs_throughout(rt, alloc, row, SOUND.most)
 }
 
-// Whether the rows run as they should: whole and in pieces, with each call failing, by several workers, with room for all their
-// text or not, and with a log that takes nothing. Which row does not, `tools/worked-rows` tells of the built program.
-fn all_run<R: Threads + Wait + Sync>(rt: &R, alloc: Global, rows: &[Row]) -> bool {
-    for row in rows {
+// The first row that does not run as it should: whole and in pieces, with each call failing, by several workers, with room for
+// all its text or not, and with a log that takes nothing.
+fn first_wrong<R: Threads + Wait + Sync>(rt: &R, alloc: Global, rows: &[Row]) -> Option<usize> {
+    for (number, row) in rows.iter().enumerate() {
         if !runs_with_faults(rt, alloc, row) || !runs_otherwise(rt, alloc, row) {
-            return false;
+            return Some(number);
         }
         if !fills(rt, alloc, row) || !ends_untold(rt, alloc, row) {
-            return false;
+            return Some(number);
         }
     }
-    true
+    None
 }
 
 // Each table stands in a function of its own: a proof is dear in which several are in view, or one of more than some 24 rows.
@@ -447,59 +447,59 @@ fn demonstrated() -> &'static [Row] {
 
 #[test]
 fn trees_are_weighed_as_worked_out(rt: HostRuntime) {
-    assert!(rt; all_run(&rt, rt.alloc(), weighed()));
-    assert!(rt; all_run(&rt, rt.alloc(), weighed_others()));
+    assert_eq!(rt; first_wrong(&rt, rt.alloc(), weighed()), None);
+    assert_eq!(rt; first_wrong(&rt, rt.alloc(), weighed_others()), None);
 }
 
 #[test]
 fn operations_on_one_file_are_as_worked_out(rt: HostRuntime) {
-    assert!(rt; all_run(&rt, rt.alloc(), one_file()));
-    assert!(rt; all_run(&rt, rt.alloc(), pruned()));
+    assert_eq!(rt; first_wrong(&rt, rt.alloc(), one_file()), None);
+    assert_eq!(rt; first_wrong(&rt, rt.alloc(), pruned()), None);
 }
 
 #[test]
 fn cheapest_trees_are_as_worked_out(rt: HostRuntime) {
-    assert!(rt; all_run(&rt, rt.alloc(), listed()));
-    assert!(rt; all_run(&rt, rt.alloc(), listed_others()));
+    assert_eq!(rt; first_wrong(&rt, rt.alloc(), listed()), None);
+    assert_eq!(rt; first_wrong(&rt, rt.alloc(), listed_others()), None);
 }
 
 #[test]
 fn classes_are_told_as_worked_out(rt: HostRuntime) {
-    assert!(rt; all_run(&rt, rt.alloc(), checked()));
+    assert_eq!(rt; first_wrong(&rt, rt.alloc(), checked()), None);
 }
 
 #[test]
 fn intersections_are_as_worked_out(rt: HostRuntime) {
-    assert!(rt; all_run(&rt, rt.alloc(), intersected()));
+    assert_eq!(rt; first_wrong(&rt, rt.alloc(), intersected()), None);
 }
 
 #[test]
 fn outputs_and_inputs_of_a_transducer_are_as_worked_out(rt: HostRuntime) {
-    assert!(rt; all_run(&rt, rt.alloc(), forward()));
-    assert!(rt; all_run(&rt, rt.alloc(), backward()));
+    assert_eq!(rt; first_wrong(&rt, rt.alloc(), forward()), None);
+    assert_eq!(rt; first_wrong(&rt, rt.alloc(), backward()), None);
 }
 
 #[test]
 fn compositions_and_images_are_as_worked_out(rt: HostRuntime) {
-    assert!(rt; all_run(&rt, rt.alloc(), composed()));
-    assert!(rt; all_run(&rt, rt.alloc(), imaged()));
+    assert_eq!(rt; first_wrong(&rt, rt.alloc(), composed()), None);
+    assert_eq!(rt; first_wrong(&rt, rt.alloc(), imaged()), None);
 }
 
 #[test]
 fn trees_of_a_string_and_supports_are_as_worked_out(rt: HostRuntime) {
-    assert!(rt; all_run(&rt, rt.alloc(), parsed()));
-    assert!(rt; all_run(&rt, rt.alloc(), compared()));
+    assert_eq!(rt; first_wrong(&rt, rt.alloc(), parsed()), None);
+    assert_eq!(rt; first_wrong(&rt, rt.alloc(), compared()), None);
 }
 
 #[test]
 fn the_mode_widest_and_determinizations_are_as_worked_out(rt: HostRuntime) {
-    assert!(rt; all_run(&rt, rt.alloc(), widest()));
-    assert!(rt; all_run(&rt, rt.alloc(), determinized()));
+    assert_eq!(rt; first_wrong(&rt, rt.alloc(), widest()), None);
+    assert_eq!(rt; first_wrong(&rt, rt.alloc(), determinized()), None);
 }
 
 #[test]
 fn the_rows_on_demo_run(rt: HostRuntime) {
-    assert!(rt; all_run(&rt, rt.alloc(), demonstrated()));
+    assert_eq!(rt; first_wrong(&rt, rt.alloc(), demonstrated()), None);
     assert!(rt; runs(&rt, rt.alloc(), &SEVEN, &SOUND));
 }
 
