@@ -1,4 +1,4 @@
-"""Proves nothing: what scripts share of reading the worked rows of crates/tib_run_tests."""
+"""Reads the worked rows of crates/tib_run_tests, for several scripts. It proves nothing."""
 import glob
 import re
 

@@ -1,6 +1,7 @@
-"""Proves nothing: what the converters share of reading and writing the program's files, as docs/FORMATS.md says them.
+"""Reads and writes the program's files for the converters, as docs/FORMATS.md defines them.
 
-Texts are bytes, held as str of one character a byte (latin-1), so no byte of a label is changed.
+Texts are bytes, kept as str of one character a byte (latin-1), so no byte of a label changes. The
+module proves nothing.
 """
 import re
 import sys
@@ -20,7 +21,7 @@ class Fault(Exception):
 
 
 class Label:
-    """A token that is a name or quoted."""
+    """A token that is a name, or quoted."""
 
     __slots__ = ("text", "quoted")
 
@@ -29,7 +30,7 @@ class Label:
 
 
 class Tree:
-    """A label, what stands below it, and whether a bracket follows the label."""
+    """A label, the trees below it, and whether a bracket follows the label."""
 
     __slots__ = ("label", "below", "is_head")
 
@@ -64,7 +65,7 @@ def is_arrow(token):
 
 
 def tree_of(tokens, number):
-    """Returns the one tree that the tokens are."""
+    """Returns the one tree that the tokens spell."""
     open_heads, root, count = [], None, 0
     for place, token in enumerate(tokens):
         if isinstance(token, Label) and not is_arrow(token) and (open_heads or root is None):
@@ -91,14 +92,15 @@ def tree_of(tokens, number):
 
 
 def text_of_label(text, also=False):
-    """Returns the label as it stands in a file: in quotes where it must be, or where `also` says so."""
+    """Returns the label as it is written in a file: in quotes if it needs them or `also` says
+    so."""
     if text and not also and text != "->" and re.fullmatch(rf"{NAME}+", text):
         return text
     return '"' + re.sub(r'(["\\])', r"\\\1", text) + '"'
 
 
 def text_of_tree(tree):
-    """Returns the tree as it stands in a tree file."""
+    """Returns the tree as it is written in a tree file."""
     pieces, rest = [], [tree]
     while rest:
         it = rest.pop()
@@ -117,7 +119,7 @@ def text_of_tree(tree):
 
 
 def trees_of(text):
-    """Yields the number of its line and the tree for each tree of a tree file."""
+    """Yields each tree of a tree file, with the number of its line before it."""
     for number, line in enumerate(text.split("\n"), 1):
         tokens = tokens_of(line, number)
         if tokens:
@@ -132,7 +134,8 @@ def start_of(tokens, number):
 
 
 def rules_of(text):
-    """Returns the start, and for each rule the number of its line, its left tokens, its right tree and its weight as written, or None."""
+    """Returns the start, and for each rule the number of its line, its left-hand tokens, its
+    right-hand tree, and its weight or None."""
     start, rules = None, []
     for number, line in enumerate(text.split("\n"), 1):
         tokens = tokens_of(line, number)
@@ -156,14 +159,14 @@ def rules_of(text):
 
 
 def weight_of(tokens, number):
-    """Returns the weight that stands behind a `#`."""
+    """Returns the weight after a `#`."""
     if len(tokens) != 1 or not isinstance(tokens[0], Label) or tokens[0].quoted:
         raise Fault(number, "bad rule")
     return whole(tokens[0].text, number)
 
 
 def whole(text, number):
-    """Returns the whole number that a weight's text says."""
+    """Returns the whole number of a weight's text."""
     found = WEIGHT.fullmatch(text)
     if not found:
         raise Fault(number, "weight is not a whole number")
@@ -173,7 +176,8 @@ def whole(text, number):
 
 
 def convert(conversion, names):
-    """Reads the one file that is named, or standard input, converts its text, and writes the lines. Returns the exit status."""
+    """Reads the named file, or standard input, converts its text, and writes the lines. Returns the
+    exit status."""
     tool = sys.argv[0].rpartition("/")[2]
     try:
         if names:

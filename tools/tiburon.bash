@@ -1,9 +1,10 @@
-# Completion of tiburon's options, modes, operations and files for bash. `make install` puts it where bash-completion looks.
+# Bash completion of tiburon's options, modes, operations and files. `make install` puts it where
+# bash-completion looks.
 _tiburon() {
     local current=${COMP_WORDS[COMP_CWORD]} before=${COMP_WORDS[COMP_CWORD - 1]} operation='' word place skip=0 only_words=0
     local operations='weigh inside normal kbest intersect check forward backward compose image parse compare determinize prune demo'
     COMPREPLY=()
-    # The words in front of this one: which operation stands there, and whether `--` has ended the options.
+    # The words before this one: which operation they name, and whether `--` has ended the options.
     for ((place = 1; place < COMP_CWORD; place++)); do
         word=${COMP_WORDS[place]}
         if ((skip)); then
