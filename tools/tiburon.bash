@@ -1,5 +1,5 @@
-# Completion of tiburon's options, modes, operations and files for bash. `make install` installs it
-# where bash-completion looks.
+# Bash completion of tiburon's options, modes, operations and files. `make install` puts it where
+# bash-completion looks.
 _tiburon() {
     local current=${COMP_WORDS[COMP_CWORD]} before=${COMP_WORDS[COMP_CWORD - 1]} operation='' word place skip=0 only_words=0
     local operations='weigh inside normal kbest intersect check forward backward compose image parse compare determinize prune demo'
