@@ -1,5 +1,5 @@
 # What people type. `make` proves what the program needs and leaves bin/tiburon.
-.PHONY: build run try test bench install dist clean
+.PHONY: build run try test edits bench install dist clean
 
 build:
 	@tools/build
@@ -8,22 +8,21 @@ build:
 run: build
 	@tools/show bin/tiburon
 
-# The program without any proof, for a first look: make try weigh examples/toy.grammar examples/toy.trees
-ifeq (try,$(firstword $(MAKECMDGOALS)))
-WORDS := $(wordlist 2,$(words $(MAKECMDGOALS)),$(MAKECMDGOALS))
-.PHONY: $(WORDS)
-$(eval $(WORDS):;@:)
-endif
+# The program without any proof, on an example. tools/try takes the words of any command line.
 try:
-	@tools/try $(WORDS)
+	@tools/try weigh examples/toy.grammar examples/toy.trees
 
 test:
 	@.ci/run
 
+# Tries the edits that must fail and records by what each was refused. `make test` tries a few of them.
+edits:
+	@tools/edits --all
+
 bench: build
 	@python3 bench/bench.py bin/tiburon
 
-# The program, its manual page and its completion for bash, below PREFIX; DESTDIR stands before it where packages are made.
+# The program, its manual page and its completion for bash, below PREFIX; packages set DESTDIR too.
 PREFIX ?= /usr/local
 install: bin/tiburon
 	install -d $(DESTDIR)$(PREFIX)/bin $(DESTDIR)$(PREFIX)/share/man/man1 $(DESTDIR)$(PREFIX)/share/bash-completion/completions
