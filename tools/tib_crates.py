@@ -51,9 +51,11 @@ def copied(names):
 
 
 def environment():
-    """Returns the environment for checks: with large pages of memory, which take a tenth off their
-    time, unless the caller has set malloc's own way."""
-    return {"GLIBC_TUNABLES": "glibc.malloc.hugetlb=1", **os.environ}
+    """Returns the environment for rt, in which the caller's own settings stay. Large pages of memory
+    take a tenth off the time of a check. As many checks run as there are processors: by its own
+    estimate of memory, several times what a check takes, rt would leave some of them idle."""
+    processors = str(len(os.sched_getaffinity(0)))
+    return {"GLIBC_TUNABLES": "glibc.malloc.hugetlb=1", "RT_JOBS": processors, **os.environ}
 
 
 def processes():
