@@ -1,15 +1,16 @@
-//! Tests of the constructions of transducers: application and composition.
+//! Tests of constructions from grammars: intersection, determinization, the matches of a side, and
+//! the canonical forms of grammars and transducers.
 #![tactic(auto)]
 
 #[cfg(test)]
-mod applications;
+mod determinize;
 #[cfg(test)]
-mod backward;
-#[cfg(test)]
-mod compositions;
-#[cfg(test)]
-mod forward;
+mod forms;
 #[cfg(test)]
 mod grammars;
+#[cfg(test)]
+mod intersect;
+#[cfg(test)]
+mod matches;
 #[cfg(test)]
 mod transducers;

@@ -1,100 +1,119 @@
-// Small transducers by their rules.
-use crate::grammars::names;
-use std::alloc::Global;
-use tib_cost::{Cost, MinPlus};
-use tib_grammar::{Item, Side};
-use tib_transducer::{Pair, Transducer, TransducerRule, Variable};
-use tib_tree::Label;
+// Canonical transducers, as text.
+ghost use Rattle.std.specs.Prelude.{◌≡◌, ◌<◌, ◌^◌, length, IfOk};
+ghost use Rattle.tib_lex.specs.Lists.{Distinct};
+ghost use Rattle.tib_canon.specs.TransducerKeys.{AreMovesOver};
+ghost use Rattle.tib_transducer_file.specs.Labelled.{AreLabelled};
 
-/// An item of a side.
-#[derive(Clone, Copy)]
-pub enum Node {
-    /// A label over this many children.
-    Over(Label, u32),
-    /// On the left, the variable of this number.
-    Plain(u32),
-    /// On the left, the variable of this number, which asks for a label.
-    Asks(u32, Label),
-    /// On the right, a state and the number of the variable that is read on from it.
-    Reads(u32, u32),
-    /// In a rule of what is reached, a position.
-    At(u32),
+use std::alloc::{AllocError, Global};
+use std::test::Fail;
+use tib_canon::{PrintedTransducer, to_transducer};
+use tib_cost::{MinPlus, Semiring};
+use tib_hunt::Found;
+use tib_io::GrowingSink;
+use tib_keyed::StatePair;
+use tib_transducer::TransducerRule;
+use tib_transducer_file::{print_transducer, read_transducer};
+use tib_tree::Labels;
+
+// Three keys in an order that does not ascend.
+fn three_keys(alloc: Global) -> Result<Vec<StatePair>, AllocError>
+    ensures three { IfOk result (λ v. length v.items ≡ 3) }
+    ensures distinct { IfOk result (λ v. Distinct v.items) }
+{
+    let mut keys = Vec::new(alloc);
+    keys.push(StatePair::new(9, 0))?;
+    keys.push(StatePair::new(2, 0))?;
+    keys.push(StatePair::new(7, 0))?;
+    Ok(keys)
 }
 
-/// A rule of a transducer: its state, its two sides and its cost.
-pub type Move = (u32, &'static [Node], &'static [Node], u64);
-
-fn hole(number: u32, label: Option<Label>) -> Item<Variable> {
-    Item::Hole(Variable { number, label })
+// The rules of the transducer of a text, which has three states.
+fn rules_in<S: Semiring>(
+    alloc: Global,
+    text: &[u8],
+    labels: &mut Labels,
+) -> Result<Vec<TransducerRule<u32>>, AllocError>
+    requires { length labels.old ≡ 0 }
+    ensures few { IfOk result (λ v. length v.items < 2 ^ 32) }
+    ensures moves { IfOk result (λ v. AreMovesOver S.SCALE labels.new 3 v.items) }
+{
+    if text.len() > 100_000 {
+        return Err(AllocError);
+    }
+    let transducer = match read_transducer::<S>(alloc, text, labels) {
+        Ok(transducer) => transducer,
+        Err(_) => return Err(AllocError),
+    };
+    transducer.is_sound();
+    if transducer.states() != 3 {
+        return Err(AllocError);
+    }
+    let (_, rules) = transducer.into_parts();
+    Ok(rules)
 }
 
-fn left_item(node: Node) -> Option<Item<Variable>> {
-    match node {
-        Node::Over(label, rank) => Some(Item::Label { label, rank }),
-        Node::Plain(number) => Some(hole(number, None)),
-        Node::Asks(number, label) => Some(hole(number, Some(label))),
-        _ => None,
+// The text of a form, which is what its transducer prints.
+fn printed<S: Semiring>(
+    alloc: Global,
+    form: &PrintedTransducer<S>,
+    labels: &Labels,
+) -> Result<Vec<u8>, AllocError>
+    requires { AreLabelled (length labels.now) form.now.transducer.rules }
+{
+    let mut sink = GrowingSink::new(alloc);
+    let Ok(()) = print_transducer(&form.transducer, labels, &mut sink) else {
+        return Err(AllocError);
+    };
+    if sink.bytes() != form.text.bytes() {
+        return Err(AllocError);
     }
+    sink.bytes().to_vec(alloc)
 }
 
-fn right_item(node: Node) -> Option<Item<Pair<u32>>> {
-    match node {
-        Node::Over(label, rank) => Some(Item::Label { label, rank }),
-        Node::Reads(state, variable) => Some(Item::Hole(Pair { state, variable })),
-        _ => None,
-    }
+// The canonical transducer over the three keys with the rules of a text, as it is printed.
+fn answer<S: Semiring>(alloc: Global, text: &[u8], start: u32) -> Result<Vec<u8>, AllocError>
+    requires { start < 3 }
+{
+    let order = three_keys(alloc)?;
+    let mut labels = Labels::new(alloc);
+    let rules = rules_in::<S>(alloc, text, &mut labels)?;
+    let found = Found {
+        order,
+        rules,
+        parts: 0,
+    };
+    let form = to_transducer::<S, StatePair>(alloc, found, start, &labels)?;
+    printed(alloc, &form, &labels)
 }
 
-/// The left side of these items; none where memory is refused.
-pub fn left_side(alloc: Global, nodes: &[Node]) -> Option<Side<Variable>> {
-    let mut items = Vec::new(alloc);
-    for node in nodes {
-        items.push(left_item(*node)?).ok()?;
+const MOVES: &[u8] =
+    b"q\nq.f(x0:) -> g(r.x0) # 3\nr.a -> b # 1\nr.a -> b # 2\nq.f(x0:b) -> g(s.x0) # 5\ns.c -> d # 0\n";
+
+// A start, and what is printed of the canonical transducer.
+static FORMS: [(u32, &[u8]); 2] = [
+    (
+        0,
+        b"q0\nq0.f(x0:) -> g(q1.x0) # 3\nq0.f(x0:b) -> g(q2.x0) # 5\nq1.a -> b # 1\nq2.c -> d # 0\n",
+    ),
+    (
+        1,
+        b"q0\nq0.a -> b # 1\nq1.c -> d # 0\nq2.f(x0:) -> g(q0.x0) # 3\nq2.f(x0:b) -> g(q1.x0) # 5\n",
+    ),
+];
+
+// Whether this is printed of the canonical transducer of these moves with a start.
+fn prints(alloc: Global, start: u32, want: &[u8]) -> Result<bool, AllocError> {
+    if start >= 3 {
+        return Err(AllocError);
     }
-    if items.len() > 99 {
-        return None;
-    }
-    Side::from_preorder(items).ok()
+    let found = answer::<MinPlus>(alloc, MOVES, start)?;
+    Ok(found.as_slice() == want)
 }
 
-fn right_side(alloc: Global, nodes: &[Node]) -> Option<Side<Pair<u32>>> {
-    let mut items = Vec::new(alloc);
-    for node in nodes {
-        items.push(right_item(*node)?).ok()?;
+#[test]
+fn states_are_keys_and_equal_rules_are_merged(rt: HostRuntime) -> Result<(), Fail> {
+    for (start, want) in &FORMS {
+        assert!(rt; prints(rt.alloc(), *start, want)?);
     }
-    if items.len() > 99 {
-        return None;
-    }
-    Side::from_preorder(items).ok()
-}
-
-fn rule(alloc: Global, one: &Move) -> Option<TransducerRule<u32>> {
-    let (state, left, right, cost) = one;
-    let cost = Cost::new(*cost)?;
-    let left = left_side(alloc, left)?;
-    let right = right_side(alloc, right)?;
-    Some(TransducerRule {
-        state: *state,
-        left,
-        right,
-        cost,
-    })
-}
-
-/// The rules of these moves; none where memory is refused.
-pub fn rules(alloc: Global, moves: &[Move]) -> Option<Vec<TransducerRule<u32>>> {
-    let mut rules = Vec::new(alloc);
-    for one in moves {
-        rules.push(rule(alloc, one)?).ok()?;
-    }
-    Some(rules)
-}
-
-/// The transducer of these rules, whose start is the state 0; none where memory is refused.
-pub fn transducer(alloc: Global, moves: &[Move]) -> Option<Transducer<MinPlus>> {
-    let rules = rules(alloc, moves)?;
-    if rules.len() > 99 {
-        return None;
-    }
-    Transducer::new(names(alloc)?, rules)
+    Ok(())
 }

@@ -1,9 +1,18 @@
-//! Tests of hunts: small ones by hand, many keys, several workers.
+//! Tests of hunts and of what their workers share: the lock by turns, the table of keys, the crew
+//! over items, small hunts, many keys, several workers.
 #![tactic(auto)]
 
+#[cfg(test)]
+mod crew;
+#[cfg(test)]
+mod keys;
 #[cfg(test)]
 mod small;
 #[cfg(test)]
 mod strands;
+#[cfg(test)]
+mod table;
+#[cfg(test)]
+mod turn;
 #[cfg(test)]
 mod workers;

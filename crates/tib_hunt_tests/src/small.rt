@@ -209,7 +209,8 @@ pub(crate) fn has_sizes<K, R>(found: &Found<K, R>, keys: usize, rules: usize, pa
     found.order.len() == keys && found.rules.len() == rules && found.parts == parts
 }
 
-// Whether seven parts are room for what an operation reaches, and that has two keys, two rules and seven parts.
+// Whether seven parts are room for what an operation reaches, and that has two keys, two rules and
+// seven parts.
 fn finds_seven_parts<E: Expand>(alloc: Global, problem: &E) -> bool {
     match hunt_alone(alloc, problem, 7, &Open) {
         Ok(found) => has_sizes(&found, 2, 2, 7),
@@ -237,8 +238,9 @@ fn sevens_have_more_than_six_parts(rt: HostRuntime) {
     assert!(rt; exceeds(rt.alloc(), &Sevens, 6));
 }
 
-/// An operation whose seed is the node 1, and of which each of the first four positions n has one edge, to the nodes 15 + n and 18 - n. The first round appends
-/// 15 and 18, of which 18 has the lower shelf. The second sees 16 and 17 twice, and the third ends at known keys alone.
+/// An operation whose seed is the node 1, and of which each of the first four positions n has one
+/// edge, to the nodes 15 + n and 18 - n. The first round appends 15 and 18, of which 18 has the
+/// lower shelf. The second sees 16 and 17 twice, and the third ends at known keys alone.
 struct Fans;
 
 impl Expand for Fans {
@@ -336,7 +338,8 @@ impl Expand for Fans {
 // The edge of a position.
 fn fan(alloc: Global, n: u32) -> Result<Edges<Node, (Place, Place)>, ExpandError>
     requires { n < 4 }
-    ensures ends { IfOk result (λ r. r.ends.items ≡ record { number = 15 + n } ∷ record { number = 18 - n } ∷ []) }
+    ensures ends { IfOk result (λ r. r.ends.items ≡ record { number = 15 + n } ∷ record
+        { number = 18 - n } ∷ []) }
     ensures rules { IfOk result (λ r. r.rules.items ≡ (Place.End 0, Place.End 1) ∷ []) }
     ensures parts { IfOk result (λ r. r.parts ≡ 1) }
     ensures error { IfErr result (λ e. e ≡ ExpandError.OutOfMemory) }

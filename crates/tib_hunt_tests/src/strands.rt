@@ -1,5 +1,6 @@
-//! Hunts of more keys than 65,536, in many rounds of two items and in a few of many, with the passes of their gate; and hunts that must agree:
-//! on shelves and on one list, by one worker and by several.
+//! Hunts of more keys than 65,536, in many rounds of two items and in a few of many, with the
+//! passes of their gate; and hunts that must agree: on shelves and on one list, by one worker and
+//! by several.
 ghost use Rattle.std.specs.Prelude.{◌≡◌, ◌<◌, ◌≤◌, ◌+◌, ◌*◌, [], ◌∷◌, IfOk, IfErr};
 ghost use Rattle.tib_hunt.specs.Reached.{most_parts};
 ghost use Rattle.tib_hunt.specs.declared.place.Place.{Place};
@@ -15,9 +16,10 @@ use tib_hunt::{
 };
 use tib_table::TableKey;
 
-/// An operation whose seed is the node 0, and of which each position n below the length has one edge, to the nodes `times` * n + 1 and
-/// `times` * n + 2. So the order is that of all numbers; at `times` 1 each round but the first has two items, and at 2 it has twice as many as
-/// the one before.
+/// An operation whose seed is the node 0, and of which each position n below the length has one
+/// edge, to the nodes `times` * n + 1 and `times` * n + 2. So the order is that of all numbers; at
+/// `times` 1 each round but the first has two items, and at 2 it has twice as many as the one
+/// before.
 #[derive(Drop)]
 struct Strands {
     times: u32,

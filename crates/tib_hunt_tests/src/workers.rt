@@ -1,4 +1,5 @@
-//! Hunts by several workers: two expand a round of two items side by side, and an item for which a worker finds no memory isn't lost.
+//! Hunts by several workers: two expand a round of two items side by side, and an item for which a
+//! worker finds no memory isn't lost.
 
 ghost use Rattle.std.specs.Cmp.{partial_order_from_own_ties};
 ghost use Rattle.std.specs.Cmp.Rules.{comparing, hashing};
@@ -108,8 +109,9 @@ impl<'a> TableKey for Flagged<'a> {
     ghost same = { λ x y e. Prim.search (rules, nat_tests) };
 }
 
-/// An operation over numbers: the seeds 0 and 1, and from each number an edge, which ends at 2 where it comes from 0, and else at no key. Where
-/// it is told to wait, 0 waits until 1 is being expanded, and 1 until 2 is numbered. The first expansions are refused, as many as it is told.
+/// An operation over numbers: the seeds 0 and 1, and from each number an edge, which ends at 2
+/// where it comes from 0, and else at no key. Where it is told to wait, 0 waits until 1 is being
+/// expanded, and 1 until 2 is numbered. The first expansions are refused, as many as it is told.
 #[derive(Drop)]
 struct Meeting<'a> {
     numbered: &'a AtomicU64,

@@ -4,7 +4,7 @@ ghost use Rattle.tib_grammar.specs.Forms.{IsDeterministic};
 ghost use Rattle.tib_grammar_file.specs.Printed.{AreLabelled};
 ghost use Rattle.tib_k_best.specs.Trimmed.{HaveTreesBelow};
 
-use crate::k_best::{read, write_answer, write_fault, write_list, write_number};
+use crate::texts::{read, write_answer, write_fault, write_list, write_number};
 use std::alloc::{AllocError, Global};
 use tib_cost::{MinPlus, Semiring};
 use tib_inside::trim_normal;
@@ -25,7 +25,8 @@ fn trimmed_of<S: Semiring + Drop>(alloc: Global, normal: Normal<S>) -> Result<No
     Ok(trimmed)
 }
 
-// The trimmed grammar of a text, where it is in normal form. Its labels go into a table that had none.
+// The trimmed grammar of a text, where it is in normal form. Its labels go into a table that had
+// none.
 fn read_trimmed<S: Semiring + Drop>(
     alloc: Global,
     text: &str,
@@ -122,7 +123,8 @@ fn write_if_deterministic(
     }
 }
 
-// The same for the grammar of a text, whose labels go into a table that had none; whether it was written.
+// The same for the grammar of a text, whose labels go into a table that had none; whether it was
+// written.
 fn is_written_over(
     told: &mut String,
     text: &str,
@@ -160,7 +162,8 @@ fn write_best(
     write_answer(told, answer)
 }
 
-// The same for the grammar of a text, whose labels go into a table that had none; whether it was written.
+// The same for the grammar of a text, whose labels go into a table that had none; whether it was
+// written.
 fn is_best_written_over(told: &mut String, text: &str, labels: &mut Labels, k: u32) -> bool
     requires labels { labels.old ≡ [] }
     requires some { 0 < k }
@@ -177,7 +180,8 @@ fn is_written_at_once(told: &mut String, text: &str, k: u32) -> bool {
     k > 0 && is_best_written_over(told, text, &mut labels, k)
 }
 
-// Whether the k best trees of the grammar of a text are written as wanted, with the entries that were placed.
+// Whether the k best trees of the grammar of a text are written as wanted, with the entries that
+// were placed.
 fn is_listed_as(alloc: Global, text: &str, k: u32, want: &str) -> bool {
     let mut told = String::new(alloc);
     is_written_lazily(&mut told, text, k, true) && told.as_str() == want

@@ -1,7 +1,26 @@
-//! Tests of lists of best trees: the best tree, the lists, and those that are made as they are asked for.
+//! Tests of lists of best trees and of what they rest on: heaps, shared trees, outside costs,
+//! pruning, costs of trees, the best tree, the lists, and both where the greatest cost counts.
 #![tactic(auto)]
 
+#[cfg(test)]
+mod best_by_levels;
+#[cfg(test)]
+mod heap;
 #[cfg(test)]
 mod k_best;
 #[cfg(test)]
 mod lazy_lists;
+#[cfg(test)]
+mod level_lists;
+#[cfg(test)]
+mod normals;
+#[cfg(test)]
+mod outsides;
+#[cfg(test)]
+mod prune;
+#[cfg(test)]
+mod shared_trees;
+#[cfg(test)]
+mod texts;
+#[cfg(test)]
+mod weigh;

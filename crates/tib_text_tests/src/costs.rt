@@ -44,7 +44,8 @@ fn products_of(zero: Cost, one: Cost, four: Cost, five: Cost, most: Cost) -> [Op
     ]
 }
 
-// Whether these are the products of 0, 1, 4, 5 and the greatest cost; none where one of those is no cost.
+// Whether these are the products of 0, 1, 4, 5 and the greatest cost; none where one of those is no
+// cost.
 fn are_products(wanted: [Option<u64>; 5]) -> Option<bool> {
     let (zero, one, most) = (Cost::new(0)?, Cost::new(1)?, Cost::new(MOST)?);
     let (four, five) = (Cost::new(4)?, Cost::new(5)?);

@@ -99,7 +99,8 @@ fn ends_first(bytes: &[u8], end: u32) -> bool {
     }
 }
 
-// Whether a line of 70,000 names and of a quoted token with as many bytes ends behind them, and has just these tokens.
+// Whether a line of 70,000 names and of a quoted token with as many bytes ends behind them, and has
+// just these tokens.
 fn reads_long_line(alloc: Global) -> bool {
     match long_line(alloc, 70_000) {
         Ok(line) => {

@@ -1,4 +1,0 @@
-use Rattle.tib_prune_tests.proofs.outsides.+context_cost.Given as goal
-
-abbrev pub decreases-context_cost : goal.decreases-context_cost
-decreases-context_cost l = l.levels
