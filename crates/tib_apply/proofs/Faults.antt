@@ -4,7 +4,7 @@ use Rattle.tib_hunt.specs.Reached.{IfTooMany}
 use Rattle.tib_hunt.specs.Reached.{HuntError}
 use Rattle.tib_hunt.specs.Reached.{TooMany as OfParts, OutOfMemory as OfHuntMemory}
 use Rattle.tib_transducer.specs.declared.TransducerRule.{TransducerRule}
-use Rattle.tib_transducer.specs.Outside.{Demands}
+use Rattle.tib_transducer.specs.Outside.{Demands, AllMeet}
 use Rattle.tib_transducer.specs.Faults.{IsClassFault}
 use Rattle.tib_transducer.specs.declared.error.ClassError.{ClassError}
 use Rattle.tib_transducer.specs.declared.error.ClassError.TheVariants.{Class as OfRule, OutOfMemory as OfMemory}
@@ -17,9 +17,11 @@ pub class_fault :
 class_fault demanded moves limit Beyond (OfRule rule fault) h = h
 class_fault demanded moves limit Beyond OfMemory h = h
 
--- that there are too many parts is told, with what follows from what a hunt promises of it
+-- that there are too many parts is reported where each rule is of the demanded classes, with what
+-- follows from what a hunt promises of it
 pub hunt_fault :
-    (demanded : Demands) (moves : List (TransducerRule ℕ)) (limit : ℕ) (Found Beyond : Type 0) → (Found → Beyond) → (e : HuntError) → IfTooMany limit Found e →
+    (demanded : Demands) (moves : List (TransducerRule ℕ)) (limit : ℕ) (Found Beyond : Type 0) →
+    AllMeet demanded moves → (Found → Beyond) → (e : HuntError) → IfTooMany limit Found e →
     IsApplyFault demanded moves limit Beyond (hunt_error e)
-hunt_fault demanded moves limit Found Beyond so (OfParts n) h = (h.0, so h.1)
-hunt_fault demanded moves limit Found Beyond so OfHuntMemory h = h
+hunt_fault demanded moves limit Found Beyond met so (OfParts n) h = (h.0, met, so h.1)
+hunt_fault demanded moves limit Found Beyond met so OfHuntMemory h = h

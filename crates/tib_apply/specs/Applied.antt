@@ -6,7 +6,7 @@ use Rattle.tib_grammar.specs.declared.Rule.{Rule}
 use Rattle.tib_hunt.specs.Reached.{Operation, IsReachedSet, parts_of}
 use Rattle.tib_hunt.specs.declared.found.Found.{Found}
 use Rattle.tib_transducer.specs.declared.TransducerRule.{TransducerRule}
-use Rattle.tib_transducer.specs.Outside.{Demands, IsFirstOutside}
+use Rattle.tib_transducer.specs.Outside.{Demands, AllMeet, IsFirstOutside}
 use Rattle.tib_apply.specs.KeyGrammars.{key_at}
 use Rattle.tib_apply.specs.declared.error.ApplyError.{ApplyError}
 use Rattle.tib_apply.specs.declared.error.ApplyError.TheVariants.{Class, TooMany, OutOfMemory}
@@ -27,9 +27,9 @@ HasPartsOf op found = found.parts ≡ parts_of op found.order.items (edges_of fo
 abbrev pub AreOverOrder : Found (ℕ × ℕ × ℕ) (Rule ℕ) → Type 0
 AreOverOrder found = AreInRange (length found.order.items) found.rules.items
 
--- Why nothing is answered: the first rule outside the classes that are demanded, a limit that each reached set passes, or
--- want of memory.
+-- Why nothing is answered: the first rule outside the classes that are demanded; where each rule is
+-- of them, a limit that each reached set exceeds; or out of memory.
 abbrev pub IsApplyFault : Demands → List (TransducerRule ℕ) → ℕ → Type 0 → ApplyError → Type 0
 IsApplyFault demanded moves limit Beyond (Class rule fault) = IsFirstOutside demanded moves (rule, fault)
-IsApplyFault demanded moves limit Beyond (TooMany n) = (n ≡ limit) × Beyond
+IsApplyFault demanded moves limit Beyond (TooMany n) = (n ≡ limit) × AllMeet demanded moves × Beyond
 IsApplyFault demanded moves limit Beyond OutOfMemory = Unit {0}

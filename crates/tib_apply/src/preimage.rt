@@ -17,7 +17,9 @@ use tib_hunt::{Found, Gate, hunt, hunt_alone};
 use tib_normal::Normal;
 use tib_transducer::Transducer;
 
-/// The keys that backward application reaches from the key of the starts, with their rules.
+/// The keys that backward application reaches from the key of the starts, with their rules. `Class` exactly where the transducer
+/// is not linear and nondeleting; `TooMany` exactly where it is and they have more parts than the limit, 1 to `MOST_PARTS` of
+/// tib_hunt; `OutOfMemory` if memory is refused. Calls `gate` once for each key.
 pub fn apply_backward<S: Semiring, G: Gate>(
     alloc: Global,
     transducer: &Transducer<S>,

@@ -4,7 +4,7 @@ use Rattle.tib_hunt.specs.Reached.{IfTooMany}
 use Rattle.tib_hunt.specs.Reached.{HuntError}
 use Rattle.tib_hunt.specs.Reached.{TooMany as OfParts, OutOfMemory as OfHuntMemory}
 use Rattle.tib_transducer.specs.declared.TransducerRule.{TransducerRule}
-use Rattle.tib_transducer.specs.Outside.{demands}
+use Rattle.tib_transducer.specs.Outside.{demands, AllMeet}
 use Rattle.tib_transducer.specs.Faults.{IsClassFault}
 use Rattle.tib_transducer.specs.declared.error.ClassError.{ClassError}
 use Rattle.tib_transducer.specs.declared.error.ClassError.TheVariants.{Class as OfRule, OutOfMemory as OfMemory}
@@ -16,8 +16,11 @@ pub class_fault : (two : List (TransducerRule ℕ)) (limit : ℕ) (Beyond : Type
 class_fault two limit Beyond (OfRule rule fault) h = h
 class_fault two limit Beyond OfMemory h = h
 
--- that there are too many parts is told, with what follows from what a hunt promises of it
+-- that there are too many parts is reported where each rule is of the demanded classes, with what
+-- follows from what a hunt promises of it
 pub hunt_fault :
-    (two : List (TransducerRule ℕ)) (limit : ℕ) (Found Beyond : Type 0) → (Found → Beyond) → (e : HuntError) → IfTooMany limit Found e → IsComposeFault two limit Beyond (hunt_error e)
-hunt_fault two limit Found Beyond so (OfParts n) h = (h.0, so h.1)
-hunt_fault two limit Found Beyond so OfHuntMemory h = h
+    (two : List (TransducerRule ℕ)) (limit : ℕ) (Found Beyond : Type 0) →
+    AllMeet (demands true true true true) two → (Found → Beyond) → (e : HuntError) →
+    IfTooMany limit Found e → IsComposeFault two limit Beyond (hunt_error e)
+hunt_fault two limit Found Beyond met so (OfParts n) h = (h.0, met, so h.1)
+hunt_fault two limit Found Beyond met so OfHuntMemory h = h

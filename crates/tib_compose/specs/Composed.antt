@@ -8,7 +8,7 @@ use Rattle.tib_keyed.specs.Ends.{key_at}
 use Rattle.tib_transducer.specs.Range.{AreShaped, AreWithin}
 use Rattle.tib_transducer.specs.Rules.{transducer_rule}
 use Rattle.tib_transducer.specs.declared.TransducerRule.{TransducerRule}
-use Rattle.tib_transducer.specs.Outside.{demands, IsFirstOutside}
+use Rattle.tib_transducer.specs.Outside.{demands, AllMeet, IsFirstOutside}
 use Rattle.tib_keyed.specs.Composition.{composition}
 use Rattle.tib_keyed.specs.Named.{named_transducer_rule}
 use Rattle.tib_compose.specs.declared.error.ComposeError.{ComposeError}
@@ -30,9 +30,9 @@ HasPartsOf product one two found = found.parts ≡ parts_of (composition product
 abbrev pub AreOverOrder : Found (ℕ × ℕ) (TransducerRule ℕ) → Type 0
 AreOverOrder found = AreWithin (length found.order.items) found.rules.items
 
--- Why nothing is answered: the first rule of the second transducer outside the classes that are demanded, a limit that each
--- reached set passes, or want of memory.
+-- Why nothing is answered: the first rule of the second transducer outside the classes that are
+-- demanded; where each rule is of them, a limit that each reached set exceeds; or out of memory.
 abbrev pub IsComposeFault : List (TransducerRule ℕ) → ℕ → Type 0 → ComposeError → Type 0
 IsComposeFault two limit Beyond (Class rule fault) = IsFirstOutside (demands true true true true) two (rule, fault)
-IsComposeFault two limit Beyond (TooMany n) = (n ≡ limit) × Beyond
+IsComposeFault two limit Beyond (TooMany n) = (n ≡ limit) × AllMeet (demands true true true true) two × Beyond
 IsComposeFault two limit Beyond OutOfMemory = Unit {0}

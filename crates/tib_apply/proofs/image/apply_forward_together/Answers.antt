@@ -32,5 +32,6 @@ pub returns-in_err-found-clause-fault : goal.returns-in_err-found-clause-fault
 returns-in_err-found-clause-fault g c =
     let p = err_from_is_err_and c.from_residual-in_err-found.result c.from_residual-in_err-found.ensures.1 in
     rw (p.1, p.2)
-    (hunt_fault _ c.args.transducer.now.rules c.args.limit _ _ (answer_beyond (g.met.S.Semiring g.world.𝓛 g.world.𝓜 g.world.𝓡 ((λ s x. x), (λ x. x), (λ x. x), λ x. x)).laws c.in_ok-forward.forward.grammar.now c.args.grammar.now c.in_ok-forward.forward.transducer.now c.args.transducer.now c.in_ok-forward.ensures.grammar c.in_ok-forward.ensures.transducer c.in_ok-forward.forward.runs c.in_ok-forward.ensures.least c.args.limit)
+    (hunt_fault _ c.args.transducer.now.rules c.args.limit _ _ c.in_ok-forward.ensures.class
+    (answer_beyond (g.met.S.Semiring g.world.𝓛 g.world.𝓜 g.world.𝓡 ((λ s x. x), (λ x. x), (λ x. x), λ x. x)).laws c.in_ok-forward.forward.grammar.now c.args.grammar.now c.in_ok-forward.forward.transducer.now c.args.transducer.now c.in_ok-forward.ensures.grammar c.in_ok-forward.ensures.transducer c.in_ok-forward.forward.runs c.in_ok-forward.ensures.least c.args.limit)
     c.in_err-found.field-0.0 c.in_err-found.ensures.more)

@@ -35,5 +35,6 @@ pub returns-in_err-found-clause-fault : goal.returns-in_err-found-clause-fault
 returns-in_err-found-clause-fault g c =
     let p = err_from_is_err_and c.from_residual-in_err-found.result c.from_residual-in_err-found.ensures.1 in
     rw (p.1, p.2)
-    (hunt_fault _ c.args.transducer.now.rules c.args.limit _ _ (beyond_of g.S.Semiring.product c.in_ok-backward.backward.transducer.now c.in_ok-backward.backward.grammar.now c.args.transducer.now c.args.grammar.now c.in_ok-backward.ensures.transducer c.in_ok-backward.ensures.grammar c.args.limit)
+    (hunt_fault _ c.args.transducer.now.rules c.args.limit _ _ c.in_ok-backward.ensures.class
+    (beyond_of g.S.Semiring.product c.in_ok-backward.backward.transducer.now c.in_ok-backward.backward.grammar.now c.args.transducer.now c.args.grammar.now c.in_ok-backward.ensures.transducer c.in_ok-backward.ensures.grammar c.args.limit)
     c.in_err-found.field-0.0 c.in_err-found.ensures.more)

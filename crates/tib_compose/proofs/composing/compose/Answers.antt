@@ -42,5 +42,6 @@ pub returns-in_err-found-clause-fault : goal.returns-in_err-found-clause-fault
 returns-in_err-found-clause-fault g c =
     let p = err_from_is_err_and c.from_residual-in_err-found.result c.from_residual-in_err-found.ensures.1 in
     rw (p.1, p.2)
-    (hunt_fault c.args.second.now.rules c.args.limit _ _ (beyond_of g.S.Semiring.product c.in_ok-composite.composite.first.now c.in_ok-composite.composite.second.now c.args.first.now c.args.second.now c.in_ok-composite.ensures.first c.in_ok-composite.ensures.second c.args.limit)
+    (hunt_fault c.args.second.now.rules c.args.limit _ _ c.in_ok-composite.ensures.class
+    (beyond_of g.S.Semiring.product c.in_ok-composite.composite.first.now c.in_ok-composite.composite.second.now c.args.first.now c.args.second.now c.in_ok-composite.ensures.first c.in_ok-composite.ensures.second c.args.limit)
     c.in_err-found.field-0.0 c.in_err-found.ensures.more)
