@@ -23,10 +23,12 @@ use Rattle.tib_transducer.specs.TransducerOf.{TransducerOf}
 use Rattle.tib_transducer.specs.declared.Variable.{Variable}
 use Rattle.tib_transducer.specs.declared.Pair.{Pair}
 use Rattle.tib_transducer.specs.declared.TransducerRule.{TransducerRule}
-use Rattle.tib_transducer_file.specs.ByName.{IsPlainLabel, IsPlainOnLeft, IsPlainOnRight, IsPrintable}
+use Rattle.tib_transducer_file.specs.ByName.{IsPlainLabel, IsPlainOnLeft, IsPlainOnRight, IsPrintable, ReadsBack}
 use Rattle.tib_transducer_file.specs.Printed.{transducer_text}
 use Rattle.tib_canon.specs.Constructions.{HasReachedWithin}
+use Rattle.tib_canon.proofs.ConstructionExists.{few_keys}
 use Rattle.tib_canon.proofs.ReachedOnce.{edge_given, ends_stand}
+use Rattle.tib_canon.proofs.SeriesByName.{one_series, text_states, canonical_states}
 use Rattle.tib_canon.proofs.Sorting.{both_equal, number_same}
 use Rattle.tib_keyed.specs.Plain.{ArePlain}
 use Rattle.tib_keyed.specs.Translations.{plug, AreTranslations, translated, choice_cost}
@@ -224,6 +226,15 @@ compose_series {product = product} laws scale labels limit t u h shaped plain c 
     let same = canonical_series laws pair_cmp scale labels c.order c.rules 0 h c.canonical a v w in
     (λ k. is.0 (same.1 k), λ k. same.0 (is.1 k))
 
+-- and so does what its text reads back as
+pub read_composes :
+    (product : ℕ → ℕ → ℕ) (scale : Scale) (labels : List (List ℕ)) (limit : ℕ) (t u h read : TransducerOf) (text : List ℕ) → (c : IsCanonicalTransducerOf scale labels limit (composing product t u) h) → length c.order ≤ 4294967296 →
+    ReadsBack scale labels text h read → HasComposeSeries product t.rules u.rules h.rules → HasComposeSeries product t.rules u.rules read.rules
+read_composes product scale labels limit t u h read text c few reads series a v w =
+    let same = one_series h read (canonical_states pair_cmp scale labels c.order c.rules 0 h c.canonical few c.over) (text_states scale labels text read reads.text) reads.same product a v w in
+    let is = series a v w in
+    (λ k. is.0 (same.1 k), λ k. same.0 (is.1 k))
+
 -- where the pairs that are reached are within the limit, it cannot be that there is no text
 pub compose_there :
     {levelled weighed : Bool} {product : ℕ → ℕ → ℕ} → ProductLaws levelled weighed product → (scale : Scale) (limit : ℕ) → limit ≤ 4294967296 → (labels : List (List ℕ)) → Distinct labels → (t u : TransducerOf) →
@@ -231,11 +242,15 @@ pub compose_there :
     ((text : List ℕ) → HasComposeText scale product limit labels t u text → ⊥) → ⊥
 compose_there {product = product} laws scale limit low labels apart t u m n plain w never =
     transducer_construction_there scale labels (composing product t u) (compose_plain product (laws.neutral 0) scale labels t u m n) limit low apart w
-    (λ h c read. never (transducer_text scale labels h) (record {
+    (λ h c read.
+    let series : HasComposeSeries product t.rules u.rules h.rules = compose_series laws scale labels limit t u h n.shaped plain c in
+    let few : length c.order ≤ 4294967296 = omega (arith, few_keys (key_parts (λ (k : ℕ × ℕ). 2)) (λ k. omega arith) c.order, c.within, low) in
+    never (transducer_text scale labels h) (record {
       h = h;
       canonical = c;
-      series = compose_series laws scale labels limit t u h n.shaped plain c;
+      series = series;
       are = refl;
       read = read.0;
       reads = read.1;
+      read_series = read_composes product scale labels limit t u h read.0 (transducer_text scale labels h) c few read.1 series;
     }))

@@ -57,6 +57,8 @@ pub mod TransducerNamed
 pub mod TransducerOverKeys
 pub mod TransducerKeysOnce
 pub mod TransducerExists
+pub mod SeriesByName
+pub mod TextOfOne
 pub mod TransducerTexts
 pub mod Relabelled
 pub mod TransducerByText

@@ -19,10 +19,11 @@ use Rattle.tib_canon.proofs.StateNames.{length-names_of, are_state_names}
 use Rattle.tib_keyed.specs.Named.{named_transducer_rule}
 use Rattle.tib_canon.specs.TransducerKeys.{IsCanonicalTransducer, AreMovesOver}
 use Rattle.tib_canon.proofs.TransducerKeysOnce.{member_is}
-use Rattle.tib_canon.proofs.Merged.{kept_within, kept_shaped, kept_leaves}
+use Rattle.tib_canon.proofs.Merged.{kept_shaped}
+use Rattle.tib_canon.proofs.SeriesByName.{canonical_states}
 use Rattle.tib_canon.proofs.TransducerNamed.{states_named}
 use Rattle.tib_canon.proofs.TransducerOne.{kept_printable}
-use Rattle.tib_canon.proofs.TransducerOverKeys.{moves_over, start_within, many_names}
+use Rattle.tib_canon.proofs.TransducerOverKeys.{moves_over, many_names}
 
 -- a state stands in a rule on the left or on the right
 StandsIn : ℕ → TransducerRule ℕ → Type 0
@@ -94,12 +95,13 @@ module _
     has_text : HasText scale labels h
     has_text =
         let moves = moves_over cmp order start rules over c.is_over scale labels m in
+        let named = canonical_states cmp scale labels order rules start h c few m in
         record {
-          start = omega (arith, many, start_within cmp order start rules over c.is_over);
+          start = named.start;
           names = subst AreStateNames (sym c.in_order.names) (are_state_names (length over.names) (omega (arith, few, many_names cmp order start rules over c.is_over)));
-          range = subst (λ n. AreWithin n h.rules) (sym many) (kept_within (length order) over.rules h.rules c.in_order.kept moves.within);
+          range = named.within;
           shaped = kept_shaped over.rules h.rules c.in_order.kept moves.shaped;
-          leaves = kept_leaves over.rules h.rules c.in_order.kept moves.leaves;
+          leaves = named.leaves;
           stand = λ q some low. stands_in_order q some (omega (arith, low, many));
           printable = kept_printable scale labels over.rules h.rules c.in_order.kept moves.printable;
         }

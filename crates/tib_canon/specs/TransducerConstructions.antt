@@ -31,7 +31,7 @@ pub record IsCanonicalTransducerOf {K O : Type 0} (scale : Scale) (labels : List
   pub canonical : IsCanonicalTransducer scale labels c.problem.cmp order rules 0 h
 
 -- The text is that of such a transducer, which has this series. It reads back as this transducer,
--- states by their names.
+-- states by their names. What is read has the series too.
 pub record HasTransducerText (scale : Scale) (labels : List (List ℕ)) (IsResult : TransducerOf → Type 0)
     (HasSeries : List (TransducerRule ℕ) → Type 0) (text : List ℕ) : Type 0 where
   pub h : TransducerOf
@@ -40,3 +40,4 @@ pub record HasTransducerText (scale : Scale) (labels : List (List ℕ)) (IsResul
   pub are : text ≡ transducer_text scale labels h
   pub read : TransducerOf
   pub reads : ReadsBack scale labels text h read
+  pub read_series : HasSeries read.rules

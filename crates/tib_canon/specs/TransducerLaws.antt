@@ -1,14 +1,17 @@
 -- What holds of canonical transducers.
 use Rattle.tib_cost.specs.declared.Scale.{Scale}
-use Rattle.std.specs.Prelude.{◌≡◌, ◌<◌, ◌≤◌, ◌^◌, ℕ, List, length}
+use Rattle.std.specs.Prelude.{◌≡◌, ◌<◌, ◌≤◌, ◌^◌, ◌↔◌, ℕ, List, length, Option}
 use Rattle.std.specs.declared.cmp.Ordering.{Ordering}
 use Rattle.tib_lex.specs.Lists.{Has, Distinct}
-use Rattle.tib_transducer.specs.Range.{AreShaped, EndInHoles}
+use Rattle.tib_tree.specs.Trees.{Tree}
+use Rattle.tib_transducer.specs.Range.{AreWithin, AreShaped, EndInHoles}
+use Rattle.tib_transducer.specs.Series.{IsTransducerSeries}
 use Rattle.tib_transducer.specs.TransducerOf.{TransducerOf}
 use Rattle.tib_transducer.specs.declared.TransducerRule.{TransducerRule}
 use Rattle.tib_transducer_file.specs.ByText.{AreOneTransducerRule, AreOneTransducer}
-use Rattle.tib_transducer_file.specs.ByName.{states_of, ReadsBack}
+use Rattle.tib_transducer_file.specs.ByName.{states_of, IsSameByName, ReadsBack}
 use Rattle.tib_transducer_file.specs.Printed.{transducer_text}
+use Rattle.tib_transducer_file.specs.TransducerText.{TransducerText}
 use Rattle.tib_canon.specs.Constructions.{HasReachedWithin}
 use Rattle.tib_keyed.specs.Plain.{ArePlain}
 use Rattle.tib_keyed.specs.Composition.{composition}
@@ -95,3 +98,27 @@ CompositionsHaveSeries product =
     (scale : Scale) (labels : List (List ℕ)) (limit : ℕ) (t u h : TransducerOf) → AreShaped u.rules →
     ArePlain u.rules → IsCanonicalTransducerOf scale labels limit (composing product t u) h →
     HasComposeSeries product t.rules u.rules h.rules
+
+-- there is a start, no two states have one name, the rules' states have names, and nothing stands
+-- below a leaf, as in each transducer that `Transducer` of tib_transducer holds
+pub record HasNamedStates (t : TransducerOf) : Type 0 where
+  pub start : 0 < length t.names
+  pub distinct : Distinct t.names
+  pub within : AreWithin (length t.names) t.rules
+  pub leaves : EndInHoles t.rules
+
+-- transducers that are the same but for the numbers of their states have one series
+abbrev pub SeriesIsOneByName : (ℕ → ℕ → ℕ) → Type 0
+SeriesIsOneByName product =
+    (t u : TransducerOf) → HasNamedStates t → HasNamedStates u → IsSameByName t u → (x y : Tree ℕ)
+    (v : Option ℕ) → IsTransducerSeries product t.rules x y v ↔ IsTransducerSeries product u.rules x y v
+
+-- bytes are the text of at most one transducer over one table of distinct labels, however many nodes
+-- its sides have, and its states have names
+pub record TextHasOneTransducer : Type 0 where
+  pub one :
+      (scale : Scale) (labels : List (List ℕ)) (bytes : List ℕ) (t u : TransducerOf) → Distinct labels →
+      TransducerText scale labels bytes t → TransducerText scale labels bytes u → t ≡ u
+  pub named :
+      (scale : Scale) (labels : List (List ℕ)) (bytes : List ℕ) (t : TransducerOf) →
+      TransducerText scale labels bytes t → HasNamedStates t

@@ -1,5 +1,5 @@
 // What holds of canonical transducers.
-ghost use Rattle.tib_canon.specs.TransducerLaws.{KeysHaveOneTransducer, KeysKeepTransducerSeries, KeysHaveTransducer, TransducerTextsAreRead, TransducerTextIsOne, CompositionsHaveTexts, CompositionTextIsOne, CompositionsHaveSeries};
+ghost use Rattle.tib_canon.specs.TransducerLaws.{KeysHaveOneTransducer, KeysKeepTransducerSeries, KeysHaveTransducer, TransducerTextsAreRead, TransducerTextIsOne, CompositionsHaveTexts, CompositionTextIsOne, CompositionsHaveSeries, SeriesIsOneByName, TextHasOneTransducer};
 
 use tib_cost::Semiring;
 use tib_table::TableKey;
@@ -46,4 +46,16 @@ pub fn composition_text_is_one<S: Semiring>()
 /// The canonical transducer of the composition has, at each two trees, the least cost of doing the first and then the second.
 pub fn compositions_have_their_series<S: Semiring>()
     ensures { CompositionsHaveSeries S.product }
+{}
+
+/// Transducers that are the same but for the numbers of their states have one series. So what a text
+/// of a canonical transducer reads back as has its series.
+pub fn series_is_one_by_name<S: Semiring>()
+    ensures { SeriesIsOneByName S.product }
+{}
+
+/// Bytes are the text of at most one transducer over one table of distinct labels, however many nodes
+/// its sides have, and the states of this one have names of their own.
+pub fn text_has_one_transducer()
+    ensures { TextHasOneTransducer }
 {}
