@@ -19,7 +19,7 @@ use Rattle.tib_apply.specs.KeyGrammars.{key_at}
 use Rattle.tib_apply.specs.Forward.{IsForwardEdge, IsAskedCost, IsDeletedCost, deleted}
 use Rattle.tib_apply.specs.LeastRuns.{AreLeastRuns, asked_in, deleted_in}
 use Rattle.tib_apply.specs.Operations.{key_entries, edge_parts, key_operation, forward_image}
-use Rattle.tib_apply.specs.TableEdges.{IsTableEdge, table_image}
+use Rattle.tib_apply.specs.TableEdges.{IsTableEdge, table_image, AreForwardEdges}
 use Rattle.tib_apply.specs.declared.deleting.LeastRuns.{LeastRuns}
 
 -- two ways to tell the same edges reach the same
@@ -102,6 +102,12 @@ module _
   -- and so is what is too large
   pub image_beyond : (limit : ℕ) → IsBeyond (table_image product grammar moves runs) limit → IsBeyond (forward_image product grammar moves) limit
   image_beyond limit h order es is = h order es (set_to (IsForwardEdge product grammar moves) (IsTableEdge product grammar moves runs) table_from table_to order es is)
+
+  pub table_edges : AreForwardEdges product grammar moves runs
+  table_edges = record {
+    edges = λ k o e. (table_to k o e, table_from k o e);
+    reached = λ order es. (image_reached order es, set_to (IsForwardEdge product grammar moves) (IsTableEdge product grammar moves runs) table_from table_to order es);
+  }
 
 -- parts
 

@@ -3,6 +3,7 @@ ghost use Rattle.tib_apply.specs.Forward.{ForwardMeans};
 ghost use Rattle.tib_apply.specs.Backward.{BackwardMeans};
 ghost use Rattle.tib_apply.specs.Operations.{ForwardIsReached, BackwardIsReached, OneSetEach};
 ghost use Rattle.tib_apply.specs.LeastOfAll.{ForwardIsLeast, BackwardIsLeast};
+ghost use Rattle.tib_apply.specs.TableEdges.{TableEdgesAreForward};
 
 use tib_cost::Semiring;
 
@@ -39,4 +40,11 @@ pub fn backward_is_least<S: Semiring>()
 /// Each application has one reached set: the same keys in the same order, and the same edges.
 pub fn one_set_each<S: Semiring>()
     ensures { OneSetEach S.product }
+{}
+
+/// `Forward` looks up in tables what the parts cost that a rule leaves out. Where these hold the least
+/// costs, as those of `Forward::new` do, its edges are those of forward application, and the set that
+/// is reached along them is the same.
+pub fn table_edges_are_forward<S: Semiring>()
+    ensures { TableEdgesAreForward S.product }
 {}
