@@ -1,8 +1,9 @@
--- A level that is trimmed: it stays in normal form, has the trees of the level, and its faults are those of the level.
-use Rattle.std.specs.Prelude.{◌≡◌, ◌⊎◌, ◌↔◌, ℕ, ◌+◌, ◌<◌, ◌≤◌, Some, List, [], ◌∷◌, length, map, refl}
+-- Rules that are trimmed: they stay in normal form, have the trees of the others, and their faults are faults of useful states.
+use Rattle.std.specs.Prelude.{◌≡◌, ◌⊎◌, ◌↔◌, ℕ, ◌+◌, ◌<◌, ◌≤◌, Bool, Some, List, [], ◌∷◌, length, map, refl}
 use Rattle.std.proofs.Common.{zero, suc, arith, ap, sym, ◌∙◌, subst, inl, inr, get_or}
 use Rattle.std.proofs.lemmas.List.{length-map}
 use Rattle.tib_lex.proofs.Members.{each_has, each_of, has_at}
+use Rattle.tib_cost.specs.Semiring.{ProductLaws}
 use Rattle.tib_tree.specs.Trees.{Tree, Trees, none, tree, only, relabel}
 use Rattle.tib_grammar.specs.Forms.{AreNormal, IsLabel, IsNormalSide}
 use Rattle.tib_grammar.specs.GrammarOf.{GrammarOf}
@@ -12,16 +13,18 @@ use Rattle.tib_grammar.specs.Sides.{Symbol, label, hole, AreHoles, symbol_map, s
 use Rattle.tib_grammar.specs.declared.Rule.{Rule}
 use Rattle.tib_grammar_file.specs.Printed.{AreLabelled, LabelsBelow}
 use Rattle.tib_inside.specs.Trimmed.{IsTrimmed}
+use Rattle.tib_inside.specs.Useful.{IsUseful}
 use Rattle.tib_inside.proofs.Keeping.{as_many, named_at}
 use Rattle.tib_k_best_lists.specs.Levels.{IsOrderly}
 use Rattle.tib_k_best_lists.specs.Best.{Costed, HasLarge, IsKBest, IsTreeAt}
 use Rattle.tib_k_best_lists.proofs.Children.{get_or-map}
-use Rattle.tib_k_best.specs.Causes.{IsCause}
+use Rattle.tib_k_best.specs.Causes.{IsCause, IsUsefulCause}
 use Rattle.tib_k_best.specs.Trimmed.{HaveTreesBelow, TrimmedHasTrees}
 use Rattle.tib_k_best.specs.declared.error.KBestError.{KBestError}
 use Rattle.tib_k_best.specs.declared.error.KBestError.TheVariants.{TreeTooLarge, OutOfMemory}
-use Rattle.tib_k_best.specs.Levels.{IsRenamed, IsTrimmedLevel, NamesBelow}
+use Rattle.tib_k_best.specs.Levels.{IsRenamed, AreKept, NamesBelow}
 use Rattle.tib_inside.proofs.StillNormal.{side_normal}
+use Rattle.tib_k_best.proofs.UsefulStates.{start_useful}
 
 -- a rule under other states has the same labels
 labels_back : (n : ℕ) (g : ℕ → ℕ) (ts : Trees (Symbol ℕ ℕ)) → LabelsBelow n (relabel (symbol_map g) ts) → LabelsBelow n ts
@@ -78,7 +81,7 @@ labelled_kept product before after is many labelled n h =
     labels_back many (λ i. get_or is.states i 0) (only (rule_at after.rules n).right)
     (subst (λ (r : Rule ℕ). LabelsBelow many (only r.right)) (sym (named_at product before after is n h)) (labelled (get_or is.rules n 0) place))
 
-module _ (product : ℕ → ℕ → ℕ) (old : List (Rule ℕ)) (count : ℕ) (states : List ℕ) (new : List (Rule ℕ)) (t : IsTrimmedLevel product old count states new) where
+module _ (product : ℕ → ℕ → ℕ) (old : List (Rule ℕ)) (count : ℕ) (states : List ℕ) (new : List (Rule ℕ)) (t : AreKept product old count states new) where
   abbrev named : ℕ → List ℕ
   named q = get_or (names_from 0 count) q []
 
@@ -153,18 +156,22 @@ module _ (product : ℕ → ℕ → ℕ) (old : List (Rule ℕ)) (count : ℕ) (
   names_below labels k (TreeTooLarge q) l = state_below product new (length states) q l.tree t.range l.next.member
   names_below labels k OutOfMemory l = tt
 
-  -- a fault of the trimmed level is one of the level
-  pub trimmed_cause : (labels : List (List ℕ)) (k : ℕ) (e d : KBestError) → IsRenamed states e d → IsCause product labels new k e → IsCause product labels old k d
-  trimmed_cause labels k (TreeTooLarge q) d is_now l =
-      subst (IsCause product labels old k) (sym is_now) (large_back labels k q (state_below product new (length states) q l.tree t.range l.next.member) l)
-  trimmed_cause labels k OutOfMemory d is_now l = subst (IsCause product labels old k) (sym is_now) tt
+  -- a state that is kept and has a large tree is useful
+  useful_back :
+      {levelled weighted : Bool} → ProductLaws levelled weighted product → AreNormal old → (labels : List (List ℕ)) (k q : ℕ) → q < length states → HasLarge product labels old k (get_or states q 0) →
+      IsUseful product old (get_or states q 0)
+  useful_back {levelled} {weighted} laws normal labels k q h l =
+      elim (subst (λ p. (p ≡ 0) ⊎ IsUseful product old p) (same_state q h) ((is.are_states (get_or is.states q 0)).0 (has_at is.states q 0 (omega (arith, h, many_states))))) [
+        | inr useful ↦ useful
+        | inl start ↦ subst (IsUseful product old) (sym start) (start_useful laws labels old normal k (subst (HasLarge product labels old k) start l))
+      ]
 
--- rules give no tree where there is none
-pub no_trees_of : (product : ℕ → ℕ → ℕ) (labels : List (List ℕ)) (k : ℕ) (rules : List (Rule ℕ)) → rules ≡ [] → (xs : List Costed) → IsKBest product rules labels k xs → xs ≡ []
-no_trees_of product labels k rules e [] b = refl
-no_trees_of product labels k rules e (x ∷ xs) b =
-    absurd (by (b.members.0).attained.0.runs (subst (λ rs. AreRuns rs (0 ∷ []) (b.members.0).attained.0.runs) e (b.members.0).attained.0.are_runs))
-  where
-    by : (runs : Trees ℕ) → AreRuns [] (0 ∷ []) runs → ⊥
-    by none a = absurd a
-    by (tree m runs rest) a = omega (arith, a.0)
+  -- a fault of the trimmed rules is one of the others, and names a useful state
+  pub trimmed_cause :
+      {levelled weighted : Bool} → ProductLaws levelled weighted product → AreNormal old → (labels : List (List ℕ)) (k : ℕ) (e d : KBestError) → IsRenamed states e d → IsCause product labels new k e →
+      IsUsefulCause product labels old k d
+  trimmed_cause {levelled} {weighted} laws normal labels k (TreeTooLarge q) d is_now l =
+      let below : q < length states = state_below product new (length states) q l.tree t.range l.next.member in
+      let large : HasLarge product labels old k (get_or states q 0) = large_back labels k q below l in
+      subst (IsUsefulCause product labels old k) (sym is_now) (useful_back laws normal labels k q below large, large)
+  trimmed_cause {levelled} {weighted} laws normal labels k OutOfMemory d is_now l = subst (IsUsefulCause product labels old k) (sym is_now) tt

@@ -14,5 +14,6 @@ pub mod Settled
 pub mod Sorting
 pub mod Starting
 pub mod Trimming
+pub mod UsefulStates
 pub mod Waited
 pub mod Weighing

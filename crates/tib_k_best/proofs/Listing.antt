@@ -10,7 +10,6 @@ use Rattle.tib_k_best_lists.specs.Held.{list_of, no_entry, told, IsSound}
 use Rattle.tib_k_best_lists.specs.Seen.{tree_at}
 use Rattle.tib_k_best_lists.specs.declared.lists.Entry.{Entry}
 use Rattle.tib_k_best_lists.proofs.Children.{get_or-map}
-use Rattle.tib_k_best.specs.Costs.{at_cost, entry_at_cost}
 use Rattle.tib_k_best.specs.Listing.{costed, AreListed}
 
 -- the list of a state, with the trees of all lists
@@ -32,31 +31,6 @@ pub told_at : (trees : List (Tree ℕ)) (es : List Entry) (xs : List Costed) →
 told_at trees es xs e i h d a r =
     let l : i < length es = omega (arith, h, as_long trees es xs e) in
     ap (told trees) r ∙ sym (get_or-map (told trees) es i d pass.no_entry l) ∙ ap (λ (ys : List Costed). get_or ys i pass.no_entry) e
-
--- the same entries at another cost
-
-cost_there : (c : ℕ) (es : List Entry) (i : ℕ) → (get_or (map (entry_at_cost c) es) i no_entry).tree ≡ (get_or es i no_entry).tree
-cost_there c [] i = refl
-cost_there c (e ∷ es) zero = refl
-cost_there c (e ∷ es) (suc i) = cost_there c es i
-
-pub listed_at_cost : (trees : List (Tree ℕ)) (es fs : List Entry) (c : ℕ) → AreListed trees es → fs ≡ map (entry_at_cost c) es → AreListed trees fs
-listed_at_cost trees es fs c a e =
-    let many : length (map (entry_at_cost c) es) ≡ length es = length-map es (entry_at_cost c) in
-    subst (λ (gs : List Entry). AreListed trees gs) (sym e)
-    (record {
-      few = omega (arith, many, a.few);
-      there = λ i h. let t = cost_there c es i in omega (arith, t, a.there i (omega (arith, h, many)));
-      small = λ i h. subst (λ (n : ℕ). size (tree_at trees n) ≤ most_nodes) (sym (cost_there c es i)) (a.small i (omega (arith, h, many)));
-    })
-
-pub told_at_cost :
-    (trees : List (Tree ℕ)) (es fs : List Entry) (c : ℕ) (xs : List Costed) → costed trees es ≡ xs → fs ≡ map (entry_at_cost c) es → map (told trees) fs ≡ map (at_cost c) xs
-told_at_cost trees es fs c xs e f = ap (λ (gs : List Entry). map (told trees) gs) f ∙ each es ∙ ap (λ (ys : List Costed). map (at_cost c) ys) e
-  where
-    each : (gs : List Entry) → map (told trees) (map (entry_at_cost c) gs) ≡ map (at_cost c) (map (told trees) gs)
-    each [] = refl
-    each (g ∷ gs) = ap (λ (ys : List Costed). (tree_at trees g.tree, c) ∷ ys) (each gs)
 
 -- the trees of a list are small
 pub told_small :

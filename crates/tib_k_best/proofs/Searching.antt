@@ -19,7 +19,7 @@ use Rattle.tib_k_best_lists.proofs.Ranks.{cheaper_strict}
 use Rattle.tib_k_best_lists.proofs.Leveling.{levels_list_best}
 use Rattle.tib_k_best_lists.proofs.Telling.{has_or, AreApart, no_fewer}
 use Rattle.tib_k_best_lists.proofs.Children.{get_or-default}
-use Rattle.tib_k_best.specs.Causes.{IsCause, IsLevelCause}
+use Rattle.tib_k_best.specs.Causes.{IsLevelCause, IsUsefulCause}
 use Rattle.tib_k_best.specs.Costs.{AreCosts}
 use Rattle.tib_k_best.specs.declared.error.KBestError.{KBestError}
 use Rattle.tib_k_best.specs.declared.error.KBestError.TheVariants.{TreeTooLarge, OutOfMemory}
@@ -213,9 +213,9 @@ module _ {levelled weighted : Bool} {product : ℕ → ℕ → ℕ} (laws : Prod
 -- a fault of a level is one of the grammar
 pub level_fault :
     (levelled : Bool) (product : ℕ → ℕ → ℕ) (labels : List (List ℕ)) (rules : List (Rule ℕ)) (cs : List ℕ) (k i c : ℕ) → levelled ≡ true → AreCosts rules cs → i < length cs → c ≡ get_or cs i c →
-    (e : KBestError) → IsCause product labels (level c rules) k e → IsLevelCause levelled product labels rules k e
+    (e : KBestError) → IsUsefulCause product labels (level c rules) k e → IsLevelCause levelled product labels rules k e
 level_fault levelled product labels rules cs k i c t costs h at (TreeTooLarge q) large =
     let s = costs.stands i h in
     let same : c ≡ (s.0).cost = at ∙ get_or-default cs i c 0 h ∙ sym s.2 in
-    (level c rules, subst (λ (b : Bool). IsLevel b rules (level c rules)) (sym t) (s.0, s.1, ap (λ (d : ℕ). level d rules) same), large)
+    (level c rules, subst (λ (b : Bool). IsLevel b rules (level c rules)) (sym t) (s.0, s.1, ap (λ (d : ℕ). level d rules) same), large.0, large.1)
 level_fault levelled product labels rules cs k i c t costs h at OutOfMemory large = tt

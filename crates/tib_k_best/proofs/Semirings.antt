@@ -10,7 +10,7 @@ use Rattle.tib_grammar.specs.Run.{rule_at, no_rule, AreRuns}
 use Rattle.tib_grammar.specs.declared.Rule.{Rule}
 use Rattle.tib_k_best_lists.specs.Best.{Costed, IsTreeAt}
 use Rattle.tib_k_best_lists.specs.Levels.{free, level, IsOrderly}
-use Rattle.tib_k_best.specs.Causes.{IsCause, IsLevelCause}
+use Rattle.tib_k_best.specs.Causes.{IsLevelCause, IsUsefulCause}
 use Rattle.tib_k_best.specs.declared.error.KBestError.{KBestError}
 use Rattle.tib_k_best.specs.declared.error.KBestError.TheVariants.{TreeTooLarge, OutOfMemory}
 use Rattle.tib_k_best.proofs.Bests.{orderly_of}
@@ -91,10 +91,10 @@ rule_of product rules q y t = by t.attained.0.runs t.attained.0.are_runs
 -- a fault of the grammar is one of a level of it
 pub either_cause :
     (levelled weighted : Bool) (product : ℕ → ℕ → ℕ) (labels : List (List ℕ)) (rules : List (Rule ℕ)) (k : ℕ) → (levelled ≡ false) ⊎ (weighted ≡ false) →
-    (weighted ≡ false → (n : ℕ) → n < length rules → (rule_at rules n).cost ≡ 0) → (e : KBestError) → IsCause product labels rules k e → IsLevelCause levelled product labels rules k e
-either_cause false weighted product labels rules k o all (TreeTooLarge q) l = (rules, refl, l)
+    (weighted ≡ false → (n : ℕ) → n < length rules → (rule_at rules n).cost ≡ 0) → (e : KBestError) → IsUsefulCause product labels rules k e → IsLevelCause levelled product labels rules k e
+either_cause false weighted product labels rules k o all (TreeTooLarge q) l = (rules, refl, l.0, l.1)
 either_cause true weighted product labels rules k (inl flat) all (TreeTooLarge q) l = absurd (cc)
 either_cause true weighted product labels rules k (inr unweighted) all (TreeTooLarge q) l =
-    let n = rule_of product rules q l.tree l.next.member in
-    (rules, (rule_at rules n.0, has_at rules n.0 no_rule n.1, free_level rules (all unweighted) ∙ ap (λ c. level c rules) (sym (all unweighted n.0 n.1))), l)
+    let n = rule_of product rules q l.1.tree l.1.next.member in
+    (rules, (rule_at rules n.0, has_at rules n.0 no_rule n.1, free_level rules (all unweighted) ∙ ap (λ c. level c rules) (sym (all unweighted n.0 n.1))), l.0, l.1)
 either_cause levelled weighted product labels rules k o all OutOfMemory l = tt

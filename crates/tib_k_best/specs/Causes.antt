@@ -1,6 +1,7 @@
 -- The causes of faults.
 use Rattle.std.specs.Prelude.{◌≡◌, ℕ, Bool, List}
 use Rattle.tib_grammar.specs.declared.Rule.{Rule}
+use Rattle.tib_inside.specs.Useful.{IsUseful}
 use Rattle.tib_k_best_lists.specs.Best.{HasLarge}
 use Rattle.tib_k_best_lists.specs.Levels.{IsLevel}
 use Rattle.tib_asked_lists.specs.declared.error.AskError.{AskError}
@@ -13,10 +14,17 @@ abbrev pub IsCause : (ℕ → ℕ → ℕ) → List (List ℕ) → List (Rule �
 IsCause product labels rules k (TreeTooLarge q) = HasLarge product labels rules k q
 IsCause product labels rules k OutOfMemory = Unit {0}
 
--- a state has it in some level
+-- a useful state has a large tree among its k least
+abbrev pub IsUsefulCause : (ℕ → ℕ → ℕ) → List (List ℕ) → List (Rule ℕ) → ℕ → KBestError → Type 0
+IsUsefulCause product labels rules k (TreeTooLarge q) =
+    IsUseful product rules q × HasLarge product labels rules k q
+IsUsefulCause product labels rules k OutOfMemory = Unit {0}
+
+-- a state that is useful in some level has it there
 abbrev pub IsLevelCause : Bool → (ℕ → ℕ → ℕ) → List (List ℕ) → List (Rule ℕ) → ℕ → KBestError → Type 0
 IsLevelCause levelled product labels rules k (TreeTooLarge q) =
-    (one : List (Rule ℕ)) × IsLevel levelled rules one × HasLarge product labels one k q
+    (one : List (Rule ℕ)) × IsLevel levelled rules one × IsUseful product one q
+    × HasLarge product labels one k q
 IsLevelCause levelled product labels rules k OutOfMemory = Unit {0}
 
 -- a fault of asked lists as one of the list of best trees

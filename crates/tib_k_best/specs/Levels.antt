@@ -1,4 +1,4 @@
--- The rules of a level, trimmed, and its faults under the numbers that the states had before.
+-- Rules that were trimmed, and their faults under the numbers that the states had before.
 use Rattle.std.specs.Prelude.{◌≡◌, ℕ, ◌<◌, List, length}
 use Rattle.std.proofs.Common.{get_or}
 use Rattle.tib_grammar.specs.Range.{AreBelow, AreInRange}
@@ -9,7 +9,7 @@ use Rattle.tib_k_best.specs.declared.error.KBestError.{KBestError}
 use Rattle.tib_k_best.specs.declared.error.KBestError.TheVariants.{TreeTooLarge, OutOfMemory}
 
 -- the rules over the places of these states, each below a number, are what trimming keeps of the others
-pub record IsTrimmedLevel (product : ℕ → ℕ → ℕ) (old : List (Rule ℕ)) (count : ℕ)
+pub record AreKept (product : ℕ → ℕ → ℕ) (old : List (Rule ℕ)) (count : ℕ)
     (states : List ℕ) (new : List (Rule ℕ)) : Type 0 where
   pub trimmed : AreTrimmed product old states new
   pub series : HaveSameSeries product old new

@@ -5,15 +5,15 @@ ghost use Rattle.tib_grammar.specs.Run.{rule_at};
 ghost use Rattle.tib_grammar_file.specs.Printed.{AreLabelled};
 ghost use Rattle.tib_k_best_lists.specs.Best.{Costed, IsKBest};
 ghost use Rattle.tib_k_best_lists.specs.Levels.{IsOrderly};
-ghost use Rattle.tib_k_best.specs.Causes.{IsCause, IsLevelCause};
+ghost use Rattle.tib_k_best.specs.Causes.{IsCause, IsLevelCause, IsUsefulCause};
 ghost use Rattle.tib_k_best.specs.Trimmed.{HaveTreesBelow};
 ghost use Rattle.tib_k_best_lists.specs.Ranked.{AreRanksOf};
 ghost use Rattle.tib_k_best.specs.RankedOf.{ranked_of, AreRanked};
 
-use crate::best::best_of_rules;
+use crate::best::list_of_rules;
 use crate::error::KBestError;
 use crate::lazy::lazy_of_rules;
-use crate::level::no_trees;
+use crate::level::best_of_copy;
 use crate::level_best::k_best_by_levels;
 use crate::listed::List;
 use crate::ranked::Ranked;
@@ -63,36 +63,22 @@ fn in_order(alloc: Global, list: &List) -> Result<Vec<(Cost, u32)>, AllocError>
 }
 
 // All trees below a cost, and none at it.
-fn all_below<S: Semiring>(
-    alloc: Global,
-    list: List,
-    labels: &Labels,
-    ranks: &[u32],
-) -> Result<Split, AllocError>
-    requires ranks { AreRanksOf labels.now ranks.now }
-    ensures { IfOk result (λ s. s.below ≡ list) }
+fn all_below<S: Semiring>(alloc: Global, list: List) -> Split
+    ensures { result.below ≡ list }
 {
-    let at = no_trees::<S>(alloc, labels, ranks)?;
-    let cost = S::one();
-    Ok(Split {
+    Split {
         below: list,
-        at,
-        cost,
-    })
+        at: List::new(alloc),
+        cost: S::one(),
+    }
 }
 
 // The trees of a list, in order.
-fn flat<S: Semiring>(
-    alloc: Global,
-    list: List,
-    labels: &Labels,
-    ranks: &[u32],
-) -> Result<Ranked, AllocError>
-    requires ranks { AreRanksOf labels.now ranks.now }
+fn flat<S: Semiring>(alloc: Global, list: List) -> Result<Ranked, AllocError>
     ensures { IfOk result (λ xs. xs ≡ list) }
 {
     let first = in_order(alloc, &list)?;
-    let split = all_below::<S>(alloc, list, labels, ranks)?;
+    let split = all_below::<S>(alloc, list);
     Ok(Ranked::new(split, first, Vec::new(alloc)))
 }
 
@@ -128,7 +114,7 @@ fn best_flat<S: Semiring>(
     let states = grammar.states();
     let rules = grammar.rule_list();
     if !is_deterministic::<S>(alloc, grammar) {
-        return best_of_rules::<S>(alloc, rules, states as usize, labels, ranks, k);
+        return list_of_rules::<S>(alloc, rules, states as usize, labels, ranks, k);
     }
     match lazy_of_rules::<S>(alloc, rules, states, labels, ranks, k) {
         Ok(lists) => Ok(lists.into_list()),
@@ -136,10 +122,94 @@ fn best_flat<S: Semiring>(
     }
 }
 
-/// The k best trees of a grammar in any semiring: those of `k_best_by_levels` where the product is
-/// the greater factor; elsewhere those of `lazy_of_rules` where the grammar is in deterministic form,
-/// and of `best_of_rules` where it is not. No state below a rule may be without a tree, as in a
-/// trimmed grammar. Faults and worst case are theirs.
+// The k best trees of a grammar, which is copied and trimmed. The product is not the greater factor,
+// or each rule costs 0.
+fn best_trimmed<S: Semiring>(
+    alloc: Global,
+    normal: &Normal<S>,
+    labels: &Labels,
+    ranks: &[u32],
+    k: u32,
+) -> Result<List, KBestError>
+    requires orderly { IsOrderly S.product normal.now.rules }
+    requires labelled { AreLabelled (length labels.now) normal.now.rules }
+    requires ranks { AreRanksOf labels.now ranks.now }
+    requires some { 0 < k }
+    ensures best { IfOk result (λ xs. IsKBest S.product normal.now.rules labels.now k xs) }
+    ensures cause { IfErr result (IsUsefulCause S.product labels.now normal.now.rules k) }
+{
+    let grammar = normal.grammar();
+    grammar.is_sound();
+    best_of_copy::<S>(alloc, grammar.rule_list(), grammar.states(), labels, ranks, k)
+}
+
+// The same of a grammar in which no state below a rule is without a tree, by `best_flat`, where a
+// fault names a useful state: where some state has a large tree, the grammar is copied and trimmed.
+fn best_useful<S: Semiring>(
+    alloc: Global,
+    normal: &Normal<S>,
+    labels: &Labels,
+    ranks: &[u32],
+    k: u32,
+) -> Result<List, KBestError>
+    requires orderly { IsOrderly S.product normal.now.rules }
+    requires labelled { AreLabelled (length labels.now) normal.now.rules }
+    requires ranks { AreRanksOf labels.now ranks.now }
+    requires some { 0 < k }
+    requires trimmed { HaveTreesBelow S.product normal.now.rules }
+    ensures best { IfOk result (λ xs. IsKBest S.product normal.now.rules labels.now k xs) }
+    ensures cause { IfErr result (IsUsefulCause S.product labels.now normal.now.rules k) }
+{
+    match best_flat::<S>(alloc, normal, labels, ranks, k) {
+        Ok(list) => Ok(list),
+        Err(KBestError::TreeTooLarge { .. }) => {
+            best_trimmed::<S>(alloc, normal, labels, ranks, k)
+        }
+        Err(KBestError::OutOfMemory) => Err(KBestError::OutOfMemory),
+    }
+}
+
+/// The k best trees of a grammar, or all where it has fewer, by cost and then in the order of trees,
+/// in any semiring. `TreeTooLarge` names a state that has among its k best trees one of more than
+/// 10,000 nodes and is useful; where the product is the greater factor, it is and has so in some
+/// level. `OutOfMemory` says nothing of the grammar. Worst case: where the product is the greater
+/// factor, that of `k_best_by_levels`; elsewhere that of `trim_rules` and of `best_of_rules`, a copy
+/// of the rules, and O(n log n) comparisons of texts for n labels.
+pub fn k_best<S: Semiring>(
+    alloc: Global,
+    normal: &Normal<S>,
+    labels: &Labels,
+    k: u32,
+) -> Result<Ranked, KBestError>
+    requires free { S.WEIGHTED ≡ false → (n : ℕ) → n < length normal.now.rules →
+        (rule_at normal.now.rules n).cost ≡ 0 }
+    requires labelled { AreLabelled (length labels.now) normal.now.rules }
+    requires some { 0 < k }
+    ensures best { IfOk result (λ xs. IsKBest S.product normal.now.rules labels.now k xs) }
+    ensures cause { IfErr result (IsLevelCause S.LEVELLED S.product labels.now normal.now.rules k) }
+{
+    if is_levelled::<S>() {
+        return k_best_by_levels::<S>(alloc, normal, labels, k);
+    }
+    let Ok(ranks) = label_ranks(alloc, labels) else {
+        return Err(KBestError::OutOfMemory);
+    };
+    let list = match best_trimmed::<S>(alloc, normal, labels, &ranks, k) {
+        Ok(list) => list,
+        Err(error) => return Err(error),
+    };
+    match flat::<S>(alloc, list) {
+        Ok(best) => Ok(best),
+        Err(_) => Err(KBestError::OutOfMemory),
+    }
+}
+
+/// The same list, under the same faults, of a grammar in which no state below a rule is without a
+/// tree, as in a trimmed one. It is not trimmed again, and few entries are placed where it is in
+/// deterministic form. Worst case: where the product is the greater factor, that of
+/// `k_best_by_levels`; elsewhere that of `lazy_of_rules` where the grammar is in deterministic form,
+/// and of `best_of_rules` where it is not, and that of `k_best` besides where some state has a large
+/// tree.
 pub fn best_trees<S: Semiring>(
     alloc: Global,
     normal: &Normal<S>,
@@ -160,11 +230,11 @@ pub fn best_trees<S: Semiring>(
     let Ok(ranks) = label_ranks(alloc, labels) else {
         return Err(KBestError::OutOfMemory);
     };
-    let list = match best_flat::<S>(alloc, normal, labels, &ranks, k) {
+    let list = match best_useful::<S>(alloc, normal, labels, &ranks, k) {
         Ok(list) => list,
         Err(error) => return Err(error),
     };
-    match flat::<S>(alloc, list, labels, &ranks) {
+    match flat::<S>(alloc, list) {
         Ok(best) => Ok(best),
         Err(_) => Err(KBestError::OutOfMemory),
     }

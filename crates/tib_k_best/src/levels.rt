@@ -1,26 +1,13 @@
-// Levels: where the product is the greater factor, the best trees are those of the least level that
-// has some.
-ghost use Rattle.std.specs.Prelude.{◌≡◌, ◌<◌, ◌≤◌, ◌^◌, true, length, map, IfErr, IfOk};
-ghost use Rattle.tib_cost.specs.Semiring.{most};
+// The rules of a level, and what the rules cost, in order.
+ghost use Rattle.std.specs.Prelude.{◌≡◌, ◌<◌, ◌^◌, length, map, IfOk};
 ghost use Rattle.tib_grammar.specs.Forms.{AreNormal, IsNormalSide};
-ghost use Rattle.tib_grammar.specs.Range.{AreInRange};
 ghost use Rattle.tib_grammar.specs.Sides.{holes};
-ghost use Rattle.tib_grammar_file.specs.Printed.{AreLabelled};
-ghost use Rattle.tib_k_best_lists.specs.Ranked.{AreRanksOf};
-ghost use Rattle.tib_k_best_lists.specs.Best.{IsKBest};
-ghost use Rattle.tib_k_best_lists.specs.Levels.{free, level};
-ghost use Rattle.tib_k_best.specs.Causes.{IsCause, IsLevelCause};
-ghost use Rattle.tib_k_best.specs.Costs.{AreCosts};
+ghost use Rattle.tib_k_best_lists.specs.Levels.{level};
+ghost use Rattle.tib_k_best.specs.Costs.{at_cost, AreCosts};
 
-use crate::best::best_of_rules;
-use crate::error::KBestError;
-use crate::listed::List;
 use std::alloc::{AllocError, Global};
 use tib_cost::{Cost, Semiring};
 use tib_grammar::{Rule, Side};
-use tib_k_best_lists::label_ranks;
-use tib_normal::Normal;
-use tib_tree::Labels;
 
 // How many states stand below a rule.
 fn count_of(rule: &Rule<u32>) -> usize
@@ -45,14 +32,15 @@ fn read_states(rule: &Rule<u32>, states: &mut Vec<u32>) -> Result<(), AllocError
     Ok(())
 }
 
-// The same rule at no cost.
-fn free_rule<S: Semiring>(
+// The same rule at another cost.
+fn rule_at_cost(
     alloc: Global,
     rule: &Rule<u32>,
+    cost: Cost,
     states: &mut Vec<u32>,
 ) -> Result<Rule<u32>, AllocError>
     requires { IsNormalSide rule.now.right }
-    ensures { IfOk result (λ r. r ≡ free rule.now) }
+    ensures { IfOk result (λ r. r ≡ at_cost cost rule.now) }
 {
     count_of(rule);
     rule.right.items();
@@ -62,8 +50,24 @@ fn free_rule<S: Semiring>(
     Ok(Rule {
         left: rule.left,
         right,
-        cost: S::one(),
+        cost,
     })
+}
+
+// The same rules.
+pub(crate) fn copied_rules(
+    alloc: Global,
+    rules: &[Rule<u32>],
+) -> Result<Vec<Rule<u32>>, AllocError>
+    requires { AreNormal rules.now }
+    ensures { IfOk result (λ v. v.items ≡ rules.now) }
+{
+    let mut states = Vec::new(alloc);
+    let mut copies = Vec::with_capacity(alloc, rules.len())?;
+    for rule in rules {
+        copies.push(rule_at_cost(alloc, rule, rule.cost, &mut states)?)?;
+    }
+    Ok(copies)
 }
 
 /// The rules of a level: those that cost no more, each at no cost. Only want of memory is an error.
@@ -82,7 +86,7 @@ pub fn level_rules<S: Semiring>(
         if rule.cost > cost {
             continue;
         }
-        free.push(free_rule::<S>(alloc, rule, &mut states)?)?;
+        free.push(rule_at_cost(alloc, rule, S::one(), &mut states)?)?;
     }
     Ok(free)
 }
@@ -106,96 +110,4 @@ pub fn sorted_costs(alloc: Global, rules: &[Rule<u32>]) -> Result<Vec<Cost>, All
     let mut costs = costs_of(alloc, rules)?;
     costs.sort()?;
     Ok(costs)
-}
-
-// The list of the best tree of a level.
-fn best_of_level<S: Semiring>(
-    alloc: Global,
-    rules: &[Rule<u32>],
-    cost: Cost,
-    states: usize,
-    labels: &Labels,
-    ranks: &[u32],
-) -> Result<List, KBestError>
-    requires few { length rules.now < 2 ^ 32 }
-    requires start { 0 < states }
-    requires normal { AreNormal rules.now }
-    requires range { AreInRange states rules.now }
-    requires labelled { AreLabelled (length labels.now) rules.now }
-    requires ranks { AreRanksOf labels.now ranks.now }
-    ensures best { IfOk result (λ xs. IsKBest S.product (level cost rules.now) labels.now 1 xs) }
-    ensures within { cost ≤ most }
-    ensures cause { IfErr result (IsCause S.product labels.now (level cost rules.now) 1) }
-{
-    let Ok(level) = level_rules::<S>(alloc, rules, cost) else {
-        return Err(KBestError::OutOfMemory);
-    };
-    best_of_rules::<S>(alloc, &level, states, labels, ranks, 1)
-}
-
-// The list of the best tree of the least level that has one, at the cost of that level.
-fn best_of_levels<S: Semiring>(
-    alloc: Global,
-    rules: &[Rule<u32>],
-    states: usize,
-    labels: &Labels,
-    ranks: &[u32],
-) -> Result<List, KBestError>
-    requires levelled { S.LEVELLED ≡ true }
-    requires few { length rules.now < 2 ^ 32 }
-    requires start { 0 < states }
-    requires normal { AreNormal rules.now }
-    requires range { AreInRange states rules.now }
-    requires labelled { AreLabelled (length labels.now) rules.now }
-    requires ranks { AreRanksOf labels.now ranks.now }
-    ensures best { IfOk result (λ xs. IsKBest S.product rules.now labels.now 1 xs) }
-    ensures cause { IfErr result (IsLevelCause S.LEVELLED S.product labels.now rules.now 1) }
-{
-    let Ok(costs) = sorted_costs(alloc, rules) else {
-        return Err(KBestError::OutOfMemory);
-    };
-    let mut low = 0;
-    let mut high = costs.len();
-    let mut best = List::new(alloc);
-    while low < high {
-        let middle = low + (high - low) / 2;
-        let cost = costs[middle];
-        let list = match best_of_level::<S>(alloc, rules, cost, states, labels, ranks) {
-            Ok(list) => list,
-            Err(error) => return Err(error),
-        };
-        if list.len() == 0 {
-            low = middle + 1;
-            continue;
-        }
-        best = match list.at_cost(alloc, cost) {
-            Ok(list) => list,
-            Err(_) => return Err(KBestError::OutOfMemory),
-        };
-        high = middle;
-    }
-    Ok(best)
-}
-
-/// The best tree of a grammar, where it has one, in a semiring whose product is the greater factor:
-/// the first tree of the least level that has one. `TreeTooLarge` names a state that has in some
-/// level a best tree of more than 10,000 nodes; `OutOfMemory` says nothing of the grammar. Worst
-/// case: that of `first_trees` for O(log r) levels of r rules, which are copied.
-pub fn best_tree_by_levels<S: Semiring>(
-    alloc: Global,
-    normal: &Normal<S>,
-    labels: &Labels,
-) -> Result<List, KBestError>
-    requires levelled { S.LEVELLED ≡ true }
-    requires labelled { AreLabelled (length labels.now) normal.now.rules }
-    ensures best { IfOk result (λ xs. IsKBest S.product normal.now.rules labels.now 1 xs) }
-    ensures cause { IfErr result (IsLevelCause S.LEVELLED S.product labels.now normal.now.rules 1) }
-{
-    let Ok(ranks) = label_ranks(alloc, labels) else {
-        return Err(KBestError::OutOfMemory);
-    };
-    let grammar = normal.grammar();
-    grammar.is_sound();
-    let states = grammar.states() as usize;
-    best_of_levels::<S>(alloc, grammar.rule_list(), states, labels, &ranks)
 }

@@ -21,14 +21,14 @@ mod search;
 mod settling;
 mod weights;
 
-pub use best::{best_of_rules, best_tree, k_best};
+pub use best::best_of_rules;
 pub use error::KBestError;
-pub use every::best_trees;
+pub use every::{best_trees, k_best};
 pub use first::first_trees;
 pub use laws::trimmed_has_trees;
 pub use lazy::{LazyList, lazy_k_best, lazy_of_rules};
 pub use level_best::k_best_by_levels;
-pub use levels::{best_tree_by_levels, level_rules, sorted_costs};
+pub use levels::{level_rules, sorted_costs};
 pub use listed::List;
 pub use queue::{Queue, Waiting};
 pub use ranked::Ranked;

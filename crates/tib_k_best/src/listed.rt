@@ -4,7 +4,6 @@ ghost use Rattle.std.proofs.Common.{get_or};
 ghost use Rattle.tib_tree.specs.Trees.{most_nodes, size};
 ghost use Rattle.tib_k_best_lists.specs.Pass.{no_entry};
 ghost use Rattle.tib_k_best_lists.specs.Held.{entries_of, IsSound};
-ghost use Rattle.tib_k_best.specs.Costs.{at_cost, entry_at_cost};
 ghost use Rattle.tib_k_best.specs.Listing.{costed, AreListed};
 
 use std::alloc::{AllocError, Global};
@@ -34,21 +33,6 @@ impl Model for List {
     ghost invariant = { λ l. AreListed l.trees l.entries.items };
 }
 
-// The same entries at another cost.
-fn entries_at(alloc: Global, entries: &[Entry], cost: Cost) -> Result<Vec<Entry>, AllocError>
-    ensures { IfOk result (λ v. v.items ≡ map (entry_at_cost cost) entries.now) }
-{
-    let mut same = Vec::with_capacity(alloc, entries.len())?;
-    for entry in entries {
-        same.push(Entry {
-            tree: entry.tree,
-            cost,
-            candidate: entry.candidate,
-        })?;
-    }
-    Ok(same)
-}
-
 impl List {
     // No trees.
     pub(crate) fn new(alloc: Global) -> List
@@ -58,15 +42,6 @@ impl List {
             trees: Shared::new(alloc),
             entries: Vec::new(alloc),
         }
-    }
-
-    // The same trees at another cost.
-    pub(crate) fn at_cost(self, alloc: Global, cost: Cost) -> Result<List, AllocError>
-        ensures { IfOk result (λ xs. xs ≡ map (at_cost cost) self) }
-    {
-        let List { trees, entries } = self;
-        let entries = entries_at(alloc, &entries, cost)?;
-        Ok(List { trees, entries })
     }
 
     // Entries over the trees that they name.

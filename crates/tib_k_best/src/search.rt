@@ -8,7 +8,7 @@ ghost use Rattle.tib_k_best.specs.Causes.{IsLevelCause};
 ghost use Rattle.tib_k_best.specs.Splits.{IsSplit};
 
 use crate::error::KBestError;
-use crate::level::{best_of_level, no_trees};
+use crate::level::best_of_level;
 use crate::levels::sorted_costs;
 use crate::listed::List;
 use std::alloc::Global;
@@ -48,12 +48,8 @@ pub(crate) fn split_levels<S: Semiring>(
     let Ok(costs) = sorted_costs(alloc, rules) else {
         return Err(KBestError::OutOfMemory);
     };
-    let Ok(mut below) = no_trees::<S>(alloc, labels, ranks) else {
-        return Err(KBestError::OutOfMemory);
-    };
-    let Ok(mut at) = no_trees::<S>(alloc, labels, ranks) else {
-        return Err(KBestError::OutOfMemory);
-    };
+    let mut below = List::new(alloc);
+    let mut at = List::new(alloc);
     let mut low = 0;
     let mut high = costs.len();
     while low < high {

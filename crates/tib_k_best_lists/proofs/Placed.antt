@@ -18,7 +18,7 @@ use Rattle.tib_tree.specs.Growth.{text_at}
 use Rattle.tib_tree.specs.Grows.{AreDistinct}
 use Rattle.tib_tree.proofs.Orderings.{three_ways}
 use Rattle.tib_tree.proofs.Relabelling.{same_text}
-use Rattle.tib_k_best_lists.specs.Ranked.{AreRanksOf}
+use Rattle.tib_k_best_lists.specs.Ranked.{ArePlaces, AreRanksOf}
 use Rattle.tib_k_best_lists.specs.TextOrder.{text_cmp, AreLabelsBelow, IsTextOrder}
 
 -- what is read within a list depends on no default
@@ -137,6 +137,26 @@ not_less a Greater e h n = let less : a ≡ Less = e in absurd (cc (rw less at h
 turned_less : (a b : Ordering) → a ≡ ordering_reverse b → b ≡ Less → a ≡ Greater
 turned_less a b e k = e ∙ ap ordering_reverse k
 
+-- where all labels are placed, each stands at its place
+placed_at :
+    (n : ℕ) (order ranks : List ℕ) → AreLabelsBelow n order → ArePlaced order ranks n (length order) → (f : ℕ) → f < n →
+    (get_or ranks f 0 < length order) × (get_or order (get_or ranks f 0) 0 ≡ f)
+placed_at n order ranks all p f h =
+    let c = all.held f h in
+    let e : get_or order c.0 0 ≡ f = read_same order c.0 0 f c.1 ∙ c.2 in
+    subst (λ k. (get_or ranks k 0 < length order) × (get_or order (get_or ranks k 0) 0 ≡ k)) e (p.placed c.0 c.1)
+
+-- so each has a place of its own
+pub places_apart :
+    (labels : List (List ℕ)) (order ranks : List ℕ) → IsTextOrder labels order → ArePlaced order ranks (length labels) (length order) → ArePlaces labels ranks
+places_apart labels order ranks t p = record {
+  below = λ f h. omega (arith, (stands f h).0, t.all.long);
+  apart = λ f g h k e. sym (stands f h).1 ∙ ap (λ x. get_or order x 0) e ∙ (stands g k).1;
+}
+  where
+    stands : (f : ℕ) → f < length labels → (get_or ranks f 0 < length order) × (get_or order (get_or ranks f 0) 0 ≡ f)
+    stands f h = placed_at (length labels) order ranks t.all p f h
+
 -- where all labels are placed in the order of texts, their places are their ranks
 pub places_rank :
     (labels : List (List ℕ)) (order ranks : List ℕ) → AreDistinct labels → IsTextOrder labels order →
@@ -144,10 +164,7 @@ pub places_rank :
 places_rank labels order ranks distinct t p = record { long = p.long; order = λ f g h k. by f g h k }
   where
     stands : (f : ℕ) → f < length labels → (get_or ranks f 0 < length order) × (get_or order (get_or ranks f 0) 0 ≡ f)
-    stands f h =
-        let c = t.all.held f h in
-        let e : get_or order c.0 0 ≡ f = read_same order c.0 0 f c.1 ∙ c.2 in
-        subst (λ k. (get_or ranks k 0 < length order) × (get_or order (get_or ranks k 0) 0 ≡ k)) e (p.placed c.0 c.1)
+    stands f h = placed_at (length labels) order ranks t.all p f h
 
     less : (f g : ℕ) → f < length labels → g < length labels → get_or ranks f 0 < get_or ranks g 0 → text_cmp labels f g ≡ Less
     less f g h k l =

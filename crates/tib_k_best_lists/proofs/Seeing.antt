@@ -192,6 +192,12 @@ shapes_after (Ok n) before f ms now ts v a b adds err =
     more_shapes before f ms now a (λ m h. omega (arith, b m h, seen_long before, ap (λ (us : List (Tree ℕ)). length us) v)) adds
 shapes_after (Err e) before f ms now ts v a b adds err = subst AreShapes (sym err) a
 
+-- after an error the trees are the same
+pub kept_after :
+    {E : Type 0} (r : Result ℕ E) (before now : List (List ℕ)) (ts : List (Tree ℕ)) → seen before ≡ ts → OnErr r (now ≡ before) → OnErr r (seen now ≡ ts)
+kept_after (Ok n) before now ts v err = tt
+kept_after (Err e) before now ts v err = ap seen err ∙ v
+
 pub inserted :
     {E : Type 0} (r : Result ℕ E) (before : List (List ℕ)) (f : ℕ) (ms : List ℕ) (now : List (List ℕ)) (ts : List (Tree ℕ)) → seen before ≡ ts → AreShapes before → NumbersBelow (length ts) ms →
     IfOk r (λ n. n < length now) → IfOk r (λ _. Adds before (f ∷ ms) now) →

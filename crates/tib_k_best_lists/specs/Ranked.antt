@@ -18,6 +18,12 @@ pub record AreRanksOf (labels : List (List ℕ)) (ranks : List ℕ) : Type 0 whe
       nat_cmp (get_or ranks f 0) (get_or ranks g 0)
       ≡ slice_cmp nat_cmp (text_at labels f) (text_at labels g)
 
+-- each label has a place of its own among as many
+pub record ArePlaces (labels : List (List ℕ)) (ranks : List ℕ) : Type 0 where
+  pub below : (f : ℕ) → f < length labels → get_or ranks f 0 < length labels
+  pub apart :
+      (f g : ℕ) → f < length labels → g < length labels → get_or ranks f 0 ≡ get_or ranks g 0 → f ≡ g
+
 -- One of two trees has fewer nodes than the greatest size that is told, so their sizes compare as
 -- they are told.
 abbrev pub IsOneSmall : Tree ℕ → Tree ℕ → Type 0

@@ -1,5 +1,5 @@
 // Trees by numbers, as the list of them.
-ghost use Rattle.std.specs.Prelude.{◌≡◌, ℕ, ◌<◌, ◌≤◌, [], length, min, IfOk};
+ghost use Rattle.std.specs.Prelude.{◌≡◌, ℕ, ◌<◌, ◌≤◌, [], length, min, IfOk, OnErr};
 ghost use Rattle.tib_tree.specs.Trees.{most_nodes, only, size};
 ghost use Rattle.tib_tree.specs.Growth.{LabelsBelow};
 ghost use Rattle.tib_tree.specs.Grows.{AreDistinct};
@@ -64,10 +64,12 @@ impl Shared {
         self.trees.size(tree)
     }
 
-    /// The number of a tree, which is appended where it is new. Only want of memory is an error.
+    /// The number of a tree, which is appended where it is new. Only running out of memory is an
+    /// error, and after it the trees are the same.
     pub fn insert(&mut self, label: Label, children: &[u32]) -> Result<u32, AllocError>
         requires { NumbersBelow (length self.old) children.now }
-        ensures { IfOk result (λ n. Inserts self.old label children.now n self.new) }
+        ensures inserts { IfOk result (λ n. Inserts self.old label children.now n self.new) }
+        ensures err { OnErr result (self.new ≡ self.old) }
     {
         self.trees.insert(label, children)
     }

@@ -1,7 +1,7 @@
 // The places of labels in the order of their texts.
 ghost use Rattle.std.specs.Prelude.{◌≡◌, ◌<◌, length, IfOk};
 ghost use Rattle.tib_tree.specs.Growth.{text_at};
-ghost use Rattle.tib_k_best_lists.specs.Ranked.{AreRanksOf};
+ghost use Rattle.tib_k_best_lists.specs.Ranked.{ArePlaces, AreRanksOf};
 ghost use Rattle.tib_k_best_lists.specs.TextOrder.{text_cmp, AreLabelsBelow, IsTextOrder};
 
 use std::alloc::{AllocError, Global};
@@ -50,7 +50,8 @@ fn sorted_labels(alloc: Global, labels: &Labels) -> Result<Vec<Label>, AllocErro
 // The place of each label in an order of all of them.
 fn places_in(alloc: Global, labels: &Labels, order: &[Label]) -> Result<Vec<u32>, AllocError>
     requires { IsTextOrder labels.now order.now }
-    ensures { IfOk result (λ ranks. AreRanksOf labels.now ranks.items) }
+    ensures order { IfOk result (λ ranks. AreRanksOf labels.now ranks.items) }
+    ensures places { IfOk result (λ ranks. ArePlaces labels.now ranks.items) }
 {
     let count = labels.len();
     let mut ranks = vec![in alloc; 0u32; count]?;
@@ -60,10 +61,11 @@ fn places_in(alloc: Global, labels: &Labels, order: &[Label]) -> Result<Vec<u32>
     Ok(ranks)
 }
 
-/// The rank of each label, its place in the order of the labels' texts by their bytes. Only want of
-/// memory is an error. Worst case: O(n log n) comparisons of texts for n labels.
+/// The rank of each label, its place from 0 in the order of the labels' texts by their bytes. Only
+/// running out of memory is an error. Worst case: O(n log n) comparisons of texts for n labels.
 pub fn label_ranks(alloc: Global, labels: &Labels) -> Result<Vec<u32>, AllocError>
-    ensures { IfOk result (λ ranks. AreRanksOf labels.now ranks.items) }
+    ensures order { IfOk result (λ ranks. AreRanksOf labels.now ranks.items) }
+    ensures places { IfOk result (λ ranks. ArePlaces labels.now ranks.items) }
 {
     let order = sorted_labels(alloc, labels)?;
     places_in(alloc, labels, &order)

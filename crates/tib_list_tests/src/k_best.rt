@@ -2,10 +2,10 @@
 ghost use Rattle.std.specs.Prelude.{[], ◌≡◌, length};
 ghost use Rattle.tib_grammar_file.specs.Printed.{AreLabelled};
 
-use crate::texts::{read, write_answer, write_number};
-use std::alloc::{AllocError, Global};
+use crate::texts::{read, write_answer, write_doublings};
+use std::alloc::Global;
 use tib_cost::MinPlus;
-use tib_k_best::best_tree;
+use tib_k_best::k_best;
 use tib_normal::Normal;
 use tib_tree::Labels;
 
@@ -13,7 +13,7 @@ use tib_tree::Labels;
 fn is_best(normal: &Normal<MinPlus>, labels: &Labels, told: &mut String, want: &str) -> bool
     requires { AreLabelled (length labels.now) normal.now.rules }
 {
-    let answer = best_tree::<MinPlus>(*told.allocator(), normal, labels);
+    let answer = k_best::<MinPlus>(*told.allocator(), normal, labels, 1);
     write_answer(told, answer).is_ok() && told.as_str() == want
 }
 
@@ -64,40 +64,20 @@ fn best_trees(rt: HostRuntime) {
     }
 }
 
-// A word and the number of a state.
-fn write_state(text: &mut String, word: &str, state: u64) -> Result<(), AllocError> {
-    text.push_str(word)?;
-    write_number(text, state)
-}
-
-// The rule of a state over two of the next.
-fn write_doubling(text: &mut String, state: u64, next: u64) -> Result<(), AllocError> {
-    write_state(text, "p", state)?;
-    write_state(text, " -> f(p", next)?;
-    write_state(text, " p", next)?;
-    text.push_str(")\n")
-}
-
-// States p0 to the last one, each with a rule over two of the next, and a leaf.
-fn write_doublings(text: &mut String, last: u8) -> Result<(), AllocError> {
-    text.push_str("p0\n")?;
-    for i in 0..last {
-        let state = u64::from(i);
-        write_doubling(text, state, state.wrapping_add(1))?;
-    }
-    write_state(text, "p", u64::from(last))?;
-    text.push_str(" -> a\n")
-}
-
-// Whether the best tree of the grammar of these states is written as it is wanted.
-fn is_best_of_doublings(alloc: Global, last: u8, want: &str) -> bool {
+// Whether the best tree of the grammar of these lines and states is written as it is wanted.
+fn is_best_of_doublings(alloc: Global, before: &str, last: u8, want: &str) -> bool {
     let mut text = String::new(alloc);
-    write_doublings(&mut text, last).is_ok() && is_best_of(alloc, text.as_str(), want)
+    write_doublings(&mut text, before, last).is_ok() && is_best_of(alloc, text.as_str(), want)
 }
 
 #[test]
 fn a_tree_of_too_many_nodes(rt: HostRuntime) {
     for (last, want) in [(12, "8191 nodes # 0; "), (13, "too large: 0")] {
-        assert!(rt; is_best_of_doublings(rt.alloc(), last, want));
+        assert!(rt; is_best_of_doublings(rt.alloc(), "p0\n", last, want));
     }
+}
+
+#[test]
+fn a_state_of_no_use_may_have_large_trees(rt: HostRuntime) {
+    assert!(rt; is_best_of_doublings(rt.alloc(), "q\nq -> b\n", 13, "0/0 # 0; "));
 }

@@ -155,7 +155,6 @@ fn write_best(
     k: u32,
 ) -> Result<(), AllocError>
     requires labelled { AreLabelled (length labels.now) normal.now.rules }
-    requires trimmed { HaveTreesBelow ◌+◌ normal.now.rules }
     requires some { 0 < k }
 {
     let answer = k_best::<MinPlus>(*told.allocator(), normal, labels, k);

@@ -1,9 +1,7 @@
 //! Tests of lists of best trees and of what they rest on: heaps, shared trees, outside costs,
-//! pruning, costs of trees, the best tree, the lists, and both where the greatest cost counts.
+//! pruning, costs of trees, and the lists, also where the greatest cost counts.
 #![tactic(auto)]
 
-#[cfg(test)]
-mod best_by_levels;
 #[cfg(test)]
 mod heap;
 #[cfg(test)]

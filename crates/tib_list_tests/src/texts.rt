@@ -6,7 +6,7 @@ ghost use Rattle.tib_grammar_file.specs.Printed.{AreLabelled};
 use std::alloc::{AllocError, Global};
 use tib_cost::{Cost, Semiring};
 use tib_grammar_file::read_grammar;
-use tib_k_best::{KBestError, List};
+use tib_k_best::{KBestError, List, Ranked};
 use tib_normal::Normal;
 use tib_tree::{Labels, Tree};
 
@@ -46,6 +46,14 @@ pub(crate) fn write_list(text: &mut String, list: &List) -> Result<(), AllocErro
     Ok(())
 }
 
+fn write_ranked(text: &mut String, list: &Ranked) -> Result<(), AllocError> {
+    for i in 0..list.len() {
+        let tree = list.tree(*text.allocator(), i)?;
+        write_entry(text, &tree, list.cost(i))?;
+    }
+    Ok(())
+}
+
 pub(crate) fn write_fault(text: &mut String, error: KBestError) -> Result<(), AllocError> {
     let KBestError::TreeTooLarge { state } = error else {
         return Err(AllocError);
@@ -56,12 +64,37 @@ pub(crate) fn write_fault(text: &mut String, error: KBestError) -> Result<(), Al
 
 pub(crate) fn write_answer(
     text: &mut String,
-    answer: Result<List, KBestError>,
+    answer: Result<Ranked, KBestError>,
 ) -> Result<(), AllocError> {
     match answer {
-        Ok(list) => write_list(text, &list),
+        Ok(list) => write_ranked(text, &list),
         Err(error) => write_fault(text, error),
     }
+}
+
+// A word and the number of a state.
+fn write_state(text: &mut String, word: &str, state: u64) -> Result<(), AllocError> {
+    text.push_str(word)?;
+    write_number(text, state)
+}
+
+// The rule of a state over two of the next.
+fn write_doubling(text: &mut String, state: u64, next: u64) -> Result<(), AllocError> {
+    write_state(text, "p", state)?;
+    write_state(text, " -> f(p", next)?;
+    write_state(text, " p", next)?;
+    text.push_str(")\n")
+}
+
+// Some lines, and states p0 to the last one, each with a rule over two of the next, and a leaf.
+pub(crate) fn write_doublings(text: &mut String, before: &str, last: u8) -> Result<(), AllocError> {
+    text.push_str(before)?;
+    for i in 0..last {
+        let state = u64::from(i);
+        write_doubling(text, state, state.wrapping_add(1))?;
+    }
+    write_state(text, "p", u64::from(last))?;
+    text.push_str(" -> a\n")
 }
 
 // The grammar of a text, where it is in normal form. Its labels go into a table that had none.

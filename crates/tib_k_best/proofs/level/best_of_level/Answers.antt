@@ -1,48 +1,26 @@
-use Rattle.std.specs.Prelude.{ℕ, List, length}
-use Rattle.std.proofs.Common.{sym, subst}
+use Rattle.std.specs.Prelude.{◌<◌, ◌^◌, ℕ, List, length}
+use Rattle.std.proofs.Common.{arith, ap, sym, subst}
 use Rattle.tib_grammar.specs.Forms.{AreNormal}
+use Rattle.tib_grammar.specs.Range.{AreInRange}
 use Rattle.tib_grammar.specs.declared.Rule.{Rule}
 use Rattle.tib_grammar_file.specs.Printed.{AreLabelled}
-use Rattle.tib_k_best.proofs.Levelled.{level_labelled, level_normal, level_orderly}
-use Rattle.tib_k_best.specs.Causes.{IsCause}
-use Rattle.tib_k_best.specs.Trimmed.{HaveTreesBelow}
 use Rattle.tib_k_best_lists.specs.Best.{IsKBest}
-use Rattle.tib_k_best_lists.specs.Levels.{level, IsOrderly}
-use Rattle.tib_k_best.specs.Levels.{IsRenamed}
-use Rattle.tib_k_best.proofs.LevelTrimming.{trimmed_best, trimmed_cause, trimmed_labelled, trimmed_normal, trimmed_orderly, trimmed_trees}
+use Rattle.tib_k_best_lists.specs.Levels.{IsOrderly}
+use Rattle.tib_k_best.proofs.Levelled.{level_few, level_labelled, level_normal, level_orderly, level_range}
 use Rattle.tib_k_best.proofs.level.best_of_level.Goals as goal
 
-pub best_of_rules-requires-clause-normal : goal.best_of_rules-requires-clause-normal
-best_of_rules-requires-clause-normal g c =
-    subst AreNormal (sym c.deref.ensures.value)
-    (trimmed_normal g.S.Semiring.product (level c.args.cost c.args.rules.now) c.args.states c.in-Ok.trimmed.states.items c.in-Ok.trimmed.rules.items c.in-Ok.ensures.level
-    (level_normal c.args.cost c.args.rules.now c.requires.normal))
+pub best_of_useful-requires-clause-few : goal.best_of_useful-requires-clause-few
+best_of_useful-requires-clause-few g c = omega (arith, c.requires.few, level_few c.args.cost c.args.rules.now, ap (λ (rs : List (Rule ℕ)). length rs) c.in-Ok.ensures)
 
-pub best_of_rules-requires-clause-labelled : goal.best_of_rules-requires-clause-labelled
-best_of_rules-requires-clause-labelled g c =
-    subst (AreLabelled (length c.args.labels.now)) (sym c.deref.ensures.value)
-    (trimmed_labelled g.S.Semiring.product (level c.args.cost c.args.rules.now) c.args.states c.in-Ok.trimmed.states.items c.in-Ok.trimmed.rules.items c.in-Ok.ensures.level (length c.args.labels.now)
-    (level_labelled c.args.cost c.args.rules.now (length c.args.labels.now) c.requires.labelled))
+pub best_of_useful-requires-clause-normal : goal.best_of_useful-requires-clause-normal
+best_of_useful-requires-clause-normal g c = subst AreNormal (sym c.in-Ok.ensures) (level_normal c.args.cost c.args.rules.now c.requires.normal)
 
-pub best_of_rules-requires-clause-orderly : goal.best_of_rules-requires-clause-orderly
-best_of_rules-requires-clause-orderly g c =
-    subst (IsOrderly g.S.Semiring.product) (sym c.deref.ensures.value)
-    (trimmed_orderly g.S.Semiring.product (level c.args.cost c.args.rules.now) c.args.states c.in-Ok.trimmed.states.items c.in-Ok.trimmed.rules.items c.in-Ok.ensures.level
-    (level_orderly g.S.Semiring.product c.args.cost c.args.rules.now))
+pub best_of_useful-requires-clause-range : goal.best_of_useful-requires-clause-range
+best_of_useful-requires-clause-range g c = subst (AreInRange c.args.states) (sym c.in-Ok.ensures) (level_range c.args.cost c.args.rules.now c.args.states c.requires.range)
 
-pub best_of_rules-requires-clause-trimmed : goal.best_of_rules-requires-clause-trimmed
-best_of_rules-requires-clause-trimmed g c = λ many. subst (HaveTreesBelow g.S.Semiring.product) (sym c.deref.ensures.value)
-    (trimmed_trees g.S.Semiring.product (level c.args.cost c.args.rules.now) c.args.states c.in-Ok.trimmed.states.items c.in-Ok.trimmed.rules.items c.in-Ok.ensures.level
-    (level_normal c.args.cost c.args.rules.now c.requires.normal) c.trimmed_has_trees.ensures)
+pub best_of_useful-requires-clause-labelled : goal.best_of_useful-requires-clause-labelled
+best_of_useful-requires-clause-labelled g c =
+    subst (AreLabelled (length c.args.labels.now)) (sym c.in-Ok.ensures) (level_labelled c.args.cost c.args.rules.now (length c.args.labels.now) c.requires.labelled)
 
-pub returns-in-Ok-best_of_rules-clause-best : goal.returns-in-Ok-best_of_rules-clause-best
-returns-in-Ok-best_of_rules-clause-best g c =
-    trimmed_best g.S.Semiring.product (level c.args.cost c.args.rules.now) c.args.states c.in-Ok.trimmed.states.items c.in-Ok.trimmed.rules.items c.in-Ok.ensures.level c.args.labels.now c.args.k
-    c.in-Ok-best_of_rules.list
-    (subst (λ (rs : List (Rule ℕ)). IsKBest g.S.Semiring.product rs c.args.labels.now c.args.k c.in-Ok-best_of_rules.list) c.deref.ensures.value c.in-Ok-best_of_rules.ensures.best)
-
-pub returns-clause-cause : goal.returns-clause-cause
-returns-clause-cause g c =
-    trimmed_cause g.S.Semiring.product (level c.args.cost c.args.rules.now) c.args.states c.in-Ok.trimmed.states.items c.in-Ok.trimmed.rules.items c.in-Ok.ensures.level c.args.labels.now c.args.k
-    c.in-Err.error c.renamed.result (subst (λ (qs : List ℕ). IsRenamed qs c.in-Err.error c.renamed.result) c.deref-in-Err.ensures.value c.renamed.ensures)
-    (subst (λ (rs : List (Rule ℕ)). IsCause g.S.Semiring.product c.args.labels.now rs c.args.k c.in-Err.error) c.deref.ensures.value c.in-Err.ensures.cause)
+pub best_of_useful-requires-clause-orderly : goal.best_of_useful-requires-clause-orderly
+best_of_useful-requires-clause-orderly g c = subst (IsOrderly g.S.Semiring.product) (sym c.in-Ok.ensures) (level_orderly g.S.Semiring.product c.args.cost c.args.rules.now)

@@ -1,7 +1,7 @@
 use Rattle.std.specs.Prelude.{List}
 use Rattle.std.proofs.Common.{subst, sym}
 use Rattle.tib_k_best_lists.specs.Best.{Costed, IsKBest}
-use Rattle.tib_k_best.proofs.best.best_of_rules.Goals as goal
+use Rattle.tib_k_best.proofs.best.list_of_rules.Goals as goal
 
 pub returns-in-Ok-clause-best : goal.returns-in-Ok-clause-best
 returns-in-Ok-clause-best g c =

@@ -1,9 +1,0 @@
-use Rattle.std.proofs.Common.{◌-◌}
-use Rattle.tib_k_best.specs.Costs.{IsSearched}
-use Rattle.tib_k_best.proofs.levels.best_of_levels.Given as goal
-
-abbrev pub invariant-loop-low : goal.invariant-loop-low
-invariant-loop-low g l = IsSearched g.S.Semiring.product l.labels l.rules l.costs.items l.low l.high l.best
-
-abbrev pub decreases-loop-low : goal.decreases-loop-low
-decreases-loop-low g l = l.high - l.low
