@@ -6,6 +6,7 @@ pub mod Steps
 pub mod Taken
 pub mod Grown
 pub mod Drawn
+pub mod Led
 pub mod Listed
 pub mod Noted
 pub mod Placed

@@ -251,6 +251,8 @@ module _ {levelled weighted : Bool} {product : ℕ → ℕ → ℕ} (laws : Prod
     placed = elim l.how [
       | inl h ↦ inl (ap (λ (z : ListsOf). z.lists) h.0)
       | inr h ↦ inr (subst (λ (z : ListsOf). IsPlaced x u m z) (sym h.0) (record {
+        rules = refl;
+        ranks = refl;
         candidates = refl;
         entry = record { tree = l.number; cost = d.cost; candidate = m };
         lists = refl;

@@ -1,22 +1,25 @@
 -- What is listed while demands are met.
-use Rattle.std.specs.Prelude.{◌≡◌, ◌⊎◌, ℕ, ◌+◌, ◌-◌, ◌<◌, ◌≤◌, Bool, List, [], ◌∷◌, ◌++◌, length, sum_by, Result, Ok, Err, OnOk, refl}
-use Rattle.std.proofs.Common.{suc, arith, ap, sym, ◌∙◌, subst, inl, inr, get_or, length-append}
+use Rattle.std.specs.Prelude.{◌≡◌, ◌⊎◌, ℕ, ◌+◌, ◌-◌, ◌<◌, ◌≤◌, Bool, List, [], ◌∷◌, ◌++◌, length, sum_by, take, drop, Result, Ok, Err, OnOk, refl}
+use Rattle.std.proofs.Common.{suc, arith, ap, sym, ◌∙◌, subst, inl, inr, get_or, append_assoc, length-append}
 use Rattle.std.proofs.Math.ListN.{set}
 use Rattle.std.proofs.lemmas.List.{length-map}
 use Rattle.std.proofs.lemmas.List.Sums.{sum_by-cons, sum_by_push, sum_by-set}
 use Rattle.tib_lex.specs.Lists.{Has}
+use Rattle.tib_lex.proofs.Lists.{append_nil}
 use Rattle.tib_lex.proofs.Members.{has_left, has_right, has_either}
 use Rattle.tib_cost.specs.Semiring.{ProductLaws}
 use Rattle.tib_tree.specs.Trees.{Tree, size}
 use Rattle.tib_grammar.specs.declared.Rule.{Rule}
 use Rattle.tib_k_best_lists.specs.Best.{Costed, IsFrontAt, IsKBest}
 use Rattle.tib_k_best_lists.specs.Lazy.{IsWhole}
-use Rattle.tib_k_best_lists.specs.Levels.{IsOrderly}
+use Rattle.tib_k_best_lists.specs.Levels.{states_at, IsOrderly}
 use Rattle.tib_k_best_lists.specs.Pass.{entry_at, no_entry, HasTree}
+use Rattle.tib_k_best_lists.proofs.Children.{below_at, states_below}
 use Rattle.tib_k_best_lists.proofs.Going.{grow}
+use Rattle.tib_k_best_lists.proofs.Growing.{ranks_from_kept}
 use Rattle.tib_k_best_lists.proofs.Keeping.{get_or-front}
 use Rattle.tib_k_best_lists.specs.ListsOf.{ListsOf}
-use Rattle.tib_k_best_lists.specs.Held.{list_of, told, entries_of, candidate_at, no_candidate, ranks_from, ranks_of, tree_by}
+use Rattle.tib_k_best_lists.specs.Held.{list_of, told, entries_of, below_of, candidate_at, no_candidate, ranks_from, ranks_of, tree_by, IsSound, IsTuple}
 use Rattle.tib_k_best_lists.specs.declared.lists.Entry.{Entry}
 use Rattle.tib_k_best_lists.specs.declared.lists.Candidate.{Candidate}
 use Rattle.tib_asked_lists.specs.declared.asking.Stage.{Stage}
@@ -25,12 +28,13 @@ use Rattle.tib_asked_lists.specs.declared.demanding.Demand.{Demand}
 use Rattle.tib_asked_lists.specs.Firsts.{AreFirsts}
 use Rattle.tib_asked_lists.specs.Offers.{AreMoreCandidates}
 use Rattle.tib_asked_lists.specs.AskingOf.{StateOf, AskingOf, no_state, state_at}
-use Rattle.tib_asked_lists.specs.Asks.{IsAsking, IsAtStage, IsTaking, StaysGrammar}
+use Rattle.tib_asked_lists.specs.Asks.{AreAnswered, IsAnswered, IsAsking, IsAtStage, IsTaking, StaysGrammar}
 use Rattle.tib_asked_lists.specs.Stacks.{IsDone}
-use Rattle.tib_asked_lists.specs.Demands.{entries_held, nodes_of, nodes_at, last_of, rounds_left, rounds_at, AreLastListed, AreUnmet, IsMet, IsUnmet, IsOneMore, IsPlaced, IsRound, IsUnderway, IsWithin}
-use Rattle.tib_asked_lists.proofs.Kept.{below_or, same_or, more_keeps}
+use Rattle.tib_asked_lists.specs.Demands.{demand_below, entries_held, nodes_of, nodes_at, last_of, rounds_left, rounds_at, AreLastListed, AreLed, AreUnmet, HasMoreRanks, HoldsBelow, IsMet, IsUnmet, IsOneMore, IsPlaced, IsRound, IsUnderway, IsWithin}
+use Rattle.tib_asked_lists.proofs.Kept.{below_or, same_or, more_keeps, more_with}
 use Rattle.tib_asked_lists.proofs.Placed.{kept_of}
 use Rattle.tib_asked_lists.proofs.Falls.{has_taken}
+use Rattle.tib_asked_lists.proofs.Led.{led_fewer, led_last}
 use Rattle.tib_asked_lists.proofs.Followed.{ranks_read}
 use Rattle.tib_asked_lists.proofs.Listed.{size_is}
 
@@ -83,6 +87,9 @@ module _ (product : ℕ → ℕ → ℕ) (x : ListsOf) (a : AskingOf) (k : IsAsk
   entries_same : (q : ℕ) → entries_of y q ≡ entries_of x q
   entries_same q = more_keeps x y more (λ z. entries_of z q ≡ entries_of x q) refl
 
+  rules_same : y.rules ≡ x.rules
+  rules_same = more_keeps x y more (λ z. z.rules ≡ x.rules) refl
+
   held_same : entries_held y ≡ entries_held x
   held_same = more_keeps x y more (λ z. entries_held z ≡ entries_held x) refl
 
@@ -97,6 +104,9 @@ module _ (product : ℕ → ℕ → ℕ) (x : ListsOf) (a : AskingOf) (k : IsAsk
         | inl e ↦ subst (λ (p : ℕ). (state_at b p).stage ≡ Whole) (sym e) whole
         | inr n ↦ ap (λ (t : StateOf). t.stage) (others q n) ∙ w
       ];
+      states = others;
+      stays = λ e. inl whole;
+      more = record { rules = rules_same; candidates = more.candidates; ranks = more.ranks };
       met = inr (inl whole);
     }
 
@@ -149,6 +159,18 @@ module _ (product : ℕ → ℕ → ℕ) (x : ListsOf) (a : AskingOf) (k : IsAsk
         | inl e ↦ absurd (unmet.left (subst (λ (p : ℕ). (state_at a p).stage ≡ Whole) e w))
         | inr n ↦ ap (λ (t : StateOf). t.stage) (state_same q ∙ others q n) ∙ w
       ];
+      states = λ q n. state_same q ∙ others q n;
+      stays = λ e. absurd (omega (
+        arith,
+        ap (λ (es : List Costed). length es) e,
+        ap (λ (es : List Costed). length es) here_more,
+        length-append (entries_of x d.state) (new ∷ []),
+      ));
+      more = record {
+        rules = placed.rules ∙ rules_same;
+        candidates = (more.candidates.0, placed.candidates ∙ more.candidates.1);
+        ranks = (more.ranks.0, placed.ranks ∙ more.ranks.1);
+      };
       met = met_here;
     }
 
@@ -167,11 +189,47 @@ module _ (product : ℕ → ℕ → ℕ) (x : ListsOf) (a : AskingOf) (k : IsAsk
               listed_stays x z a c (more.candidates.0, placed.candidates ∙ more.candidates.1) listed q l (state_same q ∙ others q o) (other_same q o) (low q l) n
         ]
 
+-- a demand that is met is answered
+met_answered :
+    (product : ℕ → ℕ → ℕ) (y : ListsOf) (b : AskingOf) → IsAsking product y b → (d : Demand) (j : ℕ) → d.state < length b.states → d.many ≡ j + 1 → IsMet y b d →
+    IsAnswered product b.k y d.state j
+met_answered product y b k d j low e (inl h) = inl (omega (arith, h, e))
+met_answered product y b k d j low e (inr (inl h)) = inr (inl (subst (λ (g : Stage). IsAtStage product b.k y d.state (state_at b d.state) g) h (kept_of product y b k d.state low)))
+met_answered product y b k d j low e (inr (inr h)) = inr (inr h)
+
+abbrev below_by : List ℕ → List ℕ → ℕ → Demand
+below_by qs js i = record { state = get_or qs i 0; many = get_or js i 0 + 1 }
+
+-- the ranks of a candidate stay
+ranks_stay : (x y : ListsOf) → IsSound x → HasMoreRanks x y → (c : Candidate) → IsTuple x c.rule (ranks_of x c) → ranks_of y c ≡ ranks_of x c
+ranks_stay x y s m c t =
+    ap (λ (rs : List (Rule ℕ)). take (length (states_at rs c.rule)) (drop c.start y.ranks)) m.rules
+    ∙ ranks_from_kept x s x.trees x.lists y.candidates y.ranks (more_with x y.candidates y.ranks m.candidates m.ranks) c.rule c.start t
+
 -- entries of all states, one after another
 
+no_more_ranks : (x : ListsOf) → HasMoreRanks x x
+no_more_ranks x = record { rules = refl; candidates = ([], sym (append_nil x.candidates)); ranks = ([], sym (append_nil x.ranks)) }
+
+more_ranks : (x y z : ListsOf) → HasMoreRanks x y → HasMoreRanks y z → HasMoreRanks x z
+more_ranks x y z m n = record {
+  rules = n.rules ∙ m.rules;
+  candidates = (m.candidates.0 ++ n.candidates.0, n.candidates.1 ∙ ap (λ (cs : List Candidate). cs ++ n.candidates.0) m.candidates.1 ∙ append_assoc x.candidates m.candidates.0 n.candidates.0);
+  ranks = (m.ranks.0 ++ n.ranks.0, n.ranks.1 ∙ ap (λ (js : List ℕ). js ++ n.ranks.0) m.ranks.1 ∙ append_assoc x.ranks m.ranks.0 n.ranks.0);
+}
+
 module _ (x : ListsOf) (a : AskingOf) (first : Demand) where
-  pub underway_first : (order : List Demand) → AreUnmet x a order → length order ≤ nodes_at x first → Has order first → IsUnderway x a first x a order
-  underway_first order u l h = record { unmet = u; grows = λ q. omega arith; held = omega (arith, l); here = inl refl; met = inl h }
+  pub underway_first : (order : List Demand) → AreUnmet x a order → length order ≤ nodes_at x first → AreLed (IsMet x a) x a order → Has order first → IsUnderway x a first x a order
+  underway_first order u l led h = record {
+    unmet = u;
+    grows = λ q. omega arith;
+    held = omega (arith, l);
+    stays = λ q e n. refl;
+    more = no_more_ranks x;
+    led = led;
+    here = inl refl;
+    met = inl h;
+  }
 
   module _ (y : ListsOf) (b : AskingOf) (old left : List Demand) (d : Demand) (e : old ≡ left ++ d ∷ []) (w : IsUnderway x a first y b old) where
     this_unmet : IsUnmet x a d
@@ -182,6 +240,36 @@ module _ (x : ListsOf) (a : AskingOf) (first : Demand) where
 
     pub this_many : d.many ≤ length (list_of y d.state)
     this_many = omega (arith, this_unmet.many, w.grows d.state)
+
+    -- the demands below it are met
+    below_met : HoldsBelow (IsMet y b) x a d
+    below_met = led_last (IsMet y b) x a left d (subst (λ (ds : List Demand). AreLed (IsMet y b) x a ds) e w.led)
+
+    pub this_answered :
+        (product : ℕ → ℕ → ℕ) → IsAsking product x a → IsAsking product y b → IsUnmet y b d →
+        AreAnswered product b.k y (candidate_at y (state_at b d.state).last) (length (below_of y (candidate_at y (state_at b d.state).last)))
+    this_answered product before now u =
+        let long : length (list_of y d.state) ≡ length (list_of x d.state) = omega (arith, u.many, this_unmet.many) in
+        let same : state_at b d.state ≡ state_at a d.state = w.stays d.state long u.left in
+        let m : ℕ = (state_at a d.state).last in
+        let c : Candidate = candidate_at x m in
+        let t = has_taken product a.k x d.state (state_at a d.state) (kept_of product x a before d.state this_unmet.state) this_unmet.left in
+        let is : candidate_at y (state_at b d.state).last ≡ c =
+        ap (λ (s : StateOf). candidate_at y s.last) same ∙ ap (λ (cs : List Candidate). get_or cs m no_candidate) w.more.candidates.1 ∙ get_or-front x.candidates w.more.candidates.0 m no_candidate t.last
+        in
+        let js : ranks_of y c ≡ ranks_of x c = ranks_stay x y before.lists.sound w.more c (before.lists.made m t.last).is.tuple in
+        subst (λ (v : Candidate). AreAnswered product b.k y v (length (below_of y v))) (sym is)
+        (λ i h.
+        let g : i < length (states_at x.rules c.rule) = subst (λ (rs : List (Rule ℕ)). i < length (states_at rs c.rule)) w.more.rules h in
+        let rule : c.rule < length y.rules = omega (arith, (before.lists.made m t.last).is.tuple.rule, ap (λ (rs : List (Rule ℕ)). length rs) w.more.rules) in
+        let low : get_or (states_at y.rules c.rule) i 0 < length b.states =
+        omega (arith, below_at (length y.lists) (states_at y.rules c.rule) (states_below y now.lists.sound c.rule rule) i h, now.long)
+        in
+        let f : demand_below x c.rule (ranks_of x c) i ≡ demand_below y c.rule (ranks_of y c) i =
+        ap (λ (rs : List (Rule ℕ)). below_by (states_at rs c.rule) (ranks_of x c) i) (sym w.more.rules) ∙ ap (λ (ks : List ℕ). below_by (states_at y.rules c.rule) ks i) (sym js)
+        in
+        met_answered product y b now (demand_below y c.rule (ranks_of y c) i) (get_or (ranks_of y c) i 0) low refl
+        (subst (IsMet y b) f (below_met i g)))
 
     module _ (z : ListsOf) (c : AskingOf) (k : c.k ≡ b.k) (m : IsOneMore y b d z c) where
       grows_on : (q : ℕ) → length (list_of y q) ≤ length (list_of z q)
@@ -224,9 +312,41 @@ module _ (x : ListsOf) (a : AskingOf) (first : Demand) where
             | inr n ↦ let g = m.others first.state n in elim w.here [ inl h ↦ inl (g ∙ h) | inr h ↦ inr (h.0, g ∙ h.1) ]
           ]
 
+      met_too : (f : Demand) → IsMet y b f → IsMet z c f
+      met_too f (inl h) = inl (omega (arith, h, grows_on f.state))
+      met_too f (inr (inl h)) = inr (inl (m.whole f.state h))
+      met_too f (inr (inr h)) = inr (inr (omega (arith, h, k, grows_on f.state)))
+
+      stays_on : (q : ℕ) → length (list_of z q) ≡ length (list_of x q) → ((state_at c q).stage ≡ Whole → ⊥) → state_at c q ≡ state_at a q
+      stays_on q l n =
+          let long : length (list_of y q) ≡ length (list_of x q) = omega (arith, l, w.grows q, grows_on q) in
+          let same : state_at c q ≡ state_at b q = here_same q (same_or q d.state) (omega (arith, l, long)) n in
+          same ∙ w.stays q long (λ f. n (ap (λ (t : StateOf). t.stage) same ∙ f))
+        where
+          here_same : (q : ℕ) → (q ≡ d.state) ⊎ (q ≡ d.state → ⊥) → length (list_of z q) ≡ length (list_of y q) → ((state_at c q).stage ≡ Whole → ⊥) → state_at c q ≡ state_at b q
+          here_same q (inr o) g n = m.states q o
+          here_same q (inl s) g n =
+              subst (λ (p : ℕ). length (list_of z p) ≡ length (list_of y p) → ((state_at c p).stage ≡ Whole → ⊥) → state_at c p ≡ state_at b p) (sym s) at_here g n
+            where
+              at_here : length (list_of z d.state) ≡ length (list_of y d.state) → ((state_at c d.state).stage ≡ Whole → ⊥) → state_at c d.state ≡ state_at b d.state
+              at_here g n = elim m.here [
+                | inl f ↦ elim (m.stays f) [ inl bad ↦ absurd (n bad) | inr s ↦ s ]
+                | inr f ↦ absurd (omega (
+                  arith,
+                  g,
+                  long_entries y d.state,
+                  long_entries z d.state,
+                  ap (λ (es : List Costed). length es) f.1.1,
+                  length-append (entries_of y d.state) (f.1.0 ∷ []),
+                ))
+              ]
+
       -- one demand fewer is left
       pub underway_next : IsUnderway x a first z c left
       underway_next = record {
+        stays = stays_on;
+        more = more_ranks x y z w.more m.more;
+        led = led_fewer (IsMet y b) (IsMet z c) x a left d met_too m.met (subst (λ (ds : List Demand). AreLed (IsMet y b) x a ds) e w.led);
         unmet = λ f h. w.unmet f (subst (λ (ds : List Demand). Has ds f) (sym e) (has_left left (d ∷ []) f h));
         grows = λ q. omega (arith, w.grows q, grows_on q);
         held = omega (arith, w.held, m.held, ap (λ (ds : List Demand). length ds) e, length-append left (d ∷ []));
@@ -249,7 +369,16 @@ module _ (x : ListsOf) (a : AskingOf) (first : Demand) where
 
 -- a demand that is met already
 pub met_before : (x : ListsOf) (a : AskingOf) (d : Demand) → IsMet x a d → IsOneMore x a d x a
-met_before x a d m = record { others = λ q n. refl; here = inl refl; held = omega arith; whole = λ q w. w; met = m }
+met_before x a d m = record {
+  others = λ q n. refl;
+  here = inl refl;
+  held = omega arith;
+  whole = λ q w. w;
+  states = λ q n. refl;
+  stays = λ e. inr refl;
+  more = no_more_ranks x;
+  met = m;
+}
 
 -- the bound, round by round
 

@@ -8,6 +8,8 @@ use Rattle.tib_k_best_lists.specs.Best.{Costed}
 use Rattle.tib_k_best_lists.specs.Pass.{Entries, entry_at, no_entry}
 use Rattle.tib_k_best_lists.specs.ListsOf.{ListsOf}
 use Rattle.tib_k_best_lists.specs.Held.{list_of, entries_of, candidate_at, tree_by, ranks_of}
+use Rattle.tib_k_best_lists.specs.Levels.{states_at}
+use Rattle.tib_k_best_lists.specs.declared.lists.Candidate.{Candidate}
 use Rattle.tib_k_best_lists.specs.declared.lists.Entry.{Entry}
 use Rattle.tib_asked_lists.specs.declared.asking.Stage.{Stage}
 use Rattle.tib_asked_lists.specs.declared.asking.Stage.TheVariants.{Closed, Open, Whole}
@@ -60,8 +62,34 @@ pub record IsUnmet (x : ListsOf) (a : AskingOf) (d : Demand) : Type 0 where
 abbrev pub AreUnmet : ListsOf → AskingOf → List Demand → Type 0
 AreUnmet x a ds = (d : Demand) → Has ds d → IsUnmet x a d
 
+-- the demand for the entry after the i-th of a rule's ranks
+abbrev pub demand_below : ListsOf → ℕ → List ℕ → ℕ → Demand
+demand_below x n js i = record {
+  state = get_or (states_at x.rules n) i 0;
+  many = get_or js i 0 + 1;
+}
+
+-- each demand below the candidate that a demand's state took last has a property
+abbrev pub HoldsBelow : (Demand → Type 0) → ListsOf → AskingOf → Demand → Type 0
+HoldsBelow P x a d =
+    let c = candidate_at x (state_at a d.state).last in
+    (i : ℕ) → i < length (states_at x.rules c.rule) → P (demand_below x c.rule (ranks_of x c) i)
+
+-- each demand stands before those below it that do not have a property
+abbrev pub AreLed : (Demand → Type 0) → ListsOf → AskingOf → List Demand → Type 0
+AreLed P x a [] = Unit {0}
+AreLed P x a (d ∷ ds) = HoldsBelow (λ e. Has ds e ⊎ P e) x a d × AreLed P x a ds
+
+-- rules are as before, and candidates and ranks were put behind the others
+pub record HasMoreRanks (x y : ListsOf) : Type 0 where
+  pub rules : y.rules ≡ x.rules
+  pub candidates : (more : List Candidate) × (y.candidates ≡ x.candidates ++ more)
+  pub ranks : (more : List ℕ) × (y.ranks ≡ x.ranks ++ more)
+
 -- a candidate's tree was put last on the list of a state
 pub record IsPlaced (x : ListsOf) (u m : ℕ) (y : ListsOf) : Type 0 where
+  pub rules : y.rules ≡ x.rules
+  pub ranks : y.ranks ≡ x.ranks
   pub candidates : y.candidates ≡ x.candidates
   pub entry : Entry
   pub lists : y.lists ≡ set x.lists u (list_of x u ++ entry ∷ [])
@@ -83,15 +111,26 @@ pub record IsOneMore (x : ListsOf) (a : AskingOf) (d : Demand) (y : ListsOf) (b 
       × ((e : Costed) × (entries_of y d.state ≡ entries_of x d.state ++ e ∷ [])))
   pub held : entries_held y ≤ entries_held x + 1
   pub whole : (q : ℕ) → (state_at a q).stage ≡ Whole → (state_at b q).stage ≡ Whole
+  pub states : (q : ℕ) → (q ≡ d.state → ⊥) → state_at b q ≡ state_at a q
+  pub stays :
+      entries_of y d.state ≡ entries_of x d.state →
+      ((state_at b d.state).stage ≡ Whole) ⊎ (state_at b d.state ≡ state_at a d.state)
+  pub more : HasMoreRanks x y
   pub met : IsMet y b d
 
 -- While some demands are met, the last first: each entry that was placed belongs to one that was
--- taken off, and that from which they came is among those left, or is met.
+-- taken off, and that from which they came is among those left, or is met. A state that got no entry
+-- keeps what it kept, and each demand that is left stands before those below it that are not met.
 pub record IsUnderway (x : ListsOf) (a : AskingOf) (first : Demand) (y : ListsOf) (b : AskingOf)
     (left : List Demand) : Type 0 where
   pub unmet : AreUnmet x a left
   pub grows : (q : ℕ) → length (list_of x q) ≤ length (list_of y q)
   pub held : entries_held y + length left ≤ entries_held x + nodes_at x first
+  pub stays :
+      (q : ℕ) → length (list_of y q) ≡ length (list_of x q) →
+      ((state_at b q).stage ≡ Whole → ⊥) → state_at b q ≡ state_at a q
+  pub more : HasMoreRanks x y
+  pub led : AreLed (IsMet y b) x a left
   pub here :
       (entries_of y first.state ≡ entries_of x first.state)
       ⊎ ((e : Costed) × (entries_of y first.state ≡ entries_of x first.state ++ e ∷ []))

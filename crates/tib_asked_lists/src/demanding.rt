@@ -1,5 +1,5 @@
 // The demands that one for a state's next entry leads to, down its last trees.
-ghost use Rattle.std.specs.Prelude.{◌≡◌, ◌<◌, ◌≤◌, ◌+◌, ℕ, length, IfNone, IfOk, IfSome, OnOk};
+ghost use Rattle.std.specs.Prelude.{◌≡◌, ◌⊎◌, ◌<◌, ◌≤◌, ◌+◌, ℕ, length, IfNone, IfOk, IfSome, OnOk};
 ghost use Rattle.std.proofs.Common.{get_or};
 ghost use Rattle.tib_lex.specs.Lists.{Has};
 ghost use Rattle.tib_tree.specs.Trees.{size};
@@ -8,8 +8,9 @@ ghost use Rattle.tib_k_best_lists.specs.Pass.{entry_at};
 ghost use Rattle.tib_k_best_lists.specs.Held.{entries_of, list_of, ranks_from, tree_by, IsTuple};
 ghost use Rattle.tib_asked_lists.specs.AskingOf.{asking_of, state_at};
 ghost use Rattle.tib_asked_lists.specs.Asks.{IsAsking};
-ghost use Rattle.tib_asked_lists.specs.Demands.{nodes_at, nodes_behind, AreLastListed, AreUnmet, IsMet, IsUnmet};
+ghost use Rattle.tib_asked_lists.specs.Demands.{demand_below, nodes_at, nodes_behind, AreLastListed, AreLed, AreUnmet, HoldsBelow, IsMet, IsUnmet};
 ghost use Rattle.tib_asked_lists.specs.declared.asking.Stage.TheVariants.{Whole};
+ghost use Rattle.tib_asked_lists.specs.declared.demanding.Demand.{Demand};
 
 use crate::asking::Asking;
 use std::alloc::{AllocError, Global};
@@ -62,6 +63,10 @@ impl Asking {
         requires below { i < length (states_at lists.now.rules rule) }
         requires stack { AreUnmet lists.now (asking_of self.now) stack.old.items }
         ensures stack { OnOk result (AreUnmet lists.now (asking_of self.now) stack.new.items) }
+        ensures kept { OnOk result ((d : Demand) → Has stack.old.items d → Has stack.new.items d) }
+        ensures there { OnOk result (let d = demand_below lists.now rule
+            (ranks_from lists.now rule start) i in
+            Has stack.new.items d ⊎ IsMet lists.now (asking_of self.now) d) }
         ensures nodes { OnOk result (nodes_behind lists.now stack.new.items
             ≤ nodes_behind lists.now stack.old.items
             + size (entry_at (entries_of lists.now) (get_or (states_at lists.now.rules rule) i 0)
@@ -93,6 +98,10 @@ impl Asking {
         requires tuple { IsTuple lists.now rule (ranks_from lists.now rule start) }
         requires stack { AreUnmet lists.now (asking_of self.now) stack.old.items }
         ensures stack { OnOk result (AreUnmet lists.now (asking_of self.now) stack.new.items) }
+        ensures kept { OnOk result ((d : Demand) → Has stack.old.items d → Has stack.new.items d) }
+        ensures there { OnOk result ((i : ℕ) → i < length (states_at lists.now.rules rule) →
+            let d = demand_below lists.now rule (ranks_from lists.now rule start) i in
+            Has stack.new.items d ⊎ IsMet lists.now (asking_of self.now) d) }
         ensures nodes { OnOk result (nodes_behind lists.now stack.new.items + 1
             ≤ nodes_behind lists.now stack.old.items
             + size (tree_by lists.now rule (ranks_from lists.now rule start))) }
@@ -116,6 +125,10 @@ impl Asking {
         requires demand { IsUnmet lists.now (asking_of self.now) demand }
         requires stack { AreUnmet lists.now (asking_of self.now) stack.old.items }
         ensures stack { OnOk result (AreUnmet lists.now (asking_of self.now) stack.new.items) }
+        ensures kept { OnOk result ((d : Demand) → Has stack.old.items d → Has stack.new.items d) }
+        ensures there { OnOk result (HoldsBelow
+            (λ e. Has stack.new.items e ⊎ IsMet lists.now (asking_of self.now) e) lists.now
+            (asking_of self.now) demand) }
         ensures nodes { OnOk result (nodes_behind lists.now stack.new.items + 1
             ≤ nodes_behind lists.now stack.old.items + nodes_at lists.now demand) }
     {
@@ -141,6 +154,8 @@ impl Asking {
         ensures few { IfOk result (λ v. length v.items ≤ nodes_at lists.now first) }
         ensures unmet { IfOk result (λ v. AreUnmet lists.now (asking_of self.now) v.items) }
         ensures first { IfOk result (λ v. Has v.items first) }
+        ensures led { IfOk result (λ v. AreLed (IsMet lists.now (asking_of self.now)) lists.now
+            (asking_of self.now) v.items) }
     {
         let mut order = Vec::new(alloc);
         let mut stack = Vec::new(alloc);

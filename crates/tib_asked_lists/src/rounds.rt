@@ -1,11 +1,10 @@
 // Demands that are met, those below others first.
-ghost use Rattle.std.specs.Prelude.{◌≡◌, ◌<◌, ◌≤◌, ◌+◌, ℕ, length, IfErr, IfNone, IfSome, IsTrue, OnOk};
-ghost use Rattle.std.proofs.Common.{get_or};
+ghost use Rattle.std.specs.Prelude.{◌≡◌, ◌<◌, ◌≤◌, ◌+◌, ℕ, length, IfErr, IfNone, IfSome, OnOk};
 ghost use Rattle.tib_k_best_lists.specs.Best.{IsFrontAt, IsKBest};
-ghost use Rattle.tib_k_best_lists.specs.Levels.{states_at, IsOrderly};
-ghost use Rattle.tib_k_best_lists.specs.Held.{below_of, candidate_at, entries_of, list_of, ranks_from, IsSound, IsTuple};
+ghost use Rattle.tib_k_best_lists.specs.Levels.{IsOrderly};
+ghost use Rattle.tib_k_best_lists.specs.Held.{below_of, candidate_at, entries_of, list_of, IsSound};
 ghost use Rattle.tib_asked_lists.specs.AskingOf.{asking_of, state_at};
-ghost use Rattle.tib_asked_lists.specs.Asks.{AreAnswered, IsAnswered, IsAsking, IsTaking, StaysAsking, StaysGrammar};
+ghost use Rattle.tib_asked_lists.specs.Asks.{AreAnswered, IsAsking, IsTaking, StaysAsking, StaysGrammar};
 ghost use Rattle.tib_asked_lists.specs.Stacks.{IsDone};
 ghost use Rattle.tib_asked_lists.specs.Causes.{IsAskCause};
 ghost use Rattle.tib_asked_lists.specs.Demands.{entries_held, nodes_of, AreLastListed, IsOneMore, IsPlaced, IsRound, IsUnmet, IsWithin};
@@ -18,23 +17,6 @@ use tib_cost::Semiring;
 use tib_k_best_lists::Lists;
 
 impl Asking {
-    // Whether each state below a rule was asked for the entry after its rank.
-    fn is_answered<S: Semiring>(&self, lists: &Lists, rule: u32, start: usize) -> bool
-        requires kept { IsAsking S.product lists.now (asking_of self.now) }
-        requires tuple { IsTuple lists.now rule (ranks_from lists.now rule start) }
-        ensures { IsTrue result → (i : ℕ) → i < length (states_at lists.now.rules rule) →
-            IsAnswered S.product self.now.k lists.now (get_or (states_at lists.now.rules rule) i 0)
-            (get_or (ranks_from lists.now rule start) i 0) }
-    {
-        let count = lists.count(rule);
-        for i in 0..count {
-            if self.below::<S>(lists, rule, start, i).is_some() {
-                return false;
-            }
-        }
-        true
-    }
-
     // Lists the tree of the candidate that a state took. In deterministic form it is new; were it
     // not, the answer would be want of memory.
     fn list_new<S: Semiring>(
@@ -93,8 +75,7 @@ impl Asking {
         }
     }
 
-    // Meets a demand whose state's last candidate has only states below that were asked. Those below
-    // it were met before, so it has; had it not, the answer would be want of memory.
+    // Meets a demand, where those below its state's last candidate are met.
     fn meet<S: Semiring>(
         &mut self,
         alloc: Global,
@@ -106,6 +87,9 @@ impl Asking {
         requires state { demand.state < length (asking_of self.old).states }
         requires many { demand.many ≤ length (list_of lists.old demand.state) }
         requires orderly { IsOrderly S.product lists.old.rules }
+        requires answered { IsUnmet lists.old (asking_of self.old) demand →
+            let c = candidate_at lists.old (state_at (asking_of self.old) demand.state).last in
+            AreAnswered S.product self.old.k lists.old c (length (below_of lists.old c)) }
         ensures kept { OnOk result (IsAsking S.product lists.new (asking_of self.new)) }
         ensures listed { OnOk result (AreLastListed lists.new (asking_of self.new)) }
         ensures more { OnOk result (IsOneMore lists.old (asking_of self.old) demand lists.new
@@ -114,15 +98,10 @@ impl Asking {
         ensures same { OnOk result (StaysAsking (asking_of self.old) (asking_of self.new)) }
         ensures cause { IfErr result (IsAskCause S.product lists.old self.old.k) }
     {
-        let Some(last) = self.unmet::<S>(lists, demand) else {
-            return Ok(());
-        };
-        let rule = lists.candidate(last).rule;
-        let start = lists.candidate(last).start;
-        if !self.is_answered::<S>(lists, rule, start) {
-            return Err(AskError::OutOfMemory);
+        match self.unmet::<S>(lists, demand) {
+            Some(_) => self.grow::<S>(alloc, lists, demand),
+            None => Ok(()),
         }
-        self.grow::<S>(alloc, lists, demand)
     }
 
     // Meets a demand, after those to which it leads.
