@@ -140,7 +140,14 @@ fn best_trimmed<S: Semiring>(
 {
     let grammar = normal.grammar();
     grammar.is_sound();
-    best_of_copy::<S>(alloc, grammar.rule_list(), grammar.states(), labels, ranks, k)
+    best_of_copy::<S>(
+        alloc,
+        grammar.rule_list(),
+        grammar.states(),
+        labels,
+        ranks,
+        k,
+    )
 }
 
 // The same of a grammar in which no state below a rule is without a tree, by `best_flat`, where a

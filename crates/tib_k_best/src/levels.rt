@@ -55,10 +55,7 @@ fn rule_at_cost(
 }
 
 // The same rules.
-pub(crate) fn copied_rules(
-    alloc: Global,
-    rules: &[Rule<u32>],
-) -> Result<Vec<Rule<u32>>, AllocError>
+pub(crate) fn copied_rules(alloc: Global, rules: &[Rule<u32>]) -> Result<Vec<Rule<u32>>, AllocError>
     requires { AreNormal rules.now }
     ensures { IfOk result (λ v. v.items ≡ rules.now) }
 {
