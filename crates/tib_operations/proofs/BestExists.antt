@@ -1,5 +1,5 @@
 -- That a grammar has no list of its k cheapest trees cannot be.
-use Rattle.std.proofs.Common.{◌≡◌, ◌⊎◌, ℕ, ◌+◌, ◌<◌, ◌≤◌, List, [], ◌∷◌, ◌++◌, length, refl, ap, sym, ◌∙◌, subst, arith, zero, suc, inl, inr, length-append}
+use Rattle.std.proofs.Common.{◌≡◌, ◌⊎◌, ℕ, ◌<◌, ◌≤◌, List, [], ◌∷◌, ◌++◌, length, refl, ap, sym, ◌∙◌, subst, arith, zero, suc, inl, inr, length-append}
 use Rattle.tib_lex.specs.Lists.{Has}
 use Rattle.tib_lex.proofs.Members.{has_left, has_right}
 use Rattle.tib_lex.proofs.Numbers.{below_suc_cases}
@@ -76,11 +76,18 @@ module _ (Q : ℕ → Type 0) (k : (m : ℕ) → Q m → ((i : ℕ) → Q i → 
   least_number : (n : ℕ) → Q n → ⊥
   least_number n q = none_below (suc n) n (omega arith) q
 
-nat_cases : (a b : ℕ) → a ≤ b → (a < b) ⊎ (a ≡ b)
+pub nat_cases : (a b : ℕ) → a ≤ b → (a < b) ⊎ (a ≡ b)
 nat_cases a b h = grind arith
 
-size_cases : (a b : ℕ) → (a ≤ b) ⊎ (b < a)
+pub size_cases : (a b : ℕ) → (a ≤ b) ⊎ (b < a)
 size_cases a b = grind arith
+
+-- a larger tree at the same cost comes later
+pub larger_later : (labels : List (List ℕ)) (t u : Tree ℕ) (c : ℕ) → size t < size u → Cheaper labels (t, c) (u, c)
+larger_later labels t u c h =
+    let smaller : sizes (relabel (text_at labels) t.kids) < sizes (relabel (text_at labels) u.kids) =
+    omega (arith, h, sizes-relabel (text_at labels) t.kids, sizes-relabel (text_at labels) u.kids) in
+    inr (refl, rw (nat_less (sizes (relabel (text_at labels) t.kids)) (sizes (relabel (text_at labels) u.kids)) smaller))
 
 module _ (labels : List (List ℕ)) (apart : AreDistinct labels) (product : ℕ → ℕ → ℕ) (rules : List (Rule ℕ)) (labelled : AreLabelled (length labels) rules) where
   abbrev pub Member : Costed → Type 0
@@ -119,13 +126,6 @@ module _ (labels : List (List ℕ)) (apart : AreDistinct labels) (product : ℕ 
           | inr l ↦ low u l q
         ]))
 
-    -- a larger tree at the same cost comes later
-    larger_later : (t u : Tree ℕ) (c : ℕ) → size t < size u → Cheaper labels (t, c) (u, c)
-    larger_later t u c h =
-        let smaller : sizes (relabel (text_at labels) t.kids) < sizes (relabel (text_at labels) u.kids) =
-        omega (arith, h, sizes-relabel (text_at labels) t.kids, sizes-relabel (text_at labels) u.kids) in
-        inr (refl, rw (nat_less (sizes (relabel (text_at labels) t.kids)) (sizes (relabel (text_at labels) u.kids)) smaller))
-
     -- and so a first one of all
     pub first_there : (y : Costed) → P y → ((c : Costed) → P c → ((z : Costed) → P z → NoLater (Cheaper labels) c z) → ⊥) → ⊥
     first_there y p k =
@@ -143,7 +143,7 @@ module _ (labels : List (List ℕ)) (apart : AreDistinct labels) (product : ℕ 
                 | inl small ↦ first z.0 (listed z.0 own small) own
                 | inr large ↦
                     no_later_trans (cheaper_strict labels) (t, c) (s, c) (z.0, c) (first s (listed s at.1 (omega arith)) at.1)
-                    (inr (larger_later s z.0 c large))
+                    (inr (larger_later labels s z.0 c large))
               ])
         ]))) y.1 (y.0, p)
 

@@ -2,7 +2,7 @@
 use Rattle.tib_cost.specs.declared.Scale.{Scale}
 use Rattle.tib_cost.specs.declared.Scale.TheVariants as scales
 use Rattle.std.proofs.Common.{◌≡◌, ℕ, ◌<◌, ◌≤◌, ◌%◌, ◌/◌, ◌-◌, ◌+◌, ◌⊎◌, inl, inr, Bool, true, false, List, [], ◌∷◌, ◌++◌, mod-lt, length, refl, ap, sym, ◌∙◌, arith, append_assoc, subst, leb-true, zero, suc}
-use Rattle.std.specs.Prelude.{Some, None, Result, Ok, Err, codes, decimal, nat_le, nat_lt, ◌==◌, ◌&&◌, cond}
+use Rattle.std.specs.Prelude.{Option, Some, None, Result, Ok, Err, codes, decimal, nat_le, nat_lt, ◌==◌, ◌&&◌, cond}
 use Rattle.std.specs.Fmt.{digit_glyph, digits, digits_onto}
 use Rattle.std.specs.List.{list_all}
 use Rattle.std.proofs.lemmas.Bool.Decides.{nat_tests}
@@ -10,7 +10,7 @@ use Rattle.tib_lex.specs.Bytes.{is_name_byte}
 use Rattle.tib_lex.specs.Grammar.{Word, name, arrow, open_, close, IsName, HasWords}
 use Rattle.tib_lex.specs.Line.{words_of}
 use Rattle.tib_lex.specs.Lines.{HasNoFeed, HasLines}
-use Rattle.tib_lex.specs.Lists.{Each}
+use Rattle.tib_lex.specs.Lists.{Each, Has}
 use Rattle.tib_lex.specs.Next.{next, first}
 use Rattle.tib_lex.specs.declared.fault.FaultKind.{FaultKind}
 use Rattle.tib_lex.specs.declared.fault.FileFault.{FileFault}
@@ -21,6 +21,7 @@ use Rattle.tib_io.specs.Reads.{most_bytes}
 use Rattle.tib_lex.proofs.HasLines.{lines_read}
 use Rattle.tib_lex.proofs.HasWords.{words_read, has_first_word, after_space, no_words}
 use Rattle.tib_lex.proofs.Lists.{append_nil, each_append}
+use Rattle.tib_lex.proofs.Members.{has_left, has_right}
 use Rattle.tib_lex.proofs.Spelled.{and_true}
 use Rattle.tib_tree.specs.Machine.{nodes_of}
 use Rattle.tib_tree.specs.Written.{item}
@@ -67,7 +68,7 @@ digit_in_name c h = let t = and_true (nat_lt 47 c) (nat_lt c 58) h in grind (ari
 
 -- `p` and a number, which is the name of a state
 
-abbrev state : ℕ → List ℕ
+abbrev pub state : ℕ → List ℕ
 state n = 112 ∷ decimal n
 
 state_bytes : (n : ℕ) → list_all is_name_byte (state n) ≡ true
@@ -101,9 +102,16 @@ has_words m n label is =
     let behind : HasWords (arrow ∷ right_words) (45 ∷ (62 ∷ (32 ∷ right_bytes))) = has_first_word arrow right_words (32 ∷ right_bytes) tt refl (after_space right_words right_bytes right) in
     has_first_word (name (state m)) (arrow ∷ right_words) (32 ∷ (45 ∷ (62 ∷ (32 ∷ right_bytes)))) (is_name m) refl (after_space (arrow ∷ right_words) (45 ∷ (62 ∷ (32 ∷ right_bytes))) behind)
 
--- a line that is read as a rule
-abbrev Fine : Scale → List ℕ → Type 0
-Fine scale line = (x : RuleLine) × (rule_line scale line ≡ Ok (Some x))
+-- What a line says: p0 has a label alone, or a label over p0; or the state after pm has a label over pm, with m below n.
+abbrev pub IsDemoLine : ℕ → RuleLine → Type 0
+IsDemoLine n x =
+    ((x.left ≡ state 0) × (x.nodes ≡ item false (codes "e") None ∷ []))
+    ⊎ ((m : ℕ) × (text : List ℕ) × (x.nodes ≡ item false text (Some 1) ∷ (item false (state m) None ∷ [])) × (((m ≡ 0) × (x.left ≡ state 0))
+    ⊎ ((m < n) × (x.left ≡ state (suc m)))))
+
+-- a line that is read as such a rule
+abbrev Fine : Scale → ℕ → List ℕ → Type 0
+Fine scale n line = (x : RuleLine) × (rule_line scale line ≡ Ok (Some x)) × IsDemoLine n x
 
 abbrev read_as : ℕ → List ℕ → ℕ → RuleLine
 read_as m label n = rule_line_of (state m) (item false label (Some 1) ∷ (item false (state n) None ∷ [])) 0
@@ -112,10 +120,13 @@ words_fine : (scale : Scale) (m n : ℕ) (label : List ℕ) → rule_in scale (S
 unfolding parts_of nodes_of cost_of
 words_fine scale m n label = rw (no_dot m) refl
 
-rule_fine : (scale : Scale) (m n : ℕ) (label : List ℕ) → IsName label → Fine scale (rule_bytes m label n)
+rule_read : (scale : Scale) (m n : ℕ) (label : List ℕ) → IsName label → rule_line scale (rule_bytes m label n) ≡ Ok (Some (read_as m label n))
 unfolding rule_line
-rule_fine scale m n label is =
-    (read_as m label n, ap (rule_in scale) (words_read (rule_words m label n) (rule_bytes m label n) (has_words m n label is)) ∙ words_fine scale m n label)
+rule_read scale m n label is =
+    ap (rule_in scale) (words_read (rule_words m label n) (rule_bytes m label n) (has_words m n label is)) ∙ words_fine scale m n label
+
+rule_fine : (scale : Scale) (most m : ℕ) (label : List ℕ) → m < most → IsName label → Fine scale most (rule_bytes (suc m) label m)
+rule_fine scale most m label low is = (read_as (suc m) label m, rule_read scale (suc m) m label is, inr (m, label, refl, inr (low, refl)))
 
 rule_no_feed : (m n : ℕ) (label : List ℕ) → HasNoFeed label → HasNoFeed (rule_bytes m label n)
 rule_no_feed m n label h =
@@ -145,11 +156,27 @@ has_lines : (lines : List (List ℕ)) → Each HasNoFeed lines → HasLines line
 has_lines [] h = refl
 has_lines (line ∷ lines) h = (h.0, inr (lines_text lines, refl, has_lines lines h.1))
 
-rules_fine : (scale : Scale) (n : ℕ) (lines : List (List ℕ)) → Each (Fine scale) lines → (rules : List RuleLine) × (rules_from scale n lines ≡ Ok rules)
-rules_fine scale n [] h = ([], refl)
-rules_fine scale n (line ∷ lines) h =
-    let more = rules_fine scale (suc n) lines h.1 in
-    (h.0.0 ∷ more.0, rw (h.0.1, more.1) refl)
+-- each line is read as one of the rules
+abbrev HoldsEach : Scale → List (List ℕ) → List RuleLine → Type 0
+HoldsEach scale lines rules = (line : List ℕ) → Has lines line → (x : RuleLine) → rule_line scale line ≡ Ok (Some x) → Has rules x
+
+one_line : (line : List ℕ) (scale : Scale) (x y : RuleLine) → rule_line scale line ≡ Ok (Some x) → rule_line scale line ≡ Ok (Some y) → x ≡ y
+one_line line scale x y e f = let r : Result (Option RuleLine) FaultKind = rule_line scale line in cc
+
+rules_fine :
+    (scale : Scale) (most n : ℕ) (lines : List (List ℕ)) → Each (Fine scale most) lines →
+    (rules : List RuleLine) × (rules_from scale n lines ≡ Ok rules) × Each (IsDemoLine most) rules × HoldsEach scale lines rules
+rules_fine scale most n [] h = ([], refl, tt, λ line a x e. a)
+rules_fine scale most n (line ∷ lines) h =
+    let more = rules_fine scale most (suc n) lines h.1 in (
+      h.0.0 ∷ more.0,
+      rw (h.0.1, more.1) refl,
+      (h.0.2, more.2),
+      λ other a x e. elim a [
+        | inl same ↦ inl (one_line line scale h.0.0 x h.0.1 (subst (λ (l : List ℕ). rule_line scale l ≡ Ok (Some x)) (sym same) e))
+        | inr l ↦ inr (more.3 other l x e)
+      ],
+    )
 
 -- the lines of the steps
 
@@ -171,23 +198,57 @@ steps_no_feed zero = tt
 steps_no_feed (suc i) =
     each_append HasNoFeed (step_lines i) _ (steps_no_feed i) (rule_no_feed (suc (suc i)) (suc i) (codes "a") refl, (rule_no_feed (suc (suc i)) (suc i) (codes "b") refl, tt))
 
-steps_fine : (scale : Scale) (i : ℕ) → Each (Fine scale) (step_lines i)
-steps_fine scale zero = tt
-steps_fine scale (suc i) =
-    let a : IsName (codes "a") = record { some = omega arith; bytes = refl; other = refl } in
-    let b : IsName (codes "b") = record { some = omega arith; bytes = refl; other = refl } in
-    each_append (Fine scale) (step_lines i) _ (steps_fine scale i) (rule_fine scale (suc (suc i)) (suc i) (codes "a") a, (rule_fine scale (suc (suc i)) (suc i) (codes "b") b, tt))
+is_a : IsName (codes "a")
+is_a = record { some = omega arith; bytes = refl; other = refl }
+
+is_b : IsName (codes "b")
+is_b = record { some = omega arith; bytes = refl; other = refl }
+
+steps_fine : (scale : Scale) (most i : ℕ) → i < most → Each (Fine scale most) (step_lines i)
+steps_fine scale most zero low = tt
+steps_fine scale most (suc i) low =
+    each_append (Fine scale most) (step_lines i) _ (steps_fine scale most i (omega (arith, low)))
+    (rule_fine scale most (suc i) (codes "a") low is_a, (rule_fine scale most (suc i) (codes "b") low is_b, tt))
+
+-- each state from p2 on has a line
+step_there : (j i : ℕ) → i < j → Has (step_lines j) (rule_bytes (suc (suc i)) (codes "a") (suc i))
+step_there zero i h = absurd (omega (arith, h))
+step_there (suc j) i h = elim (below_suc_cases i j h) [
+  | inl l ↦ has_left (step_lines j) _ (rule_bytes (suc (suc i)) (codes "a") (suc i)) (step_there j i l)
+  | inr e ↦
+      has_right (step_lines j) _ (rule_bytes (suc (suc i)) (codes "a") (suc i))
+      (inl (ap (λ (k : ℕ). rule_bytes (suc (suc k)) (codes "a") (suc k)) (sym e)))
+]
 
 -- the lines before them
 
 abbrev first_lines : List (List ℕ)
 first_lines = codes "p0 -> e" ∷ (codes "p0 -> a(p0)" ∷ (codes "p0 -> b(p0)" ∷ (codes "p1 -> a(p0) # 1" ∷ [])))
 
-first_fine : (scale : Scale) → Each (Fine scale) first_lines
-unfolding rule_line words_of next first parts_of nodes_of cost_of
-first_fine scales.Plain = ((_, refl), ((_, refl), ((_, refl), ((_, refl), tt))))
-first_fine scales.Reversed = ((_, refl), ((_, refl), ((_, refl), ((_, refl), tt))))
-first_fine scales.Unweighted = ((_, refl), ((_, refl), ((_, refl), ((_, refl), tt))))
+first_fine : (scale : Scale) (n : ℕ) → 0 < n → Each (Fine scale n) first_lines
+unfolding rule_line words_of next first parts_of nodes_of cost_of digits
+first_fine scales.Plain n some =
+    ((_, refl, inl (refl, refl)), ((_, refl, inr (0, codes "a", refl, inl (refl, refl))), ((_, refl, inr (0, codes "b", refl, inl (refl, refl))), ((_, refl, inr (0, codes "a", refl, inr (some, refl))), tt))))
+first_fine scales.Reversed n some =
+    ((_, refl, inl (refl, refl)), ((_, refl, inr (0, codes "a", refl, inl (refl, refl))), ((_, refl, inr (0, codes "b", refl, inl (refl, refl))), ((_, refl, inr (0, codes "a", refl, inr (some, refl))), tt))))
+first_fine scales.Unweighted n some =
+    ((_, refl, inl (refl, refl)), ((_, refl, inr (0, codes "a", refl, inl (refl, refl))), ((_, refl, inr (0, codes "b", refl, inl (refl, refl))), ((_, refl, inr (0, codes "a", refl, inr (some, refl))), tt))))
+
+-- p0 and p1 have lines there
+abbrev HasLine : Scale → ℕ → Type 0
+HasLine scale m = (line : List ℕ) × Has first_lines line × (x : RuleLine) × (rule_line scale line ≡ Ok (Some x)) × (x.left ≡ state m)
+
+zero_there : (scale : Scale) → HasLine scale 0
+unfolding rule_line words_of next first parts_of nodes_of cost_of digits
+zero_there scales.Plain = (codes "p0 -> e", inl refl, _, refl, refl)
+zero_there scales.Reversed = (codes "p0 -> e", inl refl, _, refl, refl)
+zero_there scales.Unweighted = (codes "p0 -> e", inl refl, _, refl, refl)
+
+one_there : (scale : Scale) → HasLine scale 1
+unfolding rule_line words_of next first parts_of nodes_of cost_of digits
+one_there scales.Plain = (codes "p1 -> a(p0) # 1", inr (inr (inr (inl refl))), _, refl, refl)
+one_there scales.Reversed = (codes "p1 -> a(p0) # 1", inr (inr (inr (inl refl))), _, refl, refl)
+one_there scales.Unweighted = (codes "p1 -> a(p0) # 1", inr (inr (inr (inl refl))), _, refl, refl)
 
 start_fine : (n : ℕ) → start_line (state n) ≡ Ok (Some (state n))
 unfolding start_line
@@ -203,16 +264,39 @@ text_is n =
     ap (λ (z : List ℕ). 112 ∷ z) (append_assoc (decimal n) (10 ∷ []) (first_rules ++ steps_text (n - 1)))
     ∙ ap (λ (z : List ℕ). state n ++ 10 ∷ (first_rules ++ z)) (steps_are (n - 1))
 
-reads : (scale : Scale) (n : ℕ) → (rules : List RuleLine) × (grammar_of scale (demo_text n) ≡ Ok (state n, rules))
+-- each state up to pn has a rule
+abbrev pub HasLefts : ℕ → List RuleLine → Type 0
+HasLefts n rules = (m : ℕ) → m ≤ n → (x : RuleLine) × Has rules x × (x.left ≡ state m)
+
+all_lefts : (scale : Scale) (n : ℕ) (rules : List RuleLine) → HoldsEach scale (first_lines ++ step_lines (n - 1)) rules → HasLefts n rules
+all_lefts scale n rules held zero low =
+    let z = zero_there scale in
+    (z.2, held z.0 (has_left first_lines (step_lines (n - 1)) z.0 z.1) z.2 z.3, z.4)
+all_lefts scale n rules held (suc zero) low =
+    let z = one_there scale in
+    (z.2, held z.0 (has_left first_lines (step_lines (n - 1)) z.0 z.1) z.2 z.3, z.4)
+all_lefts scale n rules held (suc (suc m)) low =
+    let line : List ℕ = rule_bytes (suc (suc m)) (codes "a") (suc m) in (
+      read_as (suc (suc m)) (codes "a") (suc m),
+      held line (has_right first_lines (step_lines (n - 1)) line (step_there (n - 1) m (omega (arith, low)))) (read_as (suc (suc m)) (codes "a") (suc m)) (rule_read scale (suc (suc m)) (suc m) (codes "a") is_a),
+      refl,
+    )
+
+pub reads : (scale : Scale) (n : ℕ) → (rules : List RuleLine) × (grammar_of scale (demo_text n) ≡ Ok (state n, rules)) × Each (IsDemoLine (suc n)) rules × HasLefts n rules
 unfolding grammar_of
 reads scale n =
     let free : Each HasNoFeed (all_lines n) = (no_feed n, each_append HasNoFeed first_lines (step_lines (n - 1)) (refl, (refl, (refl, (refl, tt)))) (steps_no_feed (n - 1))) in
-    let rules = rules_fine scale 2 (first_lines ++ step_lines (n - 1)) (each_append (Fine scale) first_lines (step_lines (n - 1)) (first_fine scale) (steps_fine scale (n - 1))) in (
+    let rules =
+    rules_fine scale (suc n) 2 (first_lines ++ step_lines (n - 1))
+    (each_append (Fine scale (suc n)) first_lines (step_lines (n - 1)) (first_fine scale (suc n) (omega arith)) (steps_fine scale (suc n) (n - 1) (omega arith)))
+    in (
       rules.0,
       ap (grammar_of scale) (text_is n)
           ∙ ap (grammar_from scale 1) (lines_read (all_lines n) (lines_text (all_lines n)) (has_lines (all_lines n) free))
           ∙ ap (λ r. with_start 1 r (rules_from scale 2 (first_lines ++ step_lines (n - 1))) (grammar_from scale 2 (first_lines ++ step_lines (n - 1)))) (start_fine n)
           ∙ ap (started (state n)) rules.1,
+      rules.2,
+      all_lefts scale n rules.0 rules.3,
     )
 
 pub demo_reads : (scale : Scale) (n : ℕ) → IsSomeText scale (demo_text n)

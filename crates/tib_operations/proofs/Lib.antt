@@ -38,4 +38,5 @@ pub mod BestOf
 pub mod NarrowBest
 pub mod OfKBest
 pub mod DemoText
+pub mod DemoTrees
 pub mod OfDemo

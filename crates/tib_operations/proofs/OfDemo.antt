@@ -1,6 +1,6 @@
--- What `demo` writes: one text, and where its cheapest tree is not too large, that there is none cannot be.
+-- What `demo` writes: one text, and that there is none cannot be.
 use Rattle.tib_cost.specs.declared.Scale.{Scale}
-use Rattle.std.proofs.Common.{◌≡◌, ℕ, ◌<◌, Bool, List, inl, length, refl, sym, ap, ◌∙◌, subst}
+use Rattle.std.proofs.Common.{◌≡◌, ℕ, ◌<◌, ◌≤◌, Bool, List, inl, length, refl, sym, ap, ◌∙◌, subst}
 use Rattle.tib_lex.specs.Lists.{Distinct}
 use Rattle.tib_cost.specs.Semiring.{ProductLaws}
 use Rattle.tib_grammar.specs.GrammarOf.{GrammarOf}
@@ -12,13 +12,14 @@ use Rattle.tib_grammar_file.proofs.Alongs.{along_long}
 use Rattle.tib_grammar_file.proofs.OneByText.{one_by_text}
 use Rattle.tib_grammar_file.proofs.Plain.{read_plain}
 use Rattle.tib_canon.specs.TrimmedForms.{IsTrimmedForm}
-use Rattle.tib_operations.specs.Demo.{demo_text, summary_text, HasSummary, OfDemo, HasDemoText, DemoIsSmall, demo_makes, IsSummaryFault, IsDemoFault}
+use Rattle.tib_operations.specs.Demo.{demo_text, summary_text, HasSummary, OfDemo, HasDemoText, demo_makes, IsSummaryFault}
 use Rattle.tib_operations.specs.Determinize.{determinizing, determinize_makes}
-use Rattle.tib_operations.specs.KBest.{HasLargeTree, IsKBestFault, ListsSmall}
+use Rattle.tib_operations.specs.KBest.{IsKBestFault, ListsSmall}
 use Rattle.tib_operations.specs.Made.{HasReachedFrom, IsMadeFault, normal_form, reached_set}
 use Rattle.tib_operations.specs.declared.status.Status.{Status}
 use Rattle.tib_operations.specs.declared.status.Status.TheVariants as statuses
 use Rattle.tib_operations.proofs.DemoText.{demo_reads}
+use Rattle.tib_operations.proofs.DemoTrees.{demo_small, no_large_tree}
 use Rattle.tib_operations.proofs.FormsByText.{within_by_text}
 use Rattle.tib_operations.proofs.MadeParts.{IsEither, both_either, form_either, reached_either}
 use Rattle.tib_operations.proofs.OfDeterminize.{determinized_once, determinized_there}
@@ -42,22 +43,21 @@ pub of_read :
     (scale : Scale) (n : ℕ) (P : List (List ℕ) → GrammarOf → Type 0) (labels : List (List ℕ)) (g : GrammarOf) → Distinct labels → ReadsAs scale labels (demo_text n) g → P labels g → OfDemo scale n P
 of_read scale n P labels g distinct read holds = record { labels = labels; distinct = distinct; g = g; read = read; holds = holds }
 
-pub fault_of_read :
-    (levelled : Bool) (scale : Scale) (product : ℕ → ℕ → ℕ) (limit n : ℕ) (labels : List (List ℕ)) (g : GrammarOf) → Distinct labels → ReadsAs scale labels (demo_text n) g → (s : Status) →
-    IsSummaryFault levelled product limit labels g s → IsDemoFault levelled scale product limit n s
-fault_of_read levelled scale product limit n labels g distinct read statuses.Done h = absurd h
-fault_of_read levelled scale product limit n labels g distinct read statuses.Usage h = absurd h
-fault_of_read levelled scale product limit n labels g distinct read (statuses.BadInput m fault) h = absurd h
-fault_of_read levelled scale product limit n labels g distinct read (statuses.Class m rule fault) h = absurd h
-fault_of_read levelled scale product limit n labels g distinct read (statuses.TooMany m) h = (h.0, of_read scale n (λ ls k. (determinize_makes product limit k).more) labels g distinct read h.1)
-fault_of_read levelled scale product limit n labels g distinct read statuses.TreeTooLarge h = (
-  of_read scale n (λ ls k. (determinize_makes product limit k).within) labels g distinct read h.0,
-  of_read scale n (λ ls k. HasLargeTree levelled product 1 ls k) labels g distinct read h.1,
-)
-fault_of_read levelled scale product limit n labels g distinct read (statuses.ReadFault m) h = absurd h
-fault_of_read levelled scale product limit n labels g distinct read statuses.WriteFault h = absurd h
-fault_of_read levelled scale product limit n labels g distinct read (statuses.TooLong m) h = absurd h
-fault_of_read levelled scale product limit n labels g distinct read statuses.OutOfMemory h = tt
+-- a fault of it is one of what is made, since no tree is too large
+module _
+    {levelled weighted : Bool} {product : ℕ → ℕ → ℕ} (laws : ProductLaws levelled weighted product) (split : Bool) (scale : Scale) (limit n : ℕ) (low : n ≤ 16)
+    (labels : List (List ℕ)) (g : GrammarOf) (distinct : Distinct labels) (read : ReadsAs scale labels (demo_text n) g) where
+  pub fault_of_read : (s : Status) → IsSummaryFault split product limit labels g s → IsMadeFault (demo_makes scale product limit n).more limit s
+  fault_of_read statuses.Done h = absurd h
+  fault_of_read statuses.Usage h = absurd h
+  fault_of_read (statuses.BadInput m fault) h = absurd h
+  fault_of_read (statuses.Class m rule fault) h = absurd h
+  fault_of_read (statuses.TooMany m) h = (h.0, of_read scale n (λ ls k. (determinize_makes product limit k).more) labels g distinct read h.1)
+  fault_of_read statuses.TreeTooLarge h = absurd (no_large_tree laws scale n low labels g read split h.1)
+  fault_of_read (statuses.ReadFault m) h = absurd h
+  fault_of_read statuses.WriteFault h = absurd h
+  fault_of_read (statuses.TooLong m) h = absurd h
+  fault_of_read statuses.OutOfMemory h = tt
 
 -- a fault of the determinization
 pub fault_of_made :
@@ -146,9 +146,9 @@ module _ {levelled weighed : Bool} {product : ℕ → ℕ → ℕ} (laws : Produ
 
   -- and one of each number
   pub demo_there :
-      (scale : Scale) (limit n : ℕ) → limit < 4294967296 → (demo_makes scale product limit n).within → DemoIsSmall scale product n →
+      (scale : Scale) (limit n : ℕ) → limit < 4294967296 → n ≤ 16 → (demo_makes scale product limit n).within →
       ((text : List ℕ) → HasDemoText scale product limit n text → ⊥) → ⊥
-  demo_there scale limit n low w small never =
+  demo_there scale limit n low few w never =
       summary_there scale limit low w.labels w.distinct w.g (read_sound scale w.labels (demo_text n) w.g w.read.text) (read_plain scale w.labels (demo_text n) w.g w.read.text)
-      w.holds.1 (small w.labels w.g w.distinct w.read) (λ text s.
+      w.holds.1 (demo_small laws scale n few w.labels w.g w.read) (λ text s.
       never text (record { labels = w.labels; distinct = w.distinct; g = w.g; read = w.read; holds = s }))

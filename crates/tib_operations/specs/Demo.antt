@@ -1,11 +1,11 @@
 -- `demo`: a grammar that is made for a number, how large its determinization is, and its cheapest tree.
 use Rattle.tib_cost.specs.declared.Scale.{Scale}
-use Rattle.std.specs.Prelude.{◌≡◌, ◌≤◌, ℕ, ◌-◌, Bool, List, [], ◌++◌, length, codes, decimal, zero, suc}
+use Rattle.std.specs.Prelude.{◌≡◌, ℕ, ◌-◌, Bool, List, [], ◌++◌, length, codes, decimal, zero, suc}
 use Rattle.tib_lex.specs.Lists.{Distinct}
 use Rattle.tib_grammar.specs.GrammarOf.{GrammarOf}
 use Rattle.tib_grammar_file.specs.Read.{ReadsAs}
 use Rattle.tib_operations.specs.Determinize.{HasDeterminizedText, determinize_makes}
-use Rattle.tib_operations.specs.KBest.{HasKBestText, HasLargeTree, ListsSmall}
+use Rattle.tib_operations.specs.KBest.{HasKBestText, HasLargeTree}
 use Rattle.tib_operations.specs.Made.{Made, IsMadeFault}
 use Rattle.tib_operations.specs.declared.status.Status.{Status}
 use Rattle.tib_operations.specs.declared.status.Status.TheVariants as statuses
@@ -61,20 +61,7 @@ demo_makes scale product limit n = record {
   more = OfDemo scale n (λ labels g. (determinize_makes product limit g).more);
 }
 
--- the cheapest tree is not too large, over whatever table the grammar is read
-abbrev pub DemoIsSmall : Scale → (ℕ → ℕ → ℕ) → ℕ → Type 0
-DemoIsSmall scale product n = (labels : List (List ℕ)) (g : GrammarOf) → Distinct labels → ReadsAs scale labels (demo_text n) g → ListsSmall product 1 labels g
-
--- a state of the trimmed normal form has a cheapest tree that is too large
-abbrev pub DemoHasLargeTree : Bool → Scale → (ℕ → ℕ → ℕ) → ℕ → Type 0
-DemoHasLargeTree levelled scale product n = OfDemo scale n (λ labels g. HasLargeTree levelled product 1 labels g)
-
 -- why there are no three lines of a grammar: too many parts, or within the limit a tree that is too large, or want of memory
 abbrev pub IsSummaryFault : Bool → (ℕ → ℕ → ℕ) → ℕ → List (List ℕ) → GrammarOf → Status → Type 0
 IsSummaryFault levelled product limit labels g statuses.TreeTooLarge = (determinize_makes product limit g).within × HasLargeTree levelled product 1 labels g
 IsSummaryFault levelled product limit labels g status = IsMadeFault (determinize_makes product limit g).more limit status
-
--- why there is no text for n
-abbrev pub IsDemoFault : Bool → Scale → (ℕ → ℕ → ℕ) → ℕ → ℕ → Status → Type 0
-IsDemoFault levelled scale product limit n statuses.TreeTooLarge = (demo_makes scale product limit n).within × DemoHasLargeTree levelled scale product n
-IsDemoFault levelled scale product limit n status = IsMadeFault (demo_makes scale product limit n).more limit status

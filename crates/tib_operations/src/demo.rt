@@ -3,11 +3,12 @@ ghost use Rattle.std.specs.Prelude.{[], ◌≡◌, ◌≤◌, ◌<◌, ◌^◌, 
 ghost use Rattle.tib_grammar_file.specs.Printable.{ArePrintable};
 ghost use Rattle.tib_grammar_file.specs.Read.{ReadsAs};
 ghost use Rattle.tib_lex.specs.Lists.{Distinct};
-ghost use Rattle.tib_operations.specs.Demo.{demo_text, demo_makes, step_line, summary_text, HasDemoText, HasSummary, IsDemoFault, IsSummaryFault};
+ghost use Rattle.tib_operations.specs.Demo.{demo_text, demo_makes, step_line, summary_text, HasDemoText, HasSummary, IsSummaryFault};
 ghost use Rattle.tib_operations.specs.Determinize.{IsDeterminizedText, determinize_makes};
 ghost use Rattle.tib_operations.specs.Made.{IsLimit, IsMadeFault};
 
 use crate::determinize::{determinization_of, determinization_of_together};
+use crate::forms::product_has_laws;
 use crate::kbest::kbest_text;
 use crate::pieces::{write_about, write_piece};
 use crate::status::Status;
@@ -196,9 +197,10 @@ fn demo_grammar<S: Semiring>(
     Ok(grammar)
 }
 
-/// The three lines of the grammar that is made for n from 1 to 16, which is read as a file is, or the status with which the run ends:
-/// too many parts, a state that has a cheapest tree of more than 10,000 nodes, or want of memory. The time is that of a determinization
-/// with 2 ^ n + 1 states.
+/// The three lines of the grammar that is made for n from 1 to 16, which is read as a file is, or
+/// the status with which the run ends: too many parts, or out of memory. The status for a large
+/// tree never comes, since the cheapest tree of each state of this grammar is small. The time is
+/// that of a determinization with 2 ^ n + 1 states.
 pub fn demo_of<S: Semiring + Drop, G: Gate>(
     alloc: Global,
     n: u32,
@@ -210,7 +212,7 @@ pub fn demo_of<S: Semiring + Drop, G: Gate>(
     requires limit { IsLimit limit }
     ensures text { IfOk result (λ text. HasDemoText S.SCALE S.product limit n text.bytes) }
     ensures within { IfOk result (λ _. (demo_makes S.SCALE S.product limit n).within) }
-    ensures err { IfErr result (IsDemoFault S.LEVELLED S.SCALE S.product limit n) }
+    ensures err { IfErr result (IsMadeFault (demo_makes S.SCALE S.product limit n).more limit) }
 {
     let mut labels = Labels::new(alloc);
     let Ok(grammar) = demo_grammar::<S>(alloc, n, &mut labels) else {
@@ -235,11 +237,12 @@ pub fn demo_of_together<S: Semiring + Sync + Drop, R: Threads + Wait + Sync, G: 
     requires limit { IsLimit limit }
     ensures text { IfOk result (λ text. HasDemoText S.SCALE S.product limit n text.bytes) }
     ensures within { IfOk result (λ _. (demo_makes S.SCALE S.product limit n).within) }
-    ensures err { IfErr result (IsDemoFault S.LEVELLED S.SCALE S.product limit n) }
+    ensures err { IfErr result (IsMadeFault (demo_makes S.SCALE S.product limit n).more limit) }
 {
     let mut labels = Labels::new(alloc);
     let Ok(grammar) = demo_grammar::<S>(alloc, n, &mut labels) else {
         return Err(Status::OutOfMemory);
     };
+    product_has_laws::<S>();
     summary_of_together::<S, R, G>(rt, alloc, &grammar, &labels, workers, limit, gate)
 }

@@ -21,4 +21,4 @@ returns-clause-within g c =
 pub returns-clause-err : goal.returns-clause-err
 returns-clause-err g c =
     IfErr-weaker c.summary_of_together.result _ _
-    (fault_of_read g.S.Semiring.LEVELLED g.S.Semiring.SCALE g.S.Semiring.product c.args.limit c.args.n c.demo_grammar.new.labels c.in-Ok.grammar c.in-Ok.ensures.distinct c.in-Ok.ensures.read) c.summary_of_together.ensures.err
+    (fault_of_read c.product_has_laws.ensures g.S.Semiring.LEVELLED g.S.Semiring.SCALE c.args.limit c.args.n c.requires.most c.demo_grammar.new.labels c.in-Ok.grammar c.in-Ok.ensures.distinct c.in-Ok.ensures.read) c.summary_of_together.ensures.err
