@@ -1,6 +1,6 @@
 -- What `compose` writes, from the pairs that are reached.
 use Rattle.tib_cost.specs.declared.Scale.{Scale}
-use Rattle.std.proofs.Common.{◌≡◌, ℕ, ◌<◌, ◌≤◌, Bool, List, length, get_or, map, refl, ap, sym, ◌∙◌, subst, arith}
+use Rattle.std.proofs.Common.{◌≡◌, ℕ, ◌<◌, ◌≤◌, Bool, List, length, refl, sym, subst, arith}
 use Rattle.tib_lex.specs.Lists.{Distinct}
 use Rattle.tib_cost.specs.Semiring.{ProductLaws}
 use Rattle.tib_lex.specs.PairOrder.{pair_cmp}
@@ -8,19 +8,20 @@ use Rattle.tib_hunt.specs.Reached.{IsReachedSet, parts_of}
 use Rattle.tib_transducer.specs.Range.{AreWithin}
 use Rattle.tib_transducer.specs.TransducerOf.{TransducerOf}
 use Rattle.tib_transducer.specs.declared.TransducerRule.{TransducerRule}
+use Rattle.tib_transducer_file.specs.ByName.{ReadsBack}
 use Rattle.tib_transducer_file.specs.Printed.{transducer_text}
 use Rattle.tib_transducer.specs.Outside.{AllMeet}
 use Rattle.tib_canon.proofs.ReachedOnce.{order_once}
 use Rattle.tib_keyed.specs.Plain.{ArePlain}
 use Rattle.tib_keyed.specs.Composition.{composition}
 use Rattle.tib_keyed.proofs.Exact.{composition_laws}
-use Rattle.tib_canon.specs.Composing.{composing, HasComposeText}
+use Rattle.tib_canon.specs.Composing.{composing}
 use Rattle.tib_canon.specs.TransducerConstructions.{moves_over, IsCanonicalTransducerOf}
 use Rattle.tib_canon.specs.TransducerKeys.{IsCanonicalTransducer, AreMovesOver}
 use Rattle.tib_canon.proofs.Compose.{compose_plain, compose_series}
 use Rattle.tib_canon.proofs.TransducerConstruct.{found_moves, found_stand}
 use Rattle.tib_canon.proofs.TransducerTexts.{transducer_read}
-use Rattle.tib_operations.specs.Compose.{plain}
+use Rattle.tib_operations.specs.Compose.{plain, IsComposeText}
 
 pub are_plain : (rules : List (TransducerRule ℕ)) → AllMeet plain rules → ArePlain rules
 are_plain rules met n h =
@@ -42,15 +43,17 @@ module _
 
   pub composed_text :
       (limit : ℕ) → limit ≤ 4294967296 → AllMeet plain u.rules → parts_of (composition product t.rules u.rules) order (moves_over (0, 0) order rules) ≤ limit → length order ≤ limit → (h : TransducerOf) →
-      IsCanonicalTransducer scale labels pair_cmp order rules 0 h → (text : List ℕ) → text ≡ transducer_text scale labels h → HasComposeText scale product limit labels t u text
+      IsCanonicalTransducer scale labels pair_cmp order rules 0 h → (text : List ℕ) → text ≡ transducer_text scale labels h → IsComposeText scale product limit labels t u text h
   composed_text limit low met within few h canonical text e =
       let c : IsCanonicalTransducerOf scale labels limit (composing product t u) h = record { order = order; rules = rules; reached = reached; within = within; over = moves_found; canonical = canonical } in
-      let read = transducer_read pair_cmp scale labels order rules 0 h canonical (found_stand scale labels (composing product t u) (compose_plain product (laws.neutral 0) scale labels t u m n) order rules reached range) (omega (arith, few, low)) moves_found in
-      subst (HasComposeText scale product limit labels t u) (sym e) (record {
-        h = h;
-        canonical = c;
-        series = compose_series laws scale labels limit t u h n.shaped (are_plain u.rules met) c;
-        are = refl;
-        read = read.0;
-        reads = read.1;
-      })
+      let read = transducer_read pair_cmp scale labels order rules 0 h canonical (found_stand scale labels (composing product t u) (compose_plain product (laws.neutral 0) scale labels t u m n) order rules reached range) (omega (arith, few, low)) moves_found in (
+        record {
+          h = h;
+          canonical = c;
+          series = compose_series laws scale labels limit t u h n.shaped (are_plain u.rules met) c;
+          are = e;
+          read = read.0;
+          reads = subst (λ (bytes : List ℕ). ReadsBack scale labels bytes h read.0) (sym e) read.1;
+        },
+        refl,
+      )

@@ -1,6 +1,6 @@
 -- `backward`: the trees that a transducer turns into those of a grammar.
 use Rattle.tib_cost.specs.declared.Scale.{Scale}
-use Rattle.std.specs.Prelude.{◌↔◌, ℕ, List, Option, true, false}
+use Rattle.std.specs.Prelude.{◌≡◌, ◌↔◌, ℕ, List, Option, true, false}
 use Rattle.tib_tree.specs.Trees.{Tree}
 use Rattle.tib_grammar.specs.GrammarOf.{GrammarOf}
 use Rattle.tib_grammar.specs.Series.{IsSeries}
@@ -37,6 +37,10 @@ abbrev pub HasBackwardText : Scale → (ℕ → ℕ → ℕ) → ℕ → List (L
 HasBackwardText scale product limit labels t g text =
     HasGrammarText scale labels (IsCanonicalFrom product scale labels limit (IsTrimmedForm product g) (inverting product t))
     (HasBackwardSeries product t.rules g.rules) text
+
+-- the text is that of this canonical grammar
+abbrev pub IsBackwardText : Scale → (ℕ → ℕ → ℕ) → ℕ → List (List ℕ) → TransducerOf → GrammarOf → List ℕ → GrammarOf → Type 0
+IsBackwardText scale product limit labels t g text h = (d : HasBackwardText scale product limit labels t g text) × (d.h ≡ h)
 
 -- the normal form of the grammar, and then the reached set of keys
 abbrev pub backward_makes : (ℕ → ℕ → ℕ) → ℕ → TransducerOf → GrammarOf → Made

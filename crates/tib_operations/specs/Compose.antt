@@ -1,5 +1,6 @@
 -- `compose`: the transducer that does what the first and then the second does.
-use Rattle.std.specs.Prelude.{ℕ, true}
+use Rattle.tib_cost.specs.declared.Scale.{Scale}
+use Rattle.std.specs.Prelude.{◌≡◌, ℕ, List, true}
 use Rattle.tib_hunt.specs.Reached.{IsBeyond}
 use Rattle.tib_transducer.specs.TransducerOf.{TransducerOf}
 use Rattle.tib_transducer.specs.Outside.{Demands, demands}
@@ -15,6 +16,10 @@ plain = demands true true true true
 
 abbrev pub compose_demands : TransducerOf → Demanded
 compose_demands u = demanded_of 2 plain u.rules
+
+-- the text is that of this canonical transducer
+abbrev pub IsComposeText : Scale → (ℕ → ℕ → ℕ) → ℕ → List (List ℕ) → TransducerOf → TransducerOf → List ℕ → TransducerOf → Type 0
+IsComposeText scale product limit labels t u text h = (d : HasComposeText scale product limit labels t u text) × (d.h ≡ h)
 
 -- the reached set of the pairs of states; no normal form is made
 abbrev pub compose_makes : (ℕ → ℕ → ℕ) → ℕ → TransducerOf → TransducerOf → Made

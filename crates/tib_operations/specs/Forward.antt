@@ -1,6 +1,6 @@
 -- `forward`: the trees into which a transducer turns those of a grammar.
 use Rattle.tib_cost.specs.declared.Scale.{Scale}
-use Rattle.std.specs.Prelude.{◌↔◌, ℕ, List, Option, true, false}
+use Rattle.std.specs.Prelude.{◌≡◌, ◌↔◌, ℕ, List, Option, true, false}
 use Rattle.tib_tree.specs.Trees.{Tree}
 use Rattle.tib_grammar.specs.GrammarOf.{GrammarOf}
 use Rattle.tib_grammar.specs.Series.{IsSeries}
@@ -37,6 +37,10 @@ abbrev pub HasForwardText : Scale → (ℕ → ℕ → ℕ) → ℕ → List (Li
 HasForwardText scale product limit labels g t text =
     HasGrammarText scale labels (IsCanonicalFrom product scale labels limit (IsTrimmedForm product g) (forwarding product t))
     (HasForwardSeries product g.rules t.rules) text
+
+-- the text is that of this canonical grammar
+abbrev pub IsForwardText : Scale → (ℕ → ℕ → ℕ) → ℕ → List (List ℕ) → GrammarOf → TransducerOf → List ℕ → GrammarOf → Type 0
+IsForwardText scale product limit labels g t text h = (d : HasForwardText scale product limit labels g t text) × (d.h ≡ h)
 
 -- the normal form of the grammar, and then the reached set of keys
 abbrev pub forward_makes : (ℕ → ℕ → ℕ) → ℕ → GrammarOf → TransducerOf → Made

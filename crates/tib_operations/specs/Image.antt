@@ -2,6 +2,7 @@
 use Rattle.tib_cost.specs.declared.Scale.{Scale}
 use Rattle.std.specs.Prelude.{◌≡◌, ◌↔◌, ℕ, List, Option}
 use Rattle.tib_tree.specs.Trees.{Tree}
+use Rattle.tib_grammar.specs.GrammarOf.{GrammarOf}
 use Rattle.tib_grammar.specs.Series.{IsSeries}
 use Rattle.tib_grammar.specs.declared.Rule.{Rule}
 use Rattle.tib_transducer.specs.Series.{IsTransducerSeries}
@@ -29,6 +30,10 @@ abbrev pub HasImageText : Scale → (ℕ → ℕ → ℕ) → ℕ → List (List
 HasImageText scale product limit labels one t text =
     HasGrammarText scale labels (IsCanonicalFrom product scale labels limit (IsTheTree one) (imaging t))
     (HasImageSeries product one t.rules) text
+
+-- the text is that of this canonical grammar
+abbrev pub IsImageText : Scale → (ℕ → ℕ → ℕ) → ℕ → List (List ℕ) → Tree ℕ → TransducerOf → List ℕ → GrammarOf → Type 0
+IsImageText scale product limit labels one t text h = (d : HasImageText scale product limit labels one t text) × (d.h ≡ h)
 
 -- the reached set of keys; no normal form is made
 abbrev pub image_makes : ℕ → Tree ℕ → TransducerOf → Made

@@ -1,6 +1,6 @@
 -- `intersect`: the intersection of two grammars.
 use Rattle.tib_cost.specs.declared.Scale.{Scale}
-use Rattle.std.specs.Prelude.{ℕ, List}
+use Rattle.std.specs.Prelude.{◌≡◌, ℕ, List}
 use Rattle.tib_grammar.specs.GrammarOf.{GrammarOf}
 pub use Rattle.tib_grammar.specs.Series.{HasProductSeries}
 use Rattle.tib_canon.specs.Constructions.{Construction, at_first, IsCanonicalFrom, HasGrammarText}
@@ -21,6 +21,10 @@ abbrev pub HasIntersectionText : Scale → (ℕ → ℕ → ℕ) → ℕ → Lis
 HasIntersectionText scale product limit labels f g text =
     HasGrammarText scale labels (IsCanonicalFrom product scale labels limit (AreTrimmedForms product f g) (intersecting product))
     (HasProductSeries product f.rules g.rules) text
+
+-- the text is that of this canonical grammar
+abbrev pub IsIntersectionText : Scale → (ℕ → ℕ → ℕ) → ℕ → List (List ℕ) → GrammarOf → GrammarOf → List ℕ → GrammarOf → Type 0
+IsIntersectionText scale product limit labels f g text h = (d : HasIntersectionText scale product limit labels f g text) × (d.h ≡ h)
 
 -- the normal forms of both grammars, and then the reached set of pairs
 abbrev pub intersect_makes : (ℕ → ℕ → ℕ) → ℕ → GrammarOf → GrammarOf → Made

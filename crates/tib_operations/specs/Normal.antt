@@ -1,6 +1,6 @@
 -- `normal`: the normal form of a grammar.
 use Rattle.tib_cost.specs.declared.Scale.{Scale}
-use Rattle.std.specs.Prelude.{ℕ, ◌≤◌, List, length}
+use Rattle.std.specs.Prelude.{◌≡◌, ℕ, ◌≤◌, List, length}
 use Rattle.tib_grammar.specs.GrammarOf.{GrammarOf}
 use Rattle.tib_normal.specs.NormalForm.{IsNormalForm, normal_parts}
 use Rattle.tib_canon.specs.Canonical.{IsCanonical}
@@ -19,6 +19,10 @@ pub record IsCanonicalNormal (scale : Scale) (product : ℕ → ℕ → ℕ) (li
 abbrev pub HasNormalText : Scale → (ℕ → ℕ → ℕ) → ℕ → List (List ℕ) → GrammarOf → List ℕ → Type 0
 HasNormalText scale product limit labels g text =
     HasGrammarText scale labels (IsCanonicalNormal scale product limit labels g) (HaveSameSeries product g.rules) text
+
+-- the text is that of this canonical form
+abbrev pub IsNormalText : Scale → (ℕ → ℕ → ℕ) → ℕ → List (List ℕ) → GrammarOf → List ℕ → GrammarOf → Type 0
+IsNormalText scale product limit labels g text h = (d : HasNormalText scale product limit labels g text) × (d.h ≡ h)
 
 -- the normal form of the grammar
 abbrev pub normal_makes : (ℕ → ℕ → ℕ) → ℕ → GrammarOf → Made

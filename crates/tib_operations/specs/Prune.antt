@@ -1,6 +1,6 @@
 -- `prune`: the part of a grammar that stays within a beam of its cheapest tree.
 use Rattle.tib_cost.specs.declared.Scale.{Scale}
-use Rattle.std.specs.Prelude.{ℕ, ◌≤◌, List}
+use Rattle.std.specs.Prelude.{◌≡◌, ℕ, ◌≤◌, List}
 use Rattle.tib_grammar.specs.GrammarOf.{GrammarOf}
 use Rattle.tib_grammar.specs.Series.{HaveSameSeries}
 use Rattle.tib_grammar.specs.declared.Rule.{Rule}
@@ -36,6 +36,10 @@ pub record HasPruneText (scale : Scale) (product : ℕ → ℕ → ℕ) (beam : 
   pub is_kept : IsPrunedForm product beam g kept
   pub keeps : KeepsWithin product g.rules beam kept.rules
   pub printed : HasGrammarText scale labels (IsCanonical product scale labels kept) (HaveSameSeries product kept.rules) text
+
+-- the text is that of this canonical form
+abbrev pub IsPruneText : Scale → (ℕ → ℕ → ℕ) → ℕ → List (List ℕ) → GrammarOf → List ℕ → GrammarOf → Type 0
+IsPruneText scale product beam labels g text h = (d : HasPruneText scale product beam labels g text) × (d.printed.h ≡ h)
 
 -- the normal form of the grammar
 abbrev pub prune_makes : (ℕ → ℕ → ℕ) → ℕ → GrammarOf → Made

@@ -8,7 +8,7 @@ ghost use Rattle.tib_hunt.specs.Reached.{IsBeyond};
 ghost use Rattle.tib_apply.specs.Applied.{IsReachedBy, HasPartsOf, AreOverOrder, IsApplyFault};
 ghost use Rattle.tib_apply.specs.Operations.{inverse_image};
 ghost use Rattle.tib_canon.specs.Constructions.{IsCanonicalOf};
-ghost use Rattle.tib_operations.specs.Backward.{linear_nondeleting, HasBackwardSeries, inverting, backward_makes, HasBackwardText};
+ghost use Rattle.tib_operations.specs.Backward.{linear_nondeleting, HasBackwardSeries, inverting, backward_makes, HasBackwardText, IsBackwardText};
 ghost use Rattle.tib_operations.specs.Made.{IsLimit, IsMadeFault};
 ghost use Rattle.tib_operations.specs.Moves.{ArePlainMoves};
 
@@ -92,6 +92,8 @@ pub fn preimage_of<S: Semiring + Drop, G: Gate>(
     requires limit { IsLimit limit }
     ensures text { IfOk result (λ h. HasBackwardText S.SCALE S.product limit labels.now
         transducer.now grammar.now h.text.bytes) }
+    ensures grammar { IfOk result (λ h. IsBackwardText S.SCALE S.product limit labels.now
+        transducer.now grammar.now h.text.bytes h.grammar) }
     ensures within { IfOk result (λ _. (backward_makes S.product limit transducer.now
         grammar.now).within) }
     ensures err { IfErr result (IsMadeFault (backward_makes S.product limit transducer.now
@@ -125,6 +127,8 @@ pub fn preimage_of_together<S: Semiring + Sync + Drop, R: Threads + Wait + Sync,
     requires limit { IsLimit limit }
     ensures text { IfOk result (λ h. HasBackwardText S.SCALE S.product limit labels.now
         transducer.now grammar.now h.text.bytes) }
+    ensures grammar { IfOk result (λ h. IsBackwardText S.SCALE S.product limit labels.now
+        transducer.now grammar.now h.text.bytes h.grammar) }
     ensures within { IfOk result (λ _. (backward_makes S.product limit transducer.now
         grammar.now).within) }
     ensures err { IfErr result (IsMadeFault (backward_makes S.product limit transducer.now

@@ -6,7 +6,7 @@ ghost use Rattle.tib_keyed.specs.Composition.{composition};
 ghost use Rattle.tib_compose.specs.Composed.{AreOverOrder, HasPartsOf, IsComposeFault, IsReachedBy};
 ghost use Rattle.tib_canon.specs.TransducerKeys.{AreMovesOver};
 ghost use Rattle.tib_operations.specs.Classes.{demanded_of, IsClassFault};
-ghost use Rattle.tib_operations.specs.Compose.{plain, compose_makes, HasComposeText};
+ghost use Rattle.tib_operations.specs.Compose.{plain, compose_makes, HasComposeText, IsComposeText};
 ghost use Rattle.tib_operations.specs.Made.{IsLimit, IsMadeFault};
 
 use crate::status::Status;
@@ -56,6 +56,8 @@ fn canonical_of_moves<S: Semiring + Drop>(
         (IsBeyond (composition S.product first.now.rules second.now.rules) limit)) }
     ensures text { IfOk result (λ h. HasComposeText S.SCALE S.product limit labels.now first.now
         second.now h.text.bytes) }
+    ensures transducer { IfOk result (λ h. IsComposeText S.SCALE S.product limit labels.now
+        first.now second.now h.text.bytes h.transducer) }
     ensures within { IfOk result (λ _. (compose_makes S.product limit first.now
         second.now).within) }
     ensures err { IfErr result (IsMadeFault (compose_makes S.product limit first.now
@@ -89,6 +91,8 @@ pub fn composition_of<S: Semiring + Drop, G: Gate>(
     requires limit { IsLimit limit }
     ensures text { IfOk result (λ h. HasComposeText S.SCALE S.product limit labels.now first.now
         second.now h.text.bytes) }
+    ensures transducer { IfOk result (λ h. IsComposeText S.SCALE S.product limit labels.now
+        first.now second.now h.text.bytes h.transducer) }
     ensures within { IfOk result (λ _. (compose_makes S.product limit first.now
         second.now).within) }
     ensures err { IfErr result (IsMadeFault (compose_makes S.product limit first.now
@@ -117,6 +121,8 @@ pub fn composition_of_together<S: Semiring + Sync + Drop, R: Threads + Wait + Sy
     requires limit { IsLimit limit }
     ensures text { IfOk result (λ h. HasComposeText S.SCALE S.product limit labels.now first.now
         second.now h.text.bytes) }
+    ensures transducer { IfOk result (λ h. IsComposeText S.SCALE S.product limit labels.now
+        first.now second.now h.text.bytes h.transducer) }
     ensures within { IfOk result (λ _. (compose_makes S.product limit first.now
         second.now).within) }
     ensures err { IfErr result (IsMadeFault (compose_makes S.product limit first.now

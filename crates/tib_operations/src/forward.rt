@@ -8,7 +8,7 @@ ghost use Rattle.tib_hunt.specs.Reached.{IsBeyond};
 ghost use Rattle.tib_apply.specs.Applied.{IsReachedBy, HasPartsOf, AreOverOrder, IsApplyFault};
 ghost use Rattle.tib_apply.specs.Operations.{forward_image};
 ghost use Rattle.tib_canon.specs.Constructions.{IsCanonicalOf};
-ghost use Rattle.tib_operations.specs.Forward.{linear, HasForwardSeries, forwarding, forward_makes, HasForwardText};
+ghost use Rattle.tib_operations.specs.Forward.{linear, HasForwardSeries, forwarding, forward_makes, HasForwardText, IsForwardText};
 ghost use Rattle.tib_operations.specs.Made.{IsLimit, IsMadeFault};
 ghost use Rattle.tib_operations.specs.Moves.{ArePlainMoves};
 
@@ -97,6 +97,8 @@ pub fn image_of<S: Semiring + Drop, G: Gate>(
     requires limit { IsLimit limit }
     ensures text { IfOk result (λ h. HasForwardText S.SCALE S.product limit labels.now grammar.now
         transducer.now h.text.bytes) }
+    ensures grammar { IfOk result (λ h. IsForwardText S.SCALE S.product limit labels.now
+        grammar.now transducer.now h.text.bytes h.grammar) }
     ensures within { IfOk result (λ _. (forward_makes S.product limit grammar.now
         transducer.now).within) }
     ensures err { IfErr result (IsMadeFault (forward_makes S.product limit grammar.now
@@ -130,6 +132,8 @@ pub fn image_of_together<S: Semiring + Sync + Drop, R: Threads + Wait + Sync, G:
     requires limit { IsLimit limit }
     ensures text { IfOk result (λ h. HasForwardText S.SCALE S.product limit labels.now grammar.now
         transducer.now h.text.bytes) }
+    ensures grammar { IfOk result (λ h. IsForwardText S.SCALE S.product limit labels.now
+        grammar.now transducer.now h.text.bytes h.grammar) }
     ensures within { IfOk result (λ _. (forward_makes S.product limit grammar.now
         transducer.now).within) }
     ensures err { IfErr result (IsMadeFault (forward_makes S.product limit grammar.now

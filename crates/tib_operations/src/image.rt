@@ -3,7 +3,7 @@ ghost use Rattle.std.specs.Prelude.{◌≤◌, length, IfErr, IfOk};
 ghost use Rattle.tib_hunt.specs.Reached.{IfTooMany, IsBeyond};
 ghost use Rattle.tib_image.specs.Answered.{IsImage, AreOverOrder, HasParts};
 ghost use Rattle.tib_image.specs.Image.{image_of};
-ghost use Rattle.tib_operations.specs.Image.{image_makes, HasImageText};
+ghost use Rattle.tib_operations.specs.Image.{image_makes, HasImageText, IsImageText};
 ghost use Rattle.tib_operations.specs.Made.{IsLimit, IsMadeFault};
 ghost use Rattle.tib_operations.specs.Moves.{ArePlainMoves};
 
@@ -41,6 +41,8 @@ fn canonical_of_outputs<S: Semiring + Drop>(
         limit)) }
     ensures text { IfOk result (λ h. HasImageText S.SCALE S.product limit labels.now tree.now
         transducer.now h.text.bytes) }
+    ensures grammar { IfOk result (λ h. IsImageText S.SCALE S.product limit labels.now tree.now
+        transducer.now h.text.bytes h.grammar) }
     ensures within { IfOk result (λ _. (image_makes limit tree.now transducer.now).within) }
     ensures err { IfErr result (IsMadeFault (image_makes limit tree.now transducer.now).more
         limit) }
@@ -73,6 +75,8 @@ pub fn outputs_of<S: Semiring + Drop, G: Gate>(
     requires limit { IsLimit limit }
     ensures text { IfOk result (λ h. HasImageText S.SCALE S.product limit labels.now tree.now
         transducer.now h.text.bytes) }
+    ensures grammar { IfOk result (λ h. IsImageText S.SCALE S.product limit labels.now tree.now
+        transducer.now h.text.bytes h.grammar) }
     ensures within { IfOk result (λ _. (image_makes limit tree.now transducer.now).within) }
     ensures err { IfErr result (IsMadeFault (image_makes limit tree.now transducer.now).more
         limit) }
@@ -98,6 +102,8 @@ pub fn outputs_of_together<S: Semiring + Sync + Drop, R: Threads + Wait + Sync, 
     requires limit { IsLimit limit }
     ensures text { IfOk result (λ h. HasImageText S.SCALE S.product limit labels.now tree.now
         transducer.now h.text.bytes) }
+    ensures grammar { IfOk result (λ h. IsImageText S.SCALE S.product limit labels.now tree.now
+        transducer.now h.text.bytes h.grammar) }
     ensures within { IfOk result (λ _. (image_makes limit tree.now transducer.now).within) }
     ensures err { IfErr result (IsMadeFault (image_makes limit tree.now transducer.now).more
         limit) }

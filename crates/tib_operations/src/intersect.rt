@@ -7,7 +7,7 @@ ghost use Rattle.tib_hunt.specs.Reached.{IfTooMany, IsBeyond};
 ghost use Rattle.tib_intersect.specs.Answered.{IsIntersection, IsGrammar, HasParts};
 ghost use Rattle.tib_intersect.specs.Intersection.{intersection};
 ghost use Rattle.tib_canon.specs.Constructions.{IsCanonicalOf};
-ghost use Rattle.tib_operations.specs.Intersect.{HasProductSeries, intersecting, intersect_makes, HasIntersectionText};
+ghost use Rattle.tib_operations.specs.Intersect.{HasProductSeries, intersecting, intersect_makes, HasIntersectionText, IsIntersectionText};
 ghost use Rattle.tib_operations.specs.Made.{IsLimit, IsMadeFault};
 
 use crate::forms::trimmed_form;
@@ -88,6 +88,8 @@ pub fn intersection_of<S: Semiring + Drop, G: Gate>(
     requires limit { IsLimit limit }
     ensures text { IfOk result (λ h. HasIntersectionText S.SCALE S.product limit labels.now
         first.now second.now h.text.bytes) }
+    ensures grammar { IfOk result (λ h. IsIntersectionText S.SCALE S.product limit labels.now
+        first.now second.now h.text.bytes h.grammar) }
     ensures within { IfOk result (λ _. (intersect_makes S.product limit first.now
         second.now).within) }
     ensures err { IfErr result (IsMadeFault (intersect_makes S.product limit first.now
@@ -129,6 +131,8 @@ pub fn intersection_of_together<
     requires limit { IsLimit limit }
     ensures text { IfOk result (λ h. HasIntersectionText S.SCALE S.product limit labels.now
         first.now second.now h.text.bytes) }
+    ensures grammar { IfOk result (λ h. IsIntersectionText S.SCALE S.product limit labels.now
+        first.now second.now h.text.bytes h.grammar) }
     ensures within { IfOk result (λ _. (intersect_makes S.product limit first.now
         second.now).within) }
     ensures err { IfErr result (IsMadeFault (intersect_makes S.product limit first.now

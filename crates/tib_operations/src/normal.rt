@@ -2,7 +2,7 @@
 ghost use Rattle.std.specs.Prelude.{IfErr, IfOk};
 ghost use Rattle.tib_grammar_file.specs.Printable.{ArePrintable};
 ghost use Rattle.tib_operations.specs.Made.{IsLimit, IsMadeFault};
-ghost use Rattle.tib_operations.specs.Normal.{HasNormalText, normal_makes};
+ghost use Rattle.tib_operations.specs.Normal.{HasNormalText, IsNormalText, normal_makes};
 
 use crate::forms::normal_of;
 use crate::status::Status;
@@ -25,6 +25,8 @@ pub fn canonical_normal<S: Semiring + Drop>(
     requires limit { IsLimit limit }
     ensures text { IfOk result (λ h. HasNormalText S.SCALE S.product limit labels.now grammar.now
         h.text.bytes) }
+    ensures grammar { IfOk result (λ h. IsNormalText S.SCALE S.product limit labels.now grammar.now
+        h.text.bytes h.grammar) }
     ensures within { IfOk result (λ _. (normal_makes S.product limit grammar.now).within) }
     ensures err { IfErr result (IsMadeFault (normal_makes S.product limit grammar.now).more limit) }
 {

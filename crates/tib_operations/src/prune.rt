@@ -2,7 +2,7 @@
 ghost use Rattle.std.specs.Prelude.{◌≡◌, ℕ, List, IfErr, IfOk};
 ghost use Rattle.tib_grammar_file.specs.Printable.{ArePrintable};
 ghost use Rattle.tib_operations.specs.Made.{IsLimit, IsMadeFault};
-ghost use Rattle.tib_operations.specs.Prune.{IsBeam, IsPrunedForm, KeepsWithin, HasPruneText, prune_makes};
+ghost use Rattle.tib_operations.specs.Prune.{IsBeam, IsPrunedForm, KeepsWithin, HasPruneText, IsPruneText, prune_makes};
 
 use crate::forms::costed_form;
 use crate::status::Status;
@@ -67,6 +67,8 @@ pub fn canonical_pruned<S: Semiring + Drop>(
     requires beam { IsBeam beam }
     ensures text { IfOk result (λ h. HasPruneText S.SCALE S.product beam labels.now grammar.now
         h.text.bytes) }
+    ensures grammar { IfOk result (λ h. IsPruneText S.SCALE S.product beam labels.now grammar.now
+        h.text.bytes h.grammar) }
     ensures within { IfOk result (λ _. (prune_makes S.product limit grammar.now).within) }
     ensures err { IfErr result (IsMadeFault (prune_makes S.product limit grammar.now).more limit) }
 {

@@ -1,4 +1,4 @@
-use Rattle.std.proofs.Common.{inl, inr}
+use Rattle.std.proofs.Common.{refl, inl, inr}
 use Rattle.std.proofs.lemmas.Result.{IfOk-weaker, IfErr-weaker}
 use Rattle.tib_hunt.specs.Reached.{IsBeyond}
 use Rattle.tib_canon.specs.TrimmedForms.{IsTrimmedForm}
@@ -13,15 +13,21 @@ use Rattle.tib_operations.proofs.backward.preimage_of_together.Goals as goal
 pub canonical_of_preimage-requires-clause-grammar : goal.canonical_of_preimage-requires-clause-grammar
 canonical_of_preimage-requires-clause-grammar g c = c.in-Ok.ensures.printable c.args.labels.now c.requires.grammar
 
+pub returns-clause-grammar : goal.returns-clause-grammar
+returns-clause-grammar g c =
+    ok_four c.canonical_of_preimage.result _ _ _ _ _ (λ h canonical series are read. (
+      record {
+        h = h.grammar;
+        canonical = record { from = c.in-Ok.form; is_made = c.in-Ok.ensures.form; canonical = canonical };
+        series = backward_of_form c.product_has_laws.ensures c.args.transducer.now.rules c.args.grammar.now.rules c.in-Ok.form.rules c.grammar.ensures.normal.normal c.in-Ok.ensures.series h.grammar.rules series;
+        are = are;
+        read = read;
+      },
+      refl,
+    )) c.canonical_of_preimage.ensures.canonical c.canonical_of_preimage.ensures.series c.canonical_of_preimage.ensures.text c.canonical_of_preimage.ensures.read
+
 pub returns-clause-text : goal.returns-clause-text
-returns-clause-text g c =
-    ok_four c.canonical_of_preimage.result _ _ _ _ _ (λ h canonical series are read. record {
-      h = h.grammar;
-      canonical = record { from = c.in-Ok.form; is_made = c.in-Ok.ensures.form; canonical = canonical };
-      series = backward_of_form c.product_has_laws.ensures c.args.transducer.now.rules c.args.grammar.now.rules c.in-Ok.form.rules c.grammar.ensures.normal.normal c.in-Ok.ensures.series h.grammar.rules series;
-      are = are;
-      read = read;
-    }) c.canonical_of_preimage.ensures.canonical c.canonical_of_preimage.ensures.series c.canonical_of_preimage.ensures.text c.canonical_of_preimage.ensures.read
+returns-clause-text g c = IfOk-weaker c.canonical_of_preimage.result _ _ (λ h is. is.0) (returns-clause-grammar g c)
 
 pub returns-clause-within : goal.returns-clause-within
 returns-clause-within g c =

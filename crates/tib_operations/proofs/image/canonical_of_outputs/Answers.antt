@@ -32,8 +32,8 @@ to_grammar-requires-clause-labelled g c =
     (image_plain g.S.Semiring.SCALE c.args.labels.now c.args.transducer.now c.requires.transducer c.is_sound.ensures.leaves c.args.tree.now) c.in-Ok.found.order.items c.in-Ok.found.rules.items (IfOk-at_ok _ c.in-Ok.is c.requires.reached)
     (IfOk-at_ok _ c.in-Ok.is c.requires.range)).printable
 
-pub returns-in-Ok-to_grammar-clause-text : goal.returns-in-Ok-to_grammar-clause-text
-returns-in-Ok-to_grammar-clause-text g c =
+pub returns-in-Ok-to_grammar-clause-grammar : goal.returns-in-Ok-to_grammar-clause-grammar
+returns-in-Ok-to_grammar-clause-grammar g c =
     let over =
     found_over g.S.Semiring.SCALE c.args.labels.now (imaging c.args.transducer.now c.args.tree.now)
     (image_plain g.S.Semiring.SCALE c.args.labels.now c.args.transducer.now c.requires.transducer c.is_sound.ensures.leaves c.args.tree.now) c.in-Ok.found.order.items c.in-Ok.found.rules.items (IfOk-at_ok _ c.in-Ok.is c.requires.reached)
@@ -49,16 +49,21 @@ returns-in-Ok-to_grammar-clause-text g c =
       begun = refl;
       canonical = c.in-Ok-to_grammar.ensures.canonical;
     }
-    in
-    record {
-      h = c.in-Ok-to_grammar.canonical.grammar;
-      canonical = record { from = c.args.tree.now; is_made = refl; canonical = canonical };
-      series = image_has_series g.S.Semiring.product g.S.Semiring.SCALE c.args.limit c.args.labels.now c.args.transducer.now c.args.tree.now c.in-Ok-to_grammar.canonical.grammar c.is_sound.ensures.shaped canonical;
-      are = c.in-Ok-to_grammar.ensures.text;
-      read = subst (λ (text : List ℕ). GrammarText g.S.Semiring.SCALE c.args.labels.now text c.in-Ok-to_grammar.canonical.grammar) (sym c.in-Ok-to_grammar.ensures.text)
-          (c.over_keys_texts_are_read.ensures g.S.Semiring.SCALE c.args.labels.now c.in-Ok.found.order.items c.in-Ok.found.rules.items (At 0) c.in-Ok-to_grammar.canonical.grammar
-          (omega (arith, (IfOk-at_ok _ c.in-Ok.is c.requires.few), c.requires.limit)) over.leaves over.printable c.in-Ok-to_grammar.ensures.canonical);
-    }
+    in (
+      record {
+        h = c.in-Ok-to_grammar.canonical.grammar;
+        canonical = record { from = c.args.tree.now; is_made = refl; canonical = canonical };
+        series = image_has_series g.S.Semiring.product g.S.Semiring.SCALE c.args.limit c.args.labels.now c.args.transducer.now c.args.tree.now c.in-Ok-to_grammar.canonical.grammar c.is_sound.ensures.shaped canonical;
+        are = c.in-Ok-to_grammar.ensures.text;
+        read = subst (λ (text : List ℕ). GrammarText g.S.Semiring.SCALE c.args.labels.now text c.in-Ok-to_grammar.canonical.grammar) (sym c.in-Ok-to_grammar.ensures.text)
+            (c.over_keys_texts_are_read.ensures g.S.Semiring.SCALE c.args.labels.now c.in-Ok.found.order.items c.in-Ok.found.rules.items (At 0) c.in-Ok-to_grammar.canonical.grammar
+            (omega (arith, (IfOk-at_ok _ c.in-Ok.is c.requires.few), c.requires.limit)) over.leaves over.printable c.in-Ok-to_grammar.ensures.canonical);
+      },
+      refl,
+    )
+
+pub returns-in-Ok-to_grammar-clause-text : goal.returns-in-Ok-to_grammar-clause-text
+returns-in-Ok-to_grammar-clause-text g c = (returns-in-Ok-to_grammar-clause-grammar g c).0
 
 pub returns-in-Ok-to_grammar-clause-within : goal.returns-in-Ok-to_grammar-clause-within
 returns-in-Ok-to_grammar-clause-within g c =

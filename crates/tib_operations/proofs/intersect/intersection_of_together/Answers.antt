@@ -1,4 +1,4 @@
-use Rattle.std.proofs.Common.{inl, inr}
+use Rattle.std.proofs.Common.{refl, inl, inr}
 use Rattle.std.proofs.lemmas.Result.{IfOk-weaker, IfErr-weaker}
 use Rattle.tib_hunt.specs.Reached.{IsBeyond}
 use Rattle.tib_intersect.specs.Intersection.{intersection}
@@ -16,15 +16,21 @@ canonical_of_pairs-requires-clause-one g c = c.in-Ok.ensures.printable c.args.la
 pub canonical_of_pairs-requires-clause-two : goal.canonical_of_pairs-requires-clause-two
 canonical_of_pairs-requires-clause-two g c = c.in-Ok-trimmed_form.ensures.printable c.args.labels.now c.requires.second
 
+pub returns-clause-grammar : goal.returns-clause-grammar
+returns-clause-grammar g c =
+    ok_four c.canonical_of_pairs.result _ _ _ _ _ (λ h canonical series are read. (
+      record {
+        h = h.grammar;
+        canonical = record { from = (c.in-Ok.one, c.in-Ok-trimmed_form.two); is_made = (c.in-Ok.ensures.form, c.in-Ok-trimmed_form.ensures.form); canonical = canonical };
+        series = product_of_forms g.S.Semiring.product c.args.first.now c.args.second.now c.in-Ok.one c.in-Ok-trimmed_form.two h.grammar.rules c.in-Ok.ensures.series c.in-Ok-trimmed_form.ensures.series series;
+        are = are;
+        read = read;
+      },
+      refl,
+    )) c.canonical_of_pairs.ensures.canonical c.canonical_of_pairs.ensures.series c.canonical_of_pairs.ensures.text c.canonical_of_pairs.ensures.read
+
 pub returns-clause-text : goal.returns-clause-text
-returns-clause-text g c =
-    ok_four c.canonical_of_pairs.result _ _ _ _ _ (λ h canonical series are read. record {
-      h = h.grammar;
-      canonical = record { from = (c.in-Ok.one, c.in-Ok-trimmed_form.two); is_made = (c.in-Ok.ensures.form, c.in-Ok-trimmed_form.ensures.form); canonical = canonical };
-      series = product_of_forms g.S.Semiring.product c.args.first.now c.args.second.now c.in-Ok.one c.in-Ok-trimmed_form.two h.grammar.rules c.in-Ok.ensures.series c.in-Ok-trimmed_form.ensures.series series;
-      are = are;
-      read = read;
-    }) c.canonical_of_pairs.ensures.canonical c.canonical_of_pairs.ensures.series c.canonical_of_pairs.ensures.text c.canonical_of_pairs.ensures.read
+returns-clause-text g c = IfOk-weaker c.canonical_of_pairs.result _ _ (λ h is. is.0) (returns-clause-grammar g c)
 
 pub returns-clause-within : goal.returns-clause-within
 returns-clause-within g c =
