@@ -27,7 +27,9 @@ pub enum Status {
     TooMany {
         limit: u64,
     },
-    /// Some state has a tree of more than 10,000 nodes among its cheapest trees, as many as were asked for.
+    /// A tree has more than 10,000 nodes. In a list of cheapest trees, some state has such a tree
+    /// among its cheapest trees, as many as were asked for. In a comparison of two grammars, the
+    /// least tree that only one of them has is such a tree.
     TreeTooLarge,
     /// A read of a file failed.
     ReadFault {
@@ -39,7 +41,8 @@ pub enum Status {
     TooLong {
         file: u32,
     },
-    /// Memory was refused; nothing was written.
+    /// Memory was refused, or a table, a list or a number would exceed a size that the code sets
+    /// for it, as 2^32 states. Nothing was written.
     OutOfMemory,
 }
 
