@@ -1,5 +1,5 @@
 // Two grammars side by side.
-ghost use Rattle.std.specs.Prelude.{◌≡◌, ◌++◌, ◌^◌, ◌<◌, length, OnOk, IfOk};
+ghost use Rattle.std.specs.Prelude.{◌≡◌, ◌+◌, ◌++◌, ◌^◌, ◌<◌, length, OnOk, IfOk};
 ghost use Rattle.tib_grammar.specs.Forms.{AreNormal};
 ghost use Rattle.tib_compare.specs.Beside.{beside, raised};
 
@@ -51,7 +51,8 @@ fn normal_over(
     states: u32,
     rules: Vec<Rule<u32>>,
 ) -> Result<Normal<Boolean>, AllocError>
-    ensures { IfOk result (λ n. n.rules ≡ rules.items) }
+    ensures names { IfOk result (λ n. length n.names ≡ states) }
+    ensures rules { IfOk result (λ n. n.rules ≡ rules.items) }
 {
     if rules.len() > u32::MAX as usize {
         return Err(AllocError);
@@ -74,7 +75,9 @@ pub fn side_by_side(
     left: &Normal<Boolean>,
     right: &Normal<Boolean>,
 ) -> Result<Normal<Boolean>, AllocError>
-    ensures { IfOk result (λ n. n.rules
+    ensures names { IfOk result (λ n. length n.names
+        ≡ length left.now.names + length right.now.names) }
+    ensures rules { IfOk result (λ n. n.rules
         ≡ beside (length left.now.names) left.now.rules right.now.rules) }
 {
     let one = left.grammar();

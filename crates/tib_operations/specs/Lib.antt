@@ -2,6 +2,7 @@ pub mod Codes
 pub mod Text
 pub mod FileTexts
 pub mod Made
+pub mod Forms
 pub mod Weigh
 pub mod Inside
 pub mod Normal

@@ -7,6 +7,7 @@ ghost use Rattle.tib_normal.specs.NormalForm.{IsNormalForm, KeepsSeries, normal_
 ghost use Rattle.tib_k_best.specs.Trimmed.{HaveTreesBelow};
 ghost use Rattle.tib_prune.specs.Loop.{AreInsidesOfAll};
 ghost use Rattle.tib_canon.specs.TrimmedForms.{IsTrimmedForm};
+ghost use Rattle.tib_operations.specs.Forms.{IsNamedForm, KeepsNames};
 ghost use Rattle.tib_operations.specs.Made.{IsLimit, normal_form, IsMadeFault};
 
 use crate::status::Status;
@@ -32,6 +33,7 @@ pub fn normal_of<S: Semiring + Drop>(
     requires limit { IsLimit limit }
     ensures form { IfOk result (λ m. IsNormalForm S.product (length grammar.now.names)
         grammar.now.rules (length m.names) m.rules) }
+    ensures names { IfOk result (λ m. KeepsNames grammar.now m) }
     ensures series { IfOk result (λ m. KeepsSeries S.product (length grammar.now.names)
         grammar.now.rules m.rules) }
     ensures parts { IfOk result (λ m. normal_parts (length m.names) m.rules ≤ limit) }
@@ -53,6 +55,7 @@ pub fn costed_form<S: Semiring + Drop>(
 ) -> Result<(Normal<S>, Vec<Option<Cost>>), Status>
     requires limit { IsLimit limit }
     ensures form { IfOk result (λ m. IsTrimmedForm S.product grammar.now m.0) }
+    ensures names { IfOk result (λ m. IsNamedForm S.product grammar.now m.0) }
     ensures within { IfOk result (λ _. (normal_form S.product limit grammar.now).within) }
     ensures series { IfOk result (λ m. HasSameSeries S.product grammar.now m.0) }
     ensures printable { IfOk result (λ m. (labels : List (List ℕ)) →
@@ -88,6 +91,7 @@ pub fn trimmed_form<S: Semiring + Drop>(
 ) -> Result<Normal<S>, Status>
     requires limit { IsLimit limit }
     ensures form { IfOk result (λ m. IsTrimmedForm S.product grammar.now m) }
+    ensures names { IfOk result (λ m. IsNamedForm S.product grammar.now m) }
     ensures within { IfOk result (λ _. (normal_form S.product limit grammar.now).within) }
     ensures series { IfOk result (λ m. HasSameSeries S.product grammar.now m) }
     ensures printable { IfOk result (λ m. (labels : List (List ℕ)) →

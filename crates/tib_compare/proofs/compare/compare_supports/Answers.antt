@@ -4,9 +4,9 @@ use Rattle.tib_compare.proofs.compare.compare_supports.Goals as goal
 
 pub finish-requires-clause-within : goal.finish-requires-clause-within
 finish-requires-clause-within g c =
-    within_of c.args.left.now c.args.right.now c.args.limit c.in-Ok.both.rules c.in-Ok.ensures c.in-Ok-determinize_together.found c.in-Ok-determinize_together.ensures.determinized c.in-Ok-determinize_together.ensures.parts
+    within_of c.args.left.now c.args.right.now c.args.limit c.in-Ok.both.rules c.in-Ok.ensures.rules c.in-Ok-determinize_together.found c.in-Ok-determinize_together.ensures.determinized c.in-Ok-determinize_together.ensures.parts
     c.in-Ok-determinize_together.ensures.within
 
 pub returns-clause-cause : goal.returns-clause-cause
 returns-clause-cause g c =
-    cause_of c.args.left.now c.args.right.now c.args.limit c.in-Ok.both.rules c.in-Ok.ensures c.in-Err.error c.in-Err.ensures.more c.fault_of.result c.fault_of.ensures
+    cause_of c.args.left.now c.args.right.now c.args.limit c.in-Ok.both.rules c.in-Ok.ensures.rules c.in-Err.error c.in-Err.ensures.more c.fault_of.result c.fault_of.ensures
