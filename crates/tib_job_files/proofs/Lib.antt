@@ -6,7 +6,6 @@ pub mod DemandByText
 pub mod Faults
 pub mod FileValues
 pub mod FilesAsked
-pub mod Large
 pub mod OfCompare
 mod OfForms
 pub mod OfJobs
@@ -14,8 +13,9 @@ pub mod OfOperations
 pub mod OfParse
 pub mod OneStatus
 pub mod OneString
+pub mod Outcomes
 pub mod ParseByText
-pub mod Parsed
+pub mod ReadValues
 pub mod Reached
 pub mod Runs
 mod RunsAlike

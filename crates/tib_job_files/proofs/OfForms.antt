@@ -17,7 +17,7 @@ use Rattle.tib_compare.specs.Faults.{hunted, IsCause, IsWithin}
 use Rattle.tib_compare.specs.declared.compared.Compared.{Compared}
 use Rattle.tib_compare.specs.declared.compared.Compared.TheVariants.{Same, First, Second}
 use Rattle.tib_compare.specs.declared.error.CompareError.{CompareError}
-use Rattle.tib_compare.specs.declared.error.CompareError.TheVariants.{TooMany, TreeTooLarge, OutOfMemory}
+use Rattle.tib_compare.specs.declared.error.CompareError.TheVariants.{TooMany, TreeTooLarge}
 use Rattle.tib_operations.specs.Made.{IsMadeFault}
 use Rattle.tib_operations.specs.declared.status.Status.{Status}
 use Rattle.tib_operations.specs.declared.status.Status.TheVariants as statuses

@@ -1,7 +1,9 @@
 -- The promise of a run, for each way in which it ends.
-use Rattle.std.specs.Prelude.{◌≡◌, ℕ, ◌≤◌, true, false, List, length, Option, Some, None, Result, Ok, Err, refl}
-use Rattle.std.proofs.Common.{arith, subst}
+use Rattle.tib_cost.specs.declared.Scale.{Scale}
+use Rattle.std.specs.Prelude.{◌≡◌, ℕ, ◌≤◌, Bool, true, false, List, length, Option, Some, None, Result, Ok, Err, IfOk, IfErr, refl}
+use Rattle.std.proofs.Common.{arith, subst, sym, inl, inr}
 use Rattle.tib_io.specs.Causes.{Rose}
+use Rattle.tib_io.specs.Memory.{SinkThatGrows}
 use Rattle.tib_io.specs.Pieces.{front_whole}
 use Rattle.tib_io.specs.Writes.{Takes, TakesFront, Calm}
 use Rattle.tib_tree.specs.Wrote.{Wrote}
@@ -9,11 +11,15 @@ use Rattle.tib_command.specs.Jobs.{Asked}
 use Rattle.tib_operations.specs.declared.status.Status.{Status}
 use Rattle.tib_operations.specs.declared.status.Status.TheVariants as statuses
 use Rattle.tib_job_files.specs.Answers.{IsAnswer, StandsStill, WithinIsNotTooMuch}
-use Rattle.tib_job_files.specs.Causes.{HasCause, IsEarly}
+use Rattle.tib_job_files.specs.Causes.{HasCause, IsEarly, bytes_of, levelled_of, product_of, scale_of}
 use Rattle.tib_job_files.specs.Kinds.{KindsHaveNoFault}
+use Rattle.tib_job_files.specs.Outcomes.{IsOutcome, setting_of}
 use Rattle.tib_job_files.specs.Run.{FilesSeen, SinkSeen, IsUntouched, IsRunOf, IsLogged}
-use Rattle.tib_job_files.specs.Steps.{LeavesFiles, EndsRun}
+use Rattle.tib_job_files.specs.Steps.{LeavesFiles, EndsRun, WritesOutcome}
+use Rattle.tib_job_files.specs.Values.{AreValuesOf}
+use Rattle.tib_job_files.specs.declared.job_values.Values.{Values}
 use Rattle.tib_job_files.proofs.Complete.{complete}
+use Rattle.tib_job_files.proofs.Outcomes.{outcome_answers, outcome_ends}
 use Rattle.tib_job_files.proofs.Steps.{leaves_all, ends_short}
 
 -- what ends before anything is written
@@ -127,6 +133,32 @@ module _ (no_fault : KindsHaveNoFault) (apart : WithinIsNotTooMuch) where
       counts = left.counts;
       complete = complete no_fault apart (Some asked) before.held before.faults after.faults old.faults new.faults statuses.WriteFault (refl, rose);
     }
+
+  -- after the outcome of the operation on the values of the files, of which a text was written
+
+  written :
+      (asked : Asked) (before after : FilesSeen) (old new : SinkSeen) (result : Result SinkThatGrows Status) (s : Status) → LeavesFiles before after → IfOk result (λ text. IsAnswer asked before.held text.bytes) →
+      IfErr result (EndsRun (Some asked) before after) → WritesOutcome result old new s → IsRunOf (Some asked) before after old new s
+  written asked before after old new (Ok text) s left answers ends w = elim w.done [
+    | inl h ↦
+        subst (λ (t : Status). IsRunOf (Some asked) before after old new t) (sym h.is_done)
+        (answered asked before after old new text.bytes answers w.later w.still left h.taken h.finished h.steady)
+    | inr h ↦
+        subst (λ (t : Status). IsRunOf (Some asked) before after old new t) (sym h.is_fault)
+        (cut_short asked before after old new text.bytes answers w.later w.still left h.front h.rose h.unfinished)
+  ]
+  written asked before after old new (Err own) s left answers ends w =
+      subst (λ (t : Status). IsRunOf (Some asked) before after old new t) w.0
+      (subst (λ (out : SinkSeen). IsRunOf (Some asked) before after old out own) w.1 (ended (Some asked) before after old own ends left))
+
+  pub performed :
+      {S : Type 0} (asked : Asked) (scale : Scale) (levelled : Bool) (product : ℕ → ℕ → ℕ) → scale ≡ scale_of asked.mode → levelled ≡ levelled_of asked.mode → product ≡ product_of asked.mode →
+      (before after : FilesSeen) (old new : SinkSeen) (labels : List (List ℕ)) (read : Values S) → AreValuesOf scale labels (bytes_of asked before.held) asked.task.operation read → LeavesFiles before after →
+      (result : Result SinkThatGrows Status) → IsOutcome asked.task.operation (setting_of scale levelled product asked labels) read result → (s : Status) → WritesOutcome result old new s →
+      IsRunOf (Some asked) before after old new s
+  performed asked scale levelled product we le pe before after old new labels read are left result outcome s w =
+      written asked before after old new result s left (outcome_answers asked scale levelled product we le pe before.held labels read are result outcome)
+      (outcome_ends asked scale levelled product we le pe before after labels read are result outcome) w
 
 -- the line on the log
 pub logged :

@@ -3,9 +3,10 @@ ghost use Rattle.std.specs.Prelude.{◌≡◌, ◌≤◌, ◌<◌, ◌+◌, ◌-
 ghost use Rattle.tib_cost.specs.declared.Scale.{Scale};
 ghost use Rattle.tib_io.specs.Reads.{most_bytes};
 ghost use Rattle.tib_command.specs.Jobs.{meaning};
-ghost use Rattle.tib_job_files.specs.Kinds.{Kind, IsReadError, OfFile, Told, file_at, kind_at};
+ghost use Rattle.tib_job_files.specs.Kinds.{Kind, ValueOf, IsReadError, IsTextOf, OfFile, Told, file_at, kind_at};
 ghost use Rattle.tib_job_files.specs.Causes.{scale_of};
 ghost use Rattle.tib_job_files.specs.Steps.{LeavesFiles, StopsAtFile, files_seen};
+ghost use Rattle.tib_job_files.specs.Values.{IsPrintableValue};
 ghost use Rattle.tib_operations.specs.FileTexts.{IsShort};
 ghost use Rattle.tib_tree.specs.Grows.{Grows};
 
@@ -21,22 +22,21 @@ pub trait FileValue {
     // The kind of such a file.
     ghost kind: { Kind };
 
+    // The value of a file of that kind.
+    ghost value: { Self → ValueOf kind };
+
     // It is read by this scale.
     ghost suits: { Scale → Type 0 };
-
-    // The bytes are the text of the value over a table of labels.
-    ghost is_text: { List (List ℕ) → Self → List ℕ → Type 0 };
-
-    // What is known of a value that was read, over its table of labels.
-    ghost is_sound: { List (List ℕ) → Self → Type 0 };
 
     /// The value of a file's bytes, or their first fault. Labels that are new go into the table, also before a fault. The cost is that of
     /// the reader of the kind.
     fn read(alloc: Global, bytes: &[u8], labels: &mut Labels) -> Result<Self, ReadError>
         requires short { IsShort bytes.now }
         requires room { length labels.old + length bytes.now < 2 ^ 32 - 1 }
-        ensures text { IfOk result (λ v. is_text labels.new v bytes.now) }
-        ensures sound { IfOk result (λ v. is_sound labels.new v) }
+        ensures text { IfOk result (λ v. (scale : Scale) → suits scale →
+            IsTextOf scale labels.new kind (value v) bytes.now) }
+        ensures printable { IfOk result (λ v. (scale : Scale) → suits scale →
+            IsPrintableValue scale labels.new kind (value v)) }
         ensures fault { IfErr result (λ e. (scale : Scale) → suits scale →
             IsReadError scale kind bytes.now e) }
         ensures grows { Grows labels.old labels.new }
@@ -88,8 +88,10 @@ pub fn value_in<V: FileValue, F: Files>(
     requires mode { V.suits (scale_of job.now.mode) }
     requires room { length labels.old + most_bytes < 2 ^ 32 - 1 }
     ensures text { IfOk result (λ v. OfFile (Some (meaning job.now)) file
-        (Told (F.held files.old) (V.is_text labels.new v))) }
-    ensures sound { IfOk result (λ v. V.is_sound labels.new v) }
+        (Told (F.held files.old) (IsTextOf (scale_of job.now.mode) labels.new V.kind
+        (V.value v)))) }
+    ensures printable { IfOk result (λ v. IsPrintableValue (scale_of job.now.mode) labels.new
+        V.kind (V.value v)) }
     ensures grows { Grows labels.old labels.new }
     ensures few { length labels.new ≤ length labels.old + most_bytes }
     ensures status { IfErr result (StopsAtFile (Some (meaning job.now)) file

@@ -7,22 +7,15 @@
 //! one in exactly one of them.
 #![tactic(auto)]
 
-pub mod backward;
-pub mod compare;
 mod compare_text;
-pub mod compose;
-pub mod determinize;
 mod files;
-pub mod forward;
-pub mod image;
-pub mod intersect;
+mod job_values;
 mod laws;
-pub mod parse;
 mod parse_text;
 mod values;
 
 pub use compare_text::{comparison_of, comparison_of_together};
-pub use files::{FileValue, value_in};
+pub use job_values::{Values, values_of};
 pub use laws::{
     answers_are_one, answers_exclude_too_many, answers_exist, files_have_no_fault,
     in_class_or_outside, jobs_have_answers, runs_end_alike, statuses_are_one, texts_are_one,

@@ -19,17 +19,13 @@ pub struct Support {
 
 impl<S: Semiring> FileValue for Grammar<S> {
     ghost use Rattle.std.specs.Prelude.{◌≡◌};
-    ghost use Rattle.tib_grammar_file.specs.Printable.{ArePrintable};
-    ghost use Rattle.tib_operations.specs.FileTexts.{IsRead};
     ghost use Rattle.tib_job_files.specs.Kinds.{of_grammar};
 
     ghost kind = { of_grammar };
 
+    ghost value = { λ g. g };
+
     ghost suits = { λ scale. S.SCALE ≡ scale };
-
-    ghost is_text = { IsRead S.SCALE };
-
-    ghost is_sound = { λ labels g. ArePrintable S.SCALE labels g.rules };
 
     fn read(alloc: Global, bytes: &[u8], labels: &mut Labels) -> Result<Self, ReadError> {
         read_grammars_are_printable();
@@ -38,17 +34,13 @@ impl<S: Semiring> FileValue for Grammar<S> {
 }
 
 impl FileValue for Support {
-    ghost use Rattle.tib_cost.specs.declared.Scale.TheVariants.{Unweighted};
-    ghost use Rattle.tib_grammar_file.specs.Printable.{ArePrintable};
-    ghost use Rattle.tib_job_files.specs.Kinds.{of_support, IsSupportRead};
+    ghost use Rattle.tib_job_files.specs.Kinds.{of_support};
 
     ghost kind = { of_support };
 
+    ghost value = { λ s. s.grammar };
+
     ghost suits = { λ scale. Unit {0} };
-
-    ghost is_text = { λ labels s bytes. IsSupportRead labels s.grammar bytes };
-
-    ghost is_sound = { λ labels s. ArePrintable Unweighted labels s.grammar.rules };
 
     fn read(alloc: Global, bytes: &[u8], labels: &mut Labels) -> Result<Self, ReadError> {
         read_grammars_are_printable();
@@ -60,43 +52,27 @@ impl FileValue for Support {
 }
 
 impl FileValue for Vec<Tree> {
-    ghost use Rattle.tib_lex.specs.Lists.{Each};
-    ghost use Rattle.tib_tree.specs.Grows.{AreDistinct};
-    ghost use Rattle.tib_tree.specs.Growth.{HasLabels};
-    ghost use Rattle.tib_operations.specs.FileTexts.{ListsTrees};
     ghost use Rattle.tib_job_files.specs.Kinds.{of_trees};
 
     ghost kind = { of_trees };
 
+    ghost value = { λ trees. trees.items };
+
     ghost suits = { λ scale. Unit {0} };
 
-    ghost is_text = { λ labels ts bytes. ListsTrees labels ts.items bytes };
-
-    ghost is_sound = { λ labels ts. AreDistinct labels × Each (HasLabels labels) ts.items };
-
     fn read(alloc: Global, bytes: &[u8], labels: &mut Labels) -> Result<Self, ReadError> {
-        match read_trees(alloc, bytes, labels) {
-            Ok(trees) => {
-                labels.len();
-                Ok(trees)
-            }
-            Err(error) => Err(error),
-        }
+        read_trees(alloc, bytes, labels)
     }
 }
 
 impl FileValue for Tree {
-    ghost use Rattle.std.specs.Prelude.{[], ◌∷◌};
-    ghost use Rattle.tib_operations.specs.FileTexts.{ListsTrees};
     ghost use Rattle.tib_job_files.specs.Kinds.{of_one_tree};
 
     ghost kind = { of_one_tree };
 
+    ghost value = { λ tree. tree };
+
     ghost suits = { λ scale. Unit {0} };
-
-    ghost is_text = { λ labels t bytes. ListsTrees labels (t ∷ []) bytes };
-
-    ghost is_sound = { λ labels t. Unit {0} };
 
     fn read(alloc: Global, bytes: &[u8], labels: &mut Labels) -> Result<Self, ReadError> {
         read_one_tree(alloc, bytes, labels)
@@ -104,20 +80,14 @@ impl FileValue for Tree {
 }
 
 impl<S: Semiring> FileValue for Transducer<S> {
-    ghost use Rattle.std.specs.Prelude.{◌≡◌, length};
-    ghost use Rattle.tib_canon.specs.TransducerKeys.{AreMovesOver};
-    ghost use Rattle.tib_operations.specs.FileTexts.{IsTransducerRead};
-    ghost use Rattle.tib_operations.specs.Moves.{ArePlainMoves};
+    ghost use Rattle.std.specs.Prelude.{◌≡◌};
     ghost use Rattle.tib_job_files.specs.Kinds.{of_transducer};
 
     ghost kind = { of_transducer };
 
+    ghost value = { λ t. t };
+
     ghost suits = { λ scale. S.SCALE ≡ scale };
-
-    ghost is_text = { IsTransducerRead S.SCALE };
-
-    ghost is_sound = { λ labels t. ArePlainMoves S.SCALE labels t.rules
-        × AreMovesOver S.SCALE labels (length t.names) t.rules };
 
     fn read(alloc: Global, bytes: &[u8], labels: &mut Labels) -> Result<Self, ReadError> {
         read_transducer::<S>(alloc, bytes, labels)
@@ -126,16 +96,13 @@ impl<S: Semiring> FileValue for Transducer<S> {
 
 impl<S: Semiring> FileValue for StringTransducer<S> {
     ghost use Rattle.std.specs.Prelude.{◌≡◌};
-    ghost use Rattle.tib_job_files.specs.Words.{ArePlainWords};
-    ghost use Rattle.tib_job_files.specs.Kinds.{of_string_transducer, IsStringTransducerRead};
+    ghost use Rattle.tib_job_files.specs.Kinds.{of_string_transducer};
 
     ghost kind = { of_string_transducer };
 
+    ghost value = { λ t. t };
+
     ghost suits = { λ scale. S.SCALE ≡ scale };
-
-    ghost is_text = { IsStringTransducerRead S.SCALE };
-
-    ghost is_sound = { λ labels t. ArePlainWords S.SCALE labels t.rules };
 
     fn read(alloc: Global, bytes: &[u8], labels: &mut Labels) -> Result<Self, ReadError> {
         read_string_transducer::<S>(alloc, bytes, labels)
@@ -144,15 +111,13 @@ impl<S: Semiring> FileValue for StringTransducer<S> {
 
 // The words of a string.
 impl FileValue for Vec<Label> {
-    ghost use Rattle.tib_job_files.specs.Kinds.{of_string, IsStringRead};
+    ghost use Rattle.tib_job_files.specs.Kinds.{of_string};
 
     ghost kind = { of_string };
 
+    ghost value = { λ string. string.items };
+
     ghost suits = { λ scale. Unit {0} };
-
-    ghost is_text = { λ labels s bytes. IsStringRead labels s.items bytes };
-
-    ghost is_sound = { λ labels s. Unit {0} };
 
     fn read(alloc: Global, bytes: &[u8], labels: &mut Labels) -> Result<Self, ReadError> {
         read_string(alloc, bytes, labels)

@@ -1,3 +1,4 @@
+pub mod Jobs
 pub mod Log
 pub use Rattle.tib_job_files.specs.Kinds
 pub use Rattle.tib_job_files.specs.Causes

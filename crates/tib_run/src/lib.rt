@@ -1,30 +1,16 @@
 //! What the program `tiburon` does: weighs trees by weighted regular tree grammars over exact whole numbers, and more. `run` is
-//! the one call that it makes: from words, files, an output and a log to a status, each of which comes only with its cause. The whole
-//! text of a job is made from its files, by one worker or by those of the job, before any of it is written.
+//! the one call that it makes: from words, files, an output and a log to a status, each of which comes only with its cause. The values
+//! of a job's files are read in order, then its whole text is made of them, by one worker or by those of the job, and then it is written.
 //! It stands on all crates below it.
 #![tactic(auto)]
 
-mod answer;
-mod backward;
-mod check;
+mod alone;
 mod command;
-mod compare;
-mod compose;
-mod demo;
-mod determinize;
-mod forward;
-mod image;
-mod inside;
-mod intersect;
-mod kbest;
 mod log;
-mod normal;
-mod parse;
-mod prune;
 mod text_alone;
 mod text_together;
+mod texts;
 mod together;
-mod weigh;
 
 pub use command::{run, run_alone};
 pub use log::tell;

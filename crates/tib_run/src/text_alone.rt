@@ -1,74 +1,118 @@
-// The whole text of a job by one worker.
-ghost use Rattle.std.specs.Prelude.{◌≡◌, ◌<◌, ◌≤◌, Some, length, IfErr, IfOk};
-ghost use Rattle.tib_command.specs.Jobs.{meaning, most_demo, word_count};
-ghost use Rattle.tib_job_files.specs.Answers.{IsAnswer};
-ghost use Rattle.tib_job_files.specs.Causes.{levelled_of, scale_of, product_of};
-ghost use Rattle.tib_job_files.specs.Steps.{EndsRun, LeavesFiles, files_seen};
-ghost use Rattle.tib_operations.specs.Made.{IsLimit};
-ghost use Rattle.tib_operations.specs.Prune.{IsBeam};
+// The whole text of a job by one worker, of the values of its files.
+ghost use Rattle.std.specs.Prelude.{IsSome};
+ghost use Rattle.tib_command.specs.Jobs.{meaning};
+ghost use Rattle.tib_job_files.specs.Kinds.{kinds_of};
+ghost use Rattle.tib_job_files.specs.Outcomes.{IsOutcome, setting_of};
+ghost use Rattle.tib_job_files.specs.Values.{ArePrintableValues, values_as};
+ghost use Rattle.tib_run.specs.Jobs.{IsWellFormed};
 
-use crate::backward::backward_files;
-use crate::check::check_file;
-use crate::compare::compare_files;
-use crate::compose::compose_files;
-use crate::demo::demo_of_number;
-use crate::determinize::determinize_file;
-use crate::forward::forward_files;
-use crate::image::image_files;
-use crate::inside::inside_of_file;
-use crate::intersect::intersect_files;
-use crate::kbest::kbest_of_file;
-use crate::normal::normal_of_file;
-use crate::parse::parse_files;
-use crate::prune::prune_of_file;
-use crate::weigh::weigh_files;
+use crate::texts::{classes_of, grammar_text, inside_costs, transducer_text, weighed_trees};
 use std::alloc::Global;
 use std::thread::Threads;
 use tib_command::{Job, Operation};
 use tib_cost::Semiring;
+use tib_grammar::Grammar;
 use tib_hunt::Gate;
-use tib_io::{Files, GrowingSink};
-use tib_operations::Status;
+use tib_io::GrowingSink;
+use tib_job_files::{Values, comparison_of, parse_of};
+use tib_operations::{
+    Status, canonical_normal, canonical_pruned, composition_of, demand, demand_plain, demo_of,
+    determinization_of, image_of, intersection_of, kbest_text, outputs_of, preimage_of,
+};
+use tib_tree::Labels;
 
-/// The whole text of a job, by one worker, before any of it is written, or the status with which the run ends.
-pub fn text_of<S: Semiring + Sync + Drop, R: Threads + Sync, F: Files, G: Gate>(
+/// The whole text of a job by one worker, of the values of its files over their table of labels, or the status with which the run ends:
+/// that of the first rule outside the class that the operation demands, of more parts than the limit, of a tree that is too large, or
+/// that memory was refused.
+pub(crate) fn text_of<S: Semiring + Sync + Drop, R: Threads + Sync, G: Gate>(
     rt: &R,
     alloc: Global,
     job: &Job,
-    files: &mut F,
+    values: &Values<S>,
+    labels: &Labels,
     gate: &G,
 ) -> Result<GrowingSink, Status>
-    requires files { length job.now.files.items ≡ word_count job.now.operation }
-    requires limit { IsLimit job.now.limit }
-    requires beam { IsBeam job.now.beam }
-    requires some { 0 < job.now.k }
-    requires least { job.now.operation ≡ Operation.Demo → 1 ≤ job.now.demo }
-    requires most { job.now.demo ≤ most_demo }
-    requires levelled { S.LEVELLED ≡ levelled_of job.now.mode }
-    requires mode { S.SCALE ≡ scale_of job.now.mode }
-    requires product { S.product ≡ product_of job.now.mode }
-    ensures text { IfOk result (λ text. IsAnswer (meaning job.now) (F.held files.old) text.bytes) }
-    ensures status { IfErr result (EndsRun (Some (meaning job.now))
-        (files_seen F.held F.sure F.faults files.old)
-        (files_seen F.held F.sure F.faults files.new)) }
-    ensures files { LeavesFiles (files_seen F.held F.sure F.faults files.old)
-        (files_seen F.held F.sure F.faults files.new) }
+    requires job { IsWellFormed job.now }
+    requires held { IsSome (values_as values.now (kinds_of job.now.operation)) }
+    requires printable { ArePrintableValues S.SCALE labels.now values.now }
+    ensures { IsOutcome job.now.operation
+        (setting_of S.SCALE S.LEVELLED S.product (meaning job.now) labels.now) values.now result }
 {
+    let limit = job.limit;
+    match values {
+        Values::GrammarAndTrees(grammar, trees) => {
+            weighed_trees::<S, R>(rt, alloc, grammar, trees, labels, limit)
+        }
+        Values::Grammar(grammar) => text_of_grammar::<S, G>(alloc, job, grammar, labels, gate),
+        Values::Grammars(first, second) => {
+            grammar_text(intersection_of::<S, G>(alloc, first, second, labels, limit, gate))
+        }
+        Values::Supports(first, second) => {
+            comparison_of::<G>(alloc, &first.grammar, &second.grammar, labels, limit, gate)
+        }
+        Values::GrammarAndTransducer(grammar, transducer) => {
+            match demand::<S>(transducer, 2, true, false) {
+                Ok(()) => {
+                    grammar_text(image_of::<S, G>(alloc, grammar, transducer, labels, limit, gate))
+                }
+                Err(status) => Err(status),
+            }
+        }
+        Values::TransducerAndGrammar(transducer, grammar) => {
+            match demand::<S>(transducer, 1, true, true) {
+                Ok(()) => grammar_text(preimage_of::<S, G>(
+                    alloc, transducer, grammar, labels, limit, gate,
+                )),
+                Err(status) => Err(status),
+            }
+        }
+        Values::Transducers(first, second) => match demand_plain::<S>(second, 2) {
+            Ok(()) => {
+                transducer_text(composition_of::<S, G>(alloc, first, second, labels, limit, gate))
+            }
+            Err(status) => Err(status),
+        },
+        Values::Transducer(transducer) => classes_of::<S>(alloc, transducer),
+        Values::TreeAndTransducer(tree, transducer) => {
+            grammar_text(outputs_of::<S, G>(alloc, tree, transducer, labels, limit, gate))
+        }
+        Values::StringTransducerAndString(transducer, string) => {
+            grammar_text(parse_of::<S, G>(alloc, transducer, string, labels, limit, gate))
+        }
+        Values::Nothing => demo_of::<S, G>(alloc, job.demo, limit, gate),
+    }
+}
+
+// The same of an operation that takes one grammar.
+fn text_of_grammar<S: Semiring + Drop, G: Gate>(
+    alloc: Global,
+    job: &Job,
+    grammar: &Grammar<S>,
+    labels: &Labels,
+    gate: &G,
+) -> Result<GrowingSink, Status>
+    requires job { IsWellFormed job.now }
+    requires held { IsSome (values_as {S = S} (Values.Grammar grammar.now)
+        (kinds_of job.now.operation)) }
+    requires printable { ArePrintableValues {S = S} S.SCALE labels.now
+        (Values.Grammar grammar.now) }
+    ensures { IsOutcome {S = S} job.now.operation
+        (setting_of S.SCALE S.LEVELLED S.product (meaning job.now) labels.now)
+        (Values.Grammar grammar.now) result }
+{
+    let limit = job.limit;
     match job.operation {
-        Operation::Weigh => weigh_files::<S, R, F>(rt, alloc, job, files),
-        Operation::Inside => inside_of_file::<S, F>(alloc, job, files),
-        Operation::Normal => normal_of_file::<S, F>(alloc, job, files),
-        Operation::KBest => kbest_of_file::<S, F>(alloc, job, files),
-        Operation::Intersect => intersect_files::<S, F, G>(alloc, job, files, gate),
-        Operation::Forward => forward_files::<S, F, G>(alloc, job, files, gate),
-        Operation::Backward => backward_files::<S, F, G>(alloc, job, files, gate),
-        Operation::Compose => compose_files::<S, F, G>(alloc, job, files, gate),
-        Operation::Image => image_files::<S, F, G>(alloc, job, files, gate),
-        Operation::Parse => parse_files::<S, F, G>(alloc, job, files, gate),
-        Operation::Compare => compare_files::<F, G>(alloc, job, files, gate),
-        Operation::Determinize => determinize_file::<S, F, G>(alloc, job, files, gate),
-        Operation::Check => check_file::<S, F>(alloc, job, files),
-        Operation::Prune => prune_of_file::<S, F>(alloc, job, files),
-        Operation::Demo => demo_of_number::<S, G>(alloc, job, gate),
+        Operation::Inside => inside_costs::<S>(alloc, grammar),
+        Operation::Normal => {
+            grammar_text(canonical_normal::<S>(alloc, grammar, labels, limit))
+        }
+        Operation::KBest => kbest_text::<S>(alloc, grammar, labels, limit, job.k),
+        Operation::Determinize => {
+            grammar_text(determinization_of::<S, G>(alloc, grammar, labels, limit, gate))
+        }
+        Operation::Prune => {
+            grammar_text(canonical_pruned::<S>(alloc, grammar, labels, limit, job.beam))
+        }
+        _ => unreachable!(),
     }
 }

@@ -1,21 +1,22 @@
 // The run of a job by its workers.
-ghost use Rattle.std.specs.Prelude.{◌≡◌, ◌<◌, ◌≤◌, Some, length, map, string_bytes};
-ghost use Rattle.tib_command.specs.Jobs.{job_of, meaning, most_demo, word_count};
+ghost use Rattle.std.specs.Prelude.{◌≡◌, Some, map, string_bytes};
+ghost use Rattle.tib_command.specs.Jobs.{job_of, meaning};
 ghost use Rattle.tib_job_files.specs.Causes.{levelled_of, scale_of, product_of};
 ghost use Rattle.tib_job_files.specs.Run.{IsRunOf, files_seen, sink_seen};
-ghost use Rattle.tib_operations.specs.Made.{IsLimit};
-ghost use Rattle.tib_operations.specs.Prune.{IsBeam};
+ghost use Rattle.tib_run.specs.Jobs.{IsWellFormed};
 
+use crate::alone::{perform_job, write_outcome};
 use crate::text_together::text_together;
 use std::alloc::Global;
 use std::sync::Wait;
 use std::thread::Threads;
-use tib_command::{CommandError, Job, Mode, Operation, read_words};
+use tib_command::{CommandError, Job, Mode, read_words};
 use tib_cost::{Boolean, Bottleneck, MinPlus, Semiring, Widest};
 use tib_hunt::Gate;
-use tib_io::{Failed, Files, Sink, write_and_finish};
-use tib_job_files::{files_have_no_fault, within_or_too_many};
+use tib_io::{Files, Sink};
+use tib_job_files::{files_have_no_fault, values_of, within_or_too_many};
 use tib_operations::Status;
+use tib_tree::Labels;
 
 // Writes the answer of the job, which its workers make.
 fn answer_together<
@@ -25,13 +26,7 @@ fn answer_together<
     O: Sink,
     G: Gate + Sync,
 >(rt: &R, alloc: Global, job: &Job, files: &mut F, out: &mut O, gate: &G) -> Status
-    requires files { length job.now.files.items ≡ word_count job.now.operation }
-    requires workers { (1 ≤ job.now.workers) × (job.now.workers ≤ 16) }
-    requires limit { IsLimit job.now.limit }
-    requires beam { IsBeam job.now.beam }
-    requires some { 0 < job.now.k }
-    requires least { job.now.operation ≡ Operation.Demo → 1 ≤ job.now.demo }
-    requires most { job.now.demo ≤ most_demo }
+    requires job { IsWellFormed job.now }
     requires levelled { S.LEVELLED ≡ levelled_of job.now.mode }
     requires mode { S.SCALE ≡ scale_of job.now.mode }
     requires product { S.product ≡ product_of job.now.mode }
@@ -42,17 +37,15 @@ fn answer_together<
 {
     files_have_no_fault();
     within_or_too_many();
-    let text = match text_together::<S, R, F, G>(rt, alloc, job, files, gate) {
-        Ok(text) => text,
+    let mut labels = Labels::new(alloc);
+    let values = match values_of::<S, F>(alloc, job, files, &mut labels) {
+        Ok(values) => values,
         Err(status) => return status,
     };
-    match write_and_finish(out, text.bytes()) {
-        Ok(()) => Status::Done,
-        Err(Failed) => Status::WriteFault,
-    }
+    write_outcome(out, text_together::<S, R, G>(rt, alloc, job, &values, &labels, gate))
 }
 
-// Does a job by its workers.
+// Does a job by its workers. One worker does it as in `perform_job`, which returns.
 fn perform_job_together<R: Threads + Wait + Sync, F: Files, O: Sink, G: Gate + Sync>(
     rt: &R,
     alloc: Global,
@@ -61,18 +54,15 @@ fn perform_job_together<R: Threads + Wait + Sync, F: Files, O: Sink, G: Gate + S
     out: &mut O,
     gate: &G,
 ) -> Status
-    requires files { length job.now.files.items ≡ word_count job.now.operation }
-    requires workers { (1 ≤ job.now.workers) × (job.now.workers ≤ 16) }
-    requires limit { IsLimit job.now.limit }
-    requires beam { IsBeam job.now.beam }
-    requires some { 0 < job.now.k }
-    requires least { job.now.operation ≡ Operation.Demo → 1 ≤ job.now.demo }
-    requires most { job.now.demo ≤ most_demo }
+    requires job { IsWellFormed job.now }
     ensures { IsRunOf (Some (meaning job.now))
         (files_seen F.held F.sure F.faults files.old) (files_seen F.held F.sure F.faults files.new)
         (sink_seen O.written O.free O.faults O.finished out.old)
         (sink_seen O.written O.free O.faults O.finished out.new) result }
 {
+    if job.workers == 1 {
+        return perform_job::<R, F, O, G>(rt, alloc, job, files, out, gate);
+    }
     match job.mode {
         Mode::MinPlus => answer_together::<MinPlus, R, F, O, G>(rt, alloc, job, files, out, gate),
         Mode::Bottleneck => answer_together::<Bottleneck, R, F, O, G>(

@@ -1,4 +1,4 @@
-use Rattle.std.proofs.Common.{Option, subst, sym}
+use Rattle.std.proofs.Common.{Option, subst, sym, arith}
 use Rattle.tib_command.specs.Jobs.{Asked}
 use Rattle.tib_job_files.specs.Run.{IsRunOf, files_seen, sink_seen}
 use Rattle.tib_job_files.proofs.Runs.{no_command, no_memory}
@@ -16,3 +16,14 @@ returns-in-Err-Usage g c = no_command c.files_have_no_fault.ensures c.within_or_
 
 pub returns-in-Err-OutOfMemory : goal.returns-in-Err-OutOfMemory
 returns-in-Err-OutOfMemory g c = no_memory c.files_have_no_fault.ensures c.within_or_too_many.ensures.apart _ _ _
+
+pub perform_job_together-requires-clause-job : goal.perform_job_together-requires-clause-job
+perform_job_together-requires-clause-job g c = record {
+  files = c.in-Ok.ensures.files;
+  workers = c.in-Ok.ensures.workers;
+  limit = c.in-Ok.ensures.limit;
+  beam = c.in-Ok.ensures.beam;
+  some = omega (arith, c.in-Ok.ensures.k);
+  least = c.in-Ok.ensures.demo;
+  most = c.in-Ok.ensures.most;
+}
