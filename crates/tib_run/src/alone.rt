@@ -18,10 +18,7 @@ use tib_operations::Status;
 use tib_tree::Labels;
 
 /// Writes a text, where there is one, and answers the status with which the run ends.
-pub(crate) fn write_outcome<O: Sink>(
-    out: &mut O,
-    outcome: Result<GrowingSink, Status>,
-) -> Status
+pub(crate) fn write_outcome<O: Sink>(out: &mut O, outcome: Result<GrowingSink, Status>) -> Status
     ensures { WritesOutcome outcome (sink_seen O.written O.free O.faults O.finished out.old)
         (sink_seen O.written O.free O.faults O.finished out.new) result }
 {
@@ -59,7 +56,10 @@ fn answer_job<S: Semiring + Sync + Drop, R: Threads + Sync, F: Files, O: Sink, G
         Ok(values) => values,
         Err(status) => return status,
     };
-    write_outcome(out, text_of::<S, R, G>(rt, alloc, job, &values, &labels, gate))
+    write_outcome(
+        out,
+        text_of::<S, R, G>(rt, alloc, job, &values, &labels, gate),
+    )
 }
 
 /// Does a job with one worker.

@@ -103,9 +103,7 @@ fn text_of_grammar<S: Semiring + Drop, G: Gate>(
     let limit = job.limit;
     match job.operation {
         Operation::Inside => inside_costs::<S>(alloc, grammar),
-        Operation::Normal => {
-            grammar_text(canonical_normal::<S>(alloc, grammar, labels, limit))
-        }
+        Operation::Normal => { grammar_text(canonical_normal::<S>(alloc, grammar, labels, limit)) }
         Operation::KBest => kbest_text::<S>(alloc, grammar, labels, limit, job.k),
         Operation::Determinize => {
             grammar_text(determinization_of::<S, G>(alloc, grammar, labels, limit, gate))

@@ -18,18 +18,14 @@ use tib_io::GrowingSink;
 use tib_job_files::{Values, comparison_of_together, parse_of_together};
 use tib_operations::{
     Status, composition_of_together, demand, demand_plain, demo_of_together,
-    determinization_of_together, image_of_together, intersection_of_together,
-    outputs_of_together, preimage_of_together,
+    determinization_of_together, image_of_together, intersection_of_together, outputs_of_together,
+    preimage_of_together,
 };
 use tib_tree::Labels;
 
 /// What `text_of` answers: an operation that hunts does so by the workers of the job, whatever the order of their steps, and may wait for
 /// ever, as their hunt; each other works as with one worker.
-pub(crate) fn text_together<
-    S: Semiring + Sync + Drop,
-    R: Threads + Wait + Sync,
-    G: Gate + Sync,
->(
+pub(crate) fn text_together<S: Semiring + Sync + Drop, R: Threads + Wait + Sync, G: Gate + Sync>(
     rt: &R,
     alloc: Global,
     job: &Job,

@@ -42,7 +42,10 @@ fn answer_together<
         Ok(values) => values,
         Err(status) => return status,
     };
-    write_outcome(out, text_together::<S, R, G>(rt, alloc, job, &values, &labels, gate))
+    write_outcome(
+        out,
+        text_together::<S, R, G>(rt, alloc, job, &values, &labels, gate),
+    )
 }
 
 // Does a job by its workers. One worker does it as in `perform_job`, which returns.

@@ -18,7 +18,7 @@ pub returns-in-Err-OutOfMemory : goal.returns-in-Err-OutOfMemory
 returns-in-Err-OutOfMemory g c = no_memory c.files_have_no_fault.ensures c.within_or_too_many.ensures.apart _ _ _
 
 pub perform_job-requires-clause-job : goal.perform_job-requires-clause-job
-perform_job-requires-clause-job g c = record {
+perform_job-requires-clause-job g c κs lives = record {
   files = c.in-Ok.ensures.files;
   workers = c.in-Ok.ensures.workers;
   limit = c.in-Ok.ensures.limit;

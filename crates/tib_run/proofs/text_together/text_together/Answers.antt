@@ -67,4 +67,4 @@ returns-in-Nothing g c =
     (demo_outcome c.demo_of_together.result refl c.demo_of_together.ensures.within c.demo_of_together.ensures.text c.demo_of_together.ensures.err)
 
 pub demo_of_together-requires-clause-least : goal.demo_of_together-requires-clause-least
-demo_of_together-requires-clause-least g c = c.requires.job.least (asked_for c.args.job.now.operation c.in-Nothing.is c.requires.held)
+demo_of_together-requires-clause-least g c κs lives = c.requires.job.least (asked_for c.args.job.now.operation c.in-Nothing.is c.requires.held)
