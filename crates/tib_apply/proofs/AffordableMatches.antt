@@ -1,4 +1,5 @@
--- The matches that are affordable with what a rule leaves out are those within the greatest cost with the costs of states at holes.
+-- The matches that are affordable with what a rule leaves out are those within the greatest cost
+-- with the costs of states at holes.
 use Rattle.std.specs.Prelude.{◌≡◌, ℕ, ◌+◌, ◌<◌, ◌≤◌, nat_eq, Bool, true, false, List, [], ◌∷◌, ◌++◌, length, map, drop, refl, Option, None, Some, if◌then◌else◌}
 use Rattle.std.specs.List.{list_any}
 use Rattle.std.proofs.Common.{zero, suc, arith, ap, sym, ◌∙◌, subst, get_or, inl, inr, append_assoc}
@@ -49,7 +50,8 @@ asked_next f xs n v long is at q b = elim (below_cases q n b) [
 
 -- costs listed item by item
 
--- The costs that are listed, with any that are those of the holes among the items from a place on, are those of all holes.
+-- The costs that are listed, with any that are those of the holes among the items from a place on,
+-- are those of all holes.
 abbrev pub AreCostsSoFar : LeastRuns → ℕ → List Bool → List (Item Variable) → ℕ → List HoleCost → Type 0
 AreCostsSoFar runs n kept items i hs =
     (more : List HoleCost) → AreHoleCosts runs n kept (holes_in (drop i items)) more → AreHoleCosts runs n kept (holes_in items) (hs ++ more)

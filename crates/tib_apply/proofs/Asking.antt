@@ -61,7 +61,8 @@ asked_others named n (v ∷ vs) (s ∷ ss) a e =
 module _
     {levelled weighted : Bool} {product : ℕ → ℕ → ℕ} (laws : ProductLaws levelled weighted product)
     (grammar : List (Rule ℕ)) (normal : AreNormal grammar) where
-  -- the tree of an item has the label that is asked for, and its cost is that of a run from the state that yields it
+  -- the tree of an item has the label that is asked for, and its cost is that of a run from the
+  -- state that yields it
   pub record IsAsked (x : Item (Option ℕ × ℕ)) : Type 0 where
     pub bound : Binds x.key.0 x.label
     pub is_cost : IsCost product grammar (x.key.1 ∷ []) (tree x.label x.kids none) x.cost

@@ -13,7 +13,8 @@ use Rattle.tib_apply.specs.Backward.{IsBackwardEdge}
 use Rattle.tib_apply.specs.Forward.{forward_key, deleted, IsDeletedCost}
 use Rattle.tib_match.proofs.MatchCosts.{match_is_least}
 
--- t.A(x0:c x1:) -> B(t.x1 t.x0) # 1, t.a -> b # 0, t.c -> d # 2; the labels are A 0, B 1, a 2, b 3, c 4 and d 5
+-- t.A(x0:c x1:) -> B(t.x1 t.x0) # 1, t.a -> b # 0, t.c -> d # 2; the labels are A 0, B 1, a 2, b 3,
+-- c 4 and d 5
 abbrev moves : List (TransducerRule ℕ)
 moves =
     record {
@@ -69,8 +70,8 @@ backward_edge = record {
   within = omega arith;
 }
 
--- Of a right side that names x0 alone x1 is left out, at the state where it stands. Where x1 asks for no label, any run from
--- there will do.
+-- Of a right side that names x0 alone x1 is left out, at the state where it stands. Where x1 asks
+-- for no label, any run from there will do.
 leaves_out : deleted (0 ∷ []) (variables_of (transducer_rule moves 0).left) (7 ∷ 8 ∷ []) ≡ (None, 8) ∷ []
 leaves_out = refl
 

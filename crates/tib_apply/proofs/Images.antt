@@ -51,7 +51,8 @@ module _
       ap (λ z. product z (product x y)) (ap (λ z. product z (product a b)) one ∙ two ∙ ap (λ z. product z (product w b)) three)
       ∙ mix laws (product m (product a d)) (product w b) x y
 
-  -- a rule of the transducer, a match of its left side, runs for what is left out, and what is read at its pairs
+  -- a rule of the transducer, a match of its left side, runs for what is left out, and what is read
+  -- at its pairs
   record OneImage (key : ℕ × ℕ × ℕ) (n : ℕ) (us : Trees ℕ) (x y : ℕ) : Type 0 where
     one : Tree ℕ
     admitted : Admits (restricted_labels moves) key.2 one.label
@@ -84,8 +85,8 @@ module _
             (subst (λ s. IsTransducerCost product moves (states_in (transducer_rule moves n).right) s us b) (sym all.picked) second);
       }
 
-  -- a run of the grammar that yields what a rule reads: a match of the left side, runs for what the right side names, and
-  -- for what it leaves out
+  -- a run of the grammar that yields what a rule reads: a match of the left side, runs for what the
+  -- right side names, and for what it leaves out
   record Opened (n q : ℕ) (args : Trees ℕ) (b : ℕ) : Type 0 where
     states : List ℕ
     above : ℕ

@@ -164,8 +164,8 @@ module _
       prod_none [] e = refl
       prod_none (y ∷ ys) e = absurd (cc)
 
-  -- a run of the grammar that yields what a rule puts out, and others: a match of the right side, runs for what fills it,
-  -- and the others
+  -- a run of the grammar that yields what a rule puts out, and others: a match of the right side,
+  -- runs for what fills it, and the others
   record Opened (n q : ℕ) (qs : List ℕ) (us rest : Trees ℕ) (b : ℕ) : Type 0 where
     states : List ℕ
     above : ℕ

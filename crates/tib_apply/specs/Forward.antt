@@ -1,4 +1,5 @@
--- Forward application: the trees into which a transducer turns trees of a grammar, each at the least cost.
+-- Forward application: the trees into which a transducer turns trees of a grammar, each at the
+-- least cost.
 use Rattle.std.specs.Prelude.{◌≡◌, ℕ, ◌<◌, ◌≤◌, ◌↔◌, List, [], ◌∷◌, length, Option, None, Some, nat_eq, if◌then◌else◌}
 use Rattle.std.specs.List.{list_any}
 use Rattle.std.proofs.Common.{get_or}
@@ -23,8 +24,8 @@ use Rattle.tib_apply.specs.Restrictions.{restricted_labels, restriction, Admits}
 use Rattle.tib_match.specs.Matches.{IsMatch}
 use Rattle.tib_apply.specs.KeyGrammars.{IsKeyGrammar}
 
--- c is the product of two costs, for some tree t: that of a run of the grammar from q that yields t, and that of a run of
--- the transducer from p that reads t and puts out u
+-- c is the product of two costs, for some tree t: that of a run of the grammar from q that yields
+-- t, and that of a run of the transducer from p that reads t and puts out u
 pub record IsForwardCost (product : ℕ → ℕ → ℕ) (grammar : List (Rule ℕ)) (moves : List (TransducerRule ℕ)) (q p : ℕ) (u : Tree ℕ) (c : ℕ) : Type 0 where
   pub input : Tree ℕ
   pub yielded : ℕ
@@ -33,23 +34,26 @@ pub record IsForwardCost (product : ℕ → ℕ → ℕ) (grammar : List (Rule �
   pub second : IsTransducerCost product moves (p ∷ []) (only input) (only u) moved
   pub costs : product yielded moved ≡ c
 
--- v is the series of forward application at u: over all trees t, the least product of the series of the grammar at t and
--- that of the transducer at t and u
+-- v is the series of forward application at u: over all trees t, the least product of the series of
+-- the grammar at t and that of the transducer at t and u
 abbrev pub IsForwardSeries : (ℕ → ℕ → ℕ) → List (Rule ℕ) → List (TransducerRule ℕ) → Tree ℕ → Option ℕ → Type 0
 IsForwardSeries product grammar moves u v = IsLeast (IsForwardCost product grammar moves 0 0 u) v
 
--- the key of a pair on the right, where the variables on the left stand at these states of the grammar
+-- the key of a pair on the right, where the variables on the left stand at these states of the
+-- grammar
 abbrev pub forward_key : List ℕ → SideFor ℕ Variable → List ℕ → Pair ℕ → ℕ × ℕ × ℕ
 forward_key labels left ss x = (get_or ss x.variable 0, x.state, restriction labels (variable_at left x.variable).label)
 
--- the variables whose numbers are not among those named: the label that each asks for, and the state at its place
+-- the variables whose numbers are not among those named: the label that each asks for, and the
+-- state at its place
 abbrev pub deleted : List ℕ → List Variable → List ℕ → List (Option ℕ × ℕ)
 deleted named [] ss = []
 deleted named (x ∷ xs) [] = []
 deleted named (x ∷ xs) (s ∷ ss) = if list_any (nat_eq x.number) named then deleted named xs ss else (x.label, s) ∷ deleted named xs ss
 
 module _ (product : ℕ → ℕ → ℕ) (grammar : List (Rule ℕ)) where
-  -- c is the product of the cost of a rule of q with the label f and of a cost of runs from its states
+  -- c is the product of the cost of a rule of q with the label f and of a cost of runs from its
+  -- states
   pub record BeginsWith (f q c : ℕ) : Type 0 where
     pub rule : ℕ
     pub below : rule < length grammar
@@ -59,7 +63,8 @@ module _ (product : ℕ → ℕ → ℕ) (grammar : List (Rule ℕ)) where
     pub runs : IsRunCost product grammar (holes_of (rule_at grammar rule).right) inner
     pub costs : product (rule_at grammar rule).cost inner ≡ c
 
-  -- c is the cost of a run from q, where a label is asked for of one that begins with a rule of that label
+  -- c is the cost of a run from q, where a label is asked for of one that begins with a rule of
+  -- that label
   abbrev pub IsAskedCost : Option ℕ → ℕ → ℕ → Type 0
   IsAskedCost None q c = IsRunCost product grammar (q ∷ []) c
   IsAskedCost (Some f) q c = BeginsWith f q c
@@ -69,12 +74,13 @@ module _ (product : ℕ → ℕ → ℕ) (grammar : List (Rule ℕ)) where
   IsDeletedCost [] c = c ≡ 0
   IsDeletedCost (x ∷ xs) c = Products product (IsAskedCost x.0 x.1) (IsDeletedCost xs) c
 
--- An edge of the key of a state of the grammar, a state of the transducer and a restriction: a rule of the transducer from
--- the second whose left side begins with a label that the restriction admits, and a match of this side from the first.
--- It leads to the right side, in which each pair is the key of the state of the grammar at its variable, of its own state,
--- and of the restriction of its variable. What the right side leaves out costs as much as the cheapest runs there, where a
--- label is asked for by a rule of that label. Its origin is the position of the rule and the states of the grammar at the
--- variables.
+-- An edge of the key of a state of the grammar, a state of the transducer and a restriction: a rule
+-- of the transducer from the second whose left side begins with a label that the restriction
+-- admits, and a match of this side from the first. It leads to the right side, in which each pair
+-- is the key of the state of the grammar at its variable, of its own state, and of the restriction
+-- of its variable. What the right side leaves out costs as much as the cheapest runs there, where a
+-- label is asked for by a rule of that label. Its origin is the position of the rule and the states
+-- of the grammar at the variables.
 pub record IsForwardEdge (product : ℕ → ℕ → ℕ) (grammar : List (Rule ℕ)) (moves : List (TransducerRule ℕ)) (key : ℕ × ℕ × ℕ) (origin : ℕ × List ℕ) (e : Rule (ℕ × ℕ × ℕ)) : Type 0 where
   pub below : origin.0 < length moves
   pub state : (transducer_rule moves origin.0).state ≡ key.1
@@ -93,8 +99,8 @@ pub record IsForwardEdge (product : ℕ → ℕ → ℕ) (grammar : List (Rule �
   pub costs : e.cost ≡ product (product (transducer_rule moves origin.0).cost matched) deleted_cost
   pub within : e.cost ≤ most
 
--- For a linear transducer, and a grammar whose states have inside costs or none, the grammar of the reached keys has the
--- series of forward application.
+-- For a linear transducer, and a grammar whose states have inside costs or none, the grammar of the
+-- reached keys has the series of forward application.
 abbrev pub ForwardMeans : (ℕ → ℕ → ℕ) → Type 0
 ForwardMeans product =
     (grammar : List (Rule ℕ)) → AreNormal grammar → (costs : List (Option ℕ)) → AreInRange (length costs) grammar → AreInsides product grammar costs →

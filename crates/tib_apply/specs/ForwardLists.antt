@@ -20,7 +20,8 @@ use Rattle.tib_apply.specs.ForwardRules.{ForwardListing}
 abbrev pub HoleStatesBelow : ℕ → List (Rule ℕ) → Type 0
 HoleStatesBelow n rules = (m q : ℕ) → m < length rules → Has (holes_of (rule_at rules m).right) q → q < n
 
--- the left side of the rule at a position begins with a label that the restriction of the key admits, and has a match
+-- the left side of the rule at a position begins with a label that the restriction of the key
+-- admits, and has a match
 pub record IsAtMatch (product : ℕ → ℕ → ℕ) (grammar : List (Rule ℕ)) (moves : List (TransducerRule ℕ)) (key : ℕ × ℕ × ℕ) (m : ℕ) (found : List ℕ × ℕ) : Type 0 where
   pub below : m < length moves
   pub state : (transducer_rule moves m).state ≡ key.1
@@ -29,7 +30,8 @@ pub record IsAtMatch (product : ℕ → ℕ → ℕ) (grammar : List (Rule ℕ))
   pub admitted : Admits (restricted_labels moves) key.2 root
   pub is_match : IsMatch product grammar (transducer_rule moves m).left key.0 found.0 (Some found.1)
 
--- a match that with the cost of the rule and of what it leaves out costs no more than the greatest cost
+-- a match that with the cost of the rule and of what it leaves out costs no more than the greatest
+-- cost
 pub record IsAffordable (product : ℕ → ℕ → ℕ) (runs : LeastRuns) (rule : TransducerRule ℕ) (m : List ℕ × ℕ) : Type 0 where
   pub deleted_cost : ℕ
   pub is_deleted_cost : deleted_in product runs (deleted (variables_in rule.right) (variables_of rule.left) m.0) ≡ Some deleted_cost

@@ -38,8 +38,8 @@ unmarked_of marks (x ∷ xs) = if get_or marks x.number false then unmarked_of m
 abbrev pub asked_at : List ℕ → Variable → Option ℕ × ℕ
 asked_at ss x = (x.label, get_or ss x.number 0)
 
--- the ends of the pairs on the right, in preorder, whether each variable stands in one of them, and the variables that stand in
--- none
+-- the ends of the pairs on the right, in preorder, whether each variable stands in one of them, and
+-- the variables that stand in none
 pub record IsPlan (labels : List ℕ) (rule : TransducerRule ℕ) (plan : Plan) : Type 0 where
   pub ends : plan.ends.items ≡ map (planned_end labels rule.left) (holes_of rule.right)
   pub many : length plan.kept.items ≡ length (variables_of rule.left)

@@ -64,7 +64,8 @@ key_has P [] n h b = absurd (omega arith)
 key_has P (k ∷ order) zero h b = h.0
 key_has P (k ∷ order) (suc n) h b = key_has P order n h.1 (omega arith)
 
--- all that an operation over keys owes, where an origin gives a key one edge, and the start and the ends of edges are admitted
+-- all that an operation over keys owes, where an origin gives a key one edge, and the start and the
+-- ends of edges are admitted
 pub keys_are_lawful :
     {O : Type 0} (Edge : ℕ × ℕ × ℕ → O → Rule (ℕ × ℕ × ℕ) → Type 0) (admits : ℕ × ℕ × ℕ → Type 0) →
     ((k : ℕ × ℕ × ℕ) (o : O) (e f : Rule (ℕ × ℕ × ℕ)) → Edge k o e → Edge k o f → e ≡ f) → admits (0, 0, 0) →

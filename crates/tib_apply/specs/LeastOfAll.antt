@@ -13,15 +13,15 @@ use Rattle.tib_apply.specs.Backward.{IsBackwardSeries}
 abbrev pub IsLeastOfAll : (Tree ℕ → Option ℕ) → Option ℕ → Type 0
 IsLeastOfAll f v = IsLeast (λ n. (t : Tree ℕ) × (f t ≡ Some n)) v
 
--- forward application has at u the least, over all trees t, of the series of the grammar at t times that of the transducer at t
--- and u
+-- forward application has at u the least, over all trees t, of the series of the grammar at t times
+-- that of the transducer at t and u
 abbrev pub ForwardIsLeast : (ℕ → ℕ → ℕ) → Type 0
 ForwardIsLeast product =
     (grammar : List (Rule ℕ)) (moves : List (TransducerRule ℕ)) (u : Tree ℕ) (a b : Tree ℕ → Option ℕ) → ((t : Tree ℕ) → IsSeries product grammar t (a t)) →
     ((t : Tree ℕ) → IsTransducerSeries product moves t u (b t)) → (v : Option ℕ) → IsForwardSeries product grammar moves u v ↔ IsLeastOfAll (λ t. times product (a t) (b t)) v
 
--- backward application has at t the least, over all trees u, of the series of the transducer at t and u times that of the
--- grammar at u
+-- backward application has at t the least, over all trees u, of the series of the transducer at t
+-- and u times that of the grammar at u
 abbrev pub BackwardIsLeast : (ℕ → ℕ → ℕ) → Type 0
 BackwardIsLeast product =
     (moves : List (TransducerRule ℕ)) (grammar : List (Rule ℕ)) (t : Tree ℕ) (a b : Tree ℕ → Option ℕ) → ((u : Tree ℕ) → IsTransducerSeries product moves t u (a u)) →

@@ -18,7 +18,8 @@ same_start s t = nat_eq s.0 t.0 && nat_eq s.1 t.1
 abbrev pub inside_total : (ℕ → ℕ → ℕ) → List (Option ℕ) → List ℕ → Option ℕ
 inside_total product insides qs = total product (λ q. get_or insides q None) qs
 
--- the least product of one of the first n rules of q with the label f and of the inside costs of its states
+-- the least product of one of the first n rules of q with the label f and of the inside costs of
+-- its states
 abbrev pub begun_by : (ℕ → ℕ → ℕ) → List (Option ℕ) → List (Rule ℕ) → ℕ → ℕ → ℕ → Option ℕ
 begun_by product insides rules n q f = best_rule product rules (inside_total product insides) q f n
 
@@ -33,12 +34,14 @@ Lowers product insides rule old new =
     get same_start new (q, f)
     ≡ (if fits rule q f then lesser (get same_start old (q, f)) (times product (Some rule.cost) (inside_total product insides (holes rule.right.kids))) else get same_start old (q, f))
 
--- the least cost of a run from each state, and of one that begins with a rule of each state and label
+-- the least cost of a run from each state, and of one that begins with a rule of each state and
+-- label
 pub record AreLeastRuns (product : ℕ → ℕ → ℕ) (rules : List (Rule ℕ)) (runs : LeastRuns) : Type 0 where
   pub insides : (q : ℕ) → IsLeast (IsRunCost product rules (q ∷ [])) (get_or runs.insides.items q None)
   pub begun : (q f : ℕ) → IsLeast (BeginsWith product rules f q) (get same_start runs.begun (q, f))
 
--- the cost that the tables have for a state, where a label is asked for that of the state and the label
+-- the cost that the tables have for a state, where a label is asked for that of the state and the
+-- label
 abbrev pub asked_in : LeastRuns → Option ℕ → ℕ → Option ℕ
 asked_in runs None q = get_or runs.insides.items q None
 asked_in runs (Some f) q = get same_start runs.begun (q, f)

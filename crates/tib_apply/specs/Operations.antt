@@ -44,7 +44,8 @@ forward_image product grammar moves = key_operation (IsForwardEdge product gramm
 abbrev pub inverse_image : (ℕ → ℕ → ℕ) → List (TransducerRule ℕ) → List (Rule ℕ) → Operation (ℕ × ℕ × ℕ) (ℕ × List ℕ) (Rule (ℕ × ℕ × ℕ))
 inverse_image product moves grammar = key_operation (IsBackwardEdge product moves grammar)
 
--- the reached sets, as rules over the positions of their orders, are the grammars of the reached keys
+-- the reached sets, as rules over the positions of their orders, are the grammars of the reached
+-- keys
 abbrev pub ForwardIsReached : (ℕ → ℕ → ℕ) → Type 0
 ForwardIsReached product =
     (grammar : List (Rule ℕ)) (moves : List (TransducerRule ℕ)) (order : List (ℕ × ℕ × ℕ)) (rules : List (Rule ℕ)) → AreInRange (length order) rules →

@@ -13,7 +13,8 @@ use Rattle.tib_apply.specs.LeastRuns.{AreLeastRuns, deleted_in}
 use Rattle.tib_apply.specs.Operations.{key_operation, forward_image}
 use Rattle.tib_apply.specs.declared.deleting.LeastRuns.{LeastRuns}
 
--- an edge of a key as `IsForwardEdge` has it, where the cost of what is left out is that of the tables
+-- an edge of a key as `IsForwardEdge` has it, where the cost of what is left out is that of the
+-- tables
 pub record IsTableEdge (product : ℕ → ℕ → ℕ) (grammar : List (Rule ℕ)) (moves : List (TransducerRule ℕ))
     (runs : LeastRuns) (key : ℕ × ℕ × ℕ) (origin : ℕ × List ℕ) (e : Rule (ℕ × ℕ × ℕ)) : Type 0 where
   pub below : origin.0 < length moves
@@ -35,7 +36,8 @@ pub record IsTableEdge (product : ℕ → ℕ → ℕ) (grammar : List (Rule ℕ
 abbrev pub table_image : (ℕ → ℕ → ℕ) → List (Rule ℕ) → List (TransducerRule ℕ) → LeastRuns → Operation (ℕ × ℕ × ℕ) (ℕ × List ℕ) (Rule (ℕ × ℕ × ℕ))
 table_image product grammar moves runs = key_operation (IsTableEdge product grammar moves runs)
 
--- the edges of the tables are those of forward application, and what is reached along them is the same
+-- the edges of the tables are those of forward application, and what is reached along them is the
+-- same
 pub record AreForwardEdges (product : ℕ → ℕ → ℕ) (grammar : List (Rule ℕ)) (moves : List (TransducerRule ℕ))
     (runs : LeastRuns) : Type 0 where
   pub edges :

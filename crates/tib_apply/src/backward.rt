@@ -44,9 +44,10 @@ pub struct Backward<'a, S> {
 }
 
 impl<'a, S: Semiring> Backward<'a, S> {
-    /// What is hunted for a transducer and a grammar. `Class` exactly where the transducer is not linear and nondeleting: it
-    /// names the first such rule, and linear comes before nondeleting. `OutOfMemory` only if memory is refused. Cost: a few
-    /// passes over the rules of the transducer.
+    /// What is hunted for a transducer and a grammar. `Class` exactly where the transducer is not
+    /// linear and nondeleting: it names the first such rule, and linear comes before nondeleting.
+    /// `OutOfMemory` only if memory is refused. Cost: a few passes over the rules of the
+    /// transducer.
     pub fn new(
         alloc: Global,
         transducer: &'a Transducer<S>,
@@ -112,8 +113,8 @@ impl<'a, S: Semiring> Backward<'a, S> {
         Ok(())
     }
 
-    // Lists the edge of a rule and a match, unless its cost is too great. `More` comes exactly where it has more parts than the
-    // budget leaves.
+    // Lists the edge of a rule and a match, unless its cost is too great. `More` comes exactly
+    // where it has more parts than the budget leaves.
     fn add_edge(
         &self,
         alloc: Global,

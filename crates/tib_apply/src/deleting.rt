@@ -20,7 +20,8 @@ use tib_normal::Normal;
 use tib_transducer::Variable;
 use tib_tree::Label;
 
-/// The least cost of a run from each state of a grammar, and of one that begins with a rule of each state and label.
+/// The least cost of a run from each state of a grammar, and of one that begins with a rule of each
+/// state and label.
 #[derive(Drop)]
 pub(crate) struct LeastRuns {
     insides: Vec<Option<Cost>>,
@@ -110,8 +111,8 @@ fn begun_costs<S: Semiring>(
 }
 
 impl LeastRuns {
-    /// The least costs of runs of a grammar. Err only if memory is refused. Cost: that of the inside costs, and one look-up by
-    /// hash for each rule.
+    /// The least costs of runs of a grammar. Err only if memory is refused. Cost: that of the
+    /// inside costs, and one look-up by hash for each rule.
     pub(crate) fn new<S: Semiring>(
         alloc: Global,
         grammar: &Normal<S>,
@@ -124,8 +125,8 @@ impl LeastRuns {
         Ok(LeastRuns { insides, begun })
     }
 
-    /// The least cost of a run from a state, where a label is asked for of one that begins with a rule of that label. Cost: one
-    /// look-up, by hash where there is a label.
+    /// The least cost of a run from a state, where a label is asked for of one that begins with a
+    /// rule of that label. Cost: one look-up, by hash where there is a label.
     fn asked(&self, label: Option<Label>, state: u32) -> Option<Cost>
         ensures { result ≡ asked_in self.now label state }
     {
@@ -135,7 +136,8 @@ impl LeastRuns {
         }
     }
 
-    /// The least cost of runs at some variables, each with its label, where the variables stand at these states.
+    /// The least cost of runs at some variables, each with its label, where the variables stand at
+    /// these states.
     pub(crate) fn total<S: Semiring>(&self, left_out: &[Variable], states: &[u32]) -> Option<Cost>
         requires { Each (λ x. x.number < length states.now) left_out.now }
         ensures { result ≡ deleted_in S.product self.now (map (asked_at states.now) left_out.now) }
@@ -151,8 +153,8 @@ impl LeastRuns {
         total
     }
 
-    /// What the states below a number cost at a variable that is left out, where a label is asked for or none. Cost: that of
-    /// `asked` for each state.
+    /// What the states below a number cost at a variable that is left out, where a label is asked
+    /// for or none. Cost: that of `asked` for each state.
     fn asked_costs(
         &self,
         alloc: Global,
@@ -168,7 +170,8 @@ impl LeastRuns {
         Ok(HoleCost::Table(costs))
     }
 
-    /// What the states below a number cost at a variable beside a match: nothing where the variable is kept.
+    /// What the states below a number cost at a variable beside a match: nothing where the variable
+    /// is kept.
     fn hole_cost(
         &self,
         alloc: Global,
@@ -185,8 +188,9 @@ impl LeastRuns {
         self.asked_costs(alloc, states, variable.label)
     }
 
-    /// What the states below a number cost beside a match at the variables among some items, where it is known of each variable
-    /// whether it is kept. Err only if memory is refused. Cost: for each variable that is left out one look-up for each state.
+    /// What the states below a number cost beside a match at the variables among some items, where
+    /// it is known of each variable whether it is kept. Err only if memory is refused. Cost: for
+    /// each variable that is left out one look-up for each state.
     pub(crate) fn hole_costs(
         &self,
         alloc: Global,

@@ -6,7 +6,8 @@ use tib_transducer::{ClassError, ClassFault};
 /// Why a transducer was not applied to a grammar.
 #[derive(Debug, Drop, Error)]
 pub enum ApplyError {
-    /// This is the first rule outside the classes that the operation demands. Rules are numbered from 1.
+    /// This is the first rule outside the classes that the operation demands. Rules are numbered
+    /// from 1.
     #[error("rule {rule}: {fault}")]
     Class { rule: u32, fault: ClassFault },
     /// The reached set has more parts than the limit.

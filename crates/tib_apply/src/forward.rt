@@ -49,9 +49,10 @@ pub struct Forward<'a, S> {
 }
 
 impl<'a, S: Semiring> Forward<'a, S> {
-    /// What is hunted for a grammar and a transducer. `Class` exactly where the transducer is not linear: it names the first such
-    /// rule. `OutOfMemory` only if memory is refused. Cost: a few passes over the rules of both, with one look-up by hash for
-    /// each rule of the grammar, and the inside costs of the grammar.
+    /// What is hunted for a grammar and a transducer. `Class` exactly where the transducer is not
+    /// linear: it names the first such rule. `OutOfMemory` only if memory is refused. Cost: a few
+    /// passes over the rules of both, with one look-up by hash for each rule of the grammar, and
+    /// the inside costs of the grammar.
     pub fn new(
         alloc: Global,
         grammar: &'a Normal<S>,
@@ -113,7 +114,8 @@ impl<'a, S: Semiring> Forward<'a, S> {
         }
     }
 
-    /// The cost of the edge of a rule and a match, none where it has none or it is above the greatest cost.
+    /// The cost of the edge of a rule and a match, none where it has none or it is above the
+    /// greatest cost.
     fn edge_cost(&self, rule: &TransducerRule<u32>, plan: &Plan, found: &Match) -> Option<Cost>
         requires { Each (λ x. x.number < length found.now.0) plan.now.left_out.items }
         ensures { result ≡ times S.product (times S.product (Some rule.now.cost) (Some found.now.1))
@@ -126,7 +128,8 @@ impl<'a, S: Semiring> Forward<'a, S> {
         product_of::<S>(S::times(rule.cost, found.cost), below)
     }
 
-    /// Lists the edge of the rule at a position of the transducer and of a match of its left side, unless its cost is too great.
+    /// Lists the edge of the rule at a position of the transducer and of a match of its left side,
+    /// unless its cost is too great.
     fn list_match(
         &self,
         key: Key,
@@ -165,8 +168,8 @@ impl<'a, S: Semiring> Forward<'a, S> {
         )
     }
 
-    /// The matches of the left side of the rule at a position that give an edge, among others; `More` where these are more than so
-    /// many. They are searched for.
+    /// The matches of the left side of the rule at a position that give an edge, among others;
+    /// `More` where these are more than so many. They are searched for.
     fn search(
         &self,
         alloc: Global,
@@ -211,8 +214,9 @@ impl<'a, S: Semiring> Forward<'a, S> {
         }
     }
 
-    /// The matches of the left side of the rule at a position that give an edge, among others; `More` where these are more than so
-    /// many. Cost: that of `few_matches` with 2 x `most` + 1000 partial matches, and where it gives up that of `search_matches`.
+    /// The matches of the left side of the rule at a position that give an edge, among others;
+    /// `More` where these are more than so many. Cost: that of `few_matches` with 2 x `most` + 1000
+    /// partial matches, and where it gives up that of `search_matches`.
     fn matches_of(
         &self,
         alloc: Global,

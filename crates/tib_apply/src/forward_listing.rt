@@ -34,8 +34,8 @@ fn push_ends(ends: &mut Vec<Key>, planned: &[PlannedEnd], states: &[u32]) -> Res
     Ok(())
 }
 
-/// Lists an edge to a right side, whose pairs lead to some ends, at a cost. `More` comes exactly where it has more parts
-/// than the budget leaves.
+/// Lists an edge to a right side, whose pairs lead to some ends, at a cost. `More` comes exactly
+/// where it has more parts than the budget leaves.
 pub(crate) fn add_edge<'a>(
     listing: &mut ForwardListing<'a>,
     right: &'a Side<Pair<u32>>,

@@ -14,7 +14,8 @@ use std::alloc::{AllocError, Global};
 use tib_grammar::Item;
 use tib_transducer::{Pair, TransducerRule, Variable};
 
-/// Where a pair of a right side leads: to the state of the grammar at a variable, a state of the transducer, and a restriction.
+/// Where a pair of a right side leads: to the state of the grammar at a variable, a state of the
+/// transducer, and a restriction.
 #[derive(Clone, Copy, Debug, Drop)]
 pub(crate) struct PlannedEnd {
     /// The number of the variable.
@@ -25,7 +26,8 @@ pub(crate) struct PlannedEnd {
     pub restriction: u32,
 }
 
-/// The ends of the pairs on the right of a rule, in preorder, and the variables that stand in none of them.
+/// The ends of the pairs on the right of a rule, in preorder, and the variables that stand in none
+/// of them.
 #[derive(Drop)]
 pub(crate) struct Plan {
     /// Where the pairs lead.
@@ -54,7 +56,8 @@ fn restrictions_among(
     Ok(numbers)
 }
 
-/// The ends of the pairs among some items, where the restrictions of the variables are listed by their numbers.
+/// The ends of the pairs among some items, where the restrictions of the variables are listed by
+/// their numbers.
 fn ends_among(
     alloc: Global,
     restrictions: &[u32],

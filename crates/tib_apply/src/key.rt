@@ -4,8 +4,8 @@ ghost use Rattle.std.specs.Prelude.{◌≡◌};
 use std::marker::Model;
 use tib_hunt::TableKey;
 
-/// A state of the grammar and a state of the transducer, the one of what is read first, and a restriction: 0, or the number of
-/// the one label that may stand at the root.
+/// A state of the grammar and a state of the transducer, the one of what is read first, and a
+/// restriction: 0, or the number of the one label that may stand at the root.
 #[derive(Clone, Copy, Debug, Drop, PartialEq, Eq, PartialOrd, Ord, Hash)]
 pub struct Key {
     first: u32,
@@ -38,7 +38,8 @@ impl Key {
         }
     }
 
-    /// The first state: in forward application of the grammar, in backward application of the transducer.
+    /// The first state: in forward application of the grammar, in backward application of the
+    /// transducer.
     pub fn first(self) -> u32
         ensures { result ≡ self.0 }
     {

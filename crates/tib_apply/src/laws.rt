@@ -42,9 +42,9 @@ pub fn one_set_each<S: Semiring>()
     ensures { OneSetEach S.product }
 {}
 
-/// `Forward` looks up in tables what the parts cost that a rule leaves out. Where these hold the least
-/// costs, as those of `Forward::new` do, its edges are those of forward application, and the set that
-/// is reached along them is the same.
+/// `Forward` looks up in tables what the parts cost that a rule leaves out. Where these hold the
+/// least costs, as those of `Forward::new` do, its edges are those of forward application, and the
+/// set that is reached along them is the same.
 pub fn table_edges_are_forward<S: Semiring>()
     ensures { TableEdgesAreForward S.product }
 {}

@@ -1,4 +1,5 @@
-// What an edge of backward application leads to: the keys of the variables, and sides over their numbers.
+// What an edge of backward application leads to: the keys of the variables, and sides over their
+// numbers.
 ghost use Rattle.std.specs.Prelude.{◌≡◌, ◌^◌, ◌+◌, ◌<◌, ◌≤◌, ◌++◌, ◌∷◌, [], ℕ, length, map, IfOk, OnOk, slice_index};
 ghost use Rattle.std.proofs.Common.{get_or};
 ghost use Rattle.tib_lex.specs.Lists.{Each};
@@ -14,8 +15,8 @@ use std::alloc::{AllocError, Global};
 use tib_grammar::{Item, Side};
 use tib_transducer::{Pair, Variable};
 
-/// For each number below the count the state of the pair with that variable and the state at its place, where pairs stand among
-/// the items at these states.
+/// For each number below the count the state of the pair with that variable and the state at its
+/// place, where pairs stand among the items at these states.
 pub(crate) fn states_by_variable(
     alloc: Global,
     items: &[Item<Pair<u32>>],

@@ -11,8 +11,9 @@ use tib_grammar::Item;
 use tib_transducer::{TransducerRule, Variable};
 use tib_tree::Label;
 
-/// The distinct labels of the labelled variables of a transducer, in the order of rules and of preorder on the left. Contracts
-/// see it as the list of these labels. A label's restriction is its number in this list, from 1.
+/// The distinct labels of the labelled variables of a transducer, in the order of rules and of
+/// preorder on the left. Contracts see it as the list of these labels. A label's restriction is its
+/// number in this list, from 1.
 #[derive(Drop)]
 pub struct Restrictions {
     labels: IndexSet<Label>,
@@ -59,7 +60,8 @@ fn labels_of_rules(
 }
 
 impl Restrictions {
-    /// The restrictions of the variables of some rules. Its time is that of one pass over the left sides.
+    /// The restrictions of the variables of some rules. Its time is that of one pass over the left
+    /// sides.
     pub fn new(alloc: Global, rules: &[TransducerRule<u32>]) -> Result<Restrictions, AllocError>
         ensures { IfOk result (λ r. r ≡ restricted_labels rules.now) }
     {
@@ -70,8 +72,8 @@ impl Restrictions {
         Ok(Restrictions { labels })
     }
 
-    /// The restriction of a variable with this label: 0 where it has none, and otherwise the number of the label, or one more than
-    /// all where the list lacks it. Cost: one look-up by hash.
+    /// The restriction of a variable with this label: 0 where it has none, and otherwise the number
+    /// of the label, or one more than all where the list lacks it. Cost: one look-up by hash.
     pub fn number(&self, label: Option<Label>) -> u32
         ensures { result ≡ restriction self.now label }
     {
@@ -84,8 +86,8 @@ impl Restrictions {
         }
     }
 
-    /// Whether a restriction admits the trees with a label at the root: 0 admits all, another number those of its own label.
-    /// It takes no memory.
+    /// Whether a restriction admits the trees with a label at the root: 0 admits all, another
+    /// number those of its own label. It takes no memory.
     pub fn admits(&self, restriction: u32, label: Label) -> bool
         ensures yes { IsTrue result → Admits self.now restriction label }
         ensures no { result ≡ false → Admits self.now restriction label → ⊥ }

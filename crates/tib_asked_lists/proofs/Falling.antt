@@ -1,5 +1,5 @@
--- Why a way down from state to state ends: a state whose last candidate asks for more of another one has more trees than that, or as
--- many and a larger smallest one.
+-- Why a way down from state to state ends: a state whose last candidate asks for more of another
+-- one has more trees than that, or as many and a larger smallest one.
 use Rattle.std.specs.Prelude.{◌≡◌, ℕ, ◌<◌, ◌≤◌, List, [], ◌∷◌, ◌++◌, length, refl}
 use Rattle.std.proofs.Common.{zero, suc, arith, ap, sym, ◌∙◌, subst, inl, inr, append_assoc}
 use Rattle.tib_lex.specs.Lists.{Has, Each}

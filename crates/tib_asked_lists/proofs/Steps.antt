@@ -23,7 +23,8 @@ use Rattle.tib_asked_lists.specs.AskingOf.{StateOf}
 use Rattle.tib_asked_lists.specs.Asks.{ArePreceded, IsClosed, IsOpen, IsAnswered, AreAnswered, AreRulesOf}
 use Rattle.tib_asked_lists.proofs.Kept.{below_or, more_of, more_keeps}
 
--- a candidate of the heap is one of its rule, names entries, and costs no more than the greatest cost
+-- a candidate of the heap is one of its rule, names entries, and costs no more than the greatest
+-- cost
 pub in_range :
     (product : ℕ → ℕ → ℕ) (x : ListsOf) (heap : List ℕ) → AreSound product x → ((m : ℕ) → Has heap m → m < length x.candidates) → (n : ℕ) (js : List ℕ) → Has (tuples x heap) (n, js) →
     (n < length x.rules) × AreRanks (entries_of x) (states_at x.rules n) js × ((offer product x.rules (entries_of x) n js).1 ≤ most)
@@ -132,7 +133,8 @@ behind_front [] qs j (suc i) h = none qs i
 behind_front (f ∷ front) qs j zero h = absurd (omega arith)
 behind_front (f ∷ front) qs j (suc i) h = behind_front front qs j i (omega arith)
 
--- behind the last rank that is not 0 all are 0, so it does not stand behind one from which all are 0
+-- behind the last rank that is not 0 all are 0, so it does not stand behind one from which all are
+-- 0
 last_before : (front qs : List ℕ) (j i : ℕ) (js : List ℕ) → js ≡ front ++ j ∷ zeros qs → IsLast js i → i ≤ length front
 last_before front qs j i js e l = elim (below_or (length front) i) [
   | inr h ↦ h

@@ -14,7 +14,8 @@ pub record StateOf : Type 0 where
   pub last : ℕ
   pub heap : List ℕ
 
--- How many trees are asked for, what each state keeps, its rules, and the trees that states list, by number.
+-- How many trees are asked for, what each state keeps, its rules, and the trees that states list,
+-- by number.
 pub record AskingOf : Type 0 where
   pub k : ℕ
   pub states : List StateOf

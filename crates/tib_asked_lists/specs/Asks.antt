@@ -28,7 +28,8 @@ pub record IsClosed (x : ListsOf) (u : ℕ) (s : StateOf) : Type 0 where
   pub listed : HasTree (entries_of x u) (tree_by x (candidate_at x s.last).rule (ranks_of x (candidate_at x s.last)))
   pub empty : s.heap ≡ []
 
--- The candidate before each that is known, with its last rank that is not 0 one lower, has its followers.
+-- The candidate before each that is known, with its last rank that is not 0 one lower, has its
+-- followers.
 abbrev pub ArePreceded : List pass.Candidate → List pass.Candidate → Type 0
 ArePreceded asked_for known = (n : ℕ) (front : List ℕ) (j : ℕ) (back : List ℕ) → Has known (n, front ++ suc j ∷ zeros back) → Has asked_for (n, front ++ j ∷ zeros back)
 
@@ -77,8 +78,8 @@ pub record AreByState (rules : List (Rule ℕ)) (by_state : List (List ℕ)) : T
   pub each : (n : ℕ) → n < length rules → Has (get_or by_state (rule_at rules n).left []) n
   pub only : (q n : ℕ) → Has (get_or by_state q []) n → (n < length rules) × ((rule_at rules n).left ≡ q)
 
--- What is kept while lists grow: each list is a front of its state's trees and has k of them at most, and each state but one keeps
--- what it keeps between two asks.
+-- What is kept while lists grow: each list is a front of its state's trees and has k of them at
+-- most, and each state but one keeps what it keeps between two asks.
 pub record IsAskingBut (product : ℕ → ℕ → ℕ) (x : ListsOf) (a : AskingOf) (but : ℕ) : Type 0 where
   pub lists : AreSound product x
   pub started : AreStarted x
@@ -119,7 +120,8 @@ pub record IsOpened (product : ℕ → ℕ → ℕ) (x : ListsOf) (rules : List 
   pub how : ((s.stage ≡ Closed) × (t.stage ≡ Open) × AreOpened product x rules (candidate_at x s.last).rule (length rules) s.heap y t.heap)
       ⊎ ((s.stage ≡ Closed → ⊥) × (t.stage ≡ s.stage) × (t.heap ≡ s.heap) × (y ≡ x))
 
--- a state may take a candidate: its list is not whole, and the states below its last candidate were asked
+-- a state may take a candidate: its list is not whole, and the states below its last candidate were
+-- asked
 pub record CanTake (product : ℕ → ℕ → ℕ) (k : ℕ) (x : ListsOf) (u : ℕ) (rules : List ℕ) (s : StateOf) : Type 0 where
   pub state : IsState product k x u s
   pub left : s.stage ≡ Whole → ⊥
@@ -131,7 +133,8 @@ abbrev pub IsDrawnFrom : ListsOf → List ℕ → StateOf → Option ℕ → Typ
 IsDrawnFrom y heap t None = (heap ≡ []) × (t.stage ≡ Whole)
 IsDrawnFrom y heap t (Some m) = (t.stage ≡ Open) × (t.last ≡ m) × IsHeap (order_of y) t.heap × TakesFirst (order_of y) heap m t.heap
 
--- how often a state may still take a candidate, or find none: once for each that waits, and once more while its list is not whole
+-- how often a state may still take a candidate, or find none: once for each that waits, and once
+-- more while its list is not whole
 abbrev pub turns_at : Stage → ℕ → ℕ
 turns_at Closed n = suc n
 turns_at Open n = suc n

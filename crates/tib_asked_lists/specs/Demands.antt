@@ -1,4 +1,5 @@
--- Entries that are demanded of states, one behind each list at most, and how many entries there are.
+-- Entries that are demanded of states, one behind each list at most, and how many entries there
+-- are.
 use Rattle.std.specs.Prelude.{◌≡◌, ◌⊎◌, ℕ, ◌+◌, ◌-◌, ◌≤◌, ◌<◌, List, [], ◌∷◌, ◌++◌, length, sum_by}
 use Rattle.std.proofs.Common.{suc, get_or}
 use Rattle.std.proofs.Math.ListN.{set}
@@ -119,8 +120,9 @@ pub record IsOneMore (x : ListsOf) (a : AskingOf) (d : Demand) (y : ListsOf) (b 
   pub met : IsMet y b d
 
 -- While some demands are met, the last first: each entry that was placed belongs to one that was
--- taken off, and that from which they came is among those left, or is met. A state that got no entry
--- keeps what it kept, and each demand that is left stands before those below it that are not met.
+-- taken off, and that from which they came is among those left, or is met. A state that got no
+-- entry keeps what it kept, and each demand that is left stands before those below it that are not
+-- met.
 pub record IsUnderway (x : ListsOf) (a : AskingOf) (first : Demand) (y : ListsOf) (b : AskingOf)
     (left : List Demand) : Type 0 where
   pub unmet : AreUnmet x a left
@@ -145,8 +147,8 @@ pub record IsRound (x : ListsOf) (first : Demand) (y : ListsOf) (b : AskingOf) :
       ⊎ ((e : Costed) × (entries_of y first.state ≡ entries_of x first.state ++ e ∷ []))
   pub met : IsMet y b first
 
--- There are no more entries than states and nodes of the trees that the start lists; and while it is
--- to get more, the nodes of its last tree are to spare.
+-- There are no more entries than states and nodes of the trees that the start lists; and while it
+-- is to get more, the nodes of its last tree are to spare.
 pub record IsWithin (states : ℕ) (x : ListsOf) (a : AskingOf) : Type 0 where
   pub all : entries_held x ≤ states + nodes_of (entries_of x 0)
   pub spare :

@@ -42,7 +42,8 @@ pub record AreMoreCandidates (x y : ListsOf) : Type 0 where
 abbrev pub room : ListsOf → ℕ
 room x = 2 ^ 32 - length x.candidates
 
--- A rule with ranks was offered to a heap where `When` holds: it is held then, unless it costs more than the greatest cost.
+-- A rule with ranks was offered to a heap where `When` holds: it is held then, unless it costs more
+-- than the greatest cost.
 pub record IsOffered (product : ℕ → ℕ → ℕ) (When : Type 0) (x : ListsOf) (n : ℕ) (js heap : List ℕ) (y : ListsOf) (now : List ℕ) : Type 0 where
   pub held : IsHeld product y now
   pub more : AreMoreCandidates x y
@@ -65,8 +66,8 @@ pub record AreOpened (product : ℕ → ℕ → ℕ) (x : ListsOf) (rules : List
   pub there : (i : ℕ) → i < n → (get_or rules i 0 ≡ but) ⊎
       ((offer product x.rules (entries_of x) (get_or rules i 0) (zeros_at x.rules (get_or rules i 0))).1 ≤ most → Has (tuples y now) (get_or rules i 0, zeros_at x.rules (get_or rules i 0)))
 
--- The candidates with the i-th rank one higher than a candidate's were offered to a heap, for each i from the first to below n, where
--- there is such an entry.
+-- The candidates with the i-th rank one higher than a candidate's were offered to a heap, for each
+-- i from the first to below n, where there is such an entry.
 pub record AreFollowed (product : ℕ → ℕ → ℕ) (x : ListsOf) (c : Candidate) (first n : ℕ) (heap : List ℕ) (y : ListsOf) (now : List ℕ) : Type 0 where
   pub held : IsHeld product y now
   pub more : AreMoreCandidates x y

@@ -140,8 +140,8 @@ impl Asking {
         self.push_demands::<S>(lists, stack, rule, start)
     }
 
-    // The demands that one leads to, itself the first, each before those below it. There are no more
-    // of them than the entry has nodes behind which the first one demands another.
+    // The demands that one leads to, itself the first, each before those below it. There are no
+    // more of them than the entry has nodes behind which the first one demands another.
     pub(crate) fn demands<S: Semiring>(
         &self,
         alloc: Global,

@@ -14,8 +14,8 @@ use std::alloc::{AllocError, Global};
 use tib_cost::Semiring;
 use tib_k_best_lists::Lists;
 
-/// A state that is to be asked, with the candidate that it had taken last: where it took another one
-/// since, it was asked.
+/// A state that is to be asked, with the candidate that it had taken last: where it took another
+/// one since, it was asked.
 #[derive(Clone, Copy, Debug)]
 pub(crate) struct Question {
     /// The state.
@@ -25,8 +25,8 @@ pub(crate) struct Question {
 }
 
 impl Asking {
-    // Whether a state is still to be asked: it took no candidate since, and its list is neither whole
-    // nor full.
+    // Whether a state is still to be asked: it took no candidate since, and its list is neither
+    // whole nor full.
     fn is_open<S: Semiring>(&self, lists: &Lists, question: Question) -> bool
         requires kept { IsAsking S.product lists.now (asking_of self.now) }
         requires state { question.state < length (asking_of self.now).states }
@@ -74,7 +74,8 @@ impl Asking {
     }
 
     // One step of a pass over the states below a candidate: the question for the i-th becomes the
-    // next one, and the one before it, at first that of the candidate's own state, goes onto the stack.
+    // next one, and the one before it, at first that of the candidate's own state, goes onto the
+    // stack.
     fn pass_below<S: Semiring>(
         &self,
         lists: &Lists,
@@ -105,8 +106,8 @@ impl Asking {
         Ok(Some(question))
     }
 
-    // The last of the states below a state's last candidate that are to be asked; the others go onto
-    // the stack, above the state itself. None where each of them is answered.
+    // The last of the states below a state's last candidate that are to be asked; the others go
+    // onto the stack, above the state itself. None where each of them is answered.
     fn next_below<S: Semiring>(
         &self,
         lists: &Lists,
@@ -169,8 +170,8 @@ impl Asking {
         None
     }
 
-    // Lets one state take its least candidate: the first on the way down from one that is to be asked
-    // that may.
+    // Lets one state take its least candidate: the first on the way down from one that is to be
+    // asked that may.
     fn take_below<S: Semiring>(
         &mut self,
         alloc: Global,
@@ -211,8 +212,8 @@ impl Asking {
         Some(Question { state, last })
     }
 
-    // Asks a state for one tree more. Where the tree that it takes is listed already, its list stays
-    // as it is.
+    // Asks a state for one tree more. Where the tree that it takes is listed already, its list
+    // stays as it is.
     pub(crate) fn ask<S: Semiring>(
         &mut self,
         alloc: Global,

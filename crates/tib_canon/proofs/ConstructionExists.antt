@@ -1,4 +1,5 @@
--- Where a construction reaches a set within the limit, it cannot be that this has no canonical form that reads back.
+-- Where a construction reaches a set within the limit, it cannot be that this has no canonical form
+-- that reads back.
 use Rattle.tib_cost.specs.declared.Scale.{Scale}
 use Rattle.std.proofs.Common.{◌≡◌, ℕ, ◌<◌, ◌≤◌, Bool, List, [], ◌∷◌, length, map, get_or, sym, subst, arith}
 use Rattle.std.proofs.lemmas.List.{get_or-map, length-map}
@@ -35,16 +36,16 @@ pub record IsEdgeOver {K : Type 0} (scale : Scale) (labels : List (List ℕ)) (o
   pub plain : (place : K → ℕ) → HavePlainLabels labels (relabel (symbol_map place) (only e.right))
   pub cost : IsPlainCost scale e.cost
 
--- What a construction over a table of labels is like whatever its start: keys that are equal are one, each has a part, and its
--- edges can be printed.
+-- What a construction over a table of labels is like whatever its start: keys that are equal are
+-- one, each has a part, and its edges can be printed.
 pub record HasPlainEdges {K O : Type 0} (scale : Scale) (labels : List (List ℕ)) (c : Construction K O) : Type 0 where
   pub laws : Laws c.problem
   pub equal : (x y : K) → c.problem.cmp x y ≡ Equal → x ≡ y
   pub parts : (k : K) → 1 ≤ c.problem.key_parts k
   pub edges : (order : List K) (es : List (Rule K)) → IsReachedSet c.problem order es → (e : Rule K) → Has es e → IsEdgeOver scale labels order e
 
--- What a construction over a table of labels is like whose start is the first key: keys that are equal are one, each has a part,
--- something is reached, and its edges can be printed.
+-- What a construction over a table of labels is like whose start is the first key: keys that are
+-- equal are one, each has a part, something is reached, and its edges can be printed.
 pub record IsPlainConstruction {K O : Type 0} (scale : Scale) (labels : List (List ℕ)) (c : Construction K O) : Type 0 where
   pub laws : Laws c.problem
   pub equal : (x y : K) → c.problem.cmp x y ≡ Equal → x ≡ y
@@ -53,7 +54,8 @@ pub record IsPlainConstruction {K O : Type 0} (scale : Scale) (labels : List (Li
   pub begins : (order : List K) → c.begins order (At 0)
   pub edges : (order : List K) (es : List (Rule K)) → IsReachedSet c.problem order es → (e : Rule K) → Has es e → IsEdgeOver scale labels order e
 
--- The same of one whose start is fresh, with finals that are positions of the order, at costs that can be printed.
+-- The same of one whose start is fresh, with finals that are positions of the order, at costs that
+-- can be printed.
 pub record IsPlainFresh {K O : Type 0} (scale : Scale) (labels : List (List ℕ)) (c : Construction K O) (finals : List K → List (ℕ × ℕ)) : Type 0 where
   pub edges : HasPlainEdges scale labels c
   pub begins : (order : List K) → c.begins order (Fresh (finals order))

@@ -1,4 +1,5 @@
--- The canonical form of a grammar in deterministic form is in deterministic form, and so is that over keys behind a fresh start.
+-- The canonical form of a grammar in deterministic form is in deterministic form, and so is that
+-- over keys behind a fresh start.
 use Rattle.tib_cost.specs.declared.Scale.{Scale}
 use Rattle.std.specs.Prelude.{◌≡◌, ℕ, ◌<◌, List, [], ◌∷◌, length, refl}
 use Rattle.std.proofs.Common.{zero, suc, arith, ap, sym, ◌∙◌, subst, inl, inr, get_or}

@@ -33,7 +33,8 @@ lone_back g s p e = by s.label s.kids (ap (λ (t : SideFor ℕ ℕ). t.label) e)
     by (hole q) none h k = record { state = q; is = refl }
     by (hole q) (tree s more rest) h k = absurd (cc)
 
--- Each new rule is an old one under new numbers, at a place of its own, and the start keeps its number.
+-- Each new rule is an old one under new numbers, at a place of its own, and the start keeps its
+-- number.
 pub record AreSomeOf (g : ℕ → ℕ) (place : ℕ → ℕ) (old new : List (Rule ℕ)) : Type 0 where
   pub below : (j : ℕ) → j < length new → place j < length old
   pub named : (j : ℕ) → j < length new → named_rule g (rule_at new j) ≡ rule_at old (place j)

@@ -1,4 +1,5 @@
--- Trimmed and canonical forms, normal forms and grammars over keys can be printed where the grammar can.
+-- Trimmed and canonical forms, normal forms and grammars over keys can be printed where the grammar
+-- can.
 use Rattle.tib_cost.specs.declared.Scale.{Scale}
 use Rattle.tib_cost.specs.declared.Scale.TheVariants as scales
 use Rattle.std.proofs.Common.{◌≡◌, ℕ, ◌+◌, ◌<◌, ◌≤◌, List, [], ◌∷◌, length, get_or, refl, ap, sym, ◌∙◌, subst, arith, suc, inl, inr}

@@ -8,13 +8,14 @@ use Rattle.tib_lex.proofs.Lists.{has_mapped, mapped_has}
 use Rattle.tib_hunt.specs.EdgeLists.{Lists}
 use Rattle.tib_hunt.specs.Reached.{Operation, IsNew, AreAscending, AfterRounds, AreEdges, IsReachedSet}
 
--- The edges that `Gives` gives and those that `Tells` tells correspond under f: an edge of the one goes to one of the other, with
--- the same origin, and each of the other comes from one.
+-- The edges that `Gives` gives and those that `Tells` tells correspond under f: an edge of the one
+-- goes to one of the other, with the same origin, and each of the other comes from one.
 pub record Correspond {O E : Type 0} (f : E → E) (Gives Tells : O → E → Type 0) : Type 0 where
   pub to : (o : O) (e : E) → Gives o e → Tells o (f e)
   pub from : (o : O) (e : E) → Tells o e → (old : E) × (e ≡ f old) × Gives o old
 
--- The problems have one order of keys and the same seeds, and their edges correspond and end at the same keys.
+-- The problems have one order of keys and the same seeds, and their edges correspond and end at the
+-- same keys.
 pub record AreProblemsAlike {K O E : Type 0} (f : E → E) (p q : Operation K O E) : Type 0 where
   pub cmp : p.cmp ≡ q.cmp
   pub seed_to : (k : K) → p.seed k → q.seed k

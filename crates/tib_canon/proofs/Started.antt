@@ -80,7 +80,8 @@ chains_named numbers first (p ∷ finals) =
     ∙ ap (λ (q : ℕ). record { left = q; right = record { label = hole (number_in numbers (suc p.0)); kids = none }; cost = p.1 } ∷ map (chain_in (drop 1 numbers)) finals) (sym first)
     ∙ ap (λ (rs : List (Rule ℕ)). named_rule (number_in numbers) (chain_to p) ∷ rs) (chains_named numbers first finals)
 
--- chain rules and rules under the numbers behind that of the fresh start are the started rules under the numbers
+-- chain rules and rules under the numbers behind that of the fresh start are the started rules
+-- under the numbers
 pub started_named :
     (numbers : List ℕ) → number_in numbers 0 ≡ 0 → (finals : List (ℕ × ℕ)) (rules : List (Rule ℕ)) →
     map (chain_in (drop 1 numbers)) finals ++ map (named_rule (number_in (drop 1 numbers))) rules ≡ map (named_rule (number_in numbers)) (started_rules finals rules)

@@ -1,5 +1,5 @@
--- Bytes are the text of at most one transducer over one table of distinct labels, however many nodes
--- its sides have.
+-- Bytes are the text of at most one transducer over one table of distinct labels, however many
+-- nodes its sides have.
 use Rattle.tib_cost.specs.declared.Scale.{Scale}
 use Rattle.std.proofs.Common.{◌≡◌, ℕ, ◌++◌, inl, inr, List, [], ◌∷◌, length, length-append, refl, ap, sym, ◌∙◌, arith, false}
 use Rattle.std.specs.Prelude.{Result, Ok}

@@ -90,7 +90,8 @@ module _ (labels others : List (List ℕ)) (f : ℕ → ℕ) (n : Renumbers labe
     right = right_plain (only r.right) (one_tree_of (right_with f r.right.label) (relabel (right_with f) r.right.kids) (λ s. IsPlainOnRight others s.0) p.right);
   }
 
--- Two constructions over two tables of labels, of which the one reaches what the other does, but for the numbers of labels.
+-- Two constructions over two tables of labels, of which the one reaches what the other does, but
+-- for the numbers of labels.
 pub record AreTransducerConstructionsAlike {K O : Type 0} (f : ℕ → ℕ) (c d : TransducerConstruction K O) : Type 0 where
   pub cmp : c.problem.cmp ≡ d.problem.cmp
   pub spare : c.spare ≡ d.spare
@@ -194,8 +195,9 @@ pub record IsMoveOverKeys {K : Type 0} (scale : Scale) (labels : List (List ℕ)
   pub few : length (variables_of e.left) ≤ 1000000000
   pub cost : IsPlainCost scale e.cost
 
--- What a construction over a table of labels is like: keys that are equal are one, each has a part, something is reached, the
--- first key is the only seed, an edge ends at the states of its right side, and edges can be printed.
+-- What a construction over a table of labels is like: keys that are equal are one, each has a part,
+-- something is reached, the first key is the only seed, an edge ends at the states of its right
+-- side, and edges can be printed.
 pub record IsPlainTransducerConstruction {K O : Type 0} (scale : Scale) (labels : List (List ℕ)) (c : TransducerConstruction K O) : Type 0 where
   pub laws : Laws c.problem
   pub equal : (x y : K) → c.problem.cmp x y ≡ Equal → x ≡ y
@@ -289,7 +291,8 @@ module _ {K O : Type 0} (scale : Scale) (labels : List (List ℕ)) (c : Transduc
               (inr (subst (λ (xs : List ℕ). Has xs p) (sym (states_named (place order) e.right)) (subst (Has (map (place order) (states_in e.right))) at (mapped_has (place order) (states_in e.right) k there))))
         ]
 
-  -- where a set is reached within the limit, it cannot be that it has no canonical transducer that reads back
+  -- where a set is reached within the limit, it cannot be that it has no canonical transducer that
+  -- reads back
   pub transducer_construction_there :
       (limit : ℕ) → limit ≤ 4294967296 → Distinct labels → HasReachedWithin c.problem limit →
       ((h : TransducerOf) → IsCanonicalTransducerOf scale labels limit c h → (u : TransducerOf) × ReadsBack scale labels (transducer_text scale labels h) h u → ⊥) → ⊥

@@ -174,7 +174,8 @@ trimmed_alike product g k h i leaves others alike a b =
     ascending_same ◌<◌ below_way a.states b.states a.states_ascend b.states_ascend (state_kept product g k h i alike a b) (state_kept product k g i h back b a) in
     (states, record { to = rule_kept product g k h i alike a b leaves others states; from = rule_kept product k g i h back b a others leaves (sym states) })
 
--- grammars with the same rules have one canonical form, whatever the names of their states and the order of their rules
+-- grammars with the same rules have one canonical form, whatever the names of their states and the
+-- order of their rules
 pub one_canonical_of :
     (product : ℕ → ℕ → ℕ) (scale : Scale) (labels : List (List ℕ)) (g k h i : GrammarOf) → SidesEndInHoles g.rules → SidesEndInHoles k.rules → AreAlike g.rules k.rules →
     IsCanonical product scale labels g h → IsCanonical product scale labels k i → h ≡ i

@@ -44,9 +44,10 @@ pub record HasSides (rules : List (Rule ℕ)) (r : Rule ℕ) : Type 0 where
   pub stands : Has rules rule
   pub agrees : AgreeInSides rule r
 
--- A grammar as it stands with canonical names and in canonical order, over a table of labels: its states are named q0, q1
--- and so on by their numbers; its rules are rules of the grammar, each at the least cost of those with its sides, and all
--- sides are there; and they ascend by their left states and then by their lines.
+-- A grammar as it stands with canonical names and in canonical order, over a table of labels: its
+-- states are named q0, q1 and so on by their numbers; its rules are rules of the grammar, each at
+-- the least cost of those with its sides, and all sides are there; and they ascend by their left
+-- states and then by their lines.
 pub record IsInOrder (scale : Scale) (labels : List (List ℕ)) (g h : GrammarOf) : Type 0 where
   pub names : h.names ≡ names_of (length g.names)
   pub kept : (r : Rule ℕ) → Has h.rules r → Has g.rules r
@@ -54,8 +55,8 @@ pub record IsInOrder (scale : Scale) (labels : List (List ℕ)) (g h : GrammarOf
   pub whole : (r : Rule ℕ) → Has g.rules r → HasSides h.rules r
   pub ascends : Ascends (λ r s. rule_cmp scale h.names labels r s ≡ Less) h.rules
 
--- The canonical form of a grammar: without the states and rules that no run within the greatest cost uses, and then with
--- canonical names and in canonical order.
+-- The canonical form of a grammar: without the states and rules that no run within the greatest
+-- cost uses, and then with canonical names and in canonical order.
 pub record IsCanonical (product : ℕ → ℕ → ℕ) (scale : Scale) (labels : List (List ℕ)) (g h : GrammarOf) : Type 0 where
   pub trimmed : GrammarOf
   pub is_trimmed : IsTrimmed product g trimmed

@@ -2,7 +2,8 @@
 use Rattle.std.specs.Prelude.{◌≡◌, ℕ, ◌<◌, ◌≤◌, List, length}
 use Rattle.std.proofs.Common.{get_or}
 
--- where values stand at positions and have costs: value m is of kind i, and the chosen one of the kind costs no more
+-- where values stand at positions and have costs: value m is of kind i, and the chosen one of the
+-- kind costs no more
 pub record IsChosenOf {S : Type 0} (blank : S) (Are : S → ℕ → Type 0) (cost : ℕ → ℕ) (kinds : List S) (best : List ℕ) (m i : ℕ) : Type 0 where
   pub below : i < length best
   pub sides_are : Are (get_or kinds i blank) m

@@ -14,8 +14,8 @@ use Rattle.tib_canon.specs.TransducerConstructions.{TransducerConstruction, IsCa
 abbrev pub composing : (ℕ → ℕ → ℕ) → TransducerOf → TransducerOf → TransducerConstruction (ℕ × ℕ) (ℕ × Trees (Option ℕ))
 composing product t u = record { problem = composition product t.rules u.rules; spare = (0, 0) }
 
--- the new rules give each two trees t and v the least, over all trees u, of the cost of a run of the
--- first transducer from t to u times the cost of a run of the second from u to v
+-- the new rules give each two trees t and v the least, over all trees u, of the cost of a run of
+-- the first transducer from t to u times the cost of a run of the second from u to v
 abbrev pub HasComposeSeries : (ℕ → ℕ → ℕ) → List (TransducerRule ℕ) → List (TransducerRule ℕ) → List (TransducerRule ℕ) → Type 0
 HasComposeSeries product one two new =
     (t v : Tree ℕ) (w : Option ℕ) → IsTransducerSeries product new t v w ↔ IsLeast (HasTriple product one two t v) w

@@ -13,8 +13,8 @@ use Rattle.tib_canon.specs.Keys.{IsCanonicalOverKeys}
 use Rattle.tib_canon.specs.declared.begin.Begin.{Begin}
 use Rattle.tib_canon.specs.declared.begin.Begin.TheVariants.{At, Fresh}
 
--- A construction: what it hunts, where edges are rules over keys; a key that stands for each place behind the end of an
--- order; and what the start over an order is.
+-- A construction: what it hunts, where edges are rules over keys; a key that stands for each place
+-- behind the end of an order; and what the start over an order is.
 pub record Construction (K O : Type 0) : Type 1 where
   pub problem : Operation K O (Rule K)
   pub spare : K

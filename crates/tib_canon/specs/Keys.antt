@@ -25,7 +25,8 @@ marked start n (k ∷ ks) = (not (nat_eq n start), k, n) ∷ marked start (n + 1
 abbrev pub StandBefore : {K : Type 0} → (K → K → Ordering) → List K → ℕ → ℕ → Type 0
 StandBefore {K} cmp order p q = (x y : K) → slice_get order p ≡ Some x → slice_get order q ≡ Some y → cmp x y ≡ Less
 
--- All positions of the order, each once: first the start, and then the others, which ascend by their keys.
+-- All positions of the order, each once: first the start, and then the others, which ascend by
+-- their keys.
 pub record AreByKeys {K : Type 0} (cmp : K → K → Ordering) (order : List K) (start : ℕ) (states : List ℕ) : Type 0 where
   pub others : List ℕ
   pub first : states ≡ start ∷ others
@@ -34,8 +35,8 @@ pub record AreByKeys {K : Type 0} (cmp : K → K → Ordering) (order : List K) 
   pub once : Distinct states
   pub many : length states ≡ length order
 
--- The grammar whose states are the keys of the order, the start first and the others ascending by their keys. Its rules are
--- the rules over positions, in their order.
+-- The grammar whose states are the keys of the order, the start first and the others ascending by
+-- their keys. Its rules are the rules over positions, in their order.
 pub record IsOverKeys {K : Type 0} (cmp : K → K → Ordering) (order : List K) (rules : List (Rule ℕ)) (start : ℕ) (g : GrammarOf) : Type 0 where
   pub states : List ℕ
   pub by_keys : AreByKeys cmp order start states
@@ -51,7 +52,8 @@ without_rules = record { names = names_of 1; rules = [] }
 abbrev pub behind_fresh : {K : Type 0} → List K → List (Option K)
 behind_fresh order = None ∷ map (λ k. Some k) order
 
--- the chain rule to a position, at a cost, of a fresh start, which is 0, each position being one more
+-- the chain rule to a position, at a cost, of a fresh start, which is 0, each position being one
+-- more
 abbrev pub chain_to : ℕ × ℕ → Rule ℕ
 chain_to final = record { left = 0; right = Lone (suc final.0); cost = final.1 }
 

@@ -28,8 +28,8 @@ OrderIsOne =
     (scale : Scale) (labels : List (List ℕ)) (g h i : GrammarOf) → IsInOrder scale labels g h →
     IsInOrder scale labels g i → h ≡ i
 
--- a grammar has at most one canonical form; of its right sides it is asked that nothing stands below
--- a state, as in every `Grammar`
+-- a grammar has at most one canonical form; of its right sides it is asked that nothing stands
+-- below a state, as in every `Grammar`
 abbrev pub CanonicalIsOne : Type 0
 CanonicalIsOne =
     (product : ℕ → ℕ → ℕ) (scale : Scale) (labels : List (List ℕ)) (g h i : GrammarOf) →
@@ -58,7 +58,8 @@ KeysKeepSeries {K} cmp =
     IsCanonicalOverKeys product scale labels cmp order rules (At start) h →
     (t : Tree ℕ) (v : Option ℕ) → IsSeriesAt product rules start t v ↔ IsSeries product h.rules t v
 
--- a canonical grammar over keys behind a fresh start has the series of the rules with its chain rules
+-- a canonical grammar over keys behind a fresh start has the series of the rules with its chain
+-- rules
 abbrev pub FreshKeepsSeries : {K : Type 0} → (K → K → Ordering) → Type 0
 FreshKeepsSeries {K} cmp =
     (product : ℕ → ℕ → ℕ) (scale : Scale) (labels : List (List ℕ)) (order : List K) (rules : List (Rule ℕ)) (finals : List (ℕ × ℕ)) (h : GrammarOf) →
@@ -83,8 +84,8 @@ CanonicalKeepsDeterministic =
     (product : ℕ → ℕ → ℕ) (scale : Scale) (labels : List (List ℕ)) (g h : GrammarOf) →
     IsCanonical product scale labels g h → IsDeterministic g.rules → IsDeterministic h.rules
 
--- a canonical grammar over keys behind a fresh start is in deterministic form where the rules with its
--- chain rules are
+-- a canonical grammar over keys behind a fresh start is in deterministic form where the rules with
+-- its chain rules are
 abbrev pub FreshKeepsDeterministic : {K : Type 0} → (K → K → Ordering) → Type 0
 FreshKeepsDeterministic {K} cmp =
     (product : ℕ → ℕ → ℕ) (scale : Scale) (labels : List (List ℕ)) (order : List K) (rules : List (Rule ℕ)) (finals : List (ℕ × ℕ)) (h : GrammarOf) →
@@ -160,9 +161,9 @@ OverKeysTextsAreRead {K} product cmp =
     IsCanonicalOverKeys product scale labels cmp order rules begin h →
     GrammarText scale labels (grammar_text scale labels h) h
 
--- the text of the canonical form of a normal form does not depend on the numbers of labels: grammars
--- that agree by the texts of their labels, each over a table of distinct labels of its own, have
--- one such text
+-- the text of the canonical form of a normal form does not depend on the numbers of labels:
+-- grammars that agree by the texts of their labels, each over a table of distinct labels of its
+-- own, have one such text
 abbrev pub CanonicalTextIsOne : (ℕ → ℕ → ℕ) → Type 0
 CanonicalTextIsOne product =
     (scale : Scale) (labels others : List (List ℕ)) (g h m n i j : GrammarOf) → Distinct labels →

@@ -39,7 +39,8 @@ pub record HasCheaperAt (rules : List (Rule ℕ)) (positions : List ℕ) (r : Ru
   pub agrees : AgreeInSides (rule_at rules position) r
   pub costs : (rule_at rules position).cost ≤ r.cost
 
--- Of rules that agree in both sides one of the cheapest stands at one of the positions, and no other.
+-- Of rules that agree in both sides one of the cheapest stands at one of the positions, and no
+-- other.
 pub record AreCheapest (rules : List (Rule ℕ)) (positions : List ℕ) : Type 0 where
   pub below : (p : ℕ) → Has positions p → p < length rules
   pub distinct : Distinct positions
@@ -51,6 +52,7 @@ pub record AreCheapest (rules : List (Rule ℕ)) (positions : List ℕ) : Type 0
 abbrev pub IsChosenFor : List (Rule ℕ) → List Sides → List ℕ → ℕ → ℕ → Type 0
 IsChosenFor rules sides best m i = IsChosenOf no_sides (λ k p. AreSidesOf k (rule_at rules p)) (λ p. (rule_at rules p).cost) sides best m i
 
--- For each of the distinct sides of the first n rules, the position of the cheapest rule that has them.
+-- For each of the distinct sides of the first n rules, the position of the cheapest rule that has
+-- them.
 abbrev pub IsChoosing : List (Rule ℕ) → ℕ → List Sides → List ℕ → Type 0
 IsChoosing rules n sides best = AreChosen no_sides (λ k p. AreSidesOf k (rule_at rules p)) (λ p. (rule_at rules p).cost) n sides best

@@ -30,10 +30,10 @@ pub record HasSides (rules : List (TransducerRule ℕ)) (r : TransducerRule ℕ)
   pub stands : Has rules rule
   pub agrees : AgreeInSides rule r
 
--- A transducer as it stands with canonical names and in canonical order, over a table of labels: its
--- states are named q0, q1 and so on by their numbers; its rules are rules of the transducer, each at
--- the least cost of those with its state and sides, and all of these are there; and they ascend by
--- their states and then by their lines. No rule is left out for being useless.
+-- A transducer as it stands with canonical names and in canonical order, over a table of labels:
+-- its states are named q0, q1 and so on by their numbers; its rules are rules of the transducer,
+-- each at the least cost of those with its state and sides, and all of these are there; and they
+-- ascend by their states and then by their lines. No rule is left out for being useless.
 pub record IsTransducerInOrder (scale : Scale) (labels : List (List ℕ)) (t h : TransducerOf) : Type 0 where
   pub names : h.names ≡ names_of (length t.names)
   pub kept : (r : TransducerRule ℕ) → Has h.rules r → Has t.rules r

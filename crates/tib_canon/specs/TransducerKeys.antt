@@ -14,8 +14,8 @@ use Rattle.tib_canon.specs.Keys.{AreByKeys}
 use Rattle.tib_keyed.specs.Numbering.{AreRenumbered}
 use Rattle.tib_canon.specs.Ordered.{IsTransducerInOrder}
 
--- The transducer whose states are all keys of the order, the start first and the others ascending by
--- their keys, named q0, q1 and so on. Its rules are the rules over positions, in their order.
+-- The transducer whose states are all keys of the order, the start first and the others ascending
+-- by their keys, named q0, q1 and so on. Its rules are the rules over positions, in their order.
 pub record IsTransducerOverKeys {K : Type 0} (cmp : K → K → Ordering) (order : List K)
     (rules : List (TransducerRule ℕ)) (start : ℕ) (t : TransducerOf) : Type 0 where
   pub states : List ℕ

@@ -36,8 +36,8 @@ KeysKeepTransducerSeries {K} product cmp =
     (start : ℕ) (h : TransducerOf) → IsCanonicalTransducer scale labels cmp order rules start h →
     HasSeriesFrom product rules start h.rules
 
--- it cannot be that rules over the positions of an order of distinct keys, which can be printed, have
--- no canonical transducer over these keys
+-- it cannot be that rules over the positions of an order of distinct keys, which can be printed,
+-- have no canonical transducer over these keys
 abbrev pub KeysHaveTransducer : {K : Type 0} → (K → K → Ordering) → Type 0
 KeysHaveTransducer {K} cmp =
     (scale : Scale) (labels : List (List ℕ)) (order : List K) (rules : List (TransducerRule ℕ))
@@ -45,8 +45,8 @@ KeysHaveTransducer {K} cmp =
     AreMovesOver scale labels (length order) rules →
     ((h : TransducerOf) → IsCanonicalTransducer scale labels cmp order rules start h → ⊥) → ⊥
 
--- Where each position but the start stands in a rule, the text of the canonical transducer is a text
--- of it, and reads back as it, states by their names.
+-- Where each position but the start stands in a rule, the text of the canonical transducer is a
+-- text of it, and reads back as it, states by their names.
 abbrev pub TransducerTextsAreRead : {K : Type 0} → (K → K → Ordering) → Type 0
 TransducerTextsAreRead {K} cmp =
     (scale : Scale) (labels : List (List ℕ)) (order : List K) (rules : List (TransducerRule ℕ))
@@ -56,8 +56,8 @@ TransducerTextsAreRead {K} cmp =
     IsCanonicalTransducer scale labels cmp order rules start h →
     (u : TransducerOf) × ReadsBack scale labels (transducer_text scale labels h) h u
 
--- each of the rules agrees with one of the others by the texts of its labels, and each of these with
--- one of the rules
+-- each of the rules agrees with one of the others by the texts of its labels, and each of these
+-- with one of the rules
 pub record AreOneByText (labels others : List (List ℕ)) (xs ys : List (TransducerRule ℕ)) : Type 0 where
   pub to : (r : TransducerRule ℕ) → Has xs r → (s : TransducerRule ℕ) × Has ys s × AreOneTransducerRule labels others r s
   pub from : (s : TransducerRule ℕ) → Has ys s → (r : TransducerRule ℕ) × Has xs r × AreOneTransducerRule labels others r s
@@ -73,8 +73,8 @@ TransducerTextIsOne {K} cmp =
     IsCanonicalTransducer scale others cmp order ys start i →
     transducer_text scale labels h ≡ transducer_text scale others i
 
--- Where the pairs of the states of two transducers that can be printed are reached within the limit,
--- it cannot be that there is no text of their canonical composition.
+-- Where the pairs of the states of two transducers that can be printed are reached within the
+-- limit, it cannot be that there is no text of their canonical composition.
 abbrev pub CompositionsHaveTexts : (ℕ → ℕ → ℕ) → Type 0
 CompositionsHaveTexts product =
     (scale : Scale) (limit : ℕ) → limit ≤ 2 ^ 32 → (labels : List (List ℕ)) → Distinct labels →
@@ -113,8 +113,8 @@ SeriesIsOneByName product =
     (t u : TransducerOf) → HasNamedStates t → HasNamedStates u → IsSameByName t u → (x y : Tree ℕ)
     (v : Option ℕ) → IsTransducerSeries product t.rules x y v ↔ IsTransducerSeries product u.rules x y v
 
--- bytes are the text of at most one transducer over one table of distinct labels, however many nodes
--- its sides have, and its states have names
+-- bytes are the text of at most one transducer over one table of distinct labels, however many
+-- nodes its sides have, and its states have names
 pub record TextHasOneTransducer : Type 0 where
   pub one :
       (scale : Scale) (labels : List (List ℕ)) (bytes : List ℕ) (t u : TransducerOf) → Distinct labels →

@@ -53,6 +53,7 @@ pub record AreCheapest (rules : List (TransducerRule ℕ)) (positions : List ℕ
 abbrev pub IsChosenFor : List (TransducerRule ℕ) → List Sides → List ℕ → ℕ → ℕ → Type 0
 IsChosenFor rules sides best m i = IsChosenOf no_sides (λ k p. AreSidesOf k (transducer_rule rules p)) (λ p. (transducer_rule rules p).cost) sides best m i
 
--- For each of the distinct sides of the first n rules, the position of the cheapest rule that has them.
+-- For each of the distinct sides of the first n rules, the position of the cheapest rule that has
+-- them.
 abbrev pub IsChoosing : List (TransducerRule ℕ) → ℕ → List Sides → List ℕ → Type 0
 IsChoosing rules n sides best = AreChosen no_sides (λ k p. AreSidesOf k (transducer_rule rules p)) (λ p. (transducer_rule rules p).cost) n sides best

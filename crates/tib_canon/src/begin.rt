@@ -19,7 +19,8 @@ use tib_hunt::Found;
 use tib_table::TableKey;
 use tib_tree::Labels;
 
-/// Positions of an order, each with a cost: where the chain rules of a fresh start lead, and what they cost.
+/// Positions of an order, each with a cost: where the chain rules of a fresh start lead, and what
+/// they cost.
 #[derive(Drop)]
 pub struct Finals {
     pairs: Vec<(u32, Cost)>,
@@ -60,7 +61,8 @@ pub enum Begin {
     Empty,
 }
 
-// The rules over the keys of an order, the start first and the others in ascending order, from those over positions.
+// The rules over the keys of an order, the start first and the others in ascending order, from
+// those over positions.
 fn over_keys<K: TableKey + Drop>(
     alloc: Global,
     order: Vec<K>,
@@ -113,7 +115,8 @@ fn chain_rules(
     Ok(rules)
 }
 
-// The rules over the keys of an order behind a fresh start, its chain rules first, from those over positions.
+// The rules over the keys of an order behind a fresh start, its chain rules first, from those over
+// positions.
 fn over_behind_fresh<K: TableKey + Drop>(
     alloc: Global,
     order: Vec<K>,

@@ -9,8 +9,8 @@ pub fn order_is_one()
     ensures { OrderIsOne }
 {}
 
-/// A grammar has at most one canonical form. Of a right side it is asked that nothing stands below a state, as in every
-/// `Grammar`.
+/// A grammar has at most one canonical form. Of a right side it is asked that nothing stands below
+/// a state, as in every `Grammar`.
 pub fn canonical_is_one()
     ensures { CanonicalIsOne }
 {}
@@ -25,12 +25,14 @@ pub fn order_keeps_the_series<S: Semiring>()
     ensures { OrderKeepsSeries S.product }
 {}
 
-/// A canonical grammar over keys has the series of the rules over their positions, at the position of the start.
+/// A canonical grammar over keys has the series of the rules over their positions, at the position
+/// of the start.
 pub fn keys_keep_the_series<K: TableKey>()
     ensures { KeysKeepSeries K.cmp }
 {}
 
-/// A canonical grammar over keys behind a fresh start has the series of the rules with its chain rules.
+/// A canonical grammar over keys behind a fresh start has the series of the rules with its chain
+/// rules.
 pub fn fresh_start_keeps_the_series<K: TableKey>()
     ensures { FreshKeepsSeries K.cmp }
 {}
@@ -50,7 +52,8 @@ pub fn canonical_keeps_deterministic_form()
     ensures { CanonicalKeepsDeterministic }
 {}
 
-/// A canonical grammar over keys behind a fresh start is in deterministic form where the rules with its chain rules are.
+/// A canonical grammar over keys behind a fresh start is in deterministic form where the rules with
+/// its chain rules are.
 pub fn fresh_start_keeps_deterministic_form<K: TableKey>()
     ensures { FreshKeepsDeterministic K.cmp }
 {}
@@ -60,8 +63,8 @@ pub fn trimmed_forms_have_the_same_rules()
     ensures { TrimmedFormsHaveSameRules }
 {}
 
-/// Rules over the positions of an order have one canonical grammar over its keys, whatever their order and however often
-/// one of them stands.
+/// Rules over the positions of an order have one canonical grammar over its keys, whatever their
+/// order and however often one of them stands.
 pub fn keys_have_one_canonical<K: TableKey>()
     ensures { KeysHaveOneCanonical K.cmp }
 {}
@@ -86,8 +89,8 @@ pub fn over_keys_are_printable<K: TableKey>()
     ensures { OverKeysArePrintable K.cmp }
 {}
 
-/// The text of a canonical form is the text of this very grammar: its states keep their numbers, and its rules their
-/// order.
+/// The text of a canonical form is the text of this very grammar: its states keep their numbers,
+/// and its rules their order.
 pub fn canonical_texts_are_read<S: Semiring>()
     ensures { CanonicalTextsAreRead S.product }
 {}
@@ -119,8 +122,8 @@ pub fn canonical_forms_exist<S: Semiring>()
     ensures { CanonicalFormsExist S.product }
 {}
 
-/// Nor can it be that rules which can be printed, over the positions of an order of distinct keys, have no canonical grammar
-/// over these keys with a start.
+/// Nor can it be that rules which can be printed, over the positions of an order of distinct keys,
+/// have no canonical grammar over these keys with a start.
 pub fn canonical_over_keys_exists<S: Semiring, K: TableKey>()
     ensures { OverKeysHaveCanonical S.product K.cmp }
 {}

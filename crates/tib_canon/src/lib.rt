@@ -1,6 +1,7 @@
-//! Canonical forms. That of a grammar is trimmed, with canonical names, equal rules merged, and sorted. In that of a reached set as a
-//! transducer the states are the keys, the start first and the others in ascending order, equal rules are merged at the least cost, and
-//! the rules are sorted; nothing is trimmed.
+//! Canonical forms. That of a grammar is trimmed, with canonical names, equal rules merged, and
+//! sorted. In that of a reached set as a transducer the states are the keys, the start first and
+//! the others in ascending order, equal rules are merged at the least cost, and the rules are
+//! sorted; nothing is trimmed.
 #![tactic(auto)]
 
 mod begin;

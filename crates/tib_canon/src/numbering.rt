@@ -38,7 +38,8 @@ fn positions_of<K: TableKey>(alloc: Global, keys: &[(bool, K, u32)]) -> Result<V
     Ok(positions)
 }
 
-/// The positions of an order of keys: first the start, and then the others in ascending order of their keys.
+/// The positions of an order of keys: first the start, and then the others in ascending order of
+/// their keys.
 pub fn states_by_keys<K: TableKey + Drop>(
     alloc: Global,
     order: Vec<K>,
@@ -71,8 +72,8 @@ fn behind_fresh_start<K: TableKey>(
     Ok(states)
 }
 
-/// The states of an order behind a fresh start: first 0, and then one more than each position, in ascending order of their
-/// keys.
+/// The states of an order behind a fresh start: first 0, and then one more than each position, in
+/// ascending order of their keys.
 pub(crate) fn states_behind_fresh<K: TableKey + Drop>(
     alloc: Global,
     order: Vec<K>,

@@ -10,13 +10,14 @@ pub fn keys_have_one_transducer<K: TableKey>()
     ensures { KeysHaveOneTransducer K.cmp }
 {}
 
-/// A canonical transducer over keys has the series of the rules over their positions, from the start.
+/// A canonical transducer over keys has the series of the rules over their positions, from the
+/// start.
 pub fn keys_keep_the_transducer_series<S: Semiring, K: TableKey>()
     ensures { KeysKeepTransducerSeries S.product K.cmp }
 {}
 
-/// It cannot be that rules which can be printed, over the positions of an order of distinct keys, have
-/// no canonical transducer over these keys.
+/// It cannot be that rules which can be printed, over the positions of an order of distinct keys,
+/// have no canonical transducer over these keys.
 pub fn canonical_transducers_exist<K: TableKey>()
     ensures { KeysHaveTransducer K.cmp }
 {}
@@ -32,30 +33,33 @@ pub fn transducer_text_is_one<K: TableKey>()
     ensures { TransducerTextIsOne K.cmp }
 {}
 
-/// Where the pairs of the states of two transducers that can be printed are reached within the limit, and the second is linear,
-/// nondeleting, not extended and not labelled, it cannot be that there is no text of their canonical composition.
+/// Where the pairs of the states of two transducers that can be printed are reached within the
+/// limit, and the second is linear, nondeleting, not extended and not labelled, it cannot be that
+/// there is no text of their canonical composition.
 pub fn compositions_have_texts<S: Semiring>()
     ensures { CompositionsHaveTexts S.product }
 {}
 
-/// The text of the canonical composition of two transducers does not depend on the numbers of labels.
+/// The text of the canonical composition of two transducers does not depend on the numbers of
+/// labels.
 pub fn composition_text_is_one<S: Semiring>()
     ensures { CompositionTextIsOne S.product }
 {}
 
-/// The canonical transducer of the composition has, at each two trees, the least cost of doing the first and then the second.
+/// The canonical transducer of the composition has, at each two trees, the least cost of doing the
+/// first and then the second.
 pub fn compositions_have_their_series<S: Semiring>()
     ensures { CompositionsHaveSeries S.product }
 {}
 
-/// Transducers that are the same but for the numbers of their states have one series. So what a text
-/// of a canonical transducer reads back as has its series.
+/// Transducers that are the same but for the numbers of their states have one series. So what a
+/// text of a canonical transducer reads back as has its series.
 pub fn series_is_one_by_name<S: Semiring>()
     ensures { SeriesIsOneByName S.product }
 {}
 
-/// Bytes are the text of at most one transducer over one table of distinct labels, however many nodes
-/// its sides have, and the states of this one have names of their own.
+/// Bytes are the text of at most one transducer over one table of distinct labels, however many
+/// nodes its sides have, and the states of this one have names of their own.
 pub fn text_has_one_transducer()
     ensures { TextHasOneTransducer }
 {}

@@ -96,10 +96,10 @@ fn sorted<S: Semiring>(
     }
 }
 
-/// The transducer of rules over this number of states, with the states named by their numbers, equal
-/// rules merged at the least cost, and the rules sorted. Err only if memory is refused, and then the
-/// rules are gone. Worst case: each rule is hashed once and printed once, and r rules are sorted by
-/// O(r log r) comparisons of their lines; they are moved.
+/// The transducer of rules over this number of states, with the states named by their numbers,
+/// equal rules merged at the least cost, and the rules sorted. Err only if memory is refused, and
+/// then the rules are gone. Worst case: each rule is hashed once and printed once, and r rules are
+/// sorted by O(r log r) comparisons of their lines; they are moved.
 pub(crate) fn in_order<S: Semiring>(
     alloc: Global,
     states: u32,

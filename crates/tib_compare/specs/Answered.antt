@@ -23,11 +23,13 @@ SomeDiffers second order = (k : ℕ) × (k < length order) × (differs second (v
 abbrev pub NoneDiffers : ℕ → List VectorOf → Type 0
 NoneDiffers second order = (k : ℕ) → k < length order → differs second (vector_at order k) ≡ false
 
--- the least tree of the vectors that tell them apart, or none where each of their trees is too large
+-- the least tree of the vectors that tell them apart, or none where each of their trees is too
+-- large
 abbrev pub IsLeastTold : List (List ℕ) → ℕ → List VectorOf → List (Rule ℕ) → Option (Tree ℕ) → Type 0
 IsLeastTold labels second order rules o = IsOfWanted labels (wanted (map (differs second) order) rules) o
 
--- what they answer: that no vector tells them apart, or the least tree with its grammar, or that it is too large
+-- what they answer: that no vector tells them apart, or the least tree with its grammar, or that it
+-- is too large
 abbrev pub IsAnswerOf : List (List ℕ) → ℕ → List (Rule ℕ) → List VectorOf → List (Rule ℕ) → Option Compared → Type 0
 IsAnswerOf labels second left order rules None = SomeDiffers second order × IsLeastTold labels second order rules None
 IsAnswerOf labels second left order rules (Some Same) = NoneDiffers second order

@@ -32,13 +32,14 @@ abbrev pub IsInOne : List (Rule ℕ) → List (Rule ℕ) → Tree ℕ → Type 0
 IsInOne one two t = IsOnlyIn one two t ⊎ IsOnlyIn two one t
 
 module _ (labels : List (List ℕ)) where
-  -- The tree has a cost in the one grammar and none in the other, and in the order of trees each before it has one in both
-  -- or in neither.
+  -- The tree has a cost in the one grammar and none in the other, and in the order of trees each
+  -- before it has one in both or in neither.
   pub record IsLeastOnly (one two : List (Rule ℕ)) (t : Tree ℕ) : Type 0 where
     pub only : IsOnlyIn one two t
     pub least : (u : Tree ℕ) → tree_cmp_by labels u t ≡ Less → Agree one two u
 
-  -- every tree agrees; or the tree is the least that has a cost in the first alone, or in the second alone
+  -- every tree agrees; or the tree is the least that has a cost in the first alone, or in the
+  -- second alone
   abbrev pub IsCompared : List (Rule ℕ) → List (Rule ℕ) → Compared → Type 0
   IsCompared one two Same = (t : Tree ℕ) → Agree one two t
   IsCompared one two (First t) = IsLeastOnly one two t

@@ -16,19 +16,21 @@ is_there (Some r) = true
 abbrev pub holds : ℕ → VectorOf → Bool
 holds q v = is_there (residual_in q v)
 
--- whether exactly one of the two starts stands in a vector: 0, and the first state of the second grammar
+-- whether exactly one of the two starts stands in a vector: 0, and the first state of the second
+-- grammar
 abbrev pub differs : ℕ → VectorOf → Bool
 differs second v = if holds 0 v then not (holds second v) else holds second v
 
--- What a node costs: a ten-thousandth of the greatest cost, so that a tree of more than 10,000 nodes has none.
+-- What a node costs: a ten-thousandth of the greatest cost, so that a tree of more than 10,000
+-- nodes has none.
 abbrev pub node_cost : ℕ
 node_cost = 100000000000
 
 abbrev pub is_marked : List Bool → Rule ℕ → Bool
 is_marked marks r = get_or marks r.left false
 
--- Rules over the positions of an order, each one more, and a fresh start, which is 0 and has the rules of the marked
--- positions.
+-- Rules over the positions of an order, each one more, and a fresh start, which is 0 and has the
+-- rules of the marked positions.
 abbrev pub wanted : List Bool → List (Rule ℕ) → List (Rule ℕ)
 wanted marks rules =
     map (λ (r : Rule ℕ). moved (1 + r.left) 1 node_cost r) rules ++ map (λ r. moved 0 1 node_cost r) (filter (is_marked marks) rules)

@@ -67,9 +67,10 @@ fn normal_over(
     }
 }
 
-/// The two grammars as one: the states of the left one and behind them those of the right one, each rule of both with its
-/// states raised, at no cost. So the start of the left is 0, and that of the right is the number of states of the left. Only
-/// want of memory is an error, or of numbers for the states or rules of both. Worst case: a few passes over the rules.
+/// The two grammars as one: the states of the left one and behind them those of the right one, each
+/// rule of both with its states raised, at no cost. So the start of the left is 0, and that of the
+/// right is the number of states of the left. Only want of memory is an error, or of numbers for
+/// the states or rules of both. Worst case: a few passes over the rules.
 pub fn side_by_side(
     alloc: Global,
     left: &Normal<Boolean>,

@@ -147,8 +147,8 @@ fn tree_of(alloc: Global, list: &List) -> Result<Option<Tree>, AllocError>
     Ok(Some(list.tree(alloc, 0)?))
 }
 
-// The list of the best tree of these rules, whose nodes all cost as much; no state has a tree that is too large, since
-// such a tree has no cost.
+// The list of the best tree of these rules, whose nodes all cost as much; no state has a tree that
+// is too large, since such a tree has no cost.
 fn best_wanted(
     alloc: Global,
     rules: &[Rule<u32>],

@@ -14,7 +14,8 @@ use Rattle.tib_compose.specs.declared.pending.Piece.{Piece}
 use Rattle.tib_compose.specs.declared.branch.Reading.{Reading}
 use Rattle.tib_compose.specs.declared.branch.Branch.{Branch}
 
--- what comes of the rules that read a label, at a cost, behind what was put out, and before other pieces
+-- what comes of the rules that read a label, at a cost, behind what was put out, and before other
+-- pieces
 abbrev pub reading_results : (ℕ → ℕ → ℕ) → List (TransducerRule ℕ) → List (Item (Pair ℕ)) → Branch → Reading → List PieceOf → List Result
 reading_results product two items b r ws =
     results_by product two b.cost (pairs_of b.done.items) r.label (kids_there (pairs_of items) r.node r.rank) r.state ws (length two)
@@ -38,7 +39,8 @@ module _ (product : ℕ → ℕ → ℕ) (two : List (TransducerRule ℕ)) (item
   TakenComes piece ws (Some r) =
       results product two old.cost (pairs_of old.done.items) (piece_of (pairs_of items) piece ∷ ws) ≡ reading_results product two items new r ws
 
-  -- what comes of what is left is what was put out, or what comes of the label before what is left now
+  -- what comes of what is left is what was put out, or what comes of the label before what is left
+  -- now
   abbrev pub AdvancedComes : List PieceOf → Option Reading → Type 0
   AdvancedComes ws None = results product two old.cost (pairs_of old.done.items) ws ≡ (old.cost, pairs_of new.done.items) ∷ []
   AdvancedComes ws (Some r) =

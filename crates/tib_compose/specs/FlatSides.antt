@@ -1,4 +1,5 @@
--- Right sides of one label over pairs, and the edges that rules of the second transducer give with them.
+-- Right sides of one label over pairs, and the edges that rules of the second transducer give with
+-- them.
 use Rattle.std.specs.Prelude.{◌≡◌, ℕ, ◌<◌, List, [], ◌∷◌, ◌++◌, length, map, drop, Option, None, Some, true}
 use Rattle.tib_lex.specs.Lists.{total}
 use Rattle.tib_grammar.specs.Sides.{Symbol, hole, label, Side as SideFor}

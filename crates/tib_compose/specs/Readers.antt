@@ -8,7 +8,8 @@ use Rattle.tib_transducer.specs.Rules.{transducer_rule}
 use Rattle.tib_transducer.specs.declared.TransducerRule.{TransducerRule}
 use Rattle.tib_keyed.specs.Choices.{reads_label}
 
--- the positions, of the first m, of the rules that lead from the state p and read the label f over n variables
+-- the positions, of the first m, of the rules that lead from the state p and read the label f over
+-- n variables
 abbrev pub readers : List (TransducerRule ℕ) → ℕ → ℕ → ℕ → ℕ → List ℕ
 readers two p f n zero = []
 readers two p f n (suc m) = readers two p f n m ++ (if reads_label p f n (transducer_rule two m) then m ∷ [] else [])

@@ -42,7 +42,8 @@ module _ (product : ℕ → ℕ → ℕ) (two : List (TransducerRule ℕ)) where
     abbrev pub readers_of : Reading → List ℕ
     readers_of r = readers_with (r.state, r.label, r.rank) two
 
-    -- what comes of the rules at a turn that are not tried, behind what was put out and before other pieces
+    -- what comes of the rules at a turn that are not tried, behind what was put out and before
+    -- other pieces
     abbrev pub turn_results : Turn → List (Symbol ℕ (Pair (ℕ × ℕ)) × ℕ) → List PieceOf → List Result
     turn_results t done ws = all_of (reader_results t.cost done (kids_there pairs t.reading.node t.reading.rank) ws) (drop t.tried (readers_of t.reading))
 

@@ -21,7 +21,8 @@ use Rattle.tib_compose.specs.declared.search.Turn.{Turn}
 use Rattle.tib_compose.specs.declared.search.Search.{Search}
 use Rattle.tib_compose.specs.declared.source.Source.{Source}
 
--- the rules of the second transducer have their shape, and a search by pieces finds all their results
+-- the rules of the second transducer have their shape, and a search by pieces finds all their
+-- results
 pub record AreReady (product : ℕ → ℕ → ℕ) (two : List (TransducerRule ℕ)) : Type 0 where
   pub shaped : AreShaped two
   pub goes : GoesByPieces product two

@@ -1,4 +1,5 @@
-//! What each translation of the trees of a right side costs at least, found from the last trees to the first.
+//! What each translation of the trees of a right side costs at least, found from the last trees to
+//! the first.
 
 ghost use Rattle.std.specs.Prelude.{ℕ, IfOk, OnOk};
 ghost use Rattle.tib_compose.specs.Bounding.{BoundsNode, BoundsReader, KeepsSource};
@@ -39,8 +40,8 @@ fn lesser_of(one: Option<Cost>, two: Option<Cost>) -> Option<Cost>
     }
 }
 
-/// Asks for the nodes at which the pairs of a rule's right side stand below a node, each by its state, unless they were asked
-/// for.
+/// Asks for the nodes at which the pairs of a rule's right side stand below a node, each by its
+/// state, unless they were asked for.
 fn ask_rule(
     right: &[Item<Pair<u32>>],
     source: &Source,
@@ -94,7 +95,8 @@ impl<'a, S: Semiring> Composite<'a, S> {
         Ok(())
     }
 
-    /// The nodes and states that a search from the root by a state may come to, each before those below it.
+    /// The nodes and states that a search from the root by a state may come to, each before those
+    /// below it.
     fn asked_by(
         &self,
         alloc: Global,
@@ -175,9 +177,9 @@ impl<'a, S: Semiring> Composite<'a, S> {
         Ok(())
     }
 
-    /// Sets the bounds of all nodes and states that a search from the root by a state may come to. A side of one label needs
-    /// none: each rule that reads it gives a translation. Cost: for each of them and each rule that reads the label there one
-    /// pass over the rule's right side.
+    /// Sets the bounds of all nodes and states that a search from the root by a state may come to.
+    /// A side of one label needs none: each rule that reads it gives a translation. Cost: for each
+    /// of them and each rule that reads the label there one pass over the rule's right side.
     pub(crate) fn set_bounds(
         &self,
         alloc: Global,

@@ -13,8 +13,8 @@ use std::alloc::{AllocError, Global};
 use std::collections::HashMap;
 use tib_cost::Cost;
 
-/// For nodes of a right side and states what each translation costs at least, none if it is more than the greatest cost.
-/// What is not there is 0.
+/// For nodes of a right side and states what each translation costs at least, none if it is more
+/// than the greatest cost. What is not there is 0.
 #[derive(Drop)]
 pub struct Bounds {
     table: HashMap<(u32, u32), Option<Cost>>,

@@ -36,8 +36,8 @@ pub struct Branch {
 }
 
 impl Branch {
-    /// Puts out a piece, unless it is a label that is to be read: then this is the answer. Err also where the piece has a
-    /// node that is not there.
+    /// Puts out a piece, unless it is a label that is to be read: then this is the answer. Err also
+    /// where the piece has a node that is not there.
     fn take(
         &mut self,
         items: &[Item<Pair<u32>>],
@@ -69,8 +69,8 @@ impl Branch {
         }
     }
 
-    /// Puts out pieces up to the next label that is to be read, and answers this; none where all is put out. Cost: one
-    /// step for each piece.
+    /// Puts out pieces up to the next label that is to be read, and answers this; none where all is
+    /// put out. Cost: one step for each piece.
     pub fn advance(&mut self, items: &[Item<Pair<u32>>]) -> Result<Option<Reading>, AllocError>
         ensures advanced { IfOk result (λ reading. IsAdvanced items.now self.old self.new reading) }
     {

@@ -2,8 +2,9 @@
 
 use std::marker::Model;
 
-/// A choice of rules of the second transducer for a side, kept as its preorder: the position of a rule at a label, none
-/// at a pair, each with the number of choices below it. No value of it is made: it tells edges apart.
+/// A choice of rules of the second transducer for a side, kept as its preorder: the position of a
+/// rule at a label, none at a pair, each with the number of choices below it. No value of it is
+/// made: it tells edges apart.
 #[derive(Drop)]
 pub struct Choice {
     rules: Vec<(Option<u32>, u32)>,

@@ -12,7 +12,8 @@ use std::alloc::Global;
 use tib_keyed::ShapeIndex;
 use tib_transducer::{ClassError, StateIndex, Transducer, first_outside};
 
-/// The pairs of a state of the first transducer and a state of the second, reached from the pair of the starts.
+/// The pairs of a state of the first transducer and a state of the second, reached from the pair of
+/// the starts.
 #[derive(Drop)]
 pub struct Composite<'a, S> {
     /// The first transducer.
@@ -30,10 +31,11 @@ pub struct Composite<'a, S> {
 }
 
 impl<'a, S> Composite<'a, S> {
-    /// The pairs of two transducers, of which the second is linear, nondeleting, not extended and not labelled. `Class`
-    /// exactly where it is not, with its first rule outside and the first class that this rule is outside of;
-    /// `OutOfMemory` if memory is refused. Cost: one look-up by hash for each rule of the second transducer, and a pass over
-    /// the states and the rules of the first, beside `first_outside`.
+    /// The pairs of two transducers, of which the second is linear, nondeleting, not extended and
+    /// not labelled. `Class` exactly where it is not, with its first rule outside and the first
+    /// class that this rule is outside of; `OutOfMemory` if memory is refused. Cost: one look-up by
+    /// hash for each rule of the second transducer, and a pass over the states and the rules of the
+    /// first, beside `first_outside`.
     pub fn new(
         alloc: Global,
         first: &'a Transducer<S>,

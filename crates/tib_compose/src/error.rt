@@ -7,8 +7,8 @@ use tib_transducer::{ClassError, ClassFault};
 /// Why two transducers were not composed.
 #[derive(Debug, Drop, Error)]
 pub enum ComposeError {
-    /// This is the first rule of the second transducer outside the classes that composition demands. Rules are numbered
-    /// from 1.
+    /// This is the first rule of the second transducer outside the classes that composition
+    /// demands. Rules are numbered from 1.
     #[error("rule {rule}: {fault}")]
     Class { rule: u32, fault: ClassFault },
     /// The reached set has more parts than the limit.

@@ -1,4 +1,5 @@
-//! Composition as an operation of the hunt: its seed, its edges, and the rules that stand for these.
+//! Composition as an operation of the hunt: its seed, its edges, and the rules that stand for
+//! these.
 
 use crate::choice::Choice;
 use crate::composite::Composite;

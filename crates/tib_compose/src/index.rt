@@ -22,7 +22,8 @@ fn shape_of(rule: &TransducerRule<u32>) -> Shape
     }
 }
 
-/// The positions of rules by their shapes, ascending. Err only if memory is refused. Cost: one look-up by hash for each rule.
+/// The positions of rules by their shapes, ascending. Err only if memory is refused. Cost: one
+/// look-up by hash for each rule.
 pub(crate) fn index_rules(
     alloc: Global,
     rules: &[TransducerRule<u32>],

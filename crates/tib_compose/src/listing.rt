@@ -91,7 +91,8 @@ impl<'a> Listing<'a> {
         }
     }
 
-    /// The rule over places that reads a left side and puts out some items at a cost, where each pair leads to a new end.
+    /// The rule over places that reads a left side and puts out some items at a cost, where each
+    /// pair leads to a new end.
     fn placed_rule(
         &mut self,
         alloc: Global,
@@ -115,8 +116,8 @@ impl<'a> Listing<'a> {
         })
     }
 
-    /// Lists an edge that reads a left side and puts out some items at a cost. `More` comes exactly where it has more parts
-    /// than the budget leaves.
+    /// Lists an edge that reads a left side and puts out some items at a cost. `More` comes exactly
+    /// where it has more parts than the budget leaves.
     pub fn add(
         &mut self,
         alloc: Global,

@@ -17,12 +17,14 @@ use tib_tree::Label;
 pub enum Piece {
     /// A label with its number of children.
     Put { label: Label, rank: u32 },
-    /// The tree of a node of the first transducer's right side, translated by a state of the second.
+    /// The tree of a node of the first transducer's right side, translated by a state of the
+    /// second.
     Read { node: u32, state: u32 },
 }
 
-/// A piece, and the number of the task behind it: tasks are numbered from 1, and 0 says that nothing is left. What is left
-/// from the piece on costs at least the bound, and more than the greatest cost where this is none.
+/// A piece, and the number of the task behind it: tasks are numbered from 1, and 0 says that
+/// nothing is left. What is left from the piece on costs at least the bound, and more than the
+/// greatest cost where this is none.
 #[derive(Drop)]
 pub struct Task {
     /// The piece.
@@ -46,8 +48,8 @@ pub(crate) fn product_of<S: Semiring>(one: Option<Cost>, two: Option<Cost>) -> O
     S::times(one, two)
 }
 
-/// What is left: the task with a number, and those behind it. Tasks stay in the list when they are taken, so that a search
-/// can come back to them.
+/// What is left: the task with a number, and those behind it. Tasks stay in the list when they are
+/// taken, so that a search can come back to them.
 #[derive(Drop)]
 pub struct Pending {
     /// All tasks.
@@ -115,7 +117,8 @@ impl Pending {
         Ok(())
     }
 
-    /// Comes back to what was left when this many tasks were there, and this was the number of the next.
+    /// Comes back to what was left when this many tasks were there, and this was the number of the
+    /// next.
     pub fn back_to(&mut self, tasks: usize, next: usize)
         ensures tasks { self.new.tasks.items ≡ take tasks self.old.tasks.items }
         ensures next { self.new.next ≡ next }

@@ -1,4 +1,5 @@
-//! The search through all translations of a right side: what comes next, and where it comes back to.
+//! The search through all translations of a right side: what comes next, and where it comes back
+//! to.
 
 ghost use Rattle.std.specs.Prelude.{◌≡◌, ◌++◌, ◌∷◌, [], OnOk, IfOk, take};
 ghost use Rattle.tib_compose.specs.Searches.{Begins, ComesBack, IsAgain, Meets};
@@ -8,7 +9,8 @@ use crate::pending::{Pending, Piece};
 use std::alloc::{AllocError, Global};
 use tib_cost::{Cost, Semiring};
 
-/// A label that is read, with the branch that came to it, and which of the rules that read it comes next.
+/// A label that is read, with the branch that came to it, and which of the rules that read it comes
+/// next.
 #[derive(Drop)]
 pub struct Turn {
     /// The label.

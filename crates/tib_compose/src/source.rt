@@ -6,7 +6,8 @@ use crate::bounds::Bounds;
 use tib_grammar::Item;
 use tib_transducer::Pair;
 
-/// The items of a right side, where the trees of each end, and what their translations cost at least.
+/// The items of a right side, where the trees of each end, and what their translations cost at
+/// least.
 #[derive(Drop)]
 pub struct Source<'a> {
     /// The items.

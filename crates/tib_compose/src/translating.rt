@@ -17,8 +17,9 @@ use tib_grammar::Side;
 use tib_hunt::ExpandError;
 use tib_transducer::Variable;
 
-/// Goes on with the branch of a search up to the next label that is read, and turns there; where none is left, lists the
-/// edge that reads the left side and puts out what the branch put out. `More` exactly where the budget has no room for it.
+/// Goes on with the branch of a search up to the next label that is read, and turns there; where
+/// none is left, lists the edge that reads the left side and puts out what the branch put out.
+/// `More` exactly where the budget has no room for it.
 pub(crate) fn go_on<'a>(
     alloc: Global,
     source: &Source,
@@ -51,8 +52,8 @@ pub(crate) fn go_on<'a>(
 }
 
 impl<'a, S: Semiring> Composite<'a, S> {
-    /// Reads the label of a turn by the rule of the second transducer at a position, and answers whether a translation
-    /// within the greatest cost can come of it.
+    /// Reads the label of a turn by the rule of the second transducer at a position, and answers
+    /// whether a translation within the greatest cost can come of it.
     fn read(
         &self,
         source: &Source,

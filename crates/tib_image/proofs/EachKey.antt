@@ -7,7 +7,8 @@ use Rattle.tib_lex.proofs.Members.{has_at, has_either}
 use Rattle.tib_hunt.specs.Reached.{AfterRounds}
 use Rattle.tib_keyed.specs.Keyed.{keyed}
 
--- what holds of the start, and of the ends of the edges of each key of which it holds, holds of each key of the order
+-- what holds of the start, and of the ends of the edges of each key of which it holds, holds of
+-- each key of the order
 pub order_each :
     {K O E : Type 0} (cmp : K → K → Ordering) (start : K) (Edge : K → O → E → Type 0) (ends_of : E → List K) (key_parts : K → ℕ) (edge_parts : E → ℕ) (P : K → Type 0) → P start →
     ((k : K) (o : O) (e : E) (l : K) → P k → Edge k o e → Has (ends_of e) l → P l) → (rounds expanded : ℕ) (order : List K) →

@@ -1,4 +1,5 @@
--- The edge of a key and a rule, told by the walk of the rule's left side, and the rules that may have one.
+-- The edge of a key and a rule, told by the walk of the rule's left side, and the rules that may
+-- have one.
 use Rattle.std.specs.Prelude.{◌≡◌, ℕ, ◌<◌, ◌+◌, nat_eq, true, List, [], ◌∷◌, length, map, refl, None, Some}
 use Rattle.std.proofs.Common.{arith, ap, sym, ◌∙◌, subst, get_or}
 use Rattle.tib_lex.specs.Lists.{Has, Each, Distinct}

@@ -85,7 +85,8 @@ match_fills t (tree (hole x) kids rest) (tree g us more) n s m =
       ap (λ (y : Tree ℕ). tree y.label y.kids (fill rest (trees_at t (variable_nodes rest more (suc n + sizes us))))) s.0.1 ∙ ap (tree g us) second.1,
     )
 
--- sides that trees which are bound fill match what comes of it, and the trees are the subtrees at the variables
+-- sides that trees which are bound fill match what comes of it, and the trees are the subtrees at
+-- the variables
 pub fills_match :
     (t : Tree ℕ) (ss : Trees (Symbol ℕ Variable)) (args : Trees ℕ) (n : ℕ) → AreBound (holes ss) args → Stand (IsAt t) (fill ss args) n →
     Match ss (fill ss args) × (trees_at t (variable_nodes ss (fill ss args) n) ≡ args)

@@ -47,7 +47,8 @@ module _
     {levelled weighted : Bool} {product : ℕ → ℕ → ℕ} (laws : ProductLaws levelled weighted product)
     (moves : List (StringRule ℕ)) (shaped : AreShaped moves) (linear : AreLinear moves) (nondeleting : AreNondeleting moves)
     (string : List ℕ) where
-  -- the tree of an item is admitted by its key, and its cost is that of a run that reads it and puts out the key's part
+  -- the tree of an item is admitted by its key, and its cost is that of a run that reads it and
+  -- puts out the key's part
   record IsParsed (x : Item (ℕ × ℕ × ℕ × ℕ)) : Type 0 where
     admitted : Admits (restricted_labels moves) x.key.3 x.label
     is_cost : IsStringCost product moves (x.key.0 ∷ []) (tree x.label x.kids none) (text_of string x.key ∷ []) x.cost

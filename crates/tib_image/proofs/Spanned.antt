@@ -1,4 +1,5 @@
--- The keys of the variables of a left side, by the states and the places of the pairs of its right side.
+-- The keys of the variables of a left side, by the states and the places of the pairs of its right
+-- side.
 use Rattle.std.specs.Prelude.{◌≡◌, ℕ, ◌<◌, ◌≤◌, List, [], ◌∷◌, length, map, drop, refl, slice_set}
 use Rattle.std.proofs.Common.{zero, suc, arith, ap, sym, ◌∙◌, subst, get_or, inl, inr}
 use Rattle.std.proofs.lemmas.List.{get_or-set_same, get_or-set_other}

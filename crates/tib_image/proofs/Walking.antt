@@ -1,4 +1,5 @@
--- The walk of a left side beside the nodes of a tree finds whether it matches, and the nodes of its variables.
+-- The walk of a left side beside the nodes of a tree finds whether it matches, and the nodes of its
+-- variables.
 use Rattle.std.specs.Prelude.{◌≡◌, ℕ, ◌+◌, ◌<◌, ◌≤◌, ◌⊎◌, nat_eq, Bool, true, false, List, [], ◌∷◌, ◌++◌, length, drop, Option, None, Some, slice_get, if◌then◌else◌, refl}
 use Rattle.std.proofs.Common.{zero, suc, arith, ap, sym, ◌∙◌, subst, get_or, append_assoc, inl, inr}
 use Rattle.std.proofs.lemmas.List.{length-append}

@@ -1,4 +1,5 @@
--- A tree and a transducer on which the definitions are computed. The labels are A 0, a 1, B 2, b 3 and c 4.
+-- A tree and a transducer on which the definitions are computed. The labels are A 0, a 1, B 2, b 3
+-- and c 4.
 use Rattle.std.specs.Prelude.{ℕ, List, [], ◌∷◌, None}
 use Rattle.tib_tree.specs.Trees.{Tree, none, tree}
 use Rattle.tib_grammar.specs.Sides.{over}

@@ -28,9 +28,9 @@ use Rattle.tib_image.specs.Nodes.{MatchesAt, nodes_of}
 abbrev pub pair_key : List ℕ → Pair ℕ → ℕ × ℕ
 pair_key nodes x = (x.state, get_or nodes x.variable 0)
 
--- An edge of the key of a state and a node: a rule of the state whose left side matches the subtree at the node. It leads to the
--- right side, in which each pair is the key of its state and of the node of its variable, at the cost of the rule. Its origin is
--- the position of the rule.
+-- An edge of the key of a state and a node: a rule of the state whose left side matches the subtree
+-- at the node. It leads to the right side, in which each pair is the key of its state and of the
+-- node of its variable, at the cost of the rule. Its origin is the position of the rule.
 pub record IsImageEdge (moves : List (TransducerRule ℕ)) (t : Tree ℕ) (key : ℕ × ℕ) (origin : ℕ) (e : Rule (ℕ × ℕ)) : Type 0 where
   pub below : origin < length moves
   pub state : (transducer_rule moves origin).state ≡ key.0
@@ -51,7 +51,8 @@ key_entries k = 2
 abbrev pub edge_parts : Rule (ℕ × ℕ) → ℕ
 edge_parts e = 1 + size e.right
 
--- The image of a tree as what is hunted: from the key of the start and the root each key leads on along its edges.
+-- The image of a tree as what is hunted: from the key of the start and the root each key leads on
+-- along its edges.
 abbrev pub image_of : List (TransducerRule ℕ) → Tree ℕ → Operation (ℕ × ℕ) ℕ (Rule (ℕ × ℕ))
 image_of moves t = keyed key_cmp (0, 0) (IsImageEdge moves t) (λ e. holes_of e.right) (key_parts key_entries) edge_parts
 
@@ -59,9 +60,10 @@ image_of moves t = keyed key_cmp (0, 0) (IsImageEdge moves t) (λ e. holes_of e.
 abbrev pub GivesEdge : List (TransducerRule ℕ) → Tree ℕ → List (ℕ × ℕ) → ℕ × ℕ → Rule (ℕ × ℕ) → Type 0
 GivesEdge moves t order from e = (from.0 < length order) × IsImageEdge moves t (key_at order from.0) from.1 e
 
--- The grammar of the keys of an order: the order has the key of the start and the root first, and no key twice. The rules are
--- over its positions and are, with the keys in place of these, exactly the edges of the keys, each as often as origins give it.
--- So each end of an edge stands in the order.
+-- The grammar of the keys of an order: the order has the key of the start and the root first, and
+-- no key twice. The rules are over its positions and are, with the keys in place of these, exactly
+-- the edges of the keys, each as often as origins give it. So each end of an edge stands in the
+-- order.
 pub record IsImageGrammar (moves : List (TransducerRule ℕ)) (t : Tree ℕ) (order : List (ℕ × ℕ)) (rules : List (Rule ℕ)) : Type 0 where
   pub long : 0 < length order
   pub start : key_at order 0 ≡ (0, 0)
@@ -69,8 +71,8 @@ pub record IsImageGrammar (moves : List (TransducerRule ℕ)) (t : Tree ℕ) (or
   pub in_range : AreInRange (length order) rules
   pub edges : Lists (GivesEdge moves t order) (map (named_rule (key_at order)) rules)
 
--- That grammar gives each tree the cost that the transducer gives the tree and it. The transducer may copy, delete, be extended
--- and be labelled.
+-- That grammar gives each tree the cost that the transducer gives the tree and it. The transducer
+-- may copy, delete, be extended and be labelled.
 abbrev pub ImageMeans : (ℕ → ℕ → ℕ) → Type 0
 ImageMeans product =
     (moves : List (TransducerRule ℕ)) → AreShaped moves → (t : Tree ℕ) (order : List (ℕ × ℕ)) (rules : List (Rule ℕ)) → IsImageGrammar moves t order rules →

@@ -1,4 +1,5 @@
--- The ends of an edge of a key are of states in range, over places of the string in order, where the key is.
+-- The ends of an edge of a key are of states in range, over places of the string in order, where
+-- the key is.
 use Rattle.std.specs.Prelude.{◌≡◌, ℕ, ◌<◌, ◌≤◌, List, [], ◌∷◌, length, map}
 use Rattle.std.proofs.Common.{arith, ap, ◌∙◌, subst, inl, inr}
 use Rattle.tib_lex.specs.Lists.{Has, Each}

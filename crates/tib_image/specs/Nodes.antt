@@ -11,12 +11,13 @@ abbrev pub subtrees : Trees ℕ → List (Tree ℕ)
 subtrees none = []
 subtrees (tree f kids rest) = record { label = f; kids = kids } ∷ (subtrees kids ++ subtrees rest)
 
--- The nodes of a tree are numbered from 0 in preorder. This is the subtree at a node; past the last node the whole tree is read.
+-- The nodes of a tree are numbered from 0 in preorder. This is the subtree at a node; past the last
+-- node the whole tree is read.
 abbrev pub subtree : Tree ℕ → ℕ → Tree ℕ
 subtree t n = get_or (subtrees (only t)) n t
 
--- Sides match as many trees: a label matches a tree with this label at the root whose children the sides below it match, and a
--- variable a tree that it binds.
+-- Sides match as many trees: a label matches a tree with this label at the root whose children the
+-- sides below it match, and a variable a tree that it binds.
 abbrev pub Match : Trees (Symbol ℕ Variable) → Trees ℕ → Type 0
 Match none none = Unit {0}
 Match none (tree g us more) = ⊥
@@ -24,7 +25,8 @@ Match (tree s kids rest) none = ⊥
 Match (tree (label f) kids rest) (tree g us more) = (f ≡ g) × Match kids us × Match rest more
 Match (tree (hole x) kids rest) (tree g us more) = Binds x.label g × Match rest more
 
--- the nodes at the variables of sides, in preorder, where the sides match trees of which the first stands at node n
+-- the nodes at the variables of sides, in preorder, where the sides match trees of which the first
+-- stands at node n
 abbrev pub variable_nodes : Trees (Symbol ℕ Variable) → Trees ℕ → ℕ → List ℕ
 variable_nodes none us n = []
 variable_nodes (tree s kids rest) none n = []

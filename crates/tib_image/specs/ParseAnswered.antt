@@ -39,12 +39,14 @@ abbrev pub IsStringFault : List (StringRule ℕ) → ClassError → Type 0
 IsStringFault moves (OfRule rule fault) = IsFirstFault moves rule fault
 IsStringFault moves OfMemory = Unit {0}
 
--- why nothing is answered: that rule; where there is none, a limit that each reached set passes; or want of memory
+-- why nothing is answered: that rule; where there is none, a limit that each reached set passes; or
+-- want of memory
 abbrev pub IsParseFault : List (StringRule ℕ) → List ℕ → ℕ → ApplyError → Type 0
 IsParseFault moves string limit (Class rule fault) = IsFirstFault moves rule fault
 IsParseFault moves string limit (TooMany n) = (n ≡ limit) × AreLinear moves × AreNondeleting moves × IsBeyond (parse moves string) limit
 IsParseFault moves string limit OutOfMemory = Unit {0}
 
--- the rules, as a grammar, give each tree the cost that the transducer gives the tree and the string
+-- the rules, as a grammar, give each tree the cost that the transducer gives the tree and the
+-- string
 abbrev pub HasStringSeries : (ℕ → ℕ → ℕ) → List (StringRule ℕ) → List ℕ → Found (ℕ × ℕ × ℕ × ℕ) (Rule ℕ) → Type 0
 HasStringSeries product moves string found = (t : Tree ℕ) (v : Option ℕ) → IsSeries product found.rules.items t v ↔ IsStringSeries product moves t string v

@@ -1,4 +1,5 @@
--- Small values on which the definitions are computed. The labels are S, a and b, and the words u and v, from 0 on.
+-- Small values on which the definitions are computed. The labels are S, a and b, and the words u
+-- and v, from 0 on.
 use Rattle.std.specs.Prelude.{ℕ, List, [], ◌∷◌, None}
 use Rattle.tib_tree.specs.Trees.{Tree, Trees, none, tree}
 use Rattle.tib_grammar.specs.Sides.{over, Side as SideFor}

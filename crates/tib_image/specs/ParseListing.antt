@@ -21,12 +21,14 @@ use Rattle.tib_image.specs.ParseEdges.{origins_at, edge_of}
 abbrev pub Listing : Type 0
 Listing = SideListing (ℕ × ℕ × ℕ × ℕ) Variable
 
--- the key of a variable, where the states and the places of pairs are listed by the numbers of their variables
+-- the key of a variable, where the states and the places of pairs are listed by the numbers of
+-- their variables
 abbrev pub variable_key : List ℕ → List (ℕ × ℕ × ℕ) → Variable → ℕ × ℕ × ℕ × ℕ
 variable_key labels spans x =
     ((get_or spans x.number (0, 0, 0)).0, (get_or spans x.number (0, 0, 0)).1, (get_or spans x.number (0, 0, 0)).2, restriction labels x.label)
 
--- the place before the token at a position, where the first token stands at i and these are the places behind the tokens
+-- the place before the token at a position, where the first token stands at i and these are the
+-- places behind the tokens
 abbrev pub place_before : ℕ → List ℕ → ℕ → ℕ
 place_before i ks zero = i
 place_before i ks (suc n) = get_or ks n 0
@@ -62,7 +64,8 @@ abbrev pub edges_at_all : List (StringRule ℕ) → List ℕ → ℕ × ℕ × �
 edges_at_all moves string key [] = []
 edges_at_all moves string key (n ∷ ns) = edges_at moves string key n ++ edges_at_all moves string key ns
 
--- the edges of some cuts, the first of those that were to come, are listed, and these cuts are to come
+-- the edges of some cuts, the first of those that were to come, are listed, and these cuts are to
+-- come
 pub record AreDone (labels : List ℕ) (key : ℕ × ℕ × ℕ × ℕ) (r : StringRule ℕ) (before now : List (List ℕ)) (old new : Listing) : Type 0 where
   pub cuts : List (List ℕ)
   pub are : before ≡ cuts ++ now

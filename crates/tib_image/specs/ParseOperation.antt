@@ -46,8 +46,8 @@ ParseIsReached =
     (moves : List (StringRule ℕ)) (string : List ℕ) (order : List (ℕ × ℕ × ℕ × ℕ)) (rules : List (Rule ℕ)) → AreInRange (length order) rules →
     IsReachedSet (parse moves string) order (map (named_rule (key_at (length string) order)) rules) → IsParseGrammar moves string order rules
 
--- So for a linear and nondeleting transducer the reached set, as a grammar, gives each tree the cost that the transducer
--- gives the tree and the string.
+-- So for a linear and nondeleting transducer the reached set, as a grammar, gives each tree the
+-- cost that the transducer gives the tree and the string.
 abbrev pub ReachedParses : (ℕ → ℕ → ℕ) → Type 0
 ReachedParses product =
     (moves : List (StringRule ℕ)) → AreShaped moves → AreLinear moves → AreNondeleting moves → (string : List ℕ) (order : List (ℕ × ℕ × ℕ × ℕ)) (rules : List (Rule ℕ)) →
@@ -61,8 +61,8 @@ OneParseSet =
     IsReachedSet (parse moves string) order edges → IsReachedSet (parse moves string) other more →
     (order ≡ other) × ((e : Rule (ℕ × ℕ × ℕ × ℕ)) → Has edges e → Has more e)
 
--- a key of one of this many states, with places that are in order and within a string of n words, and a restriction by one of
--- this many labels or by none
+-- a key of one of this many states, with places that are in order and within a string of n words,
+-- and a restriction by one of this many labels or by none
 pub record IsKey (states n labels : ℕ) (k : ℕ × ℕ × ℕ × ℕ) : Type 0 where
   pub state : k.0 < states
   pub from : k.1 ≤ k.2

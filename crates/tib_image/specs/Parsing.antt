@@ -1,4 +1,5 @@
--- Parsing: the trees that a tree-to-string transducer turns into one string, each at the least cost.
+-- Parsing: the trees that a tree-to-string transducer turns into one string, each at the least
+-- cost.
 use Rattle.std.specs.Prelude.{◌≡◌, ℕ, ◌<◌, ◌↔◌, List, [], ◌∷◌, length, map, Option, nat_eq, if◌then◌else◌}
 use Rattle.std.proofs.Common.{get_or}
 use Rattle.tib_lex.specs.Lists.{Distinct}
@@ -19,7 +20,8 @@ use Rattle.tib_image.specs.Restrictions.{restricted_labels}
 use Rattle.tib_strings.specs.Cuts.{IsCut, spans}
 use Rattle.tib_strings.specs.declared.StringRule.{StringRule}
 
--- A key: a state of the transducer, the places where its part of the string begins and ends, and a restriction.
+-- A key: a state of the transducer, the places where its part of the string begins and ends, and a
+-- restriction.
 
 -- the key of the start over a string of n words
 abbrev pub first_key : ℕ → ℕ × ℕ × ℕ × ℕ
@@ -39,10 +41,11 @@ span_at i (x ∷ xs) (s ∷ ss) = if nat_eq i x.variable then (x.state, s.0, s.1
 abbrev pub parse_key : List ℕ → List (Pair ℕ) → List (ℕ × ℕ) → Variable → ℕ × ℕ × ℕ × ℕ
 parse_key labels pairs ss x = ((span_at x.number pairs ss).0, (span_at x.number pairs ss).1, (span_at x.number pairs ss).2, restriction labels x.label)
 
--- An edge of the key of a state, two places and a restriction: a rule of the state whose left side begins with a label that
--- the restriction admits, and a cut of its right side from the first place to the second. It leads to the left side, in
--- which each variable is the key of the state of its pair on the right, of the places before and behind that pair, and of
--- its own restriction, at the cost of the rule. Its origin is the position of the rule and the cut.
+-- An edge of the key of a state, two places and a restriction: a rule of the state whose left side
+-- begins with a label that the restriction admits, and a cut of its right side from the first place
+-- to the second. It leads to the left side, in which each variable is the key of the state of its
+-- pair on the right, of the places before and behind that pair, and of its own restriction, at the
+-- cost of the rule. Its origin is the position of the rule and the cut.
 pub record IsParseEdge (moves : List (StringRule ℕ)) (string : List ℕ) (key : ℕ × ℕ × ℕ × ℕ) (origin : ℕ × List ℕ) (e : Rule (ℕ × ℕ × ℕ × ℕ)) : Type 0 where
   pub below : origin.0 < length moves
   pub state : (string_rule moves origin.0).state ≡ key.0
@@ -56,9 +59,10 @@ pub record IsParseEdge (moves : List (StringRule ℕ)) (string : List ℕ) (key 
       ≡ side_map (parse_key (restricted_labels moves) (pairs_of (string_rule moves origin.0).right) (spans (string_rule moves origin.0).right key.1 origin.1)) (string_rule moves origin.0).left
   pub costs : e.cost ≡ (string_rule moves origin.0).cost
 
--- Where Edge tells of a key, an origin and an edge that the origin gives the key this edge: the order has the key of the
--- start over a string of n words first, and no key twice. The rules are over its positions and are, with the keys in place
--- of these, exactly the edges of the keys, each as often as origins give it. So each end of an edge stands in the order.
+-- Where Edge tells of a key, an origin and an edge that the origin gives the key this edge: the
+-- order has the key of the start over a string of n words first, and no key twice. The rules are
+-- over its positions and are, with the keys in place of these, exactly the edges of the keys, each
+-- as often as origins give it. So each end of an edge stands in the order.
 pub record IsKeyGrammar {O : Type 0} (n : ℕ) (Edge : ℕ × ℕ × ℕ × ℕ → O → Rule (ℕ × ℕ × ℕ × ℕ) → Type 0) (order : List (ℕ × ℕ × ℕ × ℕ)) (rules : List (Rule ℕ)) : Type 0 where
   pub long : 0 < length order
   pub start : key_at n order 0 ≡ first_key n
@@ -70,8 +74,8 @@ pub record IsKeyGrammar {O : Type 0} (n : ℕ) (Edge : ℕ × ℕ × ℕ × ℕ 
 abbrev pub IsParseGrammar : List (StringRule ℕ) → List ℕ → List (ℕ × ℕ × ℕ × ℕ) → List (Rule ℕ) → Type 0
 IsParseGrammar moves string order rules = IsKeyGrammar (length string) (IsParseEdge moves string) order rules
 
--- for a linear and nondeleting transducer that grammar gives each tree the cost that the transducer gives the tree and the
--- string
+-- for a linear and nondeleting transducer that grammar gives each tree the cost that the transducer
+-- gives the tree and the string
 abbrev pub ParseMeans : (ℕ → ℕ → ℕ) → Type 0
 ParseMeans product =
     (moves : List (StringRule ℕ)) → AreShaped moves → AreLinear moves → AreNondeleting moves → (string : List ℕ) (order : List (ℕ × ℕ × ℕ × ℕ)) (rules : List (Rule ℕ)) →

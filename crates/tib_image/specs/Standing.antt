@@ -9,7 +9,8 @@ use Rattle.tib_grammar.specs.Sides.{Symbol, label, hole}
 use Rattle.tib_transducer.specs.declared.Variable.{Variable}
 use Rattle.tib_image.specs.Nodes.{subtrees, subtree, variable_nodes}
 
--- P holds of each node of some trees, of which the first stands at node n, and of its label and children
+-- P holds of each node of some trees, of which the first stands at node n, and of its label and
+-- children
 abbrev pub Stand : (ℕ → ℕ → Trees ℕ → Type 0) → Trees ℕ → ℕ → Type 0
 Stand P none n = Unit {0}
 Stand P (tree f kids rest) n = P n f kids × Stand P kids (suc n) × Stand P rest (suc n + sizes kids)

@@ -1,4 +1,5 @@
-//! The rules of a transducer by their states and the labels and ranks at the roots of their left sides.
+//! The rules of a transducer by their states and the labels and ranks at the roots of their left
+//! sides.
 
 ghost use Rattle.std.specs.Prelude.{◌≡◌, ℕ, IfOk};
 ghost use Rattle.tib_grammar.specs.ShapeBuckets.{same_shape};
@@ -22,8 +23,8 @@ fn shape_of(rule: &TransducerRule<u32>) -> Shape
     }
 }
 
-/// The positions of the rules of a transducer by their shapes, ascending. Err only if memory is refused. Cost: one look-up by hash
-/// for each rule.
+/// The positions of the rules of a transducer by their shapes, ascending. Err only if memory is
+/// refused. Cost: one look-up by hash for each rule.
 pub(crate) fn index_rules<S>(
     alloc: Global,
     transducer: &Transducer<S>,

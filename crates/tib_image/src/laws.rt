@@ -3,7 +3,8 @@ ghost use Rattle.tib_image.specs.Image.{ImageMeans, ImageIsReached, OneImageSet}
 
 use tib_cost::Semiring;
 
-/// The grammar of the keys that are reached gives each tree the cost of the transducer at the tree and it, for every transducer.
+/// The grammar of the keys that are reached gives each tree the cost of the transducer at the tree
+/// and it, for every transducer.
 pub fn image_means<S: Semiring>()
     ensures { ImageMeans S.product }
 {}

@@ -47,8 +47,8 @@ fn push_ends(
 /// The edges of the key at a position, as far as they are listed, within a budget of parts.
 pub(crate) type Listing<'a> = SideListing<'a, Key, Pair<u32>>;
 
-/// Lists an edge to a right side, whose pairs lead to the keys of their states and of the nodes of their variables, at a cost.
-/// `More` comes exactly where it has more parts than the budget leaves.
+/// Lists an edge to a right side, whose pairs lead to the keys of their states and of the nodes of
+/// their variables, at a cost. `More` comes exactly where it has more parts than the budget leaves.
 pub(crate) fn add_edge<'a>(
     listing: &mut Listing<'a>,
     right: &'a Side<Pair<u32>>,

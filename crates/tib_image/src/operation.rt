@@ -37,7 +37,8 @@ fn root_at(tree: &Tree, node: u32) -> (Label, u32)
     (found.label, found.rank)
 }
 
-/// A transducer and a tree, with the rules of the transducer by their states and the roots of their left sides.
+/// A transducer and a tree, with the rules of the transducer by their states and the roots of their
+/// left sides.
 #[derive(Drop)]
 pub struct Image<'a, S> {
     /// The transducer.
@@ -50,7 +51,8 @@ pub struct Image<'a, S> {
 }
 
 impl<'a, S> Image<'a, S> {
-    /// What is hunted for a transducer and a tree. Err only if memory is refused. Cost: for each rule one look-up by hash.
+    /// What is hunted for a transducer and a tree. Err only if memory is refused. Cost: for each
+    /// rule one look-up by hash.
     pub fn new(
         alloc: Global,
         transducer: &'a Transducer<S>,
@@ -68,7 +70,8 @@ impl<'a, S> Image<'a, S> {
         })
     }
 
-    /// Lists the edge of a key and of the rule at a position, if the left side of the rule matches at the node.
+    /// Lists the edge of a key and of the rule at a position, if the left side of the rule matches
+    /// at the node.
     fn list_rule(
         &self,
         key: Key,

@@ -16,12 +16,14 @@ use tib_hunt::{Found, Gate, HuntError, hunt, hunt_alone};
 use tib_transducer::Transducer;
 use tib_tree::Tree;
 
-/// The keys that are reached from the key of the start and the root of a tree, in the order by rounds, and the rules over their
-/// positions. As a grammar whose start is position 0 they give each tree the cost of the transducer at the tree that is given and
-/// it (`laws::image_means`). The transducer may copy, delete, be extended and be labelled. `TooMany` exactly where they have more
-/// parts than the limit, 1 to `MOST_PARTS` of tib_hunt; `OutOfMemory` if memory is refused. Calls `gate` once for each key. Cost:
-/// for each key one look-up by hash, one step for each item of the left sides that begin with the label and the rank of its node,
-/// and the edges that are made, beside the hunt's own (`hunt_alone`). The image of a tree under a transducer is from Comon and
+/// The keys that are reached from the key of the start and the root of a tree, in the order by
+/// rounds, and the rules over their positions. As a grammar whose start is position 0 they give
+/// each tree the cost of the transducer at the tree that is given and it (`laws::image_means`). The
+/// transducer may copy, delete, be extended and be labelled. `TooMany` exactly where they have more
+/// parts than the limit, 1 to `MOST_PARTS` of tib_hunt; `OutOfMemory` if memory is refused. Calls
+/// `gate` once for each key. Cost: for each key one look-up by hash, one step for each item of the
+/// left sides that begin with the label and the rank of its node, and the edges that are made,
+/// beside the hunt's own (`hunt_alone`). The image of a tree under a transducer is from Comon and
 /// others, 2007.
 pub fn image<S: Semiring, G: Gate>(
     alloc: Global,
@@ -47,9 +49,9 @@ pub fn image<S: Semiring, G: Gate>(
     hunt_alone(alloc, &problem, limit, gate)
 }
 
-/// What `image` answers, found by this number of workers, 1 to 16, whatever the order of their steps. It may wait for ever, as
-/// the hunt by several workers (`hunt` of tib_hunt). Errors are those of `image`, and so is the cost, but for keys that are
-/// expanded again.
+/// What `image` answers, found by this number of workers, 1 to 16, whatever the order of their
+/// steps. It may wait for ever, as the hunt by several workers (`hunt` of tib_hunt). Errors are
+/// those of `image`, and so is the cost, but for keys that are expanded again.
 pub fn image_together<S: Semiring + Sync, R: Threads + Wait + Sync, G: Gate + Sync>(
     rt: &R,
     alloc: Global,

@@ -9,7 +9,8 @@ use tib_grammar::Item;
 use tib_transducer::Variable;
 use tib_tree::{Label, Node};
 
-/// Whether a variable with this label, or without one, binds trees with the other label at the root.
+/// Whether a variable with this label, or without one, binds trees with the other label at the
+/// root.
 fn binds_root(label: Option<Label>, root: Label) -> bool
     ensures { result ≡ binds label root }
 {
@@ -19,8 +20,9 @@ fn binds_root(label: Option<Label>, root: Label) -> bool
     }
 }
 
-/// Whether the left side with these items matches at the node with the number `first`. Then `found` has the nodes at its
-/// variables, in preorder. Err only if memory is refused. Cost: one step for each item, whatever the variables bind.
+/// Whether the left side with these items matches at the node with the number `first`. Then `found`
+/// has the nodes at its variables, in preorder. Err only if memory is refused. Cost: one step for
+/// each item, whatever the variables bind.
 pub(crate) fn match_items(
     nodes: &[Node],
     first: u32,

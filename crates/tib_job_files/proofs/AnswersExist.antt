@@ -145,7 +145,8 @@ module _ (labels : List (List ℕ)) (distinct : AreDistinct labels) where
   module _
       (one two : List (Rule ℕ)) (normal : AreNormal one) (normal_too : AreNormal two) (free : AreFree one) (free_too : AreFree two) (labelled : AreLabelled (length labels) one)
       (labelled_too : AreLabelled (length labels) two) (agree : (u : Tree ℕ) → (IsInOne one two u → ⊥) → Agree one two u) where
-    -- what comes before the least of the second, and this before another of it, comes before that one
+    -- what comes before the least of the second, and this before another of it, comes before that
+    -- one
     before_other :
         (x w v : Tree ℕ) → IsOnlyIn two one w → IsOnlyIn two one v → (tree_cmp_by labels v w ≡ Less → ⊥) → tree_cmp_by labels x w ≡ Less → tree_cmp_by labels x v ≡ Less
     before_other x w v a b not_before e = elim (one_first labels distinct two two labelled_too labelled_too w v a.0 b.0) [

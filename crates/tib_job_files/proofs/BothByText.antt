@@ -1,4 +1,5 @@
--- The vectors of both grammars side by side, under other numbers of labels and for other trimmed normal forms.
+-- The vectors of both grammars side by side, under other numbers of labels and for other trimmed
+-- normal forms.
 use Rattle.std.specs.Prelude.{◌≡◌, ℕ, ◌+◌, ◌<◌, ◌≤◌, max, List, ◌++◌, length, map, refl}
 use Rattle.std.proofs.Common.{arith, ap, sym, ◌∙◌, subst, inl, inr}
 use Rattle.tib_lex.specs.Lists.{Has, Distinct, IsReordering, total as edges_total}

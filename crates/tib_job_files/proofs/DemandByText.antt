@@ -1,4 +1,5 @@
--- What is demanded of a tree-to-string transducer: it is one over all tables of labels, and it is met or broken, not both.
+-- What is demanded of a tree-to-string transducer: it is one over all tables of labels, and it is
+-- met or broken, not both.
 use Rattle.std.proofs.Common.{◌≡◌, ℕ, ◌+◌, ◌-◌, ◌<◌, ◌⊎◌, List, [], ◌∷◌, length, refl, ap, sym, ◌∙◌, subst, arith, zero, suc, inl, inr}
 use Rattle.tib_lex.specs.Lists.{Along, Each, Has, Distinct}
 use Rattle.tib_lex.proofs.Booleans.{either_way}

@@ -1,4 +1,5 @@
--- A job that words ask for has as many files as its operation takes, and a limit of at most 20,000,000.
+-- A job that words ask for has as many files as its operation takes, and a limit of at most
+-- 20,000,000.
 use Rattle.std.specs.Prelude.{◌≡◌, ℕ, ◌≤◌, nat_le, ◌==◌, ◌&&◌, Bool, true, false, not, List, [], ◌∷◌, length, Option, Some, None, option_map, option_and_then, if◌then◌else◌, refl}
 use Rattle.std.specs.List.{list_any}
 use Rattle.std.proofs.Common.{ap, ◌∙◌, subst, arith}

@@ -1,5 +1,6 @@
--- What `compare` makes is within the limit over each table of labels, or has more parts; its text is one; and where what it makes is
--- within the limit and the least tree is not too large, that there is none cannot be.
+-- What `compare` makes is within the limit over each table of labels, or has more parts; its text
+-- is one; and where what it makes is within the limit and the least tree is not too large, that
+-- there is none cannot be.
 use Rattle.std.specs.Prelude.{◌≡◌, ◌⊎◌, ℕ, ◌<◌, ◌≤◌, max, List, length, refl}
 use Rattle.std.proofs.Common.{arith, ap, sym, ◌∙◌, subst, inl, inr}
 use Rattle.std.specs.declared.cmp.Ordering.TheVariants.{Less}
@@ -119,7 +120,8 @@ module _ (labels : List (List ℕ)) where
     | inr large ↦ absurd (never ((t, inr c.only), λ u o. least_large g.rules f.rules t c large u (other_way f.rules g.rules u o)))
   ]
 
--- where all that is made is within the limit and the least tree is not too large, that there is no text cannot be
+-- where all that is made is within the limit and the least tree is not too large, that there is no
+-- text cannot be
 
 form_range : (g m : GrammarOf) → IsTrimmedForm max g m → AreInRange (length m.names) m.rules
 form_range g m t = subst (λ (n : ℕ). AreInRange n m.rules) (sym (names_long max t.normal m t.trimmed)) t.trimmed.in_range

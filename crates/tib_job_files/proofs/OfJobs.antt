@@ -78,7 +78,8 @@ module _ (o : Operation) (scale : Scale) (product : ℕ → ℕ → ℕ) (number
       makes_by_text scale product numbers a.labels labels (distinct_texts a.labels a.texts.distinct) (distinct_texts labels texts.distinct) o a.values values
       (values_agree scale a.labels labels (kinds_of o) bytes a.values values told a.texts.texts texts.texts) a.within
 
-  -- where the files are told, what is within the limit over one table of labels is within it over each
+  -- where the files are told, what is within the limit over one table of labels is within it over
+  -- each
   pub within_stays : AreAllTold (kinds_of o) bytes → MakesWithin o scale product numbers bytes → StaysWithin o scale product numbers bytes
   within_stays told a labels values texts =
       makes_by_text scale product numbers a.labels labels (distinct_texts a.labels a.texts.distinct) (distinct_texts labels texts.distinct) o a.values values
@@ -95,7 +96,8 @@ module _ (o : Operation) (scale : Scale) (product : ℕ → ℕ → ℕ) (number
   pub answer_class : (text : List ℕ) → AreAllTold (kinds_of o) bytes → IsAnswerOf o scale product numbers bytes text → StaysInClass o scale bytes
   answer_class text told a = class_told o scale bytes told (record { labels = a.labels; values = a.values; texts = a.texts; met = a.met })
 
-  -- what is within the limit and of that class, and lists no tree that is too large, has an answer: that it has none cannot be
+  -- what is within the limit and of that class, and lists no tree that is too large, has an answer:
+  -- that it has none cannot be
   pub answer_there :
       NeedsOf o product numbers.limit → AreOfKinds scale (kinds_of o) bytes → StaysInClass o scale bytes → StaysWithin o scale product numbers bytes → StaysSmall o scale product numbers bytes →
       ((text : List ℕ) → IsAnswerOf o scale product numbers bytes text → ⊥) → ⊥
@@ -192,7 +194,8 @@ module _ (asked : Asked) (held : List ℕ → Option (List ℕ)) where
         answer_there asked.task.operation (scale_of asked.mode) (product_of asked.mode) (numbers_of asked) (bytes_of asked held) (needs_met asked.task.operation (product_of asked.mode) asked.limit (laws_of asked.mode asked.limit (omega (arith, limit_asked words asked of_words))))
         (kinds_bytes are) inside small listed never
 
-    -- so it has an answer, a rule outside the class or too many parts: that it has none of them cannot be
+    -- so it has an answer, a rule outside the class or too many parts: that it has none of them
+    -- cannot be
     pub answered_or_more :
         IsSmall asked held → ((text : List ℕ) → IsAnswer asked held text → ⊥) → ((file : ℕ) (x : ℕ × ClassFault) → IsOutOfClass asked held file x → ⊥) → (IsTooMuch asked held → ⊥) → ⊥
     answered_or_more listed never outside few = inside_or_not are (λ inside. within_or_more are (λ within. job_answered inside within listed never) few) outside

@@ -1,5 +1,6 @@
--- What each operation brings: that its text is one, that what it makes does not depend on the numbers of labels and is within the
--- limit or has more parts than it, and that it has a text where that is within the limit.
+-- What each operation brings: that its text is one, that what it makes does not depend on the
+-- numbers of labels and is within the limit or has more parts than it, and that it has a text where
+-- that is within the limit.
 use Rattle.tib_cost.specs.declared.Scale.{Scale}
 use Rattle.std.proofs.Common.{◌≡◌, ℕ, Bool, List}
 use Rattle.tib_lex.specs.Lists.{Distinct}
@@ -141,7 +142,8 @@ module _ (scale : Scale) (product : ℕ → ℕ → ℕ) (numbers : Numbers) whe
     makes_by_text operations.Demo values more a w = w
 
 module _ (scale : Scale) (levelled : Bool) (product : ℕ → ℕ → ℕ) (numbers : Numbers) (labels others : List (List ℕ)) (apart : Distinct labels) (different : Distinct others) where
-  -- a tree that is too large over one table of labels, and a text over another, only an operation has that lists trees
+  -- a tree that is too large over one table of labels, and a text over another, only an operation
+  -- has that lists trees
   pub large_or_listed :
       (o : Operation) (values more : ValuesOf (kinds_of o)) (text : List ℕ) → AllAgree labels others (kinds_of o) values more → MeetsLarge o scale levelled product numbers labels values →
       IsResultOf o scale product numbers others more text → ListsTrees o
@@ -183,7 +185,8 @@ module _ (scale : Scale) (product : ℕ → ℕ → ℕ) (numbers : Numbers) whe
     result_once operations.Prune values more text other a b c = prune_once scale product numbers.beam labels others values.0 more.0 text other apart different a.0 b c
     result_once operations.Demo values more text other a b c = demo_once scale product numbers.limit numbers.demo text other b c
 
-  -- where it is within the limit, and no tree that is listed is too large, that there is no text cannot be
+  -- where it is within the limit, and no tree that is listed is too large, that there is no text
+  -- cannot be
   pub result_there :
       (labels : List (List ℕ)) → Distinct labels → (o : Operation) → NeedsOf o product numbers.limit → (values : ValuesOf (kinds_of o)) → AllSound scale labels (kinds_of o) values →
       IsMet (demanded o values) → (makes o scale product numbers values).within → ListsNoLarge o scale product numbers labels values → ((text : List ℕ) → IsResultOf o scale product numbers labels values text → ⊥) → ⊥

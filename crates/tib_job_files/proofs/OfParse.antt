@@ -1,5 +1,5 @@
--- What `parse` writes: one text, and that there is none cannot be where the reached set is within the limit and the transducer is linear and
--- nondeleting.
+-- What `parse` writes: one text, and that there is none cannot be where the reached set is within
+-- the limit and the transducer is linear and nondeleting.
 use Rattle.tib_cost.specs.declared.Scale.{Scale}
 use Rattle.std.proofs.Common.{◌≡◌, ℕ, ◌+◌, ◌<◌, ◌≤◌, Bool, List, [], ◌∷◌, length, map, get_or, refl, sym, ap, ◌∙◌, subst, arith, inl, inr, suc}
 use Rattle.std.specs.Ordering.{nat_cmp, ordering_then}
@@ -110,7 +110,8 @@ pub rules_printed :
 rules_printed scale labels t string order rules q reached range =
     found_over scale labels (record { problem = parse t.rules string; spare = first_key (length string); begins = at_first }) (parse_plain scale labels t q string (first_key (length string))) order rules reached range
 
--- Rules over the positions of an order stand for the same edges, whatever key stands for the places behind its end.
+-- Rules over the positions of an order stand for the same edges, whatever key stands for the places
+-- behind its end.
 module _ {K : Type 0} (n : ℕ) (f g : ℕ → K) (same : (q : ℕ) → q < n → f q ≡ g q) where
   trees_same : (ts : Trees (Symbol ℕ ℕ)) → Fit n ts → relabel (symbol_map {A = ℕ} f) ts ≡ relabel (symbol_map g) ts
   trees_same none h = refl

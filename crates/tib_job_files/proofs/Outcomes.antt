@@ -1,4 +1,5 @@
--- From the outcome of an operation on the values of its files to the answer of the run, or the status with which it ends.
+-- From the outcome of an operation on the values of its files to the answer of the run, or the
+-- status with which it ends.
 use Rattle.tib_cost.specs.declared.Scale.{Scale}
 use Rattle.std.specs.Prelude.{◌≡◌, ℕ, ◌+◌, Bool, List, Option, Some, Result, Ok, Err, IfOk, IfErr}
 use Rattle.std.proofs.Common.{subst, sym, ◌∙◌, zero, suc}
@@ -157,7 +158,8 @@ module _
   all_are zero kind low e = absurd (cc e)
   all_are (suc n) kind low e = kinds_told (scale_of asked.mode) labels (kinds_of asked.task.operation) (bytes_of asked held) values texts.texts n kind e
 
-  -- a fault is the cause of its status, comes after those of the files, and before anything is written
+  -- a fault is the cause of its status, comes after those of the files, and before anything is
+  -- written
 
   fault_cause : (before now : List ℕ → ℕ) (a b : ℕ) (s : Status) → HasTextFault asked.task.operation (own_setting asked labels) values s → HasCause (Some asked) held before now a b s
   fault_cause before now a b (statuses.Class file rule fault) h = record { labels = labels; values = values; texts = texts; broken = h }

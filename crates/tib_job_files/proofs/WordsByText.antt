@@ -1,5 +1,6 @@
--- A tree-to-string transducer and a string under other numbers of labels: each is the one that agrees with it by text, its variables have the
--- same restrictions, and its lists have the same cuts.
+-- A tree-to-string transducer and a string under other numbers of labels: each is the one that
+-- agrees with it by text, its variables have the same restrictions, and its lists have the same
+-- cuts.
 use Rattle.std.proofs.Common.{◌≡◌, ℕ, ◌<◌, List, [], ◌∷◌, ◌++◌, length, map, get_or, refl, ap, sym, ◌∙◌, subst, arith}
 use Rattle.std.proofs.lemmas.List.{length-map, get_or-map}
 use Rattle.tib_lex.specs.Lists.{Along}

@@ -1,4 +1,5 @@
--- A tree-to-string transducer that was read has its shape, and its left sides and costs can be written.
+-- A tree-to-string transducer that was read has its shape, and its left sides and costs can be
+-- written.
 use Rattle.tib_cost.specs.declared.Scale.{Scale}
 use Rattle.std.proofs.Common.{ℕ, List, [], ◌∷◌, sym, subst, arith, zero, suc}
 use Rattle.tib_lex.specs.Lines.{HasNoFeed, lines_of}

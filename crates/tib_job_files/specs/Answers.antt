@@ -46,9 +46,9 @@ IsResultOf operations.Check scale product numbers labels values text = HasClasse
 IsResultOf operations.Prune scale product numbers labels values text = HasPruneText scale product numbers.beam labels values.0 text
 IsResultOf operations.Demo scale product numbers labels values text = HasDemoText scale product numbers.limit numbers.demo text
 
--- The text answers the operation on files with these bytes: they are the texts of values, which are of the class that is
--- demanded, what is made of these is within the limit, and the text answers the operation on them. Nothing is said of a file
--- whose bytes are not told.
+-- The text answers the operation on files with these bytes: they are the texts of values, which are
+-- of the class that is demanded, what is made of these is within the limit, and the text answers
+-- the operation on them. Nothing is said of a file whose bytes are not told.
 pub record IsAnswerOf (operation : Operation) (scale : Scale) (product : ℕ → ℕ → ℕ) (numbers : Numbers) (bytes : ℕ → Option (List ℕ)) (text : List ℕ) : Type 0 where
   pub labels : List (List ℕ)
   pub values : ValuesOf (kinds_of operation)
@@ -64,7 +64,8 @@ pub record MeetsLaws (product : ℕ → ℕ → ℕ) (limit : ℕ) : Type 0 wher
   pub laws : ProductLaws levelled weighed product
   pub low : limit < 2 ^ 32
 
--- what is asked of the product and the limit so that there is an answer: nothing where no grammar is made
+-- what is asked of the product and the limit so that there is an answer: nothing where no grammar
+-- is made
 abbrev pub NeedsOf : Operation → (ℕ → ℕ → ℕ) → ℕ → Type 0
 NeedsOf operations.Weigh product limit = Unit {0}
 NeedsOf operations.Inside product limit = Unit {0}
@@ -100,9 +101,10 @@ abbrev pub AreOfTheirKinds : Asked → (List ℕ → Option (List ℕ)) → Type
 AreOfTheirKinds asked held =
     (n : ℕ) (kind : Kind) → kind_at (Some asked) n ≡ Some kind → OfName (bytes_at held (file_at (Some asked) n)) (IsOfKind (scale_of asked.mode) kind)
 
--- Each file of a job is told, not too long and of its kind, and of the class that the operation demands, what the job makes is within
--- the limit, and no state has a tree that is too large among those that the job may ask of it. Of two grammars that are compared, the
--- least tree by which they differ, where there is one, is not too large.
+-- Each file of a job is told, not too long and of its kind, and of the class that the operation
+-- demands, what the job makes is within the limit, and no state has a tree that is too large among
+-- those that the job may ask of it. Of two grammars that are compared, the least tree by which they
+-- differ, where there is one, is not too large.
 pub record IsAnswerable (asked : Asked) (held : List ℕ → Option (List ℕ)) : Type 0 where
   pub short : (n : ℕ) (name : List ℕ) → file_at (Some asked) n ≡ Some name → OfName (held name) IsShort
   pub kinds : AreOfTheirKinds asked held
@@ -126,18 +128,21 @@ pub record EndsCalmly (asked : Asked) (held : List ℕ → Option (List ℕ)) (s
   pub earlier : HasEarlier (Some asked) held status
   pub text : status ≡ statuses.Done → (text : List ℕ) × IsAnswer asked held text
 
--- an operation lists trees, and so may meet one that is too large among those of a state where none that it lists is
+-- an operation lists trees, and so may meet one that is too large among those of a state where none
+-- that it lists is
 abbrev pub ListsTrees : Operation → Type 0
 ListsTrees operations.KBest = Unit {0}
 ListsTrees operations.Demo = Unit {0}
 ListsTrees operation = ⊥
 
--- of such an operation, one run listed its trees, and the other met one that is too large among those of some state
+-- of such an operation, one run listed its trees, and the other met one that is too large among
+-- those of some state
 abbrev pub DifferInLarge : Operation → Status → Status → Type 0
 DifferInLarge operation s t =
     ListsTrees operation × (((s ≡ statuses.Done) × (t ≡ statuses.TreeTooLarge)) ⊎ ((s ≡ statuses.TreeTooLarge) × (t ≡ statuses.Done)))
 
--- the two are one, or memory was refused in one of the runs, or one alone met a tree that is too large
+-- the two are one, or memory was refused in one of the runs, or one alone met a tree that is too
+-- large
 abbrev pub AreOneStatus : Operation → Status → Status → Type 0
 AreOneStatus operation s t = (s ≡ t) ⊎ ((s ≡ statuses.OutOfMemory) ⊎ ((t ≡ statuses.OutOfMemory) ⊎ DifferInLarge operation s t))
 
@@ -152,7 +157,8 @@ abbrev pub HasRoom : Option ℕ → ℕ → Type 0
 HasRoom None needed = ⊥
 HasRoom (Some free) needed = needed ≤ free
 
--- the count of the output stands still where it is below its last value and there is room for each text that answers the job
+-- the count of the output stands still where it is below its last value and there is room for each
+-- text that answers the job
 abbrev pub StandsStill : Option Asked → (List ℕ → Option (List ℕ)) → Option ℕ → ℕ → ℕ → Type 0
 StandsStill None held free before now = now ≡ before
 StandsStill (Some asked) held free before now = before < last_count → ((text : List ℕ) → IsAnswer asked held text → HasRoom free (length text)) → now ≡ before

@@ -57,8 +57,8 @@ levelled_of modes.Bottleneck = true
 levelled_of modes.Widest = true
 levelled_of modes.Boolean = false
 
--- what the words say in numbers that an answer depends on: how many parts are within the limit, how wide the beam is, how many trees are
--- listed, and the number of `demo`
+-- what the words say in numbers that an answer depends on: how many parts are within the limit, how
+-- wide the beam is, how many trees are listed, and the number of `demo`
 pub record Numbers : Type 0 where
   pub limit : ℕ
   pub beam : ℕ
@@ -104,21 +104,24 @@ demanded operations.Check values = nothing_demanded
 demanded operations.Prune values = nothing_demanded
 demanded operations.Demo values = nothing_demanded
 
--- an operation names no tree that is too large: not among those that it lists, nor as the least by which two grammars differ
+-- an operation names no tree that is too large: not among those that it lists, nor as the least by
+-- which two grammars differ
 abbrev pub ListsNoLarge : (operation : Operation) → Scale → (ℕ → ℕ → ℕ) → Numbers → List (List ℕ) → ValuesOf (kinds_of operation) → Type 0
 ListsNoLarge operations.KBest scale product numbers labels values = ListsSmall product numbers.k labels values.0
 ListsNoLarge operations.Compare scale product numbers labels values = LeastIsSmall labels values.0 values.1.0
 ListsNoLarge operations.Demo scale product numbers labels values = DemoIsSmall scale product numbers.demo
 ListsNoLarge operation scale product numbers labels values = Unit {0}
 
--- a state has a tree that is too large among those that it may have to give, or each tree by which two grammars differ is too large
+-- a state has a tree that is too large among those that it may have to give, or each tree by which
+-- two grammars differ is too large
 abbrev pub MeetsLarge : (operation : Operation) → Scale → Bool → (ℕ → ℕ → ℕ) → Numbers → List (List ℕ) → ValuesOf (kinds_of operation) → Type 0
 MeetsLarge operations.KBest scale levelled product numbers labels values = HasLargeTree levelled product numbers.k labels values.0
 MeetsLarge operations.Compare scale levelled product numbers labels values = HasLargeLeast values.0 values.1.0
 MeetsLarge operations.Demo scale levelled product numbers labels values = DemoHasLargeTree levelled scale product numbers.demo
 MeetsLarge operation scale levelled product numbers labels values = ⊥
 
--- Files are the texts of values of which an operation makes something with more parts than the limit.
+-- Files are the texts of values of which an operation makes something with more parts than the
+-- limit.
 pub record MakesTooMuch (operation : Operation) (scale : Scale) (product : ℕ → ℕ → ℕ) (numbers : Numbers) (bytes : ℕ → Option (List ℕ)) : Type 0 where
   pub labels : List (List ℕ)
   pub values : ValuesOf (kinds_of operation)
@@ -138,7 +141,8 @@ pub record MakesWithin (operation : Operation) (scale : Scale) (product : ℕ �
   pub texts : AreTexts scale labels bytes (kinds_of operation) values
   pub within : (makes operation scale product numbers values).within
 
--- Files are the texts of values of which a state has a tree that is too large among those that it may have to give.
+-- Files are the texts of values of which a state has a tree that is too large among those that it
+-- may have to give.
 pub record MeetsLargeTree (operation : Operation) (scale : Scale) (levelled : Bool) (product : ℕ → ℕ → ℕ) (numbers : Numbers) (bytes : ℕ → Option (List ℕ)) : Type 0 where
   pub labels : List (List ℕ)
   pub values : ValuesOf (kinds_of operation)
@@ -151,7 +155,8 @@ StaysSmall operation scale product numbers bytes =
     (labels : List (List ℕ)) (values : ValuesOf (kinds_of operation)) → AreTexts scale labels bytes (kinds_of operation) values →
     ListsNoLarge operation scale product numbers labels values
 
--- Files are the texts of values that are not of the class that an operation demands, and this is the first rule that is not.
+-- Files are the texts of values that are not of the class that an operation demands, and this is
+-- the first rule that is not.
 pub record BreaksClass (operation : Operation) (scale : Scale) (bytes : ℕ → Option (List ℕ)) (file : ℕ) (found : ℕ × ClassFault) : Type 0 where
   pub labels : List (List ℕ)
   pub values : ValuesOf (kinds_of operation)
@@ -224,10 +229,11 @@ abbrev pub HasWithin : Option Asked → (List ℕ → Option (List ℕ)) → Typ
 HasWithin None held = ⊥
 HasWithin (Some asked) held = MakesWithin asked.task.operation (scale_of asked.mode) (product_of asked.mode) (numbers_of asked) (bytes_of asked held)
 
--- Each answer comes only with its cause: words that are no command, a count of faults that rose in this run, a file that
--- is too long, the first fault of a file that is not, the first rule outside the class that the operation demands, a normal form or a
--- reached set with more parts than the limit of the job, or a tree that is too large among those that a state may have to give, or
--- that each tree by which two grammars differ is too large. Want of memory may stand at any place.
+-- Each answer comes only with its cause: words that are no command, a count of faults that rose in
+-- this run, a file that is too long, the first fault of a file that is not, the first rule outside
+-- the class that the operation demands, a normal form or a reached set with more parts than the
+-- limit of the job, or a tree that is too large among those that a state may have to give, or that
+-- each tree by which two grammars differ is too large. Want of memory may stand at any place.
 abbrev pub HasCause : Option Asked → (List ℕ → Option (List ℕ)) → (List ℕ → ℕ) → (List ℕ → ℕ) → ℕ → ℕ → Status → Type 0
 HasCause job held before now out_before out_now statuses.Done = IsSome job
 HasCause job held before now out_before out_now statuses.Usage = job ≡ None
@@ -249,8 +255,9 @@ abbrev pub file_count : Option Asked → ℕ
 file_count None = 0
 file_count (Some asked) = length (kinds_of asked.task.operation)
 
--- an answer about a file comes only where the files before it are of their kinds, one about a class where all are, one about the
--- parts where all are and no class is broken, and one about a large tree where also what is made is within the limit
+-- an answer about a file comes only where the files before it are of their kinds, one about a class
+-- where all are, one about the parts where all are and no class is broken, and one about a large
+-- tree where also what is made is within the limit
 abbrev pub HasEarlier : Option Asked → (List ℕ → Option (List ℕ)) → Status → Type 0
 HasEarlier job held (statuses.BadInput file fault) = AreBefore job held file
 HasEarlier job held (statuses.ReadFault file) = AreBefore job held file

@@ -1,4 +1,5 @@
--- `compare`: whether the same trees have a cost in two grammars, or else the least tree that has one in exactly one of them.
+-- `compare`: whether the same trees have a cost in two grammars, or else the least tree that has
+-- one in exactly one of them.
 use Rattle.std.specs.Prelude.{◌≡◌, ℕ, max, List, ◌++◌, codes}
 use Rattle.tib_tree.specs.Trees.{Tree}
 use Rattle.tib_tree.specs.Growth.{HasLabels}
@@ -18,7 +19,8 @@ use Rattle.tib_operations.specs.declared.status.Status.TheVariants as statuses
 abbrev pub tree_line : List ℕ → List (List ℕ) → Tree ℕ → List ℕ
 tree_line word labels t = word ++ (tree_text labels t ++ codes "\n")
 
--- the line of an answer: that the supports are the same, or which grammar gives the least tree a cost
+-- the line of an answer: that the supports are the same, or which grammar gives the least tree a
+-- cost
 abbrev pub answer_text : List (List ℕ) → Compared → List ℕ
 answer_text labels Same = codes "same\n"
 answer_text labels (First t) = tree_line (codes "first ") labels t
@@ -30,7 +32,8 @@ HasAnswerLabels labels Same = Unit {0}
 HasAnswerLabels labels (First t) = HasLabels labels t
 HasAnswerLabels labels (Second t) = HasLabels labels t
 
--- The text is the line of what the comparison of the two grammars answers, whose tree is not too large.
+-- The text is the line of what the comparison of the two grammars answers, whose tree is not too
+-- large.
 pub record HasCompareText (labels : List (List ℕ)) (f g : GrammarOf) (text : List ℕ) : Type 0 where
   pub answer : Compared
   pub is_answer : IsCompared labels f.rules g.rules answer
@@ -49,7 +52,8 @@ HasLargeLeast f g = IsTooLarge f.rules g.rules
 abbrev pub forms_of_both : ℕ → GrammarOf → GrammarOf → Made
 forms_of_both limit f g = and_then (normal_form max limit f) (normal_form max limit g)
 
--- Trimmed normal forms of two grammars have a reached set of vectors, side by side, within the limit.
+-- Trimmed normal forms of two grammars have a reached set of vectors, side by side, within the
+-- limit.
 pub record HasVectorsWithin (limit : ℕ) (f g : GrammarOf) : Type 0 where
   pub forms : GrammarOf × GrammarOf
   pub are_forms : AreTrimmedForms max f g forms
@@ -66,7 +70,8 @@ vectors_of_both limit f g = record {
 abbrev pub compare_makes : ℕ → GrammarOf → GrammarOf → Made
 compare_makes limit f g = and_then (normal_form max limit f) (and_then (normal_form max limit g) (vectors_of_both limit f g))
 
--- why there is no text: too many parts, or within the limit a least tree that is too large, or want of memory
+-- why there is no text: too many parts, or within the limit a least tree that is too large, or want
+-- of memory
 abbrev pub IsCompareFault : ℕ → GrammarOf → GrammarOf → Status → Type 0
 IsCompareFault limit f g statuses.TreeTooLarge = (compare_makes limit f g).within × HasLargeLeast f g
 IsCompareFault limit f g status = IsMadeFault (compare_makes limit f g).more limit status

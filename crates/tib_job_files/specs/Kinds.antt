@@ -103,7 +103,8 @@ IsStringRead labels string bytes = IsShort bytes × ReadsAsString labels bytes s
 abbrev pub IsSupportRead : List (List ℕ) → GrammarOf → List ℕ → Type 0
 IsSupportRead labels g bytes = IsRead scales.Unweighted labels g bytes
 
--- the bytes are not too many, and are the text of the value over a table of labels; a support is read in Boolean whatever the mode
+-- the bytes are not too many, and are the text of the value over a table of labels; a support is
+-- read in Boolean whatever the mode
 abbrev pub IsTextOf : Scale → List (List ℕ) → (kind : Kind) → ValueOf kind → List ℕ → Type 0
 IsTextOf scale labels of_grammar g bytes = IsRead scale labels g bytes
 IsTextOf scale labels of_support g bytes = IsSupportRead labels g bytes
@@ -122,13 +123,15 @@ abbrev pub ValuesOf : List Kind → Type 0
 ValuesOf [] = Unit {0}
 ValuesOf (kind ∷ kinds) = ValueOf kind × ValuesOf kinds
 
--- files, where their bytes are told, are the texts of these values over one table of labels; files are counted from 0
+-- files, where their bytes are told, are the texts of these values over one table of labels; files
+-- are counted from 0
 abbrev pub AreTextsOf : Scale → List (List ℕ) → (ℕ → Option (List ℕ)) → (kinds : List Kind) → ValuesOf kinds → Type 0
 AreTextsOf scale labels bytes [] values = Unit {0}
 AreTextsOf scale labels bytes (kind ∷ kinds) values =
     IfSome (bytes 0) (IsTextOf scale labels kind values.0) × AreTextsOf scale labels (λ n. bytes (suc n)) kinds values.1
 
--- The same over a table that has each label once: over one with a label twice, two rules that are written alike would be two.
+-- The same over a table that has each label once: over one with a label twice, two rules that are
+-- written alike would be two.
 pub record AreTexts (scale : Scale) (labels : List (List ℕ)) (bytes : ℕ → Option (List ℕ)) (kinds : List Kind) (values : ValuesOf kinds) : Type 0 where
   pub distinct : AreDistinct labels
   pub texts : AreTextsOf scale labels bytes kinds values
@@ -141,7 +144,8 @@ AreOfKinds scale kinds bytes = (n : ℕ) (kind : Kind) → slice_get kinds n ≡
 abbrev pub AreAllTold : List Kind → (ℕ → Option (List ℕ)) → Type 0
 AreAllTold kinds bytes = (n : ℕ) (kind : Kind) → slice_get kinds n ≡ Some kind → IsSome (bytes n)
 
--- the fault of the bytes as the text of a value of the kind: the first of their lines, or of one tree that there is none or are several
+-- the fault of the bytes as the text of a value of the kind: the first of their lines, or of one
+-- tree that there is none or are several
 abbrev pub HasFault : Scale → Option Kind → List ℕ → FileFault → Type 0
 HasFault scale None bytes fault = ⊥
 HasFault scale (Some of_grammar) bytes fault = IsFirstFault scale bytes fault

@@ -16,8 +16,9 @@ TextsAreOne =
     AreAllTold (kinds_of operation) bytes → IsAnswerOf operation scale product numbers bytes text →
     IsAnswerOf operation scale product numbers bytes other → text ≡ other
 
--- where the files of an operation are of their kinds and of the class that it demands, what it makes of them is within the limit, and
--- it lists no tree that is too large, that no text answers cannot be
+-- where the files of an operation are of their kinds and of the class that it demands, what it
+-- makes of them is within the limit, and it lists no tree that is too large, that no text answers
+-- cannot be
 abbrev pub TextsExist : Type 0
 TextsExist =
     (operation : Operation) (scale : Scale) (product : ℕ → ℕ → ℕ) (numbers : Numbers) (bytes : ℕ → Option (List ℕ)) →
@@ -42,7 +43,8 @@ AnswersAreNotTooMuch =
     (asked : Asked) (held : List ℕ → Option (List ℕ)) (text : List ℕ) → AreTold asked held → IsAnswer asked held text →
     IsTooMuch asked held → ⊥
 
--- where the files of a job are of their kinds, that it is neither within its limit nor too much cannot be
+-- where the files of a job are of their kinds, that it is neither within its limit nor too much
+-- cannot be
 abbrev pub IsWithinOrTooMuch : Type 0
 IsWithinOrTooMuch =
     (asked : Asked) (held : List ℕ → Option (List ℕ)) → AreOfTheirKinds asked held → (IsWithin asked held → ⊥) →
@@ -59,22 +61,23 @@ InClassIsNotOutside =
     (asked : Asked) (held : List ℕ → Option (List ℕ)) (file : ℕ) (found : ℕ × ClassFault) → IsInClass asked held →
     IsOutOfClass asked held file found → ⊥
 
--- where the files of a job are of their kinds, that they are neither of the class that it demands nor have a first rule outside it
--- cannot be
+-- where the files of a job are of their kinds, that they are neither of the class that it demands
+-- nor have a first rule outside it cannot be
 abbrev pub IsInClassOrOutside : Type 0
 IsInClassOrOutside =
     (asked : Asked) (held : List ℕ → Option (List ℕ)) → AreOfTheirKinds asked held → (IsInClass asked held → ⊥) →
     ((file : ℕ) (found : ℕ × ClassFault) → IsOutOfClass asked held file found → ⊥) → ⊥
 
--- where the files of a job that words ask for are of their kinds and of the class that it demands, it is within its limit, and it lists
--- no tree that is too large, that no text answers cannot be
+-- where the files of a job that words ask for are of their kinds and of the class that it demands,
+-- it is within its limit, and it lists no tree that is too large, that no text answers cannot be
 abbrev pub JobsAreAnswered : Type 0
 JobsAreAnswered =
     (words : List (List ℕ)) (asked : Asked) (held : List ℕ → Option (List ℕ)) → job_of words ≡ Some asked →
     AreOfTheirKinds asked held → IsInClass asked held → IsWithin asked held → IsSmall asked held →
     ((text : List ℕ) → IsAnswer asked held text → ⊥) → ⊥
 
--- that it has neither an answer nor a rule outside that class nor too many parts, and lists no tree that is too large, cannot be
+-- that it has neither an answer nor a rule outside that class nor too many parts, and lists no tree
+-- that is too large, cannot be
 abbrev pub JobsHaveOne : Type 0
 JobsHaveOne =
     (words : List (List ℕ)) (asked : Asked) (held : List ℕ → Option (List ℕ)) → job_of words ≡ Some asked →
@@ -93,8 +96,9 @@ JobsHaveNotOutside =
     (asked : Asked) (held : List ℕ → Option (List ℕ)) (text : List ℕ) (file : ℕ) (found : ℕ × ClassFault) → AreOfTheirKinds asked held →
     IsAnswer asked held text → IsOutOfClass asked held file found → ⊥
 
--- a job whose files are told ends with one status in all runs in which no count rises and no memory is refused, or, where it lists
--- trees, with a list in the one and a tree that is too large in the other
+-- a job whose files are told ends with one status in all runs in which no count rises and no memory
+-- is refused, or, where it lists trees, with a list in the one and a tree that is too large in the
+-- other
 abbrev pub StatusesAreOne : Type 0
 StatusesAreOne =
     (words : List (List ℕ)) (asked : Asked) (held : List ℕ → Option (List ℕ)) (one other : Status) → job_of words ≡ Some asked →

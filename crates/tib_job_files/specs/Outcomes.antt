@@ -25,14 +25,15 @@ abbrev pub setting_of : Scale → Bool → (ℕ → ℕ → ℕ) → Asked → L
 setting_of scale levelled product asked labels =
     record { scale = scale; levelled = levelled; product = product; numbers = numbers_of asked; labels = labels }
 
--- The values are of the class that the operation demands, what it makes of them is within the limit, and the text answers it on them.
+-- The values are of the class that the operation demands, what it makes of them is within the
+-- limit, and the text answers it on them.
 pub record HasText (operation : Operation) (by : Setting) (values : ValuesOf (kinds_of operation)) (text : List ℕ) : Type 0 where
   pub met : IsMet (demanded operation values)
   pub within : (makes operation by.scale by.product by.numbers values).within
   pub result_is : IsResultOf operation by.scale by.product by.numbers by.labels values text
 
--- why there is no text: the first rule outside the class that is demanded; where the values are of it, more parts than the limit; within
--- the limit, a tree that is too large; or memory was refused
+-- why there is no text: the first rule outside the class that is demanded; where the values are of
+-- it, more parts than the limit; within the limit, a tree that is too large; or memory was refused
 abbrev pub HasTextFault : (operation : Operation) → Setting → ValuesOf (kinds_of operation) → Status → Type 0
 HasTextFault operation by values (statuses.Class file rule fault) = IsBroken (demanded operation values) file (rule, fault)
 HasTextFault operation by values (statuses.TooMany n) =
@@ -43,7 +44,8 @@ HasTextFault operation by values statuses.TreeTooLarge =
 HasTextFault operation by values statuses.OutOfMemory = Unit {0}
 HasTextFault operation by values status = ⊥
 
--- What was read has values of the operation's files, and the result is its text on these, or the status of its fault on them.
+-- What was read has values of the operation's files, and the result is its text on these, or the
+-- status of its fault on them.
 pub record IsOutcome {S : Type 0} (operation : Operation) (by : Setting) (read : Values S) (result : Result SinkThatGrows Status) : Type 0 where
   pub values : ValuesOf (kinds_of operation)
   pub are : values_as read (kinds_of operation) ≡ Some values

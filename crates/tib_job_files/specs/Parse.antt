@@ -1,4 +1,5 @@
--- `parse`: the trees that a tree-to-string transducer turns into one string, each at its least cost.
+-- `parse`: the trees that a tree-to-string transducer turns into one string, each at its least
+-- cost.
 use Rattle.tib_cost.specs.declared.Scale.{Scale}
 use Rattle.std.specs.Prelude.{◌≡◌, ◌↔◌, ℕ, List, Option}
 use Rattle.tib_tree.specs.Trees.{Tree}
@@ -23,7 +24,8 @@ parse_demands t = record {
   broken = λ file found. (file ≡ 1) × IsFirstFault t.rules found.0 found.1;
 }
 
--- the keys of a state of a transducer, two places of a string and a restriction, from the key of the start over the whole string
+-- the keys of a state of a transducer, two places of a string and a restriction, from the key of
+-- the start over the whole string
 abbrev pub parsing : StringTransducerOf → List ℕ → Construction (ℕ × ℕ × ℕ × ℕ) (ℕ × List ℕ)
 parsing t string = record { problem = parse t.rules string; spare = (0, 0, 0, 0); begins = at_first }
 
@@ -46,7 +48,8 @@ HasParseText scale product limit labels t string text =
 abbrev pub parse_makes : ℕ → StringTransducerOf → List ℕ → Made
 parse_makes limit t string = reached_set limit (IsTheString string) (parsing t)
 
--- Why there is no text: the first rule that breaks what is demanded; where that is met, more parts than the limit; or memory was refused.
+-- Why there is no text: the first rule that breaks what is demanded; where that is met, more parts
+-- than the limit; or memory was refused.
 abbrev pub IsParseTextFault : ℕ → StringTransducerOf → List ℕ → Status → Type 0
 IsParseTextFault limit t string (statuses.Class file rule fault) = (parse_demands t).broken file (rule, fault)
 IsParseTextFault limit t string (statuses.TooMany n) = (n ≡ limit) × (parse_demands t).met × (parse_makes limit t string).more

@@ -8,14 +8,15 @@ use Rattle.tib_operations.specs.declared.status.Status.TheVariants as statuses
 use Rattle.tib_job_files.specs.Answers.{IsAnswer, IsComplete, StandsStill, AreTold, IsCalm, AreOneStatus}
 use Rattle.tib_job_files.specs.Causes.{HasCause, HasEarlier}
 
--- what is known of files: the bytes that are told, the names of which no read fails, and how often reads of a name failed
+-- what is known of files: the bytes that are told, the names of which no read fails, and how often
+-- reads of a name failed
 pub record FilesSeen : Type 0 where
   pub held : List ℕ → Option (List ℕ)
   pub sure : List ℕ → Bool
   pub faults : List ℕ → ℕ
 
--- what is known of a sink: the bytes that it took and how many it still takes, where these are told, how often it failed,
--- and whether it is finished
+-- what is known of a sink: the bytes that it took and how many it still takes, where these are
+-- told, how often it failed, and whether it is finished
 pub record SinkSeen : Type 0 where
   pub written : Option (List ℕ)
   pub free : Option ℕ
@@ -50,14 +51,15 @@ abbrev pub TakesFrontOfAnswer : Option Asked → (List ℕ → Option (List ℕ)
 TakesFrontOfAnswer None held old new = ⊥
 TakesFrontOfAnswer (Some asked) held old new = TakesFrontOfText (IsAnswer asked held) old new
 
--- after every status but Done and WriteFault the whole output is as it was: its bytes, its room, its count, and whether it
--- is finished
+-- after every status but Done and WriteFault the whole output is as it was: its bytes, its room,
+-- its count, and whether it is finished
 abbrev pub IsUntouched : Status → SinkSeen → SinkSeen → Type 0
 IsUntouched statuses.Done old new = Unit {0}
 IsUntouched statuses.WriteFault old new = Unit {0}
 IsUntouched status old new = new ≡ old
 
--- What a run promises that ends with this status. `job` is what its words ask for, and none where they are no command.
+-- What a run promises that ends with this status. `job` is what its words ask for, and none where
+-- they are no command.
 pub record IsRunOf (job : Option Asked) (before after : FilesSeen) (old new : SinkSeen) (status : Status) : Type 0 where
   -- the status comes only with its cause
   pub cause : HasCause job before.held before.faults after.faults old.faults new.faults status
@@ -99,7 +101,8 @@ pub record IsLogged (line : List ℕ) (old new : SinkSeen) : Type 0 where
   -- and stands still where there is room for the line
   pub still : Calm old.free (length line) old.faults new.faults
 
--- two runs on the same words, over files that tell the same bytes, in which no count rises, end with one status
+-- two runs on the same words, over files that tell the same bytes, in which no count rises, end
+-- with one status
 abbrev pub RunsEndAlike : Type 0
 RunsEndAlike =
     (words : List (List ℕ)) (asked : Asked) (before after others later : FilesSeen) (old new first last : SinkSeen) (one other : Status) →

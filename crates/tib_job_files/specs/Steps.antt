@@ -1,4 +1,5 @@
--- What a step of a run promises: what it leaves of the files and of the output, and what the status says with which the run ends there.
+-- What a step of a run promises: what it leaves of the files and of the output, and what the status
+-- says with which the run ends there.
 use Rattle.std.specs.Prelude.{◌≡◌, ◌≤◌, ◌⊎◌, ℕ, true, false, List, length, Option, Result, Ok, Err}
 use Rattle.tib_io.specs.Causes.{GoesOn, Rose}
 use Rattle.tib_io.specs.Memory.{SinkThatGrows}

@@ -1,4 +1,5 @@
-// `compare`: whether the same trees have a cost in two grammars, or else the least tree that has one in exactly one of them.
+// `compare`: whether the same trees have a cost in two grammars, or else the least tree that has
+// one in exactly one of them.
 ghost use Rattle.std.specs.Prelude.{◌≡◌, ◌≤◌, ◌++◌, ℕ, List, codes, length, max, IfErr, IfOk, OnOk};
 ghost use Rattle.tib_cost.specs.declared.Scale.TheVariants.{Unweighted};
 ghost use Rattle.tib_tree.specs.Growth.{HasLabels};
@@ -113,7 +114,8 @@ fn both_forms(
     Ok(Forms { one, two })
 }
 
-// The line of what the comparison of two grammars in normal form answered, or the status with which the run ends.
+// The line of what the comparison of two grammars in normal form answered, or the status with which
+// the run ends.
 fn text_of(
     alloc: Global,
     forms: &Forms,
@@ -145,9 +147,11 @@ fn text_of(
     }
 }
 
-/// The line of what the comparison of the supports of two grammars answers: `same`, or `first` or `second` and the least tree that
-/// has a cost in exactly one of them; or the status with which the run ends: too many parts, a least tree of more than 10,000 nodes, or
-/// want of memory. The time is that of both normal forms and of the vectors of both side by side (`compare_alone` of tib_compare).
+/// The line of what the comparison of the supports of two grammars answers: `same`, or `first` or
+/// `second` and the least tree that has a cost in exactly one of them; or the status with which the
+/// run ends: too many parts, a least tree of more than 10,000 nodes, or want of memory. The time is
+/// that of both normal forms and of the vectors of both side by side (`compare_alone` of
+/// tib_compare).
 pub fn comparison_of<G: Gate>(
     alloc: Global,
     left: &Grammar<Boolean>,
@@ -176,8 +180,8 @@ pub fn comparison_of<G: Gate>(
     }
 }
 
-/// What `comparison_of` answers, with the vectors hunted by this number of workers, 1 to 16, whatever the order of their steps. It
-/// may wait for ever, as the hunt by several workers.
+/// What `comparison_of` answers, with the vectors hunted by this number of workers, 1 to 16,
+/// whatever the order of their steps. It may wait for ever, as the hunt by several workers.
 pub fn comparison_of_together<R: Threads + Wait + Sync, G: Gate + Sync>(
     rt: &R,
     alloc: Global,

@@ -7,7 +7,8 @@ ghost use Rattle.tib_job_files.specs.Run.{RunsEndAlike};
 use tib_grammar_file::faults_have_no_text;
 use tib_tree::{one_tree_or_fault, texts_mean_one};
 
-/// Over told files the text of each operation is one, whatever the tables of labels and the normal forms by which it is told.
+/// Over told files the text of each operation is one, whatever the tables of labels and the normal
+/// forms by which it is told.
 pub fn texts_are_one()
     ensures { TextsAreOne }
 {}
@@ -17,8 +18,8 @@ pub fn answers_are_one()
     ensures { AnswersAreOne }
 {}
 
-/// Where the bytes of each file of a job are told, an answer is within the limit of the job: a text that answers it and too
-/// many parts exclude each other.
+/// Where the bytes of each file of a job are told, an answer is within the limit of the job: a text
+/// that answers it and too many parts exclude each other.
 pub fn answers_exclude_too_many()
     ensures within { AnswersAreWithin }
     ensures apart { AnswersAreNotTooMuch }
@@ -33,31 +34,33 @@ pub fn files_have_no_fault()
     one_tree_or_fault();
 }
 
-/// What a job makes of files of their kinds is within its limit or has more parts than it: not both, and it cannot be that
-/// neither holds.
+/// What a job makes of files of their kinds is within its limit or has more parts than it: not
+/// both, and it cannot be that neither holds.
 pub fn within_or_too_many()
     ensures apart { WithinIsNotTooMuch }
     ensures either { IsWithinOrTooMuch }
 {}
 
-/// Files of a job are of the class that its operation demands or have a first rule that is not: not both, where they are of their
-/// kinds it cannot be that neither holds, and an answer is of files of that class.
+/// Files of a job are of the class that its operation demands or have a first rule that is not: not
+/// both, where they are of their kinds it cannot be that neither holds, and an answer is of files
+/// of that class.
 pub fn in_class_or_outside()
     ensures answers { AnswersAreInClass }
     ensures apart { InClassIsNotOutside }
     ensures either { IsInClassOrOutside }
 {}
 
-/// Where the files of an operation are of their kinds and of the class that it demands, what it makes of them is within the limit,
-/// and it lists no tree of more than 10,000 nodes, it cannot be that no text answers. Where a grammar is made the product meets its
-/// laws.
+/// Where the files of an operation are of their kinds and of the class that it demands, what it
+/// makes of them is within the limit, and it lists no tree of more than 10,000 nodes, it cannot be
+/// that no text answers. Where a grammar is made the product meets its laws.
 pub fn answers_exist()
     ensures { TextsExist }
 {}
 
-/// Where the files of a job that words ask for are of their kinds and it lists no tree of more than 10,000 nodes, it has an answer, a
-/// rule outside the class that it demands, or too many parts, and an answer with neither of the others: what is of that class and
-/// within its limit cannot lack an answer, and that none of the three is there cannot be.
+/// Where the files of a job that words ask for are of their kinds and it lists no tree of more than
+/// 10,000 nodes, it has an answer, a rule outside the class that it demands, or too many parts, and
+/// an answer with neither of the others: what is of that class and within its limit cannot lack an
+/// answer, and that none of the three is there cannot be.
 pub fn jobs_have_answers()
     ensures within { JobsAreAnswered }
     ensures either { JobsHaveOne }
@@ -65,15 +68,16 @@ pub fn jobs_have_answers()
     ensures outside { JobsHaveNotOutside }
 {}
 
-/// A job whose files are told ends with one status in all runs in which no count rises and no memory is refused, but that of a job
-/// that lists trees the one may list them where the other meets a tree of more than 10,000 nodes at some state.
+/// A job whose files are told ends with one status in all runs in which no count rises and no
+/// memory is refused, but that of a job that lists trees the one may list them where the other
+/// meets a tree of more than 10,000 nodes at some state.
 pub fn statuses_are_one()
     ensures { StatusesAreOne }
 {}
 
-/// The same of the promise of `run`: two runs of a job whose files are told, over files that tell the same bytes, in which no
-/// count rises, end with one status but for want of memory, and for a list in the one and a tree that is too large in the other where
-/// the job lists trees.
+/// The same of the promise of `run`: two runs of a job whose files are told, over files that tell
+/// the same bytes, in which no count rises, end with one status but for want of memory, and for a
+/// list in the one and a tree that is too large in the other where the job lists trees.
 pub fn runs_end_alike()
     ensures { RunsEndAlike }
 {}

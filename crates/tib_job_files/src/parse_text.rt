@@ -1,4 +1,5 @@
-// `parse`: the canonical grammar of all trees that a tree-to-string transducer turns into one string.
+// `parse`: the canonical grammar of all trees that a tree-to-string transducer turns into one
+// string.
 ghost use Rattle.std.specs.Prelude.{◌≤◌, length, IfErr, IfOk};
 ghost use Rattle.tib_strings.specs.Range.{AreLinear, AreNondeleting};
 ghost use Rattle.tib_image.specs.ParseAnswered.{IsParsed, AreOverOrder, HasParts, IsParseFault};
@@ -64,10 +65,12 @@ fn canonical_of_parse<S: Semiring + Drop>(
     }
 }
 
-/// The canonical grammar of the trees that a transducer, which is the first file, turns into a string, each at its least cost; or the status
-/// with which the run ends. `Class` names the first rule that is not linear or not nondeleting; `TooMany` comes where there is none and the
-/// reached keys have more parts than the limit; `OutOfMemory` where memory is refused or the string has 2^32 words or more. No normal form is
-/// made. The time is that of the edges of the keys that are reached (`parse` of tib_image).
+/// The canonical grammar of the trees that a transducer, which is the first file, turns into a
+/// string, each at its least cost; or the status with which the run ends. `Class` names the first
+/// rule that is not linear or not nondeleting; `TooMany` comes where there is none and the reached
+/// keys have more parts than the limit; `OutOfMemory` where memory is refused or the string has
+/// 2^32 words or more. No normal form is made. The time is that of the edges of the keys that are
+/// reached (`parse` of tib_image).
 pub fn parse_of<S: Semiring + Drop, G: Gate>(
     alloc: Global,
     transducer: &StringTransducer<S>,
@@ -88,8 +91,8 @@ pub fn parse_of<S: Semiring + Drop, G: Gate>(
     canonical_of_parse::<S>(alloc, transducer, string, labels, limit, hunted)
 }
 
-/// What `parse_of` answers, with the keys hunted by this number of workers, 1 to 16, whatever the order of their steps. It may wait
-/// for ever, as the hunt by several workers.
+/// What `parse_of` answers, with the keys hunted by this number of workers, 1 to 16, whatever the
+/// order of their steps. It may wait for ever, as the hunt by several workers.
 pub fn parse_of_together<S: Semiring + Sync + Drop, R: Threads + Wait + Sync, G: Gate + Sync>(
     rt: &R,
     alloc: Global,

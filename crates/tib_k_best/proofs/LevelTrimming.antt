@@ -1,4 +1,5 @@
--- Rules that are trimmed: they stay in normal form, have the trees of the others, and their faults are faults of useful states.
+-- Rules that are trimmed: they stay in normal form, have the trees of the others, and their faults
+-- are faults of useful states.
 use Rattle.std.specs.Prelude.{◌≡◌, ◌⊎◌, ◌↔◌, ℕ, ◌+◌, ◌<◌, ◌≤◌, Bool, Some, List, [], ◌∷◌, length, map, refl}
 use Rattle.std.proofs.Common.{zero, suc, arith, ap, sym, ◌∙◌, subst, inl, inr, get_or}
 use Rattle.std.proofs.lemmas.List.{length-map}

@@ -1,4 +1,5 @@
--- A state with a tree has an inside cost, that of its first tree; so the start is useful where it has a tree.
+-- A state with a tree has an inside cost, that of its first tree; so the start is useful where it
+-- has a tree.
 use Rattle.std.specs.Prelude.{◌≡◌, ◌⊎◌, ℕ, ◌<◌, ◌≤◌, Bool, Some, List, [], ◌∷◌}
 use Rattle.std.proofs.Common.{arith, sym, subst, inl, inr}
 use Rattle.tib_lex.specs.Lists.{Has}

@@ -8,7 +8,8 @@ use Rattle.tib_inside.specs.Trimmed.{AreTrimmed, HaveSeriesOfEach}
 use Rattle.tib_k_best.specs.declared.error.KBestError.{KBestError}
 use Rattle.tib_k_best.specs.declared.error.KBestError.TheVariants.{TreeTooLarge, OutOfMemory}
 
--- the rules over the places of these states, each below a number, are what trimming keeps of the others
+-- the rules over the places of these states, each below a number, are what trimming keeps of the
+-- others
 pub record AreKept (product : ℕ → ℕ → ℕ) (old : List (Rule ℕ)) (count : ℕ)
     (states : List ℕ) (new : List (Rule ℕ)) : Type 0 where
   pub trimmed : AreTrimmed product old states new

@@ -1,4 +1,5 @@
--- What is kept while the states get their first trees; and the trees below a cost, those of the level at it, and how both are listed together.
+-- What is kept while the states get their first trees; and the trees below a cost, those of the
+-- level at it, and how both are listed together.
 pub mod Causes
 pub mod Costs
 pub mod LazyLists

@@ -52,7 +52,8 @@ pub record IsBegun (x : ListsOf) (w : QueueOf) (n : ℕ) : Type 0 where
   pub stands : Has w.heap candidate
   pub is : (candidate_at x candidate).rule ≡ n
 
--- the states of a rule all have trees, and its first candidate waits in the heap if it can give a state its first tree
+-- the states of a rule all have trees, and its first candidate waits in the heap if it can give a
+-- state its first tree
 pub record IsPassed (product : ℕ → ℕ → ℕ) (x : ListsOf) (w : QueueOf) (n : ℕ) : Type 0 where
   pub all : HasTrees x (states_of (rule_at x.rules n)) (length (states_of (rule_at x.rules n)))
   pub begun : IsReady product x.rules (entries_of x) n → IsBegun x w n

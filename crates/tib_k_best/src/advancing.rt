@@ -52,8 +52,8 @@ impl Queue {
         push(lists, &mut self.heap, candidate)
     }
 
-    // Lets a rule wait for the first state from a place on that has no tree; where each has one, makes
-    // its first candidate.
+    // Lets a rule wait for the first state from a place on that has no tree; where each has one,
+    // makes its first candidate.
     pub(crate) fn advance<S: Semiring>(
         &mut self,
         lists: &mut Lists,

@@ -45,11 +45,11 @@ pub(crate) fn list_of_rules<S: Semiring>(
     }
 }
 
-/// The list of the k best trees of rules in normal form, over this number of states. `ranks` has the
-/// place of each label's text in order. Where k is above 1, no state below a rule may be without a
-/// tree. `TreeTooLarge` names a useful state that has among its k best trees one of more than 10,000
-/// nodes; `OutOfMemory` says nothing of the rules. Worst case: that of `first_trees` and of
-/// `ask_best`; twice that, and one of `trim_rules`, where some state has a large tree.
+/// The list of the k best trees of rules in normal form, over this number of states. `ranks` has
+/// the place of each label's text in order. Where k is above 1, no state below a rule may be
+/// without a tree. `TreeTooLarge` names a useful state that has among its k best trees one of more
+/// than 10,000 nodes; `OutOfMemory` says nothing of the rules. Worst case: that of `first_trees`
+/// and of `ask_best`; twice that, and one of `trim_rules`, where some state has a large tree.
 pub fn best_of_rules<S: Semiring>(
     alloc: Global,
     rules: &[Rule<u32>],

@@ -122,8 +122,8 @@ fn best_flat<S: Semiring>(
     }
 }
 
-// The k best trees of a grammar, which is copied and trimmed. The product is not the greater factor,
-// or each rule costs 0.
+// The k best trees of a grammar, which is copied and trimmed. The product is not the greater
+// factor, or each rule costs 0.
 fn best_trimmed<S: Semiring>(
     alloc: Global,
     normal: &Normal<S>,
@@ -176,12 +176,12 @@ fn best_useful<S: Semiring>(
     }
 }
 
-/// The k best trees of a grammar, or all where it has fewer, by cost and then in the order of trees,
-/// in any semiring. `TreeTooLarge` names a state that has among its k best trees one of more than
-/// 10,000 nodes and is useful; where the product is the greater factor, it is and has so in some
-/// level. `OutOfMemory` says nothing of the grammar. Worst case: where the product is the greater
-/// factor, that of `k_best_by_levels`; elsewhere that of `trim_rules` and of `best_of_rules`, a copy
-/// of the rules, and O(n log n) comparisons of texts for n labels.
+/// The k best trees of a grammar, or all where it has fewer, by cost and then in the order of
+/// trees, in any semiring. `TreeTooLarge` names a state that has among its k best trees one of more
+/// than 10,000 nodes and is useful; where the product is the greater factor, it is and has so in
+/// some level. `OutOfMemory` says nothing of the grammar. Worst case: where the product is the
+/// greater factor, that of `k_best_by_levels`; elsewhere that of `trim_rules` and of
+/// `best_of_rules`, a copy of the rules, and O(n log n) comparisons of texts for n labels.
 pub fn k_best<S: Semiring>(
     alloc: Global,
     normal: &Normal<S>,
@@ -214,9 +214,9 @@ pub fn k_best<S: Semiring>(
 /// The same list, under the same faults, of a grammar in which no state below a rule is without a
 /// tree, as in a trimmed one. It is not trimmed again, and few entries are placed where it is in
 /// deterministic form. Worst case: where the product is the greater factor, that of
-/// `k_best_by_levels`; elsewhere that of `lazy_of_rules` where the grammar is in deterministic form,
-/// and of `best_of_rules` where it is not, and that of `k_best` besides where some state has a large
-/// tree.
+/// `k_best_by_levels`; elsewhere that of `lazy_of_rules` where the grammar is in deterministic
+/// form, and of `best_of_rules` where it is not, and that of `k_best` besides where some state has
+/// a large tree.
 pub fn best_trees<S: Semiring>(
     alloc: Global,
     normal: &Normal<S>,

@@ -26,8 +26,8 @@ use tib_k_best_lists::{Entry, Lists, Shared, label_ranks};
 use tib_normal::Normal;
 use tib_tree::Labels;
 
-/// The lists of all states, each from its best tree on: that of the start, and of the others what it
-/// took to make it.
+/// The lists of all states, each from its best tree on: that of the start, and of the others what
+/// it took to make it.
 #[derive(Drop)]
 pub struct LazyList {
     trees: Shared,
@@ -104,8 +104,9 @@ impl LazyList {
     }
 }
 
-/// The lists of rules in normal and in deterministic form, over this number of states. `ranks` has the
-/// place of each label's text in order. The faults and the worst case are those of `lazy_k_best`.
+/// The lists of rules in normal and in deterministic form, over this number of states. `ranks` has
+/// the place of each label's text in order. The faults and the worst case are those of
+/// `lazy_k_best`.
 pub fn lazy_of_rules<S: Semiring>(
     alloc: Global,
     rules: &[Rule<u32>],
@@ -140,9 +141,9 @@ pub fn lazy_of_rules<S: Semiring>(
 
 /// The k best trees of a grammar in deterministic form, as `k_best` gives them and under the same
 /// faults, with the entries of all states that were placed for them: no more than there are states
-/// and nodes of the listed trees. Worst case: that of `first_trees`, a pass over the last listed tree
-/// for each tree that is listed, O(log n) comparisons for each entry and candidate, and O(n log n)
-/// comparisons of texts for n labels.
+/// and nodes of the listed trees. Worst case: that of `first_trees`, a pass over the last listed
+/// tree for each tree that is listed, O(log n) comparisons for each entry and candidate, and O(n
+/// log n) comparisons of texts for n labels.
 pub fn lazy_k_best<S: Semiring>(
     alloc: Global,
     normal: &Normal<S>,

@@ -99,8 +99,8 @@ fn costs_of(alloc: Global, rules: &[Rule<u32>]) -> Result<Vec<Cost>, AllocError>
     Ok(costs)
 }
 
-/// What the rules cost, ascending, a cost for each rule. Only want of memory is an error. Worst case:
-/// O(r log r) steps for r rules.
+/// What the rules cost, ascending, a cost for each rule. Only want of memory is an error. Worst
+/// case: O(r log r) steps for r rules.
 pub fn sorted_costs(alloc: Global, rules: &[Rule<u32>]) -> Result<Vec<Cost>, AllocError>
     ensures { IfOk result (λ v. AreCosts rules.now v.items) }
 {

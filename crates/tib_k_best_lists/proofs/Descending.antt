@@ -1,4 +1,5 @@
--- How two trees compare by their roots and by the first place where their children's numbers differ.
+-- How two trees compare by their roots and by the first place where their children's numbers
+-- differ.
 use Rattle.std.specs.Prelude.{◌≡◌, ℕ, ◌<◌, ◌≤◌, ◌⊎◌, List, [], ◌∷◌, length, slice_get, Some, None, min, refl}
 use Rattle.std.specs.declared.cmp.Ordering.{Ordering}
 use Rattle.std.specs.declared.cmp.Ordering.TheVariants.{Less, Equal, Greater}

@@ -1,4 +1,5 @@
--- Candidates of a small grammar, computed: 0 -> f(1 1) # 1, 1 -> a # 2, 1 -> b # 5, where f, a and b are 0, 1 and 2.
+-- Candidates of a small grammar, computed: 0 -> f(1 1) # 1, 1 -> a # 2, 1 -> b # 5, where f, a and
+-- b are 0, 1 and 2.
 use Rattle.std.specs.Prelude.{◌≡◌, ℕ, ◌+◌, List, [], ◌∷◌, refl}
 use Rattle.std.proofs.Common.{zero, suc}
 use Rattle.tib_tree.specs.Trees.{none, tree}

@@ -1,4 +1,5 @@
--- A tree that a grammar in normal form gives a cost is a rule over trees that it gives costs, and the other way round.
+-- A tree that a grammar in normal form gives a cost is a rule over trees that it gives costs, and
+-- the other way round.
 use Rattle.std.specs.Prelude.{◌≡◌, ℕ, ◌<◌, ◌≤◌, ◌⊎◌, List, [], ◌∷◌, length, Bool, Option, None, Some, refl}
 use Rattle.std.proofs.Common.{arith, ap, sym, ◌∙◌, subst, inl, inr}
 use Rattle.tib_lex.specs.Lists.{Along}

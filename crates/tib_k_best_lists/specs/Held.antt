@@ -73,8 +73,9 @@ tuple_of x n = ((candidate_at x n).rule, ranks_of x (candidate_at x n))
 abbrev pub stands_for : ListsOf → ℕ → Tree ℕ × ℕ
 stands_for x n = (tree_by x (candidate_at x n).rule (ranks_of x (candidate_at x n)), (candidate_at x n).cost)
 
--- Rules in normal form, whose states have lists and whose labels have places in order; and the trees of the lists are there,
--- each over these labels and of at most 10,000 nodes; each list has fewer than 2^32.
+-- Rules in normal form, whose states have lists and whose labels have places in order; and the
+-- trees of the lists are there, each over these labels and of at most 10,000 nodes; each list has
+-- fewer than 2^32.
 pub record IsSound (x : ListsOf) : Type 0 where
   pub normal : AreNormal x.rules
   pub range : AreInRange (length x.lists) x.rules
@@ -119,7 +120,8 @@ raise i [] = []
 raise zero (j ∷ js) = suc j ∷ js
 raise (suc i) (j ∷ js) = j ∷ raise i js
 
--- A rule and ranks were made a candidate, which is the last one, or what it stands for costs more than the greatest cost.
+-- A rule and ranks were made a candidate, which is the last one, or what it stands for costs more
+-- than the greatest cost.
 abbrev pub Makes : (ℕ → ℕ → ℕ) → ListsOf → ℕ → ℕ → Option ℕ → ListsOf → Type 0
 Makes product x n start None y = (most < (offer product x.rules (entries_of x) n (ranks_from x n start)).1) × (y ≡ x)
 Makes product x n start (Some m) y =

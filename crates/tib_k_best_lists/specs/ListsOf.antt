@@ -8,8 +8,8 @@ use Rattle.tib_grammar.specs.declared.Rule.{Rule}
 use Rattle.tib_k_best_lists.specs.declared.lists.Entry.{Entry}
 use Rattle.tib_k_best_lists.specs.declared.lists.Candidate.{Candidate}
 
--- The rules, the labels with their places in order, the trees by numbers, the list of each state, the candidates, and the
--- ranks of these in one list.
+-- The rules, the labels with their places in order, the trees by numbers, the list of each state,
+-- the candidates, and the ranks of these in one list.
 pub record ListsOf : Type 0 where
   pub rules : List (Rule ℕ)
   pub labels : List (List ℕ)

@@ -54,7 +54,8 @@ fn size_over(sizes: &[u32], children: &[u32]) -> u32
     size
 }
 
-// Puts a new shape behind the others, with the size of its tree. After an error nothing has changed.
+// Puts a new shape behind the others, with the size of its tree. After an error nothing has
+// changed.
 fn add_tree(
     shapes: &mut ShapeSet,
     sizes: &mut Vec<u32>,

@@ -77,8 +77,8 @@ impl<'a> Lists<'a> {
         (trees, entries)
     }
 
-    /// The trees of all lists by their numbers, and the lists of all states. The rest is gone. Takes no
-    /// memory.
+    /// The trees of all lists by their numbers, and the lists of all states. The rest is gone.
+    /// Takes no memory.
     pub fn into_lists(self) -> (Shared, Vec<Vec<Entry>>)
         ensures trees { result.0 ≡ self.entry.trees }
         ensures lists { map items_of result.1.items ≡ self.entry.lists }

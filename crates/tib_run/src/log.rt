@@ -81,8 +81,8 @@ fn write_place<W: Sink>(
     }
 }
 
-/// Writes the line of a status, and nothing for the one of a run that is done. It takes no memory. After a failure a front of
-/// the line was written.
+/// Writes the line of a status, and nothing for the one of a run that is done. It takes no memory.
+/// After a failure a front of the line was written.
 pub fn tell<W: Sink>(log: &mut W, status: &Status) -> Result<(), Failed>
     ensures { Wrote (W.written log.old) (W.written log.new) (W.free log.old) (W.free log.new)
         (W.faults log.old) (W.faults log.new)

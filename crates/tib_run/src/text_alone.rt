@@ -21,9 +21,9 @@ use tib_operations::{
 };
 use tib_tree::Labels;
 
-/// The whole text of a job by one worker, of the values of its files over their table of labels, or the status with which the run ends:
-/// that of the first rule outside the class that the operation demands, of more parts than the limit, of a tree that is too large, or
-/// that memory was refused.
+/// The whole text of a job by one worker, of the values of its files over their table of labels, or
+/// the status with which the run ends: that of the first rule outside the class that the operation
+/// demands, of more parts than the limit, of a tree that is too large, or that memory was refused.
 pub(crate) fn text_of<S: Semiring + Sync + Drop, R: Threads + Sync, G: Gate>(
     rt: &R,
     alloc: Global,

@@ -19,7 +19,8 @@ pub fn string_runs_compute()
     ensures greatest { string_cost max spelling spelling_run ≡ 2 }
 {}
 
-/// Cuts, and the edges of keys: four of the start, one of the first word, one of the two others, none of the last word.
+/// Cuts, and the edges of keys: four of the start, one of the first word, one of the two others,
+/// none of the last word.
 pub fn edges_compute()
     ensures cuts { cuts_of sentence two_pairs 0 3 ≡ (0 ∷ 3 ∷ []) ∷ (1 ∷ 3 ∷ []) ∷ (2 ∷ 3 ∷ []) ∷
         (3 ∷ 3 ∷ []) ∷ [] }

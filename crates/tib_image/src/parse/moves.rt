@@ -28,8 +28,8 @@ fn empty_buckets(alloc: Global, states: u32) -> Result<Vec<Vec<u32>>, AllocError
 }
 
 impl Moves {
-    /// The positions of the rules of a transducer by their state. Err only if memory is refused. Cost: one pass over the states and
-    /// one over the rules.
+    /// The positions of the rules of a transducer by their state. Err only if memory is refused.
+    /// Cost: one pass over the states and one over the rules.
     pub fn new<S>(alloc: Global, transducer: &StringTransducer<S>) -> Result<Moves, AllocError>
         ensures { IfOk result (IsMoves transducer.now.rules) }
     {

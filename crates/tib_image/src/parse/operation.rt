@@ -65,8 +65,8 @@ fn admits(restrictions: &Restrictions, key: Key, rule: &StringRule<u32>) -> bool
     }
 }
 
-/// Lists the edge of a key with a rule and the cut of these places behind its tokens. `More` comes exactly where it has more parts than the
-/// budget leaves.
+/// Lists the edge of a key with a rule and the cut of these places behind its tokens. `More` comes
+/// exactly where it has more parts than the budget leaves.
 fn add_cut<'a>(
     restrictions: &Restrictions,
     rule: &'a StringRule<u32>,
@@ -101,8 +101,8 @@ fn next_cut(cuts: &mut Cuts) -> Result<bool, ExpandError>
     }
 }
 
-/// Lists the edges of a key with a rule and with each cut that is still to come, one after another. `More` comes exactly where they have more
-/// parts than the budget leaves, as soon as they do.
+/// Lists the edges of a key with a rule and with each cut that is still to come, one after another.
+/// `More` comes exactly where they have more parts than the budget leaves, as soon as they do.
 fn add_cuts<'a>(
     restrictions: &Restrictions,
     rule: &'a StringRule<u32>,
@@ -147,9 +147,10 @@ pub struct Parse<'a, S> {
 }
 
 impl<'a, S> Parse<'a, S> {
-    /// What is hunted for a transducer and a string. `Class` exactly where the transducer is not linear and nondeleting: it names the first such
-    /// rule, and linear comes before nondeleting. `OutOfMemory` only if memory is refused, or where the string has 2^32 words or more. Cost: a few
-    /// passes over the rules of the transducer.
+    /// What is hunted for a transducer and a string. `Class` exactly where the transducer is not
+    /// linear and nondeleting: it names the first such rule, and linear comes before nondeleting.
+    /// `OutOfMemory` only if memory is refused, or where the string has 2^32 words or more. Cost: a
+    /// few passes over the rules of the transducer.
     pub fn new(
         alloc: Global,
         transducer: &'a StringTransducer<S>,

@@ -1,4 +1,5 @@
-//! Rules of tree transducers that read what the rules of a tree-to-string transducer read, for the restrictions of these.
+//! Rules of tree transducers that read what the rules of a tree-to-string transducer read, for the
+//! restrictions of these.
 
 ghost use Rattle.std.specs.Prelude.{◌≡◌, IfOk, map};
 ghost use Rattle.tib_tree.specs.Trees.{none};
@@ -84,7 +85,8 @@ fn readers_of(
     Ok(readers)
 }
 
-/// The restrictions of the variables of some rules. Err only if memory is refused. Its time is that of a few passes over the left sides.
+/// The restrictions of the variables of some rules. Err only if memory is refused. Its time is that
+/// of a few passes over the left sides.
 pub(crate) fn restrictions_of(
     alloc: Global,
     rules: &[StringRule<u32>],
