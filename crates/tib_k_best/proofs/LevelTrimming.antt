@@ -5,12 +5,12 @@ use Rattle.std.proofs.Common.{zero, suc, arith, ap, sym, ◌∙◌, subst, inl, 
 use Rattle.std.proofs.lemmas.List.{length-map}
 use Rattle.tib_lex.proofs.Members.{each_has, each_of, has_at}
 use Rattle.tib_cost.specs.Semiring.{ProductLaws}
-use Rattle.tib_tree.specs.Trees.{Tree, Trees, none, tree, only, relabel}
-use Rattle.tib_grammar.specs.Forms.{AreNormal, IsLabel, IsNormalSide}
+use Rattle.tib_tree.specs.Trees.{Trees, none, tree, only, relabel}
+use Rattle.tib_grammar.specs.Forms.{AreNormal, IsNormalSide}
 use Rattle.tib_grammar.specs.GrammarOf.{GrammarOf}
 use Rattle.tib_grammar.specs.Range.{AreInRange}
 use Rattle.tib_grammar.specs.Run.{rule_at, AreRuns}
-use Rattle.tib_grammar.specs.Sides.{Symbol, label, hole, AreHoles, symbol_map, side_map}
+use Rattle.tib_grammar.specs.Sides.{Symbol, label, hole, symbol_map}
 use Rattle.tib_grammar.specs.declared.Rule.{Rule}
 use Rattle.tib_grammar_file.specs.Printed.{AreLabelled, LabelsBelow}
 use Rattle.tib_inside.specs.Trimmed.{IsTrimmed}

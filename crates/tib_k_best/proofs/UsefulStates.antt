@@ -1,7 +1,7 @@
 -- A state with a tree has an inside cost, that of its first tree; so the start is useful where it
 -- has a tree.
 use Rattle.std.specs.Prelude.{◌≡◌, ◌⊎◌, ℕ, ◌<◌, ◌≤◌, Bool, Some, List, [], ◌∷◌}
-use Rattle.std.proofs.Common.{arith, sym, subst, inl, inr}
+use Rattle.std.proofs.Common.{arith, inl, inr}
 use Rattle.tib_lex.specs.Lists.{Has}
 use Rattle.tib_lex.proofs.Members.{each_has}
 use Rattle.tib_cost.specs.Semiring.{most, ProductLaws}
