@@ -18,10 +18,10 @@ use Rattle.tib_keyed.proofs.Exact.{composition_laws}
 use Rattle.tib_canon.specs.Composing.{composing}
 use Rattle.tib_canon.specs.TransducerConstructions.{moves_over, IsCanonicalTransducerOf}
 use Rattle.tib_canon.specs.TransducerKeys.{IsCanonicalTransducer, AreMovesOver}
-use Rattle.tib_canon.proofs.Compose.{compose_plain, compose_series}
+use Rattle.tib_canon.proofs.Compose.{compose_plain, compose_series, read_composes}
 use Rattle.tib_canon.proofs.TransducerConstruct.{found_moves, found_stand}
 use Rattle.tib_canon.proofs.TransducerTexts.{transducer_read}
-use Rattle.tib_operations.specs.Compose.{plain, IsComposeText}
+use Rattle.tib_operations.specs.Compose.{plain, HasComposeSeries, IsComposeText}
 
 pub are_plain : (rules : List (TransducerRule ℕ)) → AllMeet plain rules → ArePlain rules
 are_plain rules met n h =
@@ -46,14 +46,16 @@ module _
       IsCanonicalTransducer scale labels pair_cmp order rules 0 h → (text : List ℕ) → text ≡ transducer_text scale labels h → IsComposeText scale product limit labels t u text h
   composed_text limit low met within few h canonical text e =
       let c : IsCanonicalTransducerOf scale labels limit (composing product t u) h = record { order = order; rules = rules; reached = reached; within = within; over = moves_found; canonical = canonical } in
-      let read = transducer_read pair_cmp scale labels order rules 0 h canonical (found_stand scale labels (composing product t u) (compose_plain product (laws.neutral 0) scale labels t u m n) order rules reached range) (omega (arith, few, low)) moves_found in (
+      let read = transducer_read pair_cmp scale labels order rules 0 h canonical (found_stand scale labels (composing product t u) (compose_plain product (laws.neutral 0) scale labels t u m n) order rules reached range) (omega (arith, few, low)) moves_found in
+      let series : HasComposeSeries product t.rules u.rules h.rules = compose_series laws scale labels limit t u h n.shaped (are_plain u.rules met) c in (
         record {
           h = h;
           canonical = c;
-          series = compose_series laws scale labels limit t u h n.shaped (are_plain u.rules met) c;
+          series = series;
           are = e;
           read = read.0;
           reads = subst (λ (bytes : List ℕ). ReadsBack scale labels bytes h read.0) (sym e) read.1;
+          read_series = read_composes product scale labels limit t u h read.0 (transducer_text scale labels h) c (omega (arith, few, low)) read.1 series;
         },
         refl,
       )

@@ -5,6 +5,7 @@ use Rattle.tib_lex.specs.Lists.{Each}
 use Rattle.tib_tree.specs.Trees.{size, most_nodes}
 use Rattle.tib_grammar.specs.GrammarOf.{GrammarOf}
 use Rattle.tib_grammar.specs.declared.Rule.{Rule}
+use Rattle.tib_inside.specs.Useful.{IsUseful}
 use Rattle.tib_k_best_lists.specs.Best.{Costed, IsKBest, HasLarge}
 use Rattle.tib_k_best_lists.specs.Levels.{IsLevel}
 use Rattle.tib_canon.specs.TrimmedForms.{IsTrimmedForm}
@@ -38,14 +39,15 @@ pub record HasKBestText (scale : Scale) (product : ℕ → ℕ → ℕ) (k : ℕ
 abbrev pub ListsSmall : (ℕ → ℕ → ℕ) → ℕ → List (List ℕ) → GrammarOf → Type 0
 ListsSmall product k labels g = (best : List Costed) → IsKBest product g.rules labels k best → AreSmall best
 
--- A state of the trimmed normal form, in some level of it where the product is the greater cost, has among its k cheapest trees one
--- that is too large.
+-- A state of the trimmed normal form, in some level of it where the product is the greater cost, is
+-- useful there and has among its k cheapest trees one that is too large.
 pub record HasLargeTree (levelled : Bool) (product : ℕ → ℕ → ℕ) (k : ℕ) (labels : List (List ℕ)) (g : GrammarOf) : Type 0 where
   pub form : GrammarOf
   pub is_form : IsTrimmedForm product g form
   pub rules : List (Rule ℕ)
   pub is_level : IsLevel levelled form.rules rules
   pub state : ℕ
+  pub useful : IsUseful product rules state
   pub large : HasLarge product labels rules k state
 
 -- the normal form of the grammar
