@@ -1,10 +1,10 @@
 -- What holds of the answers of jobs, over what each operation brings.
 use Rattle.tib_cost.specs.declared.Scale.{Scale}
-use Rattle.std.proofs.Common.{◌≡◌, ℕ, ◌<◌, true, false, List, refl, Option, suc, arith}
+use Rattle.std.proofs.Common.{◌≡◌, ℕ, ◌<◌, ◌≤◌, true, false, List, refl, Option, suc, arith}
 use Rattle.std.specs.Prelude.{Bool, Some, None, IsSome}
 use Rattle.tib_cost.specs.Semiring.{sum_laws, max_laws, boolean_laws}
 use Rattle.tib_canon.proofs.Within.{distinct_texts}
-use Rattle.tib_command.specs.Jobs.{Asked, job_of}
+use Rattle.tib_command.specs.Jobs.{Asked, job_of, most_demo}
 use Rattle.tib_command.specs.declared.job.Mode.{Mode}
 use Rattle.tib_command.specs.declared.job.Mode.TheVariants as modes
 use Rattle.tib_command.specs.declared.job.Operation.{Operation}
@@ -14,7 +14,7 @@ use Rattle.tib_transducer.specs.declared.error.ClassFault.{ClassFault}
 use Rattle.tib_job_files.specs.Causes.{Numbers, numbers_of, scale_of, product_of, BreaksClass, MeetsClass, StaysInClass, IsInClass, IsOutOfClass, MakesTooMuch, MakesWithin, MeetsLargeTree, StaysWithin, StaysSmall, IsTooMuch, IsTooLarge, IsWithin, IsSmall, bytes_of, levelled_of}
 use Rattle.tib_job_files.specs.Answers.{IsAnswerOf, IsAnswer, ListsTrees, AreTold, AreOfTheirKinds, MeetsLaws, NeedsOf}
 use Rattle.tib_job_files.proofs.FileValues.{values_there, values_agree, all_sound}
-use Rattle.tib_job_files.proofs.FilesAsked.{limit_asked}
+use Rattle.tib_job_files.proofs.FilesAsked.{demo_asked, limit_asked}
 use Rattle.tib_job_files.proofs.OfOperations.{one_demand, demand_decided, makes_either, makes_by_text, large_or_listed, result_once, result_there}
 
 -- told files are told
@@ -99,7 +99,7 @@ module _ (o : Operation) (scale : Scale) (product : ℕ → ℕ → ℕ) (number
   -- what is within the limit and of that class, and lists no tree that is too large, has an answer:
   -- that it has none cannot be
   pub answer_there :
-      NeedsOf o product numbers.limit → AreOfKinds scale (kinds_of o) bytes → StaysInClass o scale bytes → StaysWithin o scale product numbers bytes → StaysSmall o scale product numbers bytes →
+      NeedsOf o product numbers → AreOfKinds scale (kinds_of o) bytes → StaysInClass o scale bytes → StaysWithin o scale product numbers bytes → StaysSmall o scale product numbers bytes →
       ((text : List ℕ) → IsAnswerOf o scale product numbers bytes text → ⊥) → ⊥
   answer_there needs are inside small listed never =
       let v = values_there scale (kinds_of o) bytes are in
@@ -115,22 +115,22 @@ laws_of modes.Bottleneck limit low = record { levelled = true; weighed = true; l
 laws_of modes.Widest limit low = record { levelled = true; weighed = true; laws = max_laws true; low = low }
 laws_of modes.Boolean limit low = record { levelled = false; weighed = false; laws = boolean_laws; low = low }
 
-needs_met : (o : Operation) (product : ℕ → ℕ → ℕ) (limit : ℕ) → MeetsLaws product limit → NeedsOf o product limit
-needs_met operations.Weigh product limit m = tt
-needs_met operations.Inside product limit m = tt
-needs_met operations.Normal product limit m = m
-needs_met operations.KBest product limit m = tt
-needs_met operations.Intersect product limit m = m
-needs_met operations.Forward product limit m = m
-needs_met operations.Backward product limit m = m
-needs_met operations.Compose product limit m = m
-needs_met operations.Image product limit m = m
-needs_met operations.Parse product limit m = m
-needs_met operations.Compare product limit m = tt
-needs_met operations.Determinize product limit m = m
-needs_met operations.Check product limit m = tt
-needs_met operations.Prune product limit m = m
-needs_met operations.Demo product limit m = m
+needs_met : (o : Operation) (product : ℕ → ℕ → ℕ) (numbers : Numbers) → MeetsLaws product numbers.limit → numbers.demo ≤ most_demo → NeedsOf o product numbers
+needs_met operations.Weigh product numbers m low = tt
+needs_met operations.Inside product numbers m low = tt
+needs_met operations.Normal product numbers m low = m
+needs_met operations.KBest product numbers m low = tt
+needs_met operations.Intersect product numbers m low = m
+needs_met operations.Forward product numbers m low = m
+needs_met operations.Backward product numbers m low = m
+needs_met operations.Compose product numbers m low = m
+needs_met operations.Image product numbers m low = m
+needs_met operations.Parse product numbers m low = m
+needs_met operations.Compare product numbers m low = tt
+needs_met operations.Determinize product numbers m low = m
+needs_met operations.Check product numbers m low = tt
+needs_met operations.Prune product numbers m low = m
+needs_met operations.Demo product numbers m low = (m, low)
 
 -- the same of jobs
 
@@ -191,7 +191,7 @@ module _ (asked : Asked) (held : List ℕ → Option (List ℕ)) where
   module _ (words : List (List ℕ)) (of_words : job_of words ≡ Some asked) (are : AreOfTheirKinds asked held) where
     pub job_answered : IsInClass asked held → IsWithin asked held → IsSmall asked held → ((text : List ℕ) → IsAnswer asked held text → ⊥) → ⊥
     job_answered inside small listed never =
-        answer_there asked.task.operation (scale_of asked.mode) (product_of asked.mode) (numbers_of asked) (bytes_of asked held) (needs_met asked.task.operation (product_of asked.mode) asked.limit (laws_of asked.mode asked.limit (omega (arith, limit_asked words asked of_words))))
+        answer_there asked.task.operation (scale_of asked.mode) (product_of asked.mode) (numbers_of asked) (bytes_of asked held) (needs_met asked.task.operation (product_of asked.mode) (numbers_of asked) (laws_of asked.mode asked.limit (omega (arith, limit_asked words asked of_words))) (demo_asked words asked of_words))
         (kinds_bytes are) inside small listed never
 
     -- so it has an answer, a rule outside the class or too many parts: that it has none of them

@@ -161,7 +161,7 @@ module _ (scale : Scale) (levelled : Bool) (product : ℕ → ℕ → ℕ) (numb
   large_or_listed operations.Determinize values more text a m c = absurd m
   large_or_listed operations.Check values more text a m c = absurd m
   large_or_listed operations.Prune values more text a m c = absurd m
-  large_or_listed operations.Demo values more text a m c = tt
+  large_or_listed operations.Demo values more text a m c = absurd m
 
 module _ (scale : Scale) (product : ℕ → ℕ → ℕ) (numbers : Numbers) where
   module _ (labels others : List (List ℕ)) (apart : Distinct labels) (different : Distinct others) where
@@ -188,7 +188,7 @@ module _ (scale : Scale) (product : ℕ → ℕ → ℕ) (numbers : Numbers) whe
   -- where it is within the limit, and no tree that is listed is too large, that there is no text
   -- cannot be
   pub result_there :
-      (labels : List (List ℕ)) → Distinct labels → (o : Operation) → NeedsOf o product numbers.limit → (values : ValuesOf (kinds_of o)) → AllSound scale labels (kinds_of o) values →
+      (labels : List (List ℕ)) → Distinct labels → (o : Operation) → NeedsOf o product numbers → (values : ValuesOf (kinds_of o)) → AllSound scale labels (kinds_of o) values →
       IsMet (demanded o values) → (makes o scale product numbers values).within → ListsNoLarge o scale product numbers labels values → ((text : List ℕ) → IsResultOf o scale product numbers labels values text → ⊥) → ⊥
   result_there labels apart operations.Weigh needs values s met w small never = weighed_there scale product labels values.0 values.1.0 never
   result_there labels apart operations.Inside needs values s met w small never = insides_there scale product values.0 never
@@ -208,4 +208,4 @@ module _ (scale : Scale) (product : ℕ → ℕ → ℕ) (numbers : Numbers) whe
   result_there labels apart operations.Determinize m values s met w small never = determinized_there m.laws scale numbers.limit m.low labels apart values.0 s.0.0 s.0.1 w.1 never
   result_there labels apart operations.Check needs values s met w small never = classes_there values.0 never
   result_there labels apart operations.Prune m values s met w small never = prune_there m.laws scale numbers.limit numbers.beam m.low labels apart values.0 s.0.0 s.0.1 w never
-  result_there labels apart operations.Demo m values s met w small never = demo_there m.laws scale numbers.limit numbers.demo m.low w small never
+  result_there labels apart operations.Demo m values s met w small never = demo_there m.0.laws scale numbers.limit numbers.demo m.0.low m.1 w never

@@ -11,7 +11,7 @@ use Rattle.tib_command.specs.declared.job.Operation.TheVariants as operations
 use Rattle.tib_grammar.specs.GrammarOf.{GrammarOf}
 use Rattle.tib_strings.specs.StringTransducerOf.{StringTransducerOf}
 use Rattle.tib_operations.specs.Classes.{IsMet, IsClassFault}
-use Rattle.tib_operations.specs.Demo.{HasDemoText, IsDemoFault, demo_makes}
+use Rattle.tib_operations.specs.Demo.{HasDemoText, demo_makes}
 use Rattle.tib_operations.specs.KBest.{HasKBestText, IsKBestFault, kbest_makes}
 use Rattle.tib_operations.specs.Made.{IsMadeFault}
 use Rattle.tib_operations.specs.declared.status.Status.{Status}
@@ -93,9 +93,8 @@ kbest_fault by g statuses.TreeTooLarge h = (tt, h.0, h.1)
 kbest_fault by g statuses.OutOfMemory h = tt
 kbest_fault by g s h = absurd h
 
-demo_fault : (by : Setting) (s : Status) → IsDemoFault by.levelled by.scale by.product by.numbers.limit by.numbers.demo s → HasTextFault operations.Demo by tt s
+demo_fault : (by : Setting) (s : Status) → IsMadeFault (demo_makes by.scale by.product by.numbers.limit by.numbers.demo).more by.numbers.limit s → HasTextFault operations.Demo by tt s
 demo_fault by (statuses.TooMany n) h = (h.0, tt, h.1)
-demo_fault by statuses.TreeTooLarge h = (tt, h.0, h.1)
 demo_fault by statuses.OutOfMemory h = tt
 demo_fault by s h = absurd h
 
@@ -122,7 +121,7 @@ module _ {S : Type 0} {by : Setting} {read : Values S} where
   pub demo_outcome :
       (result : Result SinkThatGrows Status) → values_as read (kinds_of operations.Demo) ≡ Some tt → IfOk result (λ _. (demo_makes by.scale by.product by.numbers.limit by.numbers.demo).within) →
       IfOk result (λ text. HasDemoText by.scale by.product by.numbers.limit by.numbers.demo text.bytes) →
-      IfErr result (IsDemoFault by.levelled by.scale by.product by.numbers.limit by.numbers.demo) → IsOutcome operations.Demo by read result
+      IfErr result (IsMadeFault (demo_makes by.scale by.product by.numbers.limit by.numbers.demo).more by.numbers.limit) → IsOutcome operations.Demo by read result
   demo_outcome (Ok text) are within is fault = text_outcome operations.Demo are (Ok text) tt within is tt
   demo_outcome (Err s) are within is fault = text_outcome operations.Demo are (Err s) tt tt tt (demo_fault by s fault)
 

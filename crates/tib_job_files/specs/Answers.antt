@@ -3,7 +3,7 @@ use Rattle.tib_cost.specs.declared.Scale.{Scale}
 use Rattle.std.specs.Prelude.{◌≡◌, ◌⊎◌, ◌<◌, ◌≤◌, ◌^◌, ℕ, Bool, List, length, Option, Some, None, IsSome}
 use Rattle.tib_cost.specs.Semiring.{ProductLaws}
 use Rattle.tib_io.specs.Causes.{Rose, last_count}
-use Rattle.tib_command.specs.Jobs.{Asked}
+use Rattle.tib_command.specs.Jobs.{Asked, most_demo}
 use Rattle.tib_command.specs.declared.job.Operation.{Operation}
 use Rattle.tib_command.specs.declared.job.Operation.TheVariants as operations
 use Rattle.tib_operations.specs.declared.status.Status.{Status}
@@ -64,24 +64,24 @@ pub record MeetsLaws (product : ℕ → ℕ → ℕ) (limit : ℕ) : Type 0 wher
   pub laws : ProductLaws levelled weighed product
   pub low : limit < 2 ^ 32
 
--- what is asked of the product and the limit so that there is an answer: nothing where no grammar
+-- what is asked of the product and the numbers so that there is an answer: nothing where no grammar
 -- is made
-abbrev pub NeedsOf : Operation → (ℕ → ℕ → ℕ) → ℕ → Type 0
-NeedsOf operations.Weigh product limit = Unit {0}
-NeedsOf operations.Inside product limit = Unit {0}
-NeedsOf operations.Normal product limit = MeetsLaws product limit
-NeedsOf operations.KBest product limit = Unit {0}
-NeedsOf operations.Intersect product limit = MeetsLaws product limit
-NeedsOf operations.Forward product limit = MeetsLaws product limit
-NeedsOf operations.Backward product limit = MeetsLaws product limit
-NeedsOf operations.Compose product limit = MeetsLaws product limit
-NeedsOf operations.Image product limit = MeetsLaws product limit
-NeedsOf operations.Parse product limit = MeetsLaws product limit
-NeedsOf operations.Compare product limit = Unit {0}
-NeedsOf operations.Determinize product limit = MeetsLaws product limit
-NeedsOf operations.Check product limit = Unit {0}
-NeedsOf operations.Prune product limit = MeetsLaws product limit
-NeedsOf operations.Demo product limit = MeetsLaws product limit
+abbrev pub NeedsOf : Operation → (ℕ → ℕ → ℕ) → Numbers → Type 0
+NeedsOf operations.Weigh product numbers = Unit {0}
+NeedsOf operations.Inside product numbers = Unit {0}
+NeedsOf operations.Normal product numbers = MeetsLaws product numbers.limit
+NeedsOf operations.KBest product numbers = Unit {0}
+NeedsOf operations.Intersect product numbers = MeetsLaws product numbers.limit
+NeedsOf operations.Forward product numbers = MeetsLaws product numbers.limit
+NeedsOf operations.Backward product numbers = MeetsLaws product numbers.limit
+NeedsOf operations.Compose product numbers = MeetsLaws product numbers.limit
+NeedsOf operations.Image product numbers = MeetsLaws product numbers.limit
+NeedsOf operations.Parse product numbers = MeetsLaws product numbers.limit
+NeedsOf operations.Compare product numbers = Unit {0}
+NeedsOf operations.Determinize product numbers = MeetsLaws product numbers.limit
+NeedsOf operations.Check product numbers = Unit {0}
+NeedsOf operations.Prune product numbers = MeetsLaws product numbers.limit
+NeedsOf operations.Demo product numbers = MeetsLaws product numbers.limit × (numbers.demo ≤ most_demo)
 
 -- the text answers the job
 abbrev pub IsAnswer : Asked → (List ℕ → Option (List ℕ)) → List ℕ → Type 0
@@ -132,7 +132,6 @@ pub record EndsCalmly (asked : Asked) (held : List ℕ → Option (List ℕ)) (s
 -- that it lists is
 abbrev pub ListsTrees : Operation → Type 0
 ListsTrees operations.KBest = Unit {0}
-ListsTrees operations.Demo = Unit {0}
 ListsTrees operation = ⊥
 
 -- of such an operation, one run listed its trees, and the other met one that is too large among

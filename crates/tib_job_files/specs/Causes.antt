@@ -23,7 +23,7 @@ use Rattle.tib_operations.specs.Compose.{compose_makes, compose_demands}
 use Rattle.tib_operations.specs.Image.{image_makes}
 use Rattle.tib_operations.specs.Backward.{backward_makes, backward_demands}
 use Rattle.tib_operations.specs.Determinize.{determinize_makes}
-use Rattle.tib_operations.specs.Demo.{demo_makes, DemoIsSmall, DemoHasLargeTree}
+use Rattle.tib_operations.specs.Demo.{demo_makes}
 use Rattle.tib_operations.specs.Check.{check_makes}
 use Rattle.tib_operations.specs.Prune.{prune_makes}
 use Rattle.tib_operations.specs.Classes.{Demanded, nothing_demanded, IsMet, IsBroken}
@@ -109,7 +109,6 @@ demanded operations.Demo values = nothing_demanded
 abbrev pub ListsNoLarge : (operation : Operation) → Scale → (ℕ → ℕ → ℕ) → Numbers → List (List ℕ) → ValuesOf (kinds_of operation) → Type 0
 ListsNoLarge operations.KBest scale product numbers labels values = ListsSmall product numbers.k labels values.0
 ListsNoLarge operations.Compare scale product numbers labels values = LeastIsSmall labels values.0 values.1.0
-ListsNoLarge operations.Demo scale product numbers labels values = DemoIsSmall scale product numbers.demo
 ListsNoLarge operation scale product numbers labels values = Unit {0}
 
 -- a state has a tree that is too large among those that it may have to give, or each tree by which
@@ -117,7 +116,6 @@ ListsNoLarge operation scale product numbers labels values = Unit {0}
 abbrev pub MeetsLarge : (operation : Operation) → Scale → Bool → (ℕ → ℕ → ℕ) → Numbers → List (List ℕ) → ValuesOf (kinds_of operation) → Type 0
 MeetsLarge operations.KBest scale levelled product numbers labels values = HasLargeTree levelled product numbers.k labels values.0
 MeetsLarge operations.Compare scale levelled product numbers labels values = HasLargeLeast values.0 values.1.0
-MeetsLarge operations.Demo scale levelled product numbers labels values = DemoHasLargeTree levelled scale product numbers.demo
 MeetsLarge operation scale levelled product numbers labels values = ⊥
 
 -- Files are the texts of values of which an operation makes something with more parts than the

@@ -22,7 +22,7 @@ TextsAreOne =
 abbrev pub TextsExist : Type 0
 TextsExist =
     (operation : Operation) (scale : Scale) (product : ℕ → ℕ → ℕ) (numbers : Numbers) (bytes : ℕ → Option (List ℕ)) →
-    NeedsOf operation product numbers.limit → AreOfKinds scale (kinds_of operation) bytes → StaysInClass operation scale bytes →
+    NeedsOf operation product numbers → AreOfKinds scale (kinds_of operation) bytes → StaysInClass operation scale bytes →
     StaysWithin operation scale product numbers bytes → StaysSmall operation scale product numbers bytes →
     ((text : List ℕ) → IsAnswerOf operation scale product numbers bytes text → ⊥) → ⊥
 

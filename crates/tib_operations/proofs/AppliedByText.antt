@@ -1,4 +1,5 @@
--- What forward and backward application reach does not depend on the numbers of labels, nor on the trimmed normal form that is taken.
+-- What forward and backward application reach does not depend on the numbers of labels, nor on the
+-- trimmed normal form that is taken.
 use Rattle.std.proofs.Common.{◌≡◌, ℕ, ◌+◌, ◌<◌, ◌≤◌, List, [], ◌∷◌, map, refl, sym, ap, ◌∙◌, subst, arith, Option}
 use Rattle.std.specs.Prelude.{Some, None, option_map}
 use Rattle.tib_lex.specs.Lists.{Distinct, IsReordering, total}

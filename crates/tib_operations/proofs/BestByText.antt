@@ -1,4 +1,5 @@
--- The k cheapest trees are the same trees by the texts of their labels, whatever the table of labels.
+-- The k cheapest trees are the same trees by the texts of their labels, whatever the table of
+-- labels.
 use Rattle.tib_cost.specs.declared.Scale.{Scale}
 use Rattle.std.proofs.Common.{◌≡◌, ℕ, List, [], ◌∷◌, ◌++◌, length, map, refl, ap, sym, ◌∙◌, subst, arith, inl, inr}
 use Rattle.std.specs.Prelude.{Some}

@@ -61,7 +61,7 @@ made_fault levelled product limit k labels g statuses.OutOfMemory h = tt
 pub large_in_form :
     (levelled : Bool) (product : ℕ → ℕ → ℕ) (k : ℕ) (labels : List (List ℕ)) (g form : GrammarOf) → IsTrimmedForm product g form → (q : ℕ) → IsLevelCause levelled product labels form.rules k (TreeTooLarge q) →
     HasLargeTree levelled product k labels g
-large_in_form levelled product k labels g form is q cause = record { form = form; is_form = is; rules = cause.0; is_level = cause.1; state = q; useful = cause.2.0; large = cause.2.1 }
+large_in_form levelled product k labels g form is q cause = record { form = form; is_form = is; rules = cause.0; is_level = cause.1; state = q; useful = cause.2; large = cause.3 }
 
 -- where nothing is weighed each rule is free
 pub costs_free :

@@ -1,4 +1,5 @@
--- The class that an operation demands: what is demanded is one over all tables of labels, and it is met or broken, not both.
+-- The class that an operation demands: what is demanded is one over all tables of labels, and it is
+-- met or broken, not both.
 use Rattle.std.proofs.Common.{◌≡◌, ℕ, ◌+◌, ◌<◌, ◌⊎◌, Bool, true, false, List, length, refl, ap, sym, ◌∙◌, subst, arith, zero, suc, inl, inr}
 use Rattle.std.specs.Prelude.{IsTrue}
 use Rattle.tib_lex.specs.Lists.{Along}
@@ -136,7 +137,8 @@ broken_to labels others d rs ss one x h = record {
       meets_to labels others d (transducer_rule rs m) (transducer_rule ss m) (rule_at labels others rs ss one m (omega (arith, l, h.below))) (h.before m l);
 }
 
--- what is demanded over two tables of labels: the one is met where the other is, and they are broken alike
+-- what is demanded over two tables of labels: the one is met where the other is, and they are
+-- broken alike
 pub record IsOneDemand (a b : Demanded) : Type 0 where
   pub met : a.met → b.met
   pub once : (file other : ℕ) (x y : ℕ × ClassFault) → a.broken file x → b.broken other y → (file ≡ other) × (x.0 ≡ y.0) × (x.1 ≡ y.1)

@@ -102,7 +102,8 @@ has_words m n label is =
     let behind : HasWords (arrow ∷ right_words) (45 ∷ (62 ∷ (32 ∷ right_bytes))) = has_first_word arrow right_words (32 ∷ right_bytes) tt refl (after_space right_words right_bytes right) in
     has_first_word (name (state m)) (arrow ∷ right_words) (32 ∷ (45 ∷ (62 ∷ (32 ∷ right_bytes)))) (is_name m) refl (after_space (arrow ∷ right_words) (45 ∷ (62 ∷ (32 ∷ right_bytes))) behind)
 
--- What a line says: p0 has a label alone, or a label over p0; or the state after pm has a label over pm, with m below n.
+-- What a line says: p0 has a label alone, or a label over p0; or the state after pm has a label
+-- over pm, with m below n.
 abbrev pub IsDemoLine : ℕ → RuleLine → Type 0
 IsDemoLine n x =
     ((x.left ≡ state 0) × (x.nodes ≡ item false (codes "e") None ∷ []))

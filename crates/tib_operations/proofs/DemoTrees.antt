@@ -1,4 +1,5 @@
--- No state of the grammar that `demo` makes has a cheapest tree that is too large: that of pi has at most one node more than i.
+-- No state of the grammar that `demo` makes has a cheapest tree that is too large: that of pi has
+-- at most one node more than i.
 use Rattle.tib_cost.specs.declared.Scale.{Scale}
 use Rattle.std.proofs.Common.{◌≡◌, ℕ, ◌+◌, ◌<◌, ◌≤◌, ◌⊎◌, inl, inr, Bool, true, false, List, [], ◌∷◌, length, map, get_or, refl, ap, sym, ◌∙◌, arith, subst, suc}
 use Rattle.std.specs.Prelude.{Option, Some, None, Result, Ok, slice_get, codes, decimal, filter, nat_le, if◌then◌else◌}
@@ -54,8 +55,8 @@ IsAbove (label f) (tree (hole q) none none) p = q ≡ p
 IsAbove (label f) (tree (hole q) none (tree s kids rest)) p = ⊥
 IsAbove (label f) (tree (hole q) (tree s kids more) rest) p = ⊥
 
--- A rule over states with ranks: a state of rank 0 has a label alone, or a label over itself, and one of a higher rank a label over one of
--- the rank below.
+-- A rule over states with ranks: a state of rank 0 has a label alone, or a label over itself, and
+-- one of a higher rank a label over one of the rank below.
 abbrev IsRankedAs : (ℕ → ℕ → Type 0) → ℕ → Symbol ℕ ℕ → Trees (Symbol ℕ ℕ) → Type 0
 IsRankedAs R q s ks =
     (R q 0 × IsAlone s ks) ⊎ ((p : ℕ) × IsAbove s ks p × (((p ≡ q) × R q 0) ⊎ ((i : ℕ) × R q (suc i) × R p i)))

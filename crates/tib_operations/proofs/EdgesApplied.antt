@@ -1,4 +1,5 @@
--- Matches, costs of what is left out, and edges of forward and backward application under other numbers of labels, and over rules in another order.
+-- Matches, costs of what is left out, and edges of forward and backward application under other
+-- numbers of labels, and over rules in another order.
 use Rattle.std.specs.Prelude.{◌≡◌, ℕ, ◌<◌, Bool, true, false, List, [], ◌∷◌, length, map, take, drop, Option, Some, None, option_map, nat_eq, if◌then◌else◌, refl}
 use Rattle.std.specs.List.{list_any}
 use Rattle.std.proofs.Common.{arith, ap, sym, ◌∙◌, subst}
@@ -28,7 +29,8 @@ use Rattle.tib_canon.proofs.Relabelled.{variable_with, node_with, left_with}
 use Rattle.tib_operations.proofs.TransducerTables.{right_with, rule_with as move_with, holes_noted, variables_with}
 use Rattle.tib_operations.proofs.MovesByText.{moves_with, move_at, pairs_with, admits_to, admits_from, forward_side, backward_side}
 
--- each rule of the one list stands in the other under the other numbers, and each of the other comes from one
+-- each rule of the one list stands in the other under the other numbers, and each of the other
+-- comes from one
 pub record AreMoved (f : ℕ → ℕ) (xs ys : List (Rule ℕ)) : Type 0 where
   pub to : (n : ℕ) → n < length xs → (m : ℕ) × (m < length ys) × (rule_at ys m ≡ rule_with f (rule_at xs n))
   pub from : (m : ℕ) → m < length ys → (n : ℕ) × (n < length xs) × (rule_at ys m ≡ rule_with f (rule_at xs n))

@@ -1,4 +1,5 @@
--- What is made is within a limit or has more parts than it: not both, and that neither holds cannot be.
+-- What is made is within a limit or has more parts than it: not both, and that neither holds cannot
+-- be.
 use Rattle.tib_cost.specs.declared.Scale.{Scale}
 use Rattle.std.proofs.Common.{◌≡◌, ℕ, ◌<◌, ◌≤◌, List, subst, arith, inl, inr}
 use Rattle.tib_grammar.specs.GrammarOf.{GrammarOf}

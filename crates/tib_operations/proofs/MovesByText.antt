@@ -1,4 +1,5 @@
--- A transducer under other numbers of labels: it is the one that agrees with it by text, and its variables have the same restrictions.
+-- A transducer under other numbers of labels: it is the one that agrees with it by text, and its
+-- variables have the same restrictions.
 use Rattle.std.proofs.Common.{◌≡◌, ℕ, ◌<◌, Bool, true, false, List, [], ◌∷◌, ◌++◌, length, map, get_or, refl, ap, sym, ◌∙◌, subst, arith, zero, suc, inl, inr, Option}
 use Rattle.std.specs.Prelude.{Some, None, nat_eq, option_map, if◌then◌else◌}
 use Rattle.std.proofs.lemmas.List.{length-map, get_or-map, map-append}

@@ -1,4 +1,5 @@
--- The k cheapest trees among the rules within a beam are those of all rules, where none of them costs more than the beam allows.
+-- The k cheapest trees among the rules within a beam are those of all rules, where none of them
+-- costs more than the beam allows.
 use Rattle.std.proofs.Common.{◌≡◌, ◌⊎◌, ℕ, ◌+◌, ◌≤◌, List, length, sym, subst, arith, inl, inr}
 use Rattle.std.specs.Prelude.{Option, None, Some, IfSome}
 use Rattle.tib_lex.specs.Lists.{Has, Each}

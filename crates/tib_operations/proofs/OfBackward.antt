@@ -1,4 +1,5 @@
--- What `backward` writes: one text, and that there is none cannot be where all that is made is within the limit and the transducer is linear and nondeleting.
+-- What `backward` writes: one text, and that there is none cannot be where all that is made is
+-- within the limit and the transducer is linear and nondeleting.
 use Rattle.tib_cost.specs.declared.Scale.{Scale}
 use Rattle.std.proofs.Common.{◌≡◌, ℕ, ◌<◌, Bool, List, refl, sym, ◌∙◌, subst, arith}
 use Rattle.tib_lex.specs.Lists.{Distinct}

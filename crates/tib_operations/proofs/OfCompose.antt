@@ -1,5 +1,5 @@
--- What `compose` writes: what it reaches does not depend on the numbers of labels, and that there is no text cannot be where that is
--- within the limit.
+-- What `compose` writes: what it reaches does not depend on the numbers of labels, and that there
+-- is no text cannot be where that is within the limit.
 use Rattle.tib_cost.specs.declared.Scale.{Scale}
 use Rattle.std.proofs.Common.{◌≡◌, ℕ, ◌+◌, ◌<◌, ◌≤◌, Bool, List, [], ◌∷◌, length, map, get_or, refl, sym, subst, arith, Option}
 use Rattle.std.specs.Prelude.{Some, None}

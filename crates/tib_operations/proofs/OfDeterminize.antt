@@ -1,4 +1,5 @@
--- What `determinize` writes: one text, and that there is none cannot be where all that is made is within the limit.
+-- What `determinize` writes: one text, and that there is none cannot be where all that is made is
+-- within the limit.
 use Rattle.tib_cost.specs.declared.Scale.{Scale}
 use Rattle.std.proofs.Common.{◌≡◌, ℕ, ◌<◌, Bool, List, length, refl, sym, ap, ◌∙◌, subst, arith}
 use Rattle.tib_lex.specs.Lists.{Distinct}
@@ -55,7 +56,8 @@ determinized_once scale product limit labels others g h text other apart differe
     }) a.h b.h a.canonical.canonical b.canonical.canonical
     ∙ sym b.are
 
--- the canonical grammar of the vectors of a grammar in normal form is in deterministic form, and has the series of the grammar
+-- the canonical grammar of the vectors of a grammar in normal form is in deterministic form, and
+-- has the series of the grammar
 pub vectors_mean :
     (product : ℕ → ℕ → ℕ) (form : GrammarOf) (scale : Scale) (limit : ℕ) (labels : List (List ℕ)) (h : GrammarOf) → IsSameSeries product → StartedIsDeterministic product → AreNormal form.rules →
     IsCanonicalOf product scale labels limit (determinizing product form) h → IsDeterminizationOf product form.rules h.rules

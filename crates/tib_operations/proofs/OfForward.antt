@@ -1,4 +1,5 @@
--- What `forward` writes: one text, and that there is none cannot be where all that is made is within the limit and the transducer is linear.
+-- What `forward` writes: one text, and that there is none cannot be where all that is made is
+-- within the limit and the transducer is linear.
 use Rattle.tib_cost.specs.declared.Scale.{Scale}
 use Rattle.std.proofs.Common.{◌≡◌, ℕ, ◌<◌, Bool, List, length, refl, sym, ◌∙◌, subst, arith, Option}
 use Rattle.tib_lex.specs.Lists.{Distinct}

@@ -1,4 +1,5 @@
--- What `image` writes: one text, and that there is none cannot be where the reached set is within the limit.
+-- What `image` writes: one text, and that there is none cannot be where the reached set is within
+-- the limit.
 use Rattle.tib_cost.specs.declared.Scale.{Scale}
 use Rattle.std.proofs.Common.{◌≡◌, ℕ, ◌+◌, ◌<◌, ◌≤◌, Bool, List, [], ◌∷◌, length, map, refl, sym, ap, ◌∙◌, subst, arith, inl, inr}
 use Rattle.std.specs.Ordering.{nat_cmp}

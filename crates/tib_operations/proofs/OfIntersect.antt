@@ -1,4 +1,5 @@
--- What `intersect` writes: one text, and that there is none cannot be where all that is made is within the limit.
+-- What `intersect` writes: one text, and that there is none cannot be where all that is made is
+-- within the limit.
 use Rattle.tib_cost.specs.declared.Scale.{Scale}
 use Rattle.tib_cost.specs.declared.Scale.TheVariants as scales
 use Rattle.std.proofs.Common.{◌≡◌, ℕ, ◌<◌, ◌≤◌, Bool, List, [], ◌∷◌, length, map, zip, refl, sym, ap, ◌∙◌, subst, arith, inl, inr}
@@ -85,7 +86,8 @@ module _ (product : ℕ → ℕ → ℕ) (one two : GrammarOf) where
         edges = edges_below product one.rules two.rules order (length order) (map (named_rule (pair_at order)) rules) reached.1;
       }
 
-  -- the canonical form of the pairs of grammars in normal form gives each tree the product of its costs
+  -- the canonical form of the pairs of grammars in normal form gives each tree the product of its
+  -- costs
   pub pairs_series :
       (scale : Scale) (limit : ℕ) (labels : List (List ℕ)) (h : GrammarOf) → PairsMean product → AreNormal one.rules → AreNormal two.rules →
       IsCanonicalOf product scale labels limit (intersecting product (one, two)) h → HasProductSeries product one.rules two.rules h.rules

@@ -1,4 +1,5 @@
--- What `kbest` writes: one text, and where none of its trees is too large, that there is none cannot be.
+-- What `kbest` writes: one text, and where none of its trees is too large, that there is none
+-- cannot be.
 use Rattle.tib_cost.specs.declared.Scale.{Scale}
 use Rattle.std.proofs.Common.{◌≡◌, ℕ, List, refl}
 use Rattle.tib_lex.specs.Lists.{Distinct}

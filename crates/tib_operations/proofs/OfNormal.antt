@@ -1,4 +1,5 @@
--- What `normal` writes: one text, and that there is none cannot be where the normal form is within the limit.
+-- What `normal` writes: one text, and that there is none cannot be where the normal form is within
+-- the limit.
 use Rattle.tib_cost.specs.declared.Scale.{Scale}
 use Rattle.std.proofs.Common.{◌≡◌, ℕ, ◌<◌, ◌≤◌, Bool, List, length, refl, sym, ◌∙◌, subst, arith}
 use Rattle.tib_lex.specs.Lists.{Distinct}

@@ -1,4 +1,5 @@
--- What `prune` writes: one text, and that there is none cannot be where the normal form is within the limit.
+-- What `prune` writes: one text, and that there is none cannot be where the normal form is within
+-- the limit.
 use Rattle.tib_cost.specs.declared.Scale.{Scale}
 use Rattle.std.proofs.Common.{◌≡◌, ◌⊎◌, ℕ, ◌<◌, ◌≤◌, Bool, List, [], ◌∷◌, ◌++◌, length, map, get_or, refl, ap, sym, ◌∙◌, subst, arith, zero, suc, inl, inr, length-append}
 use Rattle.std.specs.Prelude.{Option, None, Some}

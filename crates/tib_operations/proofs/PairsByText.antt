@@ -122,7 +122,8 @@ module _ (product : ℕ → ℕ → ℕ) (labels others : List (List ℕ)) (f : 
         trimmed = trimmed_with product f t.normal m t.trimmed;
       }
 
-  -- any two trimmed normal forms of grammars that agree have the same rules, but for the numbers of labels
+  -- any two trimmed normal forms of grammars that agree have the same rules, but for the numbers of
+  -- labels
   pub differ : (g h m k : GrammarOf) → AgreeByText labels others g h → IsTrimmedForm product g m → IsTrimmedForm product h k → IsReordering (rules_with f m.rules) k.rules
   differ g h m k a t u =
       let s = same_rules product h (grammar_with f m) k (trimmed_given g h m a t) u in

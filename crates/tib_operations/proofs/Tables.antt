@@ -1,4 +1,5 @@
--- A file that was read over one table of labels is read over each other one that has its labels, by other numbers.
+-- A file that was read over one table of labels is read over each other one that has its labels, by
+-- other numbers.
 use Rattle.tib_cost.specs.declared.Scale.{Scale}
 use Rattle.std.proofs.Common.{◌≡◌, ℕ, ◌⊎◌, Bool, true, false, List, [], ◌∷◌, ◌++◌, length, map, refl, ap, ◌∙◌, subst, arith, suc, zero, inl, inr, Option, Contains}
 use Rattle.std.specs.Prelude.{Some, None, slice_get}

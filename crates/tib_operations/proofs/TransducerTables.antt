@@ -1,4 +1,5 @@
--- A transducer file that was read over one table of labels is read over each other one that has its labels, by other numbers.
+-- A transducer file that was read over one table of labels is read over each other one that has its
+-- labels, by other numbers.
 use Rattle.tib_cost.specs.declared.Scale.{Scale}
 use Rattle.std.proofs.Common.{◌≡◌, ℕ, List, [], ◌∷◌, ◌++◌, length, map, refl, ap, sym, ◌∙◌, subst, arith, suc, Option}
 use Rattle.std.specs.Prelude.{Some, None, slice_get, option_map}

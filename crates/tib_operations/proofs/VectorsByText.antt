@@ -1,4 +1,5 @@
--- The vectors of states with residuals under other numbers of labels, and over rules in another order.
+-- The vectors of states with residuals under other numbers of labels, and over rules in another
+-- order.
 use Rattle.std.proofs.Common.{◌≡◌, ℕ, ◌+◌, ◌<◌, ◌≤◌, List, [], ◌∷◌, length, map, refl, ap, sym, ◌∙◌, subst, arith}
 use Rattle.std.specs.Prelude.{Some}
 use Rattle.tib_lex.specs.Lists.{Has, Distinct, IsReordering, total as edges_total}
@@ -34,7 +35,8 @@ pub record IsMoved (f : ℕ → ℕ) (r s : Rule ℕ) : Type 0 where
   pub kids : holes s.right.kids ≡ holes r.right.kids
   pub cost : s.cost ≡ r.cost
 
--- each rule of the one list is one of the other under other numbers, and each of the other comes from one
+-- each rule of the one list is one of the other under other numbers, and each of the other comes
+-- from one
 pub record AreMoved (f : ℕ → ℕ) (xs ys : List (Rule ℕ)) : Type 0 where
   pub to : (r : Rule ℕ) → Has xs r → (s : Rule ℕ) × Has ys s × IsMoved f r s
   pub from : (s : Rule ℕ) → Has ys s → (r : Rule ℕ) × Has xs r × IsMoved f r s
@@ -222,7 +224,8 @@ module _ (product : ℕ → ℕ → ℕ) (labels others : List (List ℕ)) (f : 
   vectors_given g h m k a t u = reached_moved product f n.apart m.rules k.rules (renumbered f m.rules k.rules (differ product labels others f n g h m k a t u))
 
 module _ (product : ℕ → ℕ → ℕ) (limit : ℕ) (labels others : List (List ℕ)) (apart : Distinct labels) (different : Distinct others) where
-  -- where the vectors of a grammar are within the limit, those of the grammar over the other table are
+  -- where the vectors of a grammar are within the limit, those of the grammar over the other table
+  -- are
   pub vectors_by_text :
       (g h : GrammarOf) → AgreeByText labels others g h → HasReachedFrom limit (IsTrimmedForm product g) (determinizing product) → HasReachedFrom limit (IsTrimmedForm product h) (determinizing product)
   vectors_by_text g h a w =

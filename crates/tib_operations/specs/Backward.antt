@@ -26,8 +26,8 @@ backward_demands t = demanded_of 1 linear_nondeleting t.rules
 abbrev pub inverting : (ℕ → ℕ → ℕ) → TransducerOf → GrammarOf → Construction (ℕ × ℕ × ℕ) (ℕ × List ℕ)
 inverting product t form = record { problem = inverse_image product t.rules form.rules; spare = (0, 0, 0); begins = at_first }
 
--- the new rules give each tree t the least, over all trees u, of the cost of t and u by the transducer times the cost of u by
--- the rules of the grammar
+-- the new rules give each tree t the least, over all trees u, of the cost of t and u by the
+-- transducer times the cost of u by the rules of the grammar
 abbrev pub HasBackwardSeries : (ℕ → ℕ → ℕ) → List (TransducerRule ℕ) → List (Rule ℕ) → List (Rule ℕ) → Type 0
 HasBackwardSeries product moves rules new =
     (t : Tree ℕ) (v : Option ℕ) → IsSeries product new t v ↔ IsBackwardSeries product moves rules t v

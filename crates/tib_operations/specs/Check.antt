@@ -12,13 +12,14 @@ abbrev pub IsFirstSuch : (TransducerRule ℕ → Type 0) → List (TransducerRul
 IsFirstSuch Holds rules None = (n : ℕ) → n < length rules → Holds (transducer_rule rules n) → ⊥
 IsFirstSuch Holds rules (Some number) = IsFirst Holds (λ r. Holds r → ⊥) rules number
 
--- the line of a class: one text where no rule decides, and else another with the first rule that does
+-- the line of a class: one text where no rule decides, and else another with the first rule that
+-- does
 abbrev pub class_line : List ℕ → List ℕ → Option ℕ → List ℕ
 class_line none some None = none
 class_line none some (Some rule) = some ++ decimal rule ++ codes "\n"
 
--- the lines of the classes, by the first rule that is not linear, that is not nondeleting, that is extended, and that is
--- labelled; whether a rule is labelled is told only where one is
+-- the lines of the classes, by the first rule that is not linear, that is not nondeleting, that is
+-- extended, and that is labelled; whether a rule is labelled is told only where one is
 abbrev pub class_lines : Option ℕ → Option ℕ → Option ℕ → Option ℕ → List ℕ
 class_lines not_linear not_nondeleting extended labelled =
     class_line (codes "linear yes\n") (codes "linear no ") not_linear

@@ -6,8 +6,8 @@ use Rattle.tib_transducer.specs.declared.error.ClassFault.{ClassFault}
 use Rattle.tib_operations.specs.declared.status.Status.{Status}
 use Rattle.tib_operations.specs.declared.status.Status.TheVariants as statuses
 
--- What is demanded of the files: that it is met, and that in the file with this number, counted from 1, the rule with this number,
--- counted from 1, is the first that breaks it, by this fault.
+-- What is demanded of the files: that it is met, and that in the file with this number, counted
+-- from 1, the rule with this number, counted from 1, is the first that breaks it, by this fault.
 pub record Demanded : Type 1 where
   pub met : Type 0
   pub broken : ℕ → ℕ × ClassFault → Type 0

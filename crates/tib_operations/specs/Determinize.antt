@@ -1,4 +1,5 @@
--- `determinize`: the grammar of the vectors of a grammar's states with residuals, in deterministic form.
+-- `determinize`: the grammar of the vectors of a grammar's states with residuals, in deterministic
+-- form.
 use Rattle.tib_cost.specs.declared.Scale.{Scale}
 use Rattle.std.specs.Prelude.{◌≡◌, ℕ, List, []}
 use Rattle.tib_grammar.specs.Forms.{IsDeterministic}
@@ -12,8 +13,8 @@ use Rattle.tib_determinize.specs.Started.{finals}
 use Rattle.tib_determinize.specs.Vectors.{VectorOf}
 use Rattle.tib_operations.specs.Made.{Made, and_then, normal_form, reached_set}
 
--- the vectors of the states of a grammar with residuals, from a fresh start with a chain rule to each that has the grammar's start, at
--- the start's residual there
+-- the vectors of the states of a grammar with residuals, from a fresh start with a chain rule to
+-- each that has the grammar's start, at the start's residual there
 abbrev pub determinizing : (ℕ → ℕ → ℕ) → GrammarOf → Construction VectorOf (ℕ × List ℕ)
 determinizing product form = record { problem = determinization product form.rules; spare = []; begins = fresh_with (finals 0) }
 
@@ -22,7 +23,8 @@ pub record IsDeterminizationOf (product : ℕ → ℕ → ℕ) (rules new : List
   pub deterministic : IsDeterministic new
   pub series : HaveSameSeries product rules new
 
--- the text of the canonical grammar of the vectors, which is in deterministic form and has the series of the grammar
+-- the text of the canonical grammar of the vectors, which is in deterministic form and has the
+-- series of the grammar
 abbrev pub HasDeterminizedText : Scale → (ℕ → ℕ → ℕ) → ℕ → List (List ℕ) → GrammarOf → List ℕ → Type 0
 HasDeterminizedText scale product limit labels g text =
     HasGrammarText scale labels (IsCanonicalFrom product scale labels limit (IsTrimmedForm product g) (determinizing product))

@@ -26,8 +26,8 @@ forward_demands t = demanded_of 2 linear t.rules
 abbrev pub forwarding : (ℕ → ℕ → ℕ) → TransducerOf → GrammarOf → Construction (ℕ × ℕ × ℕ) (ℕ × List ℕ)
 forwarding product t form = record { problem = forward_image product form.rules t.rules; spare = (0, 0, 0); begins = at_first }
 
--- the new rules give each tree u the least, over all trees t, of the cost of t by the rules of the grammar times the cost of t
--- and u by the transducer
+-- the new rules give each tree u the least, over all trees t, of the cost of t by the rules of the
+-- grammar times the cost of t and u by the transducer
 abbrev pub HasForwardSeries : (ℕ → ℕ → ℕ) → List (Rule ℕ) → List (TransducerRule ℕ) → List (Rule ℕ) → Type 0
 HasForwardSeries product rules moves new =
     (u : Tree ℕ) (v : Option ℕ) → IsSeries product new u v ↔ IsForwardSeries product rules moves u v

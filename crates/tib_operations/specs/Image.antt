@@ -12,7 +12,8 @@ use Rattle.tib_image.specs.Image.{image_of}
 use Rattle.tib_canon.specs.Constructions.{Construction, at_first, IsCanonicalFrom, HasGrammarText}
 use Rattle.tib_operations.specs.Made.{Made, reached_set}
 
--- the keys of the states of a transducer and the nodes of a tree, from the key of the start and the root
+-- the keys of the states of a transducer and the nodes of a tree, from the key of the start and the
+-- root
 abbrev pub imaging : TransducerOf → Tree ℕ → Construction (ℕ × ℕ) ℕ
 imaging t one = record { problem = image_of t.rules one; spare = (0, 0); begins = at_first }
 

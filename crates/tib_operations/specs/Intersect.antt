@@ -16,7 +16,8 @@ AreTrimmedForms product f g forms = IsTrimmedForm product f forms.0 × IsTrimmed
 abbrev pub intersecting : (ℕ → ℕ → ℕ) → GrammarOf × GrammarOf → Construction (ℕ × ℕ) (ℕ × ℕ)
 intersecting product forms = record { problem = intersection product forms.0.rules forms.1.rules; spare = (0, 0); begins = at_first }
 
--- the text of the canonical intersection of two grammars, which gives each tree the product of its two costs
+-- the text of the canonical intersection of two grammars, which gives each tree the product of its
+-- two costs
 abbrev pub HasIntersectionText : Scale → (ℕ → ℕ → ℕ) → ℕ → List (List ℕ) → GrammarOf → GrammarOf → List ℕ → Type 0
 HasIntersectionText scale product limit labels f g text =
     HasGrammarText scale labels (IsCanonicalFrom product scale labels limit (AreTrimmedForms product f g) (intersecting product))

@@ -27,8 +27,9 @@ costed_lines scale labels (x ∷ xs) = costed_line scale labels x ++ costed_line
 abbrev pub AreSmall : List Costed → Type 0
 AreSmall xs = Each (λ x. size x.0 ≤ most_nodes) xs
 
--- The text has a line for each of the k cheapest trees of the grammar, by cost and then in the order of trees: k lines, or one for
--- each tree where there are fewer. None of these trees is too large.
+-- The text has a line for each of the k cheapest trees of the grammar, by cost and then in the
+-- order of trees: k lines, or one for each tree where there are fewer. None of these trees is too
+-- large.
 pub record HasKBestText (scale : Scale) (product : ℕ → ℕ → ℕ) (k : ℕ) (labels : List (List ℕ)) (g : GrammarOf) (text : List ℕ) : Type 0 where
   pub best : List Costed
   pub are_best : IsKBest product g.rules labels k best
@@ -54,7 +55,8 @@ pub record HasLargeTree (levelled : Bool) (product : ℕ → ℕ → ℕ) (k : �
 abbrev pub kbest_makes : (ℕ → ℕ → ℕ) → ℕ → GrammarOf → Made
 kbest_makes product limit g = normal_form product limit g
 
--- why there is no text: too many parts, or within the limit a tree that is too large, or want of memory
+-- why there is no text: too many parts, or within the limit a tree that is too large, or want of
+-- memory
 abbrev pub IsKBestFault : Bool → (ℕ → ℕ → ℕ) → ℕ → ℕ → List (List ℕ) → GrammarOf → Status → Type 0
 IsKBestFault levelled product limit k labels g statuses.TreeTooLarge =
     (kbest_makes product limit g).within × HasLargeTree levelled product k labels g

@@ -5,7 +5,8 @@ use Rattle.std.specs.Prelude.{ℕ, List, [], ◌∷◌, ◌++◌, Option, None, 
 use Rattle.tib_tree.specs.Trees.{Tree}
 use Rattle.tib_tree.specs.Printed.{tree_text}
 
--- what stands behind a tree or a state: the weight of its cost, which in Boolean is not printed, or that it has none
+-- what stands behind a tree or a state: the weight of its cost, which in Boolean is not printed, or
+-- that it has none
 abbrev pub cost_text : Scale → Option ℕ → List ℕ
 cost_text scale None = codes " # none\n"
 cost_text scale (Some cost) = if is_weighted scale then codes " # " ++ decimal (weight_in scale cost) ++ codes "\n" else codes "\n"

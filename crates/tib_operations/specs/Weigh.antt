@@ -8,7 +8,8 @@ use Rattle.tib_grammar.specs.Series.{IsSeries}
 use Rattle.tib_operations.specs.Made.{Made, normal_form}
 use Rattle.tib_operations.specs.Text.{weighed_lines}
 
--- The text has a line for each tree, in order, with its weight by the grammar: the series of the grammar at the tree.
+-- The text has a line for each tree, in order, with its weight by the grammar: the series of the
+-- grammar at the tree.
 pub record IsWeighed (scale : Scale) (product : ℕ → ℕ → ℕ) (labels : List (List ℕ)) (g : GrammarOf) (trees : List (Tree ℕ)) (text : List ℕ) : Type 0 where
   pub costs : List (Option ℕ)
   pub weights : AllZip (λ t v. IsSeries product g.rules t v) trees costs

@@ -37,7 +37,8 @@ fn first_labelled<S>(transducer: &Transducer<S>) -> Option<u32>
     labelled(transducer)
 }
 
-// Writes the line of a class: one text where no rule decides, and else another with the rule that does.
+// Writes the line of a class: one text where no rule decides, and else another with the rule that
+// does.
 fn write_class<W: Sink>(
     out: &mut W,
     none: &[u8],
@@ -65,7 +66,8 @@ fn add_class(
     write_class::<GrowingSink>(text, none, some, rule)
 }
 
-/// The lines of the classes of a transducer. It fails only for want of memory. It goes over the rules once for each class.
+/// The lines of the classes of a transducer. It fails only for want of memory. It goes over the
+/// rules once for each class.
 pub fn classes_text<S>(alloc: Global, transducer: &Transducer<S>) -> Result<GrowingSink, Failed>
     ensures { IfOk result (λ text. HasClasses transducer.now text.bytes) }
 {

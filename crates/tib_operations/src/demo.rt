@@ -1,4 +1,5 @@
-// `demo`: a grammar that is made for a number, how large its determinization is, and its cheapest tree.
+// `demo`: a grammar that is made for a number, how large its determinization is, and its cheapest
+// tree.
 ghost use Rattle.std.specs.Prelude.{[], ◌≡◌, ◌≤◌, ◌<◌, ◌^◌, ◌++◌, codes, decimal, IfErr, IfOk, OnOk};
 ghost use Rattle.tib_grammar_file.specs.Printable.{ArePrintable};
 ghost use Rattle.tib_grammar_file.specs.Read.{ReadsAs};
@@ -57,8 +58,9 @@ fn add_steps(text: &mut GrowingSink, state: u32) -> Result<(), Failed>
     add_step(text, b"b", state)
 }
 
-/// The grammar file that `demo` makes for n from 1 to 16: its start has the trees of `a` and `b` over `e` whose n-th label from the
-/// root is `a`, and its determinization has 2 ^ n + 1 states. It fails only for want of memory. The time is that of the text.
+/// The grammar file that `demo` makes for n from 1 to 16: its start has the trees of `a` and `b`
+/// over `e` whose n-th label from the root is `a`, and its determinization has 2 ^ n + 1 states. It
+/// fails only for want of memory. The time is that of the text.
 pub fn demo_text(alloc: Global, n: u32) -> Result<GrowingSink, Failed>
     requires { 1 ≤ n }
     ensures { IfOk result (λ text. text.bytes ≡ demo_text n) }
@@ -87,7 +89,8 @@ fn summary_text(alloc: Global, states: u32, rules: u32, line: &[u8]) -> Result<G
     Ok(text)
 }
 
-// The three lines of a grammar and of what its determinization answered, or the status with which the run ends.
+// The three lines of a grammar and of what its determinization answered, or the status with which
+// the run ends.
 fn summary_of_determinized<S: Semiring + Drop>(
     alloc: Global,
     grammar: &Grammar<S>,
@@ -124,9 +127,10 @@ fn summary_of_determinized<S: Semiring + Drop>(
     }
 }
 
-/// How many states and rules the determinization of a grammar has, and the line of its cheapest tree; or the status with which the run
-/// ends: too many parts, a state that has a cheapest tree of more than 10,000 nodes, or want of memory. The time is that of the
-/// determinization and of the list of one tree.
+/// How many states and rules the determinization of a grammar has, and the line of its cheapest
+/// tree; or the status with which the run ends: too many parts, a state that has a cheapest tree of
+/// more than 10,000 nodes, or want of memory. The time is that of the determinization and of the
+/// list of one tree.
 pub fn summary_of<S: Semiring + Drop, G: Gate>(
     alloc: Global,
     grammar: &Grammar<S>,
@@ -145,8 +149,8 @@ pub fn summary_of<S: Semiring + Drop, G: Gate>(
     summary_of_determinized::<S>(alloc, grammar, labels, limit, determinized)
 }
 
-/// What `summary_of` answers, with the vectors hunted by this number of workers, 1 to 16, whatever the order of their steps. It may
-/// wait for ever, as the hunt by several workers.
+/// What `summary_of` answers, with the vectors hunted by this number of workers, 1 to 16, whatever
+/// the order of their steps. It may wait for ever, as the hunt by several workers.
 pub fn summary_of_together<S: Semiring + Sync + Drop, R: Threads + Wait + Sync, G: Gate + Sync>(
     rt: &R,
     alloc: Global,
@@ -221,8 +225,8 @@ pub fn demo_of<S: Semiring + Drop, G: Gate>(
     summary_of::<S, G>(alloc, &grammar, &labels, limit, gate)
 }
 
-/// What `demo_of` answers, with the vectors hunted by this number of workers, 1 to 16, whatever the order of their steps. It may wait
-/// for ever, as the hunt by several workers.
+/// What `demo_of` answers, with the vectors hunted by this number of workers, 1 to 16, whatever the
+/// order of their steps. It may wait for ever, as the hunt by several workers.
 pub fn demo_of_together<S: Semiring + Sync + Drop, R: Threads + Wait + Sync, G: Gate + Sync>(
     rt: &R,
     alloc: Global,

@@ -28,7 +28,8 @@ use tib_hunt::{Found, Gate, HuntError};
 use tib_normal::Normal;
 use tib_tree::Labels;
 
-// Where the fresh start leads: each position whose vector has the grammar's start, at the residual there.
+// Where the fresh start leads: each position whose vector has the grammar's start, at the residual
+// there.
 fn finals_of<S: Semiring>(
     alloc: Global,
     form: &Normal<S>,
@@ -42,7 +43,8 @@ fn finals_of<S: Semiring>(
     Ok(Finals::new(pairs))
 }
 
-// The canonical form of the vectors of a trimmed form that a hunt answered, or the status with which the run ends.
+// The canonical form of the vectors of a trimmed form that a hunt answered, or the status with
+// which the run ends.
 fn canonical_of_vectors<S: Semiring + Drop>(
     alloc: Global,
     form: &Normal<S>,
@@ -87,9 +89,10 @@ fn canonical_of_vectors<S: Semiring + Drop>(
     }
 }
 
-/// The canonical grammar of the vectors of a grammar's states with residuals, in deterministic form and with the series of the
-/// grammar, or the status with which the run ends: too many parts, or want of memory. The time is that of the normal form and of
-/// the edges of the vectors that are reached.
+/// The canonical grammar of the vectors of a grammar's states with residuals, in deterministic form
+/// and with the series of the grammar, or the status with which the run ends: too many parts, or
+/// want of memory. The time is that of the normal form and of the edges of the vectors that are
+/// reached.
 pub fn determinization_of<S: Semiring + Drop, G: Gate>(
     alloc: Global,
     grammar: &Grammar<S>,
@@ -116,8 +119,8 @@ pub fn determinization_of<S: Semiring + Drop, G: Gate>(
     canonical_of_vectors::<S>(alloc, &form, labels, limit, hunted)
 }
 
-/// What `determinization_of` answers, with the vectors hunted by this number of workers, 1 to 16, whatever the order of their
-/// steps. It may wait for ever, as the hunt by several workers.
+/// What `determinization_of` answers, with the vectors hunted by this number of workers, 1 to 16,
+/// whatever the order of their steps. It may wait for ever, as the hunt by several workers.
 pub fn determinization_of_together<
     S: Semiring + Sync + Drop,
     R: Threads + Wait + Sync,

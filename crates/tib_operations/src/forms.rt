@@ -19,7 +19,8 @@ use tib_k_best::trimmed_has_trees;
 use tib_normal::{Normal, NormalError, normalize};
 use tib_prune::trim_with_insides;
 
-// The laws of the product. A function whose semiring is shared among threads has them by a call of this one.
+// The laws of the product. A function whose semiring is shared among threads has them by a call of
+// this one.
 pub(crate) fn product_has_laws<S: Semiring>()
     ensures { ProductLaws S.LEVELLED S.WEIGHTED S.product }
 {}
@@ -47,7 +48,8 @@ pub fn normal_of<S: Semiring + Drop>(
     }
 }
 
-/// The trimmed normal form of a grammar and the inside costs of its states, or the status with which the run ends.
+/// The trimmed normal form of a grammar and the inside costs of its states, or the status with
+/// which the run ends.
 pub fn costed_form<S: Semiring + Drop>(
     alloc: Global,
     grammar: &Grammar<S>,

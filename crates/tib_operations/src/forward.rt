@@ -1,4 +1,5 @@
-// `forward`: the canonical grammar of the trees into which a transducer turns those of a grammar, at the least products of costs.
+// `forward`: the canonical grammar of the trees into which a transducer turns those of a grammar,
+// at the least products of costs.
 ghost use Rattle.std.specs.Prelude.{◌≡◌, ◌≤◌, length, IfErr, IfOk, true, false};
 ghost use Rattle.tib_transducer.specs.Outside.{demands, AllMeet};
 ghost use Rattle.tib_grammar_file.specs.GrammarText.{GrammarText};
@@ -81,8 +82,9 @@ fn canonical_of_image<S: Semiring + Drop>(
     }
 }
 
-/// The canonical grammar of the outputs of a linear transducer, or the status with which the run ends: too many parts, or want of
-/// memory. The time is that of the normal form and of the edges of the keys that are reached.
+/// The canonical grammar of the outputs of a linear transducer, or the status with which the run
+/// ends: too many parts, or want of memory. The time is that of the normal form and of the edges of
+/// the keys that are reached.
 pub fn image_of<S: Semiring + Drop, G: Gate>(
     alloc: Global,
     grammar: &Grammar<S>,
@@ -113,8 +115,8 @@ pub fn image_of<S: Semiring + Drop, G: Gate>(
     canonical_of_image::<S>(alloc, &form, transducer, labels, limit, hunted)
 }
 
-/// What `image_of` answers, with the keys hunted by this number of workers, 1 to 16, whatever the order of their steps. It may wait
-/// for ever, as the hunt by several workers.
+/// What `image_of` answers, with the keys hunted by this number of workers, 1 to 16, whatever the
+/// order of their steps. It may wait for ever, as the hunt by several workers.
 pub fn image_of_together<S: Semiring + Sync + Drop, R: Threads + Wait + Sync, G: Gate + Sync>(
     rt: &R,
     alloc: Global,

@@ -1,4 +1,5 @@
-// `intersect`: the canonical grammar of the trees that two grammars have, at the products of their costs.
+// `intersect`: the canonical grammar of the trees that two grammars have, at the products of their
+// costs.
 ghost use Rattle.std.specs.Prelude.{◌≡◌, ◌≤◌, length, IfErr, IfOk};
 ghost use Rattle.tib_grammar_file.specs.GrammarText.{GrammarText};
 ghost use Rattle.tib_grammar_file.specs.Printable.{ArePrintable};
@@ -28,7 +29,8 @@ use tib_keyed::StatePair;
 use tib_normal::Normal;
 use tib_tree::Labels;
 
-// The canonical form of the pairs of two trimmed forms that a hunt answered, or the status with which the run ends.
+// The canonical form of the pairs of two trimmed forms that a hunt answered, or the status with
+// which the run ends.
 fn canonical_of_pairs<S: Semiring + Drop>(
     alloc: Global,
     one: &Normal<S>,
@@ -73,8 +75,9 @@ fn canonical_of_pairs<S: Semiring + Drop>(
     }
 }
 
-/// The canonical intersection of two grammars, or the status with which the run ends: too many parts, or want of memory. The
-/// time is that of both normal forms and of the edges of the pairs that are reached.
+/// The canonical intersection of two grammars, or the status with which the run ends: too many
+/// parts, or want of memory. The time is that of both normal forms and of the edges of the pairs
+/// that are reached.
 pub fn intersection_of<S: Semiring + Drop, G: Gate>(
     alloc: Global,
     first: &Grammar<S>,
@@ -109,8 +112,8 @@ pub fn intersection_of<S: Semiring + Drop, G: Gate>(
     canonical_of_pairs::<S>(alloc, &one, &two, labels, limit, hunted)
 }
 
-/// What `intersection_of` answers, with the pairs hunted by this number of workers, 1 to 16, whatever the order of their steps. It
-/// may wait for ever, as the hunt by several workers.
+/// What `intersection_of` answers, with the pairs hunted by this number of workers, 1 to 16,
+/// whatever the order of their steps. It may wait for ever, as the hunt by several workers.
 pub fn intersection_of_together<
     S: Semiring + Sync + Drop,
     R: Threads + Wait + Sync,

@@ -119,7 +119,8 @@ fn full_list(found: Option<Ranked>, k: u32, bound: u64) -> Option<Ranked>
     }
 }
 
-// The k cheapest trees of a trimmed normal form; none where a tree is too large. Only want of memory is an error.
+// The k cheapest trees of a trimmed normal form; none where a tree is too large. Only want of
+// memory is an error.
 fn small_best<S: Semiring>(
     alloc: Global,
     form: &Normal<S>,
@@ -141,7 +142,8 @@ fn small_best<S: Semiring>(
     }
 }
 
-// The k cheapest trees of some rules that were kept; none where a tree is too large. Only want of memory is an error.
+// The k cheapest trees of some rules that were kept; none where a tree is too large. Only want of
+// memory is an error.
 fn kept_best<S: Semiring + Drop>(
     alloc: Global,
     kept: Grammar<S>,
@@ -172,8 +174,9 @@ fn rules_for(k: u32) -> usize
     8 * k as usize + 100
 }
 
-// The k cheapest trees of a trimmed normal form, found among the rules within a beam; none where they are too few, or one of them
-// costs more than the beam allows, so that others may be cheaper. Only want of memory is an error.
+// The k cheapest trees of a trimmed normal form, found among the rules within a beam; none where
+// they are too few, or one of them costs more than the beam allows, so that others may be cheaper.
+// Only want of memory is an error.
 fn narrow_best<S: Semiring + Drop>(
     alloc: Global,
     form: Normal<S>,
@@ -198,8 +201,8 @@ fn narrow_best<S: Semiring + Drop>(
     Ok(full_list(found, k, best.get() + beam.get()))
 }
 
-// The list of the k cheapest trees of a grammar, found among the rules within a beam; none where it was not found there; or the
-// status with which the run ends.
+// The list of the k cheapest trees of a grammar, found among the rules within a beam; none where it
+// was not found there; or the status with which the run ends.
 fn found_best<S: Semiring + Drop>(
     alloc: Global,
     grammar: &Grammar<S>,
@@ -229,7 +232,8 @@ fn found_best<S: Semiring + Drop>(
     }
 }
 
-// The list of the k cheapest trees of a grammar, found in all of its trimmed normal form, or the status with which the run ends.
+// The list of the k cheapest trees of a grammar, found in all of its trimmed normal form, or the
+// status with which the run ends.
 fn whole_best<S: Semiring + Drop>(
     alloc: Global,
     grammar: &Grammar<S>,
@@ -257,8 +261,8 @@ fn whole_best<S: Semiring + Drop>(
     }
 }
 
-// The list of the k cheapest trees of a grammar, or the status with which the run ends. Where the grammar has many rules for each
-// tree, it is looked for among those within a beam first.
+// The list of the k cheapest trees of a grammar, or the status with which the run ends. Where the
+// grammar has many rules for each tree, it is looked for among those within a beam first.
 fn best_of<S: Semiring + Drop>(
     alloc: Global,
     grammar: &Grammar<S>,
@@ -284,8 +288,9 @@ fn best_of<S: Semiring + Drop>(
     whole_best::<S>(alloc, grammar, labels, limit, k)
 }
 
-/// The lines of the k cheapest trees of a grammar, or the status with which the run ends: too many parts, a state that has a tree of
-/// more than 10,000 nodes among its k cheapest, or want of memory. The time is that of the normal form, of the list, and of the text.
+/// The lines of the k cheapest trees of a grammar, or the status with which the run ends: too many
+/// parts, a state that has a tree of more than 10,000 nodes among its k cheapest, or want of
+/// memory. The time is that of the normal form, of the list, and of the text.
 pub fn kbest_text<S: Semiring + Drop>(
     alloc: Global,
     grammar: &Grammar<S>,

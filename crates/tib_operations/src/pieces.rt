@@ -26,7 +26,8 @@ pub fn write_both<W: Sink>(out: &mut W, first: &[u8], second: &[u8]) -> Result<(
     }
 }
 
-/// Writes a number between two pieces. It takes no memory. After a failure a front of the three was written.
+/// Writes a number between two pieces. It takes no memory. After a failure a front of the three was
+/// written.
 pub fn write_about<W: Sink>(
     out: &mut W,
     first: &[u8],

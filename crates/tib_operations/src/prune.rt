@@ -1,4 +1,5 @@
-// `prune`: the canonical form of the part of a grammar that stays within a beam of its cheapest tree.
+// `prune`: the canonical form of the part of a grammar that stays within a beam of its cheapest
+// tree.
 ghost use Rattle.std.specs.Prelude.{◌≡◌, ℕ, List, IfErr, IfOk};
 ghost use Rattle.tib_grammar_file.specs.Printable.{ArePrintable};
 ghost use Rattle.tib_operations.specs.Made.{IsLimit, IsMadeFault};
@@ -52,9 +53,9 @@ fn pruned_form<S: Semiring + Drop>(
     }
 }
 
-/// The canonical form of the part of a grammar that stays within a beam of its cheapest tree, or the status with which the run
-/// ends: too many parts, or want of memory. The time is that of the normal form, of inside and outside costs, and of sorting the
-/// rules that stay.
+/// The canonical form of the part of a grammar that stays within a beam of its cheapest tree, or
+/// the status with which the run ends: too many parts, or want of memory. The time is that of the
+/// normal form, of inside and outside costs, and of sorting the rules that stay.
 pub fn canonical_pruned<S: Semiring + Drop>(
     alloc: Global,
     grammar: &Grammar<S>,

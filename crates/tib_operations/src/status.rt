@@ -17,7 +17,8 @@ pub enum Status {
         file: u32,
         fault: FileFault,
     },
-    /// The operation demands a class of the transducer of a file. This rule, counted from 1, is the first that is not of it.
+    /// The operation demands a class of the transducer of a file. This rule, counted from 1, is the
+    /// first that is not of it.
     Class {
         file: u32,
         rule: u32,

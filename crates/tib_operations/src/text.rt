@@ -14,7 +14,8 @@ use tib_io::{Failed, GrowingSink, Sink, write_whole};
 use tib_tree::{Labels, Tree, print_tree};
 use tib_weigh::{LEAST_PIECE, halvings, middle_of};
 
-/// Writes what follows a tree or a state: its cost, which in Boolean is not printed, or that it has none.
+/// Writes what follows a tree or a state: its cost, which in Boolean is not printed, or that it has
+/// none.
 pub fn print_cost<S: Semiring, W: Sink>(cost: Option<Cost>, out: &mut W) -> Result<(), Failed>
     ensures { OnOk result (Takes (W.written out.old) (W.written out.new) (W.free out.old)
         (W.free out.new) (cost_text S.SCALE cost)) }
@@ -89,7 +90,8 @@ fn add_text(text: &mut GrowingSink, rest: &GrowingSink) -> Result<(), Failed>
     write_whole(text, rest.bytes())
 }
 
-// The lines of the trees with their costs. The work is halved by nodes `times` times, and each half has a thread of its own.
+// The lines of the trees with their costs. The work is halved by nodes `times` times, and each half
+// has a thread of its own.
 #[cycle(lines)]
 fn lines_of_halves<S: Semiring + Sync, R: Threads + Sync>(
     rt: &R,
@@ -128,8 +130,9 @@ fn lines_of_halves<S: Semiring + Sync, R: Threads + Sync>(
     Ok(text)
 }
 
-/// The lines of the trees with their costs, printed in several threads. It fails only for want of memory. Worst case: one pass
-/// over the nodes, and each byte is moved once for each time that the trees are parted, seven times at most.
+/// The lines of the trees with their costs, printed in several threads. It fails only for want of
+/// memory. Worst case: one pass over the nodes, and each byte is moved once for each time that the
+/// trees are parted, seven times at most.
 pub fn weighed_text<S: Semiring + Sync, R: Threads + Sync>(
     rt: &R,
     alloc: Global,
