@@ -472,6 +472,6 @@ def convert(conversion, names):
         sys.stderr.buffer.write(f"{tool}: {fault}\n".encode("latin-1", "replace"))
         return 1
     except OSError as error:
-        print(f"{tool}: {names[0] if names else 'standard input'}: {error.strerror}", file=sys.stderr)
+        print(f"{tool}: {error.filename or 'standard input or output'}: {error.strerror}", file=sys.stderr)
         return 1
     return 0
