@@ -2,8 +2,8 @@
 
 The parser is the standard library's expat, and nothing else is needed. It opens no other file and
 no address. A document type is skipped, but its entities are looked at: an entity that is external,
-refers to another entity, or is too long for its uses is refused, so no input grows while it is
-read.
+refers to one that comes later, or is too long for its uses is refused. So are defaults of attributes
+that are too long for their uses.
 
 A name without a namespace is its own label. In a namespace the label is {NAMESPACE}NAME. Labels are
 UTF-8, kept as str of one character a byte (latin-1) as tib_text keeps them. The module proves
@@ -26,7 +26,7 @@ OTHER = "*"
 STANDARD_INPUT = "standard input"
 # No document has this character, so it cannot be in a namespace.
 SEPARATOR = "\x01"
-REFERENCE = re.compile(r"&(?!#|(?:lt|gt|amp|quot|apos);)")
+REFERENCE = re.compile(r"&(?!#|(?:lt|gt|amp|quot|apos);)([^;]*)")
 
 
 class XmlFault(Exception):
@@ -50,19 +50,32 @@ def bytes_of(path=None, name=None):
 
 
 def guard(parser, data, refuse):
-    """Lets a parser refuse each entity that could make it read more than the data."""
+    """Lets a parser refuse each entity, and each default of an attribute, that could make it read
+    much more than the data."""
+    uses, tags, sizes, defaults = data.count(b"&"), data.count(b"<"), {}, [0]
 
     def declare(entity, is_parameter, value, _base, _system, _public, notation):
         if notation is not None or is_parameter and value is not None:
             return
         if value is None:
             refuse(f"the entity '{entity}' is external")
-        if REFERENCE.search(value):
-            refuse(f"the entity '{entity}' refers to another entity")
-        if len(value.encode()) * data.count(b"&") > MOST_BYTES:
+        size = len(value.encode())
+        for name in REFERENCE.findall(value):
+            if name not in sizes:
+                refuse(f"the entity '{entity}' refers to '{name}', which is not declared before it")
+            size += sizes[name]
+        if size * uses > MOST_BYTES:
             refuse(f"the entity '{entity}' is too long for its uses")
+        sizes[entity] = size
+
+    def declare_attribute(_element, attribute, _kind, default, _is_required):
+        if default is not None:
+            defaults[0] += len(attribute.encode()) + len(default.encode())
+        if defaults[0] * tags > MOST_BYTES:
+            refuse("the defaults of attributes are too long for their uses")
 
     parser.EntityDeclHandler = declare
+    parser.AttlistDeclHandler = declare_attribute
     parser.SkippedEntityHandler = lambda entity, _: refuse(f"the entity '{entity}' is not declared in the document")
     parser.ExternalEntityRefHandler = lambda *_: refuse("an external entity")
 

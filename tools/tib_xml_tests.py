@@ -40,6 +40,7 @@ ROWS = [
     ("from-xml", '<p:a xmlns:p="urn:x#y"><b p:c="d"/></p:a>', '"{urn:x#y}a"(b(_ _) _)\n'),
     ("from-xml", '<?xml version="1.0" encoding="ISO-8859-1"?><\xe9>\xa0</\xe9>', "\xc3\xa9($text(_) _)\n"),
     ("from-xml", '<!DOCTYPE a SYSTEM "no.dtd" [<!ENTITY e "x<b/>&#38;amp;"><!ENTITY g SYSTEM "g" NDATA n>]><a>&e;&e;</a>', "a($text(b(_ $text(b(_ $text(_))))) _)\n"),
+    ("from-xml", '<!DOCTYPE a [<!ENTITY e "x"><!ENTITY g "&e;<b/>&e;"><!ATTLIST b c CDATA "d">]><a b="&e;">&g;</a>', "a($text(b(_ $text(_))) _)\n"),
     ("to-xml", "", ""),
     ("to-xml", "% none\na(_ _)\na(_ _) # none\n\nb($text(c(_ _)) _()) # 2\n", "<a/>\n<a/>\n<b>text<c/></b>\n"),
     ("to-xml", '"{urn:x#y}a"("{urn:x#y}b"(_ c({&}d(_ _) _)) _)', '<a xmlns="urn:x#y"><b/><c xmlns=""><d xmlns="&#38;"/></c></a>\n'),
@@ -54,6 +55,8 @@ ROWS = [
     ("from-relaxng", f'<element name="p:a" ns="u" xmlns:p="x#" {RNG}><element name="b"><empty/></element></element>', grammar('s0 -> "{x#}a"(s1 s2)', "s1 -> {u}b(s2 s2)", "s2 -> _")),
 ]
 
+# Entities each of which is twice the one before.
+BOMB = "<!DOCTYPE a [<!ENTITY e0 ''>" + "".join(f"<!ENTITY e{it + 1} '&e{it};&e{it};'>" for it in range(40)) + "]><a>&e40;</a>"
 # The words of a command, its input, and its message before it ends with status 1.
 FAULTS = [
     ("from-xml", "", "standard input: line 1: no element found"),
@@ -67,11 +70,13 @@ FAULTS = [
     ("from-xml", '<!DOCTYPE a SYSTEM "no.dtd">\n<a>\n&nbsp;</a>', "standard input: line 3: the entity 'nbsp' is not declared in the document"),
     ("from-xml", '<?xml version="1.0" encoding="no-such-code"?><a/>', "standard input: line 1: unknown encoding: no-such-code"),
     ("from-xml", '<a xmlns="u&#10;v"/>', "standard input: line 1: a namespace with a line feed cannot be a label"),
-    ("from-xml", '<!DOCTYPE a [<!ENTITY b "x"><!ENTITY c "&b;&b;">]><a>&c;</a>', "standard input: line 1: the entity 'c' refers to another entity"),
-    ("from-xml", '<!DOCTYPE a [<!ENTITY c "&#38;c;">]><a>&c;</a>', "standard input: line 1: the entity 'c' refers to another entity"),
+    ("from-xml", BOMB, "standard input: line 1: the entity 'e14' is too long for its uses"),
+    ("from-xml", '<!DOCTYPE a [<!ENTITY c "&#38;c;">]><a>&c;</a>', "standard input: line 1: the entity 'c' refers to 'c', which is not declared before it"),
+    ("from-xml", '<!DOCTYPE a [<!ENTITY c "&b;"><!ENTITY b "&c;">]><a/>', "standard input: line 1: the entity 'c' refers to 'b', which is not declared before it"),
     ("from-xml", '<!DOCTYPE a [\n<!ENTITY b SYSTEM "/etc/passwd">]><a>&b;</a>', "standard input: line 2: the entity 'b' is external"),
     ("from-xml", '<!DOCTYPE a [<!ENTITY % b SYSTEM "/etc/passwd"> %b;]><a/>', "standard input: line 1: the entity 'b' is external"),
     ("from-xml", f'<!DOCTYPE a [<!ENTITY b "{"x" * 100000}">]><a x="{"&b;" * 1000}"/>', "standard input: line 1: the entity 'b' is too long for its uses"),
+    ("from-xml", f"<!DOCTYPE a [<!ATTLIST a b CDATA '{'x' * 10000}'>]><a>{'<a/>' * 1000}</a>", "standard input: line 1: the defaults of attributes are too long for their uses"),
     ("from-xml", "<a>" * 100000, "standard input: line 1: a tree of more than 10000 nodes"),
     ("from-xml", "<a>" + "<b/>\n" * 100000, "standard input: line 4999: a tree of more than 10000 nodes"),
     ("from-xml", " " * 8388609, "standard input: longer than 8388608 bytes"),
@@ -108,7 +113,7 @@ FAULTS = [
     ("from-relaxng", f"<grammar {RNG}><start><text/></start></grammar>", "standard input: line 1: the start is not one element"),
     ("from-relaxng", schema("<text/>", '<include href="no.rng"/>'), "standard input: line 1: 'no.rng' cannot be read: No such file or directory"),
     ("from-relaxng", schema('<externalRef href="http://localhost/a.rng"/>'), "standard input: line 1: 'http://localhost/a.rng' is no file"),
-    ("from-relaxng", f'<!DOCTYPE grammar [<!ENTITY a "x"><!ENTITY b "&a;&a;">]>{schema("<text/>")}', "standard input: line 1: the entity 'b' refers to another entity"),
+    ("from-relaxng", BOMB, "standard input: line 1: the entity 'e14' is too long for its uses"),
     ("from-relaxng", f'<!DOCTYPE grammar [<!ENTITY a SYSTEM "a.rng">]>{schema("&a;")}', "standard input: line 1: the entity 'a' is external"),
     ("from-relaxng", schema("<group>" * 20000 + "<text/>" + "</group>" * 20000), "standard input: the patterns are nested too deep"),
     ("from-relaxng", schema("<optional/>" * 200001), "standard input: line 1: more than 200000 elements"),
