@@ -25,11 +25,11 @@ START = None
 class Node:
     """An element of a schema. `namespace` is that of the prefix of its name, where it has one."""
 
-    __slots__ = ("tag", "attributes", "children", "text", "namespace", "file", "line")
+    __slots__ = ("tag", "attributes", "children", "pieces", "text", "namespace", "file", "line")
 
     def __init__(self, tag, attributes, file, line):
         self.tag, self.attributes, self.file, self.line = tag, attributes, file, line
-        self.children, self.text, self.namespace = [], "", None
+        self.children, self.pieces, self.text, self.namespace = [], [], "", None
 
     def fault(self, reason):
         return XmlFault(self.file.shown, self.line, reason)
@@ -91,13 +91,14 @@ class Reader:
             self.skipped -= 1
             return
         node = self.open.pop()
+        node.text = "".join(node.pieces)
         prefix, found, _ = node.attributes.get("name", node.text).strip(BLANK).partition(":")
         if found and self.prefixes[prefix]:
             node.namespace = self.prefixes[prefix][-1]
 
     def text(self, piece):
         if self.open and not self.skipped:
-            self.open[-1].text += piece
+            self.open[-1].pieces.append(piece)
 
 
 class Files:
