@@ -369,6 +369,8 @@ class Schema:
                 names |= self.load(child, grammar, inside, overridden)
             elif child.tag in ("start", "define"):
                 name = START if child.tag == "start" else child.needed("name")
+                if name is START and len(child.children) > 1:
+                    raise child.fault("'start' with more than one pattern")
                 names.add(name)
                 if name not in overridden:
                     grammar.definitions[name].append((child, inside))

@@ -1,17 +1,20 @@
 """Tests of the converters of XML, for tools/test-converters: rows, faults, files, documents there
-and back, and schemas against a second opinion, which splits lists of children in all ways."""
+and back, schemas with one feature each, and random schemas against a second opinion, which splits
+lists of children in all ways."""
 import functools
 import os
 import random
+import shutil
 import tempfile
 from importlib.machinery import SourceFileLoader
 from importlib.util import module_from_spec, spec_from_loader
 
+import tib_schema_rows
 from tib_relaxng import Alphabet, Schema
+from tib_schema_rows import RNG, element
 from tib_text import rules_of, tokens_of, tree_of
 
 TOOLS = os.path.dirname(os.path.abspath(__file__))
-RNG = 'xmlns="http://relaxng.org/ns/structure/1.0"'
 TEXTS = ("text", "%", "a &lt; b", "<![CDATA[ <x> ]]>", "&#233;", "1 <!-- 2 --> 3", "\n x")
 DATA = '<data type="x"/>'
 
@@ -19,10 +22,6 @@ DATA = '<data type="x"/>'
 def schema(content, more=""):
     """Returns the text of a schema: an element `a` with a content, in a grammar with definitions."""
     return f'<grammar {RNG}><start><element name="a">{content}</element></start>{more}</grammar>'
-
-
-def element(name, content="<empty/>"):
-    return f'<element name="{name}">{content}</element>'
 
 
 def grammar(*rules):
@@ -110,6 +109,7 @@ FAULTS = [
     ("from-relaxng", schema('<ref name="b"/>', '<define name="b"><text/></define>\n<define name="b"><text/></define>'), "standard input: line 2: a second 'define' of the same name, and no 'combine'"),
     ("from-relaxng", schema('<ref name="b"/>', '<define name="b" combine="both"><text/></define>'), "standard input: line 1: 'combine' must be choice everywhere, or interleave"),
     ("from-relaxng", f"<grammar {RNG}/>", "standard input: line 1: a grammar without a start"),
+    ("from-relaxng", f"<grammar {RNG}><start><text/><text/></start></grammar>", "standard input: line 1: 'start' with more than one pattern"),
     ("from-relaxng", f"<grammar {RNG}><start><text/></start></grammar>", "standard input: line 1: the start is not one element"),
     ("from-relaxng", schema("<text/>", '<include href="no.rng"/>'), "standard input: line 1: 'no.rng' cannot be read: No such file or directory"),
     ("from-relaxng", schema('<externalRef href="http://localhost/a.rng"/>'), "standard input: line 1: 'http://localhost/a.rng' is no file"),
@@ -163,15 +163,20 @@ NO_TRANG = ("from-relaxng compact.rnc", None, "from-relaxng: compact.rnc: a comp
 
 
 def try_files(run, fail):
-    """Tests runs over files, of compact schemas only that there is no trang."""
+    """Tests runs over files, those of compact schemas without trang and, where it is there, with
+    it."""
     with tempfile.TemporaryDirectory() as folder:
-        for name, text in FILES.items():
-            with open(os.path.join(folder, name), "w", encoding="utf-8") as it:
-                it.write(text)
+        write(folder, FILES)
         for words, wanted, told in [*RUNS, NO_TRANG]:
             got = run(words, "", folder, told == NO_TRANG[2])
             if got != (wanted is None, wanted or "", told):
                 fail(f"{words} gives {got}")
+        if shutil.which("trang"):
+            good, wrong = run("from-relaxng compact.rnc", "", folder), run("from-relaxng wrong.rnc", "", folder)
+            if good != (0, grammar("s0 -> a(s1 s2)", "s1 -> _", "s1 -> b(s3 s1)", "s2 -> _", "s3 -> $text(s4)", "s3 -> _", "s4 -> _"), ""):
+                fail(f"a compact schema gives {good}")
+            if wrong[:2] != (1, "") or wrong[2].count("\n") != 1 or "wrong.rnc: trang refuses it: " not in wrong[2]:
+                fail(f"a compact schema with a fault gives {wrong}")
 
 
 class Dice(random.Random):
@@ -218,9 +223,7 @@ def try_documents(run, fail, count=200):
         for number in range(count):
             document = (*dice.names(), dice.items(4))
             documents.append(written(document) + "\n")
-            for kind, text in (("plain", documents[-1]), ("other", disguised(dice, document))):
-                with open(os.path.join(folder, f"{kind}{number}"), "w", encoding="utf-8") as it:
-                    it.write(text)
+            write(folder, {f"plain{number}": documents[-1], f"other{number}": disguised(dice, document)})
         trees = run(" ".join(["from-xml", *(f"plain{it}" for it in range(count))]), "", folder)
         others = run(" ".join(["from-xml", *(f"other{it}" for it in range(count))]), "", folder)
     if trees[0] or trees != others:
@@ -370,28 +373,62 @@ def tool(name):
     return module
 
 
+def write(folder, files):
+    """Writes files, each a name with its text, into a folder."""
+    for name, text in files.items():
+        with open(os.path.join(folder, name), "w", encoding="utf-8") as it:
+            it.write(text)
+
+
+class Judge:
+    """Judges documents by the grammar of a schema, which it keeps as text."""
+
+    from_relaxng, from_xml = tool("from-relaxng"), tool("from-xml")
+
+    def __init__(self, path):
+        schema = Schema(path)
+        self.label = Alphabet([schema]).label_in_document
+        self.grammar = "".join(f"{line}\n" for line in self.from_relaxng.lines(schema, []))
+        self.rules = {}
+        for _, left, right, _ in rules_of(self.grammar)[1]:
+            self.rules.setdefault(right.label.text, []).append((left[0].text, [it.label.text for it in right.below]))
+
+    def judgements(self, documents, weigh=None):
+        """Returns for each document whether it is valid: by the rules, or by the program."""
+        trees = [self.from_xml.tree_of_document("it", it.encode(), self.label) for it in documents]
+        if weigh:
+            return ["# none" not in it for it in weigh(self.grammar, "".join(f"{it}\n" for it in trees)).splitlines()]
+        return [has_run(self.rules, tree_of(tokens_of(it, 1), 1)) for it in trees]
+
+
+def try_features(fail):
+    """Tests schemas with one feature each. Returns how many documents are valid, and how many are
+    not."""
+    counts = [0, 0]
+    with tempfile.TemporaryDirectory() as folder:
+        write(folder, tib_schema_rows.PARTS)
+        for schema_text, valid in tib_schema_rows.SCHEMAS:
+            write(folder, {"schema.rng": schema_text})
+            judgements = Judge(os.path.join(folder, "schema.rng")).judgements(tib_schema_rows.DOCUMENTS)
+            for place, is_valid in enumerate(judgements):
+                counts[not is_valid] += 1
+                if is_valid != (place in valid):
+                    fail(f"{schema_text} and {tib_schema_rows.DOCUMENTS[place]}: {is_valid}")
+    return counts
+
+
 def try_schemas(fail, weigh, count=150):
     """Tests that grammars of random schemas judge documents as the second opinion does; `weigh` is
     the program, or None. Returns how many documents are valid, and how many are not."""
-    dice, counts, from_relaxng, from_xml = SchemaDice(13), [0, 0], tool("from-relaxng"), tool("from-xml")
+    dice, counts = SchemaDice(13), [0, 0]
     with tempfile.TemporaryDirectory() as folder:
         for number in range(count):
-            elements, path = dice.schema(), os.path.join(folder, "schema.rng")
-            with open(path, "w", encoding="utf-8") as it:
-                it.write(schema_written(elements))
-            read = Schema(path)
-            text = "".join(f"{line}\n" for line in from_relaxng.lines(read, []))
-            rules = {}
-            for _, left, right, _ in rules_of(text)[1]:
-                rules.setdefault(right.label.text, []).append((left[0].text, [it.label.text for it in right.below]))
+            elements = dice.schema()
+            write(folder, {"schema.rng": schema_written(elements)})
             documents = [dice.one(elements, 0, 4) for _ in range(20)]
-            label = Alphabet([read]).label_in_document
-            trees = [from_xml.tree_of_document("it", written(it).encode(), label) for it in documents]
-            wanted = [judge(elements)(0, it) for it in documents]
-            got = [has_run(rules, tree_of(tokens_of(it, 1), 1)) for it in trees]
-            if weigh and number % 10 == 0:
-                got = ["# none" not in it for it in weigh(text, "".join(f"{it}\n" for it in trees)).splitlines()]
-            for is_valid, has, document in zip(wanted, got, documents, strict=True):
+            judged = Judge(os.path.join(folder, "schema.rng")).judgements(map(written, documents), weigh if number % 10 == 0 else None)
+            for document, has in zip(documents, judged, strict=True):
+                is_valid = judge(elements)(0, document)
                 counts[not is_valid] += 1
                 if is_valid != has:
                     fail(f"{schema_written(elements)} and {written(document)}: {has}, and not {is_valid}")
