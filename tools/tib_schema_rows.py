@@ -1,5 +1,5 @@
 """Schemas with one feature each, and which of some documents they admit: the judgements of jing
-20220510, for tools/test-converters."""
+20220510, for tools/test-xml."""
 RNG = 'xmlns="http://relaxng.org/ns/structure/1.0"'
 
 

@@ -1,4 +1,4 @@
-"""Tests of the converters of XML, for tools/test-converters: rows, faults, files, documents there
+"""Tests of the converters of XML, for tools/test-xml: rows, faults, files, documents there
 and back, schemas with one feature each, and random schemas against a second opinion, which splits
 lists of children in all ways."""
 import functools
