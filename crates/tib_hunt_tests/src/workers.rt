@@ -22,7 +22,8 @@ use tib_table::TableKey;
 /// How often a worker looks for another before it gives up.
 const TURNS: u32 = 200_000_000;
 
-/// A number. When the hash of 2 is computed, which is when it is numbered, the flag is set.
+/// A number. The flag is set when 2 is asked for its shelf, which is when 2 is numbered. A look-up
+/// among the known keys computes its hash alone, and sets no flag.
 #[derive(Drop)]
 struct Flagged<'a> {
     number: u32,
@@ -80,9 +81,6 @@ impl<'a> Hash for Flagged<'a> {
     ghost respects_eq = { Prim.search (hashing, rules) };
 
     fn hash<H: Hasher>(&self, state: &mut H) {
-        if self.number == 2 {
-            self.numbered.store(1, Ordering::SeqCst);
-        }
         self.number.hash(state);
     }
 }
@@ -97,6 +95,9 @@ impl<'a> TableKey for Flagged<'a> {
     ghost entries_of = { λ _. 0 };
 
     fn shelf(&self) -> u32 {
+        if self.number == 2 {
+            self.numbered.store(1, Ordering::SeqCst);
+        }
         self.number % 16
     }
 
