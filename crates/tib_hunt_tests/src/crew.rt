@@ -6,17 +6,74 @@ ghost use Rattle.tib_lex.specs.Limits.{most_parts};
 use crate::keys::{Pair, pair_of};
 use std::alloc::Global;
 use std::sync::Wait;
+use std::sync::atomic::{AtomicU64, Ordering};
 use std::thread::{Threads, join};
 use tib_crew::{Gathered, Items, Performed, Seat, Task, Unperformed, perform_all};
 use tib_table::Problem;
 
-/// A number of items, each of which ends at two keys and has two parts.
-#[derive(Clone, Copy, Drop)]
-struct Doubles {
-    count: u32,
+/// How often a worker looks for another before it gives up.
+const TURNS: u32 = 200_000_000;
+
+/// How many items were drawn, how often one was performed, and how many workers gave up. If `waits`,
+/// a worker that drew an item waits until the other item of its pair is drawn: 0 and 1 are a pair, 2
+/// and 3 are one, and so on.
+#[derive(Drop)]
+struct Tally {
+    waits: bool,
+    drawn: AtomicU64,
+    performed: AtomicU64,
+    gave_up: AtomicU64,
 }
 
-impl Problem for Doubles {
+impl Tally {
+    // Nothing is drawn.
+    fn new(waits: bool) -> Tally {
+        Tally {
+            waits,
+            drawn: AtomicU64::new(0),
+            performed: AtomicU64::new(0),
+            gave_up: AtomicU64::new(0),
+        }
+    }
+
+    // Counts an item that is drawn, and waits for the other of its pair.
+    fn draw(&self, item: u32) {
+        self.drawn.fetch_add(1, Ordering::SeqCst);
+        if self.waits && !self.has_drawn(item as u64 / 2 * 2 + 2) {
+            self.gave_up.fetch_add(1, Ordering::SeqCst);
+        }
+    }
+
+    // Whether so many items are drawn within a number of looks. After a worker gave up, none waits.
+    fn has_drawn(&self, count: u64) -> bool {
+        for _ in 0..TURNS {
+            if self.drawn.load(Ordering::SeqCst) >= count {
+                return true;
+            }
+            if self.gave_up.load(Ordering::SeqCst) > 0 {
+                return false;
+            }
+        }
+        false
+    }
+
+    // Whether so many items were drawn, each was performed once, and no worker gave up.
+    fn is_once_each(&self, count: u64) -> bool {
+        if self.drawn.load(Ordering::SeqCst) != count {
+            return false;
+        }
+        self.performed.load(Ordering::SeqCst) == count && self.gave_up.load(Ordering::SeqCst) == 0
+    }
+}
+
+/// A number of items, each of which ends at two keys and has two parts.
+#[derive(Clone, Copy, Drop)]
+struct Doubles<'a> {
+    count: u32,
+    tally: &'a Tally,
+}
+
+impl<'a> Problem for Doubles<'a> {
     type Key = Pair;
 
     type Data = u32;
@@ -26,7 +83,7 @@ impl Problem for Doubles {
     ghost may_hold = { λ _ _. Unit {0} };
 }
 
-impl Task for Doubles {
+impl<'a> Task for Doubles<'a> {
     type Rules = u32;
 
     ghost count_of = { λ count. count };
@@ -42,7 +99,8 @@ impl Task for Doubles {
     }
 
     fn pass(&self, worker: u32, item: u32) {
-        let _both = (worker, item);
+        let _worker = worker;
+        self.tally.draw(item);
     }
 
     fn perform(
@@ -51,6 +109,7 @@ impl Task for Doubles {
         item: u32,
         budget: u64,
     ) -> Result<Performed<Pair, u32>, Unperformed> {
+        self.tally.performed.fetch_add(1, Ordering::SeqCst);
         if budget < 2 {
             return Err(Unperformed::More);
         }
@@ -92,6 +151,7 @@ fn are_in_order(gathered: &Gathered<Doubles>, count: u32) -> bool {
 fn performs<R: Threads + Wait + Sync>(
     rt: &R,
     alloc: Global,
+    tally: &Tally,
     count: u32,
     workers: u32,
     parts: u64,
@@ -99,7 +159,7 @@ fn performs<R: Threads + Wait + Sync>(
     requires workers { (1 ≤ workers) × (workers ≤ 16) }
     requires parts { parts ≤ most_parts }
 {
-    match perform_all(rt, alloc, Doubles { count }, workers, parts) {
+    match perform_all(rt, alloc, Doubles { count, tally }, workers, parts) {
         Ok(gathered) => Ok(are_in_order(&gathered, count)),
         Err(error) => Err(error),
     }
@@ -107,17 +167,49 @@ fn performs<R: Threads + Wait + Sync>(
 
 #[test]
 fn two_items_by_two_workers(rt: HostRuntime) {
-    assert!(rt; performs(&rt, rt.alloc(), 2, 2, 4) == Ok(true));
+    let tally = Tally::new(false);
+    assert!(rt; performs(&rt, rt.alloc(), &tally, 2, 2, 4) == Ok(true));
 }
 
 #[test]
 fn a_thousand_items_by_sixteen_workers(rt: HostRuntime) {
-    assert!(rt; performs(&rt, rt.alloc(), 1000, 16, 2000) == Ok(true));
+    let tally = Tally::new(false);
+    assert!(rt; performs(&rt, rt.alloc(), &tally, 1000, 16, 2000) == Ok(true));
 }
 
 #[test]
 fn one_part_too_few(rt: HostRuntime) {
-    assert!(rt; performs(&rt, rt.alloc(), 1000, 16, 1999) == Err(Unperformed::More));
+    let tally = Tally::new(false);
+    assert!(rt; performs(&rt, rt.alloc(), &tally, 1000, 16, 1999) == Err(Unperformed::More));
+}
+
+// Whether items are performed by a number of workers, each once, and give their rows in order.
+fn performs_once<R: Threads + Wait + Sync>(
+    rt: &R,
+    alloc: Global,
+    tally: &Tally,
+    count: u32,
+    workers: u32,
+    parts: u64,
+) -> bool
+    requires workers { (1 ≤ workers) × (workers ≤ 16) }
+    requires parts { parts ≤ most_parts }
+{
+    performs(rt, alloc, tally, count, workers, parts) == Ok(true)
+        && tally.is_once_each(count as u64)
+}
+
+// The share of each worker is enough for all items, so the caller performs none.
+#[test]
+fn sixteen_workers_perform_each_item_once(rt: HostRuntime) {
+    let tally = Tally::new(false);
+    assert!(rt; performs_once(&rt, rt.alloc(), &tally, 1000, 16, 32_000));
+}
+
+#[test]
+fn two_workers_draw_one_item_of_each_pair(rt: HostRuntime) {
+    let tally = Tally::new(true);
+    assert!(rt; performs_once(&rt, rt.alloc(), &tally, 64, 2, 256));
 }
 
 // What one seat draws, until there is nothing more, three items at most.
