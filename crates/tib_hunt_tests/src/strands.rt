@@ -143,18 +143,38 @@ fn strand(alloc: Global, number: u32) -> Result<Edges<Node, (Place, Place)>, Exp
     })
 }
 
-// A gate that counts what passes, and adds up the items.
+// A gate that counts what passes, adds up the items, and counts the calls that one worker alone
+// does not make: he passes 0, 1, 2 and so on, as the worker 0.
 #[derive(Drop)]
 struct Counting {
     passes: AtomicU64,
     sum: AtomicU64,
+    others: AtomicU64,
+}
+
+impl Counting {
+    // Nothing passed.
+    fn new() -> Counting {
+        Counting {
+            passes: AtomicU64::new(0),
+            sum: AtomicU64::new(0),
+            others: AtomicU64::new(0),
+        }
+    }
+
+    // Whether so many items passed, with this sum.
+    fn counts_are(&self, passes: u64, sum: u64) -> bool {
+        self.passes.load(Ordering::SeqCst) == passes && self.sum.load(Ordering::SeqCst) == sum
+    }
 }
 
 impl Gate for Counting {
     fn pass(&self, worker: u32, item: u32) {
-        let _worker = worker;
-        self.passes.fetch_add(1, Ordering::SeqCst);
+        let before = self.passes.fetch_add(1, Ordering::SeqCst);
         self.sum.fetch_add(item as u64, Ordering::SeqCst);
+        if worker != 0 || before != item as u64 {
+            self.others.fetch_add(1, Ordering::SeqCst);
+        }
     }
 }
 
@@ -166,15 +186,12 @@ fn finds(alloc: Global, strands: &Strands, gate: &Counting, keys: usize, parts: 
     }
 }
 
-// Whether strands have so many keys and parts, and as many items pass, with this sum.
+// Whether strands have so many keys and parts, and as many items pass in order, with this sum.
 fn pass_once(alloc: Global, strands: &Strands, keys: usize, parts: u64, sum: u64) -> bool {
-    let gate = Counting {
-        passes: AtomicU64::new(0),
-        sum: AtomicU64::new(0),
-    };
+    let gate = Counting::new();
     finds(alloc, strands, &gate, keys, parts)
-        && gate.passes.load(Ordering::SeqCst) == keys as u64
-        && gate.sum.load(Ordering::SeqCst) == sum
+        && gate.counts_are(keys as u64, sum)
+        && gate.others.load(Ordering::SeqCst) == 0
 }
 
 /// Strands in rounds of two items.
@@ -252,9 +269,52 @@ fn crew_agrees<R: Threads + Wait + Sync>(rt: &R, alloc: Global, workers: u32, li
 
 #[test]
 fn crews_find_the_strands_that_one_worker_finds(rt: HostRuntime) {
-    for workers in [2, 3, 16] {
+    for workers in [1, 2, 3, 16] {
         for limit in 1..210 {
             assert!(rt; crew_agrees(&rt, rt.alloc(), workers, limit));
         }
     }
+}
+
+// Whether a crew of so many workers finds the 81 keys of a few strands through a gate.
+fn crew_finds<R: Threads + Wait + Sync>(
+    rt: &R,
+    alloc: Global,
+    workers: u32,
+    gate: &Counting,
+) -> bool
+    requires workers { (1 ≤ workers) × (workers ≤ 16) }
+{
+    match hunt(rt, alloc, &FEW, workers, MOST_PARTS, gate) {
+        Ok(found) => found.order.len() == 81,
+        Err(_) => false,
+    }
+}
+
+// Whether each of these keys passes once.
+fn pass_crew_once<R: Threads + Wait + Sync>(rt: &R, alloc: Global, workers: u32) -> bool
+    requires workers { (1 ≤ workers) × (workers ≤ 16) }
+{
+    let gate = Counting::new();
+    crew_finds(rt, alloc, workers, &gate) && gate.counts_are(81, 3240)
+}
+
+#[test]
+fn each_item_passes_once_by_crews(rt: HostRuntime) {
+    for workers in [2, 3, 16] {
+        assert!(rt; pass_crew_once(&rt, rt.alloc(), workers));
+    }
+}
+
+// Whether a crew of one worker calls the gate as one worker alone does.
+fn one_passes_in_order<R: Threads + Wait + Sync>(rt: &R, alloc: Global) -> bool {
+    let gate = Counting::new();
+    crew_finds(rt, alloc, 1, &gate)
+        && gate.counts_are(81, 3240)
+        && gate.others.load(Ordering::SeqCst) == 0
+}
+
+#[test]
+fn a_crew_of_one_calls_the_gate_as_one_worker_alone(rt: HostRuntime) {
+    assert!(rt; one_passes_in_order(&rt, rt.alloc()));
 }
