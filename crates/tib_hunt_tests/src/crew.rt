@@ -14,9 +14,9 @@ use tib_table::Problem;
 /// How often a worker looks for another before it gives up.
 const TURNS: u32 = 200_000_000;
 
-/// How many items were drawn, how often one was performed, and how many workers gave up. If `waits`,
-/// a worker that drew an item waits until the other item of its pair is drawn: 0 and 1 are a pair, 2
-/// and 3 are one, and so on.
+/// How many items were drawn, how often one was performed, and how many workers gave up. If
+/// `waits`, a worker that drew an item waits until the other item of its pair is drawn: 0 and 1 are
+/// a pair, 2 and 3 are one, and so on.
 #[derive(Drop)]
 struct Tally {
     waits: bool,
