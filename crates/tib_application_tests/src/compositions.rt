@@ -422,3 +422,63 @@ fn composition_reaches(rt: HostRuntime) {
         assert!(rt; agrees(&rt, rt.alloc(), composition));
     }
 }
+
+// Sixty labels H, one above the other, and c below them.
+const TOWER: &[Node] = &[
+    H1, H1, H1, H1, H1, H1, H1, H1, H1, H1, H1, H1, H1, H1, H1, H1, H1, H1, H1, H1, H1, H1, H1, H1,
+    H1, H1, H1, H1, H1, H1, H1, H1, H1, H1, H1, H1, H1, H1, H1, H1, H1, H1, H1, H1, H1, H1, H1, H1,
+    H1, H1, H1, H1, H1, H1, H1, H1, H1, H1, H1, H1, C0,
+];
+
+// q.a -> H(H(.. c)) at the greatest cost
+const TOWERS: [Move; 1] = [(0, &[A0], TOWER, MOST)];
+
+// q.H(x0) -> K(q.x0), q.H(x0) -> K(r.x0) and the same from r
+const BRANCHES: [Move; 4] = [
+    (0, &[H1, X0], &[K1, Q_X0], 0),
+    (0, &[H1, X0], &[K1, R_X0], 0),
+    (1, &[H1, X0], &[K1, Q_X0], 0),
+    (1, &[H1, X0], &[K1, R_X0], 0),
+];
+
+// The same with q.c -> c # 1 and r.c -> c # 1
+const COSTS_AT_LAST: [Move; 6] = [
+    (0, &[H1, X0], &[K1, Q_X0], 0),
+    (0, &[H1, X0], &[K1, R_X0], 0),
+    (0, &[C0], &[C0], 1),
+    (1, &[H1, X0], &[K1, Q_X0], 0),
+    (1, &[H1, X0], &[K1, R_X0], 0),
+    (1, &[C0], &[C0], 1),
+];
+
+// The labels H of a tower are read in 2^60 ways. None of them gives an edge: c is not read, or at too
+// great a cost. A search that finds this only at c never ends.
+static TOWERED: [Composition; 2] = [
+    (
+        &TOWERS,
+        &BRANCHES,
+        &[(0, 0)],
+        &[],
+        3,
+        &[(0, 99, None), (2, 99, None)],
+    ),
+    (
+        &TOWERS,
+        &COSTS_AT_LAST,
+        &[(0, 0)],
+        &[],
+        3,
+        &[(0, 99, None), (2, 99, None)],
+    ),
+];
+
+fn towered() -> &'static [Composition] {
+    &TOWERED
+}
+
+#[test]
+fn a_tower_that_has_no_translation_ends(rt: HostRuntime) {
+    for composition in towered() {
+        assert!(rt; agrees(&rt, rt.alloc(), composition));
+    }
+}
