@@ -1,7 +1,7 @@
 // The reached sets of small grammars, and the limit.
 ghost use Rattle.std.specs.Prelude.{◌≤◌};
 
-use crate::grammars::{Row, are_rules, normal};
+use crate::grammars::{Row, are_rules, normal, normal_of, rule};
 use std::alloc::Global;
 use std::sync::Wait;
 use std::thread::Threads;
@@ -244,4 +244,51 @@ fn every_number_of_workers_reaches_the_same(rt: HostRuntime) {
     for workers in 1..17 {
         assert!(rt; apart_together(&rt, rt.alloc(), workers));
     }
+}
+
+/// How many vectors have the state p, and how many rules have it beside the state r.
+const MANY: u32 = 1500;
+
+// For each number n below that q -> n # n + 1, p -> n # 0 and, from a state of its own, f(p r). Each
+// label n is reached by a vector of its own, which has p. No vector has r.
+fn crowd(alloc: Global) -> Option<Vec<Rule<u32>>> {
+    let mut rules = Vec::new(alloc);
+    for n in 0..MANY {
+        rules.push(rule(alloc, 1, 10 + n, &[], 0)?).ok()?;
+    }
+    for n in 0..MANY {
+        rules.push(rule(alloc, 2, 10 + n, &[], 1 + n as u64)?).ok()?;
+    }
+    for n in 0..MANY {
+        rules.push(rule(alloc, 4 + n, 7, &[1, 3], 0)?).ok()?;
+    }
+    Some(rules)
+}
+
+// The grammar of these rules.
+fn crowded(alloc: Global) -> Option<Normal<MinPlus>> {
+    normal_of(alloc, 4 + MANY, crowd(alloc)?)
+}
+
+// Whether a vector for each label and no other edge are reached of a grammar.
+fn reaches_labels_alone(alloc: Global, normal: &Normal<MinPlus>) -> bool {
+    match determinize(alloc, normal, 20_000_000, &Open) {
+        Ok(found) => found.order.len() == MANY as usize && found.rules.len() == MANY as usize,
+        Err(_) => false,
+    }
+}
+
+// Whether that is so of the grammar above.
+fn reaches_crowd(alloc: Global) -> bool {
+    match crowded(alloc) {
+        Some(normal) => reaches_labels_alone(alloc, &normal),
+        None => false,
+    }
+}
+
+// For each vector and rule the positions of r are looked up, and there are none. A walk that tries
+// every position in their place takes minutes.
+#[test]
+fn positions_without_the_other_state_are_not_tried(rt: HostRuntime) {
+    assert!(rt; reaches_crowd(rt.alloc()));
 }
