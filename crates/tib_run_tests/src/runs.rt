@@ -10,10 +10,12 @@ mod composed_rows;
 mod demo_rows;
 mod determinized_rows;
 mod gates;
+mod hunted_rows;
 mod image_rows;
 mod kbest_rows;
 mod meeting;
 mod parsed_rows;
+mod passing;
 mod rows;
 mod running;
 mod transducer_rows;
@@ -24,12 +26,11 @@ use compared_rows::COMPARED;
 use composed_rows::COMPOSED;
 use demo_rows::{DEMONSTRATED, SEVEN};
 use determinized_rows::DETERMINIZED;
-use gates::{Counting, Watch};
 use image_rows::IMAGED;
 use kbest_rows::{LISTED, LISTED_OTHERS};
 use parsed_rows::PARSED;
-use rows::{BINARY, INTERSECTED, ONE_FILE, PRUNED, RIGHT, Row, WEIGHED, WEIGHED_OTHERS, WIDEST};
-use running::{Calls, Outside, Ran, SOUND, run_through, run_words, run_words_alone};
+use rows::{INTERSECTED, ONE_FILE, PRUNED, Row, WEIGHED, WEIGHED_OTHERS, WIDEST};
+use running::{Calls, Outside, Ran, SOUND, run_words, run_words_alone};
 use transducer_rows::CHECKED;
 
 // How a run is to end: its status, the line on the log, and what goes over.
@@ -501,20 +502,4 @@ fn the_mode_widest_and_determinizations_are_as_worked_out(rt: HostRuntime) {
 fn the_rows_on_demo_run(rt: HostRuntime) {
     assert_eq!(rt; first_wrong(&rt, rt.alloc(), demonstrated()), None);
     assert!(rt; runs(&rt, rt.alloc(), &SEVEN, &SOUND));
-}
-
-// Whether an intersection is done whose gate is passed so often, with items of this sum.
-fn passes_are<R: Threads + Wait + Sync>(rt: &R, alloc: Global, passes: u64, items: u64) -> bool {
-    let gate = Watch::Count(Counting::new());
-    let words = ["intersect", "G", "T"];
-    let first = BINARY.as_bytes();
-    let Ok(ran) = run_through(rt, alloc, &words, first, RIGHT.as_bytes(), &SOUND, &gate) else {
-        return false;
-    };
-    ran.status == Status::Done && gate.counts_are(passes, items)
-}
-
-#[test]
-fn each_pair_passes_the_gate_once(rt: HostRuntime) {
-    assert!(rt; passes_are(&rt, rt.alloc(), 2, 1));
 }

@@ -72,12 +72,14 @@ impl Counting {
 // How often a worker looks for another before it gives up.
 const TURNS: u32 = 200_000_000;
 
-/// Holds the worker of the item 2, and that of the item 3, until another worker came with the other of these, and counts the meetings.
+/// Holds the worker of an item, and that of the next one, until another worker came with the other
+/// of these, and counts the meetings.
 #[derive(Drop)]
 pub struct Meeting {
+    first: u32,
     // the number of the worker that came with the item, from 1; 0 where none did
-    second: AtomicU64,
-    third: AtomicU64,
+    at_first: AtomicU64,
+    at_second: AtomicU64,
     met: AtomicU64,
 }
 
@@ -93,11 +95,12 @@ fn is_met(other: &AtomicU64, own: u64) -> bool {
 }
 
 impl Meeting {
-    /// Nobody came.
-    pub fn new() -> Meeting {
+    /// Nobody came to this item and the next.
+    pub fn new(first: u32) -> Meeting {
         Meeting {
-            second: AtomicU64::new(0),
-            third: AtomicU64::new(0),
+            first,
+            at_first: AtomicU64::new(0),
+            at_second: AtomicU64::new(0),
             met: AtomicU64::new(0),
         }
     }
@@ -113,10 +116,11 @@ impl Meeting {
 
     // Lets an item pass, once the workers met where it is one of the two.
     fn pass(&self, worker: u32, item: u32) {
-        match item {
-            2 => self.meet(&self.second, &self.third, worker),
-            3 => self.meet(&self.third, &self.second, worker),
-            _ => {}
+        if item == self.first {
+            self.meet(&self.at_first, &self.at_second, worker);
+        }
+        if item == self.first.saturating_add(1) {
+            self.meet(&self.at_second, &self.at_first, worker);
         }
     }
 }

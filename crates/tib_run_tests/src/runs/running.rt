@@ -198,14 +198,15 @@ pub fn run_words<R: Threads + Wait + Sync>(
     run_through(rt, alloc, asked, first, second, outside, &Watch::Nothing)
 }
 
-/// The same by one worker, whatever the words say of workers.
-pub fn run_words_alone<R: Threads + Sync>(
+/// The same by one worker, whatever the words say of workers, with this gate.
+pub fn run_alone_through<R: Threads + Sync>(
     rt: &R,
     alloc: Global,
     asked: &[&str],
     first: &[u8],
     second: &[u8],
     outside: &Outside,
+    gate: &Watch,
 ) -> Result<Ran, AllocError> {
     let mut given = prepare(alloc, asked, first, second, outside)?;
     let status = run_alone(
@@ -215,7 +216,19 @@ pub fn run_words_alone<R: Threads + Sync>(
         &mut given.files,
         &mut given.out,
         &mut given.log,
-        &Watch::Nothing,
+        gate,
     );
     Ok(seen(status, given))
+}
+
+/// The same with a gate that does nothing.
+pub fn run_words_alone<R: Threads + Sync>(
+    rt: &R,
+    alloc: Global,
+    asked: &[&str],
+    first: &[u8],
+    second: &[u8],
+    outside: &Outside,
+) -> Result<Ran, AllocError> {
+    run_alone_through(rt, alloc, asked, first, second, outside, &Watch::Nothing)
 }
