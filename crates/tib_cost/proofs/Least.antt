@@ -1,4 +1,4 @@
--- The least cost of a set, and how it is put together.
+-- The least cost of a set, and how it is composed.
 use Rattle.std.specs.Prelude.{◌≡◌, ℕ, min, ◌<◌, ◌≤◌, Bool, Option, None, Some, ◌⊎◌, refl}
 use Rattle.std.proofs.Common.{arith, inl, inr, ap, sym, le_refl, le_trans, subst}
 use Rattle.std.proofs.lemmas.Bool.Decides.{nat_tests}
@@ -125,8 +125,8 @@ pub IsLeast-either_none : {S T : ℕ → Type 0} {v : Option ℕ} → ((n : ℕ)
 IsLeast-either_none empty h =
     IsLeast-same (λ n. inl) (λ n m. elim m [ inl s ↦ s | inr t ↦ absurd (empty n t) ]) h
 
--- Where each cost of the one set has one of the other that is not greater, and the other way round, the least
--- is the same. The sets may differ, as where only the cheapest of equal rules is kept.
+-- If each cost of either set has one in the other that is not greater, both sets have the same
+-- least cost. The sets may differ, as where only the cheapest of equal rules is kept.
 pub IsLeast-dominated :
     {S T : ℕ → Type 0} {v : Option ℕ} → ((n : ℕ) → S n → n ≤ most → (m : ℕ) × T m × (m ≤ n)) →
     ((n : ℕ) → T n → n ≤ most → (m : ℕ) × S m × (m ≤ n)) → IsLeast S v → IsLeast T v

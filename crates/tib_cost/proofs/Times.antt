@@ -11,7 +11,7 @@ cut-within a h = elim (cut-cases a) [ inl c ↦ c.1 | inr c ↦ absurd (omega (a
 pub cut-above : (a : ℕ) → most < a → cut a ≡ None
 cut-above a h = elim (cut-cases a) [ inl c ↦ absurd (omega (arith, c.0)) | inr c ↦ c.1 ]
 
--- what a cut answers is the number, and within the greatest
+-- what a cut returns is the number, and at most the greatest cost
 pub cut-some : (a c : ℕ) → cut a ≡ Some c → (a ≡ c) × (a ≤ most)
 cut-some a c e = elim (cut-cases a) [ inl k ↦ (cc, k.0) | inr k ↦ absurd (cc) ]
 
@@ -20,7 +20,7 @@ none_absorbs product None = refl
 none_absorbs product (Some a) = refl
 
 module _ {levelled weighted : Bool} {product : ℕ → ℕ → ℕ} (laws : ProductLaws levelled weighted product) where
-  -- 0 is the cost of nothing on the right side too
+  -- 0 is neutral as the right factor too
   pub product-zero : (a : ℕ) → product a 0 ≡ a
   product-zero a = laws.commutes a 0 ∙ laws.neutral a
 

@@ -11,8 +11,8 @@ is_weighted scales.Unweighted = false
 is_weighted scales.Plain = true
 is_weighted scales.Reversed = true
 
--- The cost that a weight stands for: the weight itself, or what it lacks to the greatest one. Where
--- nothing is weighed it is not asked for.
+-- The cost that a weight stands for: the weight itself, or the greatest cost less the weight. Where
+-- no weight is kept it is not used.
 abbrev pub cost_in : Scale → ℕ → ℕ
 cost_in scales.Unweighted weight = weight
 cost_in scales.Plain weight = weight

@@ -11,8 +11,7 @@ pub fn times_commutes<S: Semiring>()
     ensures { (v w : Option ℕ) → times S.product v w ≡ times S.product w v }
 {}
 
-/// Of three factors the first two or the last two may be taken together, even though each product
-/// is cut.
+/// A product of three factors may be grouped either way, even though each product is cut.
 pub fn times_regroups<S: Semiring>()
     ensures { (u v w : Option ℕ) → times S.product (times S.product u v) w
         ≡ times S.product u (times S.product v w) }
@@ -73,7 +72,7 @@ pub fn residual_is_least<S: Semiring>()
         times S.product (Some m) (Some s) ≡ Some a → r ≤ s }
 {}
 
-/// Of a weight and its cost each gives the other, and both are at most `MOST`.
+/// A weight and its cost determine each other, and both are at most `MOST`.
 pub fn weights_are_costs<S: Semiring>()
     ensures weight { (w : ℕ) → w ≤ most → weight_in S.SCALE (cost_in S.SCALE w) ≡ w }
     ensures cost { (c : ℕ) → c ≤ most → cost_in S.SCALE (weight_in S.SCALE c) ≡ c }

@@ -1,4 +1,4 @@
--- Calls behind those that left the known bytes as they were.
+-- Calls after those that left the known bytes as they were.
 use Rattle.std.proofs.Common.{ℕ, List, None, Some, Result, Ok, Err, take, subst}
 use Rattle.std.specs.Prelude.{Option}
 use Rattle.std.specs.Io.KnownBytes.{Keeps, Appends, Consumes, ReadConsumes, WriteAppends}

@@ -7,7 +7,7 @@ use crate::{Failed, Sink};
 use std::alloc::Global;
 use std::marker::Model;
 
-/// A sink that takes memory for what is written. It fails only where memory is refused.
+/// A sink that takes memory for what is written. It fails only if memory is refused.
 #[derive(Drop)]
 pub struct GrowingSink {
     bytes: Vec<u8>,
@@ -35,7 +35,7 @@ impl GrowingSink {
         }
     }
 
-    /// What was written.
+    /// The bytes that were written.
     pub fn bytes(&self) -> &[u8]
         ensures { result.now ≡ self.now.bytes }
     {

@@ -1,4 +1,4 @@
--- To draw a ticket and to take the value when it is served keeps the rule.
+-- Drawing a ticket, and taking the value when it is served, keep the rule.
 use Rattle.std.proofs.Common.{◌≡◌, ℕ, zero, suc, ◌+◌, ◌-◌, ◌^◌, ◌<◌, List, [], ◌∷◌, get_or, set, eqb, Option, Some, refl, sym, ap, ◌∙◌, subst, arith, length-set}
 use mathlib.Core.Logic.{dite}
 use native.Mathlib.Decide.{ℕ_discrete}

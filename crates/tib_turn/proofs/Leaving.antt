@@ -1,4 +1,4 @@
--- To give the value back keeps the rule.
+-- Giving the value back keeps the rule.
 use Rattle.std.proofs.Common.{◌≡◌, ℕ, suc, ◌+◌, ◌%◌, ◌^◌, List, [], ◌∷◌, get_or, set, true, false, Option, Some, None, refl, sym, ap, ◌∙◌, subst, arith, length-set, mod-eq_of_lt}
 use mathlib.Core.Option.{none, some}
 use lib.ListN.{get_elem?}

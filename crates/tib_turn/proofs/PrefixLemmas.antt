@@ -10,7 +10,7 @@ module _ {A : Type 0} where
   pub IsPrefix-trans : (xs ys zs : List A) → IsPrefix xs ys → IsPrefix ys zs → IsPrefix xs zs
   IsPrefix-trans xs ys zs a b = (a.0 ++ b.0, b.1 ∙ ap (λ l. l ++ b.0) a.1 ∙ append_assoc xs a.0 b.0)
 
-  -- of two beginnings of one list the IsPrefix-shorter begins the longer
+  -- of two prefixes of one list the shorter is a prefix of the longer
   pub IsPrefix-shorter : (xs ys a b : List A) → xs ++ a ≡ ys ++ b → length xs ≤ length ys → IsPrefix xs ys
   IsPrefix-shorter [] ys a b e l = (ys, refl)
   IsPrefix-shorter (x ∷ xs) [] a b e l = absurd (omega arith)

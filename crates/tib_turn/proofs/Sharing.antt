@@ -1,4 +1,4 @@
--- To split a pass, to join two and to compare what they have seen keeps the rule.
+-- Splitting a pass, joining two and comparing what they have seen keep the rule.
 use Rattle.std.proofs.Common.{◌≡◌, ◌≢◌, ℕ, suc, List, [], ◌∷◌, ◌++◌, length, set, Option, refl, sym, ap, ◌∙◌, subst, ⊎_elim}
 use Rattle.std.specs.Prelude.{nat_lt}
 use mathlib.Core.Option.{none, some, some-injective}

@@ -5,7 +5,7 @@ use Rattle.tib_turn.specs.declared.view.View.{View}
 use Rattle.tib_turn.specs.declared.view.Stage.{Stage}
 use Rattle.tib_turn.specs.declared.view.Stage.TheVariants.{Idle, Waiting, Inside}
 
--- of which lock a pass is, the list that it has seen, and whether it is in a turn
+-- the lock of a pass, the list that it has seen, and whether it is in a turn
 pub record Seen (E : Type 0) : Type 0 where
   pub lock : TableId
   pub seen : List E

@@ -1,4 +1,4 @@
--- What each step tells the pass that takes it.
+-- What a pass learns from each step that it takes.
 use Rattle.std.specs.Prelude.{◌≡◌, ◌≢◌, ℕ, List, [], ◌∷◌, Option, Some, None}
 use Rattle.atomic_table.specs.Table.{Me, Step}
 use Rattle.tib_turn.specs.declared.view.View.{View}
@@ -11,7 +11,7 @@ module _ {V E : Type 0} (log : V → List E) where
   abbrev St : Type 0
   St = Me (Option V) (View E)
 
-  -- a ticket was drawn where the word was the one expected
+  -- a ticket was drawn if the word was the one expected
   abbrev pub Drawn : Step (Option V) → St → ℕ → St → Type 0
   Drawn s m found n = (found ≡ s.first → n ≡ (view m.0.seen m.0.told (Waiting found), m.1)) × (found ≢ s.first → n ≡ m)
 
@@ -19,8 +19,8 @@ module _ {V E : Type 0} (log : V → List E) where
   abbrev pub Entered : St → St → Type 0
   Entered m n = (v : V) × (n.1 ≡ (0, Some v) ∷ m.1) × (n.0.seen ≡ log v) × IsInside n.0.stage × IsPrefix m.0.seen (log v)
 
-  -- a waiting seat found which ticket is served: it entered where that is its own, and else nothing
-  -- changed
+  -- a waiting seat found which ticket is served: it entered if that is its own, and otherwise
+  -- nothing changed
   abbrev pub Looked : Step (Option V) → St → ℕ → St → Type 0
   Looked s m found n = (t : ℕ) → m.0.stage ≡ Waiting t → (found ≡ t → Entered m n) × (found ≢ t → n ≡ m)
 

@@ -14,7 +14,7 @@ module _ {E : Type 0} where
   abbrev pub view : List E → List E → Stage → View E
   view seen told stage = record { seen = seen; told = told; stage = stage }
 
-  -- what a pass knows that is out of a turn and was told nothing
+  -- what a pass knows that is out of a turn and took in no other pass
   abbrev pub idle : List E → View E
   idle seen = view seen [] Idle
 
@@ -35,8 +35,8 @@ module _ (holder : ℕ) (owner : ℕ → ℕ) (ticket serving j : ℕ) where
 module _ {V E : Type 0} (log : V → List E) where
   -- Turns are taken in the order of tickets, one at a time, and what each seat has seen is a prefix
   -- of `agreed`. That is the log of the value while no turn is held, and the log at entry while one
-  -- is. `holder` is 0, or one more than the number of the seat in its turn; `owner` tells for each
-  -- ticket the seat that drew it.
+  -- is. `holder` is 0, or one more than the number of the seat in its turn; `owner` maps each
+  -- ticket to the seat that drew it.
   pub record InTurns (s : State (Option V) (View E)) : Type 0 where
     pub agreed : List E
     pub holder : ℕ

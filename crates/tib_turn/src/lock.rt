@@ -32,8 +32,8 @@ impl<V: Grows> Model for TurnLock<V> {
     ghost invariant = { λ l. (l.table.shared.table_id.words ≡ 2) × (l.table.shared.table_id.slots ≡ 1) };
 }
 
-/// What enters a lock. It knows of which lock it is, a list that it has seen, which is a prefix of
-/// the log, and whether it is in a turn.
+/// What enters a lock. It knows its lock, a list that it has seen, which is a prefix of the log,
+/// and whether it is in a turn.
 #[derive(Drop)]
 pub struct Pass<V: Grows> {
     seat: Seat<Option<V>, View<V::Entry>>,
@@ -50,7 +50,7 @@ impl<V: Grows> Model for Pass<V> {
     ghost invariant = { λ p. Stands V.log p.seat.me.0.stage p.seat.me.1 };
 }
 
-/// The value, for the time of a turn. It is not `Drop`: only `TurnLock::leave` ends it.
+/// The value during a turn. It is not `Drop`: only `TurnLock::leave` ends it.
 pub struct Turn<'a, V> {
     /// The value itself. Its log may be made longer in the turn.
     pub value: V,
@@ -58,8 +58,8 @@ pub struct Turn<'a, V> {
 }
 
 impl<V: Grows> TurnLock<V> {
-    /// A lock over the value, and its first pass, which has seen the value's log. Only for want of
-    /// memory the value comes back, as it was.
+    /// A lock over the value, and its first pass, which has seen the value's log. If memory is
+    /// refused, the value comes back as it was.
     pub fn open(alloc: Global, value: V) -> Result<(TurnLock<V>, Pass<V>), V>
         ensures opened { IfOk result (λ r. r.1 ≡ record {
           lock = r.0;
@@ -83,9 +83,9 @@ impl<V: Grows> TurnLock<V> {
         }
     }
 
-    /// Waits for the pass's turn, and hands out the value. The log goes on from what the pass has
-    /// seen, and now the pass has seen it whole. It takes no memory. It may wait for ever: while
-    /// another turn is held, or where 2^64 - 1 turns were taken.
+    /// Waits for the pass's turn, and hands out the value. Its log extends what the pass had seen,
+    /// and the pass has now seen all of it. It takes no memory. It may wait forever: while another
+    /// turn is held, or once 2^64 - 1 tickets were drawn.
     pub fn enter<R: Wait>(&self, rt: &R, pass: &mut Pass<V>) -> Turn<'_, V>
         requires lock { pass.old.lock ≡ self.now }
         requires outside { pass.old.inside ≡ false }
@@ -104,8 +104,8 @@ impl<V: Grows> TurnLock<V> {
         }
     }
 
-    /// Ends the turn, and serves the next ticket. The value's log goes on from what it was at
-    /// entry, and the pass has seen it whole. It takes no memory and never waits.
+    /// Ends the turn, and serves the next ticket. The value's log must extend what it was at entry,
+    /// and the pass has then seen all of it. It takes no memory and never waits.
     pub fn leave(&self, turn: Turn<'_, V>, pass: &mut Pass<V>)
         requires lock { pass.old.lock ≡ self.now }
         requires inside { pass.old.inside ≡ true }
@@ -121,7 +121,7 @@ impl<V: Grows> TurnLock<V> {
         let empty = shared.exchange(&mut pass.seat, 0, Some(value));
         let None = empty else { unreachable!() };
         let ticket = shared.fetch_add::<EndTurn<V>>(&mut pass.seat, 1, 1);
-        // Who drew a ticket after this look finds the turn ended before it could sleep.
+        // A pass that draws its ticket after this look finds the turn ended before it can sleep.
         if shared.peek(0) != ticket.wrapping_add(1) {
             shared.wake_all(1);
         }
@@ -139,8 +139,8 @@ impl<V: Grows> TurnLock<V> {
         }
     }
 
-    /// Takes in another pass, and leaves this one with the longer of both lists, of which both are
-    /// prefixes. It takes no memory and never waits.
+    /// Takes in another pass, and leaves this one with the longer of the two lists, of which each
+    /// is a prefix. It takes no memory and never waits.
     pub fn join(&self, pass: &mut Pass<V>, other: Pass<V>)
         requires lock { pass.old.lock ≡ self.now }
         requires other_lock { other.lock ≡ self.now }
@@ -161,8 +161,8 @@ impl<V: Grows> TurnLock<V> {
 }
 
 impl<V: Grows + Drop> TurnLock<V> {
-    /// Waits for a last turn, and gives the value for good. Its log goes on from what the pass has
-    /// seen. It takes no memory.
+    /// Waits for a last turn, as `enter` does, and returns the value for good. Its log extends what
+    /// the pass has seen. It takes no memory.
     pub fn close<R: Wait>(self, rt: &R, mut pass: Pass<V>) -> V
         requires lock { pass.lock ≡ self }
         requires outside { pass.inside ≡ false }

@@ -5,8 +5,8 @@ use atomic_table::{Join, Play, Split, TableRule};
 use std::marker::PhantomData;
 use std::snapshot::Snapshot;
 
-/// What holds between any two steps: the log of the value under the lock goes on from what each
-/// pass has seen.
+/// What holds between any two steps: the log of the value under the lock extends what each pass has
+/// seen.
 pub struct TakesTurns<V> {
     of: PhantomData<V>,
 }
@@ -30,7 +30,7 @@ impl<V: Grows> Play<Option<V>, View<V::Entry>> for DrawTicket<V> {
     ghost then = { Drawn V.log };
 }
 
-/// A step that reads which ticket is served, and takes the value where it is the pass's own.
+/// A step that reads which ticket is served, and takes the value if it is the pass's own.
 pub struct ReadServed<V> {
     of: PhantomData<V>,
 }
@@ -52,8 +52,8 @@ impl<V: Grows> Play<Option<V>, View<V::Entry>> for EndTurn<V> {
     ghost then = { Left V.log };
 }
 
-/// A step that changes nothing, from which a pass learns that of its two lists one is a prefix of
-/// the other.
+/// A step that changes nothing, and shows a pass that one of its two lists is a prefix of the
+/// other.
 pub struct SeeLonger<V> {
     of: PhantomData<V>,
 }

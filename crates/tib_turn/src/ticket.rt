@@ -15,10 +15,10 @@ use std::sync::Wait;
 /// The words and the slot of a lock.
 pub type Steps<V> = Shared<Option<V>, View<<V as Grows>::Entry>, Snapshot<V>, TakesTurns<V>>;
 
-/// A pass's place at them.
+/// A pass's seat at them.
 pub type Place<V> = Seat<Option<V>, View<<V as Grows>::Entry>>;
 
-/// Draws a ticket. Where all 2^64 - 1 tickets are drawn it waits for ever.
+/// Draws a ticket. If all 2^64 - 1 tickets are drawn, it waits forever.
 pub fn take_ticket<V: Grows, R: Wait>(rt: &R, steps: &Steps<V>, place: &mut Place<V>) -> u64
     requires fits { (place.old.table_id ≡ steps.now.table_id) × (steps.now.table_id.words ≡ 2) }
     requires out { (place.old.me.0.stage ≡ Stage.Idle) × (place.old.me.1 ≡ []) }
@@ -38,10 +38,11 @@ pub fn take_ticket<V: Grows, R: Wait>(rt: &R, steps: &Steps<V>, place: &mut Plac
     unreachable!()
 }
 
-/// How often a pass looks for its turn before it sleeps: turns are short, and to sleep and be woken takes as long as many of them.
+/// How often a pass looks for its turn before it sleeps: turns are short, and sleeping and waking
+/// up takes as long as many of them.
 const LOOKS: u32 = 1000;
 
-// Looks whether the ticket is served until it is, or until that was looked for often enough.
+// Waits until the ticket is served, for at most `LOOKS` looks.
 fn look_for_turn<V: Grows>(steps: &Steps<V>, ticket: u64)
     requires { steps.now.table_id.words ≡ 2 }
 {
@@ -53,7 +54,8 @@ fn look_for_turn<V: Grows>(steps: &Steps<V>, ticket: u64)
     }
 }
 
-/// Waits until the ticket is served, and takes the value out of the slot. It sleeps only where its turn does not come soon.
+/// Waits until the ticket is served, and takes the value out of the slot. It sleeps only if its
+/// turn does not come soon.
 pub fn wait_for_turn<V: Grows, R: Wait>(
     rt: &R,
     steps: &Steps<V>,
