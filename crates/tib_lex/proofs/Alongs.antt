@@ -46,7 +46,7 @@ along_more R [] (b ∷ ys) x y a r = absurd a
 along_more R (z ∷ xs) [] x y a r = absurd a
 along_more R (z ∷ xs) (b ∷ ys) x y a r = (a.0, along_more R xs ys x y a.1 r)
 
--- partners behind others
+-- partners after others
 pub along_append : {A B : Type 0} (R : A → B → Type 0) (xs zs : List A) (ys ws : List B) → Along R xs ys → Along R zs ws → Along R (xs ++ zs) (ys ++ ws)
 along_append R [] zs [] ws a b = b
 along_append R [] zs (y ∷ ys) ws a b = absurd a

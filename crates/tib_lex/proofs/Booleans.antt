@@ -1,4 +1,4 @@
--- Laws of truth values, and of cases that can be told.
+-- Laws of truth values, and of cases that can be decided.
 use Rattle.std.specs.Prelude.{◌≡◌, ◌⊎◌, Bool, true, false, ◌&&◌, ◌||◌, refl}
 use Rattle.std.proofs.Common.{inl, inr}
 

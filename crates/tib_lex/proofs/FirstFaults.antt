@@ -1,4 +1,5 @@
--- A reader of lines gives the first fault, where each line is read as what it holds or as its fault.
+-- A reader of lines gives the first fault, where each line is read as what it holds or as its
+-- fault.
 use Rattle.std.proofs.Common.{◌≡◌, ℕ, inl, inr, List, [], ◌∷◌, ◌++◌, ap, sym, ◌∙◌, suc, Option, subst}
 use Rattle.std.specs.Prelude.{Some, None, Result, Ok, Err}
 use Rattle.tib_lex.specs.Lines.{front, with_line, each_line}
@@ -11,7 +12,7 @@ abbrev pub Fits : {X : Type 0} → (List ℕ → Type 0) → (List ℕ → Fault
 Fits Holds HasFault line (Ok held) = Holds line
 Fits Holds HasFault line (Err kind) = HasFault line kind
 
--- a fault behind some values is the fault of what is behind them
+-- a fault after some values is the fault of what follows them
 pub front_err : {X F : Type 0} (done : List X) (r : Result (List X) F) (fault : F) → front done r ≡ Err fault → r ≡ Err fault
 front_err done (Ok more) fault e = let bad : Ok (done ++ more) ≡ Err fault = e in absurd (cc)
 front_err done (Err f) fault e = e

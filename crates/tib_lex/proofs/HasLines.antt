@@ -9,7 +9,7 @@ no_feed_first : (c : Bool) (b : ℕ) (line : List ℕ) → c ≡ (b == 10) → (
 no_feed_first true b line e h = cc
 no_feed_first false b line e h = (refl, h)
 
--- bytes without a line feed stand in front of the first line
+-- bytes without a line feed are put in front of the first line
 pushes : (line rest : List ℕ) (first : List ℕ) (lines : List (List ℕ)) → HasNoFeed line → lines_of rest ≡ first ∷ lines → lines_of (line ++ rest) ≡ (line ++ first) ∷ lines
 pushes [] rest first lines h e = e
 pushes (b ∷ line) rest first lines h e =

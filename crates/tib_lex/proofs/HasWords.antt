@@ -143,7 +143,7 @@ word_there bl word rest = ap (word_of (kind_of word)) (slice_there bl (spelling 
 pub next_word : (bl : List ℕ) (word : Word) (rest : List ℕ) → list_all is_blank bl ≡ true → IsWord word → MayPrecede word rest → next (bl ++ (spelling word ++ rest)) 0 ≡ lexed.Token (token_of word (length bl))
 next_word bl word rest white w p = next_at bl (spelling word ++ rest) white (black_word word rest w) ∙ first_again word rest (length bl) w p
 
--- a word at the front, and what is read behind it
+-- a word at the front, and what is read after it
 first_word : (bl : List ℕ) (word : Word) (rest : List ℕ) → list_all is_blank bl ≡ true → IsWord word → MayPrecede word rest → words_of (bl ++ (spelling word ++ rest)) ≡ option_map (λ words. word ∷ words) (words_of rest)
 first_word bl word rest white w p =
     words_step (bl ++ (spelling word ++ rest)) (token_of word (length bl)) (next_word bl word rest white w p)
@@ -232,11 +232,11 @@ means bytes at lexed.End black e = quiet_alone bytes at e
 means bytes at (lexed.BadToken p) black e = record { loud = loud_of bytes at p e; black = black; no_word = no_word_of bytes at p e }
 means bytes at (lexed.Token t) black e = found bytes at t e
 
--- a token that is told like a word is the token of the word
+-- a token with the kind and the length of a word is the token of the word
 pub same_token : (t : Token) (word : Word) (at : ℕ) → lexed.Token t ≡ span (kind_of word) at (length (spelling word)) → t ≡ token_of word at
 same_token t word at e = cc
 
--- the word that was read, in front of what is read behind it
+-- the word that was read, in front of what is read after it
 pub token_word : (bytes bl back : List ℕ) (t : Token) (f : Found back (length bl) (lexed.Token t)) → bytes ≡ bl ++ back → (word_of t.kind (slice_range bytes t.start t.end) ≡ f.word) × (drop t.end bytes ≡ f.rest)
 token_word bytes bl back t f e =
     let same : t ≡ token_of f.word (length bl) = same_token t f.word (length bl) f.is in

@@ -21,7 +21,7 @@ first_line false b rest n m h e =
     let g : suc n + 1 ≡ suc (n + 1) = omega arith in
     rw (f, g) (pushed b rest n h)
 
--- the lines are the first one and those behind its line feed
+-- the lines are the first one and those after its line feed
 pub lines_step : (xs : List ℕ) → 0 < length xs → lines_of xs ≡ take (prefix_len not_feed xs) xs ∷ lines_of (drop (prefix_len not_feed xs + 1) xs)
 lines_step [] h = absurd (omega arith)
 lines_step (b ∷ rest) h = first_line (b == 10) b rest (prefix_len not_feed rest) (prefix_len not_feed (b ∷ rest)) (lines_step rest) refl
@@ -30,7 +30,7 @@ behind_line : (bytes : List ℕ) (end next : ℕ) → ((end < length bytes) × (
 behind_line bytes end next (inl h) = ap (λ (n : ℕ). drop n bytes) (sym h.1)
 behind_line bytes end next (inr h) = drop_all (end + 1) bytes (omega arith) ∙ sym (drop_all next bytes (omega arith))
 
--- the lines from a place on are the one there and those behind it
+-- the lines from a place on are the one there and those after it
 pub line_there : (bytes : List ℕ) (at end next : ℕ) → at < length bytes → end ≡ at + prefix_len not_feed (drop at bytes) → ((end < length bytes) × (next ≡ end + 1)) ⊎ ((end ≡ length bytes) × (next ≡ end)) → lines_of (drop at bytes) ≡ slice_range bytes at end ∷ lines_of (drop next bytes)
 line_there bytes at end next more ends behind =
     let p : ℕ = prefix_len not_feed (drop at bytes) in
@@ -50,7 +50,7 @@ pub front_more : {X F : Type 0} (done : List X) (x : X) (r : Result (List X) F) 
 front_more done x (Ok more) = ap Ok (sym (append_assoc done (x ∷ []) more))
 front_more done x (Err fault) = refl
 
--- what is read from a line on is what it gives, and what is read behind it
+-- what is read from a line on is what it gives, and what is read after it
 pub line_read : {X : Type 0} (read : List ℕ → Result (Option X) FaultKind) (bytes : List ℕ) (n at : ℕ) (line : Line) → IsNextLine bytes n at line → each_line read n (lines_of (drop at bytes)) ≡ with_line n (read (slice_range bytes line.start line.end)) (each_line read (n + 1) (lines_of (drop line.next bytes)))
 line_read read bytes n at line is =
     let m : suc n ≡ n + 1 = omega arith in

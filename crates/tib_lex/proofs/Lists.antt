@@ -6,14 +6,14 @@ use Rattle.std.proofs.Common.{suc, arith, ap, sym, ◌∙◌, get_or, position, 
 use Rattle.std.proofs.lemmas.List.{length-map}
 use Rattle.tib_lex.specs.Lists.{Has, Each, Ascends, total}
 
--- lists that are the same have the same first member, and the same members behind it
+-- equal lists have the same first member, and the same members after it
 pub head_is : {A : Type 0} {x y : A} {xs ys : List A} → x ∷ xs ≡ y ∷ ys → x ≡ y
 head_is e = cc
 
 pub tail_is : {A : Type 0} {x y : A} {xs ys : List A} → x ∷ xs ≡ y ∷ ys → xs ≡ ys
 tail_is e = cc
 
--- values that are there and the same are the same
+-- values are the same where `Some` of them is
 pub some_same : {A : Type 0} (x y : A) → Some x ≡ Some y → x ≡ y
 some_same x y e = cc
 
@@ -21,7 +21,7 @@ some_same x y e = cc
 pub some_is : {A : Type 0} {x y : A} → Some x ≡ Some y → x ≡ y
 some_is e = cc
 
--- nothing behind a list is the list
+-- a list with nothing after it is the list
 pub append_nil : {A : Type 0} (xs : List A) → xs ++ [] ≡ xs
 append_nil [] = refl
 append_nil (x ∷ xs) = ap (λ y. x ∷ y) (append_nil xs)
@@ -108,7 +108,7 @@ pub map_twice : {A B C : Type 0} (g : B → C) (h : A → B) (xs : List A) → m
 map_twice g h [] = refl
 map_twice g h (x ∷ xs) = ap (λ z. g (h x) ∷ z) (map_twice g h xs)
 
--- a member stands in the mapped list as what the function gives for it
+-- what the function gives for a member is in the mapped list
 pub mapped_has : {A B : Type 0} (f : A → B) (xs : List A) (x : A) → Has xs x → Has (map f xs) (f x)
 mapped_has f [] x h = absurd h
 mapped_has f (y ∷ xs) x h = elim h [ inl e ↦ inl (ap f e) | inr k ↦ inr (mapped_has f xs x k) ]

@@ -1,4 +1,4 @@
--- Members of lists: where they stand, of what lists they are, and what holds of each.
+-- Members of lists: their places, the lists that they are in, and what holds of each.
 use Rattle.std.specs.Prelude.{◌≡◌, ℕ, ◌<◌, List, [], ◌∷◌, length}
 use Rattle.std.proofs.Common.{◌⊎◌, ◌++◌, get_or, Contains, refl, sym, subst, arith, zero, suc, inl, inr}
 use Rattle.tib_lex.specs.Lists.{Has, Each, Distinct, Ascends}
@@ -11,7 +11,7 @@ pub each_of : {A : Type 0} (P : A → Type 0) (xs : List A) → ((x : A) → Has
 each_of P [] f = tt
 each_of P (x ∷ xs) f = (f x (inl refl), each_of P xs (λ y h. f y (inr h)))
 
--- what stands at a place stands in the list, and the other way round
+-- what is at a place is in the list, and the other way round
 pub has_at : {A : Type 0} (xs : List A) (n : ℕ) (d : A) → n < length xs → Has xs (get_or xs n d)
 has_at [] n d h = absurd (omega arith)
 has_at (x ∷ xs) zero d h = inl refl

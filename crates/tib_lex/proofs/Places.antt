@@ -1,4 +1,4 @@
--- What stands at a place of a list, of its front, and of a list that goes on.
+-- What is at a place of a list, of its front, and of a list that goes on.
 use Rattle.std.specs.Prelude.{◌≡◌, ℕ, ◌<◌, List, [], ◌∷◌, length, refl, take, ◌+◌, ◌++◌, ◌≤◌, drop, slice_index_or, zero, suc, map}
 use Rattle.std.proofs.Common.{arith, ap, sym, subst, get_or, ◌∙◌, inl, inr}
 use Rattle.std.proofs.Math.Seq.{get_or-append_seam}
@@ -35,20 +35,20 @@ take_whole [] (suc i) h = refl
 take_whole (x ∷ xs) zero h = absurd (omega arith)
 take_whole (x ∷ xs) (suc i) h = ap (λ ys. x ∷ ys) (take_whole xs i (omega arith))
 
--- and nothing is left behind it
+-- and nothing is left after it
 pub drop_whole : {A : Type 0} (xs : List A) (i : ℕ) → length xs ≤ i → drop i xs ≡ []
 drop_whole [] zero h = refl
 drop_whole [] (suc i) h = refl
 drop_whole (x ∷ xs) zero h = absurd (omega arith)
 drop_whole (x ∷ xs) (suc i) h = drop_whole xs i (omega arith)
 
--- a front and what is behind it are the list
+-- a front and what is after it are the list
 pub take_drop : {A : Type 0} (n : ℕ) (xs : List A) → take n xs ++ drop n xs ≡ xs
 take_drop zero xs = refl
 take_drop (suc n) [] = refl
 take_drop (suc n) (x ∷ xs) = ap (λ zs. x ∷ zs) (take_drop n xs)
 
--- in a list that has no member twice, what stands at a place is not in the front before it
+-- in a list that has no member twice, what is at a place is not in the front before it
 pub not_before : {A : Type 0} (xs : List A) (i : ℕ) (d : A) → Distinct xs → i < length xs → Has (take i xs) (get_or xs i d) → ⊥
 not_before [] i d s h k = omega arith
 not_before (x ∷ xs) zero d s h k = k
@@ -75,7 +75,7 @@ any_default [] n d e h = absurd (omega arith)
 any_default (x ∷ xs) zero d e h = refl
 any_default (x ∷ xs) (suc n) d e h = any_default xs n d e (omega arith)
 
--- what is added to a list stands at its end
+-- what is added to a list is at its end
 pub last_is : {A : Type 0} (xs : List A) (x d : A) (i : ℕ) → i ≡ length xs → get_or (xs ++ x ∷ []) i d ≡ x
 last_is xs x d i e = ap (λ n. get_or (xs ++ x ∷ []) n d) e ∙ get_or-append_seam xs x [] d
 

@@ -7,6 +7,6 @@ pub ok_both : {T E : Type 0} (r : Result T E) (P Q R : T → Type 0) → ((x : T
 ok_both (Ok x) P Q R f h k = f x h k
 ok_both (Err e) P Q R f h k = tt
 
--- errors that are answered and the same are the same
+-- errors are the same where the results with them are
 pub err_same : {T E : Type 0} (f g : E) → ◌≡◌ {A = Result T E} (Err f) (Err g) → f ≡ g
 err_same f g e = cc

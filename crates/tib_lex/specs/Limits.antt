@@ -1,4 +1,4 @@
--- Limits that crates share which do not stand on each other.
+-- Limits shared by crates that do not depend on each other.
 use Rattle.std.specs.Prelude.{ℕ}
 
 -- the most parts that a constructed object may have

@@ -38,7 +38,7 @@ abbrev pub front : {X F : Type 0} → List X → Result (List X) F → Result (L
 front done (Ok more) = Ok (done ++ more)
 front done (Err fault) = Err fault
 
--- what the line of a number gives, before what is read behind it
+-- what the line with a number gives, before what is read after it
 abbrev pub with_line : {X : Type 0} → ℕ → Result (Option X) FaultKind → Result (List X) FileFault →
     Result (List X) FileFault
 with_line n (Err kind) more = Err (record { line = n; kind = kind })

@@ -1,7 +1,7 @@
 -- Members of lists, and relations between lists.
 use Rattle.std.specs.Prelude.{◌≡◌, ◌⊎◌, ◌+◌, ℕ, nat_eq, if◌then◌else◌, List, [], ◌∷◌}
 
--- x stands in the list
+-- x is in the list
 abbrev pub Has : {A : Type 0} → List A → A → Type 0
 Has [] x = ⊥
 Has (y ∷ ys) x = (y ≡ x) ⊎ Has ys x
@@ -11,7 +11,7 @@ abbrev pub Each : {A : Type 0} → (A → Type 0) → List A → Type 0
 Each P [] = Unit {0}
 Each P (x ∷ xs) = P x × Each P xs
 
--- no value stands twice
+-- no value occurs twice
 abbrev pub Distinct : {A : Type 0} → List A → Type 0
 Distinct [] = Unit {0}
 Distinct (x ∷ xs) = (Has xs x → ⊥) × Distinct xs
@@ -35,12 +35,12 @@ pub record IsReordering {A : Type 0} (xs ys : List A) : Type 0 where
   pub once_first : Distinct xs
   pub once_second : Distinct ys
 
--- f of each member, added up (std's `sum_by`, so written that it computes on the first member)
+-- f of each member, added up (std's `sum_by`, written so that it computes on the first member)
 abbrev pub total : {A : Type 0} → (A → ℕ) → List A → ℕ
 total f [] = 0
 total f (x ∷ xs) = f x + total f xs
 
--- how often n stands in the list
+-- how often n occurs in the list
 abbrev pub occurrences : ℕ → List ℕ → ℕ
 occurrences n [] = 0
 occurrences n (m ∷ ms) = (if nat_eq n m then 1 else 0) + occurrences n ms

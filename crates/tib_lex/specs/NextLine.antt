@@ -4,7 +4,7 @@ use Rattle.std.specs.List.{prefix_len}
 use Rattle.tib_lex.specs.Lines.{not_feed, lines_of}
 use Rattle.tib_lex.specs.declared.lines.Line.{Line}
 
--- A line that begins at a place ends before the next line feed, and the next one begins behind it;
+-- A line that begins at a place ends before the next line feed, and the next one begins after it;
 -- the last may end the file.
 pub record IsNextLine (bytes : List ℕ) (number at : ℕ) (line : Line) : Type 0 where
   pub numbered : line.number ≡ number

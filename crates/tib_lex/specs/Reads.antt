@@ -1,4 +1,4 @@
--- What is read of a line from a place on, in the words of the format.
+-- What is read of a line from a place on, in the terms of the format.
 use Rattle.std.specs.Prelude.{◌≡◌, ℕ, ◌+◌, true, List, ◌++◌, [], length}
 use Rattle.std.specs.List.{list_all}
 use Rattle.tib_lex.specs.Bytes.{is_blank}
@@ -8,7 +8,7 @@ use Rattle.tib_lex.specs.declared.token.Token.{Token}
 use Rattle.tib_lex.specs.declared.token.Lexed.{Lexed}
 use Rattle.tib_lex.specs.declared.token.Lexed.TheVariants as lexed
 
--- a token that is a word behind white space
+-- a token that is a word after white space
 pub record ReadsToken (bytes : List ℕ) (at : ℕ) (t : Token) : Type 0 where
   pub blanks : List ℕ
   pub rest : List ℕ

@@ -11,28 +11,28 @@ pub enum FaultKind {
     /// No line of the file has a token, so it has no start.
     #[error("no start")]
     NoStart,
-    /// At a place of the line no token begins.
+    /// At some place of the line no token begins.
     #[error("bad token")]
     BadToken,
-    /// The tokens are no start in the start's place, or no rule in a rule's place.
+    /// The tokens are not a start in the start's place, or not a rule in a rule's place.
     #[error("bad rule")]
     BadRule,
     /// The tokens are not one tree.
     #[error("bad tree")]
     BadTree,
-    /// A left side is a variable alone.
+    /// A left-hand side is a variable alone.
     #[error("lone variable on the left")]
     LoneVariable,
-    /// A variable stands twice on a left side.
+    /// A variable occurs twice on a left-hand side.
     #[error("variable twice on the left")]
     VariableTwice,
     /// A variable has children.
     #[error("labelled variable")]
     LabelledVariable,
-    /// A right side has a variable that its left side has not.
+    /// A right-hand side has a variable that its left-hand side lacks.
     #[error("unknown variable")]
     UnknownVariable,
-    /// A weight is no whole number.
+    /// A weight is not a whole number.
     #[error("weight is not a whole number")]
     NotWhole,
     /// A weight is above the greatest one.
@@ -41,7 +41,7 @@ pub enum FaultKind {
     /// A tree has too many nodes, or a string too many words.
     #[error("too many nodes")]
     TooManyNodes,
-    /// The tokens are no string, a string stands on an earlier line, or the file has none.
+    /// The tokens are not a string, an earlier line has a string, or the file has none.
     #[error("bad string")]
     BadString,
 }
@@ -98,7 +98,7 @@ impl From<AllocError> for LineError {
     }
 }
 
-/// The error of a line as one of its file. Takes no memory.
+/// The error of the line with this number, as one of its file. Takes no memory.
 pub fn file_error(line: u32, error: LineError) -> ReadError
     ensures { result ≡ file_error_of line error }
 {

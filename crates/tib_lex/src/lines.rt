@@ -51,8 +51,8 @@ fn line_from(bytes: &[u8], number: u32, at: u32) -> Line
     }
 }
 
-/// The line at a place where a line begins, under a number that the caller gives. `None` at the end
-/// of the file. Takes no memory. Worst case: O(n) steps for the n bytes of the line.
+/// The line that begins at byte `at`, under the number that the caller gives. `None` at the end of
+/// the file. Takes no memory. Worst case: O(n) steps for the n bytes of the line.
 pub fn next_line(bytes: &[u8], number: u32, at: u32) -> Option<Line>
     requires place { at ≤ length bytes.now }
     requires short { length bytes.now ≤ most_bytes }

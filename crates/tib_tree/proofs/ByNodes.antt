@@ -17,7 +17,7 @@ use Rattle.tib_tree.proofs.Counts.{count-relabel, sizes-relabel}
 use Rattle.tib_tree.specs.Order.{trees_cmp, tree_cmp_by, node_cmp}
 use Rattle.tib_tree.proofs.Orderings.{nat_itself, nat_equal, nat_suc, then_assoc, then_decided}
 
--- what stands behind a node decides only where the nodes are equal
+-- what follows a node decides only if the nodes are equal
 regroup :
     (s t r k q x l : Ordering) → (r ≡ Equal → l ≡ ordering_then k (ordering_then q x)) →
     ordering_then (ordering_then s (ordering_then t r)) l ≡ ordering_then (ordering_then s (ordering_then t (ordering_then r (ordering_then k q)))) x

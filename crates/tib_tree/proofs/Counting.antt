@@ -90,7 +90,7 @@ tree_kept found.Nothing n t ts e = ap (λ (us : List (Tree ℕ)). us ++ t ∷ []
 tree_kept (found.One s) n t ts e = tt
 tree_kept (found.Second k) n t ts e = tt
 
--- a line more
+-- one more line
 pub step :
     (old a b : List (List ℕ)) (before now : Found) (n at : ℕ) (line : Line) (bytes : List ℕ) → IsNextLine bytes n at line → Grows a b →
     Counts b n before now (tree_line (slice_range bytes line.start line.end)) → AddsAll a (texts_in (tree_line (slice_range bytes line.start line.end))) b → IsUnderway old a before n at bytes →
@@ -131,7 +131,7 @@ all_blank labels [] h = tt
 all_blank labels (line ∷ lines) (inl (blank, h)) = (blank, all_blank labels lines h)
 all_blank labels (line ∷ lines) (inr (t, rest, e, is, h)) = absurd (cc e)
 
--- what is answered at the end
+-- what is returned at the end
 abbrev pub IsAnswer : List (List ℕ) → List ℕ → Found → Type 0
 IsAnswer labels bytes found.Nothing = IsOneTreeFault bytes (record { line = 1; kind = BadTree })
 IsAnswer labels bytes (found.One t) = IsTheText labels bytes t

@@ -36,7 +36,7 @@ no_tree_line line ts e h n = tree_of_words line ts None e h n
 pub back_long : (line : List ℕ) (places : List Place) → length (items_back line places) ≡ length places
 back_long line places = length-reverse (map (item_at line) places) ∙ length-map places (item_at line)
 
--- which of two answers is given, by the limit on nodes
+-- which of two results is returned, by the limit on nodes
 pub chosen : {A : Type 0} (n m : ℕ) (x y : A) → n ≡ m → (m ≤ most_nodes → cond (nat_lt most_nodes n) x y ≡ y) × (most_nodes < m → cond (nat_lt most_nodes n) x y ≡ x)
 chosen n m x y e = (λ h. grind (arith, nat_tests), λ h. grind (arith, nat_tests))
 

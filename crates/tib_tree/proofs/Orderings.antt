@@ -49,7 +49,7 @@ then_Equal Equal b e = (refl, e)
 then_Equal Less b e = absurd (cc)
 then_Equal Greater b e = absurd (cc)
 
--- what the code's test for equality tells
+-- what the code's test for equality says
 pub is_tied : (o : Ordering) → not (ordering_index o == 1) ≡ false → o ≡ Equal
 is_tied Less h = absurd (cc)
 is_tied Equal h = refl

@@ -4,7 +4,8 @@ use Rattle.tib_tree.specs.Trees.{Tree, Trees, none, tree, count, sizes, only}
 use Rattle.tib_tree.specs.Filled.{nodes_at, nodes_of_tree, nodes_at_levels, sized, sized_back}
 use Rattle.tib_tree.specs.declared.preorder.Node.{Node}
 
--- The trees that are still to come at each level, the deepest first: how many they are, and their nodes without depths, the last one first.
+-- The trees that are still to come at each level, the deepest first: how many they are, and their
+-- nodes without depths, the last one first.
 abbrev pub counts : List (Trees ℕ) → List ℕ
 counts [] = []
 counts (ts ∷ levels) = counts levels ++ count ts ∷ []
@@ -95,7 +96,7 @@ placed_first ls f kids rest nodes =
     ap (λ (l : List Node). nodes ++ (record { label = f; rank = count kids; size = suc (sizes kids); depth = length ls } ∷ l)) (append_assoc (nodes_at (suc (length ls)) kids) (nodes_at (length ls) rest) (nodes_at_levels ls))
     ∙ sym (append_assoc nodes (record { label = f; rank = count kids; size = suc (sizes kids); depth = length ls } ∷ []) (nodes_at_levels (kids ∷ (rest ∷ ls))))
 
--- a node, behind which its children come at a level of their own
+-- a node, after which its children come at a level of their own
 pub node_placed : (nodes now : List Node) (left rest mid after : List ℕ) (n depth : ℕ) (back more all : List Node) (node : Node) → left ≡ rest ++ n ∷ [] → 0 < n → back ≡ more ++ node ∷ [] → mid ≡ rest ++ (n - 1) ∷ [] → after ≡ mid ++ node.rank ∷ [] → depth ≡ length mid - 1 → now ≡ nodes ++ record { label = node.label; rank = node.rank; size = node.size; depth = depth } ∷ [] → Placed nodes left back all → Placed now after more all
 node_placed nodes now left rest mid after n depth back more all node e some b m a d new p =
     let s = some_level p.levels left rest n p.counts_are e in

@@ -18,7 +18,7 @@ use Rattle.tib_tree.proofs.Writing.{HasWritten, no_failure, wrote_none, goes_on,
 abbrev closes : ℕ → List ℕ
 closes n = replicate n 41
 
--- the next node stands no deeper than this
+-- the next node is no deeper than this
 abbrev NoDeeper : ℕ → List Node → Type 0
 NoDeeper d [] = Unit {0}
 NoDeeper d (n ∷ ns) = n.depth ≤ d
@@ -36,7 +36,7 @@ gap_in depth = let e : nat_lt depth (suc depth) ≡ true = grind (arith, nat_tes
 gap_beside : (depth : ℕ) → gap_text depth depth ≡ 32 ∷ []
 gap_beside depth = let e : depth - depth ≡ 0 = omega arith in gap_back depth depth (omega arith) ∙ ap (λ (n : ℕ). closes n ++ 32 ∷ []) e
 
--- parentheses close before what stands no deeper
+-- parentheses close before what is no deeper
 closes_first : (labels : List (List ℕ)) (m n : ℕ) (ns : List Node) → NoDeeper n ns → text_from labels (m + n) ns ≡ closes m ++ text_from labels n ns
 closes_first labels m n [] h = sym (closes_more m n)
 closes_first labels m n (x ∷ ns) h =
@@ -56,13 +56,13 @@ deeper : (d : ℕ) (ns : List Node) → NoDeeper d ns → NoDeeper (suc d) ns
 deeper d [] h = tt
 deeper d (n ∷ ns) h = omega arith
 
--- trees behind a node are printed as their text
+-- trees after a node are printed as their text
 abbrev Printed : List (List ℕ) → Trees ℕ → Type 0
 Printed labels none = Unit {0}
 Printed labels (tree f kids more) =
     (above d : ℕ) (rest : List Node) → NoDeeper d rest → text_from labels above (nodes_at d (tree f kids more) ++ rest) ≡ (gap_text above d ++ trees_text labels (tree f kids more)) ++ text_from labels d rest
 
--- children behind their node
+-- children after their node
 children_printed : (labels : List (List ℕ)) (d : ℕ) (kids : Trees ℕ) (rest : List Node) → Printed labels kids → NoDeeper d rest → text_from labels d (nodes_at (suc d) kids ++ rest) ≡ in_parentheses kids (trees_text labels kids) ++ text_from labels d rest
 children_printed labels d none rest p h = refl
 children_printed labels d (tree f kids more) rest p h =
@@ -73,7 +73,7 @@ children_printed labels d (tree f kids more) rest p h =
     ∙ ap (λ (l : List ℕ). (40 ∷ trees_text labels (tree f kids more)) ++ l) (closes_first labels 1 d rest h)
     ∙ sym (append_assoc (40 ∷ trees_text labels (tree f kids more)) (41 ∷ []) (text_from labels d rest))
 
--- the trees behind one
+-- the trees after one
 beside_printed : (labels : List (List ℕ)) (d : ℕ) (more : Trees ℕ) (rest : List Node) → Printed labels more → NoDeeper d rest → text_from labels d (nodes_at d more ++ rest) ≡ behind_space more (trees_text labels more) ++ text_from labels d rest
 beside_printed labels d none rest p h = refl
 beside_printed labels d (tree f kids more) rest p h =

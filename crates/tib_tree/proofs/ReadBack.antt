@@ -36,7 +36,7 @@ precedes : (b : Bool) (text bytes : List ℕ) → begins_name bytes ≡ false �
 precedes true text bytes h = h
 precedes false text bytes h = tt
 
--- trees with these words behind them
+-- trees with these words after them
 abbrev Reads : List (List ℕ) → Trees ℕ → Type 0
 Reads labels ts = (more : List Word) (rest : List ℕ) → begins_name rest ≡ false → HasWords more rest → HasWords (spell (written labels ts) ++ more) (trees_text labels ts ++ rest)
 

@@ -1,4 +1,4 @@
--- What stays when labels are exchanged, and when it tells trees apart.
+-- What stays when labels are replaced, and when trees stay distinct.
 use Rattle.std.specs.Prelude.{◌≡◌, ℕ, ◌<◌, List, [], ◌∷◌, length, slice_get, Some, refl}
 use Rattle.std.proofs.Common.{zero, suc, arith, ap, sym, ◌∙◌, get_or}
 use Rattle.tib_tree.specs.Trees.{Trees, none, tree, relabel}

@@ -12,7 +12,7 @@ use Rattle.tib_tree.specs.Wrote.{Wrote}
 use Rattle.tib_tree.specs.Printed.{is_plain_byte, backslash_for, IsRun, gap_text, label_text}
 use Rattle.tib_lex.proofs.Booleans.{bool_cases}
 
--- plain bytes stand as they are
+-- plain bytes are written as they are
 plain_run : (xs : List ℕ) → escape (take (prefix_len is_plain_byte xs) xs) ≡ take (prefix_len is_plain_byte xs) xs
 plain_run [] = refl
 plain_run (x ∷ xs) = elim (bool_cases (x == 34 || x == 92)) [

@@ -42,7 +42,7 @@ pub step : (line : List ℕ) (tokens : List Token) (i : ℕ) (d : Token) → 0 <
 step line tokens zero d h k = absurd (omega arith)
 step line tokens (suc i) d h k = rw (sub-one, drop-cons tokens i d) refl
 
--- where a token may not stand, the others in front of it help nothing
+-- where a token may not come, the tokens before it make no difference
 pub ends : (line : List ℕ) (tokens : List Token) (n : ℕ) → machine (words_at line (drop n tokens)) ≡ None → nodes_of (words_at line tokens) ≡ None
 unfolding nodes_of
 ends line tokens n e = rw (stuck line tokens n e) refl

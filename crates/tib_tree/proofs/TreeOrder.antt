@@ -12,7 +12,8 @@ use Rattle.tib_tree.specs.Trees.{Tree, Trees, none, tree, count, sizes, only}
 use Rattle.tib_tree.specs.Order.{trees_cmp, tree_cmp, AreOrdered}
 use Rattle.tib_tree.proofs.Orderings.{then_Equal}
 
--- the laws of an order at three values, by what it answers of the first two, of the last two, and of the outer two
+-- the laws of an order at three values, by what it gives for the first two, the last two, and the
+-- outer two
 record AreChained (a b c : Ordering) : Type 0 where
   less : a ≡ Less → b ≡ Less → c ≡ Less
   left : a ≡ Equal → c ≡ b

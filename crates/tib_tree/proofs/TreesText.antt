@@ -154,7 +154,7 @@ text_found labels n [] (t ∷ ts) [] e are = absurd are
 text_found labels n [] (t ∷ ts) (is ∷ iss) e are = let bad : [] ≡ is ∷ iss = cc in absurd (cc)
 text_found labels n (line ∷ lines) ts iss e are = text_at labels n line lines ts iss (tree_line line) (each_line tree_line (suc n) lines) (line_holds line) e are (λ us jss f a. text_found labels (suc n) lines us jss f a)
 
--- what a reader answers
+-- what a reader returns
 pub reads : (labels : List (List ℕ)) (bytes : List ℕ) (r : Result (Vec (Tree ℕ)) ReadError) → IsFile labels r (trees_of bytes) → ReadsTrees labels bytes r
 unfolding trees_of
 reads labels bytes (Ok trees) (iss, e, are) = text_found labels 1 (lines_of bytes) trees.items iss e are

@@ -3,13 +3,13 @@ use Rattle.std.specs.Prelude.{ℕ, suc, List, [], ◌∷◌, ◌++◌, length}
 use Rattle.tib_tree.specs.Trees.{Tree, Trees, none, tree, count, sizes, only}
 use Rattle.tib_tree.specs.declared.preorder.Node.{Node}
 
--- the nodes of some trees that stand at a depth, a node before its children
+-- the nodes of some trees at a depth, a node before its children
 abbrev pub nodes_at : ℕ → Trees ℕ → List Node
 nodes_at d none = []
 nodes_at d (tree f kids rest) =
     record { label = f; rank = count kids; size = suc (sizes kids); depth = d } ∷ (nodes_at (suc d) kids ++ nodes_at d rest)
 
--- the nodes of a tree, whose root stands at depth 0
+-- the nodes of a tree, whose root is at depth 0
 abbrev pub nodes_of_tree : Tree ℕ → List Node
 nodes_of_tree t = nodes_at 0 (only t)
 

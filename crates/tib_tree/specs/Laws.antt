@@ -42,7 +42,7 @@ PrintsBack =
     (labels : List (List ℕ)) (t : Tree ℕ) → LabelsBelow (length labels) (only t) →
     IsTreeLine labels (tree_text labels t) t
 
--- and where no label has a line feed, it is the text of this tree with a line feed behind it
+-- and if no label has a line feed, it is the text of this tree with a line feed after it
 abbrev pub PrintsText : Type 0
 PrintsText =
     (labels : List (List ℕ)) (t : Tree ℕ) → LabelsBelow (length labels) (only t) →

@@ -5,7 +5,7 @@ use Rattle.tib_tree.specs.Trees.{Tree, Trees, none, tree, only, preorder}
 use Rattle.tib_tree.specs.Written.{Written, end, leaf, head, spell}
 
 -- trees that are written are these trees over the labels' numbers: a leaf has no children, and each
--- label its text
+-- label has its text
 abbrev pub Says : List (List ℕ) → Written → Trees ℕ → Type 0
 Says labels end none = Unit {0}
 Says labels end (tree f kids rest) = ⊥

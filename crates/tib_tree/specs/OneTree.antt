@@ -33,14 +33,15 @@ abbrev pub IsSecondTree : ℕ → List (List ℕ) → ℕ → Type 0
 IsSecondTree n [] m = ⊥
 IsSecondTree n (line ∷ lines) m = (IsBlank line × IsSecondTree (suc n) lines m) ⊎ (HasTree line × IsFirstTree (suc n) lines m)
 
--- No line has a fault, but there is no tree, which is told of the first line, or there are several, which is told of the line of the
--- second.
+-- No line has a fault, but there is no tree, and line 1 is reported, or there are several, and the
+-- line of the second is.
 pub record IsMiscounted (bytes : List ℕ) (fault : FileFault) : Type 0 where
   pub good : Each IsGood (lines_of bytes)
   pub kind : fault.kind ≡ BadTree
   pub line : (Each IsBlank (lines_of bytes) × (fault.line ≡ 1)) ⊎ IsSecondTree 1 (lines_of bytes) fault.line
 
--- the fault of the bytes as the text of one tree: that of their first line with a fault, or else that they have no tree or several
+-- the fault of the bytes as the text of one tree: that of their first line with a fault, or else
+-- that they have no tree or several
 abbrev pub IsOneTreeFault : List ℕ → FileFault → Type 0
 IsOneTreeFault bytes fault = IsFirstFault bytes fault ⊎ IsMiscounted bytes fault
 

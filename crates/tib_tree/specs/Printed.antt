@@ -24,18 +24,18 @@ backslash_for (b ∷ rest) = if b == 34 || b == 92 then 92 ∷ [] else []
 abbrev pub IsRun : List ℕ → Type 0
 IsRun bytes = escape bytes ≡ backslash_for bytes ++ bytes
 
--- what stands between the label of a node and that of the next one
+-- what comes between the label of a node and that of the next one
 abbrev pub gap_text : ℕ → ℕ → List ℕ
 gap_text above depth =
     if nat_lt above depth then 40 ∷ [] else replicate (above - depth) 41 ++ 32 ∷ []
 
--- what is printed behind a node at a depth
+-- what is printed after a node at a depth
 abbrev pub text_from : List (List ℕ) → ℕ → List Node → List ℕ
 text_from labels above [] = replicate above 41
 text_from labels above (n ∷ ns) =
     (gap_text above n.depth ++ label_text (text_at labels n.label)) ++ text_from labels n.depth ns
 
--- the text of children in parentheses, and that of the trees behind a space, where there are any
+-- the text of children in parentheses, and that of the trees after a space, where there are any
 abbrev pub in_parentheses : {A : Type 0} → Trees A → List ℕ → List ℕ
 in_parentheses none text = []
 in_parentheses (tree f kids rest) text = 40 ∷ (text ++ 41 ∷ [])

@@ -3,7 +3,7 @@ use Rattle.std.specs.Prelude.{◌≡◌, ◌<◌, ◌+◌, ◌*◌, ℕ, List, [
 use Rattle.std.specs.List.{All}
 use Rattle.tib_tree.specs.declared.recent.Recent.{Recent}
 
--- a text of bytes is a number to the base 256, its first byte the lowest digit, behind a leading one
+-- a text of bytes is a number to the base 256, its first byte the lowest digit, after a leading one
 abbrev pub IsKey : List ℕ → ℕ → Type 0
 IsKey [] key = key ≡ 1
 IsKey (byte ∷ bytes) key = (rest : ℕ) × IsKey bytes rest × (byte < 256) × (key ≡ rest * 256 + byte)

@@ -16,7 +16,7 @@ item_of word kids = item true [] kids
 abbrev pub item_at : List ℕ → Place → Item
 item_at line p = item_of (word_at line p.token) p.kids
 
--- the nodes at some places, which stand in the order of reading, the last first
+-- the nodes at some places, which are in the order of reading, the last first
 abbrev pub items_back : List ℕ → List Place → List Item
 items_back line places = reverse (map (item_at line) places)
 

@@ -15,7 +15,7 @@ blank n = record { label = 0; rank = n.rank; size = n.size; depth = n.depth }
 abbrev pub blank_of : Place → Node
 blank_of p = record { label = 0; rank = rank_of p.kids; size = p.size; depth = p.depth }
 
--- the nodes at some places, which stand in the order of reading, the last first
+-- the nodes at some places, which are in the order of reading, the last first
 abbrev pub blanks_back : List Place → List Node
 blanks_back places = reverse (map blank_of places)
 
@@ -29,7 +29,7 @@ abbrev pub sizes_at_levels : List (Trees ℕ) → ℕ
 sizes_at_levels [] = 0
 sizes_at_levels (ts ∷ levels) = sizes ts + sizes_at_levels levels
 
--- how many trees stand at each level, and how many nodes from it on, the first level last
+-- how many trees are at each level, and how many nodes from it on, the first level last
 abbrev pub levels_back : List (Trees ℕ) → List Level
 levels_back [] = []
 levels_back (ts ∷ levels) =
@@ -40,8 +40,8 @@ abbrev pub kids_of : Option (Trees ℕ) → Trees ℕ
 kids_of None = none
 kids_of (Some kids) = kids
 
--- what was read are these trees: the children that wait for their head, those at this level and those at each
--- level above it
+-- what was read are these trees: the children that wait for their head, those at this level and
+-- those at each level above it
 pub record IsShaped (r : Reader) : Type 0 where
   pub held : Option (Trees ℕ)
   pub top : Trees ℕ

@@ -15,7 +15,7 @@ use Rattle.tib_tree.specs.Written.{Item}
 use Rattle.tib_tree.specs.Machine.{IsTree}
 use Rattle.tib_tree.specs.Meaning.{IsTreeLine}
 
--- a line has no tokens, or it is the first tree, and the lines behind it are the others
+-- a line has no tokens, or it is the first tree, and the lines after it are the others
 abbrev pub HasTrees : List (List ℕ) → List (List ℕ) → List (Tree ℕ) → Type 0
 HasTrees labels [] ts = ts ≡ []
 HasTrees labels (line ∷ lines) ts =

@@ -71,7 +71,7 @@ wrote_none w f a = record {
   succeeds = good f a;
 }
 
--- a piece behind what was written
+-- a piece after what was written
 pub wrote_more : {S D T E : Type 0} (w x y : Option (List ℕ)) (f g h : Option ℕ) (a b c : ℕ)
     (xs ys : List ℕ) (done : S) (q : Result S D) (r : Result T E) → q ≡ Ok done →
     Wrote w x f g a b xs q → Wrote x y g h b c ys r → Wrote w y f h a c (xs ++ ys) r
@@ -148,7 +148,7 @@ pub goes_on : {T E : Type 0} (w x y : Option (List ℕ)) (f g h : Option ℕ) (a
 goes_on w x y f g h a b c xs ys zs done r is same p q =
     wrote_as w y f h a c (xs ++ ys) zs done tt r no_failure is refl same (wrote_more w x y f g h a b c xs ys tt no_failure r refl p q)
 
--- a failure at a piece behind what was written, in front of the rest of a text
+-- a failure at a piece after what was written, in front of the rest of a text
 pub stopped : {S D T E : Type 0} (w x y : Option (List ℕ)) (f g h : Option ℕ) (a b c : ℕ)
     (xs ys zs all : List ℕ) (e : D) (k : E) (q : Result S D) (r : Result T E) → q ≡ Err e →
     r ≡ Err k → (xs ++ ys) ++ zs ≡ all → HasWritten w x f g a b xs → Wrote x y g h b c ys q →

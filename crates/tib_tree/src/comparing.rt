@@ -41,8 +41,9 @@ fn compare_lists(labels: &Labels, xs: &[Node], ys: &[Node]) -> Ordering
     xs.len().cmp(&ys.len())
 }
 
-/// The order of two trees: the one with fewer nodes comes first, then the root's label decides by its bytes, then the number of
-/// children, then the children from left to right. It goes over the nodes side by side, and takes no memory.
+/// The order of two trees: the one with fewer nodes comes first, then the root's label decides by
+/// its bytes, then the number of children, then the children from left to right. Takes no memory.
+/// Worst case: O(n) steps for the n nodes of one tree and the bytes of their labels.
 pub fn compare(labels: &Labels, a: &Tree, b: &Tree) -> Ordering
     requires left { HasLabels labels.now a.now }
     requires right { HasLabels labels.now b.now }

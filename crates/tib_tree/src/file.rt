@@ -85,7 +85,7 @@ fn read_lines(alloc: Global, bytes: &[u8], labels: &mut Labels) -> Result<Vec<Tr
 }
 
 /// The trees of a file, one a line, over a table that grows by just their labels, in the order of
-/// first sight. Lines without tokens are skipped. The fault is the first line's that has one:
+/// first sight. Lines without tokens are skipped. The fault is that of the first line that has one:
 /// `BadToken`, or else `BadTree`, or else `TooManyNodes` where its tree has more than 10,000 nodes.
 /// After any error the table may hold further texts, and those that it held keep their numbers.
 /// `OutOfMemory` says nothing of the file. Worst case: O(b) steps for b bytes, where a look-up by

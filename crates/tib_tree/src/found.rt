@@ -14,7 +14,7 @@ pub(crate) enum Found {
 }
 
 impl Found {
-    /// A tree more, in the line with this number.
+    /// One more tree, in the line with this number.
     pub(crate) fn add(&mut self, tree: Tree, line: u32)
         ensures { self.new ≡ with_tree line tree self.old }
     {

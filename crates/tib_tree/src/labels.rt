@@ -59,9 +59,9 @@ impl Labels {
         self.texts.find(text)
     }
 
-    /// The number of a text, which is added behind the others where it is new. Only want of memory
-    /// is an error, and after it the table has the same texts. Cost: one look-up by hash; of a text
-    /// of up to seven bytes that was seen lately, one look at the two places of its key.
+    /// The number of a text, which is added after the others if it is new. Err only if memory is
+    /// refused; the table keeps its texts. Cost: one look-up by hash; for a text of up to seven
+    /// bytes that was seen lately, one look at the two places of its key.
     pub fn intern(&mut self, text: &[u8]) -> Result<u32, AllocError>
         requires plain { HasNoFeed text.now }
         requires room { length self.old < 2 ^ 32 - 1 }

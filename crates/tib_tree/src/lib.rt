@@ -1,8 +1,8 @@
 //! Trees over numbered labels, their text and their order. It reads files of one tree a line, and
 //! files of exactly one tree, into trees, kept as nodes in preorder, over a table of distinct label
-//! texts; it prints trees, and compares them by the texts of their labels. A file that is read is the
-//! text of just these trees, or the fault is its first; what is printed reads back. It stands on
-//! `tib_lex` for lines and tokens and on `tib_io` for sinks.
+//! texts; it prints trees, and compares them by the texts of their labels. A file that is read is
+//! the text of just these trees, or the fault is its first; what is printed reads back. It depends
+//! on `tib_lex` for lines and tokens and on `tib_io` for sinks.
 #![tactic(auto)]
 
 mod comparing;

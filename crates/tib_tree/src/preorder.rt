@@ -11,8 +11,8 @@ use thiserror::Error;
 /// The number of a label's text.
 pub type Label = u32;
 
-/// A node: its label, how many children it has, how many nodes its tree has, and how many nodes
-/// stand above it.
+/// A node: its label, how many children it has, how many nodes its tree has, and how many nodes are
+/// above it.
 #[derive(Clone, Copy, Debug)]
 pub struct Node {
     pub label: Label,
@@ -195,7 +195,7 @@ pub(crate) fn tree_of(nodes: Vec<Node>) -> Tree
 }
 
 impl Tree {
-    /// The tree whose preorder the pairs of a label and a number of children are. `NotATree`
+    /// The tree with this preorder, as pairs of a label and a number of children. `NotATree`
     /// exactly where they are the preorder of no tree; `OutOfMemory` says nothing of them. Worst
     /// case: O(n) steps for n pairs.
     pub fn from_preorder(alloc: Global, items: &[(Label, u32)]) -> Result<Tree, ShapeError>

@@ -11,7 +11,7 @@ use crate::preorder::{Node, Tree};
 use tib_io::{Failed, Sink, write_whole};
 use tib_lex::is_name;
 
-/// Whether a label is written in quotes: where it is empty, has a byte that is no name byte, or is
+/// Whether a label is written in quotes: if it is empty, has a byte that is no name byte, or is
 /// `->`. Takes no memory. Worst case: O(n) steps for n bytes.
 pub fn needs_quotes(text: &[u8]) -> bool
     ensures value { result ≡ not (is_name_text text.now) }
@@ -68,7 +68,7 @@ fn print_backslash<W: Sink>(out: &mut W, run: &[u8]) -> Result<(), Failed>
     print_piece(out, b"\\")
 }
 
-// One piece of the bytes in quotes, of which the first may need a backslash.
+// Writes one piece of the bytes in quotes, of which the first may need a backslash.
 fn print_run<W: Sink>(out: &mut W, run: &[u8]) -> Result<(), Failed>
     requires some { 0 < length run.now }
     requires run { IsRun run.now }
@@ -81,7 +81,7 @@ fn print_run<W: Sink>(out: &mut W, run: &[u8]) -> Result<(), Failed>
     }
 }
 
-// The bytes of a label as they stand in quotes.
+// Writes the bytes of a label as they are in quotes.
 fn print_escaped<W: Sink>(out: &mut W, text: &[u8]) -> Result<(), Failed>
     ensures { Wrote (W.written out.old) (W.written out.new) (W.free out.old) (W.free out.new)
         (W.faults out.old) (W.faults out.new) (escape text.now) result }
@@ -137,7 +137,7 @@ fn print_closes<W: Sink>(out: &mut W, count: u32) -> Result<(), Failed>
     Ok(())
 }
 
-// The parentheses that close a few nodes, and the space behind them.
+// The parentheses that close a few nodes, and the space after them.
 fn short_gap(closes: u32) -> Option<&'static [u8]>
     ensures { IfSome result (λ text. text.now ≡ replicate closes 41 ++ 32 ∷ []) }
 {
@@ -151,7 +151,7 @@ fn short_gap(closes: u32) -> Option<&'static [u8]>
     }
 }
 
-// What stands between the label of a node and that of the next one.
+// Writes what comes between the label of a node and that of the next one.
 fn print_gap<W: Sink>(out: &mut W, above: u32, depth: u32) -> Result<(), Failed>
     ensures { Wrote (W.written out.old) (W.written out.new) (W.free out.old) (W.free out.new)
         (W.faults out.old) (W.faults out.new) (gap_text above depth) result }
@@ -169,7 +169,7 @@ fn print_gap<W: Sink>(out: &mut W, above: u32, depth: u32) -> Result<(), Failed>
     }
 }
 
-// A node behind one at the depth `above`.
+// Writes a node after one at the depth `above`.
 fn print_node<W: Sink>(out: &mut W, labels: &Labels, above: u32, node: Node) -> Result<(), Failed>
     requires { node.label < length labels.now }
     ensures { Wrote (W.written out.old) (W.written out.new) (W.free out.old) (W.free out.new)
@@ -182,7 +182,7 @@ fn print_node<W: Sink>(out: &mut W, labels: &Labels, above: u32, node: Node) -> 
     }
 }
 
-// The nodes behind the root, whose label was printed.
+// Writes the nodes after the root, whose label was printed.
 fn print_nodes<W: Sink>(out: &mut W, labels: &Labels, nodes: &[Node]) -> Result<(), Failed>
     requires labels { All (λ n. n.label < length labels.now) nodes.now }
     ensures { Wrote (W.written out.old) (W.written out.new) (W.free out.old) (W.free out.new)
@@ -203,7 +203,7 @@ fn print_nodes<W: Sink>(out: &mut W, labels: &Labels, nodes: &[Node]) -> Result<
     print_closes(out, above)
 }
 
-/// Writes a tree: its label, and where it has children, these in parentheses with one space between
+/// Writes a tree: its label, and if it has children, these in parentheses with one space between
 /// them. Labels are written as `print_label` does. It fails only where the sink does, and then a
 /// front of the text was written. Takes no memory. Worst case: O(b) steps for b bytes of text.
 pub fn print_tree<W: Sink>(tree: &Tree, labels: &Labels, out: &mut W) -> Result<(), Failed>

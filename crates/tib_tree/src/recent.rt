@@ -1,4 +1,5 @@
-// The labels that were seen lately, by the bytes of their texts, so that most labels are found without the hash table.
+// The labels that were seen lately, by the bytes of their texts, so that most labels are found
+// without the hash table.
 ghost use Rattle.std.specs.Prelude.{◌≡◌, ◌<◌, ℕ, List, [], IfSome, length};
 ghost use Rattle.tib_tree.specs.Recent.{IsKey, IsSeen, AreSeen};
 
@@ -10,7 +11,8 @@ const LONGEST: usize = 7;
 /// How many places there are.
 const PLACES: u64 = 16384;
 
-/// What spreads keys over the places: 2^64 divided by the golden ratio (Knuth 1973, multiplicative hashing).
+/// What spreads keys over the places: 2^64 divided by the golden ratio (Knuth 1973, multiplicative
+/// hashing).
 const SPREAD: u64 = 0x9E37_79B9_7F4A_7C15;
 
 /// A label by the key of its text.
@@ -20,7 +22,8 @@ pub(crate) struct Seen {
     pub label: u32,
 }
 
-/// The labels that were seen last at each two places side by side. Before the first it has no places.
+/// The labels that were seen last at each two places side by side. Before the first it has no
+/// places.
 #[derive(Drop)]
 pub(crate) struct Recent {
     pub seen: Vec<Seen>,

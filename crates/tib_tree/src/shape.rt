@@ -8,8 +8,8 @@ ghost use Rattle.tib_tree.specs.Shaped.{IsShaped, IsLonger, AreOneTree};
 use std::alloc::{AllocError, Global};
 use tib_lex::{Kind, Token};
 
-/// A node of a tree: its label's token, how many children a head has, how many nodes its tree has, and how many nodes
-/// stand above it.
+/// A node of a tree: its label's token, how many children a head has, how many nodes its tree has,
+/// and how many nodes are above it.
 #[derive(Clone, Copy, Debug)]
 pub struct Place {
     pub token: Token,
@@ -18,7 +18,8 @@ pub struct Place {
     pub depth: u32,
 }
 
-/// A level that is still to be opened: how many trees were read at it, and how many nodes then in all.
+/// A level that is still to be opened: how many trees were read at it, and how many nodes then in
+/// all.
 #[derive(Clone, Copy, Debug)]
 pub struct Level {
     pub trees: u32,
@@ -95,7 +96,7 @@ impl Reader {
         Ok(())
     }
 
-    // Reads one more token, if it may stand there.
+    // Reads one more token, if it may come there.
     fn put(&mut self, token: &Token) -> Result<bool, AllocError>
         requires trees { self.old.top < 2 ^ 32 - 1 }
         requires nodes { length self.old.places.items < 2 ^ 32 - 1 }
@@ -162,7 +163,7 @@ impl Reader {
         Ok(true)
     }
 
-    /// Reads these tokens, and answers whether they are one tree; then `places` has its nodes, the
+    /// Reads these tokens, and returns whether they are one tree; then `places` has its nodes, the
     /// last one first. After false, and after an Err, which comes only if memory is refused, the
     /// reader can be used again. Worst case: O(n) steps for n tokens.
     pub fn read(&mut self, tokens: &[Token]) -> Result<bool, AllocError>

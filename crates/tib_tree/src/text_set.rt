@@ -59,8 +59,8 @@ impl TextSet {
         }
     }
 
-    /// The number of a text, which is added behind the others where it is new. Only want of memory
-    /// is an error, and after it the table is as before.
+    /// The number of a text, which is added after the others if it is new. Err only if memory is
+    /// refused; the table is as before.
     pub fn intern(&mut self, text: &[u8]) -> Result<u32, AllocError>
         requires plain { HasNoFeed text.now }
         requires room { length self.old < 2 ^ 32 - 1 }

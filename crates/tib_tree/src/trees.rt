@@ -20,14 +20,14 @@ use tib_lex::{FaultKind, LineError, Token, name_text, read_text, read_tokens};
 /// The most nodes that a tree in a file may have.
 pub const MOST_NODES: usize = 10_000;
 
-/// The limit that clauses cite is this constant.
+/// `MOST_NODES` is the limit that clauses cite.
 pub fn trees_have_a_limit()
     ensures { MOST_NODES ≡ most_nodes }
 {}
 
-/// The number of the text of a token, which is added behind the others where it is new. Only want
-/// of memory is an error, and after it the table has the same texts. `text` is room for the text of
-/// a quoted token. Cost: that of `Labels::intern`, and one pass over a quoted token.
+/// The number of the text of a token, which is added after the others if it is new. Err only if
+/// memory is refused; the table keeps its texts. `text` is room for the text of a quoted token.
+/// Cost: that of `Labels::intern`, and one pass over a quoted token.
 pub fn intern_token(
     line: &[u8],
     token: Token,

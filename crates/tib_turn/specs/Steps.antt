@@ -34,6 +34,7 @@ module _ {V E : Type 0} (log : V → List E) where
   abbrev pub Left : Step (Option V) → St → ℕ → St → Type 0
   Left s m found n = n ≡ (idle (log_of m.1), [])
 
-  -- a seat knows the longer of what it has seen and what it was told, and both are prefixes of that
+  -- a seat knows the longer of what it has seen and what a pass that it took in has, and both are
+  -- prefixes of that
   abbrev pub Learned : Step (Option V) → St → ℕ → St → Type 0
   Learned s m found n = (n ≡ (idle (longer m.0.seen m.0.told), m.1)) × IsPrefix m.0.seen n.0.seen × IsPrefix m.0.told n.0.seen
