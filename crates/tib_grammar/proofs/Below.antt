@@ -32,7 +32,7 @@ pub below_split : (n : ℕ) (ps qs : List ℕ) → AllBelow n (ps ++ qs) → All
 below_split n [] qs h = (tt, h)
 below_split n (p ∷ ps) qs h = let s = below_split n ps qs h.1 in ((h.0, s.0), s.1)
 
--- the states on the right sides of a grammar whose states are in range are below their number
+-- the states on the right-hand sides of a grammar whose states are in range are below their number
 pub states_below : (g h : GrammarOf) → g ≡ h → AreInRange (length g.names) g.rules → StatesBelow (length h.names) h.rules
 states_below g h e range =
     subst (λ (x : GrammarOf). StatesBelow (length x.names) x.rules) e (λ m q below has. below_has (length g.names) (holes_of (rule_at g.rules m).right) q (range m below).1 has)

@@ -19,7 +19,8 @@ abbrev pub fits : Rule ℕ → ℕ → ℕ → Bool
 fits r q f = nat_eq r.left q && is_label f r.right.label
 
 module _ (product : ℕ → ℕ → ℕ) (rules : List (Rule ℕ)) where
-  -- the least over the first m rules, where `below` gives the costs of the children from a list of states
+  -- the least over the first m rules, where `below` gives the costs of the children from a list of
+  -- states
   abbrev pub best_rule : (List ℕ → Option ℕ) → ℕ → ℕ → ℕ → Option ℕ
   best_rule below q f zero = None
   best_rule below q f (suc m) =

@@ -72,7 +72,7 @@ module _ {levelled weighted : Bool} {product : ℕ → ℕ → ℕ} (laws : Prod
 pub covers_members : (one two : List (Rule ℕ)) → ((r : Rule ℕ) → Has one r → Has two r) → Covers two one
 covers_members one two to r h = record { rule = r; stands = to r h; left = refl; right = refl; costs = le_refl r.cost }
 
--- and still with a rule more that a member is as cheap as
+-- and still with one more rule, if a member is as cheap as it
 pub covers_more : (rules : List (Rule ℕ)) (r : Rule ℕ) → HasCheaper rules r → Covers rules (r ∷ rules)
 covers_more rules r c s h = elim h [
   | inl e ↦ subst (HasCheaper rules) e c

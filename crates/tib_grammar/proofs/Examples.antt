@@ -14,7 +14,7 @@ use Rattle.tib_grammar.proofs.Best.{best-is_least}
 abbrev rules : List (Rule ℕ)
 rules = record { left = 0; right = over 7 (0 ∷ 0 ∷ []); cost = 1 } ∷ record { left = 0; right = over 8 []; cost = 2 } ∷ []
 
--- the states of a side stand in preorder: those of 5(3, 6(4), 1) are 3, 4 and 1
+-- the states of a side are in preorder: those of 5(3, 6(4), 1) are 3, 4 and 1
 states : holes_of {A = ℕ} {P = ℕ} (record { label = label 5; kids = tree (hole 3) none (tree (label 6) (leaves (4 ∷ [])) (leaves (1 ∷ []))) }) ≡ 3 ∷ 4 ∷ 1 ∷ []
 states = refl
 

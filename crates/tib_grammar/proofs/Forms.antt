@@ -25,7 +25,7 @@ last_at (y ∷ ys) x d (suc k) h = elim (last_at ys x d k (omega arith)) [
 ]
 
 module _ (lists : List (List (Item ℕ))) (rules : List (Rule ℕ)) (n : ℕ) (noted : AreFirstSides lists rules n) (items : List (Item ℕ)) (here : pairs_of items ≡ preorder_of (rule_at rules n).right) where
-  -- one more right side is noted
+  -- one more right-hand side is noted
   pub AreFirstSides-more : (now : List (List (Item ℕ))) → now ≡ lists ++ items ∷ [] → AreFirstSides now rules (n + 1)
   AreFirstSides-more now e = subst (λ l. AreFirstSides l rules (n + 1)) (sym e) (record {
     counted = length-append lists (items ∷ []) ∙ ap (λ m. m + 1) noted.counted;
@@ -37,7 +37,7 @@ module _ (lists : List (List (Item ℕ))) (rules : List (Rule ℕ)) (n : ℕ) (n
     ];
   })
 
-  -- equal right sides have equal items, and the other way round
+  -- equal right-hand sides have equal items, and the other way round
   items_at : (m : ℕ) → m < n → (rule_at rules m).right ≡ (rule_at rules n).right → get_or lists m [] ≡ items
   items_at m b e = pairs_same (get_or lists m []) items (noted.are m b ∙ ap preorder_of e ∙ sym here)
 
@@ -67,7 +67,7 @@ upto P n below at k h = elim (last k n h) [ inl l ↦ below k l | inr e ↦ subs
     last : (k n : ℕ) → k < n + 1 → (k < n) ⊎ (k ≡ n)
     last k n h = grind arith
 
--- the fault of a right side by itself is the first where all before are in form
+-- the fault of a right-hand side by itself is the first where all before are in form
 pub fault_here :
     (rules : List (Rule ℕ)) (n number : ℕ) (fault : DeterminismFault) → number ≡ suc n → n < length rules → ((m : ℕ) → m < n → IsShaped rules (rule_at rules m)) → ((m : ℕ) → m < n → IsNew rules m) →
     IsShapeFault rules (rule_at rules n) number (Some fault) → IsFaultOf rules fault

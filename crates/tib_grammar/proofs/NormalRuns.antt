@@ -1,4 +1,4 @@
--- Runs of a grammar in normal form, put together from the leaves.
+-- Runs of a grammar in normal form, built from the leaves.
 use Rattle.std.specs.Prelude.{◌≡◌, ℕ, ◌+◌, ◌<◌, List, [], ◌∷◌, length, ◌⊎◌, Bool, refl, Option, None, Some}
 use Rattle.std.proofs.Common.{arith, ap, sym, ◌∙◌, subst, inl, inr}
 use Rattle.tib_tree.specs.Trees.{Tree, Trees, none, tree, count, only, join, join-none, count-join}

@@ -78,7 +78,7 @@ module _ (rules : List (Rule ℕ)) where
         (cc (same, below.0, after.0), cc (state, after.1))
 
   module _ (form : IsDeterministic rules) where
-    -- runs from states that stand in right sides use normal rules
+    -- runs from states that are in right-hand sides use normal rules
     pub uses_normal : (runs : Trees ℕ) (qs : List ℕ) → AreRuns rules qs runs → ((q : ℕ) → Has qs q → StandsInSide rules q) → UsesNormal runs
     uses_normal none qs a inside = tt
     uses_normal (tree n runs rest) [] a inside = absurd a

@@ -9,7 +9,8 @@ use Rattle.tib_grammar.specs.declared.Rule.{Rule}
 use Rattle.tib_grammar.proofs.NormalRuns.{BeginsBelow, split_all, merge_all, begin, finish}
 use Rattle.tib_cost.specs.Semiring.{ProductLaws}
 
--- c is the cost of runs that yield the tree f over kids and then the trees rest, with the first rule named
+-- c is the cost of runs that yield the tree f over kids and then the trees rest, with the first
+-- rule named
 pub record IsOpened (product : ℕ → ℕ → ℕ) (rules : List (Rule ℕ)) (q : ℕ) (qs : List ℕ) (f : ℕ) (kids rest : Trees ℕ) (c : ℕ) : Type 0 where
   pub rule : ℕ
   pub below : rule < length rules
@@ -24,7 +25,7 @@ pub record IsOpened (product : ℕ → ℕ → ℕ) (rules : List (Rule ℕ)) (q
 module _
     {levelled weighted : Bool} {product : ℕ → ℕ → ℕ} (laws : ProductLaws levelled weighted product)
     (rules : List (Rule ℕ)) (normal : AreNormal rules) where
-  -- such a run has a first rule, and costs of the runs below and behind it
+  -- such a run has a first rule, and costs of the runs below and after it
   pub open_cost :
       (q : ℕ) (qs : List ℕ) (f : ℕ) (kids rest : Trees ℕ) (c : ℕ) → IsCost product rules (q ∷ qs) (tree f kids rest) c →
       IsOpened product rules q qs f kids rest c

@@ -24,13 +24,13 @@ relabel_same f g (tree (hole q) kids rest) h =
     ∙ ap (λ ks. tree (hole (g q)) ks (relabel (symbol_map f) rest)) (relabel_same f g kids (each_left (λ q. f q ≡ g q) (states_in kids) (states_in rest) h.1))
     ∙ ap (λ rs. tree (hole (g q)) (relabel (symbol_map g) kids) rs) (relabel_same f g rest (each_right (λ q. f q ≡ g q) (states_in kids) (states_in rest) h.1))
 
--- the same of the symbol at a root
+-- and the same symbol at a root
 pub symbol_same : {K : Type 0} (f g : ℕ → K) (s : Symbol ℕ ℕ) (kids : Trees (Symbol ℕ ℕ)) →
     Each (λ q. f q ≡ g q) (states_in (tree s kids none)) → symbol_map {A = ℕ} f s ≡ symbol_map g s
 symbol_same f g (label x) kids h = refl
 symbol_same f g (hole q) kids h = ap hole h.0
 
--- and of the trees below it
+-- and the same trees below it
 pub kids_same : {K : Type 0} (f g : ℕ → K) (s : Symbol ℕ ℕ) (kids : Trees (Symbol ℕ ℕ)) →
     Each (λ q. f q ≡ g q) (states_in (tree s kids none)) → relabel (symbol_map f) kids ≡ relabel (symbol_map g) kids
 kids_same f g (label x) kids h = relabel_same f g kids (each_left (λ q. f q ≡ g q) (states_in kids) [] h)

@@ -63,7 +63,7 @@ pub rule_back : (f g : ℕ → ℕ) (r : Rule ℕ) → g (f r.left) ≡ r.left �
 rule_back f g r a h l =
     ap (λ z. record { left = z; right = side_map g (side_map f r.right); cost = r.cost }) a ∙ ap (λ s. record { left = r.left; right = s; cost = r.cost }) (side_back f g r.right h l)
 
--- the place behind those that were exchanged has what it had
+-- the place after those that were replaced has what it had
 pub at-seam : {X : Type 0} (f : X → X) (xs ys : List X) (i : ℕ) (d : X) → i < length xs → ys ≡ map f (take i xs) ++ drop i xs → get_or ys i d ≡ get_or xs i d
 at-seam f xs ys i d lt h =
     let front = map f (take i xs) in
@@ -87,7 +87,7 @@ refilled xs ws e =
 pub side_from : (items : List (Item ℕ)) (s : Side ℕ ℕ) → pairs_of items ≡ preorder_of s → first_of (label 0) (parse (pairs_of items)) ≡ s
 side_from items s e = ap (λ xs. first_of (label 0) (parse xs)) e ∙ ap (first_of (label 0)) (parse_of s)
 
--- items that are renamed where they stand are the preorder of the renamed side
+-- items that are renamed in place are the preorder of the renamed side
 pub still_preorder :
     (f : ℕ → ℕ) (s : Side ℕ ℕ) (lent inside new : List (Item ℕ)) → pairs_of lent ≡ preorder_of s → lent ≡ inside → new ≡ map (item_map f) lent →
     pairs_of (refill (length inside) inside new) ≡ preorder_of (side_map f s)

@@ -87,12 +87,12 @@ module _ (E : Item ℕ → Item ℕ → Bool) (test : IsItemTest E) where
     kept true keys e = refl
     kept false keys e = absurd (cc)
 
-    -- where it finds none, the key is added behind the others
+    -- where it finds none, the key is added after the others
     pub grown : (b : Bool) (keys : List K) → b ≡ false → (if b then keys else keys ++ x ∷ []) ≡ keys ++ x ∷ []
     grown true keys e = absurd (cc)
     grown false keys e = refl
 
-    -- a list that was not there is added behind the others
+    -- a list that was not there is added after the others
     pub noted_new :
         (keys now : List K) → list_any (λ k. pointwise E (v x) (v k)) keys ≡ false → now ≡ (if list_any (λ k. pointwise E (v x) (v k)) keys then keys else keys ++ x ∷ []) →
         (Has (map v keys) (v x) → ⊥) × (map v now ≡ map v keys ++ v x ∷ [])

@@ -1,4 +1,4 @@
--- What becomes of buckets by shapes when one of them gets a position, or a shape gets its number.
+-- What buckets by shapes become when one of them gets a position, or a shape gets its number.
 use Rattle.std.specs.Prelude.{◌≡◌, ℕ, ◌⊎◌, nat_eq, true, false, ◌<◌, List, [], ◌∷◌, ◌++◌, length, Option, None, Some, if◌then◌else◌, refl, ◌+◌, cond}
 use Rattle.std.specs.Global.{Vec}
 use Rattle.std.proofs.Common.{ap, inl, inr, get_or, sym, ◌∙◌, arith, set}

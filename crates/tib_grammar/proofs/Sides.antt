@@ -79,7 +79,7 @@ Lone-from {A} {P} s p h e = by s.label s.kids p h e
     by (hole q) none p h e = ap (λ x. record { label = x; kids = none }) e
     by (hole q) (tree s more rest) p h e = absurd h
 
--- exchanging what the holes carry exchanges what they carry, and nothing else
+-- replacing what the holes carry replaces what they carry, and nothing else
 pub holes-relabel : {A P Q : Type 0} (g : P → Q) (s : Trees (Symbol A P)) → holes (relabel (symbol_map g) s) ≡ map g (holes s)
 holes-relabel g none = refl
 holes-relabel g (tree (label f) kids rest) = cc (holes-relabel g kids, holes-relabel g rest, map-append g (holes kids) (holes rest))
@@ -149,7 +149,7 @@ pub one_label : {P : Type 0} (f g : ℕ) (s : Symbol ℕ P) → s ≡ label f �
 one_label f g (label h) e k = cc
 one_label f g (hole p) e k = absurd (cc)
 
--- a symbol whose state is exchanged for itself is the same
+-- a symbol whose state is replaced by itself is the same
 pub symbol_itself : (s : Symbol ℕ ℕ) → symbol_map (λ (q : ℕ). q) s ≡ s
 symbol_itself (label f) = refl
 symbol_itself (hole q) = refl

@@ -15,7 +15,7 @@ use Rattle.tib_grammar.proofs.Members.{has_at, each_more, distinct_more}
 use Rattle.tib_lex.proofs.Booleans.{or-true}
 use Rattle.tib_lex.proofs.Lists.{position-map}
 
--- a text that was found stands at its place
+-- a text that was found is at its place
 pub found_at :
     (text : List ℕ) (keys : List (Vec ℕ)) (i : ℕ) → Some i ≡ position (λ k. pointwise nat_eq text k.items) keys →
     slice_get (map (λ k. k.items) keys) i ≡ Some text
@@ -54,7 +54,7 @@ has_text [] n x h e = absurd (omega arith)
 has_text (y ∷ ys) zero x h e = inl (ap (λ k. k.items) (sym e))
 has_text (y ∷ ys) (suc n) x h e = inr (has_text ys n x (omega arith) e)
 
--- a text that stood before stands twice
+-- a text that occurred before occurs twice
 pub twice : (all : List (Vec ℕ)) (n : ℕ) (x : Vec ℕ) → n < length all → x ≡ get_or all n x → Has (map (λ k. k.items) (take n all)) x.items → Distinct (map (λ k. k.items) all) → ⊥
 twice [] n x h e m d = absurd (omega arith)
 twice (y ∷ ys) zero x h e m d = absurd m
@@ -67,7 +67,7 @@ new_key : (b : Bool) (keys : List (Vec ℕ)) (k : Vec ℕ) → b ≡ false → (
 new_key true keys k e = cc
 new_key false keys k e = refl
 
--- a new name behind others
+-- a new name after others
 pub name_more :
     (keys now : List (Vec ℕ)) (x : Vec ℕ) → AreStateNames (map (λ k. k.items) keys) → IsStateName x.items → list_any (λ k. pointwise nat_eq x.items k.items) keys ≡ false →
     now ≡ insert_key (λ a b. pointwise nat_eq a.items b.items) keys x → (now ≡ keys ++ x ∷ []) × AreStateNames (map (λ k. k.items) now)

@@ -11,12 +11,12 @@ use Rattle.tib_grammar.specs.declared.Rule.{Rule}
 use Rattle.tib_grammar.specs.declared.DeterminismFault.{DeterminismFault}
 use Rattle.tib_grammar.specs.declared.DeterminismFault.TheVariants.{Nested, Chain, Shared, OutOfMemory}
 
--- the answer tells whether the start stands in a right side
+-- the answer says whether the start is in a right-hand side
 pub record TellsStart (rules : List (Rule ℕ)) (answer : Bool) : Type 0 where
   pub yes : IsTrue answer → StandsInSide rules 0
   pub no : answer ≡ false → StandsInSide rules 0 → ⊥
 
--- the fault of a right side by itself, if it has one
+-- the fault of a right-hand side by itself, if it has one
 abbrev pub IsShapeFault : List (Rule ℕ) → Rule ℕ → ℕ → Option DeterminismFault → Type 0
 IsShapeFault rules r number None = IsShaped rules r
 IsShapeFault rules r number (Some (Nested n)) = (n ≡ number) × IsNested r
@@ -24,18 +24,18 @@ IsShapeFault rules r number (Some (Chain n)) = (n ≡ number) × IsBrokenChain r
 IsShapeFault rules r number (Some (Shared m n)) = ⊥
 IsShapeFault rules r number (Some OutOfMemory) = ⊥
 
--- x stands at the place i of a list of item lists, and at none before
+-- x is at the place i of a list of item lists, and at none before
 pub record IsFirstPlace (xs : List (List (Item ℕ))) (x : List (Item ℕ)) (i : ℕ) : Type 0 where
   pub below : i < length xs
   pub at : get_or xs i [] ≡ x
   pub least : (k : ℕ) → k < i → get_or xs k [] ≡ x → ⊥
 
--- an item list was noted behind others, unless it stood among them
+-- an item list was noted after others, unless it was among them
 abbrev pub IsNoted : List (List (Item ℕ)) → List (Item ℕ) → Option ℕ → List (List (Item ℕ)) → Type 0
 IsNoted old x None new = (Has old x → ⊥) × (new ≡ old ++ x ∷ [])
 IsNoted old x (Some i) new = IsFirstPlace old x i × (new ≡ old)
 
--- these are the items of the first n right sides
+-- these are the items of the first n right-hand sides
 pub record AreFirstSides (lists : List (List (Item ℕ))) (rules : List (Rule ℕ)) (n : ℕ) : Type 0
   where
     pub counted : length lists ≡ n

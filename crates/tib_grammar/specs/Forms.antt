@@ -23,50 +23,51 @@ pub record IsLoneState (s : SideFor ℕ ℕ) : Type 0 where
   pub state : ℕ
   pub is : s ≡ Lone state
 
--- every rule has one label over states on its right (normal form)
+-- every right-hand side is one label over states (normal form)
 abbrev pub AreNormal : List (Rule ℕ) → Type 0
 AreNormal rules = (n : ℕ) → n < length rules → IsNormalSide (rule_at rules n).right
 
--- the state q stands in the right side of some rule
+-- the state q is in the right-hand side of some rule
 pub record StandsInSide (rules : List (Rule ℕ)) (q : ℕ) : Type 0 where
   pub rule : ℕ
   pub below : rule < length rules
   pub stands : Has (holes_of (rule_at rules rule).right) q
 
--- a rule from the start to a lone state, while the start stands in no right side
+-- a rule from the start to a lone state, while the start is in no right-hand side
 pub record IsStartChain (rules : List (Rule ℕ)) (r : Rule ℕ) : Type 0 where
   pub left : r.left ≡ 0
   pub lone : IsLoneState r.right
   pub apart : StandsInSide rules 0 → ⊥
 
--- the right side of a rule in deterministic form
+-- the right-hand side of a rule in deterministic form
 abbrev pub IsShaped : List (Rule ℕ) → Rule ℕ → Type 0
 IsShaped rules r = IsNormalSide r.right ⊎ IsStartChain rules r
 
--- Deterministic form (bottom-up determinism, Comon et al. 2007): each right side is one label over
--- states, or a lone state in a rule of the start while the start stands in no right side; and no
--- two rules have the same right side.
+-- Deterministic form (bottom-up determinism, Comon et al. 2007): each right-hand side is one label
+-- over states, or a lone state in a rule of the start while the start is in no right-hand side; and
+-- no two rules have the same right-hand side.
 pub record IsDeterministic (rules : List (Rule ℕ)) : Type 0 where
   pub shaped : (n : ℕ) → n < length rules → IsShaped rules (rule_at rules n)
   pub apart : (m n : ℕ) → m < length rules → n < length rules →
       (rule_at rules m).right ≡ (rule_at rules n).right → m ≡ n
 
--- no rule before n has its right side
+-- no rule before n has its right-hand side
 abbrev pub IsNew : List (Rule ℕ) → ℕ → Type 0
 IsNew rules n = (m : ℕ) → m < n → (rule_at rules m).right ≡ (rule_at rules n).right → ⊥
 
--- a right side that is neither one label over states nor a lone state
+-- a right-hand side that is neither one label over states nor a lone state
 pub record IsNested (r : Rule ℕ) : Type 0 where
   pub not_normal : IsNormalSide r.right → ⊥
   pub not_lone : IsLoneState r.right → ⊥
 
--- a lone state on the right, but not in a rule of the start, or while the start stands in some
--- right side
+-- a lone state on the right-hand side, but not in a rule of the start, or while the start is in
+-- some right-hand side
 pub record IsBrokenChain (rules : List (Rule ℕ)) (r : Rule ℕ) : Type 0 where
   pub lone : IsLoneState r.right
   pub broken : (r.left ≡ 0 → ⊥) ⊎ StandsInSide rules 0
 
--- the right side of rule n stood before, first in the rule with the number `first`
+-- the right-hand side of rule n is that of an earlier rule, first of the rule with the number
+-- `first`
 pub record IsShared (rules : List (Rule ℕ)) (first n : ℕ) : Type 0 where
   pub shaped : IsShaped rules (rule_at rules n)
   pub position : ℕ

@@ -14,7 +14,7 @@ states_in (tree (hole q) kids rest) = q ∷ (states_in kids ++ states_in rest)
 abbrev pub positions_of : Rule ℕ → List ℕ
 positions_of r = r.left ∷ states_in (only r.right)
 
--- the states at the holes of the right sides of rules, one after another
+-- the states at the holes of the right-hand sides of rules, one after another
 abbrev pub all_ends : {K : Type 0} → List (Rule K) → List K
 all_ends [] = []
 all_ends (e ∷ es) = holes_of e.right ++ all_ends es

@@ -8,7 +8,7 @@ use Rattle.tib_grammar.specs.declared.Item.TheVariants.{Label, Hole}
 abbrev pub number_in : List ℕ → ℕ → ℕ
 number_in numbers q = get_or numbers q 0
 
--- an item with its state exchanged for another
+-- an item with its state replaced by another
 abbrev pub item_map : (ℕ → ℕ) → Item ℕ → Item ℕ
 item_map f (Label g rank) = Label g rank
 item_map f (Hole q) = Hole (f q)

@@ -15,7 +15,8 @@ abbrev pub rule_at : List (Rule ℕ) → ℕ → Rule ℕ
 rule_at rules n = get_or rules n no_rule
 
 -- A run is a tree of positions of rules. For each state of a list there is a run: its root is a
--- rule of the state, and below it stands a run for each hole of the rule's right side, in preorder.
+-- rule of the state, and below it is a run for each hole of the rule's right-hand side, in
+-- preorder.
 abbrev pub AreRuns : List (Rule ℕ) → List ℕ → Trees ℕ → Type 0
 AreRuns rules [] none = Unit {0}
 AreRuns rules [] (tree n runs rest) = ⊥
@@ -26,7 +27,7 @@ AreRuns rules (q ∷ qs) (tree n runs rest) =
     × AreRuns rules (holes_of (rule_at rules n).right) runs
     × AreRuns rules qs rest
 
--- each run yields the right side of its rule with what the runs below it yield in place of the
+-- each run yields the right-hand side of its rule with what the runs below it yield in place of the
 -- holes
 abbrev pub yields : List (Rule ℕ) → Trees ℕ → Trees ℕ
 yields rules none = none

@@ -9,7 +9,7 @@ pub record IsStateName (text : List ℕ) : Type 0 where
   pub is_name : IsName text
   pub no_stop : list_any (nat_eq 46) text ≡ false
 
--- each is a state name, and none stands twice
+-- each is a state name, and none occurs twice
 pub record AreStateNames (texts : List (List ℕ)) : Type 0 where
   pub each : Each IsStateName texts
   pub distinct : Distinct texts

@@ -21,7 +21,7 @@ fn is_hole(item: &Item<u32>) -> bool
     }
 }
 
-// Whether a rule has one label over states on its right.
+// Whether a rule's right-hand side is one label over states.
 fn is_normal_rule(rule: &Rule<u32>) -> bool
     ensures yes { IsTrue result → IsNormalSide rule.now.right }
     ensures no { result ≡ false → IsNormalSide rule.now.right → ⊥ }
@@ -50,7 +50,7 @@ fn are_normal(rules: &[Rule<u32>]) -> bool
     true
 }
 
-// Whether a rule has a lone state on its right.
+// Whether a rule's right-hand side is a lone state.
 fn is_lone_rule(rule: &Rule<u32>) -> bool
     ensures yes { IsTrue result → IsLoneState rule.now.right }
     ensures no { result ≡ false → IsLoneState rule.now.right → ⊥ }
@@ -59,7 +59,7 @@ fn is_lone_rule(rule: &Rule<u32>) -> bool
     is_hole(&items[0])
 }
 
-// Whether a state stands among some items.
+// Whether a state occurs among some items.
 fn have_state(items: &[Item<u32>], state: u32) -> bool
     ensures yes { IsTrue result → Has (holes_in items.now) state }
     ensures no { result ≡ false → Has (holes_in items.now) state → ⊥ }
@@ -74,7 +74,7 @@ fn have_state(items: &[Item<u32>], state: u32) -> bool
     false
 }
 
-// Whether a state stands in the right side of a rule.
+// Whether a state occurs in the right-hand side of a rule.
 fn has_state(rule: &Rule<u32>, state: u32) -> bool
     ensures yes { IsTrue result → Has (holes_of rule.now.right) state }
     ensures no { result ≡ false → Has (holes_of rule.now.right) state → ⊥ }
@@ -83,7 +83,7 @@ fn has_state(rule: &Rule<u32>, state: u32) -> bool
     have_state(items, state)
 }
 
-// Whether the start stands in some right side.
+// Whether the start occurs in some right-hand side.
 fn start_stands_in(rules: &[Rule<u32>]) -> bool
     ensures { TellsStart rules.now result }
 {
@@ -95,7 +95,7 @@ fn start_stands_in(rules: &[Rule<u32>]) -> bool
     false
 }
 
-// The fault of a rule's right side by itself, if it has one.
+// The fault of a rule's right-hand side by itself, if it has one.
 fn shape_fault(rule: &Rule<u32>, number: u32, start_is_used: bool) -> Option<DeterminismFault>
     ensures { (rules : List (Rule ℕ)) → TellsStart rules start_is_used →
         IsShapeFault rules rule.now number result }
@@ -115,8 +115,8 @@ fn shape_fault(rule: &Rule<u32>, number: u32, start_is_used: bool) -> Option<Det
     None
 }
 
-// Notes the items of a right side behind those noted before. If equal ones are among them, it
-// answers their place.
+// Notes the items of a right-hand side after those noted before. If equal ones are among them, it
+// returns their place.
 fn note<'a>(
     sides: &mut IndexSet<&'a [Item<u32>]>,
     items: &'a [Item<u32>],
@@ -153,8 +153,8 @@ fn check_rules(alloc: Global, rules: &[Rule<u32>]) -> Result<(), DeterminismFaul
 }
 
 impl<S> Grammar<S> {
-    /// Whether each rule has one label over states on its right. It takes no memory. Worst case:
-    /// one pass over the items of all rules.
+    /// Whether each rule's right-hand side is one label over states. It takes no memory. Worst
+    /// case: one pass over the items of all rules.
     pub fn is_normal(&self) -> bool
         ensures yes { IsTrue result → AreNormal self.now.rules }
         ensures no { result ≡ false → AreNormal self.now.rules → ⊥ }
@@ -163,8 +163,9 @@ impl<S> Grammar<S> {
     }
 
     /// The grammar as one in deterministic form, or the fault of the first rule that is not: its
-    /// right side is nested, else a chain out of place, else one that stood before. Right sides are
-    /// found again by a hash of their items, so the time is that of one pass over the rules.
+    /// right-hand side is nested, else a chain out of place, else that of an earlier rule.
+    /// `OutOfMemory` if memory is refused. Worst case: O(n) steps for the n items of all rules,
+    /// where a look-up by hash counts once.
     pub fn deterministic(&self, alloc: Global) -> Result<Deterministic<'_, S>, DeterminismFault>
         ensures same { IfOk result (λ d. d ≡ self.now) }
         ensures form { OnOk result (IsDeterministic self.now.rules) }

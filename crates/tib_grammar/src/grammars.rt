@@ -50,9 +50,9 @@ fn are_in_range(rules: &[Rule<u32>], n: u32) -> bool
 }
 
 impl<S> Grammar<S> {
-    /// A grammar of these names and rules. It answers none exactly where there is no name or a rule
-    /// has a state whose number is not below the number of names, and then both are gone. It takes
-    /// no memory. Worst case: one pass over the items of all rules.
+    /// A grammar of these names and rules. Returns none exactly if there is no name or a rule has a
+    /// state whose number is not below the number of names; both are then dropped. It takes no
+    /// memory. Worst case: one pass over the items of all rules.
     pub fn new(names: Names, rules: Vec<Rule<u32>>) -> Option<Grammar<S>>
         requires { length rules.items < 2 ^ 32 }
         ensures names { IfSome result (λ g. g.names ≡ names) }
@@ -75,8 +75,8 @@ impl<S> Grammar<S> {
     }
 
     /// What holds of each grammar: there is a start, its names are distinct state names, the states
-    /// of its rules have names, its rules are fewer than 2^32, nothing stands below a hole, so a
-    /// right side with a state at its root is that lone state. It computes nothing.
+    /// of its rules have names, its rules are fewer than 2^32, nothing is below a hole, so a
+    /// right-hand side with a state at its root is that lone state. It computes nothing.
     pub fn is_sound(&self)
         ensures start { 0 < length self.now.names }
         ensures names { AreStateNames self.now.names }

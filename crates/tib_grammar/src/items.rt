@@ -9,7 +9,7 @@ use crate::{Item, Rule};
 use tib_tree::Label;
 
 impl Item<u32> {
-    /// The state that the item carries, and 0 where it is a label. It takes no memory.
+    /// The state that the item carries, and 0 if it is a label. It takes no memory.
     pub fn state(&self) -> u32
         ensures { result ≡ state_in self.now }
     {
@@ -21,8 +21,8 @@ impl Item<u32> {
 }
 
 impl Rule<u32> {
-    /// The label at the root of a right side in normal form, and how many states stand below it. It
-    /// takes no memory.
+    /// The label at the root of a right-hand side in normal form, and how many states are below it.
+    /// It takes no memory.
     pub fn root(&self) -> (Label, u32)
         requires { IsNormalSide self.now.right }
         ensures label { self.now.right.label ≡ label_symbol result.0 }
@@ -34,7 +34,7 @@ impl Rule<u32> {
         }
     }
 
-    /// The states below the root of a right side in normal form, each as an item. It takes no
+    /// The states below the root of a right-hand side in normal form, each as an item. It takes no
     /// memory.
     pub fn states_below(&self) -> &[Item<u32>]
         requires { IsNormalSide self.now.right }

@@ -59,9 +59,9 @@ fn items_over(
 }
 
 impl<P: Drop> Side<P> {
-    /// The side whose preorder the items are. It answers `NotATree` exactly where they are not the
-    /// preorder of one tree, and then they are gone. It takes no memory. Worst case: one pass over
-    /// the items.
+    /// The side whose preorder the items are. `NotATree` exactly if they are not the preorder of
+    /// one tree; they are then dropped. No other error comes. It takes no memory. Worst case: one
+    /// pass over the items.
     pub fn from_preorder(items: Vec<Item<P>>) -> Result<Side<P>, ShapeError>
         requires { length items.items < 2 ^ 32 }
         ensures side { IfOk result (λ s. preorder_of s ≡ pairs_of items.items) }
@@ -80,7 +80,8 @@ impl<P: Drop> Side<P> {
 }
 
 impl Side<u32> {
-    /// One label over some states.
+    /// One label over some states. Err only if memory is refused. Worst case: O(n) steps for n
+    /// states.
     pub fn over(alloc: Global, label: Label, states: &[u32]) -> Result<Side<u32>, AllocError>
         requires { length states.now < 2 ^ 32 }
         ensures { IfOk result (λ s. s ≡ over_of label states.now) }
@@ -91,7 +92,7 @@ impl Side<u32> {
 }
 
 impl<P> Side<P> {
-    /// The items, a label before what stands below it. It takes no memory.
+    /// The items, a label before what is below it. It takes no memory.
     pub fn items(&self) -> &[Item<P>]
         ensures items { pairs_of result.now ≡ preorder_of self.now }
         ensures leaves { HolesAreLeaves (only self.now) }

@@ -29,7 +29,8 @@ fn rename_items(items: &mut [Item<u32>], numbers: &[u32])
 }
 
 impl Side<u32> {
-    /// Gives each state the number that a list has for it. It takes no memory.
+    /// Gives each state the number that a list has for it. It takes no memory. Worst case: O(n)
+    /// steps for n items.
     pub fn rename(&mut self, numbers: &[u32])
         requires { AllBelow (length numbers.now) (holes_of self.old) }
         ensures { self.new ≡ side_map (number_in numbers.now) self.old }
@@ -39,7 +40,8 @@ impl Side<u32> {
 }
 
 impl Rule<u32> {
-    /// Gives each state the number that a list has for it. It takes no memory.
+    /// Gives each state the number that a list has for it. It takes no memory. Worst case: O(n)
+    /// steps for n items.
     pub fn rename(&mut self, numbers: &[u32])
         requires left { self.old.left < length numbers.now }
         requires right { AllBelow (length numbers.now) (holes_of self.old.right) }

@@ -27,10 +27,10 @@ fn is_state_name(text: &[u8]) -> bool
 }
 
 impl Names {
-    /// The texts as names, in their order. It answers none exactly where a text is not a state
-    /// name, which is a nonempty run of name bytes without a full stop that is not `->`, or stands
-    /// twice. Err only if memory is refused. After either the texts are gone. Worst case: one pass
-    /// over their bytes, and one look-up by hash for each.
+    /// The texts as names, in their order. Returns none exactly if a text is not a state name,
+    /// which is a nonempty run of name bytes without a full stop that is not `->`, or occurs twice.
+    /// Err only if memory is refused. After either the texts are dropped. Worst case: one pass over
+    /// their bytes, and one look-up by hash for each.
     pub fn from_list(alloc: Global, texts: Vec<Vec<u8>>) -> Result<Option<Names>, AllocError>
         requires { length texts.items < 2 ^ 32 }
         ensures same { IfOk result (λ r. IfSome r (λ n. n ≡ map (λ text. text.items) texts.items)) }
@@ -66,7 +66,7 @@ impl Names {
         &self.texts[state as usize]
     }
 
-    /// The number of a name, if it is there. It takes no memory. Cost: one look-up by hash.
+    /// The number of a name, if there is one. It takes no memory. Cost: one look-up by hash.
     pub fn find(&self, text: &[u8]) -> Option<u32>
         ensures found { IfSome result (λ n. slice_get self.now n ≡ Some text.now) }
         ensures none { result ≡ None → Contains self.now text.now → ⊥ }
@@ -77,7 +77,7 @@ impl Names {
         }
     }
 
-    /// What holds of all names: each is a state name, none stands twice, and they are fewer than
+    /// What holds of all names: each is a state name, none occurs twice, and there are fewer than
     /// 2^32.
     pub fn is_sound(&self)
         ensures names { AreStateNames self.now }

@@ -14,7 +14,7 @@ along_long R [] (y ∷ ys) h = absurd h
 along_long R (x ∷ xs) [] h = absurd h
 along_long R (x ∷ xs) (y ∷ ys) h = ap suc (along_long R xs ys h.1)
 
--- what agrees with two lists, one behind the other, comes apart
+-- what agrees with two lists, one after the other, can be split
 pub along_front : {X Y : Type 0} (R : X → Y → Type 0) (xs : List X) (ys zs : List Y) → Along R xs (ys ++ zs) → Along R (take (length ys) xs) ys
 along_front R xs [] zs h = tt
 along_front R [] (y ∷ ys) zs h = absurd h

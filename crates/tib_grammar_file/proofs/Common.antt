@@ -1,4 +1,5 @@
--- What several proofs of this crate cite: values of the reading, lists that begin alike, and lines without a rule.
+-- What several proofs of this crate cite: values of the reading, lists that begin alike, and lines
+-- without a rule.
 use Rattle.std.specs.Prelude.{◌≡◌, ℕ, Bool, true, false, List, [], ◌∷◌, Option, None, Result, Ok, refl}
 use Rattle.std.proofs.Common.{ap}
 use Rattle.tib_cost.specs.declared.Scale.{Scale}
@@ -25,7 +26,7 @@ pub blank_line : (scale : Scale) (line : List ℕ) → HasWords [] line → rule
 unfolding rule_line
 blank_line scale line h = ap (rule_in scale) (words_read [] line h)
 
--- a left state without a full stop leaves the parts of the right side
+-- a left state without a full stop leaves the parts of the right-hand side
 pub plain : (b : Bool) (left : List ℕ) (words : List Word) → b ≡ false → plain_parts b left words ≡ right_parts left words
 plain true left words e = cc
 plain false left words e = refl

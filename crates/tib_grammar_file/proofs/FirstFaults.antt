@@ -73,7 +73,7 @@ pub fault_once : (scale : Scale) (bytes : List ℕ) (fault other : FileFault) �
 fault_once scale bytes fault other h k =
     err_same fault other (sym ((faults_exact scale bytes fault).1 h) ∙ (faults_exact scale bytes other).1 k)
 
--- what the reader answers
+-- what the reader returns
 pub cause_of : (w v : Scale) (before names texts : List (List ℕ)) (bytes : List ℕ) (error : ReadError) → v ≡ w → ReadsRaw before names texts (Err error) (grammar_of v bytes) → IsCause w bytes error
 cause_of w v before names texts bytes (errors.Fault fault) same h = (faults_exact w bytes fault).0 (subst (λ (x : Scale). grammar_of x bytes ≡ Err fault) same h)
 cause_of w v before names texts bytes errors.OutOfMemory same h = tt

@@ -103,7 +103,8 @@ rows_of scale labels g = rows_in scale g.names labels g.rules
 abbrev pub start_of : GrammarOf → List ℕ
 start_of g = get_or g.names 0 []
 
--- what is printed is a text of the grammar with other numbers for its states, if they are those of first sight
+-- what is printed is a text of the grammar with other numbers for its states, if they are those of
+-- first sight
 pub prints_as :
     (scale : Scale) (labels : List (List ℕ)) (g : GrammarOf) (names : List (List ℕ)) (number : ℕ → ℕ) → HasText scale labels g → AddsAll [] (start_of g ∷ map first_text (rows_of scale labels g)) names →
     Renames g.names names number → GrammarText scale labels (grammar_text scale labels g) (record { names = names; rules = map (named_rule number) g.rules })

@@ -85,7 +85,7 @@ pub free_closing : (k : ℕ) → HasNoFeed (closing k)
 free_closing zero = refl
 free_closing (suc k) = refl
 
--- a tree with what stands below it and behind it
+-- a tree with what is below it and after it
 free_tree :
     (names labels : List (List ℕ)) (s : Symbol ℕ ℕ) (kids rest : Trees (Symbol ℕ ℕ)) (k : ℕ) → HasNoFeed (symbol_text names labels s) → HasNoFeed (trees_text names labels kids 0) →
     HasNoFeed (trees_text names labels rest (suc k)) → HasNoFeed (trees_text names labels (tree s kids rest) k)

@@ -62,7 +62,7 @@ numerals = numerals_by_fold (λ ds. list_all is_digit ds ≡ true) tells decimal
 pub digits_are : (n : ℕ) → n ≤ most → list_all is_digit (printed n) ≡ true
 digits_are n h = digits_decimal numerals n (omega arith)
 
--- a digit may stand in a name
+-- a digit may be in a name
 pub name_byte : (c : ℕ) → is_digit c ≡ true → is_name_byte c ≡ true
 name_byte c h = let t = digit_range c h in grind (arith, nat_tests)
 

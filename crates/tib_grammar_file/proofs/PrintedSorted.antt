@@ -1,4 +1,4 @@
--- A grammar whose rules ascend by their left states is read as it stands.
+-- A grammar whose rules ascend by their left states is read as it is.
 use Rattle.tib_cost.specs.declared.Scale.{Scale}
 use Rattle.std.proofs.Common.{◌≡◌, ◌⊎◌, ℕ, ◌+◌, ◌<◌, ◌≤◌, inl, inr, List, [], ◌∷◌, ◌++◌, length, get_or, take, refl, ap, sym, ◌∙◌, subst, arith, zero, suc}
 use Rattle.std.specs.Prelude.{map, Contains}
@@ -27,7 +27,8 @@ use Rattle.tib_lex.proofs.Places.{distinct_at}
 abbrev AscendLeft : Rule ℕ → Rule ℕ → Type 0
 AscendLeft r s = r.left ≤ s.left
 
--- The first k names have been seen, and the rules that follow are of the last of these states or of later ones, and of each later one.
+-- The first k names have been seen, and the rules that follow are of the last of these states or of
+-- later ones, and of each later one.
 record IsSeen (names : List (List ℕ)) (rules : List (Rule ℕ)) (k : ℕ) : Type 0 where
   few : k ≤ length names
   ascend : Ascends AscendLeft rules
@@ -38,7 +39,7 @@ record IsSeen (names : List (List ℕ)) (rules : List (Rule ℕ)) (k : ℕ) : Ty
 seen_or_next : (q k : ℕ) → k ≤ q + 1 → (q < k) ⊎ (k ≤ q)
 seen_or_next q k h = grind arith
 
--- a rule of a state that is not that of the first stands among the others
+-- a rule of a state that is not that of the first is among the others
 left_behind : (r : Rule ℕ) (rules : List (Rule ℕ)) (q : ℕ) → (r.left ≡ q → ⊥) → IsLeftIn (r ∷ rules) q → IsLeftIn rules q
 left_behind r rules q other (zero, h, e) = absurd (other e)
 left_behind r rules q other (suc n, h, e) = (n, omega arith, e)

@@ -20,7 +20,7 @@ use Rattle.tib_lex.proofs.Members.{has_contains}
 pub contains_has : (xs : List (List ℕ)) (x : List ℕ) → Contains xs x → Has xs x
 contains_has xs x c = subst (λ (y : List ℕ). Has xs y) c.2 (has_at xs c.0 x c.1)
 
--- a text stands in a table or it does not
+-- a text is in a table or it is not
 pub decided : (xs : List (List ℕ)) (t : List ℕ) → Has xs t ⊎ (Has xs t → ⊥)
 decided [] t = inr (λ h. h)
 decided (x ∷ xs) t = by (bytes_eq x t) (bytes_eq-Decides x t) (decided xs t)
@@ -30,7 +30,7 @@ decided (x ∷ xs) t = by (bytes_eq x t) (bytes_eq-Decides x t) (decided xs t)
     by false d (inl h) = inl (inr h)
     by false d (inr n) = inr (λ h. elim h [ inl e ↦ (let bad : false ≡ true = d.1 e in cc) | inr k ↦ n k ])
 
--- the texts of a list, each once, behind those of a table
+-- the texts of a list, each once, after those of a table
 pub gathered : (before texts : List (List ℕ)) → (now : List (List ℕ)) × AddsAll before texts now
 gathered before [] = (before, refl)
 gathered before (text ∷ texts) = by (decided before text) (λ b. gathered b texts)

@@ -1,4 +1,4 @@
--- The tokens of what is printed of right sides.
+-- The tokens of what is printed of right-hand sides.
 use Rattle.std.proofs.Common.{◌≡◌, ℕ, ◌<◌, Bool, true, false, List, [], ◌∷◌, ◌++◌, length, get_or, refl, ap, sym, ◌∙◌, subst, append_assoc, arith, zero, suc}
 use Rattle.std.specs.Prelude.{not, cond, ◌&&◌}
 use Rattle.tib_lex.specs.Grammar.{Word, open_, close, name, label, is_name, spelling, IsName, begins_name, HasWords}
@@ -14,7 +14,7 @@ use Rattle.tib_grammar_file.specs.Printed.{is_held, symbol_text, space, trees_te
 use Rattle.tib_grammar.proofs.Below.{below_back, below_front}
 use Rattle.tib_lex.proofs.HasWords.{after_space, has_first_word}
 
--- the symbols of trees are in the tables, and nothing stands below a state
+-- the symbols of trees are in the tables, and nothing is below a state
 abbrev pub FitsSymbol : ℕ → ℕ → Symbol ℕ ℕ → Trees (Symbol ℕ ℕ) → Type 0
 FitsSymbol n m (symbol_label f) kids = f < m
 FitsSymbol n m (hole q) none = q < n
@@ -34,7 +34,7 @@ fits_of n m (tree (symbol_label f) kids rest) h l b = (
 fits_of n m (tree (hole q) none rest) h l b = (b.0, tt, fits_of n m rest h l b.1)
 fits_of n m (tree (hole q) (tree g inner next) rest) h l b = absurd h
 
--- the text of a symbol, and whether it stands in quotes
+-- the text of a symbol, and whether it is in quotes
 abbrev pub text_of : List (List ℕ) → List (List ℕ) → Symbol ℕ ℕ → List ℕ
 text_of names labels (symbol_label f) = get_or labels f []
 text_of names labels (hole q) = get_or names q []
@@ -61,7 +61,7 @@ name_at_is [] q e h = absurd (omega arith)
 name_at_is (x ∷ xs) zero e h = e.0
 name_at_is (x ∷ xs) (suc q) e h = name_at_is xs q e.1 (omega arith)
 
--- a label or a state with words behind it
+-- a label or a state with words after it
 label_read : (c : Bool) (text : List ℕ) (words : List Word) (bytes : List ℕ) → (c ≡ true → IsName text) → begins_name bytes ≡ false → HasWords words bytes → HasWords (word_for (not c) text ∷ words) (cond c text (spelling (label text)) ++ bytes)
 label_read true text words bytes is b h = has_first_word (name text) words bytes (is refl) b h
 label_read false text words bytes is b h = has_first_word (label text) words bytes tt tt h
@@ -73,7 +73,7 @@ symbol_read names labels (symbol_label l) kids words bytes e f b h =
     let text : List ℕ = get_or labels l [] in
     label_read (is_name text && not (is_held names text)) text words bytes (λ c. name_is text (and_true (is_name text) (not (is_held names text)) c).0) b h
 
--- trees with these words behind them
+-- trees with these words after them
 abbrev Reads : List (List ℕ) → List (List ℕ) → Trees (Symbol ℕ ℕ) → Type 0
 Reads names labels ts = (k : ℕ) (more : List Word) (rest : List ℕ) → begins_name rest ≡ false → HasWords more rest → HasWords (spell (written names labels ts) ++ more) (trees_text names labels ts k ++ rest)
 

@@ -113,7 +113,7 @@ prints_front T U E w y f h a c xs ys e p = record {
     fails None m n h s = tt
     fails (Some free) m n h s = λ fits below. s (omega arith) below
 
--- another value is answered
+-- another value is returned
 pub prints_as : (T U E : Type 0) (w y : Option (List ℕ)) (f h : Option ℕ) (a c : ℕ) (xs ys : List ℕ) (t : T) (u : U) → xs ≡ ys → (let r : Result T E = Ok t in Prints w y f h a c xs r) → (let r : Result U E = Ok u in Prints w y f h a c ys r)
 prints_as T U E w y f h a c xs ys t u same p = subst (λ (zs : List ℕ). let r : Result U E = Ok u in Prints w y f h a c zs r) same (record {
   ok = p.ok;

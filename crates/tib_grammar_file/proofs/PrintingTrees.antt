@@ -185,7 +185,7 @@ rank_is {P} {rank} {p} {q} e same = sym (e ∙ ap (λ (x : Symbol ℕ P × ℕ).
 pub closing_as : {T E : Type 0} {w y : Option (List ℕ)} {f h : Option ℕ} {a c : ℕ} {m k : ℕ} {r : Result T E} → m ≡ k → Prints w y f h a c (closing m) r → Prints w y f h a c (closing k) r
 closing_as {T} {E} {w} {y} {f} {h} {a} {c} {m} {k} {r} e p = subst (λ (i : ℕ). Prints w y f h a c (closing i) r) e p
 
--- the place behind a tree is in the list, and it goes on
+-- the place after a tree is in the list, and it goes on
 pub behind_within : {P : Type 0} (items : List (Item P)) (next behind : ℕ) (left : Trees (Symbol ℕ P)) (ys : List (Symbol ℕ P × ℕ)) (item : Item P) → next < length items → (h : Here items next left ys item) → behind ≡ next + 1 + length (preorder h.kids) → (behind ≤ length items) × (next < behind)
 behind_within items next behind left ys item w h e =
     (omega (arith, e, w, ap length h.behind, length-map (drop (next + 1) items) pair_of, length-drop (next + 1) items, length-append (preorder h.kids) (preorder h.rest ++ ys)), omega (arith, e))

@@ -65,7 +65,7 @@ all_more : (lines : List RuleLine) (line : RuleLine) → all_nodes (lines ++ lin
 all_more [] line = append-nil line.nodes
 all_more (l ∷ lines) line = ap (λ (is : List Item). l.nodes ++ is) (all_more lines line) ∙ sym (append_assoc l.nodes (all_nodes lines) line.nodes)
 
--- a rule behind those that were read
+-- a rule after those that were read
 raw_more : (before names texts : List (List ℕ)) (old now : RawRules) (lines : List RuleLine) (line : RuleLine) → AreRawRules names texts old.rules.items old.nodes.items lines → AddsRule before names texts old now line → AreRawRules names texts now.rules.items now.nodes.items (lines ++ line ∷ [])
 raw_more before names texts old now lines line r h = record {
   heads = subst (λ (rs : List RawRule). Along (IsRawRule names) rs (lines ++ line ∷ [])) (sym h.head) (along_more (IsRawRule names) old.rules.items lines h.raw line r.heads h.is);

@@ -7,7 +7,7 @@ use Rattle.tib_grammar.specs.Run.{rule_at, no_rule}
 use Rattle.tib_grammar.specs.declared.Rule.{Rule}
 use Rattle.tib_grammar.proofs.Sides.{same_label}
 
--- a symbol, a side and a rule with each label exchanged for another
+-- a symbol, a side and a rule with each label replaced by another
 abbrev pub symbol_with : (ℕ → ℕ) → Symbol ℕ ℕ → Symbol ℕ ℕ
 symbol_with f (label g) = label (f g)
 symbol_with f (hole q) = hole q
@@ -32,7 +32,7 @@ holes_with f none = refl
 holes_with f (tree (label g) kids rest) = ap (λ (qs : List ℕ). qs ++ holes (trees_with f rest)) (holes_with f kids) ∙ ap (λ (qs : List ℕ). holes kids ++ qs) (holes_with f rest)
 holes_with f (tree (hole q) kids rest) = ap (λ (qs : List ℕ). q ∷ qs) (holes_with f rest)
 
--- exchanging goes through joining, cutting and filling
+-- relabelling commutes with joining, cutting and filling
 pub relabel_join : {A B : Type 0} (f : A → B) (ts us : Trees A) → relabel f (join ts us) ≡ join (relabel f ts) (relabel f us)
 relabel_join f none us = refl
 relabel_join {A} {B} f (tree s kids rest) us = ap (λ (x : Trees B). tree (f s) (relabel f kids) x) (relabel_join f rest us)

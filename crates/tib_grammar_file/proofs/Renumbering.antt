@@ -10,14 +10,14 @@ use Rattle.tib_grammar_file.specs.ByText.{HaveOneText}
 use Rattle.tib_grammar_file.proofs.OneGrammar.{number_same}
 use Rattle.tib_lex.proofs.Lists.{some_same}
 
--- each label gets the number of its text in the other table, a label whose text is not there gets none of that table, and no
--- two labels get one number
+-- each label gets the number of its text in the other table, a label whose text is not there gets
+-- none of that table, and no two labels get one number
 pub record Renumbers (labels others : List (List ℕ)) (f : ℕ → ℕ) : Type 0 where
   pub apart : (i j : ℕ) → f i ≡ f j → i ≡ j
   pub gives : (i k : ℕ) → HaveOneText labels others i k → f i ≡ k
   pub back : (i : ℕ) → f i < length others → HaveOneText labels others i (f i)
 
--- the place of a text in a table, and behind the table by i where it is not there
+-- the place of a text in a table, or the place i past its end if it is not there
 abbrev place_or : List (List ℕ) → List ℕ → ℕ → ℕ
 place_or [] t i = i
 place_or (x ∷ xs) t i = cond (bytes_eq x t) 0 (suc (place_or xs t i))
@@ -26,7 +26,7 @@ abbrev number_of : List (List ℕ) → Option (List ℕ) → ℕ → ℕ
 number_of others None i = length others + i
 number_of others (Some t) i = place_or others t i
 
--- n is the place of the text, or stands behind the table by i
+-- n is the place of the text, or is i past the end of the table
 abbrev IsPlaceOr : List (List ℕ) → List ℕ → ℕ → ℕ → Type 0
 IsPlaceOr xs t i n = (slice_get xs n ≡ Some t) ⊎ (n ≡ length xs + i)
 
@@ -50,7 +50,7 @@ found (x ∷ xs) t i k e = by (bytes_eq x t) (bytes_eq-Decides x t) k e (λ j f.
     by false d zero e more = (let bad : false ≡ true = d.1 (some_same x t e) in absurd (cc))
     by false d (suc j) e more = more j e
 
--- the text of i stands at n in the other table, or n stands behind it by i
+-- the text of i is at n in the other table, or n is i past its end
 abbrev IsMoved : List (List ℕ) → List (List ℕ) → ℕ → ℕ → Type 0
 IsMoved labels others i n = HaveOneText labels others i n ⊎ (n ≡ length others + i)
 

@@ -54,7 +54,7 @@ no_weight (arrow ∷ words) h = refl
 no_weight (name t ∷ words) h = refl
 no_weight (label t ∷ words) h = refl
 
--- the words of a tree and a weight come apart again
+-- the words of a tree and a weight are split again
 pub weight_read : (words : List Word) (w : Option (List ℕ)) → HasNoHash words → weight_in (words ++ weight_words w) ≡ w
 weight_read words None h = rw (append-nil words) (no_weight (drop (length words - 2) words) (no_hash_drop (length words - 2) words h))
 weight_read words (Some t) h =
@@ -74,7 +74,7 @@ front_read words (Some t) =
     let l : length (words ++ hash ∷ (name t ∷ [])) - 2 ≡ length words = omega (arith, length-append words (hash ∷ (name t ∷ []))) in
     rw (l) (take-append_seam words (hash ∷ (name t ∷ [])))
 
--- what was taken apart was together
+-- what was split was joined
 last_tells : (words : List Word) (t : List ℕ) → last_two words ≡ Some t → words ≡ hash ∷ (name t ∷ [])
 last_tells [] t e = let bad : None ≡ Some t = e in cc
 last_tells (open_ ∷ words) t e = let bad : None ≡ Some t = e in cc

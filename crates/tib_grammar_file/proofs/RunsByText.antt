@@ -1,4 +1,5 @@
--- Runs and their costs are the same whatever the labels, and what they yield changes with the labels.
+-- Runs and their costs are the same whatever the labels, and what they yield changes with the
+-- labels.
 use Rattle.std.proofs.Common.{◌≡◌, ℕ, ◌<◌, List, [], ◌∷◌, ◌++◌, length, get_or, refl, ap, sym, ◌∙◌, subst, arith, zero, suc, Option}
 use Rattle.std.proofs.lemmas.List.{length-map}
 use Rattle.tib_lex.specs.Lists.{Along, Distinct}
@@ -15,7 +16,7 @@ use Rattle.tib_grammar_file.proofs.Relabelled.{symbol_with, trees_with, side_wit
 use Rattle.tib_grammar_file.proofs.Renumbering.{Renumbers, renumbering}
 use Rattle.tib_grammar_file.proofs.Shapes.{shape_relabelled}
 
--- rules that differ at most in the labels on their right sides
+-- rules that differ at most in the labels on their right-hand sides
 pub record DifferInLabels (xs ys : List (Rule ℕ)) : Type 0 where
   pub long : length xs ≡ length ys
   pub left : (n : ℕ) → n < length xs → (rule_at xs n).left ≡ (rule_at ys n).left

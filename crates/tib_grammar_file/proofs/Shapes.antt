@@ -41,7 +41,7 @@ module _ {A B : Type 0} (R : A → B → Type 0) where
       subst (λ (ts : Trees A). HaveOneShape R ts (only u)) (parse_of t)
       (subst (λ (us : Trees B). HaveOneShape R (parse (preorder_of t)) us) (parse_of u) (shape_parsed (preorder_of t) (preorder_of u) h))
 
--- where R gives what a function gives, trees of one shape are exchanged by it
+-- where R gives what a function gives, trees of one shape are relabelled by it
 pub shape_relabelled : {A B : Type 0} (R : A → B → Type 0) (f : A → B) → ((x : A) (y : B) → R x y → f x ≡ y) → (ts : Trees A) (us : Trees B) → HaveOneShape R ts us → relabel f ts ≡ us
 shape_relabelled R f gives none none h = refl
 shape_relabelled R f gives none (tree g below more) h = absurd h

@@ -1,4 +1,5 @@
--- Bytes that are the text of trees over two tables are that of the same trees by the texts of labels.
+-- Bytes that are the text of trees over two tables are that of the same trees by the texts of
+-- labels.
 use Rattle.std.proofs.Common.{◌≡◌, ℕ, List, [], ◌∷◌, ◌++◌, refl, ap, sym, ◌∙◌, subst, inl, inr}
 use Rattle.std.proofs.lemmas.Option.{get_or_from_slice_get}
 use Rattle.tib_lex.specs.Grammar.{Word, HasWords}

@@ -16,7 +16,7 @@ and_true : (a b : Bool) → (a && b) ≡ true → (a ≡ true) × (b ≡ true)
 and_true true b e = (refl, e)
 and_true false b e = cc
 
--- digits and what may stand behind them
+-- digits and what may follow them
 record Split (value : ℕ) (text : List ℕ) (n : ℕ) : Type 0 where
   pub digits : List ℕ
   pub zeros : Option (List ℕ)

@@ -18,17 +18,17 @@ abbrev pub node_texts : List (List ℕ) → List (Symbol ℕ ℕ × ℕ) → Lis
 node_texts labels [] = []
 node_texts labels (p ∷ ps) = symbol_texts labels p.0 ++ node_texts labels ps
 
--- the texts of the labels of rules, in the order of the rules and each right side in preorder
+-- the texts of the labels of rules, in the order of the rules and each right-hand side in preorder
 abbrev pub rule_texts : List (List ℕ) → List (Rule ℕ) → List (List ℕ)
 rule_texts labels [] = []
 rule_texts labels (r ∷ rules) = node_texts labels (preorder_of r.right) ++ rule_texts labels rules
 
--- a fault leaves a table as it was; want of memory may not
+-- a fault leaves a table as it was; running out of memory may not
 abbrev pub KeptByFault : ReadError → List (List ℕ) → List (List ℕ) → Type 0
 KeptByFault (Fault fault) before now = now ≡ before
 KeptByFault OutOfMemory before now = Unit {0}
 
--- a label's text is added behind the others if it is new, and a state changes nothing
+-- a label's text is added after the others if it is new, and a state changes nothing
 abbrev pub AddsSymbol : List (List ℕ) → Symbol ℕ ℕ → List (List ℕ) → Type 0
 AddsSymbol before (label f) now =
     (text : List ℕ) × (slice_get now f ≡ Some text) × Adds before text now

@@ -42,8 +42,8 @@ pub record HasText (scale : Scale) (labels : List (List ℕ)) (g : GrammarOf) : 
   pub lefts : HaveRules g
   pub printable : ArePrintable scale labels g.rules
 
--- Bytes are the text of the same grammar, states by their names. The reader takes it where no right
--- side has more than 10,000 nodes.
+-- Bytes are the text of the same grammar, states by their names. The reader takes it where no
+-- right-hand side has more than 10,000 nodes.
 pub record ReadsBack (scale : Scale) (labels : List (List ℕ)) (bytes : List ℕ)
     (g h : GrammarOf) : Type 0 where
   pub text : GrammarText scale labels bytes h

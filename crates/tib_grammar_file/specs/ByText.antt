@@ -6,7 +6,7 @@ use Rattle.tib_grammar.specs.Sides.{Symbol, label, hole}
 use Rattle.tib_grammar.specs.GrammarOf.{GrammarOf}
 use Rattle.tib_grammar.specs.declared.Rule.{Rule}
 
--- the trees have one shape, and R holds of what stands at each node
+-- the trees have one shape, and R holds of what is at each node
 abbrev pub HaveOneShape : {A B : Type 0} → (A → B → Type 0) → Trees A → Trees B → Type 0
 HaveOneShape R none none = Unit {0}
 HaveOneShape R none (tree g below more) = ⊥
@@ -31,7 +31,7 @@ AgreeInSymbol labels others (hole p) (hole q) = p ≡ q
 abbrev pub AreOneTree : List (List ℕ) → List (List ℕ) → Tree ℕ → Tree ℕ → Type 0
 AreOneTree labels others t u = HaveOneShape (HaveOneText labels others) (only t) (only u)
 
--- rules with the same state and cost, and right sides of one shape with the same states, whose
+-- rules with the same state and cost, and right-hand sides of one shape with the same states, whose
 -- labels have the same texts
 pub record AreOneRule (labels others : List (List ℕ)) (r s : Rule ℕ) : Type 0 where
   pub left : r.left ≡ s.left

@@ -1,4 +1,4 @@
--- What is wrong with bytes that are no grammar's text, in the words of the format.
+-- What is wrong with bytes that are no grammar's text, in the terms of the format.
 use Rattle.tib_cost.specs.Scale.{is_weighted}
 use Rattle.tib_cost.specs.declared.Scale.{Scale}
 use Rattle.std.specs.Prelude.{◌≡◌, ◌<◌, ◌≤◌, ◌⊎◌, ℕ, Bool, true, false, List, [], ◌∷◌, length, Option, Some, suc}

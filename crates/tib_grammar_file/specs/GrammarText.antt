@@ -1,4 +1,4 @@
--- The text of a grammar file, in the words of the format.
+-- The text of a grammar file, in the terms of the format.
 use Rattle.tib_cost.specs.declared.Scale.{Scale}
 use Rattle.std.specs.Prelude.{◌≡◌, ◌≤◌, ℕ, ◌⊎◌, Bool, false, List, [], ◌∷◌, ◌++◌, map, length, Option, Some, slice_get, Contains}
 use Rattle.tib_lex.specs.Grammar.{Word, name, arrow, HasWords}
@@ -75,7 +75,7 @@ pub record GrammarText (scale : Scale) (labels : List (List ℕ)) (bytes : List 
   pub states : AddsAll [] (start ∷ map first_text rows) g.names
   pub rules : Along (SpellsRuleOf scale g.names labels) rows g.rules
 
--- each right side has 10,000 nodes at most
+-- each right-hand side has 10,000 nodes at most
 abbrev pub IsSmallRule : Rule ℕ → Type 0
 IsSmallRule rule = length (preorder_of rule.right) ≤ most_nodes
 

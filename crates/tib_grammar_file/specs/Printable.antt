@@ -10,7 +10,7 @@ use Rattle.tib_grammar.specs.Run.{rule_at}
 use Rattle.tib_grammar.specs.declared.Rule.{Rule}
 use Rattle.tib_cost.specs.Semiring.{most}
 
--- a cost that can be written: a weight within the limit, or none where nothing is weighed
+-- a cost that can be written: a weight within the limit, or none where weights are not kept
 abbrev pub IsPlainIf : Bool → ℕ → Type 0
 IsPlainIf true cost = cost ≤ most
 IsPlainIf false cost = cost ≡ 0
@@ -18,7 +18,7 @@ IsPlainIf false cost = cost ≡ 0
 abbrev pub IsPlainCost : Scale → ℕ → Type 0
 IsPlainCost scale cost = IsPlainIf (is_weighted scale) cost
 
--- all labels of trees stand in the table, and none of them has a line feed
+-- all labels of trees are in the table, and none of them has a line feed
 abbrev pub HavePlainLabels : List (List ℕ) → Trees (Symbol ℕ ℕ) → Type 0
 HavePlainLabels labels none = Unit {0}
 HavePlainLabels labels (tree (label f) kids rest) =

@@ -58,7 +58,7 @@ LabelsBelow n (tree (hole q) kids rest) = LabelsBelow n rest
 abbrev pub AreLabelled : ℕ → List (Rule ℕ) → Type 0
 AreLabelled n rules = (m : ℕ) → m < length rules → LabelsBelow n (only (rule_at rules m).right)
 
--- trees behind k others
+-- trees after k others
 abbrev pub trees_text : List (List ℕ) → List (List ℕ) → Trees (Symbol ℕ ℕ) → ℕ → List ℕ
 trees_text names labels = written_trees (symbol_text names labels)
 

@@ -27,7 +27,7 @@ pub record Parts : Type 0 where
 abbrev pub parts : List ℕ → List Item → Option (List ℕ) → Parts
 parts left nodes weight = record { left = left; nodes = nodes; weight = weight }
 
--- THE MEANING: these tokens are a rule that is written so
+-- The meaning: these tokens are a rule that is written so
 pub record SpellsRule (words : List Word) (rule : Parts) : Type 0 where
   pub plain : has_dot rule.left ≡ false
   pub tree : Written
@@ -79,7 +79,7 @@ ReadsRules =
     (words : List Word) (rule : Parts) → (parts_of words ≡ Some rule → SpellsRule words rule)
     × (SpellsRule words rule → parts_of words ≡ Some rule)
 
--- a rule as its line says it, with the names unresolved
+-- a rule as its line gives it, with the names unresolved
 pub record RuleLine : Type 0 where
   pub left : List ℕ
   pub nodes : List Item

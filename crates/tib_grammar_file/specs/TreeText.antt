@@ -17,7 +17,7 @@ abbrev pub space : ℕ → List ℕ
 space zero = []
 space (suc k) = 32 ∷ []
 
--- parentheses round children, where there are any
+-- parentheses around children, where there are any
 abbrev pub opening : ℕ → List ℕ
 opening zero = []
 opening (suc n) = 40 ∷ []
@@ -26,7 +26,7 @@ abbrev pub closing : ℕ → List ℕ
 closing zero = []
 closing (suc n) = 41 ∷ []
 
--- trees behind k others
+-- trees after k others
 abbrev pub trees_text : {P : Type 0} → (Symbol ℕ P → List ℕ) → Trees (Symbol ℕ P) → ℕ → List ℕ
 trees_text show none k = []
 trees_text show (tree s kids rest) k =

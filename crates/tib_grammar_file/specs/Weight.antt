@@ -19,7 +19,7 @@ is_digit b = nat_lt 47 b && nat_lt b 58
 abbrev pub is_zero_digit : ℕ → Bool
 is_zero_digit b = b == 48
 
--- the number that decimal digits write, behind a number that was written before them
+-- the number that decimal digits write, after a number that was written before them
 abbrev pub decimal_from : ℕ → List ℕ → ℕ
 decimal_from value [] = value
 decimal_from value (d ∷ digits) = decimal_from (10 * value + (d - 48)) digits
@@ -28,17 +28,17 @@ decimal_from value (d ∷ digits) = decimal_from (10 * value + (d - 48)) digits
 abbrev pub decimal : List ℕ → ℕ
 decimal digits = decimal_from 0 digits
 
--- a point and what stands behind it, or nothing
+-- a point and what follows it, or nothing
 abbrev pub behind_digits : Option (List ℕ) → List ℕ
 behind_digits None = []
 behind_digits (Some zeros) = 46 ∷ zeros
 
--- behind the point, if there is one, stand zeros alone
+-- after the point, if there is one, there are zeros alone
 abbrev pub AreZeros : Option (List ℕ) → Type 0
 AreZeros None = Unit {0}
 AreZeros (Some zeros) = list_all is_zero_digit zeros ≡ true
 
--- A whole weight: one or more decimal digits, and maybe a point with zeros behind it. Its value is
+-- A whole weight: one or more decimal digits, and maybe a point with zeros after it. Its value is
 -- that of the digits.
 pub record IsWhole (text : List ℕ) (n : ℕ) : Type 0 where
   pub digits : List ℕ
@@ -66,7 +66,7 @@ abbrev pub IsCostOf : Scale → Option (List ℕ) → ℕ → Type 0
 IsCostOf scale None cost = cost ≡ 0
 IsCostOf scale (Some text) cost = IsCostIf (is_weighted scale) scale text cost
 
--- The reading: the value of the digits up to a point, behind which zeros alone may stand.
+-- The reading: the value of the digits up to a point, after which only zeros may come.
 abbrev pub whole_from : ℕ → List ℕ → Option ℕ
 whole_from value [] = Some value
 whole_from value (b ∷ rest) =

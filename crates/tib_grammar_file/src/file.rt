@@ -12,7 +12,7 @@ use tib_tree::Labels;
 
 /// How a format writes the line of a rule.
 pub trait RuleNotation {
-    /// What a line is written of.
+    /// A rule of the format.
     type Rule;
 
     // The line of a rule, over the names of states and the texts of labels.
@@ -21,7 +21,7 @@ pub trait RuleNotation {
     // The texts that a rule needs are there.
     ghost fits: { List (List ℕ) → List (List ℕ) → Self.Rule → Type 0 };
 
-    /// Appends the line of a rule. After a failure a front of it was appended.
+    /// Appends the line of a rule. If the sink fails, a front of it was appended.
     fn put_rule<W: Sink>(
         out: &mut W,
         scale: Scale,
@@ -57,7 +57,7 @@ fn put_rules<N: RuleNotation, W: Sink>(
 }
 
 /// Appends a file: the line of the start, which is the first of the names of states, and then the
-/// line of each rule as `N` writes it. After a failure a front of this was appended. Worst case:
+/// line of each rule as `N` writes it. If the sink fails, a front of this was appended. Worst case:
 /// O(n) steps for n rules, and what `N` takes to write each of them.
 pub fn put_file<N: RuleNotation, W: Sink>(
     out: &mut W,

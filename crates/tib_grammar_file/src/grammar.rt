@@ -35,7 +35,8 @@ fn texts_of(alloc: Global, names: &Labels) -> Result<Vec<Vec<u8>>, AllocError>
     Ok(texts)
 }
 
-/// The names of a table, each of which is one, in their order. Err only if memory is refused. It takes time in proportion to the texts.
+/// The texts of a table as names, in their order. Err only if memory is refused. Worst case: O(n)
+/// steps for n bytes, where a look-up by hash counts once.
 pub fn state_names(alloc: Global, names: &Labels) -> Result<Names, AllocError>
     requires sound { AreStateNames names.now }
     requires few { length names.now ≤ 8388609 }
@@ -62,7 +63,7 @@ fn grammar_over<S: Semiring>(names: Names, rules: Vec<Rule<u32>>) -> Grammar<S>
     }
 }
 
-// Tells states from labels, and makes the grammar.
+// Resolves leaves into states and labels, and makes the grammar.
 fn build<S: Semiring>(
     alloc: Global,
     raw: &RawRules,
@@ -87,13 +88,13 @@ fn build<S: Semiring>(
 
 /// Reads a grammar file. The states are the start and the left states, numbered in the order of
 /// first sight; the texts of all other leaves and of all heads go into the table of labels, which
-/// grows by just those that are new, in the order of the file. Where nothing is weighed, any name
+/// grows by just those that are new, in the order of the file. Where weights are not kept, any name
 /// is taken as a weight, and each rule costs 0.
 ///
 /// A fault names the first line that has one and what is wrong there first: no start (line 1), a
-/// bad token, a bad rule, a weight that isn't whole or is too large, a right side with more than
-/// 10,000 nodes. After a fault the table is as before. `OutOfMemory` says nothing of the file, and
-/// the table may have grown by some of its labels.
+/// bad token, a bad rule, a weight that isn't whole or is too large, a right-hand side with more
+/// than 10,000 nodes. After a fault the table is as before. `OutOfMemory` says nothing of the file,
+/// and the table may have grown by some of its labels.
 ///
 /// Worst case: O(b) steps for b bytes, where a name or label that is looked up by its hash counts
 /// once.

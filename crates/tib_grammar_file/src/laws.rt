@@ -96,8 +96,8 @@ pub fn one_series_by_text()
 {}
 
 /// What is printed of a grammar is the text of the same grammar, states by their names, and reads
-/// back where no right side has more than 10,000 nodes. No label of a rule may have a line feed,
-/// each state but the start needs a rule, and where nothing is weighed all costs are 0.
+/// back where no right-hand side has more than 10,000 nodes. No label of a rule may have a line
+/// feed, each state but the start needs a rule, and where weights are not kept all costs are 0.
 pub fn printed_grammars_are_read()
     ensures { PrintsBack }
 {}

@@ -1,4 +1,5 @@
-// Writes the pieces of a printed file: bytes, labels in quotes, numbers, weights, and what ends a line.
+// Writes the pieces of a printed file: bytes, labels in quotes, numbers, weights, and what ends a
+// line.
 ghost use Rattle.std.specs.Prelude.{◌<◌, ◌++◌, ℕ, [], ◌∷◌, length, decimal, true};
 ghost use Rattle.std.proofs.Common.{get_or};
 ghost use Rattle.tib_lex.specs.Grammar.{escape, label, spelling};
@@ -11,8 +12,8 @@ use tib_cost::{Cost, Scale};
 use tib_grammar::Names;
 use tib_io::{Failed, Sink, write_whole};
 
-/// Appends some bytes. After a failure a front of them was appended. Worst case: O(n) steps for n
-/// bytes.
+/// Appends some bytes. If the sink fails, a front of them was appended. Worst case: O(n) steps for
+/// n bytes.
 pub fn put<W: Sink>(out: &mut W, piece: &[u8]) -> Result<(), Failed>
     ensures { Prints (W.written out.old) (W.written out.new) (W.free out.old) (W.free out.new)
         (W.faults out.old) (W.faults out.new) piece.now result }
@@ -20,7 +21,7 @@ pub fn put<W: Sink>(out: &mut W, piece: &[u8]) -> Result<(), Failed>
     write_whole(out, piece)
 }
 
-// A byte as it stands in quotes.
+// Appends a byte as it is in quotes.
 fn put_byte<W: Sink>(out: &mut W, byte: u8) -> Result<(), Failed>
     ensures { Prints (W.written out.old) (W.written out.new) (W.free out.old) (W.free out.new)
         (W.faults out.old) (W.faults out.new) (escape (byte ∷ [])) result }
@@ -45,7 +46,7 @@ fn put_escaped<W: Sink>(out: &mut W, text: &[u8]) -> Result<(), Failed>
     Ok(())
 }
 
-// The bytes of a label and the quote behind it.
+// Appends the bytes of a label and the quote after it.
 fn close_quote<W: Sink>(out: &mut W, text: &[u8]) -> Result<(), Failed>
     ensures { Prints (W.written out.old) (W.written out.new) (W.free out.old) (W.free out.new)
         (W.faults out.old) (W.faults out.new) (escape text.now ++ 34 ∷ []) result }
@@ -56,8 +57,8 @@ fn close_quote<W: Sink>(out: &mut W, text: &[u8]) -> Result<(), Failed>
     }
 }
 
-/// Appends a text in quotes, with a backslash before each quote and backslash in it. After a
-/// failure a front of this was appended. Worst case: O(n) steps for n bytes.
+/// Appends a text in quotes, with a backslash before each quote and backslash in it. If the sink
+/// fails, a front of this was appended. Worst case: O(n) steps for n bytes.
 pub fn put_quoted<W: Sink>(out: &mut W, text: &[u8]) -> Result<(), Failed>
     ensures { Prints (W.written out.old) (W.written out.new) (W.free out.old) (W.free out.new)
         (W.faults out.old) (W.faults out.new) (spelling (label text.now)) result }
@@ -68,7 +69,7 @@ pub fn put_quoted<W: Sink>(out: &mut W, text: &[u8]) -> Result<(), Failed>
     }
 }
 
-// A space, but before the first of some trees.
+// Appends a space before each of some trees but the first.
 pub(crate) fn put_space<W: Sink>(out: &mut W, k: u32) -> Result<(), Failed>
     ensures { Prints (W.written out.old) (W.written out.new) (W.free out.old) (W.free out.new)
         (W.faults out.old) (W.faults out.new) (space k) result }
@@ -80,7 +81,7 @@ pub(crate) fn put_space<W: Sink>(out: &mut W, k: u32) -> Result<(), Failed>
     }
 }
 
-// What opens the children of a node, if it has some.
+// Appends what opens the children of a node, if it has some.
 pub(crate) fn put_opening<W: Sink>(out: &mut W, rank: u32) -> Result<(), Failed>
     ensures { Prints (W.written out.old) (W.written out.new) (W.free out.old) (W.free out.new)
         (W.faults out.old) (W.faults out.new) (opening rank) result }
@@ -92,7 +93,7 @@ pub(crate) fn put_opening<W: Sink>(out: &mut W, rank: u32) -> Result<(), Failed>
     }
 }
 
-// What closes them.
+// Appends what closes them.
 pub(crate) fn put_closing<W: Sink>(out: &mut W, rank: u32) -> Result<(), Failed>
     ensures { Prints (W.written out.old) (W.written out.new) (W.free out.old) (W.free out.new)
         (W.faults out.old) (W.faults out.new) (closing rank) result }
@@ -104,7 +105,7 @@ pub(crate) fn put_closing<W: Sink>(out: &mut W, rank: u32) -> Result<(), Failed>
     }
 }
 
-/// Appends a number in decimal. After a failure a front of its digits was appended. Worst case:
+/// Appends a number in decimal. If the sink fails, a front of its digits was appended. Worst case:
 /// O(1) steps.
 pub fn put_number<W: Sink>(out: &mut W, number: u64) -> Result<(), Failed>
     ensures { Prints (W.written out.old) (W.written out.new) (W.free out.old) (W.free out.new)
@@ -135,8 +136,8 @@ fn put_cost<W: Sink>(out: &mut W, scale: Scale, cost: Cost) -> Result<(), Failed
     }
 }
 
-/// Appends the end of a rule's line: where costs are weighed, the weight of the rule's cost behind
-/// ` # `, and a line feed. After a failure a front of this was appended. Worst case: O(1) steps.
+/// Appends the end of a rule's line: where weights are kept, ` # ` and the weight of the rule's
+/// cost, and a line feed. If the sink fails, a front of this was appended. Worst case: O(1) steps.
 pub fn put_end<W: Sink>(out: &mut W, scale: Scale, cost: Cost) -> Result<(), Failed>
     ensures { Prints (W.written out.old) (W.written out.new) (W.free out.old) (W.free out.new)
         (W.faults out.old) (W.faults out.new) (cost_text scale cost ++ 10 ∷ []) result }
@@ -147,7 +148,7 @@ pub fn put_end<W: Sink>(out: &mut W, scale: Scale, cost: Cost) -> Result<(), Fai
     }
 }
 
-// The line of the start.
+// Appends the line of the start.
 pub(crate) fn put_start<W: Sink>(out: &mut W, names: &Names) -> Result<(), Failed>
     requires { 0 < length names.now }
     ensures { Prints (W.written out.old) (W.written out.new) (W.free out.old) (W.free out.new)

@@ -53,7 +53,7 @@ fn put_arrow<W: Sink>(
     }
 }
 
-// The line of a rule.
+// Appends the line of a rule.
 fn put_rule<W: Sink>(
     out: &mut W,
     scale: Scale,
@@ -96,10 +96,11 @@ impl RuleNotation for GrammarRules {
 }
 
 /// Prints a grammar whose labels are in range of the table: a line with the start's name, and then
-/// a line for each rule. A label stands in quotes where it would not read as one. Where costs are
-/// weighed, each line ends with the rule's cost. After a failure a front of the text was appended.
-/// It takes no memory; its calls nest as deep as the deepest right side. Worst case: O(b) steps for
-/// b bytes of text, where a label that is looked up among the names by its hash counts once.
+/// a line for each rule. A label is in quotes where it would not read as one. Where weights are
+/// kept, each line ends with the weight of the rule's cost. If the sink fails, a front of the text
+/// was appended. It takes no memory; its calls nest as deep as the deepest right-hand side. Worst
+/// case: O(b) steps for b bytes of text, where a label that is looked up among the names by its
+/// hash counts once.
 pub fn print_grammar<S: Semiring, W: Sink>(
     grammar: &Grammar<S>,
     labels: &Labels,
@@ -121,9 +122,9 @@ pub fn print_grammar<S: Semiring, W: Sink>(
     put_file::<GrammarRules, W>(out, S::SCALE, grammar.rule_list(), grammar.names(), labels)
 }
 
-/// Prints the line of a rule, whose states and labels have texts, as `print_grammar` does. After a
-/// failure a front of the line was appended. It takes no memory; its calls nest as deep as the
-/// right side. Worst case: that of `print_grammar`, for the bytes of the line.
+/// Prints the line of a rule, whose states and labels have texts, as `print_grammar` does. If the
+/// sink fails, a front of the line was appended. It takes no memory; its calls nest as deep as the
+/// right-hand side. Worst case: that of `print_grammar`, for the bytes of the line.
 pub fn print_rule<S: Semiring, W: Sink>(
     rule: &Rule<u32>,
     names: &Names,

@@ -50,7 +50,8 @@ fn is_quoted(place: Place) -> bool
     }
 }
 
-/// Reads the text of a token into `text` and puts it into the table. After an error the table holds what it held.
+/// Reads the text of a token into `text` and puts it into the table, and returns its number. Err
+/// only if memory is refused; the table keeps its texts. Cost: that of `intern_token`.
 pub fn read_name(
     line: &[u8],
     token: Token,
@@ -91,7 +92,7 @@ fn read_item(
     })
 }
 
-// Adds the nodes at some tokens of a line behind the others.
+// Adds the nodes at some tokens of a line after the others.
 fn read_side(
     line: &[u8],
     places: &[Place],

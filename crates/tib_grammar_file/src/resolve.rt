@@ -1,4 +1,5 @@
-// Name resolution: a leaf without quotes is a state where its text is the name of one, and else a label.
+// Name resolution: a leaf without quotes is a state if its text is the name of one, and otherwise a
+// label.
 ghost use Rattle.std.specs.Prelude.{◌≡◌, ◌≤◌, ◌<◌, ◌+◌, ◌-◌, ◌^◌, ℕ, List, length, take, drop, IfOk, IfSome, Some, None, slice_get, All};
 ghost use Rattle.tib_lex.specs.Lines.{HasNoFeed};
 ghost use Rattle.tib_lex.specs.Lists.{Along, Each};

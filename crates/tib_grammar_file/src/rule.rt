@@ -47,7 +47,7 @@ pub fn weight_of(rest: &[Token]) -> Option<Token>
     weight_token(rest[n - 2], rest[n - 1])
 }
 
-/// The tokens of the tree in front of the weight.
+/// The tokens of the tree before the weight.
 pub fn tree_tokens(rest: &[Token], weight: Option<Token>) -> &[Token]
     requires { IfSome weight (λ t. 2 ≤ length rest.now) }
     ensures { result.now ≡ front_of weight rest.now }
@@ -128,7 +128,9 @@ pub(crate) fn read_parts(
     Ok(Some(Found { left, weight }))
 }
 
-/// The cost of a rule with this weight or without one. A fault is that of the weight. The text is read into `text`.
+/// The cost of a rule with this weight or without one. A fault is that of the weight; `OutOfMemory`
+/// if memory is refused. The text is read into `text`. Worst case: O(n) steps for the n bytes of
+/// the weight.
 #[tactic(auto, unfolding(crate::specs::Weight::cost_of))]
 pub fn read_cost(
     scale: Scale,

@@ -1,4 +1,4 @@
-// Writes labels and states as they stand in grammars.
+// Writes labels and states as they are in grammars.
 ghost use Rattle.std.specs.Prelude.{◌≡◌};
 ghost use Rattle.tib_grammar_file.specs.Printed.{is_held as spec_is_held};
 

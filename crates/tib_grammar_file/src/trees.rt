@@ -13,7 +13,7 @@ use tib_tree::Labels;
 
 /// How a format writes the labels and the leaves of a side.
 pub trait Notation {
-    /// What stands at a leaf.
+    /// What a leaf carries.
     type Leaf;
 
     // The text of a label, over the names of states and the label's own text.
@@ -25,12 +25,13 @@ pub trait Notation {
     // The texts that a leaf needs are there.
     ghost fits: { List (List ℕ) → List (List ℕ) → Self.Leaf → Type 0 };
 
-    /// Appends a label of this text. After a failure a front of what stands for it was appended.
+    /// Appends a label of this text. If the sink fails, a front of what is written for it was
+    /// appended.
     fn put_label<W: Sink>(out: &mut W, names: &Names, text: &[u8]) -> Result<(), Failed>
         ensures { Prints (W.written out.old) (W.written out.new) (W.free out.old) (W.free out.new)
             (W.faults out.old) (W.faults out.new) (label_text names.now text.now) result };
 
-    /// Appends a leaf. After a failure a front of its text was appended.
+    /// Appends a leaf. If the sink fails, a front of its text was appended.
     fn put_leaf<W: Sink>(
         out: &mut W,
         leaf: &Self::Leaf,
@@ -89,7 +90,7 @@ fn put_spaced<N: Notation, W: Sink>(
     }
 }
 
-// What stands in front of a node's children.
+// Appends what comes before a node's children.
 fn put_head<N: Notation, W: Sink>(
     out: &mut W,
     k: u32,
@@ -109,8 +110,8 @@ fn put_head<N: Notation, W: Sink>(
     }
 }
 
-// Prints a number of trees from an index of a preorder on, with a space between them. It answers
-// the index behind them.
+// Appends a number of trees from an index of a preorder on, with a space between them. It returns
+// the index after them.
 fn put_trees<N: Notation, W: Sink>(
     out: &mut W,
     items: &[Item<N::Leaf>],
@@ -154,10 +155,10 @@ fn put_trees<N: Notation, W: Sink>(
     Ok(next)
 }
 
-/// Appends a side, which is one tree: each label or leaf as `N` writes it, and behind it in
-/// parentheses its children, if it has some, with a space between two of them. After a failure a
-/// front of this was appended. It takes no memory; its calls nest as deep as the side. Worst case:
-/// O(n) steps for n nodes, and what `N` takes to write each of them.
+/// Appends a side, which is one tree: each label or leaf as `N` writes it, then its children in
+/// parentheses, if it has some, with a space between them. If the sink fails, a front of this was
+/// appended. It takes no memory; its calls nest as deep as the side. Worst case: O(n) steps for n
+/// nodes, and what `N` takes to write each of them.
 pub fn put_side<N: Notation, W: Sink>(
     out: &mut W,
     side: &Side<N::Leaf>,
