@@ -59,7 +59,7 @@ pub fn times_distributes<S: Semiring>()
         ≡ lesser (times S.product u v) (times S.product u w) }
 {}
 
-/// A residual exists wherever it may be asked for.
+/// A residual exists wherever `residual` may be called.
 pub fn residual_exists<S: Semiring>()
     ensures { (a m : ℕ) → m ≤ a → HasResidual S.product a m }
 {}

@@ -9,11 +9,11 @@ use Rattle.tib_lex.specs.declared.fault.FileFault.{FileFault}
 use Rattle.tib_lex.proofs.HasWords.{words_read}
 use Rattle.tib_grammar_file.specs.Rule.{RuleLine, rule_line, rule_in, plain_parts, right_parts}
 
--- what is read of the line of the start, if it is not blank
+-- what is read from the line of the start, if it is not blank
 abbrev pub Start : Type 0
 Start = Result (Option (List ℕ)) FaultKind
 
--- what is read of a whole file: the start and the lines of its rules
+-- what is read from a whole file: the start and the lines of its rules
 abbrev pub Whole : Type 0
 Whole = Result (List ℕ × List RuleLine) FileFault
 

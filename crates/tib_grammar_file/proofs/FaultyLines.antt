@@ -1,4 +1,4 @@
--- What a line holds, and what is read of it.
+-- What a line holds, and what is read from it.
 use Rattle.tib_tree.specs.Trees.{most_nodes}
 use Rattle.tib_cost.specs.Scale.{is_weighted, cost_in}
 use Rattle.tib_cost.specs.declared.Scale.TheVariants as scales
@@ -79,7 +79,7 @@ weight_read scales.Plain (Some text) kind h = kind_read scales.Plain text kind h
 weight_read scales.Reversed None kind h = absurd h
 weight_read scales.Reversed (Some text) kind h = kind_read scales.Reversed text kind h
 
--- what is read of a line in a rule's place says what it holds
+-- what is read from a line in a rule's place says what it holds
 abbrev pub RuleSays : Scale → List ℕ → Result (Option RuleLine) FaultKind → Type 0
 RuleSays scale line r = Fits (HoldsRule scale) (HasRuleFault scale) line r
 

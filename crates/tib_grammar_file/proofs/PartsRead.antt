@@ -43,7 +43,7 @@ pub words_front : (line : List ℕ) (weight : Option Token) (rest : List Token) 
 words_front line None rest = sym (ap (λ (n : ℕ). take (n - 0) (words_at line rest)) (length-map rest (word_at line)) ∙ take-map (word_at line) (length rest - 0) rest)
 words_front line (Some t) rest = sym (ap (λ (n : ℕ). take (n - 2) (words_at line rest)) (length-map rest (word_at line)) ∙ take-map (word_at line) (length rest - 2) rest)
 
--- the parts, by what was read of the tree's tokens
+-- the parts, by what was read from the tree's tokens
 pub parts_found : (line : List ℕ) (words : List Word) (left : List ℕ) (rest tree : List Token) (weight : Option Token) (o : Option (List Item)) → head_of words ≡ Some (left, words_at line rest) → has_dot left ≡ false → weight_in (words_at line rest) ≡ text_at line weight → tree ≡ front_of weight rest → nodes_of (words_at line tree) ≡ o → parts_of words ≡ with_nodes left (text_at line weight) o
 unfolding parts_of
 parts_found line words left rest tree weight o e d w t n =

@@ -99,7 +99,7 @@ starts names texts raw wanted e f = record {
   same = front_none wanted;
 }
 
--- what is read of the lines from here, by what is read of the next one
+-- what is read from the lines from here, by what is read from the next one
 pub step :
     {R : Type 0} (one : List ℕ → Result (Option R) FaultKind) (wanted : Result (List R) FileFault) (done : List R) (n at : ℕ) (bytes : List ℕ) (line : Line) (r : Result (Option R) FaultKind) →
     IsNextLine bytes n at line → one (slice_range bytes line.start line.end) ≡ r → front done (each_line one n (lines_of (drop at bytes))) ≡ wanted →

@@ -1,4 +1,4 @@
--- What is read of a file without a fault is the text of some grammar.
+-- What is read from a file without a fault is the text of some grammar.
 use Rattle.tib_cost.specs.declared.Scale.{Scale}
 use Rattle.std.proofs.Common.{◌≡◌, ℕ, ◌⊎◌, inl, inr, Bool, true, false, List, [], ◌∷◌, ◌++◌, map, refl, ap, sym, ◌∙◌, subst, Option}
 use Rattle.std.specs.Prelude.{Some, None, Result, Ok, Err, slice_get}

@@ -127,7 +127,7 @@ all_lines scale names labels (w ∷ rows) (r ∷ rules) a s =
     let more = all_lines scale names labels rows rules a.1 s.1 in
     record { lines = one.0 ∷ more.lines; are = (one.1, more.are); rules_are = (one.2, more.rules_are); few = (one.3, more.few) }
 
--- a grammar within the limit is read of its text
+-- a grammar within the limit is read from its text
 pub record IsReadAs (scale : Scale) (labels : List (List ℕ)) (bytes : List ℕ) (g : GrammarOf) : Type 0 where
   pub start : List ℕ
   pub lines : List RuleLine

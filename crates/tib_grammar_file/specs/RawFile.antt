@@ -1,4 +1,4 @@
--- What was read of a file's rules.
+-- What was read from a file's rules.
 use Rattle.std.specs.Prelude.{◌≡◌, ℕ, List, map, Result, Ok, Err}
 use Rattle.tib_tree.specs.Grows.{AddsAll}
 use Rattle.tib_lex.specs.declared.fault.FileFault.{FileFault}

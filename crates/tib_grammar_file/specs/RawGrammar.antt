@@ -1,4 +1,4 @@
--- What was read of a grammar file before name resolution.
+-- What was read from a grammar file before name resolution.
 use Rattle.tib_cost.specs.declared.Scale.{Scale}
 use Rattle.std.specs.Prelude.{◌≡◌, ℕ, ◌+◌, ◌≤◌, Bool, true, false, List, ◌∷◌, map, Option, None, Some, Result, Ok, Err, length, drop}
 use Rattle.tib_lex.specs.declared.fault.FaultKind.{FaultKind}

@@ -1,4 +1,4 @@
--- What is read of a file: its start and its rules, or its first fault.
+-- What is read from a file: its start and its rules, or its first fault.
 use Rattle.tib_cost.specs.declared.Scale.{Scale}
 use Rattle.std.specs.Prelude.{ℕ, List, [], ◌∷◌, Option, None, Some, Result, Ok, Err, if◌then◌else◌, suc}
 use Rattle.tib_lex.specs.Grammar.{Word, name}
@@ -39,7 +39,7 @@ abbrev pub started : {R : Type 0} → List ℕ → Result (List R) FileFault →
 started start (Ok rules) = Ok (start, rules)
 started start (Err fault) = Err fault
 
--- what is read of a file, by what is read of its first line in the start's place
+-- what is read from a file, by what is read from its first line in the start's place
 abbrev pub with_start : {R : Type 0} → ℕ → Result (Option (List ℕ)) FaultKind → Result (List R) FileFault →
     Result (List ℕ × List R) FileFault → Result (List ℕ × List R) FileFault
 with_start n (Err kind) rules more = Err (fault_at n kind)

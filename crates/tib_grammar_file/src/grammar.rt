@@ -35,8 +35,8 @@ fn texts_of(alloc: Global, names: &Labels) -> Result<Vec<Vec<u8>>, AllocError>
     Ok(texts)
 }
 
-/// The texts of a table as names, in their order. Err only if memory is refused. Worst case: O(n)
-/// steps for n bytes, where a look-up by hash counts once.
+/// The texts of a table, which are state names, as names in their order. Err only if memory is
+/// refused. Worst case: O(n) steps for n bytes, where a look-up by hash counts once.
 pub fn state_names(alloc: Global, names: &Labels) -> Result<Names, AllocError>
     requires sound { AreStateNames names.now }
     requires few { length names.now ≤ 8388609 }
@@ -93,8 +93,8 @@ fn build<S: Semiring>(
 ///
 /// A fault names the first line that has one and what is wrong there first: no start (line 1), a
 /// bad token, a bad rule, a weight that isn't whole or is too large, a right-hand side with more
-/// than 10,000 nodes. After a fault the table is as before. `OutOfMemory` says nothing of the file,
-/// and the table may have grown by some of its labels.
+/// than 10,000 nodes. After a fault the table is as before. `OutOfMemory`, if memory is refused,
+/// says nothing of the file, and the table may have grown by some of its labels.
 ///
 /// Worst case: O(b) steps for b bytes, where a name or label that is looked up by its hash counts
 /// once.

@@ -17,13 +17,12 @@ ghost use Rattle.tib_grammar_file.specs.Printable.{ArePrintable};
 ghost use Rattle.tib_grammar_file.specs.Printed.{AreLabelled, grammar_text};
 ghost use Rattle.tib_grammar_file.specs.Rule.{ReadsRules};
 
-/// The parts that are read of tokens are those of the rule that is spelled so.
+/// The parts that are read from tokens are those of the rule that the tokens spell.
 pub fn rules_are_read()
     ensures { ReadsRules }
 {}
 
-/// The function that says what a file holds gives a fault exactly where this is the first of the
-/// file.
+/// The function that says what a file holds gives a fault exactly if this is the first of the file.
 pub fn faults_are_read()
     ensures { GivesFaults }
 {}
@@ -33,7 +32,8 @@ pub fn first_fault_is_one()
     ensures { HasOneFault }
 {}
 
-/// A file with a fault is no grammar's text within the limit on nodes, over no table of labels.
+/// A file with a fault is not the text of any grammar within the limit on nodes, over any table of
+/// labels.
 pub fn faults_have_no_text()
     ensures { TextsHaveNone }
 {}

@@ -7,7 +7,7 @@ use Rattle.tib_lex.specs.FirstFault.{FirstFault}
 use Rattle.tib_lex.specs.declared.fault.FaultKind.{FaultKind}
 use Rattle.tib_lex.specs.declared.fault.FileFault.{FileFault}
 
--- what is read of a line is what it holds, or its fault
+-- what is read from a line is what it holds, or its fault
 abbrev pub Fits : {X : Type 0} → (List ℕ → Type 0) → (List ℕ → FaultKind → Type 0) → List ℕ → Result X FaultKind → Type 0
 Fits Holds HasFault line (Ok held) = Holds line
 Fits Holds HasFault line (Err kind) = HasFault line kind

@@ -1,4 +1,4 @@
--- A file has just the lines that are read of it.
+-- A file has just the lines that are read from it.
 use Rattle.std.proofs.Common.{◌≡◌, ℕ, ◌<◌, inl, inr, List, [], ◌∷◌, ◌++◌, length, refl, ap, sym, ◌∙◌, subst, arith, Bool, true, false}
 use Rattle.std.specs.Prelude.{not, ◌==◌, ◌&&◌, cond}
 use Rattle.std.specs.List.{list_all}

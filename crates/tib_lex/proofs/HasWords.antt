@@ -1,4 +1,4 @@
--- A line has just the tokens that are read of it.
+-- A line has just the tokens that are read from it.
 use Rattle.std.proofs.Common.{◌≡◌, ℕ, ◌+◌, ◌-◌, ◌<◌, inl, inr, true, false, List, [], ◌∷◌, ◌++◌, length, take, drop, refl, ap, sym, ◌∙◌, subst, arith, Option, length-append, zero, suc, zero-add}
 use Rattle.std.specs.Prelude.{Some, None, ◌==◌, ◌||◌, option_map, slice_range, nat_lt}
 use Rattle.std.specs.List.{list_all}

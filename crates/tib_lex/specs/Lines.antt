@@ -1,4 +1,4 @@
--- The lines of a file, and what is read of them one after another.
+-- The lines of a file, and what is read from them one after another.
 use Rattle.std.specs.Prelude.{◌≡◌, ◌<◌, ◌⊎◌, ℕ, Bool, true, length, not, ◌==◌, List, [], ◌∷◌, ◌++◌, Option, Some, None, Result, Ok, Err, if◌then◌else◌, suc}
 use Rattle.std.specs.List.{list_all}
 use Rattle.tib_lex.specs.declared.fault.FaultKind.{FaultKind}

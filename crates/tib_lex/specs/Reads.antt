@@ -1,4 +1,4 @@
--- What is read of a line from a place on, in the terms of the format.
+-- What is read from a line from a place on, in the terms of the format.
 use Rattle.std.specs.Prelude.{◌≡◌, ℕ, ◌+◌, true, List, ◌++◌, [], length}
 use Rattle.std.specs.List.{list_all}
 use Rattle.tib_lex.specs.Bytes.{is_blank}

@@ -1,5 +1,5 @@
 //! Lines and tokens of the text formats, over the bytes of a file, and the faults that a file may
-//! have. What is read of a line is just what the format says that it has: its tokens, by their
+//! have. What is read from a line is exactly what the format says that it has: its tokens, by their
 //! spelling, or none where one is bad. It depends on `tib_io`, whose limit on the bytes of a file
 //! bounds its texts.
 #![tactic(auto)]

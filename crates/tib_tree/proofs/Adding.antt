@@ -24,7 +24,7 @@ use Rattle.tib_tree.proofs.NodesRead.{back_more}
 use Rattle.tib_tree.proofs.LineRead.{back_long}
 use Rattle.tib_tree.proofs.Read.{tree_back}
 
--- a list of which each holds, and one more
+-- what holds of each member of a list, and of one more
 pub each_more : {A : Type 0} (P : A → Type 0) (xs : List A) (x : A) → Each P xs → P x → Each P (xs ++ x ∷ [])
 each_more P [] x h p = (p, tt)
 each_more P (y ∷ ys) x h p = (h.0, each_more P ys x h.1 p)

@@ -26,7 +26,7 @@ use Rattle.tib_tree.specs.Found.{with_tree, Counts, CountsLine}
 use Rattle.tib_tree.specs.declared.found.Found.{Found}
 use Rattle.tib_tree.specs.declared.found.Found.TheVariants as found
 
--- what a line has, by what is read of it
+-- what a line has, by what is read from it
 blank_read : (line : List ℕ) → tree_line line ≡ Ok None → IsBlank line
 blank_read line e = subst (LineHolds line) e (line_holds line)
 

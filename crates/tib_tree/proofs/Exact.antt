@@ -57,7 +57,7 @@ blank_second n [] m all h = h
 blank_second n (line ∷ lines) m all (inl (blank, h)) = blank_second (suc n) lines m all.1 h
 blank_second n (line ∷ lines) m all (inr (tree, h)) = blank_tree line all.0 tree
 
--- how many trees are read of lines
+-- how many trees are read from lines
 blank_more : (n : ℕ) (line : List ℕ) (more : Result (List (List Item)) FileFault) (iss : List (List Item)) → IsBlank line → with_line n (tree_line line) more ≡ Ok iss → more ≡ Ok iss
 blank_more n line more iss blank e = sym (ap (λ r. with_line n r more) (line_is line (Ok None) blank)) ∙ e
 

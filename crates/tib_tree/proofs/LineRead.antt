@@ -1,4 +1,4 @@
--- What a line of a tree file holds, by what was read of it.
+-- What a line of a tree file holds, by what was read from it.
 use Rattle.std.proofs.Common.{◌≡◌, ℕ, ◌<◌, ◌≤◌, List, [], ◌∷◌, length, refl, ap, sym, ◌∙◌, subst, arith, Option}
 use Rattle.std.specs.Prelude.{Some, None, Ok, Err, map, nat_lt, cond}
 use Rattle.std.proofs.lemmas.List.{length-map, length-reverse}

@@ -50,7 +50,7 @@ AddsLine labels before now (Ok done) wanted = Adds labels before now wanted
 AddsLine labels before now (Err (line_errors.Fault kind)) wanted = wanted ≡ Err kind
 AddsLine labels before now (Err line_errors.OutOfMemory) wanted = Unit {0}
 
--- what was read of a file
+-- what was read from a file
 abbrev pub IsFile : List (List ℕ) → Result (Vec (Tree ℕ)) ReadError →
     Result (List (List Item)) FileFault → Type 0
 IsFile labels (Ok trees) wanted =

@@ -1,4 +1,4 @@
--- What the trees that are read of a text are.
+-- What the trees that are read from a text are.
 use Rattle.std.specs.Prelude.{◌≡◌, ℕ, List, [], ◌∷◌, ◌++◌, length, Ok, Err}
 use Rattle.tib_lex.specs.Lists.{Each}
 use Rattle.tib_lex.specs.declared.fault.FileFault.{FileFault}

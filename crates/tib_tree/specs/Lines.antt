@@ -30,7 +30,7 @@ abbrev pub texts_in : Result (Option (List Item)) FaultKind → List (List ℕ)
 texts_in (Ok (Some is)) = map (λ i. i.text) is
 texts_in other = []
 
--- what was read of a line, over a table of labels
+-- what was read from a line, over a table of labels
 abbrev pub IsLine : List (List ℕ) → Result (Option (Tree ℕ)) LineError →
     Result (Option (List Item)) FaultKind → Type 0
 IsLine labels (Ok None) wanted = wanted ≡ Ok None

@@ -88,8 +88,8 @@ fn read_lines(alloc: Global, bytes: &[u8], labels: &mut Labels) -> Result<Vec<Tr
 /// first sight. Lines without tokens are skipped. The fault is that of the first line that has one:
 /// `BadToken`, or else `BadTree`, or else `TooManyNodes` where its tree has more than 10,000 nodes.
 /// After any error the table may hold further texts, and those that it held keep their numbers.
-/// `OutOfMemory` says nothing of the file. Worst case: O(b) steps for b bytes, where a look-up by
-/// hash counts once.
+/// `OutOfMemory`, if memory is refused, says nothing of the file. Worst case: O(b) steps for b
+/// bytes, where a look-up by hash counts once.
 pub fn read_trees(alloc: Global, bytes: &[u8], labels: &mut Labels) -> Result<Vec<Tree>, ReadError>
     requires short { length bytes.now ≤ most_bytes }
     requires room { length labels.old + length bytes.now < 2 ^ 32 - 1 }

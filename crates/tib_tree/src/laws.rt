@@ -2,12 +2,12 @@
 ghost use Rattle.tib_tree.specs.Laws.{GivesTexts, GivesFaults, MeansOne, FaultsAlone, PrintsBack, PrintsText};
 ghost use Rattle.tib_tree.specs.Machine.{ReadsTrees};
 
-/// The nodes that are read of tokens are those of the tree that is spelled so.
+/// The nodes that are read from tokens are those of the tree that the tokens spell.
 pub fn nodes_are_read()
     ensures { ReadsTrees }
 {}
-/// The function that says what a file holds gives its trees exactly where it is the text of small
-/// trees, and else its first fault.
+/// The function that says what a file holds gives its trees exactly if it is the text of small
+/// trees, and otherwise its first fault.
 pub fn texts_are_read()
     ensures trees { GivesTexts }
     ensures faults { GivesFaults }

@@ -43,8 +43,9 @@ fn read_line(
 /// are skipped. The fault is that of the first line that has one, as in any file of trees; else, if
 /// the file has no tree, `BadTree` in line 1, and if it has several, `BadTree` in the line of the
 /// second. After any error the table may hold further texts, and those that it held keep their
-/// numbers. `OutOfMemory` says nothing of the file. Only the first tree is kept, and one line at a
-/// time is read. Worst case: O(b) steps for b bytes, where a look-up by hash counts once.
+/// numbers. `OutOfMemory`, if memory is refused, says nothing of the file. Only the first tree is
+/// kept, and one line at a time is read. Worst case: O(b) steps for b bytes, where a look-up by
+/// hash counts once.
 pub fn read_one_tree(alloc: Global, bytes: &[u8], labels: &mut Labels) -> Result<Tree, ReadError>
     requires short { length bytes.now ≤ most_bytes }
     requires room { length labels.old + length bytes.now < 2 ^ 32 - 1 }

@@ -196,8 +196,8 @@ pub(crate) fn tree_of(nodes: Vec<Node>) -> Tree
 
 impl Tree {
     /// The tree with this preorder, as pairs of a label and a number of children. `NotATree`
-    /// exactly where they are the preorder of no tree; `OutOfMemory` says nothing of them. Worst
-    /// case: O(n) steps for n pairs.
+    /// exactly if they are the preorder of no tree; `OutOfMemory`, if memory is refused, says
+    /// nothing of them. Worst case: O(n) steps for n pairs.
     pub fn from_preorder(alloc: Global, items: &[(Label, u32)]) -> Result<Tree, ShapeError>
         requires { length items.now < 2 ^ 32 }
         ensures tree { IfOk result (λ t. preorder_of t ≡ items.now) }

@@ -22,7 +22,7 @@ pub(crate) struct Seen {
     pub label: u32,
 }
 
-/// The labels that were seen last at each two places side by side. Before the first it has no
+/// The labels that were seen last at each pair of adjacent places. Before the first label it has no
 /// places.
 #[derive(Drop)]
 pub(crate) struct Recent {

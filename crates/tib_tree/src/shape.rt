@@ -18,15 +18,15 @@ pub struct Place {
     pub depth: u32,
 }
 
-/// A level that is still to be opened: how many trees were read at it, and how many nodes then in
-/// all.
+/// A level that is still to be opened: how many trees were read at it, and how many nodes in all by
+/// then.
 #[derive(Clone, Copy, Debug)]
 pub struct Level {
     pub trees: u32,
     pub nodes: u32,
 }
 
-/// What was read of a line's trees.
+/// What was read so far of a line's trees.
 #[derive(Drop)]
 pub struct Reader {
     /// The nodes, the last one first.

@@ -124,9 +124,9 @@ impl LineReader {
     }
 
     /// The tree of a line, if it has tokens. The table grows by the tree's labels that are new. The
-    /// fault is `BadToken`, or else `BadTree`, or else `TooManyNodes`; `OutOfMemory` says nothing
-    /// of the line. After an error the table may hold further texts of the line's labels. Worst
-    /// case: O(n) steps for n bytes, where a look-up by hash counts once.
+    /// fault is `BadToken`, or else `BadTree`, or else `TooManyNodes`; `OutOfMemory`, if memory is
+    /// refused, says nothing of the line. After an error the table may hold further texts of the
+    /// line's labels. Worst case: O(n) steps for n bytes, where a look-up by hash counts once.
     pub fn read(
         &mut self,
         alloc: Global,

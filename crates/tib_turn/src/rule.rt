@@ -1,4 +1,4 @@
-// The rule of a turn lock: what its words and its seats agree on after every step.
+// The rule of a turn lock: what holds of its words and its seats after every step.
 use crate::grows::Grows;
 use crate::view::View;
 use atomic_table::{Join, Play, Split, TableRule};
