@@ -23,7 +23,7 @@ states_long [] = refl
 states_long (x ∷ rows) = omega (arith, states_long rows)
 
 module _ (table : List (List ℕ)) (rows : List Row) (q : ℕ) where
-  -- no row of the state stands before the first
+  -- no row of the state comes before the first
   pub arranging-start : (n : ℕ) (rules : List (Rule ℕ)) → IsNext (states_of rows) q 0 n → IsArranging table rows q 0 rules → IsArranging table rows q n rules
   arranging-start n rules next a = record {
     ascends = a.ascends;
@@ -34,7 +34,7 @@ module _ (table : List (List ℕ)) (rows : List Row) (q : ℕ) where
     apart = a.apart;
   }
 
-  -- the rule of one row more
+  -- the rule of one more row
   pub arranging-more :
       (n m : ℕ) (rules : List (Rule ℕ)) (new : Rule ℕ) → n < length rows → (row_at rows n).state ≡ q → new ≡ rule_of table (row_at rows n) → IsNext (states_of rows) q (n + 1) m →
       IsArranging table rows q n rules → IsArranging table rows q m (rules ++ new ∷ [])

@@ -241,7 +241,7 @@ step-push product r d old new c fits adds =
       long = omega (arith, adds.long);
     }
 
--- one rule more
+-- one more rule
 pub spread-more :
     (product : ℕ → ℕ → ℕ) (rules : List (Rule ℕ)) (keys : List ℕ) (key d n m : ℕ) (old mid new : List (ℕ × ℕ)) (r : Rule ℕ) → r ≡ rule_at rules n → n < length rules → get_or keys n no_key ≡ key →
     IsNext keys key (n + 1) m → Spreads product rules keys key d n old mid → IsStep product r d mid new → Spreads product rules keys key d m old new

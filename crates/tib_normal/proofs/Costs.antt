@@ -1,4 +1,5 @@
--- The costs of runs of a grammar in normal form: the first rule named, and lists of trees cut and joined.
+-- The costs of runs of a grammar in normal form: the first rule named, and lists of trees cut and
+-- joined.
 use Rattle.std.specs.Prelude.{◌≡◌, ℕ, ◌≤◌, List, [], ◌∷◌, ◌++◌, take, drop, Bool, refl}
 use Rattle.std.proofs.Common.{zero, suc, arith, ap, sym, ◌∙◌, subst}
 use Rattle.tib_tree.specs.Trees.{Trees, none, tree, count, join, first_trees, other_trees}

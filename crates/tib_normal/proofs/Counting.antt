@@ -59,7 +59,7 @@ pub parts-kids : (items : List (Item ℕ)) (r : SideFor ℕ ℕ) → pairs_of it
 parts-kids [] r e = absurd (cc)
 parts-kids (x ∷ items) r e = parts-sum items (nested-kids (x ∷ items) r e) ∙ ap parts_in (below-kids (x ∷ items) r e)
 
--- with one rule more
+-- with one more rule
 pub parts-more :
     (rules : List (Rule ℕ)) (i : ℕ) (r : Rule ℕ) (s before after : ℕ) → i < length rules → r ≡ rule_at rules i →
     before ≡ s + sum_by place_parts (take i rules) → after ≡ before + place_parts r → after ≡ s + sum_by place_parts (take (i + 1) rules)

@@ -8,7 +8,7 @@ use Rattle.tib_grammar.specs.declared.Rule.{Rule}
 use Rattle.tib_normal.specs.Links.{no_key}
 use Rattle.tib_normal.specs.Ways.{IsEnd}
 
--- the end of one rule more
+-- the end of one more rule
 pub ends-more :
     (rules : List (Rule ℕ)) (ends now : List ℕ) (m end : ℕ) (r : Rule ℕ) → r ≡ rule_at rules m → length ends ≡ m → now ≡ ends ++ end ∷ [] →
     ((n : ℕ) → n < m → IsEnd (rule_at rules n) (get_or ends n no_key)) → IsEnd r end → (n : ℕ) → n < m + 1 → IsEnd (rule_at rules n) (get_or now n no_key)

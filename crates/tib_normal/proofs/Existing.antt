@@ -1,4 +1,4 @@
--- Each grammar has a normal form: that it has none cannot be.
+-- Each grammar has a normal form: it cannot be that it has none.
 use Rattle.std.specs.Prelude.{◌≡◌, ℕ, ◌+◌, ◌<◌, ◌≤◌, ◌⊎◌, List, [], ◌∷◌, ◌++◌, length, refl, Option, None, Some}
 use Rattle.std.proofs.Common.{zero, suc, arith, ap, sym, ◌∙◌, subst, inl, inr}
 use Rattle.tib_lex.specs.Lists.{Has, Ascends}
@@ -15,7 +15,7 @@ use Rattle.tib_lex.proofs.Booleans.{either_way}
 use Rattle.tib_lex.proofs.Numbers.{below_suc_cases}
 use Rattle.tib_grammar.proofs.Sides.{same_label}
 
--- that a set of costs has no least value cannot be
+-- it cannot be that a set of costs has no least value
 module _ (P : ℕ → Type 0) (never : (v : Option ℕ) → IsLeast P v → ⊥) where
   none_below : (n : ℕ) → (m : ℕ) → m < n → P m → m ≤ most → ⊥
   none_below zero m h p b = omega (arith, h)
@@ -70,7 +70,7 @@ module _ (product : ℕ → ℕ → ℕ) (states : ℕ) (rules : List (Rule ℕ)
           subst (λ i. HasRow own q (side_from i f)) (sym k)
           (last f c (subst (λ i. (rule_at rules i).right.label ≡ label f) k e) (subst (λ i. Reaches product states rules q (side_from i f) c) k r) b)
 
-  -- a rule of q more, to a side that has none yet
+  -- one more rule of q, to a side that has none yet
   part_more :
       (q n : ℕ) (own : List (Rule ℕ)) (side : SideFor ℕ ℕ) (c : ℕ) → ArePart q n own → IsLeast (Reaches product states rules q side) (Some c) → (HasRow own q side → ⊥) →
       ArePart q n (own ++ record { left = q; right = side; cost = c } ∷ [])
@@ -116,7 +116,7 @@ module _ (product : ℕ → ℕ → ℕ) (states : ℕ) (rules : List (Rule ℕ)
                     (subst (λ p. Has own (record { left = p; right = r.right; cost = r.cost })) at_state h),
               )
 
-  -- one rule of the grammar more
+  -- one more rule of the grammar
   part_next : (q n : ℕ) (own : List (Rule ℕ)) → ArePart q n own → ((next : List (Rule ℕ)) → ArePart q (suc n) next → ⊥) → ⊥
   part_next q n own part k = by_root (rule_at rules n).right.label refl
     where

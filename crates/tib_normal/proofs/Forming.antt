@@ -62,7 +62,7 @@ still (y ∷ ys) x z (inl e) (inr k) n = k
 still (y ∷ ys) x z (inr m) (inl k) n = inl k
 still (y ∷ ys) x z (inr m) (inr k) n = inr (still ys x z m k n)
 
--- of different values each of which stands in the other list, the total is at most that of the other list
+-- where distinct values are all in another list, their total is at most that of this list
 pub total_fewer : {A : Type 0} (f : A → ℕ) (R : A → A → Type 0) (xs ys : List A) → ((x : A) → R x x → ⊥) → Ascends R xs → ((x : A) → Has xs x → Has ys x) → total f xs ≤ total f ys
 total_fewer f R [] ys n a h = omega arith
 total_fewer f R (x ∷ xs) ys n a h =
@@ -131,7 +131,7 @@ first_high s [] n h = absurd (omega arith)
 first_high s (x ∷ rules) zero h = omega (arith, length_first s x rules)
 first_high s (x ∷ rules) (suc n) h = omega (arith, length_first s x rules, first_high (s + labels_in x.right.kids) rules n (omega arith))
 
--- the rules of places stand in the order of their states
+-- the rules of places are in the order of their states
 
 abbrev Earlier : Rule ℕ → Rule ℕ → Type 0
 Earlier r t = r.left < t.left
@@ -253,7 +253,7 @@ module _ (product : ℕ → ℕ → ℕ) (states : ℕ) (rules : List (Rule ℕ)
           | inr i ↦ (all_low states rules (rule_at new m) i).1
         ]
 
-    -- a rule of the definition stands in it
+    -- a rule of the definition is in it
     stands : (r : Rule ℕ) → IsLeast (IsNormalCost product states rules r.left r.right) (Some r.cost) → Has new r
     stands r l =
         let w = form.whole r.left r.right r.cost l.attained.0 l.attained.1 in
@@ -295,7 +295,7 @@ pub few_rules : (rules : List (Rule ℕ)) → length rules ≤ total rule_parts 
 few_rules [] = omega arith
 few_rules (r ∷ rules) = omega (arith, few_rules rules)
 
--- the rules that were made of the grammar's states, with those of the places behind them
+-- the rules that were made of the grammar's states, with those of the places after them
 pub form_made :
     (product : ℕ → ℕ → ℕ) (states places : ℕ) (rules own places_rules all : List (Rule ℕ)) → AreOwn product states rules states own → places ≡ sum_by rule_labels rules →
     places_rules ≡ all_inner states rules → all ≡ own ++ places_rules → IsNormalForm product states rules (states + places) all

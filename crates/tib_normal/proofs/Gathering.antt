@@ -30,7 +30,7 @@ same_or_more t s h = grind arith
 abbrev pub row : ℕ → ℕ → ℕ → Row
 row q s c = record { state = q; side = s; cost = c }
 
--- the rows of the sides behind s, and those of s for the states that have their costs
+-- the rows of the sides after s, and those of s for the states that have their costs
 pub record IsGathering (product : ℕ → ℕ → ℕ) (rules : List (Rule ℕ)) (numbers : List ℕ) (s sides states : ℕ) (costs : ℕ → Option ℕ) (rows : List Row) : Type 0 where
   pub are : AreLeastRows product rules numbers sides states rows
   pub told : (r d : ℕ) → costs r ≡ Some d → Has rows (row r s d)
@@ -70,7 +70,7 @@ module _ {levelled weighted : Bool} {product : ℕ → ℕ → ℕ} (laws : Prod
           let here : IsOffer product rules numbers q s c = subst (λ z. IsOffer product rules numbers q z c) e o in
           subst (λ z. (d : ℕ) × Has rows (row q z d)) (sym e) (known q c (costs q) refl ((ended laws rules numbers s costs closing q).lower c here k))
 
-  -- one row more, of a state that had no cost
+  -- one more row, of a state that had no cost
   rows-more :
       (costs : ℕ → Option ℕ) (rows : List Row) (q c : ℕ) → IsGathering product rules numbers s sides states costs rows → costs q ≡ None → q < states → s < sides →
       IsLeast (IsOffer product rules numbers q s) (Some c) → AreLeastRows product rules numbers sides states (rows ++ row q s c ∷ [])
@@ -134,7 +134,8 @@ module _ {levelled weighted : Bool} {product : ℕ → ℕ → ℕ} (laws : Prod
           subst (λ (y : Row). (s < y.side) ⊎ ((y.side ≡ s) × (after y.state ≡ Some y.cost))) e (inr (refl, here))
       own x (inr (inr a)) = absurd a
 
-  -- the entries that a step leaves, and the rows and their parts, which were `parts` at first for the old rows
+  -- the entries that a step leaves, and the rows and their parts, which were `parts` at first for
+  -- the old rows
   pub record IsFollowing (table : List (List ℕ)) (first : List Row) (at_first : ℕ) (spread : Spread) (rows : List Row) (parts : ℕ) : Type 0 where
     pub closing : IsClosing product rules numbers s (λ r. get_or spread.costs.items r None) spread.agenda
     pub gathering : IsGathering product rules numbers s sides states (λ r. get_or spread.costs.items r None) rows

@@ -55,7 +55,7 @@ taken-more names room taken new text m are is low set_is = record {
   ]);
 }
 
--- what is all taken has as many as are counted
+-- if all are taken, as many are counted as there are
 all_taken : (taken : List Bool) → length taken ≤ prefix_len (λ b. not (not b)) taken → count_by (λ b. b) taken ≡ length taken
 all_taken [] h = refl
 all_taken (true ∷ taken) h = sum_by-cons (λ b. cond b 1 0) true taken ∙ omega (arith, all_taken taken (omega arith))
@@ -71,7 +71,7 @@ one_is_free names taken are none = full (nat_lt (prefix_len (λ b. not (not b)) 
         let past : length taken ≤ prefix_len (λ b. not (not b)) taken = grind (arith, nat_tests) in
         absurd (omega (arith, are.few, are.long, all_taken taken past))
 
--- and no name has the first that is
+-- and no name has the first free one
 pub first_is_free : (names : List (List ℕ)) (taken : List Bool) (n : ℕ) → AreTaken names (length names + 1) taken → position not taken ≡ Some n → IsFree names (9 + n)
 first_is_free names taken n are at = λ text h long.
     let found = position-Some not taken n false at in

@@ -193,7 +193,8 @@ module _
         grows_both laws d m w m j.4 (omega arith),
       )
 
-  -- runs from the states of some sides are runs from their heads for the sides filled, and no dearer
+  -- runs from the states of some sides are runs from their heads for the sides filled, and no
+  -- dearer
   wrap :
       (s : ℕ) (k : Trees (Symbol ℕ ℕ)) → ((r : Rule ℕ) → Has (inner_rules s k) r → Has (all_inner states rules) r) →
       (args : Trees ℕ) (m : ℕ) → count args ≡ length (holes k) → IsCost product new (holes k) args m →

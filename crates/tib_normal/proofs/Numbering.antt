@@ -74,7 +74,7 @@ gets_number side n number old new before after inserted stored distinct given =
 apart_roots : (f q : ℕ) → ◌≡◌ {A = Symbol ℕ ℕ} (label f) (hole q) → ⊥
 apart_roots f q e = absurd (cc)
 
--- a rule whose first item is a label, over the states at the roots of what stands below
+-- a rule whose first item is a label, over the states at the roots of what is below
 pub numbered-own :
     (items : List (Item ℕ)) (rule : Rule ℕ) (n first f rank count : ℕ) (side stack : List ℕ) (old new : List (List ℕ)) (before after : List ℕ) → pairs_of items ≡ preorder_of rule.right →
     get_or items 0 (Label 0 0) ≡ Label f rank → reverse stack ≡ head_states first (below_root items) → count ≡ length stack → side ≡ f ∷ take count (reverse stack) →
@@ -108,7 +108,7 @@ side-apart (f ∷ a) (g ∷ b) h k e =
     let head : f ≡ g = cc root in
     ap (λ z. z ∷ a) head ∙ ap (λ l. g ∷ l) (leaves_apart a b (ap (λ s. s.kids) e))
 
--- the first state of the places of rule n comes behind those of the rules before it
+-- the first state of the places of rule n comes after those of the rules before it
 pub first-inner : (s : ℕ) (rules : List (Rule ℕ)) (n : ℕ) → n ≤ length rules → first_inner s rules n ≡ s + sum_by rule_labels (take n rules)
 first-inner s [] zero h = omega arith
 first-inner s [] (suc n) h = absurd (omega arith)
@@ -146,7 +146,7 @@ hole_or_label : (s : Symbol ℕ ℕ) → ((q : ℕ) × (s ≡ hole q)) ⊎ ((f :
 hole_or_label (hole q) = inl (q, refl)
 hole_or_label (label f) = inr (f, refl)
 
--- a chain rule more
+-- one more chain rule
 chain_more : (states : ℕ) (rules : List (Rule ℕ)) (n q : ℕ) (table : List (List ℕ)) (numbers : List ℕ) → (rule_at rules n).right.label ≡ hole q → AreNumberedFrom states rules (suc n) table numbers → AreNumberedFrom states rules n table numbers
 chain_more states rules n q table numbers root from = record {
   long = from.long;
@@ -192,7 +192,7 @@ full_more side old new (inr e) some full s h = elim (bool_cases (nat_lt s (lengt
 kept_side : (states : ℕ) (rules : List (Rule ℕ)) (old new : List (List ℕ)) (m f s : ℕ) → (s < length new) × (get_or new s [] ≡ get_or old s []) → HasSide states rules old m f s → HasSide states rules new m f s
 kept_side states rules old new m f s kept has = record { below = kept.0; is = ap side_of kept.1 ∙ has.is }
 
--- a rule more with a side of its own
+-- one more rule with a side of its own
 own_more :
     (states : ℕ) (rules : List (Rule ℕ)) (n first f : ℕ) (old new : List (List ℕ)) (before after : List ℕ) → n < length rules → first ≡ first_inner states rules n → (rule_at rules n).right.label ≡ label f →
     AreNumberedFrom states rules (suc n) old before → GetsNumber (f ∷ head_states first (rule_at rules n).right.kids) n old new before after → AreNumberedFrom states rules n new after
@@ -228,7 +228,7 @@ own_more states rules n first f old new before after h first_is root from gets =
       is = ap side_of is ∙ ap (λ (z : Trees (Symbol ℕ ℕ)). record { label = label f; kids = z }) (sym (heads-leaves first (rule_at rules n).right.kids) ∙ ap (λ z. heads z (rule_at rules n).right.kids) first_is);
     }
 
--- the first state of the places of one rule more
+-- the first state of the places of one more rule
 pub counted-more :
     (states : ℕ) (rules : List (Rule ℕ)) (n first state : ℕ) (r : Rule ℕ) → n < length rules → r ≡ rule_at rules n → state ≡ states + sum_by rule_labels (take (suc n) rules) → first + rule_labels r ≡ state →
     first ≡ states + sum_by rule_labels (take n rules)
@@ -237,7 +237,7 @@ counted-more states rules n first state r h at whole less =
     let same : sum_by rule_labels (take (n + 1) rules) ≡ sum_by rule_labels (take (suc n) rules) = ap (λ m. sum_by rule_labels (take m rules)) (add-one n) in
     omega arith
 
--- a rule more
+-- one more rule
 pub numbered-more :
     (states : ℕ) (rules : List (Rule ℕ)) (n first : ℕ) (r : Rule ℕ) (old new : List (List ℕ)) (before after : List ℕ) → n < length rules → r ≡ rule_at rules n → first ≡ states + sum_by rule_labels (take n rules) →
     AreNumberedFrom states rules (suc n) old before → IsNumbered r n first old new before after → AreNumberedFrom states rules n new after

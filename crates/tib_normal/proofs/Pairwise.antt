@@ -23,7 +23,7 @@ take_empty : {A : Type 0} (n : ℕ) → let xs : List A = [] in take n xs ≡ xs
 take_empty zero = refl
 take_empty (suc n) = refl
 
--- the start of the rules behind the first
+-- the start of the rules after the first
 start_behind : (r : Rule ℕ) (rules : List (Rule ℕ)) (q p : ℕ) → IsStart (r ∷ rules) q (suc p) → IsStart rules q p
 start_behind r rules q p s = record {
   within = omega (arith, s.within);

@@ -82,7 +82,7 @@ pub length-names : (n places : ℕ) → length (names_of_places n places) ≡ pl
 length-names n zero = refl
 length-names n (suc places) = omega (arith, length-append (names_of_places n places) (name_of_place n places ∷ []), length-names n places)
 
--- state names, and behind them those of places
+-- state names, and after them those of places
 pub all_are_names :
     (names : List (List ℕ)) (n places : ℕ) → AreStateNames names → IsFree names n → 9 ≤ n → places ≤ 100000000 → AreStateNames (names ++ names_of_places n places)
 all_are_names names n zero are free long few = subst AreStateNames (sym (append-nil names)) are
@@ -99,7 +99,8 @@ all_are_names names n (suc places) are free long few =
           ]);
     })
 
--- what is written of a name of this length: the number left still has the digits before the first one
+-- what is written of a name of this length: the number left still has the digits before the first
+-- one
 pub record IsWriting (n number first rest : ℕ) (name : List ℕ) : Type 0 where
   pub some : 1 ≤ first
   pub low : first ≤ n
@@ -140,7 +141,7 @@ first_names names i text h at = take_more names i [] h ∙ ap (λ (z : List ℕ)
 pub length-texts : (texts : List (Vec ℕ)) (names : List (List ℕ)) (n places : ℕ) → map (λ (t : Vec ℕ). t.items) texts ≡ names ++ names_of_places n places → length texts ≡ length names + places
 length-texts texts names n places is = omega (arith, length-map texts (λ (t : Vec ℕ). t.items), ap length is, length-append names (names_of_places n places), length-names n places)
 
--- one name more in the list of texts
+-- one more name in the list of texts
 pub text-more :
     (texts more : List (Vec ℕ)) (text : Vec ℕ) (names : List (List ℕ)) (i : ℕ) → i < length names → map (λ (t : Vec ℕ). t.items) texts ≡ take i names → slice_get names i ≡ Some text.items →
     more ≡ texts ++ text ∷ [] → map (λ (t : Vec ℕ). t.items) more ≡ take (i + 1) names
@@ -150,7 +151,7 @@ text-more texts more text names i h old at is =
     ∙ ap (λ (z : List (List ℕ)). z ++ text.items ∷ []) old
     ∙ sym (first_names names i text.items h at)
 
--- the name of one place more
+-- the name of one more place
 pub place-more :
     (texts more : List (Vec ℕ)) (text : Vec ℕ) (names : List (List ℕ)) (n place : ℕ) → map (λ (t : Vec ℕ). t.items) texts ≡ names ++ names_of_places n place → text.items ≡ name_of_place n place →
     more ≡ texts ++ text ∷ [] → map (λ (t : Vec ℕ). t.items) more ≡ names ++ names_of_places n (place + 1)

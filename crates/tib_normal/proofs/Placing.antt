@@ -112,7 +112,7 @@ taken-one n front start old new side more x left pop taken push =
     let next = after_drop n (reverse start) (reverse new) x (sym left ∙ turned) in
     (push ∙ ap (λ z. z ++ x ∷ []) taken ∙ ap (λ z. front ∷ z) (sym next.0), sym next.1)
 
--- the sides behind an item
+-- the sides after an item
 pub drop-item : (items : List (Item ℕ)) (i : ℕ) (d : Item ℕ) → i < length items → drop i (pairs_of items) ≡ pair_of (get_or items i d) ∷ drop (suc i) (pairs_of items)
 drop-item [] i d h = absurd (omega arith)
 drop-item (x ∷ items) zero d h = refl
@@ -236,7 +236,7 @@ no_length (x ∷ xs) e = absurd (omega arith)
 pub emptied : (old new : List ℕ) (n : ℕ) → n ≡ length old → reverse new ≡ drop n (reverse old) → new ≡ []
 emptied old new n e h = no_length new (omega (arith, length-reverse new, ap length (h ∙ empty-drop (reverse old) n (e ∙ sym (length-reverse old)))))
 
--- the rules of the places of one rule more
+-- the rules of the places of one more rule
 pub inner-more : (s : ℕ) (rules : List (Rule ℕ)) (n : ℕ) (r : Rule ℕ) (before after : List (Rule ℕ)) (t : ℕ) → n < length rules → r ≡ rule_at rules n → s + rule_labels r ≡ t →
     reverse before ≡ all_inner t (drop (suc n) rules) → reverse after ≡ inner_rules s r.right.kids ++ reverse before → reverse after ≡ all_inner s (drop n rules)
 inner-more s rules n r before after t h at count_is old new =
@@ -259,7 +259,7 @@ sum_suc f (x ∷ rules) (suc i) r h e =
     let rest : sum_by f (take (suc i) rules) ≡ sum_by f (take i rules) + f r = sum_suc f rules i r (omega arith) e in
     omega arith
 
--- the sum with one rule more
+-- the sum with one more rule
 pub sum-more : (f : Rule ℕ → ℕ) (rules : List (Rule ℕ)) (i : ℕ) (r : Rule ℕ) → i < length rules → r ≡ rule_at rules i → sum_by f (take (i + 1) rules) ≡ sum_by f (take i rules) + f r
 sum-more f rules i r h e = ap (λ j. sum_by f (take j rules)) (add-one i) ∙ sum_suc f rules i r h e
 

@@ -5,7 +5,7 @@ use Rattle.tib_grammar.specs.declared.Rule.{Rule}
 use Rattle.tib_grammar.specs.Run.{rule_at}
 use Rattle.tib_normal.specs.Rules.{is_over, positions_from}
 
--- one rule more
+-- one more rule
 pub positions-more :
     (rules : List (Rule ℕ)) (k f n i : ℕ) → i < length rules →
     positions_from k f n (take (suc i) rules) ≡ (if is_over f n (rule_at rules i) then positions_from k f n (take i rules) ++ (k + i) ∷ [] else positions_from k f n (take i rules))

@@ -29,7 +29,7 @@ parts-over : (q c : ℕ) (key : List ℕ) → 0 < length key → rule_parts (rec
 parts-over q c [] h = absurd (omega arith)
 parts-over q c (f ∷ states) h = omega (arith, size-leaves states)
 
--- the key that stands at an index is the side with this number
+-- the key that is at an index is the side with this number
 pub key-at : (keys : List (Vec ℕ)) (s : ℕ) (k : Vec ℕ) → slice_get keys s ≡ Some k → k.items ≡ get_or (lists_of keys) s []
 key-at [] s k e = let v : None ≡ Some k = e in absurd (cc)
 key-at (x ∷ keys) zero k e = let v : Some x ≡ Some k = e in let same : x ≡ k = cc v in ap (λ (y : Vec ℕ). y.items) (sym same)

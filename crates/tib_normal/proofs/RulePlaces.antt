@@ -38,7 +38,7 @@ place_step r rules k f n ps ih true e zero h =
 place_step r rules k f n ps ih true e (suc j) h = shift r rules k f n (get_or ps j 0) (ih j (omega arith))
 place_step r rules k f n ps ih false e j h = shift r rules k f n (get_or ps j 0) (ih j h)
 
--- what stands at a place of the positions is such a position
+-- what is at a place of the positions is such a position
 pub place_at : (rules : List (Rule ℕ)) (k f n j : ℕ) → j < length (positions_from k f n rules) → IsPlace rules k f n (get_or (positions_from k f n rules) j 0)
 place_at [] k f n j h = absurd (omega arith)
 place_at (r ∷ rules) k f n j h = place_step r rules k f n (positions_from (suc k) f n rules) (place_at rules (suc k) f n) (is_over f n r) refl j h
@@ -62,7 +62,7 @@ has_step : (k p : ℕ) (ps : List ℕ) (b : Bool) → Has ps p → Has (if b the
 has_step k p ps true h = inr h
 has_step k p ps false h = h
 
--- and each such position stands there
+-- and each such position is there
 pub has_place : (rules : List (Rule ℕ)) (k f n m : ℕ) → m < length rules → is_over f n (get_or rules m no_rule) ≡ true → Has (positions_from k f n rules) (k + m)
 has_place [] k f n m h e = absurd (omega arith)
 has_place (r ∷ rules) k f n zero h e =

@@ -17,7 +17,7 @@ pub record LeadsTo (rules : List (Rule ℕ)) (p n r : ℕ) : Type 0 where
   pub left : (rule_at rules n).left ≡ p
   pub right : (rule_at rules n).right ≡ Lone r
 
--- one of the costs stands for r, at most c
+-- r waits at a cost of at most c
 pub record Waits (entries : List (ℕ × ℕ)) (r c : ℕ) : Type 0 where
   pub cost : ℕ
   pub held : Contains entries (cost, r)

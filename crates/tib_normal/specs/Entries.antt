@@ -1,7 +1,7 @@
 -- What is added to an agenda and taken from it.
 use Rattle.std.specs.Prelude.{◌≡◌, ℕ, ◌+◌, ◌≤◌, ◌⊎◌, List, length, Contains, Option, None, Some}
 
--- the agenda has one entry more
+-- the agenda has one more entry
 pub record AddsEntry (old : List (ℕ × ℕ)) (e : ℕ × ℕ) (new : List (ℕ × ℕ)) : Type 0 where
   pub new_one : Contains new e
   pub kept : (x : ℕ × ℕ) → Contains old x → Contains new x

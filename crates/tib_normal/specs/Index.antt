@@ -7,7 +7,7 @@ use Rattle.tib_grammar.specs.declared.Rule.{Rule}
 use Rattle.tib_grammar.specs.Run.{rule_at}
 use Rattle.tib_grammar.specs.ShapeBuckets.{bucket_at, lists_of}
 
--- p rules stand before all whose left state is q or more
+-- p rules come before all whose left state is q or more
 pub record IsStart (rules : List (Rule ℕ)) (q p : ℕ) : Type 0 where
   pub within : p ≤ length rules
   pub before : (n : ℕ) → n < p → (rule_at rules n).left < q

@@ -3,7 +3,7 @@ use Rattle.std.specs.Prelude.{◌≡◌, ℕ, ◌+◌, ◌<◌, ◌≤◌, List,
 use Rattle.std.proofs.Common.{get_or}
 use Rattle.tib_normal.specs.declared.links.Links.{Links}
 
--- stands where there is no key
+-- what is read past the last key
 abbrev pub no_key : ℕ
 no_key = 4294967295
 

@@ -5,13 +5,13 @@ use Rattle.tib_grammar.specs.Sides.{label, hole}
 use Rattle.tib_grammar.specs.declared.Rule.{Rule}
 use Rattle.tib_normal.specs.Places.{head_states}
 
--- no side stands at two places
+-- no side occurs at two places
 pub record AreApart (table : List (List ℕ)) : Type 0 where
   pub once : (s t : ℕ) → s < length table → t < length table →
       get_or table s [] ≡ get_or table t [] → s ≡ t
 
--- Rule n gets the number of its side: its index among the others, behind which it is added if it is
--- new.
+-- Rule n gets the number of its side: its index among the others, to which it is added last if it
+-- is new.
 pub record GetsNumber (side : List ℕ) (n : ℕ) (old new : List (List ℕ))
     (before after : List ℕ) : Type 0 where
   pub number : ℕ

@@ -5,7 +5,7 @@ use Rattle.tib_grammar.specs.declared.Rule.{Rule}
 use Rattle.tib_grammar.specs.Run.{rule_at}
 use Rattle.tib_normal.specs.NormalForm.{IsChainCost}
 
--- stands for a chain rule, which has no side of its own
+-- marks a chain rule, which has no side of its own
 abbrev pub no_side : ℕ
 no_side = 4294967295
 

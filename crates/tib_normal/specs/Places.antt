@@ -24,17 +24,17 @@ abbrev pub states_with : Item ℕ → ℕ → List ℕ → List ℕ
 states_with (Label f rank) s states = s ∷ drop rank states
 states_with (Hole q) s states = q ∷ states
 
--- the rule of an item's own state over the states behind it
+-- the rule of an item's own state over the states after it
 abbrev pub rules_with : Item ℕ → ℕ → List ℕ → ℕ → List (Rule ℕ)
 rules_with (Label f rank) s states zero_cost =
     record { left = s; right = over f (take rank states); cost = zero_cost } ∷ []
 rules_with (Hole q) s states zero_cost = []
 
--- what stands below a root
+-- what is below a root
 abbrev pub below_root : List (Item ℕ) → Trees (Symbol ℕ ℕ)
 below_root items = parse (drop 1 (pairs_of items))
 
--- how many labels stand below a rule's root
+-- how many labels occur below a rule's root
 abbrev pub rule_labels : Rule ℕ → ℕ
 rule_labels r = labels_in r.right.kids
 

@@ -36,8 +36,8 @@ impl Agenda {
         }
     }
 
-    /// Adds a state with a cost. An Err leaves nothing to rely on. Worst case: O(log n) with n
-    /// entries, beside the growth of the heap.
+    /// Adds a state with a cost. Err only if memory is refused; then nothing is known of the
+    /// entries. Worst case: O(log n) with n entries, besides the growth of the heap.
     pub fn push(&mut self, cost: Cost, state: u32) -> Result<(), AllocError>
         ensures { OnOk result (AddsEntry self.old (cost, state) self.new) }
     {
@@ -45,7 +45,7 @@ impl Agenda {
         Ok(())
     }
 
-    /// Takes an entry of the least cost, or answers none where there is no entry. Worst case: O(log
+    /// Takes an entry of the least cost, or returns none where there is no entry. Worst case: O(log
     /// n) with n entries.
     pub fn pop(&mut self) -> Option<(Cost, u32)>
         ensures some { IfSome result (λ e. TakesLeast self.old e self.new) }

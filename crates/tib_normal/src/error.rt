@@ -7,8 +7,10 @@ use thiserror::Error;
 /// Why there is no normal form.
 #[derive(Debug, Drop, Error)]
 pub enum NormalError {
+    /// The normal form has more parts than the limit.
     #[error("more than {limit} parts")]
     TooMany { limit: u64 },
+    /// Memory was refused. This says nothing about the grammar.
     #[error("out of memory")]
     OutOfMemory,
 }

@@ -26,7 +26,7 @@ fn shape_of(rule: &Rule<u32>) -> Shape
     rule.root()
 }
 
-/// Adds a position behind those of its label and rank.
+/// Adds a position after those of its label and rank.
 fn add(
     alloc: Global,
     shapes: &mut HashMap<Shape, u32>,
@@ -95,8 +95,8 @@ fn starts_of(alloc: Global, rules: &[Rule<u32>], states: u32) -> Result<Vec<u32>
 }
 
 impl Index {
-    /// Indexes rules over this number of states. It takes one pass over the rules and one over the
-    /// states.
+    /// Indexes rules over this number of states. Err only if memory is refused. It takes one pass
+    /// over the rules and one over the states.
     pub fn new(alloc: Global, rules: &[Rule<u32>], states: u32) -> Result<Index, AllocError>
         requires few { length rules.now < 2 ^ 32 }
         requires normal { AreNormal rules.now }
@@ -117,7 +117,8 @@ impl Index {
         })
     }
 
-    /// The positions of the rules of a label and a rank.
+    /// The positions of the rules of a label and a rank. It takes no memory. Cost: one look-up by
+    /// hash.
     pub fn find(&self, label: Label, rank: u32) -> &[u32]
         ensures { (rules : List (Rule ℕ)) → (states : ℕ) → IsIndex rules states self.now →
             result.now ≡ positions_with label rank rules }
@@ -135,7 +136,7 @@ impl Index {
         }
     }
 
-    /// The rules of a state among those of the index.
+    /// The rules of a state among those of the index. It takes no memory and one step.
     pub fn rules_of<'a>(&self, rules: &'a [Rule<u32>], states: u32, state: u32) -> &'a [Rule<u32>]
         requires index { IsIndex rules.now states self.now }
         requires below { state < states }

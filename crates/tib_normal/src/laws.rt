@@ -14,9 +14,9 @@ pub fn parts_are_one<S: Semiring>()
     ensures { AreOneSize S.product }
 {}
 
-/// Each grammar has a normal form, for it can't be that there is none: so what is said of all its
-/// normal forms is said of one. Of "one has at most as many parts as the limit" and "each has more
-/// parts than the limit" not both hold, and it can't be that neither does.
+/// Each grammar has a normal form, since it can't be that there is none: so what holds of all its
+/// normal forms holds of at least one. Of "one has at most as many parts as the limit" and "each
+/// has more parts than the limit" not both hold, and it can't be that neither does.
 pub fn normal_forms_exist<S: Semiring>()
     ensures exist { HaveForms S.product }
     ensures not_both { HaveNotBoth S.product }

@@ -1,5 +1,5 @@
 //! Grammars in normal form, and the normal form of a grammar; and the agenda by which states get
-//! their least costs, which `tib_inside` takes too.
+//! their least costs, which `tib_inside` uses too.
 #![tactic(auto)]
 
 mod agenda;

@@ -1,4 +1,4 @@
-// At which places each key stands in a list of keys.
+// The places at which each key occurs in a list of keys.
 ghost use Rattle.std.specs.Prelude.{◌≡◌, ℕ, ◌+◌, ◌<◌, ◌≤◌, ◌^◌, IfOk, length};
 ghost use Rattle.tib_normal.specs.Links.{AreLinks};
 
@@ -13,7 +13,8 @@ pub struct Links {
 }
 
 impl Links {
-    /// The links of some keys. Those that are not below `count` are left out.
+    /// The links of some keys. Those that are not below `count` are left out. Err only if memory is
+    /// refused. It takes time and memory in proportion to the keys and `count`.
     pub fn new(alloc: Global, keys: &[u32], count: usize) -> Result<Links, AllocError>
         requires few { length keys.now < 2 ^ 32 }
         ensures { IfOk result (AreLinks keys.now count) }

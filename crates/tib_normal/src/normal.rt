@@ -14,8 +14,8 @@ use std::marker::Model;
 use tib_grammar::{Grammar, Item, Rule};
 use tib_tree::Label;
 
-/// A grammar in normal form, whose rules stand in ascending order of their left states, and of
-/// which no two rules agree in both sides.
+/// A grammar in normal form, whose rules are in ascending order of their left states, and of which
+/// no two rules agree in both sides.
 #[derive(Drop)]
 pub struct Normal<S> {
     grammar: Grammar<S>,
@@ -35,7 +35,7 @@ impl<S> Model for Normal<S> {
     ghost invariant = { IsIndexed };
 }
 
-/// Whether the rules stand in ascending order of their left states.
+/// Whether the rules are in ascending order of their left states.
 fn are_ascending(rules: &[Rule<u32>]) -> bool
     ensures yes { IsTrue result → Ascends (λ r s. r.left ≤ s.left) rules.now }
     ensures no { result ≡ false → Ascends (λ r s. r.left ≤ s.left) rules.now → ⊥ }
@@ -92,7 +92,7 @@ fn are_distinct(alloc: Global, rules: &[Rule<u32>]) -> Result<bool, AllocError>
 }
 
 /// Whether a grammar is one whose rules are in normal form, in ascending order of their left
-/// states, and apart.
+/// states, and distinct.
 fn is_normal_form<S>(alloc: Global, grammar: &Grammar<S>) -> Result<bool, AllocError>
     ensures { IfOk result (λ yes. IsTrue yes ↔ IsNormal grammar.now.rules) }
 {
@@ -104,9 +104,9 @@ fn is_normal_form<S>(alloc: Global, grammar: &Grammar<S>) -> Result<bool, AllocE
 }
 
 impl<S: Drop> Normal<S> {
-    /// Tests and indexes a grammar: it answers this grammar where it is in normal form, its rules
-    /// stand in ascending order of their left states, and no two rules agree in both sides; else
-    /// none. Err only if memory is refused. After either the grammar is gone. Worst case: a few
+    /// Tests and indexes a grammar: it returns this grammar if it is in normal form, its rules are
+    /// in ascending order of their left states, and no two rules agree in both sides; else none.
+    /// Err only if memory is refused. After an error or none the grammar is gone. Worst case: a few
     /// passes over the items of the rules, each rule with two look-ups by hash, and one over the
     /// states.
     pub fn new(alloc: Global, grammar: Grammar<S>) -> Result<Option<Normal<S>>, AllocError>

@@ -60,7 +60,7 @@ impl Places {
     }
 }
 
-/// The inner states of some rules, and the parts of these states and of their rules, beside the
+/// The inner states of some rules, and the parts of these states and of their rules, besides the
 /// parts of the grammar's states; none where there are more than the limit.
 fn count_places(rules: &[Rule<u32>], states: u32, limit: u64) -> Option<Places>
     requires { limit ≤ most_parts }
@@ -91,12 +91,12 @@ fn count_places(rules: &[Rule<u32>], states: u32, limit: u64) -> Option<Places>
 /// rules lead: each side spreads against the chain rules, from all rules with this side together
 /// (least costs by Dijkstra, 1959).
 ///
-/// The limit is from 1 to 20,000,000. It answers `TooMany` where the normal form has more parts
-/// than that, and takes no memory for more; `OutOfMemory` says nothing of the grammar, which is
-/// as before in each case.
+/// The limit is from 1 to 20,000,000. It returns `TooMany` if the normal form has more parts than
+/// that, and takes no memory for more; `OutOfMemory` says nothing about the grammar, which is
+/// unchanged in each case.
 ///
 /// Worst case: with n rules, of which c are chain rules, and s states, each of at most n sides
-/// spreads to each state once and follows each chain rule once, so O(n (s + c) log n) steps beside
+/// spreads to each state once and follows each chain rule once, so O(n (s + c) log n) steps besides
 /// one pass over the grammar. A side makes a rule at each state that it reaches, so with m rules
 /// made, at most the limit, the steps are also within O((n + m (1 + d)) log n), where d is the
 /// greatest number of chain rules to one state.
@@ -209,7 +209,7 @@ fn list_own<S: Semiring>(
     Ok(arrange(alloc, &made.rows, sides, states)?)
 }
 
-/// The rules of the states and, behind them, those of the inner states.
+/// The rules of the states and, after them, those of the inner states.
 fn with_places(rules: Vec<Rule<u32>>, sides: Sides) -> Result<Vec<Rule<u32>>, AllocError>
     ensures { IfOk result (λ all. all.items ≡ rules.items ++ reverse sides.inner.items) }
 {

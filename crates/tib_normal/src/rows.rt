@@ -27,8 +27,9 @@ pub struct Made {
 }
 
 impl Made {
-    /// Adds the row of a state, a side and a cost, where the parts of its rule keep the sum within
-    /// the limit.
+    /// Adds the row of a state, a side and a cost, if the parts of its rule keep the sum within the
+    /// limit; else `TooMany`, and nothing is added. `OutOfMemory` if memory is refused, and then
+    /// the parts are counted without the row.
     pub fn add(&mut self, state: u32, side: u32, cost: Cost, parts: u64) -> Result<(), NormalError>
         requires { 1 ≤ parts }
         ensures rows { OnOk result (self.new.rows.items ≡ self.old.rows.items
@@ -118,9 +119,9 @@ fn list_state(
     Ok(())
 }
 
-/// The rules that the rows stand for, in ascending order of their left states: those of a state
-/// stand in the order of its rows. It takes one pass over the states and one over the rows and
-/// their sides.
+/// The rules that the rows stand for, in ascending order of their left states: those of a state are
+/// in the order of its rows. It takes one pass over the states and one over the rows and their
+/// sides. Err only if memory is refused.
 pub fn arrange(
     alloc: Global,
     rows: &[Row],

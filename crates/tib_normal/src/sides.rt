@@ -31,7 +31,7 @@ pub struct Sides {
     pub inner: Vec<Rule<u32>>,
 }
 
-/// Takes states from the end of a stack, as many as the rank says, behind the label.
+/// Takes states from the end of a stack, as many as the rank says, and lists them after the label.
 fn take_children(
     alloc: Global,
     label: Label,
@@ -91,7 +91,7 @@ fn place_item(
 }
 
 /// Gives the items below a root their states, from the last to the first, inner ones below this
-/// one. The states at the root's children stand on the stack, the first child's last.
+/// one. The states at the root's children are on the stack, the first child's last.
 fn place(
     alloc: Global,
     items: &[Item<u32>],
@@ -122,7 +122,8 @@ fn place(
 
 impl Sides {
     /// The sides of some rules over this number of states, where their inner states are those below
-    /// `end`.
+    /// `end`. Err only if memory is refused. Cost: one pass over the items of the rules, each rule
+    /// with a look-up by hash.
     pub fn new(
         alloc: Global,
         rules: &[Rule<u32>],
@@ -188,7 +189,7 @@ impl Sides {
         Ok(first)
     }
 
-    /// Gives a rule the number of its side; a new side is added behind the others.
+    /// Gives a rule the number of its side; a new side is added after the others.
     fn number(&mut self, n: usize, side: Vec<u32>) -> Result<(), AllocError>
         requires place { n < length self.old.numbers.items }
         requires few { length self.old.table.keys < no_side }

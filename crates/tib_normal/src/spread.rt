@@ -71,7 +71,8 @@ pub struct Spread {
 }
 
 impl Spread {
-    /// This number of states, none of them reached.
+    /// This number of states, none of them reached. Err only if memory is refused. It takes time
+    /// and memory in proportion to the states.
     pub fn new(alloc: Global, states: usize) -> Result<Spread, AllocError>
         ensures long { IfOk result (λ s. length s.costs.items ≡ states) }
         ensures clear { IfOk result IsClear }
@@ -219,8 +220,9 @@ impl Spread {
     }
 }
 
-/// Gathers the rows of all sides, the last side first. It stops as soon as their rules have more
-/// parts than the limit, and takes time for each row and the chain rules to its state, beside one
+/// Gathers the rows of all sides, the last side first. It stops with `TooMany` as soon as their
+/// rules have more parts than the limit, and with `OutOfMemory` if memory is refused; the rows
+/// gathered so far stay. It takes time for each row and the chain rules to its state, besides one
 /// pass over the states and rules.
 pub fn gather<S: Semiring>(
     alloc: Global,

@@ -52,7 +52,8 @@ pub struct Ways {
 
 impl Ways {
     /// The ways to some rules over this number of states, whose sides have these numbers below
-    /// `sides`.
+    /// `sides`. Err only if memory is refused. Cost: one pass over the rules, the states and the
+    /// sides.
     pub fn new(
         alloc: Global,
         rules: &[Rule<u32>],

@@ -1,4 +1,4 @@
--- Counting the places at which a number stands.
+-- Counting the places at which a number occurs.
 use Rattle.std.proofs.Common.{◌≡◌, ℕ, ◌+◌, ◌-◌, ◌<◌, ◌≤◌, ◌⊎◌, List, [], ◌∷◌, length, get_or, set, take, refl, sym, ap, subst, arith, true, false, nat_eq, inl, inr, suc, zero, get_or-set_same, get_or-set_other, ◌≢◌, ◌∙◌}
 use Rattle.std.proofs.lemmas.Bool.Decides.{nat_tests}
 use Rattle.std.proofs.lemmas.List.{get_or-take, length-take}
@@ -9,7 +9,7 @@ use Rattle.tib_transducer.specs.declared.Variable.{Variable}
 nat_eq_cases : (n m : ℕ) → ((n ≡ m) × (nat_eq n m ≡ true)) ⊎ ((n ≡ m → ⊥) × (nat_eq n m ≡ false))
 nat_eq_cases n m = grind (arith, nat_tests)
 
--- one number more
+-- one more number
 pub one_same : (n m : ℕ) (ms : List ℕ) → n ≡ m → occurrences n (m ∷ ms) ≡ suc (occurrences n ms)
 one_same n m ms e = elim (nat_eq_cases n m) [
   | inl k ↦ rw k.1 (omega arith)
@@ -22,7 +22,7 @@ one_other n m ms e = elim (nat_eq_cases n m) [
   | inr k ↦ rw k.1 (omega arith)
 ]
 
--- what stands in a list occurs, and the other way round
+-- a number is in a list exactly where it occurs at least once
 pub has_occurs : (n : ℕ) (ms : List ℕ) → Has ms n → 1 ≤ occurrences n ms
 has_occurs n [] h = absurd h
 has_occurs n (m ∷ ms) h = elim (nat_eq_cases n m) [
@@ -40,7 +40,7 @@ occurs_has n (m ∷ ms) h = elim (nat_eq_cases n m) [
   | inr k ↦ inr (occurs_has n ms (omega (arith, one_other n m ms k.0)))
 ]
 
--- no number stands twice where none occurs twice
+-- the numbers are distinct where none has more than one occurrence
 pub distinct_from : (ms : List ℕ) → ((n : ℕ) → occurrences n ms ≤ 1) → Distinct ms
 distinct_from [] h = tt
 distinct_from (m ∷ ms) h = (
@@ -76,7 +76,7 @@ none_above n m (x ∷ ms) a h =
 abbrev pub AreCounted : ℕ → List ℕ → List ℕ → List ℕ → Type 0
 AreCounted first uses rest all = (k : ℕ) → k < 64 → get_or uses k 0 + occurrences (first + k) rest ≡ occurrences (first + k) all
 
--- one number more within the window, and outside of it
+-- one more number within the window, and outside of it
 pub counted_in :
     (first variable : ℕ) (uses rest all : List ℕ) → length uses ≡ 64 → first ≤ variable → variable - first < 64 → AreCounted first uses (variable ∷ rest) all →
     AreCounted first (set uses (variable - first) (get_or uses (variable - first) 0 + 1)) rest all
@@ -114,7 +114,7 @@ low_in i place uses long near h k below = elim (nat_eq_cases k place) [
       omega (arith, still, h k below)
 ]
 
--- what stands of variables that are numbered from n on
+-- what holds of each variable, where they are numbered from n on
 pub each_numbered : (vs : List ℕ) (n : ℕ) (xs : List Variable) → AreNumbered n xs → ((i : ℕ) → n ≤ i → i < n + length xs → Has vs i) → Each (λ x. Has vs x.number) xs
 each_numbered vs n [] a h = tt
 each_numbered vs n (x ∷ xs) a h = (
@@ -129,8 +129,8 @@ numbered_each vs n (x ∷ xs) a h i low high = elim (nat_eq_cases n i) [
   | inr k ↦ numbered_each vs (suc n) xs a.1 h.1 i (omega (arith, k.0)) (omega arith)
 ]
 
--- The last of some variables were looked at, and then the window before them: what holds of each count in the window, by the
--- test P, holds of each variable from its first one on.
+-- The last of some variables were looked at, and then the window before them: what holds of each
+-- count in the window, by the test P, holds of each variable from its first one on.
 pub window_more :
     (P : ℕ → Type 0) (vs uses : List ℕ) (all rest many : ℕ) → many ≤ 64 → many ≤ rest →
     ((k : ℕ) → k < 64 → get_or uses k 0 ≡ occurrences ((rest - many) + k) vs) → ((k : ℕ) → k < many → P (get_or uses k 0)) →

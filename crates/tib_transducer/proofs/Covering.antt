@@ -88,7 +88,7 @@ same_series laws one two to from p t u v = (no_greater laws one two to from p t 
 pub covers_members : (one two : List (TransducerRule ℕ)) → ((r : TransducerRule ℕ) → Has one r → Has two r) → Covers two one
 covers_members one two to r h = record { rule = r; stands = to r h; state = refl; left = refl; right = refl; costs = le_refl r.cost }
 
--- and still with a rule more that a member is as cheap as
+-- and still with one more rule that a member is as cheap as
 pub covers_more : (rules : List (TransducerRule ℕ)) (r : TransducerRule ℕ) → HasCheaper rules r → Covers rules (r ∷ rules)
 covers_more rules r c s h = elim h [
   | inl e ↦ subst (HasCheaper rules) e c

@@ -108,7 +108,7 @@ module _ {levelled weighted : Bool} {product : ℕ → ℕ → ℕ} (laws : Prod
     costs = product-zero laws (product (transducer_rule moves n).cost (transducer_cost product moves h.runs)) ∙ ap (product (transducer_rule moves n).cost) h.costs;
   }
 
--- as many trees are put out as there are states
+-- as many trees are output as there are states
 pub count-outputs : (moves : List (TransducerRule ℕ)) (ps : List ℕ) (runs : Trees ℕ) → AreTransducerRuns moves ps runs → count (outputs moves runs) ≡ length ps
 count-outputs moves [] none a = refl
 count-outputs moves [] (tree n runs rest) a = absurd a

@@ -10,7 +10,7 @@ use Rattle.tib_transducer.specs.Rules.{transducer_rule}
 use Rattle.tib_transducer.specs.declared.TransducerRule.{TransducerRule}
 use Rattle.tib_transducer.specs.Moves.{moves_from, moves_of, held}
 
--- one empty list more
+-- one more empty list
 pub held_empty : (bs : List (Vec ℕ)) (v : Vec ℕ) → ((q : ℕ) → held bs q ≡ []) → v.items ≡ [] → (q : ℕ) → held (bs ++ v ∷ []) q ≡ []
 held_empty [] v e is zero = is
 held_empty [] v e is (suc q) = refl
@@ -21,7 +21,7 @@ held_empty (b ∷ bs) v e is (suc q) = held_empty bs v (λ p. e (suc p)) is q
 abbrev pub own : ℕ → ℕ → TransducerRule ℕ → List ℕ
 own n q r = if nat_eq r.state q then n ∷ [] else []
 
--- one rule more
+-- one more rule
 moves_more : (n q : ℕ) (rules : List (TransducerRule ℕ)) (i : ℕ) → i < length rules → moves_from n q (take (suc i) rules) ≡ moves_from n q (take i rules) ++ own (n + i) q (transducer_rule rules i)
 moves_more n q [] i h = absurd (omega arith)
 moves_more n q (r ∷ rs) zero h = rw (add-zero n) refl
@@ -39,7 +39,7 @@ module _ (rules : List (TransducerRule ℕ)) (i : ℕ) (h : i < length rules) wh
       let e : 0 + i ≡ i = omega arith in
       ap (λ j. moves_of q (take j rules)) (add-one i) ∙ moves_more 0 q rules i h ∙ ap (λ j. moves_of q (take i rules) ++ own j q (transducer_rule rules i)) e
 
-  -- the lists with the position of the rule behind those of its state
+  -- the lists with the position of the rule after those of its state
   pub held_next :
       (r : TransducerRule ℕ) (bs : List (Vec ℕ)) (v : Vec ℕ) → r ≡ transducer_rule rules i → r.state < length bs → v.items ≡ held bs r.state ++ i ∷ [] →
       ((q : ℕ) → held bs q ≡ moves_of q (take i rules)) → (q : ℕ) → held (set bs r.state v) q ≡ moves_of q (take (i + 1) rules)
@@ -61,7 +61,7 @@ module _ (rules : List (TransducerRule ℕ)) (i : ℕ) (h : i < length rules) wh
 pub state_below : (rules : List (TransducerRule ℕ)) (i count : ℕ) (r : TransducerRule ℕ) → AreWithin count rules → i < length rules → r ≡ transducer_rule rules i → r.state < count
 state_below rules i count r range h at = subst (λ (x : TransducerRule ℕ). x.state < count) (sym at) (range i h).0
 
--- a rule at a place behind the first, and its position
+-- a rule at a place after the first, and its position
 abbrev IsAt : ℕ → ℕ → List (TransducerRule ℕ) → ℕ → Type 0
 IsAt n q rules m = (i : ℕ) × (m ≡ n + i) × (i < length rules) × ((transducer_rule rules i).state ≡ q)
 
@@ -81,7 +81,7 @@ moves_are n q (r ∷ rs) m h =
     first : r.state ≡ q → (Has (moves_from (suc n) q rs) m → IsAt n q (r ∷ rs) m) → Has (n ∷ moves_from (suc n) q rs) m → IsAt n q (r ∷ rs) m
     first e more k = elim k [ inl at ↦ (0, omega (arith, at), omega arith, e) | inr z ↦ more z ]
 
--- and each such position stands in it
+-- and each such position is in it
 are_moves : (n q : ℕ) (rules : List (TransducerRule ℕ)) (i : ℕ) → i < length rules → (transducer_rule rules i).state ≡ q → Has (moves_from n q rules) (n + i)
 are_moves n q [] i h e = absurd (omega arith)
 are_moves n q (r ∷ rs) zero h e = elim (nat_eq_cases r.state q) [ inl k ↦ rw k.1 (inl (omega arith)) | inr k ↦ absurd (k.0 e) ]

@@ -1,4 +1,5 @@
--- Items of a right side with their states exchanged are those of the side with its states exchanged.
+-- Items of a right side with their states exchanged are those of the side with its states
+-- exchanged.
 use Rattle.std.specs.Prelude.{◌≡◌, List, [], ◌∷◌, map, refl, ℕ}
 use Rattle.std.proofs.Common.{ap, sym, ◌∙◌, subst}
 use Rattle.tib_tree.specs.Trees.{count, preorder, preorder_of, relabel, IsOneTree, IsOneTree-preorder_of}

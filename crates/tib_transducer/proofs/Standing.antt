@@ -1,4 +1,4 @@
--- Linear and nondeleting rules by how often each variable stands on the right.
+-- Linear and nondeleting rules by how often each variable occurs on the right.
 use Rattle.std.proofs.Common.{◌≡◌, ℕ, ◌<◌, ◌≤◌, ◌⊎◌, List, length, map, ap, sym, ◌∙◌, subst, arith, inl, inr}
 use Rattle.tib_lex.specs.Lists.{Has, Each, Distinct, occurrences}
 use Rattle.tib_tree.specs.Trees.{preorder_of}

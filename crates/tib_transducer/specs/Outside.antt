@@ -67,7 +67,7 @@ IsFaultOf d r Labelled =
 abbrev pub IsFirstOutside : Demands → List (TransducerRule ℕ) → ℕ × ClassFault → Type 0
 IsFirstOutside d rules found = IsFirst (λ r. IsFaultOf d r found.1) (Meets d) rules found.0
 
--- what is answered of one rule: its fault, or that it has none
+-- what is returned for one rule: its fault, or that it has none
 abbrev pub IsAnswer : Demands → TransducerRule ℕ → Option ClassFault → Type 0
 IsAnswer d r None = Meets d r
 IsAnswer d r (Some fault) = IsFaultOf d r fault

@@ -39,7 +39,7 @@ IsWithin n r = (r.state < n) × AllBelow n (states_in r.right)
 abbrev pub AreWithin : ℕ → List (TransducerRule ℕ) → Type 0
 AreWithin n rules = (m : ℕ) → m < length rules → IsWithin n (transducer_rule rules m)
 
--- nothing stands below a variable of the left side, nor below a pair of the right side
+-- nothing is below a variable of the left side, nor below a pair of the right side
 abbrev pub EndsInHoles : {P : Type 0} → TransducerRule P → Type 0
 EndsInHoles r = HolesAreLeaves (only r.left) × HolesAreLeaves (only r.right)
 

@@ -6,7 +6,7 @@ use Rattle.tib_cost.specs.Least.{IsLeast}
 use Rattle.tib_transducer.specs.Run.{AreTransducerRuns, Reads, outputs, transducer_cost}
 use Rattle.tib_transducer.specs.declared.TransducerRule.{TransducerRule}
 
--- c is the cost of some runs from the states ps that read the trees ts and put out the trees us
+-- c is the cost of some runs from the states ps that read the trees ts and output the trees us
 pub record IsTransducerCost (product : ℕ → ℕ → ℕ) (rules : List (TransducerRule ℕ)) (ps : List ℕ)
     (ts us : Trees ℕ) (c : ℕ) : Type 0 where
   pub runs : Trees ℕ
@@ -16,7 +16,7 @@ pub record IsTransducerCost (product : ℕ → ℕ → ℕ) (rules : List (Trans
   pub costs : transducer_cost product rules runs ≡ c
 
 -- v is the series of the transducer at the state p and the trees t and u: the least cost of a run
--- from p that reads t and puts out u
+-- from p that reads t and outputs u
 abbrev pub IsTransducerSeriesAt : (ℕ → ℕ → ℕ) → List (TransducerRule ℕ) → ℕ → Tree ℕ → Tree ℕ →
     Option ℕ → Type 0
 IsTransducerSeriesAt product rules p t u v =

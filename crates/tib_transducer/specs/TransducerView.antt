@@ -9,7 +9,7 @@ abbrev pub transducer_of : {S : Type 0} → Inside S → TransducerOf
 transducer_of t = record { names = t.names; rules = t.rules.items }
 
 -- there is a start, the rules' states have names, which are state names, the rules have their
--- shape, and nothing stands below a leaf
+-- shape, and nothing is below a leaf
 pub record IsTransducer {S : Type 0} (t : Inside S) : Type 0 where
   pub start : 0 < length t.names
   pub few_names : length t.names < 4294967296

@@ -8,9 +8,9 @@ use crate::{ClassFault, Transducer};
 
 /// The number of the first rule that is outside one of the demanded classes, and the first class
 /// that it is outside of, in the order of the arguments: linear, nondeleting, not extended
-/// (`one_label`), not labelled (`unlabelled`). It answers none exactly where each rule is of each
+/// (`one_label`), not labelled (`unlabelled`). It returns none exactly where each rule is of each
 /// demanded class. It takes no memory. Its time is that of one pass over the rules up to the one
-/// that it names, but it goes over a right side once for each 64 variables of the left side.
+/// that it names, but it scans a right side once for each 64 variables of the left side.
 pub fn first_outside<S>(
     t: &Transducer<S>,
     linear: bool,
@@ -34,8 +34,8 @@ pub fn first_outside<S>(
     None
 }
 
-/// The number of the first rule that is not linear: a variable stands twice on its right side. It
-/// answers none exactly where all rules are linear. It takes no memory, and the time of
+/// The number of the first rule that is not linear: a variable occurs twice on its right side. It
+/// returns none exactly where all rules are linear. It takes no memory, and the time of
 /// `first_outside`.
 pub fn not_linear<S>(t: &Transducer<S>) -> Option<u32>
     ensures some { IfSome result (IsFirst (λ r. IsLinear r → ⊥) IsLinear t.now.rules) }
@@ -44,8 +44,8 @@ pub fn not_linear<S>(t: &Transducer<S>) -> Option<u32>
     first_outside(t, true, false, false, false).map(|(number, _)| number)
 }
 
-/// The number of the first rule that is not nondeleting: a variable of its left side does not stand
-/// on its right side. It answers none exactly where all rules are nondeleting. It takes no memory,
+/// The number of the first rule that is not nondeleting: a variable of its left side does not occur
+/// on its right side. It returns none exactly where all rules are nondeleting. It takes no memory,
 /// and the time of `first_outside`.
 pub fn not_nondeleting<S>(t: &Transducer<S>) -> Option<u32>
     ensures some { IfSome result (IsFirst (λ r. IsNondeleting r → ⊥) IsNondeleting t.now.rules) }
@@ -54,7 +54,7 @@ pub fn not_nondeleting<S>(t: &Transducer<S>) -> Option<u32>
     first_outside(t, false, true, false, false).map(|(number, _)| number)
 }
 
-/// The number of the first extended rule: its left side has more than one label. It answers none
+/// The number of the first extended rule: its left side has more than one label. It returns none
 /// exactly where no rule is extended. It takes no memory, and the time of one pass over the left
 /// sides.
 pub fn extended<S>(t: &Transducer<S>) -> Option<u32>
@@ -64,7 +64,7 @@ pub fn extended<S>(t: &Transducer<S>) -> Option<u32>
     first_outside(t, false, false, true, false).map(|(number, _)| number)
 }
 
-/// The number of the first labelled rule: a variable of its left side has a label. It answers none
+/// The number of the first labelled rule: a variable of its left side has a label. It returns none
 /// exactly where no rule is labelled. It takes no memory, and the time of one pass over the left
 /// sides.
 pub fn labelled<S>(t: &Transducer<S>) -> Option<u32>

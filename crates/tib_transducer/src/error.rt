@@ -1,14 +1,14 @@
-// What can be amiss with the class of a transducer.
+// What can be wrong with the class of a transducer.
 use std::alloc::AllocError;
 use thiserror::Error;
 
 /// Why a rule is outside the classes that are demanded.
 #[derive(Debug, PartialEq, Eq, Clone, Copy, Error)]
 pub enum ClassFault {
-    /// A variable stands twice on its right side.
+    /// A variable occurs twice on its right side.
     #[error("not linear")]
     NotLinear,
-    /// A variable of its left side does not stand on its right side.
+    /// A variable of its left side does not occur on its right side.
     #[error("not nondeleting")]
     NotNondeleting,
     /// Its left side has more than one label.
@@ -26,7 +26,7 @@ pub enum ClassError {
     /// from 1.
     #[error("rule {rule}: {fault}")]
     Class { rule: u32, fault: ClassFault },
-    /// Memory was refused. This says nothing of the transducer.
+    /// Memory was refused. This says nothing about the transducer.
     #[error("out of memory")]
     OutOfMemory,
 }

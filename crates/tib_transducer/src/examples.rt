@@ -20,7 +20,7 @@ pub fn rules_compute()
     ensures leaves { EndInHoles first_parts }
 {}
 
-/// A run, what it reads, what it puts out and what it costs. The label VP of the second variable
+/// A run, what it reads, what it outputs and what it costs. The label VP of the second variable
 /// keeps it from S(NP(a) NP(a)).
 pub fn runs_compute()
     ensures run { AreTransducerRuns first_parts (0 ∷ []) run }

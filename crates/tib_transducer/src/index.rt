@@ -13,7 +13,7 @@ pub struct StateIndex {
     buckets: Vec<Vec<u32>>,
 }
 
-/// An empty list for each state.
+/// An empty list for each state. Err only if memory is refused.
 fn empty_buckets(alloc: Global, states: u32) -> Result<Vec<Vec<u32>>, AllocError>
     ensures long { IfOk result (λ b. length b.items ≡ states) }
     ensures empty { IfOk result (λ b. (q : ℕ) → held b.items q ≡ []) }
@@ -26,8 +26,8 @@ fn empty_buckets(alloc: Global, states: u32) -> Result<Vec<Vec<u32>>, AllocError
 }
 
 impl StateIndex {
-    /// The positions of the rules of a transducer by their state. Err only if memory is refused. Cost: one pass over the states and
-    /// one over the rules.
+    /// The positions of the rules of a transducer by their state. Err only if memory is refused.
+    /// Cost: one pass over the states and one over the rules.
     pub fn new<S>(alloc: Global, transducer: &Transducer<S>) -> Result<StateIndex, AllocError>
         ensures { IfOk result (IsStateIndex transducer.now.rules) }
     {

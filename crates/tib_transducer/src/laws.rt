@@ -17,7 +17,7 @@ pub fn covering_keeps_the_series<S: Semiring>()
         HaveSameSeries S.product one two }
 {}
 
-/// The series does not depend on the order of the rules, nor on how often a rule stands.
+/// The series does not depend on the order of the rules, nor on how often a rule occurs.
 pub fn order_is_free<S: Semiring>()
     ensures { (one two : List (TransducerRule ℕ)) →
         ((r : TransducerRule ℕ) → Has one r ↔ Has two r) → HaveSameSeries S.product one two }

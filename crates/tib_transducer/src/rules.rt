@@ -10,7 +10,7 @@ use crate::uses::{are_above_zero, are_at_most_one, count_uses};
 use crate::{ClassFault, TransducerRule, Variable};
 use tib_grammar::Item;
 
-// How many variables stand among some items.
+// How many variables occur among some items.
 fn count_variables(items: &[Item<Variable>]) -> usize
     ensures { result ≡ length (holes_in items.now) }
 {
@@ -23,8 +23,8 @@ fn count_variables(items: &[Item<Variable>]) -> usize
     count
 }
 
-// Whether no variable stands twice on the right. The right side is gone over once for each 64
-// variables of the left side.
+// Whether no variable occurs twice on the right. It scans the right side once for each 64 variables
+// of the left side.
 fn is_linear(rule: &TransducerRule<u32>) -> bool
     requires { IsShaped rule.now }
     ensures yes { IsTrue result → IsLinear rule.now }
@@ -44,8 +44,8 @@ fn is_linear(rule: &TransducerRule<u32>) -> bool
     true
 }
 
-// Whether each variable stands on the right. The right side is gone over once for each 64 variables
-// of the left side.
+// Whether each variable occurs on the right. It scans the right side once for each 64 variables of
+// the left side.
 fn is_nondeleting(rule: &TransducerRule<u32>) -> bool
     requires { IsShaped rule.now }
     ensures yes { IsTrue result → IsNondeleting rule.now }
@@ -97,7 +97,7 @@ fn is_labelled(rule: &TransducerRule<u32>) -> bool
     have_label(rule.left.items())
 }
 
-// The first class that is demanded and that the rule is outside of.
+/// The first class that is demanded and that the rule is outside of. It takes no memory.
 pub fn fault_of(
     rule: &TransducerRule<u32>,
     linear: bool,

@@ -23,7 +23,7 @@ fn begins_with_label(items: &[Item<Variable>]) -> bool
     }
 }
 
-// How many variables stand among some items, if their numbers are 0, 1, 2 and so on.
+// How many variables occur among some items, if their numbers are 0, 1, 2 and so on.
 fn count_variables(items: &[Item<Variable>]) -> Option<usize>
     ensures count { IfSome result (λ n. n ≡ length (holes_in items.now)) }
     ensures some { IfSome result (λ _. AreNumbered 0 (holes_in items.now)) }
@@ -91,7 +91,7 @@ fn are_rules(rules: &[TransducerRule<u32>], n: u32) -> bool
 }
 
 impl<S> Transducer<S> {
-    /// A transducer of these names and rules. It answers none exactly where there is no name, a
+    /// A transducer of these names and rules. It returns none exactly where there is no name, a
     /// state has a number that is not below the number of names, a left side is a lone variable or
     /// its variables are not numbered 0, 1, 2 and so on in preorder, or a right side has a variable
     /// that its left side lacks; then both are gone. It takes no memory. Worst case: one pass over
@@ -120,7 +120,7 @@ impl<S> Transducer<S> {
     /// What holds of each transducer: there is a start, its names are distinct state names, the
     /// states of its rules have names, its rules are fewer than 2^32, and each has its shape: a
     /// left side that begins with a label and numbers its variables from 0 in preorder, and a right
-    /// side without other variables; and nothing stands below a variable or a pair. It computes
+    /// side without other variables; and nothing is below a variable or a pair. It computes
     /// nothing.
     pub fn is_sound(&self)
         ensures start { 0 < length self.now.names }

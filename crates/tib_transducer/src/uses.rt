@@ -1,4 +1,4 @@
-// How often variables stand on a right side.
+// How often variables occur on a right side.
 ghost use Rattle.std.specs.Prelude.{◌≡◌, ◌+◌, ◌<◌, ◌≤◌, ◌↔◌, ℕ, IsTrue, EachIndex, slice_index, length};
 ghost use Rattle.tib_transducer.specs.Counting.{numbers_in};
 ghost use Rattle.tib_lex.specs.Lists.{occurrences};
@@ -6,7 +6,8 @@ ghost use Rattle.tib_lex.specs.Lists.{occurrences};
 use crate::Pair;
 use tib_grammar::Item;
 
-// How often each of the 64 variables from `first` on stands among some items.
+/// How often each of the 64 variables from `first` on occurs among some items. It takes one pass
+/// over the items.
 pub fn count_uses(items: &[Item<Pair<u32>>], first: usize) -> [usize; 64]
     ensures long { length result ≡ 64 }
     ensures counted { (k : ℕ) → k < 64 → slice_index result k
@@ -27,14 +28,14 @@ pub fn count_uses(items: &[Item<Pair<u32>>], first: usize) -> [usize; 64]
     uses
 }
 
-// Whether no count is above one.
+/// Whether no count is above one.
 pub fn are_at_most_one(uses: &[usize]) -> bool
     ensures { IsTrue result ↔ EachIndex uses.now (λ k. slice_index uses.now k ≤ 1) }
 {
     uses.iter().all(|count| *count <= 1)
 }
 
-// Whether no count is zero.
+/// Whether no count is zero.
 pub fn are_above_zero(uses: &[usize]) -> bool
     ensures { IsTrue result ↔ EachIndex uses.now (λ k. 1 ≤ slice_index uses.now k) }
 {
