@@ -93,7 +93,7 @@ ascends_from R (x ∷ xs) d h = (
 pub chosen_by_place : (test : ℕ → Bool) (k : ℕ) (xs : List ℕ) → xs ≡ chosen test k → AscendsByPlace xs
 chosen_by_place test k xs e = ascends_at ◌<◌ xs 0 (subst (Ascends ◌<◌) (sym e) (chosen_ascends test k))
 
--- in a list without repetition no value stands at two indices
+-- in a list without repetition no value is at two indices
 pub distinct_at : {A : Type 0} (xs : List A) (i j : ℕ) (d : A) → Distinct xs → i < length xs → j < length xs → get_or xs i d ≡ get_or xs j d → i ≡ j
 distinct_at [] i j d a h k e = absurd (omega arith)
 distinct_at (x ∷ xs) zero zero d a h k e = refl

@@ -120,7 +120,7 @@ holes_append [] ys = refl
 holes_append (Label f rank ∷ xs) ys = holes_append xs ys
 holes_append (Hole q ∷ xs) ys = ap (λ zs. q ∷ zs) (holes_append xs ys)
 
--- one item more
+-- one more item
 pub marks_item :
     (items : List (Item ℕ)) (i : ℕ) (a b c : List Bool) (s t u : List ℕ) → i < length items → Marks (Has (holes_in (take i items))) a b s t →
     Marks (Has (holes_in (get_or items i (Label 0 0) ∷ []))) b c t u → Marks (Has (holes_in (take (i + 1) items))) a c s u
@@ -146,7 +146,7 @@ lefts_below rules count range i h =
     let b : i < length rules = omega (arith, lefts_long rules) in
     subst (λ q. q < count) (sym (lefts_at rules i b)) (range i b).0
 
--- the first rule of a state, and one rule more
+-- the first rule of a state, and one more rule
 pub follows_none : (rules : List (Rule ℕ)) (live : List Bool) (p n : ℕ) → IsNext (lefts rules) p 0 n → (q : ℕ) → Follows rules live p n q → ⊥
 follows_none rules live p n next q f = next.none_between f.rule (omega arith) f.before (lefts_at rules f.rule f.below ∙ f.left)
 
@@ -181,7 +181,7 @@ follows_step rules live p n m a b c s t u r d h long at own next one two =
     (marks_same (λ q. (get_or live n d ≡ true) × Has (holes_of r.right) q) (λ q. IsMarked live n × Has (holes_of (rule_at rules n).right) q) b c t u
     (λ q k. (sym same ∙ k.0, subst (λ qs. Has qs q) holes_are k.1)) (λ q k. (same ∙ k.0, subst (λ qs. Has qs q) (sym holes_are) k.1)) two)
 
--- one state less on the stack
+-- one state fewer on the stack
 pub reach_on :
     (rules : List (Rule ℕ)) (live old new : List Bool) (p : ℕ) (stack rest after : List ℕ) → stack ≡ rest ++ p ∷ [] → IsReaching rules live old stack →
     Marks (Follows rules live p (length rules)) old new rest after → IsReaching rules live new after

@@ -26,7 +26,7 @@ module _ {levelled weighted : Bool} {product : ℕ → ℕ → ℕ} (laws : Prod
   zero_right : (a : ℕ) → product a 0 ≡ a
   zero_right a = laws.commutes a 0 ∙ laws.neutral a
 
-  -- runs from one state more
+  -- runs from one more state
   pub more_runs : (q : ℕ) (qs : List ℕ) (a b : ℕ) → IsRunCost product rules (q ∷ []) a → IsRunCost product rules qs b → IsRunCost product rules (q ∷ qs) (product a b)
   more_runs q qs a b x y = by x.runs x.are_runs x.costs
     where

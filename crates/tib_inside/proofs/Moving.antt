@@ -40,7 +40,8 @@ complete product costs c more r p is z =
     let all : more ≡ 0 = omega (arith, is.missing) in
     subst (λ k. scaled product c p.product k ≡ known_total product costs r) all is.known ∙ ap (times product (Some r.cost)) (total_known product costs (holes_of r.right) settled)
 
--- where the states in the right side of a rule have costs, so has its left state, or a cost waits for it
+-- where the states in the right side of a rule have costs, so has its left state, or a cost waits
+-- for it
 pub covered :
     (product : ℕ → ℕ → ℕ) (rules : List (Rule ℕ)) (costs : ℕ → Option ℕ) (c : ℕ) (pending : List Pending) (entries : List (ℕ × ℕ)) → IsSettling product rules costs c [] pending entries →
     (n d : ℕ) → n < length rules → rule_total product costs (rule_at rules n) ≡ Some d → HasOrWaits costs entries (rule_at rules n).left d
@@ -73,7 +74,7 @@ dropped product rules costs pending e rest d taken known = record {
     has q c (inl k) = inl k
     has q c (inr w) = after q c (waits_on taken.entries rest e taken.takes q c w)
 
--- a rule that is listed may be told
+-- a rule that is listed may have a hole filled
 pub may_touch :
     (product : ℕ → ℕ → ℕ) (rules : List (Rule ℕ)) (costs : ℕ → Option ℕ) (count c i : ℕ) (listed : List ℕ) (pending : List Pending) (entries : List (ℕ × ℕ)) → AreInRange count rules → AllBelow (length rules) listed →
     i < length listed → IsSettling product rules costs c (drop i listed) pending entries →
@@ -85,7 +86,8 @@ may_touch product rules costs count c i listed pending entries range below h s =
     (b, omega (arith, is.missing, first_occurs n listed i n h refl, one_same n n refl), omega (arith, is.left, (range n b).0))
 
 module _ {levelled weighted : Bool} {product : ℕ → ℕ → ℕ} (laws : ProductLaws levelled weighted product) (rules : List (Rule ℕ)) where
-  -- the state of the least entry gets its cost, of which the rules in whose right sides it stands are still to be told
+  -- the state of the least entry gets its cost, and its holes in the rules in whose right sides it
+  -- occurs are still to be filled
   pub settled :
       (costs after : ℕ → Option ℕ) (pending : List Pending) (e : ℕ × ℕ) (rest : List (ℕ × ℕ)) (listed : List ℕ) → IsTaken product rules costs pending e rest → costs e.1 ≡ None → after e.1 ≡ Some e.0 →
       ((q : ℕ) → (q ≡ e.1 → ⊥) → after q ≡ costs q) → ((n : ℕ) → n < length rules → occurrences n listed ≡ occurrences e.1 (holes_of (rule_at rules n).right)) →
@@ -148,7 +150,7 @@ module _ {levelled weighted : Bool} {product : ℕ → ℕ → ℕ} (laws : Prod
       run e z t =
           rule_total_run laws rules costs sound.exact n e.0 b (sym (complete product costs c more (rule_at rules n) p is z) ∙ t)
 
-  -- one hole of one rule is counted in
+  -- one hole of one rule is filled
   pub touched :
       (costs : ℕ → Option ℕ) (c n : ℕ) (listed : List ℕ) (old new : List Pending) (before after : List (ℕ × ℕ)) → n < length rules →
       IsSettling product rules costs c (n ∷ listed) old before → Touches product costs c n old new before after → IsSettling product rules costs c listed new after
@@ -184,7 +186,7 @@ module _ {levelled weighted : Bool} {product : ℕ → ℕ → ℕ} (laws : Prod
             known = ap (λ v. scaled product c v (occurrences n listed)) t.known ∙ is.known;
           }
 
-  -- one rule more begins
+  -- one more rule begins
   pub begun :
       (costs : ℕ → Option ℕ) (n : ℕ) (p : Pending) (old new : List Pending) (before after : List (ℕ × ℕ)) → n < length rules → ((q : ℕ) → costs q ≡ None) →
       p.left ≡ (rule_at rules n).left → p.missing ≡ length (holes_of (rule_at rules n).right) → p.product ≡ times product (Some (rule_at rules n).cost) (Some 0) →

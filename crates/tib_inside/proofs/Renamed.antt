@@ -8,7 +8,7 @@ got [] i x e = absurd (cc)
 got (y ∷ ys) zero x e = cc
 got (y ∷ ys) (suc i) x e = got ys i x e
 
--- one name more
+-- one more name
 pub names_more :
     {A : Type 0} (g : A → List ℕ) (texts : List A) (t : A) (names : List (List ℕ)) (states : List ℕ) (i : ℕ) (text : List ℕ) → i < length states →
     map g texts ≡ map (λ q. get_or names q []) (take i states) → g t ≡ text → slice_get names (get_or states i 0) ≡ Some text →

@@ -26,7 +26,7 @@ total_cut : (product : ℕ → ℕ → ℕ) (costs : ℕ → Option ℕ) (qs : L
 total_cut product costs [] = omega arith
 total_cut product costs (q ∷ qs) = times_cut product (costs q) (total product costs qs)
 
--- the holes of a first item and those behind it
+-- the holes of a first item and those after it
 pub holes_first : (x : Item ℕ) (items : List (Item ℕ)) → holes_in (x ∷ items) ≡ holes_in (x ∷ []) ++ holes_in items
 holes_first (Label f rank) items = refl
 holes_first (Hole q) items = refl
@@ -99,7 +99,7 @@ read_in costs q x v d e b k =
     get_or_default costs q None d below.0 ∙ k
 
 module _ {levelled weighted : Bool} {product : ℕ → ℕ → ℕ} (laws : ProductLaws levelled weighted product) (costs : ℕ → Option ℕ) where
-  -- what is left behind one item more
+  -- what is left after one more item
   pub items_step :
       (items : List (Item ℕ)) (i : ℕ) (x : Item ℕ) (v w whole : Option ℕ) → i < length items → x ≡ get_or items i (Label 0 0) →
       w ≡ times product v (total product costs (holes_in (x ∷ []))) → times product v (total product costs (holes_in (drop i items))) ≡ whole →
@@ -177,7 +177,7 @@ module _ {levelled weighted : Bool} {product : ℕ → ℕ → ℕ} (laws : Prod
   times_swaps : (u v w : Option ℕ) → times product (times product u v) w ≡ times product (times product u w) v
   times_swaps u v w = times_regroups laws u v w ∙ ap (times product u) (times_commutes laws v w) ∙ sym (times_regroups laws u w v)
 
-  -- the cost of a state, as often as it stands among some, takes the place of its missing ones
+  -- the cost of a state, as often as it occurs among some, takes the place of its missing ones
   pub scaled_total :
       (costs after : ℕ → Option ℕ) (q c : ℕ) → costs q ≡ None → after q ≡ Some c → ((p : ℕ) → (p ≡ q → ⊥) → after p ≡ costs p) → (v : Option ℕ) (qs : List ℕ) →
       scaled product c (times product v (total product (λ p. or_one (costs p)) qs)) (occurrences q qs) ≡ times product v (total product (λ p. or_one (after p)) qs)

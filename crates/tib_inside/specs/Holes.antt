@@ -1,4 +1,4 @@
--- The states in the right sides of all rules, one behind another.
+-- The states in the right sides of all rules, one after another.
 use Rattle.std.specs.Prelude.{◌≡◌, ℕ, ◌<◌, List, [], ◌∷◌, length, nat_eq, if◌then◌else◌}
 use Rattle.std.proofs.Common.{get_or}
 use Rattle.tib_grammar.specs.Sides.{holes_of}
@@ -12,7 +12,7 @@ use Rattle.tib_lex.specs.Lists.{occurrences}
 abbrev pub one_if_same : ℕ → ℕ → ℕ
 one_if_same n m = if nat_eq n m then 1 else 0
 
--- the owners of the places at which the state q stands
+-- the owners of the places at which the state q occurs
 abbrev pub owners_of : ℕ → List ℕ → List ℕ → List ℕ
 owners_of q [] owners = []
 owners_of q (p ∷ states) [] = []

@@ -4,7 +4,7 @@ use Rattle.std.proofs.Common.{get_or}
 use Rattle.tib_inside.specs.declared.links.Links.{Links}
 pub use Rattle.tib_grammar.specs.Range.{AreBelow}
 
--- p is the first place from i on at which the state q stands, and the length of the list where
+-- p is the first place from i on at which the state q occurs, and the length of the list where
 -- there is none
 pub record IsNext (states : List ℕ) (q i p : ℕ) : Type 0 where
   pub from : i ≤ p

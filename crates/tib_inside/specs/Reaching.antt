@@ -51,7 +51,7 @@ pub record Marks (IsWanted : ℕ → Type 0) (old new : List Bool)
   pub on_stack : (q : ℕ) → Has after q → Has before q ⊎ IsMarked new q
   pub more : length after + sum_by unmarked new ≤ length before + sum_by unmarked old
 
--- q stands in the right side of a marked rule of p before m
+-- q is in the right side of a marked rule of p before m
 pub record Follows (rules : List (Rule ℕ)) (live : List Bool) (p m q : ℕ) : Type 0 where
   pub rule : ℕ
   pub before : rule < m
@@ -98,8 +98,8 @@ pub record AreKept (product : ℕ → ℕ → ℕ) (rules : List (Rule ℕ)) (co
   pub are_rules : (n : ℕ) → Has positions n
       ↔ (IsLive product rules n × IsUseful product rules (rule_at rules n).left)
 
--- the marked ones of the first rules are moved, under new numbers, and in none of them stands
--- anything below a hole
+-- the marked ones of the first rules are moved, under new numbers, and in none of them is anything
+-- below a hole
 pub record AreMoved (rules : List (Rule ℕ)) (marks : List Bool) (numbers : List ℕ) (count : ℕ)
     (moved : List (Rule ℕ)) : Type 0 where
   pub are : moved ≡ map (λ n. named_rule (number_in numbers) (rule_at rules n)) (chosen (λ i.

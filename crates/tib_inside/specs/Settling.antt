@@ -19,7 +19,7 @@ costs_in costs q = get_or costs q None
 abbrev pub rule_total : (ℕ → ℕ → ℕ) → (ℕ → Option ℕ) → Rule ℕ → Option ℕ
 rule_total product costs r = times product (Some r.cost) (total product costs (holes_of r.right))
 
--- one of the costs stands for q, at most c
+-- q waits at a cost of at most c
 pub record Waits (entries : List (ℕ × ℕ)) (q c : ℕ) : Type 0 where
   pub cost : ℕ
   pub held : Contains entries (cost, q)
@@ -60,16 +60,16 @@ abbrev pub scaled : (ℕ → ℕ → ℕ) → ℕ → Option ℕ → ℕ → Opt
 scaled product c v zero = v
 scaled product c v (suc k) = scaled product c (times product v (Some c)) k
 
--- what is kept of the rule r, once n more holes whose state has the cost c are counted in
+-- what is kept of the rule r, once n more holes whose state has the cost c are filled
 pub record IsPending (product : ℕ → ℕ → ℕ) (costs : ℕ → Option ℕ) (c more : ℕ) (r : Rule ℕ)
     (p : Pending) : Type 0 where
   pub left : p.left ≡ r.left
   pub missing : p.missing ≡ missing_among costs (holes_of r.right) + more
   pub known : scaled product c p.product more ≡ known_total product costs r
 
--- The first n rules are kept, where each is still to be told of the cost c as often as it is
--- listed. Where no state of a rule is missing, its left state has its cost, or the cost of the rule
--- waits for it.
+-- The first n rules are kept, where as many holes of each are still to be filled with the cost c as
+-- it is listed. Where no state of a rule is missing, its left state has its cost, or the cost of
+-- the rule waits for it.
 pub record IsSettlingUpTo (product : ℕ → ℕ → ℕ) (rules : List (Rule ℕ)) (n : ℕ)
     (costs : ℕ → Option ℕ) (c : ℕ) (listed : List ℕ) (pending : List Pending)
     (entries : List (ℕ × ℕ)) : Type 0 where
@@ -96,7 +96,7 @@ pub record Offers (costs : ℕ → Option ℕ) (p : Pending) (before after : Lis
       ⊎ ((p.missing ≡ 0) × (p.product ≡ Some e.0) × (p.left ≡ e.1))
   pub more : length after ≤ length before + 1
 
--- one hole of rule n, whose state has the cost c, is counted in
+-- one hole of rule n, whose state has the cost c, is filled
 pub record Touches (product : ℕ → ℕ → ℕ) (costs : ℕ → Option ℕ) (c n : ℕ) (old new : List Pending)
     (before after : List (ℕ × ℕ)) : Type 0 where
   pub long : length new ≡ length old

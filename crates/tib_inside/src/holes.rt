@@ -45,7 +45,8 @@ fn add_side(rule: &Rule<u32>, states: &mut Vec<u32>) -> Result<(), AllocError>
 }
 
 impl Holes {
-    /// The states in the right sides of some rules.
+    /// The states in the right sides of some rules. Err only if memory is refused. Cost: one pass
+    /// over the right sides.
     pub fn new(alloc: Global, rules: &[Rule<u32>]) -> Result<Holes, AllocError>
         requires few { length rules.now < 2 ^ 32 }
         ensures { IfOk result (AreHolesOf rules.now) }

@@ -3,7 +3,7 @@
 //! chains, and looks at each rule once for each state in its right side. `trim` keeps the start,
 //! exactly the useful states and exactly their live rules, in order, and `trim_normal` does so for
 //! a grammar in normal form, and `trim_rules` for rules without names; the rules are moved, and the
-//! series stay the same. It stands on `tib_cost`, `tib_grammar` and `tib_normal`.
+//! series stay the same. It builds on `tib_cost`, `tib_grammar` and `tib_normal`.
 #![tactic(auto)]
 
 mod holes;

@@ -1,5 +1,5 @@
-// At which places each state stands in a list. They are 64-bit numbers, since the right sides may
-// have 2^32 states.
+// The places at which each state occurs in a list. They are 64-bit numbers, since the right sides
+// may have 2^32 states.
 ghost use Rattle.std.specs.Prelude.{◌≡◌, ℕ, ◌+◌, ◌<◌, ◌≤◌, ◌^◌, IfOk, length};
 ghost use Rattle.tib_grammar.specs.Range.{AreBelow};
 ghost use Rattle.tib_inside.specs.Links.{AreLinks};
@@ -7,7 +7,7 @@ ghost use Rattle.tib_inside.specs.Links.{AreLinks};
 use std::alloc::{AllocError, Global};
 
 /// For each state its first place in a list, and for each place the next one of its state. The
-/// length of the list stands where there is none.
+/// length of the list means that there is none.
 #[derive(Drop)]
 pub struct Links {
     pub first: Vec<usize>,
@@ -15,7 +15,8 @@ pub struct Links {
 }
 
 impl Links {
-    /// The links of a list of states below the count.
+    /// The links of a list of states below the count. Err only if memory is refused. It takes time
+    /// and memory in proportion to the list and the count.
     pub fn new(alloc: Global, states: &[u32], count: usize) -> Result<Links, AllocError>
         requires below { AreBelow count states.now }
         ensures { IfOk result (AreLinks states.now count) }

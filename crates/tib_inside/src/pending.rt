@@ -13,7 +13,7 @@ use tib_cost::{Cost, Semiring};
 use tib_grammar::Rule;
 use tib_normal::Agenda;
 
-/// What of a rule is needed while its states get their costs: its left state, how many holes of its
+/// What is needed of a rule while its states get their costs: its left state, how many holes of its
 /// right side are missing, which means that their states have no cost, and the product of its cost
 /// and those of the other holes.
 #[derive(Clone, Copy, Debug)]
@@ -41,7 +41,7 @@ fn offer(rule: &Pending, costs: &[Option<Cost>], agenda: &mut Agenda) -> Result<
     Ok(())
 }
 
-/// Counts in one hole of a rule, whose state has just got this cost.
+/// Fills one hole of a rule, whose state has just got this cost.
 fn fill<S: Semiring>(rule: &Pending, cost: Cost) -> Pending
     requires missing { 0 < rule.now.missing }
     ensures left { result.left ≡ rule.now.left }
@@ -59,8 +59,8 @@ fn fill<S: Semiring>(rule: &Pending, cost: Cost) -> Pending
     }
 }
 
-/// Counts in one hole of rule n, whose state has just got this cost, and queues the rule where it
-/// was the last.
+/// Fills one hole of rule n, whose state has just got this cost, and queues the rule where it was
+/// the last.
 fn touch<S: Semiring>(
     n: usize,
     cost: Cost,
@@ -78,8 +78,8 @@ fn touch<S: Semiring>(
     offer(&pending[n], costs, agenda)
 }
 
-/// Counts in a hole of each of some rules, whose state has just got this cost, and queues those
-/// that miss no other.
+/// Fills a hole of each of some rules, whose state has just got this cost, and queues those that
+/// miss no other. Err only if memory is refused, and then some of the holes may be filled.
 pub fn spread<S: Semiring>(
     rules: &[Rule<u32>],
     uses: &[u32],
@@ -103,6 +103,7 @@ pub fn spread<S: Semiring>(
 }
 
 /// Begins while no state has a cost: queues the costs of the rules without states on their right.
+/// Err only if memory is refused, and then some of these costs may be queued.
 pub fn begin<S: Semiring>(
     alloc: Global,
     rules: &[Rule<u32>],

@@ -16,7 +16,8 @@ use std::alloc::{AllocError, Global};
 use tib_cost::{Cost, Semiring};
 use tib_grammar::{Item, Rule};
 
-/// For each rule, whether its cost and those of the states in its right side have a product.
+/// For each rule, whether its cost and those of the states in its right side have a product. Err
+/// only if memory is refused. Cost: one pass over the right sides.
 pub fn live_rules<S: Semiring>(
     alloc: Global,
     rules: &[Rule<u32>],
@@ -157,7 +158,8 @@ fn reach(
     Ok(())
 }
 
-/// For each state below a number, whether live rules lead to it from the start.
+/// For each state below a number, whether live rules lead to it from the start. Err only if memory
+/// is refused. Cost: one pass over the states and the right sides.
 pub fn reached_states(
     alloc: Global,
     rules: &[Rule<u32>],
@@ -180,7 +182,8 @@ pub fn reached_states(
     Ok(kept)
 }
 
-/// For each rule, whether it is live and its left state is kept.
+/// For each rule, whether it is live and its left state is kept. Err only if memory is refused.
+/// Cost: one pass over the rules.
 pub fn kept_rules(
     alloc: Global,
     rules: &[Rule<u32>],
@@ -205,7 +208,7 @@ pub fn kept_rules(
     Ok(both)
 }
 
-/// The marked places, ascending.
+/// The marked places, ascending. Err only if memory is refused. Cost: one pass over the places.
 pub fn marked_places(alloc: Global, marks: &[bool]) -> Result<Vec<u32>, AllocError>
     requires { length marks.now < 2 ^ 32 }
     ensures { IfOk result (λ v. v.items

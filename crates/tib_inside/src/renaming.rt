@@ -13,7 +13,8 @@ ghost use Rattle.tib_inside.specs.Renaming.{AreNumbersOf, AscendsByPlace};
 use std::alloc::{AllocError, Global};
 use tib_grammar::{Names, Rule};
 
-/// For each listed state below a number, its place in the list.
+/// For each listed state below a number, its place in the list. Err only if memory is refused. It
+/// takes time and memory in proportion to the list and the number.
 pub fn numbers_of(alloc: Global, states: &[u32], count: usize) -> Result<Vec<u32>, AllocError>
     requires few { length states.now < 2 ^ 32 }
     requires below { AreBelow count states.now }
@@ -41,7 +42,7 @@ fn names_of(alloc: Global, names: &Names, states: &[u32]) -> Result<Vec<Vec<u8>>
     Ok(texts)
 }
 
-/// The names of some states that ascend, as names.
+/// The names of some states that ascend, as names. Err only if memory is refused.
 pub fn kept_names(alloc: Global, names: &Names, states: &[u32]) -> Result<Names, AllocError>
     requires below { AreBelow (length names.now) states.now }
     requires ascend { AscendsByPlace states.now }
@@ -68,7 +69,8 @@ fn moved_rule(mut rule: Rule<u32>, numbers: &[u32]) -> Rule<u32>
     rule
 }
 
-/// The rules that are marked, in order, under new numbers. The rules are moved.
+/// The rules that are marked, in order, under new numbers. The rules are moved. Err only if memory
+/// is refused, and then they are gone. Cost: one pass over the rules and their right sides.
 pub fn marked_rules(
     alloc: Global,
     rules: Vec<Rule<u32>>,

@@ -45,7 +45,8 @@ fn times_items<S: Semiring>(items: &[Item<u32>], costs: &[Option<Cost>]) -> Opti
 }
 
 /// The product of the cost of a rule and those of the states in its right side; none where a state
-/// has none or the product is above the greatest cost.
+/// has none or the product is above the greatest cost. It takes no memory. Cost: one pass over the
+/// right side.
 pub fn rule_cost<S: Semiring>(rule: &Rule<u32>, costs: &[Option<Cost>]) -> Option<Cost>
     requires { AllBelow (length costs.now) (holes_of rule.now.right) }
     ensures { result ≡ rule_total S.product (costs_in costs.now) rule.now }

@@ -13,8 +13,8 @@ use tib_cost::{Cost, Semiring};
 use tib_grammar::{Grammar, Rule};
 use tib_normal::Agenda;
 
-/// Settles a state: gives it its cost, where it has none yet, and counts it in at each rule in
-/// whose right side it stands.
+/// Settles a state: gives it its cost, where it has none yet, and fills its holes in the rules in
+/// whose right sides it occurs.
 fn settle<S: Semiring>(
     rules: &[Rule<u32>],
     uses: &Uses,
@@ -82,7 +82,7 @@ pub(crate) fn inside_costs<S: Semiring>(
 /// of it is looked at once for each of them.
 ///
 /// Err only if memory is refused. Worst case: with s states, r rules and h states in their right
-/// sides, O(s + h + r log r) steps, beside one pass over the labels of the right sides.
+/// sides, O(s + h + r log r) steps, besides one pass over the labels of the right sides.
 pub fn inside<S: Semiring>(
     alloc: Global,
     grammar: &Grammar<S>,

@@ -105,8 +105,8 @@ pub fn trim<S: Semiring>(alloc: Global, grammar: Grammar<S>) -> Result<Grammar<S
     }
 }
 
-/// The same of a grammar in normal form, which stays in normal form. Worst case: that of `trim` and
-/// of `Normal::new`.
+/// The same for a grammar in normal form, which stays in normal form. Err only if memory is
+/// refused, and then the grammar is gone. Worst case: that of `trim` and of `Normal::new`.
 pub fn trim_normal<S: Semiring + Drop>(
     alloc: Global,
     normal: Normal<S>,

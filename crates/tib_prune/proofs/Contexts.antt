@@ -25,7 +25,7 @@ module _ (rules : List (Rule ℕ)) where
   extended (below m c rest) n q (p ∷ qs) inner h a b = (a.0, a.1, extended c n q (holes_of (rule_at rules m).right) inner h a.2 b, a.3)
   extended (later m runs c) n q (p ∷ qs) inner h a b = (a.0, a.1, a.2, extended c n q qs inner h a.3 b)
 
-  -- runs are cut at a rule that stands in them
+  -- runs are cut at a rule that is in them
   pub cut_at : (runs : Trees ℕ) (qs : List ℕ) (n : ℕ) → AreRuns rules qs runs → Stands n runs → IsCut rules qs runs n
   cut_at none qs n a s = absurd s
   cut_at (tree m runs rest) [] n a s = absurd a
@@ -62,7 +62,7 @@ module _ (rules : List (Rule ℕ)) where
     ]
   ]
 
--- what is plugged in stands in the whole
+-- what is plugged in is in the whole
 pub stands_plugged : (c : Context ℕ) (n : ℕ) (inner : Trees ℕ) → Stands n (plug c (record { label = n; kids = inner }))
 stands_plugged (gap rest) n inner = inl refl
 stands_plugged (below m c rest) n inner = inr (inl (stands_plugged c n inner))

@@ -123,7 +123,7 @@ module _
       AreReached qs a =
           (i y : ℕ) → i < length qs → IsRunCost product rules (without i qs) y → product a y ≤ most → Reaches (get_or qs i 0) (product a y)
 
-      -- a state that has a cost tells of itself
+      -- where its left state has a cost, a rule reaches the states in its right side
       tells :
           (n d : ℕ) → n < length rules → outsides (rule_at rules n).left ≡ Some d → AreReached (holes_of (rule_at rules n).right) (product d (rule_at rules n).cost)
       tells n d h e i y k r m =

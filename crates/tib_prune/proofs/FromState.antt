@@ -20,7 +20,7 @@ use Rattle.tib_prune.specs.Settling.{without, told, Tells, IsTold}
 use Rattle.tib_prune.specs.Telling.{IsToldFrom, IsToldBy, places_of, Adds}
 use Rattle.tib_prune.proofs.Told.{told_at, at_told}
 
--- what stands in a list and passes a test
+-- what is in a list and passes a test
 has_filtered : {A : Type 0} (test : A → Bool) (xs : List A) (x : A) → Has xs x → test x ≡ true → Has (filter test xs) x
 has_filtered test [] x h t = absurd h
 has_filtered test (y ∷ xs) x h t = elim (bool_cases (test y)) [
@@ -54,7 +54,7 @@ pub record IsOf (rules : List (Rule ℕ)) (q : ℕ) (r : Rule ℕ) : Type 0 wher
   pub here : rule_at rules position ≡ r
   pub left : r.left ≡ q
 
--- what stands among the rules of a state is one of the rules
+-- what is among the rules of a state is one of the rules
 pub is_of : (rules : List (Rule ℕ)) (q : ℕ) (r : Rule ℕ) → Has (rules_from q rules) r → IsOf rules q r
 is_of rules q r h =
     let f = filtered_has (λ (s : Rule ℕ). nat_eq s.left q) rules r h in

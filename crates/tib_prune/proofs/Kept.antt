@@ -110,7 +110,7 @@ module _
   pub cheap : (new : List (Rule ℕ)) → ArePruned product rules beam new → KeepsCheapTrees product rules beam new
   cheap new pruned = keeps_cost laws rules beam new pruned (costs_in insides) (costs_in outsides) costs
 
-  -- each rule that is kept stands in a cheap run of kept rules
+  -- each rule that is kept occurs in a cheap run of kept rules
   pub stand : (new : List (Rule ℕ)) → ArePruned product rules beam new → StandInCheapRuns product rules beam new
   stand new pruned = stands_cheap laws rules beam new pruned (costs_in insides) (costs_in outsides) costs
 
@@ -188,7 +188,7 @@ module _ {levelled weighted : Bool} {product : ℕ → ℕ → ℕ} (laws : Prod
         (sym (ap (λ (r : Rule ℕ). r.right) one) ∙ right ∙ ap (λ (r : Rule ℕ). r.right) two));
   }
 
-  -- what costs something did before
+  -- a tree that has a cost had one before
   pub had : IsNormal rules → HadNoGreaterCosts product rules new
   had a = had_cost laws rules beam new pruned a.normal
 

@@ -72,14 +72,14 @@ module _ {levelled weighted : Bool} {product : ℕ → ℕ → ℕ} (laws : Prod
           within_beam = closer (product o.0 (product weight (product_of product k.values))) (cost product rules runs) (omega (arith, through, whole)) w;
         }
 
-    -- a run from the start in which a rule stands, at the through cost of the rule
+    -- a run from the start in which a rule occurs, at the through cost of the rule
     pub record RunsThrough (n c : ℕ) : Type 0 where
       pub runs : Trees ℕ
       pub are_runs : AreRuns rules (0 ∷ []) runs
       pub stands : Stands n runs
       pub costs_are : cost product rules runs ≡ c
 
-    -- a rule with a through cost stands in a run that costs it
+    -- a rule with a through cost occurs in a run that costs it
     pub through_run : (n c : ℕ) → IsThrough product rules n c → RunsThrough n c
     through_run n c t =
         let inner = known_runs laws rules insides costs.are_insides (holes_of (rule_at rules n).right) t.insides t.are_insides in
@@ -182,7 +182,7 @@ module _ {levelled weighted : Bool} {product : ℕ → ℕ → ℕ} (laws : Prod
               ∙ ap (tree n inner) c.same;
         }
 
-    -- a rule that stands in runs under its old position stands in them under the new one
+    -- a rule that occurs in runs under its old position is in them under the new one
     still_stands : (j : ℕ) → j < length new → (others : Trees ℕ) (qs : List ℕ) → AreRuns new qs others → Stands (old_position j) (relabel old_position others) → Stands j others
     still_stands j h none qs a s = absurd s
     still_stands j h (tree i inner rest) [] a s = absurd a
@@ -199,7 +199,7 @@ module _ {levelled weighted : Bool} {product : ℕ → ℕ → ℕ} (laws : Prod
     not_cheaper t v None h k = tt
     not_cheaper t v (Some c) h k = h.lower c (to_old (0 ∷ []) (only t) c k.attained.0) k.attained.1
 
-    -- where each right side is one label over states, what costs something did before
+    -- where each right side is one label over states, a tree that has a cost had one before
     pub had_cost : AreNormal rules → (t : Tree ℕ) (c : ℕ) → IsSeries product new t (Some c) → (b : ℕ) × IsSeries product rules t (Some b) × (b ≤ c)
     had_cost normal t c h = go (best product rules (only t) (0 ∷ [])) (best-is_least laws rules normal (only t) (0 ∷ []))
       where
@@ -226,7 +226,7 @@ module _ {levelled weighted : Bool} {product : ℕ → ℕ → ℕ} (laws : Prod
             lower = λ m k b. h.lower m (to_old (0 ∷ []) (only t) m k) b;
           }
 
-      -- each new rule stands in a cheap run
+      -- each new rule occurs in a cheap run
       pub stands_cheap : (n : ℕ) → n < length new → StandsInCheapRun product rules beam new n
       stands_cheap n h =
           let kept = was_kept n h in

@@ -18,11 +18,11 @@ use Rattle.tib_normal.specs.Entries.{AddsEntry}
 use Rattle.tib_prune.specs.Settling.{without}
 use Rattle.tib_prune.specs.Telling.{rests_of, IsToldFrom, IsToldBy, places_of, Adds}
 
--- the products of the costs of the states from n on, and of those behind each
+-- the products of the costs of the states from n on, and of those after each
 pub total_back : (product : ℕ → ℕ → ℕ) (costs : ℕ → Option ℕ) (qs : List ℕ) (n : ℕ) → n < length qs → total product costs (drop n qs) ≡ times product (costs (get_or qs n 0)) (total product costs (drop (n + 1) qs))
 total_back product costs qs n h = at_drop_more (total product costs) qs n 0 h
 
--- the same of the products behind each
+-- the same for the products after each
 pub rests_back : (product : ℕ → ℕ → ℕ) (costs : ℕ → Option ℕ) (qs : List ℕ) (n : ℕ) → n < length qs → rests_of product costs (drop n qs) ≡ rests_of product costs (drop (n + 1) qs) ++ total product costs (drop (n + 1) qs) ∷ []
 rests_back product costs qs n h = at_drop_more (rests_of product costs) qs n 0 h
 
@@ -39,13 +39,13 @@ below_at n (q ∷ qs) a (suc i) h = below_at n qs a.1 i (omega arith)
 pub state_below : (n : ℕ) (states : List (Item ℕ)) (i q : ℕ) (d : Item ℕ) → AllBelow n (map state_in states) → i < length states → q ≡ state_in (get_or states i d) → q < n
 state_below n states i q d a h e = let b = below_at n (map state_in states) a i (omega (arith, h, length-map states state_in)) in omega (arith, b, state_here states i q d h e)
 
--- behind the last item there is no state
+-- after the last item there is no state
 pub none_behind : (states : List (Item ℕ)) (n : ℕ) → length states ≤ n → drop n (map state_in states) ≡ []
 none_behind states n h = drop_all n (map state_in states) (omega (arith, h, length-map states state_in))
 
 module _ (product : ℕ → ℕ → ℕ) (costs : List (Option ℕ)) (states : List (Item ℕ)) (n i q : ℕ) (d : Item ℕ) (x v : Option ℕ) (n_is : i + 1 ≡ n) (h : i < length states) (a : AllBelow (length costs) (map state_in states))
     (at : q ≡ state_in (get_or states i d)) (is : x ≡ get_or costs q x) (v_is : v ≡ total product (costs_in costs) (drop n (map state_in states))) where
-  -- the product of one state more
+  -- the product of one more state
   pub total_step : (w : Option ℕ) → w ≡ times product x v → w ≡ total product (costs_in costs) (drop i (map state_in states))
   total_step w e =
       e
@@ -53,7 +53,7 @@ module _ (product : ℕ → ℕ → ℕ) (costs : List (Option ℕ)) (states : L
       ∙ ap (times product (costs_in costs (get_or (map state_in states) i 0))) (v_is ∙ ap (λ m. total product (costs_in costs) (drop m (map state_in states))) (sym n_is))
       ∙ sym (total_back product (costs_in costs) (map state_in states) i (omega (arith, h, length-map states state_in)))
 
-  -- and the product behind it, listed last
+  -- and the product after it, listed last
   pub rests_step : (old new : List (Option ℕ)) → old ≡ rests_of product (costs_in costs) (drop n (map state_in states)) → new ≡ old ++ v ∷ [] → new ≡ rests_of product (costs_in costs) (drop i (map state_in states))
   rests_step old new o e =
       e
@@ -71,13 +71,13 @@ last_same (z ∷ xs) (w ∷ ys) x y e = let r = last_same xs ys x y (tail_is e) 
 place : (m n : ℕ) → (m < n) ⊎ (n ≤ m)
 place m n = grind arith
 
--- the product behind the next state is taken from the back
+-- the product after the next state is taken from the back
 pub record IsTakenBack (product : ℕ → ℕ → ℕ) (costs : ℕ → Option ℕ) (qs : List ℕ) (n : ℕ) (rest : Option ℕ) (rests : List (Option ℕ)) : Type 0 where
   pub within : n < length qs
   pub rest_is : rest ≡ total product costs (drop (n + 1) qs)
   pub rests_are : rests ≡ rests_of product costs (drop (n + 1) qs)
 
--- what is taken from the back is the product behind the state n
+-- what is taken from the back is the product after the state n
 pub taken_back :
     (product : ℕ → ℕ → ℕ) (costs : ℕ → Option ℕ) (qs : List ℕ) (n : ℕ) (rest : Option ℕ) (rests before : List (Option ℕ)) → before ≡ rests ++ rest ∷ [] → before ≡ rests_of product costs (drop n qs) →
     IsTakenBack product costs qs n rest rests
@@ -90,7 +90,7 @@ taken_back product costs qs n rest rests before old e = elim (place n (length qs
       absurd (omega (arith, long, length-append rests (rest ∷ [])))
 ]
 
--- where nothing is left to take, all states are behind
+-- where nothing is left to take, all states are done
 pub none_left : (product : ℕ → ℕ → ℕ) (costs : ℕ → Option ℕ) (qs : List ℕ) (n : ℕ) (rests : List (Option ℕ)) → rests ≡ [] → rests ≡ rests_of product costs (drop n qs) → drop n qs ≡ []
 none_left product costs qs n rests empty e = elim (place n (length qs)) [
   | inl h ↦
@@ -135,7 +135,7 @@ module _ (outsides : ℕ → Option ℕ) where
       some_same a b e = cc
 
   module _ (product : ℕ → ℕ → ℕ) (costs : ℕ → Option ℕ) where
-    -- one state more is told, and then those behind it
+    -- one more state is told, and then those after it
     pub told_next :
         (v w : Option ℕ) (qs : List ℕ) (n q : ℕ) (told : Option ℕ) (before mid after : List (ℕ × ℕ)) → n < length qs → q ≡ get_or qs n 0 → told ≡ times product v (total product costs (drop (n + 1) qs)) →
         w ≡ times product v (costs q) → Adds outsides (λ e. (q ≡ e.1) × (told ≡ Some e.0)) 1 before mid →
@@ -155,7 +155,7 @@ module _ (outsides : ℕ → Option ℕ) where
         one
         more
 
-    -- one rule more tells its states, and then those behind it
+    -- one more rule tells its states, and then those after it
     pub told_more :
         (d : ℕ) (rules : List (Rule ℕ)) (n : ℕ) (r : Rule ℕ) (default : Rule ℕ) (before mid after : List (ℕ × ℕ)) → n < length rules → r ≡ get_or rules n default →
         Adds outsides (IsToldFrom product costs (times product (Some d) (Some r.cost)) (holes_of r.right)) (length (holes_of r.right)) before mid →
@@ -172,11 +172,11 @@ module _ (outsides : ℕ → Option ℕ) where
         one
         more
 
-    -- where all states, or all rules, are behind, nothing more is told
+    -- where all states, or all rules, are done, nothing more is told
     pub told_last : (v : Option ℕ) (qs : List ℕ) (entries : List (ℕ × ℕ)) → qs ≡ [] → Adds outsides (IsToldFrom product costs v qs) (length qs) entries entries
     told_last v qs entries e = adds_none (IsToldFrom product costs v qs) (length qs) entries (λ x h. absurd (subst (λ xs. IsToldFrom product costs v xs x) e h))
 
-    -- the same of rules
+    -- the same for rules
     pub told_end : (d : ℕ) (rules : List (Rule ℕ)) (entries : List (ℕ × ℕ)) → rules ≡ [] → Adds outsides (IsToldBy product costs d rules) (places_of rules) entries entries
     told_end d rules entries e = adds_none (IsToldBy product costs d rules) (places_of rules) entries (λ x h. absurd (subst (λ xs. IsToldBy product costs d xs x) e h))
 

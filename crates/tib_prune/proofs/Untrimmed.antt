@@ -39,7 +39,7 @@ marked_one old state q m = elim (same_or_other q state) [
   | inr other ↦ inr (sym (get_or-set_other old state q true false other) ∙ m)
 ]
 
--- so it is with one state more of some
+-- so it is with one more state of some
 pub marked_more :
     (old now : List Bool) (states : List ℕ) (state q : ℕ) → Has states state → ((p : ℕ) → IsMarked now p → IsMarked old p ⊎ Has states p) → IsMarked (slice_set now state true) q → IsMarked old q ⊎ Has states q
 marked_more old now states state q stands before m = elim (marked_one now state q m) [
@@ -47,11 +47,11 @@ marked_more old now states state q stands before m = elim (marked_one now state 
   | inr k ↦ before q k
 ]
 
--- the state of an item stands among the states
+-- the state of an item is among the states
 pub state_stands : (states : List (Item ℕ)) (i q : ℕ) (d : Item ℕ) → i < length states → q ≡ state_in (get_or states i d) → Has (map state_in states) q
 state_stands states i q d h e = subst (Has (map state_in states)) (sym (state_here states i q d h e)) (has_at (map state_in states) i 0 (omega (arith, h, length-map states state_in)))
 
--- one place more is marked
+-- one more place is marked
 pub marked_up_to : (marks : List Bool) (n q : ℕ) → ((p : ℕ) → p < n → IsMarked marks p) → IsMarked marks n → q < n + 1 → IsMarked marks q
 marked_up_to marks n q before here h = elim (below_cases q n (omega (arith, h))) [ inl k ↦ before q k | inr e ↦ subst (IsMarked marks) (sym e) here ]
 

@@ -1,4 +1,4 @@
--- What is proved of contexts, of outside costs, and of pruning, over any rules.
+-- Laws of contexts, of outside costs, and of pruning, over any rules.
 use Rattle.std.specs.Prelude.{◌≡◌, ◌↔◌, ℕ, ◌+◌, ◌<◌, ◌≤◌, List, [], ◌∷◌, length, Option, None, Some}
 use Rattle.std.proofs.Common.{get_or}
 use Rattle.tib_tree.specs.Trees.{Tree, Trees, only}
@@ -21,7 +21,7 @@ PluggingMakesRuns product =
     AreRuns rules qs (plug context run)
     × (cost product rules (plug context run) ≡ product (cost_around product rules context) (cost product rules (only run)))
 
--- a rule that stands in runs cuts them into a context and the runs below the rule
+-- a rule that occurs in runs cuts them into a context and the runs below the rule
 abbrev pub CuttingMakesContexts : Type 0
 CuttingMakesContexts =
     (rules : List (Rule ℕ)) (qs : List ℕ) (runs : Trees ℕ) (n : ℕ) → AreRuns rules qs runs → Stands n runs → IsCut rules qs runs n
@@ -42,7 +42,7 @@ abbrev pub PrunedTreesHadNoGreaterCosts : (ℕ → ℕ → ℕ) → Type 0
 PrunedTreesHadNoGreaterCosts product =
     (rules new : List (Rule ℕ)) (beam : ℕ) → AreNormal rules → ArePruned product rules beam new → HadNoGreaterCosts product rules new
 
--- each rule that is kept stands in a run from the start, of kept rules alone, whose cost is not
+-- each rule that is kept occurs in a run from the start, of kept rules alone, whose cost is not
 -- above the bound
 abbrev pub KeptRulesStandInCheapRuns : (ℕ → ℕ → ℕ) → Type 0
 KeptRulesStandInCheapRuns product =

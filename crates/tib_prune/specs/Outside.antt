@@ -17,13 +17,14 @@ pub record IsContextCost (product : ℕ → ℕ → ℕ) (rules : List (Rule ℕ
   pub are_runs : AreRunsAround rules q (0 ∷ []) context
   pub costs : cost_around product rules context ≡ c
 
--- v is the outside cost of the state q: the least cost of a context run to q, and none where each costs more than the
--- greatest cost
+-- v is the outside cost of the state q: the least cost of a context run to q, and none where each
+-- costs more than the greatest cost
 abbrev pub IsOutside : (ℕ → ℕ → ℕ) → List (Rule ℕ) → ℕ → Option ℕ → Type 0
 IsOutside product rules q v = IsLeast (IsContextCost product rules q) v
 
--- c is the through cost of rule n: the product of the outside cost of its left state, of its own cost, and of the inside
--- costs of the states in its right side, where that is at most the greatest cost
+-- c is the through cost of rule n: the product of the outside cost of its left state, of its own
+-- cost, and of the inside costs of the states in its right side, where that is at most the greatest
+-- cost
 pub record IsThrough (product : ℕ → ℕ → ℕ) (rules : List (Rule ℕ)) (n c : ℕ) : Type 0 where
   pub position : n < length rules
   pub outside : ℕ

@@ -1,4 +1,4 @@
--- A grammar without the rules that stand in no run within a beam of the cheapest one.
+-- A grammar without the rules that occur in no run within a beam of the cheapest one.
 use Rattle.std.specs.Prelude.{◌≡◌, ◌↔◌, ℕ, ◌+◌, ◌<◌, ◌≤◌, List, [], ◌∷◌, length, map, nat_le, Bool, false, Option, None, Some}
 use Rattle.tib_lex.specs.Lists.{Has, Ascends}
 use Rattle.tib_tree.specs.Trees.{Tree, Trees}
@@ -11,7 +11,8 @@ use Rattle.tib_inside.specs.Inside.{IsInside}
 use Rattle.tib_prune.specs.Contexts.{Stands}
 use Rattle.tib_prune.specs.Outside.{IsOutside, IsThrough}
 
--- c is not above the bound, the plain sum of the inside cost of the start and the beam in every semiring
+-- c is not above the bound, the plain sum of the inside cost of the start and the beam in every
+-- semiring
 pub record IsWithinBeam (product : ℕ → ℕ → ℕ) (rules : List (Rule ℕ)) (beam c : ℕ) : Type 0 where
   pub best : ℕ
   pub is_best : IsInside product rules 0 (Some best)
@@ -30,7 +31,7 @@ pub record ArePruned (product : ℕ → ℕ → ℕ) (rules : List (Rule ℕ)) (
   pub are_kept : (n : ℕ) → Has positions n ↔ IsKept product rules beam n
   pub are_rules : new ≡ map (rule_at rules) positions
 
--- the new rule n stands in a run of new rules from the start whose cost is not above the bound
+-- the new rule n occurs in a run of new rules from the start whose cost is not above the bound
 pub record StandsInCheapRun (product : ℕ → ℕ → ℕ) (rules : List (Rule ℕ)) (beam : ℕ) (new : List (Rule ℕ)) (n : ℕ) : Type 0 where
   pub runs : Trees ℕ
   pub are_runs : AreRuns new (0 ∷ []) runs
@@ -64,7 +65,7 @@ HadNoGreaterCosts product rules new =
     (t : Tree ℕ) (c : ℕ) → IsSeries product new t (Some c) →
     (b : ℕ) × IsSeries product rules t (Some b) × (b ≤ c)
 
--- each new rule stands in a run of new rules from the start whose cost is not above the bound
+-- each new rule occurs in a run of new rules from the start whose cost is not above the bound
 abbrev pub StandInCheapRuns : (ℕ → ℕ → ℕ) → List (Rule ℕ) → ℕ → List (Rule ℕ) → Type 0
 StandInCheapRuns product rules beam new =
     (n : ℕ) → n < length new → StandsInCheapRun product rules beam new n

@@ -6,7 +6,7 @@ use Rattle.tib_cost.specs.Least.{times}
 use Rattle.tib_inside.specs.Inside.{total}
 use Rattle.tib_inside.specs.Settling.{HasOrWaits}
 
--- for each of some states the product of the costs of those behind it, the last state's first
+-- for each of some states the product of the costs of those after it, the last state's first
 abbrev pub rests_of : (ℕ → ℕ → ℕ) → (ℕ → Option ℕ) → List ℕ → List (Option ℕ)
 rests_of product costs [] = []
 rests_of product costs (q ∷ qs) = rests_of product costs qs ++ total product costs qs ∷ []

@@ -15,7 +15,7 @@ pub fn plugging_makes_runs<S: Semiring>()
     ensures { PluggingMakesRuns S.product }
 {}
 
-/// A rule that stands in runs cuts them into a context and the runs below the rule.
+/// A rule that occurs in runs cuts them into a context and the runs below the rule.
 pub fn cutting_makes_contexts()
     ensures { CuttingMakesContexts }
 {}
@@ -35,7 +35,7 @@ pub fn pruned_trees_had_no_greater_costs<S: Semiring>()
     ensures { PrunedTreesHadNoGreaterCosts S.product }
 {}
 
-/// Each rule that is kept stands in a run from the start, of kept rules alone, whose cost is not
+/// Each rule that is kept occurs in a run from the start, of kept rules alone, whose cost is not
 /// above the bound.
 pub fn kept_rules_stand_in_cheap_runs<S: Semiring>()
     ensures { KeptRulesStandInCheapRuns S.product }
@@ -51,8 +51,8 @@ pub fn outsides_meet_their_equation<S: Semiring>()
     ensures { OutsidesMeetTheirEquation S.product }
 {}
 
-/// The through cost of a rule is the product of the outside cost of its left state, of its own cost,
-/// and of the inside costs of the states in its right side.
+/// The through cost of a rule is the product of the outside cost of its left state, of its own
+/// cost, and of the inside costs of the states in its right side.
 pub fn through_costs_are_computed<S: Semiring>()
     ensures { ThroughCostsAreComputed S.product }
 {}

@@ -1,10 +1,10 @@
 //! Outside costs of the states of a grammar, and the part of a grammar within a beam of its
 //! cheapest tree. `outside` settles the states in ascending order of the costs of contexts around
-//! them (Dijkstra 1959), once inside costs are known. `prune` keeps the rules that stand in some run
-//! whose cost is at most the inside cost of the start plus the beam: no tree within it is lost or
-//! changes its cost. `trim_with_insides` trims a grammar, or sees that there is nothing to trim, and
-//! tells the inside costs by which `prune_by_insides` and `prune_to_count` go on. It stands on `tib_cost`,
-//! `tib_grammar`, `tib_normal` and `tib_inside`.
+//! them (Dijkstra 1959), once inside costs are known. `prune` keeps the rules that occur in some
+//! run whose cost is at most the inside cost of the start plus the beam: no tree within it is lost
+//! or changes its cost. `trim_with_insides` trims a grammar, or sees that there is nothing to trim,
+//! and gives the inside costs with which `prune_by_insides` and `prune_to_count` go on. It builds
+//! on `tib_cost`, `tib_grammar`, `tib_normal` and `tib_inside`.
 #![tactic(auto)]
 
 pub mod laws;

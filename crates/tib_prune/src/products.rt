@@ -21,7 +21,7 @@ pub fn times<S: Semiring>(a: &Option<Cost>, b: &Option<Cost>) -> Option<Cost>
     }
 }
 
-/// The product of the costs of some states.
+/// The product of the costs of some states. One step for each state.
 pub fn product_of<S: Semiring>(states: &[Item<u32>], costs: &[Option<Cost>]) -> Option<Cost>
     requires { AllBelow (length costs.now) (map state_in states.now) }
     ensures { result ≡ total S.product (costs_in costs.now) (map state_in states.now) }

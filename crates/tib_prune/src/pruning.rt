@@ -1,4 +1,4 @@
-// The rules of a grammar that stand in runs within a beam of the cheapest one.
+// The rules of a grammar that occur in runs within a beam of the cheapest one.
 ghost use Rattle.std.specs.Prelude.{◌≡◌, ℕ, ◌+◌, ◌<◌, ◌≤◌, ◌^◌, length, filter, IfOk};
 ghost use Rattle.tib_grammar.specs.Forms.{AreNormal, IsNormalSide};
 ghost use Rattle.tib_grammar.specs.Range.{AllBelow, AreInRange};
@@ -15,7 +15,7 @@ use tib_cost::{Cost, Semiring};
 use tib_grammar::{Grammar, Rule};
 use tib_normal::Normal;
 
-/// What the cheapest run costs in which a rule stands, none where that is above the greatest cost.
+/// What the cheapest run costs in which a rule occurs, none where that is above the greatest cost.
 fn through<S: Semiring>(
     rule: &Rule<u32>,
     insides: &[Option<Cost>],
@@ -30,7 +30,7 @@ fn through<S: Semiring>(
     times::<S>(&outsides[rule.left as usize], &inner)
 }
 
-/// Whether a rule stands in a run whose cost is not above the bound.
+/// Whether a rule occurs in a run whose cost is not above the bound.
 fn is_kept<S: Semiring>(
     rule: &Rule<u32>,
     insides: &[Option<Cost>],
@@ -49,7 +49,7 @@ fn is_kept<S: Semiring>(
     }
 }
 
-/// The rules that stand in runs whose costs are not above the bound, in order. They are moved.
+/// The rules that occur in runs whose costs are not above the bound, in order. They are moved.
 fn keep_rules<S: Semiring>(
     alloc: Global,
     rules: Vec<Rule<u32>>,
@@ -72,7 +72,7 @@ fn keep_rules<S: Semiring>(
     Ok(kept)
 }
 
-/// The rules that stand in runs within the beam of the cheapest one, in order, by the inside and
+/// The rules that occur in runs within the beam of the cheapest one, in order, by the inside and
 /// outside costs. They are moved.
 fn prune_rules<S: Semiring>(
     alloc: Global,
@@ -99,7 +99,7 @@ fn prune_rules<S: Semiring>(
     keep_rules::<S>(alloc, rules, insides, outsides, best.get() + beam.get())
 }
 
-/// The grammar of the rules that stand in runs within the beam of the cheapest one, by the inside
+/// The grammar of the rules that occur in runs within the beam of the cheapest one, by the inside
 /// and outside costs.
 fn prune_by_costs<S: Semiring>(
     alloc: Global,
@@ -126,9 +126,9 @@ fn prune_by_costs<S: Semiring>(
     }
 }
 
-/// The same as `prune`, by the inside costs of the states, which are known; and it answers the
-/// grammar, which is not indexed. Err only if memory is refused, and then the grammar is gone. Worst
-/// case: that of `outside` without that of `inside`, and one pass over the rules.
+/// The same as `prune`, but the inside costs of the states are given, and the grammar is returned
+/// without its index. Err only if memory is refused, and then the grammar is gone. Worst case: that
+/// of `outside` without that of `inside`, and one pass over the rules.
 pub fn prune_by_insides<S: Semiring>(
     alloc: Global,
     normal: Normal<S>,
@@ -146,7 +146,7 @@ pub fn prune_by_insides<S: Semiring>(
     prune_by_costs::<S>(alloc, normal, insides, &outsides, beam)
 }
 
-/// What the cheapest runs cost in which the rules stand, ascending.
+/// What the cheapest runs cost in which the rules occur, ascending.
 fn through_costs<S: Semiring>(
     alloc: Global,
     rules: &[Rule<u32>],
@@ -167,7 +167,7 @@ fn through_costs<S: Semiring>(
     Ok(costs)
 }
 
-/// The least beam within which this many rules stay, or all that stand in runs.
+/// The least beam within which this many rules stay, or all that occur in runs.
 fn beam_for<S: Semiring>(
     alloc: Global,
     rules: &[Rule<u32>],
@@ -194,9 +194,10 @@ fn beam_for<S: Semiring>(
     }
 }
 
-/// The same with the least beam within which at least this many rules stay, or all that stand in runs,
-/// and this beam. No clause says how many stay. Worst case: that of `prune_by_insides`, and
-/// O(r log r) steps for r rules.
+/// The same with the least beam within which at least this many rules stay, or all that occur in
+/// runs; it returns this beam too. No clause says how many stay. Err only if memory is refused, and
+/// then the grammar is gone. Worst case: that of `prune_by_insides`, and O(r log r) steps for r
+/// rules.
 pub fn prune_to_count<S: Semiring>(
     alloc: Global,
     normal: Normal<S>,
@@ -224,7 +225,7 @@ pub fn prune_to_count<S: Semiring>(
 /// kept. The rules are moved.
 ///
 /// Each tree whose cost is not above the bound keeps it, each tree that has a cost afterwards had
-/// one that is not greater, and each kept rule stands in a run of kept rules from the start whose
+/// one that is not greater, and each kept rule occurs in a run of kept rules from the start whose
 /// cost is not above the bound. Err only if memory is refused, and then the grammar is gone. Worst
 /// case: that of `outside` and of `Normal::new`, and one pass over the rules.
 pub fn prune<S: Semiring + Drop>(

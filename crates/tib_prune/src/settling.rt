@@ -63,7 +63,7 @@ fn no_costs(alloc: Global, count: usize) -> Result<Vec<Option<Cost>>, AllocError
     Ok(costs)
 }
 
-/// The outside costs of the states, by their inside costs.
+/// The outside costs of the states, by their inside costs. Err only if memory is refused.
 pub fn outside_costs<S: Semiring>(
     alloc: Global,
     normal: &Normal<S>,
@@ -92,7 +92,7 @@ pub fn outside_costs<S: Semiring>(
     Ok(outsides)
 }
 
-/// The inside costs of the states.
+/// The inside costs of the states. Err only if memory is refused.
 pub fn inside_costs<S: Semiring>(
     alloc: Global,
     normal: &Normal<S>,

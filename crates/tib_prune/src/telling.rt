@@ -15,7 +15,7 @@ use tib_cost::{Cost, Semiring};
 use tib_grammar::{Item, Rule};
 use tib_normal::Agenda;
 
-/// For each of some states the product of the costs of those behind it, the last state's first.
+/// For each of some states the product of the costs of those after it, the last state's first.
 fn list_rests<S: Semiring>(
     states: &[Item<u32>],
     costs: &[Option<Cost>],
@@ -59,7 +59,7 @@ fn offer(
 }
 
 /// Tells each of some states the product of `start` and of the costs of the other states, whose
-/// products behind each are the rests.
+/// products after each are the rests.
 fn tell_states<S: Semiring>(
     states: &[Item<u32>],
     start: Option<Cost>,
@@ -115,7 +115,8 @@ fn tell_rule<S: Semiring>(
     )
 }
 
-/// Tells the states in the right sides of some rules, whose left state has the outside cost.
+/// Tells the states in the right sides of some rules, whose left state has the outside cost. Err
+/// only if memory is refused, and then some of them may have been told.
 pub fn tell<S: Semiring>(
     rules: &[Rule<u32>],
     outside: Cost,

@@ -88,7 +88,8 @@ fn are_all_live<S: Semiring>(rules: &[Rule<u32>], insides: &[Option<Cost>]) -> b
 }
 
 /// The inside costs of the states of a grammar in which each rule is live and a pass over the rules
-/// in order leads to each state, so that there is nothing to trim; none where this was not seen.
+/// in order leads to each state, so that there is nothing to trim; none where this pass does not
+/// show it.
 fn whole_insides<S: Semiring>(
     alloc: Global,
     normal: &Normal<S>,
@@ -115,10 +116,10 @@ fn whole_insides<S: Semiring>(
     Ok(Some(insides))
 }
 
-/// The same grammar as `trim_normal` answers, and the inside costs of its states. Where there is
-/// nothing to trim, which is seen where a pass over the rules in order leads to each state, the
-/// grammar stays as it is. Err only if memory is refused, and then the grammar is gone. Worst case:
-/// that of `trim_normal` and twice that of `inside`.
+/// The same grammar as `trim_normal` returns, and the inside costs of its states. Where there is
+/// nothing to trim, which is seen if each rule is live and a pass over the rules in order leads to
+/// each state, the grammar stays as it is. Err only if memory is refused, and then the grammar is
+/// gone. Worst case: that of `trim_normal` and twice that of `inside`.
 pub fn trim_with_insides<S: Semiring + Drop>(
     alloc: Global,
     normal: Normal<S>,
