@@ -83,7 +83,7 @@ spanned_in r f q h k =
     let b : nat_le (q + 1) r.high ≡ true = grind (arith, nat_tests) in
     rw (a, b) refl
 
--- what has a cost there stands in the span
+-- what has a cost there is in the span
 spanned_some : (r : Span) (f : ℕ → Option ℕ) (q a : ℕ) → spanned r f q ≡ Some a → (r.low ≤ q) × (q < r.high) × (f q ≡ Some a)
 spanned_some r f q a e = by (nat_le r.low q) (nat_le (q + 1) r.high) refl refl e
   where
@@ -157,7 +157,7 @@ module _ {levelled weighted : Bool} {product : ℕ → ℕ → ℕ} (laws : Prod
     empty_columns P [] = IsLeast-one 0
     empty_columns P (q ∷ qs) = IsLeast-none (λ c h. h)
 
-    -- a hole more
+    -- one more hole
     pub hole_step :
         {P : Type 0} (x : P) (rank : ℕ) (xs : List (Symbol ℕ P × ℕ)) (f g : ℕ → Option ℕ) (fs columns : List (ℕ → Option ℕ)) → ((q : ℕ) → g q ≡ f q) →
         ((qs : List ℕ) → IsLeast (IsReadBox product rules xs qs fs) (cost_along product columns qs)) →
@@ -179,7 +179,7 @@ module _ {levelled weighted : Bool} {product : ℕ → ℕ → ℕ} (laws : Prod
             let here : IsLeast (IsReadBox product rules xs qs fs) (Some t.1) = subst (IsLeast (IsReadBox product rules xs qs fs)) t.3 (old qs) in
             ((t.0, t.1, sym (same q) ∙ t.2, here.attained.0, t.4), t.5)
 
-    -- a label more, over the columns of its children
+    -- one more label, over the columns of its children
     pub label_step :
         AreNormal rules → {P : Type 0} (g rank : ℕ) (xs : List (Symbol ℕ P × ℕ)) (fs below more : List (ℕ → Option ℕ)) (column : ℕ → Option ℕ) → length below ≡ rank →
         IsColumn product rules (positions_with g rank rules) below column → ((qs : List ℕ) → IsLeast (IsReadBox product rules xs qs fs) (cost_along product (below ++ more) qs)) →

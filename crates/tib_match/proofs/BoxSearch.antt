@@ -34,7 +34,7 @@ use Rattle.tib_match.proofs.Stepping.{map_has}
 use Rattle.tib_match.proofs.Steps.{neutral_right}
 use Rattle.tib_match.proofs.BoxCosts.{cut_low, times_is, at_most_some, along_long, inside_costs, AreSingles, frees, read_box, box_read}
 
--- what is said of a success says less
+-- what holds on success may be weakened
 pub on_ok : {T E : Type 0} (r : Result T E) (P Q : Type 0) → (P → Q) → OnOk r P → OnOk r Q
 on_ok (Ok x) P Q f h = f h
 on_ok (Err e) P Q f h = tt
@@ -46,7 +46,7 @@ inside_long [] (s ∷ ss) i = absurd i
 inside_long (r ∷ rs) [] i = absurd i
 inside_long (r ∷ rs) (s ∷ ss) i = ap suc (inside_long rs ss i.2)
 
--- a list stands in its own box
+-- a list is in its own box
 own_box : (ss : List ℕ) → Inside (singles ss) ss
 own_box [] = tt
 own_box (s ∷ ss) = (omega arith, omega arith, own_box ss)
@@ -82,7 +82,7 @@ record IsSplit (box lower upper : List Span) : Type 0 where
 below_or : (a b : ℕ) → (a < b) ⊎ (b ≤ a)
 below_or a b = grind arith
 
--- the same behind one narrow span more
+-- the same after one more narrow span
 extended : (r : Span) → IsNarrow r → {rs lower upper : List Span} → IsSplit rs lower upper → IsSplit (r ∷ rs) (r ∷ lower) (r ∷ upper)
 extended r narrow {rs} {lower} {upper} rest = record {
   either = either;

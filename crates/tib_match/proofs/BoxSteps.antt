@@ -64,6 +64,6 @@ module _ {levelled weighted : Bool} {product : ℕ → ℕ → ℕ} (laws : Prod
       (hole_step laws rules x 0 xs (spanned (get_or spans left no_span) (cost_at (get_or costs left Free))) (column_of s.column) (all_spanned (drop (left + 1) spans) (drop (left + 1) costs)) (stack_of old) s.is_column
       (λ ps. subst (λ k. IsLeast (IsReadBox product rules xs ps (all_spanned (drop k spans) (drop k costs))) (cost_along product (stack_of old) ps)) s.one_less (are ps)) qs))
 
--- an item more
+-- one more item
 pub item_more : {P : Type 0} (items : List (Item P)) (i : ℕ) (x : Item P) → i < length items → get_or items i x ≡ x → pairs_of (drop i items) ≡ pair_of x ∷ pairs_of (drop (i + 1) items)
 item_more items i x low is = at_drop_more pairs_of items i x low ∙ ap (λ y. pair_of y ∷ pairs_of (drop (i + 1) items)) is

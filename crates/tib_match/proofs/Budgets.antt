@@ -71,7 +71,7 @@ holes_joined [] ys = omega arith
 holes_joined (Label f rank ∷ xs) ys = holes_joined xs ys
 holes_joined (Hole x ∷ xs) ys = ap suc (holes_joined xs ys) ∙ omega arith
 
--- one item more among those whose holes are counted: a hole, or a label
+-- one more item among those whose holes are counted: a hole, or a label
 pub hole_more : {P : Type 0} (items : List (Item P)) (i : ℕ) (x : Item P) (p : P) → i < length items → get_or items i x ≡ x → x ≡ Hole p →
     replicate (length (holes_in (take i items))) Free ++ Free ∷ [] ≡ replicate (length (holes_in (take (i + 1) items))) Free
 hole_more items i x p low at is =

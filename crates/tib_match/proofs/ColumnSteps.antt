@@ -19,11 +19,11 @@ use Rattle.tib_match.specs.declared.hole_cost.HoleCost.{HoleCost}
 use Rattle.tib_match.specs.declared.spans.Span.{Span}
 use Rattle.tib_match.proofs.BoxCosts.{spanned_past, along_other}
 
--- one column more stands in front
+-- one more column is in front
 pub stack_more : (columns : List (List (Option ℕ))) (x : List (Option ℕ)) → stack_of (columns ++ x ∷ []) ≡ column_of x ∷ stack_of columns
 stack_more columns x = ap reverse (map-append column_of columns (x ∷ [])) ∙ reverse-append (map column_of columns) (column_of x ∷ [])
 
--- one column and one state more of a product
+-- one more column and state of a product
 pub along_next :
     (product : ℕ → ℕ → ℕ) (columns : List (List (Option ℕ))) (states : List (Item ℕ)) (i : ℕ) (x : List (Option ℕ)) (old own : Option ℕ) (q : ℕ) (d : Item ℕ) → i < length columns → length columns ≡ length states →
     get_or columns i x ≡ x → own ≡ column_of x q → q ≡ state_in (get_or states (length states - 1 - i) d) →
@@ -104,7 +104,7 @@ module _ (product : ℕ → ℕ → ℕ) (rules : List (Rule ℕ)) (below : List
     lower = λ m c h k. absurd h;
   }
 
-  -- one rule more was tried
+  -- one more rule was tried
   pub column_next :
       (ps : List ℕ) (n : ℕ) (old new : List (Option ℕ)) → IsColumn product rules ps below (column_of old) → IsLowered product (rule_at rules n) below old new →
       IsColumn product rules (ps ++ n ∷ []) below (column_of new)
@@ -137,7 +137,7 @@ module _ (product : ℕ → ℕ → ℕ) (rules : List (Rule ℕ)) (below : List
 below_or : (a b : ℕ) → (a < b) ⊎ (b ≤ a)
 below_or a b = grind arith
 
--- one state more at a hole
+-- one more state at a hole
 pub hole_next :
     (r : Span) (h : HoleCost) (old : List (Option ℕ)) (n : ℕ) (x : Option ℕ) → length old ≡ n → x ≡ spanned r (cost_at h) n →
     ((q : ℕ) → q < n → get_or old q None ≡ spanned r (cost_at h) q) → (q : ℕ) → q < n + 1 → get_or (old ++ x ∷ []) q None ≡ spanned r (cost_at h) q
@@ -146,7 +146,7 @@ hole_next r h old n x long is set q b = elim (below_cases q n b) [
   | inr e ↦ get_or_push old x None q (long ∙ sym e) ∙ is ∙ ap (spanned r (cost_at h)) (sym e)
 ]
 
--- all states of a span, and none behind them
+-- all states of a span, and none after them
 pub hole_whole :
     (r : Span) (h : HoleCost) (costs : List (Option ℕ)) (n : ℕ) → length costs ≡ n → r.high ≤ n → ((q : ℕ) → q < n → get_or costs q None ≡ spanned r (cost_at h) q) →
     (q : ℕ) → column_of costs q ≡ spanned r (cost_at h) q

@@ -66,7 +66,7 @@ less_number a b h = by (nat_cmp a b) (ranked a b (nat_cmp a b) refl)
     by Equal r = absurd (omega arith)
     by Greater r = absurd (omega arith)
 
--- p may stand before r: its place is before that of r, or the same at no greater cost
+-- p may come before r: its place is before that of r, or the same at no greater cost
 abbrev IsInTurn : Partial → Partial → Type 0
 IsInTurn p r = (place_cmp p r ≡ Less) ⊎ (AreInOnePlace p r × (p.cost ≤ r.cost))
 
@@ -115,7 +115,7 @@ all_in_turn ps s =
     sorted_ascends IsInTurn ps
     (λ i j d h k. in_turn (get_or ps i d) (get_or ps j d) (sorted_far (λ x y. is_lt (partial_cmp x y)) (ranks_by partial_total (λ x. x)) ps s i j d (omega arith) k))
 
--- what comes of keeping the first one in each place, behind those that are kept
+-- what comes of keeping the first one in each place, after those that are kept
 abbrev pub IsKeptFrom : List Partial → List Partial → List Partial → Type 0
 IsKeptFrom kept [] all = kept ≡ all
 IsKeptFrom kept (p ∷ ps) all = (b : Bool) × IsAgain kept p b × IsKeptFrom (if b then kept else kept ++ p ∷ []) ps all

@@ -85,7 +85,7 @@ module _
       (λ i h e. let t = at_drop n positions i h in let high = b_behind (n + i) (omega arith) t.0 in let same : (rule_at rules (get_or (drop n positions) i 0)).left ≡ (rule_at rules (get_or positions (n + i) 0)).left = ap (λ m. (rule_at rules m).left) t.1 in omega arith)
 
   module _ (product : ℕ → ℕ → ℕ) (p : Partial) (others : List ℕ) (waits : p.waiting ≡ state ∷ others) where
-    -- nothing comes of what stands before a and from b on
+    -- the positions before a and from b on give nothing
     pub between : a ≤ b → all_placed product rules p (take (b - a) (drop a positions)) ≡ all_placed product rules p positions
     between h =
         let mid : List ℕ = take (b - a) (drop a positions) in

@@ -261,7 +261,7 @@ module _ (found kept : List Stored) (m : AreMerged found kept) (nothing : (p : P
         (matched r.0, map_has matched kept r.0 r.1, r.2.1 ∙ ap (λ (z : Partial). z.states) x.2, omega arith);
   }
 
--- one item more
+-- one more item
 next_item : {P : Type 0} (items : List (Item P)) (i : ℕ) (item : Item P) → i < length items → item ≡ get_or items i item → drop i items ≡ item ∷ drop (suc i) items
 next_item [] i item h e = absurd (omega arith)
 next_item (x ∷ items) zero item h e = ap (λ y. y ∷ items) (sym e)

@@ -32,7 +32,7 @@ all_spanned [] hs = []
 all_spanned (r ∷ rs) [] = []
 all_spanned (r ∷ rs) (h ∷ hs) = spanned r (cost_at h) ∷ all_spanned rs hs
 
--- each state stands in its span
+-- each state is in its span
 abbrev pub Inside : List Span → List ℕ → Type 0
 Inside [] [] = Unit {0}
 Inside [] (s ∷ ss) = ⊥
@@ -40,8 +40,8 @@ Inside (r ∷ rs) [] = ⊥
 Inside (r ∷ rs) (s ∷ ss) = (r.low ≤ s) × (s < r.high) × Inside rs ss
 
 module _ (product : ℕ → ℕ → ℕ) (rules : List (Rule ℕ)) where
-  -- c is the cost of rules for the labels of a preorder, read from the front, as `IsReadCost` has it, with the cost of the
-  -- state at each hole
+  -- c is the cost of rules for the labels of a preorder, read from the front, as `IsReadCost` has
+  -- it, with the cost of the state at each hole
   abbrev pub IsReadBox : {P : Type 0} → List (Symbol ℕ P × ℕ) → List ℕ → List (ℕ → Option ℕ) → ℕ → Type 0
   IsReadBox [] [] [] c = c ≡ 0
   IsReadBox [] [] (f ∷ fs) c = ⊥
@@ -52,7 +52,8 @@ module _ (product : ℕ → ℕ → ℕ) (rules : List (Rule ℕ)) where
   IsReadBox ((hole p, rank) ∷ xs) (q ∷ qs) [] c = ⊥
   IsReadBox ((hole p, rank) ∷ xs) (q ∷ qs) (f ∷ fs) c = Products product (λ a. f q ≡ Some a) (IsReadBox xs qs fs) c
 
-  -- a column has for each state the least cost of one of some rules of the state and of the states below it
+  -- a column has for each state the least cost of one of some rules of the state and of the states
+  -- below it
   pub record IsColumn (positions : List ℕ) (below : List (ℕ → Option ℕ)) (column : ℕ → Option ℕ) : Type 0 where
     pub attained : (q c : ℕ) → column q ≡ Some c →
         (n : ℕ) × Has positions n × ((rule_at rules n).left ≡ q) × (times product (Some (rule_at rules n).cost) (cost_along product below (holes (rule_at rules n).right.kids)) ≡ Some c)
@@ -67,7 +68,7 @@ column_of column q = get_or column q None
 abbrev pub stack_of : List (List (Option ℕ)) → List (ℕ → Option ℕ)
 stack_of columns = reverse (map column_of columns)
 
--- a column in which one rule more was tried, over the columns below it
+-- a column in which one more rule was tried, over the columns below it
 pub record IsLowered (product : ℕ → ℕ → ℕ) (rule : Rule ℕ) (below : List (ℕ → Option ℕ)) (old new : List (Option ℕ)) : Type 0 where
   pub long : length new ≡ length old
   pub others : (q : ℕ) → (q ≡ rule.left → ⊥) → get_or new q None ≡ get_or old q None

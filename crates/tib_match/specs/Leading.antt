@@ -33,7 +33,8 @@ abbrev pub all_placed : (ℕ → ℕ → ℕ) → List (Rule ℕ) → Partial �
 all_placed product rules p [] = []
 all_placed product rules p (n ∷ ns) = placed product (rule_at rules n) p ++ all_placed product rules p ns
 
--- in each partial match that waits for the state next, the rules at `found` are placed as those at `all` are
+-- in each partial match that waits for the state next, the rules at `found` are placed as those at
+-- `all` are
 abbrev pub PlaceTheSame : List (Rule ℕ) → ℕ → List ℕ → List ℕ → Type 0
 PlaceTheSame rules state all found = (product : ℕ → ℕ → ℕ) (p : Partial) (others : List ℕ) →
     p.waiting ≡ state ∷ others → all_placed product rules p found ≡ all_placed product rules p all
@@ -43,7 +44,7 @@ abbrev pub all_led : (ℕ → ℕ → ℕ) → List (Rule ℕ) → List ℕ → 
 all_led product rules ns [] = []
 all_led product rules ns (p ∷ ps) = all_placed product rules p ns ++ all_led product rules ns ps
 
--- what a hole makes of a partial match: the first state that waits stands there
+-- what a hole makes of a partial match: the first state that waits is there
 abbrev pub taken_at : ℕ → List ℕ → List ℕ → List Partial
 taken_at c states [] = []
 taken_at c states (q ∷ others) = record { cost = c; states = states ++ q ∷ []; waiting = others } ∷ []

@@ -7,7 +7,7 @@ use Rattle.std.specs.declared.cmp.Ordering.TheVariants.{Less}
 use Rattle.tib_lex.specs.Lists.{Has, Ascends}
 use Rattle.tib_match.specs.declared.partial.Partial.{Partial}
 
--- both wait for the same and have the same states behind them
+-- both wait for the same states and have the same states at holes
 abbrev pub AreInOnePlace : Partial → Partial → Type 0
 AreInOnePlace p r = (p.waiting.items ≡ r.waiting.items) × (p.states.items ≡ r.states.items)
 
@@ -22,8 +22,8 @@ IsAgain (p ∷ []) r true = AreInOnePlace p r
 IsAgain (p ∷ []) r false = AreInOnePlace p r → ⊥
 IsAgain (p ∷ q ∷ ps) r b = IsAgain (q ∷ ps) r b
 
--- Each that is kept was there, and for each that was there one in its place is kept that costs no more. They ascend by their
--- places.
+-- Each that is kept was there, and for each that was there one in its place is kept that costs no
+-- more. They ascend by their places.
 pub record AreMerged (found kept : List Partial) : Type 0 where
   pub ascend : Ascends (λ p r. place_cmp p r ≡ Less) kept
   pub sound : (p : Partial) → Has kept p → Has found p

@@ -1,4 +1,5 @@
--- Matches that with what their states at the holes cost stay within the greatest cost, and the search for them among boxes.
+-- Matches that with what their states at the holes cost stay within the greatest cost, and the
+-- search for them among boxes.
 use Rattle.std.specs.Prelude.{◌≡◌, ◌⊎◌, ℕ, ◌+◌, ◌<◌, ◌≤◌, List, [], ◌∷◌, ◌++◌, length, map, reverse, replicate, Option, None, Some}
 use Rattle.std.specs.Global.{Vec}
 use Rattle.std.specs.Ordering.{nat_cmp}
@@ -19,18 +20,20 @@ use Rattle.tib_match.specs.declared.spans.Span.{Span}
 use Rattle.tib_match.specs.declared.within.Within.{Within}
 use Rattle.tib_match.specs.declared.within.Within.TheVariants.{All, More}
 
--- a match that with a cost above it and the costs of its states costs no more than the greatest cost
+-- a match that with a cost above it and the costs of its states costs no more than the greatest
+-- cost
 pub record IsWithin (product : ℕ → ℕ → ℕ) (above : ℕ) (costs : List HoleCost) (m : List ℕ × ℕ) : Type 0 where
   pub beside : ℕ
   pub is_beside : cost_along product (map cost_at costs) m.0 ≡ Some beside
   pub within : product (product above m.1) beside ≤ most
 
--- before each other list
+-- the lists of states ascend
 abbrev pub ListsAscend : List (List ℕ × ℕ) → Type 0
 ListsAscend ms = Ascends (λ (a : List ℕ × ℕ) (b : List ℕ × ℕ). slice_cmp nat_cmp a.0 b.0 ≡ Less) ms
 
 module _ {P : Type 0} (product : ℕ → ℕ → ℕ) (rules : List (Rule ℕ)) (side : SideFor ℕ P) (q : ℕ) (Counts : List ℕ × ℕ → Type 0) where
-  -- some matches of a side from q, each list once at its least cost, ascending: among them all that count
+  -- some matches of a side from q, each list once at its least cost, ascending: among them all that
+  -- count
   pub record AreMatchesWhere (ms : List (List ℕ × ℕ)) : Type 0 where
     pub ascend : ListsAscend ms
     pub least : Each (λ (m : List ℕ × ℕ). IsMatch product rules side q m.0 (Some m.1)) ms
@@ -77,8 +80,8 @@ IsBefore rs ts = (ss us : List ℕ) → Inside rs ss → Inside ts us → slice_
 abbrev pub boxes_of : List (Vec Span) → List (List Span)
 boxes_of bs = map (λ b. b.items) bs
 
--- What was found and the boxes that wait, the next one last: they ascend, each match that was found is one, and each match
--- within the greatest cost was found or stands in a box.
+-- What was found and the boxes that wait, the next one last: they ascend, each match that was found
+-- is one, and each match within the greatest cost was found or is in a box.
 pub record IsUnderway {P : Type 0} (product : ℕ → ℕ → ℕ) (rules : List (Rule ℕ)) (side : SideFor ℕ P) (q above : ℕ) (costs : List HoleCost)
     (found : List (List ℕ × ℕ)) (boxes : List (List Span)) : Type 0 where
   pub ascend : Ascends IsBefore (map (λ (m : List ℕ × ℕ). singles m.0) found ++ reverse boxes)
@@ -104,7 +107,7 @@ abbrev pub IsWideAnswer : List Span → Option ℕ → Type 0
 IsWideAnswer spans None = AreNarrow spans
 IsWideAnswer spans (Some place) = IsFirstWide spans place
 
--- the boxes with the two halves of one behind them, the lower one last
+-- the boxes with the two halves of one after them, the lower one last
 pub record HasHalves (spans : List Span) (place : ℕ) (old new : List (List Span)) : Type 0 where
   pub middle : ℕ
   pub above_low : (get_or spans place no_span).low < middle
@@ -112,7 +115,7 @@ pub record HasHalves (spans : List Span) (place : ℕ) (old new : List (List Spa
   pub pushed : new
       ≡ old ++ set spans place (record { low = middle; high = (get_or spans place no_span).high }) ∷ set spans place (record { low = (get_or spans place no_span).low; high = middle }) ∷ []
 
--- the first list of a box at its cost behind others, where it has one
+-- the first list of a box at its cost after others, where it has one
 abbrev pub IsFoundAt : List Span → Option ℕ → List (List ℕ × ℕ) → List (List ℕ × ℕ) → Type 0
 IsFoundAt spans None old new = new ≡ old
 IsFoundAt spans (Some c) old new = new ≡ old ++ (lows spans, c) ∷ []
@@ -133,7 +136,7 @@ pub record StacksLabel (product : ℕ → ℕ → ℕ) (rules : List (Rule ℕ))
   pub after : new ≡ front ++ column ∷ []
   pub is_column : IsColumn product rules (positions_with f rank rules) (stack_of last) (column_of column)
 
--- the column of the last of some holes behind others
+-- the column of the last of some holes after others
 pub record StacksHole (costs : List HoleCost) (spans : List Span) (holes left : ℕ) (old new : List (List (Option ℕ))) : Type 0 where
   pub one_less : holes ≡ left + 1
   pub few_costs : left < length costs

@@ -1,4 +1,5 @@
-//! The least cost of a match in a box: it stands on a column of least costs by state for each node of the side.
+//! The least cost of a match in a box, from a column of least costs by state for each node of the
+//! side.
 
 ghost use Rattle.std.specs.Prelude.{◌≡◌, ℕ, ◌∷◌, [], List, drop, IfOk, OnOk};
 ghost use Rattle.tib_cost.specs.Least.{IsLeast};
@@ -37,7 +38,7 @@ fn stack_label<S: Semiring>(
     Ok(())
 }
 
-// Puts the column of the last of some holes behind others, and answers how many are left.
+// Puts the column of the last of some holes after others, and returns how many are left.
 fn stack_hole<S: Semiring>(
     alloc: Global,
     costs: &[HoleCost],
@@ -57,7 +58,8 @@ fn stack_hole<S: Semiring>(
     Ok(left)
 }
 
-// Puts the column of an item in place of those of its children, and answers how many holes come before it.
+// Puts the column of an item in place of those of its children, and returns how many holes come
+// before it.
 fn stack_item<S: Semiring, P>(
     alloc: Global,
     normal: &Normal<S>,
@@ -83,9 +85,10 @@ fn stack_item<S: Semiring, P>(
     }
 }
 
-/// The least cost of running the grammar from a state along the items of a side down to states in their spans, with what these
-/// states cost; none where there is none of at most `MOST`. Err if memory is refused, and where there are not as many costs and
-/// spans as holes. Cost: for each item one pass over the states, and one over the rules of its label.
+/// The least cost of running the grammar from a state along the items of a side down to states in
+/// their spans, with what these states cost; none where there is none of at most `MOST`. Err if
+/// memory is refused, and where there are not as many costs and spans as holes. Cost: for each item
+/// one pass over the states, and one over the rules of its label.
 pub(crate) fn least_cost<S: Semiring, P>(
     alloc: Global,
     normal: &Normal<S>,

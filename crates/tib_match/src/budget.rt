@@ -15,7 +15,8 @@ use tib_cost::{Cost, Semiring};
 use tib_grammar::{Item, Side};
 use tib_normal::Normal;
 
-/// How many partial matches may come up before `few_matches` gives up, where this many matches are wanted.
+/// How many partial matches may come up before `few_matches` gives up, where this many matches are
+/// wanted. These are 2 x `most` + 1000, or `most` if that is above 10^12.
 pub fn partial_matches(most: u64) -> u64 {
     if most > 1_000_000_000_000 {
         return most;
@@ -36,11 +37,13 @@ fn free_costs<P>(alloc: Global, items: &[Item<P>]) -> Result<Vec<HoleCost>, Allo
     Ok(costs)
 }
 
-/// The matches of a side from a state that cost no more than `MOST` with a cost above them; the list may hold others too. Each
-/// list stands once at its least cost, and they ascend. `More` comes only where there are more than `most` matches at such a cost;
-/// the list may be longer too. Err only if memory is refused.
+/// The matches of a side from a state that cost no more than `MOST` with a cost above them; the
+/// list may hold others too. Each list occurs once at its least cost, and they ascend. `More` comes
+/// only where there are more than `most` matches at such a cost; the list may be longer too. Err
+/// only if memory is refused.
 ///
-/// Cost: that of `few_matches` with 2 x `most` + 1000 partial matches, and where it gives up that of `search_matches`.
+/// Cost: that of `few_matches` with `partial_matches(most)`, and, where it gives up, that of
+/// `search_matches`.
 pub fn matches_within<S: Semiring, P>(
     alloc: Global,
     normal: &Normal<S>,

@@ -83,7 +83,7 @@ pub(crate) fn product_along<S: Semiring>(columns: &[Column], states: &[Item<u32>
     total
 }
 
-// Counts a rule in at its state.
+// Lowers the cost of a rule's state to what the rule gives, if that is less.
 fn lower<S: Semiring>(column: &mut Vec<Option<Cost>>, rule: &Rule<u32>, below: &[Column])
     requires normal { IsNormalSide rule.now.right }
     requires within { rule.now.left < length column.old.items }
@@ -109,8 +109,8 @@ fn no_costs(alloc: Global, states: u32) -> Result<Vec<Option<Cost>>, AllocError>
     Ok(costs)
 }
 
-/// The column of a label, over those of its children, the first child's last. Cost: one pass over the states, and one over the
-/// rules of the label.
+/// The column of a label, over those of its children, the first child's last. Cost: one pass over
+/// the states, and one over the rules of the label.
 pub(crate) fn label_column<S: Semiring>(
     alloc: Global,
     normal: &Normal<S>,

@@ -22,7 +22,8 @@ use tib_grammar::{Item, Rule, Side};
 use tib_normal::Normal;
 use tib_tree::Label;
 
-// Adds what the rules at some positions, in ascending order of their left states, make of a partial match.
+// Adds what the rules at some positions, in ascending order of their left states, make of a partial
+// match.
 fn add_led<S: Semiring>(
     alloc: Global,
     partial: &Partial,
@@ -43,7 +44,8 @@ fn add_led<S: Semiring>(
     add_all_placed::<S>(alloc, partial, rules, own, found)
 }
 
-// What the rules of a label and a rank make of some partial matches; none where it is given up, since they make more than a number.
+// What the rules of a label and a rank make of some partial matches; none where it gives up, since
+// they make more than a number.
 fn lead_all<S: Semiring>(
     alloc: Global,
     normal: &Normal<S>,
@@ -69,7 +71,7 @@ fn lead_all<S: Semiring>(
     Ok(Some(found))
 }
 
-// What an item of a side makes of some partial matches; none where it is given up.
+// What an item of a side makes of some partial matches; none where it gives up.
 fn next<S: Semiring, P>(
     alloc: Global,
     normal: &Normal<S>,
@@ -95,7 +97,7 @@ fn next<S: Semiring, P>(
     }
 }
 
-// What is found along some items from a state; none where it is given up.
+// What is found along some items from a state; none where it gives up.
 fn find<S: Semiring, P>(
     alloc: Global,
     normal: &Normal<S>,
@@ -138,13 +140,15 @@ fn list_matches(alloc: Global, found: Vec<Partial>) -> Result<Vec<Match>, AllocE
     Ok(matches)
 }
 
-/// The matches of a side from a state: for each list of states at its holes the least cost, of at most `MOST`, of running the
-/// grammar from the state through the side down to them. Each list stands once, and they ascend. A lone hole gives the state
-/// itself at the cost of the product of nothing. None where it is given up, since more partial matches than `most` came up: what
-/// it is then is for `search_matches` to say.
+/// The matches of a side from a state: for each list of states at its holes the least cost, of at
+/// most `MOST`, of running the grammar from the state through the side down to them. Each list
+/// occurs once, and they ascend. A lone hole gives the state itself at the cost of the product of
+/// nothing. None where it gives up, since more partial matches than `most` came up;
+/// `search_matches` is for these. Err only if memory is refused.
 ///
-/// It reads the side once from the front, and keeps of all ways to a list of states that waits and a list of states at holes
-/// the cheapest. Cost: for each label at most `most` partial matches, and for each the rules of one state, with a list of states.
+/// It reads the side once from the front, and keeps the cheapest of all ways to the same waiting
+/// states and the same states at holes. Cost: for each label at most `most` partial matches, and
+/// for each the rules of one state, with a list of states.
 pub fn few_matches<S: Semiring, P>(
     alloc: Global,
     normal: &Normal<S>,

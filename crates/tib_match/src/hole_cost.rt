@@ -1,16 +1,16 @@
-//! What the states at the holes of a side cost beside a match.
+//! What the states at the holes of a side cost in addition to a match.
 
 ghost use Rattle.std.specs.Prelude.{◌≡◌};
 ghost use Rattle.tib_match.specs.Boxes.{cost_at};
 
 use tib_cost::{Cost, Semiring};
 
-/// What each state costs that may stand at a hole.
+/// What each state costs that may be at a hole.
 #[derive(Drop)]
 pub enum HoleCost {
     /// Nothing, so the product of nothing.
     Free,
-    /// For each state what it costs; none for one that may not stand there, and for one past the last.
+    /// For each state what it costs; none for one that may not be there, and for one past the last.
     Table(Vec<Option<Cost>>),
 }
 

@@ -1,11 +1,12 @@
-// The cheapest of the partial matches that wait for the same and have the same states behind them.
+// The cheapest of the partial matches that wait for the same states and have the same states at
+// holes.
 ghost use Rattle.std.specs.Prelude.{IsTrue, false, ◌≡◌, IfOk};
 ghost use Rattle.tib_match.specs.Merging.{AreInOnePlace, IsAgain, AreMerged};
 
 use crate::partial::Partial;
 use std::alloc::{AllocError, Global};
 
-// Whether two partial matches wait for the same and have the same states behind them.
+// Whether two partial matches wait for the same states and have the same states at holes.
 fn are_in_one_place(one: &Partial, two: &Partial) -> bool
     ensures yes { IsTrue result → AreInOnePlace one.now two.now }
     ensures no { result ≡ false → AreInOnePlace one.now two.now → ⊥ }
@@ -23,8 +24,8 @@ fn is_again(kept: &[Partial], partial: &Partial) -> bool
     }
 }
 
-/// The cheapest of the partial matches that wait for the same and have the same states behind them, each once, ascending by
-/// what waits and then by the states.
+/// The cheapest of the partial matches that wait for the same states and have the same states at
+/// holes, each once, ascending by what waits and then by the states.
 pub(crate) fn merge(alloc: Global, found: Vec<Partial>) -> Result<Vec<Partial>, AllocError>
     ensures { IfOk result (λ kept. AreMerged found.items kept.items) }
 {

@@ -8,7 +8,8 @@ ghost use Rattle.tib_match.specs.Narrowing.{LeftsAscend};
 
 use tib_grammar::Rule;
 
-// How many of the positions, whose rules stand in ascending order of their left states, have a rule of a lesser state.
+// How many of the positions, whose rules are in ascending order of their left states, have a rule
+// of a lesser state.
 fn count_below(rules: &[Rule<u32>], positions: &[u32], state: u64) -> usize
     requires below { Each (λ n. n < length rules.now) positions.now }
     requires ascend { LeftsAscend rules.now positions.now }
@@ -32,8 +33,8 @@ fn count_below(rules: &[Rule<u32>], positions: &[u32], state: u64) -> usize
     low
 }
 
-/// Of the positions of some rules, which stand in ascending order of their left states, those of the rules of one state. They
-/// are found by halving.
+/// Of the positions of some rules, which are in ascending order of their left states, those of the
+/// rules of one state. They are found by halving.
 pub(crate) fn narrow<'p>(rules: &[Rule<u32>], positions: &'p [u32], state: u32) -> &'p [u32]
     requires below { Each (λ n. n < length rules.now) positions.now }
     requires ascend { LeftsAscend rules.now positions.now }

@@ -20,7 +20,7 @@ pub(crate) struct Partial {
     pub cost: Cost,
 }
 
-// Puts the states of some items behind others, the first one last.
+// Puts the states of some items after others, the first one last.
 fn push_states(waiting: &mut Vec<u32>, items: &[Item<u32>]) -> Result<(), AllocError>
     ensures { OnOk result (waiting.new.items ≡ waiting.old.items ++ reverse (holes_in items.now)) }
 {
@@ -58,7 +58,8 @@ fn with_rule(
     })
 }
 
-/// Adds what a rule makes of a partial match, if it leads from the next state and the product of the costs is a cost.
+/// Adds what a rule makes of a partial match, if it leads from the next state and the product of
+/// the costs is a cost.
 pub(crate) fn add_placed<S: Semiring>(
     alloc: Global,
     partial: &Partial,

@@ -1,5 +1,5 @@
-//! The search for the matches of a side among boxes of states: it halves a box that may have a match, and drops one that can have
-//! none.
+//! The search for the matches of a side among boxes of states: it halves a box that may have a
+//! match, and drops one that can have none.
 
 ghost use Rattle.std.specs.Prelude.{◌≡◌, ℕ, ◌<◌, ◌+◌, ◌++◌, ◌∷◌, [], length, map, replicate, IsTrue, false, IfOk, OnOk, Some, None};
 ghost use Rattle.std.proofs.Common.{set};
@@ -67,7 +67,7 @@ fn with_span(
     Ok(all)
 }
 
-// Puts the two halves of a box behind others, the lower one last.
+// Puts the two halves of a box after others, the lower one last.
 fn push_halves(
     alloc: Global,
     spans: &[Span],
@@ -124,7 +124,8 @@ fn whole_box(alloc: Global, states: u32, many: usize) -> Result<Vec<Span>, Alloc
     Ok(spans)
 }
 
-// What matches are searched for: a grammar, the state at the root, the cost above, and the costs of states at the holes.
+// What matches are searched for: a grammar, the state at the root, the cost above, and the costs of
+// states at the holes.
 #[derive(Drop)]
 struct Search<'a, S> {
     normal: &'a Normal<S>,
@@ -134,7 +135,7 @@ struct Search<'a, S> {
 }
 
 impl<'a, S: Semiring> Search<'a, S> {
-    // Puts the match of a box of one list behind those that were found, if there is one.
+    // Puts the match of a box of one list after those that were found, if there is one.
     fn take<P>(
         &self,
         alloc: Global,
@@ -210,14 +211,17 @@ impl<'a, S: Semiring> Search<'a, S> {
     }
 }
 
-/// The matches of a side from a state that cost no more than `MOST` with a cost above them and with what the states at the holes
-/// cost; the list may hold others too. Each list stands once, and they ascend. `More` comes only where there are more than `most`
-/// such matches. Err if memory is refused, and where there are not as many costs as holes.
+/// The matches of a side from a state that cost no more than `MOST` with a cost above them and with
+/// what the states at the holes cost; the list may hold others too. Each list occurs once, and they
+/// ascend. `More` comes only where there are more than `most` such matches. Err if memory is
+/// refused, or if there are not as many costs as holes.
 ///
-/// It halves spans of states, hole by hole, and drops a box in which the least cost of all is too great, so each that is kept
-/// has a match. To a match it looks at each hole at as many boxes as there are halvings, twice the logarithm of the states, and
-/// a box takes one pass over the states and the rules of each label in the side. So the worst case is a product: (`most` + 1) x
-/// holes x logarithm of the states x (nodes x states + rules of their labels). It is for sides of which `few_matches` gave up.
+/// It halves spans of states, hole by hole, and drops a box in which the least cost of all is too
+/// great, so each that is kept has a match. For each match and each hole it looks at as many boxes
+/// as there are halvings, twice the logarithm of the states, and a box takes one pass over the
+/// states and the rules of each label in the side. So the worst case is a product: (`most` + 1) x
+/// holes x logarithm of the states x (nodes x states + rules of their labels). It is for sides on
+/// which `few_matches` gave up.
 pub fn search_matches<S: Semiring, P>(
     alloc: Global,
     normal: &Normal<S>,

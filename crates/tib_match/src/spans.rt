@@ -5,6 +5,6 @@
 pub(crate) struct Span {
     /// The first one.
     pub low: u32,
-    /// The one behind the last.
+    /// The one after the last.
     pub high: u32,
 }

@@ -1,4 +1,4 @@
-//! The answer of a search for matches within a budget.
+//! The result of a search for matches within a budget.
 
 use crate::found_match::Match;
 

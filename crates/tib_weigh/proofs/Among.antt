@@ -22,7 +22,8 @@ use Rattle.tib_grammar.proofs.Sides.{length-holes}
 use Rattle.tib_normal.specs.RulePlaces.{IsRulePlace}
 use Rattle.tib_normal.proofs.RulePlaces.{places_below, place_has}
 
--- c is the cost of a run from q that begins with one of the rules at these positions and yields f over kids
+-- c is the cost of a run from q that begins with one of the rules at these positions and yields f
+-- over kids
 abbrev pub BeginsAmong : (ℕ → ℕ → ℕ) → List (Rule ℕ) → ℕ → ℕ → Trees ℕ → List ℕ → ℕ → Type 0
 BeginsAmong product rules q f kids ps c = (n : ℕ) × Has ps n × Begins product rules q f kids n c
 
@@ -114,7 +115,7 @@ module _ {levelled weighted : Bool} {product : ℕ → ℕ → ℕ} (laws : Prod
           holes_long
           (times_all-is_least (holes (rule_at rules m).right.kids) ts vs (omega (arith, holes_long, enough)) w)
 
-  -- one rule more
+  -- one more rule
   pub among_step :
       AreNormal rules → (ts : Trees ℕ) (vs : List (List Entry)) (f k : ℕ) (ps : List ℕ) (m q : ℕ) (v v' : Option ℕ) → IsRulePlace rules f k m → k ≤ count ts → Weighed product rules ts vs →
       IsLeast (BeginsAmong product rules q f (first_trees k ts) ps) v →

@@ -158,7 +158,7 @@ pub record Added (old new : List Entry) (q c : ℕ) : Type 0 where
   pub last : EndsBy q new
   pub costs : (p : ℕ) → cost_in new p ≡ (if nat_eq q p then lesser (cost_in old p) (Some c) else cost_in old p)
 
--- behind entries with states below, an entry of a state of its own
+-- after entries with states below, an entry of a state of its own
 pub added_last : (v : List Entry) (q c : ℕ) → IsAscending v → Each (λ e. e.state < q) v → Added v (v ++ entry q c ∷ []) q c
 added_last v q c a b = record {
   ascends = IsAscending-push v (entry q c) a b;
@@ -190,7 +190,7 @@ added_over v x q c a e =
       ]);
     }
 
--- behind an entry of a lesser state
+-- after an entry of a lesser state
 pub added_after : (v : List Entry) (x : Entry) (q c : ℕ) → IsAscending (v ++ x ∷ []) → EndsBy q (v ++ x ∷ []) → (x.state ≡ q → ⊥) → Added (v ++ x ∷ []) ((v ++ x ∷ []) ++ entry q c ∷ []) q c
 added_after v x q c a b other =
     let ends = EndsBy-front v x q b in

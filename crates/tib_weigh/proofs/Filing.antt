@@ -18,7 +18,7 @@ use Rattle.tib_grammar.specs.Items.{state_in}
 use Rattle.tib_lex.proofs.Numbers.{nat_eq_cases}
 use Rattle.tib_lex.proofs.Members.{has_at}
 
--- an empty slot more
+-- one more empty slot
 empty_more : (xs : List (List Ready)) → ((s : ℕ) → get_or xs s [] ≡ []) → (s : ℕ) → get_or (xs ++ [] ∷ []) s [] ≡ []
 empty_more [] h zero = refl
 empty_more [] h (suc s) = refl
@@ -40,7 +40,7 @@ module _ (old : List (List Ready)) (k : ℕ) (p : Ready) (below : k < length old
   abbrev one_more : List (List Ready)
   one_more = set old k (get_or old k [] ++ p ∷ [])
 
-  -- what stood in a slot stands there still
+  -- what was in a slot is still there
   stays : (s : ℕ) (x : Ready) → Has (get_or old s []) x → Has (get_or one_more s []) x
   stays s x h = elim (nat_eq_cases s k) [
     | inl y ↦
@@ -49,7 +49,7 @@ module _ (old : List (List Ready)) (k : ℕ) (p : Ready) (below : k < length old
     | inr n ↦ rw (get_or-set_other old k s (get_or old k [] ++ p ∷ []) [] n.0) h
   ]
 
-  -- and the new one stands in its own
+  -- and the new one is in its own
   stands : Has (get_or one_more k []) p
   stands = rw (get_or-set_same old k (get_or old k [] ++ p ∷ []) [] below) (has_last (get_or old k []) p)
 
@@ -65,7 +65,7 @@ module _ (old : List (List Ready)) (k : ℕ) (p : Ready) (below : k < length old
     | inr n ↦ inl (subst (λ (l : List Ready). Has l x) (get_or-set_other old k s (get_or old k [] ++ p ∷ []) [] n.0) h)
   ]
 
--- one rule more in the slot of its state
+-- one more rule in the slot of its state
 pub record FiledMore (rules : List (Rule ℕ)) (n j : ℕ) (all ps : List ℕ) (p : ℕ) (new : List (List Ready)) : Type 0 where
   pub holds : HoldsAll rules j (ps ++ p ∷ []) new
   pub only : HoldsOnly rules n j all new

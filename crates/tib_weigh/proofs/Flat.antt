@@ -1,4 +1,4 @@
--- Slots of which the records lie one behind the other.
+-- Slots of which the records lie one after the other.
 use Rattle.std.specs.Prelude.{◌≡◌, ◌⊎◌, ℕ, ◌+◌, ◌-◌, ◌%◌, ◌<◌, ◌≤◌, List, [], ◌∷◌, ◌++◌, length, take, drop, slice_range, refl}
 use Rattle.std.proofs.Common.{arith, zero, suc, ap, sym, ◌∙◌, inl, inr, get_or}
 use Rattle.std.proofs.lemmas.List.{take-append-le, drop-append-le, length-take, length-drop, length-append, get_or_append_left}
@@ -11,26 +11,26 @@ use Rattle.tib_weigh.specs.Buckets.{slots_of, slot_at, IsParting}
 pub same_or_less : (i m : ℕ) → i ≤ m → (i ≡ m) ⊎ (i < m)
 same_or_less i m h = grind arith
 
--- what stands between two places of a front
+-- what is between two places of a front
 slice_front : (rs xs : List Ready) (a b : ℕ) → a ≤ length rs → b ≤ length rs → slice_range (rs ++ xs) a b ≡ slice_range rs a b
 slice_front rs xs a b low high =
     ap (λ (l : List Ready). take (b - a) l) (drop-append-le a rs xs low) ∙ take-append-le (b - a) _ xs (omega (arith, length-drop a rs, low, high))
 
--- and what stands behind it
+-- and what comes after it
 slice_back : (rs xs : List Ready) → slice_range (rs ++ xs) (length rs) (length rs + length xs) ≡ xs
 slice_back rs xs =
     let rest : length rs + length xs - length rs ≡ length xs = omega arith in
     ap (λ (l : List Ready). take (length rs + length xs - length rs) l) (drop-append_seam rs xs) ∙ ap (λ n. take n xs) rest ∙ take-length xs
 
--- from one place to a later one something stands
+-- between a place and a later one there is a record
 pub slice_some : (rs : List Ready) (a b : ℕ) → a < b → b ≤ length rs → 0 < length (slice_range rs a b)
 slice_some rs a b low high = omega (arith, length-take (b - a) (drop a rs), length-drop a rs, low, high)
 
--- and where something stands, the later place is another one
+-- and where there is one, the second place is later
 pub some_slice : (rs : List Ready) (a b : ℕ) → 0 < length (slice_range rs a b) → a < b
 some_slice rs a b some = omega (arith, length-take (b - a) (drop a rs), length-drop a rs, some)
 
--- one slot more
+-- one more slot
 slots_more :
     (starts : List ℕ) (n : ℕ) (rs xs : List Ready) → length starts ≡ n + 1 → get_or starts n 0 ≡ length rs → ((s : ℕ) → s < length starts → get_or starts s 0 ≤ length rs) →
     slots_of (starts ++ (length rs + length xs) ∷ []) (rs ++ xs) ≡ slots_of starts rs ++ xs ∷ []
@@ -72,7 +72,7 @@ slot_there starts rs state slot some is =
     ∙ ap (λ s. get_or (slots_of starts rs) s []) (sym is)
     ∙ slots_at starts rs slot (slot_below starts state slot some is)
 
--- a list of records more behind the others
+-- one more list of records after the others
 pub record FlatMore (starts : List ℕ) (rs : List Ready) (made : List (List Ready)) (n : ℕ) : Type 0 where
   pub slots : slots_of starts rs ≡ made
   pub long : length starts ≡ n + 1

@@ -14,11 +14,11 @@ use Rattle.tib_tree.proofs.Counts.{length-preorder}
 pub many_nodes : (t : Tree ℕ) (ns : List Node) → pairs_of ns ≡ preorder_of t → length ns ≡ size t
 many_nodes t ns e = sym (length-map ns pair_of) ∙ ap length e ∙ ap (λ (n : ℕ). suc n) (length-preorder t.kids)
 
--- what is cut at the greatest number and added to is what is added up and then cut
+-- a sum that is cut at the greatest number, also before the last addition, is the whole sum cut
 cut_once : (a b m : ℕ) → min (min a m + b) m ≡ min (a + b) m
 cut_once a b m = omega arith
 
--- the nodes of one tree more among the first ones
+-- the nodes of one more tree among the first ones
 pub one_more : (ts : List (Tree ℕ)) (n so_far more : ℕ) (d : Tree ℕ) → n < length ts →
     so_far ≡ min (total size (take n ts)) (2 ^ 64 - 1) → more ≡ size (get_or ts n d) →
     min (so_far + more) (2 ^ 64 - 1) ≡ min (total size (take (n + 1) ts)) (2 ^ 64 - 1)

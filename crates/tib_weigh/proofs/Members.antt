@@ -1,4 +1,4 @@
--- Members of lists to which one was put last, and members by their places.
+-- Members of lists to which one was added last, and members by their places.
 use Rattle.std.specs.Prelude.{◌≡◌, ◌⊎◌, List, [], ◌∷◌, ◌++◌, refl}
 use Rattle.std.proofs.Common.{zero, suc, arith, inl, inr, Contains}
 use Rattle.tib_lex.specs.Lists.{Has}

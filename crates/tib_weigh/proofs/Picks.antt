@@ -17,12 +17,12 @@ use Rattle.tib_weigh.specs.declared.vector.Entry.{Entry}
 use Rattle.tib_weigh.proofs.Filters.{filtered_has, has_filtered}
 use Rattle.tib_weigh.proofs.Tries.{cost_at_entry}
 
--- an entry more that is picked
+-- one more entry that is picked
 pub pick_more : (t : Table) (v picked : List Entry) (e : Entry) → is_served t e ≡ true → picked ≡ picks t v → picked ++ e ∷ [] ≡ picks t (v ++ e ∷ [])
 pick_more t v picked e served was =
     ap (λ (l : List Entry). l ++ e ∷ []) was ∙ ap (λ (b : Bool). picks t v ++ cond b (e ∷ []) []) (sym served) ∙ sym (filter-append (is_served t) v (e ∷ []))
 
--- an entry more for whose state there is nothing
+-- one more entry for whose state there is nothing
 pub pick_none : (t : Table) (v picked : List Entry) (e : Entry) → is_served t e ≡ false → picked ≡ picks t v → picked ≡ picks t (v ++ e ∷ [])
 pick_none t v picked e unserved was =
     was ∙ sym (append-nil (picks t v)) ∙ ap (λ (b : Bool). picks t v ++ cond b (e ∷ []) []) (sym unserved) ∙ sym (filter-append (is_served t) v (e ∷ []))

@@ -15,7 +15,7 @@ use Rattle.tib_weigh.specs.Tables.{IsTable}
 use Rattle.tib_weigh.specs.Shapes.{IsShape, IsIndex}
 use Rattle.tib_weigh.proofs.Flat.{same_or_less}
 
--- a table more
+-- one more table
 pub tables_more :
     (rules : List (Rule ℕ)) (n : ℕ) (ps : List ℕ) (k : ℕ) (old new : List Table) (made : Table) → new ≡ old ++ made ∷ [] → length old ≡ k → IsTable rules n ps k made →
     ((j : ℕ) (t : Table) → j < k → t ≡ get_or old j t → IsTable rules n ps j t) → (j : ℕ) (t : Table) → j < k + 1 → t ≡ get_or new j t → IsTable rules n ps j t
@@ -27,7 +27,7 @@ tables_more rules n ps k old new made pushed long is each j t h at = by (same_or
         subst (λ x. IsTable rules n ps j x) (sym t_is) (subst (λ i. IsTable rules n ps i made) (sym same) is)
     by (inr lt) = each j t lt (at ∙ ap (λ (xs : List Table). get_or xs j t) pushed ∙ get_or_append_left old (made ∷ []) t j (omega arith))
 
--- a shape more
+-- one more shape
 pub index_more :
     (product : ℕ → ℕ → ℕ) (rules : List (Rule ℕ)) (look new : ℕ × ℕ → Option Shape) (g m : ℕ) (made : Shape) → ((t : ℕ × ℕ) → new t ≡ cond (same_shape (g, m) t) (Some made) (look t)) →
     IsShape product rules g m made → ((f n : ℕ) (s : Shape) → look (f, n) ≡ Some s → IsShape product rules f n s) → (f n : ℕ) (s : Shape) → new (f, n) ≡ Some s → IsShape product rules f n s

@@ -127,7 +127,7 @@ all_none value at new blank = record { tried = λ e r h. absurd h; from = λ q c
     none_some : (o : Option ℕ) (c : ℕ) → o ≡ None → o ≡ Some c → ⊥
     none_some o c a b = absurd (cc (sym a ∙ b))
 
--- the slot of one entry more was tried
+-- the slot of one more entry was tried
 pub all_more :
     (value : Ready → Option ℕ) (v : List Entry) (e : Entry) (at : ℕ → List Ready) (rs : List Ready) (mid new : ℕ → Option ℕ) → rs ≡ at e.state → HasTried value e.state rs mid new → HasTriedAll value v at mid →
     HasTriedAll value (v ++ e ∷ []) at new
@@ -166,7 +166,7 @@ all_cut product [] vs = omega arith
 all_cut product (q ∷ qs) [] = tt
 all_cut product (q ∷ qs) (v ∷ vs) = times_cut product (cost_in v q) (times_all product qs vs)
 
--- behind the place the product is that of all
+-- after the place the product is that of all
 beside_behind : (product : ℕ → ℕ → ℕ) (j i : ℕ) (qs : List ℕ) (vs : List (List Entry)) → j < i → times_beside product j i qs vs ≡ times_all product qs vs
 beside_behind product j i [] vs h = refl
 beside_behind product j i (q ∷ qs) [] h = refl
@@ -252,7 +252,7 @@ beside-step product j qs vs i h k l =
     let s : suc (i - 1) ≡ i = omega arith in
     rw (drop_more qs (i - 1) 0 (omega arith), drop_more vs (i - 1) [] (omega arith), e, s) refl
 
--- where the product behind is none, so is that of all
+-- where the product after is none, so is that of all
 beside-none :
     (product : ℕ → ℕ → ℕ) (j i k : ℕ) (qs : List ℕ) (vs : List (List Entry)) → k ≤ length qs → k ≤ length vs → times_beside product j (i + k) (drop k qs) (drop k vs) ≡ None → times_beside product j i qs vs ≡ None
 beside-none product j i zero qs vs h l e = let z : i + 0 ≡ i = omega arith in subst (λ m. times_beside product j m qs vs ≡ None) z e
@@ -263,7 +263,7 @@ beside-none product j i (suc k) (q ∷ qs) (v ∷ vs) h l e =
     let behind : times_beside product j (suc i + k) (drop k qs) (drop k vs) ≡ None = subst (λ n. times_beside product j n (drop k qs) (drop k vs) ≡ None) m e in
     rw (beside-none product j (suc i) k qs vs (omega arith) (omega arith) behind) (times-none product (if nat_eq i j then Some 0 else cost_in v q))
 
--- one hole more, at the place
+-- one more hole, at the place
 pub hole_at_place :
     {levelled weighted : Bool} {product : ℕ → ℕ → ℕ} → ProductLaws levelled weighted product → (stack : List (Vec Entry)) (hs : List (Item ℕ)) (j i p : ℕ) → 0 < i → i ≤ length hs → length hs ≤ length stack → i - 1 ≡ j →
     Some p ≡ times_beside product j i (drop i (map state_in hs)) (drop i (vectors stack)) →
@@ -276,7 +276,7 @@ hole_at_place {product = product} laws stack hs j i p h k l here before =
     ∙ sym (times_neutral laws (times_beside product j i (drop i (map state_in hs)) (drop i (vectors stack))) (beside_cut product j i (drop i (map state_in hs)) (drop i (vectors stack))))
     ∙ sym (step ∙ rw test refl)
 
--- one hole more, where its cost was looked up
+-- one more hole, where its cost was looked up
 pub hole_beside :
     (product : ℕ → ℕ → ℕ) (stack : List (Vec Entry)) (hs : List (Item ℕ)) (j i : ℕ) (r : Vec Entry) (looked : Option ℕ) (p : ℕ) → 0 < i → i ≤ length hs → length hs ≤ length stack → (i - 1 ≡ j → ⊥) →
     Each IsAscending (vectors stack) → r ≡ get_or stack (length stack - 1 - (i - 1)) r → looked ≡ cost_in r.items (state_in (get_or hs (i - 1) (Label 0 0))) →

@@ -25,7 +25,8 @@ AreRules rules n ps = (i : ℕ) → i < length ps → IsRuleOver rules n (get_or
 abbrev pub AgreeBeside : List (Rule ℕ) → ℕ → ℕ → ℕ → ℕ → Type 0
 AgreeBeside rules n j p q = (i : ℕ) → i < n → (i ≡ j → ⊥) → state_below rules p i ≡ state_below rules q i
 
--- r is the rule at its position, made ready for the child place j; the rule of its rest has the same states beside j
+-- r is the rule at its position, made ready for the child place j; the rule of its rest has the
+-- same states beside j
 pub record IsReady (rules : List (Rule ℕ)) (n j : ℕ) (r : Ready) : Type 0 where
   pub left : r.left ≡ (rule_at rules r.position).left
   pub cost : r.cost ≡ (rule_at rules r.position).cost
@@ -36,13 +37,13 @@ pub record IsReady (rules : List (Rule ℕ)) (n j : ℕ) (r : Ready) : Type 0 wh
 abbrev pub lists_of : List (Vec Ready) → List (List Ready)
 lists_of slots = map (λ s. s.items) slots
 
--- the slots that start at these places, each with what stands before the next one's start
+-- the slots that start at these places, each with what comes before the next one's start
 abbrev pub slots_of : List ℕ → List Ready → List (List Ready)
 slots_of [] rs = []
 slots_of (a ∷ []) rs = []
 slots_of (a ∷ b ∷ more) rs = slice_range rs a b ∷ slots_of (b ∷ more) rs
 
--- none of these places is behind the next one, nor behind the first n
+-- none of these places is after the next one, nor after the first n
 pub record IsParting (starts : List ℕ) (n : ℕ) : Type 0 where
   pub ordered : (s : ℕ) → s + 1 < length starts → get_or starts s 0 ≤ get_or starts (s + 1) 0
   pub within : (s : ℕ) → s < length starts → get_or starts s 0 ≤ n
@@ -51,16 +52,16 @@ pub record IsParting (starts : List ℕ) (n : ℕ) : Type 0 where
 abbrev pub slot_at : List (List Ready) → ℕ → List Ready
 slot_at slots q = get_or slots (q % length slots) []
 
--- the rule at p stands in a list
+-- the rule at p is in a list
 pub record Stands (rs : List Ready) (p : ℕ) : Type 0 where
   pub ready : Ready
   pub has : Has rs ready
   pub is : ready.position ≡ p
 
--- each rule at these positions stands in the slot of its state at the child place j
+-- each rule at these positions is in the slot of its state at the child place j
 abbrev pub HoldsAll : List (Rule ℕ) → ℕ → List ℕ → List (List Ready) → Type 0
 HoldsAll rules j ps slots = (p : ℕ) → Has ps p → Stands (slot_at slots (state_below rules p j)) p
 
--- nothing else stands in a slot
+-- nothing else is in a slot
 abbrev pub HoldsOnly : List (Rule ℕ) → ℕ → ℕ → List ℕ → List (List Ready) → Type 0
 HoldsOnly rules n j ps slots = (s : ℕ) (r : Ready) → Has (get_or slots s []) r → Has ps r.position × IsReady rules n j r

@@ -1,5 +1,5 @@
--- Small values on which the definitions are computed. The label 0 is S, 1 is a and 2 is b; from the nested side on 0 is
--- f, 1 is g, 2 is a and 3 is b.
+-- Small values on which the definitions are computed. The label 0 is S, 1 is a and 2 is b; from the
+-- nested side on 0 is f, 1 is g, 2 is a and 3 is b.
 use Rattle.std.specs.Prelude.{ℕ, List, [], ◌∷◌}
 use Rattle.tib_tree.specs.Trees.{Tree, Trees, none, tree}
 use Rattle.tib_grammar.specs.Sides.{label, hole, over, Lone, Side as SideFor}

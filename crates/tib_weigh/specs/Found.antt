@@ -8,7 +8,8 @@ use Rattle.tib_weigh.specs.declared.found.Found.{Found}
 abbrev pub cost_of : Found → ℕ → Option ℕ
 cost_of f q = get_or f.costs.items q None
 
--- there is a mark for each state, and the words of marks are few enough that 32 bits number the states
+-- there is a mark for each state, and the words of marks are few enough that 32 bits number the
+-- states
 pub record HasMarks (f : Found) : Type 0 where
   pub wide : length f.costs.items ≤ 64 * length f.marks.items
   pub few : length f.marks.items ≤ 67108864

@@ -12,7 +12,8 @@ use Rattle.tib_weigh.specs.declared.vector.Entry.{Entry}
 use Rattle.tib_weigh.specs.declared.ready.Ready.{Ready}
 use Rattle.tib_weigh.specs.declared.trying.Rest.{Rest}
 
--- the product of the costs at the states, each in its own vector, but for the place j; the first place is i
+-- the product of the costs at the states, each in its own vector, but for the place j; the first
+-- place is i
 abbrev pub times_beside : (ℕ → ℕ → ℕ) → ℕ → ℕ → List ℕ → List (List Entry) → Option ℕ
 times_beside product j i [] vs = Some 0
 times_beside product j i (q ∷ qs) [] = None

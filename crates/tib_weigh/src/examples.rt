@@ -11,7 +11,7 @@ ghost use Rattle.tib_grammar.specs.Forms.{AreNormal, IsNormalSide};
 ghost use Rattle.tib_normal.specs.NormalForm.{IsChain, chain_cost, IsDistance, heads, inner_rules, all_inner, first_inner, rule_parts, normal_parts, IsNormalForm};
 ghost use Rattle.tib_weigh.specs.Examples.{table, pair, side, binary, run, two_ways, nested_side, nested, places, normal_rules};
 
-/// Trees, and the texts behind their labels.
+/// Trees, and the texts of their labels.
 pub fn trees_compute()
     ensures size { size pair ≡ 3 }
     ensures preorder { preorder_of pair ≡ (0, 2) ∷ (1, 0) ∷ (1, 0) ∷ [] }
@@ -21,7 +21,7 @@ pub fn trees_compute()
     ensures labels { HasLabels table pair }
 {}
 
-/// Sides, what their holes carry, and what stands in place of the holes.
+/// Sides, what their holes carry, and what is in place of the holes.
 pub fn sides_compute()
     ensures holes { holes_of side ≡ 0 ∷ 1 ∷ [] }
     ensures fill { fill (only side) (tree 1 none (tree 2 none none))
@@ -52,7 +52,8 @@ pub fn runs_compute()
     ensures greatest { cost max binary run ≡ 2 }
 {}
 
-/// The series: of two runs that yield S(a a), at 7 and at 5 by their sums, the cheaper one gives it.
+/// The series: of two runs that yield S(a a), at 7 and at 5 by their sums, the cheaper one gives
+/// it.
 pub fn series_compute()
     ensures normal { AreNormal two_ways }
     ensures sum { IsSeries ◌+◌ two_ways pair (Some 5) }

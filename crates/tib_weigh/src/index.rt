@@ -1,4 +1,5 @@
-// The rules of a grammar in normal form by label and rank, and then by the states of each child place.
+// The rules of a grammar in normal form by label and rank, and then by the states of each child
+// place.
 ghost use Rattle.std.specs.Prelude.{◌≡◌, ℕ, ◌+◌, ◌-◌, ◌<◌, ◌≤◌, length, IfOk, IfSome, List, []};
 ghost use Rattle.tib_lex.specs.Lists.{Each};
 ghost use Rattle.tib_grammar.specs.declared.Rule.{Rule};
@@ -99,7 +100,7 @@ impl Shape {
         &self.leaf
     }
 
-    // The child place whose states leave the fewest rules, as far as their number tells.
+    // The child place whose states leave the fewest rules, as far as their number says.
     fn best_place(&self, stack: &[Vec<Entry>]) -> usize
         requires some { 0 < length self.now.tables.items }
         requires enough { length self.now.tables.items ≤ length stack.now }
@@ -117,8 +118,8 @@ impl Shape {
         best
     }
 
-    /// Puts the vector of a node with children over the trees on top of the stack into an empty one. Only the rules are
-    /// tried that one child can serve.
+    /// Puts the vector of a node with children over the trees on top of the stack into an empty
+    /// one. Only the rules are tried that one child can serve.
     pub(crate) fn put_vector<S: Semiring>(
         &self,
         rules: &[Rule<u32>],
@@ -165,7 +166,7 @@ pub(crate) struct Index {
 }
 
 impl Index {
-    /// The index that has nothing.
+    /// The empty index.
     pub(crate) fn empty(alloc: Global) -> Index
         ensures { (product : ℕ → ℕ → ℕ) → (rules : List (Rule ℕ)) → IsIndex product rules result }
     {
@@ -193,7 +194,8 @@ impl Index {
         Ok(())
     }
 
-    /// The index of all rules of a grammar. It takes time and memory in proportion to the items of the rules.
+    /// The index of all rules of a grammar. It takes time and memory in proportion to the items of
+    /// the rules.
     pub(crate) fn new<S: Semiring>(alloc: Global, normal: &Normal<S>) -> Result<Index, AllocError>
         ensures { IfOk result (IsIndex S.product normal.now.rules) }
     {

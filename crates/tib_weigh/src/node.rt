@@ -26,8 +26,8 @@ fn times<S: Semiring>(a: Option<Cost>, b: Option<Cost>) -> Option<Cost>
     }
 }
 
-// The product of the costs of the last trees of the stack at the states of the holes. It ends at the first state that
-// has no cost.
+// The product of the costs of the last trees of the stack at the states of the holes. It ends at
+// the first state that has no cost.
 fn product_of<S: Semiring>(holes: &[Item<u32>], stack: &[Vec<Entry>]) -> Option<Cost>
     requires enough { length holes.now ≤ length stack.now }
     requires ascend { Each IsAscending (vectors stack.now) }
@@ -73,8 +73,8 @@ fn add_rule<S: Semiring>(
     }
 }
 
-/// Puts the vector of a node of a label and a rank over the trees on top of the stack into an empty one. The positions are
-/// those of all rules of this label and rank.
+/// Puts the vector of a node of a label and a rank over the trees on top of the stack into an empty
+/// one. The positions are those of all rules of this label and rank.
 pub(crate) fn put_node_vector<S: Semiring>(
     rules: &[Rule<u32>],
     positions: &[u32],

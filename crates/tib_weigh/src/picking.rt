@@ -6,7 +6,7 @@ use crate::table::Table;
 use crate::vector::Entry;
 use std::alloc::AllocError;
 
-// Has a list be as long as a vector.
+// Makes a list as long as a vector, if it is shorter.
 fn make_room(picked: &mut Vec<Entry>, vector: &[Entry]) -> Result<(), AllocError>
     ensures { IfOk result (λ _. length vector.now ≤ length picked.new.items) }
 {
@@ -16,9 +16,10 @@ fn make_room(picked: &mut Vec<Entry>, vector: &[Entry]) -> Result<(), AllocError
     Ok(())
 }
 
-/// Puts the entries of a vector for whose states a table has rules in front of what a list holds already, in their order, and
-/// tells how many they are. Each entry is put there, and the next takes its place where the table has nothing for it: so no
-/// branch hangs on that, which a processor would guess wrong every other time.
+/// Puts the entries of a vector for whose states a table has rules in front of what a list holds
+/// already, in their order, and returns how many they are. Each entry is put there, and the next
+/// one overwrites it where the table has nothing for it: so no branch depends on that, which a
+/// processor would mispredict every other time.
 #[inline(never)]
 pub(crate) fn pick(
     table: &Table,

@@ -6,7 +6,7 @@ ghost use Rattle.tib_weigh.specs.Halves.{nodes_among, half_of, AreFirstWith, IsW
 use std::thread::{Threads, available_parallelism};
 use tib_tree::Tree;
 
-/// How few nodes are worth a thread of their own.
+/// The least number of nodes that is worth a thread of its own.
 pub const LEAST_PIECE: usize = 1024;
 
 // How many nodes the tree has.
@@ -42,9 +42,10 @@ fn first_with(trees: &[Tree], nodes: usize) -> usize
     n
 }
 
-/// Where to part the trees into two pieces of about as many nodes, each for a thread of its own: how many trees the first
-/// piece has, the fewest with half of the nodes. None exactly where they are not to be parted `times` times more, are fewer
-/// than two, or have too few nodes for two pieces of the `least` number. Takes no memory. Worst case: O(n) steps for n trees.
+/// Where to split the trees into two pieces of about as many nodes, each for a thread of its own:
+/// how many trees the first piece has, the fewest with half of the nodes. None exactly where
+/// `times` is 0, or there are fewer than two trees or too few nodes for two pieces of the `least`
+/// number. Takes no memory. Worst case: O(n) steps for n trees.
 pub fn middle_of(trees: &[Tree], times: u32, least: usize) -> Option<usize>
     ensures within { IfSome result (λ n. (0 < times) × (1 ≤ n) × (n < length trees.now)) }
     ensures half { IfSome result (λ n. (least ≤ half_of trees.now)
@@ -61,8 +62,8 @@ pub fn middle_of(trees: &[Tree], times: u32, least: usize) -> Option<usize>
     Some(first_with(trees, half))
 }
 
-/// How many times trees are parted for all processors: into four pieces for each, up to 32 of these, since pieces differ in
-/// length. Takes no memory.
+/// How many times trees are split for all processors, from 2 to 7: into four pieces for each of up
+/// to 32 processors, since pieces differ in length. Takes no memory.
 pub fn halvings<R: Threads>(rt: &R) -> u32
     ensures { (2 ≤ result) × (result ≤ 7) }
 {

@@ -6,8 +6,9 @@ ghost use Rattle.tib_grammar.specs.Items.{state_in};
 use tib_cost::Cost;
 use tib_grammar::Item;
 
-/// A rule with all that it takes to try it where the state at the child place has a cost. The `rest` is the position of a
-/// rule that has the same states at all other places, mostly of the one before, so that their product is taken once.
+/// A rule with all that it takes to try it where the state at the child place has a cost. The
+/// `rest` is the position of a rule that has the same states at all other places, mostly of the one
+/// before, so that their product is taken once.
 #[derive(Clone, Copy, Debug)]
 pub(crate) struct Ready {
     pub position: u32,

@@ -7,9 +7,10 @@ use crate::ready::{Ready, agree_beside};
 use std::alloc::{AllocError, Global};
 use tib_grammar::Rule;
 
-/// Some rules by the states at one of their child places. A state has the slot of its rest by the number of slots, so a
-/// slot may hold rules of further states too. The rules of all slots lie one behind the other, so that those that are
-/// looked at one after another are near in memory; a slot ends where the next one starts.
+/// Some rules by the states at one of their child places. The slot of a state is its number modulo
+/// the number of slots, so a slot may hold rules of further states too. The rules of all slots are
+/// stored one slot after the other, so that those that are read in turn are near in memory; a slot
+/// ends where the next one starts.
 #[derive(Drop)]
 pub(crate) struct Slots {
     starts: Vec<usize>,
@@ -27,7 +28,7 @@ fn slot_of(state: u32, slots: usize) -> usize
     if state < slots { state } else { state % slots }
 }
 
-// Empty slots, as many as asked.
+// This number of empty slots.
 fn blank(alloc: Global, slots: usize) -> Result<Vec<Vec<Ready>>, AllocError>
     ensures many { IfOk result (λ v. vec_len v ≡ slots) }
     ensures empty { IfOk result (λ v. (s : ℕ) → get_or (lists_of v.items) s [] ≡ []) }
@@ -39,7 +40,8 @@ fn blank(alloc: Global, slots: usize) -> Result<Vec<Vec<Ready>>, AllocError>
     Ok(made)
 }
 
-// Of the rules at two positions the first, if it has the states of the second at all other places, else the second.
+// Of the rules at two positions the first, if it has the states of the second at all other places,
+// else the second.
 fn rest_of(rules: &[Rule<u32>], rest: u32, position: u32, place: usize, rank: u32) -> u32
     requires normal { AreNormal rules.now }
     requires rest { IsRuleOver rules.now rank rest }
@@ -93,7 +95,7 @@ fn filed(
     Ok(made)
 }
 
-// The rules of all slots, one slot behind the other.
+// The rules of all slots, one slot after the other.
 fn flattened(alloc: Global, lists: &[Vec<Ready>]) -> Result<Slots, AllocError>
     requires some { 0 < length lists.now }
     ensures { IfOk result (λ s. slots_of s.starts.items s.ready.items ≡ lists_of lists.now) }

@@ -12,8 +12,8 @@ use tib_grammar::Rule;
 // How many slots a table has at most for each of its rules.
 const SLOTS_A_RULE: usize = 4;
 
-/// Some rules by the states at one of their child places, how many there are of a state on average, and whether many slots
-/// have none.
+/// Some rules by the states at one of their child places, how many there are of a state on average,
+/// and whether many slots have none.
 #[derive(Drop)]
 pub(crate) struct Table {
     slots: Slots,
@@ -22,8 +22,8 @@ pub(crate) struct Table {
 }
 
 impl Table {
-    /// The table of some rules of one rank at a child place, in a grammar of this number of states. It takes time and memory in
-    /// proportion to the number of positions.
+    /// The table of some rules of one rank at a child place, in a grammar of this number of states.
+    /// It takes time and memory in proportion to the number of positions.
     pub(crate) fn new(
         alloc: Global,
         rules: &[Rule<u32>],
@@ -58,7 +58,7 @@ impl Table {
         self.is_sparse
     }
 
-    /// Whether there are such rules as `at` gives for a state.
+    /// Whether `at` gives any rule for a state.
     pub(crate) fn has(&self, state: u32) -> bool
         ensures { result ≡ nat_lt 0 (length (bucket self.now state)) }
     {

@@ -20,18 +20,19 @@ use std::alloc::AllocError;
 use tib_cost::{Cost, Semiring};
 use tib_grammar::{Item, Rule};
 
-// The fewest entries of a vector of which those with rules are put together first.
+// The fewest entries of a vector for which those with rules are collected first.
 const LEAST_PICKED: usize = 16;
 
-/// The product of the costs at all child places but one, for the states below the rule at a position.
+/// The product of the costs at all child places but one, for the states below the rule at a
+/// position.
 #[derive(Drop)]
 pub(crate) struct Rest {
     pub position: Option<u32>,
     pub cost: Option<Cost>,
 }
 
-// The product of the costs of the last trees of the stack at the states of the holes, but for one child place. It is taken once
-// for many rules, so it stands apart from the loop over these.
+// The product of the costs of the last trees of the stack at the states of the holes, but for one
+// child place. It is taken once for many rules, so it is separate from the loop over these.
 #[inline(never)]
 fn product_beside<S: Semiring>(
     holes: &[Item<u32>],
@@ -60,7 +61,8 @@ fn product_beside<S: Semiring>(
     Some(product)
 }
 
-// Finds the product beside the child place for the rule at a position, where it is not the one that is known.
+// Finds the product beside the child place for the rule at a position, where it is not the one that
+// is known.
 fn recall<S: Semiring>(
     last: &mut Rest,
     rules: &[Rule<u32>],
@@ -152,8 +154,8 @@ fn try_slot<S: Semiring>(
     Ok(())
 }
 
-// Tries the rules of a table at a child place for some entries of the vector there. It stands apart from its callers when it is
-// compiled, so that what its loop needs stays in registers.
+// Tries the rules of a table at a child place for some entries of the vector there. It is compiled
+// separately from its callers, so that what its loop needs stays in registers.
 #[inline(never)]
 fn try_entries<S: Semiring>(
     found: &mut Found,
@@ -188,8 +190,8 @@ fn try_entries<S: Semiring>(
     Ok(())
 }
 
-/// Tries the rules of a table at a child place that the vector there serves. The list is there for its room, and what it
-/// holds is of no account.
+/// Tries the rules of a table at a child place that the vector there serves. The list lends its
+/// room only: what it holds is ignored.
 pub(crate) fn try_table<S: Semiring>(
     found: &mut Found,
     picked: &mut Vec<Entry>,

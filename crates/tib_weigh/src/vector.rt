@@ -1,4 +1,5 @@
-// Sparse vectors of costs: an entry for each state that has a cost, in ascending order of the states.
+// Sparse vectors of costs: an entry for each state that has a cost, in ascending order of the
+// states.
 ghost use Rattle.std.specs.Prelude.{◌≡◌, ℕ, ◌+◌, ◌<◌, ◌≤◌, length, drop, min, IfOk, Some, nat_eq, if◌then◌else◌};
 ghost use Rattle.tib_cost.specs.Least.{lesser as lesser_of};
 ghost use Rattle.tib_lex.specs.Lists.{Each};

@@ -20,7 +20,8 @@ use tib_cost::{Cost, Semiring};
 use tib_normal::Normal;
 use tib_tree::{Label, Tree};
 
-// What is used again from node to node: the costs by state, the entries that are tried, and vectors that no tree needs any more.
+// What is reused from node to node: the costs by state, the entries that are tried, and vectors
+// that no tree needs any more.
 #[derive(Drop)]
 struct Room {
     found: Found,
@@ -68,8 +69,8 @@ impl Room {
     }
 }
 
-// Puts the vector of a node over the trees on top of the stack into an empty one, from what the index has for its label
-// and rank, else from all rules of these.
+// Puts the vector of a node over the trees on top of the stack into an empty one, from what the
+// index has for its label and rank, else from all rules of these.
 fn put_vector_at<S: Semiring>(
     normal: &Normal<S>,
     index: &Index,
@@ -104,8 +105,8 @@ fn put_vector_at<S: Semiring>(
     shape.put_vector::<S>(rules, rank, stack, found, picked, vector)
 }
 
-// The cost of a tree, with an index of the rules, which may lack some or all of them. In a bottom-up pass the vector of a
-// node holds the least cost from each state.
+// The cost of a tree, with an index of the rules, which may lack some or all of them. In a
+// bottom-up pass the vector of a node holds the least cost from each state.
 fn weigh_by<S: Semiring>(
     alloc: Global,
     normal: &Normal<S>,
@@ -145,7 +146,7 @@ fn weigh_by<S: Semiring>(
     Ok(cost)
 }
 
-// The index of the rules, or where the nodes are too few to be worth it the index of none.
+// The index of the rules, or the empty one where the nodes are too few to be worth it.
 fn index_for<S: Semiring>(
     alloc: Global,
     normal: &Normal<S>,
@@ -159,9 +160,11 @@ fn index_for<S: Semiring>(
     Index::new::<S>(alloc, normal)
 }
 
-/// The least cost at most 10^15 of a run of the grammar from its start that yields the tree, and None exactly where there
-/// is none (inside costs of weighted tree automata; Knuth 1977, Goodman 1999). For many trees `weigh_all` is cheaper: it
-/// indexes the rules once. Worst case: O(r k log s) steps at a node, for r rules of its label and rank k over s states.
+/// The least cost at most 10^15 of a run of the grammar from its start that yields the tree, and
+/// None exactly where there is none (inside costs of weighted tree automata; Knuth 1977, Goodman
+/// 1999). Err only if memory is refused. For many trees `weigh_all` is cheaper: it indexes the
+/// rules once. Worst case: O(r k log s) steps at a node, for r rules of its label and rank k over s
+/// states.
 pub fn weigh<S: Semiring>(
     alloc: Global,
     normal: &Normal<S>,
@@ -193,7 +196,8 @@ fn weigh_each<S: Semiring>(
     Ok(costs)
 }
 
-// Where to part the trees. A piece of fewer nodes than there are states is not worth its room, which has a place for each.
+// Where to split the trees. A piece of fewer nodes than there are states is not worth its room,
+// which has a place for each.
 fn middle_for<S: Semiring>(normal: &Normal<S>, trees: &[Tree], times: u32) -> Option<usize>
     ensures { IfSome result (λ n. (0 < times) × (1 ≤ n) × (n < length trees.now)) }
 {
@@ -201,7 +205,8 @@ fn middle_for<S: Semiring>(normal: &Normal<S>, trees: &[Tree], times: u32) -> Op
     middle_of(trees, times, LEAST_PIECE.max(states))
 }
 
-// The costs of the trees, in order. The work is halved by nodes `times` times, and each half has a thread of its own.
+// The costs of the trees, in order. The work is halved by nodes `times` times, and each half has a
+// thread of its own.
 #[cycle(halves)]
 fn weigh_halves<S: Semiring + Sync, R: Threads + Sync>(
     rt: &R,
@@ -238,8 +243,9 @@ fn weigh_halves<S: Semiring + Sync, R: Threads + Sync>(
     Ok(costs)
 }
 
-/// The costs of the trees, in order, found in several threads: each is what `weigh` gives. Worst case: the steps that
-/// `weigh` takes at each node, and one pass over the rules; each piece that has a thread takes room for a cost of each state.
+/// The costs of the trees, in order, found in several threads: each is what `weigh` gives. Err only
+/// if memory is refused. Worst case: the steps that `weigh` takes at each node, and one pass over
+/// the rules; each piece that has a thread takes room for a cost of each state.
 pub fn weigh_all<S: Semiring + Sync, R: Threads + Sync>(
     rt: &R,
     alloc: Global,
