@@ -33,7 +33,7 @@ any_none f k (suc m) h =
 lower : (n m : ℕ) → m ≤ n → (n ≡ m → ⊥) → m < n
 lower n m h d = elim (cases_lt m n) [ inl k ↦ k | inr k ↦ absurd (d (omega (arith, h, k))) ]
 
--- whether a word stands where one is read
+-- whether this word is at the place that is read
 pub stands_by : (gs : List ℕ) (i f g : ℕ) → true ≡ nat_lt i (length gs) → g ≡ get_or gs i 0 → nat_eq g f ≡ stands gs i f
 stands_by [] i f g h e = absurd (grind (arith, h))
 stands_by (x ∷ gs) zero f g h e = ap (λ y. nat_eq y f) e
@@ -103,7 +103,7 @@ module _ (string : List ℕ) where
       pub bound_here : (k : ℕ) → i + last < k → cuts_of string ws k j ≡ []
       bound_here k h = no_cuts ws j k (unmarked k h)
 
-      -- the row behind a pair
+      -- the row after a pair
       pub row_pair : (x : _) (new : List Bool) → PassesPair last row new → IsRow string (Hole x ∷ ws) i j new
       row_pair x new p = record {
         long = p.long ∙ is.long;
@@ -120,7 +120,7 @@ module _ (string : List ℕ) where
             | inr high ↦ let e : last ≡ q = omega (arith, h, high) in p.high q (omega (arith, high)) ∙ ap (λ n. get_or row n false) (sym e) ∙ l.marked
           ]
 
-    -- the row behind a word
+    -- the row after a word
     pub row_word : (ws : List (Token ℕ)) (row : List Bool) → IsRow string ws i j row → (f : ℕ) (new : List Bool) → PassesWord string i f row new → IsRow string (Word f ∷ ws) i j new
     row_word ws row is f new p = record {
       long = p.long ∙ is.long;
@@ -135,7 +135,7 @@ module _ (string : List ℕ) where
               | inr high ↦ past row (q + 1) false (omega (arith, high)) ∙ sym (beyond ws j (suc (i + q)) (omega (arith, high, is.long, up)))
             ]
 
-    -- one token more has its bound
+    -- one more token has its bound
     pub bounds_more :
         (ws : List (Token ℕ)) (p m : ℕ) (bs : List ℕ) (row : List Bool) (last : ℕ) → p ≡ suc m → length bs ≡ length ws → m < length ws → IsRow string (drop p ws) i j row → IsLast row last →
         ((n : ℕ) → p ≤ n → n < length ws → IsBound string ws j bs n) → (n : ℕ) → m ≤ n → n < length ws → IsBound string ws j (slice_set bs m (i + last)) n
@@ -160,7 +160,7 @@ module _ (string : List ℕ) where
         let z : i + 0 ≡ i = omega arith in
         no_cuts ws j i (ap (reaches string ws j) (sym z) ∙ sym (is.at 0 (omega (arith, is.long, up))) ∙ e)
 
--- the row behind one token more
+-- the row after one more token
 module _ (string : List ℕ) (ws : List (Token ℕ)) (i j : ℕ) (up : i ≤ j) (p m : ℕ) (e : p ≡ suc m) (b : m < length ws) (row new : List Bool) (is : IsRow string (drop p ws) i j row) where
   behind_is : (w : Token ℕ) → get_or ws m (Word 0) ≡ w → w ∷ drop p ws ≡ drop m ws
   behind_is w at = ap (λ q. w ∷ drop q ws) e ∙ sym (from_token ws m (Word 0) b ∙ ap (λ v. v ∷ drop (suc m) ws) at)

@@ -119,7 +119,7 @@ module _ (string : List ℕ) where
   spans_long (Word f ∷ ws) i j (k ∷ ks) c = spans_long ws k j ks c.1
   spans_long (Hole x ∷ ws) i j (k ∷ ks) c = ap suc (spans_long ws k j ks c.1)
 
-  -- over the places of a cut the list puts out what stands between its ends
+  -- over the places of a cut the list outputs what is between its ends
   pub cut_puts : (ws : List (Token ℕ)) (i j : ℕ) (ks : List ℕ) → IsCut string ws i j ks → put ws (map (text_in string) (spans ws i ks)) ≡ between string i j
   cut_puts [] i j [] c = sym (between_none string i) ∙ ap (λ n. between string i n) c
   cut_puts [] i j (k ∷ ks) c = absurd c
@@ -132,7 +132,7 @@ module _ (string : List ℕ) where
   cut_puts (Hole x ∷ ws) i j (k ∷ ks) c =
       ap (λ (z : List ℕ). between string i k ++ z) (cut_puts ws k j ks c.1) ∙ between_join string i k j c.0 (cut_up ws k j ks c.1)
 
-  -- a cut where the pairs stand over some strings
+  -- a cut in which the pairs have some strings
   pub record FoundCut (ws : List (Token ℕ)) (ss : List (List ℕ)) (i j : ℕ) : Type 0 where
     pub cut : List ℕ
     pub is_cut : IsCut string ws i j cut

@@ -1,4 +1,5 @@
--- A tree-to-string transducer file has one first fault at most, and none where it is the text of a transducer.
+-- A tree-to-string transducer file has one first fault at most, and none where it is the text of a
+-- transducer.
 use Rattle.tib_cost.specs.declared.Scale.{Scale}
 use Rattle.std.proofs.Common.{◌≡◌, ℕ, ◌+◌, List, [], ◌∷◌, length, sym, ◌∙◌, arith}
 use Rattle.std.specs.Prelude.{Ok, Err}

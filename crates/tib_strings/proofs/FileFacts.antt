@@ -20,7 +20,7 @@ fault_same fault n kind l k =
     let what : kind ≡ fault.kind = sym k in
     λ i. record { line = line i; kind = what i }
 
--- lines behind that of the string
+-- lines after that of the string
 abbrev pub RestHolds : ℕ → List (List ℕ) → Option FileFault → Type 0
 RestHolds n lines None = Each IsBlank lines
 RestHolds n lines (Some fault) = FaultBehind n lines fault

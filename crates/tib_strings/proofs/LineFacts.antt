@@ -70,7 +70,7 @@ line_is line (Err kinds.UnknownVariable) h = absurd h
 line_is line (Err kinds.NotWhole) h = absurd h
 line_is line (Err kinds.WeightTooLarge) h = absurd h
 
--- lines behind that of the string
+-- lines after that of the string
 abbrev pub MoreHolds : List ℕ → Option FaultKind → Type 0
 MoreHolds line None = IsBlank line
 MoreHolds line (Some kind) = HasMore line kind

@@ -1,4 +1,5 @@
--- Bytes that are the text of two transducers, each over a table of its own, are that of one by the texts of labels.
+-- Bytes that are the text of two transducers, each over a table of its own, are that of one by the
+-- texts of labels.
 use Rattle.tib_cost.specs.declared.Scale.{Scale}
 use Rattle.std.proofs.Common.{◌≡◌, ℕ, false, List, [], ◌∷◌, sym, ◌∙◌}
 use Rattle.tib_lex.specs.Lines.{lines_of}

@@ -1,5 +1,5 @@
--- A file that was read over one table of labels is read over another one: over each to which that has grown, with the same numbers,
--- and over one to which any other has grown.
+-- A file that was read over one table of labels is read over another one: over each to which that
+-- has grown, with the same numbers, and over one to which any other has grown.
 use Rattle.tib_cost.specs.declared.Scale.{Scale}
 use Rattle.std.proofs.Common.{ℕ, inl, inr, List, [], ◌∷◌, refl, arith}
 use Rattle.tib_tree.specs.Grows.{Grows, Adds, AddsAll, AreDistinct}

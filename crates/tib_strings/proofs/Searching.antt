@@ -53,7 +53,7 @@ module _ (string : List ℕ) (ws : List (Token ℕ)) (i j : ℕ) (bounds : List 
   back_new : (k : ℕ) (new : List ℕ) → new ≡ ks ++ k ∷ [] → back new ≡ k ∷ rs
   back_new k new e = ap back e ∙ back_more ks k
 
-  -- a word that stands
+  -- a word that is in its place
   pub on_word : (f : ℕ) (new : List ℕ) → get_or ws n (Word 0) ≡ Word f → stands string (top i rs) f ≡ true → new ≡ ks ++ suc (top i rs) ∷ [] → GoesOn string ws i j ks new true
   on_word f new at s e = (
     one_longer (suc (top i rs)) new e,
@@ -78,7 +78,7 @@ module _ (string : List ℕ) (ws : List (Token ℕ)) (i j : ℕ) (bounds : List 
     hole_none string ws i j rs x (drop (suc n) ws) (from_here (Hole x) at) next_here (λ m h. (b.each n open_).1 m (omega (arith, high, h))),
   )
 
-  -- a token behind which nothing goes on otherwise
+  -- a token after which nothing goes on otherwise
   pub stays : (k : ℕ) (w : Token ℕ) → get_or ws n (Word 0) ≡ w → can_go w k (get_or bounds n 0) ≡ false → behind string ws i j (k ∷ rs) ≡ behind string ws i j rs
   stays k (Word f) at c = word_behind string ws i j rs f (drop (suc n) ws) (from_here (Word f) at) next_here k
   stays k (Hole x) at c =

@@ -44,7 +44,7 @@ no_places f k (suc m) h =
     ap (λ (xs : List (List ℕ)). map (λ (l : List ℕ). k ∷ l) xs ++ over_places f (suc k) m) (h k (omega arith))
     ∙ no_places f (suc k) m (λ n b. h n (omega (arith, b)))
 
--- a token at a position, and those behind it
+-- a token at a position, and those after it
 pub from_token : (ws : List (Token ℕ)) (n : ℕ) (d : Token ℕ) → n < length ws → drop n ws ≡ get_or ws n d ∷ drop (suc n) ws
 from_token [] n d b = absurd (omega arith)
 from_token (w ∷ ws) zero d b = refl
@@ -74,7 +74,7 @@ module _ (string : List ℕ) (ws : List (Token ℕ)) (i j : ℕ) where
     come_none e = ap (λ (xs : List (List ℕ)). xs ++ behind string ws i j rs) e
 
     module _ (f : ℕ) (rest : List (Token ℕ)) (at : drop (length rs) ws ≡ Word f ∷ rest) (next : drop (suc (length rs)) ws ≡ rest) where
-      -- a word that stands takes one place
+      -- a word that is in its place takes one place
       pub word_next : stands string (top i rs) f ≡ true → to_come string ws i j rs ≡ to_come string ws i j (suc (top i rs) ∷ rs)
       word_next s =
           let k = top i rs in
@@ -87,13 +87,13 @@ module _ (string : List ℕ) (ws : List (Token ℕ)) (i j : ℕ) where
           in
           ap (λ xs. plug rs xs ++ behind string ws i j rs) now ∙ ap (λ (xs : List (List ℕ)). inside string ws i j (suc k ∷ rs) ++ xs) (sym no_more)
 
-      -- one that does not stand has none
+      -- one that is not has none
       pub word_none : stands string (top i rs) f ≡ false → inside string ws i j rs ≡ []
       word_none s =
           let k = top i rs in
           inside_none (ap (λ vs. cuts_of string vs k j) at ∙ ap (λ b. if b then map (λ (l : List ℕ). suc k ∷ l) (cuts_of string rest (suc k) j) else []) s)
 
-      -- behind a word nothing goes on otherwise
+      -- after a word nothing goes on otherwise
       pub word_behind : (k : ℕ) → behind string ws i j (k ∷ rs) ≡ behind string ws i j rs
       word_behind k = ap (λ vs. plug rs (further string ws i j vs k) ++ behind string ws i j rs) at ∙ ap (λ (xs : List (List ℕ)). xs ++ behind string ws i j rs) (plug_none rs)
 
@@ -123,11 +123,11 @@ module _ (string : List ℕ) (ws : List (Token ℕ)) (i j : ℕ) where
       hole_next b =
           ap (λ vs. plug rs (cuts_of string vs (top i rs) j) ++ behind string ws i j rs) at ∙ at_place (top i rs) (suc j - top i rs) (omega (arith, b))
 
-      -- a pair takes one place more
+      -- a pair takes one more place
       pub hole_further : (k : ℕ) → k < j → behind string ws i j (k ∷ rs) ≡ to_come string ws i j (suc k ∷ rs)
       hole_further k b = same_behind k ∙ at_place (suc k) (j - k) (omega (arith, b))
 
-      -- behind a bound a pair leads nowhere
+      -- beyond a bound a pair leads nowhere
       pub hole_none : ((m : ℕ) → top i rs ≤ m → goes m ≡ []) → inside string ws i j rs ≡ []
       hole_none h = inside_none (ap (λ vs. cuts_of string vs (top i rs) j) at ∙ no_places goes (top i rs) (suc j - top i rs) h)
 

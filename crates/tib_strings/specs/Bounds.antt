@@ -5,8 +5,8 @@ use Rattle.std.proofs.Common.{suc, get_or}
 use Rattle.tib_strings.specs.declared.Word.{Word as Token}
 use Rattle.tib_strings.specs.CutLists.{stands, cuts_of, reaches}
 
--- From the token at each position n on, up to the end, there is a bound for the places where it may end, within the string's part: behind it no
--- list of places reaches j.
+-- From the token at each position n on, up to the end, there is a bound for the places where it may
+-- end, within the string's part: beyond it no list of places reaches j.
 abbrev pub IsBound : List ℕ → List (Token ℕ) → ℕ → List ℕ → ℕ → Type 0
 IsBound string ws j bounds n = (get_or bounds n 0 ≤ j) × ((k : ℕ) → get_or bounds n 0 < k → cuts_of string (drop (suc n) ws) k j ≡ [])
 

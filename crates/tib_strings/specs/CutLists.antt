@@ -5,7 +5,7 @@ use Rattle.tib_strings.specs.declared.Word.{Word as Token}
 use Rattle.tib_strings.specs.declared.Word.TheVariants.{Word, Hole}
 use Rattle.tib_strings.specs.Cuts.{IsCut}
 
--- f stands at position i of the list
+-- f is at position i of the list
 abbrev pub stands : List ℕ → ℕ → ℕ → Bool
 stands [] i f = false
 stands (g ∷ gs) zero f = nat_eq g f
@@ -16,7 +16,8 @@ abbrev pub over_places : (ℕ → List (List ℕ)) → ℕ → ℕ → List (Lis
 over_places f k zero = []
 over_places f k (suc m) = map (λ (ks : List ℕ). k ∷ ks) (f k) ++ over_places f (suc k) m
 
--- the cuts of a list from i to j: a word has one step at most, a pair one to each place from its own to the last
+-- the cuts of a list from i to j: a word has one step at most, a pair one to each place from its
+-- own to the last
 abbrev pub cuts_of : List ℕ → List (Token ℕ) → ℕ → ℕ → List (List ℕ)
 cuts_of string [] i j = if nat_eq i j then [] ∷ [] else []
 cuts_of string (Word f ∷ ws) i j = if stands string i f then map (λ (ks : List ℕ). suc i ∷ ks) (cuts_of string ws (suc i) j) else []
@@ -27,7 +28,8 @@ abbrev pub any_from : (ℕ → Bool) → ℕ → ℕ → Bool
 any_from f k zero = false
 any_from f k (suc m) = if f k then true else any_from f (suc k) m
 
--- the list has a cut from i to j; for one j and each end of the list this is a row of a table over the places
+-- the list has a cut from i to j; for one j and each end of the list this is a row of a table over
+-- the places
 abbrev pub reaches : List ℕ → List (Token ℕ) → ℕ → ℕ → Bool
 reaches string [] j i = nat_eq i j
 reaches string (Word f ∷ ws) j i = if stands string i f then reaches string ws j (suc i) else false

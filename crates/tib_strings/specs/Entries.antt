@@ -82,7 +82,7 @@ list_found tokens is e = by (is_mark_alone tokens) (list_all is_entry tokens) re
     by false true m l e = inr (subst (λ (js : List Item). Along IsEntry tokens js) (some_is e) (entries_of tokens l))
     by false false m l e = let bad : None ≡ Some is = e in absurd (cc)
 
--- lists that no mark stands alone in are read word by word
+-- lists other than a lone mark are read word by word
 pub list_of_entries : (tokens : List Word) → is_mark_alone tokens ≡ false → list_all is_entry tokens ≡ true → list_in tokens ≡ Some (map item_of tokens)
 list_of_entries tokens m l = rw (m, l) refl
 

@@ -13,14 +13,16 @@ abbrev pub AreAmong : List ℕ → List Variable → Type 0
 AreAmong numbers [] = Unit {0}
 AreAmong numbers (x ∷ xs) = Has numbers x.number × AreAmong numbers xs
 
--- the rule has the fault, and no earlier one; the other faults are none to tree-to-string transducers
+-- the rule has the fault, and no earlier one; the other faults are none to tree-to-string
+-- transducers
 abbrev pub HasFault : ClassFault → StringRule ℕ → Type 0
 HasFault NotLinear r = IsLinear r → ⊥
 HasFault NotNondeleting r = IsLinear r × (IsNondeleting r → ⊥)
 HasFault Extended r = ⊥
 HasFault Labelled r = ⊥
 
--- the rule with the number n, from 1, has the fault, and the rules before it are linear and nondeleting
+-- the rule with the number n, from 1, has the fault, and the rules before it are linear and
+-- nondeleting
 pub record IsFirstFault (rules : List (StringRule ℕ)) (n : ℕ) (fault : ClassFault) : Type 0 where
   pub from : 1 ≤ n
   pub to : n ≤ length rules

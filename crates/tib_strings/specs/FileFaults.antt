@@ -1,4 +1,5 @@
--- What is wrong with bytes that are no tree-to-string transducer's text, in the words of the format.
+-- What is wrong with bytes that are no tree-to-string transducer's text, in the words of the
+-- format.
 use Rattle.tib_cost.specs.declared.Scale.{Scale}
 use Rattle.std.specs.Prelude.{ℕ, List}
 use Rattle.tib_lex.specs.declared.fault.FileFault.{FileFault}

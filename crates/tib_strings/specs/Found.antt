@@ -41,7 +41,7 @@ IsRest wanted (Ok done) = wanted ≡ None
 IsRest wanted (Err (errors.Fault fault)) = wanted ≡ Some fault
 IsRest wanted (Err errors.OutOfMemory) = Unit {0}
 
--- the line of a string was found, and what its file gives rests on the lines behind it
+-- the line of a string was found, and what its file gives rests on the lines after it
 pub record FoundString (bytes : List ℕ) (tokens : List Token) (line : Line) : Type 0 where
   pub at : ℕ
   pub next : IsNextLine bytes line.number at line

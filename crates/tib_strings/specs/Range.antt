@@ -7,8 +7,8 @@ use Rattle.tib_transducer.specs.Range.{BeginsWithLabel, AreNumbered}
 use Rattle.tib_strings.specs.Rules.{string_rule, states_in, variables_in}
 use Rattle.tib_strings.specs.declared.StringRule.{StringRule}
 
--- The left side begins with a label, and numbers its variables from 0 in preorder; the right side has no variable that
--- the left side lacks.
+-- The left side begins with a label, and numbers its variables from 0 in preorder; the right side
+-- has no variable that the left side lacks.
 pub record IsShaped {P : Type 0} (r : StringRule P) : Type 0 where
   pub begins : BeginsWithLabel r.left
   pub numbered : AreNumbered 0 (variables_of r.left)
@@ -25,11 +25,11 @@ IsWithin n r = (r.state < n) × AllBelow n (states_in r.right)
 abbrev pub AreWithin : ℕ → List (StringRule ℕ) → Type 0
 AreWithin n rules = (m : ℕ) → m < length rules → IsWithin n (string_rule rules m)
 
--- no variable stands twice on the right
+-- no variable occurs twice on the right
 abbrev pub IsLinear : {P : Type 0} → StringRule P → Type 0
 IsLinear r = Distinct (variables_in r.right)
 
--- each variable of the left side stands on the right
+-- each variable of the left side occurs on the right
 abbrev pub IsNondeleting : {P : Type 0} → StringRule P → Type 0
 IsNondeleting r = Each (λ x. Has (variables_in r.right) x.number) (variables_of r.left)
 

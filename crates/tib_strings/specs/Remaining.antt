@@ -10,7 +10,8 @@ use Rattle.tib_strings.specs.declared.search.Cuts.{Cuts}
 abbrev pub remaining : Cuts → List (List ℕ)
 remaining c = left_of c.string.now c.tokens.now c.from c.to c.begun c.places.items
 
--- a search over a string whose places have numbers, for tokens with their bounds, of which the first have places
+-- a search over a string whose places have numbers, for tokens with their bounds, of which the
+-- first have places
 pub record IsSearch (c : Cuts) : Type 0 where
   pub few : length c.string.now < 2 ^ 32
   pub bounded : AreBounds c.string.now c.tokens.now c.to c.bounds.items

@@ -33,7 +33,8 @@ AreAnyItems items = Unit {0}
 abbrev pub IsLeaf : Place → Type 0
 IsLeaf p = p.kids ≡ None
 
--- A rule stands for what its line says. Its variables are numbered anew, 0, 1, 2 and so on in preorder of the left side.
+-- A rule stands for what its line says. Its variables are numbered anew, 0, 1, 2 and so on in
+-- preorder of the left side.
 abbrev pub IsRule : List (List ℕ) → List (List ℕ) → StringRule ℕ → RuleLine → Type 0
 IsRule names labels rule line =
     IsRuleOf names labels rule.state rule.left (nodes_of rule.right) rule.cost line

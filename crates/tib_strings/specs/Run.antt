@@ -1,5 +1,6 @@
--- Runs of a tree-to-string transducer, what they read, what they put out, and what they cost (tree-to-string transducers,
--- Huang, Knight and Joshi 2006; costs, left sides of several labels and labelled variables are this project's own).
+-- Runs of a tree-to-string transducer, what they read, what they output, and what they cost
+-- (tree-to-string transducers, Huang, Knight and Joshi 2006; costs, left sides of several labels
+-- and labelled variables are this project's own).
 use Rattle.std.specs.Prelude.{◌≡◌, ℕ, ◌<◌, List, [], ◌∷◌, ◌++◌, length}
 use Rattle.tib_tree.specs.Trees.{Trees, none, tree}
 use Rattle.tib_transducer.specs.Run.{Fits, pick}
@@ -8,8 +9,9 @@ use Rattle.tib_strings.specs.declared.Word.{Word as Token}
 use Rattle.tib_strings.specs.declared.Word.TheVariants.{Word, Hole}
 use Rattle.tib_strings.specs.declared.StringRule.{StringRule}
 
--- A run is a tree of positions of rules. For each state of a list there is a run: its root is a rule of the state, and
--- below it stands a run for each pair of the rule's right side, in order, from the pair's state.
+-- A run is a tree of positions of rules. For each state of a list there is a run: its root is a
+-- rule of the state, and below it is a run for each pair of the rule's right side, in order, from
+-- the pair's state.
 abbrev pub AreStringRuns : List (StringRule ℕ) → List ℕ → Trees ℕ → Type 0
 AreStringRuns rules [] none = Unit {0}
 AreStringRuns rules [] (tree n runs rest) = ⊥
@@ -20,8 +22,8 @@ AreStringRuns rules (p ∷ ps) (tree n runs rest) =
     × AreStringRuns rules (states_in (string_rule rules n).right) runs
     × AreStringRuns rules ps rest
 
--- Each run reads its tree: the left side of its rule fits the tree, and the run at each pair reads the tree of the
--- pair's variable.
+-- Each run reads its tree: the left side of its rule fits the tree, and the run at each pair reads
+-- the tree of the pair's variable.
 abbrev pub StringRunsRead : List (StringRule ℕ) → Trees ℕ → Trees ℕ → Type 0
 StringRunsRead rules none none = Unit {0}
 StringRunsRead rules none (tree f kids more) = ⊥
@@ -37,7 +39,8 @@ put (Word f ∷ ws) ss = f ∷ put ws ss
 put (Hole x ∷ ws) [] = []
 put (Hole x ∷ ws) (s ∷ ss) = s ++ put ws ss
 
--- each run puts out the right side of its rule with what the runs below it put out in place of the pairs
+-- each run outputs the right side of its rule with what the runs below it output in place of the
+-- pairs
 abbrev pub strings : List (StringRule ℕ) → Trees ℕ → List (List ℕ)
 strings rules none = []
 strings rules (tree n runs rest) = put (string_rule rules n).right (strings rules runs) ∷ strings rules rest

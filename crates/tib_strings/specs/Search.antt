@@ -4,13 +4,14 @@ use Rattle.tib_strings.specs.declared.Word.{Word as Token}
 use Rattle.tib_strings.specs.declared.Word.TheVariants.{Word, Hole}
 use Rattle.tib_strings.specs.Stacks.{back, inside, behind, to_come}
 
--- whether a pair can end behind a place, where this is the last place at which it can end; a word can't
+-- whether a pair can end after a place, where this is the last place at which it can end; a word
+-- can't
 abbrev pub can_go : Token ℕ → ℕ → ℕ → Bool
 can_go (Word f) place bound = false
 can_go (Hole x) place bound = nat_lt place bound
 
 module _ (string : List ℕ) (ws : List (Token ℕ)) (i j : ℕ) where
-  -- one token more has its place, or nothing begins so
+  -- one more token has its place, or nothing begins so
   abbrev pub GoesOn : List ℕ → List ℕ → Bool → Type 0
   GoesOn old new true = (length new ≡ length old + 1) × (to_come string ws i j (back old) ≡ to_come string ws i j (back new))
   GoesOn old new false = (new ≡ old) × (inside string ws i j (back old) ≡ [])
@@ -40,7 +41,7 @@ module _ (string : List ℕ) (ws : List (Token ℕ)) (i j : ℕ) where
   left_of true ks = behind string ws i j (back ks)
   left_of false ks = to_come string ws i j (back ks)
 
-  -- the search goes on behind the cut at hand, or nothing is left
+  -- the search goes on after the current cut, or nothing is left
   abbrev pub Leaves : Bool → List ℕ → List ℕ → Bool → Type 0
   Leaves begun old new true = (length new ≤ length ws) × (left_of begun old ≡ to_come string ws i j (back new))
   Leaves begun old new false = left_of begun old ≡ []

@@ -1,4 +1,5 @@
--- Cuts begun: the places behind the first tokens of a list, the last of them on top, as a search that tries places from the least on holds them.
+-- Cuts begun: the places after the first tokens of a list, the last of them on top, as a search
+-- that tries places from the least on holds them.
 use Rattle.std.specs.Prelude.{ℕ, ◌-◌, List, [], ◌∷◌, ◌++◌, length, map, drop}
 use Rattle.std.proofs.Common.{suc}
 use Rattle.tib_strings.specs.declared.Word.{Word as Token}
@@ -10,12 +11,12 @@ abbrev pub back : List ℕ → List ℕ
 back [] = []
 back (k ∷ ks) = back ks ++ k ∷ []
 
--- the place on top, where the first token stands at i
+-- the place on top, where the first token is at i
 abbrev pub top : ℕ → List ℕ → ℕ
 top i [] = i
 top i (k ∷ rs) = k
 
--- each list behind the places that are begun
+-- each list after the places that are begun
 abbrev pub plug : List ℕ → List (List ℕ) → List (List ℕ)
 plug [] xs = xs
 plug (k ∷ rs) xs = plug rs (map (λ (l : List ℕ). k ∷ l) xs)
@@ -25,7 +26,7 @@ module _ (string : List ℕ) (ws : List (Token ℕ)) (i j : ℕ) where
   abbrev pub inside : List ℕ → List (List ℕ)
   inside rs = plug rs (cuts_of string (drop (length rs) ws) (top i rs) j)
 
-  -- what goes on otherwise at the first of some tokens, behind place k: a pair at a later place
+  -- what goes on otherwise at the first of some tokens, after place k: a pair at a later place
   abbrev pub further : List (Token ℕ) → ℕ → List (List ℕ)
   further [] k = []
   further (Word f ∷ rest) k = []

@@ -32,7 +32,8 @@ HasListFault line BadString = HasNoList line
 HasListFault line TooManyNodes = HasLongList line
 HasListFault line kind = ⊥
 
--- what such a line holds, if it has no fault: no tokens, or the words of a string within the limit; or its fault
+-- what such a line holds, if it has no fault: no tokens, or the words of a string within the limit;
+-- or its fault
 abbrev pub LineHolds : List ℕ → Result (Option (List Item)) FaultKind → Type 0
 LineHolds line (Ok None) = IsBlank line
 LineHolds line (Ok (Some items)) = HasList line items × (length items ≤ most_nodes)
@@ -41,19 +42,19 @@ LineHolds line (Err kind) = HasListFault line kind
 abbrev pub HoldsList : List ℕ → Type 0
 HoldsList line = (items : List Item) × LineHolds line (Ok (Some items))
 
--- what is wrong with a line behind that of the string
+-- what is wrong with a line after that of the string
 abbrev pub HasMore : List ℕ → FaultKind → Type 0
 HasMore line BadToken = HasBadToken line
 HasMore line BadString = (token : Word) × (tokens : List Word) × HasWords (token ∷ tokens) line
 HasMore line kind = ⊥
 
--- of lines behind the string that are numbered from n, the first with a fault has this one
+-- of lines after the string that are numbered from n, the first with a fault has this one
 abbrev pub FaultBehind : ℕ → List (List ℕ) → FileFault → Type 0
 FaultBehind n [] fault = ⊥
 FaultBehind n (line ∷ lines) fault = ((fault.line ≡ n) × HasMore line fault.kind) ⊎ (IsBlank line × FaultBehind (suc n) lines fault)
 
--- Of lines that are numbered from n, of which none before has tokens, the first with a fault has this one. Where none has tokens, it
--- is told of line 1.
+-- Of lines that are numbered from n, of which none before has tokens, the first with a fault has
+-- this one. Where none has tokens, it is a fault of line 1.
 abbrev pub FaultFrom : ℕ → List (List ℕ) → FileFault → Type 0
 FaultFrom n [] fault = (fault.line ≡ 1) × (fault.kind ≡ BadString)
 FaultFrom n (line ∷ lines) fault =

@@ -24,7 +24,7 @@ string_in_words (Some (token ∷ tokens)) = small_list (list_in (token ∷ token
 unfoldable pub string_line : List ℕ → Result (Option (List Item)) FaultKind
 string_line line = string_in_words (words_of line)
 
--- the lines behind it
+-- the lines after it
 abbrev pub more_in_words : Option (List Word) → Option FaultKind
 more_in_words None = Some kinds.BadToken
 more_in_words (Some []) = None

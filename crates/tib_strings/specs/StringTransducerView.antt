@@ -8,7 +8,8 @@ use Rattle.tib_strings.specs.declared.StringTransducer.TheInside.{Inside}
 abbrev pub string_transducer_of : {S : Type 0} → Inside S → StringTransducerOf
 string_transducer_of t = record { names = t.names; rules = t.rules.items }
 
--- there is a start, the rules' states have names, which are state names, and the rules have their shape
+-- there is a start, the rules' states have names, which are state names, and the rules have their
+-- shape
 pub record IsStringTransducer {S : Type 0} (t : Inside S) : Type 0 where
   pub start : 0 < length t.names
   pub few_names : length t.names < 4294967296

@@ -19,7 +19,8 @@ abbrev pub IsSomeText : Scale → List ℕ → Type 0
 IsSomeText scale bytes =
     (labels : List (List ℕ)) × (t : StringTransducerOf) × Distinct labels × ReadsAs scale labels bytes t
 
--- the transducers of one text, each over a table of labels of its own, differ in the numbers of labels alone
+-- the transducers of one text, each over a table of labels of its own, differ in the numbers of
+-- labels alone
 abbrev pub TextsMeanOne : Type 0
 TextsMeanOne =
     (scale : Scale) (labels others : List (List ℕ)) (bytes : List ℕ) (t u : StringTransducerOf) → ReadsAs scale labels bytes t →

@@ -20,8 +20,8 @@ HaveRules scale lines rules = HaveRulesBy SpellsList scale lines rules
 abbrev pub HaveStart : Scale → List (List ℕ) → List ℕ → List RuleLine → Type 0
 HaveStart scale lines start rules = HaveStartBy SpellsList scale lines start rules
 
--- The bytes are the text of a transducer: its rules stand for the rule lines, and its states are the start and those of the
--- rules, each once, in the order in which they first stand in the file.
+-- The bytes are the text of a transducer: its rules stand for the rule lines, and its states are
+-- the start and those of the rules, each once, in the order in which they first occur in the file.
 pub record IsStringTransducerText (scale : Scale) (labels : List (List ℕ)) (bytes : List ℕ) (t : StringTransducerOf) : Type 0 where
   pub start : List ℕ
   pub lines : List RuleLine

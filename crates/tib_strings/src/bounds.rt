@@ -40,7 +40,7 @@ fn last_marked(row: &[bool]) -> Option<usize>
     None
 }
 
-/// Whether a word stands at a place of a string.
+/// Whether the word at a place of a string is this one.
 pub(crate) fn stands_at(string: &[Label], place: usize, word: Label) -> bool
     ensures { result ≡ stands string.now place word }
 {
@@ -50,7 +50,7 @@ pub(crate) fn stands_at(string: &[Label], place: usize, word: Label) -> bool
     }
 }
 
-/// Whether a place of a row is marked; those behind it are not.
+/// Whether a place of a row is marked; those after it are not.
 fn is_marked(row: &[bool], place: usize) -> bool
     ensures { result ≡ get_or row.now place false }
 {
@@ -60,7 +60,7 @@ fn is_marked(row: &[bool], place: usize) -> bool
     }
 }
 
-/// Whether a place is marked in the row behind a word.
+/// Whether a place is marked in the row after a word.
 fn is_marked_before(row: &[bool], string: &[Label], from: usize, place: usize, word: Label) -> bool
     requires inside { from + place < length string.now + 1 }
     requires below { place < length row.now }
@@ -74,7 +74,8 @@ fn is_marked_before(row: &[bool], string: &[Label], from: usize, place: usize, w
     }
 }
 
-/// Turns the row of some tokens, whose first place is `from`, into that of these tokens behind a word.
+/// Turns the row of some tokens, whose first place is `from`, into that of these tokens after a
+/// word.
 fn pass_word(row: &mut Vec<bool>, string: &[Label], from: usize, word: Label)
     requires { from + length row.old.items ≤ length string.now + 1 }
     ensures { PassesWord string.now from word row.old.items row.new.items }
@@ -85,7 +86,7 @@ fn pass_word(row: &mut Vec<bool>, string: &[Label], from: usize, word: Label)
     }
 }
 
-/// Turns the row of some tokens, whose last place is known, into that of these tokens behind a pair.
+/// Turns the row of some tokens, whose last place is known, into that of these tokens after a pair.
 fn pass_pair(row: &mut Vec<bool>, last: usize)
     requires { last < length row.old.items }
     ensures { PassesPair last row.old.items row.new.items }
@@ -95,8 +96,9 @@ fn pass_pair(row: &mut Vec<bool>, last: usize)
     }
 }
 
-/// For each token of a list the last place at which it can end, where the list is to end at a place; none where the list has no cut
-/// between the two places. Err only if memory is refused. Cost: for each token one step for each place between the two.
+/// For each token of a list the last place at which it can end, where the list is to end at a
+/// place; none where the list has no cut between the two places. Err only if memory is refused.
+/// Cost: for each token one step for each place between the two.
 pub(crate) fn find_bounds(
     alloc: Global,
     string: &[Label],

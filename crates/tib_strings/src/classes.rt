@@ -25,7 +25,7 @@ fn stands_among(words: &[Word<u32>], variable: u32) -> bool
     false
 }
 
-// Whether no variable stands twice among the pairs of some words.
+// Whether no variable occurs twice among the pairs of some words.
 fn are_apart(words: &[Word<u32>]) -> bool
     ensures yes { IsTrue result → Distinct (variables_in words.now) }
     ensures no { result ≡ false → Distinct (variables_in words.now) → ⊥ }
@@ -40,7 +40,7 @@ fn are_apart(words: &[Word<u32>]) -> bool
     true
 }
 
-// Whether each variable among some items stands among the words.
+// Whether each variable among some items is among the words.
 fn all_stand(items: &[Item<Variable>], words: &[Word<u32>]) -> bool
     ensures yes { IsTrue result → AreAmong (variables_in words.now) (holes_in items.now) }
     ensures no { result ≡ false → AreAmong (variables_in words.now) (holes_in items.now) → ⊥ }
@@ -72,7 +72,9 @@ fn fault_of(rule: &StringRule<u32>) -> Option<ClassFault>
     None
 }
 
-/// The first rule that is not linear or not nondeleting, with its number, from 1. It takes no memory.
+/// The first rule that is not linear or not nondeleting, with its number, from 1. It takes no
+/// memory. Worst case: in each rule one pass over the right side for each of its pairs and each
+/// variable of the left side.
 pub fn string_outside<S>(t: &StringTransducer<S>) -> Option<(u32, ClassFault)>
     ensures some { IfSome result (λ r. IsFirstFault t.now.rules r.0 r.1) }
     ensures linear { result ≡ None → AreLinear t.now.rules }

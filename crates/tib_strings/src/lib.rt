@@ -1,12 +1,14 @@
-//! Tree-to-string transducers as values: rules that read a tree and put out a list of words. Their runs, what these read, put out and
-//! cost, their series, and the first rule that is not linear or not nondeleting; and the cuts of a list of words and pairs over the places
-//! of a string, which say how a right side can put out a part of the string. Cuts are listed one by one, from the least places on, and no
-//! part of a list of places is tried that leads to no cut behind its last pair.
+//! Tree-to-string transducers as values: rules that read a tree and output a list of words. Their
+//! runs, what these read, output and cost, their series, and the first rule that is not linear or
+//! not nondeleting; and the cuts of a list of words and pairs over the places of a string, which
+//! say how a right side can output a part of the string. Cuts are listed one by one, from the least
+//! places on, and no part of a list of places is tried that leads to no cut after its last pair.
 //!
-//! Strings and such transducers are read from text as well: `read_string` takes the bytes of a file and gives the string whose text they
-//! are, as a list of labels, and `read_string_transducer` the transducer; or the first fault of the file. It stands on the lines and tokens
-//! of `tib_lex`, the labels of `tib_tree`, the weights of `tib_grammar_file`, and `tib_transducer` and the text of its transducers in
-//! `tib_transducer_file`.
+//! Strings and such transducers are read from text as well: `read_string` takes the bytes of a file
+//! and gives the string whose text they are, as a list of labels, and `read_string_transducer` the
+//! transducer; or the first fault of the file. It builds on the lines and tokens of `tib_lex`, the
+//! labels of `tib_tree`, the weights of `tib_grammar_file`, and `tib_transducer` and the text of
+//! its transducers in `tib_transducer_file`.
 #![tactic(auto)]
 
 ghost use Rattle.std.specs.Prelude.{◌≡◌};
@@ -44,7 +46,8 @@ pub use transducer_laws::{
     text_has_one_string_transducer,
 };
 
-/// A token of a right side: a word, or a hole where what is read on from a state at a variable is put out.
+/// A token of a right side: a word, or a hole where what is read on from a state at a variable is
+/// output.
 #[derive(Debug, PartialEq, Eq, Hash, Drop)]
 pub enum Word<P> {
     /// A word.
@@ -84,14 +87,15 @@ impl<P> Words<P> {
     }
 }
 
-/// A rule: from the state, a tree that the left side fits is read, and the words are put out, at a cost.
+/// A rule: from the state, a tree that the left side fits is read, and the words are output, at a
+/// cost.
 #[derive(Drop)]
 pub struct StringRule<P> {
     /// The state that the rule leads from.
     pub state: P,
     /// What is read.
     pub left: Side<Variable>,
-    /// What is put out.
+    /// What is output.
     pub right: Words<P>,
     /// What it costs.
     pub cost: Cost,

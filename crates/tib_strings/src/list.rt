@@ -25,7 +25,7 @@ fn is_mark(line: &[u8], token: Token) -> bool
     }
 }
 
-/// Whether `*e*` stands alone.
+/// Whether `*e*` is the only token.
 pub(crate) fn is_mark_alone(line: &[u8], tokens: &[Token]) -> bool
     requires { All (Lies (length line.now)) tokens.now }
     ensures { result ≡ spec_is_mark_alone (words_at line.now tokens.now) }
@@ -94,7 +94,7 @@ pub(crate) fn read_list(line: &[u8], tokens: &mut Vec<Token>) -> Result<bool, Li
     Ok(true)
 }
 
-/// Passes over a line behind that of a string, if it has no token.
+/// Skips a line after that of a string, if it has no token.
 pub(crate) fn skip_line(line: &[u8], tokens: &mut Vec<Token>) -> Result<(), LineError>
     requires { length line.now ≤ most_bytes }
     ensures { IsSkipped line.now result }

@@ -9,9 +9,10 @@ use crate::stepping::{find_cut, leave_cut};
 use std::alloc::{AllocError, Global};
 use tib_tree::Label;
 
-/// A search for the cuts of a list between two places of a string. Of a string of n words the places are the numbers from 0 to n: place i
-/// stands before the word at position i. A cut is the list of the places behind the tokens. It gives the cuts in their order: by the place
-/// behind the first token, then behind the second, and so on.
+/// A search for the cuts of a list between two places of a string. Of a string of n words the
+/// places are the numbers from 0 to n: place i comes before the word at position i. A cut is the
+/// list of the places after the tokens. It gives the cuts in their order: by the place after the
+/// first token, then after the second, and so on.
 #[derive(Drop)]
 pub struct Cuts<'a> {
     string: &'a [Label],
@@ -24,8 +25,9 @@ pub struct Cuts<'a> {
 }
 
 impl<'a> Cuts<'a> {
-    /// The search for the cuts of a list from one place of a string to another; none only where there is no cut. Err only if memory is
-    /// refused. Cost: for each token one step for each place between the two.
+    /// The search for the cuts of a list from one place of a string to another; none only where
+    /// there is no cut. Err only if memory is refused. Cost: for each token one step for each place
+    /// between the two.
     pub fn new(
         alloc: Global,
         string: &'a [Label],
@@ -52,8 +54,9 @@ impl<'a> Cuts<'a> {
         }
     }
 
-    /// Goes on to the next cut, or answers that there is none. Err only if memory is refused. Cost: for each token one step, and for each pair
-    /// at most one for each word behind it and each place between its own and its last one.
+    /// Goes on to the next cut, and returns whether there is one. Err only if memory is refused,
+    /// and then the search is of no further use. Cost: for each token one step, and for each pair
+    /// at most one for each word after it and each place between its own and its last one.
     pub fn go_on(&mut self) -> Result<bool, AllocError>
         requires { IsSearch self.old }
         ensures { IfOk result (GoesTo self.old self.new) }
@@ -72,7 +75,7 @@ impl<'a> Cuts<'a> {
         )
     }
 
-    /// The places behind the tokens in the cut at hand. It takes no memory.
+    /// The places after the tokens in the current cut. It takes no memory.
     pub fn places(&self) -> &[u32]
         ensures { result.now ≡ self.now.places.items }
     {

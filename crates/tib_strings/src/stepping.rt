@@ -10,7 +10,7 @@ use crate::bounds::stands_at;
 use std::alloc::AllocError;
 use tib_tree::Label;
 
-/// The place behind the tokens that have places, where the first token stands at a place.
+/// The place after the tokens that have places, where the first token is at a place.
 #[tactic(auto, using(crate::proofs::Searching::top_at, crate::proofs::Searching::top_first))]
 pub(crate) fn last_place(from: u32, places: &[u32]) -> u32
     ensures { result ≡ top from (back places.now) }
@@ -19,7 +19,8 @@ pub(crate) fn last_place(from: u32, places: &[u32]) -> u32
     if count == 0 { from } else { places[count - 1] }
 }
 
-/// Gives the next token its least place, or answers that it has none. Err only if memory is refused.
+/// Gives the next token its least place, and returns whether it has one. Err only if memory is
+/// refused.
 fn go_on(
     string: &[Label],
     tokens: &[Word<u32>],
@@ -54,7 +55,8 @@ fn go_on(
     Ok(false)
 }
 
-/// Gives each token that has no place its least one, or answers at the first that has none. Err only if memory is refused.
+/// Gives each token that has no place its least one, and returns false at the first that has none.
+/// Err only if memory is refused.
 pub(crate) fn descend(
     string: &[Label],
     tokens: &[Word<u32>],
@@ -76,7 +78,8 @@ pub(crate) fn descend(
     Ok(true)
 }
 
-/// Whether a token is a pair that can end behind a place, where this is the last place at which it can end.
+/// Whether a token is a pair that can end after a place, where this is the last place at which it
+/// can end.
 fn can_move(token: &Word<u32>, place: u32, bound: u32) -> bool
     ensures { result ≡ can_go token.now place bound }
 {
@@ -86,8 +89,8 @@ fn can_move(token: &Word<u32>, place: u32, bound: u32) -> bool
     }
 }
 
-/// Takes the places of tokens away, the last first, up to a pair that can go further, and moves that on by one place, or answers that there is
-/// none. Err only if memory is refused.
+/// Takes the places of tokens away, the last first, up to a pair that can go further, and moves
+/// that on by one place; returns whether there is one. Err only if memory is refused.
 pub(crate) fn go_further(
     tokens: &[Word<u32>],
     bounds: &[u32],
@@ -108,7 +111,8 @@ pub(crate) fn go_further(
     Ok(false)
 }
 
-/// Gives all tokens places, and answers whether these are a cut that ends at a place. Err only if memory is refused.
+/// Gives all tokens places, and returns whether these are a cut that ends at a place. Err only if
+/// memory is refused.
 fn try_cut(
     string: &[Label],
     tokens: &[Word<u32>],
@@ -128,7 +132,8 @@ fn try_cut(
     Ok(last_place(from, places) == to)
 }
 
-/// Goes on to the next cut that ends at a place, the one at hand first, or answers that there is none. Err only if memory is refused.
+/// Goes on to the next cut that ends at a place, the current one first, and returns whether there
+/// is one. Err only if memory is refused.
 pub(crate) fn find_cut(
     string: &[Label],
     tokens: &[Word<u32>],
@@ -153,7 +158,8 @@ pub(crate) fn find_cut(
     Err(AllocError)
 }
 
-/// Leaves the cut at hand, if the search has begun, or answers that nothing is left. Err only if memory is refused.
+/// Leaves the current cut, if the search has begun; returns false if nothing is left. Err only if
+/// memory is refused.
 pub(crate) fn leave_cut(
     tokens: &[Word<u32>],
     bounds: &[u32],

@@ -34,7 +34,7 @@ fn find_string(bytes: &[u8], tokens: &mut Vec<Token>) -> Result<Line, ReadError>
     Err(ReadError::Fault(FileFault { line: 1, kind }))
 }
 
-// Passes over the lines from a place on, where a line of this number begins, if they have no tokens.
+// Skips the lines from a place on, where a line of this number begins, if they have no tokens.
 fn skip_lines(alloc: Global, bytes: &[u8], start: u32, first: u32) -> Result<(), ReadError>
     requires short { length bytes.now ≤ most_bytes }
     requires place { start ≤ length bytes.now }
@@ -55,13 +55,15 @@ fn skip_lines(alloc: Global, bytes: &[u8], start: u32, first: u32) -> Result<(),
     Ok(())
 }
 
-/// Reads a string file: the labels of the words of its one line with tokens. The texts of words go into the table of labels.
+/// Reads a string file: the labels of the words of its one line with tokens. The texts of words go
+/// into the table of labels.
 ///
-/// A fault names the first line that has one and what is wrong there first: a bad token; a bad string, where the line has a token
-/// that is no word, or `*e*` without quotes beside others, or is the second line with tokens; too many nodes, where it has more
-/// than 10,000 words. A file without tokens is a bad string in line 1. After a fault the table is as it was; after `OutOfMemory`,
-/// which says nothing of the file, it may hold some of the words, and the texts that it held keep their numbers. It takes time in
-/// proportion to the file.
+/// A fault names the first line that has one and what is wrong there first: a bad token; a bad
+/// string, where the line has a token that is no word, or `*e*` without quotes among others, or is
+/// the second line with tokens; too many nodes, where it has more than 10,000 words. A file without
+/// tokens is a bad string in line 1. After a fault the table is as it was; after `OutOfMemory`,
+/// which says nothing about the file, it may hold some of the words, and the texts that it held
+/// keep their numbers. It takes time in proportion to the file.
 pub fn read_string(
     alloc: Global,
     bytes: &[u8],

@@ -1,7 +1,8 @@
 // What holds of the texts of strings.
 ghost use Rattle.tib_strings.specs.StringLaws.{GivesStringFaults, TextsHaveNone, FirstIsOne, TextOrFault, TextsMeanOne, TextHasOne};
 
-/// The function that says what a string file holds gives a fault exactly where this is the first of the file.
+/// The function that says what a string file holds gives a fault exactly where this is the first of
+/// the file.
 pub fn string_faults_are_read()
     ensures { GivesStringFaults }
 {}

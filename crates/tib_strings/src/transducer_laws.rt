@@ -4,7 +4,8 @@ ghost use Rattle.tib_strings.specs.TransducerLaws.{TextsHaveNone, IsSomeText, Te
 ghost use Rattle.tib_strings.specs.TransducerReading.{transducer_in};
 ghost use Rattle.tib_strings.specs.FileFaults.{IsFirstFault};
 
-/// The function that says what a file holds gives a fault exactly where this is the first of the file.
+/// The function that says what a file holds gives a fault exactly where this is the first of the
+/// file.
 pub fn string_transducer_faults_are_read()
     ensures { GivesFaults transducer_in IsFirstFault }
 {}
@@ -15,12 +16,14 @@ pub fn string_transducer_faults_are_one()
     ensures one { FirstIsOne IsFirstFault }
 {}
 
-/// Each file is the text of a tree-to-string transducer, over some table of distinct labels, or it has a first fault.
+/// Each file is the text of a tree-to-string transducer, over some table of distinct labels, or it
+/// has a first fault.
 pub fn string_transducer_files_are_texts_or_faulty()
     ensures { TextOrFault IsSomeText IsFirstFault }
 {}
 
-/// The transducers of one text, each over a table of labels of its own, differ in the numbers of labels alone.
+/// The transducers of one text, each over a table of labels of its own, differ in the numbers of
+/// labels alone.
 pub fn one_string_transducer_by_text()
     ensures { TextsMeanOne }
 {}

@@ -25,7 +25,7 @@ fn begins_with_label(items: &[Item<Variable>]) -> bool
     }
 }
 
-// How many variables stand among some items, if their numbers are 0, 1, 2 and so on.
+// How many variables occur among some items, if their numbers are 0, 1, 2 and so on.
 fn count_variables(items: &[Item<Variable>]) -> Option<usize>
     ensures count { IfSome result (λ n. n ≡ length (holes_in items.now)) }
     ensures some { IfSome result (λ _. AreNumbered 0 (holes_in items.now)) }
@@ -43,7 +43,8 @@ fn count_variables(items: &[Item<Variable>]) -> Option<usize>
     Some(count)
 }
 
-// Whether the pairs among some words have states below the one number and variables below the other.
+// Whether the pairs among some words have states below the one number and variables below the
+// other.
 fn are_pairs_within(words: &[Word<u32>], states: u32, variables: usize) -> bool
     ensures yes { IsTrue result → ArePairsWithin states variables (pairs_of words.now) }
     ensures no { result ≡ false → ArePairsWithin states variables (pairs_of words.now) → ⊥ }
@@ -97,9 +98,11 @@ fn are_rules(rules: &[StringRule<u32>], n: u32) -> bool
 }
 
 impl<S> StringTransducer<S> {
-    /// A transducer of these names and rules. It answers none exactly where there is no name, a state has a number that is not
-    /// below the number of names, a left side is a lone variable or its variables are not numbered 0, 1, 2 and so on in
-    /// preorder, or a right side has a variable that its left side lacks. It takes no memory.
+    /// A transducer of these names and rules. It returns none exactly where there is no name, a
+    /// state has a number that is not below the number of names, a left side is a lone variable or
+    /// its variables are not numbered 0, 1, 2 and so on in preorder, or a right side has a variable
+    /// that its left side lacks; then both are gone. It takes no memory. Worst case: one pass over
+    /// all sides.
     pub fn new(names: Names, rules: Vec<StringRule<u32>>) -> Option<StringTransducer<S>>
         requires { length rules.items < 2 ^ 32 }
         ensures names { IfSome result (λ t. t.names ≡ names) }
@@ -124,9 +127,10 @@ impl<S> StringTransducer<S> {
         })
     }
 
-    /// What holds of each transducer: there is a start, its names are distinct state names, the states of its rules have names,
-    /// its rules are fewer than 2^32, and each has its shape: a left side that begins with a label and numbers its variables
-    /// from 0 in preorder, and a right side without other variables.
+    /// What holds of each transducer: there is a start, its names are distinct state names, the
+    /// states of its rules have names, its rules are fewer than 2^32, and each has its shape: a
+    /// left side that begins with a label and numbers its variables from 0 in preorder, and a right
+    /// side without other variables. It computes nothing.
     pub fn is_sound(&self)
         ensures start { 0 < length self.now.names }
         ensures names { AreStateNames self.now.names }
@@ -169,7 +173,7 @@ impl<S> StringTransducer<S> {
         &self.rules[n as usize - 1]
     }
 
-    /// The names of the states.
+    /// The names of the states. It takes no memory.
     pub fn names(&self) -> &Names
         ensures { result.now ≡ self.now.names }
     {

@@ -1,4 +1,5 @@
--- The first fault of a file is read, and so are rules within the limits, whatever their right sides are.
+-- The first fault of a file is read, and so are rules within the limits, whatever their right sides
+-- are.
 use Rattle.tib_cost.specs.declared.Scale.{Scale}
 use Rattle.std.proofs.Common.{◌≡◌, ℕ, ◌≤◌, inl, inr, false, List, [], ◌∷◌, ap, sym, ◌∙◌, subst, arith, Option, suc}
 use Rattle.std.specs.Prelude.{Some, None, Result, Ok, Err, nat_lt, ◌||◌}

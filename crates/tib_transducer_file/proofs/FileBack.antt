@@ -60,11 +60,12 @@ rules_lines scale names labels (r ∷ rules) e g =
 abbrev pub start_of : TransducerOf → List ℕ
 start_of t = get_or t.names 0 []
 
--- the names of the states, as they stand in the text
+-- the names of the states, as they are in the text
 abbrev pub names_in : TransducerOf → List (List ℕ)
 names_in t = start_of t ∷ map (λ q. get_or t.names q []) (states_of t.rules)
 
--- what is printed is a text of the transducer with other numbers for its states, if they are those of first sight
+-- what is printed is a text of the transducer with other numbers for its states, if they are those
+-- of first sight
 pub prints_as : (scale : Scale) (labels : List (List ℕ)) (t : TransducerOf) (names : List (List ℕ)) (number : ℕ → ℕ) → HasText scale labels t → AddsAll [] (names_in t) names → Renames t.names names number →
     TransducerText scale labels (transducer_text scale labels t) (record { names = names; rules = map (named_rule number) t.rules })
 prints_as scale labels t names number h added ren =

@@ -1,4 +1,5 @@
--- What a file holds that was read, whatever the right sides of its rules are, and whatever is made of them.
+-- What a file holds that was read, whatever the right sides of its rules are, and whatever is made
+-- of them.
 use Rattle.tib_cost.specs.declared.Scale.{Scale}
 use Rattle.std.proofs.Common.{◌≡◌, ℕ, ◌+◌, inl, inr, List, [], ◌∷◌, ◌++◌, length, drop, refl, ap, sym, ◌∙◌, subst, arith, Option, Bool, true, false, suc}
 use Rattle.std.specs.Prelude.{Some, None, Result, Ok, Err, nat_eq, nat_lt, cond, not, ◌==◌, ◌&&◌}

@@ -1,4 +1,4 @@
--- A transducer whose states come in order is read as it stands.
+-- A transducer whose states come in order is read back unchanged.
 use Rattle.tib_cost.specs.declared.Scale.{Scale}
 use Rattle.std.proofs.Common.{◌≡◌, ℕ, ◌+◌, ◌<◌, ◌≤◌, inl, inr, List, [], ◌∷◌, ◌++◌, length, get_or, take, refl, ap, sym, ◌∙◌, subst, arith, suc}
 use Rattle.std.specs.Prelude.{map, Contains}
@@ -17,7 +17,7 @@ use Rattle.tib_transducer_file.proofs.Fitting.{IsGood, are_good}
 use Rattle.tib_transducer_file.proofs.FileBack.{prints_as}
 use Rattle.tib_transducer_file.proofs.RulesBack.{rules_own}
 
--- The first k names have been seen, and each later one stands among the states that follow.
+-- The first k names have been seen, and each later one is among the states that follow.
 record IsSeen (names : List (List ℕ)) (qs : List ℕ) (k : ℕ) : Type 0 where
   few : k ≤ length names
   range : AllBelow (length names) qs

@@ -56,7 +56,7 @@ first_had word pieces rest w p h =
       record { blanks = []; rest = spelling word ++ rest; parts = refl; white = refl; are = (rest, own, h) },
     )
 
--- a token behind k trees
+-- a token after k trees
 abbrev pub behind : ℕ → Piece → Piece
 behind zero p = p
 behind (suc k) p = piece false p.kind p.bytes
@@ -79,7 +79,7 @@ abbrev pub Fits : {P : Type 0} → (ℕ → Type 0) → (P → Type 0) → Trees
 Fits IsLabel IsLeaf none = Unit {0}
 Fits IsLabel IsLeaf (tree s kids rest) = FitsSymbol IsLabel IsLeaf s kids × Fits IsLabel IsLeaf kids × Fits IsLabel IsLeaf rest
 
--- the text of a symbol's word, and whether it stands in quotes
+-- the text of a symbol's word, and whether it is in quotes
 abbrev pub text_of : {P : Type 0} → (P → List ℕ) → List (List ℕ) → Symbol ℕ P → List ℕ
 text_of show labels (symbol_label f) = get_or labels f []
 text_of show labels (hole p) = show p
@@ -111,13 +111,13 @@ abbrev pub group : {P : Type 0} → Trees (Symbol ℕ P) → List Piece → List
 group none inner = []
 group (tree s kids rest) inner = token open_ ∷ (inner ++ token close ∷ [])
 
--- the tokens of trees behind k others
+-- the tokens of trees after k others
 abbrev pub forest : {P : Type 0} → (P → Piece) → (P → List Piece) → List (List ℕ) → Trees (Symbol ℕ P) → ℕ → List Piece
 forest first after labels none k = []
 forest first after labels (tree s kids rest) k =
     behind k (first_of first labels s) ∷ (after_of after s ++ (group kids (forest first after labels kids 0) ++ forest first after labels rest (suc k)))
 
--- names that stand before such bytes end there
+-- names that come before such bytes end there
 label_precedes : (text rest : List ℕ) (b : Bool) → is_plain text ≡ b → begins_name rest ≡ false → IsWord (word_for (not b) text) × MayPrecede (word_for (not b) text) rest
 label_precedes text rest true e h = ((plain_is text e).named, h)
 label_precedes text rest false e h = (tt, tt)
@@ -246,7 +246,7 @@ module _ {P : Type 0} (IsLabel : ℕ → Type 0) (IsLeaf : P → Type 0) (show :
   past (tree (symbol_label f) kids rest) k more l h = (no_quote (is_kind kinds.Quoted (kind_of (label_word (get_or labels f [])))), label_opens (get_or labels f []) (quotes (get_or labels f [])))
   past (tree (hole p) kids rest) k more l h = (no_quote (is_kind kinds.Quoted (first p).kind), l.1 p)
 
-  -- what the trees behind the first one give
+  -- what the trees after the first one give
   abbrev Joins : Trees (Symbol ℕ P) → Type 0
   Joins ts = (k : ℕ) (more : List Piece) → IsPast more → joins false (tokens_of ts k ++ more) ≡ words_of ts ++ joins false more
 

@@ -14,7 +14,7 @@ use Rattle.tib_transducer_file.specs.Forms.{is_kind, takes, joins}
 use Rattle.tib_transducer_file.specs.Found.{bytes_at}
 use Rattle.tib_transducer_file.proofs.Slices.{slice_joined}
 
--- one token for a name and the quoted token behind it
+-- one token for a name and the quoted token after it
 abbrev pub both : Token → Token → Token
 both t u = record { kind = kinds.Name; start = t.start; end = u.end }
 

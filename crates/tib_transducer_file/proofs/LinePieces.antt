@@ -37,7 +37,7 @@ pieces_step bytes t e =
     let k : pieces_in (length bytes) (drop t.end bytes) ≡ pieces_in (suc (length (drop t.end bytes))) (drop t.end bytes) = enough (length bytes) (suc (length (drop t.end bytes))) (drop t.end bytes) (omega (arith, h.0, h.1)) (omega arith) in
     rw (e, k) refl
 
--- a token stands directly where no white space does
+-- a token follows directly where no white space comes first
 begins_same : (bytes : List ℕ) → not (begins_blank bytes) ≡ (blanks bytes == 0)
 begins_same [] = refl
 begins_same (b ∷ rest) = by (is_blank b) refl

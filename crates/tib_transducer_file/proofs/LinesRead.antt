@@ -99,12 +99,13 @@ variables_few scale line left right f numbers cost l g =
     let w = items_whole line left right f l in
     omega (arith, ap length g.numbers_are, numbers_few (parts_found line left right f).below, ap length w.0, back_long line left, g.few_left)
 
--- a left side stands in a larger table
+-- a left side holds over a larger table too
 pub left_side_grows : (a b : List (List ℕ)) → Grows a b → (ss : List (Symbol ℕ Variable × ℕ)) (p : Parts) → IsLeftSide a ss p → IsLeftSide b ss p
 left_side_grows a b g [] p h = absurd h
 left_side_grows a b g (s ∷ ss) p h = (root_grows a b g s _ p.root.kids h.0, along_changes (IsLeftNode a) (IsLeftNode b) ss p.below (left_grows a b g) h.1)
 
--- the rule of what was found, of whatever kind it is, by its parts; its state and its left side stand in larger tables
+-- the rule of what was found, of whatever kind it is, by its parts; its state and its left side
+-- hold over larger tables
 pub rule_made : {R : Type 0} (view : R → RuleView) (rule : R) (n m a b : List (List ℕ)) (line : List ℕ) (left right : List Place) (f : Found) (numbers : List ℕ) (scale : Scale) (cost state : ℕ) (ls : Side ℕ Variable) (rs : List (Symbol ℕ (Pair ℕ) × ℕ)) → view rule ≡ view_of state ls rs cost → FoundIn line left right f → GoodRule scale (parts_found line left right f) numbers left right cost → Grows n m → Grows a b →
     slice_get n state ≡ Some (text_of (word_at line f.root.state)) → ((right : List Item) (weight : Option (List ℕ)) → IsLeftSide a (preorder_of ls) (parts_with (items_back line left) right weight)) → AreNumbered 0 (variables_of ls) → Along (IsRightNode m b numbers) rs (items_back line right) →
     IsRuleBy view m b rule (rule_line_of (parts_found line left right f) cost)

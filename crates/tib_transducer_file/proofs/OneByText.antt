@@ -1,4 +1,5 @@
--- Bytes that are the text of two transducers, each over a table of its own, are that of one by the texts of labels.
+-- Bytes that are the text of two transducers, each over a table of its own, are that of one by the
+-- texts of labels.
 use Rattle.tib_cost.specs.declared.Scale.{Scale}
 use Rattle.std.proofs.Common.{◌≡◌, ℕ, ◌+◌, inl, inr, true, false, List, [], ◌∷◌, ◌++◌, length, refl, ap, sym, ◌∙◌, subst, arith, Option, zero, suc}
 use Rattle.std.specs.Prelude.{Some, None, Result, Ok, slice_get, nat_eq}
@@ -33,7 +34,7 @@ use Rattle.tib_transducer_file.proofs.RulesHave.{file_has, each_line_has}
 use Rattle.tib_transducer_file.proofs.FaultsOnce.{text_read}
 use Rattle.tib_transducer_file.proofs.ShapesRead.{left_ends}
 
--- no state's name stands twice
+-- no state's name occurs twice
 one_added : (before : List (List ℕ)) (text : List ℕ) (now : List (List ℕ)) → Adds before text now → AreDistinct before → AreDistinct now
 one_added before text now (inl (held, same)) d = subst (λ (ts : List (List ℕ)). AreDistinct ts) (sym same) d
 one_added before text now (inr (new, last)) d = distinct_added before now text d new last
@@ -56,7 +57,7 @@ any_has (x ∷ xs) n (inl same) e =
     let bad : true ≡ false = sym equal ∙ apart.0 in cc
 any_has (x ∷ xs) n (inr h) e = any_has xs n h (or_false (nat_eq n x) (list_any (nat_eq n) xs) e).1
 
--- where no number repeats, no later one stands before
+-- where no number repeats, no later one comes before
 pub apart_from : (before ns : List ℕ) → repeats before ns ≡ false → (n : ℕ) → Has ns n → Has before n → ⊥
 apart_from before [] e n h k = absurd h
 apart_from before (m ∷ ns) e n (inl same) k =
@@ -64,7 +65,7 @@ apart_from before (m ∷ ns) e n (inl same) k =
 apart_from before (m ∷ ns) e n (inr h) k =
     apart_from (before ++ m ∷ []) ns (or_false (list_any (nat_eq m) before) (repeats (before ++ m ∷ []) ns) e).1 n h (has_left before (m ∷ []) n k)
 
--- and no number stands twice
+-- and no number occurs twice
 pub once_each : (before ns : List ℕ) → repeats before ns ≡ false → Distinct ns
 once_each before [] e = tt
 once_each before (m ∷ ns) e =
@@ -79,7 +80,7 @@ has_slice [] j v e = absurd (cc e)
 has_slice (x ∷ xs) zero v e = inl (some_number x v e)
 has_slice (x ∷ xs) (suc j) v e = inr (has_slice xs j v e)
 
--- a number stands at one place
+-- a number is at one place
 pub place_once : (xs : List ℕ) (i j v : ℕ) → Distinct xs → slice_get xs i ≡ Some v → slice_get xs j ≡ Some v → i ≡ j
 place_once [] i j v d e f = absurd (cc e)
 place_once (x ∷ xs) zero zero v d e f = refl

@@ -1,4 +1,4 @@
--- Which labels stand without quotes.
+-- Which labels need no quotes.
 use Rattle.std.proofs.Common.{◌≡◌, ℕ, ◌+◌, ◌-◌, List, [], ◌∷◌, length, take, drop, arith, refl, ap, sym, ◌∙◌, Bool, true, false, Option}
 use Rattle.std.specs.Prelude.{Some, None, ◌==◌, cond}
 use Rattle.std.proofs.lemmas.List.{take_all, length-drop}

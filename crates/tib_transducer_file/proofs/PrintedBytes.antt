@@ -83,7 +83,7 @@ free_line scale names labels r e g =
     root_plain : (g : IsGood scale names labels r) → IsPlainLabel labels g.shaped.begins.root
     root_plain g = subst (λ (s : Symbol ℕ Variable). IsPlainOnLeft labels s) g.shaped.begins.is_root g.printable.left.0
 
--- the lines, each behind the one before it
+-- the lines, each after the one before it
 abbrev pub lines_in : Scale → List (List ℕ) → List (List ℕ) → List (TransducerRule ℕ) → List (List ℕ)
 lines_in scale names labels [] = []
 lines_in scale names labels (r ∷ rules) = line_text scale names labels r ∷ lines_in scale names labels rules

@@ -1,4 +1,5 @@
--- The states of a transducer that was read: they come in order, and each but the start stands in a rule.
+-- The states of a transducer that was read: they come in order, and each but the start occurs in a
+-- rule.
 use Rattle.std.proofs.Common.{◌≡◌, ◌⊎◌, ℕ, ◌+◌, ◌<◌, ◌≤◌, inl, inr, Option, List, [], ◌∷◌, ◌++◌, length, get_or, append_assoc, length-append, refl, ap, sym, ◌∙◌, subst, arith, zero, suc}
 use Rattle.std.specs.Prelude.{Some, None, slice_get, map, Contains}
 use Rattle.std.proofs.lemmas.Option.{slice_get-get_or, slice_get_within, get_or_from_slice_get}
@@ -20,7 +21,7 @@ use Rattle.tib_transducer_file.specs.Value.{IsRightSymbol, IsRightNode, IsRule, 
 use Rattle.tib_transducer_file.proofs.ShapesRead.{pair_rank, left_ends}
 use Rattle.tib_transducer_file.specs.ByName.{states_of, ComeInOrder}
 
--- nothing stands below a leaf
+-- nothing is below a leaf
 abbrev IsBare : {P : Type 0} → Symbol ℕ P × ℕ → Type 0
 IsBare (label f, n) = Unit {0}
 IsBare (hole p, n) = n ≡ 0
@@ -177,7 +178,7 @@ module _ (names : List (List ℕ)) (apart : Distinct names) where
       let long : length (before ++ text ∷ []) ≡ suc (length before) = omega (arith, length-append before (text ∷ [])) in
       come_next q qs (length before) (new_at before texts text q a.0 own) (subst (λ (k : ℕ). Come names k qs) long (come (before ++ text ∷ []) texts qs own a.1))
 
--- behind the start
+-- after the start
 pub come_behind : (names texts : List (List ℕ)) (start : List ℕ) (qs : List ℕ) → Distinct names → AddsAll [] (start ∷ texts) names → AreNamed names qs texts → Come names 1 qs
 come_behind names texts start qs d (middle, inl (held, e), more) a = absurd (omega (arith, held.1))
 come_behind names texts start qs d (middle, inr (new, e), more) a = come names d (start ∷ []) texts qs (subst (λ (xs : List (List ℕ)). AddsAll xs texts names) e more) a

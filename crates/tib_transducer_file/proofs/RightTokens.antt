@@ -70,7 +70,7 @@ right_had names labels m ts k more rest e f b h =
 right_means : (names labels : List (List ℕ)) (m : ℕ) (ts : Trees (Symbol ℕ (Pair ℕ))) (k : ℕ) (more : List Piece) → FitsRight (length names) m labels ts → meanings (right_tokens names labels ts k ++ more) ≡ spell (right_written names labels ts) ++ meanings more
 right_means names labels m ts k more f = forest_means (IsPlainLabel labels) (IsPairPlain (length names) m) (pair_text names labels) labels ts f k more
 
--- a right side and the weight behind it
+-- a right side and the weight after it
 pub back_had : (scale : Scale) (names labels : List (List ℕ)) (m : ℕ) (s : Side ℕ (Pair ℕ)) (cost : ℕ) → Each IsStateName names → FitsRight (length names) m labels (only s) → IsPlainCost scale cost →
     Had (spell (right_written names labels (only s)) ++ weight_words (weight_of scale cost)) (32 ∷ (side_text (pair_text names labels) labels s ++ cost_text scale cost))
 back_had scale names labels m s cost e f c =

@@ -1,4 +1,5 @@
--- The parts that are read of tokens are those of the rule that they spell, whatever its right side is.
+-- The parts that are read of tokens are those of the rule that they spell, whatever its right side
+-- is.
 use Rattle.std.proofs.Common.{◌≡◌, ℕ, ◌+◌, ◌<◌, ◌≤◌, List, [], ◌∷◌, ◌++◌, length, take, drop, get_or, refl, ap, sym, ◌∙◌, subst, arith, Bool, true, false, Option, suc, length-append}
 use Rattle.std.specs.Prelude.{Some, None, nat_lt, cond, not}
 use Rattle.std.specs.List.{list_any}
@@ -86,7 +87,7 @@ quoted_no_arrow token_kinds.Hash e = refl
 quoted_no_arrow token_kinds.Name e = refl
 quoted_no_arrow token_kinds.Quoted e = refl
 
--- as many as pass stand before an arrow
+-- an arrow after these tokens is the first one
 abbrev PassAll : List Piece → Type 0
 PassAll pieces = (mark : Piece) (back : List Piece) → is_no_arrow mark ≡ false → arrow_at (pieces ++ mark ∷ back) ≡ length pieces
 

@@ -45,7 +45,7 @@ module _ {R : Type 0} (Is : List (List ℕ) → List (List ℕ) → R → RuleLi
     same = front_none wanted;
   }
 
-  -- a line more
+  -- one more line
   pub goes : (one : List ℕ → Result (Option RuleLine) FaultKind) (z a b t u : List (List ℕ)) (old now : List R) (n at : ℕ) (line : Line) (bytes : List ℕ) (wanted : Result (List RuleLine) FileFault) → IsNextLine bytes n at line → Grows a b → Grows t u → AddsLine Is a b u old now (Ok tt) (one (slice_range bytes line.start line.end)) → SoFar Is z a t old (each_line one n (lines_of (drop at bytes))) wanted → SoFar Is z b u now (each_line one (n + 1) (lines_of (drop line.next bytes))) wanted
   goes one z a b t u old now n at line bytes wanted next g h (inl (none, names, same)) so = record {
     done = so.done;

@@ -128,6 +128,6 @@ rules_within names labels (r ∷ rules) [] a m h = absurd a
 rules_within names labels (r ∷ rules) (l ∷ lines) a zero h = (rule_shaped names labels r l a.0).1
 rules_within names labels (r ∷ rules) (l ∷ lines) a (suc m) h = rules_within names labels rules lines a.1 m (omega arith)
 
--- nothing stands below a variable
+-- nothing is below a variable
 pub left_ends : (labels : List (List ℕ)) (s : Side ℕ Variable) (p : Parts) → IsLeftSide labels (preorder_of s) p → HolesAreLeaves (only s)
 left_ends labels s p h = HolesAreLeaves-items (items_from (preorder_of s)) s (rooted labels (preorder_of s) p h).pairs

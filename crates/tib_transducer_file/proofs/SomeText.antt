@@ -165,7 +165,7 @@ pub file_spelled : (Right : List Word → List Item → Type 0) (scale : Scale) 
 file_spelled Right scale lines start rules h =
     file_has {Right = Right} (λ line. Unit {0}) (IsSpelled Right scale) scale (λ line rule p s. (line, s)) lines start rules (each_line_has lines) h
 
--- the parts of a rule beside its right side, for which a line stands
+-- the parts of a rule but for its right side, for which a line stands
 pub record RuleParts (names labels : List (List ℕ)) (line : RuleLine) (puts : List (Symbol ℕ (Pair ℕ) × ℕ)) : Type 0 where
   pub state : ℕ
   pub left : Side ℕ Variable

@@ -24,7 +24,7 @@ use Rattle.tib_transducer_file.proofs.Variables.{same_eqb, unstopped}
 use Rattle.tib_transducer_file.specs.Printed.{is_plain, is_variable, label_text, asked_text}
 use Rattle.tib_transducer_file.proofs.Numerals.{IsNumeral}
 
--- what stands behind a front
+-- what comes after a front
 pub behind_front : (xs ys : List ℕ) → drop (length xs) (xs ++ ys) ≡ ys
 behind_front [] ys = refl
 behind_front (x ∷ xs) ys = behind_front xs ys
@@ -33,7 +33,7 @@ pub behind_one : (xs ys : List ℕ) (y : ℕ) → drop (length xs + 1) (xs ++ (y
 behind_one [] ys y = refl
 behind_one (x ∷ xs) ys y = let n : suc (length xs) + 1 ≡ suc (length xs + 1) = omega arith in rw n (behind_one xs ys y)
 
--- a label that stands as it is
+-- a label that needs no quotes
 pub record IsPlain (text : List ℕ) : Type 0 where
   pub named : IsName text
   pub no_stop : has_dot text ≡ false
@@ -111,7 +111,7 @@ label_no_variable text = by (is_plain text) refl
     by true e = (plain_is text e).none
     by false e = no_size (spelling (label text)) refl
 
--- behind a colon stands the label that a variable asks for
+-- after a colon is the label that a variable asks for
 abbrev pub asked_of : List (List ℕ) → Option ℕ → Option (List ℕ)
 asked_of labels None = None
 asked_of labels (Some f) = Some (get_or labels f [])

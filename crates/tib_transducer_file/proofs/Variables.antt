@@ -12,7 +12,7 @@ use Rattle.tib_transducer_file.specs.Forms.{digits, some_digits, number_size, nu
 use Rattle.tib_transducer_file.proofs.Numbers.{front_digits}
 use Rattle.tib_transducer_file.proofs.Slices.{slice_drop, slice_empty, slice_cons, slice_long, slice_take}
 
--- a number behind an x
+-- a number after an x
 pub record NumberIn (text : List ℕ) (n : ℕ) : Type 0 where
   pub few : n < 10
   pub within : n + 1 ≤ length text
@@ -51,7 +51,7 @@ has_ending text n e h =
     let ne : (number_size text == 0) ≡ false = ne-eqb (number_size text) 0 (λ z. omega (arith, e, z)) in
     rw ne refl
 
--- what stands behind the number of a token
+-- what comes after the number of a token
 behind_is : (line : List ℕ) (start end n : ℕ) → n ≡ number_size (slice_range line start end) → start + n + 1 ≤ end → behind_number (slice_range line start end) ≡ slice_range line (start + n + 1) end
 behind_is line start end n e h =
     let m : start + (n + 1) ≡ start + n + 1 = omega arith in
@@ -145,7 +145,7 @@ paired line start end text front back state stop n number r t w o s f i y b e z 
     ∙ a_pair text (front_is text front stop r s f i ∙ y) (ap is_number bk ∙ num)
     ∙ ap pair_of t
 
--- a name that stands before a full stop has a byte
+-- a name that comes before a full stop has a byte
 pub front_some : (text front : List ℕ) (stop : ℕ) (some : 0 < length front) → front ≡ take stop text → 0 < stop
 front_some text front zero some e = absurd (omega (arith, ap length e))
 front_some text front (suc n) some e = omega arith

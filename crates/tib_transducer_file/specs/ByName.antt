@@ -51,7 +51,7 @@ line_text scale names labels r =
     ++ (32 ∷ (45 ∷ (62 ∷ (32 ∷ (side_text (pair_text names labels) labels r.right
     ++ cost_text scale r.cost)))))))
 
--- the states of rules, as they stand from left to right
+-- the states of rules, from left to right
 abbrev pub states_of : List (TransducerRule ℕ) → List ℕ
 states_of [] = []
 states_of (r ∷ rules) = r.state ∷ (states_in r.right ++ states_of rules)
@@ -82,7 +82,7 @@ pub record IsPrintable (scale : Scale) (labels : List (List ℕ)) (r : Transduce
   pub cost : IsPlainCost scale r.cost
 
 -- A transducer that has a text over a table of labels: it is sound, its rules can be written, and
--- each state but the start stands in a rule.
+-- each state but the start occurs in a rule.
 pub record HasText (scale : Scale) (labels : List (List ℕ)) (t : TransducerOf) : Type 0 where
   pub start : 0 < length t.names
   pub names : AreStateNames t.names

@@ -40,7 +40,8 @@ pub record AreOneTransducerRule (labels others : List (List ℕ)) (r s : Transdu
   pub right : HaveOneShape (AgreeOnRight labels others) (only r.right) (only s.right)
   pub cost : r.cost ≡ s.cost
 
--- Transducers that differ in the numbers of their labels alone: the same names, and the same rules side by side.
+-- Transducers that differ in the numbers of their labels alone: the same names, and the same rules
+-- side by side.
 pub record AreOneTransducer (labels others : List (List ℕ)) (t u : TransducerOf) : Type 0 where
   pub names : t.names ≡ u.names
   pub rules : Along (AreOneTransducerRule labels others) t.rules u.rules

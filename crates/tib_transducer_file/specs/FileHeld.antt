@@ -1,4 +1,5 @@
--- What a file holds that was read, whatever the right sides of its rules are, and whatever is made of them.
+-- What a file holds that was read, whatever the right sides of its rules are, and whatever is made
+-- of them.
 use Rattle.tib_cost.specs.declared.Scale.{Scale}
 use Rattle.std.specs.Prelude.{◌≡◌, ℕ, true, false, List, [], ◌∷◌}
 use Rattle.tib_lex.specs.Grammar.{Word}
@@ -18,7 +19,7 @@ IsFew line = has_many line.parts ≡ false
 abbrev pub IsNamed : RuleLine → Type 0
 IsNamed line = has_state line.parts.root ≡ true
 
--- a start line, and these behind it
+-- a start line, and these after it
 pub record FileHeld (Right : List Word → List Item → Type 0) (scale : Scale)
     (lines : List (List ℕ)) (start : List ℕ) (rules : List RuleLine) : Type 0 where
   pub have : HaveStartBy Right scale lines start rules
@@ -26,7 +27,8 @@ pub record FileHeld (Right : List Word → List Item → Type 0) (scale : Scale)
   pub named : Each IsNamed rules
   pub name : IsStateName start
 
--- a file was read: its states, each once, in the order in which they first stand in it, and its rules
+-- a file was read: its states, each once, in the order in which they first occur in it, and its
+-- rules
 pub record FileReadBy (Right : List Word → List Item → Type 0) {R : Type 0}
     (Is : List (List ℕ) → List (List ℕ) → R → RuleLine → Type 0) (scale : Scale)
     (bytes : List ℕ) (names labels : List (List ℕ)) (rules : List R) : Type 0 where

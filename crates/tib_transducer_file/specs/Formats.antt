@@ -9,7 +9,8 @@ use Rattle.tib_grammar_file.proofs.PartsRead.{nodes_few}
 use Rattle.tib_grammar_file.proofs.RulesRead.{HasNoHash, no_hash}
 use Rattle.tib_transducer_file.specs.Built.{AreOneTree}
 
--- What is read of tokens is what they mean; none of these is a hash, and they are as many as their items at least.
+-- What is read of tokens is what they mean; none of these is a hash, and they are as many as their
+-- items at least.
 pub record IsFormat (Right : List Word → List Item → Type 0) (read : List Word → Option (List Item)) : Type 0 where
   pub back : (words : List Word) (is : List Item) → read words ≡ Some is → Right words is
   pub forth : (words : List Word) (is : List Item) → Right words is → read words ≡ Some is

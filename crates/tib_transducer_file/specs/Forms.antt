@@ -9,7 +9,7 @@ use Rattle.tib_tree.specs.Written.{Item}
 use Rattle.tib_grammar_file.specs.Weight.{is_digit, decimal}
 use Rattle.tib_transducer_file.specs.Pieces.{Piece, meaning}
 
--- how many digits stand at the front
+-- how many digits are at the front
 abbrev pub digits : List ℕ → ℕ
 digits text = prefix_len is_digit text
 
@@ -21,14 +21,14 @@ abbrev pub number_size : List ℕ → ℕ
 number_size [] = 0
 number_size (b ∷ rest) = if b == 120 then some_digits (digits rest) else 0
 
--- their number, and what stands behind them
+-- their number, and what comes after them
 abbrev pub number_of : List ℕ → ℕ
 number_of text = decimal (take (number_size text) (drop 1 text))
 
 abbrev pub behind_number : List ℕ → List ℕ
 behind_number text = drop (number_size text + 1) text
 
--- a label as it is written behind a state or a variable: as it stands, or in quotes
+-- a label as it is written after a state or a variable: without quotes, or in them
 abbrev pub is_quoted : List ℕ → Bool
 is_quoted [] = false
 is_quoted (b ∷ rest) = b == 34 && not (nat_lt (length rest) 1)
@@ -36,7 +36,7 @@ is_quoted (b ∷ rest) = b == 34 && not (nat_lt (length rest) 1)
 abbrev pub written_label : List ℕ → List ℕ
 written_label text = if is_quoted text then unescape (slice_range text 1 (length text - 1)) else text
 
--- what may stand behind a variable's number: nothing, a colon, or a colon and a label
+-- what may come after a variable's number: nothing, a colon, or a colon and a label
 abbrev pub label_behind : List ℕ → Option (List ℕ)
 label_behind [] = None
 label_behind (b ∷ rest) = Some (written_label (b ∷ rest))
@@ -45,14 +45,14 @@ abbrev pub ending : ℕ → List ℕ → Option (ℕ × Option (List ℕ))
 ending number [] = Some (number, None)
 ending number (b ∷ rest) = if b == 58 then Some (number, label_behind rest) else None
 
--- A variable: x, one to nine digits, maybe a colon, and behind it maybe the label that it asks for.
+-- A variable: x, one to nine digits, maybe a colon, and after it maybe the label that it asks for.
 unfoldable pub variable_of : List ℕ → Option (ℕ × Option (List ℕ))
 variable_of text = if number_size text == 0 then None else ending (number_of text) (behind_number text)
 
 abbrev pub not_stop : ℕ → Bool
 not_stop b = not (b == 46)
 
--- what stands before the first full stop, and behind it
+-- what comes before the first full stop, and after it
 abbrev pub stop_at : List ℕ → ℕ
 stop_at text = prefix_len not_stop text
 
@@ -69,7 +69,7 @@ is_number text = not (number_size text == 0) && length text == number_size text 
 unfoldable pub pair_of : List ℕ → Option (List ℕ × ℕ)
 pair_of text = if is_name (before_stop text) && is_number (behind_stop text) then Some (before_stop text, number_of (behind_stop text)) else None
 
--- A root: a state's name, a full stop, and something behind it.
+-- A root: a state's name, a full stop, and something after it.
 abbrev pub is_root : List ℕ → Bool
 is_root text = is_name (before_stop text) && nat_lt 0 (length (behind_stop text))
 
@@ -127,8 +127,8 @@ abbrev pub opens : List Piece → Bool
 opens [] = false
 opens (p ∷ pieces) = is_kind kinds.Open p.kind
 
--- a name takes the quoted token that follows it directly: at the root behind a state and its full stop, below it behind a
--- variable and its colon, where no parenthesis follows
+-- a name takes the quoted token that follows it directly: at the root after a state and its full
+-- stop, below it after a variable and its colon, where no parenthesis follows
 abbrev pub takes : Bool → List ℕ → List Piece → Bool
 takes true text behind = ends_with_stop text
 takes false text behind = ends_with_colon text && not (opens behind)
@@ -136,7 +136,8 @@ takes false text behind = ends_with_colon text && not (opens behind)
 abbrev pub takes_next : Bool → Piece → Piece → List Piece → Bool
 takes_next root p q behind = is_kind kinds.Name p.kind && is_kind kinds.Quoted q.kind && q.joined && takes root p.bytes behind
 
--- The words of a left side, of which the first is its root's: a name with the quoted token that it takes is one.
+-- The words of a left side, of which the first is its root's: a name with the quoted token that it
+-- takes is one.
 abbrev pub joins : Bool → List Piece → List Word
 joins root [] = []
 joins root (p ∷ []) = meaning p ∷ []

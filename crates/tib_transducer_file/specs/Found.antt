@@ -79,7 +79,8 @@ IsChecked p numbers (Err errors.OutOfMemory) = Unit {0}
 abbrev pub is_lone_root : Option ℕ → List ℕ → Bool
 is_lone_root kids behind = is_leaf kids && is_some (variable_of behind)
 
--- the items of a left side begin with a root that has a state, and its tokens were found; or else they are of no rule
+-- the items of a left side begin with a root that has a state, and its tokens were found; or else
+-- they are of no rule
 pub record LeftIn (line : List ℕ) (places : List Place) (root : RootToken) (read : Option (List Item)) : Type 0 where
   pub first : Item
   pub below : List Item
@@ -93,7 +94,7 @@ abbrev pub IsLeftFound : List ℕ → List Place → Option RootToken → Option
 IsLeftFound line places None read = (right : Option RightParts) → with_left read right ≡ None
 IsLeftFound line places (Some root) read = LeftIn line places root read
 
--- the keys are the numbers, of which none stands twice, or else one does
+-- the keys are the numbers, of which none occurs twice, or else one does
 abbrev pub AreNumbers : Bool → List ℕ → List ℕ → Type 0
 AreNumbers true keys numbers = (keys ≡ numbers) × (repeats [] numbers ≡ false)
 AreNumbers false keys numbers = repeats [] numbers ≡ true

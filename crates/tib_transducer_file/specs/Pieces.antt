@@ -1,4 +1,5 @@
--- The tokens of a line as they are spelled, each with whether it follows directly on the one before it.
+-- The tokens of a line as they are spelled, each with whether it follows directly on the one before
+-- it.
 use Rattle.std.specs.Prelude.{◌≡◌, ℕ, Bool, not, ◌==◌, List, [], ◌∷◌, map, drop, slice_range, Option, Some, None, option_map, zero, suc, length}
 use Rattle.tib_lex.specs.Grammar.{Word, spelling, begins_blank, AfterBlanks, Begins, HasWords}
 use Rattle.tib_lex.specs.Line.{word_of}
@@ -8,7 +9,7 @@ use Rattle.tib_lex.specs.declared.token.Token.{Token}
 use Rattle.tib_lex.specs.declared.token.Lexed.{Lexed}
 use Rattle.tib_lex.specs.declared.token.Lexed.TheVariants as lexed
 
--- a token: whether no white space stands before it, its kind, and its bytes
+-- a token: whether no white space comes before it, its kind, and its bytes
 pub record Piece : Type 0 where
   pub joined : Bool
   pub kind : Kind
@@ -32,7 +33,7 @@ HasPieces (p ∷ pieces) line =
     × (p.bytes ≡ spelling (meaning p))
     × AfterBlanks (λ bytes. (rest : List ℕ) × Begins bytes (meaning p) rest × HasPieces pieces rest) line
 
--- The reading: each token behind the one before it.
+-- The reading: each token after the one before it.
 abbrev pub pieces_after : (List ℕ → Option (List Piece)) → List ℕ → Lexed → Option (List Piece)
 pieces_after more bytes lexed.End = Some []
 pieces_after more bytes (lexed.BadToken place) = None
@@ -47,7 +48,7 @@ pieces_in (suc n) bytes = pieces_after (λ rest. pieces_in n rest) bytes (next b
 unfoldable pub pieces_of : List ℕ → Option (List Piece)
 pieces_of line = pieces_in (suc (length line)) line
 
--- the tokens of a line at their places, behind one that ends at a place
+-- the tokens of a line at their places, after one that ends at a place
 abbrev pub pieces_at : List ℕ → ℕ → List Token → List Piece
 pieces_at line at [] = []
 pieces_at line at (t ∷ tokens) = piece (t.start == at) t.kind (slice_range line t.start t.end) ∷ pieces_at line t.end tokens

@@ -19,12 +19,12 @@ use Rattle.tib_transducer_file.specs.Forms.{variable_of, is_some}
 abbrev pub is_variable : List ℕ → Bool
 is_variable text = is_some (variable_of text)
 
--- the same by its bytes: nothing stands behind x and the digits, or a colon
+-- the same by its bytes: nothing comes after x and the digits, or a colon
 abbrev pub ends_or_colon : List ℕ → Bool
 ends_or_colon [] = true
 ends_or_colon (b ∷ rest) = b == 58
 
--- A label that reads as one as it stands: a name without a full stop that is no variable.
+-- A label that reads as one without quotes: a name without a full stop that is no variable.
 abbrev pub is_plain : List ℕ → Bool
 is_plain text = is_name text && (not (has_dot text) && not (is_variable text))
 
@@ -58,7 +58,7 @@ side_text leaf labels = written_side (symbol_text leaf labels)
 abbrev pub end_text : Scale → ℕ → List ℕ
 end_text scale cost = cost_text scale cost ++ 10 ∷ []
 
--- a rule behind its left side, and behind its state
+-- a rule after its left side, and after its state
 abbrev pub right_text : Scale → List (List ℕ) → List (List ℕ) → TransducerRule ℕ → List ℕ
 right_text scale names labels r =
     side_text (pair_text names labels) labels r.right ++ end_text scale r.cost
@@ -67,8 +67,8 @@ abbrev pub left_text : Scale → List (List ℕ) → List (List ℕ) → Transdu
 left_text scale names labels r =
     side_text (variable_text names labels) labels r.left ++ (32 ∷ (45 ∷ (62 ∷ (32 ∷ []))) ++ right_text scale names labels r)
 
--- The line of a rule: its state, a full stop, the left side, an arrow, the right side, and where costs are weighed a hash and
--- the weight.
+-- The line of a rule: its state, a full stop, the left side, an arrow, the right side, and where
+-- costs are weighed a hash and the weight.
 abbrev pub rule_text : Scale → List (List ℕ) → List (List ℕ) → TransducerRule ℕ → List ℕ
 rule_text scale names labels r =
     get_or names r.state [] ++ (46 ∷ [] ++ left_text scale names labels r)

@@ -1,5 +1,6 @@
--- A rule line of a transducer file. What its right side is, and how that is read, are given: `Right`
--- says which tokens are which items, and `read` gives them. Those of tree transducers are trees.
+-- A rule line of a transducer file. What its right side is, and how that is read, are given:
+-- `Right` says which tokens are which items, and `read` gives them. Those of tree transducers are
+-- trees.
 use Rattle.tib_cost.specs.declared.Scale.{Scale}
 use Rattle.std.specs.Prelude.{◌≡◌, ◌+◌, ℕ, Bool, true, false, not, nat_lt, nat_eq, ◌&&◌, ◌||◌, List, [], ◌∷◌, ◌++◌, length, take, drop, Option, Some, None, Result, Ok, Err, if◌then◌else◌}
 use Rattle.std.specs.List.{prefix_len, list_any}
@@ -15,7 +16,8 @@ use Rattle.tib_grammar_file.specs.Weight.{cost_of}
 use Rattle.tib_transducer_file.specs.Pieces.{Piece, meanings, pieces_of}
 use Rattle.tib_transducer_file.specs.Forms.{variable_of, variable_in, pair_in, before_stop, behind_stop, written_label, is_root, is_some, is_stray, is_kind, left_words}
 
--- what is written in a rule line: the root of the left side, its other items in preorder, those of the right side, and a weight
+-- what is written in a rule line: the root of the left side, its other items in preorder, those of
+-- the right side, and a weight
 pub record Parts : Type 0 where
   pub root : Item
   pub below : List Item
@@ -102,7 +104,7 @@ is_leaf (Some n) = false
 abbrev pub is_lone : Parts → Bool
 is_lone p = is_leaf p.root.kids && is_some (variable_of (behind_stop p.root.text))
 
--- some number stands behind an equal one, or behind one of those before
+-- some number comes after an equal one, or after one of those before
 abbrev pub repeats : List ℕ → List ℕ → Bool
 repeats before [] = false
 repeats before (n ∷ numbers) = list_any (nat_eq n) before || repeats (before ++ n ∷ []) numbers

@@ -22,8 +22,8 @@ pub record HasPartsBy (Right : List Word → List Item → Type 0) (line : List 
   pub has : HasPieces pieces line
   pub spells : SpellsRuleBy Right pieces p
 
--- A rule line: no variable is alone or stands twice on the left, none on the right is unknown there, and the weight stands
--- for the cost.
+-- A rule line: no variable is alone or occurs twice on the left, none on the right is unknown
+-- there, and the weight stands for the cost.
 pub record SpellsLineBy (Right : List Word → List Item → Type 0) (scale : Scale) (line : List ℕ)
     (rule : RuleLine) : Type 0 where
   pub parts : HasPartsBy Right line rule.parts
@@ -62,8 +62,8 @@ HaveRules scale lines rules = HaveRulesBy IsTree scale lines rules
 abbrev pub HaveStart : Scale → List (List ℕ) → List ℕ → List RuleLine → Type 0
 HaveStart scale lines start rules = HaveStartBy IsTree scale lines start rules
 
--- The bytes are the text of a transducer: its rules stand for the rule lines, and its states are the start and those of the
--- rules, each once, in the order in which they first stand in the file.
+-- The bytes are the text of a transducer: its rules stand for the rule lines, and its states are
+-- the start and those of the rules, each once, in the order in which they first occur in the file.
 pub record TransducerText (scale : Scale) (labels : List (List ℕ)) (bytes : List ℕ) (t : TransducerOf) : Type 0 where
   pub start : List ℕ
   pub lines : List RuleLine

@@ -29,7 +29,8 @@ IsLeftSymbol labels (label f) None text = slice_get labels f ≡ Some text
 abbrev pub IsLeftNode : List (List ℕ) → Symbol ℕ Variable × ℕ → Item → Type 0
 IsLeftNode labels s i = IsLeftSymbol labels s.0 (variable_in i) i.text × (s.1 ≡ rank_of i.kids)
 
--- a pair of a state and the place of the number among those of the left side, or a label by its text
+-- a pair of a state and the place of the number among those of the left side, or a label by its
+-- text
 abbrev pub IsRightSymbol : List (List ℕ) → List (List ℕ) → List ℕ → Symbol ℕ (Pair ℕ) → Option (List ℕ × ℕ) → List ℕ → Type 0
 IsRightSymbol names labels numbers (hole x) (Some q) text = (slice_get names x.state ≡ Some q.0) × (slice_get numbers x.variable ≡ Some q.1)
 IsRightSymbol names labels numbers (hole x) None text = ⊥
@@ -49,8 +50,8 @@ abbrev pub IsLeftSide : List (List ℕ) → List (Symbol ℕ Variable × ℕ) �
 IsLeftSide labels [] p = ⊥
 IsLeftSide labels (s ∷ ss) p = IsRootItem labels s (label_of p) p.root.kids × Along (IsLeftNode labels) ss p.below
 
--- A rule of these parts stands for what its line says, whatever holds the nodes of its right side. Its variables are numbered anew,
--- 0, 1, 2 and so on in preorder of the left side.
+-- A rule of these parts stands for what its line says, whatever holds the nodes of its right side.
+-- Its variables are numbered anew, 0, 1, 2 and so on in preorder of the left side.
 pub record IsRuleOf (names labels : List (List ℕ)) (from : ℕ) (reads : Side ℕ Variable)
     (puts : List (Symbol ℕ (Pair ℕ) × ℕ)) (costs : ℕ) (line : RuleLine) : Type 0 where
   pub state : slice_get names from ≡ Some (state_of line.parts)
@@ -90,7 +91,7 @@ abbrev pub right_text : Option (List ℕ × ℕ) → List ℕ → List (List ℕ
 right_text None text = text ∷ []
 right_text (Some q) text = []
 
--- the states of some items, and those of lines, as they stand from left to right
+-- the states of some items, and those of lines, from left to right
 abbrev pub state_before : Option (List ℕ × ℕ) → List (List ℕ) → List (List ℕ)
 state_before None states = states
 state_before (Some q) states = q.0 ∷ states

@@ -1,4 +1,4 @@
-// Reads files of transducers, whatever stands on the right of their rules.
+// Reads transducer files with any kind of right sides.
 ghost use Rattle.std.specs.Prelude.{◌≤◌, ◌<◌, ◌+◌, ◌-◌, ◌^◌, length, IfOk, IfErr};
 ghost use Rattle.tib_io.specs.Reads.{most_bytes};
 ghost use Rattle.tib_tree.specs.Grows.{Grows};
@@ -25,11 +25,12 @@ pub struct FileRules<T> {
     pub rules: Vec<T>,
 }
 
-/// Reads a file of a transducer. The states are the start and those of the rules, each once, in the order in which they first stand in the
-/// file. The texts of labels go into the table of labels.
+/// Reads a file of a transducer. The states are the start and those of the rules, each once, in the
+/// order in which they first occur in the file. The texts of labels go into the table of labels.
 ///
-/// A fault is the first of the file. After an error the table may hold texts of some labels of the file, and the texts that it held keep
-/// their numbers; `OutOfMemory` says nothing of the file. It takes time in proportion to the file.
+/// A fault is the first of the file. After an error the table may hold texts of some labels of the
+/// file, and the texts that it held keep their numbers; `OutOfMemory` says nothing about the file.
+/// It takes time in proportion to the file.
 pub fn read_file<S: Semiring, R: RightReader>(
     alloc: Global,
     bytes: &[u8],

@@ -26,7 +26,7 @@ fn is_digit(byte: u8) -> bool
     byte > 47 && byte < 58
 }
 
-// How many digits stand at the front.
+// How many digits are at the front.
 #[tactic(auto, using(tib_lex::proofs::Runs::run_on, tib_lex::proofs::Runs::run_ends))]
 fn count_digits(bytes: &[u8]) -> usize
     ensures count { result ≡ digits bytes.now }
@@ -68,7 +68,7 @@ fn value_of(digits: &[u8]) -> u32
     value
 }
 
-// The number behind the x.
+// The number after the x.
 fn number_of(text: &[u8], size: usize) -> u32
     requires size { size ≡ spec_number_size text.now }
     requires some { 0 < size }
@@ -98,7 +98,7 @@ pub(crate) struct RootToken {
     pub behind: Token,
 }
 
-/// The token of a label that is written as it stands or in quotes.
+/// The token of a label that is written without quotes or in them.
 pub(crate) fn label_token(line: &[u8], start: u32, end: u32) -> Token
     requires some { start < end }
     requires within { end ≤ length line.now }
@@ -138,7 +138,7 @@ pub(crate) fn variable_of(line: &[u8], token: Token) -> Option<VariableToken>
     Some(VariableToken { number, label })
 }
 
-// The label behind a colon, if there is one.
+// The label after a colon, if there is one.
 fn label_behind(line: &[u8], start: u32, end: u32) -> Option<Token>
     requires order { start ≤ end }
     requires within { end ≤ length line.now }
@@ -151,7 +151,7 @@ fn label_behind(line: &[u8], start: u32, end: u32) -> Option<Token>
     Some(label_token(line, start, end))
 }
 
-// Where the first full stop stands.
+// Where the first full stop is.
 #[tactic(auto, using(tib_lex::proofs::Runs::run_on, tib_lex::proofs::Runs::run_ends))]
 fn stop_at(text: &[u8]) -> usize
     ensures place { result ≡ spec_stop_at text.now }
@@ -195,7 +195,7 @@ fn pair_of(line: &[u8], token: Token) -> Option<PairToken>
     Some(PairToken { state, number })
 }
 
-/// The root that a token is, by its bytes: a state's name, a full stop, and something behind it.
+/// The root that a token is, by its bytes: a state's name, a full stop, and something after it.
 pub(crate) fn root_of(line: &[u8], token: Token) -> Option<RootToken>
     requires { Lies (length line.now) token }
     ensures root { is_some result ≡ is_root (bytes_at line.now token) }

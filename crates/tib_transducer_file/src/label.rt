@@ -1,4 +1,4 @@
-// Writes labels as they stand in transducers, and tells which of them stand without quotes.
+// Writes labels as they are written in transducers, and decides which of them need no quotes.
 ghost use Rattle.std.specs.Prelude.{◌≡◌, ◌≤◌, ◌<◌, length};
 ghost use Rattle.tib_grammar_file.specs.Prints.{Prints};
 ghost use Rattle.tib_grammar_file.specs.Rule.{has_dot as spec_has_dot};
@@ -22,7 +22,7 @@ fn is_digit(byte: u8) -> bool
     byte > 47 && byte < 58
 }
 
-// How many digits stand at the front.
+// How many digits are at the front.
 #[tactic(auto, using(tib_lex::proofs::Runs::run_on, tib_lex::proofs::Runs::run_ends))]
 fn count_digits(bytes: &[u8]) -> usize
     ensures count { result ≡ digits bytes.now }
@@ -50,7 +50,7 @@ fn number_size(text: &[u8]) -> usize
     if count < 10 { count } else { 0 }
 }
 
-// Whether nothing stands there, or a colon comes first.
+// Whether nothing is there, or a colon comes first.
 fn ends_or_colon(text: &[u8]) -> bool
     ensures { result ≡ spec_ends_or_colon text.now }
 {
@@ -71,7 +71,7 @@ fn is_variable(text: &[u8]) -> bool
     ends_or_colon(&text[size + 1..])
 }
 
-// Whether a label reads as one as it stands.
+// Whether a label reads as one without quotes.
 fn is_plain(text: &[u8]) -> bool
     ensures { result ≡ spec_is_plain text.now }
 {

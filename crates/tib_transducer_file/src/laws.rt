@@ -3,7 +3,8 @@ ghost use Rattle.tib_transducer_file.specs.Laws.{GivesFaults, TextsHaveNone, Fir
 ghost use Rattle.tib_transducer_file.specs.Reading.{transducer_in};
 ghost use Rattle.tib_transducer_file.specs.Faults.{IsFirstFault};
 
-/// The function that says what a file holds gives a fault exactly where this is the first of the file.
+/// The function that says what a file holds gives a fault exactly where this is the first of the
+/// file.
 pub fn transducer_faults_are_read()
     ensures { GivesFaults transducer_in IsFirstFault }
 {}
@@ -19,7 +20,8 @@ pub fn transducer_files_are_texts_or_faulty()
     ensures { TextOrFault IsSomeText IsFirstFault }
 {}
 
-/// The transducers of one text, each over a table of labels of its own, differ in the numbers of labels alone.
+/// The transducers of one text, each over a table of labels of its own, differ in the numbers of
+/// labels alone.
 pub fn one_transducer_by_text()
     ensures { TextsMeanOne }
 {}

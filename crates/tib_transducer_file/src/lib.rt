@@ -1,9 +1,11 @@
-//! Weighted top-down tree transducers as text. `read_transducer` takes the bytes of a file and gives the transducer whose text
-//! they are, or the first fault of the file. It stands on the lines and tokens of `tib_lex`, the labels of `tib_tree`, the
-//! weights of `tib_grammar_file` and the transducers of `tib_transducer`. `read_file` reads files of
-//! another kind too, whose rules have something else on the right (`tib_strings`): what that is, and how it is read, an `impl` of
-//! `RightReader` says. `print_transducer` writes the text of a transducer into a sink of `tib_io`: exactly `transducer_text` of
-//! `specs`, or a front of it where the sink fails. Labels stand in quotes where they would read as something else.
+//! Weighted top-down tree transducers as text. `read_transducer` takes the bytes of a file and
+//! gives the transducer whose text they are, or the first fault of the file. It builds on the lines
+//! and tokens of `tib_lex`, the labels of `tib_tree`, the weights of `tib_grammar_file` and the
+//! transducers of `tib_transducer`. `read_file` also reads files whose rules have other right sides
+//! (`tib_strings`): an `impl` of `RightReader` says what these are and how to read them.
+//! `print_transducer` writes the text of a transducer into a sink of `tib_io`: exactly
+//! `transducer_text` of `specs`, or a prefix of it where the sink fails. Labels are put in quotes
+//! where they would read as something else.
 #![tactic(auto)]
 
 mod file;

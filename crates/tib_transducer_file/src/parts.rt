@@ -159,7 +159,7 @@ fn read_left(
     Ok(read_root(line, &reader.places))
 }
 
-// Where the first arrow stands; behind all tokens if there is none.
+// Where the first arrow is; past the last token if there is none.
 #[tactic(auto, using(crate::proofs::Joins::arrow_on, crate::proofs::Joins::arrow_here))]
 fn arrow_at(tokens: &[Token]) -> usize
     ensures place { result ≡ prefix_len (λ t. not (is_kind kinds.Arrow t.kind)) tokens.now }
@@ -194,8 +194,8 @@ fn has_stray(line: &[u8], places: &[Place]) -> bool
     false
 }
 
-/// Reads both sides of a rule line, if its tokens are one, and finds the root's state and the weight. An error comes only where memory is
-/// refused. It takes time in proportion to the tokens.
+/// Reads both sides of a rule line, if its tokens are one, and finds the root's state and the
+/// weight. Err only if memory is refused. It takes time in proportion to the tokens.
 pub(crate) fn find_parts<R: RightReader>(
     line: &[u8],
     tokens: &[Token],
@@ -241,7 +241,7 @@ fn is_lone(line: &[u8], place: Place, root: RootToken) -> bool
     variable_of(line, root.behind).is_some()
 }
 
-// The numbers of the variables of a left side below its root, if none stands twice.
+// The numbers of the variables of a left side below its root, if none occurs twice.
 fn read_variables(
     line: &[u8],
     below: &[Place],
@@ -288,8 +288,8 @@ fn has_unknown(line: &[u8], places: &[Place], variables: &IndexSet<u32>) -> bool
     false
 }
 
-/// Reads the numbers of the variables of the left side, if the rule uses them well; else the fault is the first of them. It takes time in
-/// proportion to both sides.
+/// Reads the numbers of the variables of the left side, if the rule uses them well; else the fault
+/// is the first of them. It takes time in proportion to both sides.
 pub(crate) fn check_variables(
     line: &[u8],
     left: &[Place],

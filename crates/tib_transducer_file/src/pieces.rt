@@ -7,7 +7,8 @@ ghost use Rattle.tib_transducer_file.specs.Pieces.{pieces_of, pieces_at};
 use std::alloc::AllocError;
 use tib_lex::{Lexed, Token, next_token};
 
-/// Reads the tokens of a line, if none is bad. An error comes only where memory is refused. It takes time in proportion to the line.
+/// Reads the tokens of a line, if none is bad. Err only if memory is refused. It takes time in
+/// proportion to the line.
 pub(crate) fn read_pieces(line: &[u8], tokens: &mut Vec<Token>) -> Result<bool, AllocError>
     requires { length line.now ≤ most_bytes }
     ensures pieces { IfOk result (λ ok. pieces_of line.now

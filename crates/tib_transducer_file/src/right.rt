@@ -1,4 +1,4 @@
-// What stands on the right of rules: how it is read, and the rules that are made with it.
+// The right sides of rules: how they are read, and the rules that are made with them.
 ghost use Rattle.std.specs.Prelude.{◌≡◌, ◌≤◌, ◌<◌, ◌+◌, ◌-◌, ◌^◌, ℕ, List, [], length, map, if◌then◌else◌, All, IfOk, Option, None, Some, false, IsTrue};
 ghost use Rattle.indexmap.specs.IndexSet.{keys};
 ghost use Rattle.tib_lex.specs.Grammar.{Word};
@@ -25,7 +25,7 @@ use tib_lex::Token;
 use tib_transducer::Variable;
 use tib_tree::{Labels, Place};
 
-/// A kind of right sides, and the reader of them, with room that is used again for each line.
+/// A kind of right sides and its reader, with memory that is reused for each line.
 pub trait RightReader: Drop {
     /// A node of a right side: a pair, or a label or word.
     type Node: Drop;
@@ -54,8 +54,9 @@ pub trait RightReader: Drop {
     /// A reader that has read nothing. It takes no memory.
     fn new(alloc: Global) -> Self;
 
-    /// Reads the tokens of a right side, if they are one. After false, and after an error, which comes only where memory is refused, the
-    /// reader can be used again. It takes time in proportion to the tokens.
+    /// Reads the tokens of a right side, if they are one. After false, and after an error, which
+    /// comes only if memory is refused, the reader can be used again. It takes time in proportion
+    /// to the tokens.
     fn read_right(&mut self, line: &[u8], tokens: &[Token]) -> Result<bool, AllocError>
         requires few { length tokens.now < 2 ^ 32 - 1 }
         requires lie { All (Lies (length line.now)) tokens.now }
@@ -70,9 +71,10 @@ pub trait RightReader: Drop {
     fn places(&self) -> &[Place]
         ensures { result.now ≡ places_of self.now };
 
-    /// A node of a right side: a pair, whose variable goes by its place among those of the left side, or a label or word. Their texts go
-    /// into the tables, which keep the numbers of the texts that they held; `text` is room for the text of a quoted token. Only want of
-    /// memory is an error.
+    /// A node of a right side: a pair, whose variable goes by its place among those of the left
+    /// side, or a label or word. Their texts go into the tables, which keep the numbers of the
+    /// texts that they held; `text` is room for the text of a quoted token. Err only if memory is
+    /// refused, and then each table has the texts that it had, or one more.
     fn read_node(
         line: &[u8],
         place: Place,
@@ -100,7 +102,8 @@ pub trait RightReader: Drop {
         ensures few_names { length names.new ≤ length names.old + 1 }
         ensures few_labels { length labels.new ≤ length labels.old + 1 };
 
-    /// The rule of these parts, the nodes of its right side in order. It takes time in proportion to them, and no memory.
+    /// The rule of these parts, the nodes of its right side in order. It takes time in proportion
+    /// to them, and no memory.
     fn rule(state: u32, left: Side<Variable>, nodes: Vec<Self::Node>, cost: Cost) -> Self::Rule
         requires few { length nodes.items ≤ most_nodes }
         requires whole { IsWholeSide is_whole (map symbol_of nodes.items) }

@@ -1,4 +1,4 @@
-// The rules of a file, whatever stands on their right.
+// The rules of a file, with any kind of right sides.
 ghost use Rattle.std.specs.Prelude.{◌≤◌, ◌<◌, ◌+◌, ◌-◌, ◌^◌, length, drop, IfOk};
 ghost use Rattle.indexmap.specs.IndexSet.{keys};
 ghost use Rattle.tib_io.specs.Reads.{most_bytes};
@@ -22,7 +22,7 @@ use tib_grammar_file::{read_cost, read_name};
 use tib_lex::{FaultKind, LineError, ReadError, Token, file_error, line_bytes, next_line};
 use tib_tree::{Labels, MOST_NODES, Place, Reader};
 
-// Reads rule lines of a transducer file, with room that is used again for each.
+// Reads rule lines of a transducer file, with memory that is reused for each.
 #[derive(Drop)]
 struct RuleReader<R> {
     pub tokens: Vec<Token>,
@@ -69,8 +69,8 @@ fn build<R: RightReader>(
     Ok(R::rule(state, left, nodes, cost))
 }
 
-// The cost of a rule whose variables are well used and whose sides are not too large, and then its variables are those of its left side;
-// else its first fault.
+// The cost of a rule whose variables are well used and whose sides are not too large, and then its
+// variables are those of its left side; else its first fault.
 fn check(
     scale: Scale,
     line: &[u8],
@@ -194,8 +194,9 @@ impl<R: RightReader> RuleReader<R> {
     }
 }
 
-/// The rules from a place of a file on, where a line of this number begins. The texts of states and labels go into the tables. A fault is
-/// the first of these lines. It takes time in proportion to the rest of the file.
+/// The rules from a place of a file on, where a line of this number begins. The texts of states and
+/// labels go into the tables. A fault is the first of these lines. It takes time in proportion to
+/// the rest of the file.
 pub(crate) fn read_rules<R: RightReader>(
     alloc: Global,
     scale: Scale,

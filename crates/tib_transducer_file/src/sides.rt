@@ -78,7 +78,7 @@ fn left_item(
     Ok(Item::Label { label, rank })
 }
 
-// The number of the next variable behind an item.
+// The number of the next variable after an item.
 fn number_behind(item: &Item<Variable>, number: u32) -> u32
     requires { number < 2 ^ 32 - 1 }
     ensures { result ≡ number + length (holes_in (item.now ∷ [])) }
@@ -112,7 +112,7 @@ fn root_item(
     Ok(Item::Label { label, rank })
 }
 
-// The nodes of a left side below its root go behind it.
+// The nodes of a left side below its root go after it.
 fn push_below(
     line: &[u8],
     below: &[Place],
@@ -152,8 +152,9 @@ fn left_side(items: Vec<Item<Variable>>) -> Side<Variable>
     }
 }
 
-/// The left side of a rule, whose variables are numbered anew in preorder. The texts of labels go into the table. An error comes only
-/// where memory is refused. It takes time in proportion to the nodes and their texts.
+/// The left side of a rule, whose variables are numbered anew in preorder. The texts of labels go
+/// into the table. Err only if memory is refused. It takes time in proportion to the nodes and
+/// their texts.
 pub(crate) fn read_left(
     alloc: Global,
     line: &[u8],
@@ -196,10 +197,11 @@ fn place_of(variables: &IndexSet<u32>, number: u32) -> u32
     }
 }
 
-/// A node of a right side: a pair, whose variable goes by its place among those of the left side, or a label with its number of children.
-/// Their texts go into the tables, which keep the numbers of the texts that they held; `text` is room for the text of a quoted token. Only
-/// want of memory is an error, and after it each table has those that it had, or one more. Cost: that of `intern_token`, and one look-up of
-/// a pair's variable by hash.
+/// A node of a right side: a pair, whose variable goes by its place among those of the left side,
+/// or a label with its number of children. Their texts go into the tables, which keep the numbers
+/// of the texts that they held; `text` is room for the text of a quoted token. Err only if memory
+/// is refused, and then each table has the texts that it had, or one more. Cost: that of
+/// `intern_token`, and one look-up of a pair's variable by hash.
 pub fn right_item(
     line: &[u8],
     place: Place,
@@ -236,8 +238,8 @@ pub fn right_item(
     Ok(Item::Label { label, rank })
 }
 
-/// The nodes of a right side, whose pairs have variables of the left side. Their texts go into the tables. An error comes only where
-/// memory is refused. It takes time in proportion to the nodes and their texts.
+/// The nodes of a right side, whose pairs have variables of the left side. Their texts go into the
+/// tables. Err only if memory is refused. It takes time in proportion to the nodes and their texts.
 pub(crate) fn right_nodes<R: RightReader>(
     alloc: Global,
     line: &[u8],

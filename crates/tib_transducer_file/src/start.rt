@@ -8,15 +8,15 @@ use tib_grammar_file::read_start;
 use tib_lex::{FaultKind, FileFault, ReadError, file_error, line_bytes, next_line};
 use tib_tree::Labels;
 
-/// Where the line behind the start line begins, and its number.
+/// Where the line after the start line begins, and its number.
 #[derive(Clone, Copy, Debug)]
 pub(crate) struct Begun {
     pub at: u32,
     pub number: u32,
 }
 
-/// Finds the line of the start, whose name goes into the table. A fault is the first of the lines up to it, or in line 1 that no line has
-/// tokens. It takes time in proportion to these lines.
+/// Finds the line of the start, whose name goes into the table. A fault is the first of the lines
+/// up to it, or in line 1 that no line has tokens. It takes time in proportion to these lines.
 pub(crate) fn find_start(
     alloc: Global,
     bytes: &[u8],

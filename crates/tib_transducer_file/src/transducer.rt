@@ -31,14 +31,17 @@ fn transducer_over<S: Semiring>(names: Names, rules: Vec<TransducerRule<u32>>) -
     }
 }
 
-/// Reads a transducer file. The states are the start and those of the rules, numbered in the order in which they first stand in
-/// the file; variables are numbered anew in preorder of each left side. The texts of labels go into the table of labels. Where
-/// nothing is weighed, any name is taken as a weight, and each rule costs 0.
+/// Reads a transducer file. The states are the start and those of the rules, numbered in the order
+/// in which they first occur in the file; variables are numbered anew in preorder of each left
+/// side. The texts of labels go into the table of labels. Where nothing is weighed, any name is
+/// taken as a weight, and each rule costs 0.
 ///
-/// A fault names the first line that has one and what is wrong there first: no start (line 1), a bad token, a bad rule, a lone
-/// variable on the left, a variable twice on the left, an unknown variable on the right, a weight that isn't whole or is too
-/// large, a side with more than 10,000 nodes. After an error the table may hold texts of some labels of the file, and the texts
-/// that it held keep their numbers; `OutOfMemory` says nothing of the file. It takes time in proportion to the file.
+/// A fault names the first line that has one and what is wrong there first: no start (line 1), a
+/// bad token, a bad rule, a lone variable on the left, a variable twice on the left, an unknown
+/// variable on the right, a weight that isn't whole or is too large, a side with more than 10,000
+/// nodes. After an error the table may hold texts of some labels of the file, and the texts that it
+/// held keep their numbers; `OutOfMemory` says nothing about the file. It takes time in proportion
+/// to the file.
 pub fn read_transducer<S: Semiring>(
     alloc: Global,
     bytes: &[u8],
