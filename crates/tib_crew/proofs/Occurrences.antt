@@ -1,10 +1,10 @@
--- How often a number stands in a list, and below a count.
+-- How often a number occurs in a list, and below a count.
 use Rattle.std.proofs.Common.{◌≡◌, ℕ, zero, suc, ◌+◌, ◌≤◌, List, [], ◌∷◌, ◌++◌, refl, arith}
 use Rattle.std.proofs.lemmas.Bool.Decides.{nat_tests}
 use Rattle.tib_crew.specs.Claims.{one_if, once_below}
 use Rattle.tib_lex.specs.Lists.{occurrences}
 
--- a number stands in two lists as often as in both together
+-- a number occurs in two lists as often as in both together
 pub occurrences-append : (x : ℕ) (xs ys : List ℕ) → occurrences x (xs ++ ys) ≡ occurrences x xs + occurrences x ys
 occurrences-append x [] ys = omega arith
 occurrences-append x (y ∷ xs) ys = let h = occurrences-append x xs ys in omega arith

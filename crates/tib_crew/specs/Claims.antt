@@ -9,7 +9,7 @@ pub record Counter : Type 0 where
   pub table : TableId
   pub count : ℕ
 
--- at which counter a seat is, its shares, how often it was answered None, and the numbers that it drew
+-- the counter of a seat, its shares, how often it drew None, and the numbers that it drew
 pub record Claimed : Type 0 where
   pub counter : Counter
   pub shares : ℕ
@@ -29,10 +29,11 @@ abbrev pub once_below : ℕ → ℕ → ℕ
 once_below x zero = 0
 once_below x (suc n) = one_if x n + once_below x n
 
--- no number was drawn twice, and who has all shares and was answered None has drawn each number below the count
+-- no number was drawn twice, and a seat with all shares that drew None has drawn each number below
+-- the count
 abbrev pub DrawnOnce : ℕ → ℕ → ℕ → List ℕ → Type 0
 DrawnOnce count shares nones drawn = ((x : ℕ) → occurrences x drawn ≤ 1) × (shares ≡ 2 ^ 31 → 0 < nones → (x : ℕ) → occurrences x drawn ≡ once_below x count)
 
--- that of a seat
+-- the same for a seat
 abbrev pub HasDrawnOnce : Claimed → Type 0
 HasDrawnOnce v = DrawnOnce v.counter.count v.shares v.nones v.drawn

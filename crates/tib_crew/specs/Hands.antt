@@ -8,7 +8,8 @@ use Rattle.tib_crew.specs.Rows.{IsRowOf, parts_in}
 use Rattle.tib_crew.specs.declared.hand.Hand.{Hand}
 use Rattle.tib_crew.specs.declared.row.Row.{Row}
 
--- The seats are at their places, each row is right by what they know, and the rows have what is gone of the share.
+-- The seats are at their places, each row is right by what they know, and the parts of the rows are
+-- what is gone of the share.
 pub record IsHand {D K T : Type 0} (gives : D → ℕ → List K → T → ℕ → Type 0) (count_of : D → ℕ) (is_ready : D → Type 0) (d : D) (table : TableOf D) (counter : Counter) (share : ℕ)
     (rows : List (Row T)) (left : ℕ) (going : Bool) (seat : Claimed) (seats : Knowledge D K) : Type 0 where
   pub at_counter : seat.counter ≡ counter
@@ -20,12 +21,12 @@ pub record IsHand {D K T : Type 0} (gives : D → ℕ → List K → T → ℕ �
   pub parts : parts_in rows + left ≡ share
   pub still : going ≡ true → seat.nones ≡ 0
 
--- that of a hand
+-- the same for a hand
 abbrev pub Holds : {X T K D : Type 0} → (D → ℕ → List K → T → ℕ → Type 0) → (D → ℕ) → (D → Type 0) → D → TableOf D → Counter → Hand X T K D → Type 0
 Holds gives count_of is_ready d table counter hand =
     IsHand gives count_of is_ready d table counter hand.share hand.rows.items hand.left hand.going hand.seat hand.seats
 
--- this number of others may be split off, whose shares come to no more than the greatest limit
+-- this number of others may be split off, and all shares add up to at most the greatest limit
 pub record MaySplit (others shares share count : ℕ) (going : Bool) : Type 0 where
   pub still : going ≡ true
   pub enough : others < shares

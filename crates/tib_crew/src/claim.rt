@@ -3,8 +3,8 @@
 use atomic_table::{Join, Play, Split, TableRule};
 use std::collections::LinkedList;
 
-/// What a seat knows: how many items there are, its shares of the counter, how often it was answered None, and the numbers that it drew.
-/// No value of it is made.
+/// What a seat knows: how many items there are, how many shares of the counter it has, how often it
+/// drew None, and the numbers that it drew. No value of it is made.
 pub struct Claim {
     pub count: u64,
     pub shares: u64,
@@ -12,7 +12,8 @@ pub struct Claim {
     pub drawn: LinkedList<u64>,
 }
 
-/// What holds between any two steps: each number below the word, and below the count, was drawn once.
+/// What holds between any two steps: each number below the word, and below the count, was drawn
+/// once.
 pub struct EachOnce;
 
 impl TableRule<u8, Claim, u64> for EachOnce {

@@ -1,4 +1,5 @@
-//! Workers side by side: hands are split off one after the other, each for a thread of its own, and what they held is merged.
+//! Workers side by side. Hands are split off one after the other, each for a thread of its own, and
+//! what they held is merged.
 
 ghost use Rattle.std.specs.Prelude.{◌≡◌, ◌≤◌, ◌<◌, ◌+◌, ◌-◌, ◌*◌, ◌^◌, IfOk};
 ghost use Rattle.std.specs.Thread.{IsSend, IsSync};
@@ -34,8 +35,8 @@ fn work_alone<P: Task + Copy, R: Wait>(
     hand
 }
 
-/// The work of a hand and of this number of others, each in a thread of its own where one can be started. All have one share. Err if memory is
-/// refused.
+/// The work of a hand and of this number of others, each in a thread of its own where one can be
+/// started. All have the same share. Err if memory is refused; all rows are then gone.
 pub(crate) fn crew<P: Task + Copy + Send + Sync, R: Threads + Wait + Sync>(
     rt: &R,
     alloc: Global,

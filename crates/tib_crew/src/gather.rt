@@ -1,4 +1,5 @@
-//! All items of a task, performed by workers and then by the caller: their rows in order, and the shelves with their ends.
+//! All items of a task, performed by workers and then by the caller: their rows in order, and the
+//! shelves with their ends.
 
 ghost use Rattle.std.specs.Prelude.{◌≡◌, ◌≤◌, ◌<◌, ◌+◌, ◌^◌, ◌++◌, ◌⊎◌, ℕ, List, [], ◌∷◌, length, slice_set, slice_index_or, None, Some, Option, IfOk, IfErr, IfSome, OnOk, IsTrue, replicate};
 ghost use Rattle.std.specs.List.{All};
@@ -42,7 +43,7 @@ fn draw_rest<P: Task + Copy>(task: P, items: &Items, seat: Seat)
     }
 }
 
-// Puts a row at its item's place, if that is empty.
+// Puts a row at its item's place if that is empty, and says whether it was.
 fn put_row<T: Drop>(slots: &mut Vec<Option<Row<T>>>, row: Row<T>) -> bool
     requires { row.item < length slots.old.items }
     ensures { IsPutIn row slots.old.items slots.new.items result }
@@ -55,7 +56,7 @@ fn put_row<T: Drop>(slots: &mut Vec<Option<Row<T>>>, row: Row<T>) -> bool
     false
 }
 
-// A place for each item, none of which has a row.
+// One place for each item. No place has a row yet.
 fn open_slots<T: Drop>(alloc: Global, count: u32) -> Result<Vec<Option<Row<T>>>, AllocError>
     ensures { IfOk result (λ v. v.items ≡ replicate count None) }
 {
@@ -94,7 +95,7 @@ fn put_rows<P: Task + Copy>(
     Ok((slots, used))
 }
 
-// The item's row, or one that is made now.
+// The item's row, or a row that is made now.
 fn settle_slot<P: Task + Copy, R: Wait>(
     rt: &R,
     alloc: Global,
@@ -128,7 +129,8 @@ fn settle_slot<P: Task + Copy, R: Wait>(
     Ok(row)
 }
 
-// The rows of all items, in order. An item without a row is performed now, within what the rows leave of the room.
+// The rows of all items, in order. An item without a row is performed now, within what the rows
+// leave of the room.
 fn settle_slots<P: Task + Copy, R: Wait>(
     rt: &R,
     alloc: Global,
@@ -172,7 +174,7 @@ fn settle_slots<P: Task + Copy, R: Wait>(
     Ok(rows)
 }
 
-// As many of the workers as there are items, and at least one.
+// As many of the workers as there are items, but at least one.
 fn at_work(workers: u32, count: u32) -> u32
     requires { 1 ≤ workers }
     ensures some { 1 ≤ result }
@@ -184,7 +186,7 @@ fn at_work(workers: u32, count: u32) -> u32
     if count == 0 { 1 } else { count }
 }
 
-// The rows that workers made, and what they leave of the room. Items that no worker drew are drawn.
+// The rows that workers made, within the room. Items that no worker drew are drawn.
 fn take_hand<P: Task + Copy + Send + Sync, R: Threads + Wait + Sync>(
     rt: &R,
     alloc: Global,
@@ -237,11 +239,14 @@ where
     Ok((rows, seats))
 }
 
-/// Performs all items by this number of workers, 1 to 16, of whom no more begin than there are items. They share the room equally, at most
-/// 20,000,000 parts. An item that has more parts than what is left of a worker's share, or for which a worker finds no memory, is performed
-/// by the caller after the workers, within what the rows leave of the room. `More` comes only where an item has more parts than the rows of
-/// other items leave of the room; `OutOfMemory` only if memory is refused to the caller. It may wait for ever: while a turn of a shelf is
-/// held. Cost: each item is performed at most twice; each of its ends takes one turn of one shelf.
+/// Performs all items by this number of workers, 1 to 16. No more workers begin than there are
+/// items. They share the room equally, at most 20,000,000 parts. The caller performs an item after
+/// the workers if it has more parts than a worker's share still has, or if a worker is refused
+/// memory for it. It then has what the rows leave of the room. `More` comes only where an item has
+/// more parts than the rows of other items leave of the room; `OutOfMemory` only if memory is
+/// refused to the caller. After an error no row is left. It may wait forever, while a turn of a
+/// shelf is held. Cost: each item is performed at most twice; each of its ends takes one turn of
+/// one shelf.
 pub fn perform_all<P: Task + Copy + Send + Sync, R: Threads + Wait + Sync>(
     rt: &R,
     alloc: Global,

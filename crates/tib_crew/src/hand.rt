@@ -10,8 +10,9 @@ use crate::task::Task;
 use std::alloc::{AllocError, Global};
 use tib_table::{Seats, Table};
 
-/// What a worker holds: its number, its share of the room, the rows that it made, what is left of its share, whether it was not yet told
-/// that all items are drawn, and its seats at the counter and at the table.
+/// What a worker holds: its number, its share of the room, the rows that it made, what is left of
+/// its share, whether items may still be left to draw, and its seats at the counter and at the
+/// table.
 #[derive(Drop)]
 pub(crate) struct Hand<P: Task + Copy> {
     pub worker: u32,
@@ -31,7 +32,7 @@ fn are_both(one: bool, other: bool) -> bool
     one && other
 }
 
-/// What two workers held.
+/// Merges what two workers held. Err if memory is refused.
 pub(crate) fn merge<P: Task + Copy>(
     task: P,
     items: &Items,
@@ -65,7 +66,8 @@ pub(crate) fn merge<P: Task + Copy>(
     Ok(())
 }
 
-/// A hand of another worker, with as large a share, that holds no rows yet.
+/// A hand for another worker, with an equal share, that holds no rows yet. Err if memory is
+/// refused.
 pub(crate) fn split<P: Task + Copy>(
     alloc: Global,
     task: P,

@@ -8,7 +8,8 @@ use atomic_table::Table;
 use std::alloc::{AllocError, Global};
 use std::marker::Model;
 
-/// The claim counter: the items of a round, as the numbers below a count, of which each is drawn once.
+/// The claim counter: the items of a round, as the numbers below a count, each of which is drawn
+/// once.
 #[derive(Drop)]
 pub struct Items {
     table: Table<u8, Claim, u64, EachOnce, Global>,
@@ -26,8 +27,8 @@ impl Model for Items {
     ghost invariant = { λ i. (i.table.shared.table_id.words ≡ 1) × (i.table.shared.key ≡ i.count) };
 }
 
-/// A seat at the counter, from which one thread draws. It knows at which counter it is, its shares, how often it was answered None, and the numbers
-/// that it drew, in order.
+/// A seat at the counter, from which one thread draws. It knows its counter, its shares, how often
+/// it drew None, and the numbers that it drew, in order.
 #[derive(Drop)]
 pub struct Seat {
     seat: atomic_table::Seat<u8, Claim>,
@@ -45,7 +46,8 @@ impl Model for Seat {
 }
 
 impl Items {
-    /// A counter of this number of items, fewer than 2^32, and its first seat, which has all 2^31 shares. Err if memory is refused.
+    /// A counter of this number of items, fewer than 2^32, and its first seat, which has all 2^31
+    /// shares. Err if memory is refused.
     pub fn open(alloc: Global, count: u64) -> Result<(Items, Seat), AllocError>
         requires { count < 2 ^ 32 }
         ensures count { IfOk result (λ r. r.0.count ≡ count) }
@@ -67,7 +69,7 @@ impl Items {
         self.count
     }
 
-    /// A second seat, which gets one share of this one. It takes no memory and waits for nobody.
+    /// A second seat, which gets one share of this one. It takes no memory and never waits.
     pub fn split(&self, seat: &mut Seat) -> Seat
         requires counter { seat.old.counter ≡ self.now }
         requires more { 1 < seat.old.shares }
@@ -80,8 +82,8 @@ impl Items {
         }
     }
 
-    /// Takes in another seat: this one has then what both had, and no number stands in both lists. It takes no memory and waits for
-    /// nobody.
+    /// Takes in another seat: this one then has what both had, and no number is in both lists. It
+    /// takes no memory and never waits.
     pub fn join(&self, seat: &mut Seat, other: Seat)
         requires counter { seat.old.counter ≡ self.now }
         requires other_counter { other.counter ≡ self.now }
@@ -99,7 +101,8 @@ impl Items {
         shared.load::<SeeDrawn>(&mut seat.seat, 0);
     }
 
-    /// The next item, which no seat draws again, or None where all are drawn. It takes no memory and waits for nobody.
+    /// The next item, which no seat draws again, or None if all are drawn. It takes no memory and
+    /// never waits.
     pub fn draw(&self, seat: &mut Seat) -> Option<u64>
         requires counter { seat.old.counter ≡ self.now }
         requires going { seat.old.nones ≡ 0 }

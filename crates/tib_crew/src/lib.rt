@@ -1,6 +1,7 @@
-//! Workers that perform the items of a task. They draw the items from a counter, from which no number is drawn twice, number the keys at
-//! which the items end in one table, and hand over rows. Whatever the order of their steps, the rows are those of all items, in order, and
-//! each names its item's ends on the shelves. It stands on `tib_table` and on `atomic_table`.
+//! Workers that perform the items of a task. They draw the items from a counter, which gives each
+//! number once, number the keys at which the items end in one table, and hand over rows. Whatever
+//! the order of their steps, the rows are those of all items, in order, and each names its item's
+//! ends on the shelves. The crate uses `tib_table` and `atomic_table`.
 #![tactic(auto)]
 
 mod claim;

@@ -48,7 +48,8 @@ fn number_ends<P: Problem + Copy, R: Wait>(
     Ok(numbers)
 }
 
-/// Performs an item, and numbers its ends. `More` comes only where it has more parts than the budget.
+/// Performs an item, and numbers its ends. `More` comes only where it has more parts than the
+/// budget, `OutOfMemory` if memory is refused.
 pub(crate) fn make_row<P: Task + Copy, R: Wait>(
     rt: &R,
     alloc: Global,

@@ -1,4 +1,4 @@
-//! Problems with items that workers perform.
+//! Problems whose items workers perform.
 
 ghost use Rattle.std.specs.Prelude.{◌≡◌, ◌≤◌, ◌<◌, ℕ, List, IfOk, IfErr};
 ghost use Rattle.std.specs.List.{All};
@@ -27,9 +27,9 @@ pub enum Unperformed {
     OutOfMemory,
 }
 
-/// A problem with items, numbered from 0, each of which is performed by itself.
+/// A problem with items, numbered from 0. Each is performed independently.
 pub trait Task: Problem {
-    /// What an item gives beside its ends.
+    /// What an item gives in addition to its ends.
     type Rules: Drop;
 
     // How many items there are.
@@ -48,11 +48,12 @@ pub trait Task: Problem {
     fn count(&self) -> u32
         ensures { result ≡ count_of (Self.about self.now) };
 
-    /// A worker is about to perform an item that was drawn.
+    /// Called when a worker is about to perform an item that was drawn.
     fn pass(&self, worker: u32, item: u32)
         requires { item < count_of (Self.about self.now) };
 
-    /// Performs an item. `More` comes only where it has more parts than the budget.
+    /// Performs an item within a budget of at most 20,000,000 parts. `More` comes only where it has
+    /// more parts than the budget, `OutOfMemory` if memory is refused.
     fn perform(
         &self,
         alloc: Global,

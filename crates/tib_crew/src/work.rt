@@ -12,8 +12,8 @@ use std::alloc::Global;
 use std::sync::Wait;
 use tib_table::Table;
 
-// Draws an item and performs it, within what is left of the share. An item that has more parts, or for whose row there is no memory, stays
-// without a row.
+// Draws an item and performs it, within what is left of the share. The item stays without a row if
+// it has more parts, or if memory is refused for its row.
 fn work_once<P: Task + Copy, R: Wait>(
     rt: &R,
     alloc: Global,

@@ -1,4 +1,5 @@
--- The steps of a hunt: the seeds, a position that is expanded, a round that ends, and what is too much.
+-- The steps of a hunt: the seeds, a position that is expanded, a round that ends, and what is too
+-- much.
 use Rattle.std.proofs.Common.{◌≡◌, inl, inr, ℕ, zero, suc, ◌+◌, ◌-◌, ◌<◌, ◌≤◌, ◌↔◌, Bool, List, [], ◌∷◌, ◌++◌, length, map, take, length-append, append_assoc, refl, sym, ap, subst, ◌∙◌, arith}
 use Rattle.std.proofs.lemmas.Bool.{cases_lt}
 use Rattle.std.specs.declared.cmp.Ordering.{Ordering}
@@ -19,7 +20,7 @@ use Rattle.tib_table.proofs.Inserted.{Inserted, inserted}
 use Rattle.tib_lex.proofs.Members.{each_of, has_either, has_left, has_right}
 use Rattle.tib_lex.proofs.Lists.{total_append}
 
--- no key stands in both parts of a list of distinct keys
+-- no key is in both parts of a list of distinct keys
 pub apart_of : {K : Type 0} (xs ys : List K) (k : K) → Distinct (xs ++ ys) → Has xs k → Has ys k → ⊥
 apart_of [] ys k d h m = h
 apart_of (x ∷ xs) ys k d (inl e) m = d.0 (has_right xs ys x (subst (Has ys) (sym e) m))
@@ -67,12 +68,12 @@ module _ {K O E R T : Type 0} {p : Operation K O E} {admits : K → Type 0} {rea
       let b = w.held.within in
       beyond_more p hunt.laws (d ∷ order) keys w.held.leads w.held.once n (edges_so_far hunt d keys rules rows) w.low (w.edges d) limit (limit - parts) low x (omega arith)
 
-  -- the edges of a position come to those before
+  -- the edges of a position are added to those before
   pub with_position : (order keys : List K) (first n : ℕ) (rules : List T) (rows : List (NumberedRow R)) (parts limit : ℕ) → IsWithinRound hunt order first n keys rules rows parts limit
       → (ends : List K) (rs : List R) (ep : ℕ) → AreListed (p.edge order n) p.edge_parts reading.places reading.read_places order ends rs ep → (d : K) → AreEdges p order (suc n) (edges_so_far hunt d keys rules rows ++ map (reading.read_places (key_at d order ends)) rs)
   with_position order keys first n rules rows parts limit w ends rs ep l d = (edges_so_far hunt d keys rules rows, map (reading.read_places (key_at d order ends)) rs, refl, w.edges d, l.edges d)
 
-  -- each end of a position that the order lacks stands in the reached order
+  -- each end of a position that the order lacks is in the reached order
   pub stands : (order keys : List K) (first n : ℕ) (rules : List T) (rows : List (NumberedRow R)) (parts limit : ℕ) → IsWithinRound hunt order first n keys rules rows parts limit → n < length order
       → (ends : List K) → ((k : K) → Has ends k ↔ IsEnd (p.edge order n) p.ends_of k) → (k : K) → Has ends k → (Has order k → ⊥) → (whole : List K) → IsReached p whole → Has whole k
   stands order keys first n rules rows parts limit w low ends are k h fresh whole reached =
@@ -202,7 +203,7 @@ module _ {K O E R T : Type 0} {p : Operation K O E} {admits : K → Type 0} {rea
         (subst Distinct (sym is) (i.once tt)) (λ whole reached k m. seeds_reached p hunt.laws whole reached k ((are k).0 (i.among k m)))
         (each_of admits i.new (λ k m. hunt.lawful.seeds_admitted k ((are k).0 (i.among k m)))) parts sums within
 
-    -- with the seeds in order the hunt stands before its first round
+    -- with the seeds in order, the hunt is before its first round
     pub hunt_begins : (keys' : List K) (moved : List ℕ) (sorts : IsInOrder p.cmp [] keys keys' moved) (rules' : List T)
         (settled : Settled reading 0 moved [] rules' (λ f. read_rows reading.read_places (λ n. f (moved_to 0 moved n)) (row ∷ [])))
         → IsBetween hunt 0 keys' rules' parts limit

@@ -20,7 +20,8 @@ module _ {K O E R T : Type 0} {p : Operation K O E} {admits : K → Type 0} {rea
   in_order : {order fresh keys : List K} {moved : List ℕ} → IsInOrder cmp order fresh keys moved → IsInOrder p.cmp order fresh keys moved
   in_order {order} {fresh} {keys} {moved} sorts = subst (λ c. IsInOrder c order fresh keys moved) (sym hunt.lawful.same_order) sorts
 
-  -- the fresh keys are in order behind those of the order, and the rules of the rows have the positions of their ends
+  -- the fresh keys follow those of the order, ascending, and the rules of the rows have the
+  -- positions of their ends
   abbrev AreSettled : ℕ → List K → List K → List T → List (NumberedRow R) → List K → List T → Type 0
   AreSettled first order fresh rules rows keys' rules' =
       (moved : List ℕ) × IsInOrder cmp order fresh keys' moved × ReadAs reading first moved rules rows rules' × StayBelow reading first moved rules rules'
@@ -70,7 +71,7 @@ module _ {K O E R T : Type 0} {p : Operation K O E} {admits : K → Type 0} {rea
     begun = subst (λ (x : List (NumberedRow R)). IsHeld hunt [] keys [] x parts limit) (sym rows_are)
         (seeds_held hunt limit ends rs ep l are row same_rules keys is_so named parts sums_so within)
 
-    -- the hunt stands before its first round
+    -- the hunt is before its first round
     pub begins_at : (keys' : List K) (rules rules' : List T) (parts' : ℕ) → rules ≡ [] → parts' ≡ parts → AreSettled 0 (take 0 keys) (drop 0 keys) rules rows keys' rules' → IsBetween hunt 0 keys' rules' parts' limit
     begins_at keys' rules rules' parts' none_yet same_parts (moved, sorts, read, below) =
         subst (λ (n : ℕ). IsBetween hunt 0 keys' rules' n limit) (sym same_parts)

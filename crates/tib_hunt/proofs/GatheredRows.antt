@@ -1,4 +1,5 @@
--- What several workers gathered is a whole round; where rows leave an item too little, no reached set is within the limit.
+-- What several workers gathered is a whole round; where rows leave an item too little, no reached
+-- set is within the limit.
 use Rattle.std.proofs.Common.{◌≡◌, ◌⊎◌, inl, inr, ℕ, zero, suc, ◌+◌, ◌-◌, ◌<◌, ◌≤◌, List, [], ◌∷◌, ◌++◌, Option, Some, None, length, map, take, get_or, slice_get, length-append, append_assoc, append-nil, refl, sym, ap, subst, ◌∙◌, arith}
 use Rattle.std.specs.Prelude.{slice_index_or}
 use Rattle.tib_lex.specs.Lists.{Has, Distinct, Along, total}
@@ -29,7 +30,7 @@ module _ {K : Type 0} where
   place_of (x ∷ xs) k (inl e) = (0, ap (λ (y : K). Some y) e)
   place_of (x ∷ xs) k (inr h) = let r = place_of xs k h in (suc r.0, r.1)
 
-  -- where no key has two places, none stands twice
+  -- if no key has two places, none is there twice
   once_at : (ks : List K) → ((s t : ℕ) (k : K) → slice_get ks s ≡ Some k → slice_get ks t ≡ Some k → s ≡ t) → Distinct ks
   once_at [] f = tt
   once_at (x ∷ xs) f = (
@@ -111,7 +112,7 @@ module _ {P K O E R T : Type 0} (of : P → Operation K O E) (reading : Reading 
       subst (λ (l : List E). AreEdges p order t l) (append_assoc front (map (reading.read_places (key_at d order a.1.1.1.0)) row.rules.rules.items) (edges_of_rows reading.read_places d order (sights_of shelves (n + 1) rows a.2) rows))
       (edges_along d shelves (n + 1) rows a.2 (suc m) (omega arith) t (omega arith) (front ++ map (reading.read_places (key_at d order a.1.1.1.0)) row.rules.rules.items) (front, map (reading.read_places (key_at d order a.1.1.1.0)) row.rules.rules.items, refl, e, is))
 
-  -- an end of an item stands in the order, or has a number
+  -- an end of an item is in the order, or has a number
   end_at : (shelves : List (List K)) (n j i : ℕ) (rows : List (Row (Ruled R))) → AreRows shelves n rows → j < length rows → i ≡ first + (n + j)
       → (k : K) → IsEnd (p.edge order i) p.ends_of k → Has order k ⊎ ((m : Number) × Names shelves m.shelf m.place k)
   end_at shelves n j i [] a low at k h = absurd (omega arith)

@@ -52,7 +52,8 @@ as_many keys [] (n ∷ ns) a = absurd a
 as_many keys (x ∷ xs) [] a = absurd a
 as_many keys (x ∷ xs) (n ∷ ns) a = ap suc (as_many keys xs ns a.1)
 
--- What holds while the positions below n are expanded, over the order at the round's beginning. The keys are those of the order and then the fresh ones.
+-- What holds while the positions below n are expanded, over the order at the round's beginning. The
+-- keys are those of the order and then the fresh ones.
 module _ {K O E R T : Type 0} {p : Operation K O E} {admits : K → Type 0} {reading : Reading K E R T}
     {cmp : K → K → Ordering} {entries : K → ℕ} {eq : K → K → Bool} (hunt : IsHunt p admits reading cmp entries eq) where
   -- what is held, by the words of specs, for the operation of the hunt
@@ -68,7 +69,7 @@ module _ {K O E R T : Type 0} {p : Operation K O E} {admits : K → Type 0} {rea
   abbrev pub IsWithinRound : List K → ℕ → ℕ → List K → List T → List (NumberedRow R) → ℕ → ℕ → Type 0
   IsWithinRound = WithinRound p admits reading
 
-  -- readings stay when keys are put behind
+  -- readings stay when keys are appended
   pub rules_same : (d : K) (xs ys : List K) (rules : List T) → AreBelow reading.positions (length xs) rules → map (reading.read_positions (at d (xs ++ ys))) rules ≡ map (reading.read_positions (at d xs)) rules
   rules_same d xs ys [] b = refl
   rules_same d xs ys (t ∷ ts) b = λ i. hunt.lawful.reads_positions t (at d (xs ++ ys)) (at d xs) (each_weaker (λ n. n < length xs) _ (reading.positions t) (λ n l. at_front d xs ys n l) b.0) i ∷ rules_same d xs ys ts b.1 i

@@ -9,7 +9,7 @@ use Rattle.tib_hunt.proofs.OnShelves.{got_has}
 use Rattle.tib_hunt.specs.declared.known.EndAt.{EndAt}
 use Rattle.tib_hunt.specs.declared.known.EndAt.TheVariants.{Position, Numbered}
 
--- what stands at a place stands there still before more keys
+-- what is at a place is still there if more keys follow
 pub got_left : {K : Type 0} (xs ys : List K) (n : ℕ) (k : K) → slice_get xs n ≡ Some k → slice_get (xs ++ ys) n ≡ Some k
 got_left [] ys n k e = grind (arith, e)
 got_left (x ∷ xs) ys zero k e = e
@@ -33,7 +33,7 @@ module _ {K : Type 0} (order : List K) where
   split_named shelves (k ∷ ks) (Numbered ∷ ats) (l ∷ lacked) [] s a = absurd a
   split_named shelves (k ∷ ks) (Numbered ∷ ats) (l ∷ lacked) (n ∷ numbers) s a = (subst (λ (x : K). Names shelves n.shelf n.place x) (sym s.0) a.0, split_named shelves ks ats lacked numbers s.2 a.1)
 
-  -- an end stands in the order, or is one of those that are handed on
+  -- an end is in the order, or is one of those that are handed on
   pub split_either : (ks : List K) (ats : List EndAt) (lacked : List K) → AreSplit order ks ats lacked → (k : K) → Has ks k → Has order k ⊎ Has lacked k
   split_either [] ats lacked s k h = absurd h
   split_either (j ∷ ks) [] lacked s k h = absurd s

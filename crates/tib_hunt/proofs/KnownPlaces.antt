@@ -1,4 +1,5 @@
--- The positions of ends, some of which stand in the order and the others have numbers on shelves, one after the other.
+-- The positions of ends, some of which are in the order and the others have numbers on shelves, one
+-- after the other.
 use Rattle.std.proofs.Common.{◌≡◌, ℕ, zero, suc, ◌+◌, ◌<◌, ◌≤◌, List, [], ◌∷◌, ◌++◌, length, map, drop, get_or, append_assoc, append-nil, refl, sym, ap, subst, ◌∙◌, arith}
 use Rattle.tib_lex.specs.Lists.{Each}
 use Rattle.tib_table.specs.declared.number.Number.{Number}
@@ -24,7 +25,8 @@ drop_end (x ∷ xs) zero l = absurd (omega arith)
 drop_end (x ∷ xs) (suc i) l = drop_end xs i (omega arith)
 
 module _ (positions : List (List ℕ)) (first : ℕ) (moved : List ℕ) where
-  -- What holds before the end at an index: those before it were placed. `wanted` are the positions of all.
+  -- What holds before the end at an index: those before it were placed. `wanted` are the positions
+  -- of all.
   pub record KnownSoFar (ats : List EndAt) (numbers : List Number) (placed wanted : List ℕ) : Type 0 where
     pub on : HavePositionsAt positions ats numbers
     pub below : Each (λ n. n < first + length moved) (positions_at positions ats numbers)

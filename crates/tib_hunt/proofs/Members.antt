@@ -33,7 +33,8 @@ module _ {A : Type 0} where
   still (y ∷ ys) x z (inr m) (inl k) n = inl k
   still (y ∷ ys) x z (inr m) (inr k) n = inr (still ys x z m k n)
 
-  -- of distinct values each of which stands in the other list, the total is at most that of the other list
+  -- of distinct values each of which is in the other list, the total is at most that of the other
+  -- list
   pub total_fewer : (f : A → ℕ) (xs ys : List A) → Distinct xs → ((x : A) → Has xs x → Has ys x) → total f xs ≤ total f ys
   total_fewer f [] ys d h = omega arith
   total_fewer f (x ∷ xs) ys d h =

@@ -18,7 +18,7 @@ use Rattle.tib_table.proofs.Sights.{along_snoc, get_left}
 use Rattle.tib_lex.proofs.Lists.{total_append}
 use Rattle.tib_lex.proofs.Members.{has_left}
 
--- what stands at a place stands in the list
+-- what is at a place is in the list
 pub got_has : {K : Type 0} (ks : List K) (p : ℕ) (k : K) → slice_get ks p ≡ Some k → Has ks k
 got_has [] p k e = grind (arith, e)
 got_has (x ∷ xs) zero k e = inl (grind (arith, e))

@@ -39,7 +39,8 @@ less≢greater e = subst IsNotGreater e tt
 pub apart : {K : Type 0} (cmp : K → K → Ordering) → IsTotalOrder cmp → (x y : K) → cmp x y ≡ Less → cmp y x ≡ Less → ⊥
 apart cmp o x y a b = less≢greater (sym a ∙ o.antisymm x y ∙ ap ordering_reverse b)
 
--- The laws of an operation: its keys have a total order, an origin gives one edge, and the edges of a position stay when the order grows.
+-- The laws of an operation: its keys have a total order, an origin gives one edge, and the edges of
+-- a position stay when the order grows.
 pub record Laws {K O E : Type 0} (p : Operation K O E) : Type 0 where
   pub total_order : IsTotalOrder p.cmp
   pub one_seed_edge : (o : O) (e f : E) → p.seed_edge o e → p.seed_edge o f → e ≡ f
@@ -47,14 +48,14 @@ pub record Laws {K O E : Type 0} (p : Operation K O E) : Type 0 where
   pub stay : (xs ys : List K) (n : ℕ) (o : O) (e : E) → n < length xs → p.edge xs n o e → p.edge (xs ++ ys) n o e
   pub back : (xs ys : List K) (n : ℕ) (o : O) (e : E) → n < length xs → p.edge (xs ++ ys) n o e → p.edge xs n o e
 
--- What the lemmas on a hunt take: what its operation owes, and that keys which compare equal are one.
+-- What the lemmas on a hunt take: the operation is lawful, and keys that compare equal are one.
 pub record IsHunt {K O E R T : Type 0} (p : Operation K O E) (admits : K → Type 0) (reading : Reading K E R T) (cmp : K → K → Ordering) (entries : K → ℕ) (eq : K → K → Bool) : Type 0 where
   pub lawful : IsLawful p admits reading cmp entries
   pub laws : Laws p
   pub same : (x y : K) → eq x y ≡ true → x ≡ y
   pub self : (x : K) → eq x x ≡ true
 
--- the laws of an operation that keeps what it owes
+-- a lawful operation has these laws
 laws_of : {K O E R T : Type 0} {p : Operation K O E} {admits : K → Type 0} {reading : Reading K E R T} {cmp : K → K → Ordering} {entries : K → ℕ} → IsLawful p admits reading cmp entries → IsTotalOrder cmp → Laws p
 laws_of lawful total = record {
   total_order = subst IsTotalOrder (sym lawful.same_order) total;
@@ -74,7 +75,7 @@ laws_of lawful total = record {
     front (x ∷ xs) ys zero l = refl
     front (x ∷ xs) ys (suc m) l = ap (λ (k : List _). x ∷ k) (front xs ys m (omega arith))
 
--- what lemmas take, from what the operation owes and the key type promises
+-- what lemmas take, from a lawful operation and what the key type promises
 pub hunt_of : {K O E R T : Type 0} {p : Operation K O E} {admits : K → Type 0} {reading : Reading K E R T} {cmp : K → K → Ordering} {entries : K → ℕ} {eq : K → K → Bool}
     → IsLawful p admits reading cmp entries → IsTotalOrder cmp → ((x y : K) → eq x y ≡ true → x ≡ y) → ((x : K) → eq x x ≡ true) → IsHunt p admits reading cmp entries eq
 hunt_of lawful total same self = record { lawful = lawful; laws = laws_of lawful total; same = same; self = self }
@@ -148,7 +149,7 @@ module _ {K O E : Type 0} (p : Operation K O E) (laws : Laws p) where
       empty [] h = refl
       empty (x ∷ xs) h = absurd (h x (inl refl))
 
-  -- each order by rounds is the front of the reached one, in which all new keys stand
+  -- each order by rounds is the front of the reached one, and all new keys are in that
   pub in_reached : (n e : ℕ) (o : List K) → AfterRounds p n e o → (whole : List K) → IsReached p whole → ((rest : List K) × (whole ≡ o ++ rest)) × ((k : K) → IsNew p o e k → Has whole k)
   in_reached n e o a whole (m, f, b, stops) = go (cases_lt n m)
     where
@@ -165,7 +166,7 @@ module _ {K O E : Type 0} (p : Operation K O E) (laws : Laws p) where
           let s = stays (n - m) m f e whole o b stops (subst (λ (i : ℕ). AfterRounds p i e o) d a) in
           (([], sym s.0 ∙ sym (append-nil o)), λ k h. absurd (s.1 k h))
 
-  -- the seeds stand in the reached order
+  -- the seeds are in the reached order
   pub seeds_reached : (whole : List K) → IsReached p whole → (k : K) → p.seed k → Has whole k
   seeds_reached whole (m, f, b, stops) k h =
       let r = at_round m 0 f whole (subst (λ (i : ℕ). AfterRounds p i f whole) (later_is m 0 m (omega arith)) b) in

@@ -32,7 +32,7 @@ module _ {D K : Type 0} where
     pub about_here : (d : D) → All (λ (k : Kept D K). k.about ≡ d) ks → s.about ≡ d
     about_here d all = ap (λ (k : Kept D K). k.about) at ∙ All-get_or (λ (k : Kept D K). k.about ≡ d) ks i s low all
 
-    -- all shelves are still about the same
+    -- all shelves still have the same data
     pub about_after : (d : D) → All (λ (k : Kept D K). k.about ≡ d) ks → t.about ≡ s.about → All (λ (k : Kept D K). k.about ≡ d) (set ks i t)
     about_after d all e = All-set (λ (k : Kept D K). k.about ≡ d) ks i t (e ∙ about_here d all) all
 

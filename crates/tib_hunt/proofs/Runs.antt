@@ -138,7 +138,7 @@ module _ {K : Type 0} (eq : K → K → Bool) (same : (x y : K) → eq x y ≡ t
               (λ _ _. c.stands i h x e) refl;
         }
 
-    -- after keys of drawn items are numbered, each stands on its shelf
+    -- after keys of drawn items are numbered, each is on its shelf
     pub record KeptWith (s t : Core K) (ks : List K) : Type 0 where
       pub kept : Kept t
       pub drawn : t.drawn ≡ s.drawn
@@ -168,7 +168,7 @@ module _ {K : Type 0} (eq : K → K → Bool) (same : (x y : K) → eq x y ≡ t
     kept_run s [] t c r = subst Kept (sym r) c
     kept_run s (e ∷ es) t c r = kept_run (after eq shelf first count is_end s e) es t (kept_after s e c r.0) r.1
 
-    -- the draws answer one item after the other
+    -- the draws return one item after the other
     draws_in_order : (s : Core K) (es : List (Event K)) (t : Core K) → Runs eq shelf first count is_end s es t → (n : ℕ) × (t.drawn ≡ s.drawn + n) × (draws eq shelf first count is_end s es ≡ numbers_from (first + s.drawn) n)
     draws_in_order s [] t r = (0, ap (λ (u : Core K). u.drawn) r ∙ (let e : s.drawn ≡ s.drawn + 0 = omega arith in e), refl)
     draws_in_order s (Number k ∷ es) t r = draws_in_order (after eq shelf first count is_end s (Number k)) es t r.1

@@ -94,7 +94,8 @@ module _ {R T K E : Type 0} (reading : Reading K E R T) (first : ℕ) (moved : L
   low_listed bound [] a = tt
   low_listed bound (t ∷ ts) a = (a.0, low_listed bound ts a.1)
 
-  -- the rules of a row are settled where its ends have the positions to which their numbers were moved
+  -- the rules of a row are settled where its ends have the positions to which their numbers were
+  -- moved
   pub row_settled : ((rule : R) (f g : Place → K) → Each (λ place. f place ≡ g place) (reading.places rule) → reading.read_places f rule ≡ reading.read_places g rule)
       → (row : NumberedRow R) → IsRowBelow reading.places first (first + length moved) row → (ends : List ℕ) → ends ≡ map (moved_to first moved) row.ends → (old rules : List T) → Settles reading ends old row.rules rules
       → Settled old rules (λ at. read_row reading.read_places (λ n. at (moved_to first moved n)) row)
@@ -119,7 +120,7 @@ module _ {R T K E : Type 0} (reading : Reading K E R T) (first : ℕ) (moved : L
       (λ at. sym (ap (read_rows reading.read_places (λ n. at (moved_to first moved n))) (map_both row_of done (row ∷ [])) ∙ rows_both reading.read_places (λ n. at (moved_to first moved n)) (map row_of done) (row_of row ∷ []) ∙ ap (λ (l : List E). read_rows reading.read_places (λ n. at (moved_to first moved n)) (map row_of done) ++ l) (append-nil (read_row reading.read_places (λ n. at (moved_to first moved n)) (row_of row)))))
       (settled_more old rules rules' _ _ s t)
 
-  -- the same of rows that are read one after the other
+  -- the same for rows that are read one after the other
   pub rows_next : {A : Type 0} (row_of : A → NumberedRow R) (old rules rules' : List T) (rows : List A) (i : ℕ) (row : A) → i < length rows → row ≡ get_or rows i row
       → Settled old rules (λ at. read_rows reading.read_places (λ n. at (moved_to first moved n)) (map row_of (take i rows)))
       → Settled rules rules' (λ at. read_row reading.read_places (λ n. at (moved_to first moved n)) (row_of row))

@@ -135,7 +135,7 @@ module _ {K O E R T : Type 0} {p : Operation K O E} {admits : K → Type 0} {rea
       let i = inserted eq hunt.same hunt.self (all_on kss) order in
       rows_on keys kss nss named order i.new (is ∙ i.keys_are) reading.places u.sights rows u.named
 
-  -- each key stands once on the shelves
+  -- each key is once on the shelves
   pub once_there : Distinct (all_on kss)
   once_there = distinct_all shelf_of kss 0 u.once (λ i k h. let o = (u.only i k h).0 in omega arith)
 

@@ -51,7 +51,7 @@ module _ {P K O E : Type 0} (of : P → Operation K O E) (problem : P) (order : 
       pub file_once : (Has s.filed item → ⊥) → Has s'.filed item → ⊥
       file_once out h = out (subst (λ (l : List ℕ). Has l item) (ap (λ (u : Core K). u.filed) core ∙ with_ends.filed) h)
 
-      -- the ends of the item stand on the shelves
+      -- the ends of the item are on the shelves
       pub file_ends : (k : K) → IsEndAt (of about.0) about.1 item k → Has (on s'.shelves (shelf_of k)) k
       file_ends = subst (λ (a : P × List K × ℕ). (k : K) → IsEndAt (of a.0) a.1 item k → Has (on s'.shelves (shelf_of k)) k) (sym is)
           (λ k e. subst (λ (u : Core K). Has (on u.shelves (shelf_of k)) k) (sym core) (with_ends.there k ((are k).1 e)))
@@ -62,7 +62,7 @@ on_all [] j k h = absurd h
 on_all (ks ∷ kss) zero k h = has_left ks (all_on kss) k h
 on_all (ks ∷ kss) (suc j) k h = has_right ks (all_on kss) k (on_all kss j k h)
 
--- a key of all shelves stands on one
+-- a key of all shelves is on one
 pub all_somewhere : {K : Type 0} (kss : List (List K)) (k : K) → Has (all_on kss) k → (j : ℕ) × Has (on kss j) k
 all_somewhere [] k h = absurd h
 all_somewhere (ks ∷ kss) k h = elim (has_either ks (all_on kss) k h) [
@@ -74,7 +74,7 @@ distinct_both : {K : Type 0} (xs ys : List K) → Distinct xs → Distinct ys �
 distinct_both [] ys a b n = b
 distinct_both (x ∷ xs) ys a b n = ((λ h. ⊎_elim a.0 (n x (inl refl)) (has_either xs ys x h)), distinct_both xs ys a.1 b (λ k h m. n k (inr h) m))
 
--- keys that stand once on their own shelves are distinct
+-- keys that are once on their own shelves are distinct
 pub distinct_all : {K : Type 0} (shelf_of : K → ℕ) (kss : List (List K)) (j : ℕ) → ((i : ℕ) → Distinct (on kss i)) → ((i : ℕ) (k : K) → Has (on kss i) k → shelf_of k ≡ j + i) → Distinct (all_on kss)
 distinct_all shelf_of [] j once own = tt
 distinct_all shelf_of (ks ∷ kss) j once own =
@@ -125,7 +125,7 @@ module _ {K O E R T : Type 0} {p : Operation K O E} {admits : K → Type 0} {rea
   abbrev IsItemsEnd : List K → ℕ → K → Type 0
   IsItemsEnd order first k = (i : ℕ) × (first ≤ i) × (i < length order) × ends_at order i k
 
-  -- what stands on the shelves is an end of an item
+  -- what is on the shelves is an end of an item
   items_end : (order : List K) (first : ℕ) → first ≤ length order → (t : Core K) → IsKept shelf_of first (length order - first) (ends_at order) t → (shelf : ℕ) (k : K) → Has (on t.shelves shelf) k → IsItemsEnd order first k
   items_end order first l t kept shelf k h =
       let o = (kept.only shelf k h).1 in
@@ -133,7 +133,7 @@ module _ {K O E R T : Type 0} {p : Operation K O E} {admits : K → Type 0} {rea
       let below = o.1.1 in
       (o.0, o.1.0, omega arith, o.2)
 
-  -- what stands on the shelves stands in the reached order
+  -- what is on the shelves is in the reached order
   pub stands_whole : (order : List K) (first rounds : ℕ) → AfterRounds p rounds first order → (shelves : List (List K)) → ((shelf : ℕ) (k : K) → Has (on shelves shelf) k → IsItemsEnd order first k)
       → (whole : List K) → IsReached p whole → (k : K) → Has (all_on shelves) k → Has whole k
   stands_whole order first rounds after shelves only whole reached k h =
@@ -199,7 +199,7 @@ module _ {K O E R T : Type 0} {p : Operation K O E} {admits : K → Type 0} {rea
       pub next_at : first + s'.drawn ≡ n + 1
       next_at = all_next.1
 
-      -- the draw answered the next item
+      -- the draw returned the next item
       pub next_some : drawn ≡ Some n
       next_some = next ∙ ap (λ (a : P × List K × ℕ). next_item a.2 (length a.1 - a.2) s) is ∙ all_next.2
 

@@ -9,7 +9,8 @@ use Rattle.tib_hunt.specs.Shelved.{placed_row}
 use Rattle.tib_hunt.specs.declared.known.Ruled.{Ruled}
 
 module _ {K E R T : Type 0} (reading : Reading K E R T) (positions : List (List ℕ)) (first : ℕ) (moved : List ℕ) where
-  -- each end of the rows has a position, and the rules are over places that were moved or are below the first one
+  -- each end of the rows has a position, and the rules are over places that were moved or are below
+  -- the first one
   abbrev pub MayBePlaced : List (ItemRow (Ruled R)) → Type 0
   MayBePlaced rows = Each (λ row. AreOn positions row.rules.at row.ends.items) rows × Each (IsRowBelow reading.places first (first + length moved)) (map (placed_row positions) rows)
 

@@ -4,8 +4,8 @@ use Rattle.tib_lex.specs.Lists.{Has, Each, Distinct, Along, total}
 use Rattle.tib_hunt.specs.declared.place.Place.{Place}
 use Rattle.tib_hunt.specs.declared.place.Place.TheVariants.{Known, End}
 
--- The list has one value for each origin that gives a value, and no other: a value stands in it as often as
--- origins give it, in any order.
+-- The list has one value for each origin that gives a value, and no other: a value is in it as
+-- often as origins give it, in any order.
 pub record Lists {O A : Type 0} (Gives : O → A → Type 0) (xs : List A) : Type 0 where
   pub origins : List O
   pub once : Distinct origins
@@ -35,7 +35,8 @@ IsEnd {K} {O} {E} edge ends_of k = (o : O) × (e : E) × edge o e × Has (ends_o
 abbrev pub Exceeds : {O E : Type 0} → (O → E → Type 0) → (E → ℕ) → ℕ → Type 0
 Exceeds {O} {E} edge parts_of budget = (es : List E) → Lists edge es → budget < total parts_of es
 
--- The rules, read over the order and the ends, are the edges, and `parts` are the parts of these; each place in the rules is within.
+-- The rules, read over the order and the ends, are the edges, and `parts` are the parts of these;
+-- each place in the rules is within.
 pub record AreListed {K O E R : Type 0} (edge : O → E → Type 0) (parts_of : E → ℕ) (places : R → List Place)
     (read : (Place → K) → R → E) (order ends : List K) (rules : List R) (parts : ℕ) : Type 0 where
   pub few : length ends < 2 ^ 32

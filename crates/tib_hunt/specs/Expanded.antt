@@ -1,4 +1,4 @@
--- What an operation answers: lists of edges, with their ends and their parts.
+-- What an operation returns: lists of edges, with their ends and their parts.
 use Rattle.std.specs.Prelude.{◌≡◌, ◌↔◌, ℕ, List, []}
 use Rattle.tib_lex.specs.Lists.{Has}
 use Rattle.tib_hunt.specs.EdgeLists.{AreListed, Exceeds, IsEnd}
@@ -34,6 +34,6 @@ module _ {K O E : Type 0} (p : Operation K O E) where
   abbrev pub EdgesExceed : List K → ℕ → ℕ → Type 0
   EdgesExceed order n budget = Exceeds (p.edge order n) p.edge_parts budget
 
--- where the error is that of the budget, P holds
+-- if the error is `More`, P holds
 abbrev pub IfMore : Type 0 → ExpandError → Type 0
 IfMore P error = error ≡ More → P

@@ -1,4 +1,4 @@
--- What a hunt answers.
+-- What a hunt returns.
 use Rattle.std.specs.Prelude.{◌≡◌, List, length, map, slice_index_or}
 use Rattle.tib_hunt.specs.Reached.{Operation, IsReachedSet, parts_of}
 use Rattle.tib_hunt.specs.Reading.{Reading}
@@ -6,7 +6,8 @@ use Rattle.tib_hunt.specs.Rows.{AreBelow}
 use Rattle.tib_hunt.specs.declared.found.Found.{Found}
 
 module _ {K E R T : Type 0} (reading : Reading K E R T) where
-  -- the edges that the rules stand for over the order; d would be the key of a position that the order lacks
+  -- the edges that the rules stand for over the order; d is the key for positions that the order
+  -- lacks
   abbrev pub edges_found : K → Found K T → List E
   edges_found d found = map (reading.read_positions (λ n. slice_index_or found.order.items n d)) found.rules.items
 

@@ -10,7 +10,7 @@ use Rattle.tib_hunt.specs.Rows.{NumberedRow, read_rows, IsRowBelow, AreBelow}
 abbrev pub at : {K : Type 0} → K → List K → ℕ → K
 at d keys n = slice_index_or keys n d
 
--- `order` is the front of each reached order, in which all `keys` stand
+-- `order` is the front of each reached order, and all `keys` are in that
 pub record Leads {K O E : Type 0} (p : Operation K O E) (order keys : List K) : Type 0 where
   pub front : (whole : List K) → IsReached p whole → (rest : List K) × (whole ≡ order ++ rest)
   pub stand : (whole : List K) → IsReached p whole → (k : K) → Has keys k → Has whole k
@@ -20,8 +20,9 @@ module _ {K O E R T : Type 0} (p : Operation K O E) (admits : K → Type 0) (rea
   abbrev pub edges_so_far : K → List K → List T → List (NumberedRow R) → List E
   edges_so_far d keys rules rows = map (reading.read_positions (at d keys)) rules ++ read_rows reading.read_places (at d keys) rows
 
-  -- The keys are those of the order at the round's beginning, and then the fresh ones in the order of first sight, each once. All stand in
-  -- the reached set, and their parts and those of the edges so far are within the limit.
+  -- The keys are those of the order at the round's beginning, and then the fresh ones in the order
+  -- of first sight, each once. All are in the reached set, and their parts and those of the edges
+  -- so far are within the limit.
   pub record IsHeld (order keys : List K) (rules : List T) (rows : List (NumberedRow R)) (parts limit : ℕ) : Type 0 where
     pub fresh : List K
     pub keys_are : keys ≡ order ++ fresh
@@ -34,7 +35,8 @@ module _ {K O E R T : Type 0} (p : Operation K O E) (admits : K → Type 0) (rea
     pub counted : (d : K) → parts ≡ total p.key_parts keys + total p.edge_parts (edges_so_far d keys rules rows)
     pub within : parts ≤ limit
 
-  -- Between two rounds: the order after some rounds, of which the positions below the first one are expanded and their rules settled.
+  -- Between two rounds: the order after some rounds. The positions below the first one are
+  -- expanded, and their rules are settled.
   pub record IsBetween (first : ℕ) (keys : List K) (rules : List T) (parts limit : ℕ) : Type 0 where
     pub rounds : ℕ
     pub after : AfterRounds p rounds first keys
@@ -42,7 +44,8 @@ module _ {K O E R T : Type 0} (p : Operation K O E) (admits : K → Type 0) (rea
     pub low : first ≤ length keys
     pub edges : (d : K) → AreEdges p keys first (edges_so_far d keys rules [])
 
-  -- Within a round: the positions below n are expanded, and the fresh keys are the new ends of those from the first one on.
+  -- Within a round: the positions below n are expanded, and the fresh keys are the new ends of
+  -- those from the first one on.
   pub record IsWithinRound (order : List K) (first n : ℕ) (keys : List K) (rules : List T) (rows : List (NumberedRow R)) (parts limit : ℕ) : Type 0 where
     pub rounds : ℕ
     pub after : AfterRounds p rounds first order

@@ -14,8 +14,8 @@ use Rattle.tib_hunt.specs.Reached.{Operation}
 use Rattle.tib_hunt.specs.Reading.{Reading}
 use Rattle.tib_hunt.specs.RoundModel.{IsItem}
 
--- The data of a round are its problem, the order, and the first position that is not expanded. Its items are the positions from there on, by
--- their distance from it.
+-- The data of a round are its problem, the order, and the first position that is not expanded. Its
+-- items are the positions from there on, by their distance from it.
 abbrev pub items_in : {P K : Type 0} → P × List K × ℕ → ℕ
 items_in d = length d.1 - d.2
 
@@ -31,8 +31,8 @@ IsLackedEnd of d k = IsItemEnd of d k × (Has d.1 k → ⊥)
 abbrev pub IsAdmitted : {P K : Type 0} → (P → K → Type 0) → P × List K × ℕ → Type 0
 IsAdmitted admits d = Each (admits d.0) d.1
 
--- An item gives the edges of its position, with all their ends and their parts. Each end has its position, and those that the order lacks
--- are handed on.
+-- An item gives the edges of its position, with all their ends and their parts. Each end has its
+-- position, and those that the order lacks are handed on.
 abbrev pub GivesEdges : {P K O E R T : Type 0} → (P → Operation K O E) → Reading K E R T → P × List K × ℕ → ℕ → List K → Ruled R → ℕ → Type 0
 GivesEdges {P} {K} of reading d item lacked ruled parts =
     (ends : List K) × AreListed ((of d.0).edge d.1 (d.2 + item)) (of d.0).edge_parts reading.places reading.read_places d.1 ends ruled.rules.items parts

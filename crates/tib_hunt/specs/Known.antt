@@ -10,7 +10,7 @@ use Rattle.tib_hunt.specs.declared.known.EndAt.{EndAt}
 use Rattle.tib_hunt.specs.declared.known.EndAt.TheVariants.{Position, Numbered}
 
 module _ {K : Type 0} (order : List K) where
-  -- each end stands at its position of the order, or is the next of those that the order lacks
+  -- each end is at its position of the order, or is the next of those that the order lacks
   abbrev pub AreSplit : List K → List EndAt → List K → Type 0
   AreSplit [] [] lacked = lacked ≡ []
   AreSplit [] (at ∷ ats) lacked = ⊥
@@ -29,7 +29,7 @@ module _ {K : Type 0} (order : List K) where
   split_has (k ∷ ks) (Numbered ∷ ats) (l ∷ lacked) s x (inl e) = inl (s.0 ∙ e)
   split_has (k ∷ ks) (Numbered ∷ ats) (l ∷ lacked) s x (inr h) = inr (split_has ks ats lacked s.2 x h)
 
-  -- none of them stands in the order
+  -- none of them is in the order
   pub split_lacks : (ks : List K) (ats : List EndAt) (lacked : List K) → AreSplit ks ats lacked → (x : K) → Has lacked x → Has order x → ⊥
   split_lacks [] [] lacked s x h = absurd (subst (λ (l : List K). Has l x) s h)
   split_lacks [] (at ∷ ats) lacked s x h = absurd s
@@ -39,7 +39,8 @@ module _ {K : Type 0} (order : List K) where
   split_lacks (k ∷ ks) (Numbered ∷ ats) (l ∷ lacked) s x (inl e) = λ m. s.1 (subst (Has order) (sym (s.0 ∙ e)) m)
   split_lacks (k ∷ ks) (Numbered ∷ ats) (l ∷ lacked) s x (inr h) = split_lacks ks ats lacked s.2 x h
 
-  -- each end stands at its position of the order, or has the next of the numbers, which names it on the shelves
+  -- each end is at its position of the order, or has the next of the numbers, which names it on the
+  -- shelves
   abbrev pub NameAt : List (List K) → List K → List EndAt → List Number → Type 0
   NameAt shelves [] [] numbers = Unit {0}
   NameAt shelves [] (at ∷ ats) numbers = ⊥

@@ -1,4 +1,4 @@
--- What an operation owes of all its keys, edges and rules.
+-- The laws of an operation on all its keys, edges and rules.
 use Rattle.std.specs.Prelude.{◌≡◌, ℕ, ◌+◌, ◌<◌, List, length, take}
 use Rattle.std.specs.declared.cmp.Ordering.{Ordering}
 use Rattle.tib_lex.specs.Lists.{Has, Each}
@@ -7,9 +7,10 @@ use Rattle.tib_hunt.specs.Reached.{Operation}
 use Rattle.tib_hunt.specs.Reading.{Reading}
 use Rattle.tib_hunt.specs.declared.place.Place.{Place}
 
--- Keys have the order and the parts that the key type gives them. What a rule stands for depends on the keys at its places, or positions,
--- alone. An origin gives one edge. Seeds are admitted, and so are the ends of edges over admitted keys. The seeds' edges end at seeds. The
--- edges of a position depend on the order up to there.
+-- Keys have the order and the parts that the key type gives them. What a rule stands for depends
+-- only on the keys at its places, or positions. An origin gives one edge. Seeds are admitted, and
+-- so are the ends of edges over admitted keys. The seeds' edges end at seeds. The edges of a
+-- position depend only on the order up to there.
 pub record IsLawful {K O E R T : Type 0} (p : Operation K O E) (admits : K → Type 0) (reading : Reading K E R T) (cmp : K → K → Ordering) (entries : K → ℕ) : Type 0 where
   pub same_order : p.cmp ≡ cmp
   pub same_parts : p.key_parts ≡ key_parts entries

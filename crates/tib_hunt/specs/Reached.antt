@@ -9,8 +9,9 @@ pub use Rattle.tib_table.specs.declared.error.HuntError.{HuntError}
 pub use Rattle.tib_table.specs.declared.error.HuntError.TheVariants.{TooMany, OutOfMemory}
 pub use Rattle.tib_table.specs.Limits.{IfTooMany}
 
--- What an operation hunts: the order of keys, the seeds, the edges of the seeds and of each position of an order, each by its origin, the
--- keys at which an edge ends, and the parts of a key and of an edge.
+-- What an operation hunts: the order of keys, the seeds, the edges of the seeds and of each
+-- position of an order, each by its origin, the keys at which an edge ends, and the parts of a key
+-- and of an edge.
 pub record Operation (K O E : Type 0) : Type 1 where
   pub cmp : K → K → Ordering
   pub seed : K → Type 0
@@ -32,20 +33,21 @@ operation cmp seed seed_edge edge ends_of key_parts edge_parts = record {
   edge_parts = edge_parts;
 }
 
--- As an example take numbers as keys, the seed 1, and from each number n of at most 3 the edges to 2n and 3n. The order begins with 1. The first
--- round appends 2 and 3. The second expands these two, and appends 4, 6 and 9, each once. The third appends nothing: the reached set is
--- 1, 2, 3, 4, 6, 9 with six edges.
+-- As an example, take numbers as keys, the seed 1, and from each number n of at most 3 the edges to
+-- 2n and 3n. The order begins with 1. The first round appends 2 and 3. The second expands these
+-- two, and appends 4, 6 and 9, each once. The third appends nothing: the reached set is 1, 2, 3, 4,
+-- 6, 9 with six edges.
 module _ {K O E : Type 0} (p : Operation K O E) where
   -- the keys of which P holds, each once, ascending
   abbrev pub AreAscending : (K → Type 0) → List K → Type 0
   AreAscending P ks = Ascends (λ a b. p.cmp a b ≡ Less) ks × ((k : K) → Has ks k ↔ P k)
 
-  -- k is an end of a position that is not expanded, and does not stand in the order
+  -- k is an end of a position that is not expanded, and is not in the order
   abbrev pub IsNew : List K → ℕ → K → Type 0
   IsNew order expanded k = ((i : ℕ) × (expanded ≤ i) × (i < length order) × IsEnd (p.edge order i) p.ends_of k) × (Has order k → ⊥)
 
-  -- The order after this number of rounds, of which the positions below `expanded` are expanded. It begins with the seeds, ascending, and each round
-  -- appends its new ends, ascending.
+  -- The order after this number of rounds. The positions below `expanded` are expanded. It begins
+  -- with the seeds, ascending, and each round appends its new ends, ascending.
   abbrev pub AfterRounds : ℕ → ℕ → List K → Type 0
   AfterRounds zero expanded order = (expanded ≡ 0) × AreAscending p.seed order
   AfterRounds (suc rounds) expanded order =
@@ -55,7 +57,8 @@ module _ {K O E : Type 0} (p : Operation K O E) where
   abbrev pub IsReached : List K → Type 0
   IsReached order = (rounds : ℕ) × (expanded : ℕ) × AfterRounds rounds expanded order × ((k : K) → IsNew order expanded k → ⊥)
 
-  -- the edges of the seeds and then those of the first n positions, each as often as origins give it
+  -- the edges of the seeds and then those of the first n positions, each as often as origins give
+  -- it
   abbrev pub AreEdges : List K → ℕ → List E → Type 0
   AreEdges order zero es = Lists p.seed_edge es
   AreEdges order (suc n) es = (front : List E) × (last : List E) × (es ≡ front ++ last) × AreEdges order n front × Lists (p.edge order n) last

@@ -3,8 +3,8 @@ use Rattle.std.specs.Prelude.{◌≡◌, ℕ, List, map}
 use Rattle.tib_hunt.specs.EdgeLists.{position_of}
 use Rattle.tib_hunt.specs.declared.place.Place.{Place}
 
--- The places in a rule over places, the positions in a rule over positions, and the edge that each of the two stands for, where each
--- place, or position, has its key.
+-- The places in a rule over places, the positions in a rule over positions, and the edge that each
+-- of the two stands for, where each place, or position, has its key.
 pub record Reading (K E R T : Type 0) : Type 0 where
   pub places : R → List Place
   pub positions : T → List ℕ

@@ -10,8 +10,9 @@ abbrev pub numbers_from : ℕ → ℕ → List ℕ
 numbers_from n zero = []
 numbers_from n (suc k) = n ∷ numbers_from (n + 1) k
 
--- What holds between any two events of a round: no more is drawn than there are items, a key on a shelf is an end of a drawn item and stands
--- there once, and a filed item has all its ends on the shelves.
+-- What holds between any two events of a round: no more is drawn than there are items, a key on a
+-- shelf is an end of a drawn item and is there once, and a filed item has all its ends on the
+-- shelves.
 pub record IsKept {K : Type 0} (shelf_of : K → ℕ) (first count : ℕ) (is_end : ℕ → K → Type 0) (s : Core K) : Type 0 where
   pub wide : length s.shelves ≡ 16
   pub few : s.drawn ≤ count
@@ -26,12 +27,13 @@ module _ {K O E : Type 0} (eq : K → K → Bool) (shelf_of : K → ℕ) (first 
   abbrev pub IsEndOf : ℕ → K → Type 0
   IsEndOf i k = (o : O) × (e : E) × edge i o e × Has (ends e) k
 
-  -- the edge stands among those that were filed: by definition it is an edge of a filed item
+  -- the edge is among those that were filed: by definition it is an edge of a filed item
   abbrev pub IsFiled : Core K → ℕ → O → E → Type 0
   IsFiled t i o e = Has t.filed i × edge i o e
 
-  -- After a complete run from the opened state: each item was drawn once and filed once, the filed edges are those of the items, and the keys
-  -- on the shelves are the distinct ends of the items, each once and on its own shelf.
+  -- After a complete run from the opened state: each item was drawn once and filed once, the filed
+  -- edges are those of the items, and the keys on the shelves are the distinct ends of the items,
+  -- each once and on its own shelf.
   pub record IsWhole (es : List (Event K)) (t : Core K) : Type 0 where
     pub drawn_once : draws eq shelf_of first count IsEndOf opened es ≡ numbers_from first count
     pub filed_once : Distinct t.filed

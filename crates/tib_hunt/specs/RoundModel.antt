@@ -6,7 +6,8 @@ use Rattle.tib_table.specs.Known.{on}
 use Rattle.tib_hunt.specs.declared.event.Event.{Event}
 use Rattle.tib_hunt.specs.declared.event.Event.TheVariants.{Draw, Number, File}
 
--- how many items are drawn, the keys on each shelf in the order of first sight, and the items whose edges are filed
+-- how many items are drawn, the keys on each shelf in the order of first sight, and the items whose
+-- edges are filed
 pub record Core (K : Type 0) : Type 0 where
   pub drawn : ℕ
   pub shelves : List (List K)
@@ -19,7 +20,7 @@ opened = record { drawn = 0; shelves = replicate 16 []; filed = [] }
 abbrev pub IsItem : ℕ → ℕ → ℕ → Type 0
 IsItem first count i = (first ≤ i) × (i < first + count)
 
--- the item that a draw answers
+-- the item that a draw returns
 abbrev pub next_item : {K : Type 0} → ℕ → ℕ → Core K → Option ℕ
 next_item first count s = if nat_lt s.drawn count then Some (first + s.drawn) else None
 
@@ -40,16 +41,18 @@ abbrev pub put_item : Option ℕ → List ℕ → List ℕ
 put_item None is = is
 put_item (Some i) is = i ∷ is
 
--- A round of `count` items from `first` on; `is_end i k` says that an edge of the item i ends at the key k.
+-- A round of `count` items from `first` on; `is_end i k` says that an edge of the item i ends at
+-- the key k.
 module _ {K : Type 0} (eq : K → K → Bool) (shelf_of : K → ℕ) (first count : ℕ) (is_end : ℕ → K → Type 0) where
   abbrev pub IsDrawn : Core K → ℕ → Type 0
   IsDrawn s i = IsItem first s.drawn i
 
-  -- the key stands on its shelf
+  -- the key is on its shelf
   abbrev pub IsShelved : Core K → K → Type 0
   IsShelved s k = Has (on s.shelves (shelf_of k)) k
 
-  -- a key may be numbered that is an end of a drawn item; a drawn item may be filed once, as soon as all its ends are numbered
+  -- a key may be numbered that is an end of a drawn item; a drawn item may be filed once, as soon
+  -- as all its ends are numbered
   abbrev pub Allowed : Core K → Event K → Type 0
   Allowed s Draw = Unit {0}
   Allowed s (Number k) = (i : ℕ) × IsDrawn s i × is_end i k
@@ -65,7 +68,7 @@ module _ {K : Type 0} (eq : K → K → Bool) (shelf_of : K → ℕ) (first coun
   Runs s [] t = t ≡ s
   Runs s (e ∷ es) t = Allowed s e × Runs (after s e) es t
 
-  -- the items that the draws of a run answer, in order
+  -- the items that the draws of a run return, in order
   abbrev pub draws : Core K → List (Event K) → List ℕ
   draws s [] = []
   draws s (Draw ∷ es) = put_item (next_item first count s) (draws (after s Draw) es)

@@ -26,7 +26,8 @@ module _ {R K E : Type 0} (read : (Place → K) → R → E) (at : ℕ → K) wh
   read_rows [] = []
   read_rows (row ∷ rows) = read_row row ++ read_rows rows
 
--- each place is a position below the first one or one of the ends, and these have numbers below the bound
+-- each place is a position below the first one or one of the ends, and these have numbers below the
+-- bound
 abbrev pub IsRowBelow : {R : Type 0} → (R → List Place) → ℕ → ℕ → NumberedRow R → Type 0
 IsRowBelow places first bound row = Each (λ rule. Each (IsWithin first (length row.ends)) (places rule)) row.rules × Each (λ n. n < bound) row.ends
 
@@ -40,16 +41,18 @@ pub record Settles {K E R T : Type 0} (reading : Reading K E R T) (ends : List �
   pub positions : map reading.positions new ≡ map reading.positions old ++ map (λ rule. map (position_of ends) (reading.places rule)) over
 
 module _ {K E R T : Type 0} (reading : Reading K E R T) (first : ℕ) (moved : List ℕ) where
-  -- the new rules stand for the edges of the old ones and then for those of the row, where the numbers from `first` on were moved
+  -- the new rules stand for the edges of the old ones and then for those of the row, where the
+  -- numbers from `first` on were moved
   abbrev pub ReadsRow : List T → NumberedRow R → List T → Type 0
   ReadsRow old row new =
       (at : ℕ → K) → map (reading.read_positions at) new ≡ map (reading.read_positions at) old ++ read_row reading.read_places (λ n. at (moved_to first moved n)) row
 
-  -- the same of rows
+  -- the same for rows
   abbrev pub ReadAs : List T → List (NumberedRow R) → List T → Type 0
   ReadAs old rows new =
       (at : ℕ → K) → map (reading.read_positions at) new ≡ map (reading.read_positions at) old ++ read_rows reading.read_places (λ n. at (moved_to first moved n)) rows
 
-  -- each bound of the old rules that is no less than `first`, and of what was moved, is one of the new rules
+  -- each bound of the old rules that is at least `first`, and of what was moved, is a bound of the
+  -- new rules
   abbrev pub StayBelow : List T → List T → Type 0
   StayBelow old new = (bound : ℕ) → first ≤ bound → Each (λ n. n < bound) moved → AreBelow reading.positions bound old → AreBelow reading.positions bound new

@@ -1,4 +1,5 @@
--- The keys on the shelves of a round, and the rows of its items, whose ends have numbers on the shelves.
+-- The keys on the shelves of a round, and the rows of its items, whose ends have numbers on the
+-- shelves.
 use Rattle.std.specs.Prelude.{◌≡◌, ◌↔◌, ◌⊎◌, ℕ, ◌+◌, ◌-◌, ◌<◌, ◌≤◌, Bool, None, List, [], ◌∷◌, ◌++◌, length, map}
 use Rattle.tib_lex.specs.Lists.{Has, Each, Distinct, Along, total}
 use Rattle.tib_table.specs.Known.{on}
@@ -48,7 +49,8 @@ abbrev pub placed_row : {R : Type 0} → List (List ℕ) → ItemRow (Ruled R) �
 placed_row positions row = record { rules = row.rules.rules.items; ends = end_positions positions row.rules.at row.ends.items }
 
 module _ {K O E R T : Type 0} (p : Operation K O E) (reading : Reading K E R T) (eq : K → K → Bool) (shelf_of : K → ℕ) where
-  -- An item was expanded: its ends are numbered on their shelves, its row is the last, and it is filed.
+  -- An item was expanded: its ends are numbered on their shelves, its row is the last, and it is
+  -- filed.
   pub record IsWorked (order : List K) (item : ℕ) (s : Core K) (rows : List (ItemRow (Ruled R))) (parts : ℕ) (t : Core K) (rows' : List (ItemRow (Ruled R))) (parts' limit : ℕ) : Type 0 where
     pub ends : List K
     pub row : ItemRow (Ruled R)
@@ -66,7 +68,8 @@ module _ {K O E R T : Type 0} (p : Operation K O E) (reading : Reading K E R T) 
   abbrev pub IsTooMuch : List K → ℕ → Core K → ℕ → ℕ → Type 0
   IsTooMuch order item s parts limit = Exceeds (p.edge order item) p.edge_parts (limit - parts) ⊎ ShelvesHaveMore eq shelf_of p.key_parts s (IsEnd (p.edge order item) p.ends_of) limit
 
-  -- Within a round: its items below n are expanded and filed. `was` are the parts of all that was there at its beginning.
+  -- Within a round: its items below n are expanded and filed. `was` are the parts of all that was
+  -- there at its beginning.
   pub record IsUnderway (order : List K) (first n : ℕ) (s : Core K) (rows : List (ItemRow (Ruled R))) (was parts limit : ℕ) : Type 0 where
     pub kept : IsKept shelf_of first (length order - first) (λ i k. IsEnd (p.edge order i) p.ends_of k) s
     pub filed : (i : ℕ) → first ≤ i → i < n → Has s.filed i
@@ -80,9 +83,10 @@ module _ {K O E R T : Type 0} (p : Operation K O E) (reading : Reading K E R T) 
     pub within : parts ≤ limit
 
 module _ {K O E R T : Type 0} (p : Operation K O E) (reading : Reading K E R T) (shelf_of : K → ℕ) where
-  -- What a round made of an order, whose positions below the first one were expanded before: each key on the shelves is an end of an item and
-  -- stands there once, each end of an item is in the order or on the shelves, and the rows have the edges of all items. `was` are the parts of
-  -- all that was there at its beginning.
+  -- What a round made of an order whose positions below the first one were expanded before. Each
+  -- key on the shelves is an end of an item and is there once, each end of an item is in the order
+  -- or on the shelves, and the rows have the edges of all items. `was` are the parts of all that
+  -- was there at its beginning.
   pub record AreWorked (order : List K) (first : ℕ) (shelves : List (List K)) (rows : List (ItemRow (Ruled R))) (was parts limit : ℕ) : Type 0 where
     pub once : (shelf : ℕ) → Distinct (on shelves shelf)
     pub only : (shelf : ℕ) (k : K) → Has (on shelves shelf) k → (shelf_of k ≡ shelf) × ((i : ℕ) × (first ≤ i) × (i < length order) × IsEnd (p.edge order i) p.ends_of k)

@@ -23,7 +23,8 @@ module _ {X K R T O E : Type 0} where
   AddsEdges edges old new =
       (row : Row R) × (new.rows.items ≡ old.rows.items ++ row ∷ []) × (row.rules.items ≡ edges.rules.items) × Name new.keys.keys edges.ends.items row.ends.items
 
-  -- the fresh keys are in order behind those of the order, and the rules of the rows have the positions of their ends
+  -- the fresh keys follow those of the order, ascending, and the rules of the rows have the
+  -- positions of their ends
   abbrev pub AreSettled : (K → K → Ordering) → Reading K E R T → ℕ → List K → List K → List (NumberedRow R) → HuntState X K R T O E → HuntState X K R T O E → Type 0
   AreSettled cmp reading first order fresh rows old new =
       (moved : List ℕ) × IsInOrder cmp order fresh new.keys.keys moved

@@ -1,4 +1,5 @@
-//! The rules of a round's rows are settled by several threads: each settles a piece of the rows and lets it go.
+//! Settles the rules of a round's rows by several threads. Each thread settles a piece of the rows
+//! and then drops it.
 
 ghost use Rattle.std.specs.Prelude.{◌≡◌, ◌+◌, ◌<◌, [], length, map, IfOk, OnOk};
 ghost use Rattle.std.specs.Thread.{IsSend, IsSync};
@@ -16,10 +17,10 @@ use std::mem::replace;
 use std::thread::{Threads, join};
 use tib_crew::Row;
 
-// How few rows are worth a thread of their own.
+// The fewest rows that are worth a thread of their own.
 const LEAST_PIECE: usize = 1024;
 
-// How many rules the rows have, counted up to the greatest number.
+// How many rules the rows have, or the greatest `usize` if they have more.
 fn count_rules<O>(rows: &[Row<Ruled<O>>]) -> usize {
     let mut count: usize = 0;
     for row in rows {
@@ -28,8 +29,9 @@ fn count_rules<O>(rows: &[Row<Ruled<O>>]) -> usize {
     count
 }
 
-// Settles the rules of rows, and answers the given rules with these behind them. The rows are halved `times` times, and each half has a thread
-// of its own. Room for the rules of all rows is made first, so those of the first piece are never moved.
+// Settles the rules of rows, and returns the given rules followed by these. The rows are halved
+// `times` times, and each half has a thread of its own. Room for the rules of all rows is made
+// first, so those of the first piece are never moved.
 #[cycle(halves)]
 fn place_halves<E: Expand + Sync, R: Threads + Sync>(
     rt: &R,
@@ -104,9 +106,10 @@ where
     Ok(all)
 }
 
-/// Settles the rules of all rows as `place_rows` does, by several threads: the rows are halved `times` times, but no fewer than 1,024 of them, and
-/// each half has a thread of its own where one can be started. A rule is moved once for each time that its row came into a second half. Err if
-/// memory is refused, and then the rules are gone.
+/// Settles the rules of all rows as `place_rows` does, by several threads. The rows are halved
+/// `times` times, down to 1,024 of them, and each half has a thread of its own where one can be
+/// started. A rule is moved once for each time that its row was in a second half. Err if memory is
+/// refused; the rules are then gone.
 pub(crate) fn place_together<E: Expand + Sync, R: Threads + Sync>(
     rt: &R,
     alloc: Global,

@@ -1,5 +1,5 @@
-//! The end of a round: what it made is taken in, its new keys are appended in ascending order, and its rows are settled, by one thread or by
-//! several.
+//! The end of a round: what it made is taken in, its new keys are appended in ascending order, and
+//! its rows are settled, by one thread or by several.
 
 ghost use Rattle.std.specs.Prelude.{◌≡◌, ◌≤◌, ◌<◌, ◌^◌, ◌++◌, [], length, IfErr, OnOk};
 ghost use Rattle.tib_lex.specs.Lists.{Each, Distinct};
@@ -56,7 +56,7 @@ impl<E: Expand> HuntState<E> {
         Ok(())
     }
 
-    // The same by several threads: the fresh keys and the rows are halved `times` times.
+    // The same by several threads. The fresh keys and the rows are halved `times` times.
     fn settle_together<R: Threads + Sync>(
         &mut self,
         rt: &R,
@@ -103,7 +103,9 @@ impl<E: Expand> HuntState<E> {
         Ok(())
     }
 
-    /// Ends a round: takes in what it made, and appends the new ends in ascending order.
+    /// Ends a round: takes in what it made, and appends the new ends in ascending order. `TooMany`
+    /// only if the reached set passes the limit, `OutOfMemory` if memory is refused; nothing is
+    /// then promised of the state.
     pub fn end_round(
         &mut self,
         alloc: Global,
@@ -132,8 +134,9 @@ impl<E: Expand> HuntState<E> {
         Ok(())
     }
 
-    /// Ends a round of this number of workers, 1 or more: takes in what they made without a look-up, since the order has none of the keys of
-    /// their shelves, and has as many threads sort the new ends and settle the rows.
+    /// Ends a round of this number of workers, 1 or more. It takes in what they made without a
+    /// look-up, since the order has none of the keys of their shelves. As many threads sort the new
+    /// ends and settle the rows. Errors are those of `end_round`.
     pub fn end_round_together<R: Threads + Sync>(
         &mut self,
         rt: &R,

@@ -1,4 +1,4 @@
-//! The events of a round, and what each answers.
+//! The events of a round, and what each returns.
 
 use tib_table::Number;
 
@@ -13,10 +13,10 @@ pub enum Event<K> {
     File { item: u32 },
 }
 
-/// What an event answers.
+/// What an event returns.
 #[derive(Clone, Copy, Debug, Drop, PartialEq, Eq)]
 pub enum Answer {
-    /// The item, or None where all are drawn.
+    /// The item, or None if all are drawn.
     Drawn(Option<u32>),
     /// The number of the key.
     Numbered(Number),

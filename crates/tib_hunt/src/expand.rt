@@ -1,4 +1,4 @@
-//! What an operation tells the hunt: which keys and edges it hunts, and how it lists them.
+//! What an operation gives the hunt: which keys and edges it hunts, and how it lists them.
 
 ghost use Rattle.std.specs.Prelude.{◌≤◌, ◌<◌, ℕ, length, IfOk, IfErr};
 ghost use Rattle.tib_lex.specs.Lists.{Each};
@@ -20,8 +20,8 @@ use crate::place::{Edges, ExpandError};
 use std::alloc::{AllocError, Global};
 use tib_table::TableKey;
 
-/// An operation whose keys are reached from seeds along edges. An edge comes from an
-/// origin, and stands once in a list for each origin that gives it.
+/// An operation whose keys are reached from seeds along edges. An edge comes from an origin, and a
+/// list has it once for each origin that gives it.
 pub trait Expand {
     /// What is reached.
     type Key: TableKey + Drop;
@@ -38,17 +38,18 @@ pub trait Expand {
     /// An edge over keys. No value of it is made.
     type Edge;
 
-    // What is hunted: the seeds, the edges of the seeds and of each position of an order, their ends and their parts.
+    // What is hunted: the seeds, the edges of the seeds and of each position of an order, their
+    // ends and their parts.
     ghost hunted: { Self → Operation Self.Key Self.Origin Self.Edge };
 
-    // The keys that may stand in an order.
+    // The keys that an order may have.
     ghost admits: { Self → Self.Key → Type 0 };
 
     // Which edges the rules stand for.
     ghost reading: { Reading Self.Key Self.Edge Self.Over Self.Rule };
 
-    /// The edges of the seeds, and the seeds. `More` comes exactly where these edges have more parts
-    /// than the budget, `OutOfMemory` only if memory is refused.
+    /// The edges of the seeds, and the seeds. `More` comes exactly where these edges have more
+    /// parts than the budget, `OutOfMemory` only if memory is refused.
     fn seeds(&self, alloc: Global, budget: u64) -> Result<Edges<Self::Key, Self::Over>, ExpandError>
         requires { budget ≤ most_parts }
         ensures listed { IfOk result (ListsSeedEdges (hunted self.now) reading) }
@@ -73,7 +74,8 @@ pub trait Expand {
         ensures within { IfOk result (λ r. r.parts ≤ budget) }
         ensures more { IfErr result (IfMore (EdgesExceed (hunted self.now) order.now n budget)) };
 
-    /// The rule with each of its ends replaced by that end's position. Err only if memory is refused.
+    /// The rule with each of its ends replaced by that end's position. Err only if memory is
+    /// refused.
     fn settle(
         &self,
         alloc: Global,
@@ -84,6 +86,6 @@ pub trait Expand {
         ensures read { IfOk result (ReadsAlike reading ends.now rule.now) }
         ensures positions { IfOk result (HasPositions reading ends.now rule.now) };
 
-    // What the operation owes of all its keys, edges and rules.
+    // The laws that all keys, edges and rules of the operation keep.
     ghost lawful: { (p : Self) → IsLawful (hunted p) (admits p) reading Self.Key.cmp Self.Key.entries_of };
 }

@@ -12,7 +12,8 @@ use crate::place::ExpandError;
 use std::alloc::Global;
 use tib_table::{HuntError, TableKey};
 
-// Expands the positions of the order from `first` on. Their ends are numbered as if they followed the order as they were found.
+// Expands the positions of the order from `first` on. Their ends are numbered on from the order, as
+// they are found.
 fn expand_few<E: Expand, G: Gate>(
     state: &mut HuntState<E>,
     alloc: Global,
@@ -47,7 +48,8 @@ fn expand_few<E: Expand, G: Gate>(
     Ok(())
 }
 
-/// Expands the positions from `first` on, and appends their new ends in ascending order.
+/// Expands the positions from `first` on, and appends their new ends in ascending order. `TooMany`
+/// only if the reached set passes the limit, `OutOfMemory` if memory is refused.
 pub(crate) fn round_of_few<E: Expand, G: Gate>(
     state: &mut HuntState<E>,
     alloc: Global,

@@ -1,9 +1,9 @@
-//! What a hunt answers, and the gate that it calls for each item.
+//! What a hunt returns, and the gate that it calls for each item.
 
 /// The reached set of an operation.
 #[derive(Drop)]
 pub struct Found<K, R> {
-    /// The keys, in the order by rounds.
+    /// The keys, ordered by rounds and ascending in each round.
     pub order: Vec<K>,
     /// The rules over positions of the order: those of the seeds, and then those of each position.
     pub rules: Vec<R>,
@@ -11,9 +11,9 @@ pub struct Found<K, R> {
     pub parts: u64,
 }
 
-/// Called once for each item, before it is expanded.
+/// A gate is called once for each item, before the item is expanded.
 pub trait Gate {
-    /// The worker of this number is about to expand the item.
+    /// Called when the worker of this number is about to expand the item.
     fn pass(&self, worker: u32, item: u32);
 }
 

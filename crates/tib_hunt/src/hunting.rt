@@ -1,4 +1,5 @@
-//! The state of a hunt: its keys, rules, rows and parts, with the steps that begin it, take a round in and put its keys in order.
+//! The state of a hunt: its keys, rules, rows and parts, with the steps that begin it, take a round
+//! in and put its keys in order.
 
 ghost use Rattle.std.specs.Prelude.{◌≡◌, ◌+◌, ◌≤◌, ◌<◌, ◌^◌, ◌++◌, [], length, map, take, drop, IfOk, IfErr, OnOk};
 ghost use Rattle.indexmap.specs.IndexSet.{insert_all};
@@ -31,8 +32,8 @@ pub(crate) struct HuntState<E: Expand> {
     pub parts: u64,
 }
 
-/// What is taken in of a round: its fresh keys, each with its index among them; the positions of the keys of its shelves, where the fresh
-/// keys follow the order; and its rows.
+/// What is taken in from a round: its fresh keys, each with its index among them; the positions of
+/// the keys of its shelves, where the fresh keys follow the order; and its rows.
 #[derive(Drop)]
 pub(crate) struct TakenIn<K, R> {
     pub fresh: Vec<(K, u32)>,
@@ -41,7 +42,9 @@ pub(crate) struct TakenIn<K, R> {
 }
 
 impl<E: Expand> HuntState<E> {
-    /// Appends the edges as a row, and numbers their ends. Adds the parts of the edges and of the new keys; `TooMany` if that passes the limit.
+    /// Appends the edges as a row, and numbers their ends. Adds the parts of the edges and of the
+    /// new keys; `TooMany` if they pass the limit, `OutOfMemory` if memory is refused. After an
+    /// error part of the keys may have been added.
     pub fn add_edges(
         &mut self,
         alloc: Global,
@@ -76,9 +79,10 @@ impl<E: Expand> HuntState<E> {
         Ok(())
     }
 
-    /// Takes in what a round made: its fresh keys, which are those of the shelves that the order lacks, and the positions of all keys of the
-    /// shelves. Adds the parts of the fresh keys; `TooMany` if that passes the limit. A look-up is needless only where the order has none of the
-    /// keys of the shelves.
+    /// Takes in what a round made: its fresh keys, which are those of the shelves that the order
+    /// lacks, and the positions of all keys of the shelves. Adds the parts of the fresh keys;
+    /// `TooMany` if they pass the limit, `OutOfMemory` if memory is refused. A look-up is needless
+    /// only if the order has none of the keys of the shelves.
     pub fn take_in(
         &mut self,
         alloc: Global,
@@ -134,7 +138,8 @@ impl<E: Expand> HuntState<E> {
         })
     }
 
-    /// Puts the keys from `first` on in ascending order, and settles the rows.
+    /// Puts the keys from `first` on in ascending order, and settles the rows. Err if memory is
+    /// refused; nothing is then promised of the state.
     pub fn settle(&mut self, alloc: Global, problem: &E, first: u32) -> Result<(), AllocError>
         requires first { first ≤ length self.old.keys.keys }
         requires few { length self.old.keys.keys < 2 ^ 32 }
@@ -154,7 +159,7 @@ impl<E: Expand> HuntState<E> {
     }
 }
 
-/// The keys of a set, in its order. Err if memory is refused.
+/// The keys of a set, in its order. Err if memory is refused; the keys are then gone.
 pub(crate) fn list_keys<K: TableKey + Drop>(
     alloc: Global,
     keys: IndexSet<K>,
@@ -165,8 +170,9 @@ pub(crate) fn list_keys<K: TableKey + Drop>(
 }
 
 impl<E: Expand> HuntState<E> {
-    /// Takes in what a round made, or answers `TooMany` where the reached set passes the limit. A look-up is needless only where the order has
-    /// none of the keys of the shelves.
+    /// Takes in what a round made. `TooMany` only if the reached set passes the limit,
+    /// `OutOfMemory` if memory is refused. A look-up is needless only if the order has none of the
+    /// keys of the shelves.
     pub fn take_round(
         &mut self,
         alloc: Global,
@@ -200,7 +206,8 @@ impl<E: Expand> HuntState<E> {
 }
 
 impl<E: Expand> HuntState<E> {
-    /// The state with the seeds in ascending order and their edges, or `TooMany` where the reached set passes the limit.
+    /// The state with the seeds in ascending order and their edges. `TooMany` only if the reached
+    /// set passes the limit, `OutOfMemory` if memory is refused.
     pub fn begin(alloc: Global, problem: &E, limit: u64) -> Result<HuntState<E>, HuntError>
         requires limit { limit ≤ most_parts }
         ensures between { IfOk result (λ h. IsBetweenRounds (E.hunted problem.now)

@@ -12,8 +12,9 @@ use std::collections::LinkedList;
 use tib_crew::{Performed, Task, Unperformed};
 use tib_table::Problem;
 
-/// The items of a round, each with the edges of its position, and the gate that is called before an item is expanded. The keys are those of the
-/// order so far; an item is counted from the first position that is not expanded. Of an item's ends only those are handed on that the order lacks.
+/// The items of a round, each with the edges of its position, and the gate that is called before an
+/// item is expanded. The keys are those of the order so far. Items are counted from the first
+/// position that is not expanded. Only those ends of an item that the order lacks are handed on.
 #[derive(Drop)]
 pub(crate) struct JobOf<'a, E: Expand, G: Gate> {
     pub problem: &'a E,

@@ -1,4 +1,5 @@
-//! The ends of an item are looked up among the known keys: those that the order has get their positions, and only the others are handed on.
+//! Looks the ends of an item up among the known keys. Ends that the order has get their positions,
+//! and only the others are handed on.
 
 ghost use Rattle.std.specs.Prelude.{◌<◌, ◌^◌, length, IfOk};
 ghost use Rattle.tib_hunt.specs.Known.{AreSplit};
@@ -7,7 +8,8 @@ use indexmap::IndexSet;
 use std::alloc::{AllocError, Global};
 use tib_table::{TableKey, find_position};
 
-/// Where an end of an item is: at a position of the order, or it has the next of the numbers on the shelves.
+/// Where an end of an item is: at a position of the order, or it has the next of the numbers on the
+/// shelves.
 #[derive(Clone, Copy, Debug, Drop, PartialEq, Eq)]
 pub enum EndAt {
     /// The position of the order.
@@ -21,7 +23,7 @@ pub enum EndAt {
 pub struct Ruled<R> {
     /// The rules, one for each edge.
     pub rules: Vec<R>,
-    /// Where each end is, in order, or None where all have numbers.
+    /// Where each end is, in order, or None if all have numbers.
     pub at: Option<Vec<EndAt>>,
 }
 
@@ -32,7 +34,8 @@ pub(crate) struct Split<K> {
     pub ends: Vec<K>,
 }
 
-/// Looks each end up among the known keys. Cost: one look-up by hash for each end.
+/// Looks each end up among the known keys. Err if memory is refused; the ends are then gone. Cost:
+/// one look-up by hash for each end.
 pub(crate) fn split_ends<K: TableKey + Drop>(
     alloc: Global,
     keys: &IndexSet<K>,

@@ -6,8 +6,9 @@ ghost use Rattle.tib_hunt.specs.RoundLaw.{EveryRun, TwoRuns};
 use crate::expand::Expand;
 use crate::round_of::RoundOf;
 
-/// After every complete run of a round's events each item was drawn once and filed once, and the keys on the shelves are the distinct ends of the
-/// items, each once. The filed edges are by definition those of the filed items: that a row has the edges of its item is no part of this law.
+/// After every complete run of a round's events each item was drawn once and filed once, and the
+/// keys on the shelves are the distinct ends of the items, each once. By definition, the filed
+/// edges are those of the filed items. That a row has the edges of its item is no part of this law.
 pub fn every_run<E: Expand>(round: &RoundOf<'_, E>)
     ensures { let p = E.hunted round.now.problem.now in let order = round.now.order.now in
         EveryRun E.Key.eq E.Key.shelf_of round.now.first (length order - round.now.first)
@@ -16,7 +17,8 @@ pub fn every_run<E: Expand>(round: &RoundOf<'_, E>)
     let _round = round;
 }
 
-/// Two complete runs of one round leave the same keys and the same filed items, and so, by definition, the same filed edges.
+/// Two complete runs of one round leave the same keys and the same filed items, and so, by
+/// definition, the same filed edges.
 pub fn two_runs<E: Expand>(round: &RoundOf<'_, E>)
     ensures { let p = E.hunted round.now.problem.now in let order = round.now.order.now in
         TwoRuns E.Key.eq E.Key.shelf_of round.now.first (length order - round.now.first)

@@ -1,6 +1,7 @@
-//! What an operation hunts, and how. Keys are reached from seeds along edges, in rounds. The core of a round is a machine over events, and
-//! every complete run of it leaves the same keys and the same edges, whatever the order of its events. One worker finds the reached set, or
-//! several, who find the same whatever the order of their steps. It stands on `tib_crew` and on `tib_table`.
+//! What an operation hunts, and how. Keys are reached from seeds along edges, in rounds. The core
+//! of a round is a machine over events. Every complete run of it leaves the same keys and the same
+//! edges, whatever the order of its events. One worker finds the reached set, or several do; they
+//! find the same set whatever the order of their steps. The crate uses `tib_crew` and `tib_table`.
 #![tactic(auto)]
 
 mod dividing;

@@ -2,7 +2,8 @@
 
 use thiserror::Error;
 
-/// Where a rule over keys points: at a position of the order, or at one of the ends of its own list.
+/// Where a rule over keys points: at a position of the order, or at one of the ends of its own
+/// list.
 #[derive(Clone, Copy, Debug, Drop, PartialEq, Eq)]
 pub enum Place {
     /// A position of the order.
@@ -11,7 +12,8 @@ pub enum Place {
     End(u32),
 }
 
-/// A list of edges: the keys at which they end, rules over places, and how many parts the rules have.
+/// A list of edges: the keys at which they end, rules over places, and how many parts the rules
+/// have.
 #[derive(Drop)]
 pub struct Edges<K, R> {
     /// The ends, in any order, and any of them more than once.

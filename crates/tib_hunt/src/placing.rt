@@ -1,4 +1,5 @@
-//! The rules of a round's rows are settled, whose ends stand in the order or have numbers on shelves: each end gets the position of its key.
+//! Settles the rules of a round's rows. An end of a row is in the order or has a number on a shelf,
+//! and gets the position of its key.
 
 ghost use Rattle.std.specs.Prelude.{◌≡◌, ◌+◌, ◌<◌, length, map, OnOk};
 ghost use Rattle.tib_lex.specs.Lists.{Each};
@@ -22,7 +23,8 @@ fn place_end(number: Number, positions: &[Vec<u32>]) -> u32
     positions[number.shelf as usize][number.place as usize]
 }
 
-// Fills the list with the positions of the numbers on shelves, after the positions from `first` on were moved.
+// Fills the list with the positions of the numbers on shelves, after the positions from `first` on
+// were moved.
 fn place_ends(
     ends: &[Number],
     positions: &[Vec<u32>],
@@ -43,8 +45,8 @@ fn place_ends(
     Ok(())
 }
 
-// Fills the list with the positions of ends, some of which stand in the order and the others have numbers on shelves, after the positions from
-// `first` on were moved.
+// Fills the list with the positions of ends, after the positions from `first` on were moved. Some
+// of the ends are in the order, and the others have numbers on shelves.
 fn place_known(
     at: &[EndAt],
     numbers: &[Number],
@@ -75,7 +77,7 @@ fn place_known(
     Ok(())
 }
 
-// The same of ends of which all may have numbers.
+// The same where all ends may have numbers.
 fn place_all(
     at: &Option<Vec<EndAt>>,
     numbers: &[Number],
@@ -96,7 +98,8 @@ fn place_all(
     }
 }
 
-// Settles the rules of a row, and appends them to the rules. `ends` is a list that serves every row.
+// Settles the rules of a row, and appends them to the rules. The list `ends` is reused for every
+// row.
 fn place_row<E: Expand>(
     alloc: Global,
     problem: &E,
@@ -119,8 +122,9 @@ fn place_row<E: Expand>(
     settle_rules(alloc, problem, &row.rules.rules, ends, rules)
 }
 
-/// Settles the rules of all rows, and appends them to the rules. The ends of the rows stand in the order or have numbers on shelves, whose
-/// positions are given as they were before those from `first` on were moved. Each row is let go as soon as it is settled.
+/// Settles the rules of all rows, and appends them to the rules. Each end of the rows is in the
+/// order or has a number on a shelf, whose position is given as it was before those from `first` on
+/// were moved. Each row is dropped as soon as it is settled. Err if memory is refused.
 pub(crate) fn place_rows<E: Expand>(
     alloc: Global,
     problem: &E,

@@ -17,12 +17,12 @@ use tib_table::HuntError;
 /// The greatest limit of parts.
 pub const MOST_PARTS: u64 = 20_000_000;
 
-/// The limit that clauses cite is this constant.
+/// Law: this constant is the limit that clauses cite.
 pub fn hunts_have_a_limit()
     ensures { MOST_PARTS ≡ most_parts }
 {}
 
-/// A round of as many items as this opens shelves. There are as many shelves.
+/// A round of at least this many items opens shelves. There are as many shelves.
 const MANY: usize = 16;
 
 // What was found, once each position is expanded. Err if memory is refused.
@@ -54,8 +54,9 @@ fn found_in<E: Expand>(
     })
 }
 
-/// The reached set of an operation, found by one worker, where each round of at least `many` items is worked on shelves, and each other on one
-/// list. `TooMany` exactly where the reached set has more parts than the limit.
+/// The reached set of an operation, found by one worker. A round of at least `many` items is worked
+/// on shelves, and any other on one list. `TooMany` exactly where the reached set has more parts
+/// than the limit.
 pub(crate) fn hunt_by<E: Expand, G: Gate>(
     alloc: Global,
     problem: &E,
@@ -131,10 +132,11 @@ where
     Ok(found)
 }
 
-/// The reached set of an operation, found by one worker, as its keys in the order by rounds and its rules over their positions, with the parts
-/// of both. `TooMany` exactly where the reached set has more parts than the limit, 1 to `MOST_PARTS`, or is endless; `OutOfMemory` if memory is
-/// refused. Calls `gate` once for each key, before it expands that key. Cost: that of `problem`, and for each end of an edge a few look-ups by
-/// hash; the keys of each round are sorted.
+/// The reached set of an operation, found by one worker: its keys in the order by rounds, its rules
+/// over their positions, and the parts of both. `TooMany` exactly where the reached set has more
+/// parts than the limit, 1 to `MOST_PARTS`, or is endless; `OutOfMemory` if memory is refused.
+/// Calls `gate` once for each key, before it expands that key. Cost: that of `problem`, and a few
+/// look-ups by hash for each end of an edge; the keys of each round are sorted.
 pub fn hunt_alone<E: Expand, G: Gate>(
     alloc: Global,
     problem: &E,
@@ -152,13 +154,16 @@ pub fn hunt_alone<E: Expand, G: Gate>(
     hunt_by(alloc, problem, limit, MANY, gate)
 }
 
-/// The reached set as `hunt_alone` answers it, found by this number of workers, 1 to 16. A round of one item is worked as by one worker. In
-/// any other the workers draw the items, no more of them than there are items, and look its ends up in the order; each end that it lacks
-/// takes one turn of a shelf. An item is expanded again, by the caller, where a worker has too small a share of what the limit leaves, or
-/// finds no memory; `TooMany` is answered by the caller alone, and so doesn't depend on the order of the workers' steps. Calls `gate` for
-/// each key before it is expanded, with the number of the worker that does it. It may wait for ever: while a turn of a shelf is held.
-/// Errors are those of `hunt_alone`, and so is the cost, but for the keys that are expanded again, and for threads: one for each worker is
-/// started in each round, and no more than that at the end of a round that made 1,024 rows or 2,048 fresh keys, or more of them.
+/// The reached set as `hunt_alone` returns it, found by this number of workers, 1 to 16. A round of
+/// one item is worked as by one worker. In any other the workers draw the items, no more workers
+/// than there are items, and look the items' ends up in the order. Each end that the order lacks
+/// takes one turn of a shelf. The caller expands an item again if a worker has too small a share of
+/// what the limit leaves, or is refused memory. Only the caller returns `TooMany`, so it does not
+/// depend on the order of the workers' steps. Calls `gate` for each key before it is expanded, with
+/// the number of the worker that does it. It may wait forever, while a turn of a shelf is held.
+/// Errors are those of `hunt_alone`, and so is the cost, but for the keys that are expanded again,
+/// and for threads: each round starts one for each worker, and no more than that at its end if it
+/// made at least 1,024 rows or 2,048 fresh keys.
 pub fn hunt<R: Threads + Wait + Sync, E: Expand + Sync, G: Gate + Sync>(
     rt: &R,
     alloc: Global,

@@ -1,4 +1,5 @@
-//! The core of one round: its shelves, the count of drawn items and the filed ones, changed by one event at a time.
+//! The core of one round: its shelves, the count of drawn items and the filed ones, changed by one
+//! event at a time.
 
 ghost use Rattle.std.specs.Prelude.{◌≡◌, ◌<◌, ℕ, [], replicate, length, map, IfOk, OnOk, OnErr};
 ghost use Rattle.tib_table.specs.Kept.{keys_of};
@@ -15,7 +16,8 @@ use tib_table::{Number, Shelf, TableKey};
 /// How many shelves a round has.
 const SHELVES: u32 = 16;
 
-/// The core of one round: sixteen shelves of keys, the count of drawn items, and the list of filed ones. Each step is one event.
+/// The core of one round: sixteen shelves of keys, the count of drawn items, and the list of filed
+/// ones. Each step is one event.
 #[derive(Drop)]
 pub struct Round<P: Itemized> {
     problem: P,
@@ -79,8 +81,9 @@ fn list_shelves<P: Itemized>(
 }
 
 impl<P: Itemized> Round<P> {
-    /// Performs one event. A draw answers the next item, or None where all are drawn; a key is numbered on its shelf; an item is filed. Err if
-    /// memory is refused, and then nothing has changed. Cost: at most one look-up by hash.
+    /// Performs one event. A draw returns the next item, or None if all are drawn; a key is
+    /// numbered on its shelf; an item is filed. Err if memory is refused; nothing has then changed.
+    /// Cost: at most one look-up by hash.
     pub fn step(&mut self, event: Event<P::Key>) -> Result<Answer, AllocError>
         requires { let d = self.old.about in Allowed P.Key.eq P.Key.shelf_of (P.first_of d)
             (P.count_of d) (P.is_end d) self.old.core event }
@@ -100,7 +103,7 @@ impl<P: Itemized> Round<P> {
         }
     }
 
-    /// How many keys a shelf has.
+    /// How many keys a shelf, below 16, has.
     pub fn held(&self, shelf: u32) -> u64
         requires { shelf < 16 }
         ensures { result ≡ length (on self.now.core.shelves shelf) }
@@ -108,8 +111,8 @@ impl<P: Itemized> Round<P> {
         self.shelves[shelf as usize].len()
     }
 
-    /// Ends the round and hands out the keys of the sixteen shelves, each shelf in the order of
-    /// first sight. Err if memory is refused, and then they are gone. Each key is moved once.
+    /// Ends the round and returns the keys of the sixteen shelves, each shelf in the order of first
+    /// sight. Err if memory is refused; the keys are then gone. Each key is moved once.
     pub fn close(self, alloc: Global) -> Result<Vec<Vec<P::Key>>, AllocError>
         ensures { IfOk result (λ r. map (λ v. v.items) r.items ≡ self.core.shelves) }
     {
@@ -122,7 +125,7 @@ impl<P: Itemized> Round<P> {
         list_shelves(alloc, shelves)
     }
 
-    // The next item, or None where all are drawn.
+    // The next item, or None if all are drawn.
     fn draw(&mut self) -> Option<u32>
         ensures about { self.new.about ≡ self.old.about }
         ensures next { result ≡ next_item (P.first_of self.old.about) (P.count_of self.old.about)

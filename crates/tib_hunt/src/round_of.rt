@@ -7,7 +7,8 @@ use crate::itemized::Itemized;
 use std::collections::LinkedList;
 use tib_table::Problem;
 
-/// The problem of one round: its items are the positions of the order from the first one on, and it may hold the ends of their edges.
+/// The problem of one round. Its items are the positions of the order from the first one on, and it
+/// may hold the ends of their edges.
 #[derive(Drop)]
 pub struct RoundOf<'a, E: Expand> {
     /// The operation.

@@ -47,7 +47,8 @@ pub(crate) fn move_end(number: u32, first: u32, moved: &[u32]) -> u32
     }
 }
 
-/// Settles rules over places whose ends have these positions, and appends them to the rules. Err if memory is refused.
+/// Settles rules over places whose ends have these positions, and appends them to the rules. Err if
+/// memory is refused.
 pub(crate) fn settle_rules<E: Expand>(
     alloc: Global,
     problem: &E,
@@ -68,7 +69,8 @@ pub(crate) fn settle_rules<E: Expand>(
     Ok(())
 }
 
-// Settles the rules of a row, and appends them to the rules. `ends` is a list that serves every row.
+// Settles the rules of a row, and appends them to the rules. The list `ends` is reused for every
+// row.
 fn settle_row<E: Expand>(
     alloc: Global,
     problem: &E,
@@ -89,7 +91,7 @@ fn settle_row<E: Expand>(
     settle_rules(alloc, problem, &row.rules, ends, rules)
 }
 
-/// Settles the rules of all rows, and appends them to the rules.
+/// Settles the rules of all rows, and appends them to the rules. Err if memory is refused.
 pub(crate) fn settle_rows<E: Expand>(
     alloc: Global,
     problem: &E,

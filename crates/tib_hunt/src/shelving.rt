@@ -14,7 +14,7 @@ use crate::round::Round;
 use std::alloc::{AllocError, Global};
 use tib_table::{HuntError, Number, TableKey};
 
-/// Draws the next item of a round, or None where all are drawn.
+/// Draws the next item of a round, or None if all are drawn. Err if memory is refused.
 pub(crate) fn draw_item<P: Itemized>(round: &mut Round<P>) -> Result<Option<u32>, AllocError>
     ensures about { round.new.about ≡ round.old.about }
     ensures core { OnOk result (round.new.core ≡ with_draw (P.count_of round.old.about)
@@ -29,7 +29,7 @@ pub(crate) fn draw_item<P: Itemized>(round: &mut Round<P>) -> Result<Option<u32>
     }
 }
 
-/// Files an item.
+/// Files an item. Err if memory is refused.
 pub(crate) fn file_item<P: Itemized>(round: &mut Round<P>, item: u32) -> Result<(), AllocError>
     requires drawn { IsItem (P.first_of round.old.about) round.old.core.drawn item }
     requires once { Has round.old.core.filed item → ⊥ }
@@ -59,7 +59,8 @@ fn number_on_shelf<P: Itemized>(round: &mut Round<P>, key: P::Key) -> Result<Num
     }
 }
 
-// The number of a key on its shelf. Adds the parts of a key that is new there; `TooMany` if that passes the limit.
+// The number of a key on its shelf. Adds the parts of a key that is new there; `TooMany` if they
+// pass the limit.
 fn shelve_key<P: Itemized>(
     round: &mut Round<P>,
     seen: &mut u64,
@@ -98,7 +99,8 @@ fn shelve_key<P: Itemized>(
     Ok(number)
 }
 
-/// The numbers of the ends of drawn items on their shelves. Adds the parts of keys that are new there; `TooMany` if that passes the limit.
+/// The numbers of the ends of drawn items on their shelves. Adds the parts of keys that are new
+/// there; `TooMany` if they pass the limit, `OutOfMemory` if memory is refused.
 pub(crate) fn shelve_ends<P: Itemized>(
     alloc: Global,
     round: &mut Round<P>,

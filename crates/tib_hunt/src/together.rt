@@ -1,4 +1,5 @@
-//! A round by several workers, who draw and expand its items, number the ends in one table, and hand over rows.
+//! A round by several workers, who draw and expand its items, number the ends in one table, and
+//! hand over rows.
 
 ghost use Rattle.std.specs.Prelude.{◌≡◌, ◌≤◌, List, IfOk, IfErr};
 ghost use Rattle.tib_crew.specs.Rows.{parts_in};
@@ -29,9 +30,10 @@ fn count_parts<T>(rows: &[Row<T>]) -> u64
     made
 }
 
-/// Works one round by this number of workers, 1 to 16, as `work_round` does by one. Ends that the order has take no turn of a shelf. An item for which a worker has too small a share of what
-/// the limit leaves, or finds no memory, is expanded again by the caller, who alone adds up the parts of all rows. `TooMany` where the reached
-/// set passes the limit.
+/// Works one round by this number of workers, 1 to 16, as `work_round` does by one. Ends that the
+/// order has take no turn of a shelf. The caller expands an item again if a worker has too small a
+/// share of what the limit leaves, or is refused memory. Only the caller adds up the parts of all
+/// rows. `TooMany` only if the reached set passes the limit, `OutOfMemory` if memory is refused.
 pub(crate) fn work_together<'x, E: Expand + Sync, G: Gate + Sync, R: Threads + Wait + Sync>(
     rt: &R,
     alloc: Global,

@@ -1,4 +1,5 @@
-//! A round on its core: its items are drawn and expanded, their ends are numbered on shelves, and each item is filed with its row.
+//! A round on its core. Its items are drawn and expanded, their ends are numbered on shelves, and
+//! each item is filed with its row.
 
 ghost use Rattle.std.specs.Prelude.{◌≡◌, ◌-◌, ◌≤◌, List, length, IfOk, IfErr, OnOk};
 ghost use Rattle.tib_lex.specs.Lists.{Has, Each, total};
@@ -22,7 +23,8 @@ use std::alloc::Global;
 use tib_crew::Row;
 use tib_table::{HuntError, TableKey};
 
-/// What a round makes: the keys on its shelves, the rows of its items, and the parts of all that was there before and of these rows.
+/// What a round makes: the keys on its shelves, the rows of its items, and the parts of all that
+/// was there before and of these rows.
 #[derive(Drop)]
 pub(crate) struct Worked<K, R> {
     pub shelves: Vec<Vec<K>>,
@@ -30,7 +32,8 @@ pub(crate) struct Worked<K, R> {
     pub parts: u64,
 }
 
-// The rows so far, the parts of all that was there before and of these rows, and the parts of the keys on the shelves.
+// The rows so far, the parts of all that was there before and of these rows, and the parts of the
+// keys on the shelves.
 #[derive(Drop)]
 struct Work<R> {
     rows: Vec<Row<Ruled<R>>>,
@@ -38,8 +41,8 @@ struct Work<R> {
     seen: u64,
 }
 
-// Expands an item that was drawn, numbers its ends on their shelves, and files it. `TooMany` if its edges, or the keys on the shelves, pass
-// the limit.
+// Expands an item that was drawn, numbers its ends on their shelves, and files it. `TooMany` if its
+// edges, or the keys on the shelves, pass the limit.
 fn work_item<'a, 'b, E: Expand, G: Gate>(
     alloc: Global,
     of: &'a RoundOf<'b, E>,
@@ -99,8 +102,9 @@ fn work_item<'a, 'b, E: Expand, G: Gate>(
     Ok(())
 }
 
-/// Works one round: draws the positions of the order from `first` on, expands them, numbers their ends on shelves, and files them. `TooMany`
-/// where the reached set passes the limit.
+/// Works one round: draws the positions of the order from `first` on, expands them, numbers their
+/// ends on shelves, and files them. `TooMany` only if the reached set passes the limit,
+/// `OutOfMemory` if memory is refused.
 pub(crate) fn work_round<E: Expand, G: Gate>(
     alloc: Global,
     problem: &E,

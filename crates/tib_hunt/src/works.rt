@@ -1,4 +1,4 @@
-//! One round of a hunt, from its first item to its keys in order: by one worker, or by several.
+//! One round of a hunt, from its first item to its keys in order, by one worker or by several.
 
 ghost use Rattle.std.specs.Prelude.{◌≡◌, ◌≤◌, [], length, IfErr, OnOk};
 ghost use Rattle.tib_hunt.specs.Reached.{IfTooMany, IsBeyond, most_parts};
@@ -15,8 +15,9 @@ use std::sync::Wait;
 use std::thread::Threads;
 use tib_table::HuntError;
 
-/// Works the round that begins at the position `first` by one worker, on shelves if it has at least `many` items, and else on one list. The
-/// outcome is the same.
+/// Works the round that begins at the position `first` by one worker, on shelves if it has at least
+/// `many` items, and otherwise on one list. The outcome is the same. `TooMany` only if the reached
+/// set passes the limit, `OutOfMemory` if memory is refused.
 pub(crate) fn round_alone<E: Expand, G: Gate>(
     state: &mut HuntState<E>,
     alloc: Global,
@@ -45,7 +46,8 @@ pub(crate) fn round_alone<E: Expand, G: Gate>(
     }
 }
 
-/// Works the round that begins at the position `first` by this number of workers, 1 to 16, or a round of one item by one.
+/// Works the round that begins at the position `first` by this number of workers, 1 to 16, or a
+/// round of one item by one. Errors are those of `round_alone`.
 pub(crate) fn round_together<E: Expand + Sync, G: Gate + Sync, R: Threads + Wait + Sync>(
     rt: &R,
     state: &mut HuntState<E>,

@@ -17,7 +17,7 @@ use Rattle.tib_table.specs.declared.problem.Entry.{Entry}
 use Rattle.tib_table.proofs.Logs.{keys_more, keys_seen, same_about, prefix_get, prefix_refl}
 
 module _ {K : Type 0} where
-  -- what a list of keys names, a longer one names too
+  -- what a list of keys names, a longer one also names
   pub names_kept : (old new : List (List K)) → GoOn old new → KeepNames old new
   names_kept old new more shelf place x = prefix_get (on old shelf) (on new shelf) place x (more shelf)
 
@@ -32,7 +32,7 @@ module _ {K : Type 0} where
   all_at P xs p x all e = subst P (get_or_from_slice_get xs p x x e) (all p x (slice_get_within xs p x e))
 
   module _ (eq : K → K → Bool) (self : (x : K) → eq x x ≡ true) where
-    -- a key of distinct ones stands at one place
+    -- a key of distinct ones is at one place
     pub one_place : (xs : List K) (p q : ℕ) (x : K) → IsDistinct eq xs → slice_get xs p ≡ Some x → slice_get xs q ≡ Some x → p ≡ q
     one_place xs p q x d a b = go (nat_lt p q) refl (nat_lt q p) refl
       where

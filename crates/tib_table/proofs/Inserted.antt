@@ -15,7 +15,7 @@ module _ {K : Type 0} (eq : K → K → Bool) (same : (x y : K) → eq x y ≡ t
       go (inr (inl e)) = inr e
       go (inr (inr n)) = absurd n
 
-  -- a key that compares equal to one of the list stands in it
+  -- a key that compares equal to one of the list is in it
   pub any_has : (k : K) (ks : List K) → list_any (eq k) ks ≡ true → Has ks k
   any_has k [] e = absurd (true≢false (sym e))
   any_has k (x ∷ xs) e = go (eq k x) refl (any_has k xs) e
@@ -24,7 +24,7 @@ module _ {K : Type 0} (eq : K → K → Bool) (same : (x y : K) → eq x y ≡ t
       go true q r e = inl (sym (same k x q))
       go false q r e = inr (r e)
 
-  -- a key that compares equal to none of the list does not stand in it
+  -- a key that compares equal to none of the list is not in it
   pub not_any : (k : K) (ks : List K) → list_any (eq k) ks ≡ false → Has ks k → ⊥
   not_any k [] e h = h
   not_any k (x ∷ xs) e (inl i) = go (eq k x) (subst (λ z. eq k z ≡ true) (sym i) (self k)) e
@@ -47,7 +47,8 @@ module _ {K : Type 0} (eq : K → K → Bool) (same : (x y : K) → eq x y ≡ t
       go (inr (inl e)) = n (inl (sym e))
       go (inr (inr m)) = m
 
-  -- the keys go on, each is an old one or one of the ends, each end is there, and none stands twice
+  -- the old keys are the front, each key is an old one or one of the ends, each end is there, and
+  -- no key is there twice
   pub record Inserted (old ends keys : List K) : Type 0 where
     pub new : List K
     pub keys_are : keys ≡ old ++ new

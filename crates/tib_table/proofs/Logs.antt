@@ -26,7 +26,7 @@ module _ {A : Type 0} where
       go (y ∷ ys) rest (suc i) e = go ys rest i e
 
 module _ {K : Type 0} (eq : K → K → Bool) where
-  -- a key that is inserted is there already or is added behind the others
+  -- a key that is inserted is there already or is added after the others
   pub insert_grows : (ks : List K) (k : K) → IsPrefix ks (insert_key eq ks k)
   insert_grows ks k = go (list_any (eq k) ks)
     where
@@ -64,7 +64,7 @@ module _ {D K : Type 0} where
   map_more [] ys = refl
   map_more (x ∷ xs) ys = ap (λ (l : List (Entry D K)). Key x ∷ l) (map_more xs ys)
 
-  -- of a shelf that is about the same the log grows as its keys do
+  -- the log of a shelf with the same data grows as its keys do
   log_more : (s t : Kept D K) → t.about ≡ s.about → IsPrefix s.keys t.keys → IsPrefix (log_of s) (log_of t)
   log_more s t a p = (map Key p.0, ap (λ (d : D). Data d ∷ map Key t.keys) a ∙ ap (λ (ks : List K). Data s.about ∷ map Key ks) p.1 ∙ ap (λ (l : List (Entry D K)). Data s.about ∷ l) (map_more s.keys p.0))
 
@@ -78,7 +78,7 @@ module _ {D K : Type 0} where
         go (Ok n) p b = subst (IsPrefix s.keys) (sym p) (insert_grows eq s.keys k)
         go (Err x) p b = prefix_refl s.keys t.keys (ap (λ (u : Kept D K). u.keys) b.1)
 
-  -- a shelf whose log goes on from a log about d is about d
+  -- if a shelf's log begins with a log about d, the shelf is about d
   pub same_about : (d : D) (es : List (Entry D K)) (s : Kept D K) → IsLogOf d es → IsPrefix es (log_of s) → s.about ≡ d
   same_about d es s l p = let e : Data s.about ∷ map Key s.keys ≡ Data d ∷ (map {B = Entry D K} Key (keys_in es) ++ p.0) = p.1 ∙ ap (λ x. x ++ p.0) l in cc
 
@@ -95,7 +95,7 @@ module _ {D K : Type 0} where
   named_in fs t k (Ok n) e h = ap (λ l. slice_get l n) (keys_seen fs t e) ∙ h
   named_in fs t k (Err x) e h = h
 
-  -- of two logs about the same the longer has the more keys
+  -- of two logs about the same data, the longer one has more keys
   pub longer_log : (d : D) (xs ys : List (Entry D K)) → IsLogOf d xs → IsLogOf d ys
       → IsLogOf d (longer xs ys) × (keys_in (longer xs ys) ≡ longer (keys_in xs) (keys_in ys))
   longer_log d xs ys a b =

@@ -18,7 +18,7 @@ length_map : {A B : Type 0} (f : A → B) (xs : List A) → length (map f xs) �
 length_map f [] = refl
 length_map f (x ∷ xs) = ap suc (length_map f xs)
 
--- one value more behind equal ones
+-- one more value after equal ones
 pub replicate_push : {A : Type 0} (n : ℕ) (x : A) → replicate n x ++ x ∷ [] ≡ replicate (n + 1) x
 replicate_push zero x = refl
 replicate_push (suc n) x = let up : suc n + 1 ≡ suc (n + 1) = omega arith in ap (λ l. x ∷ l) (replicate_push n x) ∙ sym (ap (λ m. replicate m x) up)

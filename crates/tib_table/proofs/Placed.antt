@@ -90,15 +90,15 @@ module _ {K : Type 0} (eq : K → K → Bool) (same : (x y : K) → eq x y ≡ t
         go k (inl a) = has_left (all_on done) ks k a
         go k (inr b) = has_right (all_on done) ks k (among k b)
 
-    -- the same of the error
+    -- the same for the error
     pub told : (e : HuntError) → IfTooMany limit (HaveMore eq f keys ks parts limit) e → IfTooMany limit (HaveMore eq f old (all_on all) was limit) e
     told e = IfTooMany-weaker limit _ _ e too_many
 
--- the same where the shelves and the positions stand as values of other types
+-- the same where the shelves and the positions are values of other types
 module _ {K V W : Type 0} (eq : K → K → Bool) (same : (x y : K) → eq x y ≡ true → x ≡ y) (self : (x : K) → eq x x ≡ true) (keys_in : V → List K) (numbers_in : W → List ℕ)
     (f : K → ℕ) (old : List K) (all done rest : List V) (was limit : ℕ) (keys : List K) (positions : List W) (parts : ℕ)
     (c : PlacedSoFar eq same self f old (map keys_in all) (map keys_in done) (map keys_in rest) was limit keys (map numbers_in positions) parts) (v : V) (rest' : List V) (next : rest ≡ v ∷ rest') where
-  -- the same of the error, where shelves are read by a function
+  -- the same for the error, where a function reads the shelves
   pub shelf_told : (e : HuntError) → IfTooMany limit (HaveMore eq f keys (keys_in v) parts limit) e → IfTooMany limit (HaveMore eq f old (all_on (map keys_in all)) was limit) e
   shelf_told = told eq same self f old (map keys_in all) (map keys_in done) (map keys_in rest) was limit keys (map numbers_in positions) parts c (keys_in v) (map keys_in rest') (ap (map keys_in) next)
 

@@ -17,7 +17,7 @@ module _ {D K : Type 0} where
   here_after (k ∷ ks) zero t l = refl
   here_after (k ∷ ks) (suc i) t l = here_after ks i t (omega arith)
 
-  -- the keys of the shelf that stood there
+  -- the keys of the shelf that was there
   pub here_before : (ks : List (Kept D K)) (i : ℕ) (s : Kept D K) → s ≡ get_or ks i s → i < length ks → on (map keys_of ks) i ≡ s.keys
   here_before [] i s e l = absurd (omega arith)
   here_before (k ∷ ks) zero s e l = ap keys_of (sym e)

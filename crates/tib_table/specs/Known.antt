@@ -23,15 +23,15 @@ module _ {K : Type 0} where
   abbrev pub Names : List (List K) → ℕ → ℕ → K → Type 0
   Names shelves shelf place key = slice_get (on shelves shelf) place ≡ Some key
 
-  -- of each shelf the new keys go on from the old ones
+  -- on each shelf, the old keys are the front of the new ones
   abbrev pub GoOn : List (List K) → List (List K) → Type 0
   GoOn old new = (shelf : ℕ) → IsPrefix (on old shelf) (on new shelf)
 
-  -- each place that names a key names it still
+  -- each place that names a key still names it
   abbrev pub KeepNames : List (List K) → List (List K) → Type 0
   KeepNames old new = (shelf place : ℕ) (x : K) → Names old shelf place x → Names new shelf place x
 
-  -- of each shelf the longer of both lists
+  -- for each shelf, the longer of both lists
   abbrev pub longest : List (List K) → List (List K) → List (List K)
   longest [] yss = []
   longest (xs ∷ xss) [] = []

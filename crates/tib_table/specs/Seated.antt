@@ -26,7 +26,7 @@ knowledge d ss =
     record { table = record { about = d; locks = map lock_of ss }; known = map known_of ss }
 
 module _ {D K : Type 0} where
-  -- the passes from shelf j on are out of a turn, and each knows a log of its shelf
+  -- from shelf j on, the passes are out of a turn, and each knows a log of its shelf
   abbrev pub AreSeated : D → ℕ → List (Seen (Entry (D × ℕ) K)) → Type 0
   AreSeated d j [] = Unit {0}
   AreSeated d j (s ∷ ss) = (s.inside ≡ false) × IsLogOf (d, j) s.seen × AreSeated d (j + 1) ss
@@ -35,8 +35,8 @@ module _ {D K : Type 0} where
   abbrev pub AreOpened : D → ℕ → List TableId → List (Seen (Entry (D × ℕ) K)) → Type 0
   AreOpened d n zs ss = (length zs ≡ n) × (map lock_of ss ≡ zs) × (map known_of ss ≡ replicate n []) × AreSeated d 0 ss
 
--- the shelf that a pass knew when it was closed: its log goes on from what the pass has seen, its
--- keys are distinct, and each may be held
+-- the shelf that a pass knew when it was closed: what the pass has seen is the front of its log,
+-- its keys are distinct, and each may be held
 pub record Closes {D K : Type 0} (may_hold : D → K → Type 0) (eq : K → K → Bool)
     (pass : Seen (Entry D K)) (shelf : Kept D K) : Type 0 where
   pub more : IsPrefix pass.seen (log_of shelf)

@@ -10,7 +10,7 @@ use std::alloc::{AllocError, Global};
 use std::marker::Model;
 use tib_turn::Grows;
 
-/// One of the shelves of a table, with its place there. Each of its keys names that place.
+/// One of the shelves of a table, with its place in the table. Each of its keys names that place.
 #[derive(Drop)]
 pub struct Board<P: Problem> {
     shelf: Shelf<P>,
@@ -59,8 +59,8 @@ impl<P: Problem> Board<P> {
         self.shelf.len()
     }
 
-    /// The place of the key, which is added behind the others if it is new. Only for want of memory
-    /// the key comes back, and nothing is added. Cost: one look-up by hash.
+    /// The place of the key, from 0. A new key is added after the others. Only if memory is refused
+    /// does the key come back; the shelf is then unchanged. Cost: one look-up by hash.
     pub fn number(&mut self, key: P::Key) -> Result<u64, P::Key>
         requires { P.may_hold self.old.about.0 key × (P.Key.shelf_of key ≡ self.old.about.1) }
         ensures about { self.new.about ≡ self.old.about }
@@ -71,7 +71,7 @@ impl<P: Problem> Board<P> {
         self.shelf.number(key)
     }
 
-    /// The key at a place. It takes no memory.
+    /// The key at a place below `len`. It takes no memory.
     pub fn key(&self, place: u64) -> &P::Key
         requires { place < length self.now.keys }
         ensures { slice_get self.now.keys place ≡ Some result.now }
@@ -79,8 +79,8 @@ impl<P: Problem> Board<P> {
         self.shelf.key(place)
     }
 
-    /// Removes the last key and answers it, or None where there is none. The other keys keep their
-    /// places. It takes no memory.
+    /// Removes and returns the last key, or returns None if there is none. The other keys keep
+    /// their places. It takes no memory.
     pub fn take_last(&mut self) -> Option<P::Key>
         ensures about { self.new.about ≡ self.old.about }
         ensures taken { MatchOption result ((self.old.keys ≡ []) × (self.new.keys ≡ []))
@@ -89,7 +89,7 @@ impl<P: Problem> Board<P> {
         self.shelf.take_last()
     }
 
-    /// All keys, in the order of first sight. It fails only for want of memory, and then they are
+    /// All keys, in the order of first sight. Err only if memory is refused; the keys are then
     /// gone. Each key is moved once.
     pub fn into_keys(self, alloc: Global) -> Result<Vec<P::Key>, AllocError>
         ensures { IfOk result (λ r. r.items ≡ self.keys) }

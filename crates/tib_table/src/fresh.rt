@@ -1,4 +1,5 @@
-//! The fresh keys of a round: those of its shelves that the order lacks, which are then appended to it in ascending order.
+//! The fresh keys of a round: the keys of its shelves that the order lacks. They are then appended
+//! to the order, ascending.
 
 ghost use Rattle.std.specs.Prelude.{◌≡◌, ℕ, ◌+◌, ◌-◌, ◌≤◌, ◌<◌, ◌^◌, ◌++◌, [], ◌∷◌, Some, min, length, map, slice_get, IfOk, IfErr, IfSome, IfNone, OnOk};
 ghost use Rattle.indexmap.specs.IndexSet.{insert_key, insert_all};
@@ -26,7 +27,8 @@ pub enum Lookup {
     Needed,
 }
 
-/// How many keys the shelves have, or the greatest `usize` if they have more.
+/// How many keys the shelves have, or the greatest `usize` if there are more. Linear in the number
+/// of shelves.
 pub fn count_keys<K>(shelves: &[Vec<K>]) -> usize
     ensures { result ≡ min (length (all_on (map (λ v. v.items) shelves.now))) (2 ^ 64 - 1) }
 {
@@ -37,7 +39,7 @@ pub fn count_keys<K>(shelves: &[Vec<K>]) -> usize
     count
 }
 
-/// The position of a key, or None where it is not in the order.
+/// The position of a key, or None if the order lacks it. Cost: one look-up by hash.
 pub fn find_position<K: TableKey + Drop>(keys: &IndexSet<K>, key: &K) -> Option<usize>
     ensures some { IfSome result (λ n. slice_get keys.now.keys n ≡ Some key.now) }
     ensures none { IfNone result (Has keys.now.keys key.now → ⊥) }
@@ -45,7 +47,7 @@ pub fn find_position<K: TableKey + Drop>(keys: &IndexSet<K>, key: &K) -> Option<
     keys.get_index_of(key)
 }
 
-// The position of a key, or None where it is not in the order.
+// The position of a key, or None if the order lacks it.
 fn look_up<K: TableKey + Drop>(lookup: Lookup, keys: &IndexSet<K>, key: &K) -> Option<usize>
     requires { IsNeedless lookup → Has keys.now.keys key.now → ⊥ }
     ensures some { IfSome result (λ n. slice_get keys.now.keys n ≡ Some key.now) }
@@ -57,7 +59,7 @@ fn look_up<K: TableKey + Drop>(lookup: Lookup, keys: &IndexSet<K>, key: &K) -> O
     }
 }
 
-// Appends a key to the fresh ones. Adds the key's parts; `TooMany` if that passes the limit.
+// Appends a key to the fresh ones and adds its parts; `TooMany` if they pass the limit.
 fn push_fresh<K: TableKey + Drop>(
     fresh: &mut Vec<(K, u32)>,
     parts: &mut u64,
@@ -86,8 +88,9 @@ fn push_fresh<K: TableKey + Drop>(
     Ok(())
 }
 
-// The number of a key that is none of the fresh ones, where these follow the order. Appends a key that the order lacks to the fresh ones,
-// and adds its parts; `TooMany` if that passes the limit.
+// The number of a key that is not among the fresh ones, which are counted on from the order. A key
+// that the order lacks is appended to the fresh ones, and its parts are added; `TooMany` if they
+// pass the limit.
 fn find_key<K: TableKey + Drop>(
     lookup: Lookup,
     keys: &IndexSet<K>,
@@ -125,8 +128,9 @@ fn find_key<K: TableKey + Drop>(
     }
 }
 
-// The numbers of keys that are none of the fresh ones, where these follow the order. Appends those that the order lacks to the fresh ones,
-// and adds their parts; `TooMany` if that passes the limit.
+// The numbers of keys that are not among the fresh ones, which are counted on from the order. Keys
+// that the order lacks are appended to the fresh ones, and their parts are added; `TooMany` if they
+// pass the limit.
 fn find_ends<K: TableKey + Drop>(
     alloc: Global,
     lookup: Lookup,
@@ -171,8 +175,11 @@ fn find_ends<K: TableKey + Drop>(
     Ok(numbers)
 }
 
-/// The numbers of the keys of the shelves, where the fresh ones follow the order. Fills `fresh` with those that the order lacks, each with its
-/// index among them, and adds their parts; `TooMany` if that passes the limit. A look-up is needless only where the order has none of the keys.
+/// The numbers of the keys of the shelves, where the fresh keys are counted on from the order.
+/// Fills `fresh` with the keys that the order lacks, each with its index among them, and adds their
+/// parts. A look-up is needless only if the order has none of the keys. `TooMany` if the parts pass
+/// the limit, at most 20,000,000; `OutOfMemory` if memory is refused. After an error `fresh` and
+/// `parts` hold part of the keys. Cost: at most one look-up by hash for each key.
 pub fn find_shelves<K: TableKey + Drop>(
     alloc: Global,
     lookup: Lookup,
@@ -215,7 +222,9 @@ pub fn find_shelves<K: TableKey + Drop>(
     Ok(positions)
 }
 
-/// Appends the fresh keys, each with its index among them, in ascending order. Answers the position of each of them.
+/// Appends the fresh keys, each with its index among them, in ascending order. Returns the position
+/// of each. Err if memory is refused; the fresh keys that were not appended are then gone. Cost:
+/// one sort, and one look-up by hash for each key.
 pub fn put_fresh<K: TableKey + Drop>(
     alloc: Global,
     keys: &mut IndexSet<K>,
@@ -232,7 +241,8 @@ pub fn put_fresh<K: TableKey + Drop>(
     put_new(alloc, keys, fresh)
 }
 
-/// The same, where the fresh keys are halved `times` times, and each half is sorted in a thread of its own.
+/// The same as `put_fresh`, but the fresh keys are halved `times` times, and each half is sorted in
+/// a thread of its own.
 pub fn put_fresh_together<R: Threads + Sync, K: TableKey + Drop + Send>(
     rt: &R,
     alloc: Global,

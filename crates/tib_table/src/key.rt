@@ -14,7 +14,7 @@ pub trait TableKey: Ord + Hash {
         ensures named { result ≡ shelf_of self.now }
         ensures below { result < 16 };
 
-    /// How many entries the key has, by which its size is counted.
+    /// How many entries the key has. Its parts are one more.
     fn entries(&self) -> u64
         ensures { result ≡ entries_of self.now };
 

@@ -1,9 +1,10 @@
-//! Keys that are numbered in the order of first sight. A table, of which many threads number keys at
-//! once, has sixteen shelves, each under a turn lock, and a key names its shelf; its number is that
-//! shelf and its place there. Whatever the threads do, a number that a thread was given names its key
-//! in the closed table, and no key has two numbers. Beside it stand keys in one order, numbered
-//! within a limit of parts, of which the new ones are put in ascending order. It stands on `tib_turn`
-//! and on `indexmap`.
+//! Keys that are numbered in the order of first sight. A table has sixteen shelves, each under a
+//! turn lock, and many threads number keys in it at once. A key names its shelf; its number is that
+//! shelf and its place there. Whatever the threads do, a number that a thread was given names its
+//! key in the closed table, and no key has two numbers.
+//!
+//! The crate also numbers keys in one order, within a limit of parts, and puts the new ones in
+//! ascending order. It uses `tib_turn` and `indexmap`.
 #![tactic(auto)]
 
 mod board;

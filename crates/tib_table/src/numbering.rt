@@ -12,7 +12,8 @@ use crate::key::TableKey;
 use indexmap::IndexSet;
 use std::alloc::{AllocError, Global};
 
-// The number of a key among the keys. Appends a new key and adds its parts; `TooMany` if that passes the limit.
+// The number of a key among the keys. Appends a new key and adds its parts; `TooMany` if they pass
+// the limit.
 fn number_key<K: TableKey + Drop>(
     keys: &mut IndexSet<K>,
     parts: &mut u64,
@@ -43,8 +44,9 @@ fn number_key<K: TableKey + Drop>(
     Ok(number as u32)
 }
 
-/// The numbers of the ends among the keys. Appends new keys in the order of first sight and adds their parts; `TooMany` if that passes the
-/// limit.
+/// The numbers of the ends among the keys. Appends new keys in the order of first sight and adds
+/// their parts. `TooMany` if they pass the limit, at most 20,000,000; `OutOfMemory` if memory is
+/// refused. After an error the keys found so far stay. Cost: one look-up by hash for each end.
 pub fn number_ends<K: TableKey + Drop>(
     alloc: Global,
     keys: &mut IndexSet<K>,
@@ -99,7 +101,8 @@ fn take_new<K: TableKey + Drop>(
     Ok(new)
 }
 
-/// Appends the keys. Answers the position at which the key of each index stands.
+/// Appends the keys. Returns the new position for each index. Err if memory is refused; the keys
+/// that were not appended are then gone.
 pub fn put_new<K: TableKey + Drop>(
     alloc: Global,
     keys: &mut IndexSet<K>,
@@ -124,7 +127,9 @@ pub fn put_new<K: TableKey + Drop>(
     Ok(moved)
 }
 
-/// Puts the keys from `first` on in ascending order. Answers the position of each of them.
+/// Puts the keys from `first` on in ascending order. Returns the new position of each. Err if
+/// memory is refused; keys from `first` on may then be gone. Cost: one sort, and one look-up by
+/// hash for each of these keys.
 pub fn sort_new<K: TableKey + Drop>(
     alloc: Global,
     keys: &mut IndexSet<K>,

@@ -14,7 +14,7 @@ pub trait Problem: Drop {
     ghost may_hold: { Self.Data → Self.Key → Type 0 };
 }
 
-/// A problem that is borrowed is about the same, and may hold the same keys.
+/// A borrowed problem is about the same data, and may hold the same keys.
 impl<P: Problem> Problem for &P {
     type Key = P::Key;
 

@@ -57,8 +57,8 @@ impl<P: Problem> Shelf<P> {
         self.keys.len() as u64
     }
 
-    /// The place of the key, which is added behind the others if it is new. Only for want of memory
-    /// the key comes back, and nothing is added. Cost: one look-up by hash.
+    /// The place of the key, from 0. A new key is added after the others. Only if memory is refused
+    /// does the key come back; the shelf is then unchanged. Cost: one look-up by hash.
     pub fn number(&mut self, key: P::Key) -> Result<u64, P::Key>
         requires { P.may_hold self.old.about key }
         ensures about { self.new.about ≡ self.old.about }
@@ -72,7 +72,7 @@ impl<P: Problem> Shelf<P> {
         }
     }
 
-    /// The key at a place. It takes no memory.
+    /// The key at a place below `len`. It takes no memory.
     pub fn key(&self, place: u64) -> &P::Key
         requires { place < length self.now.keys }
         ensures { slice_get self.now.keys place ≡ Some result.now }
@@ -80,8 +80,8 @@ impl<P: Problem> Shelf<P> {
         self.keys.get_index(place as usize).unwrap()
     }
 
-    /// Removes the last key and answers it, or None where there is none. The other keys keep their
-    /// places. It takes no memory.
+    /// Removes and returns the last key, or returns None if there is none. The other keys keep
+    /// their places. It takes no memory.
     pub fn take_last(&mut self) -> Option<P::Key>
         ensures about { self.new.about ≡ self.old.about }
         ensures taken { MatchOption result ((self.old.keys ≡ [])
@@ -90,7 +90,7 @@ impl<P: Problem> Shelf<P> {
         self.keys.pop()
     }
 
-    /// All keys, in the order of first sight. It fails only for want of memory, and then they are
+    /// All keys, in the order of first sight. Err only if memory is refused; the keys are then
     /// gone. Each key is moved once.
     pub fn into_keys(self, alloc: Global) -> Result<Vec<P::Key>, AllocError>
         ensures { IfOk result (λ r. r.items ≡ self.keys) }

@@ -1,4 +1,4 @@
-// The shelves of a table that is closed.
+// The shelves of a closed table.
 ghost use Rattle.std.specs.Prelude.{◌≡◌, ◌<◌, [], ◌∷◌, ◌++◌, map, length, slice_get, slice_set, option_copied, MatchOption, IfOk};
 ghost use Rattle.tib_table.specs.Known.{on};
 ghost use Rattle.tib_table.specs.Kept.{keys_of};
@@ -27,7 +27,7 @@ impl<P: Problem> Model for Shelves<P> {
 }
 
 impl<P: Problem> Shelves<P> {
-    /// The shelves of a list of sixteen.
+    /// The shelves in a list of sixteen.
     pub(crate) fn from_list(shelves: Vec<Board<P>>) -> Shelves<P>
         requires { length shelves.items ≡ 16 }
         ensures { result ≡ map keys_of shelves.items }
@@ -35,7 +35,7 @@ impl<P: Problem> Shelves<P> {
         Shelves { shelves }
     }
 
-    /// The key of a number, or None where the shelf has no such place. It takes no memory.
+    /// The key with a number, or None if the shelf has no such place. It takes no memory.
     pub fn key(&self, number: Number) -> Option<&P::Key>
         ensures { option_copied result ≡ slice_get (on self.now number.shelf) number.place }
     {
@@ -47,8 +47,8 @@ impl<P: Problem> Shelves<P> {
         }
     }
 
-    /// Removes the last key of a shelf and answers it, or None where the shelf is empty. All other
-    /// keys keep their numbers. It takes no memory.
+    /// Removes and returns the last key of a shelf, or returns None if the shelf is empty. All
+    /// other keys keep their numbers. It takes no memory.
     pub fn take_last(&mut self, shelf: u32) -> Option<P::Key>
         requires { shelf < 16 }
         ensures taken { MatchOption result (on self.old shelf ≡ []) (λ k.
@@ -58,8 +58,8 @@ impl<P: Problem> Shelves<P> {
         self.shelves[shelf as usize].take_last()
     }
 
-    /// The keys of the shelves, each shelf in the order of first sight. It fails only for want of
-    /// memory, and then they are gone. Each key is moved once.
+    /// The keys of the shelves, each shelf in the order of first sight. Err only if memory is
+    /// refused; the keys are then gone. Each key is moved once.
     pub fn into_lists(self, alloc: Global) -> Result<Vec<Vec<P::Key>>, AllocError>
         ensures { IfOk result (λ r. map (λ v. v.items) r.items ≡ self) }
     {

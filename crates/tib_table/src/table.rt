@@ -34,7 +34,7 @@ impl<P: Problem + Copy> Model for Table<P> {
     ghost invariant = { λ t. (length t.locks.items ≡ 16) × (t.room.items ≡ []) × (16 ≤ vec_capacity t.room) };
 }
 
-/// A pass to each shelf of a table. They know the keys that they have seen on each.
+/// A pass to each shelf of a table. They know the keys that they have seen on each shelf.
 #[derive(Drop)]
 pub struct Seats<P: Problem + Copy> {
     problem: P,
@@ -54,8 +54,8 @@ impl<P: Problem + Copy> Model for Seats<P> {
 }
 
 impl<P: Problem + Copy> Table<P> {
-    /// Sixteen empty shelves, and the first seats. It takes the room that `close` needs too, and
-    /// fails only for want of memory.
+    /// Sixteen empty shelves, and the first seats. It also takes the room that `close` needs. Err
+    /// only if memory is refused.
     pub fn open(alloc: Global, problem: P) -> Result<(Table<P>, Seats<P>), AllocError>
         ensures about { IfOk result (λ r. r.0.about ≡ P.about problem) }
         ensures seats { IfOk result (λ r. r.1 ≡ record { table = r.0; known = replicate 16 [] }) }
@@ -70,10 +70,10 @@ impl<P: Problem + Copy> Table<P> {
         Ok((table, Seats { problem, passes }))
     }
 
-    /// The number of the key, for which it takes one turn of the key's shelf. The seats then know
-    /// that it names this key. Only for want of memory the key comes back, and nothing is added. It
-    /// may wait for ever: while another turn of this shelf is held. Cost: one turn, and one look-up
-    /// by hash.
+    /// The number of the key. It takes one turn of the key's shelf. The seats then know that the
+    /// number names this key. Only if memory is refused does the key come back; nothing is then
+    /// added. It may wait forever, while another turn of this shelf is held. Cost: one turn, and
+    /// one look-up by hash.
     pub fn number<R: Wait>(
         &self,
         rt: &R,
@@ -94,7 +94,8 @@ impl<P: Problem + Copy> Table<P> {
         Ok(Number { shelf, place })
     }
 
-    /// Second seats, which know the same. It fails only for want of memory.
+    /// Second seats, which know the same. Err only if memory is refused; the seats are then
+    /// unchanged.
     pub fn split(&self, alloc: Global, seats: &mut Seats<P>) -> Result<Seats<P>, AllocError>
         requires table { seats.old.table ≡ self.now }
         ensures kept { seats.new ≡ seats.old }
@@ -110,7 +111,7 @@ impl<P: Problem + Copy> Table<P> {
         })
     }
 
-    /// Takes in other seats, and leaves these with what both know. It takes no memory and never
+    /// Takes in other seats. These seats then know what both knew. It takes no memory and never
     /// waits.
     pub fn join(&self, seats: &mut Seats<P>, other: Seats<P>)
         requires table { seats.old.table ≡ self.now }
@@ -132,9 +133,9 @@ impl<P: Problem + Copy> Table<P> {
         }
     }
 
-    /// Waits for a last turn of each shelf, and gives the shelves. Each number that the seats know
-    /// names its key there. No key has two numbers, and each key is one that the problem may hold.
-    /// It takes no memory.
+    /// Waits for a last turn of each shelf, and returns the shelves. Each number that the seats
+    /// know names its key there. No key has two numbers, and the problem may hold each key. It
+    /// takes no memory.
     pub fn close<R: Wait>(self, rt: &R, seats: Seats<P>) -> Shelves<P>
         requires table { seats.table ≡ self }
         ensures more { GoOn seats.known result }

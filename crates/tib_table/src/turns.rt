@@ -1,4 +1,4 @@
-// The locks of all shelves, and a key that is put on its shelf in a turn.
+// The locks of all shelves, and how a key is put on its shelf in a turn.
 ghost use Rattle.std.specs.Prelude.{◌≡◌, ◌≤◌, ℕ, [], map, length, false, Some, slice_get, IfOk, IfErr};
 ghost use Rattle.std.specs.List.{All, AllZip};
 ghost use Rattle.std.specs.Vec.{vec_capacity};
@@ -19,7 +19,7 @@ pub const SHELVES: usize = 16;
 /// Locks over shelves, and a pass to each.
 type Opened<P> = (Vec<TurnLock<Board<P>>>, Vec<Pass<Board<P>>>);
 
-/// An empty shelf under a lock, and the first pass.
+/// An empty shelf under a lock, and the first pass. Err if memory is refused.
 pub fn open_lock<P: Problem>(
     alloc: Global,
     problem: P,
@@ -37,8 +37,8 @@ pub fn open_lock<P: Problem>(
     }
 }
 
-/// One turn of a shelf, in which the key is numbered. The pass then knows it at that place. Only
-/// for want of memory the key comes back.
+/// Numbers the key in one turn of a shelf. The pass then knows it at that place. Only if memory is
+/// refused does the key come back.
 pub fn number_in_turn<P: Problem, R: Wait>(
     rt: &R,
     lock: &TurnLock<Board<P>>,
@@ -62,7 +62,7 @@ pub fn number_in_turn<P: Problem, R: Wait>(
     numbered
 }
 
-/// Waits for a last turn of a shelf, and gives the shelf.
+/// Waits for a last turn of a shelf, and returns the shelf.
 pub fn close_lock<P: Problem, R: Wait>(
     rt: &R,
     lock: TurnLock<Board<P>>,
@@ -78,7 +78,7 @@ pub fn close_lock<P: Problem, R: Wait>(
     shelf
 }
 
-/// Sixteen empty shelves under locks, and a first pass to each.
+/// Sixteen empty shelves under locks, and the first pass to each. Err if memory is refused.
 pub fn open_locks<P: Problem + Copy>(
     alloc: Global,
     problem: P,
@@ -98,7 +98,7 @@ pub fn open_locks<P: Problem + Copy>(
     Ok((locks, passes))
 }
 
-/// Waits for a last turn of each shelf, and puts the shelves into the room in their order.
+/// Waits for a last turn of each shelf, and puts the shelves into `room` in order.
 pub fn close_locks<P: Problem, R: Wait>(
     rt: &R,
     mut locks: Vec<TurnLock<Board<P>>>,
