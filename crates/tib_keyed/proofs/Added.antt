@@ -1,4 +1,4 @@
--- An edge behind the keys of its ends.
+-- An edge after the keys of its ends.
 use Rattle.std.specs.Global.{Vec}
 use Rattle.std.specs.Prelude.{◌≡◌, ℕ, List, ◌++◌, length}
 use Rattle.std.proofs.Common.{arith, ap, ◌∙◌}
@@ -21,7 +21,7 @@ module _ {K H : Type 0} (side : SideFor ℕ H) (keys : List K) (old : SideListin
     budget = within.budget;
   }
 
-  -- the edge stands behind its ends
+  -- the edge is after its ends
   pub is_added : (first cost : ℕ) (new : SideListing K H) → first ≡ length old.ends.items → new.ends.items ≡ ends.items → HasRule side first cost now new → IsAdded side keys cost old new
   is_added first cost new at same ruled = record {
     ends = same ∙ are;

@@ -22,7 +22,7 @@ use Rattle.tib_hunt.proofs.Members.{distinct_append}
 
 -- lists
 
--- an image of a member stands among the images
+-- an image of a member is among the images
 pub map_has : {A B : Type 0} (g : A → B) (xs : List A) (x : A) → Has xs x → Has (map g xs) (g x)
 map_has g [] x h = absurd h
 map_has g (y ∷ xs) x h = elim h [ inl e ↦ inl (ap g e) | inr k ↦ inr (map_has g xs x k) ]
@@ -35,7 +35,7 @@ map_once g one (x ∷ xs) d = (
   map_once g one xs d.1,
 )
 
--- a list that stands under a test has a member only where the test holds
+-- a list under a test has a member only where the test holds
 pub has_if : {A : Type 0} (b : Bool) (xs : List A) (x : A) → Has (if b then xs else []) x → (b ≡ true) × Has xs x
 has_if true xs x h = (refl, h)
 has_if false xs x h = absurd h
@@ -93,7 +93,7 @@ joins_once (c ∷ cs) ds a b ones =
 
 -- what a rule reads
 
--- equal numbers are told to be equal
+-- the test for equal numbers finds them equal
 pub number_same : (g f : ℕ) → g ≡ f → nat_eq g f ≡ true
 number_same g f e = elim (nat_eq_cases g f) [ inl k ↦ k.1 | inr k ↦ absurd (k.0 e) ]
 
@@ -105,7 +105,7 @@ holes_are none e = tt
 holes_are (tree (label f) kids rest) e = absurd (cc)
 holes_are (tree (hole p) kids rest) e = holes_are rest e
 
--- nothing but holes is told so
+-- the test finds that there is nothing but holes
 pub are_holes_of : {P : Type 0} (s : Trees (Symbol ℕ P)) → AreHoles s → are_holes s ≡ true
 are_holes_of none h = refl
 are_holes_of (tree (label f) kids rest) h = absurd h
@@ -119,7 +119,7 @@ and_both : (a b : Bool) → a ≡ true → b ≡ true → (if a then b else fals
 and_both true b e d = d
 and_both false b e d = absurd (cc)
 
--- a rule that is told to read a label over this many variables does so
+-- a rule that passes the test reads a label over this many variables
 pub reads_over : (p f n : ℕ) (r : TransducerRule ℕ) → reads_label p f n r ≡ true → (r.state ≡ p) × IsOver r.left f n
 reads_over p f n r e =
     let a = and_first (nat_eq r.state p) (if is_label f r.left.label then (if are_holes r.left.kids then nat_eq (count r.left.kids) n else false) else false) e in
@@ -133,7 +133,7 @@ reads_over p f n r e =
       },
     )
 
--- a rule that does so is told to
+-- a rule that does so passes the test
 pub over_reads : (p f n : ℕ) (r : TransducerRule ℕ) → r.state ≡ p → IsOver r.left f n → reads_label p f n r ≡ true
 over_reads p f n r e o =
     and_both (nat_eq r.state p) (if is_label f r.left.label then (if are_holes r.left.kids then nat_eq (count r.left.kids) n else false) else false) (number_same r.state p e)
@@ -281,7 +281,7 @@ module _ {P : Type 0} (two : List (TransducerRule ℕ)) where
         }
 
   module _ (shaped : AreShaped two) where
-    -- the pairs of a rule that reads a label over some sides stand among them
+    -- the pairs of a rule that reads a label over some sides are among them
     pub within_sides : (p f : ℕ) (kids : Trees (Symbol ℕ P)) (rule : ℕ) → rule < length two → reads_label p f (count kids) (transducer_rule two rule) ≡ true → Each (λ i. i < count kids) (variables_in (transducer_rule two rule).right)
     within_sides p f kids rule h e =
         let o = (reads_over p f (count kids) (transducer_rule two rule) e).1 in

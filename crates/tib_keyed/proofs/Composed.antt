@@ -25,7 +25,7 @@ use Rattle.tib_keyed.proofs.Moving.{target, targets, targets_below, all_mapped, 
 use Rattle.tib_keyed.proofs.Exact.{IsExact, exact}
 use Rattle.tib_keyed.proofs.Translating.{Between, count-translated, translations_read, translations_chosen}
 
--- c is the cost of a pair's run: the transducer puts out u at its variable's tree
+-- c is the cost of a pair's run: the transducer outputs u at its variable's tree
 abbrev pub PairMoves : (ℕ → ℕ → ℕ) → List (TransducerRule ℕ) → Trees ℕ → Pair ℕ → Tree ℕ → ℕ → Type 0
 PairMoves product rules args x u c = IsTransducerCost product rules (x.state ∷ []) (tree_at args x.variable) (only u) c
 
@@ -38,8 +38,8 @@ HasMiddle product one two key t v c =
 abbrev pub IsParted : (ℕ → ℕ → ℕ) → List (TransducerRule ℕ) → List (TransducerRule ℕ) → List (ℕ × ℕ) → ℕ × Trees ℕ → Tree ℕ → ℕ → Type 0
 IsParted product one two order x v c = HasMiddle product one two (key_at order x.0) x.1 v c
 
--- whatever run of the second transducer reads u, with it at a cost of at most the greatest there is a run of the
--- composite transducer
+-- whatever run of the second transducer reads u, with it at a cost of at most the greatest there is
+-- a run of the composite transducer
 abbrev pub IsPaired : (ℕ → ℕ → ℕ) → List (TransducerRule ℕ) → List (ℕ × ℕ) → List (TransducerRule ℕ) → ℕ × Trees ℕ → Tree ℕ → ℕ → Type 0
 IsPaired product two order rules x u a =
     (q k : ℕ) (v : Tree ℕ) (b : ℕ) → k < length order → key_at order k ≡ (x.0, q) → IsTransducerCost product two (q ∷ []) (only u) (only v) b → product a b ≤ most →
@@ -50,7 +50,7 @@ each_below n [] h = tt
 each_below n (x ∷ xs) h = (h.0, each_below n xs h.1)
 
 module _ {levelled weighted : Bool} {product : ℕ → ℕ → ℕ} (laws : ProductLaws levelled weighted product) (R : ℕ × Trees ℕ → Tree ℕ → ℕ → Type 0) where
-  -- what holds of the runs below a rule, as what fills the rule's right side
+  -- what holds of the runs below a rule, as what fills the rule's right-hand side
   of_side :
       (rules : List (TransducerRule ℕ)) (n : ℕ) (runs args : Trees ℕ) (u : Tree ℕ) → AreTransducerRuns rules (states_in (transducer_rule rules n).right) runs →
       Reads rules runs (pick args (variables_in (transducer_rule rules n).right)) → fill (only (transducer_rule rules n).right) (outputs rules runs) ≡ only u →
@@ -62,7 +62,7 @@ module _ {levelled weighted : Bool} {product : ℕ → ℕ → ℕ} (laws : Prod
       (all_mapped laws R (target args) (holes_of (transducer_rule rules n).right) (outputs rules runs) (transducer_cost product rules runs)
       (subst (λ xs. AllOf product R xs (outputs rules runs) (transducer_cost product rules runs)) (targets_below laws rules n runs args r d) all)))
 
-  -- one run and those behind it
+  -- one run and those after it
   more_of :
       (x : ℕ × Trees ℕ) (xs : List (ℕ × Trees ℕ)) (u : Tree ℕ) (us vs : Trees ℕ) (a b : ℕ) → us ≡ only u → R x u a → AllOf product R xs vs b → AllOf product R (x ∷ xs) (join us vs) (product a b)
   more_of x xs u us vs a b e one all = subst (λ z. AllOf product R (x ∷ xs) (join z vs) (product a b)) (sym e) (a, b, one, all, refl)

@@ -13,7 +13,7 @@ pub within_wider : (n m l : ℕ) → m ≤ l → (p : Place) → IsWithin n m p 
 within_wider n m l h (Known p) k = k
 within_wider n m l h (End i) k = omega arith
 
--- and what stands at it stays
+-- and what is at it stays
 pub place_stays : {K : Type 0} (d : K) (order xs ys : List K) (p : Place) → IsWithin (length order) (length xs) p → key_at d order (xs ++ ys) p ≡ key_at d order xs p
 place_stays d order xs ys (Known p) h = refl
 place_stays d order xs ys (End i) h = index_append xs ys i d h

@@ -14,7 +14,8 @@ abbrev pub Top : {A : Type 0} → (A → Tree ℕ → ℕ → Type 0) → (Trees
 Top R Kids (label g) t c = (t.label ≡ g) × Kids t.kids c
 Top R Kids (hole x) t c = R x t c
 
--- the sides become the trees where each hole is given a tree, at the product c of what R says that these cost
+-- the sides become the trees where each hole is given a tree, at the product c of what R says that
+-- these cost
 abbrev pub Filled : (ℕ → ℕ → ℕ) → {A : Type 0} → (A → Tree ℕ → ℕ → Type 0) → Trees (Symbol ℕ A) → Trees ℕ → ℕ → Type 0
 Filled product R none none c = c ≡ 0
 Filled product R none (tree f us more) c = ⊥
@@ -230,7 +231,7 @@ module _ {levelled weighted : Bool} {product : ℕ → ℕ → ℕ} (laws : Prod
       pub inner : Filled product R ss args c
       pub filled : fill s args ≡ vs
 
-    -- what fills the sides with sides in their holes comes of what fills the inner ones
+    -- what fills the sides with sides in their holes is made of what fills the inner ones
     pub unplug : {P : Type 0} (s : Trees (Symbol ℕ P)) (ss : Trees (Symbol ℕ A)) (vs : Trees ℕ) (c : ℕ) → count ss ≡ length (holes s) → Filled product R (plug s ss) vs c → Unplugged s ss vs c
     unplug none none none c e h = record { args = none; inner = h; filled = refl }
     unplug none none (tree f us more) c e h = absurd h
@@ -284,9 +285,9 @@ module _ {levelled weighted : Bool} {product : ℕ → ℕ → ℕ} (laws : Prod
           s.costs,
         )
 
-  -- sides under other names
+  -- sides with other names
   module _ {A B : Type 0} (R : B → Tree ℕ → ℕ → Type 0) (g : A → B) where
-    -- what fills the sides fills them under other names
+    -- what fills the sides fills them with other names
     pub filled_named : (s : Trees (Symbol ℕ A)) (us : Trees ℕ) (c : ℕ) → Filled product (λ x. R (g x)) s us c → Filled product R (relabel (symbol_map g) s) us c
     filled_named none none c h = h
     filled_named none (tree f us more) c h = absurd h

@@ -100,7 +100,7 @@ first_hole none us z n xs e = absurd (omega arith)
 first_hole (tree s below none) us z n xs e = ap (λ ys. (s, count below) ∷ (ys ++ substituted xs us)) (sym (append_nil (preorder below)))
 first_hole (tree s below (tree t k m)) us z n xs e = absurd (omega arith)
 
--- what a search has put out when it meets a label
+-- what a search has output when it meets a label
 pub search_puts_out :
     (two : List (TransducerRule ℕ)) (p f m n : ℕ) (ps : List ℕ) (kids rest : Trees (Symbol ℕ (Pair ℕ))) (c : Trees (Option ℕ)) (z : Pair ℕ) (xs : List (Symbol ℕ (Pair ℕ) × ℕ)) →
     HolesAreLeaves (only (transducer_rule two m).right) →
@@ -128,7 +128,7 @@ search_puts_out two p f m n ps kids rest c z xs h t =
         count-translated two (first_trees (length (states_in (transducer_rule two m).right)) c) (states_in (transducer_rule two m).right) (pick kids (variables_in (transducer_rule two m).right)) t.3
         ∙ length-map (holes_of (transducer_rule two m).right) (λ x. x.state)
 
--- nothing stands below a hole
+-- nothing is below a hole
 
 leaves_join : {P : Type 0} (s t : Trees (Symbol ℕ P)) → HolesAreLeaves s → HolesAreLeaves t → HolesAreLeaves (join s t)
 leaves_join none t a b = b
@@ -161,7 +161,7 @@ leaves_plug (tree (hole p) kids rest) (tree (label f) below us) a = (a.0, leaves
 leaves_plug (tree (hole p) kids rest) (tree (hole x) none us) a = leaves_plug rest us a
 leaves_plug (tree (hole p) kids rest) (tree (hole x) (tree y k m) us) a = absurd a
 
--- nothing stands below a hole of a translation
+-- nothing is below a hole of a translation
 pub translations_end_in_holes : {P : Type 0} (two : List (TransducerRule ℕ)) (choice : Trees (Option ℕ)) (ps : List ℕ) (sides : Trees (Symbol ℕ (Pair P))) → HolesAreLeaves (translated two ps sides choice)
 translations_end_in_holes two none ps sides = tt
 translations_end_in_holes two (tree c below more) [] sides = tt

@@ -6,7 +6,7 @@ use Rattle.std.proofs.lemmas.List.{get_or_append_left, length-map, map-append}
 use Rattle.std.proofs.Math.Seq.{map-set_same}
 use Rattle.tib_grammar.specs.ShapeBuckets.{bucket_at, lists_of}
 
--- what holds whatever was answered holds where an error was
+-- what holds for every result holds where the result is an error
 pub on_error : {A E : Type 0} {P : Type 0} (r : Result A E) → P → OnErr r P
 on_error (Ok a) p = tt
 on_error (Err e) p = p
@@ -17,7 +17,7 @@ pub bucket_same :
     bucket_at (lists_of (set buckets i v)) o ≡ bucket_at (lists_of buckets) o
 bucket_same buckets i v old e o = ap (λ ls. bucket_at ls o) (map-set_same (λ (b : Vec ℕ). b.items) buckets i v old e)
 
--- a bucket that no shape has stands behind the others
+-- a bucket that no shape has is after the others
 pub bucket_before :
     (buckets : List (Vec ℕ)) (b : Vec ℕ) (o : Option ℕ) → ((i : ℕ) → o ≡ Some i → i < length buckets) → bucket_at (lists_of (buckets ++ b ∷ [])) o ≡ bucket_at (lists_of buckets) o
 bucket_before buckets b None within = refl

@@ -1,5 +1,5 @@
--- The order by rounds of a keyed operation begins with the start and has no key twice, its edges are those of its keys, and
--- there is one reached set.
+-- The order by rounds of a keyed operation begins with the start and has no key twice, its edges
+-- are those of its keys, and there is one reached set.
 use Rattle.std.specs.Prelude.{◌≡◌, ℕ, ◌+◌, ◌<◌, List, [], ◌∷◌, ◌++◌, length, map, take, refl}
 use Rattle.std.proofs.Common.{zero, suc, arith, ap, sym, ◌∙◌, subst, get_or, inl, inr, length-append, append-nil}
 use Rattle.std.proofs.lemmas.Bool.{cases_lt}
@@ -90,7 +90,7 @@ module _
         subst (λ (fs : List E). Lists (Gives (suc n)) fs) (sym is) (one_more n front last (edges_below n front before) l)
 
   module _ (total : IsTotalOrder cmp) where
-    -- no key stands twice in an order
+    -- no key is there twice in an order
     pub order_once : (rounds expanded : ℕ) (order : List K) → AfterRounds op rounds expanded order → Distinct order
     order_once zero expanded order (none, first) = ascending_once cmp total order first.0
     order_once (suc rounds) expanded order (old, first, new, before, is, at, made) =
@@ -128,7 +128,7 @@ module _
           empty [] e = refl
           empty (x ∷ xs) e = absurd (omega arith)
 
-      -- an edge of an order stands in each list of its edges
+      -- an edge of an order is in each list of its edges
       pub edge_stands : (order : List K) (es fs : List E) → AreEdges op order (length order) es → AreEdges op order (length order) fs → (e : E) → Has es e → Has fs e
       edge_stands order es fs a b e h =
           let l = edges_below order (length order) es a in

@@ -10,7 +10,7 @@ use Rattle.tib_hunt.specs.Reached.{TooMany}
 pub too_many : (limit n : ℕ) (P : Type 0) (e : HuntError) → e ≡ TooMany n → IfTooMany limit P e → (n ≡ limit) × P
 too_many limit n P e is h = subst (IfTooMany limit P) is h
 
--- where each has a part, there are no more than they have parts
+-- if each has a part, there are no more of them than they have parts
 pub each_counts : {A : Type 0} (parts : A → ℕ) → ((x : A) → 0 < parts x) → (xs : List A) → length xs ≤ total parts xs
 each_counts parts some [] = omega arith
 each_counts parts some (x ∷ xs) = omega (arith, some x, each_counts parts some xs)

@@ -62,7 +62,7 @@ module _ {levelled weighted : Bool} {product : ℕ → ℕ → ℕ} (laws : Prod
     count-reads (tree n runs rest) none d = absurd d
     count-reads (tree n runs rest) (tree f kids more) d = ap suc (count-reads rest more d.1)
 
-    -- the runs below a rule read the trees of the pairs of its right side
+    -- the runs below a rule read the trees of the pairs of its right-hand side
     pub targets_below :
         (n : ℕ) (runs args : Trees ℕ) → AreTransducerRuns rules (states_in (transducer_rule rules n).right) runs →
         Reads rules runs (pick args (variables_in (transducer_rule rules n).right)) →
@@ -73,7 +73,7 @@ module _ {levelled weighted : Bool} {product : ℕ → ℕ → ℕ} (laws : Prod
         ∙ count-runs runs (states_in (transducer_rule rules n).right) r
         ∙ length-map (holes_of (transducer_rule rules n).right) (λ x. x.state))
 
-    -- a run puts out one tree
+    -- a run outputs one tree
     pub one_output : (n : ℕ) (runs : Trees ℕ) → AreTransducerRuns rules (states_in (transducer_rule rules n).right) runs → (t : Tree ℕ) × (fill (only (transducer_rule rules n).right) (outputs rules runs) ≡ only t)
     one_output n runs r =
         one_of (fill (only (transducer_rule rules n).right) (outputs rules runs)) (
@@ -118,7 +118,7 @@ module _ {levelled weighted : Bool} {product : ℕ → ℕ → ℕ} (laws : Prod
       costs = product-zero laws (product (transducer_rule rules n).cost (transducer_cost product rules k.runs)) ∙ ap (product (transducer_rule rules n).cost) k.costs;
     }
 
-    -- runs for the pairs of a right side, each reading the tree of its pair's variable
+    -- runs for the pairs of a right-hand side, each reading the tree of its pair's variable
     pub moves_all :
         (args : Trees ℕ) (xs : List (Pair ℕ)) (zs : Trees ℕ) (c : ℕ) →
         AllOf product (λ x u a. IsTransducerCost product rules (x.state ∷ []) (tree_at args x.variable) (only u) a) xs zs c →

@@ -57,7 +57,7 @@ module _ (product : ℕ → ℕ → ℕ) (states : List ℕ) (numbered rules : L
   long : length rules ≡ length numbered
   long = ap length (sym are.named) ∙ length-map numbered (named_transducer_rule (λ i. get_or states i 0))
 
-  -- runs by number and by name put out and cost the same
+  -- runs by number and by name have the same output and cost
   same : (runs : Trees ℕ) (ps : List ℕ) → AreTransducerRuns numbered ps runs → (outputs rules runs ≡ outputs numbered runs) × (transducer_cost product rules runs ≡ transducer_cost product numbered runs)
   same none ps r = (refl, refl)
   same (tree n runs rest) [] r = absurd r

@@ -9,13 +9,13 @@ use Rattle.tib_transducer.specs.Run.{tree_at, pick}
 use Rattle.tib_keyed.proofs.Filling.{Top, Filled, one_of, count-filled, filled_join, filled_split}
 use Rattle.tib_transducer.proofs.Products.{swap_first}
 
--- each place below n stands once among the places
+-- each place below n is once among the places
 pub record IsPermutation (n : ℕ) (places : List ℕ) : Type 0 where
   pub once : Distinct places
   pub within : Each (λ i. i < n) places
   pub whole : (i : ℕ) → i < n → Has places i
 
--- the places behind the first one, counted from there
+-- the places after the first one, counted from there
 abbrev pub behind : List ℕ → List ℕ
 behind [] = []
 behind (zero ∷ is) = behind is
@@ -53,7 +53,7 @@ no_places : (is : List ℕ) → Each (λ i. i < 0) is → is ≡ []
 no_places [] e = refl
 no_places (i ∷ is) e = absurd (omega (arith, e.0))
 
--- one tree stands at a place of a list
+-- one tree is at a place of a list
 pub tree_at-one : {A : Type 0} (ts : Trees A) (i : ℕ) → i < count ts → count (tree_at ts i) ≡ 1
 tree_at-one none i h = absurd (omega arith)
 tree_at-one (tree f kids rest) zero h = refl
@@ -107,7 +107,7 @@ same_head t u ts us e = (label_is, kids_is, rest_is)
     rest_is = cc e
 
 module _ {levelled weighted : Bool} {product : ℕ → ℕ → ℕ} (laws : ProductLaws levelled weighted product) {A : Type 0} (R : A → Tree ℕ → ℕ → Type 0) where
-  -- the first side and those behind it, picked in their order, are all sides in that order
+  -- the first side and those after it, picked in their order, are all sides in that order
   put_first :
       (x : Symbol ℕ A) (below rest : Trees (Symbol ℕ A)) (f : ℕ) (us more : Trees ℕ) (is : List ℕ) (a b : ℕ) → count more ≡ count rest → Distinct is → Each (λ i. i < suc (count rest)) is → Has is 0 →
       Top R (λ ts d. Filled product R below ts d) x (record { label = f; kids = us }) a → Filled product R (pick rest (behind is)) (pick more (behind is)) b →
@@ -142,7 +142,7 @@ module _ {levelled weighted : Bool} {product : ℕ → ℕ → ℕ} (laws : Prod
       subst (Filled product R (pick (tree x below rest) is) (pick (tree f us more) is)) h.4
       (put_first x below rest f us more is h.0 h.1 n p.once p.within (p.whole 0 (omega arith)) h.2 k)
 
-  -- what fills the sides in their order, parted into what fills the first side and the others
+  -- what fills the sides in their order, split into what fills the first side and the others
   record Taken (x : Symbol ℕ A) (below rest : Trees (Symbol ℕ A)) (is : List ℕ) (vs : Trees ℕ) (c : ℕ) : Type 0 where
     first : Tree ℕ
     others : Trees ℕ
@@ -190,13 +190,13 @@ module _ {levelled weighted : Bool} {product : ℕ → ℕ → ℕ} (laws : Prod
         costs = swap_first laws r.a s.first r.b ∙ ap (product s.first) r.costs ∙ s.costs;
       }
 
-  -- the trees that fill the sides as they stand
+  -- the trees that fill the sides in their own order
   pub record Restored (s : Trees (Symbol ℕ A)) (is : List ℕ) (vs : Trees ℕ) (c : ℕ) : Type 0 where
     pub trees : Trees ℕ
     pub filled : Filled product R s trees c
     pub back : pick trees is ≡ vs
 
-  -- what fills sides in another order comes of what fills them as they stand
+  -- what fills sides in another order is made of what fills them in their own
   pub restored : (s : Trees (Symbol ℕ A)) (is : List ℕ) (vs : Trees ℕ) (c : ℕ) → IsPermutation (count s) is → Filled product R (pick s is) vs c → Restored s is vs c
   restored none is vs c p h =
       let e = no_places is p.within in

@@ -1,4 +1,4 @@
--- A search that puts out one piece after another finds what comes of all choices.
+-- A search that outputs one piece after another finds the results of all choices.
 use Rattle.std.specs.Prelude.{◌≡◌, ℕ, ◌<◌, ◌≤◌, List, [], ◌∷◌, ◌++◌, map, length, Bool, true, false, if◌then◌else◌, Option, None, Some, refl}
 use Rattle.std.proofs.Common.{zero, suc, arith, ap, sym, ◌∙◌, subst, inl, inr, append_assoc}
 use Rattle.std.proofs.lemmas.List.{length-map, map-append}
@@ -49,7 +49,7 @@ holes_at-preorder (tree (label f) kids rest) h =
 holes_at-preorder (tree (hole x) none rest) h = ap (λ zs. x ∷ zs) (holes_at-preorder rest h)
 holes_at-preorder (tree (hole x) (tree s k m) rest) h = absurd h
 
--- the pieces of a right side, before others
+-- the pieces of a right-hand side, before others
 
 pieces-states : (xs : List (Symbol ℕ (Pair ℕ) × ℕ)) (kids : Trees (Symbol ℕ (Pair ℕ))) (ws : List Piece) → states_of (pieces_of xs kids ++ ws) ≡ map (λ x. x.state) (holes_at xs) ++ states_of ws
 pieces-states [] kids ws = refl
@@ -219,7 +219,7 @@ module _ {levelled weighted : Bool} {product : ℕ → ℕ → ℕ} (laws : Prod
     at_label =
         ap (map (result_of product two cost done here)) ((search_goes laws two shaped).at_label f kids (sides_of ws) p (states_of ws)) ∙ by_rules_done (length two) (omega arith)
 
-  -- the search by pieces goes as it is said
+  -- the search by pieces does what is claimed
   pub goes_by_pieces : GoesByPieces product two
   goes_by_pieces = record {
     at_end = at_end;

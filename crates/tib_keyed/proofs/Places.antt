@@ -56,7 +56,7 @@ module _ {A : Type 0} (test : A → Bool) where
       by more true e n = elim n [ inl at ↦ (0, omega (arith, at), omega arith, e) | inr z ↦ more z ]
       by more false e n = more n
 
-  -- and each such place stands in it
+  -- and each such place is in it
   are_places : (k : ℕ) (xs : List A) (i : ℕ) (d : A) → i < length xs → test (get_or xs i d) ≡ true → Has (places_from k test xs) (k + i)
   are_places k [] i d h e = absurd (omega arith)
   are_places k (x ∷ xs) zero d h e = rw e (inl (omega arith))

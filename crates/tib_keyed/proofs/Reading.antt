@@ -25,7 +25,7 @@ module _ {K : Type 0} where
   index_seam [] y ys d = refl
   index_seam (x ∷ xs) y ys d = index_seam xs y ys d
 
-  -- numbered sides over a list in which the keys of their holes stand side by side
+  -- numbered sides over a list in which the keys of their holes are consecutive
   numbers_read :
       {P : Type 0} (f : P → K) (d : K) (all : List K) (ts : Trees (Symbol ℕ P)) (n : ℕ) (xs zs : List K) → HolesAreLeaves ts → n ≡ length xs → all ≡ xs ++ (map f (holes ts) ++ zs) →
       relabel (symbol_map {A = ℕ} (λ i. slice_index_or all i d)) (numbered n ts) ≡ relabel (symbol_map f) ts
@@ -56,7 +56,7 @@ module _ {K : Type 0} where
       ∙ ap (λ rs. tree (hole (f p)) none rs) (numbers_read f d all rest (suc n) (xs ++ f p ∷ []) zs h long more)
   numbers_read f d all (tree (hole p) (tree s kids more) rest) n xs zs h at is = absurd h
 
-  -- the same of one side
+  -- the same for one side
   pub side_reads :
       {P : Type 0} (f : P → K) (d : K) (side : SideFor ℕ P) (xs : List K) → HolesAreLeaves (only side) →
       side_map (λ i. slice_index_or (xs ++ map f (holes_of side)) i d) (numbered_side (length xs) side) ≡ side_map f side
@@ -85,7 +85,7 @@ module _ {K H : Type 0} (order : List K) where
         ∙ h.read d;
   }
 
-  -- a rule over new ends behind the others
+  -- a rule over new ends after the others
   pub reads_new :
       (default : K) (xs : List K) (key : K) (f : H → K) (r : SideRule H) (side : SideFor ℕ H) (n cost : ℕ) → HolesAreLeaves (only side) →
       n < length order → get_or order n default ≡ key → r.position ≡ n → r.side.now ≡ side → r.first_end ≡ length xs → r.cost ≡ cost →

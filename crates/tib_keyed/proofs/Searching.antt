@@ -181,7 +181,7 @@ module _ {levelled weighted : Bool} {product : ℕ → ℕ → ℕ} (laws : Prod
   joins_nothing [] = refl
   joins_nothing (c ∷ cs) = ap (λ z. z ∷ all_joins cs (none ∷ [])) (join-none c) ∙ ap (λ z. c ∷ z) (joins_nothing cs)
 
-  -- the search goes as it is said
+  -- the search does what is claimed
   pub search_goes : AreShaped two → SearchGoes product two
   search_goes shaped = record {
     one_side = λ p s. joins_nothing (choices_of two p s);

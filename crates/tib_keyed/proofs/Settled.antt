@@ -75,7 +75,7 @@ module _ {P : Type 0} (ends : List ℕ) where
   side_settled n side items settled s leaves same made is =
       side_same s (side_map (slice_index ends) (numbered_side n side)) (is ∙ made ∙ ap (settled_pairs ends n) same ∙ sym (settles n side leaves))
 
--- the states of a side under other names
+-- the states of a side with other names
 pub states_map : (g : ℕ → ℕ) (ts : Trees (Symbol ℕ ℕ)) → states_in (relabel (symbol_map g) ts) ≡ map g (states_in ts)
 states_map g none = refl
 states_map g (tree (label x) kids rest) =

@@ -113,7 +113,7 @@ below_each : (n : ℕ) (xs : List (Pair ℕ)) → AllBelow n (map (λ x. x.state
 below_each n [] h = tt
 below_each n (x ∷ xs) h = (h.0, below_each n xs h.1)
 
--- the states of translations are those of the sides beside states of the second transducer
+-- the states of translations are those of the sides, paired with states of the second transducer
 states_translated :
     (m n : ℕ) (two : List (TransducerRule ℕ)) → AreWithin n two → (choice : Trees (Option ℕ)) (ps : List ℕ) (sides : Trees (Symbol ℕ (Pair ℕ))) → AreTranslations two ps sides choice → AllBelow n ps →
     Each (λ x. x.state < m) (holes sides) → Each (λ x. (x.state.0 < m) × (x.state.1 < n)) (holes (translated two ps sides choice))

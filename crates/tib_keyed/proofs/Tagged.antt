@@ -11,12 +11,12 @@ no_edges (o ∷ os) [] a = absurd a
 no_edges (o ∷ os) (e ∷ es) a = absurd a.0
 
 module _ {O : Type 0} (n : ℕ) where
-  -- an origin has its position beside it
+  -- an origin is paired with its position
   pub has_tagged : (os : List O) (o : O) → Has os o → Has {A = ℕ × O} (map (λ x. (n, x)) os) (n, o)
   has_tagged [] o h = absurd h
   has_tagged (x ∷ os) o h = elim h [ inl e ↦ inl (ap (λ (z : O). (n, z)) e) | inr k ↦ inr (has_tagged os o k) ]
 
-  -- what stands beside a position is an origin of that position
+  -- what is paired with a position is an origin of that position
   pub tagged_has : (os : List O) (x : ℕ × O) → Has {A = ℕ × O} (map (λ y. (n, y)) os) x → (n ≡ x.0) × Has os x.1
   tagged_has [] x h = absurd h
   tagged_has (y ∷ os) x h = elim h [

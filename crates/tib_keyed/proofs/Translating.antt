@@ -67,7 +67,7 @@ no_labels none e = tt
 no_labels (tree (label f) kids rest) e = absurd (omega arith)
 no_labels (tree (hole x) kids rest) e = no_labels rest e
 
--- a left side over n variables has n leaves
+-- a left-hand side over n variables has n leaves
 pub over_long : {n f : ℕ} (left : SideFor ℕ Variable) → IsOver left f n → length (holes_of left) ≡ n
 over_long left o =
     ap (λ l. length (holes (tree l left.kids none))) o.root
@@ -128,7 +128,7 @@ is_over two shaped plain n h =
 module _
     {levelled weighted : Bool} {product : ℕ → ℕ → ℕ} (laws : ProductLaws levelled weighted product)
     (two : List (TransducerRule ℕ)) (shaped : AreShaped two) (plain : ArePlain two) where
-  -- its right side has each variable once
+  -- its right-hand side has each variable once
   permutation : (n f m : ℕ) → n < length two → IsOver (transducer_rule two n).left f m → IsPermutation m (variables_in (transducer_rule two n).right)
   permutation n f m h o =
       let e : length (holes_of (transducer_rule two n).left) ≡ m = over_long (transducer_rule two n).left o in
@@ -171,7 +171,7 @@ module _
         ∙ mix laws (product w x) a y b
         ∙ ap (product (product (product w x) y)) whole_cost
 
-    -- what fills the translations comes of what fills the sides
+    -- what fills the translations is made of what fills the sides
     pub translations_read :
         (choice : Trees (Option ℕ)) (ps : List ℕ) (sides : Trees (Symbol ℕ (Pair P))) (vs : Trees ℕ) (c : ℕ) → AreTranslations two ps sides choice →
         Filled product (Between product two R) (translated two ps sides choice) vs c → IsRead ps sides vs (product (choice_cost product two choice) c)
@@ -248,7 +248,8 @@ module _
     same_trees : (f g : ℕ) (us vs : Trees ℕ) → tree f us none ≡ tree g vs none → (f ≡ g) × (us ≡ vs)
     same_trees f g us vs e = (cc e, cc e)
 
-    -- runs of the second transducer on what fills the sides are a choice and what fills the translations
+    -- runs of the second transducer on what fills the sides are a choice and what fills the
+    -- translations
     pub translations_chosen :
         (runs : Trees ℕ) (ps : List ℕ) (sides : Trees (Symbol ℕ (Pair P))) (us : Trees ℕ) (c : ℕ) → AreTransducerRuns two ps runs → Reads two runs us → Filled product R sides us c →
         IsChosen ps sides (outputs two runs) (product c (transducer_cost product two runs))

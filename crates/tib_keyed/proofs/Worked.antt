@@ -30,7 +30,7 @@ abbrev label_at : {P : Type 0} → ℕ → Symbol ℕ P → ℕ
 label_at d (label f) = f
 label_at d (hole p) = d
 
--- each right side has one choice
+-- each right-hand side has one choice
 at_pair_only : (choice : Trees (Option ℕ)) → AreTranslations turning (0 ∷ []) (only (transducer_rule copying 0).right) choice → at_pair ≡ choice
 at_pair_only none t = absurd t
 at_pair_only (tree None below more) t = absurd t

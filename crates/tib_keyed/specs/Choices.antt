@@ -23,7 +23,7 @@ abbrev pub joined : (ℕ → ℕ → List (Trees (Option ℕ))) → List (Pair �
 joined choices [] = none ∷ []
 joined choices (x ∷ xs) = all_joins (choices x.variable x.state) (joined choices xs)
 
--- whether nothing but holes stands in a list
+-- whether a list has nothing but holes
 abbrev pub are_holes : {P : Type 0} → Trees (Symbol ℕ P) → Bool
 are_holes none = true
 are_holes (tree (label f) kids rest) = false
@@ -34,7 +34,7 @@ abbrev pub reads_label : ℕ → ℕ → ℕ → TransducerRule ℕ → Bool
 reads_label p f n r =
     if nat_eq r.state p then (if is_label f r.left.label then (if are_holes r.left.kids then nat_eq (count r.left.kids) n else false) else false) else false
 
--- the choices at a label f over n sides by the state p, by the first rules
+-- the choices at a label f over n sides by the state p, with the first rules
 abbrev pub by_rules : List (TransducerRule ℕ) → (ℕ → ℕ → List (Trees (Option ℕ))) → ℕ → ℕ → ℕ → ℕ → List (Trees (Option ℕ))
 by_rules two choices p f n zero = []
 by_rules two choices p f n (suc m) =
@@ -73,7 +73,7 @@ cheap product one two n [] = []
 cheap product one two n (c ∷ cs) =
     if nat_le (product (transducer_rule one n).cost (choice_cost product two c)) most then (n, c) ∷ cheap product one two n cs else cheap product one two n cs
 
--- the origins of the edges of a pair, by the first rules
+-- the origins of the edges of a pair, with the first rules
 abbrev pub origins_of : (ℕ → ℕ → ℕ) → List (TransducerRule ℕ) → List (TransducerRule ℕ) → ℕ × ℕ → ℕ → List (ℕ × Trees (Option ℕ))
 origins_of product one two key zero = []
 origins_of product one two key (suc n) =

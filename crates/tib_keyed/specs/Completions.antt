@@ -1,4 +1,5 @@
--- The choices that translate several sides, told as a search goes that takes the first side first and tries each rule.
+-- The choices that translate several sides, as a search finds them that takes the first side first
+-- and tries each rule.
 use Rattle.std.specs.Prelude.{◌≡◌, ℕ, List, [], ◌∷◌, ◌++◌, map, length, if◌then◌else◌, Option, None, Some}
 use Rattle.std.proofs.Common.{zero, suc}
 use Rattle.tib_tree.specs.Trees.{Trees, none, tree, only, count, join, first_trees, other_trees, preorder_of}
@@ -23,8 +24,8 @@ completions two (tree s kids rest) (p ∷ ps) = all_joins (choices_at two (tree 
 abbrev pub under : ℕ → ℕ → Trees (Option ℕ) → Trees (Option ℕ)
 under m k c = tree (Some m) (first_trees k c) (other_trees k c)
 
--- the choices at a label f over some sides, and at the sides behind it, by the first rules: those of the pairs of each
--- rule, and of the sides behind
+-- the choices at a label f over some sides, and at the sides after it, with the first rules: those
+-- of the pairs of each rule, and of the sides after it
 abbrev pub rule_by_rule : {P : Type 0} → List (TransducerRule ℕ) → ℕ → ℕ → Trees (Symbol ℕ P) → Trees (Symbol ℕ P) → List ℕ → ℕ → List (Trees (Option ℕ))
 rule_by_rule two p f kids rest ps zero = []
 rule_by_rule two p f kids rest ps (suc m) =
@@ -49,8 +50,9 @@ pub record SearchGoes (product : ℕ → ℕ → ℕ) (two : List (TransducerRul
 abbrev pub SearchIsWhole : (ℕ → ℕ → ℕ) → Type 0
 SearchIsWhole product = (two : List (TransducerRule ℕ)) → AreShaped two → SearchGoes product two
 
--- Where the first hole of a preorder stands for a label, the search puts the preorder of the rule's right side in its
--- place, and goes on with the sides of the rule's pairs before the others.
+-- Where the first hole of a preorder stands for a label, the search puts the preorder of the rule's
+-- right-hand side in its place. It then goes on with the sides of the rule's pairs before the
+-- others.
 abbrev pub SearchPutsOut : Type 0
 SearchPutsOut =
     (two : List (TransducerRule ℕ)) (p f m n : ℕ) (ps : List ℕ) (kids rest : Trees (Symbol ℕ (Pair ℕ))) (c : Trees (Option ℕ)) (z : Pair ℕ) (xs : List (Symbol ℕ (Pair ℕ) × ℕ)) →

@@ -21,8 +21,9 @@ ends_of e = states_in e.right
 abbrev pub edge_parts : TransducerRule (ℕ × ℕ) → ℕ
 edge_parts e = 1 + (size e.left + size e.right)
 
--- From the pair of the starts each pair leads on along each rule of the first transducer and each choice that translates
--- its right side. A pair has three parts, and an edge one and the nodes of both sides.
+-- From the pair of the starts each pair leads on along each rule of the first transducer and each
+-- choice that translates its right-hand side. A pair has three parts, and an edge one and the nodes
+-- of both sides.
 abbrev pub composition : (ℕ → ℕ → ℕ) → List (TransducerRule ℕ) → List (TransducerRule ℕ) → Operation (ℕ × ℕ) (ℕ × Trees (Option ℕ)) (TransducerRule (ℕ × ℕ))
 composition product one two =
     keyed pair_cmp (0, 0) (IsComposeEdge product one two) ends_of (key_parts (λ k. 2)) edge_parts

@@ -1,5 +1,5 @@
--- Small transducers on which the definitions are computed. The label 0 is A, 1 is B, 2 is F, 3 is G, 4 is b, 5 is c, 6
--- is a.
+-- Small transducers on which the definitions are computed. The label 0 is A, 1 is B, 2 is F, 3 is
+-- G, 4 is b, 5 is c, 6 is a.
 use Rattle.std.specs.Prelude.{ℕ, List, [], ◌∷◌, Option, None, Some}
 use Rattle.tib_tree.specs.Trees.{Trees, none, tree}
 use Rattle.tib_grammar.specs.Sides.{Symbol, label, hole, Side as SideFor}
@@ -58,7 +58,7 @@ at_pair = tree (Some 0) (tree None none (tree None none none)) none
 abbrev pub at_leaf : Trees (Option ℕ)
 at_leaf = tree (Some 1) none none
 
--- the translation of the first right side by that choice, G((q p).x0 (q p).x0)
+-- the translation of the first right-hand side by that choice, G((q p).x0 (q p).x0)
 abbrev pub turned : Trees (Symbol ℕ (Pair (ℕ × ℕ)))
 turned =
     tree (label 3) (tree (hole (record { state = (0, 0); variable = 0 })) none (tree (hole (record { state = (0, 0); variable = 0 })) none none)) none

@@ -15,7 +15,8 @@ substituted ((label f, n) ∷ xs) us = (label f, n) ∷ substituted xs us
 substituted ((hole p, n) ∷ xs) none = []
 substituted ((hole p, n) ∷ xs) (tree s below us) = (s, count below) ∷ (preorder below ++ substituted xs us)
 
--- The translation by a rule is the preorder of its right side with the translations below in place of its pairs.
+-- The translation by a rule is the preorder of its right-hand side with the translations below in
+-- place of its pairs.
 abbrev pub TranslatesInPreorder : Type 0
 TranslatesInPreorder =
     (two : List (TransducerRule ℕ)) (p f n : ℕ) (kids : Trees (Symbol ℕ (Pair ℕ))) (below : Trees (Option ℕ)) → HolesAreLeaves (only (transducer_rule two n).right) →
@@ -23,7 +24,7 @@ TranslatesInPreorder =
     preorder (translated two (p ∷ []) (tree (label f) kids none) (tree (Some n) below none))
     ≡ substituted (preorder_of (transducer_rule two n).right) (translated two (states_in (transducer_rule two n).right) (pick kids (variables_in (transducer_rule two n).right)) below)
 
--- nothing stands below a hole of a translation
+-- nothing is below a hole of a translation
 abbrev pub TranslationsEndInHoles : Type 0
 TranslationsEndInHoles =
     (two : List (TransducerRule ℕ)) (ps : List ℕ) (sides : Trees (Symbol ℕ (Pair ℕ))) (choice : Trees (Option ℕ)) → HolesAreLeaves (translated two ps sides choice)

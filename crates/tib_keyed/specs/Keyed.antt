@@ -1,4 +1,4 @@
--- Operations whose edges depend on the key at a position alone.
+-- Operations whose edges depend only on the key at a position.
 use Rattle.std.specs.Prelude.{◌≡◌, ℕ, ◌<◌, Bool, IsTrue, List, ◌∷◌}
 use Rattle.std.proofs.Common.{get_or}
 use Rattle.std.specs.declared.cmp.Ordering.{Ordering}
@@ -7,7 +7,8 @@ use Rattle.tib_lex.specs.Lists.{Has, Distinct}
 use Rattle.tib_hunt.specs.EdgeLists.{Lists}
 use Rattle.tib_hunt.specs.Reached.{Operation, operation, AfterRounds, AreEdges, IsReachedSet}
 
--- A keyed operation has one start, no edges of seeds, and at each position the edges of the key that stands there.
+-- A keyed operation has one start, no edges of seeds, and at each position the edges of the key
+-- that is there.
 abbrev pub keyed : {K O E : Type 0} → (K → K → Ordering) → K → (K → O → E → Type 0) → (E → List K) → (K → ℕ) → (E → ℕ) → Operation K O E
 keyed cmp start Edge ends_of key_parts edge_parts =
     operation cmp (λ k. k ≡ start) (λ o e. ⊥) (λ order n o e. Edge (get_or order n start) o e) ends_of key_parts edge_parts
@@ -16,7 +17,7 @@ keyed cmp start Edge ends_of key_parts edge_parts =
 abbrev pub GivesBelow : {K O E : Type 0} → K → (K → O → E → Type 0) → List K → ℕ → ℕ × O → E → Type 0
 GivesBelow start Edge order n from e = (from.0 < n) × Edge (get_or order from.0 start) from.1 e
 
--- The laws speak of edges that a test tells.
+-- The laws speak of edges that a test selects.
 abbrev pub Told : {K O E : Type 0} → (K → O → E → Bool) → K → O → E → Type 0
 Told edge k o e = IsTrue (edge k o e)
 
@@ -27,7 +28,7 @@ OrdersBegin K O E =
     (rounds expanded : ℕ) (order : List K) → AfterRounds (keyed cmp start (Told edge) ends_of key_parts edge_parts) rounds expanded order →
     (rest : List K) × (order ≡ start ∷ rest)
 
--- no key stands twice in an order
+-- no key is there twice in an order
 abbrev pub KeysStandOnce : Type 0 → Type 0 → Type 0 → Type 0
 KeysStandOnce K O E =
     (cmp : K → K → Ordering) → IsTotalOrder cmp → (start : K) (edge : K → O → E → Bool) (ends_of : E → List K) (key_parts : K → ℕ) (edge_parts : E → ℕ) →
@@ -40,7 +41,7 @@ EdgesAreKeyed K O E =
     (order : List K) (n : ℕ) (es : List E) → AreEdges (keyed cmp start (Told edge) ends_of key_parts edge_parts) order n es →
     Lists (GivesBelow start (Told edge) order n) es
 
--- two reached sets have one order, and where an origin gives a key one edge the same edges
+-- two reached sets have one order, and the same edges if an origin gives a key one edge
 abbrev pub OneReachedSet : Type 0 → Type 0 → Type 0 → Type 0
 OneReachedSet K O E =
     (cmp : K → K → Ordering) → IsTotalOrder cmp → (start : K) (edge : K → O → E → Bool) (ends_of : E → List K) (key_parts : K → ℕ) (edge_parts : E → ℕ) →

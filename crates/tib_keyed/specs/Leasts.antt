@@ -21,7 +21,7 @@ module _ (product : ℕ → ℕ → ℕ) (two : List (TransducerRule ℕ)) where
   least_joined least [] = Some 0
   least_joined least (x ∷ xs) = times product (least x.variable x.state) (least_joined least xs)
 
-  -- the least cost at a label f over n sides by the state p, by the first rules
+  -- the least cost at a label f over n sides by the state p, with the first rules
   abbrev pub least_by_rules : (ℕ → ℕ → Option ℕ) → ℕ → ℕ → ℕ → ℕ → Option ℕ
   least_by_rules least p f n zero = None
   least_by_rules least p f n (suc m) =

@@ -11,7 +11,7 @@ use Rattle.tib_keyed.specs.declared.side_rule.SideRule.{SideRule}
 use Rattle.tib_keyed.specs.declared.side_listing.SideListing.{SideListing}
 use Rattle.tib_keyed.specs.SideRules.{Reads}
 
--- the parts of an edge: one, and the nodes of its right side
+-- the parts of an edge: one, and the nodes of its right-hand side
 abbrev pub edge_parts : {K : Type 0} → Rule K → ℕ
 edge_parts e = 1 + size e.right
 
@@ -21,7 +21,7 @@ pub record IsWithinBudget {K H : Type 0} (l : SideListing K H) : Type 0 where
   pub within : l.parts ≤ l.budget
   pub budget : l.budget ≤ most_parts
 
--- both lists are of the same position, within the same budget
+-- both lists are for the same position, within the same budget
 pub record IsAlike {K H : Type 0} (old new : SideListing K H) : Type 0 where
   pub position : new.position ≡ old.position
   pub budget : new.budget ≡ old.budget
@@ -32,7 +32,7 @@ pub record IsReady {K H : Type 0} (side : SideFor ℕ H) (l : SideListing K H) :
   pub within : l.parts ≤ l.budget
   pub budget : l.budget ≤ most_parts
 
--- the list has one rule behind its own, whose ends begin at a number
+-- the list has one more rule after its own, whose ends begin at a number
 pub record HasRule {K H : Type 0} (right : SideFor ℕ H) (first cost : ℕ) (old new : SideListing K H) : Type 0 where
   pub rule : SideRule H
   pub rules : new.rules.items ≡ old.rules.items ++ rule ∷ []
@@ -42,7 +42,7 @@ pub record HasRule {K H : Type 0} (right : SideFor ℕ H) (first cost : ℕ) (ol
   pub costs : rule.cost ≡ cost
   pub parts : new.parts ≡ old.parts + (1 + size right)
 
--- the list with one rule over new ends behind it
+-- the list with one more rule over new ends
 pub record IsAdded {K H : Type 0} (right : SideFor ℕ H) (keys : List K) (cost : ℕ) (old new : SideListing K H) : Type 0 where
   pub ends : new.ends.items ≡ old.ends.items ++ keys
   pub rule : SideRule H
@@ -53,7 +53,7 @@ pub record IsAdded {K H : Type 0} (right : SideFor ℕ H) (keys : List K) (cost 
   pub costs : rule.cost ≡ cost
   pub parts : new.parts ≡ old.parts + (1 + size right)
 
--- where Gives tells which edge an origin gives a key
+-- where Gives says which edge an origin gives a key
 module _ {K O : Type 0} (Gives : O → Rule K → Type 0) where
   -- over an order, the edges of the origins that were tried are listed, each once
   pub record IsListed {H : Type 0} (order : List K) (tried : List O) (l : SideListing K H) : Type 0 where
@@ -81,7 +81,7 @@ module _ {K O : Type 0} (Gives : O → Rule K → Type 0) where
     pub listed : IsListed order tried l
     pub all : (o : O) (e : Rule K) → Gives o e → Has tried o
 
-  -- where the key stands at the position of the list
+  -- where the key is at the position of the list
   module _ (default key : K) where
     -- the list gets the edge of an origin that was not tried yet, where it gives one
     abbrev pub GetsOrigin : {H : Type 0} → O → SideListing K H → SideListing K H → Type 0

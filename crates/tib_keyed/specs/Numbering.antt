@@ -8,7 +8,8 @@ use Rattle.tib_keyed.specs.Named.{named_transducer_rule}
 use Rattle.tib_transducer.specs.Range.{AreWithin}
 use Rattle.tib_transducer.specs.declared.TransducerRule.{TransducerRule}
 
--- The rules with the states of a list in place of their numbers are the others. No state stands twice in the list.
+-- The rules with the states of a list in place of their numbers are the others. No state is there
+-- twice in the list.
 pub record AreRenumbered (states : List ℕ) (numbered rules : List (TransducerRule ℕ)) : Type 0 where
   pub once : Distinct states
   pub in_range : AreWithin (length states) numbered

@@ -1,4 +1,4 @@
--- A search that puts out one piece after another.
+-- A search that outputs one piece after another.
 use Rattle.std.specs.Prelude.{◌≡◌, ℕ, ◌<◌, List, [], ◌∷◌, ◌++◌, map, length, if◌then◌else◌, Option}
 use Rattle.std.proofs.Common.{zero, suc}
 use Rattle.tib_tree.specs.Trees.{Trees, none, tree, only, count, preorder_of, first_of}
@@ -13,12 +13,12 @@ use Rattle.tib_keyed.specs.Choices.{choices_of, reads_label}
 use Rattle.tib_keyed.specs.Completions.{completions}
 use Rattle.tib_keyed.specs.Flat.{substituted}
 
--- a label that is put out with its number of children, or a side that is translated by a state
+-- a label that is output with its number of children, or a side that is translated by a state
 pub data Piece : Type 0 where
   put : ℕ → ℕ → Piece
   read : SideFor ℕ (Pair ℕ) → ℕ → Piece
 
--- the sides that are to be translated, their states, and what is put out, with a hole for each side
+-- the sides that are to be translated, their states, and what is output, with a hole for each side
 abbrev pub sides_of : List Piece → Trees (Symbol ℕ (Pair ℕ))
 sides_of [] = none
 sides_of (put f n ∷ ws) = sides_of ws
@@ -38,23 +38,23 @@ template_of (read s p ∷ ws) = (hole (record { state = p; variable = 0 }), 0) �
 abbrev pub Result : Type 0
 Result = ℕ × List (Symbol ℕ (Pair (ℕ × ℕ)) × ℕ)
 
--- the pieces of a right side over some sides
+-- the pieces of a right-hand side over some sides
 abbrev pub pieces_of : List (Symbol ℕ (Pair ℕ) × ℕ) → Trees (Symbol ℕ (Pair ℕ)) → List Piece
 pieces_of [] kids = []
 pieces_of ((label f, n) ∷ xs) kids = put f n ∷ pieces_of xs kids
 pieces_of ((hole x, n) ∷ xs) kids = read (first_of (label 0) (tree_at kids x.variable)) x.state ∷ pieces_of xs kids
 
 module _ (product : ℕ → ℕ → ℕ) (two : List (TransducerRule ℕ)) where
-  -- what comes of a choice for some pieces, behind what is put out already at a cost
+  -- the result of a choice for some pieces, after what is already output at a cost
   abbrev pub result_of : ℕ → List (Symbol ℕ (Pair (ℕ × ℕ)) × ℕ) → List Piece → Trees (Option ℕ) → Result
   result_of cost done ws c =
       (product cost (choice_cost product two c), done ++ substituted (template_of ws) (translated two (states_of ws) (sides_of ws) c))
 
-  -- what comes of all choices, in their order
+  -- the results of all choices, in their order
   abbrev pub results : ℕ → List (Symbol ℕ (Pair (ℕ × ℕ)) × ℕ) → List Piece → List Result
   results cost done ws = map (result_of cost done ws) (completions two (sides_of ws) (states_of ws))
 
-  -- what comes of the first rules that read the label f over some sides
+  -- the results of the first rules that read the label f over some sides
   abbrev pub results_by : ℕ → List (Symbol ℕ (Pair (ℕ × ℕ)) × ℕ) → ℕ → Trees (Symbol ℕ (Pair ℕ)) → ℕ → List Piece → ℕ → List Result
   results_by cost done f kids p ws zero = []
   results_by cost done f kids p ws (suc m) =
@@ -63,7 +63,8 @@ module _ (product : ℕ → ℕ → ℕ) (two : List (TransducerRule ℕ)) where
       then results (product cost (transducer_rule two m).cost) done (pieces_of (preorder_of (transducer_rule two m).right) kids ++ ws)
       else [])
 
-  -- what such a search does where nothing is left, at a label that is put out, at a pair, and at a label that is read
+  -- what such a search does where nothing is left, at a label that is output, at a pair, and at a
+  -- label that is read
   pub record GoesByPieces : Type 0 where
     pub at_end : (cost : ℕ) (done : List (Symbol ℕ (Pair (ℕ × ℕ)) × ℕ)) → results cost done [] ≡ (cost, done) ∷ []
     pub at_put :
@@ -84,7 +85,7 @@ module _ (product : ℕ → ℕ → ℕ) (two : List (TransducerRule ℕ)) where
           substituted {P = Pair ℕ} ((hole (record { state = p; variable = 0 }), 0) ∷ []) (translated two (p ∷ []) (only s) c),
         )) (choices_of two p s)
 
--- the search by pieces finds what comes of all choices, in their order
+-- the search by pieces finds the results of all choices, in their order
 abbrev pub SearchGoesByPieces : (ℕ → ℕ → ℕ) → Type 0
 SearchGoesByPieces product =
     (two : List (TransducerRule ℕ)) → AreShaped two → ((m : ℕ) → m < length two → HolesAreLeaves (only (transducer_rule two m).right)) → GoesByPieces product two

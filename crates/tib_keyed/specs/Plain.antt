@@ -1,4 +1,4 @@
--- What composition asks of the second transducer.
+-- What composition requires of the second transducer.
 use Rattle.std.specs.Prelude.{ℕ, ◌<◌, List, length}
 use Rattle.tib_transducer.specs.Rules.{transducer_rule}
 use Rattle.tib_transducer.specs.Classes.{IsLinear, IsNondeleting, IsExtended, IsLabelled}

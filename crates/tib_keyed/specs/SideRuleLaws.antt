@@ -1,4 +1,4 @@
--- What a rule over places or positions stands for depends on the keys there alone.
+-- What a rule over places or positions stands for depends only on the keys there.
 use Rattle.std.specs.Prelude.{◌≡◌, ℕ, ◌+◌, List, [], ◌∷◌, ◌++◌, map, length, refl}
 use Rattle.std.proofs.Common.{zero, suc, arith, ap, sym, ◌∙◌, subst}
 use Rattle.std.proofs.lemmas.List.{length-append}
@@ -21,7 +21,7 @@ sides_same f g s h =
     ap (λ x. record { label = x; kids = relabel (symbol_map f) s.kids }) (symbol_same f g s.label s.kids h)
     ∙ ap (λ ks. record { label = symbol_map g s.label; kids = ks }) (kids_same f g s.label s.kids h)
 
--- what a rule over positions stands for depends on the keys at these alone
+-- what a rule over positions stands for depends only on the keys at these
 pub reads_positions : {K : Type 0} (r : Rule ℕ) (f g : ℕ → K) → Each (λ q. f q ≡ g q) (positions_of r) → named_rule f r ≡ named_rule g r
 reads_positions r f g h =
     ap (λ k. record { left = k; right = side_map f r.right; cost = r.cost }) h.0
@@ -45,7 +45,7 @@ ends_append n (suc a) b =
     let d : suc a + b ≡ suc (a + b) = omega arith in
     ap (λ m. End n ∷ (ends_from (suc n) a ++ ends_from m b)) e ∙ ap (λ ps. End n ∷ ps) (ends_append (suc n) a b) ∙ ap (ends_from n) (sym d)
 
--- the numbers in numbered sides stand side by side
+-- the numbers in numbered sides are consecutive
 pub numbers_are : {P : Type 0} (n : ℕ) (ts : Trees (Symbol ℕ P)) → map End (states_in (numbered n ts)) ≡ ends_from n (length (holes ts))
 numbers_are n none = refl
 numbers_are n (tree (label f) kids rest) =
@@ -67,7 +67,7 @@ only_numbered {P} n side = by side.label
 pub side_numbers : {P : Type 0} (n : ℕ) (side : SideFor ℕ P) → map End (states_in (only (numbered_side n side))) ≡ ends_from n (length (holes_of side))
 side_numbers n side = ap (λ ts. map End (states_in ts)) (only_numbered n side) ∙ numbers_are n (only side)
 
--- what a rule stands for depends on the keys at its places alone
+-- what a rule stands for depends only on the keys at its places
 pub reads_places : {K H : Type 0} (r : SideRule H) (f g : Place → K) → Each (λ p. f p ≡ g p) (places_of r) → read_places f r ≡ read_places g r
 reads_places r f g h =
     let side = numbered_side r.first_end r.side.now in

@@ -10,7 +10,7 @@ use tib_tree::Label;
 /// A shape: a state, a label and a rank.
 pub type Shape = (u32, Label, u32);
 
-/// Positions by shapes: for each shape those that were added with it, in that order.
+/// Positions by shape. For each shape: the positions that were added with it, in that order.
 #[derive(Drop)]
 pub struct ShapeIndex {
     pub(crate) shapes: HashMap<Shape, u32>,
@@ -18,7 +18,8 @@ pub struct ShapeIndex {
     pub ghost numbered: { AreNumbered shapes buckets.items },
 }
 
-/// Appends a position to the bucket of a shape.
+/// Appends a position to the bucket of a shape. Err if memory is refused; each shape then has the
+/// positions that it had.
 pub(crate) fn add_to(
     alloc: Global,
     shapes: &mut HashMap<Shape, u32>,

@@ -1,4 +1,4 @@
-// What holds of each keyed operation.
+// What holds for each keyed operation.
 ghost use Rattle.tib_keyed.specs.Keyed.{OrdersBegin, KeysStandOnce, EdgesAreKeyed, OneReachedSet};
 
 /// Each order begins with the start.
@@ -6,7 +6,7 @@ pub fn orders_begin<K, O, E>()
     ensures { OrdersBegin K O E }
 {}
 
-/// No key stands twice in an order.
+/// No key is twice in an order.
 pub fn keys_stand_once<K, O, E>()
     ensures { KeysStandOnce K O E }
 {}
@@ -16,7 +16,8 @@ pub fn edges_are_keyed<K, O, E>()
     ensures { EdgesAreKeyed K O E }
 {}
 
-/// Two reached sets have the same order, and the same edges where an origin gives a key one edge.
+/// Two reached sets have the same order. They also have the same edges if an origin gives a key one
+/// edge.
 pub fn reached_set_is_one<K, O, E>()
     ensures { OneReachedSet K O E }
 {}

@@ -1,9 +1,12 @@
-//! What operations over keys have in common. Where the edges depend on the key at a position alone, from one start, the order begins
-//! with the start, has no key twice, and its edges are those of its keys: intersection, and the composition and application of
-//! transducers. Pairs of states are the keys of intersection and of composition. Edges over places that borrow a side serve the
-//! operations whose keys lead to the sides of rules: forward application, the image of a tree, and parsing. An index gives the
-//! positions of the rules of a state, a label and a rank. Beside them stands what holds of the composition of two transducers: the
-//! composite transducer has the series of the composition. It stands on `tib_grammar`, `tib_hunt` and `tib_transducer`.
+//! What operations over keys have in common: intersection, and the composition and application of
+//! transducers. In them the edges depend only on the key at a position, and there is one start. So
+//! the order begins with the start, has no key twice, and its edges are those of its keys.
+//!
+//! Pairs of states are the keys of intersection and of composition. Edges over places that borrow a
+//! side serve the operations whose keys lead to the sides of rules: forward application, the image
+//! of a tree, and parsing. An index gives the positions of the rules of a state, a label and a
+//! rank. The crate also has laws of the composition of two transducers: the composite transducer
+//! has the series of the composition. It uses `tib_grammar`, `tib_hunt` and `tib_transducer`.
 #![tactic(auto)]
 
 mod buckets;

@@ -1,4 +1,4 @@
-//! Sides of edges over places with positions in place of what their holes carry.
+//! Sides of edges over places, with positions in place of what their holes carry.
 
 ghost use Rattle.std.specs.Prelude.{◌≡◌, ◌+◌, ◌<◌, ◌≤◌, length, IfOk, slice_index};
 ghost use Rattle.tib_grammar.specs.Items.{pairs_of, holes_in};
@@ -9,7 +9,8 @@ ghost use Rattle.tib_keyed.specs.Settling.{settled_pairs};
 use std::alloc::{AllocError, Global};
 use tib_grammar::{Item, Side};
 
-/// The items of a side with the positions of the ends from the first on in place of what its holes carry.
+/// The items of a side, with the positions of the ends from the first on in place of what its holes
+/// carry.
 fn settled_items<H>(
     alloc: Global,
     items: &[Item<H>],
@@ -40,9 +41,9 @@ fn settled_items<H>(
     Ok(settled)
 }
 
-/// A side with positions in place of what its holes carry: the first of its holes, in preorder, carries the position of the end
-/// `first`, the next one that of the end behind it, and so on. `ends` has the position of each end. Err only if memory is refused.
-/// Cost: a pass over the items.
+/// A side with positions in place of what its holes carry. The first of its holes, in preorder,
+/// carries the position of the end `first`, the next one that of the next end, and so on. `ends`
+/// has the position of each end. Err only if memory is refused. Cost: a pass over the items.
 pub fn settled_side<H>(
     alloc: Global,
     side: &Side<H>,

@@ -10,14 +10,15 @@ use tib_cost::Cost;
 use tib_grammar::Side;
 use tib_hunt::{Edges, ExpandError};
 
-/// The edges of the key at a position, as far as they are listed, within a budget of parts.
+/// The edges of the key at a position, listed so far, within a budget of parts.
 #[derive(Drop)]
 pub struct SideListing<'a, K, H> {
-    /// The keys of the ends, one after another. Those of an edge are appended before the edge is.
+    /// The keys of the ends, one after another. The keys of an edge are appended before the edge
+    /// is.
     pub ends: Vec<K>,
     /// The edges.
     pub rules: Vec<SideRule<'a, H>>,
-    /// The parts of the edges, added up: of each one, and the nodes of its side.
+    /// The parts of the edges, added up: one for each edge, and the nodes of its side.
     pub parts: u64,
     /// The position.
     pub position: u32,
@@ -26,7 +27,7 @@ pub struct SideListing<'a, K, H> {
 }
 
 impl<'a, K, H> SideListing<'a, K, H> {
-    /// The empty list of edges of the key at a position.
+    /// The empty list of edges of the key at a position. It takes no memory.
     pub fn new(alloc: Global, position: u32, budget: u64) -> SideListing<'a, K, H>
         ensures position { result.position ≡ position }
         ensures budget { result.budget ≡ budget }
@@ -51,8 +52,9 @@ impl<'a, K, H> SideListing<'a, K, H> {
         self.ends.len() as u32
     }
 
-    /// Lists an edge to a side at a cost, where the keys of its ends were appended, the first of them as the end `first_end`. `More`
-    /// comes exactly where it has more parts than the budget leaves, and `OutOfMemory` only if memory is refused.
+    /// Lists an edge to a side at a cost. The keys of its ends were appended, the first of them as
+    /// the end `first_end`. `More` comes exactly where the edge has more parts than the budget
+    /// leaves, `OutOfMemory` only if memory is refused; the list then keeps its edges and ends.
     pub fn add(&mut self, side: &'a Side<H>, first_end: u32, cost: Cost) -> Result<(), ExpandError>
         requires ready { IsReady side.now self.old }
         ensures rule { OnOk result (HasRule side.now first_end cost self.old self.new) }

@@ -3,8 +3,8 @@
 use tib_cost::Cost;
 use tib_grammar::Side;
 
-/// An edge over places: from a position of the order to a side of a rule, whose holes lead, in preorder, to ends that stand side
-/// by side in their list.
+/// An edge over places: from a position of the order to a side of a rule. The holes of the side
+/// lead, in preorder, to consecutive ends of their list.
 #[derive(Drop)]
 pub struct SideRule<'a, H> {
     /// The position of the key that the edge leads from.

@@ -1,4 +1,4 @@
-//! Pairs of states, one of each of two machines, as the keys of an operation.
+//! Pairs of states, one from each of two machines, as the keys of an operation.
 
 ghost use Rattle.std.specs.Prelude.{◌≡◌};
 
