@@ -127,7 +127,7 @@ take_whole : (js : List ℕ) → take (length js) js ≡ js
 take_whole [] = refl
 take_whole (j ∷ js) = ap (λ (ks : List ℕ). j ∷ ks) (take_whole js)
 
--- a list that was put behind another is read from the end of that one
+-- a list that was appended to another is read from the end of that one
 pub from_end : (xs js : List ℕ) → take (length js) (drop (length xs) (xs ++ js)) ≡ js
 from_end [] js = take_whole js
 from_end (x ∷ xs) js = from_end xs js

@@ -81,7 +81,7 @@ first_or order stack rest now first d e f (inr g) = subst (λ (ds : List Demand)
     lone (r ∷ []) h = absurd (omega (arith, ap (λ (ds : List Demand). length ds) h))
     lone (r ∷ s ∷ rs) h = absurd (omega (arith, ap (λ (ds : List Demand). length ds) h))
 
--- the demand for what stands behind a rank
+-- the demand for what is after a rank
 module _ (product : ℕ → ℕ → ℕ) (x : ListsOf) (a : AskingOf) (k : IsAsking product x a) (n : ℕ) (js : List ℕ) (t : IsTuple x n js) (i : ℕ) (h : i < length (states_at x.rules n)) (d : Demand) (state : d.state ≡ get_or (states_at x.rules n) i 0)
     (many : d.many ≡ get_or js i 0 + 1) where
   pub demand_unmet : d.state < length x.lists → ((state_at a d.state).stage ≡ Whole → ⊥) → length (list_of x d.state) ≤ d.many → length (list_of x d.state) < a.k → IsUnmet x a d

@@ -71,7 +71,7 @@ answered_more product k x s y m i n l f a =
     subst (λ (b : Candidate). AreAnswered product k z b (length (below_of z b))) (sym e) (λ p h. subst (λ (js : List ℕ). IsAnswered product k x (get_or (below_of x d) p 0) (get_or js p 0)) (sym r) (a p h))
     ))
 
--- after a state was opened, and the candidates behind its last one were offered
+-- after a state was opened, and the candidates that follow its last one were offered
 pub asked_of :
     (product : ℕ → ℕ → ℕ) (x : ListsOf) → AreSound product x → AreStarted x → (rules : List ℕ) (s : StateOf) → s.last < length x.candidates → (y : ListsOf) (t : StateOf) → IsOpened product x rules s y t → (n : ℕ) → n ≡ t.last → (z : ListsOf) (now : List ℕ) →
     HasFollowers product y (candidate_at y n) t.heap z now → (k u : ℕ) → CanTake product k x u rules s → IsAskedFor product k z u now
@@ -96,7 +96,7 @@ stage_of product x rules s y t o n = elim o.how [ inl h ↦ h.1 | inr h ↦ by s
     by Open e m f = f ∙ e
     by Whole e m f = absurd (n e)
 
--- a state whose list is not whole has a turn for each candidate that waits, and one more
+-- a state whose list is not complete has a turn for each candidate that waits, and one more
 pub turns_open : (s : StateOf) → (s.stage ≡ Whole → ⊥) → turns_of s ≡ suc (length s.heap)
 turns_open s n = by s.stage refl
   where

@@ -67,7 +67,7 @@ module _ (taken : List pass.Candidate) (n : ℕ) (closed : (front : List ℕ) (j
       let b : Has taken (n, front ++ r ∷ zeros rs) = subst (λ (js : List ℕ). Has taken (n, js)) (append_assoc front (r ∷ []) (zeros rs)) (flat rs (front ++ r ∷ []) a) in
       lower_rank front r rs b 0 (omega arith)
 
-  -- so with each lower rank at a place, and 0 behind
+  -- the same with each lower rank at a place, and 0 after it
   lower_at : (front : List ℕ) (j : ℕ) (rest : List ℕ) → Has taken (n, front ++ j ∷ rest) → (i : ℕ) → i ≤ j → Has taken (n, front ++ i ∷ zeros rest)
   lower_at front j rest h i l =
       let a : Has taken (n, (front ++ j ∷ []) ++ rest) = subst (λ (js : List ℕ). Has taken (n, js)) (sym (append_assoc front (j ∷ []) rest)) h in

@@ -1,4 +1,4 @@
--- A state below the last candidate of another one, of which more is asked, stands lower.
+-- A state below the last candidate of another one, of which more is asked, is lower.
 use Rattle.std.specs.Prelude.{◌≡◌, ℕ, ◌+◌, ◌<◌, ◌≤◌, List, [], ◌∷◌, ◌++◌, length, refl}
 use Rattle.std.proofs.Common.{zero, suc, arith, ap, sym, ◌∙◌, subst, inl, inr, get_or}
 use Rattle.std.proofs.lemmas.List.{length-map}
@@ -26,7 +26,7 @@ use Rattle.tib_asked_lists.proofs.Falling.{least_le, many, larger}
 use Rattle.tib_asked_lists.proofs.Placed.{kept_of}
 use Rattle.tib_asked_lists.proofs.Steps.{not_zeros}
 
--- a list before and behind a place
+-- a list before and after a place
 record IsSplit (xs : List ℕ) (i : ℕ) : Type 0 where
   front : List ℕ
   back : List ℕ

@@ -1,4 +1,4 @@
--- The first candidates of some rules, and those behind a candidate, are put into a heap.
+-- The first candidates of some rules, and those that follow a candidate, are put into a heap.
 use Rattle.std.specs.Prelude.{◌≡◌, ◌⊎◌, ℕ, ◌+◌, ◌<◌, ◌≤◌, List, [], ◌∷◌, length, refl}
 use Rattle.std.proofs.Common.{zero, suc, arith, ap, sym, ◌∙◌, subst, inl, inr, get_or}
 use Rattle.std.proofs.lemmas.List.{length-map}
@@ -31,7 +31,7 @@ raised_tuple x n i js t l h =
     let q : ℕ = get_or (states_of (rule_at x.rules n)) i 0 in
     record { rule = t.rule; ranks = raise_names (entries_of x) (states_of (rule_at x.rules n)) js i t.ranks l (omega (arith, h, length-map (list_of x q) (told x.trees))) }
 
--- what is kept of a tuple when candidates were put behind the others
+-- what is kept of a tuple when candidates were appended
 pub tuple_more : (x y : ListsOf) → IsSound x → AreMoreCandidates x y → (n start : ℕ) → IsTuple x n (ranks_from x n start) → IsTuple y n (ranks_from y n start) × (ranks_from y n start ≡ ranks_from x n start)
 tuple_more x y s m n start t =
     let k : ranks_from (grown x x.trees x.lists y.candidates y.ranks) n start ≡ ranks_from x n start = ranks_from_kept x s x.trees x.lists y.candidates y.ranks (more_of x y m) n start t in
@@ -133,7 +133,7 @@ module _ (product : ℕ → ℕ → ℕ) (x : ListsOf) (c : Candidate) (first i 
       (subst (λ (a : Candidate). IsOffered product (get_or (ranks_from y a.rule c.start) i 0 + 1 < length (list_of y (get_or (states_at y.rules a.rule) i 0))) y a.rule (raise i (ranks_from y a.rule c.start)) now y2 now2) f
       (subst (λ (a : Candidate). IsOffered product (get_or (ranks_from y d.rule a.start) i 0 + 1 < length (list_of y (get_or (states_at y.rules d.rule) i 0))) y d.rule (raise i (ranks_from y d.rule a.start)) now y2 now2) g s))
 
--- the same of fewer places
+-- the same for fewer places
 pub followed_all : (product : ℕ → ℕ → ℕ) (x : ListsOf) (c : Candidate) (first n i : ℕ) (heap : List ℕ) (y : ListsOf) (now : List ℕ) → n ≤ i → AreFollowed product x c first i heap y now → AreFollowed product x c first n heap y now
 followed_all product x c first n i heap y now l o = record { held = o.held; more = o.more; to = o.to; from = o.from; count = o.count; there = λ j low h next fits. o.there j low (omega (arith, h, l)) next fits }
 

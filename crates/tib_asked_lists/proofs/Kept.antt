@@ -1,4 +1,4 @@
--- What stays as it is while candidates, ranks, trees and entries are put behind others.
+-- What stays as it is while candidates, ranks, trees and entries are appended.
 use Rattle.std.specs.Prelude.{◌≡◌, ◌⊎◌, ℕ, ◌<◌, ◌≤◌, List, [], ◌∷◌, ◌++◌, length, map, refl}
 use Rattle.std.proofs.Common.{arith, ap, sym, ◌∙◌, subst, inl, inr, append_assoc, length-append}
 use Rattle.tib_lex.specs.Lists.{Has}

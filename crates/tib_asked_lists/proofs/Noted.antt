@@ -1,4 +1,4 @@
--- Pairs that stand in a set.
+-- Pairs that are in a set.
 use Rattle.std.specs.Prelude.{◌≡◌, ◌⊎◌, ℕ, ◌&&◌, ◌||◌, nat_eq, Bool, true, false, cond, not, List, [], ◌∷◌, IsTrue, refl}
 use Rattle.std.specs.List.{list_any}
 use Rattle.std.proofs.Common.{ap, sym, ◌∙◌, subst, inl, inr, arith}

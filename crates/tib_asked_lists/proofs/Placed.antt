@@ -133,7 +133,7 @@ fewer_turns x a u inside y t states e less =
 pub same_turns : (x : ListsOf) (u m : ℕ) (pairs : List (ℕ × ℕ)) (y : ListsOf) (now : List (ℕ × ℕ)) → IsListing x u m pairs y now → room y ≡ room x
 same_turns x u m pairs y now l = elim l.how [ inl h ↦ ap room h.0 | inr h ↦ ap room h.0 ]
 
--- a state that found none is whole
+-- a state that found none is complete
 pub whole_then : (y : ListsOf) (waited : List ℕ) (t s : StateOf) → s ≡ t → (o : Option ℕ) → IsDrawnFrom y waited t o → IfNone o (s.stage ≡ Whole)
 whole_then y waited t s e None d = ap (λ (r : StateOf). r.stage) e ∙ d.1
 whole_then y waited t s e (Some m) d = tt

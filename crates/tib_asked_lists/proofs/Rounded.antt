@@ -407,7 +407,7 @@ module _ (n : ℕ) (x y : ListsOf) (a b : AskingOf) (d : Demand) (start : d.stat
   more_long : (e : Costed) → entries_of y 0 ≡ entries_of x 0 ++ e ∷ [] → length (list_of y 0) ≡ length (list_of x 0) + 1
   more_long e f = omega (arith, long_entries x 0, long_entries y 0, ap (λ (es : List Costed). length es) f, length-append (entries_of x 0) (e ∷ []))
 
-  -- where no entry was placed, the list is whole
+  -- if no entry was placed, the list is complete
   whole_then : entries_of y 0 ≡ entries_of x 0 → (state_at b 0).stage ≡ Whole
   whole_then f =
       elim met [

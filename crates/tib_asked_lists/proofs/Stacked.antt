@@ -51,7 +51,7 @@ pub next_all : (product : ℕ → ℕ → ℕ) (x : ListsOf) (a : AskingOf) (abo
 next_all product x a above n i (Some q) l h = h
 next_all product x a above n i None l h = λ j b. h j (omega (arith, l, b))
 
--- and one that is to be asked stands lower
+-- and one that is to be asked is lower
 pub next_falls :
     (product : ℕ → ℕ → ℕ) (x : ListsOf) (a : AskingOf) → IsAsking product x a → (above q : Question) → IsToAsk x a above → (i : ℕ) → i < length (below_of x (candidate_at x above.last)) → (d e : Candidate) →
     d ≡ candidate_at x above.last → e ≡ candidate_at x above.last → q.state ≡ get_or (states_at x.rules d.rule) i 0 → length (list_of x q.state) ≤ get_or (ranks_from x d.rule e.start) i 0 + 1 → standing x q.state < standing x above.state

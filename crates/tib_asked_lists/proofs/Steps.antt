@@ -1,4 +1,4 @@
--- A state is opened, and the candidates behind its last one are put in.
+-- A state is opened, and the candidates that follow its last one are put in.
 use Rattle.std.specs.Prelude.{◌≡◌, ℕ, ◌+◌, ◌<◌, ◌≤◌, List, [], ◌∷◌, ◌++◌, length, refl}
 use Rattle.std.proofs.Common.{zero, suc, arith, ap, sym, ◌∙◌, subst, inl, inr, get_or, length-append}
 use Rattle.std.proofs.lemmas.List.{length-map}
@@ -133,8 +133,7 @@ behind_front [] qs j (suc i) h = none qs i
 behind_front (f ∷ front) qs j zero h = absurd (omega arith)
 behind_front (f ∷ front) qs j (suc i) h = behind_front front qs j i (omega arith)
 
--- behind the last rank that is not 0 all are 0, so it does not stand behind one from which all are
--- 0
+-- after the last rank that is not 0 all are 0, so it is not after one from which all are 0
 last_before : (front qs : List ℕ) (j i : ℕ) (js : List ℕ) → js ≡ front ++ j ∷ zeros qs → IsLast js i → i ≤ length front
 last_before front qs j i js e l = elim (below_or (length front) i) [
   | inr h ↦ h
@@ -144,7 +143,7 @@ last_before front qs j i js e l = elim (below_or (length front) i) [
   ]
 ]
 
--- ranks behind which all are 0, with the last of them one higher, come from those alone
+-- ranks that are 0 after a place, with the one at the place raised by one, come from those alone
 before_raised :
     (i : ℕ) (js front : List ℕ) (j : ℕ) (back : List ℕ) → i < length js → ((m : ℕ) → i < m → m < length js → get_or js m 0 ≡ 0) → front ++ suc j ∷ zeros back ≡ raise i js → front ++ j ∷ zeros back ≡ js
 before_raised i [] front j back l z e = absurd (omega arith)

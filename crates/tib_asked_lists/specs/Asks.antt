@@ -28,12 +28,12 @@ pub record IsClosed (x : ListsOf) (u : ℕ) (s : StateOf) : Type 0 where
   pub listed : HasTree (entries_of x u) (tree_by x (candidate_at x s.last).rule (ranks_of x (candidate_at x s.last)))
   pub empty : s.heap ≡ []
 
--- The candidate before each that is known, with its last rank that is not 0 one lower, has its
+-- The candidate before each that is known, with its last rank that is not 0 lowered by one, has its
 -- followers.
 abbrev pub ArePreceded : List pass.Candidate → List pass.Candidate → Type 0
 ArePreceded asked_for known = (n : ℕ) (front : List ℕ) (j : ℕ) (back : List ℕ) → Has known (n, front ++ suc j ∷ zeros back) → Has asked_for (n, front ++ j ∷ zeros back)
 
--- A state that took candidates, of which the last one has no followers yet.
+-- A state that took candidates. The last one has no followers yet.
 pub record IsOpen (product : ℕ → ℕ → ℕ) (k : ℕ) (x : ListsOf) (u : ℕ) (s : StateOf) : Type 0 where
   pub last : s.last < length x.candidates
   pub heap : IsHeap (order_of x) s.heap
@@ -60,7 +60,7 @@ pub record IsAskedFor (product : ℕ → ℕ → ℕ) (k : ℕ) (x : ListsOf) (u
   pub preceded : ArePreceded taken taken
   pub waits : ArePreceded taken (tuples x heap)
 
--- a state has an entry behind a rank, or never will, or needs none
+-- a state has an entry after a rank, or never will, or needs none
 abbrev pub IsAnswered : (ℕ → ℕ → ℕ) → ℕ → ListsOf → ℕ → ℕ → Type 0
 IsAnswered product k x q j = (j + 1 < length (list_of x q)) ⊎ (IsWhole product x.rules (entries_of x) q ⊎ (k ≤ length (list_of x q)))
 
@@ -78,8 +78,8 @@ pub record AreByState (rules : List (Rule ℕ)) (by_state : List (List ℕ)) : T
   pub each : (n : ℕ) → n < length rules → Has (get_or by_state (rule_at rules n).left []) n
   pub only : (q n : ℕ) → Has (get_or by_state q []) n → (n < length rules) × ((rule_at rules n).left ≡ q)
 
--- What is kept while lists grow: each list is a front of its state's trees and has k of them at
--- most, and each state but one keeps what it keeps between two asks.
+-- What is kept while lists grow: each list is a front of its state's trees and has at most k of
+-- them, and each state but one keeps what it keeps between two asks.
 pub record IsAskingBut (product : ℕ → ℕ → ℕ) (x : ListsOf) (a : AskingOf) (but : ℕ) : Type 0 where
   pub lists : AreSound product x
   pub started : AreStarted x
@@ -120,8 +120,8 @@ pub record IsOpened (product : ℕ → ℕ → ℕ) (x : ListsOf) (rules : List 
   pub how : ((s.stage ≡ Closed) × (t.stage ≡ Open) × AreOpened product x rules (candidate_at x s.last).rule (length rules) s.heap y t.heap)
       ⊎ ((s.stage ≡ Closed → ⊥) × (t.stage ≡ s.stage) × (t.heap ≡ s.heap) × (y ≡ x))
 
--- a state may take a candidate: its list is not whole, and the states below its last candidate were
--- asked
+-- a state may take a candidate: its list is not complete, and the states below its last candidate
+-- were asked
 pub record CanTake (product : ℕ → ℕ → ℕ) (k : ℕ) (x : ListsOf) (u : ℕ) (rules : List ℕ) (s : StateOf) : Type 0 where
   pub state : IsState product k x u s
   pub left : s.stage ≡ Whole → ⊥
@@ -134,7 +134,7 @@ IsDrawnFrom y heap t None = (heap ≡ []) × (t.stage ≡ Whole)
 IsDrawnFrom y heap t (Some m) = (t.stage ≡ Open) × (t.last ≡ m) × IsHeap (order_of y) t.heap × TakesFirst (order_of y) heap m t.heap
 
 -- how often a state may still take a candidate, or find none: once for each that waits, and once
--- more while its list is not whole
+-- more while its list is not complete
 abbrev pub turns_at : Stage → ℕ → ℕ
 turns_at Closed n = suc n
 turns_at Open n = suc n
@@ -143,11 +143,11 @@ turns_at Whole n = 0
 abbrev pub turns_of : StateOf → ℕ
 turns_of s = turns_at s.stage (length s.heap)
 
--- the same of all states, with the candidates that may still be made
+-- the same for all states, with the candidates that may still be made
 abbrev pub turns_left : ListsOf → AskingOf → ℕ
 turns_left x a = room x + sum_by turns_of a.states
 
--- the candidates behind the last one were offered, and then the least was taken
+-- the candidates that follow the last one were offered, and then the least was taken
 pub record IsDrawn (product : ℕ → ℕ → ℕ) (x : ListsOf) (rules : List ℕ) (s : StateOf) (y : ListsOf) (t : StateOf) (o : Option ℕ) : Type 0 where
   pub lists : AreSound product y
   pub more : AreMoreCandidates x y
@@ -156,7 +156,7 @@ pub record IsDrawn (product : ℕ → ℕ → ℕ) (x : ListsOf) (rules : List �
   pub fewer : (s.stage ≡ Whole → ⊥) → room y + turns_of t < room x + turns_of s
   pub asked : (k u : ℕ) → CanTake product k x u rules s → IsAskedFor product k y u waited
 
--- A state took a candidate, whose tree is not listed yet where it is new.
+-- A state took a candidate. Its tree is not listed yet, if it is new.
 pub record IsTaking (product : ℕ → ℕ → ℕ) (x : ListsOf) (a : AskingOf) (u m : ℕ) : Type 0 where
   pub others : IsAskingBut product x a u
   pub inside : u < length a.states
@@ -170,18 +170,18 @@ abbrev pub HasDrawn : (ℕ → ℕ → ℕ) → ListsOf → AskingOf → ℕ →
 HasDrawn product x a u None = IsAsking product x a
 HasDrawn product x a u (Some m) = IsTaking product x a u m
 
--- as many trees are asked for, of as many states
+-- as many trees are asked for, from as many states
 pub record StaysAsking (a b : AskingOf) : Type 0 where
   pub k : b.k ≡ a.k
   pub states : length b.states ≡ length a.states
 
--- a pair was noted beside others
+-- a pair was noted in addition to others
 pub record IsNoted (pairs : List (ℕ × ℕ)) (p : ℕ × ℕ) (now : List (ℕ × ℕ)) : Type 0 where
   pub to : (z : ℕ × ℕ) → Has pairs z → Has now z
   pub new : Has now p
   pub from : (z : ℕ × ℕ) → Has now z → Has pairs z ⊎ (z ≡ p)
 
--- A candidate's tree was put last on the list of a state, where it had not been listed.
+-- A candidate's tree was appended to the list of a state, if it had not been listed.
 pub record IsListing (x : ListsOf) (u m : ℕ) (pairs : List (ℕ × ℕ)) (y : ListsOf) (now : List (ℕ × ℕ)) : Type 0 where
   pub trees : List (Tree ℕ)
   pub number : ℕ

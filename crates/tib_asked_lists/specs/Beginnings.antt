@@ -13,7 +13,7 @@ use Rattle.tib_asked_lists.specs.Asks.{IsState}
 abbrev pub AreFirstStates : (ℕ → ℕ → ℕ) → ListsOf → List StateOf → Type 0
 AreFirstStates product x states = (q : ℕ) → q < length states → (k : ℕ) → IsState product k x q (get_or states q no_state)
 
--- the first n rules stand with their states
+-- the first n rules are with their states
 pub record AreSomeByState (rules : List (Rule ℕ)) (n : ℕ) (by_state : List (List ℕ)) : Type 0 where
   pub each : (m : ℕ) → m < n → Has (get_or by_state (rule_at rules m).left []) m
   pub only : (q m : ℕ) → Has (get_or by_state q []) m → (m < n) × ((rule_at rules m).left ≡ q)

@@ -1,4 +1,4 @@
--- The causes of faults.
+-- The causes of errors.
 use Rattle.std.specs.Prelude.{ℕ}
 use Rattle.tib_k_best_lists.specs.Best.{HasLarge}
 use Rattle.tib_k_best_lists.specs.ListsOf.{ListsOf}

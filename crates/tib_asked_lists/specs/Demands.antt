@@ -1,5 +1,4 @@
--- Entries that are demanded of states, one behind each list at most, and how many entries there
--- are.
+-- Entries that are demanded of states, at most one after each list, and how many entries there are.
 use Rattle.std.specs.Prelude.{◌≡◌, ◌⊎◌, ℕ, ◌+◌, ◌-◌, ◌≤◌, ◌<◌, List, [], ◌∷◌, ◌++◌, length, sum_by}
 use Rattle.std.proofs.Common.{suc, get_or}
 use Rattle.std.proofs.Math.ListN.{set}
@@ -29,19 +28,19 @@ nodes_of ys = sum_by (λ (y : Costed). size y.0) ys
 abbrev pub last_of : List Costed → Costed
 last_of ys = get_or ys (length ys - 1) no_entry
 
--- how many nodes the entry has behind which another one is demanded
+-- how many nodes the entry has after which another one is demanded
 abbrev pub nodes_at : ListsOf → Demand → ℕ
 nodes_at x d = size (entry_at (entries_of x) d.state (d.many - 1)).0
 
--- those of the entries together that some pairs of states and ranks name
+-- the nodes of the entries that some pairs of states and ranks name, added up
 abbrev pub named_nodes : Entries → List (ℕ × ℕ) → ℕ
 named_nodes entries ps = sum_by (λ (p : ℕ × ℕ). size (entry_at entries p.0 p.1).0) ps
 
--- those of several demands together
+-- the nodes of several demands, added up
 abbrev pub nodes_behind : ListsOf → List Demand → ℕ
 nodes_behind x ds = sum_by (nodes_at x) ds
 
--- The candidate that each state took last is that of its last entry, as far as its size tells.
+-- The candidate that each state took last is that of its last entry, as far as its size shows.
 abbrev pub AreLastListed : ListsOf → AskingOf → Type 0
 AreLastListed x a =
     (q : ℕ) → q < length a.states → ((state_at a q).stage ≡ Whole → ⊥) →
@@ -76,18 +75,18 @@ HoldsBelow P x a d =
     let c = candidate_at x (state_at a d.state).last in
     (i : ℕ) → i < length (states_at x.rules c.rule) → P (demand_below x c.rule (ranks_of x c) i)
 
--- each demand stands before those below it that do not have a property
+-- each demand is before those below it that do not have a property
 abbrev pub AreLed : (Demand → Type 0) → ListsOf → AskingOf → List Demand → Type 0
 AreLed P x a [] = Unit {0}
 AreLed P x a (d ∷ ds) = HoldsBelow (λ e. Has ds e ⊎ P e) x a d × AreLed P x a ds
 
--- rules are as before, and candidates and ranks were put behind the others
+-- rules are as before, and candidates and ranks were appended
 pub record HasMoreRanks (x y : ListsOf) : Type 0 where
   pub rules : y.rules ≡ x.rules
   pub candidates : (more : List Candidate) × (y.candidates ≡ x.candidates ++ more)
   pub ranks : (more : List ℕ) × (y.ranks ≡ x.ranks ++ more)
 
--- a candidate's tree was put last on the list of a state
+-- a candidate's tree was appended to the list of a state
 pub record IsPlaced (x : ListsOf) (u m : ℕ) (y : ListsOf) : Type 0 where
   pub rules : y.rules ≡ x.rules
   pub ranks : y.ranks ≡ x.ranks
@@ -99,11 +98,11 @@ pub record IsPlaced (x : ListsOf) (u m : ℕ) (y : ListsOf) : Type 0 where
       entries_of y u
       ≡ entries_of x u ++ (tree_by x (candidate_at x m).rule (ranks_of x (candidate_at x m)), entry.cost) ∷ []
 
--- or it stood on a list before
+-- or it was on a list before
 abbrev pub IsPlacedOnce : ListsOf → ℕ → ℕ → ListsOf → Type 0
 IsPlacedOnce x u m y = (y.lists ≡ x.lists) ⊎ IsPlaced x u m y
 
--- The state of a demand got one entry more, or has all its trees, and nothing else was listed.
+-- The state of a demand got one more entry, or has all its trees, and nothing else was listed.
 pub record IsOneMore (x : ListsOf) (a : AskingOf) (d : Demand) (y : ListsOf) (b : AskingOf) : Type 0 where
   pub others : (q : ℕ) → (q ≡ d.state → ⊥) → entries_of y q ≡ entries_of x q
   pub here :
@@ -119,10 +118,9 @@ pub record IsOneMore (x : ListsOf) (a : AskingOf) (d : Demand) (y : ListsOf) (b 
   pub more : HasMoreRanks x y
   pub met : IsMet y b d
 
--- While some demands are met, the last first: each entry that was placed belongs to one that was
--- taken off, and that from which they came is among those left, or is met. A state that got no
--- entry keeps what it kept, and each demand that is left stands before those below it that are not
--- met.
+-- While some demands are met, the last first: each entry that was placed belongs to a demand that
+-- was taken off, and `first` is among those left, or is met. A state that got no entry keeps what
+-- it kept, and each demand that is left is before those below it that are not met.
 pub record IsUnderway (x : ListsOf) (a : AskingOf) (first : Demand) (y : ListsOf) (b : AskingOf)
     (left : List Demand) : Type 0 where
   pub unmet : AreUnmet x a left
@@ -138,8 +136,8 @@ pub record IsUnderway (x : ListsOf) (a : AskingOf) (first : Demand) (y : ListsOf
       ⊎ ((e : Costed) × (entries_of y first.state ≡ entries_of x first.state ++ e ∷ []))
   pub met : Has left first ⊎ IsMet y b first
 
--- A demand was met: its state got one entry more, or has all its trees; and all states together got
--- no more entries than the tree has nodes behind which one was demanded.
+-- A demand was met: its state got one more entry, or has all its trees. All states together got at
+-- most as many entries as the tree has nodes after which one was demanded.
 pub record IsRound (x : ListsOf) (first : Demand) (y : ListsOf) (b : AskingOf) : Type 0 where
   pub held : entries_held y ≤ entries_held x + nodes_at x first
   pub here :
@@ -147,8 +145,8 @@ pub record IsRound (x : ListsOf) (first : Demand) (y : ListsOf) (b : AskingOf) :
       ⊎ ((e : Costed) × (entries_of y first.state ≡ entries_of x first.state ++ e ∷ []))
   pub met : IsMet y b first
 
--- There are no more entries than states and nodes of the trees that the start lists; and while it
--- is to get more, the nodes of its last tree are to spare.
+-- There are at most as many entries as states and nodes of the trees that the start lists. While it
+-- is to get more, the nodes of its last tree are still to spare.
 pub record IsWithin (states : ℕ) (x : ListsOf) (a : AskingOf) : Type 0 where
   pub all : entries_held x ≤ states + nodes_of (entries_of x 0)
   pub spare :

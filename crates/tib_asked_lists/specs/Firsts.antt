@@ -1,4 +1,4 @@
--- What is there once the states have got their first trees.
+-- What is there once the states have their first trees.
 use Rattle.std.specs.Prelude.{◌≡◌, ℕ, ◌<◌, ◌≤◌, [], length}
 use Rattle.std.proofs.Common.{get_or}
 use Rattle.tib_cost.specs.Semiring.{most}
@@ -23,8 +23,7 @@ pub record IsFromFirst (x : ListsOf) (q : ℕ) (e : Entry) : Type 0 where
   pub first : ranks_of x (candidate_at x e.candidate) ≡ zeros (states_of (rule_at x.rules (candidate_at x e.candidate).rule))
   pub same : told x.trees e ≡ stands_for x e.candidate
 
--- What is there once the states have got their first trees: each state has one, or has no tree at
--- all.
+-- What is there once the states have their first trees: each state has one, or has no tree at all.
 pub record AreFirsts (product : ℕ → ℕ → ℕ) (x : ListsOf) : Type 0 where
   pub sound : IsSound x
   pub made : (n : ℕ) → n < length x.candidates → IsMade product x n

@@ -32,7 +32,7 @@ pub record IsHeld (product : ℕ → ℕ → ℕ) (x : ListsOf) (heap : List ℕ
   pub is_heap : IsHeap (order_of x) heap
   pub below : (m : ℕ) → Has heap m → m < length x.candidates
 
--- candidates and ranks were put behind the others, and nothing else was changed
+-- candidates and ranks were appended, and nothing else was changed
 pub record AreMoreCandidates (x y : ListsOf) : Type 0 where
   pub same : y ≡ grown x x.trees x.lists y.candidates y.ranks
   pub candidates : (more : List Candidate) × (y.candidates ≡ x.candidates ++ more)
@@ -42,8 +42,8 @@ pub record AreMoreCandidates (x y : ListsOf) : Type 0 where
 abbrev pub room : ListsOf → ℕ
 room x = 2 ^ 32 - length x.candidates
 
--- A rule with ranks was offered to a heap where `When` holds: it is held then, unless it costs more
--- than the greatest cost.
+-- A rule with ranks was offered to a heap if `When` holds. The heap then has it, unless it costs
+-- more than the greatest cost.
 pub record IsOffered (product : ℕ → ℕ → ℕ) (When : Type 0) (x : ListsOf) (n : ℕ) (js heap : List ℕ) (y : ListsOf) (now : List ℕ) : Type 0 where
   pub held : IsHeld product y now
   pub more : AreMoreCandidates x y
@@ -56,7 +56,8 @@ pub record IsOffered (product : ℕ → ℕ → ℕ) (When : Type 0) (x : ListsO
 abbrev pub AreStarted : ListsOf → Type 0
 AreStarted x = (n : ℕ) → n < length x.rules → AreRanks (entries_of x) (states_at x.rules n) (zeros_at x.rules n)
 
--- The first candidates of the first n rules of a list, but of one, were offered to a heap.
+-- The first candidates of the first n rules of a list, except that of one rule, were offered to a
+-- heap.
 pub record AreOpened (product : ℕ → ℕ → ℕ) (x : ListsOf) (rules : List ℕ) (but n : ℕ) (heap : List ℕ) (y : ListsOf) (now : List ℕ) : Type 0 where
   pub held : IsHeld product y now
   pub more : AreMoreCandidates x y
@@ -66,8 +67,8 @@ pub record AreOpened (product : ℕ → ℕ → ℕ) (x : ListsOf) (rules : List
   pub there : (i : ℕ) → i < n → (get_or rules i 0 ≡ but) ⊎
       ((offer product x.rules (entries_of x) (get_or rules i 0) (zeros_at x.rules (get_or rules i 0))).1 ≤ most → Has (tuples y now) (get_or rules i 0, zeros_at x.rules (get_or rules i 0)))
 
--- The candidates with the i-th rank one higher than a candidate's were offered to a heap, for each
--- i from the first to below n, where there is such an entry.
+-- The candidates with the i-th rank of a candidate raised by one were offered to a heap, for each i
+-- from the first to below n, where there is such an entry.
 pub record AreFollowed (product : ℕ → ℕ → ℕ) (x : ListsOf) (c : Candidate) (first n : ℕ) (heap : List ℕ) (y : ListsOf) (now : List ℕ) : Type 0 where
   pub held : IsHeld product y now
   pub more : AreMoreCandidates x y
@@ -77,7 +78,7 @@ pub record AreFollowed (product : ℕ → ℕ → ℕ) (x : ListsOf) (c : Candid
   pub there : (i : ℕ) → first ≤ i → i < n → get_or (ranks_of x c) i 0 + 1 < length (list_of x (get_or (below_of x c) i 0)) →
       (offer product x.rules (entries_of x) c.rule (raise i (ranks_of x c))).1 ≤ most → Has (tuples y now) (c.rule, raise i (ranks_of x c))
 
--- all candidates behind one were offered
+-- all candidates that follow one were offered
 pub record HasFollowers (product : ℕ → ℕ → ℕ) (x : ListsOf) (c : Candidate) (heap : List ℕ) (y : ListsOf) (now : List ℕ) : Type 0 where
   pub first : ℕ
   pub is_last : IsLast (ranks_of x c) first

@@ -15,7 +15,7 @@ use Rattle.tib_asked_lists.specs.Asks.{AreAnswered}
 abbrev pub AreBelow : ℕ → List Question → Type 0
 AreBelow n stack = (q : Question) → Has stack q → q.state < n
 
--- A state is to be asked: it took no candidate since, and its list is neither whole nor full.
+-- A state is to be asked: it took no candidate since, and its list is neither complete nor full.
 pub record IsToAsk (x : ListsOf) (a : AskingOf) (q : Question) : Type 0 where
   pub state : q.state < length a.states
   pub left : (state_at a q.state).stage ≡ Whole → ⊥
@@ -32,8 +32,8 @@ least_size (x ∷ y ∷ ys) = min (size x.0) (least_size (y ∷ ys))
 abbrev pub standing : ListsOf → ℕ → ℕ
 standing x q = length (entries_of x q) * 10001 + least_size (entries_of x q)
 
--- Of the first n states below the last candidate of a state each is answered, or one is the next to
--- be asked.
+-- Of the first n states below the last candidate of a state, each is answered, or one is the next
+-- to be asked.
 abbrev pub IsNextBelow : (ℕ → ℕ → ℕ) → ListsOf → AskingOf → Question → ℕ → Option Question → Type 0
 IsNextBelow product x a above n None = AreAnswered product a.k x (candidate_at x above.last) n
 IsNextBelow product x a above n (Some q) = IsToAsk x a q × (standing x q.state < standing x above.state)

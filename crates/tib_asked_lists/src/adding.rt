@@ -1,4 +1,4 @@
-// Candidates that are made and put into a heap.
+// Makes candidates and puts them into a heap.
 ghost use Rattle.std.specs.Prelude.{◌≡◌, ◌+◌, ◌<◌, ℕ, length, OnOk};
 ghost use Rattle.std.proofs.Common.{get_or};
 ghost use Rattle.tib_grammar.specs.Run.{rule_at};
@@ -12,8 +12,8 @@ use tib_cost::Semiring;
 use tib_k_best_lists::Lists;
 use tib_k_best_lists::heap::push;
 
-// Makes a rule with the ranks from `start` on a candidate and puts it into a heap, unless it costs
-// more than the greatest cost.
+// Makes a candidate of a rule with the ranks from `start` on and puts it into a heap, unless it
+// costs more than the greatest cost.
 fn add<S: Semiring>(
     lists: &mut Lists,
     heap: &mut Vec<u32>,
@@ -50,7 +50,7 @@ pub(crate) fn add_first<S: Semiring>(
     add::<S>(lists, heap, rule, start)
 }
 
-// Offers a heap the candidate whose i-th rank is one higher than that of the ranks from `start` on.
+// Offers a heap the candidate with the ranks from `start` on, but with the i-th one raised by one.
 fn add_raised<S: Semiring>(
     lists: &mut Lists,
     heap: &mut Vec<u32>,
@@ -70,7 +70,7 @@ fn add_raised<S: Semiring>(
     add::<S>(lists, heap, rule, raised)
 }
 
-// Offers a heap the candidate whose i-th rank is one higher, where there is that entry.
+// Offers a heap the candidate with the i-th rank raised by one, if there is that entry.
 pub(crate) fn add_next<S: Semiring>(
     lists: &mut Lists,
     heap: &mut Vec<u32>,

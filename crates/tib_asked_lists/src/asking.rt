@@ -1,7 +1,7 @@
 // What states keep while their lists grow.
 use std::collections::HashSet;
 
-/// How far a state's candidates have come.
+/// How far the candidates of a state have got.
 #[derive(Clone, Copy, Debug)]
 pub(crate) enum Stage {
     /// It has its first tree, and its other rules' candidates are not made yet.
@@ -12,12 +12,12 @@ pub(crate) enum Stage {
     Whole,
 }
 
-/// What a state keeps besides its list.
+/// What a state keeps in addition to its list.
 #[derive(Drop)]
 pub(crate) struct Asked {
-    /// How far it has come.
+    /// How far it has got.
     pub(crate) stage: Stage,
-    /// The candidate that it took last; nothing where its list is whole.
+    /// The candidate that it took last. Not used if its list is complete.
     pub(crate) last: u32,
     /// The candidates that wait, the least first.
     pub(crate) heap: Vec<u32>,

@@ -1,4 +1,4 @@
-// What states keep when they have their first trees.
+// What states keep once they have their first trees.
 ghost use Rattle.std.specs.Prelude.{◌≡◌, ◌+◌, ◌<◌, ◌++◌, ◌∷◌, ℕ, [], length, map, IfOk, OnOk};
 ghost use Rattle.std.specs.HashSet.{keys};
 ghost use Rattle.std.proofs.Common.{get_or};
@@ -16,7 +16,7 @@ use std::collections::HashSet;
 use tib_cost::Semiring;
 use tib_k_best_lists::Lists;
 
-// As many lists without a rule.
+// As many lists as there are states, each without a rule.
 fn no_rules(alloc: Global, states: usize) -> Result<Vec<Vec<u32>>, AllocError>
     ensures none { IfOk result (λ v. (q : ℕ) → get_or (map rules_of v.items) q [] ≡ []) }
     ensures long { IfOk result (λ v. length v.items ≡ states) }
@@ -28,7 +28,7 @@ fn no_rules(alloc: Global, states: usize) -> Result<Vec<Vec<u32>>, AllocError>
     Ok(by_state)
 }
 
-// Puts a rule last among those of a state.
+// Appends a rule to those of a state.
 fn add_rule(by_state: &mut Vec<Vec<u32>>, state: u32, rule: u32) -> Result<(), AllocError>
     requires { state < length by_state.old.items }
     ensures { OnOk result (map rules_of by_state.new.items ≡ set (map rules_of by_state.old.items)
@@ -55,7 +55,7 @@ fn rules_by_state(alloc: Global, lists: &Lists) -> Result<Vec<Vec<u32>>, AllocEr
     Ok(by_state)
 }
 
-// What a state keeps that has its first tree, or none at all.
+// What a state keeps once it has its first tree, or if it has none at all.
 fn first_state<S: Semiring>(alloc: Global, lists: &Lists, state: u32) -> Asked
     requires firsts { AreFirsts S.product lists.now }
     requires state { state < length lists.now.lists }
@@ -93,7 +93,7 @@ fn first_states<S: Semiring>(
     Ok(asked)
 }
 
-// Notes the first tree of a state, where it has one.
+// Notes the first tree of a state, if it has one.
 fn note_first<S: Semiring>(
     lists: &Lists,
     listed: &mut HashSet<(u32, u32)>,
@@ -129,7 +129,7 @@ fn first_listed<S: Semiring>(
 }
 
 impl Asking {
-    // What states keep that have their first trees, where k trees are asked for.
+    // What states keep once they have their first trees, where k trees are asked for.
     pub(crate) fn new<S: Semiring>(
         alloc: Global,
         lists: &Lists,

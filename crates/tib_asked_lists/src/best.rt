@@ -38,14 +38,15 @@ impl Asking {
     }
 }
 
-/// Lets the lists of the states grow, from their first trees on, until that of state 0 is the list
-/// of its k best trees; the others grow only where a tree is asked for. Errors: `TreeTooLarge`,
-/// where a state has a tree of more than 10,000 nodes among its k least, and the next tree of its
-/// list was such a one; and want of memory. After an error the lists are of no use.
+/// Makes the lists of the states grow, from their first trees on, until the list of state 0 has its
+/// k best trees. The other lists grow only where a tree is asked for. `TreeTooLarge` if a state has
+/// a tree of more than 10,000 nodes among its k least, and that was the next tree of its list;
+/// `OutOfMemory` if memory is refused or 32-bit numbers run out. After an error the lists are of no
+/// use.
 ///
-/// A state takes each candidate once, a candidate costs O(log n) comparisons for the n candidates
+/// A state takes each candidate once. A candidate costs O(log n) comparisons for the n candidates
 /// that wait in its state, and one look-up by hash (Huang and Chiang 2005, with trees that are
-/// listed already dropped).
+/// already listed dropped).
 pub fn ask_best<S: Semiring>(alloc: Global, lists: &mut Lists, k: u32) -> Result<(), AskError>
     requires some { 0 < k }
     requires start { 0 < length lists.old.lists }
@@ -67,13 +68,13 @@ pub fn ask_best<S: Semiring>(alloc: Global, lists: &mut Lists, k: u32) -> Result
     }
 }
 
-/// Does what `ask_best` does, under the same faults, over rules in deterministic form, and places
-/// few entries: all states together have no more of them than there are states and nodes of the
+/// Does what `ask_best` does, with the same errors, over rules in deterministic form, and places
+/// few entries: all states together have at most as many as there are states and nodes of the
 /// listed trees of state 0.
 ///
-/// A state that is asked for an entry asks each state below its last tree first, and puts it down
-/// with the entry that it has; so one entry of the start costs no more entries than its last tree
-/// has nodes.
+/// A state that is asked for an entry first asks each state below its last tree, and charges that
+/// to the entry that it has. So one entry of the start costs no more entries than its last tree has
+/// nodes.
 pub fn ask_lazily<S: Semiring>(alloc: Global, lists: &mut Lists, k: u32) -> Result<(), AskError>
     requires some { 0 < k }
     requires start { 0 < length lists.old.lists }

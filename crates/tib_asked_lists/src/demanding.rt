@@ -1,4 +1,4 @@
-// The demands that one for a state's next entry leads to, down its last trees.
+// The demands to which a demand for a state's next entry leads, down its last trees.
 ghost use Rattle.std.specs.Prelude.{◌≡◌, ◌⊎◌, ◌<◌, ◌≤◌, ◌+◌, ℕ, length, IfNone, IfOk, IfSome, OnOk};
 ghost use Rattle.std.proofs.Common.{get_or};
 ghost use Rattle.tib_lex.specs.Lists.{Has};
@@ -17,7 +17,7 @@ use std::alloc::{AllocError, Global};
 use tib_cost::Semiring;
 use tib_k_best_lists::Lists;
 
-/// A state of which one entry more is demanded than these.
+/// A state of which one more entry than these is demanded.
 #[derive(Clone, Copy, Debug)]
 pub(crate) struct Demand {
     /// The state.
@@ -27,7 +27,7 @@ pub(crate) struct Demand {
 }
 
 impl Asking {
-    // The candidate that a state took last, where a demand is not met; none where it is.
+    // The candidate that a state took last, if a demand is not met; none if it is.
     pub(crate) fn unmet<S: Semiring>(&self, lists: &Lists, demand: Demand) -> Option<u32>
         requires kept { IsAsking S.product lists.now (asking_of self.now) }
         requires state { demand.state < length (asking_of self.now).states }
@@ -48,7 +48,7 @@ impl Asking {
         self.last(demand.state)
     }
 
-    // Puts the demand for the entry after the i-th of the ranks from `start` on onto the stack,
+    // Pushes the demand for the entry after the i-th of the ranks from `start` on onto the stack,
     // unless it is met.
     fn push_demand<S: Semiring>(
         &self,
@@ -85,8 +85,8 @@ impl Asking {
         }
     }
 
-    // Puts the demands for the entries after the ranks from `start` on onto the stack that are not
-    // met. They have fewer nodes than the tree that the rule makes.
+    // Pushes the unmet demands for the entries after the ranks from `start` on onto the stack. They
+    // have fewer nodes than the tree that the rule makes.
     fn push_demands<S: Semiring>(
         &self,
         lists: &Lists,
@@ -113,7 +113,7 @@ impl Asking {
         Ok(())
     }
 
-    // Puts the demands to which one leads onto the stack.
+    // Pushes the demands to which one leads onto the stack.
     fn expand<S: Semiring>(
         &self,
         lists: &Lists,
@@ -140,8 +140,8 @@ impl Asking {
         self.push_demands::<S>(lists, stack, rule, start)
     }
 
-    // The demands that one leads to, itself the first, each before those below it. There are no
-    // more of them than the entry has nodes behind which the first one demands another.
+    // The demands to which one leads, with itself first, each before those below it. There are at
+    // most as many as the entry after which the first one demands another has nodes.
     pub(crate) fn demands<S: Semiring>(
         &self,
         alloc: Global,

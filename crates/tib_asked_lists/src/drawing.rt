@@ -13,7 +13,7 @@ use tib_k_best_lists::Lists;
 use tib_k_best_lists::heap::pop;
 
 impl Asked {
-    // Offers the first candidates of a state's rules, where this was not done before.
+    // Offers the first candidates of a state's rules, unless this was done before.
     fn open<S: Semiring>(&mut self, lists: &mut Lists, rules: &[u32]) -> Result<(), AllocError>
         requires held { IsHeld S.product lists.old self.old.heap.items }
         requires last { self.old.last < length lists.old.candidates }
@@ -33,8 +33,8 @@ impl Asked {
         Ok(())
     }
 
-    // Takes the least candidate of a state, after those behind the one that it took last were
-    // offered; where none waits, its list is whole.
+    // Takes the least candidate of a state, after those that follow the one that it took last were
+    // offered. If none waits, its list is complete.
     pub(crate) fn draw<S: Semiring>(
         &mut self,
         lists: &mut Lists,

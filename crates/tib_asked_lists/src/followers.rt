@@ -1,4 +1,4 @@
-// The candidates of a state's rules, and those behind a candidate.
+// The first candidates of a state's rules, and those that follow a candidate.
 ghost use Rattle.std.specs.Prelude.{◌≡◌, ◌<◌, ℕ, length, OnOk};
 ghost use Rattle.std.proofs.Common.{get_or};
 ghost use Rattle.tib_k_best_lists.specs.Held.{candidate_at};
@@ -9,7 +9,7 @@ use std::alloc::AllocError;
 use tib_cost::Semiring;
 use tib_k_best_lists::Lists;
 
-// Offers a heap the first candidates of some rules, but that of one.
+// Offers a heap the first candidates of some rules, except that of one rule.
 pub(crate) fn add_firsts<S: Semiring>(
     lists: &mut Lists,
     heap: &mut Vec<u32>,
@@ -31,8 +31,8 @@ pub(crate) fn add_firsts<S: Semiring>(
     Ok(())
 }
 
-// Offers a heap the candidates behind one: those with a rank one higher, from its last rank that is
-// not 0 on, so that each list of ranks is made once.
+// Offers a heap the candidates that follow one: those with one rank raised by one, from its last
+// rank that is not 0 on. So each list of ranks is made once.
 pub(crate) fn add_followers<S: Semiring>(
     lists: &mut Lists,
     heap: &mut Vec<u32>,

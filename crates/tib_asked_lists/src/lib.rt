@@ -1,5 +1,5 @@
-//! Lists of best trees that grow only where a tree is asked for (Huang and Chiang 2005). It stands
-//! on `tib_k_best_lists`.
+//! Lists of best trees that grow only where a tree is asked for (Huang and Chiang 2005). The crate
+//! uses `tib_k_best_lists`.
 #![tactic(auto)]
 
 mod adding;

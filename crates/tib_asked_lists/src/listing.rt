@@ -1,4 +1,4 @@
-// A candidate's tree, put last on the list of its state.
+// A candidate's tree, appended to the list of its state.
 ghost use Rattle.std.specs.Prelude.{◌≡◌, ◌<◌, false, length, IfOk, IsTrue, OnOk};
 ghost use Rattle.std.specs.HashSet.{keys};
 ghost use Rattle.tib_lex.specs.Lists.{Has};
@@ -23,7 +23,7 @@ pub(crate) fn note(
     Ok(new)
 }
 
-// Puts the tree of a candidate last on the list of a state, unless it stands there.
+// Appends the tree of a candidate to the list of a state, unless it is there.
 pub(crate) fn list(
     alloc: Global,
     lists: &mut Lists,

@@ -6,7 +6,7 @@ ghost use Rattle.tib_asked_lists.specs.declared.asking.Stage.TheVariants.{Whole}
 use crate::asking::{Asking, Stage};
 
 impl Asking {
-    // The candidate that a state took last; none where its list is whole.
+    // The candidate that a state took last; none if its list is complete.
     pub(crate) fn last(&self, state: u32) -> Option<u32>
         requires { state < length (asking_of self.now).states }
         ensures some { IfSome result (λ m. m ≡ (state_at (asking_of self.now) state).last) }

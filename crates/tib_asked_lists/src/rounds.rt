@@ -17,8 +17,8 @@ use tib_cost::Semiring;
 use tib_k_best_lists::Lists;
 
 impl Asking {
-    // Lists the tree of the candidate that a state took. In deterministic form it is new; were it
-    // not, the answer would be want of memory.
+    // Lists the tree of the candidate that a state took. In deterministic form it is new; if it
+    // were not, the error would be `OutOfMemory`.
     fn list_new<S: Semiring>(
         &mut self,
         alloc: Global,
@@ -46,7 +46,7 @@ impl Asking {
         Ok(())
     }
 
-    // Lets a state take its least candidate, and lists its tree.
+    // Makes a state take its least candidate, and lists the candidate's tree.
     fn grow<S: Semiring>(
         &mut self,
         alloc: Global,
@@ -75,7 +75,7 @@ impl Asking {
         }
     }
 
-    // Meets a demand, where those below its state's last candidate are met.
+    // Meets a demand, if those below its state's last candidate are met.
     fn meet<S: Semiring>(
         &mut self,
         alloc: Global,
@@ -134,7 +134,7 @@ impl Asking {
         Ok(())
     }
 
-    // The demand for one entry more of the start; none where its list is whole or full.
+    // The demand for one more entry of the start; none if its list is complete or full.
     fn start_demand<S: Semiring>(&self, lists: &Lists) -> Option<Demand>
         requires kept { IsAsking S.product lists.now (asking_of self.now) }
         requires start { 0 < length (asking_of self.now).states }

@@ -20,7 +20,7 @@ use tib_k_best_lists::Lists;
 const MOST_NODES: u64 = tib_tree::MOST_NODES as u64;
 
 impl Asking {
-    // Lets a state take its least candidate, where the states below its last one were asked.
+    // Makes a state take its least candidate, once the states below its last one were asked.
     pub(crate) fn draw<S: Semiring>(
         &mut self,
         lists: &mut Lists,
@@ -51,7 +51,7 @@ impl Asking {
         Ok(drawn)
     }
 
-    // Lists the tree of the candidate that a state took, where it is new.
+    // Lists the tree of the candidate that a state took, if it is new.
     pub(crate) fn list<S: Semiring>(
         &mut self,
         alloc: Global,
@@ -79,7 +79,7 @@ impl Asking {
         }
     }
 
-    // Lets a state take its least candidate, and lists its tree where it is new.
+    // Makes a state take its least candidate, and lists the candidate's tree if it is new.
     pub(crate) fn advance<S: Semiring>(
         &mut self,
         alloc: Global,

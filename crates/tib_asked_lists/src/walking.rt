@@ -1,4 +1,4 @@
-// A state asked for one tree more, from below.
+// Asks a state for one more tree, from below.
 ghost use Rattle.std.specs.Prelude.{◌≡◌, ◌<◌, ◌≤◌, ◌+◌, length, IfErr, IfNone, IfOk, IfSome, IsTrue, OnOk};
 ghost use Rattle.std.proofs.Common.{get_or};
 ghost use Rattle.tib_k_best_lists.specs.Levels.{IsOrderly, states_at};
@@ -14,7 +14,7 @@ use std::alloc::{AllocError, Global};
 use tib_cost::Semiring;
 use tib_k_best_lists::Lists;
 
-/// A state that is to be asked, with the candidate that it had taken last: where it took another
+/// A state that is to be asked, with the candidate that it had taken last. If it has taken another
 /// one since, it was asked.
 #[derive(Clone, Copy, Debug)]
 pub(crate) struct Question {
@@ -26,7 +26,7 @@ pub(crate) struct Question {
 
 impl Asking {
     // Whether a state is still to be asked: it took no candidate since, and its list is neither
-    // whole nor full.
+    // complete nor full.
     fn is_open<S: Semiring>(&self, lists: &Lists, question: Question) -> bool
         requires kept { IsAsking S.product lists.now (asking_of self.now) }
         requires state { question.state < length (asking_of self.now).states }
@@ -73,8 +73,8 @@ impl Asking {
         Some(Question { state, last })
     }
 
-    // One step of a pass over the states below a candidate: the question for the i-th becomes the
-    // next one, and the one before it, at first that of the candidate's own state, goes onto the
+    // One step of a pass over the states below a candidate. The question for the i-th state becomes
+    // the next one. The one before it, at first that of the candidate's own state, goes onto the
     // stack.
     fn pass_below<S: Semiring>(
         &self,
@@ -106,8 +106,8 @@ impl Asking {
         Ok(Some(question))
     }
 
-    // The last of the states below a state's last candidate that are to be asked; the others go
-    // onto the stack, above the state itself. None where each of them is answered.
+    // The last of the states below a state's last candidate that are to be asked. The others go
+    // onto the stack, above the state itself. None if each of them is answered.
     fn next_below<S: Semiring>(
         &self,
         lists: &Lists,
@@ -155,7 +155,7 @@ impl Asking {
         Ok(question.state)
     }
 
-    // Takes questions from the stack up to one that is still open.
+    // Takes questions off the stack, up to one that is still open.
     fn next_open<S: Semiring>(&self, lists: &Lists, stack: &mut Vec<Question>) -> Option<Question>
         requires kept { IsAsking S.product lists.now (asking_of self.now) }
         requires stack { AreBelow (length (asking_of self.now).states) stack.old.items }
@@ -170,8 +170,8 @@ impl Asking {
         None
     }
 
-    // Lets one state take its least candidate: the first on the way down from one that is to be
-    // asked that may.
+    // Makes one state take its least candidate: the first one, on the way down from one that is to
+    // be asked, that may take one.
     fn take_below<S: Semiring>(
         &mut self,
         alloc: Global,
@@ -198,7 +198,7 @@ impl Asking {
         }
     }
 
-    // The question for a state; none where its list is whole or full.
+    // The question for a state; none if its list is complete or full.
     pub(crate) fn question<S: Semiring>(&self, lists: &Lists, state: u32) -> Option<Question>
         requires kept { IsAsking S.product lists.now (asking_of self.now) }
         requires state { state < length (asking_of self.now).states }
@@ -212,8 +212,8 @@ impl Asking {
         Some(Question { state, last })
     }
 
-    // Asks a state for one tree more. Where the tree that it takes is listed already, its list
-    // stays as it is.
+    // Asks a state for one more tree. If the tree that it takes is already listed, its list stays
+    // as it is.
     pub(crate) fn ask<S: Semiring>(
         &mut self,
         alloc: Global,

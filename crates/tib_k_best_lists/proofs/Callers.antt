@@ -26,7 +26,7 @@ roots_added n before now label children b h (inr new) =
     first : (f g : ℕ) (ms ns : List ℕ) → f ∷ ms ≡ g ∷ ns → f ≡ g
     first f g ms ns e = cc
 
--- a tree whose size is told as a small number has this size
+-- a tree whose stored size is a small number has this size
 pub told_small : (t : Tree ℕ) → told_size t ≤ most_nodes → size t ≡ told_size t
 told_small t h = omega (arith, h)
 

@@ -23,7 +23,7 @@ use Rattle.tib_k_best_lists.proofs.Numbers.{one_tree, named}
 
 -- numbers
 
--- sizes compare as they are told, where one is less than the greatest
+-- sizes compare as stored, where one is less than the greatest
 sizes_told : (a b : ℕ) → (suc a < most_size) ⊎ (suc b < most_size) → nat_cmp (min (suc a) most_size) (min (suc b) most_size) ≡ nat_cmp a b
 sizes_told a b h = elim (three_ways a b) [
   | inl l ↦

@@ -41,7 +41,7 @@ no_smaller a b o e = by (three a b)
     by (inl h) = h
     by (inr h) = let g : nat_cmp a b ≡ Greater = sym (nat_cmp_is a b Greater h) in absurd (cc (rw g at e))
 
--- what stands after the first difference does not matter
+-- what is after the first difference does not matter
 first_less : (a b c d x y : Ordering) → ordering_then a (ordering_then b (ordering_then c (ordering_then d x))) ≡ Less → x ≡ Equal → ordering_then a (ordering_then b (ordering_then c (ordering_then d y))) ≡ Less
 first_less Less b c d x y e k = refl
 first_less Equal Less c d x y e k = refl

@@ -1,4 +1,4 @@
--- What stays as it is while trees, entries, candidates and ranks are put behind others.
+-- What stays as it is while trees, entries, candidates and ranks are appended.
 use Rattle.std.specs.Prelude.{◌≡◌, ℕ, ◌<◌, List, [], ◌∷◌, ◌++◌, length, map, take, drop, false, refl}
 use Rattle.std.proofs.Common.{zero, suc, arith, ap, sym, ◌∙◌, subst, inl, inr, get_or, length-append}
 use Rattle.tib_lex.specs.Lists.{Has}

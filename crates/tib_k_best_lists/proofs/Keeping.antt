@@ -76,7 +76,7 @@ module _ (product : ℕ → ℕ → ℕ) (rules : List (Rule ℕ)) (k : ℕ) (be
   ]
 
   module _ (asked_for taken held : List (ℕ × List ℕ)) (u : ℕ) (kept : IsKept product rules k before asked_for taken held u) where
-    -- an entry behind a rank that was asked for was there before
+    -- an entry after a rank that was asked for was there before
     was_there : (p j : ℕ) → (suc j < length (before p)) ⊎ (IsWhole product rules before p ⊎ (k ≤ length (before p))) → suc j < length (now p) → suc j < length (before p)
     was_there p j (inl h) l = h
     was_there p j (inr end) l = elim (same_or p q) [

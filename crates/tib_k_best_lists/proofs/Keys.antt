@@ -24,7 +24,7 @@ not_found shape (k ∷ ks) h =
     found_or shape k ks (pointwise nat_eq shape k.items) refl h
     (not_found shape ks (λ w. h (suc w.0, omega (arith, w.1), w.2)))
 
--- such a shape goes behind the others
+-- such a shape goes after the others
 pub new_shape :
     (before : List (List ℕ)) (shape : List ℕ) (keys now : List (Vec ℕ)) (k : Vec ℕ) →
     map (λ v. v.items) keys ≡ before → k.items ≡ shape → (Contains before shape → ⊥) →

@@ -1,4 +1,4 @@
--- A large tree among the k least stands in their list.
+-- A large tree among the k least is in their list.
 use Rattle.std.specs.Prelude.{◌≡◌, ℕ, ◌≤◌, Some, List, [], ◌∷◌, length}
 use Rattle.std.proofs.Common.{arith, ap, sym, ◌∙◌, subst, inl, inr}
 use Rattle.tib_lex.specs.Lists.{Has, Each, Ascends}

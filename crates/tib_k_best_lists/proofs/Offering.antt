@@ -53,7 +53,7 @@ module _ {levelled weighted : Bool} {product : ℕ → ℕ → ℕ} (laws : Prod
       let s : t ≡ total_from product entries qs js (suc i) = f ∙ ap (total_from product entries qs js) {x = i + 1} {y = suc i} (omega arith) in
       rw (picked_at entries qs js i ranks h, e, s)
 
-  -- what the entries from a place on cost is no more than all
+  -- the cost of the entries from a place on is no more than that of all
   pub total_front : (i : ℕ) → i ≤ length qs → total_from product entries qs js i ≤ total_from product entries qs js 0
   total_front zero h = omega arith
   total_front (suc i) h =

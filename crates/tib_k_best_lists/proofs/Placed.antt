@@ -82,7 +82,7 @@ sorted_by_texts labels {g = g} {f = f} xs up h =
     up (λ x y. is_lt (text_cmp labels x y)) (ranks_by nat_list_cmp_total (text_at labels))
     (always_returns_same g (λ a r. is_lt r ≡ is_lt (text_cmp labels a.0.now a.1.0.now)) f (λ a r q k. (ap is_lt (h a r q k).0, (h a r q k).1)))
 
--- each label that stands before a place has the number of a place where it stands
+-- each label before a place has the number of a place where the label is
 pub record ArePlaced (order ranks : List ℕ) (n place : ℕ) : Type 0 where
   pub long : length ranks ≡ n
   pub placed :
@@ -137,7 +137,7 @@ not_less a Greater e h n = let less : a ≡ Less = e in absurd (cc (rw less at h
 turned_less : (a b : Ordering) → a ≡ ordering_reverse b → b ≡ Less → a ≡ Greater
 turned_less a b e k = e ∙ ap ordering_reverse k
 
--- where all labels are placed, each stands at its place
+-- where all labels are placed, each is at its place
 placed_at :
     (n : ℕ) (order ranks : List ℕ) → AreLabelsBelow n order → ArePlaced order ranks n (length order) → (f : ℕ) → f < n →
     (get_or ranks f 0 < length order) × (get_or order (get_or ranks f 0) 0 ≡ f)

@@ -46,7 +46,7 @@ stack_below k stack rest now n children b e low is m h =
       | inr r ↦ b m (subst (λ ns. Has ns m) (sym (ap back e ∙ back_more rest n)) (inr r))
     ]
 
--- What is listed of a tree's nodes, and the nodes of the trees on the stack behind it, are the
+-- What is listed of a tree's nodes, and the nodes of the trees on the stack after it, are the
 -- tree's.
 pub record Remains (shapes : List (List ℕ)) (t : Tree ℕ) (stack : List ℕ) (nodes : List (ℕ × ℕ)) : Type 0 where
   pub trees : Trees ℕ

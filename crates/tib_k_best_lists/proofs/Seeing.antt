@@ -113,7 +113,7 @@ module _ (shapes : List (List ℕ)) (are : AreShapes shapes) where
       let z : 0 + n ≡ n = omega arith in
       ap (tree_at (seen shapes)) (sym z) ∙ at_from [] shapes n (f ∷ ms) e (λ m h. omega (arith, are.low n f ms e m h))
 
-  -- what numbers name is what stands in the list
+  -- what numbers name is what is in the list
   pub named : (ns : List ℕ) (ts : Trees ℕ) → AreNamed shapes ns ts → row (seen shapes) ns ≡ ts
   named [] none a = refl
   named [] (tree f kids rest) a = absurd a

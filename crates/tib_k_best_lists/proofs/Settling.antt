@@ -14,7 +14,7 @@ use Rattle.tib_k_best_lists.proofs.Fronts.{not_itself}
 use Rattle.tib_k_best_lists.proofs.Ranks.{cheaper_strict}
 use Rattle.tib_k_best_lists.proofs.Telling.{AreApart, tree_same}
 
--- one tree of a row is told by the whole row
+-- the whole row determines each tree of it
 row_tells : (fs bs : List (Tree ℕ × ℕ)) (x y : Tree ℕ × ℕ) → trees_of (fs ++ x ∷ bs) ≡ trees_of (fs ++ y ∷ bs) → x.0 ≡ y.0
 row_tells [] bs x y e =
     let f : x.0.label ≡ y.0.label = cc in

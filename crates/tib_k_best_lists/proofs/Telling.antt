@@ -1,4 +1,4 @@
--- Which trees stand in a list, and how many.
+-- Which trees are in a list, and how many.
 use Rattle.std.specs.Prelude.{◌≡◌, ℕ, ◌≤◌, ◌⊎◌, List, [], ◌∷◌, length, refl}
 use Rattle.std.proofs.Common.{suc, arith, ap, sym, ◌∙◌, inl, inr}
 use Rattle.tib_lex.specs.Lists.{Has, Each}
@@ -37,7 +37,7 @@ tree_two s t = elim (nat_two s.label t.label) [
   ]
 ]
 
--- whether a tree stands in a list
+-- whether a tree is in a list
 pub has_tree_or : (xs : List (Tree ℕ × ℕ)) (t : Tree ℕ) → HasTree xs t ⊎ (HasTree xs t → ⊥)
 has_tree_or [] t = inr (λ h. h.1)
 has_tree_or (x ∷ xs) t = elim (tree_two x.0 t) [
@@ -84,7 +84,7 @@ abbrev pub AreApart : {A : Type 0} → (A → Tree ℕ) → List A → Type 0
 AreApart f [] = Unit {0}
 AreApart f (x ∷ xs) = Each (λ y. f x ≡ f y → ⊥) xs × AreApart f xs
 
--- as many trees as members stand in a list that has a different tree for each
+-- as many trees as members are in a list that has a different tree for each
 pub no_fewer : {A : Type 0} (f : A → Tree ℕ) (xs : List A) (ys : List (Tree ℕ × ℕ)) → AreApart f xs → Each (λ x. HasTree ys (f x)) xs → length xs ≤ length ys
 no_fewer f [] ys a e = omega arith
 no_fewer f (x ∷ xs) ys a e =

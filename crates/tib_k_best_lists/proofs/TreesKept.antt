@@ -69,7 +69,7 @@ module _ (shapes : List (List ℕ)) (sizes_of : List ℕ) (kept : AreKept shapes
       let kids = names (children_at shapes n) (λ m j. omega (arith, low m j)) in
       (record { label = label_at shapes n; kids = kids.0 }, ((children_at shapes n, at, kids.1), tt))
 
-  -- the sizes that are told, added up, tell the size of the trees side by side
+  -- the stored sizes, added up, give the size of the row of trees
   sum_named :
       (ns : List ℕ) (ts : Trees ℕ) → AreNamed shapes ns ts → (a : ℕ) →
       min (a + total (λ m. get_or sizes_of m 0) ns) most_size ≡ min (a + sizes ts) most_size
@@ -81,7 +81,7 @@ module _ (shapes : List (List ℕ)) (sizes_of : List ℕ) (kept : AreKept shapes
       let more = sum_named ns rest h.1 (a + get_or sizes_of n 0) in
       omega (arith, one, more)
 
--- what stands in a list with one more at its end
+-- what is in a list with one more at its end
 pub at_end :
     (xs : List (List ℕ)) (x t : List ℕ) (n : ℕ) → slice_get (xs ++ x ∷ []) n ≡ Some t →
     ((slice_get xs n ≡ Some t) × (n < length xs)) ⊎ ((n ≡ length xs) × (t ≡ x))
@@ -171,7 +171,7 @@ kept_new shapes now sizes_of more label children shape size kept below told is e
     (subst (λ l. AreKept (shapes ++ (label ∷ children) ∷ []) l) (sym k)
     (kept_added shapes sizes_of kept label children size below told))
 
--- it stands last
+-- it is last
 pub last_shape :
     (shapes now : List (List ℕ)) (shape s : List ℕ) (n : ℕ) → n ≡ length shapes → s ≡ shape →
     now ≡ shapes ++ s ∷ [] → slice_get now n ≡ Some shape
@@ -192,7 +192,7 @@ pub shape_names :
 shape_names before now n label children g at kids a =
     ((children, at, grown before now g children kids a), tt)
 
--- What stands at a number, read in a list that is the shapes.
+-- What is at a number, read in a list that is the shapes.
 module _ (shapes self : List (List ℕ)) (sizes_of : List ℕ) (kept : AreKept shapes sizes_of) (same : shapes ≡ self) where
   pub shape_rooted :
       (n : ℕ) (s : List ℕ) → n < length self → slice_get self n ≡ Some s →

@@ -18,7 +18,7 @@ use Rattle.tib_k_best_lists.proofs.FrontsGrowing.{grows_along}
 abbrev pub AreLower : List ℕ → List ℕ → Type 0
 AreLower is js = Along (λ i j. i ≤ j) is js
 
--- of two members of an ascending list the one that stands first comes first
+-- of two members of an ascending list the one that is first comes first
 pub ascends_at : {A : Type 0} (Before : A → A → Type 0) (d : A) (xs : List A) → Ascends Before xs → (i j : ℕ) → i < j → j < length xs → Before (get_or xs i d) (get_or xs j d)
 ascends_at Before d [] a i j h k = absurd (omega arith)
 ascends_at Before d (x ∷ xs) a i zero h k = absurd (omega arith)

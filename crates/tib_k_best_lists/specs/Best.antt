@@ -27,7 +27,7 @@ Cheaper labels a b = (a.1 < b.1) ⊎ ((a.1 ≡ b.1) × (tree_cmp_by labels a.0 b
 abbrev pub IsTreeAt : (ℕ → ℕ → ℕ) → List (Rule ℕ) → ℕ → Costed → Type 0
 IsTreeAt product rules q a = IsSeriesAt product rules q a.0 (Some a.1)
 
--- the first k trees of a state; a front of its trees; and the next tree behind a front
+-- the first k trees of a state; a front of its trees; and the next tree after a front
 abbrev pub IsFirstAt : (ℕ → ℕ → ℕ) → List (List ℕ) → List (Rule ℕ) → ℕ → ℕ → List Costed → Type 0
 IsFirstAt product labels rules q k xs = IsFirst (IsTreeAt product rules q) (Cheaper labels) k xs
 
@@ -49,8 +49,8 @@ OneKBest product =
     AreLabelled (length labels) rules → (k : ℕ) (xs ys : List Costed) →
     IsKBest product rules labels k xs → IsKBest product rules labels k ys → xs ≡ ys
 
--- The order of trees with costs is strict, and of two trees that a grammar gives a cost one comes
--- before the other or they are the same.
+-- The order of trees with costs is strict. Of two trees to which a grammar gives a cost, one comes
+-- before the other, or they are the same.
 pub record AreRanked (product : ℕ → ℕ → ℕ) : Type 0 where
   pub strict : (labels : List (List ℕ)) → IsStrict (Cheaper labels)
   pub total :
@@ -59,12 +59,12 @@ pub record AreRanked (product : ℕ → ℕ → ℕ) : Type 0 where
       IsTreeAt product rules p a → IsTreeAt product rules q b →
       Cheaper labels a b ⊎ ((a ≡ b) ⊎ Cheaper labels b a)
 
--- the same order, with three answers
+-- the same order, as a three-way comparison
 abbrev pub costed_cmp : List (List ℕ) → Costed → Costed → Ordering
 costed_cmp labels a b = ordering_then (nat_cmp a.1 b.1) (tree_cmp_by labels a.0 b.0)
 
--- It is total on all trees with costs, tells what comes before what, and of trees whose labels are
--- in the table only a tree itself is equal to it.
+-- It is total on all trees with costs and agrees with what comes before what. Of trees whose labels
+-- are in the table, only the tree itself is equal to it.
 pub record CostsAreOrdered : Type 0 where
   pub total : (labels : List (List ℕ)) → IsTotalOrder (costed_cmp labels)
   pub less :
@@ -94,8 +94,8 @@ pub record FrontsGrow (product : ℕ → ℕ → ℕ) : Type 0 where
       ((y : Costed) → IsTreeAt product rules 0 y → (Has xs y → ⊥) → ⊥) →
       IsKBest product rules labels k xs
 
--- A state has among its k least trees one of more than 10,000 nodes: a front of its trees that is
--- shorter than k, behind which this one is next.
+-- A state has among its k least trees one of more than 10,000 nodes: it comes next after a front of
+-- its trees that is shorter than k.
 pub record HasLarge (product : ℕ → ℕ → ℕ) (labels : List (List ℕ)) (rules : List (Rule ℕ))
     (k q : ℕ) : Type 0 where
   pub front : List Costed
@@ -105,7 +105,7 @@ pub record HasLarge (product : ℕ → ℕ → ℕ) (labels : List (List ℕ)) (
   pub next : IsNextAt product labels rules q front tree
   pub large : most_nodes < size tree.0
 
--- such a tree stands in every list of the k least trees of the state
+-- such a tree is in every list of the k least trees of the state
 abbrev pub LargeIsListed : (ℕ → ℕ → ℕ) → Type 0
 LargeIsListed product =
     (labels : List (List ℕ)) (rules : List (Rule ℕ)) (k q : ℕ) (xs : List Costed) →

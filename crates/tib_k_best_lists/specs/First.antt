@@ -11,7 +11,7 @@ pub record IsStrict {A : Type 0} (Before : A → A → Type 0) : Type 0 where
 abbrev pub NoLater : {A : Type 0} → (A → A → Type 0) → A → A → Type 0
 NoLater Before x y = (x ≡ y) ⊎ Before x y
 
--- The list is the first k members of a set, or all where there are fewer.
+-- The list is the first k members of a set, or all if there are fewer.
 pub record IsFirst {A : Type 0} (Member : A → Type 0) (Before : A → A → Type 0) (k : ℕ)
     (xs : List A) : Type 0 where
   pub members : Each Member xs
@@ -26,7 +26,7 @@ pub record IsFront {A : Type 0} (Member : A → Type 0) (Before : A → A → Ty
   pub ascends : Ascends Before xs
   pub others : (y : A) → Member y → (Has xs y → ⊥) → Each (λ x. Before x y) xs
 
--- c is the first member that does not stand in the list
+-- c is the first member that is not in the list
 pub record IsNext {A : Type 0} (Member : A → Type 0) (Before : A → A → Type 0) (xs : List A)
     (c : A) : Type 0 where
   pub member : Member c

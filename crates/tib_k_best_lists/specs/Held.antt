@@ -73,9 +73,9 @@ tuple_of x n = ((candidate_at x n).rule, ranks_of x (candidate_at x n))
 abbrev pub stands_for : ListsOf → ℕ → Tree ℕ × ℕ
 stands_for x n = (tree_by x (candidate_at x n).rule (ranks_of x (candidate_at x n)), (candidate_at x n).cost)
 
--- Rules in normal form, whose states have lists and whose labels have places in order; and the
--- trees of the lists are there, each over these labels and of at most 10,000 nodes; each list has
--- fewer than 2^32.
+-- Rules in normal form, whose states have lists and whose labels have places in order. The trees of
+-- the lists are there, each over these labels and of at most 10,000 nodes. Each list has fewer than
+-- 2^32.
 pub record IsSound (x : ListsOf) : Type 0 where
   pub normal : AreNormal x.rules
   pub range : AreInRange (length x.lists) x.rules
@@ -92,12 +92,12 @@ pub record IsTuple (x : ListsOf) (n : ℕ) (js : List ℕ) : Type 0 where
   pub rule : n < length x.rules
   pub ranks : AreRanks (entries_of x) (states_of (rule_at x.rules n)) js
 
--- a candidate names entries, and tells how many nodes its tree has
+-- a candidate names entries, and says how many nodes its tree has
 pub record IsCandidate (x : ListsOf) (c : Candidate) : Type 0 where
   pub tuple : IsTuple x c.rule (ranks_of x c)
   pub size : c.size ≡ size (tree_by x c.rule (ranks_of x c))
 
--- it tells what its tree costs
+-- it says what its tree costs
 abbrev pub IsPriced : (ℕ → ℕ → ℕ) → ListsOf → Candidate → Type 0
 IsPriced product x c = (offer product x.rules (entries_of x) c.rule (ranks_of x c)).1 ≡ c.cost
 
@@ -114,7 +114,7 @@ with_entry x q e = record x { lists = set x.lists q (list_of x q ++ e ∷ []) }
 abbrev pub with_trees : ListsOf → List (Tree ℕ) → ListsOf
 with_trees x ts = record x { trees = ts }
 
--- the i-th number one higher
+-- the i-th number raised by one
 abbrev pub raise : ℕ → List ℕ → List ℕ
 raise i [] = []
 raise zero (j ∷ js) = suc j ∷ js
@@ -143,7 +143,7 @@ pub record HasNumber (x : ListsOf) (t : Tree ℕ) (n : ℕ) (y : ListsOf) : Type
   pub only : (m : ℕ) → m < length y.trees → (m < length x.trees) ⊎ (tree_at y.trees m ≡ tree_at y.trees n)
   pub rest : y ≡ with_trees x y.trees
 
--- all numbers behind i are 0, and the i-th is not unless i is 0
+-- all numbers after i are 0, and the i-th is not unless i is 0
 pub record IsLast (js : List ℕ) (i : ℕ) : Type 0 where
   pub zeros : (k : ℕ) → i < k → k < length js → get_or js k 0 ≡ 0
   pub other : (i ≡ 0) ⊎ (get_or js i 0 ≡ 0 → ⊥)

@@ -4,7 +4,7 @@ use Rattle.std.proofs.Common.{get_or}
 use Rattle.tib_tree.specs.Trees.{Tree}
 use Rattle.tib_k_best_lists.specs.Numbers.{IsNamed, NumbersBelow, told_size}
 
--- Each shape has a label, and children that were kept before it; and each tree's size is told.
+-- Each shape has a label, and children that were kept before it; and each tree's size is stored.
 pub record AreKept (shapes : List (List ℕ)) (sizes : List ℕ) : Type 0 where
   pub rooted : (n : ℕ) → slice_get shapes n ≡ Some [] → ⊥
   pub low : (n f : ℕ) (ms : List ℕ) → slice_get shapes n ≡ Some (f ∷ ms) → NumbersBelow n ms

@@ -19,8 +19,8 @@ IsWhole product rules entries q =
     (y : Costed) → IsTreeAt product rules q y → (Has (entries q) y → ⊥) → ⊥
 
 -- What a state keeps while lists grow. Its candidates are those that it took (`taken`) and those
--- that wait (`held`). Behind a candidate of `asked_for` the states below were asked for their
--- next trees; mostly these are all that were taken but the last.
+-- that wait (`held`). After a candidate of `asked_for` was taken, the states below were asked for
+-- their next trees; usually `asked_for` has all that were taken but the last.
 pub record IsKept (product : ℕ → ℕ → ℕ) (rules : List (Rule ℕ)) (k : ℕ) (entries : Entries)
     (asked_for taken held : List Candidate) (u : ℕ) : Type 0 where
   -- each state below a rule of u has its first tree
@@ -32,8 +32,8 @@ pub record IsKept (product : ℕ → ℕ → ℕ) (rules : List (Rule ℕ)) (k :
       (n : ℕ) → n < length rules → (rule_at rules n).left ≡ u →
       (offer product rules entries n (zeros_at rules n)).1 ≤ most →
       IsKnown taken held n (zeros_at rules n)
-  -- behind a candidate, those with a rank one higher, behind which all ranks are 0, are known
-  -- where there is such an entry
+  -- after a candidate, those with one rank raised by one, and only 0 after it, are known where
+  -- there is such an entry
   pub followed :
       (n : ℕ) → n < length rules → (rule_at rules n).left ≡ u →
       (front qs : List ℕ) (q j : ℕ) (back : List ℕ) → states_at rules n ≡ qs ++ q ∷ back →
@@ -41,7 +41,7 @@ pub record IsKept (product : ℕ → ℕ → ℕ) (rules : List (Rule ℕ)) (k :
       Has asked_for (n, front ++ j ∷ zeros back) → suc j < length (entries q) →
       (offer product rules entries n (front ++ suc j ∷ zeros back)).1 ≤ most →
       IsKnown taken held n (front ++ suc j ∷ zeros back)
-  -- and there is such an entry, or the list below is whole or full
+  -- and there is such an entry, or the list below is complete or full
   pub asked :
       (n : ℕ) → n < length rules → (rule_at rules n).left ≡ u →
       (front qs : List ℕ) (q j : ℕ) (back : List ℕ) → states_at rules n ≡ qs ++ q ∷ back →
@@ -62,8 +62,8 @@ pub record IsKept (product : ℕ → ℕ → ℕ) (rules : List (Rule ℕ)) (k :
       (n < length rules) × ((rule_at rules n).left ≡ u) × AreRanks entries (states_at rules n) js
       × ((offer product rules entries n js).1 ≤ most)
 
--- A state is ready to give its next tree: the list of each state is a front of its trees, and
--- behind each candidate that it took the states below were asked.
+-- A state is ready to give its next tree: the list of each state is a front of its trees, and for
+-- each candidate that it took the states below were asked.
 pub record IsReady (product : ℕ → ℕ → ℕ) (labels : List (List ℕ)) (rules : List (Rule ℕ)) (k : ℕ)
     (entries : Entries) (taken held : List Candidate) (u : ℕ) : Type 0 where
   pub fronts : AreFronts product labels rules entries
@@ -78,7 +78,7 @@ pub record IsGrown (product : ℕ → ℕ → ℕ) (rules : List (Rule ℕ)) (k 
   pub new : Has (before q) e → ⊥
   pub few : length (before q) < k
 
--- what is known behind the last candidate that was taken
+-- what is known after the last candidate that was taken
 pub record IsAsked (product : ℕ → ℕ → ℕ) (rules : List (Rule ℕ)) (k : ℕ) (entries : Entries)
     (taken held : List Candidate) (last : Candidate) : Type 0 where
   pub followed :
@@ -132,8 +132,8 @@ pub record AskingKeeps (product : ℕ → ℕ → ℕ) : Type 0 where
       HasTree (entries u) (offer product rules entries x.0 x.1).0 →
       IsKept product rules k entries taken (x ∷ taken) rest u
 
--- The least candidate of a state that is ready is its next tree, where the list lacks it and is
--- not full; and where none waits, the list is whole.
+-- The least candidate of a state that is ready is its next tree, if the list lacks it and is not
+-- full. If none waits, the list is complete.
 pub record AskingListsBest (product : ℕ → ℕ → ℕ) : Type 0 where
   pub next :
       (labels : List (List ℕ)) (rules : List (Rule ℕ)) (k : ℕ) (entries : Entries)
@@ -165,7 +165,7 @@ pub record IsFrom (product : ℕ → ℕ → ℕ) (rules : List (Rule ℕ)) (ent
   pub named : IsNamed rules entries rule ranks
   pub same : (offer product rules entries rule ranks).0 ≡ t
 
--- In deterministic form two candidates stand for different trees; so where listed trees came from
+-- In deterministic form two candidates stand for different trees. So if listed trees came from
 -- candidates that were taken, and no candidate that waits was taken, its tree is not listed.
 pub record NoDuplicates (product : ℕ → ℕ → ℕ) : Type 0 where
   pub apart :

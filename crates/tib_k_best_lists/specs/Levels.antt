@@ -15,13 +15,13 @@ free r = record { left = r.left; right = r.right; cost = 0 }
 abbrev pub level : ℕ → List (Rule ℕ) → List (Rule ℕ)
 level c rules = map free (filter (λ s. nat_le s.cost c) rules)
 
--- Where the product is the greater cost, there is a level for each rule's cost; elsewhere the
--- grammar is its one level.
+-- If the product is the greater cost, there is a level for each rule's cost; otherwise the grammar
+-- is its one level.
 abbrev pub IsLevel : Bool → List (Rule ℕ) → List (Rule ℕ) → Type 0
 IsLevel true rules one = (r : Rule ℕ) × Has rules r × (one ≡ level r.cost rules)
 IsLevel false rules one = one ≡ rules
 
--- the product is strict, or every rule is free
+-- the product is strict, or every rule costs nothing
 abbrev pub IsOrderly : (ℕ → ℕ → ℕ) → List (Rule ℕ) → Type 0
 IsOrderly product rules =
     ((a b c : ℕ) → b < c → product a b < product a c)
@@ -32,7 +32,7 @@ abbrev pub root_of : Symbol ℕ ℕ → ℕ
 root_of (label f) = f
 root_of (hole p) = 0
 
--- the trees side by side, and the product of their costs
+-- the trees of a row, and the product of their costs
 abbrev pub trees_of : List Costed → Trees ℕ
 trees_of [] = none
 trees_of (z ∷ zs) = tree z.0.label z.0.kids (trees_of zs)
@@ -56,7 +56,7 @@ states_of r = holes r.right.kids
 abbrev pub states_at : List (Rule ℕ) → ℕ → List ℕ
 states_at rules n = states_of (rule_at rules n)
 
--- One rule's tree comes earlier where one child does, and never earlier than a child.
+-- One rule's tree comes earlier if one child does, and never earlier than a child.
 pub record GrowsAlongRules (product : ℕ → ℕ → ℕ) : Type 0 where
   pub grows :
       (labels : List (List ℕ)) (r : Rule ℕ) (front back : List Costed) (x z : Costed) →

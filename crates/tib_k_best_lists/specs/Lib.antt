@@ -3,7 +3,7 @@ pub mod Seen
 pub mod ListsOf
 pub mod Held
 pub mod Ordered
--- The definitions of lists of best trees, and what holds of them.
+-- The definitions of lists of best trees, and what holds for them.
 pub mod First
 pub mod Best
 pub mod Levels

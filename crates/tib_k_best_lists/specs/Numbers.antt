@@ -38,7 +38,7 @@ label_at shapes n = label_of (get_or shapes n [])
 abbrev pub children_at : List (List ℕ) → ℕ → List ℕ
 children_at shapes n = children_of (get_or shapes n [])
 
--- the greatest size that is told
+-- the greatest size that is stored
 abbrev pub most_size : ℕ
 most_size = 4294967295
 
@@ -76,8 +76,8 @@ pub record IsDecided (shapes labels : List (List ℕ)) (ks ls : List ℕ) (i : �
       trees_cmp (slice_cmp nat_cmp) (relabel (text_at labels) ts) (relabel (text_at labels) us)
       ≡ tree_cmp_by labels left right
 
--- A number names one tree, and where no shape stands twice a tree has one number; so two rows of
--- trees compare as the first two whose numbers differ.
+-- A number names one tree, and if no shape is there twice, a tree has one number. So two rows of
+-- trees compare as the first two trees whose numbers differ.
 pub record NumbersNameTrees : Type 0 where
   pub one_tree :
       (shapes : List (List ℕ)) (ns : List ℕ) (ts us : Trees ℕ) →

@@ -21,7 +21,7 @@ abbrev pub roots_cmp : List (List ℕ) → Tree ℕ → Tree ℕ → Ordering
 roots_cmp labels s t =
     ordering_then (nat_cmp (size s) (size t)) (ordering_then (slice_cmp nat_cmp (text_at labels s.label) (text_at labels t.label)) (nat_cmp (count s.kids) (count t.kids)))
 
--- the order of trees side by side
+-- the order of rows of trees
 abbrev pub kids_cmp : List (List ℕ) → Trees ℕ → Trees ℕ → Ordering
 kids_cmp labels ts us = trees_cmp (slice_cmp nat_cmp) (relabel (text_at labels) ts) (relabel (text_at labels) us)
 

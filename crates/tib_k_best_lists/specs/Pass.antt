@@ -59,7 +59,7 @@ abbrev pub offer : (ℕ → ℕ → ℕ) → List (Rule ℕ) → Entries → ℕ
 offer product rules entries n js =
     made product (rule_at rules n) (picked entries (states_at rules n) js)
 
--- a tree stands in a list, at some cost
+-- a tree is in a list, at some cost
 abbrev pub HasTree : List Costed → Tree ℕ → Type 0
 HasTree xs t = (c : ℕ) × Has xs (t, c)
 
@@ -77,8 +77,8 @@ pub record IsPass (product : ℕ → ℕ → ℕ) (labels : List (List ℕ)) (ru
       (n : ℕ) → n < length rules → AreRanks entries (states_at rules n) (zeros_at rules n) →
       (offer product rules entries n (zeros_at rules n)).1 ≤ most →
       IsKnown taken held n (zeros_at rules n)
-  -- after a candidate that was taken, those with a rank one higher, behind which all ranks are 0,
-  -- are known as soon as there is such an entry
+  -- after a candidate that was taken, those with one rank raised by one, and only 0 after it, are
+  -- known as soon as there is such an entry
   pub followed :
       (n : ℕ) → n < length rules → (front qs : List ℕ) (q j : ℕ) (back : List ℕ) →
       states_at rules n ≡ qs ++ q ∷ back → length front ≡ length qs →
@@ -105,8 +105,8 @@ pub record IsLeastHeld (product : ℕ → ℕ → ℕ) (labels : List (List ℕ)
       NoLater (Cheaper labels) (offer product rules entries n js)
       (offer product rules entries m is)
 
--- What the pass takes is the next tree of its state, where the list of the state lacks it and is
--- not full; and where no candidate waits, each list that is not full has all trees of its state.
+-- What the pass takes is the next tree of its state, if the list of the state lacks it and is not
+-- full. If no candidate waits, each list that is not full has all trees of its state.
 pub record PassListsBest (product : ℕ → ℕ → ℕ) : Type 0 where
   pub next :
       (labels : List (List ℕ)) (rules : List (Rule ℕ)) (k : ℕ) (entries : Entries)
@@ -123,9 +123,9 @@ pub record PassListsBest (product : ℕ → ℕ → ℕ) : Type 0 where
       IsPass product labels rules k entries taken [] → (q : ℕ) → length (entries q) < k →
       (y : Costed) → IsTreeAt product rules q y → (Has (entries q) y → ⊥) → ⊥
 
--- What holds between two steps holds after a step: where the candidate's tree went last on the
--- list of its state, which made some candidates possible, and where it was dropped. The
--- candidates that are possible now have to be known.
+-- What holds between two steps holds after a step: when the candidate's tree was appended to the
+-- list of its state, which made some candidates possible, and when it was dropped. The candidates
+-- that are possible now have to be known.
 pub record PassGoesOn (product : ℕ → ℕ → ℕ) : Type 0 where
   pub places :
       (labels : List (List ℕ)) (rules : List (Rule ℕ)) (k : ℕ) (before now : Entries)

@@ -24,8 +24,8 @@ pub record ArePlaces (labels : List (List ℕ)) (ranks : List ℕ) : Type 0 wher
   pub apart :
       (f g : ℕ) → f < length labels → g < length labels → get_or ranks f 0 ≡ get_or ranks g 0 → f ≡ g
 
--- One of two trees has fewer nodes than the greatest size that is told, so their sizes compare as
--- they are told.
+-- One of two trees has fewer nodes than the greatest size that is stored, so their sizes compare as
+-- stored.
 abbrev pub IsOneSmall : Tree ℕ → Tree ℕ → Type 0
 IsOneSmall s t = (size s < most_size) ⊎ (size t < most_size)
 
@@ -35,8 +35,7 @@ IsOrderOf shapes ranks one other order =
     (labels : List (List ℕ)) → AreDistinct labels → AreRanksOf labels ranks → (s t : Tree ℕ) →
     IsNamed shapes one s → IsNamed shapes other t → IsOneSmall s t → order ≡ tree_cmp_by labels s t
 
--- two trees by their sizes as they are told, then by their roots' ranks, then by their numbers of
--- children
+-- two trees by their stored sizes, then by their roots' ranks, then by their numbers of children
 abbrev pub root_order : List (List ℕ) → List ℕ → ℕ → ℕ → ℕ → ℕ → Ordering
 root_order shapes ranks one other m n =
     ordering_then (nat_cmp m n)

@@ -21,7 +21,7 @@ row trees (n ∷ ns) = tree (tree_at trees n).label (tree_at trees n).kids (row 
 abbrev pub shaped : List (Tree ℕ) → List ℕ → Tree ℕ
 shaped trees s = record { label = label_of s; kids = row trees (children_of s) }
 
--- the trees of shapes, behind those that were seen
+-- the trees of shapes, after those that were seen
 abbrev pub seen_from : List (Tree ℕ) → List (List ℕ) → List (Tree ℕ)
 seen_from trees [] = trees
 seen_from trees (s ∷ shapes) = seen_from (trees ++ shaped trees s ∷ []) shapes
@@ -39,7 +39,7 @@ pub record AreStill (before now : List (Tree ℕ)) : Type 0 where
   pub more : length before ≤ length now
   pub same : (n : ℕ) → n < length before → tree_at now n ≡ tree_at before n
 
--- a tree was put behind the others, or was there, and has this number; no other is new
+-- a tree was appended, or was there, and has this number; no other is new
 pub record Inserts (before : List (Tree ℕ)) (label : ℕ) (children : List ℕ) (n : ℕ) (now : List (Tree ℕ)) : Type 0 where
   pub below : n < length now
   pub named : tree_at now n ≡ record { label = label; kids = row before children }

@@ -6,7 +6,7 @@ use Rattle.tib_k_best_lists.specs.declared.shape_set.ShapeSet.TheInside.{Inside}
 abbrev pub shapes_of : Inside → List (List ℕ)
 shapes_of l = map (λ t. t.items) l.shapes.keys
 
--- no shape stands twice, and each has a number of 32 bits
+-- no shape is there twice, and each has a number of 32 bits
 pub record IsShapeSet (l : Inside) : Type 0 where
   pub few : length l.shapes.keys < 4294967296
   pub distinct : AreDistinct (shapes_of l)

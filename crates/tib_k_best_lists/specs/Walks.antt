@@ -5,7 +5,7 @@ use Rattle.tib_grammar.specs.declared.Rule.{Rule}
 use Rattle.tib_k_best_lists.specs.Levels.{states_at}
 use Rattle.tib_k_best_lists.specs.Pass.{Entries, entry_at, AreRanks, offer}
 
--- states with ranks, side by side
+-- a row of states with ranks
 abbrev pub pairs : List ℕ → List ℕ → List (ℕ × ℕ)
 pairs [] js = []
 pairs (q ∷ qs) [] = []
@@ -21,9 +21,9 @@ abbrev pub AreSome : List (ℕ × ℕ) → List (ℕ × ℕ) → Type 0
 AreSome [] cs = cs ≡ []
 AreSome (p ∷ ps) cs = AreSome ps cs ⊎ ((rest : List (ℕ × ℕ)) × (cs ≡ p ∷ rest) × AreSome ps rest)
 
--- A walk that takes an entry from its stack and puts some of the entries on it that its candidate
--- names has a lighter stack, by one node at least: so it takes no more entries than the first one
--- has nodes.
+-- A walk takes an entry from its stack, and puts some of the entries that its candidate names on
+-- the stack. The stack is then lighter by at least one node, so the walk takes no more entries than
+-- the first one has nodes.
 pub record WalksAreShort (product : ℕ → ℕ → ℕ) : Type 0 where
   pub step :
       (rules : List (Rule ℕ)) (entries : Entries) (n : ℕ) (js : List ℕ) (top : ℕ × ℕ)

@@ -1,4 +1,4 @@
-// The tree of a number.
+// Builds the tree of a number.
 ghost use Rattle.std.specs.Prelude.{◌≡◌, ℕ, ◌<◌, ◌≤◌, ◌++◌, length, IfOk};
 ghost use Rattle.tib_tree.specs.Trees.{preorder_of, most_nodes, size, Tree as TreeOf};
 ghost use Rattle.tib_k_best_lists.specs.Numbers.{IsNamed, back};
@@ -7,7 +7,7 @@ use crate::kept::Trees;
 use std::alloc::{AllocError, Global};
 use tib_tree::{Label, ShapeError, Tree};
 
-// Puts numbers on a stack, the last one first.
+// Pushes numbers on a stack, the last one first.
 fn stack_up(stack: &mut Vec<u32>, numbers: &[u32]) -> Result<(), AllocError>
     ensures { IfOk result (λ _. back stack.new.items ≡ numbers.now ++ back stack.old.items) }
 {
@@ -39,8 +39,8 @@ impl Trees {
         Ok(nodes)
     }
 
-    /// The tree of a number, with all its nodes. Only want of memory is an error. Worst case: O(n)
-    /// steps and memory for n nodes.
+    /// The tree of a number, with all its nodes, at most 10,000. Err only if memory is refused.
+    /// Worst case: O(n) steps and memory for n nodes.
     pub fn tree(&self, alloc: Global, tree: u32) -> Result<Tree, AllocError>
         requires below { tree < length self.now }
         requires small { (t : TreeOf ℕ) → IsNamed self.now tree t → size t ≤ most_nodes }

@@ -1,4 +1,4 @@
-// Trees that share what stands below them.
+// Trees that share their subtrees.
 ghost use Rattle.std.specs.Prelude.{◌≡◌, ℕ, ◌+◌, ◌-◌, ◌^◌, ◌<◌, ◌≤◌, List, [], ◌∷◌, ◌++◌, length, IfOk, OnErr, slice_get, Some, Contains, get_or, min};
 ghost use Rattle.tib_lex.specs.Lists.{total};
 ghost use Rattle.tib_tree.specs.Trees.{tree, Trees as TreesOf, Tree as TreeOf};
@@ -12,7 +12,7 @@ use tib_tree::Label;
 
 /// Distinct trees, numbered in the order of first sight. A tree is kept as its shape: its label,
 /// followed by the numbers of its children, which are less than its own. So equal numbers are equal
-/// trees, and a tree takes the room of its root alone.
+/// trees, and a tree takes only the room of its root.
 #[derive(Drop)]
 pub struct Trees {
     shapes: ShapeSet,
@@ -41,8 +41,8 @@ fn write_shape(shape: &mut Vec<u32>, label: Label, children: &[u32]) -> Result<(
     Ok(())
 }
 
-// The size of a tree over some children, of which each has its size told: one more than theirs, or
-// the greatest size that is told.
+// The size of a tree over some children whose sizes are stored: one more than theirs, or the
+// greatest size that is stored.
 fn size_over(sizes: &[u32], children: &[u32]) -> u32
     requires { NumbersBelow (length sizes.now) children.now }
     ensures { result ≡ min (1 + total (λ m. get_or sizes.now m 0) children.now) most_size }
@@ -54,8 +54,7 @@ fn size_over(sizes: &[u32], children: &[u32]) -> u32
     size
 }
 
-// Puts a new shape behind the others, with the size of its tree. After an error nothing has
-// changed.
+// Appends a new shape, with the size of its tree. After an error nothing has changed.
 fn add_tree(
     shapes: &mut ShapeSet,
     sizes: &mut Vec<u32>,
@@ -81,7 +80,7 @@ fn add_tree(
 }
 
 impl Trees {
-    /// No trees. Takes no memory.
+    /// No trees. It takes no memory.
     pub fn new(alloc: Global) -> Trees
         ensures { result ≡ [] }
     {
@@ -92,7 +91,7 @@ impl Trees {
         }
     }
 
-    /// How many trees, whose shapes are distinct. Takes no memory.
+    /// How many trees there are. Their shapes are distinct. It takes no memory.
     pub fn len(&self) -> usize
         ensures value { result ≡ length self.now }
         ensures few { length self.now < 2 ^ 32 }
@@ -101,10 +100,9 @@ impl Trees {
         self.shapes.len()
     }
 
-    /// The number of the tree with this label over these children, which goes behind the others
-    /// where it is new. Only want of memory is an error, as which more than 4,294,967,295 trees
-    /// count, and after it the trees are the same. Cost: one look-up by hash of c + 1 numbers for c
-    /// children; of memory what a new shape takes.
+    /// The number of the tree with this label over these children. A new tree is appended. Err only
+    /// if memory is refused or there are 4,294,967,295 trees; the trees are then unchanged. Cost:
+    /// one look-up by hash of c + 1 numbers for c children, and the memory of a new shape.
     pub fn insert(&mut self, label: Label, children: &[u32]) -> Result<u32, AllocError>
         requires { NumbersBelow (length self.old) children.now }
         ensures shape { IfOk result (λ n. slice_get self.new n ≡ Some (label ∷ children.now)) }
@@ -138,7 +136,7 @@ impl Trees {
         self.shapes.shape(tree)
     }
 
-    /// The label of a tree's root. Takes no memory.
+    /// The label of a tree's root. It takes no memory.
     pub fn label(&self, tree: u32) -> Label
         requires { tree < length self.now }
         ensures value { result ≡ label_at self.now tree }
@@ -147,8 +145,8 @@ impl Trees {
         self.shape(tree)[0]
     }
 
-    /// The numbers of a tree's children, from left to right, each less than the tree's own. Takes
-    /// no memory.
+    /// The numbers of a tree's children, from left to right, each less than the tree's own. It
+    /// takes no memory.
     pub fn children(&self, tree: u32) -> &[u32]
         requires { tree < length self.now }
         ensures value { result.now ≡ children_at self.now tree }
@@ -158,8 +156,7 @@ impl Trees {
         &self.shape(tree)[1..]
     }
 
-    /// How many nodes a tree has, where there are fewer than 4,294,967,295; else this number. Takes
-    /// no memory.
+    /// How many nodes a tree has, or 4,294,967,295 if it has more. It takes no memory.
     pub fn size(&self, tree: u32) -> u32
         requires { tree < length self.now }
         ensures value { (t : TreeOf ℕ) → IsNamed self.now tree t → result ≡ told_size t }

@@ -1,4 +1,4 @@
-// What holds of lists of best trees, in every semiring.
+// What holds for lists of best trees, in every semiring.
 ghost use Rattle.std.specs.Prelude.{IsTrue};
 ghost use Rattle.tib_k_best_lists.specs.Best.{CostsAreOrdered, AreRanked, OneKBest, FrontsGrow, LargeIsListed};
 ghost use Rattle.tib_k_best_lists.specs.Levels.{GrowsAlongRules};
@@ -10,12 +10,13 @@ ghost use Rattle.tib_k_best_lists.specs.Walks.{WalksAreShort};
 
 use tib_cost::Semiring;
 
-/// Trees with costs are in a strict order, which is total on the trees that a grammar gives a cost.
+/// Trees with costs are in a strict order. It is total on the trees to which a grammar gives a
+/// cost.
 pub fn costs_are_ranked<S: Semiring>()
     ensures { AreRanked S.product }
 {}
 
-/// The order of trees with costs, with three answers, is total on all trees with costs.
+/// The three-way order of trees with costs is total on all trees with costs.
 pub fn costs_are_ordered()
     ensures { CostsAreOrdered }
 {}
@@ -25,25 +26,25 @@ pub fn one_k_best<S: Semiring>()
     ensures { OneKBest S.product }
 {}
 
-/// A rule's tree comes earlier where one child does, and every child comes before it.
+/// A rule's tree comes earlier if one child does, and every child comes before it.
 pub fn order_goes_up_the_rules<S: Semiring>()
     ensures { GrowsAlongRules S.product }
 {}
 
-/// In a pass over all states that takes the least candidate, what it takes is the next tree of its
-/// state; and where no candidate waits, every list is whole or full.
+/// If a pass over all states takes the least candidate, it takes the next tree of that candidate's
+/// state. If no candidate waits, every list is complete or full.
 pub fn pass_lists_best<S: Semiring>()
     ensures { PassListsBest S.product }
 {}
 
-/// Where the children of a state were asked, its least candidate is its next tree; and where none
-/// waits, its list is whole.
+/// If the children of a state were asked, its least candidate is its next tree. If none waits, its
+/// list is complete.
 pub fn asking_lists_best<S: Semiring>()
     ensures { AskingListsBest S.product }
 {}
 
-/// Where the product is the greater cost, the best trees are those of the levels, from the least
-/// on, each level giving those that no earlier one gave.
+/// If the product is the greater cost, the best trees are those of the levels, from the least on,
+/// each level giving those that no earlier one gave.
 pub fn levels_list_best<S: Semiring>()
     ensures { IsTrue S.LEVELLED → LevelsListBest S.product }
 {}
@@ -75,8 +76,7 @@ pub fn candidates_are_apart<S: Semiring>()
     ensures { NoDuplicates S.product }
 {}
 
-/// A large tree that is next behind a front shorter than k stands in every list of the k least
-/// trees.
+/// A large tree that comes next after a front shorter than k is in every list of the k least trees.
 pub fn large_is_listed<S: Semiring>()
     ensures { LargeIsListed S.product }
 {}

@@ -1,10 +1,11 @@
-//! What the list of the k best trees of a grammar is, what holds of the ways to make it, and the
-//! lists of the best trees of each state with the candidates for them: a candidate is a rule with a
-//! rank for each state below it, and stands for the tree that the rule makes of the trees with
-//! these ranks. Trees share what stands below them: each is kept once, as its label and the numbers
-//! of its children, so equal numbers are equal trees; two trees are compared by going down where
-//! their numbers differ, and a number's tree is built on demand. A binary heap of numbers, whose
-//! order another value tells, holds candidates. It stands on `tib_cost` and `tib_grammar`.
+//! What the list of the k best trees of a grammar is, laws of the ways to make it, and the lists of
+//! the best trees of each state with the candidates for them. A candidate is a rule with a rank for
+//! each state below it. It stands for the tree that the rule makes of the trees with these ranks.
+//!
+//! Trees share their subtrees. Each tree is kept once, as its label and the numbers of its
+//! children, so equal numbers are equal trees. A comparison of two trees goes down where their
+//! numbers differ, and a number's tree is built on demand. A binary heap of numbers, whose order
+//! another value gives, holds candidates. The crate uses `tib_cost` and `tib_grammar`.
 #![tactic(auto)]
 
 mod building;

@@ -9,7 +9,7 @@ use tib_cost::Cost;
 use tib_grammar::Rule;
 use tib_tree::Labels;
 
-/// A tree on the list of a state, with its cost and the candidate that it was.
+/// A tree on the list of a state, with its cost and the candidate that it came from.
 #[derive(Clone, Copy, Debug)]
 pub struct Entry {
     /// The tree's number.
@@ -20,7 +20,7 @@ pub struct Entry {
     pub candidate: u32,
 }
 
-/// A rule with a rank for each state below it. The ranks stand from `start` on in one list.
+/// A rule with a rank for each state below it. The ranks are in one list, from `start` on.
 #[derive(Clone, Copy, Debug)]
 pub struct Candidate {
     /// The rule's place.
@@ -65,7 +65,7 @@ impl<'a> Model for Lists<'a> {
 }
 
 impl<'a> Lists<'a> {
-    /// The entry of a state with a rank, from 0.
+    /// The entry of a state with a rank, from 0 and below the length of its list.
     pub fn entry(&self, state: u32, rank: u32) -> &Entry
         requires state { state < length self.now.lists }
         requires rank { rank < length (get_or self.now.lists state []) }

@@ -12,7 +12,7 @@ use crate::lists::{Candidate, Entry, Lists};
 use std::alloc::{AllocError, Global};
 use tib_cost::Semiring;
 
-// Puts zeros behind ranks.
+// Appends zeros to the ranks.
 fn push_zeros(ranks: &mut Vec<u32>, count: usize) -> Result<(), AllocError>
     ensures { OnOk result (ranks.new.items ≡ ranks.old.items ++ replicate count 0) }
 {
@@ -22,7 +22,7 @@ fn push_zeros(ranks: &mut Vec<u32>, count: usize) -> Result<(), AllocError>
     Ok(())
 }
 
-// Puts some of the ranks behind them, with the i-th one higher.
+// Appends a copy of some of the ranks, with the i-th one raised by one.
 fn push_raised(ranks: &mut Vec<u32>, start: usize, count: usize, i: usize) -> Result<(), AllocError>
     requires within { start + count ≤ length ranks.old.items }
     requires small { get_or ranks.old.items (start + i) 0 + 1 < 2 ^ 32 }
@@ -37,7 +37,8 @@ fn push_raised(ranks: &mut Vec<u32>, start: usize, count: usize, i: usize) -> Re
 }
 
 impl<'a> Lists<'a> {
-    /// Puts the ranks of a rule's first candidate last, and says where they begin.
+    /// Appends the ranks of a rule's first candidate, and returns where they begin. Err if memory
+    /// is refused; part of the ranks may then be there.
     pub fn zeros(&mut self, rule: u32) -> Result<usize, AllocError>
         requires sound { IsSound self.old }
         requires rule { rule < length self.old.rules }
@@ -51,8 +52,9 @@ impl<'a> Lists<'a> {
         Ok(start)
     }
 
-    /// Makes a rule with the ranks from `start` on a candidate, and says its number; none where it
-    /// costs more than the greatest cost.
+    /// Makes a candidate of a rule with the ranks from `start` on, and returns its number, or none
+    /// if it costs more than the greatest cost. Err if memory is refused or there are 4,294,967,295
+    /// candidates; no candidate is then added.
     pub fn make<S: Semiring>(&mut self, rule: u32, start: usize) -> Result<Option<u32>, AllocError>
         requires sound { IsSound self.old }
         requires tuple { IsTuple self.old rule (ranks_from self.old rule start) }
@@ -91,7 +93,8 @@ impl<'a> Lists<'a> {
         Ok(children)
     }
 
-    /// Puts the ranks from `start` on last, with the i-th one higher, and says where they begin.
+    /// Appends a copy of the ranks from `start` on, with the i-th one raised by one, and returns
+    /// where the copy begins. Err if memory is refused; part of the copy may then be there.
     pub fn raised(&mut self, rule: u32, start: usize, i: usize) -> Result<usize, AllocError>
         requires sound { IsSound self.old }
         requires tuple { IsTuple self.old rule (ranks_from self.old rule start) }
@@ -108,7 +111,7 @@ impl<'a> Lists<'a> {
         Ok(new)
     }
 
-    /// The last place whose rank is not 0, and 0 where there is none.
+    /// The last place whose rank is not 0, or 0 if there is none.
     pub fn last(&self, rule: u32, start: usize) -> usize
         requires sound { IsSound self.now }
         requires tuple { IsTuple self.now rule (ranks_from self.now rule start) }
@@ -124,7 +127,8 @@ impl<'a> Lists<'a> {
         0
     }
 
-    /// The number of the tree that a rule makes of the entries whose ranks stand from `start` on.
+    /// The number of the tree that a rule makes of the entries whose ranks are from `start` on. Err
+    /// only if memory is refused or there are 4,294,967,295 trees; the trees are then unchanged.
     pub fn tree_of(&mut self, alloc: Global, rule: u32, start: usize) -> Result<u32, AllocError>
         requires sound { IsSound self.old }
         requires tuple { IsTuple self.old rule (ranks_from self.old rule start) }
@@ -136,7 +140,7 @@ impl<'a> Lists<'a> {
         self.trees.insert(label, &children)
     }
 
-    /// Puts an entry last on the list of a state.
+    /// Appends an entry to the list of a state. Err if memory is refused.
     pub fn place(&mut self, state: u32, entry: Entry) -> Result<(), AllocError>
         requires { state < length self.old.lists }
         ensures { OnOk result (self.new ≡ with_entry self.old state entry) }

@@ -12,7 +12,7 @@ use crate::lists::{Entry, Lists};
 use tib_cost::{Cost, Semiring};
 
 impl<'a> Lists<'a> {
-    /// How many states stand below a rule.
+    /// How many states are below a rule.
     pub fn count(&self, rule: u32) -> usize
         requires sound { IsSound self.now }
         requires rule { rule < length self.now.rules }
@@ -23,7 +23,7 @@ impl<'a> Lists<'a> {
         rank as usize
     }
 
-    /// The entry that the i-th of the ranks names that stand from `start` on.
+    /// The entry that the i-th of the ranks from `start` on names.
     pub fn child(&self, rule: u32, start: usize, i: usize) -> &Entry
         requires sound { IsSound self.now }
         requires tuple { IsTuple self.now rule (ranks_from self.now rule start) }
@@ -37,7 +37,8 @@ impl<'a> Lists<'a> {
         self.entry(states[i].state(), self.ranks[start + i])
     }
 
-    /// What the tree costs that a rule makes of the entries whose ranks stand from `start` on.
+    /// The cost of the tree that a rule makes of the entries whose ranks are from `start` on. None
+    /// if it is more than the greatest cost. Linear in the number of states.
     pub fn cost_of<S: Semiring>(&self, rule: u32, start: usize) -> Option<Cost>
         requires sound { IsSound self.now }
         requires tuple { IsTuple self.now rule (ranks_from self.now rule start) }
@@ -57,7 +58,7 @@ impl<'a> Lists<'a> {
         S::times(self.rules[rule as usize].cost, total)
     }
 
-    /// How many nodes it has.
+    /// How many nodes that tree has. Linear in the number of states.
     pub fn size_of(&self, rule: u32, start: usize) -> u64
         requires sound { IsSound self.now }
         requires tuple { IsTuple self.now rule (ranks_from self.now rule start) }

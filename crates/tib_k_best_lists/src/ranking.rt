@@ -34,7 +34,7 @@ impl<'a> Lists<'a> {
         some.cmp(&others)
     }
 
-    // The order of as many children, side by side.
+    // The order of the children of two such trees, compared from left to right.
     fn compare_children(&self, one: &Candidate, other: &Candidate) -> Ordering
         requires sound { IsSound self.now }
         requires one { IsTuple self.now one.now.rule (ranks_of self.now one.now) }

@@ -1,4 +1,4 @@
-// Reading lists, candidates and rules.
+// Reads lists, candidates and rules.
 ghost use Rattle.std.specs.Prelude.{◌≡◌, ℕ, ◌<◌, [], length, map, replicate, IfOk};
 ghost use Rattle.std.proofs.Common.{get_or};
 ghost use Rattle.tib_grammar.specs.Run.{rule_at};
@@ -13,7 +13,7 @@ use std::alloc::{AllocError, Global};
 use tib_grammar::Rule;
 use tib_tree::Labels;
 
-// As many lists without an entry.
+// As many lists as there are states, each without an entry.
 fn no_entries(alloc: Global, states: usize) -> Result<Vec<Vec<Entry>>, AllocError>
     ensures { IfOk result (λ v. map items_of v.items ≡ replicate states []) }
 {
@@ -25,8 +25,9 @@ fn no_entries(alloc: Global, states: usize) -> Result<Vec<Vec<Entry>>, AllocErro
 }
 
 impl<'a> Lists<'a> {
-    /// Lists over some rules, for this number of states, while no tree is known. `label_ranks` has
-    /// the place of each label's text in order.
+    /// Lists over some rules, for this number of states, with no trees yet. `label_ranks` has the
+    /// place of each label's text in order. Err if memory is refused. Cost: linear in the number of
+    /// states.
     pub fn new(
         alloc: Global,
         rules: &'a [Rule<u32>],
@@ -47,22 +48,22 @@ impl<'a> Lists<'a> {
         })
     }
 
-    /// How many rules.
+    /// How many rules there are.
     pub fn rules(&self) -> usize
         ensures { result ≡ length self.now.rules }
     {
         self.rules.len()
     }
 
-    /// How many states.
+    /// How many states there are.
     pub fn states(&self) -> usize
         ensures { result ≡ length self.now.lists }
     {
         self.lists.len()
     }
 
-    /// The trees of all lists by their numbers, and the list of a state. The rest is gone. Takes no
-    /// memory.
+    /// The trees of all lists by their numbers, and the list of a state. The rest is dropped. It
+    /// takes no memory.
     pub fn into_list(self, state: u32) -> (Shared, Vec<Entry>)
         requires { state < length self.lists }
         ensures trees { result.0 ≡ self.entry.trees }
@@ -77,8 +78,8 @@ impl<'a> Lists<'a> {
         (trees, entries)
     }
 
-    /// The trees of all lists by their numbers, and the lists of all states. The rest is gone.
-    /// Takes no memory.
+    /// The trees of all lists by their numbers, and the lists of all states. The rest is dropped.
+    /// It takes no memory.
     pub fn into_lists(self) -> (Shared, Vec<Vec<Entry>>)
         ensures trees { result.0 ≡ self.entry.trees }
         ensures lists { map items_of result.1.items ≡ self.entry.lists }
@@ -95,7 +96,7 @@ impl<'a> Lists<'a> {
         &self.candidates[number as usize]
     }
 
-    /// The left state of a rule.
+    /// The state on the left-hand side of a rule.
     pub fn left(&self, rule: u32) -> u32
         requires { rule < length self.now.rules }
         ensures { result ≡ (rule_at self.now.rules rule).left }
@@ -122,7 +123,7 @@ impl<'a> Lists<'a> {
         self.lists[state as usize].len()
     }
 
-    /// The rank of the i-th state below a rule, of the ranks that stand from `start` on.
+    /// The rank of the i-th state below a rule, in the ranks from `start` on.
     pub fn rank(&self, rule: u32, start: usize, i: usize) -> u32
         requires tuple { IsTuple self.now rule (ranks_from self.now rule start) }
         requires below { i < length (states_of (rule_at self.now.rules rule)) }

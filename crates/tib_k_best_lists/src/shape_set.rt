@@ -26,7 +26,7 @@ impl Model for ShapeSet {
 }
 
 impl ShapeSet {
-    /// No shapes. Takes no memory.
+    /// No shapes. It takes no memory.
     pub fn new(alloc: Global) -> ShapeSet
         ensures { result ≡ [] }
     {
@@ -36,7 +36,7 @@ impl ShapeSet {
         }
     }
 
-    /// How many shapes, which are distinct. Takes no memory.
+    /// How many shapes there are. They are distinct. It takes no memory.
     pub fn len(&self) -> usize
         ensures value { result ≡ length self.now }
         ensures few { length self.now < 2 ^ 32 }
@@ -45,7 +45,7 @@ impl ShapeSet {
         self.shapes.len()
     }
 
-    /// The number of a shape, if the set has it. Takes no memory.
+    /// The number of a shape, if the set has it. It takes no memory.
     pub fn find(&self, shape: &[u32]) -> Option<u32>
         ensures found { IfSome result (λ n. slice_get self.now n ≡ Some shape.now) }
         ensures none { result ≡ None → Contains self.now shape.now → ⊥ }
@@ -56,8 +56,7 @@ impl ShapeSet {
         }
     }
 
-    /// Puts a new shape behind the others. Only want of memory is an error, and after it the set is
-    /// as before.
+    /// Appends a new shape. Err only if memory is refused; the set is then unchanged.
     pub fn add(&mut self, shape: &[u32]) -> Result<(), AllocError>
         requires new { Contains self.old shape.now → ⊥ }
         requires room { length self.old < 2 ^ 32 - 1 }
@@ -69,7 +68,7 @@ impl ShapeSet {
         Ok(())
     }
 
-    /// The shape of a number. Takes no memory.
+    /// The shape of a number. It takes no memory.
     pub fn shape(&self, number: u32) -> &[u32]
         requires { number < length self.now }
         ensures { slice_get self.now number ≡ Some result.now }

@@ -37,7 +37,7 @@ impl Model for Shared {
 }
 
 impl Shared {
-    /// No trees. Takes no memory.
+    /// No trees. It takes no memory.
     pub fn new(alloc: Global) -> Shared
         ensures { result ≡ [] }
     {
@@ -55,7 +55,7 @@ impl Shared {
         let _ = self.trees.len();
     }
 
-    /// How many nodes a tree has, where they are fewer than 2^32 - 1. Takes no memory.
+    /// How many nodes a tree has, or 2^32 - 1 if it has more. It takes no memory.
     pub fn size(&self, tree: u32) -> u32
         requires { tree < length self.now }
         ensures { result ≡ told_size (tree_at self.now tree) }
@@ -64,8 +64,8 @@ impl Shared {
         self.trees.size(tree)
     }
 
-    /// The number of a tree, which is appended where it is new. Only running out of memory is an
-    /// error, and after it the trees are the same.
+    /// The number of a tree. A new tree is appended. Err only if memory is refused or there are
+    /// 4,294,967,295 trees; the trees are then unchanged.
     pub fn insert(&mut self, label: Label, children: &[u32]) -> Result<u32, AllocError>
         requires { NumbersBelow (length self.old) children.now }
         ensures inserts { IfOk result (λ n. Inserts self.old label children.now n self.new) }
@@ -74,7 +74,7 @@ impl Shared {
         self.trees.insert(label, children)
     }
 
-    /// The order of two trees, of which the first has fewer than 2^32 - 1 nodes. Takes no memory.
+    /// The order of two trees. The first has fewer than 2^32 - 1 nodes. It takes no memory.
     pub fn compare(&self, labels: &Labels, ranks: &[u32], one: u32, other: u32) -> Ordering
         requires one { one < length self.now }
         requires other { other < length self.now }
@@ -88,8 +88,8 @@ impl Shared {
         self.trees.compare(ranks, one, other)
     }
 
-    /// A tree with all its nodes, of which it has 10,000 at most. Only want of memory is an error.
-    /// Worst case: O(n) steps and memory for n nodes.
+    /// A tree with all its nodes, at most 10,000. Err only if memory is refused. Worst case: O(n)
+    /// steps and memory for n nodes.
     pub fn tree(&self, alloc: Global, tree: u32) -> Result<Tree, AllocError>
         requires below { tree < length self.now }
         requires small { size (tree_at self.now tree) ≤ most_nodes }

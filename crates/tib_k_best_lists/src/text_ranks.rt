@@ -8,7 +8,7 @@ use std::alloc::{AllocError, Global};
 use std::cmp::Ordering;
 use tib_tree::{Label, Labels};
 
-// The text of a label; the empty text where there is no such label.
+// The text of a label, or the empty text if there is no such label.
 fn text_of(labels: &Labels, label: Label) -> &[u8]
     ensures { result.now ≡ text_at labels.now label }
 {
@@ -61,8 +61,8 @@ fn places_in(alloc: Global, labels: &Labels, order: &[Label]) -> Result<Vec<u32>
     Ok(ranks)
 }
 
-/// The rank of each label, its place from 0 in the order of the labels' texts by their bytes. Only
-/// running out of memory is an error. Worst case: O(n log n) comparisons of texts for n labels.
+/// The rank of each label: its place, from 0, in the order of the labels' texts by their bytes. Err
+/// only if memory is refused. Worst case: O(n log n) comparisons of texts for n labels.
 pub fn label_ranks(alloc: Global, labels: &Labels) -> Result<Vec<u32>, AllocError>
     ensures order { IfOk result (λ ranks. AreRanksOf labels.now ranks.items) }
     ensures places { IfOk result (λ ranks. ArePlaces labels.now ranks.items) }

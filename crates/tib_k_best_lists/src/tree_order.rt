@@ -46,12 +46,12 @@ impl Trees {
         self.children(one).len().cmp(&self.children(other).len())
     }
 
-    /// The order of two trees, where `ranks` has the rank of each label: the one with fewer nodes
-    /// comes first, then the root's label decides by its rank, then the number of children, then
-    /// the children from left to right. It goes down where the numbers first differ, and only
-    /// there, since equal numbers are equal trees. It is the order of trees over every table whose
-    /// labels have these ranks, where one of the two trees has fewer nodes than 4,294,967,295.
-    /// Takes no memory. Worst case: O(d c) steps for trees of depth d and c children of a node.
+    /// The order of two trees, where `ranks` has the rank of each label. The tree with fewer nodes
+    /// comes first. Then the rank of the root's label decides, then the number of children, then
+    /// the children from left to right. It goes down only where the numbers first differ, since
+    /// equal numbers are equal trees. It is the order of trees over every table whose labels have
+    /// these ranks, if one of the two trees has fewer nodes than 4,294,967,295. It takes no memory.
+    /// Worst case: O(d c) steps for trees of depth d and c children of a node.
     pub fn compare(&self, ranks: &[u32], one: u32, other: u32) -> Ordering
         requires left { one < length self.now }
         requires right { other < length self.now }

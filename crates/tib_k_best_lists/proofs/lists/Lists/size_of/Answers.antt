@@ -18,7 +18,7 @@ loop-i-init c = (
   omega (arith, c.count-i.ensures.many),
 )
 
--- a tree of a list is small, and its size is told
+-- a tree of a list is small, and its size is stored
 at_most : (x : ListsOf) → IsSound x → (n m r : ℕ) (ts : List (Tree ℕ)) → n < length x.trees → ts ≡ x.trees → m ≡ told_size (tree_at ts n) → r ≡ m → (r ≡ size (tree_at x.trees n)) × (r ≤ 10000)
 at_most x s n m r ts h e f g =
     let small : size (tree_at x.trees n) ≤ 10000 = s.small n h in
