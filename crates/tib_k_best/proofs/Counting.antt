@@ -86,7 +86,7 @@ module _ (rules : List (Rule ℕ)) (labels : List (List ℕ)) (ranks : List ℕ)
       (product : ℕ → ℕ → ℕ) → ((q : ℕ) → IsFrontAt product x.labels x.rules q (entries_of y q)) → (q : ℕ) → IsFrontAt product labels rules q (entries_of y q)
   fronts_listed product h q = subst (λ (z : ListsOf). IsFrontAt product z.labels z.rules q (entries_of y q)) e (h q)
 
--- what is read of the lists that are answered
+-- what is read of the lists that are returned
 module _ (y : ListsOf) (ls : List (List Costed)) (l : ls ≡ map (costed y.trees) y.lists) where
   read : (q : ℕ) → get_or ls q [] ≡ entries_of y q
   read q = ap (λ (ms : List (List Costed)). get_or ms q []) l ∙ list_read y.trees y.lists q

@@ -27,7 +27,7 @@ use Rattle.tib_k_best.specs.Levels.{IsRenamed, AreKept, NamesBelow}
 use Rattle.tib_inside.proofs.StillNormal.{side_normal}
 use Rattle.tib_k_best.proofs.UsefulStates.{start_useful}
 
--- a rule under other states has the same labels
+-- a rule with other states has the same labels
 labels_back : (n : ℕ) (g : ℕ → ℕ) (ts : Trees (Symbol ℕ ℕ)) → LabelsBelow n (relabel (symbol_map g) ts) → LabelsBelow n ts
 labels_back n g none h = tt
 labels_back n g (tree (label f) kids rest) h = (h.0, labels_back n g kids h.1, labels_back n g rest h.2)
@@ -41,7 +41,7 @@ state_below product rules n q y range t = by t.attained.0.runs t.attained.0.are_
     by none a = absurd a
     by (tree m runs rest) a = subst (λ p. p < n) a.1 (range m a.0).0
 
--- a name for each state, which tells its number
+-- a name for each state, which determines its number
 
 abbrev names_from : ℕ → ℕ → List (List ℕ)
 names_from i zero = []

@@ -1,4 +1,4 @@
--- What the entries of a list tell.
+-- What the entries of a list say.
 use Rattle.std.specs.Prelude.{◌≡◌, ◌<◌, ◌≤◌, ℕ, List, length, refl}
 use Rattle.std.proofs.Common.{arith, ap, sym, ◌∙◌, subst, get_or}
 use Rattle.std.proofs.lemmas.List.{length-map}

@@ -32,7 +32,7 @@ ascends_across R (z ∷ xs) ys a x y h k = elim h [
   | inr m ↦ ascends_across R xs ys a.1 x y m k
 ]
 
--- what stands at a place, and behind it
+-- what is at a place, and after it
 pub drop_head : {A : Type 0} (xs ys : List A) (n : ℕ) (y d : A) → drop n xs ≡ y ∷ ys → (n < length xs) × (get_or xs n d ≡ y) × (drop (suc n) xs ≡ ys)
 drop_head [] ys zero y d e = absurd (cc)
 drop_head [] ys (suc n) y d e = absurd (cc)
@@ -67,7 +67,7 @@ pub nothing_long : {A : Type 0} (xs : List A) → length xs ≡ 0 → xs ≡ []
 nothing_long [] e = refl
 nothing_long (x ∷ xs) e = absurd (omega arith)
 
--- what stands at a place of two lists, one behind the other
+-- what is at a place of two lists, one after the other
 
 pub get_right : {A : Type 0} (xs ys : List A) (i n : ℕ) (d : A) → i ≡ length xs + n → get_or (xs ++ ys) i d ≡ get_or ys n d
 get_right [] ys i n d e = let s : i ≡ n = omega (arith, e) in ap (λ m. get_or ys m d) s

@@ -140,7 +140,7 @@ left_waits w q a h =
     let e = left_set w q (waiting_at w q ++ a ∷ []) h in
     omega (arith, e, length-append (waiting_at w q) (a ∷ []))
 
--- behind a state that has its tree now, a rule has passed one state more
+-- after a state that has its tree now, a rule has passed one more state
 pub passes :
     (x y : ListsOf) (q : ℕ) (a : Waiting) → IsWaiting y q a → y.lists ≡ x.lists → 0 < length (list_of x q) → HasTrees y (states_of (rule_at y.rules a.rule)) (a.place + 1)
 passes x y q a is e tree k h = elim (same_or k a.place) [

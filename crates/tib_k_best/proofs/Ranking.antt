@@ -208,7 +208,7 @@ pub split_few : (product : ℕ → ℕ → ℕ) (labels : List (List ℕ)) (rule
 split_few product labels rules k c below at (inl s) = s.under.few
 split_few product labels rules k c below at (inr s) = s.under.few
 
--- all places stand in their lists
+-- all places are in their lists
 pub are_ranked :
     (product : ℕ → ℕ → ℕ) (rules : List (Rule ℕ)) (k c m : ℕ) (below at : List Costed) (ws vs : List ℕ) (first : List (ℕ × ℕ)) → k < 2 ^ 32 → length below < k → AreWeights product rules below ws → AreWeights product rules at vs →
     AreByCost ws first → m ≡ k - length first → (rest : List ℕ) → rest ≡ take m (places_from c 0 vs) → AreRanked below at first rest

@@ -30,7 +30,7 @@ module _ (below at : List Costed) (c : ℕ) (first : List (ℕ × ℕ)) (rest : 
       ap (λ ys. get_or ys i no_entry) (sym seen) ∙ get_right (map (told_below below) first) (map (told_at at c) rest) i n no_entry (omega (arith, e, length-map first (told_below below)))
       ∙ get_or-map (told_at at c) rest n 0 no_entry h
 
-  -- behind the first trees each costs the same
+  -- after the first trees each costs the same
   pub rest_cost : (i : ℕ) → i < length xs → (i < length first → ⊥) → c ≡ (get_or xs i no_entry).1
   rest_cost i h n = elim (below_or i (length first)) [
     | inl l ↦ absurd (n l)

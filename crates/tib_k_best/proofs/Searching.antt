@@ -115,7 +115,7 @@ module _ {levelled weighted : Bool} {product : ℕ → ℕ → ℕ} (laws : Prod
   }
 
   module _ (k : ℕ) (some : 0 < k) (cs : List ℕ) (costs : AreCosts rules cs) where
-    -- the trees below a cost, where the costs below it stand before a place
+    -- the trees below a cost, where the costs below it are before a place
     under_place :
         (low c : ℕ) (below : List Costed) → low ≤ length cs → ((r : Rule ℕ) → Has rules r → r.cost < c → (j : ℕ) × (j < low) × (get_or cs j 0 ≡ r.cost)) → (0 < low → get_or cs (low - 1) 0 < c) →
         (low ≡ 0 → below ≡ []) → (0 < low → IsShort product labels rules k (get_or cs (low - 1) 0) below) → AreUnder product labels rules c k below
@@ -125,7 +125,7 @@ module _ {levelled weighted : Bool} {product : ℕ → ℕ → ℕ} (laws : Prod
           (λ r m l. let j = near r m l in let up = costs.ascend j.0 (low - 1) (omega (arith, j.1)) (omega (arith, h, within)) in omega (arith, up, j.2)) (short h)
     ]
 
-    -- where the costs below one at a place stand
+    -- where the costs below one at a place are
     near_at : (high : ℕ) → high < length cs → (r : Rule ℕ) → Has rules r → r.cost < get_or cs high 0 → (j : ℕ) × (j < high) × (get_or cs j 0 ≡ r.cost)
     near_at high h r m l =
         let a = at_has cs r.cost 0 (costs.there r m) in

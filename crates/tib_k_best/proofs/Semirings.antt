@@ -31,7 +31,7 @@ one_strict {levelled} {product} laws e =
 some_same : (a b : ℕ) → Some a ≡ Some b → a ≡ b
 some_same a b e = cc
 
--- the answer of a comparison with 1
+-- the result of a comparison with 1
 pub keeps :
     (levelled weighted : Bool) (product : ℕ → ℕ → ℕ) → ProductLaws levelled weighted product → (one p : ℕ) (b : Bool) → Some one ≡ cut 1 → Some p ≡ cut (product one one) → b ≡ nat_eq p one → weighted ≡ true →
     b ≡ levelled

@@ -59,7 +59,7 @@ inside_tree {levelled} {weighted} {product} laws rules normal q c inside =
     (record { runs = (a.0).runs; are_runs = (a.0).are_runs; yielded = one; costs = (a.0).costs }) a.1 in
     ((t, l.value), l.least)
 
--- the states of a rule in normal form are all that stand in its side
+-- the states of a rule in normal form are all that are in its side
 all_below : (s : Side ℕ ℕ) → IsLabel s.label → holes_of s ≡ holes s.kids
 all_below s l = by s.label s.kids l
   where

@@ -57,7 +57,7 @@ costs_more product rules xs i ws now t same w series us put =
       ],
     )
 
--- one cost more of those that stand there
+-- one cost more of those that are there
 pub listed_more :
     (xs : List Costed) (i : ℕ) (ws : List ℕ) → (length ws ≡ i) × CostAsListed xs ws → (w : ℕ) → w ≡ (get_or xs i no_entry).1 → (us : List ℕ) → us ≡ ws ++ w ∷ [] →
     (length us ≡ i + 1) × CostAsListed xs us

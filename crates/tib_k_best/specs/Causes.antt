@@ -1,4 +1,4 @@
--- The causes of faults.
+-- The causes of errors.
 use Rattle.std.specs.Prelude.{◌≡◌, ℕ, Bool, List}
 use Rattle.tib_grammar.specs.declared.Rule.{Rule}
 use Rattle.tib_inside.specs.Useful.{IsUseful}
@@ -27,7 +27,7 @@ IsLevelCause levelled product labels rules k (TreeTooLarge q) =
     × HasLarge product labels one k q
 IsLevelCause levelled product labels rules k OutOfMemory = Unit {0}
 
--- a fault of asked lists as one of the list of best trees
+-- an error of asked lists as an error of the list of best trees
 abbrev pub IsFaultOf : AskError → KBestError → Type 0
 IsFaultOf (AskedTooLarge q) e = e ≡ TreeTooLarge q
 IsFaultOf AskedOutOfMemory e = e ≡ OutOfMemory

@@ -1,4 +1,4 @@
--- Rules that were trimmed, and their faults under the numbers that the states had before.
+-- Rules that were trimmed, and their errors with the numbers that the states had before.
 use Rattle.std.specs.Prelude.{◌≡◌, ℕ, ◌<◌, List, length}
 use Rattle.std.proofs.Common.{get_or}
 use Rattle.tib_grammar.specs.Range.{AreBelow, AreInRange}
@@ -19,12 +19,12 @@ pub record AreKept (product : ℕ → ℕ → ℕ) (old : List (Rule ℕ)) (coun
   pub some : 0 < length states
   pub below : AreBelow count states
 
--- the state that a fault names is below a number
+-- the state that an error names is below a number
 abbrev pub NamesBelow : ℕ → KBestError → Type 0
 NamesBelow n (TreeTooLarge q) = q < n
 NamesBelow n OutOfMemory = Unit {0}
 
--- the same fault under another number
+-- the same error with another number
 abbrev pub IsRenamed : List ℕ → KBestError → KBestError → Type 0
 IsRenamed states (TreeTooLarge q) e = e ≡ TreeTooLarge (get_or states q 0)
 IsRenamed states OutOfMemory e = e ≡ OutOfMemory

@@ -19,7 +19,7 @@ use Rattle.tib_k_best.specs.declared.queue.Waiting.{Waiting}
 abbrev pub HasTrees : ListsOf → List ℕ → ℕ → Type 0
 HasTrees x qs n = (k : ℕ) → k < n → 0 < length (list_of x (get_or qs k 0))
 
--- the first state without a tree stands at a place, or no state is without one
+-- the first state without a tree is at a place, or no state is without one
 pub record IsNextMissing (x : ListsOf) (qs : List ℕ) (place : ℕ) : Type 0 where
   pub within : place ≤ length qs
   pub before : HasTrees x qs place
@@ -32,7 +32,7 @@ pub record StaysSame (x y : ListsOf) : Type 0 where
   pub trees : y.trees ≡ x.trees
   pub lists : y.lists ≡ x.lists
 
--- a rule waits for the state q, which stands below it, behind states that have trees
+-- a rule waits for the state q, which is below it, after states that have trees
 pub record IsWaiting (x : ListsOf) (q : ℕ) (a : Waiting) : Type 0 where
   pub rule : a.rule < length x.rules
   pub place : a.place < length (states_of (rule_at x.rules a.rule))
@@ -59,7 +59,7 @@ pub record IsPassed (product : ℕ → ℕ → ℕ) (x : ListsOf) (w : QueueOf) 
   pub begun : IsReady product x.rules (entries_of x) n → IsBegun x w n
 
 -- Each rule that is not left out waits for a state, or its states all have trees. Each list is a
--- front of the state's trees, and has one tree at most, which its first candidate gave it.
+-- front of the state's trees, and has at most one tree, which its first candidate gave it.
 pub record IsQueue (product : ℕ → ℕ → ℕ) (x : ListsOf) (w : QueueOf) (out : List ℕ) : Type 0 where
   pub sound : IsSound x
   pub made : (n : ℕ) → n < length x.candidates → IsMade product x n
@@ -106,11 +106,11 @@ pub record IsTaken (product : ℕ → ℕ → ℕ) (x : ListsOf) (m : ℕ) (w : 
   pub takes : TakesFirst (λ a b. offers_cmp x.labels (stands_for x a) (stands_for x b)) heap m w.heap
   pub is_heap : IsHeap (λ a b. offers_cmp x.labels (stands_for x a) (stands_for x b)) w.heap
 
--- the left state of a candidate
+-- the state on the left-hand side of a candidate's rule
 abbrev pub state_of : ListsOf → ℕ → ℕ
 state_of x m = (rule_at x.rules (candidate_at x m).rule).left
 
--- a candidate's tree was put last on the list of its state
+-- a candidate's tree was appended to the list of its state
 pub record IsListed (x : ListsOf) (m : ℕ) (y : ListsOf) : Type 0 where
   pub middle : ListsOf
   pub number : ℕ

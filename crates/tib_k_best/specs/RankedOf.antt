@@ -4,7 +4,7 @@ use Rattle.std.proofs.Common.{get_or}
 use Rattle.tib_k_best_lists.specs.Best.{Costed}
 use Rattle.tib_k_best_lists.specs.Pass.{no_entry}
 
--- the tree of a place, at the cost that stands with the place
+-- the tree of a place, at the cost that comes with the place
 abbrev pub told_below : List Costed → ℕ × ℕ → Costed
 told_below below p = ((get_or below p.1 no_entry).0, p.0)
 
@@ -16,7 +16,7 @@ told_at at c i = ((get_or at i no_entry).0, c)
 abbrev pub ranked_of : List Costed → List Costed → ℕ → List (ℕ × ℕ) → List ℕ → List Costed
 ranked_of below at c first rest = map (told_below below) first ++ map (told_at at c) rest
 
--- each place stands in its list, and the places are fewer than 2^32
+-- each place is in its list, and the places are fewer than 2^32
 pub record AreRanked (below at : List Costed) (first : List (ℕ × ℕ)) (rest : List ℕ) : Type 0 where
   pub few : length first + length rest < 2 ^ 32
   pub below_has : (i : ℕ) → i < length first → (get_or first i (0, 0)).1 < length below

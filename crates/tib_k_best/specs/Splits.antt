@@ -32,7 +32,7 @@ pub record IsWhole (product : ℕ → ℕ → ℕ) (labels : List (List ℕ)) (r
   pub under : AreUnder product labels rules (suc most) k below
   pub none : at ≡ []
 
--- Where the grammar has k trees, c is the least cost whose level has k.
+-- If the grammar has k trees, c is the least cost whose level has k.
 abbrev pub IsSplit :
     (ℕ → ℕ → ℕ) → List (List ℕ) → List (Rule ℕ) → ℕ → ℕ → List Costed → List Costed → Type 0
 IsSplit product labels rules k c below at =
@@ -51,7 +51,8 @@ pub record IsShort (product : ℕ → ℕ → ℕ) (labels : List (List ℕ)) (r
   pub within : c ≤ most
   pub few : length xs < k
 
--- Of the levels of these costs that before `low` has fewer than k trees, and that at `high` has k.
+-- Of the levels of these costs, the one before `low` has fewer than k trees, and the one at `high`
+-- has k.
 pub record IsSearched (product : ℕ → ℕ → ℕ) (labels : List (List ℕ)) (rules : List (Rule ℕ)) (k : ℕ)
     (cs : List ℕ) (low high : ℕ) (below at : List Costed) : Type 0 where
   pub order : low ≤ high

@@ -8,13 +8,13 @@ use Rattle.tib_inside.specs.Trimmed.{HasSeriesOfEach, IsTrimmed}
 use Rattle.tib_k_best_lists.specs.Best.{Costed, IsTreeAt}
 use Rattle.tib_k_best_lists.specs.Levels.{states_at}
 
--- no state below a rule is without a tree
+-- each state below a rule has a tree
 abbrev pub HaveTreesBelow : (ℕ → ℕ → ℕ) → List (Rule ℕ) → Type 0
 HaveTreesBelow product rules =
     (n : ℕ) → n < length rules → (i : ℕ) → i < length (states_at rules n) →
     ((y : Costed) → IsTreeAt product rules (get_or (states_at rules n) i 0) y → ⊥) → ⊥
 
--- so it is in a trimmed grammar
+-- this holds in a trimmed grammar
 abbrev pub TrimmedHasTrees : (ℕ → ℕ → ℕ) → Type 0
 TrimmedHasTrees product =
     (old new : GrammarOf) → AreNormal old.rules → AreNormal new.rules →

@@ -1,4 +1,4 @@
--- What the trees of a list cost in the whole grammar, and where they stand.
+-- What the trees of a list cost in the whole grammar, and where they are.
 use Rattle.std.specs.Prelude.{◌≡◌, ℕ, ◌<◌, ◌⊎◌, List, [], ◌∷◌, length, nat_eq, if◌then◌else◌}
 use Rattle.std.proofs.Common.{suc, get_or}
 use Rattle.tib_lex.specs.Lists.{Has, Each, Ascends}
@@ -15,7 +15,7 @@ abbrev pub CostFirst : (ℕ → ℕ → ℕ) → List (Rule ℕ) → List Costed
 CostFirst product rules xs ws =
     (i : ℕ) → i < length ws → IsTreeAt product rules 0 ((get_or xs i no_entry).0, get_or ws i 0)
 
--- these are the costs that stand with the first trees
+-- these are the costs that come with the first trees
 abbrev pub CostAsListed : List Costed → List ℕ → Type 0
 CostAsListed xs ws = (i : ℕ) → i < length ws → get_or ws i 0 ≡ (get_or xs i no_entry).1
 

@@ -12,7 +12,8 @@ use tib_cost::Semiring;
 use tib_k_best_lists::Lists;
 use tib_k_best_lists::heap::push;
 
-// The first place from one on whose state has no tree; the number of the states where each has one.
+// The first place, from a given one on, whose state has no tree; the number of the states if each
+// has one.
 fn next_missing(lists: &Lists, rule: u32, from: usize) -> usize
     requires sound { IsSound lists.now }
     requires rule { rule < length lists.now.rules }
@@ -52,7 +53,7 @@ impl Queue {
         push(lists, &mut self.heap, candidate)
     }
 
-    // Lets a rule wait for the first state from a place on that has no tree; where each has one,
+    // Makes a rule wait for the first state, from a place on, that has no tree. If each has one,
     // makes its first candidate.
     pub(crate) fn advance<S: Semiring>(
         &mut self,
@@ -86,7 +87,7 @@ impl Queue {
         )
     }
 
-    // Lets all rules go on that wait for a state, which has got its first tree.
+    // Advances all rules that wait for a state, which has got its first tree.
     pub(crate) fn release<S: Semiring>(
         &mut self,
         lists: &mut Lists,

@@ -1,4 +1,5 @@
-// Lists whose start has the k best trees of rules in normal form, whatever form these have besides.
+// Lists whose start has the k best trees of rules in normal form, whatever other form the rules
+// have.
 ghost use Rattle.std.specs.Prelude.{◌≡◌, ℕ, ◌<◌, ◌≤◌, ◌+◌, ◌^◌, length, IfErr, IfOk, OnOk};
 ghost use Rattle.tib_grammar.specs.Forms.{AreNormal, IsDeterministic};
 ghost use Rattle.tib_grammar.specs.Range.{AreInRange};
@@ -28,11 +29,11 @@ use tib_tree::Labels;
 pub(crate) enum Form {
     // Nothing more.
     Any,
-    // They are in deterministic form, so that few entries are placed.
+    // They are in deterministic form, so few entries are placed.
     Deterministic,
 }
 
-// Lists over rules in normal form, while no tree is known.
+// Lists over rules in normal form, with no trees yet.
 fn empty<'a>(
     alloc: Global,
     rules: &'a [Rule<u32>],
@@ -51,7 +52,7 @@ fn empty<'a>(
     Lists::new(alloc, rules, labels, ranks, states)
 }
 
-// A fault of asked lists as one of the list of best trees.
+// An error of asked lists as an error of the list of best trees.
 fn fault_of(error: AskError) -> KBestError
     ensures { IsFaultOf error result }
 {
@@ -61,7 +62,7 @@ fn fault_of(error: AskError) -> KBestError
     }
 }
 
-// Lets the lists grow from their first trees on, until that of the start has its k best trees.
+// Makes the lists grow from their first trees on, until the list of the start has its k best trees.
 fn ask<S: Semiring>(alloc: Global, lists: &mut Lists, k: u32, form: Form) -> Result<(), AskError>
     requires some { 0 < k }
     requires start { 0 < length lists.old.lists }
@@ -124,7 +125,7 @@ fn list_trees<S: Semiring>(
     }
 }
 
-// The lists of all states, where that of the start has its k best trees.
+// The lists of all states, where the list of the start has its k best trees.
 pub(crate) fn lists_of_rules<'a, S: Semiring>(
     alloc: Global,
     rules: &'a [Rule<u32>],

@@ -18,7 +18,7 @@ use tib_cost::Semiring;
 use tib_grammar::Rule;
 use tib_tree::Labels;
 
-// The list of the k best trees of rules in normal form. A fault may name any state.
+// The list of the k best trees of rules in normal form. An error may name any state.
 pub(crate) fn list_of_rules<S: Semiring>(
     alloc: Global,
     rules: &[Rule<u32>],
@@ -46,10 +46,10 @@ pub(crate) fn list_of_rules<S: Semiring>(
 }
 
 /// The list of the k best trees of rules in normal form, over this number of states. `ranks` has
-/// the place of each label's text in order. Where k is above 1, no state below a rule may be
-/// without a tree. `TreeTooLarge` names a useful state that has among its k best trees one of more
-/// than 10,000 nodes; `OutOfMemory` says nothing of the rules. Worst case: that of `first_trees`
-/// and of `ask_best`; twice that, and one of `trim_rules`, where some state has a large tree.
+/// the place of each label's text in order. If k is above 1, each state below a rule must have a
+/// tree. `TreeTooLarge` names a useful state that has among its k best trees one of more than
+/// 10,000 nodes; `OutOfMemory` comes if memory is refused. Worst case: that of `first_trees` and of
+/// `ask_best`; twice that, and one of `trim_rules`, if some state has a large tree.
 pub fn best_of_rules<S: Semiring>(
     alloc: Global,
     rules: &[Rule<u32>],

@@ -26,7 +26,7 @@ use tib_k_best_lists::label_ranks;
 use tib_normal::Normal;
 use tib_tree::Labels;
 
-// Whether the product of 1 and 1 is 1, as it is where the product is the greater factor.
+// Whether the product of 1 and 1 is 1, as it is if the product is the greater factor.
 fn keeps_one<S: Semiring>() -> bool
     ensures { S.WEIGHTED ≡ true → result ≡ S.LEVELLED }
 {
@@ -39,7 +39,7 @@ fn keeps_one<S: Semiring>() -> bool
     }
 }
 
-// Whether the product is the greater factor while costs matter.
+// Whether the product is the greater factor and costs matter.
 fn is_levelled<S: Semiring>() -> bool
     ensures yes { result ≡ true → S.LEVELLED ≡ true }
     ensures other { result ≡ false → (S.LEVELLED ≡ false) ⊎ (S.WEIGHTED ≡ false) }
@@ -82,7 +82,7 @@ fn flat<S: Semiring>(alloc: Global, list: List) -> Result<Ranked, AllocError>
     Ok(Ranked::new(split, first, Vec::new(alloc)))
 }
 
-// Whether a grammar is in deterministic form. Where memory is refused it says no.
+// Whether a grammar is in deterministic form. If memory is refused, it returns false.
 fn is_deterministic<S: Semiring>(alloc: Global, grammar: &Grammar<S>) -> bool
     ensures { IsTrue result → IsDeterministic grammar.now.rules }
 {
@@ -92,7 +92,7 @@ fn is_deterministic<S: Semiring>(alloc: Global, grammar: &Grammar<S>) -> bool
     }
 }
 
-// The k best trees of a grammar, with few entries where it is in deterministic form. The product is
+// The k best trees of a grammar, with few entries if it is in deterministic form. The product is
 // not the greater factor, or each rule costs 0.
 fn best_flat<S: Semiring>(
     alloc: Global,
@@ -150,8 +150,8 @@ fn best_trimmed<S: Semiring>(
     )
 }
 
-// The same of a grammar in which no state below a rule is without a tree, by `best_flat`, where a
-// fault names a useful state: where some state has a large tree, the grammar is copied and trimmed.
+// The same for a grammar in which each state below a rule has a tree, by `best_flat`. An error
+// names a useful state: if some state has a large tree, the grammar is copied and trimmed.
 fn best_useful<S: Semiring>(
     alloc: Global,
     normal: &Normal<S>,
@@ -176,12 +176,12 @@ fn best_useful<S: Semiring>(
     }
 }
 
-/// The k best trees of a grammar, or all where it has fewer, by cost and then in the order of
-/// trees, in any semiring. `TreeTooLarge` names a state that has among its k best trees one of more
-/// than 10,000 nodes and is useful; where the product is the greater factor, it is and has so in
-/// some level. `OutOfMemory` says nothing of the grammar. Worst case: where the product is the
-/// greater factor, that of `k_best_by_levels`; elsewhere that of `trim_rules` and of
-/// `best_of_rules`, a copy of the rules, and O(n log n) comparisons of texts for n labels.
+/// The k best trees of a grammar, or all if it has fewer, by cost and then in the order of trees,
+/// in any semiring. `TreeTooLarge` names a useful state that has among its k best trees one of more
+/// than 10,000 nodes; if the product is the greater factor, both hold in some level. `OutOfMemory`
+/// comes if memory is refused. Worst case: if the product is the greater factor, that of
+/// `k_best_by_levels`; otherwise that of `trim_rules` and of `best_of_rules`, a copy of the rules,
+/// and O(n log n) comparisons of texts for n labels.
 pub fn k_best<S: Semiring>(
     alloc: Global,
     normal: &Normal<S>,
@@ -211,12 +211,12 @@ pub fn k_best<S: Semiring>(
     }
 }
 
-/// The same list, under the same faults, of a grammar in which no state below a rule is without a
-/// tree, as in a trimmed one. It is not trimmed again, and few entries are placed where it is in
-/// deterministic form. Worst case: where the product is the greater factor, that of
-/// `k_best_by_levels`; elsewhere that of `lazy_of_rules` where the grammar is in deterministic
-/// form, and of `best_of_rules` where it is not, and that of `k_best` besides where some state has
-/// a large tree.
+/// The same list, with the same errors, for a grammar in which each state below a rule has a tree,
+/// as in a trimmed one. It is not trimmed again, and few entries are placed if it is in
+/// deterministic form. Worst case: if the product is the greater factor, that of
+/// `k_best_by_levels`. Otherwise that of `lazy_of_rules` if the grammar is in deterministic form,
+/// and of `best_of_rules` if it is not, and in addition that of `k_best` if some state has a large
+/// tree.
 pub fn best_trees<S: Semiring>(
     alloc: Global,
     normal: &Normal<S>,

@@ -14,7 +14,7 @@ use tib_k_best_lists::Lists;
 use tib_k_best_lists::heap::pop;
 
 impl Queue {
-    // Lets each rule wait for a state, or makes its first candidate, while no state has a tree.
+    // Makes each rule wait for a state, or makes its first candidate, while no state has a tree.
     fn start<S: Semiring>(&mut self, lists: &mut Lists) -> Result<(), AllocError>
         requires few { length lists.old.rules < 2 ^ 32 }
         requires queue { IsQueue S.product lists.old self.old
@@ -66,9 +66,9 @@ impl Queue {
 }
 
 /// Gives each state that has a tree its first one, in the order of costs and sizes (Knuth 1977).
-/// `TreeTooLarge` names a state whose first tree has more than 10,000 nodes; want of memory says
-/// nothing of the rules. After an error the lists serve nothing. Worst case: O(r log r) comparisons
-/// of trees for r rules, and one pass over the states below each rule.
+/// `TreeTooLarge` names a state whose first tree has more than 10,000 nodes; `OutOfMemory` comes if
+/// memory is refused. After an error the lists are of no use. Worst case: O(r log r) comparisons of
+/// trees for r rules, and one pass over the states below each rule.
 pub fn first_trees<S: Semiring>(alloc: Global, lists: &mut Lists) -> Result<(), KBestError>
     requires few { length lists.old.rules < 2 ^ 32 }
     requires orderly { IsOrderly S.product lists.old.rules }

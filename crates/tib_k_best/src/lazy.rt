@@ -27,7 +27,7 @@ use tib_normal::Normal;
 use tib_tree::Labels;
 
 /// The lists of all states, each from its best tree on: that of the start, and of the others what
-/// it took to make it.
+/// was needed to make it.
 #[derive(Drop)]
 pub struct LazyList {
     trees: Shared,
@@ -82,15 +82,15 @@ impl LazyList {
         }
     }
 
-    /// How many entries were placed: those of all states. An entry is one tree on the list of a
-    /// state. Takes no memory.
+    /// How many entries were placed for all states. An entry is one tree on the list of a state. It
+    /// takes no memory.
     pub fn steps(&self) -> u64
         ensures { result ≡ entries_in self.now }
     {
         self.steps
     }
 
-    /// The list of the start alone. Takes no memory.
+    /// The list of the start alone. It takes no memory.
     pub fn into_list(self) -> List
         ensures { result ≡ get_or self 0 [] }
     {
@@ -105,7 +105,7 @@ impl LazyList {
 }
 
 /// The lists of rules in normal and in deterministic form, over this number of states. `ranks` has
-/// the place of each label's text in order. The faults and the worst case are those of
+/// the place of each label's text in order. The errors and the worst case are those of
 /// `lazy_k_best`.
 pub fn lazy_of_rules<S: Semiring>(
     alloc: Global,
@@ -139,11 +139,11 @@ pub fn lazy_of_rules<S: Semiring>(
     }
 }
 
-/// The k best trees of a grammar in deterministic form, as `k_best` gives them and under the same
-/// faults, with the entries of all states that were placed for them: no more than there are states
-/// and nodes of the listed trees. Worst case: that of `first_trees`, a pass over the last listed
-/// tree for each tree that is listed, O(log n) comparisons for each entry and candidate, and O(n
-/// log n) comparisons of texts for n labels.
+/// The k best trees of a grammar in deterministic form, as `k_best` gives them and with the same
+/// errors, with the entries of all states that were placed for them: at most as many as there are
+/// states and nodes of the listed trees. Worst case: that of `first_trees`, a pass over the last
+/// listed tree for each tree that is listed, O(log n) comparisons for each entry and candidate, and
+/// O(n log n) comparisons of texts for n labels.
 pub fn lazy_k_best<S: Semiring>(
     alloc: Global,
     normal: &Normal<S>,

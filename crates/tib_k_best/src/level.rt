@@ -1,4 +1,4 @@
-// The best trees of rules that are trimmed first, as those of a level.
+// The best trees of rules that are trimmed first, as those of a level are.
 ghost use Rattle.std.specs.Prelude.{◌<◌, ◌≤◌, ◌^◌, length, IfErr, IfOk};
 ghost use Rattle.tib_cost.specs.Semiring.{most};
 ghost use Rattle.tib_grammar.specs.Forms.{AreNormal};
@@ -39,7 +39,7 @@ fn trimmed_rules<S: Semiring>(
     Ok(trimmed)
 }
 
-// The same fault, with the number that the state had before.
+// The same error, with the number that the state had before.
 fn renamed(error: KBestError, states: &[u32]) -> KBestError
     requires { NamesBelow (length states.now) error }
     ensures { IsRenamed states.now error result }

@@ -19,7 +19,7 @@ use tib_k_best_lists::label_ranks;
 use tib_normal::Normal;
 use tib_tree::Labels;
 
-// What the trees of a list cost in the whole grammar, each with its place, by cost.
+// The cost in the whole grammar of each tree of a list, with its place, by cost.
 fn first_of<S: Semiring>(
     alloc: Global,
     normal: &Normal<S>,
@@ -35,7 +35,7 @@ fn first_of<S: Semiring>(
     Ok(first)
 }
 
-// The first places of trees that cost this much in the whole grammar, or all.
+// The first places of trees with this cost in the whole grammar, or all of them.
 fn rest_of<S: Semiring>(
     alloc: Global,
     normal: &Normal<S>,
@@ -54,8 +54,7 @@ fn rest_of<S: Semiring>(
     Ok(rest)
 }
 
-// The places of the trees below the cost by what they cost, and of those that cost as much, k in
-// all.
+// The places of the trees below the cost, by their costs, and of those that cost as much, k in all.
 fn places<S: Semiring>(
     alloc: Global,
     normal: &Normal<S>,
@@ -78,7 +77,7 @@ fn places<S: Semiring>(
     Ok((first, rest))
 }
 
-// The trees below the cost by what they cost, and then those that cost as much, k in all.
+// The trees below the cost, by their costs, and then those that cost as much, k in all.
 fn rank<S: Semiring>(
     alloc: Global,
     normal: &Normal<S>,
@@ -96,12 +95,12 @@ fn rank<S: Semiring>(
     Ok(Ranked::new(split, first, rest))
 }
 
-/// The k best trees of a grammar, or all where it has fewer, by cost and then in the order of
-/// trees, in a semiring whose product is the greater factor: the trees below the least level with
-/// k, and the first of that level that cost as much. `TreeTooLarge` names a state that has in some
-/// level among its k best trees one of more than 10,000 nodes; `OutOfMemory` says nothing of the
-/// grammar. Worst case: that of `best_of_rules` for O(log r) levels of r rules, which are copied
-/// and trimmed, and of `weigh` for 2k trees.
+/// The k best trees of a grammar, or all if it has fewer, by cost and then in the order of trees,
+/// in a semiring whose product is the greater factor: the trees below the least level with k, and
+/// the first of that level that cost as much. `TreeTooLarge` names a state that has in some level
+/// among its k best trees one of more than 10,000 nodes; `OutOfMemory` comes if memory is refused.
+/// Worst case: that of `best_of_rules` for O(log r) levels of r rules, which are copied and
+/// trimmed, and of `weigh` for 2k trees.
 pub fn k_best_by_levels<S: Semiring>(
     alloc: Global,
     normal: &Normal<S>,

@@ -9,7 +9,7 @@ use std::alloc::{AllocError, Global};
 use tib_cost::{Cost, Semiring};
 use tib_grammar::{Rule, Side};
 
-// How many states stand below a rule.
+// How many states are below a rule.
 fn count_of(rule: &Rule<u32>) -> usize
     requires { IsNormalSide rule.now.right }
     ensures many { result ≡ length (holes rule.now.right.kids) }
@@ -54,7 +54,7 @@ fn rule_at_cost(
     })
 }
 
-// The same rules.
+// A copy of the rules.
 pub(crate) fn copied_rules(alloc: Global, rules: &[Rule<u32>]) -> Result<Vec<Rule<u32>>, AllocError>
     requires { AreNormal rules.now }
     ensures { IfOk result (λ v. v.items ≡ rules.now) }
@@ -67,7 +67,7 @@ pub(crate) fn copied_rules(alloc: Global, rules: &[Rule<u32>]) -> Result<Vec<Rul
     Ok(copies)
 }
 
-/// The rules of a level: those that cost no more, each at no cost. Only want of memory is an error.
+/// The rules of a level: those that cost no more, each at no cost. Err only if memory is refused.
 /// Worst case: one pass over the rules.
 pub fn level_rules<S: Semiring>(
     alloc: Global,
@@ -99,8 +99,8 @@ fn costs_of(alloc: Global, rules: &[Rule<u32>]) -> Result<Vec<Cost>, AllocError>
     Ok(costs)
 }
 
-/// What the rules cost, ascending, a cost for each rule. Only want of memory is an error. Worst
-/// case: O(r log r) steps for r rules.
+/// The costs of the rules, ascending, one for each rule. Err only if memory is refused. Worst case:
+/// O(r log r) steps for r rules.
 pub fn sorted_costs(alloc: Global, rules: &[Rule<u32>]) -> Result<Vec<Cost>, AllocError>
     ensures { IfOk result (λ v. AreCosts rules.now v.items) }
 {

@@ -1,6 +1,6 @@
 //! Lists of the best trees of a grammar in normal form: first trees (Knuth 1977), and lists that
-//! grow where a tree is asked for (`tib_asked_lists`). Where the product is the greater factor, the
-//! least level with k trees is found by halves, and the trees below it are weighed and sorted.
+//! grow where a tree is asked for (`tib_asked_lists`). If the product is the greater factor, binary
+//! search finds the least level with k trees, and the trees below it are weighed and sorted.
 #![tactic(auto)]
 
 mod advancing;

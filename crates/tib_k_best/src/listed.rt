@@ -1,4 +1,4 @@
-// The list of best trees that is answered.
+// The list of best trees that is returned.
 ghost use Rattle.std.specs.Prelude.{◌≡◌, ℕ, ◌<◌, ◌≤◌, [], length, map, IfOk};
 ghost use Rattle.std.proofs.Common.{get_or};
 ghost use Rattle.tib_tree.specs.Trees.{most_nodes, size};
@@ -62,7 +62,7 @@ impl List {
         List { trees, entries }
     }
 
-    /// What holds of each list: its trees have 10,000 nodes at most. It computes nothing.
+    /// What holds for each list: its trees have at most 10,000 nodes. It computes nothing.
     pub fn is_small(&self)
         ensures { (i : ℕ) → i < length self.now →
             size (get_or self.now i no_entry).0 ≤ most_nodes }
@@ -70,14 +70,14 @@ impl List {
         let _ = self.entries.len();
     }
 
-    /// How many trees. Takes no memory.
+    /// How many trees there are. It takes no memory.
     pub fn len(&self) -> u32
         ensures { result ≡ length self.now }
     {
         self.entries.len() as u32
     }
 
-    /// What a tree costs, by its place from 0. Takes no memory.
+    /// What a tree costs, by its place from 0. It takes no memory.
     pub fn cost(&self, i: u32) -> Cost
         requires { i < length self.now }
         ensures { result ≡ (get_or self.now i no_entry).1 }
@@ -85,8 +85,8 @@ impl List {
         self.entries[i as usize].cost
     }
 
-    /// A tree by its place, with all its nodes. Only want of memory is an error. Worst case: O(n)
-    /// steps and memory for n nodes.
+    /// A tree by its place from 0, with all its nodes. Err only if memory is refused. Worst case:
+    /// O(n) steps and memory for n nodes.
     pub fn tree(&self, alloc: Global, i: u32) -> Result<Tree, AllocError>
         requires { i < length self.now }
         ensures { IfOk result (λ t. t ≡ (get_or self.now i no_entry).0) }

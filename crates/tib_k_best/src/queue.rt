@@ -13,12 +13,12 @@ use std::marker::Model;
 pub struct Waiting {
     /// The rule's place.
     pub rule: u32,
-    /// Which of the states below it is waited for.
+    /// Which of the states below it the rule waits for.
     pub place: u32,
 }
 
-/// For each state the rules that wait for its first tree; and the candidates of the rules that wait
-/// for none, the least first.
+/// For each state, the rules that wait for its first tree; and the candidates of the rules that
+/// wait for none, the least first.
 #[derive(Drop)]
 pub struct Queue {
     pub(crate) waiting: Vec<Vec<Waiting>>,
@@ -34,7 +34,7 @@ impl Model for Queue {
     ghost view = { λ w. record { waiting = map rules_of w.waiting.items; heap = w.heap.items } };
 }
 
-// For each state no rules.
+// No rules for each state.
 fn no_rules(alloc: Global, states: usize) -> Result<Vec<Vec<Waiting>>, AllocError>
     ensures { IfOk result (λ v. map rules_of v.items ≡ replicate states []) }
 {
@@ -56,7 +56,7 @@ impl Queue {
         })
     }
 
-    // Lets a rule wait for a state.
+    // Makes a rule wait for a state.
     pub(crate) fn wait(&mut self, state: u32, waiting: Waiting) -> Result<(), AllocError>
         requires { state < length self.old.waiting }
         ensures { OnOk result (self.new ≡ record self.old {

@@ -1,4 +1,4 @@
-// The list that is answered: trees below a cost, sorted, and trees at it.
+// The list that is returned: trees below a cost, sorted, and trees at it.
 ghost use Rattle.std.specs.Prelude.{◌≡◌, ℕ, ◌<◌, ◌≤◌, length, IfOk};
 ghost use Rattle.std.proofs.Common.{get_or};
 ghost use Rattle.tib_tree.specs.Trees.{most_nodes, size};
@@ -55,7 +55,7 @@ impl Ranked {
         }
     }
 
-    /// What holds of each list: its trees have 10,000 nodes at most. It computes nothing.
+    /// What holds for each list: its trees have at most 10,000 nodes. It computes nothing.
     pub fn is_small(&self)
         ensures { (i : ℕ) → i < length self.now →
             size (get_or self.now i no_entry).0 ≤ most_nodes }
@@ -64,14 +64,14 @@ impl Ranked {
         self.at.is_small();
     }
 
-    /// How many trees. Takes no memory.
+    /// How many trees there are. It takes no memory.
     pub fn len(&self) -> u32
         ensures { result ≡ length self.now }
     {
         (self.first.len() + self.rest.len()) as u32
     }
 
-    /// What a tree costs, by its place from 0. Takes no memory.
+    /// What a tree costs, by its place from 0. It takes no memory.
     pub fn cost(&self, i: u32) -> Cost
         requires { i < length self.now }
         ensures { result ≡ (get_or self.now i no_entry).1 }
@@ -84,8 +84,8 @@ impl Ranked {
         self.cost
     }
 
-    /// A tree by its place, with all its nodes. Only want of memory is an error. Worst case: O(n)
-    /// steps and memory for n nodes.
+    /// A tree by its place from 0, with all its nodes. Err only if memory is refused. Worst case:
+    /// O(n) steps and memory for n nodes.
     pub fn tree(&self, alloc: Global, i: u32) -> Result<Tree, AllocError>
         requires { i < length self.now }
         ensures { IfOk result (λ t. t ≡ (get_or self.now i no_entry).0) }

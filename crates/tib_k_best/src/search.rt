@@ -1,4 +1,4 @@
-// The search by halves for the least level with k trees.
+// Binary search for the least level with k trees.
 ghost use Rattle.std.specs.Prelude.{◌≡◌, ◌<◌, ◌^◌, true, length, IfErr, IfOk};
 ghost use Rattle.tib_grammar.specs.Forms.{AreNormal};
 ghost use Rattle.tib_grammar.specs.Range.{AreInRange};
@@ -16,7 +16,7 @@ use tib_cost::{Cost, Semiring};
 use tib_grammar::Rule;
 use tib_tree::Labels;
 
-/// The trees below a cost, and the k best of its level, or none where the grammar has fewer than k.
+/// The trees below a cost, and the k best of its level, or none if the grammar has fewer than k.
 #[derive(Drop)]
 pub(crate) struct Split {
     pub(crate) below: List,

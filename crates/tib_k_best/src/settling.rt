@@ -14,7 +14,7 @@ use tib_k_best_lists::{Entry, Lists};
 // The most nodes that a listed tree may have.
 const MOST_NODES: u64 = tib_tree::MOST_NODES as u64;
 
-// Puts the tree of a candidate last on the list of its state.
+// Appends the tree of a candidate to the list of its state.
 fn list(alloc: Global, lists: &mut Lists, candidate: u32) -> Result<(), AllocError>
     requires sound { IsSound lists.old }
     requires below { candidate < length lists.old.candidates }
@@ -37,7 +37,7 @@ fn list(alloc: Global, lists: &mut Lists, candidate: u32) -> Result<(), AllocErr
 }
 
 impl Queue {
-    // Gives the state of the least candidate its first tree, where it has none yet.
+    // Gives the state of the least candidate its first tree, if it has none yet.
     pub(crate) fn settle<S: Semiring>(
         &mut self,
         alloc: Global,

@@ -28,7 +28,7 @@ pub(crate) fn weights_of<S: Semiring>(
     Ok(weights)
 }
 
-// The costs that stand in a list, in order.
+// The costs in a list, in order.
 pub(crate) fn costs_of(alloc: Global, list: &List) -> Result<Vec<Cost>, AllocError>
     ensures long { IfOk result (λ v. length v.items ≡ length list.now) }
     ensures each { IfOk result (λ v. CostAsListed list.now v.items) }
