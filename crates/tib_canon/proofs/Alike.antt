@@ -13,7 +13,7 @@ use Rattle.tib_inside.specs.Useful.{product_of, IsLive, IsUseful}
 use Rattle.tib_lex.proofs.Members.{has_at, at_has}
 use Rattle.tib_inside.specs.Useful as useful
 
--- each rule of the one list stands in the other
+-- each rule of the one list is in the other
 pub record AreAlike (xs ys : List (Rule ℕ)) : Type 0 where
   pub to : (r : Rule ℕ) → Has xs r → Has ys r
   pub from : (r : Rule ℕ) → Has ys r → Has xs r
@@ -24,7 +24,7 @@ alike_self xs = record { to = λ r h. h; from = λ r h. h }
 pub alike_back : (xs ys : List (Rule ℕ)) → AreAlike xs ys → AreAlike ys xs
 alike_back xs ys a = record { to = a.from; from = a.to }
 
--- the rule at a position of the one list stands at a position of the other
+-- the rule at a position of the one list is at a position of the other
 pub record StandsAt (xs ys : List (Rule ℕ)) (n : ℕ) : Type 0 where
   pub position : ℕ
   pub below : position < length ys
@@ -72,7 +72,7 @@ along_moved R T [] (y ∷ ys) f h = absurd h
 along_moved R T (x ∷ xs) [] f h = absurd h
 along_moved R T (x ∷ xs) (y ∷ ys) f h = (f x y h.0, along_moved R T xs ys f h.1)
 
--- a live rule is live wherever it stands
+-- a live rule is live wherever it is
 pub live_moved : (product : ℕ → ℕ → ℕ) (xs ys : List (Rule ℕ)) → AreAlike xs ys → (n m : ℕ) → m < length ys → rule_at ys m ≡ rule_at xs n → IsLive product xs n → IsLive product ys m
 live_moved product xs ys a n m below is l =
     let known : Along (λ q c. IsInside product ys q (Some c)) (holes_of (rule_at xs n).right) l.insides =

@@ -1,4 +1,4 @@
--- The keys of an order behind a fresh start.
+-- The keys of an order after a fresh start.
 use Rattle.std.proofs.Common.{◌≡◌, ℕ, ◌+◌, ◌<◌, List, [], ◌∷◌, length, map, slice_get, refl, ap, sym, ◌∙◌, subst, arith, zero, suc, inl, inr}
 use Rattle.std.specs.Prelude.{Option, None, Some}
 use Rattle.std.specs.Option.{option_cmp, option_map}
@@ -19,7 +19,7 @@ module _ {K : Type 0} where
   pub behind_long : (order : List K) → length (behind_fresh order) ≡ suc (length order)
   behind_long order = ap suc (length-map order some)
 
-  -- keys that are distinct are so behind a fresh start
+  -- keys that are distinct are so after a fresh start
 
   some_stands : (order : List K) (k : K) → Has (map some order) (Some k) → Has order k
   some_stands order k h = let a = has_mapped some order (Some k) h in subst (Has order) (some_same a.0 k a.2) a.1
@@ -61,7 +61,7 @@ module _ {K : Type 0} (cmp : K → K → Ordering) (order : List K) where
       let b = came_from (slice_get order q) y (sym (slice_get-map some order q) ∙ at_y) in
       subst (λ (z : Option K). option_cmp cmp z y ≡ Less) a.2 (subst (λ (z : Option K). option_cmp cmp (Some a.0) z ≡ Less) b.2 (before a.0 b.0 a.1 b.1))
 
-  -- the fresh start, and behind it all positions by their keys
+  -- the fresh start, followed by all positions by their keys
   module _ (ps : List ℕ) (all : AreAllByKeys cmp order ps) where
     stands_below : (p : ℕ) → Has (0 ∷ map suc ps) p → p < length (behind_fresh order)
     stands_below p (inl e) = omega (arith, e, behind_long order)

@@ -57,7 +57,7 @@ lefts_ascend : (scale : Scale) (names labels : List (List ℕ)) (rules : List (R
 lefts_ascend scale names labels rules =
     ascends_as (λ r s. rule_cmp scale names labels r s ≡ Less) (λ r s. r.left ≤ s.left) (λ r s e. not_above r.left s.left (ranks (nat_cmp r.left s.left) _ e)) rules
 
--- nothing stands below a state in trimmed rules
+-- nothing is below a state in trimmed rules
 pub trimmed_leaves : (product : ℕ → ℕ → ℕ) (g h : GrammarOf) → IsTrimmed product g h → SidesEndInHoles g.rules → SidesEndInHoles h.rules
 trimmed_leaves product g h t leaves m k =
     let position : ℕ = get_or t.rules m 0 in
@@ -65,7 +65,7 @@ trimmed_leaves product g h t leaves m k =
     leaves_back (λ i. get_or t.states i 0) (only (rule_at h.rules m).right)
     (subst (λ (r : Rule ℕ). HolesAreLeaves (only r.right)) (sym (named_at product g h t m k)) (leaves position live.0.below))
 
--- what holds of the rules of one list holds of those of another whose rules all stand in it
+-- what holds of the rules of one list holds of those of another whose rules all are in it
 of_members : (P : Rule ℕ → Type 0) (rules others : List (Rule ℕ)) → ((r : Rule ℕ) → Has others r → Has rules r) → ((m : ℕ) → m < length rules → P (rule_at rules m)) → (m : ℕ) → m < length others → P (rule_at others m)
 of_members P rules others kept f m h =
     let at = at_has rules (rule_at others m) no_rule (kept (rule_at others m) (has_at others m no_rule h)) in
@@ -100,7 +100,7 @@ module _
   pub canonical_text : length g.names ≤ 4294967296 → SidesEndInHoles g.rules → ArePrintable scale labels g.rules → GrammarText scale labels (grammar_text scale labels h) h
   canonical_text few leaves printable = reads_sorted scale labels h (canonical_has_text few leaves printable) (lefts_ascend scale h.names labels h.rules c.in_order.ascends)
 
--- the same of a normal form of a grammar
+-- the same for a normal form of a grammar
 
 hole_alone : (s : Side ℕ ℕ) (q : ℕ) → HolesAreLeaves (only s) → s.label ≡ hole q → s ≡ Lone q
 hole_alone s q h e = by s.label s.kids h e

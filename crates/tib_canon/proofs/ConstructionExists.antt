@@ -54,7 +54,7 @@ pub record IsPlainConstruction {K O : Type 0} (scale : Scale) (labels : List (Li
   pub begins : (order : List K) → c.begins order (At 0)
   pub edges : (order : List K) (es : List (Rule K)) → IsReachedSet c.problem order es → (e : Rule K) → Has es e → IsEdgeOver scale labels order e
 
--- The same of one whose start is fresh, with finals that are positions of the order, at costs that
+-- The same for one whose start is fresh, with finals that are positions of the order, at costs that
 -- can be printed.
 pub record IsPlainFresh {K O : Type 0} (scale : Scale) (labels : List (List ℕ)) (c : Construction K O) (finals : List K → List (ℕ × ℕ)) : Type 0 where
   pub edges : HasPlainEdges scale labels c
@@ -71,7 +71,7 @@ ends_back f (tree (label g) kids rest) h = (ends_back f kids h.0, ends_back f re
 ends_back f (tree (hole q) none rest) h = ends_back f rest h
 ends_back f (tree (hole q) (tree s kids more) rest) h = absurd h
 
--- labels are plain whatever states stand beside them
+-- labels are plain whatever states come with them
 plain_back : {K : Type 0} (labels : List (List ℕ)) (f : ℕ → K) (g : K → ℕ) (ts : Trees (Symbol ℕ ℕ)) → HavePlainLabels labels (relabel (symbol_map g) (relabel (symbol_map f) ts)) → HavePlainLabels labels ts
 plain_back labels f g none h = tt
 plain_back labels f g (tree (label x) kids rest) h = (h.0, h.1, plain_back labels f g kids h.2, plain_back labels f g rest h.3)
@@ -178,7 +178,7 @@ module _ {K O : Type 0} (scale : Scale) (labels : List (List ℕ)) (c : Construc
       k h (canonical_of scale labels c plain_edges limit w product (At 0) h (plain.begins w.order) canonical)
       (at_text laws c.problem.cmp scale labels w.order rules 0 h few over.leaves over.printable canonical))
 
--- the same of a construction with a fresh start
+-- the same for a construction with a fresh start
 module _ {K O : Type 0} (scale : Scale) (labels : List (List ℕ)) (c : Construction K O) (finals : List K → List (ℕ × ℕ)) (plain : IsPlainFresh scale labels c finals) where
   pub fresh_there :
       {levelled weighed : Bool} {product : ℕ → ℕ → ℕ} → ProductLaws levelled weighed product → (limit : ℕ) → limit < 4294967296 → Distinct labels → HasReachedWithin c.problem limit →

@@ -46,7 +46,7 @@ fit_rules n rules range leaves r h =
       right = fit_from n (only (rule_at rules at.0).right) (range at.0 at.1).1 (leaves at.0 at.1);
     })
 
--- rules whose edges stand among those of others stand among these
+-- rules whose edges are among those of others are among these
 pub rules_stand :
     {K : Type 0} (spare : K) (order : List K) → Distinct order → (xs ys : List (Rule ℕ)) → AreInRange (length order) xs → SidesEndInHoles xs → AreInRange (length order) ys → SidesEndInHoles ys →
     ((e : Rule K) → Has (edges_over spare order xs) e → Has (edges_over spare order ys) e) → (r : Rule ℕ) → Has xs r → Has ys r

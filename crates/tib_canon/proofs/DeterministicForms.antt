@@ -1,5 +1,5 @@
 -- The canonical form of a grammar in deterministic form is in deterministic form, and so is that
--- over keys behind a fresh start.
+-- over keys after a fresh start.
 use Rattle.tib_cost.specs.declared.Scale.{Scale}
 use Rattle.std.specs.Prelude.{◌≡◌, ℕ, ◌<◌, List, [], ◌∷◌, length, refl}
 use Rattle.std.proofs.Common.{zero, suc, arith, ap, sym, ◌∙◌, subst, inl, inr, get_or}
@@ -44,7 +44,7 @@ module _ (product : ℕ → ℕ → ℕ) (g h : GrammarOf) (t : IsTrimmed produc
 
 -- canonical order
 
--- rules that all stand in a grammar in deterministic form, each once, are in deterministic form
+-- rules that all are in a grammar in deterministic form, each once, are in deterministic form
 module _ (old new : List (Rule ℕ)) (kept : (r : Rule ℕ) → Has new r → Has old r) (once : Distinct new) (form : IsDeterministic old) where
   record IsPlace (j n : ℕ) : Type 0 where
     below : n < length old
@@ -123,7 +123,7 @@ module _ {K : Type 0} (cmp : K → K → Ordering) (order : List K) (rules : Lis
   pub over_form : IsDeterministic rules → IsDeterministic g.rules
   over_form form = deterministic_back number (λ j. j) rules g.rules some_of_keys form
 
--- behind a fresh start
+-- after a fresh start
 pub fresh_form :
     {K : Type 0} (cmp : K → K → Ordering) (product : ℕ → ℕ → ℕ) (scale : Scale) (labels : List (List ℕ)) (order : List K) (rules : List (Rule ℕ)) (finals : List (ℕ × ℕ)) (h : GrammarOf) →
     IsCanonicalOverKeys product scale labels cmp order rules (Fresh finals) h → IsDeterministic (started_rules finals rules) → IsDeterministic h.rules

@@ -86,7 +86,7 @@ module _ {K : Type 0} where
   same_got : (ks : List K) (n : ℕ) (a b : K) → slice_get ks n ≡ Some a → slice_get ks n ≡ Some b → a ≡ b
   same_got ks n a b e f = let s : Some a ≡ Some b = sym e ∙ f in cc
 
-  -- distinct keys stand at one position each
+  -- distinct keys are at one position each
   one_place : (ks : List K) (i j : ℕ) (k : K) → Distinct ks → slice_get ks i ≡ Some k → slice_get ks j ≡ Some k → i ≡ j
   one_place [] i j k d e f = grind (arith, e)
   one_place (x ∷ xs) zero zero k d e f = refl
@@ -138,7 +138,7 @@ module _ {K : Type 0} (cmp : K → K → Ordering) (total : IsTotalOrder cmp) (e
     key_of : (m : Mark K) → IsMark start 0 order m → slice_get order m.2 ≡ Some m.1
     key_of m a = let e : m.2 - 0 ≡ m.2 = omega arith in subst (λ i. slice_get order i ≡ Some m.1) e a.key
 
-    -- two others in order stand before each other by their keys
+    -- two others in order are before each other by their keys
     before : (x y : Mark K) → IsMark start 0 order x → IsMark start 0 order y → (x.2 ≡ start → ⊥) → (y.2 ≡ start → ⊥) → (x.2 ≡ y.2 → ⊥) → NotAbove x y → StandBefore cmp order x.2 y.2
     before x y a b other_x other_y differ h v w at_v at_w =
         let less : is_lt (cmp y.1 x.1) ≡ false =

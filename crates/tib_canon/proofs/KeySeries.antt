@@ -128,7 +128,7 @@ canonical_series cmp product scale labels order rules start h c t v =
     let a = over_series cmp product order rules start c.over c.begun t v in
     let b = c.series t v in (λ x. b.0 (a.0 x), λ x. a.1 (b.1 x))
 
--- the same behind a fresh start
+-- the same after a fresh start
 pub fresh_series :
     {K : Type 0} (cmp : K → K → Ordering) (product : ℕ → ℕ → ℕ) (scale : Scale) (labels : List (List ℕ)) (order : List K) (rules : List (Rule ℕ)) (finals : List (ℕ × ℕ)) (h : GrammarOf) →
     IsCanonicalOverKeys product scale labels cmp order rules (Fresh finals) h → (t : Tree ℕ) (v : Option ℕ) → IsSeries product (started_rules finals rules) t v ↔ IsSeries product h.rules t v

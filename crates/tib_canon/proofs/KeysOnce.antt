@@ -87,7 +87,7 @@ module _ {K : Type 0} (cmp : K → K → Ordering) (order : List K) (start : ℕ
       let at = at_has xs (named_rule (place_in o.states) r) no_rule (rule_over xs g o r h) in
       leaves_back (place_in o.states) (only r.right) (subst (λ (x : Rule ℕ). HolesAreLeaves (only x.right)) at.2 (leaves at.0 at.1))
 
-  -- nothing stands below a state
+  -- nothing is below a state
   pub leaves_over : (xs : List (Rule ℕ)) (g : GrammarOf) → IsOverKeys cmp order xs start g → SidesEndInHoles xs → SidesEndInHoles g.rules
   leaves_over xs g o leaves m h = leaf_over xs g o leaves (rule_at g.rules m) (has_at g.rules m no_rule h)
 

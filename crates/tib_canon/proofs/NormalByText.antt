@@ -1,4 +1,4 @@
--- The normal form of rules under other numbers of labels is their normal form under these numbers.
+-- The normal form of rules with other numbers of labels is their normal form with these numbers.
 use Rattle.std.proofs.Common.{◌≡◌, ℕ, ◌+◌, ◌<◌, ◌≤◌, List, [], ◌∷◌, ◌++◌, length, map, refl, ap, sym, ◌∙◌, subst, arith, zero, suc, inl, inr}
 use Rattle.std.specs.Prelude.{Some}
 use Rattle.std.proofs.lemmas.List.{length-map, map-append}
@@ -38,7 +38,7 @@ module _ (f : ℕ → ℕ) where
       ap (λ (n : ℕ). tree (hole s) none (heads (suc s + n) (trees_with f rest))) (labels_with kids)
       ∙ ap (λ (x : Trees (Symbol ℕ ℕ)). tree (hole s) none x) (heads_with (suc s + labels_in kids) rest)
 
-  -- no label stands in what takes the place of labels
+  -- no label is in what takes the place of labels
   heads_still : (s : ℕ) (k : Trees (Symbol ℕ ℕ)) → trees_with f (heads s k) ≡ heads s k
   heads_still s none = refl
   heads_still s (tree (hole q) kids rest) = ap (λ (x : Trees (Symbol ℕ ℕ)). tree (hole q) none x) (heads_still s rest)

@@ -15,7 +15,7 @@ use Rattle.tib_canon.proofs.Alike.{AreAlike}
 use Rattle.tib_canon.proofs.TrimmedOnce.{one_canonical_of}
 use Rattle.tib_lex.proofs.Members.{has_at, has_either}
 
--- nothing stands below a state in the rules of a normal form
+-- nothing is below a state in the rules of a normal form
 
 heads_leaves : (s : ℕ) (k : Trees (Symbol ℕ ℕ)) → HolesAreLeaves (heads s k)
 heads_leaves s none = tt
@@ -50,7 +50,7 @@ module _ (product : ℕ → ℕ → ℕ) (states : ℕ) (rules : List (Rule ℕ)
   pub form_leaves : (n : ℕ) (xs : List (Rule ℕ)) → IsNormalForm product states rules n xs → SidesEndInHoles xs
   form_leaves n xs form m h = cost_leaves (rule_at xs m) (form.least (rule_at xs m) (has_at xs m no_rule h)).attained.0
 
-  -- a rule of one normal form stands in another
+  -- a rule of one normal form is in another
   form_stands : (m n : ℕ) (xs ys : List (Rule ℕ)) → IsNormalForm product states rules m xs → IsNormalForm product states rules n ys → (r : Rule ℕ) → Has xs r → Has ys r
   form_stands m n xs ys one two r h =
       let l = one.least r h in

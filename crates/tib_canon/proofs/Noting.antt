@@ -14,7 +14,7 @@ use Rattle.tib_grammar.proofs.RightSides.{IsItemTest, items_same, items_themselv
 use Rattle.tib_canon.specs.Merging.{Sides}
 
 module _ (E : Item ℕ → Item ℕ → Bool) (test : IsItemTest E) where
-  -- the test of and-true sides tells them
+  -- the test of two parts tells sides apart
   pub sides_same : (j k : Sides) → (nat_eq j.0 k.0 && pointwise E j.1 k.1) ≡ true → k ≡ j
   sides_same j k e =
       let parts = and-true (nat_eq j.0 k.0) (pointwise E j.1 k.1) e in
@@ -57,13 +57,13 @@ module _ {K S : Type 0} (blank : S) (v : K → S) (t : K → Bool) (x : K) where
   grown true keys e = absurd (cc)
   grown false keys e = refl
 
-  -- what no key was told to be is noted behind the others
+  -- what the test finds equal to no key is noted after the others
   pub noted_new :
       ((k : K) → v k ≡ v x → t k ≡ true) → (keys now : List K) → list_any t keys ≡ false → now ≡ (if list_any t keys then keys else keys ++ x ∷ []) →
       (Has (map v keys) (v x) → ⊥) × (map v now ≡ map v keys ++ v x ∷ [])
   noted_new told keys now f e = (absent told keys f, ap (map v) (e ∙ grown (list_any t keys) keys f) ∙ map-append v keys (x ∷ []))
 
-  -- and what was noted before stands at the place that was told
+  -- and what was noted before is at the place that was found
   pub noted_before :
       ((k : K) → t k ≡ true → v k ≡ v x) → (keys now : List K) (place : ℕ) → list_any t keys ≡ true → place ≡ position_or_len t keys →
       now ≡ (if list_any t keys then keys else keys ++ x ∷ []) → (place < length (map v keys)) × (get_or (map v keys) place blank ≡ v x) × (map v now ≡ map v keys)

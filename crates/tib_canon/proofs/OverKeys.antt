@@ -108,7 +108,7 @@ refilled : {X : Type 0} (xs ws : List X) (n : ℕ) → n ≡ length xs → lengt
 refilled xs ws n many e =
     ap (λ k. take n (ws ++ drop k xs)) e ∙ ap (λ l. take n (ws ++ l)) (drop-length xs) ∙ ap (take n) (append-nil ws) ∙ ap (λ k. take k ws) (many ∙ sym e) ∙ take-length ws
 
--- the rules under the numbers of the keys, where they stand
+-- the rules with the numbers of the keys, in their order
 pub rules_over :
     {K : Type 0} (cmp : K → K → Ordering) (order : List K) (start : ℕ) (states : List ℕ) (by : AreByKeys cmp order start states) (part numbers few : List ℕ) (rules lent new : List (Rule ℕ)) (n : ℕ) → part ≡ states → AreNumbersOf part numbers → few ≡ numbers →
     AreInRange (length order) rules → SidesEndInHoles rules → lent ≡ rules → new ≡ map (named_rule (number_in few)) lent → n ≡ length rules →
@@ -118,7 +118,7 @@ rules_over cmp order start states by part numbers few rules lent new n s are f r
     over_keys cmp order start states by numbers (subst (λ (xs : List ℕ). AreNumbersOf xs numbers) s are) rules range leaves (record { names = names_of (length order); rules = take n (new ++ drop (length new) rules) }) (ap names_of (sym by.many))
     (refilled rules new n many (ap length is ∙ length-map rules (named_rule (number_in numbers))) ∙ is)
 
--- the same behind a fresh start, whose chain rules come first
+-- the same after a fresh start, whose chain rules come first
 pub rules_behind :
     {K : Type 0} (cmp : K → K → Ordering) (order : List K) (states : List ℕ) (by : AreByKeys (option_cmp cmp) (behind_fresh order) 0 states) (numbers : List ℕ) (finals : List (ℕ × ℕ)) (rules new : List (Rule ℕ)) → AreNumbersOf states numbers →
     Each (λ p. p.0 < length order) finals → AreInRange (length order) rules → SidesEndInHoles rules → new ≡ map (chain_in (drop 1 numbers)) finals ++ map (named_rule (number_in (drop 1 numbers))) rules →
@@ -135,13 +135,13 @@ drop_one : (xs : List ℕ) → length (drop 1 xs) ≡ length xs - 1
 drop_one [] = refl
 drop_one (x ∷ xs) = omega arith
 
--- the numbers behind that of the fresh start are as many as the positions
+-- there are as many numbers after that of the fresh start as positions
 pub behind_many :
     {K : Type 0} (cmp : K → K → Ordering) (order : List K) (states : List ℕ) (by : AreByKeys (option_cmp cmp) (behind_fresh order) 0 states) (part numbers few behind : List ℕ) → part ≡ states → length numbers ≡ length part → few ≡ numbers →
     behind ≡ drop 1 few → length behind ≡ length order
 behind_many cmp order states by part numbers few behind s long f e = omega (arith, ap length e, drop_one few, ap length f, long, ap length s, by.many, behind_long order)
 
--- the same where the rules stand, and the chain rules before them
+-- the same where the rules keep their order, after the chain rules
 pub rules_behind_of :
     {K : Type 0} (cmp : K → K → Ordering) (order : List K) (states : List ℕ) (by : AreByKeys (option_cmp cmp) (behind_fresh order) 0 states) (part numbers few behind : List ℕ) (finals pairs : List (ℕ × ℕ)) (rules lent new chains all : List (Rule ℕ)) (n : ℕ) →
     part ≡ states → AreNumbersOf part numbers → few ≡ numbers → behind ≡ drop 1 few → Each (λ p. p.0 < length order) finals → AreInRange (length order) rules → SidesEndInHoles rules → lent ≡ rules →

@@ -182,7 +182,7 @@ module _
         (leaves_over cmp order start rules o.0 o.1 leaves) apart (over_printable scale labels cmp order rules start o.0 o.1 printable)
         (λ h canonical series. k h (record { over = o.0; begun = o.1; canonical = canonical; series = series }))
 
--- the same behind a fresh start
+-- the same after a fresh start
 module _
     {K : Type 0} (cmp : K → K → Ordering) (total : IsTotalOrder cmp) (same : (x y : K) → cmp x y ≡ Equal → x ≡ y) (order : List K) (once : Distinct order) (finals : List (ℕ × ℕ))
     (within : Each (λ p. p.0 < length order) finals) (rules : List (Rule ℕ)) (range : AreInRange (length order) rules) (leaves : SidesEndInHoles rules) where

@@ -14,7 +14,7 @@ has_permuted xs ys x p h =
     let c : Contains ys x = Contains-permutation xs ys x p (a.0, a.1, a.2) in
     subst (Has ys) c.2 (has_at ys c.0 x c.1)
 
--- how often a number stands
+-- how often a number occurs
 abbrev one_at : ℕ → ℕ → ℕ
 one_at p x = cond (nat_eq x p) 1 0
 
@@ -74,7 +74,7 @@ distinct_once (x ∷ xs) h = (
 pub distinct_permuted : (xs ys : List ℕ) → IsPermutation xs ys → Distinct xs → Distinct ys
 distinct_permuted xs ys p d = distinct_once ys (λ q. omega (arith, at_most_once xs d q, sum_by-IsPermutation (one_at q) xs ys p))
 
--- distinct values stand at one place each
+-- distinct values are at one place each
 pub distinct_at : {A : Type 0} (xs : List A) (d : A) (i j : ℕ) → Distinct xs → i < j → j < length xs → get_or xs i d ≡ get_or xs j d → ⊥
 distinct_at [] d i j a h k e = absurd (omega arith)
 distinct_at (x ∷ xs) d i zero a h k e = absurd (omega arith)

@@ -1,4 +1,4 @@
--- Lines one behind another in a text.
+-- Lines one after another in a text.
 use Rattle.tib_lex.proofs.Numbers.{below_cases}
 use Rattle.tib_cost.specs.declared.Scale.{Scale}
 use Rattle.std.proofs.Common.{◌≡◌, ℕ, ◌+◌, ◌-◌, ◌<◌, ◌≤◌, List, [], ◌∷◌, ◌++◌, length, take, drop, map, get_or, refl, ap, sym, ◌∙◌, subst, arith, zero, suc, inl, inr, ◌⊎◌, append-nil, append_assoc, length-append}

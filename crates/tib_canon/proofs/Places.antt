@@ -18,7 +18,7 @@ module _ (rules : List (Rule ℕ)) (lines : List Line) where
   abbrev pub AreThere : List (Option (Rule ℕ)) → ℕ → Type 0
   AreThere places k = (i : ℕ) (spare : Line) → k ≤ i → i < length lines → get_or places (position_at spare i) None ≡ Some (rule_at rules (position_at spare i))
 
--- what stands at a place is free of what stands past the end
+-- what is at a place does not depend on what is past the end
 pub any_spare : {A : Type 0} (xs : List A) (k : ℕ) (a b : A) → k < length xs → get_or xs k a ≡ get_or xs k b
 any_spare [] k a b h = absurd (omega arith)
 any_spare (x ∷ xs) zero a b h = refl

@@ -13,12 +13,12 @@ abbrev pub place_by : {A B : Type 0} → A ⊎ B → ℕ → ℕ
 place_by (inl e) n = 0
 place_by (inr other) n = suc n
 
--- the place of a value, where each two are told apart
+-- the place of a value, if each two can be told apart
 abbrev pub place_in : {A : Type 0} → ((x y : A) → (x ≡ y) ⊎ (x ≡ y → ⊥)) → List A → A → ℕ
 place_in same [] q = 0
 place_in same (p ∷ xs) q = place_by (same p q) (place_in same xs q)
 
--- q stands at this place
+-- q is at this place
 pub record StandsAt {A : Type 0} (d : A) (xs : List A) (q : A) (i : ℕ) : Type 0 where
   pub within : i < length xs
   pub is : get_or xs i d ≡ q

@@ -79,7 +79,7 @@ heads_plain labels s none = tt
 heads_plain labels s (tree (hole q) kids rest) = (tt, heads_plain labels s rest)
 heads_plain labels s (tree (label f) kids rest) = (tt, heads_plain labels (suc s + labels_in kids) rest)
 
--- the labels of a side are those of its root and of what stands below it
+-- the labels of a side are those of its root and of what is below it
 abbrev PlainSymbol : List (List ℕ) → Symbol ℕ ℕ → Type 0
 PlainSymbol labels s = HavePlainLabels labels (tree s none none)
 

@@ -8,7 +8,7 @@ use Rattle.tib_lex.proofs.Lists.{has_mapped, mapped_has}
 use Rattle.tib_hunt.specs.EdgeLists.{Lists}
 use Rattle.tib_hunt.specs.Reached.{Operation, IsNew, AreAscending, AfterRounds, AreEdges, IsReachedSet}
 
--- The edges that `Gives` gives and those that `Tells` tells correspond under f: an edge of the one
+-- The edges that `Gives` gives and those that `Tells` gives correspond under f: an edge of the one
 -- goes to one of the other, with the same origin, and each of the other comes from one.
 pub record Correspond {O E : Type 0} (f : E → E) (Gives Tells : O → E → Type 0) : Type 0 where
   pub to : (o : O) (e : E) → Gives o e → Tells o (f e)
@@ -24,7 +24,7 @@ pub record AreProblemsAlike {K O E : Type 0} (f : E → E) (p q : Operation K O 
   pub edges : (order : List K) (n : ℕ) → Correspond f (p.edge order n) (q.edge order n)
   pub ends : (e : E) → q.ends_of (f e) ≡ p.ends_of e
 
--- The same where an origin is exchanged for another too, each for its own.
+-- The same, where an origin is exchanged for another too, each for its own.
 pub record CorrespondBy {O E : Type 0} (on : O → O) (f : E → E) (Gives Tells : O → E → Type 0) : Type 0 where
   pub to : (o : O) (e : E) → Gives o e → Tells (on o) (f e)
   pub from : (o : O) (e : E) → Tells o e → (origin : O) × (old : E) × (o ≡ on origin) × (e ≡ f old) × Gives origin old

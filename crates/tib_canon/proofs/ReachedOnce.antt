@@ -81,7 +81,7 @@ module _ {K O E : Type 0} (p : Operation K O E) (laws : Laws p) where
     ascending_once xs a.1,
   )
 
-  -- no key stands twice
+  -- no key is there twice
   pub order_once : (rounds expanded : ℕ) (order : List K) → AfterRounds p rounds expanded order → Distinct order
   order_once zero expanded order (none, first) = ascending_once order first.0
   order_once (suc rounds) expanded order (old, first, new, before, is, at, made) =
@@ -139,7 +139,7 @@ module _ {K O E : Type 0} (p : Operation K O E) (laws : Laws p) where
           ]
         ])
 
-    -- what an edge of a position ends at stands in the reached order
+    -- what an edge of a position ends at is in the reached order
     pub ends_stand : (order : List K) → IsReached p order → (i : ℕ) → i < length order → (o : O) (e : E) (k : K) → p.edge order i o e → Has (p.ends_of e) k → Has order k
     ends_stand order (rounds, expanded, after, all) i low o e k edge h = elim (before_or_on i expanded) [
       | inl early ↦ ends_stood rounds expanded order after i early o e k edge h

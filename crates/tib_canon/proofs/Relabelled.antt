@@ -1,4 +1,4 @@
--- Rules under other numbers of labels.
+-- Rules with other numbers of labels.
 use Rattle.std.proofs.Common.{◌≡◌, ℕ, List, [], ◌∷◌, ◌++◌, map, get_or, refl, ap, sym, ◌∙◌, suc, Option}
 use Rattle.std.specs.Prelude.{Some, None, option_map, decimal}
 use Rattle.tib_cost.specs.declared.Scale.{Scale}
@@ -70,7 +70,7 @@ module _ {P Q : Type 0} (p : P → Q) (f : ℕ → ℕ) where
   moves_commute [] = refl
   moves_commute (r ∷ rules) = ap (λ x. x ∷ map (named_transducer_rule p) (moves_with f rules)) (move_commutes r) ∙ ap (λ xs. move_with f (named_transducer_rule p r) ∷ xs) (moves_commute rules)
 
--- the pairs of a right side stay
+-- the pairs of a right-hand side stay
 holes_kept : {P : Type 0} (f : ℕ → ℕ) (ts : Trees (Symbol ℕ (Pair P))) → holes (relabel (right_with f) ts) ≡ holes ts
 holes_kept f none = refl
 holes_kept {P} f (tree (label g) kids rest) =
@@ -80,7 +80,7 @@ holes_kept {P} f (tree (hole x) kids rest) = ap (λ (xs : List (Pair P)). x ∷ 
 pub pairs_kept : {P : Type 0} (f : ℕ → ℕ) (s : Side ℕ (Pair P)) → holes_of (relabel_tree (right_with f) s) ≡ holes_of s
 pairs_kept f s = holes_kept f (only s)
 
--- nothing stands below a leaf
+-- nothing is below a leaf
 trees_end : {P : Type 0} (f : ℕ → ℕ) (r : P → P) (ts : Trees (Symbol ℕ P)) → HolesAreLeaves ts → HolesAreLeaves (relabel (node_with f r) ts)
 trees_end f r none h = tt
 trees_end f r (tree (label g) kids rest) h = (trees_end f r kids h.0, trees_end f r rest h.1)

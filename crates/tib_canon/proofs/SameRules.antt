@@ -18,7 +18,7 @@ Differ r s = r.left ≡ s.left → r.right ≡ s.right → ⊥
 before_or_after : (p q : ℕ) → (p ≡ q) ⊎ ((p < q) ⊎ (q < p))
 before_or_after p q = grind arith
 
--- rules that differ in a side are told by their positions
+-- the positions of rules that differ in a side are determined by the rules
 position_told : (rules : List (Rule ℕ)) (p q : ℕ) → Ascends Differ rules → p < length rules → q < length rules → rule_at rules p ≡ rule_at rules q → p ≡ q
 position_told rules p q apart h k e = elim (before_or_after p q) [
   | inl same ↦ same
@@ -30,7 +30,7 @@ module _ (product : ℕ → ℕ → ℕ) (old new : GrammarOf) (trimmed : IsTrim
   old_below : (j : ℕ) → j < length new.rules → get_or trimmed.rules j 0 < length old.rules
   old_below j h = ((trimmed.are_rules (get_or trimmed.rules j 0)).0 (has_at trimmed.rules j 0 (omega (arith, as_many product old new trimmed)))).0.below
 
-  -- no rule that is kept stands twice
+  -- no rule that is kept is there twice
   kept_once : Ascends Differ old.rules → Distinct new.rules
   kept_once apart = distinct_from new.rules no_rule (λ i j h k e.
       place_told trimmed.rules i j trimmed.rules_ascend (omega (arith, as_many product old new trimmed)) (omega (arith, as_many product old new trimmed))

@@ -16,7 +16,7 @@ use Rattle.tib_canon.specs.TransducerLines.{fed, AreLinesOf, IsMoveLine, up_to}
 one_more : (m n : ℕ) → m ≡ n → 1 + m ≡ suc n
 one_more m n e = omega (arith, e)
 
--- the first line feed stands behind the first line
+-- the first line feed is after the first line
 prefix_feed : (line rest : List ℕ) → HasNoFeed line → prefix_len not_feed (line ++ 10 ∷ rest) ≡ length line
 prefix_feed [] rest h = refl
 prefix_feed (b ∷ line) rest h =
@@ -31,7 +31,7 @@ pub record Goes (lines done : List (List ℕ)) (rest : List ℕ) : Type 0 where
 no_bytes : (rest : List ℕ) → rest ≡ [] → length rest ≡ 0
 no_bytes rest e = ap length e
 
--- the line in front, and what stands behind its line feed
+-- the first line, and what comes after its line feed
 pub record IsFirst (rest : List ℕ) (end : ℕ) (lines done : List (List ℕ)) : Type 0 where
   pub within : end < length rest
   pub goes : Goes lines (done ++ take end rest ∷ []) (drop (end + 1) rest)

@@ -1,4 +1,4 @@
--- The rules behind a fresh start: its chain rules, and those over positions under the next numbers.
+-- The rules after a fresh start: its chain rules, and those over positions with the next numbers.
 use Rattle.tib_cost.specs.declared.Scale.{Scale}
 use Rattle.std.specs.declared.result.Result.{Result}
 use Rattle.tib_tree.specs.declared.preorder.ShapeError.{ShapeError}
@@ -20,7 +20,7 @@ use Rattle.tib_grammar_file.specs.Printed.{LabelsBelow, AreLabelled}
 use Rattle.tib_grammar_file.specs.Printable.{HavePlainLabels, IsPlainCost, IsPrintable, ArePrintable}
 use Rattle.tib_canon.specs.Keys.{chain_to, chain_in, started_rules}
 
--- sides under other states
+-- sides with other states
 
 pub all_mapped : (n k : ℕ) (f : ℕ → ℕ) (qs : List ℕ) → ((q : ℕ) → q < k → f q < n) → AllBelow k qs → AllBelow n (map f qs)
 all_mapped n k f [] h b = tt
@@ -67,7 +67,7 @@ module _ (f g h : ℕ → ℕ) (same : (q : ℕ) → f q ≡ g (h q)) where
       ∙ ap (λ (s : Side ℕ ℕ). record { left = g (h r.left); right = s; cost = r.cost } ∷ map (named_rule f) rules) (side_after r.right)
       ∙ ap (λ (rs : List (Rule ℕ)). named_rule g (named_rule h r) ∷ rs) (rules_after rules)
 
--- the numbers of positions behind that of the fresh start
+-- the numbers of positions after that of the fresh start
 
 number_behind : (numbers : List ℕ) (q : ℕ) → number_in (drop 1 numbers) q ≡ number_in numbers (suc q)
 number_behind [] q = refl
@@ -80,8 +80,8 @@ chains_named numbers first (p ∷ finals) =
     ∙ ap (λ (q : ℕ). record { left = q; right = record { label = hole (number_in numbers (suc p.0)); kids = none }; cost = p.1 } ∷ map (chain_in (drop 1 numbers)) finals) (sym first)
     ∙ ap (λ (rs : List (Rule ℕ)). named_rule (number_in numbers) (chain_to p) ∷ rs) (chains_named numbers first finals)
 
--- chain rules and rules under the numbers behind that of the fresh start are the started rules
--- under the numbers
+-- chain rules and rules with the numbers after that of the fresh start are the started rules with
+-- the numbers
 pub started_named :
     (numbers : List ℕ) → number_in numbers 0 ≡ 0 → (finals : List (ℕ × ℕ)) (rules : List (Rule ℕ)) →
     map (chain_in (drop 1 numbers)) finals ++ map (named_rule (number_in (drop 1 numbers))) rules ≡ map (named_rule (number_in numbers)) (started_rules finals rules)

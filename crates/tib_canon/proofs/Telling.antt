@@ -1,4 +1,4 @@
--- Rules are told by their lines.
+-- Rules are determined by their lines.
 use Rattle.tib_grammar.proofs.Sides.{symbol_itself}
 use Rattle.tib_cost.specs.declared.Scale.{Scale}
 use Rattle.tib_cost.specs.declared.Scale.TheVariants as scales
@@ -84,7 +84,7 @@ pub line_fed : (scale : Scale) (names labels : List (List ℕ)) (r : Rule ℕ) �
 line_fed scale names labels r =
     sym (append-nil (rule_text scale names labels r)) ∙ line_ends scale names labels r [] ∙ ap (λ (xs : List ℕ). xs ++ 10 ∷ []) (sym (line_is scale names labels r))
 
--- rules with the same line have the same right side
+-- rules with the same line have the same right-hand side
 pub told_by_line :
     (scale : Scale) (names labels : List (List ℕ)) (r s : Rule ℕ) → AreStateNames names → Distinct labels → IsSafe names labels r → IsSafe names labels s → line_of scale names labels r ≡ line_of scale names labels s →
     r.right ≡ s.right

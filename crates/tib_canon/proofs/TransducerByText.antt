@@ -36,7 +36,7 @@ use Rattle.tib_canon.proofs.TransducerOverKeys.{stands_for}
 use Rattle.tib_canon.proofs.Relabelled.{variable_with, left_with, right_with, move_with, moves_with, transducer_with, moves_commute, pairs_kept, ends_with, move_given, KeepsText, KeepsAsked, KeepOnLeft, KeepOnRight, KeepsTexts, line_kept}
 use Rattle.tib_canon.proofs.TransducerTelling.{move_fed}
 
--- trees are told by what their nodes are exchanged for
+-- trees are determined by what their nodes are exchanged for
 
 tree_is : {B : Type 0} {x y : B} {us bs cs ds : Trees B} → tree x us bs ≡ tree y cs ds → (x ≡ y) × (us ≡ cs) × (bs ≡ ds)
 tree_is e = (cc, cc, cc)
@@ -138,7 +138,7 @@ module _ (labels others : List (List ℕ)) (f : ℕ → ℕ) (n : Renumbers labe
       (move_fed scale names labels r ∙ ap (λ (x : List ℕ). x ++ 10 ∷ []) (line_kept labels others f n scale names r (k r (inl refl))) ∙ sym (move_fed scale names others (move_with f r)))
       ∙ ap (λ (x : List ℕ). rule_text scale names others (move_with f r) ++ x) (rules_kept scale names rules (λ s h. k s (inr h)))
 
-  -- its right side has the same texts under other states
+  -- its right-hand side has the same texts with other states
   right_back : (p : ℕ → ℕ) (ts : Trees (Symbol ℕ (Pair ℕ))) → KeepOnRight labels others f n (relabel (symbol_map (named_pair p)) ts) → KeepOnRight labels others f n ts
   right_back p none h = tt
   right_back p (tree (label g) kids rest) h = (h.0, right_back p kids h.1, right_back p rest h.2)

@@ -43,7 +43,7 @@ use Rattle.tib_canon.proofs.TransducerNamed.{states_named, shaped_named, shaped_
 use Rattle.tib_canon.proofs.Relabelled.{left_with, right_with, move_with, moves_with, moves_commute, ends_with, pairs_kept, KeepsText, KeepsAsked, KeepOnLeft, KeepOnRight, KeepsTexts}
 use Rattle.tib_canon.proofs.TransducerTexts.{transducer_read, stands}
 
--- rules whose edges stand among those of others stand among these
+-- rules whose edges are among those of others are among these
 moves_stand :
     {K : Type 0} (spare : K) (order : List K) → Distinct order → (xs ys : List (TransducerRule ℕ)) → AreWithin (length order) xs → EndInHoles xs → AreWithin (length order) ys → EndInHoles ys →
     ((e : TransducerRule K) → Has (moves_over spare order xs) e → Has (moves_over spare order ys) e) → (r : TransducerRule ℕ) → Has xs r → Has ys r
@@ -179,7 +179,7 @@ module _ {K O E : Type 0} (p : Operation K O E) (laws : Laws p) where
   pub key_stands : (order : List K) (es : List E) → IsReachedSet p order es → (k : K) → Has order k → p.seed k ⊎ ((e : E) × Has es e × Has (p.ends_of e) k)
   key_stands order es ((rounds, expanded, after, stops), listed) k h = key_stood order es listed rounds expanded order [] after (sym (append-nil order)) k h
 
--- a label has a text in the table, whatever stands at the leaves
+-- a label has a text in the table, whatever is at the leaves
 abbrev pub IsPlainOn : {P : Type 0} → List (List ℕ) → Symbol ℕ P → Type 0
 IsPlainOn labels (label f) = IsPlainLabel labels f
 IsPlainOn labels (hole x) = Unit {0}
@@ -196,8 +196,8 @@ pub record IsMoveOverKeys {K : Type 0} (scale : Scale) (labels : List (List ℕ)
   pub cost : IsPlainCost scale e.cost
 
 -- What a construction over a table of labels is like: keys that are equal are one, each has a part,
--- something is reached, the first key is the only seed, an edge ends at the states of its right
--- side, and edges can be printed.
+-- something is reached, the first key is the only seed, an edge ends at the states of its
+-- right-hand side, and edges can be printed.
 pub record IsPlainTransducerConstruction {K O : Type 0} (scale : Scale) (labels : List (List ℕ)) (c : TransducerConstruction K O) : Type 0 where
   pub laws : Laws c.problem
   pub equal : (x y : K) → c.problem.cmp x y ≡ Equal → x ≡ y
@@ -276,7 +276,7 @@ module _ {K O : Type 0} (scale : Scale) (labels : List (List ℕ)) (c : Transduc
     keys_apart : Distinct order
     keys_apart = order_once c.problem plain.laws reached.0.0 reached.0.1 order reached.0.2
 
-    -- each position but the first stands in a rule
+    -- each position but the first is in a rule
     position_stands : (p : ℕ) → p < length order → (p ≡ 0 → ⊥) → Has (states_of (map placed edges)) p
     position_stands p low other =
         let k : K = get_or order p c.spare in
@@ -334,7 +334,7 @@ module _ {K O : Type 0} (scale : Scale) (labels : List (List ℕ)) (c : Transduc
       });
     }
 
-    -- each position but the first stands in one of them
+    -- each position but the first is in one of them
     pub found_stand : (p : ℕ) → p < length order → (p ≡ 0 → ⊥) → Has (states_of rules) p
     found_stand p low other =
         let k : K = get_or order p c.spare in

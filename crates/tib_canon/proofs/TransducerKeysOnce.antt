@@ -75,7 +75,7 @@ module _ {Q : Type 0} (n : ℕ) (f : ℕ → Q) (tells : (i j : ℕ) → i < n �
       let b : s.kids ≡ t.kids = cc o in
       ap (λ (l : Symbol ℕ (Pair ℕ)). record { label = l; kids = s.kids }) a ∙ ap (λ (x : Trees (Symbol ℕ (Pair ℕ))). record { label = t.label; kids = x }) b
 
-  -- a rule is told by what its states are exchanged for
+  -- a rule is determined by what its states are exchanged for
   pub move_told : (r s : TransducerRule ℕ) → IsWithin n r → IsWithin n s → EndsInHoles r → EndsInHoles s → named_transducer_rule f r ≡ named_transducer_rule f s → r ≡ s
   move_told r s a b l k e =
       ap (λ x. record { state = x; left = r.left; right = r.right; cost = r.cost }) (tells r.state s.state a.0 b.0 (ap (λ (x : TransducerRule Q). x.state) e))

@@ -91,7 +91,7 @@ module _ {P Q : Type 0} (f : P → Q) (g : Q → P) where
       ap (λ z. record { state = z; left = r.left; right = side_map (named_pair g) (side_map (named_pair f) r.right); cost = r.cost }) a
       ∙ ap (λ s. record { state = r.state; left = r.left; right = s; cost = r.cost }) (ap (first_of (label 0)) (trees_same (only r.right) h l.1))
 
--- labels stay in the right side, and the same of each item of it
+-- labels stay in the right-hand side, and the same for each item of it
 
 count_named : {A B : Type 0} (g : A → B) (ts : Trees A) → count (relabel g ts) ≡ count ts
 count_named g none = refl

@@ -97,7 +97,7 @@ pairs_tell T is = record { same = same; itself = itself }
     itself x = is x x ∙ rw (nat_eq-itself x.state, nat_eq-itself x.variable) refl
 
 module _ (E : Item Variable → Item Variable → Bool) (F : Item (Pair ℕ) → Item (Pair ℕ) → Bool) (one : Tells E) (two : Tells F) where
-  -- the test of three parts tells them
+  -- the test of three parts tells sides apart
   pub sides_same : (j k : Sides) → ((nat_eq j.0 k.0 && pointwise E j.1 k.1) && pointwise F j.2 k.2) ≡ true → k ≡ j
   sides_same j k e =
       let outer = and-true (nat_eq j.0 k.0 && pointwise E j.1 k.1) (pointwise F j.2 k.2) e in

@@ -46,7 +46,7 @@ move_same r s a e =
     ∙ ap (λ x. record { state = s.state; left = s.left; right = x; cost = r.cost }) a.right
     ∙ ap (λ x. record { state = s.state; left = s.left; right = s.right; cost = x }) e
 
--- the same rules, whatever their order and however often one of them stands
+-- the same rules, whatever their order and however often one of them occurs
 pub record AreAlike (xs ys : List (TransducerRule ℕ)) : Type 0 where
   pub to : (r : TransducerRule ℕ) → Has xs r → Has ys r
   pub from : (r : TransducerRule ℕ) → Has ys r → Has xs r

@@ -41,7 +41,7 @@ module _ (rules : List (TransducerRule ℕ)) (positions : List ℕ) (below : (i 
   pub never_none : (places : List (Option (TransducerRule ℕ))) (k : ℕ) (o : Option (TransducerRule ℕ)) → AreThere rules positions places k → k < length positions → o ≡ get_or places (get_or positions k 0) None → o ≡ None → ⊥
   never_none places k o there h e n = let bad : None ≡ Some (transducer_rule rules (get_or positions k 0)) = sym n ∙ e ∙ there k (omega arith) h in cc
 
--- rules whose positions are the first ones, each in its place, are taken as they stand
+-- rules whose positions are the first ones, each in its place, are taken unchanged
 pub in_place :
     (rules : List (TransducerRule ℕ)) (positions : List ℕ) → length positions ≡ length rules → ((i : ℕ) → i < length rules → get_or positions i 0 ≡ i) →
     rules ≡ map (transducer_rule rules) positions

@@ -1,4 +1,4 @@
--- Rules of one state are told by their lines.
+-- Rules of one state are determined by their lines.
 use Rattle.tib_cost.specs.declared.Scale.{Scale}
 use Rattle.std.proofs.Common.{◌≡◌, ℕ, List, [], ◌∷◌, ◌++◌, get_or, refl, ap, sym, ◌∙◌, subst, zero, suc, inl, inr, append_assoc, append-nil, Option}
 use Rattle.std.specs.Prelude.{Some, None, slice_get}
@@ -41,7 +41,7 @@ move_fed scale names labels r =
     (ap (λ (l : List ℕ). 46 ∷ l) (moves left (32 ∷ (45 ∷ (62 ∷ (32 ∷ (right ++ (cost ++ 10 ∷ [])))))) (32 ∷ (45 ∷ (62 ∷ (32 ∷ (right ++ cost)))))
     (ap (λ (l : List ℕ). 32 ∷ (45 ∷ (62 ∷ (32 ∷ l)))) (moves right (cost ++ 10 ∷ []) cost refl))))
 
--- values of a list without repeats are told by their places
+-- the place of a value in a list without repeats is determined by the value
 
 has_slice : {A : Type 0} (xs : List A) (j : ℕ) (v : A) → slice_get xs j ≡ Some v → Has xs v
 has_slice [] j v e = absurd (cc e)

@@ -25,7 +25,7 @@ use Rattle.tib_canon.proofs.TransducerNamed.{states_named}
 use Rattle.tib_canon.proofs.TransducerOne.{kept_printable}
 use Rattle.tib_canon.proofs.TransducerOverKeys.{moves_over, many_names}
 
--- a state stands in a rule on the left or on the right
+-- a state is in a rule on the left or on the right
 StandsIn : ℕ → TransducerRule ℕ → Type 0
 StandsIn q r = (r.state ≡ q) ⊎ Has (states_in r.right) q
 
@@ -55,7 +55,7 @@ module _
   one_state : (i j : ℕ) → i < length c.is_over.states → j < length c.is_over.states → position i ≡ position j → i ≡ j
   one_state i j k l e = distinct_at c.is_over.states i j 0 c.is_over.numbered.once k l e
 
-  -- each state but the start stands in a rule over the keys
+  -- each state but the start is in a rule over the keys
   stands_over : (q : ℕ) → 0 < q → q < length order → (s : TransducerRule ℕ) × Has over.rules s × ((s.state ≡ q) ⊎ Has (states_in s.right) q)
   stands_over q some low =
       let o = c.is_over in

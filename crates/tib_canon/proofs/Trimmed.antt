@@ -29,7 +29,7 @@ labelled_still product n g h t labelled m k =
     let there : LabelsBelow n (only (rule_at g.rules position).right) = labelled position live.0.below in
     labels_back n f (only (rule_at h.rules m).right) (subst (λ (r : Rule ℕ). LabelsBelow n (only r.right)) (sym is) there)
 
--- and so are those of rules that stand among others
+-- and so are those of rules that are among others
 pub labelled_kept : (n : ℕ) (rules others : List (Rule ℕ)) → ((r : Rule ℕ) → Has others r → Has rules r) → AreLabelled n rules → AreLabelled n others
 labelled_kept n rules others kept labelled m h =
     let a = at_has rules (rule_at others m) no_rule (kept (rule_at others m) (has_at others m no_rule h)) in

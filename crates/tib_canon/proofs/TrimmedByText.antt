@@ -1,4 +1,4 @@
--- Trimming and canonical order under other numbers of labels.
+-- Trimming and canonical order with other numbers of labels.
 use Rattle.tib_cost.specs.declared.Scale.{Scale}
 use Rattle.std.proofs.Common.{◌≡◌, ℕ, ◌<◌, ◌≤◌, List, [], ◌∷◌, ◌++◌, length, map, get_or, refl, ap, sym, ◌∙◌, subst, arith, suc, inl, inr, take}
 use Rattle.std.specs.Prelude.{◌-◌}
@@ -25,7 +25,7 @@ use Rattle.tib_canon.proofs.NormalByText.{ascends_mapped}
 use Rattle.tib_lex.proofs.Members.{each_of}
 use Rattle.tib_lex.proofs.Lists.{has_mapped, mapped_has}
 
--- a grammar under other numbers of labels
+-- a grammar with other numbers of labels
 abbrev pub grammar_with : (ℕ → ℕ) → GrammarOf → GrammarOf
 grammar_with f g = record { names = g.names; rules = rules_with f g.rules }
 
@@ -35,7 +35,7 @@ EachLabel P none = Unit {0}
 EachLabel P (tree (label f) kids rest) = P f × EachLabel P kids × EachLabel P rest
 EachLabel P (tree (hole q) kids rest) = EachLabel P kids × EachLabel P rest
 
--- P holds of each label in the right sides
+-- P holds of each label in the right-hand sides
 abbrev pub EachLabelIn : (ℕ → Type 0) → List (Rule ℕ) → Type 0
 EachLabelIn P rules = (r : Rule ℕ) → Has rules r → EachLabel P (only r.right)
 
@@ -122,7 +122,7 @@ count_with : (f : ℕ → ℕ) (ts : Trees (Symbol ℕ ℕ)) → count (trees_wi
 count_with f none = refl
 count_with f (tree s kids rest) = ap suc (count_with f rest)
 
--- the text of a node behind k others, with n children
+-- the text of a node after k others, with n children
 abbrev node_text : ℕ → List ℕ → ℕ → List ℕ → List ℕ → List ℕ
 node_text k text n below behind = space k ++ (text ++ (opening n ++ (below ++ (closing n ++ behind))))
 

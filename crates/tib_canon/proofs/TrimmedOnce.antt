@@ -20,7 +20,7 @@ use Rattle.tib_lex.proofs.Members.{has_at, at_has, each_has}
 below_way : (x y : ℕ) → x < y → y < x → ⊥
 below_way x y h k = omega arith
 
--- ascending numbers are told by their places
+-- the place of a number among ascending numbers is determined by the number
 pub place_told : (xs : List ℕ) (i j : ℕ) → Ascends ◌<◌ xs → i < length xs → j < length xs → get_or xs i 0 ≡ get_or xs j 0 → i ≡ j
 place_told [] i j a h k e = absurd (omega arith)
 place_told (x ∷ xs) zero zero a h k e = refl

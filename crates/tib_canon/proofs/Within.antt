@@ -29,7 +29,7 @@ use Rattle.tib_canon.proofs.LinesText.{lines_grammar}
 use Rattle.tib_canon.proofs.InOrder.{AreSorted, cheapest_permuted, kept, in_order}
 use Rattle.tib_lex.proofs.Members.{has_at, at_has, each_has, each_of, distinct_from}
 
--- no text of a table stands twice
+-- no text of a table is there twice
 pub distinct_texts : (texts : List (List ℕ)) → AreDistinct texts → Distinct texts
 distinct_texts texts d =
     distinct_from texts [] (λ i j h k e. d.once i j (get_or texts i []) (slice_get-get_or texts i [] h) (slice_get-get_or texts j [] k ∙ ap (λ (t : List ℕ). Some t) (sym e)))

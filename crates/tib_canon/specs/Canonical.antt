@@ -20,7 +20,7 @@ abbrev pub names_of : ℕ → List (List ℕ)
 names_of zero = []
 names_of (suc n) = names_of n ++ name_of n ∷ []
 
--- this holds of the grammar of some rules over this many states, whatever the names of the states
+-- this holds for the grammar of some rules over this many states, whatever the names of the states
 abbrev pub OverStates : ℕ → List (Rule ℕ) → (GrammarOf → Type 0) → Type 0
 OverStates states rules P = (names : List (List ℕ)) → length names ≡ states → P (record { names = names; rules = rules })
 
@@ -28,26 +28,26 @@ OverStates states rules P = (names : List (List ℕ)) → length names ≡ state
 abbrev pub line_of : Scale → List (List ℕ) → List (List ℕ) → Rule ℕ → List ℕ
 line_of scale names labels r = take (length (rule_text scale names labels r) - 1) (rule_text scale names labels r)
 
--- rules stand in the order of their left states, and those of one state in the order of their lines
+-- rules are in the order of their left states, and those of one state in the order of their lines
 abbrev pub rule_cmp : Scale → List (List ℕ) → List (List ℕ) → Rule ℕ → Rule ℕ → Ordering
 rule_cmp scale names labels r s =
     ordering_then (nat_cmp r.left s.left) (slice_cmp nat_cmp (line_of scale names labels r) (line_of scale names labels s))
 
--- the rules have the same left state and the same right side
+-- the rules have the same left state and the same right-hand side
 pub record AgreeInSides (r s : Rule ℕ) : Type 0 where
   pub left : r.left ≡ s.left
   pub right : r.right ≡ s.right
 
--- some of the rules has the sides of r
+-- one of the rules has the sides of r
 pub record HasSides (rules : List (Rule ℕ)) (r : Rule ℕ) : Type 0 where
   pub rule : Rule ℕ
   pub stands : Has rules rule
   pub agrees : AgreeInSides rule r
 
--- A grammar as it stands with canonical names and in canonical order, over a table of labels: its
--- states are named q0, q1 and so on by their numbers; its rules are rules of the grammar, each at
--- the least cost of those with its sides, and all sides are there; and they ascend by their left
--- states and then by their lines.
+-- A grammar itself, with canonical names and in canonical order, over a table of labels. Its states
+-- are named q0, q1 and so on by their numbers. Its rules are rules of the grammar, each at the
+-- least cost of those with its sides, and all sides are there. They ascend by their left states and
+-- then by their lines.
 pub record IsInOrder (scale : Scale) (labels : List (List ℕ)) (g h : GrammarOf) : Type 0 where
   pub names : h.names ≡ names_of (length g.names)
   pub kept : (r : Rule ℕ) → Has h.rules r → Has g.rules r

@@ -1,15 +1,15 @@
--- For each kind of value that was seen, the position of the cheapest that is of it.
+-- For each kind of value that was seen, the position of the cheapest of that kind.
 use Rattle.std.specs.Prelude.{◌≡◌, ℕ, ◌<◌, ◌≤◌, List, length}
 use Rattle.std.proofs.Common.{get_or}
 
--- where values stand at positions and have costs: value m is of kind i, and the chosen one of the
+-- for values that are at positions and have costs: value m is of kind i, and the chosen one of the
 -- kind costs no more
 pub record IsChosenOf {S : Type 0} (blank : S) (Are : S → ℕ → Type 0) (cost : ℕ → ℕ) (kinds : List S) (best : List ℕ) (m i : ℕ) : Type 0 where
   pub below : i < length best
   pub sides_are : Are (get_or kinds i blank) m
   pub costs : cost (get_or best i 0) ≤ cost m
 
--- for each of the distinct kinds of the first n values, the position of the cheapest of it
+-- for each of the distinct kinds of the first n values, the position of the cheapest of that kind
 pub record AreChosen {S : Type 0} (blank : S) (Are : S → ℕ → Type 0) (cost : ℕ → ℕ) (n : ℕ) (kinds : List S) (best : List ℕ) : Type 0 where
   pub long : length kinds ≡ length best
   pub few : length best ≤ n

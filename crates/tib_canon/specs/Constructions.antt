@@ -13,8 +13,8 @@ use Rattle.tib_canon.specs.Keys.{IsCanonicalOverKeys}
 use Rattle.tib_canon.specs.declared.begin.Begin.{Begin}
 use Rattle.tib_canon.specs.declared.begin.Begin.TheVariants.{At, Fresh}
 
--- A construction: what it hunts, where edges are rules over keys; a key that stands for each place
--- behind the end of an order; and what the start over an order is.
+-- A construction: what it hunts, where edges are rules over keys; a key for each place past the end
+-- of an order; and what the start over an order is.
 pub record Construction (K O : Type 0) : Type 1 where
   pub problem : Operation K O (Rule K)
   pub spare : K
@@ -56,14 +56,14 @@ pub record IsCanonicalOf {K O : Type 0} (product : ℕ → ℕ → ℕ) (scale :
   pub begun : c.begins order begin
   pub canonical : IsCanonicalOverKeys product scale labels c.problem.cmp order rules begin h
 
--- the same of a construction from what values were brought to, as trimmed normal forms
+-- the same for a construction from what values were brought to, as trimmed normal forms
 pub record IsCanonicalFrom {W K O : Type 0} (product : ℕ → ℕ → ℕ) (scale : Scale) (labels : List (List ℕ)) (limit : ℕ)
     (IsMade : W → Type 0) (constructing : W → Construction K O) (h : GrammarOf) : Type 0 where
   pub from : W
   pub is_made : IsMade from
   pub canonical : IsCanonicalOf product scale labels limit (constructing from) h
 
--- The text is that of a canonical grammar with this series. It reads back as this grammar alone.
+-- The text is that of a canonical grammar with this series. It reads back as this grammar only.
 pub record HasGrammarText (scale : Scale) (labels : List (List ℕ)) (IsResult : GrammarOf → Type 0) (HasSeries : List (Rule ℕ) → Type 0) (text : List ℕ) : Type 0 where
   pub h : GrammarOf
   pub canonical : IsResult h

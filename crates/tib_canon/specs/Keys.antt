@@ -16,7 +16,7 @@ use Rattle.tib_canon.specs.declared.begin.Begin.{Begin}
 use Rattle.tib_canon.specs.declared.begin.Begin.TheVariants.{At, Fresh, Empty}
 use Rattle.tib_grammar.specs.Series.{HasSameSeries}
 
--- each key with its position, and whether it is another than the start
+-- each key with its position, and whether it is not the start
 abbrev pub marked : {K : Type 0} → ℕ → ℕ → List K → List (Bool × K × ℕ)
 marked start n [] = []
 marked start n (k ∷ ks) = (not (nat_eq n start), k, n) ∷ marked start (n + 1) ks
@@ -48,7 +48,7 @@ pub record IsOverKeys {K : Type 0} (cmp : K → K → Ordering) (order : List K)
 abbrev pub without_rules : GrammarOf
 without_rules = record { names = names_of 1; rules = [] }
 
--- the keys behind a fresh start, for which none stands
+-- the keys after a fresh start, for which there is no key
 abbrev pub behind_fresh : {K : Type 0} → List K → List (Option K)
 behind_fresh order = None ∷ map (λ k. Some k) order
 
@@ -61,7 +61,7 @@ chain_to final = record { left = 0; right = Lone (suc final.0); cost = final.1 }
 abbrev pub chain_in : List ℕ → ℕ × ℕ → Rule ℕ
 chain_in numbers final = record { left = 0; right = Lone (number_in numbers final.0); cost = final.1 }
 
--- the rules of a fresh start with these finals, and behind them those over positions
+-- the rules of a fresh start with these finals, followed by those over positions
 abbrev pub started_rules : List (ℕ × ℕ) → List (Rule ℕ) → List (Rule ℕ)
 started_rules finals rules = map chain_to finals ++ map (named_rule suc) rules
 

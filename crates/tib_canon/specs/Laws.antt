@@ -1,4 +1,4 @@
--- What holds of canonical forms.
+-- What holds for canonical forms.
 use Rattle.tib_cost.specs.declared.Scale.{Scale}
 use Rattle.std.specs.Prelude.{◌≡◌, ◌<◌, ◌^◌, ◌↔◌, ℕ, List, Option, length}
 use Rattle.tib_lex.specs.Lists.{Has, Distinct, IsReordering}
@@ -28,8 +28,8 @@ OrderIsOne =
     (scale : Scale) (labels : List (List ℕ)) (g h i : GrammarOf) → IsInOrder scale labels g h →
     IsInOrder scale labels g i → h ≡ i
 
--- a grammar has at most one canonical form; of its right sides it is asked that nothing stands
--- below a state, as in every `Grammar`
+-- a grammar has at most one canonical form, if in its right-hand sides nothing is below a state, as
+-- in every `Grammar`
 abbrev pub CanonicalIsOne : Type 0
 CanonicalIsOne =
     (product : ℕ → ℕ → ℕ) (scale : Scale) (labels : List (List ℕ)) (g h i : GrammarOf) →
@@ -58,7 +58,7 @@ KeysKeepSeries {K} cmp =
     IsCanonicalOverKeys product scale labels cmp order rules (At start) h →
     (t : Tree ℕ) (v : Option ℕ) → IsSeriesAt product rules start t v ↔ IsSeries product h.rules t v
 
--- a canonical grammar over keys behind a fresh start has the series of the rules with its chain
+-- a canonical grammar over keys after a fresh start has the series of the rules with its chain
 -- rules
 abbrev pub FreshKeepsSeries : {K : Type 0} → (K → K → Ordering) → Type 0
 FreshKeepsSeries {K} cmp =
@@ -84,8 +84,8 @@ CanonicalKeepsDeterministic =
     (product : ℕ → ℕ → ℕ) (scale : Scale) (labels : List (List ℕ)) (g h : GrammarOf) →
     IsCanonical product scale labels g h → IsDeterministic g.rules → IsDeterministic h.rules
 
--- a canonical grammar over keys behind a fresh start is in deterministic form where the rules with
--- its chain rules are
+-- a canonical grammar over keys after a fresh start is in deterministic form if the rules with its
+-- chain rules are
 abbrev pub FreshKeepsDeterministic : {K : Type 0} → (K → K → Ordering) → Type 0
 FreshKeepsDeterministic {K} cmp =
     (product : ℕ → ℕ → ℕ) (scale : Scale) (labels : List (List ℕ)) (order : List K) (rules : List (Rule ℕ)) (finals : List (ℕ × ℕ)) (h : GrammarOf) →
@@ -99,7 +99,7 @@ TrimmedFormsHaveSameRules =
     IsTrimmedForm product g n → IsReordering m.rules n.rules
 
 -- rules over the positions of an order have one canonical grammar over its keys, whatever their
--- order and however often one of them stands
+-- order and however often one of them occurs
 abbrev pub KeysHaveOneCanonical : {K : Type 0} → (K → K → Ordering) → Type 0
 KeysHaveOneCanonical {K} cmp =
     (product : ℕ → ℕ → ℕ) (scale : Scale) (labels : List (List ℕ)) (order : List K) (xs ys : List (Rule ℕ)) (begin : Begin) (h i : GrammarOf) →
@@ -108,34 +108,34 @@ KeysHaveOneCanonical {K} cmp =
     IsCanonicalOverKeys product scale labels cmp order xs begin h →
     IsCanonicalOverKeys product scale labels cmp order ys begin i → h ≡ i
 
--- a normal form can be printed where the grammar can
+-- a normal form can be printed if the grammar can
 abbrev pub FormsArePrintable : (ℕ → ℕ → ℕ) → Type 0
 FormsArePrintable product =
     (scale : Scale) (labels : List (List ℕ)) (g m : GrammarOf) →
     IsNormalForm product (length g.names) g.rules (length m.names) m.rules →
     ArePrintable scale labels g.rules → ArePrintable scale labels m.rules
 
--- a trimmed grammar can be printed where the grammar can
+-- a trimmed grammar can be printed if the grammar can
 abbrev pub TrimmedIsPrintable : Type 0
 TrimmedIsPrintable =
     (product : ℕ → ℕ → ℕ) (scale : Scale) (labels : List (List ℕ)) (g h : GrammarOf) →
     IsTrimmed product g h → ArePrintable scale labels g.rules → ArePrintable scale labels h.rules
 
--- a canonical form can be printed where the grammar can
+-- a canonical form can be printed if the grammar can
 abbrev pub CanonicalIsPrintable : Type 0
 CanonicalIsPrintable =
     (product : ℕ → ℕ → ℕ) (scale : Scale) (labels : List (List ℕ)) (g h : GrammarOf) →
     IsCanonical product scale labels g h → ArePrintable scale labels g.rules →
     ArePrintable scale labels h.rules
 
--- a grammar over keys can be printed where the rules over positions with its start can
+-- a grammar over keys can be printed if the rules over positions with its start can
 abbrev pub OverKeysArePrintable : {K : Type 0} → (K → K → Ordering) → Type 0
 OverKeysArePrintable {K} cmp =
     (scale : Scale) (labels : List (List ℕ)) (order : List K) (rules : List (Rule ℕ)) (begin : Begin) (g : GrammarOf) →
     IsBegun cmp order rules begin g → ArePrintable scale labels (begun_rules begin rules) →
     ArePrintable scale labels g.rules
 
--- the text of a canonical form is the text of this very grammar: its states keep their numbers,
+-- the text of a canonical form is the text of exactly this grammar: its states keep their numbers,
 -- and its rules their order
 abbrev pub CanonicalTextsAreRead : (ℕ → ℕ → ℕ) → Type 0
 CanonicalTextsAreRead product =
@@ -144,7 +144,7 @@ CanonicalTextsAreRead product =
     ArePrintable scale labels g.rules → IsCanonical product scale labels g h →
     GrammarText scale labels (grammar_text scale labels h) h
 
--- the text of the canonical form of a grammar's normal form is the text of this very form
+-- the text of the canonical form of a grammar's normal form is the text of exactly this form
 abbrev pub FormTextsAreRead : (ℕ → ℕ → ℕ) → Type 0
 FormTextsAreRead product =
     (scale : Scale) (labels : List (List ℕ)) (g m h : GrammarOf) → 0 < length g.names →
@@ -153,7 +153,7 @@ FormTextsAreRead product =
     IsNormalForm product (length g.names) g.rules (length m.names) m.rules →
     IsCanonical product scale labels m h → GrammarText scale labels (grammar_text scale labels h) h
 
--- the text of a canonical grammar over keys is the text of this very grammar
+-- the text of a canonical grammar over keys is the text of exactly this grammar
 abbrev pub OverKeysTextsAreRead : {K : Type 0} → (ℕ → ℕ → ℕ) → (K → K → Ordering) → Type 0
 OverKeysTextsAreRead {K} product cmp =
     (scale : Scale) (labels : List (List ℕ)) (order : List K) (rules : List (Rule ℕ)) (begin : Begin) (h : GrammarOf) →
@@ -180,7 +180,7 @@ InsidesAreOneByText =
     AgreeByText labels others g h → AreInsides product g.rules costs →
     AreInsides product h.rules costs
 
--- it cannot be that a grammar which can be printed has no canonical form with its series
+-- it is impossible that a printable grammar has no canonical form with its series
 abbrev pub CanonicalFormsExist : (ℕ → ℕ → ℕ) → Type 0
 CanonicalFormsExist product =
     (scale : Scale) (labels : List (List ℕ)) (g : GrammarOf) → 0 < length g.names →
@@ -188,8 +188,8 @@ CanonicalFormsExist product =
     Distinct labels → ArePrintable scale labels g.rules →
     ((h : GrammarOf) → IsCanonical product scale labels g h → HasSameSeries product g h → ⊥) → ⊥
 
--- nor can it be that rules which can be printed, over the positions of an order of distinct keys,
--- have no canonical grammar over these keys
+-- it is also impossible that printable rules, over the positions of an order of distinct keys, have
+-- no canonical grammar over these keys
 abbrev pub OverKeysHaveCanonical : {K : Type 0} → (ℕ → ℕ → ℕ) → (K → K → Ordering) → Type 0
 OverKeysHaveCanonical {K} product cmp =
     (scale : Scale) (labels : List (List ℕ)) (order : List K) (rules : List (Rule ℕ)) (begin : Begin) →

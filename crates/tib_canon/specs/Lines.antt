@@ -9,7 +9,7 @@ use Rattle.tib_cost.specs.Semiring.{most}
 use Rattle.tib_canon.specs.Canonical.{line_of}
 use Rattle.tib_canon.specs.declared.lines.Line.{Line}
 
--- the lines of rules as they are printed, one behind another, and where each ends
+-- the lines of rules as they are printed, one after another, and where each ends
 pub record AreTexts (scale : Scale) (names labels : List (List ℕ)) (rules : List (Rule ℕ)) (text ends : List ℕ) : Type 0 where
   pub whole : text ≡ rules_text scale names labels rules
   pub long : length ends ≡ length rules

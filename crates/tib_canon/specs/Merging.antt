@@ -10,7 +10,7 @@ use Rattle.tib_grammar.specs.declared.Rule.{Rule}
 use Rattle.tib_canon.specs.Canonical.{AgreeInSides}
 use Rattle.tib_canon.specs.Choosing.{IsChosenOf, AreChosen}
 
--- both sides of a rule: the left state, and the items of the right side
+-- both sides of a rule: the left state, and the items of the right-hand side
 abbrev pub Sides : Type 0
 Sides = ℕ × List (Item ℕ)
 
@@ -21,26 +21,25 @@ no_sides = (0, [])
 abbrev pub AreSidesOf : Sides → Rule ℕ → Type 0
 AreSidesOf k r = (k.0 ≡ r.left) × (pairs_of k.1 ≡ preorder_of r.right)
 
--- sides were noted behind others, unless they stood among them
+-- sides were noted after others, unless they were among them
 abbrev pub IsNoted : List Sides → Sides → Option ℕ → List Sides → Type 0
 IsNoted old k None new = (Has old k → ⊥) × (new ≡ old ++ k ∷ [])
 IsNoted old k (Some i) new = (i < length old) × (get_or old i no_sides ≡ k) × (new ≡ old)
 
--- one of two positions, at which no dearer rule stands than at either
+-- one of two positions; its rule costs no more than the rule at either
 pub record IsCheaper (rules : List (Rule ℕ)) (a b c : ℕ) : Type 0 where
   pub either : (c ≡ a) ⊎ (c ≡ b)
   pub first : (rule_at rules c).cost ≤ (rule_at rules a).cost
   pub second : (rule_at rules c).cost ≤ (rule_at rules b).cost
 
--- at one of the positions stands a rule with the sides of r that costs no more
+-- a rule with the sides of r that costs no more is at one of the positions
 pub record HasCheaperAt (rules : List (Rule ℕ)) (positions : List ℕ) (r : Rule ℕ) : Type 0 where
   pub position : ℕ
   pub stands : Has positions position
   pub agrees : AgreeInSides (rule_at rules position) r
   pub costs : (rule_at rules position).cost ≤ r.cost
 
--- Of rules that agree in both sides one of the cheapest stands at one of the positions, and no
--- other.
+-- Of rules that agree in both sides, one of the cheapest is at one of the positions, and no other.
 pub record AreCheapest (rules : List (Rule ℕ)) (positions : List ℕ) : Type 0 where
   pub below : (p : ℕ) → Has positions p → p < length rules
   pub distinct : Distinct positions

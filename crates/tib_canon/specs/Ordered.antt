@@ -11,7 +11,7 @@ use Rattle.tib_transducer.specs.declared.TransducerRule.{TransducerRule}
 use Rattle.tib_transducer_file.specs.ByName.{line_text}
 use Rattle.tib_canon.specs.Canonical.{names_of}
 
--- rules stand in the order of their states, and those of one state in the order of their lines, as
+-- rules are in the order of their states, and those of one state in the order of their lines, as
 -- they are printed without the line feed
 abbrev pub move_cmp : Scale → List (List ℕ) → List (List ℕ) → TransducerRule ℕ → TransducerRule ℕ → Ordering
 move_cmp scale names labels r s =
@@ -24,16 +24,16 @@ pub record AgreeInSides (r s : TransducerRule ℕ) : Type 0 where
   pub left : r.left ≡ s.left
   pub right : r.right ≡ s.right
 
--- some of the rules has the state and the sides of r
+-- one of the rules has the state and the sides of r
 pub record HasSides (rules : List (TransducerRule ℕ)) (r : TransducerRule ℕ) : Type 0 where
   pub rule : TransducerRule ℕ
   pub stands : Has rules rule
   pub agrees : AgreeInSides rule r
 
--- A transducer as it stands with canonical names and in canonical order, over a table of labels:
--- its states are named q0, q1 and so on by their numbers; its rules are rules of the transducer,
--- each at the least cost of those with its state and sides, and all of these are there; and they
--- ascend by their states and then by their lines. No rule is left out for being useless.
+-- A transducer itself, with canonical names and in canonical order, over a table of labels. Its
+-- states are named q0, q1 and so on by their numbers. Its rules are rules of the transducer, each
+-- at the least cost of those with its state and sides, and all of these are there. They ascend by
+-- their states and then by their lines. No rule is left out for being useless.
 pub record IsTransducerInOrder (scale : Scale) (labels : List (List ℕ)) (t h : TransducerOf) : Type 0 where
   pub names : h.names ≡ names_of (length t.names)
   pub kept : (r : TransducerRule ℕ) → Has h.rules r → Has t.rules r
@@ -41,7 +41,7 @@ pub record IsTransducerInOrder (scale : Scale) (labels : List (List ℕ)) (t h :
   pub whole : (r : TransducerRule ℕ) → Has t.rules r → HasSides h.rules r
   pub ascends : Ascends (λ r s. move_cmp scale h.names labels r s ≡ Less) h.rules
 
--- the transducer of some rules over this many states, under canonical names
+-- the transducer of some rules over this many states, with canonical names
 abbrev pub over_numbers : ℕ → List (TransducerRule ℕ) → TransducerOf
 over_numbers states rules = record { names = names_of states; rules = rules }
 
@@ -49,7 +49,7 @@ over_numbers states rules = record { names = names_of states; rules = rules }
 abbrev pub Differ : TransducerRule ℕ → TransducerRule ℕ → Type 0
 Differ r s = AgreeInSides r s → ⊥
 
--- of the rules that agree one of the cheapest
+-- one of the cheapest of the rules that agree
 pub record AreMerged (rules merged : List (TransducerRule ℕ)) : Type 0 where
   pub kept : (r : TransducerRule ℕ) → Has merged r → Has rules r
   pub least : (r s : TransducerRule ℕ) → Has merged r → Has rules s → AgreeInSides r s → r.cost ≤ s.cost

@@ -1,4 +1,4 @@
--- Items of right sides, and their states.
+-- Items of right-hand sides, and their states.
 use Rattle.std.specs.Prelude.{ℕ, List, map}
 use Rattle.tib_grammar.specs.Items.{holes_in}
 use Rattle.tib_grammar.specs.declared.Item.{Item}

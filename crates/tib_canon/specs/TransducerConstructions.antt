@@ -10,8 +10,8 @@ use Rattle.tib_transducer_file.specs.Printed.{transducer_text}
 use Rattle.tib_keyed.specs.Named.{named_transducer_rule}
 use Rattle.tib_canon.specs.TransducerKeys.{IsCanonicalTransducer, AreMovesOver}
 
--- A construction of a transducer: what it hunts, where edges are rules over keys, and a key that
--- stands for each place behind the end of an order. The start is the first key of the order.
+-- A construction of a transducer: what it hunts, where edges are rules over keys, and a key for
+-- each place past the end of an order. The start is the first key of the order.
 pub record TransducerConstruction (K O : Type 0) : Type 1 where
   pub problem : Operation K O (TransducerRule K)
   pub spare : K
@@ -31,7 +31,7 @@ pub record IsCanonicalTransducerOf {K O : Type 0} (scale : Scale) (labels : List
   pub canonical : IsCanonicalTransducer scale labels c.problem.cmp order rules 0 h
 
 -- The text is that of such a transducer, which has this series. It reads back as this transducer,
--- states by their names. What is read has the series too.
+-- states by their names. What is read also has the series.
 pub record HasTransducerText (scale : Scale) (labels : List (List ℕ)) (IsResult : TransducerOf → Type 0)
     (HasSeries : List (TransducerRule ℕ) → Type 0) (text : List ℕ) : Type 0 where
   pub h : TransducerOf

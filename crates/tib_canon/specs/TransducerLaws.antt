@@ -1,4 +1,4 @@
--- What holds of canonical transducers.
+-- What holds for canonical transducers.
 use Rattle.tib_cost.specs.declared.Scale.{Scale}
 use Rattle.std.specs.Prelude.{◌≡◌, ◌<◌, ◌≤◌, ◌^◌, ◌↔◌, ℕ, List, length, Option}
 use Rattle.std.specs.declared.cmp.Ordering.{Ordering}
@@ -20,7 +20,7 @@ use Rattle.tib_canon.specs.TransducerConstructions.{IsCanonicalTransducerOf}
 use Rattle.tib_canon.specs.TransducerKeys.{IsCanonicalTransducer, HasSeriesFrom, AreMovesOver}
 
 -- rules over the positions of an order have one canonical transducer over its keys, whatever their
--- order and however often one of them stands
+-- order and however often one of them occurs
 abbrev pub KeysHaveOneTransducer : {K : Type 0} → (K → K → Ordering) → Type 0
 KeysHaveOneTransducer {K} cmp =
     (scale : Scale) (labels : List (List ℕ)) (order : List K) (xs ys : List (TransducerRule ℕ))
@@ -36,8 +36,8 @@ KeysKeepTransducerSeries {K} product cmp =
     (start : ℕ) (h : TransducerOf) → IsCanonicalTransducer scale labels cmp order rules start h →
     HasSeriesFrom product rules start h.rules
 
--- it cannot be that rules over the positions of an order of distinct keys, which can be printed,
--- have no canonical transducer over these keys
+-- it is impossible that printable rules over the positions of an order of distinct keys have no
+-- canonical transducer over these keys
 abbrev pub KeysHaveTransducer : {K : Type 0} → (K → K → Ordering) → Type 0
 KeysHaveTransducer {K} cmp =
     (scale : Scale) (labels : List (List ℕ)) (order : List K) (rules : List (TransducerRule ℕ))
@@ -45,8 +45,8 @@ KeysHaveTransducer {K} cmp =
     AreMovesOver scale labels (length order) rules →
     ((h : TransducerOf) → IsCanonicalTransducer scale labels cmp order rules start h → ⊥) → ⊥
 
--- Where each position but the start stands in a rule, the text of the canonical transducer is a
--- text of it, and reads back as it, states by their names.
+-- If each position but the start is in a rule, the text of the canonical transducer is a text of
+-- it, and reads back as it, states by their names.
 abbrev pub TransducerTextsAreRead : {K : Type 0} → (K → K → Ordering) → Type 0
 TransducerTextsAreRead {K} cmp =
     (scale : Scale) (labels : List (List ℕ)) (order : List K) (rules : List (TransducerRule ℕ))
@@ -73,8 +73,8 @@ TransducerTextIsOne {K} cmp =
     IsCanonicalTransducer scale others cmp order ys start i →
     transducer_text scale labels h ≡ transducer_text scale others i
 
--- Where the pairs of the states of two transducers that can be printed are reached within the
--- limit, it cannot be that there is no text of their canonical composition.
+-- If the pairs of the states of two printable transducers are reached within the limit, it is
+-- impossible that there is no text of their canonical composition.
 abbrev pub CompositionsHaveTexts : (ℕ → ℕ → ℕ) → Type 0
 CompositionsHaveTexts product =
     (scale : Scale) (limit : ℕ) → limit ≤ 2 ^ 32 → (labels : List (List ℕ)) → Distinct labels →
@@ -99,15 +99,15 @@ CompositionsHaveSeries product =
     ArePlain u.rules → IsCanonicalTransducerOf scale labels limit (composing product t u) h →
     HasComposeSeries product t.rules u.rules h.rules
 
--- there is a start, no two states have one name, the rules' states have names, and nothing stands
--- below a leaf, as in each transducer that `Transducer` of tib_transducer holds
+-- there is a start, no two states have one name, the rules' states have names, and nothing is below
+-- a leaf, as in each transducer that `Transducer` of tib_transducer holds
 pub record HasNamedStates (t : TransducerOf) : Type 0 where
   pub start : 0 < length t.names
   pub distinct : Distinct t.names
   pub within : AreWithin (length t.names) t.rules
   pub leaves : EndInHoles t.rules
 
--- transducers that are the same but for the numbers of their states have one series
+-- transducers that differ only in the numbers of their states have one series
 abbrev pub SeriesIsOneByName : (ℕ → ℕ → ℕ) → Type 0
 SeriesIsOneByName product =
     (t u : TransducerOf) → HasNamedStates t → HasNamedStates u → IsSameByName t u → (x y : Tree ℕ)

@@ -7,7 +7,7 @@ use Rattle.tib_transducer.specs.Rules.{transducer_rule}
 use Rattle.tib_transducer.specs.declared.TransducerRule.{TransducerRule}
 use Rattle.tib_canon.specs.declared.lines.Line.{Line}
 
--- lines, each with a line feed behind it
+-- lines, each with a line feed after it
 abbrev pub fed : List (List ℕ) → List ℕ
 fed [] = []
 fed (line ∷ lines) = line ++ 10 ∷ fed lines
@@ -17,7 +17,7 @@ pub record AreLinesOf (text : List ℕ) (lines : List (List ℕ)) : Type 0 where
   pub is : text ≡ fed lines
   pub free : Each HasNoFeed lines
 
--- the state of the rule at a position, and the text behind that of the start
+-- the state of the rule at a position, and its text, which comes after that of the start
 pub record IsMoveLine (rules : List (TransducerRule ℕ)) (texts : List (List ℕ)) (line : Line) : Type 0 where
   pub below : line.position < length rules
   pub state : line.left ≡ (transducer_rule rules line.position).state

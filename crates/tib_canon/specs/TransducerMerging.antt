@@ -23,25 +23,25 @@ no_sides = (0, [], [])
 abbrev pub AreSidesOf : Sides → TransducerRule ℕ → Type 0
 AreSidesOf k r = (k.0 ≡ r.state) × (pairs_of k.1 ≡ preorder_of r.left) × (pairs_of k.2 ≡ preorder_of r.right)
 
--- sides were noted behind others, unless they stood among them
+-- sides were noted after others, unless they were among them
 abbrev pub IsNoted : List Sides → Sides → Option ℕ → List Sides → Type 0
 IsNoted old k None new = (Has old k → ⊥) × (new ≡ old ++ k ∷ [])
 IsNoted old k (Some i) new = (i < length old) × (get_or old i no_sides ≡ k) × (new ≡ old)
 
--- one of two positions, at which no dearer rule stands than at either
+-- one of two positions; its rule costs no more than the rule at either
 pub record IsCheaper (rules : List (TransducerRule ℕ)) (a b c : ℕ) : Type 0 where
   pub either : (c ≡ a) ⊎ (c ≡ b)
   pub first : (transducer_rule rules c).cost ≤ (transducer_rule rules a).cost
   pub second : (transducer_rule rules c).cost ≤ (transducer_rule rules b).cost
 
--- at one of the positions stands a rule with the state and sides of r that costs no more
+-- a rule with the state and sides of r that costs no more is at one of the positions
 pub record HasCheaperAt (rules : List (TransducerRule ℕ)) (positions : List ℕ) (r : TransducerRule ℕ) : Type 0 where
   pub position : ℕ
   pub stands : Has positions position
   pub agrees : AgreeInSides (transducer_rule rules position) r
   pub costs : (transducer_rule rules position).cost ≤ r.cost
 
--- Of rules that agree one of the cheapest stands at one of the positions, and no other.
+-- Of rules that agree, one of the cheapest is at one of the positions, and no other.
 pub record AreCheapest (rules : List (TransducerRule ℕ)) (positions : List ℕ) : Type 0 where
   pub below : (p : ℕ) → Has positions p → p < length rules
   pub distinct : Distinct positions

@@ -50,7 +50,7 @@ impl Finals {
     }
 }
 
-/// What the start of a grammar over keys is.
+/// The start of a grammar over keys.
 #[derive(Drop)]
 pub enum Begin {
     /// The key at a position of the order.
@@ -61,8 +61,8 @@ pub enum Begin {
     Empty,
 }
 
-// The rules over the keys of an order, the start first and the others in ascending order, from
-// those over positions.
+// Makes rules over positions into rules over the keys of an order, with the start first and the
+// others in ascending order.
 fn over_keys<K: TableKey + Drop>(
     alloc: Global,
     order: Vec<K>,
@@ -115,8 +115,8 @@ fn chain_rules(
     Ok(rules)
 }
 
-// The rules over the keys of an order behind a fresh start, its chain rules first, from those over
-// positions.
+// Makes rules over positions into rules over the keys of an order after a fresh start, with its
+// chain rules first.
 fn over_behind_fresh<K: TableKey + Drop>(
     alloc: Global,
     order: Vec<K>,
@@ -141,11 +141,10 @@ fn over_behind_fresh<K: TableKey + Drop>(
     Ok(started)
 }
 
-/// The canonical grammar whose states are the keys of an order: the start is named `q0`, and the
-/// others `q1`, `q2` and so on in ascending order of their keys, of those that are useful. A fresh
-/// start is no key, and has the chain rules to its finals. The rules are over positions of the
-/// order. Err only if memory is refused, and then both are gone. Worst case: the keys are sorted
-/// once, and then that of `canonical`.
+/// The canonical grammar whose states are the keys of an order. The start is named `q0`, and the
+/// other useful keys `q1`, `q2` and so on in ascending order. A fresh start is no key, and has the
+/// chain rules to its finals. The rules are over positions of the order. Err only if memory is
+/// refused; both are then gone. Worst case: the keys are sorted once, and then that of `canonical`.
 pub fn to_grammar<S: Semiring, K: TableKey + Drop>(
     alloc: Global,
     found: Found<K, Rule<u32>>,

@@ -12,13 +12,13 @@ use tib_grammar::{Grammar, Rule};
 use tib_inside::trim_rules;
 use tib_tree::Labels;
 
-/// The canonical form of a grammar whose labels are in the table. States and rules that no run
-/// within the greatest cost uses are left out; the states that stay are named `q0` (the start),
-/// `q1`, `q2` and so on in their order; of rules that agree in both sides the cheapest stays; and
-/// the rules are sorted by their left states and then by the bytes of their lines as they are
-/// printed. The series is that of the grammar. Err only if memory is refused, and then the grammar
-/// is gone. Worst case: that of `trim_rules`; each rule that stays is hashed and printed once, the
-/// lines are sorted once, by O(r log r) comparisons of r lines, and the rules are moved.
+/// The canonical form of a grammar whose labels are in the table. It leaves out states and rules
+/// that no run within the greatest cost uses. The states that stay are named `q0` (the start),
+/// `q1`, `q2` and so on in their order. Of rules that agree in both sides the cheapest stays. The
+/// rules are sorted by their left states and then by the bytes of their lines as they are printed.
+/// The series is that of the grammar. Err only if memory is refused; the grammar is then gone.
+/// Worst case: that of `trim_rules`; each rule that stays is hashed and printed once, the lines are
+/// sorted once, by O(r log r) comparisons of r lines, and the rules are moved.
 pub fn canonical<S: Semiring>(
     alloc: Global,
     grammar: Grammar<S>,
@@ -39,6 +39,7 @@ pub fn canonical<S: Semiring>(
 }
 
 /// The canonical form of a grammar of these rules over this number of states, whatever their names.
+/// Err only if memory is refused; the rules are then gone.
 pub(crate) fn canonical_of_rules<S: Semiring>(
     alloc: Global,
     states: u32,

@@ -1,4 +1,4 @@
-// What holds of canonical forms.
+// What holds for canonical forms.
 ghost use Rattle.tib_canon.specs.Laws.{FreshKeepsSeries, TrimmingKeepsDeterministic, OrderKeepsDeterministic, CanonicalKeepsDeterministic, FreshKeepsDeterministic, OrderIsOne, CanonicalIsOne, FormsHaveOneCanonical, OrderKeepsSeries, KeysKeepSeries, TrimmedFormsHaveSameRules, KeysHaveOneCanonical, FormsArePrintable, TrimmedIsPrintable, CanonicalIsPrintable, OverKeysArePrintable, CanonicalTextsAreRead, FormTextsAreRead, OverKeysTextsAreRead, CanonicalTextIsOne, InsidesAreOneByText, CanonicalFormsExist, OverKeysHaveCanonical};
 
 use tib_cost::Semiring;
@@ -9,8 +9,8 @@ pub fn order_is_one()
     ensures { OrderIsOne }
 {}
 
-/// A grammar has at most one canonical form. Of a right side it is asked that nothing stands below
-/// a state, as in every `Grammar`.
+/// A grammar has at most one canonical form. This requires that in a right-hand side nothing is
+/// below a state, as in every `Grammar`.
 pub fn canonical_is_one()
     ensures { CanonicalIsOne }
 {}
@@ -31,7 +31,7 @@ pub fn keys_keep_the_series<K: TableKey>()
     ensures { KeysKeepSeries K.cmp }
 {}
 
-/// A canonical grammar over keys behind a fresh start has the series of the rules with its chain
+/// A canonical grammar over keys after a fresh start has the series of the rules with its chain
 /// rules.
 pub fn fresh_start_keeps_the_series<K: TableKey>()
     ensures { FreshKeepsSeries K.cmp }
@@ -52,8 +52,8 @@ pub fn canonical_keeps_deterministic_form()
     ensures { CanonicalKeepsDeterministic }
 {}
 
-/// A canonical grammar over keys behind a fresh start is in deterministic form where the rules with
-/// its chain rules are.
+/// A canonical grammar over keys after a fresh start is in deterministic form if the rules with its
+/// chain rules are.
 pub fn fresh_start_keeps_deterministic_form<K: TableKey>()
     ensures { FreshKeepsDeterministic K.cmp }
 {}
@@ -64,43 +64,43 @@ pub fn trimmed_forms_have_the_same_rules()
 {}
 
 /// Rules over the positions of an order have one canonical grammar over its keys, whatever their
-/// order and however often one of them stands.
+/// order and however often one of them occurs.
 pub fn keys_have_one_canonical<K: TableKey>()
     ensures { KeysHaveOneCanonical K.cmp }
 {}
 
-/// A normal form can be printed where the grammar can.
+/// A normal form can be printed if the grammar can.
 pub fn normal_forms_are_printable<S: Semiring>()
     ensures { FormsArePrintable S.product }
 {}
 
-/// A trimmed grammar can be printed where the grammar can.
+/// A trimmed grammar can be printed if the grammar can.
 pub fn trimmed_is_printable()
     ensures { TrimmedIsPrintable }
 {}
 
-/// A canonical form can be printed where the grammar can.
+/// A canonical form can be printed if the grammar can.
 pub fn canonical_is_printable()
     ensures { CanonicalIsPrintable }
 {}
 
-/// A grammar over keys can be printed where the rules over positions with its start can.
+/// A grammar over keys can be printed if the rules over positions with its start can.
 pub fn over_keys_are_printable<K: TableKey>()
     ensures { OverKeysArePrintable K.cmp }
 {}
 
-/// The text of a canonical form is the text of this very grammar: its states keep their numbers,
+/// The text of a canonical form is the text of exactly this grammar: its states keep their numbers,
 /// and its rules their order.
 pub fn canonical_texts_are_read<S: Semiring>()
     ensures { CanonicalTextsAreRead S.product }
 {}
 
-/// The text of the canonical form of a grammar's normal form is the text of this very form.
+/// The text of the canonical form of a grammar's normal form is the text of exactly this form.
 pub fn normal_texts_are_read<S: Semiring>()
     ensures { FormTextsAreRead S.product }
 {}
 
-/// The text of a canonical grammar over keys is the text of this very grammar.
+/// The text of a canonical grammar over keys is the text of exactly this grammar.
 pub fn over_keys_texts_are_read<S: Semiring, K: TableKey>()
     ensures { OverKeysTextsAreRead S.product K.cmp }
 {}
@@ -117,12 +117,12 @@ pub fn insides_are_one_by_text()
     ensures { InsidesAreOneByText }
 {}
 
-/// It cannot be that a grammar which can be printed has no canonical form with its series.
+/// It is impossible that a printable grammar has no canonical form with its series.
 pub fn canonical_forms_exist<S: Semiring>()
     ensures { CanonicalFormsExist S.product }
 {}
 
-/// Nor can it be that rules which can be printed, over the positions of an order of distinct keys,
+/// It is also impossible that printable rules, over the positions of an order of distinct keys,
 /// have no canonical grammar over these keys with a start.
 pub fn canonical_over_keys_exists<S: Semiring, K: TableKey>()
     ensures { OverKeysHaveCanonical S.product K.cmp }

@@ -21,11 +21,11 @@ pub struct Line<'a> {
     pub left: u32,
     /// The line of the rule, without the line feed.
     pub text: &'a [u8],
-    /// Where the rule stands.
+    /// Where the rule is.
     pub position: u32,
 }
 
-/// The lines of some rules, one behind another.
+/// The lines of some rules, one after another.
 #[derive(Drop)]
 pub(crate) struct Texts {
     /// All lines.
@@ -51,7 +51,7 @@ fn add_line<S: Semiring>(
     }
 }
 
-/// The texts of the rules at some positions.
+/// The texts of the rules at some positions. Err only if memory is refused.
 pub(crate) fn texts_at<S: Semiring>(
     alloc: Global,
     rules: &[Rule<u32>],
@@ -84,7 +84,7 @@ fn line_between<'a>(text: &'a [u8], begin: usize, end: usize) -> &'a [u8]
     &text[begin..end - 1]
 }
 
-/// The lines of the rules at some positions, in their texts.
+/// The lines of the rules at some positions, in their texts. Err only if memory is refused.
 pub(crate) fn lines_at<'a>(
     alloc: Global,
     rules: &[Rule<u32>],

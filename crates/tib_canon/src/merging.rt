@@ -6,8 +6,7 @@ use indexmap::IndexSet;
 use std::alloc::{AllocError, Global};
 use tib_grammar::{Item, Rule};
 
-// Notes both sides of a rule behind those noted before. If they are among them, it answers their
-// place.
+// Notes both sides of a rule after those noted before. If they are among them, returns their place.
 fn note<'a>(
     sides: &mut IndexSet<(u32, &'a [Item<u32>])>,
     left: u32,
@@ -33,8 +32,8 @@ fn cheaper(rules: &[Rule<u32>], first: u32, second: u32) -> u32
     }
 }
 
-/// For rules that agree in both sides the position of a cheapest one, in the order in which their
-/// sides first stand.
+/// The position of a cheapest rule for each pair of sides, in the order in which these first occur.
+/// Err only if memory is refused.
 pub(crate) fn cheapest(alloc: Global, rules: &[Rule<u32>]) -> Result<Vec<u32>, AllocError>
     requires { length rules.now < 2 ^ 32 }
     ensures { IfOk result (λ best. AreCheapest rules.now best.items) }

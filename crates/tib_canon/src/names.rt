@@ -16,7 +16,8 @@ fn numbered_name(alloc: Global, number: u32) -> Result<Vec<u8>, AllocError>
     Ok(name)
 }
 
-/// The names of this number of states: q0, q1, q2 and so on.
+/// The names of this number of states: `q0`, `q1`, `q2` and so on. Err only if memory is refused.
+/// Linear in the number of states.
 pub fn numbered_names(alloc: Global, count: u32) -> Result<Names, AllocError>
     ensures { IfOk result (λ names. names ≡ names_of count) }
 {

@@ -10,7 +10,7 @@ ghost use Rattle.tib_grammar.specs.Range.{AreBelow};
 use std::alloc::{AllocError, Global};
 use tib_table::TableKey;
 
-// Each key with its position, and whether it is another than the start.
+// Each key with its position, and whether it is not the start.
 fn marked_keys<K: TableKey + Drop>(
     alloc: Global,
     order: Vec<K>,
@@ -39,7 +39,8 @@ fn positions_of<K: TableKey>(alloc: Global, keys: &[(bool, K, u32)]) -> Result<V
 }
 
 /// The positions of an order of keys: first the start, and then the others in ascending order of
-/// their keys.
+/// their keys. Err only if memory is refused; the keys are then gone. Cost: the keys are sorted
+/// once.
 pub fn states_by_keys<K: TableKey + Drop>(
     alloc: Global,
     order: Vec<K>,
@@ -72,8 +73,8 @@ fn behind_fresh_start<K: TableKey>(
     Ok(states)
 }
 
-/// The states of an order behind a fresh start: first 0, and then one more than each position, in
-/// ascending order of their keys.
+/// The states of an order after a fresh start: first 0, and then one more than each position, in
+/// ascending order of their keys. Err only if memory is refused.
 pub(crate) fn states_behind_fresh<K: TableKey + Drop>(
     alloc: Global,
     order: Vec<K>,
@@ -88,7 +89,7 @@ pub(crate) fn states_behind_fresh<K: TableKey + Drop>(
     behind_fresh_start(alloc, &keys)
 }
 
-/// For each position its place among the states.
+/// For each position, its place among the states. Err only if memory is refused. Cost: one pass.
 pub fn numbers_of(alloc: Global, states: &[u32]) -> Result<Vec<u32>, AllocError>
     requires few { length states.now < 2 ^ 32 }
     requires below { AreBelow (length states.now) states.now }

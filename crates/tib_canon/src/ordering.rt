@@ -26,7 +26,7 @@ pub struct Printed<S> {
 
 /// The grammar of rules over this number of states, with the states named by their numbers, equal
 /// rules merged at the least cost, and the rules sorted. The rules are moved, and the lines by
-/// which they are sorted are the text.
+/// which they are sorted are the text. Err only if memory is refused; the rules are then gone.
 pub(crate) fn in_order<S: Semiring>(
     alloc: Global,
     states: u32,

@@ -1,4 +1,4 @@
-// Rules under new numbers of their states.
+// Rules with new numbers for their states.
 ghost use Rattle.std.specs.Prelude.{◌≡◌, ◌<◌, [], ◌∷◌, ℕ, List, length, map, IfOk, OnOk};
 ghost use Rattle.tib_tree.specs.Trees.{IsOneTree};
 ghost use Rattle.tib_grammar.specs.Items.{pairs_of, holes_in};
@@ -17,7 +17,7 @@ use tib_grammar::{Item, Side};
 use tib_transducer::{Pair, TransducerRule};
 use tib_tree::ShapeError;
 
-// An item under the new number of its state.
+// An item with the new number of its state.
 fn renamed_item(item: &Item<Pair<u32>>, numbers: &[u32]) -> Item<Pair<u32>>
     requires { AllBelow (length numbers.now) (states_among (item.now ∷ [])) }
     ensures { result ≡ named_item (number_in numbers.now) item.now }
@@ -34,7 +34,7 @@ fn renamed_item(item: &Item<Pair<u32>>, numbers: &[u32]) -> Item<Pair<u32>>
     }
 }
 
-// Items under the new numbers of their states.
+// Items with the new numbers of their states.
 fn renamed_items(
     alloc: Global,
     items: &[Item<Pair<u32>>],
@@ -50,7 +50,7 @@ fn renamed_items(
     Ok(renamed)
 }
 
-// The side of some items.
+// The side with some items.
 fn side_of(items: Vec<Item<Pair<u32>>>) -> Result<Side<Pair<u32>>, AllocError>
     requires { IsOneTree (pairs_of items.items) }
     ensures { IfOk result (λ s. preorder_of s ≡ pairs_of items.items) }
@@ -65,7 +65,7 @@ fn side_of(items: Vec<Item<Pair<u32>>>) -> Result<Side<Pair<u32>>, AllocError>
     }
 }
 
-// A right side under the new numbers of its states.
+// A right-hand side with the new numbers of its states.
 fn renamed_side(
     alloc: Global,
     side: &Side<Pair<u32>>,
@@ -93,9 +93,9 @@ fn rename_rule(
     Ok(())
 }
 
-/// The rules, with the number that a list has for each state in its place. Err only if memory is
-/// refused, and then the rules are gone. Worst case: one pass over the items of the right sides;
-/// no rule is moved.
+/// The rules, with each state replaced by its number in a list. Err only if memory is refused; the
+/// rules are then gone. Worst case: one pass over the items of the right-hand sides; no rule is
+/// moved.
 pub(crate) fn renamed_rules(
     alloc: Global,
     rules: Vec<TransducerRule<u32>>,

@@ -1,4 +1,4 @@
-// A text cut into its lines.
+// Splits a text into its lines.
 ghost use Rattle.std.specs.Prelude.{◌≡◌, ◌≤◌, ◌<◌, ◌+◌, ℕ, List, length, map, take, drop, IfOk};
 ghost use Rattle.std.specs.List.{prefix_len};
 ghost use Rattle.tib_lex.specs.Lines.{not_feed};
@@ -12,7 +12,7 @@ fn is_not_feed(byte: u8) -> bool
     byte != b'\n'
 }
 
-// How many bytes stand before the first line feed.
+// How many bytes come before the first line feed.
 fn line_length(text: &[u8]) -> usize
     ensures count { result ≡ prefix_len not_feed text.now }
     ensures within { result ≤ length text.now }
@@ -24,7 +24,7 @@ fn line_length(text: &[u8]) -> usize
     count
 }
 
-// What stands before a place.
+// What comes before a place.
 fn text_before<'a>(text: &'a [u8], end: usize) -> &'a [u8]
     requires { end ≤ length text.now }
     ensures { result.now ≡ take end text.now }
@@ -40,8 +40,8 @@ fn text_behind<'a>(text: &'a [u8], end: usize) -> &'a [u8]
     &text[end + 1..]
 }
 
-/// The lines of a text, of which each ends with a line feed, without these. Err only if memory is
-/// refused. Worst case: one pass over the bytes.
+/// The lines of a text, without the line feeds that end them. Err only if memory is refused. Worst
+/// case: one pass over the bytes.
 pub(crate) fn lines_in<'a>(alloc: Global, text: &'a [u8]) -> Result<Vec<&'a [u8]>, AllocError>
     requires { (lines : List (List ℕ)) × AreLinesOf text.now lines }
     ensures { IfOk result (λ v. (lines : List (List ℕ)) → AreLinesOf text.now lines →

@@ -28,7 +28,8 @@ fn take_from(places: &mut Vec<Option<Rule<u32>>>, position: u32) -> Option<Rule<
     places[position as usize].take()
 }
 
-/// The rules at the positions of some lines, in the order of the lines. They are moved.
+/// The rules at the positions of some lines, in the order of the lines. They are moved. Err only if
+/// memory is refused; the rules are then gone.
 pub(crate) fn rules_at(
     alloc: Global,
     rules: Vec<Rule<u32>>,

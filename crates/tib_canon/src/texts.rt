@@ -20,7 +20,8 @@ fn add_text(sink: &mut GrowingSink, text: &[u8]) -> Result<(), AllocError>
     }
 }
 
-/// The name of the start and then the lines, each with its line feed.
+/// The name of the start and then the lines, each with its line feed. Err only if memory is
+/// refused. Linear in the bytes of the text.
 pub fn text_of(alloc: Global, start: &[u8], lines: &[Line]) -> Result<GrowingSink, AllocError>
     ensures { IfOk result (λ text. text.bytes ≡ (start.now ++ 10 ∷ []) ++ lines_text lines.now) }
 {

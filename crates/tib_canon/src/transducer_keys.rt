@@ -17,8 +17,8 @@ use tib_table::TableKey;
 use tib_transducer::TransducerRule;
 use tib_tree::Labels;
 
-// The rules over the keys of an order, the start first and the others in ascending order, from
-// those over positions.
+// Makes rules over positions into rules over the keys of an order, with the start first and the
+// others in ascending order.
 fn over_keys<K: TableKey + Drop>(
     alloc: Global,
     order: Vec<K>,
@@ -38,14 +38,13 @@ fn over_keys<K: TableKey + Drop>(
     renamed_rules(alloc, rules, &numbers)
 }
 
-/// The canonical transducer whose states are the keys of an order: the start is named `q0`, and the
-/// others `q1`, `q2` and so on in ascending order of their keys. Each key is a state, and no rule
-/// is left out for being useless: of rules that agree in their states and sides the cheapest stays,
-/// and the rules are sorted by their states and then by the bytes of their lines as they are
-/// printed. The rules are over positions of the order. Beside the transducer stands its text. Err
-/// only if memory is refused, and then all that was given is gone. Worst case: the keys are sorted
-/// once; each rule is hashed once and printed once; and r rules are sorted by O(r log r)
-/// comparisons of their lines.
+/// The canonical transducer whose states are the keys of an order, with its text. The start is
+/// named `q0`, and the others `q1`, `q2` and so on in ascending order of their keys. Each key is a
+/// state, and no rule is left out for being useless. Of rules that agree in their states and sides
+/// the cheapest stays. The rules are sorted by their states and then by the bytes of their lines as
+/// they are printed. The rules are over positions of the order. Err only if memory is refused; all
+/// that was given is then gone. Worst case: the keys are sorted once; each rule is hashed once and
+/// printed once; and r rules are sorted by O(r log r) comparisons of their lines.
 pub fn to_transducer<S: Semiring, K: TableKey + Drop>(
     alloc: Global,
     found: Found<K, TransducerRule<u32>>,

@@ -7,8 +7,8 @@ use crate::Line;
 use std::alloc::{AllocError, Global};
 use tib_transducer::TransducerRule;
 
-/// The line of each rule with its state and its position. The texts are those of the rules behind
-/// that of the start.
+/// The line of each rule with its state and its position. The texts of the rules follow that of the
+/// start. Err only if memory is refused.
 pub(crate) fn lines_of<'a>(
     alloc: Global,
     rules: &[TransducerRule<u32>],
@@ -32,7 +32,7 @@ pub(crate) fn lines_of<'a>(
     Ok(lines)
 }
 
-/// Where the rules of some lines stand.
+/// The positions of the rules of some lines. Err only if memory is refused.
 pub(crate) fn positions_of(alloc: Global, lines: &[Line]) -> Result<Vec<u32>, AllocError>
     ensures { IfOk result (λ v. v.items ≡ map (λ line. line.position) lines.now) }
 {

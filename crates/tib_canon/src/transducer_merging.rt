@@ -7,8 +7,8 @@ use std::alloc::{AllocError, Global};
 use tib_grammar::Item;
 use tib_transducer::{Pair, TransducerRule, Variable};
 
-// Notes the state and the sides of a rule behind those noted before. If they are among them, it
-// answers their place.
+// Notes the state and the sides of a rule after those noted before. If they are among them, returns
+// their place.
 fn note<'a>(
     sides: &mut IndexSet<(u32, &'a [Item<Variable>], &'a [Item<Pair<u32>>])>,
     state: u32,
@@ -35,8 +35,8 @@ fn cheaper(rules: &[TransducerRule<u32>], first: u32, second: u32) -> u32
     }
 }
 
-/// For rules that agree in their states and sides the position of a cheapest one, in the order in
-/// which these first stand. Each rule is hashed once.
+/// The position of a cheapest rule for each state with both sides, in the order in which these
+/// first occur. Err only if memory is refused. Each rule is hashed once.
 pub(crate) fn cheapest(alloc: Global, rules: &[TransducerRule<u32>]) -> Result<Vec<u32>, AllocError>
     requires { length rules.now < 2 ^ 32 }
     ensures { IfOk result (λ best. AreCheapest rules.now best.items) }

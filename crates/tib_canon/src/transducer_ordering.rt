@@ -46,7 +46,7 @@ fn printed<S: Semiring>(
     }
 }
 
-// One of the cheapest of the rules that agree in their states and sides, under canonical names.
+// One of the cheapest of the rules that agree in their states and sides, with canonical names.
 fn merged<S: Semiring>(
     alloc: Global,
     states: u32,
@@ -68,7 +68,7 @@ fn merged<S: Semiring>(
     }
 }
 
-// A transducer with its rules in the order of their lines, of which no two are the same.
+// A transducer with its rules in the order of their lines. No two lines are the same.
 fn sorted<S: Semiring>(
     alloc: Global,
     transducer: Transducer<S>,
@@ -97,8 +97,8 @@ fn sorted<S: Semiring>(
 }
 
 /// The transducer of rules over this number of states, with the states named by their numbers,
-/// equal rules merged at the least cost, and the rules sorted. Err only if memory is refused, and
-/// then the rules are gone. Worst case: each rule is hashed once and printed once, and r rules are
+/// equal rules merged at the least cost, and the rules sorted. Err only if memory is refused; the
+/// rules are then gone. Worst case: each rule is hashed once and printed once, and r rules are
 /// sorted by O(r log r) comparisons of their lines; they are moved.
 pub(crate) fn in_order<S: Semiring>(
     alloc: Global,

@@ -72,7 +72,8 @@ fn are_in_place(positions: &[u32], count: usize) -> bool
 }
 
 /// The rules at some positions, in the order of the positions. They are moved, and the others are
-/// dropped. Where each rule stands in its place already, nothing is done.
+/// dropped. If each rule is already in its place, nothing is done. Err only if memory is refused;
+/// the rules are then gone.
 pub(crate) fn rules_at(
     alloc: Global,
     rules: Vec<TransducerRule<u32>>,
