@@ -40,7 +40,7 @@ use Rattle.tib_apply.specs.declared.deleting.LeastRuns.{LeastRuns}
 use Rattle.tib_apply.specs.declared.forward_plan.Plan.{Plan}
 use Rattle.tib_apply.proofs.ForwardPlanned.{numbered_below}
 
--- a table with one state more
+-- a table with one more state
 pub asked_next : (f : ℕ → Option ℕ) (xs : List (Option ℕ)) (n : ℕ) (v : Option ℕ) → length xs ≡ n → v ≡ f n → ((q : ℕ) → q < n → get_or xs q None ≡ f q) → (q : ℕ) → q < n + 1 →
     get_or (xs ++ v ∷ []) q None ≡ f q
 asked_next f xs n v long is at q b = elim (below_cases q n b) [

@@ -1,4 +1,4 @@
--- Trees at the variables of a left side, of which a right side names some.
+-- Trees at the variables of a left-hand side, of which a right-hand side names some.
 use Rattle.std.specs.Prelude.{◌≡◌, ℕ, ◌<◌, List, [], ◌∷◌, length, map, Bool, nat_eq, refl, Option, None, Some}
 use Rattle.std.specs.List.{list_any}
 use Rattle.std.proofs.Common.{zero, suc, arith, ap, sym, ◌∙◌, subst, inl, inr, get_or}

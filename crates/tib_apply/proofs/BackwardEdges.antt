@@ -61,7 +61,7 @@ seam : {K : Type 0} (xs : List K) (y : K) (ys : List K) (i : ℕ) (d : K) → i 
 seam [] y ys i d e = ap (λ j. slice_index_or (y ∷ ys) j d) e
 seam (x ∷ xs) y ys i d e = ap (λ j. slice_index_or (x ∷ (xs ++ y ∷ ys)) j d) e ∙ seam xs y ys (length xs) d refl
 
--- the key of a variable stands among the ends, where the keys of all variables follow the others
+-- the key of a variable is among the ends, where the keys of all variables follow the others
 keys_behind :
     (f : Variable → ℕ × ℕ × ℕ) (first n : ℕ) (ends : List (ℕ × ℕ × ℕ)) (xs : List Variable) → AreNumbered n xs → length ends ≡ first + n →
     Each (λ x. f x ≡ end_at (ends ++ map f xs) (number_from first x)) xs
@@ -135,7 +135,7 @@ module _ (left : SideFor ℕ Variable) (items : List (Item Variable)) (is : pair
       read = ap (λ s. record { left = key; right = s; cost = cost }) sides_read;
     }
 
--- the edge of a rule is put behind those of a list
+-- the edge of a rule is put after those of a list
 pub edge_added :
     (rule : TransducerRule ℕ) (items : List (Item Variable)) (others : List (Item (Pair ℕ))) → pairs_of items ≡ preorder_of rule.left → pairs_of others ≡ preorder_of rule.right → IsShaped rule →
     HolesAreLeaves (only rule.left) → (labels restricted ss ts : List ℕ) (states : List (ℕ × ℕ)) → restricted ≡ labels → ts ≡ ss → ((i : ℕ) → i < length items → get_or states i (0, 0) ≡ states_at i (holes_in others) ts) →
@@ -270,7 +270,7 @@ module _ (product : ℕ → ℕ → ℕ) (moves : List (TransducerRule ℕ)) (gr
       | inr x ↦ no_match_before i ms k ([], 0) matches.ascend low x
     ]
 
-    -- one match more
+    -- one more match
     pub match_listed :
         (l l' : EdgeList) → IsAlike l l' → IsListed (IsBackwardEdge product moves grammar key) key (tried ++ map (λ m. (i, m.0)) (take k ms)) l →
         IsNext key (backward_edge product (restricted_labels moves) key rule match_here) l l' → IsListed (IsBackwardEdge product moves grammar key) key (tried ++ map (λ m. (i, m.0)) (take (k + 1) ms)) l'

@@ -36,8 +36,8 @@ pub record HasRuleTo (order : List (ℕ × ℕ × ℕ)) (rules : List (Rule ℕ)
   pub costs : (rule_at rules position).cost ≤ c
 
 -- The rules over positions of an order of keys, the key of the starts first, are edges; and
--- whatever a rule of the transducer and a match of its right side cost together, an edge costs no
--- more.
+-- whatever a rule of the transducer and a match of its right-hand side cost together, an edge costs
+-- no more.
 pub record CoversBackward (product : ℕ → ℕ → ℕ) (moves : List (TransducerRule ℕ)) (grammar : List (Rule ℕ)) (order : List (ℕ × ℕ × ℕ)) (rules : List (Rule ℕ)) : Type 0 where
   pub long : 0 < length order
   pub start : key_at order 0 ≡ (0, 0, 0)
@@ -55,8 +55,8 @@ pub record CoversBackward (product : ℕ → ℕ → ℕ) (moves : List (Transdu
       (product (transducer_rule moves n).cost c)
 
 -- The rules over positions of an order of keys, the key of the starts first, are edges; and
--- whatever a rule of the transducer, a match of its left side and runs for what is left out cost
--- together, an edge costs no more.
+-- whatever a rule of the transducer, a match of its left-hand side and runs for what is left out
+-- cost together, an edge costs no more.
 pub record CoversForward (product : ℕ → ℕ → ℕ) (grammar : List (Rule ℕ)) (moves : List (TransducerRule ℕ)) (order : List (ℕ × ℕ × ℕ)) (rules : List (Rule ℕ)) : Type 0 where
   pub long : 0 < length order
   pub start : key_at order 0 ≡ (0, 0, 0)

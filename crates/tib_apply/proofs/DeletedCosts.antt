@@ -1,4 +1,4 @@
--- The least cost of what a right side leaves out, from the inside costs of the states.
+-- The least cost of what a right-hand side leaves out, from the inside costs of the states.
 use Rattle.std.specs.Prelude.{◌≡◌, ℕ, ◌<◌, ◌≤◌, ◌⊎◌, List, [], ◌∷◌, length, Bool, refl, Option, None, Some}
 use Rattle.std.proofs.Common.{zero, suc, arith, ap, sym, ◌∙◌, subst, inl, inr, get_or}
 use Rattle.tib_tree.specs.Trees.{Trees, none, tree}

@@ -52,7 +52,7 @@ admits_no_a h = omega (arith, h.1)
 matched : IsMatch ◌+◌ grammar (transducer_rule moves 0).right 0 (1 ∷ 2 ∷ []) (Some 3)
 matched = match_is_least sum_laws grammar (only (transducer_rule moves 0).right) (0 ∷ []) (1 ∷ 2 ∷ [])
 
--- so there is an edge to A, at 4: x0 stands at v and must have the label c, and x1 stands at u
+-- so there is an edge to A, at 4: x0 is at v and must have the label c, and x1 is at u
 backward_edge :
     IsBackwardEdge ◌+◌ moves grammar (0, 0, 0) (0, 1 ∷ 2 ∷ [])
     (record { left = (0, 0, 0); right = record { label = label 0; kids = leaves ((0, 2, 1) ∷ (0, 1, 0) ∷ []) }; cost = 4 })
@@ -70,8 +70,8 @@ backward_edge = record {
   within = omega arith;
 }
 
--- Of a right side that names x0 alone x1 is left out, at the state where it stands. Where x1 asks
--- for no label, any run from there will do.
+-- Of a right-hand side that names x0 alone x1 is left out, at its state. Where x1 asks for no
+-- label, any run from there will do.
 leaves_out : deleted (0 ∷ []) (variables_of (transducer_rule moves 0).left) (7 ∷ 8 ∷ []) ≡ (None, 8) ∷ []
 leaves_out = refl
 
@@ -79,7 +79,7 @@ leaves_out = refl
 leaves_out_labelled : deleted (1 ∷ []) (variables_of (transducer_rule moves 0).left) (7 ∷ 8 ∷ []) ≡ (Some 4, 7) ∷ []
 leaves_out_labelled = refl
 
--- the keys of the pairs t.x1 and t.x0, where x0 stands at 7 and x1 at 8
+-- the keys of the pairs t.x1 and t.x0, where x0 is at 7 and x1 at 8
 forward_keys :
     side_map (forward_key (restricted_labels moves) (transducer_rule moves 0).left (7 ∷ 8 ∷ [])) (transducer_rule moves 0).right
     ≡ record { label = label 1; kids = leaves ((8, 0, 0) ∷ (7, 0, 1) ∷ []) }

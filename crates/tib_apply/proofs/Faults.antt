@@ -1,4 +1,4 @@
--- Why an application answers nothing, by the error of the test of classes or of the hunt.
+-- Why an application returns nothing, by the error of the test of classes or of the hunt.
 use Rattle.std.specs.Prelude.{ℕ, List}
 use Rattle.tib_hunt.specs.Reached.{IfTooMany}
 use Rattle.tib_hunt.specs.Reached.{HuntError}

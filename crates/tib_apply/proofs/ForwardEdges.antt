@@ -195,7 +195,7 @@ module _
         same =
             deleted_are (variables_in (transducer_rule moves m).right) (variables_of (transducer_rule moves m).left) found.0 shaped.numbered long ∙ ap (map (asked_at found.0)) (sym planned.left_out)
 
-    -- the same of a rule that was looked up
+    -- the same for a rule that was looked up
     pub match_facts :
         (r : TransducerRule ℕ) → r ≡ transducer_rule moves m → IsShaped (transducer_rule moves m) → HolesAreLeaves (only (transducer_rule moves m).right) → IsPlan (restricted_labels moves) (transducer_rule moves m) plan →
         MatchFacts plan r
@@ -220,7 +220,7 @@ module _
 
 -- the matches of a rule, one after another
 
--- an element does not stand among those before it
+-- an element is not among those before it
 not_before : {A : Type 0} (xs : List A) (i : ℕ) (d : A) → Distinct xs → i < length xs → Has (take i xs) (get_or xs i d) → ⊥
 not_before [] i d s h k = omega arith
 not_before (x ∷ xs) zero d s h k = k
@@ -291,7 +291,7 @@ module _ (m : ℕ) where
         ∙ ap (λ os. tried ++ os)
         (ap (λ g. origins_of i ms ++ origin_of g ∷ []) is ∙ sym (map_append (take i ms) (get_or ms i f ∷ [])) ∙ ap (map origin_of) (sym (take_next ms i f below)))
 
-    -- one match more
+    -- one more match
     pub rule_next :
         (l n : ForwardListing) → l.position < length order → key_at order l.position ≡ key → IsListed Gives order (tried ++ origins_of i ms) l → ListsOrigin Gives key (m, f.0) l n →
         IsListed Gives order (tried ++ origins_of (i + 1) ms) n
@@ -365,7 +365,7 @@ module _ (Gives : ℕ × List ℕ → Rule (ℕ × ℕ × ℕ) → Type 0) (key 
     untried : (o : ℕ × List ℕ) → Has before.tried o → o.0 ≡ m → ⊥
     untried o h e = not_before ps i m once below (subst (Has (take i ps)) (e ∙ is) (before.only o h))
 
-    -- one rule more
+    -- one more rule
     pub key_next : (n : ForwardListing) → l.position < length order → key_at order l.position ≡ key → ListsRule Gives key m l n → AreListedFor (take (i + 1) ps) n
     key_next n within at rule =
         let r = rule order within at before.tried untried before.listed in

@@ -63,7 +63,7 @@ unmarked_is marks named n (x ∷ xs) m h =
     ap (λ (b : Bool). if b then unmarked_of marks xs else x ∷ unmarked_of marks xs) (m x.number h.0)
     ∙ ap (λ (ys : List Variable). if list_any (nat_eq x.number) named then ys else x ∷ ys) (unmarked_is marks named n xs m h.1)
 
--- one plan more
+-- one more plan
 pub plans_next :
     (labels : List ℕ) (rules : List (TransducerRule ℕ)) (i : ℕ) (rule : TransducerRule ℕ) (plans : List Plan) (plan : Plan) → i < length rules → rule ≡ transducer_rule rules i →
     ArePlans labels (take i rules) plans → IsPlan labels rule plan → ArePlans labels (take (i + 1) rules) (plans ++ plan ∷ [])

@@ -1,4 +1,4 @@
--- Forward application over tables is forward application, and what its hunt answers.
+-- Forward application over tables is forward application, and what its hunt returns.
 use Rattle.std.specs.Prelude.{◌≡◌, ℕ, ◌+◌, ◌≤◌, List, [], ◌∷◌, length, map, Bool, Option, None, Some}
 use Rattle.std.proofs.Common.{zero, suc, arith, subst}
 use Rattle.tib_lex.specs.Lists.{total}
@@ -22,7 +22,7 @@ use Rattle.tib_apply.specs.Operations.{key_entries, edge_parts, key_operation, f
 use Rattle.tib_apply.specs.TableEdges.{IsTableEdge, table_image, AreForwardEdges}
 use Rattle.tib_apply.specs.declared.deleting.LeastRuns.{LeastRuns}
 
--- two ways to tell the same edges reach the same
+-- two definitions of the same edges reach the same
 module _
     {O : Type 0} (One Two : ℕ × ℕ × ℕ → O → Rule (ℕ × ℕ × ℕ) → Type 0) (to : (k : ℕ × ℕ × ℕ) (o : O) (e : Rule (ℕ × ℕ × ℕ)) → One k o e → Two k o e)
     (from : (k : ℕ × ℕ × ℕ) (o : O) (e : Rule (ℕ × ℕ × ℕ)) → Two k o e → One k o e) where
@@ -121,7 +121,7 @@ module _ (order : List (ℕ × ℕ × ℕ)) (rules : List (Rule ℕ)) (parts lim
   pub few_rules : length rules ≤ limit
   few_rules = omega (arith, each_counts edge_parts (λ e. omega arith) (map (named_rule (key_at order)) rules), length_map (named_rule (key_at order)) rules, counted, within)
 
--- the same of the grammar and the transducer that were asked for
+-- the same for the grammar and the transducer that were asked for
 module _
     {levelled weighted : Bool} {product : ℕ → ℕ → ℕ} (laws : ProductLaws levelled weighted product) (g h : GrammarOf) (t u : TransducerOf) (same_grammar : g ≡ h) (same_transducer : t ≡ u)
     (runs : LeastRuns) (least : AreLeastRuns product h.rules runs) where

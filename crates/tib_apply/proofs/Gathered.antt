@@ -1,4 +1,4 @@
--- Labels that are gathered one after another are each label once, where it stands first.
+-- Labels that are gathered one after another are each label once, where it is first.
 use Rattle.std.specs.Prelude.{◌≡◌, ◌⊎◌, ℕ, Bool, true, false, nat_eq, ◌||◌, List, [], ◌∷◌, ◌++◌, if◌then◌else◌, refl}
 use Rattle.std.proofs.Common.{zero, suc, get_or, drop, length, ◌+◌, ◌<◌, arith, ap, sym, ◌∙◌, inl, inr, append_assoc, append-nil}
 use Rattle.std.proofs.lemmas.Bool.Decides.{nat_tests}
@@ -18,7 +18,7 @@ pub gathered_append : (labels xs ys : List ℕ) → gathered labels (xs ++ ys) �
 gathered_append labels [] ys = refl
 gathered_append labels (x ∷ xs) ys = gathered_append (insert_key nat_eq labels x) xs ys
 
--- those that do not stand among others
+-- those that are not among others
 abbrev beyond : List ℕ → List ℕ → List ℕ
 beyond labels [] = []
 beyond labels (f ∷ fs) = if list_any (nat_eq f) labels then beyond labels fs else f ∷ beyond labels fs
@@ -129,7 +129,7 @@ next_rule [] i rule h e = absurd (omega arith)
 next_rule (r ∷ rules) zero rule h e = ap (λ y. y ∷ rules) (sym e)
 next_rule (r ∷ rules) (suc i) rule h e = next_rule rules i rule (omega arith) e
 
--- one rule more
+-- one more rule
 pub rule_gathered :
     (rules : List (TransducerRule ℕ)) (i : ℕ) (rule : TransducerRule ℕ) → i < length rules → rule ≡ get_or rules i rule → (items : List (Item Variable)) → pairs_of items ≡ preorder_of rule.left →
     (old new all : List ℕ) → new ≡ gathered old (labels_of (holes_in items)) → gathered old (all_labels (drop i rules)) ≡ all → gathered new (all_labels (drop (i + 1) rules)) ≡ all

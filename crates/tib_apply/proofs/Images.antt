@@ -37,7 +37,7 @@ use Rattle.tib_apply.proofs.Asking.{part, whole}
 module _
     {levelled weighted : Bool} {product : ℕ → ℕ → ℕ} (laws : ProductLaws levelled weighted product)
     (grammar : List (Rule ℕ)) (normal : AreNormal grammar) (moves : List (TransducerRule ℕ)) (shaped : AreShaped moves) (linear : AreLinear moves) where
-  -- the restrictions of the variables that a right side names
+  -- the restrictions of the variables that a right-hand side names
   abbrev restrictions_in : ℕ → List ℕ
   restrictions_in n = map (λ i. restriction (restricted_labels moves) (get_or (variables_of (transducer_rule moves n).left) i no_variable).label) (variables_in (transducer_rule moves n).right)
 
@@ -51,8 +51,8 @@ module _
       ap (λ z. product z (product x y)) (ap (λ z. product z (product a b)) one ∙ two ∙ ap (λ z. product z (product w b)) three)
       ∙ mix laws (product m (product a d)) (product w b) x y
 
-  -- a rule of the transducer, a match of its left side, runs for what is left out, and what is read
-  -- at its pairs
+  -- a rule of the transducer, a match of its left-hand side, runs for what is left out, and what is
+  -- read at its pairs
   record OneImage (key : ℕ × ℕ × ℕ) (n : ℕ) (us : Trees ℕ) (x y : ℕ) : Type 0 where
     one : Tree ℕ
     admitted : Admits (restricted_labels moves) key.2 one.label
@@ -85,8 +85,8 @@ module _
             (subst (λ s. IsTransducerCost product moves (states_in (transducer_rule moves n).right) s us b) (sym all.picked) second);
       }
 
-  -- a run of the grammar that yields what a rule reads: a match of the left side, runs for what the
-  -- right side names, and for what it leaves out
+  -- a run of the grammar that yields what a rule reads: a match of the left-hand side, runs for
+  -- what the right-hand side names, and for what it leaves out
   record Opened (n q : ℕ) (args : Trees ℕ) (b : ℕ) : Type 0 where
     states : List ℕ
     above : ℕ

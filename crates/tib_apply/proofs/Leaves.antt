@@ -1,4 +1,4 @@
--- What stands at the variables of a left side and at the pairs of a right side.
+-- What is at the variables of a left-hand side and at the pairs of a right-hand side.
 use Rattle.std.specs.Prelude.{◌≡◌, ℕ, ◌+◌, ◌<◌, List, [], ◌∷◌, length, map, refl}
 use Rattle.std.proofs.Common.{zero, suc, arith, ap, sym, ◌∙◌, subst, inl, inr, get_or}
 use Rattle.tib_lex.specs.Lists.{Has, Each, Distinct}
@@ -22,11 +22,11 @@ number_at [] n i a b = absurd (omega arith)
 number_at (x ∷ xs) n zero a b = omega (arith, a.0)
 number_at (x ∷ xs) n (suc i) a b = omega (arith, number_at xs (suc n) i a.1 (omega arith))
 
--- the number of a variable of a left side is its place
+-- the number of a variable of a left-hand side is its place
 pub place_number : (xs : List Variable) (i : ℕ) → AreNumbered 0 xs → i < length xs → (get_or xs i no_variable).number ≡ i
 place_number xs i a b = omega (arith, number_at xs 0 i a b)
 
--- where each variable stands among some numbers, each place does
+-- where each variable is among some numbers, each place is
 pub all_stand : (xs : List Variable) (vars : List ℕ) → AreNumbered 0 xs → Each (λ x. Has vars x.number) xs → (i : ℕ) → i < length xs → Has vars i
 all_stand xs vars a h i b =
     subst (Has vars) (place_number xs i a b) (each_has (λ x. Has vars x.number) xs (get_or xs i no_variable) h (has_at xs i no_variable b))

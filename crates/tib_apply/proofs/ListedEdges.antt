@@ -1,4 +1,4 @@
--- One edge more in a list, and what whole lists of edges say.
+-- One more edge in a list, and what whole lists of edges say.
 use Rattle.std.specs.Prelude.{◌≡◌, ◌↔◌, ℕ, ◌<◌, ◌≤◌, List, [], ◌∷◌, ◌++◌, length, map, refl, slice_index_or}
 use Rattle.std.proofs.Common.{zero, suc, arith, ap, sym, ◌∙◌, subst, inl, inr}
 use Rattle.std.proofs.lemmas.List.{length-append}
@@ -92,7 +92,7 @@ module _ {O : Type 0} (Edge : O → Rule (ℕ × ℕ × ℕ) → Type 0) (key : 
     counted = parts ∙ listed.counted;
   }
 
-  -- one origin more, where e is its edge unless it costs too much
+  -- one more origin, where e is its edge unless it costs too much
   pub listed_next :
       (e : Rule (ℕ × ℕ × ℕ)) (l m : EdgeList) → (e.cost ≤ most → Edge o e) → ((f : Rule (ℕ × ℕ × ℕ)) → Edge o f → f.cost ≡ e.cost) → ((f : Rule (ℕ × ℕ × ℕ)) → Edge o f → f.cost ≤ most) →
       IsAlike l m → IsListed Edge key tried l → IsNext key e l m → IsListed Edge key (tried ++ o ∷ []) m

@@ -64,7 +64,7 @@ module _ {P : Type 0} where
   holes_from (x ∷ items) zero d b = holes_first x items
   holes_from (x ∷ items) (suc i) d b = holes_from items i d (omega arith)
 
--- one state more, put at the variable of its pair
+-- one more state, put at the variable of its pair
 pub state_put :
     (states : List (ℕ × ℕ)) (count : ℕ) (x : Pair ℕ) (s : ℕ) (xs : List (Pair ℕ)) (ss : List ℕ) → length states ≡ count → x.variable < count →
     ((v : ℕ) → v < count → get_or states v (0, 0) ≡ states_at v xs ss) → (v : ℕ) → v < count → get_or (slice_set states x.variable (x.state, s)) v (0, 0) ≡ states_at v (x ∷ xs) (s ∷ ss)
@@ -124,7 +124,7 @@ pub with_more : {P : Type 0} (f : P → ℕ) (items : List (Item P)) (i : ℕ) (
 with_more f items i x now next b was is e =
     e ∙ ap (λ (xs : List (Item ℕ)). xs ++ x ∷ []) was ∙ ap (λ (y : Item ℕ). map (item_with f) (take i items) ++ y ∷ []) is ∙ sym (map_more (item_with f) items i (Label 0 0) b)
 
--- the keys of one item more
+-- the keys of one more item
 pub keys_more :
     {P K : Type 0} (f : P → K) (items : List (Item P)) (i : ℕ) (before now next : List K) → i < length items → now ≡ before ++ map f (holes_in (take i items)) →
     next ≡ now ++ map f (holes_in (get_or items i (Label 0 0) ∷ [])) → next ≡ before ++ map f (holes_in (take (i + 1) items))

@@ -33,7 +33,7 @@ place_found f fs n e = go (nat_lt (position_or_len (nat_eq f) fs) (length fs)) e
     go true e = grind (arith, e)
     go false e = grind (arith, e)
 
--- a label that was not found has the place behind all
+-- a label that was not found has the place after all others
 pub place_behind : (f : ℕ) (fs : List ℕ) → None ≡ position (nat_eq f) fs → length fs ≡ place_of f fs
 place_behind f fs e = go (nat_lt (position_or_len (nat_eq f) fs) (length fs)) refl e
   where

@@ -88,7 +88,7 @@ module _
         bound_of pairs ss vs xs l.1 a.1 others,
       )
 
-  -- a rule of the transducer, a match of its right side, and what is read at its variables
+  -- a rule of the transducer, a match of its right-hand side, and what is read at its variables
   record OneBack (key : ℕ × ℕ × ℕ) (ts : Trees ℕ) (c : ℕ) : Type 0 where
     one : Tree ℕ
     is_one : ts ≡ only one
@@ -164,8 +164,8 @@ module _
       prod_none [] e = refl
       prod_none (y ∷ ys) e = absurd (cc)
 
-  -- a run of the grammar that yields what a rule puts out, and others: a match of the right side,
-  -- runs for what fills it, and the others
+  -- a run of the grammar that yields what a rule puts out, and others: a match of the right-hand
+  -- side, runs for what fills it, and the others
   record Opened (n q : ℕ) (qs : List ℕ) (us rest : Trees ℕ) (b : ℕ) : Type 0 where
     states : List ℕ
     above : ℕ

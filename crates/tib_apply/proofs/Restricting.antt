@@ -11,7 +11,7 @@ use Rattle.tib_transducer.specs.declared.TransducerRule.{TransducerRule}
 use Rattle.tib_apply.specs.Restrictions.{with_label, labels_of, all_labels, without, once, restricted_labels, place_of, restriction, Admits}
 use Rattle.tib_lex.proofs.Numbers.{nat_eq_cases}
 
--- the label of the variable, if it has one, stands in the list
+-- the label of the variable, if it has one, is in the list
 abbrev pub IsListed : List ℕ → Variable → Type 0
 IsListed labels x = (g : ℕ) → x.label ≡ Some g → Has labels g
 

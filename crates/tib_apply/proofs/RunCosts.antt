@@ -30,7 +30,7 @@ drop_before xs i d p h =
     let e : suc (i - 1) ≡ i = omega arith in
     drop_at xs (i - 1) d (omega arith) ∙ ap (λ j. get_or xs (i - 1) d ∷ drop j xs) e
 
--- the table with one product more
+-- the table with one more product
 pub lowered :
     (product : ℕ → ℕ → ℕ) (insides : List (Option ℕ)) (rule : Rule ℕ) (look new : ℕ × ℕ → Option ℕ) (g cost least : ℕ) → rule.right.label ≡ label g →
     Some cost ≡ times product (Some rule.cost) (inside_total product insides (holes rule.right.kids)) → Some least ≡ lesser (look (rule.left, g)) (Some cost) →
@@ -66,7 +66,7 @@ lowered product insides rule look new g cost least root costs is are q f =
     by true e = is ∙ ap (λ (c : Option ℕ). lesser (look (rule.left, g)) c) costs ∙ ap (λ (s : ℕ × ℕ). lesser (look s) (times product (Some rule.cost) (inside_total product insides (holes rule.right.kids)))) (at e)
     by false e = refl
 
--- one rule more
+-- one more rule
 pub begun_next :
     (product : ℕ → ℕ → ℕ) (insides : List (Option ℕ)) (rules : List (Rule ℕ)) (n : ℕ) (rule : Rule ℕ) → rule ≡ rule_at rules n → (look new : ℕ × ℕ → Option ℕ) →
     ((q f : ℕ) → look (q, f) ≡ begun_by product insides rules n q f) →
@@ -90,7 +90,7 @@ module _ {levelled weighted : Bool} {product : ℕ → ℕ → ℕ} (laws : Prod
     begun = λ q f. subst (IsLeast (IsAskedCost product rules (Some f) q)) (sym (begun q f)) (asked_is laws rules runs.insides.items range insides (Some f) q);
   }
 
-  -- one variable more
+  -- one more variable
   pub total_next :
       (rules : List (Rule ℕ)) (ss : List ℕ) (xs : List Variable) (i : ℕ) (d : Variable) (own total now : Option ℕ) → 0 < i → i ≤ length xs →
       IsLeast (IsAskedCost product rules (get_or xs (i - 1) d).label (get_or ss (get_or xs (i - 1) d).number 0)) own → IsLeast (IsDeletedCost product rules (map (asked_at ss) (drop i xs))) total →

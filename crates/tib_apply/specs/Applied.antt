@@ -1,4 +1,4 @@
--- What forward and backward application answer.
+-- What forward and backward application return.
 use Rattle.std.specs.Prelude.{◌≡◌, ℕ, List, length, map}
 use Rattle.tib_grammar.specs.GrammarOf.{named_rule}
 use Rattle.tib_grammar.specs.Range.{AreInRange}
@@ -27,7 +27,7 @@ HasPartsOf op found = found.parts ≡ parts_of op found.order.items (edges_of fo
 abbrev pub AreOverOrder : Found (ℕ × ℕ × ℕ) (Rule ℕ) → Type 0
 AreOverOrder found = AreInRange (length found.order.items) found.rules.items
 
--- Why nothing is answered: the first rule outside the classes that are demanded; where each rule is
+-- Why nothing is returned: the first rule outside the classes that are demanded; where each rule is
 -- of them, a limit that each reached set exceeds; or out of memory.
 abbrev pub IsApplyFault : Demands → List (TransducerRule ℕ) → ℕ → Type 0 → ApplyError → Type 0
 IsApplyFault demanded moves limit Beyond (Class rule fault) = IsFirstOutside demanded moves (rule, fault)

@@ -41,15 +41,15 @@ states_at i [] ss = (0, 0)
 states_at i (x ∷ xs) [] = (0, 0)
 states_at i (x ∷ xs) (s ∷ ss) = if nat_eq i x.variable then (x.state, s) else states_at i xs ss
 
--- the key of a variable, where pairs stand on the right at these states of the grammar
+-- the key of a variable, where pairs are on the right at these states of the grammar
 abbrev pub backward_key : List ℕ → List (Pair ℕ) → List ℕ → Variable → ℕ × ℕ × ℕ
 backward_key labels pairs ss x = ((states_at x.number pairs ss).0, (states_at x.number pairs ss).1, restriction labels x.label)
 
 -- An edge of the key of a state of the transducer, a state of the grammar and a restriction: a rule
--- of the transducer from the first whose left side begins with a label that the restriction admits,
--- and a match of its right side from the second. It leads to the left side, in which each variable
--- is the key of the states at its pair on the right and of its own restriction. Its origin is the
--- position of the rule and the states of the grammar at the pairs.
+-- of the transducer from the first whose left-hand side begins with a label that the restriction
+-- admits, and a match of its right-hand side from the second. It leads to the left-hand side, in
+-- which each variable is the key of the states at its pair on the right and of its own restriction.
+-- Its origin is the position of the rule and the states of the grammar at the pairs.
 pub record IsBackwardEdge (product : ℕ → ℕ → ℕ) (moves : List (TransducerRule ℕ)) (grammar : List (Rule ℕ)) (key : ℕ × ℕ × ℕ) (origin : ℕ × List ℕ) (e : Rule (ℕ × ℕ × ℕ)) : Type 0 where
   pub below : origin.0 < length moves
   pub state : (transducer_rule moves origin.0).state ≡ key.0

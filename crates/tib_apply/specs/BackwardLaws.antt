@@ -96,7 +96,7 @@ module _ (product : ℕ → ℕ → ℕ) (grammar : List (Rule ℕ)) (n : ℕ) (
       keys_fit labels pairs o.1 (holes_of left) k z (states_fit (only (transducer_rule moves o.0).right) (key.1 ∷ []) o.1 is.matched (b, tt) is.is_match.attained.0)
       (subst (λ (ks : List (ℕ × ℕ × ℕ)). Has ks k) are h)
 
-  -- all that backward application owes
+  -- all laws of backward application
   pub backward_is_lawful : (moves : List (TransducerRule ℕ)) → 0 < n → IsLawful (inverse_image product moves grammar) (λ k. k.1 < n) key_reading key_cmp key_entries
   backward_is_lawful moves z =
       keys_are_lawful (IsBackwardEdge product moves grammar) (λ k. k.1 < n) (one_backward_edge product moves grammar) z (λ key o e k b is h. ends_fit moves key o e k z b is h)

@@ -18,7 +18,7 @@ use Rattle.tib_apply.specs.declared.edge_list.EdgeList.{EdgeList}
 abbrev pub edge_to : List ℕ → ℕ × ℕ × ℕ → TransducerRule ℕ → List ℕ → ℕ → Rule (ℕ × ℕ × ℕ)
 edge_to labels key rule states cost = record { left = key; right = side_map (backward_key labels (holes_of rule.right) states) rule.left; cost = cost }
 
--- the edge that a rule and a match of its right side make of a key
+-- the edge that a rule and a match of its right-hand side make of a key
 abbrev pub backward_edge : (ℕ → ℕ → ℕ) → List ℕ → ℕ × ℕ × ℕ → TransducerRule ℕ → List ℕ × ℕ → Rule (ℕ × ℕ × ℕ)
 backward_edge product labels key rule m = edge_to labels key rule m.0 (product rule.cost m.1)
 
@@ -26,7 +26,7 @@ backward_edge product labels key rule m = edge_to labels key rule m.0 (product r
 abbrev pub IsCheap : (ℕ → ℕ → ℕ) → TransducerRule ℕ → List ℕ × ℕ → Type 0
 IsCheap product rule m = product rule.cost m.1 ≤ most
 
--- the restriction of the key admits the label with which the left side of the rule begins
+-- the restriction of the key admits the label with which the left-hand side of the rule begins
 abbrev pub AdmitsRule : List ℕ → ℕ × ℕ × ℕ → TransducerRule ℕ → Type 0
 AdmitsRule labels key rule = (root : ℕ) × (rule.left.label ≡ label root) × Admits labels key.2 root
 

@@ -1,4 +1,4 @@
--- What the states at the variables of a left side cost beside a match.
+-- What the states at the variables of a left-hand side cost beside a match.
 use Rattle.std.specs.Prelude.{◌≡◌, ℕ, ◌<◌, Bool, true, false, List, Option, Some}
 use Rattle.std.proofs.Common.{get_or}
 use Rattle.tib_lex.specs.Lists.{Along}

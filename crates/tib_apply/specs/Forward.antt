@@ -39,7 +39,7 @@ pub record IsForwardCost (product : ℕ → ℕ → ℕ) (grammar : List (Rule �
 abbrev pub IsForwardSeries : (ℕ → ℕ → ℕ) → List (Rule ℕ) → List (TransducerRule ℕ) → Tree ℕ → Option ℕ → Type 0
 IsForwardSeries product grammar moves u v = IsLeast (IsForwardCost product grammar moves 0 0 u) v
 
--- the key of a pair on the right, where the variables on the left stand at these states of the
+-- the key of a pair on the right, where the variables on the left are at these states of the
 -- grammar
 abbrev pub forward_key : List ℕ → SideFor ℕ Variable → List ℕ → Pair ℕ → ℕ × ℕ × ℕ
 forward_key labels left ss x = (get_or ss x.variable 0, x.state, restriction labels (variable_at left x.variable).label)
@@ -75,12 +75,12 @@ module _ (product : ℕ → ℕ → ℕ) (grammar : List (Rule ℕ)) where
   IsDeletedCost (x ∷ xs) c = Products product (IsAskedCost x.0 x.1) (IsDeletedCost xs) c
 
 -- An edge of the key of a state of the grammar, a state of the transducer and a restriction: a rule
--- of the transducer from the second whose left side begins with a label that the restriction
--- admits, and a match of this side from the first. It leads to the right side, in which each pair
--- is the key of the state of the grammar at its variable, of its own state, and of the restriction
--- of its variable. What the right side leaves out costs as much as the cheapest runs there, where a
--- label is asked for by a rule of that label. Its origin is the position of the rule and the states
--- of the grammar at the variables.
+-- of the transducer from the second whose left-hand side begins with a label that the restriction
+-- admits, and a match of this side from the first. It leads to the right-hand side, in which each
+-- pair is the key of the state of the grammar at its variable, of its own state, and of the
+-- restriction of its variable. What the right-hand side leaves out costs as much as the cheapest
+-- runs there, where a label is asked for by a rule of that label. Its origin is the position of the
+-- rule and the states of the grammar at the variables.
 pub record IsForwardEdge (product : ℕ → ℕ → ℕ) (grammar : List (Rule ℕ)) (moves : List (TransducerRule ℕ)) (key : ℕ × ℕ × ℕ) (origin : ℕ × List ℕ) (e : Rule (ℕ × ℕ × ℕ)) : Type 0 where
   pub below : origin.0 < length moves
   pub state : (transducer_rule moves origin.0).state ≡ key.1

@@ -39,7 +39,7 @@ same_table_edge product grammar moves runs key o e f h k =
     ∙ ap (λ r. record { left = f.left; right = r; cost = e.cost }) (h.right ∙ sym k.right)
     ∙ ap (λ c. record { left = f.left; right = f.right; cost = c }) costs
 
--- a member of a list stands in its front or behind
+-- a member of a list is in its front or after it
 has_cut : (k : ℕ) (xs : List ℕ) (x : ℕ) → Has xs x → Has (take k xs) x ⊎ Has (drop k xs) x
 has_cut zero xs x h = inr h
 has_cut (suc k) [] x h = absurd h
@@ -96,7 +96,7 @@ table_ends_below product grammar moves runs n some range key o e k below is has 
 first_below : (n : ℕ) (k : ℕ × ℕ × ℕ) → 0 < n → k ≡ (0, 0, 0) → k.0 < n
 first_below n k some e = let same : k.0 ≡ 0 = ap (λ (z : ℕ × ℕ × ℕ). z.0) e in omega (arith, some, same)
 
--- all that forward application owes of its keys, edges and rules
+-- all laws of forward application, for its keys, edges and rules
 pub forward_is_lawful :
     (product : ℕ → ℕ → ℕ) (grammar : List (Rule ℕ)) (moves : List (TransducerRule ℕ)) (runs : LeastRuns) (n : ℕ) → 0 < n → HoleStatesBelow n grammar →
     IsLawful (table_image product grammar moves runs) (λ k. k.0 < n) forward_reading key_cmp key_entries

@@ -16,11 +16,11 @@ use Rattle.tib_apply.specs.declared.deleting.LeastRuns.{LeastRuns}
 use Rattle.tib_keyed.specs.Listing.{IsListed, Overruns, GetsOrigin, IsBeyond, HasEdges, AreBeyond}
 use Rattle.tib_apply.specs.ForwardRules.{ForwardListing}
 
--- the states in the right sides of the rules are below a number
+-- the states in the right-hand sides of the rules are below a number
 abbrev pub HoleStatesBelow : ℕ → List (Rule ℕ) → Type 0
 HoleStatesBelow n rules = (m q : ℕ) → m < length rules → Has (holes_of (rule_at rules m).right) q → q < n
 
--- the left side of the rule at a position begins with a label that the restriction of the key
+-- the left-hand side of the rule at a position begins with a label that the restriction of the key
 -- admits, and has a match
 pub record IsAtMatch (product : ℕ → ℕ → ℕ) (grammar : List (Rule ℕ)) (moves : List (TransducerRule ℕ)) (key : ℕ × ℕ × ℕ) (m : ℕ) (found : List ℕ × ℕ) : Type 0 where
   pub below : m < length moves

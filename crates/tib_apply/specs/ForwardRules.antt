@@ -7,7 +7,7 @@ use Rattle.tib_keyed.specs.declared.side_rule.SideRule.{SideRule}
 use Rattle.tib_keyed.specs.declared.side_listing.SideListing.{SideListing}
 use Rattle.tib_keyed.specs.SideRules.{side_reading}
 
--- a list of edges to right sides
+-- a list of edges to right-hand sides
 abbrev pub ForwardListing : Type 0
 ForwardListing = SideListing (ℕ × ℕ × ℕ) (Pair ℕ)
 

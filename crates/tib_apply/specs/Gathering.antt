@@ -10,7 +10,7 @@ labels_in r = r.labels.keys
 abbrev pub AreFew : Inside → Type 0
 AreFew r = length r.labels.keys ≤ 4000000000
 
--- some labels with others behind them, each where it is not there yet
+-- some labels with others appended, each where it is not there yet
 abbrev pub gathered : List ℕ → List ℕ → List ℕ
 gathered labels [] = labels
 gathered labels (f ∷ fs) = gathered (insert_key nat_eq labels f) fs

@@ -15,7 +15,7 @@ use Rattle.tib_apply.specs.KeyGrammars.{key_at}
 use Rattle.tib_apply.specs.Operations.{key_cmp, key_entries, key_operation}
 use Rattle.tib_apply.specs.KeyRules.{carried, places_of, read_places, positions_of, key_reading}
 
--- functions that agree on what is carried make the same of sides
+-- functions that agree on what is carried agree on sides
 pub relabel_same : {P K : Type 0} (f g : P → K) (ts : Trees (Symbol ℕ P)) → Each (λ q. f q ≡ g q) (carried ts) → relabel (symbol_map {A = ℕ} f) ts ≡ relabel (symbol_map {A = ℕ} g) ts
 relabel_same f g none h = refl
 relabel_same f g (tree (label x) kids rest) h =
@@ -64,7 +64,7 @@ key_has P [] n h b = absurd (omega arith)
 key_has P (k ∷ order) zero h b = h.0
 key_has P (k ∷ order) (suc n) h b = key_has P order n h.1 (omega arith)
 
--- all that an operation over keys owes, where an origin gives a key one edge, and the start and the
+-- all laws of an operation over keys, where an origin gives a key one edge, and the start and the
 -- ends of edges are admitted
 pub keys_are_lawful :
     {O : Type 0} (Edge : ℕ × ℕ × ℕ → O → Rule (ℕ × ℕ × ℕ) → Type 0) (admits : ℕ × ℕ × ℕ → Type 0) →

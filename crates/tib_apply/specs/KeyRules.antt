@@ -15,8 +15,8 @@ carried none = []
 carried (tree (label f) kids rest) = carried kids ++ carried rest
 carried (tree (hole p) kids rest) = p ∷ (carried kids ++ carried rest)
 
--- the places in a rule whose left number is a position of the order and whose right side carries
--- numbers of ends
+-- the places in a rule whose left number is a position of the order and whose right-hand side
+-- carries numbers of ends
 abbrev pub places_of : Rule ℕ → List Place
 places_of r = Known r.left ∷ map End (carried (only r.right))
 
@@ -42,7 +42,7 @@ abbrev pub end_at : List (ℕ × ℕ × ℕ) → ℕ → ℕ × ℕ × ℕ
 end_at ends i = slice_index_or ends i (0, 0, 0)
 
 -- the rule leads from the position, and reads as the edge of the key, where each number in its
--- right side has the key of that end
+-- right-hand side has the key of that end
 pub record Reads (key : ℕ × ℕ × ℕ) (position : ℕ) (ends : List (ℕ × ℕ × ℕ)) (r : Rule ℕ) (e : Rule (ℕ × ℕ × ℕ)) : Type 0 where
   pub at : r.left ≡ position
   pub within : Each (λ i. i < length ends) (carried (only r.right))

@@ -27,7 +27,7 @@ begun_by product insides rules n q f = best_rule product rules (inside_total pro
 abbrev pub AreBegun : {S : Type 0} → (ℕ → ℕ → ℕ) → List (Option ℕ) → List (Rule ℕ) → ℕ → HashMap (ℕ × ℕ) ℕ S → Type 0
 AreBegun product insides rules n begun = (q f : ℕ) → get same_start begun (q, f) ≡ begun_by product insides rules n q f
 
--- the table with the product of one rule more
+-- the table with the product of one more rule
 abbrev pub Lowers : {S : Type 0} → (ℕ → ℕ → ℕ) → List (Option ℕ) → Rule ℕ → HashMap (ℕ × ℕ) ℕ S → HashMap (ℕ × ℕ) ℕ S → Type 0
 Lowers product insides rule old new =
     (q f : ℕ) →

@@ -10,7 +10,7 @@ use Rattle.tib_apply.specs.Operations.{edge_parts}
 use Rattle.tib_apply.specs.KeyRules.{Reads}
 use Rattle.tib_apply.specs.declared.edge_list.EdgeList.{EdgeList}
 
--- the list with an edge of the key behind it
+-- the list with an edge of the key appended
 pub record AddsEdge (key : ℕ × ℕ × ℕ) (e : Rule (ℕ × ℕ × ℕ)) (old new : EdgeList) : Type 0 where
   pub within : e.cost ≤ most
   pub rule : Rule ℕ

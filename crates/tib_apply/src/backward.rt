@@ -78,7 +78,7 @@ impl<'a, S: Semiring> Backward<'a, S> {
         })
     }
 
-    // Puts the edge of a rule and a match behind those of a list that has room for it.
+    // Puts the edge of a rule and a match after those of a list that has room for it.
     fn push_edge(
         &self,
         alloc: Global,
@@ -163,7 +163,7 @@ impl<'a, S: Semiring> Backward<'a, S> {
         }
     }
 
-    // The matches of the right side of a rule, unless more than this many give an edge.
+    // The matches of the right-hand side of a rule, unless more than this many give an edge.
     fn matches_of(
         &self,
         alloc: Global,
@@ -232,7 +232,7 @@ impl<'a, S: Semiring> Backward<'a, S> {
         Ok(())
     }
 
-    /// The edges of a key that stands at a position.
+    /// The edges of a key at a position.
     pub(crate) fn list_edges(
         &self,
         alloc: Global,

@@ -1,4 +1,5 @@
-//! The least costs of what a right side leaves out: of runs of the grammar from the states there.
+//! The least costs of what a right-hand side leaves out: of runs of the grammar from the states
+//! there.
 
 ghost use Rattle.std.specs.Prelude.{◌≡◌, ◌<◌, length, map, None, Some, IfOk, OnOk};
 ghost use Rattle.std.proofs.Common.{get_or};
@@ -136,7 +137,7 @@ impl LeastRuns {
         }
     }
 
-    /// The least cost of runs at some variables, each with its label, where the variables stand at
+    /// The least cost of runs at some variables, each with its label, where the variables are at
     /// these states.
     pub(crate) fn total<S: Semiring>(&self, left_out: &[Variable], states: &[u32]) -> Option<Cost>
         requires { Each (λ x. x.number < length states.now) left_out.now }

@@ -7,7 +7,7 @@ use tib_grammar::Rule;
 use tib_hunt::Edges;
 
 /// The edges of the key at a position, as far as they are listed, within a budget of parts. In a
-/// rule the left number is the position, and the numbers in the right side are those of ends.
+/// rule the left number is the position, and the numbers in the right-hand side are those of ends.
 #[derive(Drop)]
 pub struct EdgeList {
     /// The ends, one after another.

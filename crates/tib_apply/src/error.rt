@@ -1,4 +1,4 @@
-// What can be amiss in applying a transducer.
+// What can go wrong in applying a transducer.
 use thiserror::Error;
 use tib_hunt::HuntError;
 use tib_transducer::{ClassError, ClassFault};

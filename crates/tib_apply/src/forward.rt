@@ -101,7 +101,7 @@ impl<'a, S: Semiring> Forward<'a, S> {
         })
     }
 
-    /// Whether the restriction of a key admits the label with which a left side begins.
+    /// Whether the restriction of a key admits the label with which a left-hand side begins.
     fn admits(&self, key: Key, rule: &TransducerRule<u32>) -> bool
         ensures yes { IsTrue result → (root : ℕ) × (rule.now.left.label ≡ label_symbol root)
             × Admits self.now.restrictions key.2 root }
@@ -128,8 +128,8 @@ impl<'a, S: Semiring> Forward<'a, S> {
         product_of::<S>(S::times(rule.cost, found.cost), below)
     }
 
-    /// Lists the edge of the rule at a position of the transducer and of a match of its left side,
-    /// unless its cost is too great.
+    /// Lists the edge of the rule at a position of the transducer and of a match of its left-hand
+    /// side, unless its cost is too great.
     fn list_match(
         &self,
         key: Key,
@@ -168,8 +168,8 @@ impl<'a, S: Semiring> Forward<'a, S> {
         )
     }
 
-    /// The matches of the left side of the rule at a position that give an edge, among others;
-    /// `More` where these are more than so many. They are searched for.
+    /// The matches of the left-hand side of the rule at a position that give an edge, among others;
+    /// `More` where these are more than `most`. They are searched for.
     fn search(
         &self,
         alloc: Global,
@@ -214,8 +214,8 @@ impl<'a, S: Semiring> Forward<'a, S> {
         }
     }
 
-    /// The matches of the left side of the rule at a position that give an edge, among others;
-    /// `More` where these are more than so many. Cost: that of `few_matches` with 2 x `most` + 1000
+    /// The matches of the left-hand side of the rule at a position that give an edge, among others;
+    /// `More` where these are more than `most`. Cost: that of `few_matches` with 2 x `most` + 1000
     /// partial matches, and where it gives up that of `search_matches`.
     fn matches_of(
         &self,
@@ -284,7 +284,7 @@ impl<'a, S: Semiring> Forward<'a, S> {
         Ok(())
     }
 
-    /// The edges of a key that stands at a position.
+    /// The edges of a key at a position.
     pub(crate) fn list_edges(
         &self,
         alloc: Global,

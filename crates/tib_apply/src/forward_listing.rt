@@ -16,13 +16,13 @@ use tib_hunt::ExpandError;
 use tib_keyed::{SideListing, SideRule};
 use tib_transducer::Pair;
 
-/// An edge over places: it leads to the right side of a rule of the transducer.
+/// An edge over places: it leads to the right-hand side of a rule of the transducer.
 pub type ForwardRule<'a> = SideRule<'a, Pair<u32>>;
 
 /// The edges of the key at a position, as far as they are listed, within a budget of parts.
 pub(crate) type ForwardListing<'a> = SideListing<'a, Key, Pair<u32>>;
 
-/// Appends the keys of some ends, where the variables stand at these states of the grammar.
+/// Appends the keys of some ends, where the variables are at these states of the grammar.
 fn push_ends(ends: &mut Vec<Key>, planned: &[PlannedEnd], states: &[u32]) -> Result<(), AllocError>
     requires { Each (λ e. e.variable < length states.now) planned.now }
     ensures { OnOk result (ends.new.items ≡ ends.old.items ++ map (end_at states.now) planned.now) }
@@ -34,8 +34,8 @@ fn push_ends(ends: &mut Vec<Key>, planned: &[PlannedEnd], states: &[u32]) -> Res
     Ok(())
 }
 
-/// Lists an edge to a right side, whose pairs lead to some ends, at a cost. `More` comes exactly
-/// where it has more parts than the budget leaves.
+/// Lists an edge to a right-hand side, whose pairs lead to some ends, at a cost. `More` comes
+/// exactly where it has more parts than the budget leaves.
 pub(crate) fn add_edge<'a>(
     listing: &mut ForwardListing<'a>,
     right: &'a Side<Pair<u32>>,

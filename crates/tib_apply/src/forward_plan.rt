@@ -1,4 +1,5 @@
-//! What a rule of the transducer does at each match of its left side, found once for each rule.
+//! What a rule of the transducer does at each match of its left-hand side, found once for each
+//! rule.
 
 ghost use Rattle.std.specs.Prelude.{◌≡◌, ℕ, ◌<◌, length, map, nat_eq, false, IfOk};
 ghost use Rattle.std.specs.List.{list_any};
@@ -14,8 +15,8 @@ use std::alloc::{AllocError, Global};
 use tib_grammar::Item;
 use tib_transducer::{Pair, TransducerRule, Variable};
 
-/// Where a pair of a right side leads: to the state of the grammar at a variable, a state of the
-/// transducer, and a restriction.
+/// Where a pair of a right-hand side leads: to the state of the grammar at a variable, a state of
+/// the transducer, and a restriction.
 #[derive(Clone, Copy, Debug, Drop)]
 pub(crate) struct PlannedEnd {
     /// The number of the variable.
@@ -26,15 +27,15 @@ pub(crate) struct PlannedEnd {
     pub restriction: u32,
 }
 
-/// The ends of the pairs on the right of a rule, in preorder, and the variables that stand in none
-/// of them.
+/// The ends of the pairs on the right of a rule, in preorder, and the variables that are in none of
+/// them.
 #[derive(Drop)]
 pub(crate) struct Plan {
     /// Where the pairs lead.
     pub ends: Vec<PlannedEnd>,
-    /// For each variable, by its number, whether the right side has it.
+    /// For each variable, by its number, whether the right-hand side has it.
     pub kept: Vec<bool>,
-    /// The variables that the right side leaves out.
+    /// The variables that the right-hand side leaves out.
     pub left_out: Vec<Variable>,
 }
 

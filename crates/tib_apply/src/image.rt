@@ -22,9 +22,10 @@ use tib_transducer::Transducer;
 /// the least cost of putting it out from a tree of the grammar (`laws::forward_means`). `Class`
 /// exactly where the transducer is not linear; `TooMany` exactly where it is and they have more
 /// parts than the limit, 1 to `MOST_PARTS` of tib_hunt; `OutOfMemory` if memory is refused. Calls
-/// `gate` once for each key. Cost: that of `Forward::new`, and for each key the matches of the left
-/// sides of the rules of its state and the edges that they make, beside the hunt's own
-/// (`hunt_alone`). The image of a grammar under a linear transducer is from Comon and others, 2007.
+/// `gate` once for each key. Cost: that of `Forward::new`, and for each key the matches of the
+/// left-hand sides of the rules of its state and the edges that they make, in addition to the
+/// hunt's own (`hunt_alone`). The image of a grammar under a linear transducer is from Comon and
+/// others, 2007.
 pub fn apply_forward<S: Semiring, G: Gate>(
     alloc: Global,
     grammar: &Normal<S>,
@@ -53,9 +54,9 @@ pub fn apply_forward<S: Semiring, G: Gate>(
     Ok(found)
 }
 
-/// What `apply_forward` answers, found by this number of workers, 1 to 16, whatever the order of
-/// their steps. It may wait for ever, as the hunt by several workers (`hunt` of tib_hunt). Errors
-/// are those of `apply_forward`, and so is the cost, but for keys that are expanded again.
+/// What `apply_forward` returns, found by this number of workers, 1 to 16, whatever the order of
+/// their steps. It may wait forever, as the hunt by several workers (`hunt` of tib_hunt). Errors
+/// are those of `apply_forward`, and so is the cost, except for keys that are expanded again.
 pub fn apply_forward_together<S: Semiring + Sync, R: Threads + Wait + Sync, G: Gate + Sync>(
     rt: &R,
     alloc: Global,

@@ -1,4 +1,4 @@
-// What holds of forward and backward application, in every semiring.
+//! What holds of forward and backward application, in every semiring.
 ghost use Rattle.tib_apply.specs.Forward.{ForwardMeans};
 ghost use Rattle.tib_apply.specs.Backward.{BackwardMeans};
 ghost use Rattle.tib_apply.specs.Operations.{ForwardIsReached, BackwardIsReached, OneSetEach};

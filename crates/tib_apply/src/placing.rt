@@ -16,7 +16,7 @@ use tib_grammar::{Item, Side};
 use tib_transducer::{Pair, Variable};
 
 /// For each number below the count the state of the pair with that variable and the state at its
-/// place, where pairs stand among the items at these states.
+/// place, where pairs are among the items at these states.
 pub(crate) fn states_by_variable(
     alloc: Global,
     items: &[Item<Pair<u32>>],

@@ -20,7 +20,9 @@ use tib_transducer::Transducer;
 /// The keys that backward application reaches from the key of the starts, with their rules. `Class`
 /// exactly where the transducer is not linear and nondeleting; `TooMany` exactly where it is and
 /// they have more parts than the limit, 1 to `MOST_PARTS` of tib_hunt; `OutOfMemory` if memory is
-/// refused. Calls `gate` once for each key.
+/// refused. Calls `gate` once for each key. Cost: that of `Backward::new`, and for each key the
+/// matches of the right-hand sides of the rules of its state and the edges that they make, in
+/// addition to the hunt's own (`hunt_alone`).
 pub fn apply_backward<S: Semiring, G: Gate>(
     alloc: Global,
     transducer: &Transducer<S>,
@@ -49,9 +51,9 @@ pub fn apply_backward<S: Semiring, G: Gate>(
     Ok(found)
 }
 
-/// What `apply_backward` answers, found by this number of workers, 1 to 16, whatever the order of
-/// their steps. It may wait for ever, as the hunt by several workers (`hunt` of tib_hunt). Errors
-/// are those of `apply_backward`, and so is the cost, but for keys that are expanded again.
+/// What `apply_backward` returns, found by this number of workers, 1 to 16, whatever the order of
+/// their steps. It may wait forever, as the hunt by several workers (`hunt` of tib_hunt). Errors
+/// are those of `apply_backward`, and so is the cost, except for keys that are expanded again.
 pub fn apply_backward_together<S: Semiring + Sync, R: Threads + Wait + Sync, G: Gate + Sync>(
     rt: &R,
     alloc: Global,

@@ -60,8 +60,8 @@ fn labels_of_rules(
 }
 
 impl Restrictions {
-    /// The restrictions of the variables of some rules. Its time is that of one pass over the left
-    /// sides.
+    /// The restrictions of the variables of some rules. Err if memory is refused, or there are more
+    /// than 4,000,000,000 labels. Cost: one pass over the left-hand sides.
     pub fn new(alloc: Global, rules: &[TransducerRule<u32>]) -> Result<Restrictions, AllocError>
         ensures { IfOk result (λ r. r ≡ restricted_labels rules.now) }
     {

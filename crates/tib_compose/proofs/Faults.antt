@@ -1,4 +1,4 @@
--- Why a composition answers nothing, by the error of the test of classes or of the hunt.
+-- Why a composition returns nothing, by the error of the test of classes or of the hunt.
 use Rattle.std.specs.Prelude.{ℕ, List, true}
 use Rattle.tib_hunt.specs.Reached.{IfTooMany}
 use Rattle.tib_hunt.specs.Reached.{HuntError}

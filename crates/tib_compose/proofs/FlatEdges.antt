@@ -1,4 +1,4 @@
--- Right sides of one label over pairs.
+-- Right-hand sides of one label over pairs.
 use Rattle.std.specs.Prelude.{◌≡◌, ℕ, ◌+◌, ◌-◌, ◌<◌, ◌≤◌, Bool, true, false, List, [], ◌∷◌, ◌++◌, length, map, take, drop, nat_le, if◌then◌else◌, Option, None, Some, refl}
 use Rattle.std.proofs.Common.{zero, suc, arith, ap, sym, ◌∙◌, subst, get_or, append-nil, append_assoc}
 use Rattle.std.proofs.lemmas.List.{drop_more, get_or-map, length-map, map-append}
@@ -57,7 +57,7 @@ pub flat_there : (items : List (Item (Pair ℕ))) (f n : ℕ) (d : Item (Pair �
 flat_there [] f n d h at a = absurd (omega arith)
 flat_there (y ∷ items) f n d h at (xs, e) = (xs, ap (λ y. pair_of y ∷ pairs_of items) at ∙ ap (λ zs. (label f, n) ∷ zs) e)
 
--- behind the label of such a side each place begins the trees from there on
+-- after the label of such a side each place begins the trees from there on
 leaves_skipped : (v : ℕ) (xs : List (Pair ℕ)) → parse (drop v (map leaf xs)) ≡ other_trees v (parse (map leaf xs))
 leaves_skipped zero xs = refl
 leaves_skipped (suc v) [] = refl
@@ -85,7 +85,7 @@ pair_below items x y d old new h at e product two goes f n flat cost ws =
 -- all items are
 
 module _ (items right : List (Item (Pair ℕ))) where
-  -- what is left behind the first i items of a rule's right side, behind what was put out
+  -- what is left after the first i items of a rule's right-hand side, after what was put out
   abbrev pub IsPutTo : ℕ → List (Item (Pair (ℕ × ℕ))) → Type 0
   IsPutTo i done =
       (product : ℕ → ℕ → ℕ) (two : List (TransducerRule ℕ)) → GoesByPieces product two → (f n : ℕ) → IsFlatOver (pairs_of items) f n → AreKnown n right → (cost : ℕ) →

@@ -26,7 +26,7 @@ use Rattle.tib_compose.specs.declared.pending.Pending.{Pending}
 use Rattle.tib_compose.specs.declared.branch.Branch.{Branch}
 use Rattle.tib_compose.specs.Branches.{OnlyPutsOut}
 
--- the choices of a side do not depend on what stands behind it
+-- the choices of a side do not depend on what comes after it
 choices_first : (two : List (TransducerRule ℕ)) (s : Symbol ℕ (Pair ℕ)) (kids rest : Trees (Symbol ℕ (Pair ℕ))) (p : ℕ) → choices_at two (tree s kids rest) 0 p ≡ choices_at two (tree s kids none) 0 p
 choices_first two (label f) kids rest p = refl
 choices_first two (hole x) kids rest p = refl
@@ -72,7 +72,7 @@ get_seam [] y d = refl
 get_seam (x ∷ xs) y d = get_seam xs y d
 
 module _ (product : ℕ → ℕ → ℕ) (two : List (TransducerRule ℕ)) (pairs : List (Symbol ℕ (Pair ℕ) × ℕ)) where
-  -- tasks behind the others change nothing
+  -- tasks after the others change nothing
   pub stands_longer : (tasks more : List Task) (ws : List PieceOf) (n : ℕ) → Stands product two pairs tasks n ws → Stands product two pairs (tasks ++ more) n ws
   stands_longer tasks more [] n h = h
   stands_longer tasks more (w ∷ ws) n h =

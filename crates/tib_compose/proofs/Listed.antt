@@ -1,4 +1,4 @@
--- One edge more in a list of edges.
+-- One more edge in a list of edges.
 use Rattle.std.specs.Prelude.{◌≡◌, ℕ, ◌+◌, ◌<◌, ◌≤◌, List, [], ◌∷◌, ◌++◌, length, map, refl, slice_index_or}
 use Rattle.std.proofs.Common.{suc, arith, ap, sym, ◌∙◌, subst, get_or, append_assoc, append-nil}
 use Rattle.std.proofs.lemmas.List.{length-append, length-map}
@@ -154,7 +154,7 @@ module _ (order : List (ℕ × ℕ)) (key : ℕ × ℕ) (es : List (TransducerRu
       let b : length (preorder_of t) ≡ length (pairs_of done) = sym (ap length (done_side (0, 0) order done xs s e)) in
       omega (arith, a, b, size_is t, size_is s, ap length e, length-map done pair_of, length-map (placed (length xs) done) pair_of, length-placed (length xs) done)
 
-  -- a list with one edge more
+  -- a list with one more edge
   pub listing_added : (old new : Listing) → IsAdded left done cost old new → IsListing order key es old → IsListing order key (es ++ edge ∷ []) new
   listing_added old new a h =
       let keys : List (ℕ × ℕ) = keys_in done in

@@ -33,7 +33,7 @@ shape_reads r g k flat root many s =
     by_case false true c = refl
     by_case false false c = refl
 
--- the index of one rule more
+-- the index of one more rule
 pub one_reader :
     (two : List (TransducerRule ℕ)) (s : ℕ × ℕ × ℕ) (m : ℕ) (b : Bool) (r : TransducerRule ℕ) → r ≡ transducer_rule two m → reads_label s.0 s.1 s.2 r ≡ b → (before after : List ℕ) →
     before ≡ readers two s.0 s.1 s.2 m → after ≡ (if b then before ++ m ∷ [] else before) → after ≡ readers two s.0 s.1 s.2 (m + 1)

@@ -44,7 +44,7 @@ items_within known ends (Label f rank ∷ items) h (suc i) low = items_within kn
 items_within known ends (Hole x ∷ items) h zero low = h.0
 items_within known ends (Hole x ∷ items) h (suc i) low = items_within known ends items h.1 i (omega arith)
 
--- the places of a right side are within, item by item
+-- the places of a right-hand side are within, item by item
 pub right_within :
     (known ends : ℕ) (items : List (Item (Pair Place))) (s : SideFor ℕ (Pair Place)) → pairs_of items ≡ preorder_of s → Each (IsWithin known ends) (all_states (only s)) → HolesAreWithin known ends items
 right_within known ends items s e h =

@@ -32,7 +32,7 @@ module _ (pairs : List (Symbol ℕ (Pair ℕ) × ℕ)) (ends : List ℕ) (from :
   pub none_skipped : IsSkipped pairs from 0 from
   none_skipped = (le_refl from, refl)
 
-  -- one tree more
+  -- one more tree
   pub one_skipped : (many at : ℕ) → AreEnds pairs ends from → IsSkipped pairs from many at → at < length pairs → IsSkipped pairs from (many + 1) (get_or ends at 0)
   one_skipped many at ends_known s low =
       let e = ends_known at s.0 low in (
@@ -40,14 +40,14 @@ module _ (pairs : List (Symbol ℕ (Pair ℕ) × ℕ)) (ends : List ℕ) (from :
         e.1 ∙ ap (other_trees 1) s.1 ∙ other_more many (parse (drop from pairs)),
       )
 
-  -- behind the last tree there is nothing to skip
+  -- after the last tree there is nothing to skip
   pub nothing_skipped : (many at : ℕ) → IsSkipped pairs from many at → length pairs ≤ at → IsSkipped pairs from (many + 1) at
   nothing_skipped many at s high =
       let empty : parse (drop at pairs) ≡ none = ap parse (drop_all pairs at high) in
       let rest : other_trees many (parse (drop from pairs)) ≡ none = sym s.1 ∙ empty in
       (s.0, empty ∙ sym (ap (other_trees 1) rest) ∙ other_more many (parse (drop from pairs)))
 
--- the end of one tree more is known
+-- the end of one more tree is known
 pub end_known :
     (pairs : List (Symbol ℕ (Pair ℕ) × ℕ)) (ends : List ℕ) (i rank end : ℕ) (d : Symbol ℕ (Pair ℕ) × ℕ) → i < length pairs → length pairs ≡ length ends → (get_or pairs i d).1 ≡ rank →
     AreEnds pairs ends (i + 1) → IsSkipped pairs (i + 1) rank end → AreEnds pairs (set ends i end) i

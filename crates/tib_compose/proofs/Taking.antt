@@ -26,7 +26,7 @@ side_by_item items i x d h e =
     ap (λ xs. first_of (label 0) (parse xs)) (drop_more (pairs_of items) i (pair_of d) low)
     ∙ ap (λ (y : Symbol ℕ (Pair ℕ) × ℕ). record { label = y.0; kids = first_trees y.1 (parse (drop (i + 1) (pairs_of items))) }) at
 
--- one item more is one more of its preorder
+-- one more item is one more of its preorder
 pub pairs_more : {P : Type 0} (items new : List (Item P)) (x : Item P) → new ≡ items ++ x ∷ [] → pairs_of new ≡ pairs_of items ++ pair_of x ∷ []
 pairs_more items new x e = ap pairs_of e ∙ map-append pair_of items (x ∷ [])
 
@@ -81,7 +81,7 @@ piece_known pairs node rank (Label f n) xs h = refl
 piece_known pairs node rank (Hole x) xs h =
     ap (λ s. read s x.state ∷ pieces_of xs (kids_there pairs node rank)) (sym (kid_there (label 0) (parse (drop (node + 1) pairs)) rank x.variable h))
 
--- one item more, from the back
+-- one more item, from the back
 pub one_piece :
     (pairs : List (Symbol ℕ (Pair ℕ) × ℕ)) (right : List (Item (Pair ℕ))) (node rank i : ℕ) → i < length right → AreKnown rank right →
     piece_below pairs node (get_or right i (Label 0 0)) ∷ pieces_of (drop (i + 1) (pairs_of right)) (kids_there pairs node rank) ≡ pieces_of (drop i (pairs_of right)) (kids_there pairs node rank)

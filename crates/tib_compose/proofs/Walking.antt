@@ -205,7 +205,7 @@ module _ (product : ℕ → ℕ → ℕ) (two : List (TransducerRule ℕ)) (pair
         subst (λ xs. AreTurns product two pairs ts xs (take t.tasks (tasks ++ others)) h.1) (sym d) (subst (λ xs. AreTurns product two pairs ts (take t.done done) xs h.1) (sym k) h.6),
       )
 
-  -- a turn at which one rule more was tried, over what it comes back to
+  -- a turn at which one more rule was tried, over what it comes back to
   pub turn_tried :
       (t u : Turn) (ts : List Turn) (done : List (Item (Pair (ℕ × ℕ)))) (tasks : List Task) (ws : List PieceOf) (later : List Result) →
       u.done ≡ t.done → u.tasks ≡ t.tasks → u.next ≡ t.next → t.done ≤ length done → t.tasks ≤ length tasks → Stands product two pairs (take t.tasks tasks) t.next ws →

@@ -133,7 +133,7 @@ module _ (product : ℕ → ℕ → ℕ) (one two : List (TransducerRule ℕ)) (
   key_edges = by_moves (length one) (omega arith) ∙ ap (λ rs. of_rules (moves_of key.0 rs)) (take_past (length one) one (omega arith))
 
   module _ (ps : List ℕ) (are : ps ≡ moves_of key.0 one) where
-    -- one rule more
+    -- one more rule
     pub rule_more : (i m : ℕ) → i < length ps → m ≡ get_or ps i m → of_rules (take i ps) ++ rule_edges product one two key m ≡ of_rules (take (i + 1) ps)
     rule_more i m h e =
         ap (λ zs. of_rules (take i ps) ++ zs) (sym (append-nil (rule_edges product one two key m)))

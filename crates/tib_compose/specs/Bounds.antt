@@ -1,4 +1,4 @@
--- What translations of the trees of a right side cost at least.
+-- What translations of the trees of a right-hand side cost at least.
 use Rattle.std.specs.Prelude.{◌≡◌, ℕ, ◌&&◌, nat_eq, Bool, List, Option, None, Some, if◌then◌else◌}
 use Rattle.std.specs.HashMap.{get}
 use Rattle.tib_grammar.specs.Sides.{Symbol}

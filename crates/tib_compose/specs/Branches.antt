@@ -1,4 +1,4 @@
--- What comes of right sides that are translated in part.
+-- What comes of right-hand sides that are translated in part.
 use Rattle.std.specs.Prelude.{◌≡◌, ℕ, ◌<◌, List, [], ◌∷◌, ◌++◌, length, Option, None, Some}
 use Rattle.tib_grammar.specs.Sides.{Symbol}
 use Rattle.tib_grammar.specs.Items.{pairs_of}
@@ -14,7 +14,7 @@ use Rattle.tib_compose.specs.declared.pending.Piece.{Piece}
 use Rattle.tib_compose.specs.declared.branch.Reading.{Reading}
 use Rattle.tib_compose.specs.declared.branch.Branch.{Branch}
 
--- what comes of the rules that read a label, at a cost, behind what was put out, and before other
+-- what comes of the rules that read a label, at a cost, after what was put out, and before other
 -- pieces
 abbrev pub reading_results : (ℕ → ℕ → ℕ) → List (TransducerRule ℕ) → List (Item (Pair ℕ)) → Branch → Reading → List PieceOf → List Result
 reading_results product two items b r ws =
@@ -26,7 +26,7 @@ pub record OnlyPutsOut (old new : Branch) : Type 0 where
   pub tasks : new.pending.tasks ≡ old.pending.tasks
   pub done : Extends old.done.items new.done.items
 
--- the label that is to be read stands at its node
+-- the label that is to be read is at its node
 abbrev pub IsAtLabel : List (Item (Pair ℕ)) → Option Reading → Type 0
 IsAtLabel items None = Unit {0}
 IsAtLabel items (Some r) = (r.node < length items) × (get_or items r.node (Label 0 0) ≡ Label r.label r.rank)

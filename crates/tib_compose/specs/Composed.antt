@@ -1,4 +1,4 @@
--- What the composition of two transducers answers.
+-- What the composition of two transducers returns.
 use Rattle.std.specs.Prelude.{◌≡◌, ℕ, ◌≤◌, List, length, map, true}
 use Rattle.tib_lex.specs.Lists.{Each}
 use Rattle.tib_cost.specs.Semiring.{most}
@@ -30,7 +30,7 @@ HasPartsOf product one two found = found.parts ≡ parts_of (composition product
 abbrev pub AreOverOrder : Found (ℕ × ℕ) (TransducerRule ℕ) → Type 0
 AreOverOrder found = AreWithin (length found.order.items) found.rules.items
 
--- Why nothing is answered: the first rule of the second transducer outside the classes that are
+-- Why nothing is returned: the first rule of the second transducer outside the classes that are
 -- demanded; where each rule is of them, a limit that each reached set exceeds; or out of memory.
 abbrev pub IsComposeFault : List (TransducerRule ℕ) → ℕ → Type 0 → ComposeError → Type 0
 IsComposeFault two limit Beyond (Class rule fault) = IsFirstOutside (demands true true true true) two (rule, fault)

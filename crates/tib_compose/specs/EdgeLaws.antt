@@ -1,4 +1,4 @@
--- What composition owes of all its pairs, edges and rules.
+-- The laws of composition, for all its pairs, edges and rules.
 use Rattle.std.specs.Prelude.{◌≡◌, ℕ, ◌<◌, List, [], ◌∷◌, ◌++◌, length, Option, refl}
 use Rattle.std.proofs.Common.{ap, ◌∙◌, subst, inl, inr}
 use Rattle.tib_lex.specs.Lists.{Has, Each}
@@ -27,7 +27,7 @@ use Rattle.tib_transducer.specs.declared.TransducerRule.{TransducerRule}
 use Rattle.tib_transducer.specs.NamedPairs.{named_pair}
 use Rattle.tib_keyed.proofs.Standing.{ends_are_in_range}
 
--- the states that stand anywhere in some sides
+-- the states that are anywhere in some sides
 abbrev pub all_states : {P : Type 0} → Trees (Symbol ℕ (Pair P)) → List P
 all_states none = []
 all_states (tree (label f) kids rest) = all_states kids ++ all_states rest
@@ -96,7 +96,7 @@ compose_reading = record {
   read_positions = λ f r. named_transducer_rule f r;
 }
 
--- all that composition owes of its pairs, edges and rules
+-- all laws of composition, for its pairs, edges and rules
 pub composition_is_lawful :
     (product : ℕ → ℕ → ℕ) (one two : List (TransducerRule ℕ)) (m n : ℕ) → 0 < m → 0 < n → StatesBelow m one → StatesBelow n two →
     IsLawful (composition product one two) (λ k. (k.0 < m) × (k.1 < n)) compose_reading pair_cmp (λ k. 2)

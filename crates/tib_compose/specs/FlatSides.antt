@@ -1,5 +1,5 @@
--- Right sides of one label over pairs, and the edges that rules of the second transducer give with
--- them.
+-- Right-hand sides of one label over pairs, and the edges that rules of the second transducer give
+-- with them.
 use Rattle.std.specs.Prelude.{◌≡◌, ℕ, ◌<◌, List, [], ◌∷◌, ◌++◌, length, map, drop, Option, None, Some, true}
 use Rattle.tib_lex.specs.Lists.{total}
 use Rattle.tib_grammar.specs.Sides.{Symbol, hole, label, Side as SideFor}
@@ -26,17 +26,17 @@ leaf x = (hole x, 0)
 abbrev pub ArePairsFrom : ℕ → List (Item (Pair ℕ)) → Type 0
 ArePairsFrom i items = (xs : List (Pair ℕ)) × (drop i (pairs_of items) ≡ map leaf xs)
 
--- the preorder is the label f over n trees, with pairs alone behind it
+-- the preorder is the label f over n trees, with pairs alone after it
 abbrev pub IsFlatOver : List (Symbol ℕ (Pair ℕ) × ℕ) → ℕ → ℕ → Type 0
 IsFlatOver pairs f n = (xs : List (Pair ℕ)) × (pairs ≡ (label f, n) ∷ map leaf xs)
 
--- an item of a rule's right side is put out below such a side, before other pieces
+-- an item of a rule's right-hand side is put out below such a side, before other pieces
 abbrev pub PutsBelow : List (Item (Pair ℕ)) → Item (Pair ℕ) → List (Item (Pair (ℕ × ℕ))) → List (Item (Pair (ℕ × ℕ))) → Type 0
 PutsBelow items x old new =
     (product : ℕ → ℕ → ℕ) (two : List (TransducerRule ℕ)) → GoesByPieces product two → (f n : ℕ) → IsFlatOver (pairs_of items) f n → (cost : ℕ) (ws : List PieceOf) →
     results product two cost (pairs_of old) (piece_below (pairs_of items) 0 x ∷ ws) ≡ results product two cost (pairs_of new) ws
 
--- the right side of a rule is put out in place of such a side, and nothing else comes of it
+-- the right-hand side of a rule is put out in place of such a side, and nothing else comes of it
 abbrev pub PutsRight : List (Item (Pair ℕ)) → List (Item (Pair ℕ)) → List (Item (Pair (ℕ × ℕ))) → Type 0
 PutsRight items right done =
     (product : ℕ → ℕ → ℕ) (two : List (TransducerRule ℕ)) → GoesByPieces product two → (f n : ℕ) → IsFlatOver (pairs_of items) f n → AreKnown n right → (cost : ℕ) →
@@ -48,7 +48,7 @@ kept None done = []
 kept (Some c) done = (c, done) ∷ []
 
 module _ (left : SideFor ℕ Variable) (done : List (Item (Pair (ℕ × ℕ)))) (cost : Option ℕ) where
-  -- its edges stand behind those that were listed
+  -- its edges come after those that were listed
   abbrev pub ListsKept : Listing → Listing → Type 0
   ListsKept old new =
       (order : List (ℕ × ℕ)) (key : ℕ × ℕ) (es : List (TransducerRule (ℕ × ℕ))) → IsListing order key es old →
@@ -65,7 +65,7 @@ module _ (product : ℕ → ℕ → ℕ) (two : List (TransducerRule ℕ)) (rule
   abbrev pub flat_results : ℕ → ℕ → List Result
   flat_results n m = reader_results product two rule.cost [] (kids_there (pairs_of items) 0 n) [] m
 
-  -- its edges stand behind those that were listed
+  -- its edges come after those that were listed
   abbrev pub ListsReader : ℕ → Listing → Listing → Type 0
   ListsReader m old new =
       AreReady product two → (p f n : ℕ) → IsFlatOver (pairs_of items) f n → m < length two → reads_label p f n (transducer_rule two m) ≡ true →

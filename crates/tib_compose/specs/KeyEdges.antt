@@ -14,7 +14,7 @@ use Rattle.tib_compose.specs.Walk.{AreReady}
 use Rattle.tib_compose.specs.declared.listing.Listing.{Listing}
 use Rattle.tib_compose.specs.declared.source.Source.{Source}
 
--- the source is the right side of the rule
+-- the source is the right-hand side of the rule
 pub record IsSourceOf (product : ℕ → ℕ → ℕ) (two : List (TransducerRule ℕ)) (r : TransducerRule ℕ) (source : Source) : Type 0 where
   pub items : pairs_of source.items.now ≡ preorder_of r.right
   pub known : AreReady product two → IsSource product two source
@@ -24,7 +24,7 @@ module _ (product : ℕ → ℕ → ℕ) (one two : List (TransducerRule ℕ)) (
   abbrev pub rule_edges : ℕ → List (TransducerRule (ℕ × ℕ))
   rule_edges n = map (edge_from product one two key) (cheap product one two n (choices_of two key.1 (transducer_rule one n).right))
 
-  -- they stand behind those that were listed
+  -- they come after those that were listed
   abbrev pub ListsRule : ℕ → Listing → Listing → Type 0
   ListsRule n old new = (order : List (ℕ × ℕ)) (es : List (TransducerRule (ℕ × ℕ))) → IsListing order key es old → IsListing order key (es ++ rule_edges n) new
 

@@ -38,7 +38,7 @@ abbrev pub all_ends : List (TransducerRule (ℕ × ℕ)) → List (ℕ × ℕ)
 all_ends [] = []
 all_ends (e ∷ es) = ends_of e ++ all_ends es
 
--- the edge of a pair that reads a left side and puts out the side of a preorder at a cost
+-- the edge of a pair that reads a left-hand side and puts out the side of a preorder at a cost
 abbrev pub edge_of : ℕ × ℕ → SideFor ℕ Variable → List (Symbol ℕ (Pair (ℕ × ℕ)) × ℕ) → ℕ → TransducerRule (ℕ × ℕ)
 edge_of key left pairs cost = record { state = key; left = left; right = first_of (label 0) (parse pairs); cost = cost }
 
@@ -54,7 +54,7 @@ pub record IsPlacedRule (left : SideFor ℕ Variable) (done : List (Item (Pair (
   pub position : new.position ≡ old.position
   pub budget : new.budget ≡ old.budget
 
--- the list with such a rule behind it
+-- the list with such a rule appended
 pub record IsAdded (left : SideFor ℕ Variable) (done : List (Item (Pair (ℕ × ℕ)))) (cost : ℕ) (old new : Listing) : Type 0 where
   pub rule : PlacedRule
   pub state : rule.position ≡ old.position

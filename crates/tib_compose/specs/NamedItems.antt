@@ -1,4 +1,4 @@
--- Items of a right side with their states exchanged.
+-- Items of a right-hand side with their states exchanged.
 use Rattle.std.specs.Prelude.{ℕ, ◌<◌, List, length}
 use Rattle.std.proofs.Common.{get_or}
 use Rattle.tib_grammar.specs.declared.Item.{Item}

@@ -67,7 +67,7 @@ TakesNext old new (Some piece) =
     × ((product : ℕ → ℕ → ℕ) (two : List (TransducerRule ℕ)) (pairs : List (Symbol ℕ (Pair ℕ) × ℕ)) (ws : List PieceOf) → Holds product two pairs old ws →
     (rest : List PieceOf) × (ws ≡ piece_of pairs piece ∷ rest) × Holds product two pairs new rest)
 
--- a piece stands before what was left
+-- a piece comes before what was left
 abbrev pub IsPushed : (ℕ → ℕ → ℕ) → Piece → Option ℕ → Pending → Pending → Type 0
 IsPushed product piece bound old new =
     Extends old.tasks.items new.tasks.items

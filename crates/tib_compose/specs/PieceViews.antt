@@ -22,7 +22,7 @@ abbrev pub piece_of : List (Symbol ℕ (Pair ℕ) × ℕ) → Piece → PieceOf
 piece_of pairs (Put f n) = put f n
 piece_of pairs (Read i p) = read (side_there pairs i) p
 
--- what an item of a rule's right side stands for below a node
+-- what an item of a rule's right-hand side stands for below a node
 abbrev pub piece_below : List (Symbol ℕ (Pair ℕ) × ℕ) → ℕ → Item (Pair ℕ) → PieceOf
 piece_below pairs node (Label f n) = put f n
 piece_below pairs node (Hole x) = read (first_of (label 0) (other_trees x.variable (parse (drop (node + 1) pairs)))) x.state

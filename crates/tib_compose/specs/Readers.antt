@@ -22,12 +22,12 @@ readers_with s two = readers two s.0 s.1 s.2 (length two)
 abbrev pub HoldsReaders : List (TransducerRule ℕ) → ℕ → ShapeIndex → Type 0
 HoldsReaders two m index = (s : ℕ × ℕ × ℕ) → positions_of index s ≡ readers two s.0 s.1 s.2 m
 
--- the left side is one label over variables
+-- the left-hand side is one label over variables
 pub record IsFlat (r : TransducerRule ℕ) : Type 0 where
   pub root : ℕ
   pub is_root : r.left.label ≡ label root
   pub variables : AreHoles r.left.kids
 
--- each left side is
+-- each left-hand side is
 abbrev pub AreFlat : List (TransducerRule ℕ) → Type 0
 AreFlat rules = (n : ℕ) → n < length rules → IsFlat (transducer_rule rules n)

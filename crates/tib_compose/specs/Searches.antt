@@ -1,4 +1,4 @@
--- The search through all translations of a right side.
+-- The search through all translations of a right-hand side.
 use Rattle.std.specs.Prelude.{◌≡◌, ℕ, ◌+◌, ◌≤◌, List, [], ◌∷◌, ◌++◌, length, map, reverse, take, drop, nat_le, if◌then◌else◌}
 use Rattle.tib_tree.specs.Trees.{Trees, preorder_of}
 use Rattle.tib_cost.specs.Semiring.{most}
@@ -42,8 +42,8 @@ module _ (product : ℕ → ℕ → ℕ) (two : List (TransducerRule ℕ)) where
     abbrev pub readers_of : Reading → List ℕ
     readers_of r = readers_with (r.state, r.label, r.rank) two
 
-    -- what comes of the rules at a turn that are not tried, behind what was put out and before
-    -- other pieces
+    -- what comes of the rules at a turn that are not tried, after what was put out and before other
+    -- pieces
     abbrev pub turn_results : Turn → List (Symbol ℕ (Pair (ℕ × ℕ)) × ℕ) → List PieceOf → List Result
     turn_results t done ws = all_of (reader_results t.cost done (kids_there pairs t.reading.node t.reading.rank) ws) (drop t.tried (readers_of t.reading))
 
@@ -81,7 +81,7 @@ turn_at r search = record {
   tried = 0;
 }
 
--- one turn more
+-- one more turn
 pub record Meets (r : Reading) (old new : Search) : Type 0 where
   pub branch : new.branch ≡ old.branch
   pub turns : new.turns.items ≡ old.turns.items ++ turn_at r old ∷ []
@@ -93,7 +93,7 @@ pub record ComesBack (t : Turn) (old new : Search) : Type 0 where
   pub tasks : new.branch.pending.tasks.items ≡ take t.tasks old.branch.pending.tasks.items
   pub next : new.branch.pending.next ≡ t.next
 
--- the turn with one rule more that was tried
+-- the turn with one more rule that was tried
 abbrev pub tried_more : Turn → Turn
 tried_more t = record { reading = t.reading; cost = t.cost; done = t.done; tasks = t.tasks; next = t.next; tried = t.tried + 1 }
 

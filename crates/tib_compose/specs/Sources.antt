@@ -1,4 +1,4 @@
--- Right sides of the first transducer that are to be translated.
+-- Right-hand sides of the first transducer that are to be translated.
 use Rattle.std.specs.Prelude.{ℕ, List, ◌++◌}
 use Rattle.tib_tree.specs.Trees.{HasChildren}
 use Rattle.tib_grammar.specs.Items.{pairs_of}
@@ -19,7 +19,7 @@ pub record IsSource (product : ℕ → ℕ → ℕ) (two : List (TransducerRule 
   pub ends : AreEnds (pairs_of source.items.now) source.ends.items 0
   pub bounds : AreBounds product two (pairs_of source.items.now) source.bounds
 
--- the pieces of a right side below a node stand before what was left
+-- the pieces of a right-hand side below a node come before what was left
 pub record PutsPieces (product : ℕ → ℕ → ℕ) (right : List (Item (Pair ℕ))) (source : Source) (node : ℕ) (old new : Pending) : Type 0 where
   pub tasks : Extends old.tasks.items new.tasks.items
   pub pieces :

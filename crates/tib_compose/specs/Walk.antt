@@ -1,4 +1,4 @@
--- The walk through all translations of a right side, each with its edge.
+-- The walk through all translations of a right-hand side, each with its edge.
 use Rattle.std.specs.Prelude.{◌≡◌, ℕ, ◌<◌, List, [], ◌∷◌, ◌++◌, length, map, Bool, true, false}
 use Rattle.tib_lex.specs.Lists.{total}
 use Rattle.tib_grammar.specs.Sides.{Side as SideFor}

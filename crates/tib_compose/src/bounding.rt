@@ -1,5 +1,5 @@
-//! What each translation of the trees of a right side costs at least, found from the last trees to
-//! the first.
+//! What each translation of the trees of a right-hand side costs at least, found from the last
+//! trees to the first.
 
 ghost use Rattle.std.specs.Prelude.{ℕ, IfOk, OnOk};
 ghost use Rattle.tib_compose.specs.Bounding.{BoundsNode, BoundsReader, KeepsSource};
@@ -40,7 +40,7 @@ fn lesser_of(one: Option<Cost>, two: Option<Cost>) -> Option<Cost>
     }
 }
 
-/// Asks for the nodes at which the pairs of a rule's right side stand below a node, each by its
+/// Asks for the nodes at which the pairs of a rule's right-hand side are below a node, each by its
 /// state, unless they were asked for.
 fn ask_rule(
     right: &[Item<Pair<u32>>],
@@ -64,7 +64,7 @@ fn ask_rule(
     Ok(())
 }
 
-/// Whether a label stands below the root of a right side.
+/// Whether a label is below the root of a right-hand side.
 fn has_label_below(items: &[Item<Pair<u32>>]) -> bool {
     for i in 1..items.len() {
         if let Item::Label { .. } = &items[i] {
@@ -179,7 +179,7 @@ impl<'a, S: Semiring> Composite<'a, S> {
 
     /// Sets the bounds of all nodes and states that a search from the root by a state may come to.
     /// A side of one label needs none: each rule that reads it gives a translation. Cost: for each
-    /// of them and each rule that reads the label there one pass over the rule's right side.
+    /// of them and each rule that reads the label there one pass over the rule's right-hand side.
     pub(crate) fn set_bounds(
         &self,
         alloc: Global,

@@ -1,4 +1,4 @@
-//! What translations of the trees of a right side cost at least.
+//! What translations of the trees of a right-hand side cost at least.
 
 ghost use Rattle.std.specs.Prelude.{◌≡◌, ℕ, List, Some, OnOk};
 ghost use Rattle.tib_grammar.specs.Sides.{Symbol};
@@ -13,8 +13,8 @@ use std::alloc::{AllocError, Global};
 use std::collections::HashMap;
 use tib_cost::Cost;
 
-/// For nodes of a right side and states what each translation costs at least, none if it is more
-/// than the greatest cost. What is not there is 0.
+/// For nodes of a right-hand side and states what each translation costs at least, none if it is
+/// more than the greatest cost. What is not there is 0.
 #[derive(Drop)]
 pub struct Bounds {
     table: HashMap<(u32, u32), Option<Cost>>,
@@ -52,7 +52,8 @@ impl Bounds {
         }
     }
 
-    /// Sets the bound of a node and a state.
+    /// Sets the bound of a node and a state. Err only if memory is refused; the bounds are then
+    /// unspecified. Cost: one look-up by hash.
     pub fn set(&mut self, node: u32, state: u32, bound: Option<Cost>) -> Result<(), AllocError>
         ensures { OnOk result (SetsBound node state bound self.old self.new) }
     {

@@ -1,4 +1,4 @@
-//! Right sides that are translated in part.
+//! Right-hand sides that are translated in part.
 
 ghost use Rattle.std.specs.Prelude.{IfOk};
 ghost use Rattle.tib_compose.specs.Branches.{IsTaken, IsAdvanced};
@@ -24,7 +24,7 @@ pub struct Reading {
     pub state: u32,
 }
 
-/// A right side that is translated in part: what was put out at a cost, and what is left.
+/// A right-hand side that is translated in part: what was put out at a cost, and what is left.
 #[derive(Drop)]
 pub struct Branch {
     /// The cost of the rules so far.
@@ -36,7 +36,7 @@ pub struct Branch {
 }
 
 impl Branch {
-    /// Puts out a piece, unless it is a label that is to be read: then this is the answer. Err also
+    /// Puts out a piece, unless it is a label that is to be read: then this is returned. Err also
     /// where the piece has a node that is not there.
     fn take(
         &mut self,
@@ -69,8 +69,9 @@ impl Branch {
         }
     }
 
-    /// Puts out pieces up to the next label that is to be read, and answers this; none where all is
-    /// put out. Cost: one step for each piece.
+    /// Puts out pieces up to the next label that is to be read, and returns this; none where all is
+    /// put out. Err if memory is refused, or a piece has a node that is not there; the pieces
+    /// before it are then put out. Cost: one step for each piece.
     pub fn advance(&mut self, items: &[Item<Pair<u32>>]) -> Result<Option<Reading>, AllocError>
         ensures advanced { IfOk result (λ reading. IsAdvanced items.now self.old self.new reading) }
     {

@@ -4,7 +4,7 @@ use std::marker::Model;
 
 /// A choice of rules of the second transducer for a side, kept as its preorder: the position of a
 /// rule at a label, none at a pair, each with the number of choices below it. No value of it is
-/// made: it tells edges apart.
+/// made: it distinguishes edges.
 #[derive(Drop)]
 pub struct Choice {
     rules: Vec<(Option<u32>, u32)>,

@@ -19,13 +19,14 @@ use tib_transducer::{Transducer, TransducerRule};
 
 /// The pairs of states that composition reaches from the pair of the starts, in the order by
 /// rounds, and the rules over their positions. As a transducer whose start is position 0 they turn
-/// each tree into each other at the least cost over all trees between (`composes_series` of
+/// each tree into each other one at the least cost over all trees between (`composes_series` of
 /// tib_keyed). `Class` exactly where the second transducer is not linear, nondeleting, not extended
 /// and not labelled; `TooMany` exactly where it is and they have more parts than the limit, 1 to
 /// `MOST_PARTS` of tib_hunt; `OutOfMemory` if memory is refused. Calls `gate` once for each pair.
 /// Cost: that of `Composite::new`, and for each pair and each rule of its state of the first
-/// transducer a search of the translations of the rule's right side, beside the hunt's own
-/// (`hunt_alone`). The construction is from Engelfriet, 1975, and with weights from Maletti, 2006.
+/// transducer a search of the translations of the rule's right-hand side, in addition to the hunt's
+/// own (`hunt_alone`). The construction is from Engelfriet, 1975, and with weights from Maletti,
+/// 2006.
 pub fn compose<S: Semiring, G: Gate>(
     alloc: Global,
     first: &Transducer<S>,
@@ -52,9 +53,9 @@ pub fn compose<S: Semiring, G: Gate>(
     Ok(found)
 }
 
-/// What `compose` answers, found by this number of workers, 1 to 16, whatever the order of their
-/// steps. It may wait for ever, as the hunt by several workers (`hunt` of tib_hunt). Errors are
-/// those of `compose`, and so is the cost, but for pairs that are expanded again.
+/// What `compose` returns, found by this number of workers, 1 to 16, whatever the order of their
+/// steps. It may wait forever, as the hunt by several workers (`hunt` of tib_hunt). Errors are
+/// those of `compose`, and so is the cost, except for pairs that are expanded again.
 pub fn compose_together<S: Semiring + Sync, R: Threads + Wait + Sync, G: Gate + Sync>(
     rt: &R,
     alloc: Global,

@@ -35,7 +35,7 @@ impl<'a, S> Composite<'a, S> {
     /// not labelled. `Class` exactly where it is not, with its first rule outside and the first
     /// class that this rule is outside of; `OutOfMemory` if memory is refused. Cost: one look-up by
     /// hash for each rule of the second transducer, and a pass over the states and the rules of the
-    /// first, beside `first_outside`.
+    /// first, in addition to that of `first_outside`.
     pub fn new(
         alloc: Global,
         first: &'a Transducer<S>,

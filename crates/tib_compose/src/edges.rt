@@ -1,5 +1,5 @@
 //! The edges of a pair: for each rule of its state of the first transducer, and each translation of
-//! the rule's right side.
+//! the rule's right-hand side.
 
 ghost use Rattle.std.specs.Prelude.{◌≡◌, ◌<◌, ◌≤◌, length, IfOk, OnOk, Err};
 ghost use Rattle.tib_hunt.specs.Reached.{most_parts};
@@ -21,8 +21,9 @@ use tib_keyed::StatePair;
 use tib_transducer::TransducerRule;
 
 impl<'a, S: Semiring> Composite<'a, S> {
-    /// The right side of a rule of the first transducer, as what is to be translated by a state of
-    /// the second, with the bounds of what a search comes to. Err only if memory is refused.
+    /// The right-hand side of a rule of the first transducer, as what is to be translated by a
+    /// state of the second, with the bounds of what a search comes to. Err only if memory is
+    /// refused.
     fn source_of<'b>(
         &self,
         alloc: Global,
@@ -47,8 +48,8 @@ impl<'a, S: Semiring> Composite<'a, S> {
     }
 
     /// Lists the edges of a pair along the rule of the first transducer at a position, by a search
-    /// of the translations of its right side. `More` exactly where they have more parts than the
-    /// budget leaves.
+    /// of the translations of its right-hand side. `More` exactly where they have more parts than
+    /// the budget leaves.
     fn search_rule(
         &self,
         alloc: Global,
@@ -112,8 +113,8 @@ impl<'a, S: Semiring> Composite<'a, S> {
         }
     }
 
-    /// The edges of a pair that stands at a position. `More` exactly where they have more parts
-    /// than the budget.
+    /// The edges of a pair at a position. `More` exactly where they have more parts than the
+    /// budget.
     pub(crate) fn list_edges(
         &self,
         alloc: Global,

@@ -20,7 +20,7 @@ fn rank_of(item: &Item<Pair<u32>>) -> u32
     }
 }
 
-/// The item behind this many trees that begin at an item, where the ends from there on are known.
+/// The item after this many trees that begin at an item, where the ends from there on are known.
 /// Cost: one step for each tree.
 pub(crate) fn skip(ends: &[u32], from: u32, many: u32) -> u32
     ensures { (pairs : List (Symbol ℕ (PairOf ℕ) × ℕ)) → length pairs ≡ length ends.now →
@@ -36,7 +36,7 @@ pub(crate) fn skip(ends: &[u32], from: u32, many: u32) -> u32
     at
 }
 
-/// For each item the one behind its tree. Err only if memory is refused. Cost: one pass over the
+/// For each item the one after its tree. Err only if memory is refused. Cost: one pass over the
 /// items.
 pub(crate) fn ends_of(alloc: Global, items: &[Item<Pair<u32>>]) -> Result<Vec<u32>, AllocError>
     requires few { length items.now < 2 ^ 32 }

@@ -1,4 +1,4 @@
-//! What can be amiss in composing two transducers.
+//! What can go wrong in composing two transducers.
 
 use thiserror::Error;
 use tib_hunt::HuntError;

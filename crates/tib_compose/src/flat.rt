@@ -1,5 +1,5 @@
-//! Right sides of one label over pairs. Each rule that reads the label translates such a side, in
-//! one way, so no search is begun.
+//! Right-hand sides of one label over pairs. Each rule that reads the label translates such a side,
+//! in one way, so no search is begun.
 
 ghost use Rattle.std.specs.Prelude.{◌≡◌, ◌<◌, IfSome, IsTrue, OnOk, Err, length};
 ghost use Rattle.tib_grammar.specs.Items.{pairs_of};
@@ -28,7 +28,7 @@ use tib_keyed::StatePair;
 use tib_transducer::{Pair, TransducerRule, Variable};
 use tib_tree::Label;
 
-/// Whether all items behind the first are pairs.
+/// Whether all items after the first are pairs.
 fn are_pairs(items: &[Item<Pair<u32>>]) -> bool
     ensures { IsTrue result → ArePairsFrom 1 items.now }
 {
@@ -43,8 +43,8 @@ fn are_pairs(items: &[Item<Pair<u32>>]) -> bool
     true
 }
 
-/// The label of a right side that is one label over pairs, with the number of these. Cost: one pass
-/// over the items.
+/// The label of a right-hand side that is one label over pairs, with the number of these. Cost: one
+/// pass over the items.
 pub(crate) fn flat_root(items: &[Item<Pair<u32>>]) -> Option<(Label, u32)>
     ensures { IfSome result (λ r. IsFlatOver (pairs_of items.now) r.0 r.1) }
 {
@@ -58,8 +58,8 @@ pub(crate) fn flat_root(items: &[Item<Pair<u32>>]) -> Option<(Label, u32)>
     }
 }
 
-/// Puts out an item of a rule's right side, where a variable stands for a pair of one label over
-/// pairs. Err also where there is no such pair.
+/// Puts out an item of a rule's right-hand side, where a variable stands for a pair of one label
+/// over pairs. Err also where there is no such pair.
 fn put_below(
     items: &[Item<Pair<u32>>],
     item: &Item<Pair<u32>>,
@@ -89,7 +89,7 @@ fn put_below(
     }
 }
 
-/// Puts out a rule's right side in place of one label over pairs.
+/// Puts out a rule's right-hand side in place of one label over pairs.
 fn put_right(
     items: &[Item<Pair<u32>>],
     right: &[Item<Pair<u32>>],
@@ -104,8 +104,8 @@ fn put_right(
     Ok(())
 }
 
-/// Lists the edge that reads a left side and puts out some items, unless it costs more than the
-/// greatest cost.
+/// Lists the edge that reads a left-hand side and puts out some items, unless it costs more than
+/// the greatest cost.
 fn list_kept<'a>(
     alloc: Global,
     left: &'a Side<Variable>,
@@ -129,7 +129,7 @@ fn list_kept<'a>(
 }
 
 impl<'a, S: Semiring> Composite<'a, S> {
-    /// Lists the edge along a rule of the first transducer, whose right side is one label over
+    /// Lists the edge along a rule of the first transducer, whose right-hand side is one label over
     /// pairs, by the rule of the second at a position, which reads the label.
     fn list_reader(
         &self,
@@ -162,10 +162,10 @@ impl<'a, S: Semiring> Composite<'a, S> {
         }
     }
 
-    /// Lists the edges of a pair along the rule of the first transducer at a position, whose right
-    /// side is this label over this many pairs. `More` exactly where they have more parts than the
-    /// budget leaves. Cost: a look-up by hash, and for each rule of the second transducer that
-    /// reads the label one pass over its right side.
+    /// Lists the edges of a pair along the rule of the first transducer at a position, whose
+    /// right-hand side is this label over this many pairs. `More` exactly where they have more
+    /// parts than the budget leaves. Cost: a look-up by hash, and for each rule of the second
+    /// transducer that reads the label one pass over its right-hand side.
     pub(crate) fn list_flat(
         &self,
         alloc: Global,

@@ -91,8 +91,8 @@ impl<'a> Listing<'a> {
         }
     }
 
-    /// The rule over places that reads a left side and puts out some items at a cost, where each
-    /// pair leads to a new end.
+    /// The rule over places that reads a left-hand side and puts out some items at a cost, where
+    /// each pair leads to a new end.
     fn placed_rule(
         &mut self,
         alloc: Global,
@@ -116,8 +116,9 @@ impl<'a> Listing<'a> {
         })
     }
 
-    /// Lists an edge that reads a left side and puts out some items at a cost. `More` comes exactly
-    /// where it has more parts than the budget leaves.
+    /// Lists an edge that reads a left-hand side and puts out some items at a cost. `More` where it
+    /// has more parts than the budget leaves, otherwise `OutOfMemory`; the list may then have more
+    /// ends, but has no more rules. Cost: one step for each item.
     pub fn add(
         &mut self,
         alloc: Global,

@@ -1,4 +1,4 @@
-//! What is left to be put out of a right side that is translated in part.
+//! What is left to be put out of a right-hand side that is translated in part.
 
 ghost use Rattle.std.specs.Prelude.{◌≡◌, ℕ, List, [], take, OnOk};
 ghost use Rattle.tib_grammar.specs.Sides.{Symbol};
@@ -17,19 +17,19 @@ use tib_tree::Label;
 pub enum Piece {
     /// A label with its number of children.
     Put { label: Label, rank: u32 },
-    /// The tree of a node of the first transducer's right side, translated by a state of the
+    /// The tree of a node of the first transducer's right-hand side, translated by a state of the
     /// second.
     Read { node: u32, state: u32 },
 }
 
-/// A piece, and the number of the task behind it: tasks are numbered from 1, and 0 says that
-/// nothing is left. What is left from the piece on costs at least the bound, and more than the
-/// greatest cost where this is none.
+/// A piece, and the number of the task after it: tasks are numbered from 1, and 0 says that nothing
+/// is left. What is left from the piece on costs at least the bound, and more than the greatest
+/// cost where this is none.
 #[derive(Drop)]
 pub struct Task {
     /// The piece.
     pub piece: Piece,
-    /// The number of the task behind it.
+    /// The number of the task after it.
     pub rest: usize,
     /// The bound.
     pub bound: Option<Cost>,
@@ -48,7 +48,7 @@ pub(crate) fn product_of<S: Semiring>(one: Option<Cost>, two: Option<Cost>) -> O
     S::times(one, two)
 }
 
-/// What is left: the task with a number, and those behind it. Tasks stay in the list when they are
+/// What is left: the task with a number, and those after it. Tasks stay in the list when they are
 /// taken, so that a search can come back to them.
 #[derive(Drop)]
 pub struct Pending {
@@ -102,7 +102,8 @@ impl Pending {
         }
     }
 
-    /// Puts a piece, which costs at least its bound, before what is left.
+    /// Puts a piece, which costs at least its bound, before what is left. Err only if memory is
+    /// refused; then nothing is put there.
     pub fn push<S: Semiring>(&mut self, piece: Piece, bound: Option<Cost>) -> Result<(), AllocError>
         ensures { OnOk result (IsPushed S.product piece bound self.old self.new) }
     {

@@ -5,13 +5,13 @@ use tib_grammar::Side;
 use tib_hunt::Place;
 use tib_transducer::{Pair, Variable};
 
-/// An edge over places: from a position of the order it reads the left side of a rule of the first
-/// transducer, and puts out a side whose pairs lead to ends.
+/// An edge over places: from a position of the order it reads the left-hand side of a rule of the
+/// first transducer, and puts out a side whose pairs lead to ends.
 #[derive(Drop)]
 pub struct PlacedRule<'a> {
     /// The position of the pair that the edge leads from.
     pub position: u32,
-    /// The left side of the rule of the first transducer.
+    /// The left-hand side of the rule of the first transducer.
     pub left: &'a Side<Variable>,
     /// What is put out.
     pub right: Side<Pair<Place>>,

@@ -1,4 +1,4 @@
-//! The pieces of a rule's right side in place of a node.
+//! The pieces of a rule's right-hand side in place of a node.
 
 ghost use Rattle.std.specs.Prelude.{◌≡◌, ℕ, ◌<◌, ◌^◌, List, length, OnOk};
 ghost use Rattle.tib_grammar.specs.Sides.{Symbol};
@@ -15,8 +15,8 @@ use tib_cost::Semiring;
 use tib_grammar::Item;
 use tib_transducer::Pair;
 
-/// The piece of an item of a rule's right side that is put in place of a node. A variable stands
-/// for a child of the node.
+/// The piece of an item of a rule's right-hand side that is put in place of a node. A variable
+/// stands for a child of the node.
 fn piece_for(item: &Item<Pair<u32>>, ends: &[u32], node: u32) -> Piece
     requires node { node < length ends.now }
     requires few { length ends.now < 2 ^ 32 }
@@ -36,9 +36,9 @@ fn piece_for(item: &Item<Pair<u32>>, ends: &[u32], node: u32) -> Piece
     }
 }
 
-/// Puts the pieces of a rule's right side in place of a node, before what is left. Err also where
-/// the node is not there. Cost: for each variable one step for each child before it, and a look-up
-/// by hash.
+/// Puts the pieces of a rule's right-hand side in place of a node, before what is left. Err also
+/// where the node is not there. Cost: for each variable one step for each child before it, and a
+/// look-up by hash.
 pub(crate) fn push_pieces<S: Semiring>(
     pending: &mut Pending,
     right: &[Item<Pair<u32>>],

@@ -1,5 +1,5 @@
-//! The search through all translations of a right side: what comes next, and where it comes back
-//! to.
+//! The search through all translations of a right-hand side: what comes next, and where it comes
+//! back to.
 
 ghost use Rattle.std.specs.Prelude.{◌≡◌, ◌++◌, ◌∷◌, [], OnOk, IfOk, take};
 ghost use Rattle.tib_compose.specs.Searches.{Begins, ComesBack, IsAgain, Meets};
@@ -37,7 +37,8 @@ pub struct Search {
 }
 
 impl Search {
-    /// The search for the translations of a whole side by a state, at a cost.
+    /// The search for the translations of a whole side by a state, at a cost. Err only if memory is
+    /// refused.
     pub fn new<S: Semiring>(alloc: Global, cost: Cost, state: u32) -> Result<Search, AllocError>
         ensures begins { IfOk result (Begins S.product cost state) }
     {
@@ -53,7 +54,8 @@ impl Search {
         })
     }
 
-    /// Turns at a label that the branch came to.
+    /// Turns at a label that the branch came to. Err only if memory is refused; then no turn is
+    /// kept.
     pub fn meet(&mut self, reading: Reading) -> Result<(), AllocError>
         ensures meets { OnOk result (Meets reading self.old self.new) }
     {
@@ -77,7 +79,8 @@ impl Search {
         self.branch.pending.back_to(turn.tasks, turn.next);
     }
 
-    /// Keeps a turn at which one rule more was tried.
+    /// Keeps a turn at which one more rule was tried. Err if memory is refused, or `tried` is the
+    /// greatest number; then the turn is lost.
     pub fn again(&mut self, turn: Turn) -> Result<(), AllocError>
         ensures again { OnOk result (IsAgain turn self.old self.new) }
     {

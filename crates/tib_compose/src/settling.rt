@@ -62,7 +62,7 @@ fn settled_items(
     Ok(settled)
 }
 
-/// An item of a left side once more.
+/// A copy of an item of a left-hand side.
 fn copied_item(item: &Item<Variable>) -> Item<Variable>
     ensures { result ≡ item.now }
 {
@@ -78,7 +78,7 @@ fn copied_item(item: &Item<Variable>) -> Item<Variable>
     }
 }
 
-/// The items of a left side once more.
+/// A copy of the items of a left-hand side.
 fn copied_items(alloc: Global, items: &[Item<Variable>]) -> Result<Vec<Item<Variable>>, AllocError>
     ensures { IfOk result (λ v. v.items ≡ items.now) }
 {
@@ -104,7 +104,7 @@ fn side_of<P: Drop>(items: Vec<Item<P>>) -> Result<Side<P>, AllocError>
     }
 }
 
-/// A left side once more. Err only if memory is refused.
+/// A copy of a left-hand side. Err only if memory is refused.
 fn copied_left(alloc: Global, left: &Side<Variable>) -> Result<Side<Variable>, AllocError>
     ensures { IfOk result (λ s. s ≡ left.now) }
 {
@@ -112,7 +112,7 @@ fn copied_left(alloc: Global, left: &Side<Variable>) -> Result<Side<Variable>, A
     side_of(items)
 }
 
-/// A right side with the positions of its places. Err only if memory is refused.
+/// A right-hand side with the positions of its places. Err only if memory is refused.
 fn settled_right(
     alloc: Global,
     right: &Side<Pair<Place>>,

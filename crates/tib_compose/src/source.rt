@@ -1,4 +1,4 @@
-//! A right side of the first transducer that is to be translated.
+//! A right-hand side of the first transducer that is to be translated.
 
 ghost use Rattle.std.specs.Prelude.{◌≡◌, ◌<◌, ◌^◌, length};
 
@@ -6,13 +6,13 @@ use crate::bounds::Bounds;
 use tib_grammar::Item;
 use tib_transducer::Pair;
 
-/// The items of a right side, where the trees of each end, and what their translations cost at
+/// The items of a right-hand side, where the trees of each end, and what their translations cost at
 /// least.
 #[derive(Drop)]
 pub struct Source<'a> {
     /// The items.
     pub items: &'a [Item<Pair<u32>>],
-    /// For each the one behind its tree.
+    /// For each the one after its tree.
     pub ends: Vec<u32>,
     /// The bounds.
     pub bounds: Bounds,

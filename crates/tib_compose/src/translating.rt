@@ -1,4 +1,4 @@
-//! All translations of a right side of the first transducer, one after another.
+//! All translations of a right-hand side of the first transducer, one after another.
 
 ghost use Rattle.std.specs.Prelude.{◌≡◌, IfOk, OnOk, Err};
 ghost use Rattle.tib_compose.specs.Listing.{IsWithinBudget};
@@ -18,7 +18,7 @@ use tib_hunt::ExpandError;
 use tib_transducer::Variable;
 
 /// Goes on with the branch of a search up to the next label that is read, and turns there; where
-/// none is left, lists the edge that reads the left side and puts out what the branch put out.
+/// none is left, lists the edge that reads the left-hand side and puts out what the branch put out.
 /// `More` exactly where the budget has no room for it.
 pub(crate) fn go_on<'a>(
     alloc: Global,
@@ -52,7 +52,7 @@ pub(crate) fn go_on<'a>(
 }
 
 impl<'a, S: Semiring> Composite<'a, S> {
-    /// Reads the label of a turn by the rule of the second transducer at a position, and answers
+    /// Reads the label of a turn by the rule of the second transducer at a position, and returns
     /// whether a translation within the greatest cost can come of it.
     fn read(
         &self,
@@ -80,7 +80,7 @@ impl<'a, S: Semiring> Composite<'a, S> {
         Ok(product_of::<S>(Some(cost), branch.pending.bound()).is_some())
     }
 
-    /// Takes the next rule at the last turn of a search; the answer is whether there is a turn.
+    /// Takes the next rule at the last turn of a search; returns whether there is a turn.
     pub(crate) fn step(
         &self,
         alloc: Global,

@@ -27,7 +27,8 @@ module _
   swap : (a b c : ℕ) → product (product a b) c ≡ product (product a c) b
   swap a b c = laws.regroups a b c ∙ ap (product a) (laws.commutes b c) ∙ sym (laws.regroups a c b)
 
-  -- the products of a run to a vector, with the step's cost m, and those of a rule w with the least cost u of its state
+  -- the products of a run to a vector, with the step's cost m, and those of a rule w with the least
+  -- cost u of its state
   regroup : (m r u w x c d y : ℕ) → product m r ≡ u → product w x ≡ u → product (product (product m c) d) (product r y) ≡ product (product w (product c x)) (product d y)
   regroup m r u w x c d y e k =
       mix laws (product m c) d r y

@@ -1,4 +1,4 @@
--- The list of edges that `expand` answers.
+-- The list of edges that `expand` returns.
 use Rattle.std.specs.Prelude.{◌≡◌, ◌↔◌, ℕ, ◌+◌, ◌<◌, ◌≤◌, Bool, List, [], ◌∷◌, ◌++◌, length, map, refl}
 use Rattle.std.proofs.Common.{zero, suc, arith, ap, sym, ◌∙◌, subst, get_or, inl, inr, append_assoc, append-nil, length-append}
 use Rattle.tib_lex.specs.Lists.{Has, Each, total}

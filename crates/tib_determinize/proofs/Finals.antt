@@ -1,4 +1,4 @@
--- The positions whose vectors have the start, and where the rules of the started grammar stand.
+-- The positions whose vectors have the start, and where the rules of the started grammar are.
 use Rattle.std.specs.Prelude.{◌≡◌, ℕ, ◌+◌, ◌<◌, List, [], ◌∷◌, length, map, refl, Option, None, Some}
 use Rattle.std.proofs.Common.{zero, suc, arith, ap, ◌∙◌, inl, inr, get_or, length-append}
 use Rattle.tib_lex.specs.Lists.{Has}
@@ -12,7 +12,7 @@ use Rattle.tib_determinize.specs.Vectors.{VectorOf, vector_at}
 use Rattle.tib_determinize.specs.Started.{start_in, with_final, finals, chain_to, started}
 use Rattle.tib_determinize.specs.ListLemmas.{get_left, get_right}
 
--- the residual of the start stands in the vector
+-- the residual of the start is in the vector
 pub start_has : (v : VectorOf) (r : ℕ) → start_in v ≡ Some r → Has {A = ℕ × ℕ} v (0, r)
 start_has [] r e = absurd (cc)
 start_has (x ∷ v) r e = elim (nat_eq_cases x.0 0) [
@@ -20,7 +20,7 @@ start_has (x ∷ v) r e = elim (nat_eq_cases x.0 0) [
   | inr k ↦ inr (start_has v r (rw k.1 at e))
 ]
 
--- a start that stands in the vector has a residual
+-- a start that is in the vector has a residual
 pub has_start : (v : VectorOf) (r : ℕ) → Has {A = ℕ × ℕ} v (0, r) → (s : ℕ) × (start_in v ≡ Some s)
 has_start [] r h = absurd h
 has_start (x ∷ v) r h = elim (nat_eq_cases x.0 0) [
@@ -31,7 +31,7 @@ has_start (x ∷ v) r h = elim (nat_eq_cases x.0 0) [
   ]
 ]
 
--- what stands among the finals
+-- what is among the finals
 pub record IsFinal (i : ℕ) (order : List VectorOf) (p : ℕ × ℕ) : Type 0 where
   pub position : ℕ
   pub is : p.0 ≡ i + position
@@ -72,7 +72,7 @@ is_final i (v ∷ order) (suc k) r d h e =
     by None a = a
     by (Some s) a = (suc a.0, omega (arith, a.1), a.2)
 
--- each position stands among the finals at most once
+-- each position is among the finals at most once
 pub one_final :
     (i : ℕ) (order : List VectorOf) (m n : ℕ) (d : ℕ × ℕ) → m < length (finals i order) → n < length (finals i order) →
     (get_or (finals i order) m d).0 ≡ (get_or (finals i order) n d).0 → m ≡ n
@@ -103,7 +103,7 @@ module _ (order : List VectorOf) (new : List (Rule ℕ)) where
       get_left (map chain_to (finals 0 order)) (map (named_rule suc) new) n no_rule (omega (arith, length_map chain_to (finals 0 order)))
       ∙ get_map chain_to (finals 0 order) n no_rule (0, 0) h
 
-  -- behind them are the rules over positions
+  -- after them are the rules over positions
   pub shifted_at : (n j : ℕ) → n ≡ length (finals 0 order) + j → j < length new → rule_at (started order new) n ≡ named_rule suc (rule_at new j)
   shifted_at n j e h =
       get_right (map chain_to (finals 0 order)) (map (named_rule suc) new) n j no_rule (omega (arith, length_map chain_to (finals 0 order)))

@@ -28,7 +28,7 @@ use Rattle.tib_determinize.specs.OneStep.{vector_total}
 use Rattle.tib_determinize.proofs.Stepping.{step_or_none, lefts_below}
 use Rattle.tib_hunt.proofs.Members.{distinct_append}
 
--- right sides over positions
+-- right-hand sides over positions
 
 -- a renaming keeps the label at a root
 pub label-relabel : {P Q : Type 0} (g : P → Q) (s : Symbol ℕ P) (f : ℕ) → symbol_map g s ≡ label f → s ≡ label f
@@ -91,7 +91,7 @@ module _ (product : ℕ → ℕ → ℕ) (rules : List (Rule ℕ)) where
     ascending_once xs a.1,
   )
 
-  -- no vector stands twice in an order
+  -- no vector occurs twice in an order
   pub order_once : (rounds expanded : ℕ) (order : List VectorOf) → AfterRounds (determinization product rules) rounds expanded order → Distinct order
   order_once zero expanded order (start, first) = ascending_once order first.0
   order_once (suc rounds) expanded order (old, first, new, before, is, at, made) =

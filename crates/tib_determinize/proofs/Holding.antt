@@ -8,7 +8,7 @@ use Rattle.tib_lex.proofs.Members.{has_left, has_right}
 use Rattle.tib_lex.proofs.Numbers.{nat_eq_cases}
 use Rattle.tib_determinize.specs.Holders.{held, HoldMore}
 
--- one list more
+-- one more list
 pub one_more : {A : Type 0} (bs : List (Vec A)) (v : Vec A) → HoldMore bs (bs ++ v ∷ [])
 one_more [] v q p h = absurd h
 one_more (b ∷ bs) v zero p h = h
@@ -24,7 +24,7 @@ module _ {A : Type 0} (bs : List (Vec A)) (s : ℕ) (p : A) (v : Vec A) (low : s
   other_state : (q : ℕ) → (q ≡ s → ⊥) → held (set bs s v) q ≡ held bs q
   other_state q n = rw (map-set (λ (b : Vec A). b.items) bs s v) (get_or-set_other (map (λ (b : Vec A). b.items) bs) s q v.items [] n)
 
-  -- one position more at a state
+  -- one more position at a state
   pub position_added : HoldMore bs (set bs s v)
   position_added q x h = elim (nat_eq_cases q s) [
     | inl k ↦ subst (λ (m : ℕ). Has (held (set bs s v) m) x) (sym k.0) (subst (λ (xs : List A). Has xs x) (sym same_state) (has_left (held bs s) (p ∷ []) x (subst (λ (m : ℕ). Has (held bs m) x) k.0 h)))

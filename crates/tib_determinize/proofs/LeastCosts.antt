@@ -18,7 +18,7 @@ use Rattle.tib_determinize.specs.Vectors.{Rises}
 use Rattle.tib_determinize.specs.Settling.{firsts, lesser_with, least_from, IsLeastCost, AreLeastCosts}
 use Rattle.tib_determinize.specs.ListLemmas.{each_map}
 
--- x may stand before y: its state is lesser, or the same at no greater cost
+-- x may be before y: its state is lesser, or the same at no greater cost
 abbrev IsInTurn : ℕ × ℕ → ℕ × ℕ → Type 0
 IsInTurn x y = (x.0 < y.0) ⊎ ((x.0 ≡ y.0) × (x.1 ≤ y.1))
 

@@ -1,4 +1,4 @@
--- The places of rules by the states that stand there, and the rules with which a walk begins.
+-- The places of rules by the states that are there, and the rules with which a walk begins.
 use Rattle.std.specs.Prelude.{◌≡◌, ◌⊎◌, ℕ, ◌+◌, ◌<◌, ◌≤◌, List, [], ◌∷◌, ◌++◌, length, take, drop, refl}
 use Rattle.std.specs.Global.{Vec}
 use Rattle.std.proofs.Common.{zero, suc, arith, ap, sym, ◌∙◌, subst, get_or, inl, inr}
@@ -45,7 +45,7 @@ next_held rules many m j old new more own before i low = elim (same_or_below j i
   | inr l ↦ more (get_or (states_of rules m) i 0) (occurrence rules many m i) (before i l)
 ]
 
--- one rule more
+-- one more rule
 pub next_rule :
     (rules : List (Rule ℕ)) (many n : ℕ) (old new : List (Vec Occurrence)) → HoldMore old new → ((j : ℕ) → j < length (states_of rules n) → IsHeld rules many new n j) →
     HoldPlaces rules many n old → HoldPlaces rules many (n + 1) new
@@ -63,7 +63,7 @@ next_found places i one old new low is more own before o h = elim (taken_more pl
   | inr e ↦ subst (λ (x : Occurrence). Has (held new x.bucket) x) e own
 ]
 
--- the places of one entry more
+-- the places of one more entry
 pub next_entry :
     (entries : VectorOf) (lists : List (Vec Occurrence)) (n q : ℕ) (places : List Occurrence) (old new : List (Vec Occurrence)) → q ≡ (get_or entries n (0, 0)).0 → places ≡ held lists q →
     HoldMore old new → ((o : Occurrence) → Has places o → Has (held new o.bucket) o) →
@@ -74,7 +74,7 @@ next_entry entries lists n q places old new is are more own before i o low h = e
   | inr l ↦ more o.bucket o (before i o l h)
 ]
 
--- a rule that was put behind others
+-- a rule that was put after others
 pub next_begun :
     (rules : List (Rule ℕ)) (f k : ℕ) (old new : List Alive) (a : Alive) → new ≡ old ++ a ∷ [] → IsBegun rules f k a → Each (IsBegun rules f k) old → Each (IsBegun rules f k) new
 next_begun rules f k old new a e own before = subst (Each (IsBegun rules f k)) (sym e) (each_append (IsBegun rules f k) old (a ∷ []) before (own, tt))
@@ -129,7 +129,8 @@ is_held rules many lists none m j low in_rank = elim (has_or_not (held lists (ge
   | inr n ↦ absurd (none m j low in_rank n)
 ]
 
--- the places of the rules of a label and a rank whose states stand in a vector are found in the label's bucket
+-- the places of the rules of a label and a rank whose states are in a vector are found in the
+-- label's bucket
 pub have_standing :
     (rules : List (Rule ℕ)) (many f k : ℕ) (v : VectorOf) (lists found : List (Vec Occurrence)) (places : List Occurrence) → LackNone rules many lists → AreFound v lists found →
     places ≡ held found (bucket f many) → HaveStanding rules many f k v places
@@ -139,7 +140,7 @@ have_standing rules many f k v lists found places none are is m j low h stands =
     let b : bucket (root_label (rule_at rules m).right.label) many ≡ bucket f many = ap (λ s. bucket (root_label s) many) at.root in
     subst (λ (xs : List Occurrence). Has xs (occurrence rules many m j)) (ap (held found) b ∙ sym is) (are (get_or (states_of rules m) j 0) stands.0 (occurrence rules many m j) stands.1 own)
 
--- behind the last place those are left whose state at the place j stands in the vector
+-- after the last place those are left whose state at the place j is in the vector
 pub begun_left :
     (product : ℕ → ℕ → ℕ) (rules : List (Rule ℕ)) (normal : AreNormal rules) (order : List VectorOf) (many f k j : ℕ) (v : VectorOf) (places : List Occurrence) (alive : List Alive) → j < k →
     HaveStanding rules many f k v places → Each (IsBegun rules f k) alive → BeginAll rules f k j places alive → AreLeft product rules order f k j v k [] alive
@@ -189,7 +190,7 @@ begun_reads rules normal f k m r g n low is root many b = (
   sym (rank_is rules normal m r n low is many) ∙ b.rank,
 )
 
--- what is read at a place, whatever stands in for none
+-- what is read at a place, whatever is used for none
 pub read_any : {A : Type 0} (xs : List A) (i : ℕ) (x d e : A) → i < length xs → x ≡ get_or xs i d → x ≡ get_or xs i e
 read_any [] i x d e low is = absurd (omega (arith, low))
 read_any (y ∷ xs) zero x d e low is = is

@@ -31,7 +31,7 @@ module _ (product : ℕ → ℕ → ℕ) (rules : List (Rule ℕ)) where
       let same = one_step product rules o.0 (vectors_at order o.1) e.cost d.cost e.left d.left a.step b.step in
       rule_same e d same.1 (a.right ∙ sym b.right) same.0
 
-  -- an edge of an order stands in each list of its edges
+  -- an edge of an order is in each list of its edges
   edge_stands :
       (order : List VectorOf) (es fs : List (Rule VectorOf)) → AreEdges (determinization product rules) order (length order) es →
       AreEdges (determinization product rules) order (length order) fs → (e : Rule VectorOf) → Has es e → Has fs e

@@ -1,4 +1,4 @@
--- The walks for each place at which a position stands last, and for each label and rank.
+-- The walks for each place at which a position is last, and for each label and rank.
 use Rattle.std.specs.Prelude.{◌≡◌, ℕ, ◌+◌, ◌-◌, ◌<◌, ◌≤◌, List, [], ◌∷◌, ◌++◌, length, drop, Option, None, Some, nat_eq, if◌then◌else◌, refl}
 use Rattle.std.proofs.Common.{suc, arith, ap, sym, ◌∙◌, subst, get_or, inl, inr, append-nil}
 use Rattle.tib_lex.specs.Lists.{Has, Each}
@@ -26,7 +26,7 @@ begun_each : (P : Alive → Type 0) (ms : List ℕ) → ((m : ℕ) → Has ms m 
 begun_each P [] f = tt
 begun_each P (m ∷ ms) f = (f m (inl refl), begun_each P ms (λ x h. f x (inr h)))
 
--- behind the last place all rules of the label and the rank are alive
+-- after the last place all rules of the label and the rank are alive
 pub begun_are :
     (product : ℕ → ℕ → ℕ) (rules : List (Rule ℕ)) (normal : AreNormal rules) (order : List VectorOf) (f k : ℕ) (alive : List Alive) (ms : List ℕ) → ms ≡ positions_with f k rules → alive ≡ begun ms →
     AreAlive product rules order f k k [] alive

@@ -36,7 +36,7 @@ none_between ps next at bound up before behind p from to h =
           ]
     ]
 
--- one position more
+-- one more position
 pub has_pushed : (old new : List ℕ) (x : ℕ) → new ≡ old ++ x ∷ [] → (p : ℕ) → Has old p → Has new p
 has_pushed old new x e p h = subst (λ (xs : List ℕ). Has xs p) (sym e) (has_left old (x ∷ []) p h)
 
@@ -49,7 +49,7 @@ below_pushed old new x e all p low = elim (same_or_later p x (omega (arith, low)
   | inr l ↦ has_pushed old new x e p (all p l)
 ]
 
--- one rule more
+-- one more rule
 taken_next : {A : Type 0} (xs : List A) (i : ℕ) (x a : A) → i < length xs → x ≡ get_or xs i x → Has (take (suc i) xs) a → Has (take i xs) a ⊎ (x ≡ a)
 taken_next [] i x a h e m = absurd (omega (arith, h))
 taken_next (y ∷ xs) zero x a h e m = elim m [ inl k ↦ inr (e ∙ k) | inr k ↦ absurd k ]

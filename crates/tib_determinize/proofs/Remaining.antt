@@ -1,4 +1,4 @@
--- The rules that are left on a walk, where n stands last at the place j.
+-- The rules that are left on a walk, where n is last at the place j.
 use Rattle.std.specs.Prelude.{◌≡◌, ℕ, ◌+◌, ◌<◌, Bool, List, [], ◌∷◌, ◌++◌, length, drop, refl}
 use Rattle.std.proofs.Common.{zero, suc, arith, ap, sym, ◌∙◌, subst, get_or, inl, inr, append_assoc, length-append}
 use Rattle.tib_lex.specs.Lists.{Has}
@@ -16,7 +16,7 @@ use Rattle.tib_determinize.proofs.Tried.{IsAllowed, AreAllowed, allowed_long, at
 use Rattle.tib_determinize.proofs.Underway.{steps_none}
 use Rattle.tib_determinize.proofs.Walked.{labelled_has, weight_behind}
 
--- a state that has a residual stands in its vector
+-- a state that has a residual is in its vector
 stands_at :
     (product : ℕ → ℕ → ℕ) (order : List VectorOf) (qs ps : List ℕ) (w j : ℕ) → IsWeight product qs (vectors_at order ps) w → j < length qs →
     (r : ℕ) × Has {A = ℕ × ℕ} (vector_at order (get_or ps j 0)) (get_or qs j 0, r)
@@ -31,7 +31,7 @@ behind_front [] p ps (suc j) e = absurd (omega (arith, e))
 behind_front (x ∷ before) p ps zero e = absurd (omega (arith, e))
 behind_front (x ∷ before) p ps (suc j) e = behind_front before p ps j (omega (arith, e))
 
--- n stands at the place j
+-- n is at the place j
 at_place : (n j i : ℕ) (front ps : List ℕ) → AreAllowed n j i front → j < i → get_or (front ++ ps) j 0 ≡ n
 at_place n j zero front ps a low = absurd (omega (arith, low))
 at_place n j (suc i) front ps (before, p, e, allowed, rest) low =

@@ -20,7 +20,7 @@ use Rattle.tib_determinize.proofs.Remaining.{under_none}
 use Rattle.tib_determinize.proofs.Underway.{steps_append}
 use Rattle.tib_determinize.proofs.Walked.{narrowed_left, residual_has}
 
--- lists behind a label, one after another
+-- lists after a label, one after another
 pub labelled_append : (f : ℕ) (xs ys : List (List ℕ)) → behind_label f (xs ++ ys) ≡ behind_label f xs ++ behind_label f ys
 labelled_append f [] ys = refl
 labelled_append f (x ∷ xs) ys = ap (λ (zs : List (ℕ × List ℕ)). (f, x) ∷ zs) (labelled_append f xs ys)

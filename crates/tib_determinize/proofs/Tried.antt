@@ -7,7 +7,7 @@ use Rattle.tib_lex.proofs.Lists.{each_append}
 use Rattle.tib_determinize.specs.Tries.{first_at, many_at, span, under}
 use Rattle.tib_determinize.proofs.Walked.{span_has}
 
--- p may stand at the place i, where n stands last at j
+-- p may be at the place i, where n is last at j
 abbrev pub IsAllowed : ℕ → ℕ → ℕ → ℕ → Type 0
 IsAllowed n j i p = (first_at n j i ≤ p) × (p < first_at n j i + many_at n j i)
 
@@ -154,7 +154,7 @@ one_last n i (suc k) xs ys j a b e (before, p, d, allowed, rest) (before', p', d
       ]
     ]
 
--- each of the positions is at most n, and n stands among them
+-- each of the positions is at most n, and n is among them
 pub allowed_up_to : (n j i : ℕ) (front : List ℕ) → AreAllowed n j i front → Each (λ p. p ≤ n) front
 allowed_up_to n j zero front e = subst (Each (λ p. p ≤ n)) (sym e) tt
 allowed_up_to n j (suc i) front (before, p, e, allowed, rest) = subst (Each (λ q. q ≤ n)) (sym e) (each_append (λ q. q ≤ n) before (p ∷ []) (allowed_up_to n j i before rest) (up_to n j i p allowed, tt))

@@ -28,7 +28,7 @@ span_once g p (suc c) own apart =
     (span_once g (suc p) c (λ q l h. own q (omega arith) (omega arith)) (λ q r x a b h k. apart q r x (omega arith) (omega arith) h k))
     (λ x h k. let s = span_has g (suc p) c x k in let l = s.1 in let same = apart p s.0 x (omega arith) (let m = s.2 in omega (arith, m)) h s.3 in omega (arith, l, same))
 
--- two lists that end in the same positions, before which others stand
+-- two lists that end in the same positions, before which there are others
 ends_same : (front other ps : List ℕ) (p q : ℕ) → front ++ p ∷ ps ≡ other ++ q ∷ ps → length front ≡ length other → p ≡ q
 ends_same [] [] ps p q e l = first p q ps ps e
   where

@@ -25,7 +25,7 @@ rules_more i (x ∷ es) e =
     ap (λ rs. record { end = i; label = x.label; positions = x.positions; cost = x.cost } ∷ rs)
     (rules_more (suc i) es e ∙ ap (λ n. rules_from (suc i) es ++ record { end = n; label = e.label; positions = e.positions; cost = e.cost } ∷ []) same)
 
--- a list with one edge more
+-- a list with one more edge
 pub listing_more :
     (old new : Listing) (es : List Stepped) (f : ℕ) (ps : List ℕ) (c : ℕ) (v : VectorOf) → IsListing old es → IsAdded f ps c v old new →
     IsListing new (es ++ record { label = f; positions = ps; cost = c; vector = v } ∷ [])
@@ -56,7 +56,7 @@ listing_empty l e r p = record { ends = none l.ends.items e; rules = ap (map pla
     none (x ∷ xs) e = absurd (omega arith)
 
 module _ (product : ℕ → ℕ → ℕ) (rules : List (Rule ℕ)) (order : List VectorOf) where
-  -- the edges of two lists of labels and positions, one behind the other
+  -- the edges of two lists of labels and positions, one after the other
   pub steps_append : (os more : List (ℕ × List ℕ)) (es fs : List Stepped) → AreSteps product rules order os es → AreSteps product rules order more fs → AreSteps product rules order (os ++ more) (es ++ fs)
   steps_append [] more es fs a b = subst (λ xs. AreSteps product rules order more (xs ++ fs)) (sym a) b
   steps_append (o ∷ os) more es fs (inl h) b = inl (h.0, steps_append os more es fs h.1 b)

@@ -18,7 +18,7 @@ use Rattle.tib_determinize.specs.Stepped.{IsListing, AreSteps, AddsSteps}
 use Rattle.tib_determinize.proofs.Remaining.{under_none}
 use Rattle.tib_determinize.proofs.Walked.{narrowed_left, have_place}
 
--- at its last place n stands alone
+-- at its last place n is alone
 pub only_one : (n j i next end : ℕ) → next ≡ first_at n j i → end ≡ first_at n j i + many_at n j i → i ≡ j → (n ≤ next) × (end ≤ suc n)
 only_one n j i next end a b e = by (nat_eq i j) (same i j e) a b
   where
@@ -84,7 +84,7 @@ module _
     fits = fits;
   }
 
--- the lists of a fresh level are those that end in the positions behind it
+-- the lists of a fresh level are those that end in the positions after it
 pub tries_fresh :
     (n j i : ℕ) (b : Level) (ps : List ℕ) → b.place ≡ i → b.behind.items ≡ ps → b.next ≡ first_at n j i → b.end ≡ first_at n j i + many_at n j i →
     tries_of n j b ≡ under n j (suc i) ps

@@ -18,7 +18,7 @@ use Rattle.tib_cost.specs.Semiring.{ProductLaws}
 use Rattle.tib_lex.proofs.Lists.{each_append}
 use Rattle.tib_determinize.specs.Alive.{AreLeft}
 
--- what is pending of one level more
+-- what is pending of one more level
 pub pending_more : (n j : ℕ) (ls : List Level) (l : Level) → pending n j (ls ++ l ∷ []) ≡ tries_of n j l ++ pending n j ls
 pending_more n j [] l = sym (append-nil (tries_of n j l))
 pending_more n j (x ∷ ls) l = ap (λ (xs : List (List ℕ)). xs ++ tries_of n j x) (pending_more n j ls l) ∙ append_assoc (tries_of n j l) (pending n j ls) (tries_of n j x)
@@ -59,7 +59,7 @@ steps_some : (many i : ℕ) → 0 < steps_at many i
 steps_some many zero = omega arith
 steps_some many (suc i) = omega arith
 
--- the level below and a level behind its next position take fewer steps
+-- the level below and a level after its next position take fewer steps
 pub steps_fewer :
     (many : ℕ) (ls : List Level) (l : Level) (below : Option Level) → l.next < l.end → ((b : Level) → below ≡ Some b → (suc b.place ≡ l.place) × (b.end - b.next ≤ many)) →
     steps_of many (ls ++ past l ∷ level_list below) < steps_of many (ls ++ l ∷ [])

@@ -21,7 +21,7 @@ use Rattle.tib_determinize.specs.VectorLemmas.{one_residual}
 use Rattle.tib_determinize.proofs.LeastCosts.{drop_at}
 use Rattle.tib_determinize.proofs.Leaves.{cut_is, cut_within, part_within}
 
--- a residual that is found stands in the vector
+-- a residual that is found is in the vector
 pub residual_has : (v : VectorOf) (q r : ℕ) → residual_in q v ≡ Some r → Has {A = ℕ × ℕ} v (q, r)
 residual_has [] q r e = absurd (cc)
 residual_has (x ∷ v) q r e = elim (nat_eq_cases x.0 q) [
@@ -67,7 +67,7 @@ under_ends n j (suc i) ps xs h =
       (let l = length-append r.0 (s.0 ∷ []) in let m = r.2 in omega (arith, l, m)),
     )
 
--- a list behind a label
+-- a list after a label
 pub labelled_has : (f : ℕ) (pss : List (List ℕ)) (o : ℕ × List ℕ) → Has (behind_label f pss) o → (o.0 ≡ f) × Has pss o.1
 labelled_has f [] o h = absurd h
 labelled_has f (ps ∷ pss) o h = elim h [
@@ -76,7 +76,7 @@ labelled_has f (ps ∷ pss) o h = elim h [
 ]
 
 module _ (product : ℕ → ℕ → ℕ) {levelled weighted : Bool} (laws : ProductLaws levelled weighted product) (rules : List (Rule ℕ)) (normal : AreNormal rules) (order : List VectorOf) (f k : ℕ) where
-  -- the rules that are alive still, where the vector at p stands at the place i
+  -- the rules that are alive still, where the vector at p is at the place i
   module _ (i p : ℕ) (ps : List ℕ) (low : i < k) (rises : Rises (vector_at order p)) where
     kept_alive :
         (a : Alive) → IsAlive product rules order f k (suc i) ps a → (w : ℕ) → weight_with product rules i (vector_at order p) a ≡ Some w →
@@ -165,7 +165,7 @@ module _ (product : ℕ → ℕ → ℕ) {levelled weighted : Bool} (laws : Prod
   have_place i ps [] low h = tt
   have_place i ps (a ∷ alive) low h = ((h.0.below, (let r = h.0.rank in omega (arith, low, r))), have_place i ps alive low h.1)
 
-  -- the states behind some positions have a weight
+  -- the states after some positions have a weight
   pub weight_behind :
       (front ps : List ℕ) (qs : List ℕ) (w : ℕ) → IsWeight product qs (vectors_at order (front ++ ps)) w → w ≤ most →
       (v : ℕ) × IsWeight product (drop (length front) qs) (vectors_at order ps) v × (v ≤ most)

@@ -112,7 +112,7 @@ at_each_once g (suc m) d =
 -- the walk
 
 module _ (order : List VectorOf) (n : ℕ) where
-  -- k positions up to n that some rule matches, and in which n stands unless it was seen before
+  -- k positions up to n that some rule matches, and in which n is, unless it was seen before
   record IsWalk (k : ℕ) (seen : Bool) (rules : List (List ℕ)) (ps : List ℕ) : Type 0 where
     long : length ps ≡ k
     up_to : Each (λ p. p ≤ n) ps
@@ -298,7 +298,7 @@ module _ (order : List VectorOf) (n : ℕ) where
   first_stands zero (p ∷ ps) a = inl a
   first_stands (suc j) (p ∷ ps) a = inr (first_stands j ps a.1)
 
-  -- one place more in front
+  -- one more place in front
   place_before : (k p : ℕ) (seen : Bool) (rules : List (List ℕ)) (ps : List ℕ) → p ≤ n → IsWalk k true (alive (vector_at order p) rules) ps → IsWalk (suc k) true rules (p ∷ ps)
   place_before k p seen rules ps low w =
       let b = alive_back (vector_at order p) rules w.states w.rule in

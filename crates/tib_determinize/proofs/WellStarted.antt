@@ -81,7 +81,7 @@ module _ {product : ℕ → ℕ → ℕ} (rules : List (Rule ℕ)) (order : List
   below_new : (n j : ℕ) → n < length (started order new) → n ≡ length (finals 0 order) + j → j < length new
   below_new n j h e = let long = all_long order new in omega arith
 
-  -- the fresh start stands in no right side
+  -- the fresh start is in no right-hand side
   start_is_free : StandsInSide (started order new) 0 → ⊥
   start_is_free s = elim (side_of s.rule (length (finals 0 order))) [
     | inl h ↦ elim (subst (λ (r : Rule ℕ). Has {A = ℕ} (holes_of r.right) 0) (chain_at order new s.rule h) s.stands) [
@@ -108,7 +108,7 @@ module _ {product : ℕ → ℕ → ℕ} (rules : List (Rule ℕ)) (order : List
         inl (subst (λ (r : Rule ℕ). IsNormalSide r.right) (sym is) (normal_named suc (rule_at new h.0).right (vectors.normal h.0 low)))
   ]
 
-  -- a chain rule and a rule over positions differ in their right sides
+  -- a chain rule and a rule over positions differ in their right-hand sides
   crossed : (m n j : ℕ) → m < length (finals 0 order) → n ≡ length (finals 0 order) + j → j < length new → (rule_at (started order new) m).right ≡ (rule_at (started order new) n).right → ⊥
   crossed m n j h e low same =
       not_lone suc (rule_at new j).right (suc (final m).0) (vectors.normal j low)

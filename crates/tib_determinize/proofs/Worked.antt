@@ -145,7 +145,7 @@ root_step = record {
   };
 }
 
--- where the second position stands no state has a cost
+-- where the second position is, no state has a cost
 none_at_second :
     (order : List VectorOf) → (vectors_at order (1 ∷ []) ≡ at_root ∷ []) → (f q u : ℕ) (ps : List ℕ) → Each (λ p. p ≤ 1) ps → Has ps 1 →
     IsStepCost ◌+◌ ambiguous f (vectors_at order ps) q u → ⊥

@@ -1,4 +1,5 @@
--- The rules that are alive: those of a label and a rank whose states behind a place stand in the vectors there.
+-- The rules that are alive: those of a label and a rank whose states after a place are in the
+-- vectors there.
 use Rattle.std.specs.Prelude.{◌≡◌, ℕ, ◌<◌, ◌≤◌, List, [], ◌∷◌, length, drop, Option, None, Some}
 use Rattle.std.proofs.Common.{get_or}
 use Rattle.tib_lex.specs.Lists.{Has, Each}
@@ -20,11 +21,11 @@ abbrev pub with_alive : ℕ → Option ℕ → List Alive → List Alive
 with_alive m None more = more
 with_alive m (Some w) more = record { rule = m; weight = w } ∷ more
 
--- the weight of a rule that is alive, where a vector stands at the place before
+-- the weight of a rule that is alive, where a vector is at the place before
 abbrev pub weight_with : (ℕ → ℕ → ℕ) → List (Rule ℕ) → ℕ → List (ℕ × ℕ) → Alive → Option ℕ
 weight_with product rules i v a = times product (residual_in (get_or (states_of rules a.rule) i 0) v) (Some a.weight)
 
--- the rules that are alive still, where a vector stands at the place before
+-- the rules that are alive still, where a vector is at the place before
 abbrev pub narrowed : (ℕ → ℕ → ℕ) → List (Rule ℕ) → ℕ → List (ℕ × ℕ) → List Alive → List Alive
 narrowed product rules i v [] = []
 narrowed product rules i v (a ∷ alive) = with_alive a.rule (weight_with product rules i v a) (narrowed product rules i v alive)
@@ -55,16 +56,17 @@ begun (m ∷ ms) = record { rule = m; weight = 0 } ∷ begun ms
 abbrev pub HasState : List (Rule ℕ) → ℕ → ℕ → Type 0
 HasState rules i m = (m < length rules) × (i < length (states_of rules m))
 
--- the state of the rule at the place stands in the vector
+-- the state of the rule at the place is in the vector
 abbrev pub Stands : List (Rule ℕ) → ℕ → List (ℕ × ℕ) → ℕ → Type 0
 Stands rules i v m = (r : ℕ) × Has {A = ℕ × ℕ} v (get_or (states_of rules m) i 0, r)
 
--- the positions, of those that may stand at the place i where n stands last at j, at which one of the rules has its state
+-- the positions, of those that may be at the place i where n is last at j, at which one of the
+-- rules has its state
 abbrev pub HasWanted : List (Rule ℕ) → List VectorOf → ℕ → ℕ → ℕ → List Alive → List ℕ → Type 0
 HasWanted rules order n j i alive wanted =
     (p r : ℕ) (a : Alive) → p ≤ n → (i ≡ j → p ≡ n) → Has alive a → Has {A = ℕ × ℕ} (vector_at order p) (get_or (states_of rules a.rule) i 0, r) → Has wanted p
 
--- each of the positions is at most those behind it
+-- each of the positions is at most those after it
 abbrev pub AreAscending : List ℕ → Type 0
 AreAscending ps = (i m : ℕ) → i < m → m < length ps → get_or ps i 0 ≤ get_or ps m 0
 
@@ -73,7 +75,8 @@ abbrev pub HasPlace : List (Rule ℕ) → ℕ → Alive → Type 0
 HasPlace rules i a = (a.rule < length rules) × (i < length (states_of rules a.rule))
 
 module _ (product : ℕ → ℕ → ℕ) (rules : List (Rule ℕ)) (order : List VectorOf) (f k : ℕ) where
-  -- the rule has the label and the rank, and its states from a place on stand in the vectors at these positions
+  -- the rule has the label and the rank, and its states from a place on are in the vectors at these
+  -- positions
   pub record IsAlive (from : ℕ) (ps : List ℕ) (a : Alive) : Type 0 where
     pub below : a.rule < length rules
     pub root : (rule_at rules a.rule).right.label ≡ label f
@@ -87,8 +90,8 @@ module _ (product : ℕ → ℕ → ℕ) (rules : List (Rule ℕ)) (order : List
         (m w : ℕ) → Has (positions_with f k rules) m → IsWeight product (drop from (states_of rules m)) (vectors_at order ps) w → w ≤ most →
         Has alive (record { rule = m; weight = w })
 
-  -- The same of a walk whose lists have a vector at the place j: as long as j is to come, all those whose state there stands in the
-  -- vector.
+  -- The same for a walk whose lists have a vector at the place j: as long as j is to come, all
+  -- those whose state there is in the vector.
   pub record AreLeft (j : ℕ) (vector : VectorOf) (from : ℕ) (ps : List ℕ) (alive : List Alive) : Type 0 where
     pub sound : Each (IsAlive from ps) alive
     pub whole :

@@ -10,7 +10,7 @@ use Rattle.tib_cost.specs.Semiring.{most}
 use Rattle.tib_determinize.specs.Vectors.{VectorOf, Rises, IsSomeCost, IsStep, vector_at, vectors_at}
 use Rattle.tib_determinize.specs.Determinization.{IsVectorSeed, IsVectorEdge}
 
--- each state stands in the vector at its place
+-- each state is in the vector at its place
 abbrev pub AreHeld : List ℕ → List VectorOf → Type 0
 AreHeld qs vs = Along (λ q v. (r : ℕ) × Has {A = ℕ × ℕ} v (q, r)) qs vs
 
@@ -60,9 +60,10 @@ SeedsAreListed product =
     (rules : List (Rule ℕ)) (fs : List ℕ) (step : ℕ → List VectorOf → Option (ℕ × VectorOf)) → ComputesSteps product rules step → AreLeafLabels product rules fs →
     Lists (IsVectorSeed product rules) (edges_from step [] (map (λ f. (f, [])) fs))
 
--- The walk over child places: the rules that are still alive are told by the states at the places to come.
+-- The walk over child places: the rules that are still alive are determined by the states at the
+-- places to come.
 
--- whether a state stands in a vector
+-- whether a state is in a vector
 abbrev pub holds : VectorOf → ℕ → Bool
 holds [] q = false
 holds (x ∷ v) q = if nat_eq x.0 q then true else holds v q
@@ -73,7 +74,7 @@ alive v [] = []
 alive v ([] ∷ rules) = alive v rules
 alive v ((q ∷ qs) ∷ rules) = if holds v q then qs ∷ alive v rules else alive v rules
 
--- what is listed for each of the first positions, behind that position
+-- what is listed for each of the first positions, after that position
 abbrev pub at_each : (ℕ → List (List ℕ)) → ℕ → List (List ℕ)
 at_each g zero = []
 at_each g (suc m) = at_each g m ++ map (λ ps. m ∷ ps) (g m)
@@ -82,7 +83,8 @@ abbrev pub at_last : Bool → List (List ℕ) → List (List ℕ)
 at_last seen [] = []
 at_last seen (qs ∷ rules) = if seen then [] ∷ [] else []
 
--- the lists of k positions up to n that some of the rules matches, and in which n stands unless it was seen before
+-- the lists of k positions up to n that some of the rules matches, and in which n is, unless it was
+-- seen before
 abbrev pub walks : List VectorOf → ℕ → ℕ → Bool → List (List ℕ) → List (List ℕ)
 walks order n zero seen rules = at_last seen rules
 walks order n (suc k) seen rules = at_each (λ p. walks order n k (if nat_eq p n then true else seen) (alive (vector_at order p) rules)) (suc n)
@@ -107,7 +109,8 @@ tagged listed (s ∷ shapes) = map (λ ps. (s.0, ps)) (listed s) ++ tagged liste
 abbrev pub candidates : List (Rule ℕ) → List VectorOf → ℕ → List (ℕ × ℕ) → List (ℕ × List ℕ)
 candidates rules order n shapes = tagged (λ s. walks order n s.1 false (states_over rules s.0 s.1)) shapes
 
--- The same by the first place where n stands: before it are positions below n, and behind it any up to n.
+-- The same by the first place where n is: before it are positions below n, and after it any up to
+-- n.
 abbrev pub walks_first : List VectorOf → ℕ → ℕ → ℕ → List (List ℕ) → List (List ℕ)
 walks_first order n zero j rules = []
 walks_first order n (suc k) zero rules = map (λ ps. n ∷ ps) (walks order n k true (alive (vector_at order n) rules))
@@ -126,14 +129,14 @@ pub record AreShapes (rules : List (Rule ℕ)) (shapes : List (ℕ × ℕ)) : Ty
   pub once : Distinct shapes
   pub whole : (m f : ℕ) → m < length rules → (rule_at rules m).right.label ≡ label f → Has {A = ℕ × ℕ} shapes (f, length (holes (rule_at rules m).right.kids))
 
--- some rule has the label f over states that stand in the vectors
+-- some rule has the label f over states that are in the vectors
 pub record HasMatch (rules : List (Rule ℕ)) (f : ℕ) (vs : List VectorOf) : Type 0 where
   pub rule : ℕ
   pub below : rule < length rules
   pub root : (rule_at rules rule).right.label ≡ label f
   pub held : AreHeld (holes (rule_at rules rule).right.kids) vs
 
--- the walk finds each list of positions up to n that some rule matches, and in which n stands, once
+-- the walk finds each list of positions up to n that some rule matches, and in which n is, once
 pub record AreMatched (rules : List (Rule ℕ)) (order : List VectorOf) (n : ℕ) (os : List (ℕ × List ℕ)) : Type 0 where
   pub once : Distinct os
   pub each : Each (IsCandidate n) os
@@ -144,7 +147,7 @@ abbrev pub WalkFindsMatches : Type 0
 WalkFindsMatches =
     (rules : List (Rule ℕ)) (order : List VectorOf) (n : ℕ) (shapes : List (ℕ × ℕ)) → AreShapes rules shapes → AreMatched rules order n (candidates rules order n shapes)
 
--- and so does the walk by the first place where n stands
+-- and so does the walk by the first place where n is
 abbrev pub FirstPlacesFindMatches : Type 0
 FirstPlacesFindMatches =
     (rules : List (Rule ℕ)) (order : List VectorOf) (n : ℕ) (shapes : List (ℕ × ℕ)) → AreShapes rules shapes → AreMatched rules order n (candidates_by_first rules order n shapes)

@@ -21,8 +21,8 @@ pub record IsVectorSeed (product : ℕ → ℕ → ℕ) (rules : List (Rule ℕ)
   pub step : IsStep product rules origin.0 [] e.cost e.left
   pub right : e.right ≡ over origin.0 []
 
--- An edge of position n of an order: the step of a label over the vectors at some positions up to n, among which n
--- stands. Its origin is the label and the positions.
+-- An edge of position n of an order: the step of a label over the vectors at some positions up to
+-- n, among which n is. Its origin is the label and the positions.
 pub record IsVectorEdge (product : ℕ → ℕ → ℕ) (rules : List (Rule ℕ)) (order : List VectorOf) (n : ℕ) (origin : ℕ × List ℕ) (e : Rule VectorOf) : Type 0 where
   pub up_to : Each (λ p. p ≤ n) origin.1
   pub stands : Has origin.1 n
@@ -37,18 +37,18 @@ IsSeed product rules v = (f : ℕ) × (m : ℕ) × IsStep product rules f [] m v
 abbrev pub ends_of : Rule VectorOf → List VectorOf
 ends_of e = e.left ∷ []
 
--- the parts of an edge: one, and the nodes of its right side
+-- the parts of an edge: one, and the nodes of its right-hand side
 abbrev pub edge_parts : Rule VectorOf → ℕ
 edge_parts e = 1 + size e.right
 
--- From the vectors of the labels over none, each position leads on along each label over the vectors up to there. A
--- vector has one part and one for each of its states.
+-- From the vectors of the labels over none, each position leads on along each label over the
+-- vectors up to there. A vector has one part and one for each of its states.
 abbrev pub determinization : (ℕ → ℕ → ℕ) → List (Rule ℕ) → Operation VectorOf (ℕ × List ℕ) (Rule VectorOf)
 determinization product rules =
     operation (λ v w. vector_cmp v w) (IsSeed product rules) (IsVectorSeed product rules) (IsVectorEdge product rules) (λ e. ends_of e)
     (key_parts (λ v. length v)) (λ e. edge_parts e)
 
--- a vector that may stand in an order: its states ascend and are below a number, and it has one
+-- a vector that may be in an order: its states ascend and are below a number, and it has one
 pub record IsVector (states : ℕ) (v : VectorOf) : Type 0 where
   pub some : v ≢ []
   pub rises : Rises v

@@ -13,7 +13,7 @@ held lists q = get_or (map (λ b. b.items) lists) q []
 abbrev pub HoldMore : {A : Type 0} → List (Vec A) → List (Vec A) → Type 0
 HoldMore {A} old new = (q : ℕ) (p : A) → Has (held old q) p → Has (held new q) p
 
--- the position stands now at each state of the vector
+-- the position is now at each state of the vector
 pub record AddsVector (v : VectorOf) (p : ℕ) (old new : List (Vec ℕ)) : Type 0 where
   pub more : HoldMore old new
   pub own : (q r : ℕ) → Has v (q, r) → Has (held new q) p

@@ -24,7 +24,7 @@ abbrev pub pending_below : ℕ → ℕ → Option Level → List (List ℕ)
 pending_below n j None = []
 pending_below n j (Some l) = tries_of n j l
 
--- the level behind its next position
+-- the level after its next position
 abbrev pub past : Level → Level
 past l = record { place = l.place; behind = l.behind; alive = l.alive; wanted = l.wanted; next = l.next + 1; end = l.end }
 
@@ -42,7 +42,8 @@ abbrev pub level_list : Option Level → List Level
 level_list None = []
 level_list (Some l) = l ∷ []
 
--- the level of a place, with the positions behind it and the rules that are alive there, where n stands last at the place j
+-- the level of a place, with the positions after it and the rules that are alive there, where n is
+-- last at the place j
 pub record IsLevel (product : ℕ → ℕ → ℕ) (rules : List (Rule ℕ)) (order : List VectorOf) (f k n j : ℕ) (l : Level) : Type 0 where
   pub place : suc l.place + length l.behind.items ≡ k
   pub alive : AreLeft product rules order f k j (vector_at order n) (suc l.place) l.behind.items l.alive.items

@@ -29,7 +29,7 @@ get_right [] ys i j d h = ap (λ n. get_or ys n d) (omega arith)
 get_right (x ∷ xs) ys zero j d h = absurd (omega arith)
 get_right (x ∷ xs) ys (suc i) j d h = get_right xs ys i j d (omega arith)
 
--- a place is in the front, or behind it
+-- a place is in the front, or after it
 pub side_of : (n m : ℕ) → (n < m) ⊎ ((j : ℕ) × (n ≡ m + j))
 side_of zero zero = inr (0, omega arith)
 side_of zero (suc m) = inl (omega arith)

@@ -1,4 +1,4 @@
--- The places of rules, by the states that stand there.
+-- The places of rules, by the states that are there.
 use Rattle.std.specs.Prelude.{◌≡◌, ℕ, ◌<◌, ◌%◌, nat_eq, List, length, if◌then◌else◌}
 use Rattle.std.specs.Global.{Vec}
 use Rattle.std.proofs.Common.{get_or}
@@ -22,23 +22,24 @@ bucket f many = if nat_eq many 0 then 0 else f % many
 abbrev pub occurrence : List (Rule ℕ) → ℕ → ℕ → ℕ → Occurrence
 occurrence rules many m j = record { bucket = bucket (root_label (rule_at rules m).right.label) many; place = j; rule = m }
 
--- the place j of the rule at m is held at the state that stands there
+-- the place j of the rule at m is held at the state that is there
 abbrev pub IsHeld : List (Rule ℕ) → ℕ → List (Vec Occurrence) → ℕ → ℕ → Type 0
 IsHeld rules many lists m j = Has (held lists (get_or (states_of rules m) j 0)) (occurrence rules many m j)
 
--- each place of the rules below a bound is held at the state that stands there
+-- each place of the rules below a bound is held at the state that is there
 abbrev pub HoldPlaces : List (Rule ℕ) → ℕ → ℕ → List (Vec Occurrence) → Type 0
 HoldPlaces rules many bound lists = (m j : ℕ) → m < bound → j < length (states_of rules m) → IsHeld rules many lists m j
 
--- of no place of the rules is it false that it is held at the state that stands there
+-- of no place of the rules is it false that it is held at the state that is there
 abbrev pub LackNone : List (Rule ℕ) → ℕ → List (Vec Occurrence) → Type 0
 LackNone rules many lists = (m j : ℕ) → m < length rules → j < length (states_of rules m) → (IsHeld rules many lists m j → ⊥) → ⊥
 
--- the places of rules that are held at a state of the vector stand in their buckets
+-- the places of rules that are held at a state of the vector are in their buckets
 abbrev pub AreFound : VectorOf → List (Vec Occurrence) → List (Vec Occurrence) → Type 0
 AreFound v lists found = (q r : ℕ) (o : Occurrence) → Has {A = ℕ × ℕ} v (q, r) → Has (held lists q) o → Has (held found o.bucket) o
 
--- among these are the places of the rules of the label and the rank whose states there stand in the vector
+-- among these are the places of the rules of the label and the rank whose states there are in the
+-- vector
 abbrev pub HaveStanding : List (Rule ℕ) → ℕ → ℕ → ℕ → VectorOf → List Occurrence → Type 0
 HaveStanding rules many f k v places = (m j : ℕ) → j < length (states_of rules m) → Has (positions_with f k rules) m → Stands rules j v m → Has places (occurrence rules many m j)
 

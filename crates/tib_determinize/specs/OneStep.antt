@@ -19,7 +19,7 @@ use Rattle.tib_determinize.specs.VectorLemmas.{stands, vectors_stay, vectors_fro
 pub vector_total : IsTotalOrder vector_cmp
 vector_total = lists_total (then_total (on_total (λ (p : ℕ × ℕ). p.0) nat_cmp_total) (on_total (λ (p : ℕ × ℕ). p.1) nat_cmp_total))
 
--- vectors that rise are told by their members
+-- vectors that rise are determined by their members
 
 some_same : (a b : ℕ) → ◌≡◌ {A = Option ℕ} (Some a) (Some b) → a ≡ b
 some_same a b e = cc
@@ -28,7 +28,7 @@ module _ (product : ℕ → ℕ → ℕ) (rules : List (Rule ℕ)) (f : ℕ) (vs
   one_least : (m n : ℕ) (v w : VectorOf) → IsStep product rules f vs m v → IsStep product rules f vs n w → m ≡ n
   one_least m n v w a b = some_same m n (IsLeast-unique a.least b.least)
 
-  -- what stands in the one vector stands in the other
+  -- what is in the one vector is in the other
   stands_too : (m n : ℕ) (v w : VectorOf) → IsStep product rules f vs m v → IsStep product rules f vs n w → (x : ℕ × ℕ) → Has v x → Has w x
   stands_too m n v w a b x h =
       let k = a.residuals x.0 x.1 h in

@@ -39,7 +39,8 @@ IsSameSeries product =
     (rules : List (Rule ℕ)) → AreNormal rules → (order : List VectorOf) (new : List (Rule ℕ)) → IsDeterminized product rules order new →
     (t : Tree ℕ) (v : Option ℕ) → IsSeries product rules t v ↔ IsSeries product (started order new) t v
 
--- it is in deterministic form, over as many states as positions and the fresh start, and each hole is a leaf
+-- it is in deterministic form, over as many states as positions and the fresh start, and each hole
+-- is a leaf
 pub record IsWellStarted (order : List VectorOf) (new : List (Rule ℕ)) : Type 0 where
   pub deterministic : IsDeterministic (started order new)
   pub in_range : AreInRange (1 + length order) (started order new)

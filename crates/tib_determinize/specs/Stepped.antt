@@ -30,7 +30,7 @@ pub record IsListing (l : Listing) (es : List Stepped) : Type 0 where
   pub rules : map placed_rule l.rules.items ≡ rules_from 0 es
   pub parts : l.parts ≡ total stepped_parts es
 
--- the list with one edge behind it
+-- the list with one edge appended
 pub record IsAdded (label : ℕ) (positions : List ℕ) (cost : ℕ) (vector : VectorOf) (old new : Listing) : Type 0 where
   pub ends : new.ends.items ≡ old.ends.items ++ vector ∷ []
   pub rules : map placed_rule new.rules.items ≡ map placed_rule old.rules.items ++ record { end = length old.ends.items; label = label; positions = positions; cost = cost } ∷ []
@@ -58,12 +58,13 @@ module _ (product : ℕ → ℕ → ℕ) (rules : List (Rule ℕ)) (order : List
   AreSteps [] es = es ≡ []
   AreSteps (o ∷ os) es = (HasNoStep o × AreSteps os es) ⊎ ((e : Stepped) × (rest : List Stepped) × (es ≡ e ∷ rest) × IsSteppedAt o e × AreSteps os rest)
 
-  -- Of all that are tried some remain: what was listed since, with the edges of those that remain, are the edges of all.
+  -- Of all that are tried some remain: what was listed since, with the edges of those that remain,
+  -- are the edges of all.
   abbrev pub IsUnderway : List (ℕ × List ℕ) → List (ℕ × List ℕ) → Listing → Listing → Type 0
   IsUnderway all remaining old now =
       (es : List Stepped) → IsListing old es → (done : List Stepped) × IsListing now (es ++ done) × ((rest : List Stepped) → AreSteps remaining rest → AreSteps all (done ++ rest))
 
-  -- the list has the edges of all that are tried behind it
+  -- the list with the edges of all that are tried appended
   abbrev pub AddsSteps : List (ℕ × List ℕ) → Listing → Listing → Type 0
   AddsSteps all old new = IsUnderway all [] old new
 

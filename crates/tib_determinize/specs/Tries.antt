@@ -1,9 +1,10 @@
--- The lists of positions that are tried for a position of an order: for each place at which it stands last, the places before have
--- any position up to there, and those behind one below it. They are chosen from the last place on.
+-- The lists of positions that are tried for a position of an order: for each place at which it is
+-- last, the places before have any position up to this one, and those after it one below this one.
+-- They are chosen from the last place on.
 use Rattle.std.specs.Prelude.{ℕ, nat_eq, nat_lt, List, [], ◌∷◌, ◌++◌, map, if◌then◌else◌}
 use Rattle.std.proofs.Common.{zero, suc}
 
--- the first position at a place, where n stands last at the place j
+-- the first position at a place, where n is last at the place j
 abbrev pub first_at : ℕ → ℕ → ℕ → ℕ
 first_at n j i = if nat_eq i j then n else 0
 
@@ -25,7 +26,7 @@ under n j (suc i) ps = span (λ p. under n j i (p ∷ ps)) (first_at n j i) (man
 abbrev pub by_last : ℕ → ℕ → ℕ → ℕ → List (List ℕ)
 by_last n k j c = span (λ i. under n i k []) j c
 
--- these lists behind a label
+-- these lists after a label
 abbrev pub behind_label : ℕ → List (List ℕ) → List (ℕ × List ℕ)
 behind_label f pss = map (λ ps. (f, ps)) pss
 

@@ -14,8 +14,9 @@ use Rattle.tib_hunt.specs.Reached.{IsReachedSet}
 use Rattle.tib_determinize.specs.Vectors.{VectorOf, IsStepCost, IsStep, vector_at, vectors_at}
 use Rattle.tib_determinize.specs.Determinization.{determinization}
 
--- Rules over positions of an order of vectors, each one label over positions. Each is the step of its label, no two have
--- the same right side, and each label over positions has its rule, or no state has a cost there.
+-- Rules over positions of an order of vectors, each one label over positions. Each is the step of
+-- its label, no two have the same right-hand side, and each label over positions has its rule, or
+-- no state has a cost there.
 pub record IsVectorGrammar (product : ℕ → ℕ → ℕ) (rules : List (Rule ℕ)) (order : List VectorOf) (new : List (Rule ℕ)) : Type 0 where
   pub normal : AreNormal new
   pub leaves : SidesEndInHoles new
@@ -39,14 +40,14 @@ abbrev pub ReachedIsVectorGrammar : (ℕ → ℕ → ℕ) → Type 0
 ReachedIsVectorGrammar product =
     (rules : List (Rule ℕ)) (order : List VectorOf) (new : List (Rule ℕ)) → IsDeterminized product rules order new → IsVectorGrammar product rules order new
 
--- A run to the vector v that yields t at the cost d: the series at a state of the vector is d times the state's residual,
--- and none above the greatest cost; at any other state it is none.
+-- A run to the vector v that yields t at the cost d: the series at a state of the vector is d times
+-- the state's residual, and none above the greatest cost; at any other state it is none.
 pub record IsRead (product : ℕ → ℕ → ℕ) (rules : List (Rule ℕ)) (v : VectorOf) (t : Tree ℕ) (d : ℕ) : Type 0 where
   pub at : (q r : ℕ) → Has v (q, r) → IsSeriesAt product rules q t (cut (product d r))
   pub elsewhere : (q : ℕ) → ((r : ℕ) → Has v (q, r) → ⊥) → IsSeriesAt product rules q t None
 
--- What the runs to vectors mean. A tree has at most one run to a vector, whatever the vector, and this is read as above;
--- a tree without such a run has no cost at any state.
+-- What the runs to vectors mean. A tree has at most one run to a vector, whatever the vector, and
+-- this is read as above; a tree without such a run has no cost at any state.
 pub record ReadsSeries (product : ℕ → ℕ → ℕ) (rules : List (Rule ℕ)) (order : List VectorOf) (new : List (Rule ℕ)) : Type 0 where
   pub one_run :
       (j k : ℕ) (one two : Trees ℕ) → AreRuns new (j ∷ []) one → AreRuns new (k ∷ []) two → yields new one ≡ yields new two → (one ≡ two) × (j ≡ k)

@@ -1,4 +1,4 @@
--- What determinization owes of all its vectors, edges and rules.
+-- The laws of determinization, for all its vectors, edges and rules.
 use Rattle.std.specs.Prelude.{◌≡◌, ℕ, List, [], ◌∷◌, map, length, refl}
 use Rattle.std.proofs.Common.{ap, ◌∙◌}
 use Rattle.tib_lex.specs.Lists.{Each}
@@ -23,7 +23,7 @@ reads_places r f g h =
     ap (λ k. record { left = k; right = over r.label (map (λ p. f (Known p)) r.positions.items); cost = r.cost }) h.0
     ∙ ap (λ ks. record { left = g (End r.end); right = over r.label ks; cost = r.cost }) (map_places r.positions.items f g h.1)
 
--- all that determinization owes of its vectors, edges and rules
+-- all laws of determinization, for its vectors, edges and rules
 pub vectors_are_lawful :
     (product : ℕ → ℕ → ℕ) (rules : List (Rule ℕ)) (states : ℕ) → LeftsBelow states rules →
     IsLawful (determinization product rules) (IsVector states) vector_reading vector_cmp (λ v. length v)

@@ -5,7 +5,7 @@ use Rattle.tib_lex.specs.Lists.{Has, Each}
 use Rattle.tib_determinize.specs.Vectors.{VectorOf, Rises, vector_at, vectors_at}
 use Rattle.tib_determinize.specs.ListLemmas.{nat_same, get_left}
 
--- whether a state stands in a vector
+-- whether a state is in a vector
 pub stands : (q : ℕ) (v : VectorOf) → ((r : ℕ) × Has {A = ℕ × ℕ} v (q, r)) ⊎ ((r : ℕ) → Has {A = ℕ × ℕ} v (q, r) → ⊥)
 stands q [] = inr (λ r h. h)
 stands q (x ∷ v) = elim (nat_same x.0 q) [

@@ -15,7 +15,7 @@ use tib_cost::{Cost, Semiring};
 use tib_grammar::Rule;
 use tib_tree::Label;
 
-/// A rule whose states behind a place stand in the vectors there, with the product of their residuals.
+/// A rule whose states after a place are in the vectors there, with the product of their residuals.
 #[derive(Drop)]
 pub(crate) struct Alive {
     pub rule: u32,
@@ -46,7 +46,7 @@ pub(crate) fn state_at(rules: &[Rule<u32>], place: usize, rule: u32) -> u32
     states[place].state()
 }
 
-// The residual of the state of a rule at a place, if that stands in a vector.
+// The residual of the state of a rule at a place, if that is in a vector.
 fn residual_at(rules: &[Rule<u32>], place: usize, vector: &Vector, rule: u32) -> Option<Cost>
     requires normal { AreNormal rules.now }
     requires place { HasState rules.now place rule }
@@ -72,7 +72,8 @@ fn is_place_of(rules: &[Rule<u32>], label: Label, rank: u32, place: u32, one: &O
     own == label && many == rank
 }
 
-/// Of some places of rules the rules of a label and a rank whose place is this one, each with the product of nothing.
+/// Of some places of rules the rules of a label and a rank whose place is this one, each with the
+/// product of nothing.
 pub(crate) fn begin_at<S: Semiring>(
     alloc: Global,
     rules: &[Rule<u32>],
@@ -98,7 +99,7 @@ pub(crate) fn begin_at<S: Semiring>(
     Ok(alive)
 }
 
-// The weight of a rule that is alive, where a vector stands at the place before.
+// The weight of a rule that is alive, where a vector is at the place before.
 fn weight<S: Semiring>(
     rules: &[Rule<u32>],
     place: usize,
@@ -115,7 +116,7 @@ fn weight<S: Semiring>(
     }
 }
 
-/// The rules that are alive still, where a vector stands at the place before.
+/// The rules that are alive still, where a vector is at the place before.
 pub(crate) fn narrow<S: Semiring>(
     alloc: Global,
     rules: &[Rule<u32>],

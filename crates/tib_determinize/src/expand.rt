@@ -1,4 +1,5 @@
-//! The vectors over a grammar as an operation: its seeds, its edges, and the rules that stand for these.
+//! The vectors over a grammar as an operation: its seeds, its edges, and the rules that stand for
+//! these.
 
 ghost use Rattle.std.specs.Prelude.{◌≡◌, ℕ, ◌<◌, length};
 

@@ -58,8 +58,8 @@ fn add_vector(
 }
 
 impl Holders {
-    /// The positions of an order up to one, by the states of their vectors. Err only if memory is refused. Cost: one step for each
-    /// entry of these vectors.
+    /// The positions of an order up to one, by the states of their vectors. Err only if memory is
+    /// refused. Cost: one step for each entry of these vectors.
     pub fn new(alloc: Global, order: &[Vector], last: u32) -> Result<Holders, AllocError>
         requires { last < length order.now }
         ensures { IfOk result (λ h. HoldAll order.now (last + 1) h.lists.items) }

@@ -22,13 +22,14 @@ pub fn reached_set_is_one<S: Semiring>()
     ensures { IsOneSet S.product }
 {}
 
-/// The reached set, as rules over the positions of its order, has the step of each label over positions, and no other rule.
+/// The reached set, as rules over the positions of its order, has the step of each label over
+/// positions, and no other rule.
 pub fn reached_is_vector_grammar<S: Semiring>()
     ensures { ReachedIsVectorGrammar S.product }
 {}
 
-/// A tree has at most one run to a vector; its cost times the residual of a state is the series at that state; and a tree
-/// without such a run has no cost.
+/// A tree has at most one run to a vector; its cost times the residual of a state is the series at
+/// that state; and a tree without such a run has no cost.
 pub fn determined<S: Semiring>()
     ensures { IsDetermined S.product }
 {}
@@ -43,8 +44,8 @@ pub fn started_is_deterministic<S: Semiring>()
     ensures { StartedIsDeterministic S.product }
 {}
 
-/// The edges of a position are those of its candidates: labels and lists of positions, among which all stand at which some state
-/// has a cost.
+/// The edges of a position are those of its candidates: labels and lists of positions, which
+/// include all those at which some state has a cost.
 pub fn edges_are_listed<S: Semiring>()
     ensures { EdgesAreListed S.product }
 {}
@@ -59,12 +60,13 @@ pub fn matches_are_candidates<S: Semiring>()
     ensures { MatchesAreCandidates S.product }
 {}
 
-/// A walk over child places that keeps the rules that are alive finds what some rule matches, each once.
+/// A walk over child places that keeps the rules that are alive finds what some rule matches, each
+/// once.
 pub fn walk_finds_matches()
     ensures { WalkFindsMatches }
 {}
 
-/// So does a walk for each place at which the position stands first.
+/// So does a walk for each place at which the position is first.
 pub fn first_places_find_matches()
     ensures { FirstPlacesFindMatches }
 {}

@@ -1,6 +1,7 @@
-//! Determinization of a weighted tree grammar by residuals. The vectors that are reached from the labels over no state, with their
-//! rules, are a grammar in deterministic form that has the series of the input; `determinize` finds them by one worker, and
-//! `determinize_together` by several. It stands on `tib_grammar` and `tib_hunt`.
+//! Determinization of a weighted tree grammar by residuals. The vectors that are reached from the
+//! labels over no state, with their rules, are a grammar in deterministic form that has the series
+//! of the input; `determinize` finds them by one worker, and `determinize_together` by several. It
+//! builds on `tib_grammar` and `tib_hunt`.
 #![tactic(auto)]
 
 mod alive;

@@ -45,7 +45,9 @@ impl Listing {
         }
     }
 
-    /// Lists the edge of a step. `More` comes exactly where it has more parts than the budget leaves.
+    /// Lists the edge of a step. `More` exactly where it has more parts than the budget leaves;
+    /// then the list is as it was. `OutOfMemory` if memory is refused; then it may have an end
+    /// without a rule. Cost: one step for each position.
     pub fn add(
         &mut self,
         alloc: Global,

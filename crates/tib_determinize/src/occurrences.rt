@@ -1,4 +1,4 @@
-//! The places of rules by the states that stand there.
+//! The places of rules by the states that are there.
 
 ghost use Rattle.std.specs.Prelude.{◌≡◌, ℕ, ◌<◌, ◌^◌, length, IfOk, OnOk};
 ghost use Rattle.tib_lex.specs.Lists.{Has};
@@ -122,7 +122,7 @@ fn list_of(lists: &[Vec<Occurrence>], number: u32) -> &[Occurrence]
     }
 }
 
-/// For each state the places of rules at which it stands.
+/// For each state the places of rules at which it is.
 #[derive(Drop)]
 pub(crate) struct Occurrences {
     pub lists: Vec<Vec<Occurrence>>,
@@ -130,8 +130,8 @@ pub(crate) struct Occurrences {
 }
 
 impl Occurrences {
-    /// The places of rules by the states that stand there, each with the bucket of its rule's label, of this many. Err only if memory is
-    /// refused. Cost: one step for each place.
+    /// The places of rules by the states that are there, each with the bucket of its rule's label,
+    /// of this many. Err only if memory is refused. Cost: one step for each place.
     pub fn new(alloc: Global, rules: &[Rule<u32>], many: u32) -> Result<Occurrences, AllocError>
         requires normal { AreNormal rules.now }
         requires few { length rules.now < 2 ^ 32 }
@@ -144,8 +144,8 @@ impl Occurrences {
         Ok(Occurrences { lists, many })
     }
 
-    /// The places of rules whose states stand in a vector, by the buckets of their labels. Err only if memory is refused. Cost: one
-    /// step for each of these places, and for each bucket.
+    /// The places of rules whose states are in a vector, by the buckets of their labels. Err only
+    /// if memory is refused. Cost: one step for each of these places, and for each bucket.
     pub fn standing(
         &self,
         alloc: Global,
@@ -161,7 +161,8 @@ impl Occurrences {
         Ok(found)
     }
 
-    /// Of the places of rules by buckets those in the bucket of a label. It takes no memory and one step.
+    /// Of the places of rules by buckets those in the bucket of a label. It takes no memory and one
+    /// step.
     pub fn of_label<'f>(&self, found: &'f [Vec<Occurrence>], label: Label) -> &'f [Occurrence]
         ensures { result.now ≡ held found.now (bucket label self.now.many) }
     {

@@ -3,7 +3,7 @@
 use std::marker::Model;
 use tib_tree::Label;
 
-/// A label and the positions of the vectors that it stands over. No value of it is made.
+/// A label and the positions of the vectors below it. No value of it is made.
 #[derive(Drop)]
 pub struct Origin {
     label: Label,

@@ -15,11 +15,13 @@ use tib_grammar::Rule;
 use tib_hunt::{Found, Gate, HuntError, hunt, hunt_alone};
 use tib_normal::Normal;
 
-/// The vectors that are reached from the labels over no state, in the order by rounds, and the rules over their positions. A tree has
-/// at most one run to a vector, and its cost times the residual of a state is the series at that state. `TooMany` exactly where they
-/// have more parts than the limit, 1 to `MOST_PARTS` of tib_hunt; `OutOfMemory` if memory is refused. Calls `gate` once for each
-/// vector. Cost: for each vector one look for each place of each rule, the entries of all vectors up to it if one of its states stands
-/// beside another in a rule, and the edges that are made. Residuals are from Mohri, 1997, and May and Knight, 2006.
+/// The vectors that are reached from the labels over no state, in the order by rounds, and the
+/// rules over their positions. A tree has at most one run to a vector, and its cost times the
+/// residual of a state is the series at that state. `TooMany` exactly where they have more parts
+/// than the limit, 1 to `MOST_PARTS` of tib_hunt; `OutOfMemory` if memory is refused. Calls `gate`
+/// once for each vector. Cost: for each vector one look for each place of each rule, the entries of
+/// all vectors up to it if one of its states is beside another in a rule, and the edges that are
+/// made. Residuals are from Mohri, 1997, and May and Knight, 2006.
 pub fn determinize<S: Semiring, G: Gate>(
     alloc: Global,
     normal: &Normal<S>,
@@ -42,9 +44,9 @@ pub fn determinize<S: Semiring, G: Gate>(
     hunt_alone(alloc, &residuals, limit, gate)
 }
 
-/// What `determinize` answers, found by this number of workers, 1 to 16, whatever the order of their steps. It may wait for ever, as
-/// the hunt by several workers (`hunt` of tib_hunt). Errors are those of `determinize`, and so is the cost, but for vectors that are
-/// expanded again.
+/// What `determinize` returns, found by this number of workers, 1 to 16, whatever the order of
+/// their steps. It may wait forever, as the hunt by several workers (`hunt` of tib_hunt). Errors
+/// are those of `determinize`, and so is the cost, except for vectors that are expanded again.
 pub fn determinize_together<S: Semiring + Sync, R: Threads + Wait + Sync, G: Gate + Sync>(
     rt: &R,
     alloc: Global,

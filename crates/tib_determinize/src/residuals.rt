@@ -26,7 +26,8 @@ use tib_hunt::ExpandError;
 use tib_normal::Normal;
 use tib_tree::Label;
 
-/// The vectors of states with residuals over a grammar, reached from those of the labels over no state.
+/// The vectors of states with residuals over a grammar, reached from those of the labels over no
+/// state.
 #[derive(Drop)]
 pub struct Residuals<'a, S> {
     /// The grammar.
@@ -39,7 +40,7 @@ pub struct Residuals<'a, S> {
     pub ghost left_range: { LeftsBelow (length normal.now.names) normal.now.rules },
 }
 
-// The residual of the start, if it stands in a vector.
+// The residual of the start, if it is in a vector.
 fn final_of(vector: &Vector) -> Option<Cost>
     ensures { result ≡ start_in vector.now }
 {
@@ -47,8 +48,8 @@ fn final_of(vector: &Vector) -> Option<Cost>
 }
 
 impl<'a, S: Semiring> Residuals<'a, S> {
-    /// The vectors over a grammar. Err only if memory is refused. Cost: a sort of the labels and ranks of its rules, and one step for
-    /// each place of each rule.
+    /// The vectors over a grammar. Err only if memory is refused. Cost: a sort of the labels and
+    /// ranks of its rules, and one step for each place of each rule.
     pub fn new(alloc: Global, normal: &'a Normal<S>) -> Result<Residuals<'a, S>, AllocError>
         ensures { IfOk result (λ r. r.normal.now ≡ normal.now) }
     {
@@ -69,8 +70,8 @@ impl<'a, S: Semiring> Residuals<'a, S> {
         })
     }
 
-    /// The positions whose vectors have the start, each with the start's residual. Err only if memory is refused. Worst case: one
-    /// look at each entry.
+    /// The positions whose vectors have the start, each with the start's residual. Err only if
+    /// memory is refused. Worst case: one look at each entry.
     pub fn finals(&self, alloc: Global, order: &[Vector]) -> Result<Vec<(u32, Cost)>, AllocError>
         requires { length order.now < 2 ^ 32 }
         ensures { IfOk result (λ found. found.items ≡ finals 0 order.now) }
@@ -86,7 +87,8 @@ impl<'a, S: Semiring> Residuals<'a, S> {
 }
 
 impl<'a, S: Semiring> Residuals<'a, S> {
-    // Lists the edges of a label and a rank at a position, for each place at which the position stands last.
+    // Lists the edges of a label and a rank at a position, for each place at which the position is
+    // last.
     fn list_shape(
         &self,
         alloc: Global,
@@ -135,7 +137,8 @@ impl<'a, S: Semiring> Residuals<'a, S> {
         Ok(())
     }
 
-    // The positions up to one by the states of their vectors, if its vector has a state of a rule of more than one child.
+    // The positions up to one by the states of their vectors, if its vector has a state of a rule
+    // of more than one child.
     fn holders_up_to(
         &self,
         alloc: Global,
@@ -152,7 +155,7 @@ impl<'a, S: Semiring> Residuals<'a, S> {
         Ok(Some(Holders::new(alloc, order, position)?))
     }
 
-    // Whether a vector has a state that stands in a rule beside another one.
+    // Whether a vector has a state that is beside another one in some rule.
     fn is_wide(&self, vector: &Vector) -> bool {
         let entries = vector.entries();
         for i in 0..entries.len() {

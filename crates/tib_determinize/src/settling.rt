@@ -8,7 +8,8 @@ use crate::vector::Vector;
 use std::alloc::{AllocError, Global};
 use tib_cost::{Cost, Semiring};
 
-/// What a label over some vectors steps to: the least cost, and the vector of the residuals over it.
+/// What a label over some vectors steps to: the least cost, and the vector of the residuals over
+/// it.
 #[derive(Drop)]
 pub(crate) struct Step {
     pub cost: Cost,

@@ -1,5 +1,5 @@
-//! The walk over child places that lists the edges of a label and a rank, of those lists of positions in which a position stands
-//! last at one place.
+//! The walk over child places that lists the edges of a label and a rank, of those lists of
+//! positions in which a position is last at one place.
 
 ghost use Rattle.std.specs.Prelude.{◌≡◌, ℕ, ◌+◌, ◌-◌, ◌<◌, ◌≤◌, ◌^◌, ◌∷◌, ◌++◌, [], length, map, IfOk, IfSome, OnOk, Err};
 ghost use Rattle.std.proofs.Common.{suc};
@@ -25,7 +25,8 @@ use tib_grammar::Rule;
 use tib_hunt::ExpandError;
 use tib_tree::Label;
 
-/// What a walk goes over: the edges of a label over a number of vectors of an order, at whose last place of them a position stands.
+/// What a walk goes over: the edges of a label over a number of vectors of an order, in which a
+/// position is last at the place `last`.
 #[derive(Clone, Copy)]
 pub(crate) struct Walk<'w> {
     pub rules: &'w [Rule<u32>],
@@ -36,7 +37,8 @@ pub(crate) struct Walk<'w> {
     pub last: u32,
 }
 
-/// The positions that are to be tried at a place, with those behind it and the rules that are alive there.
+/// The positions that are to be tried at a place, with those after it and the rules that are alive
+/// there.
 #[derive(Drop)]
 pub(crate) struct Level {
     place: u32,
@@ -47,7 +49,7 @@ pub(crate) struct Level {
     end: usize,
 }
 
-// The first position at a place, and the one behind the last.
+// The first position at a place, and the one after the last.
 fn range_at(walk: &Walk<'_>, place: u32) -> (usize, usize)
     requires { walk.now.position < length walk.now.order.now }
     ensures next { result.0 ≡ first_at walk.now.position walk.now.last place }
@@ -103,7 +105,7 @@ impl Level {
         })
     }
 
-    // The level at the next of its positions that is wanted, or behind the last one.
+    // The level at the next of its positions that is wanted, or after the last one.
     fn skip(self) -> Level
         requires { AreAscending self.wanted.items }
         ensures level { result ≡ moved self result.next }
@@ -172,7 +174,8 @@ pub(crate) fn list<S: Semiring>(
     }
 }
 
-// Tries the next position of a level: lists the edge of a whole list, or answers the level of the place before.
+// Tries the next position of a level: lists the edge of a whole list, or returns the level of the
+// place before.
 fn visit<S: Semiring>(
     alloc: Global,
     walk: &Walk<'_>,
@@ -230,7 +233,7 @@ fn visit<S: Semiring>(
     }
 }
 
-// Puts a level back behind its next position, and the one below on top of it.
+// Puts back a level, moved past its next position, and the one below on top of it.
 fn push_levels(
     levels: &mut Vec<Level>,
     level: Level,
@@ -261,9 +264,10 @@ fn push_levels(
     Ok(())
 }
 
-/// Lists the edges of a walk, of which these rules are alive behind the last place. `More` comes exactly where they have more parts
-/// than the budget leaves. Cost: for each list of positions that some rule matches from some place on, the rules that match it there,
-/// with one look into a vector for each of them and each position that is wanted before it.
+/// Lists the edges of a walk, of which these rules are alive after the last place. `More` comes
+/// exactly where they have more parts than the budget leaves. Cost: for each list of positions that
+/// some rule matches from some place on, the rules that match it there, with one look into a vector
+/// for each of them and each position that is wanted before it.
 pub(crate) fn list_all<S: Semiring>(
     alloc: Global,
     walk: &Walk<'_>,

@@ -1,4 +1,5 @@
-//! The positions that a walk tries at a place: those at which some rule that is alive has its state.
+//! The positions that a walk tries at a place: those at which some rule that is alive has its
+//! state.
 
 ghost use Rattle.std.specs.Prelude.{◌≡◌, ℕ, ◌<◌, ◌≤◌, ◌+◌, length, IfOk, IfSome, OnOk};
 ghost use Rattle.std.proofs.Common.{get_or};
@@ -34,8 +35,8 @@ fn count_below(positions: &[u32], least: usize) -> usize
     low
 }
 
-/// The first of some positions, which ascend, that is at least `next`; `end` where none below that is, or where `next` is not below
-/// it. They are halved.
+/// The first of some positions, which ascend, that is at least `next`; `end` where none below that
+/// is, or where `next` is not below it. They are halved.
 pub(crate) fn next_wanted(wanted: &[u32], next: usize, end: usize) -> usize
     requires { AreAscending wanted.now }
     ensures from { next ≤ result }
@@ -65,8 +66,9 @@ fn add_below(wanted: &mut Vec<u32>, count: u64) -> Result<(), AllocError>
     Ok(())
 }
 
-// Adds the positions at which a rule that is alive has its state at a place, of those that may stand there: by the
-// positions up to the walk's by the states of their vectors, or all where these are not at hand.
+// Adds the positions at which a rule that is alive has its state at a place, of those that may be
+// there. They are taken from `holders`, which has the positions up to the walk's; without it all of
+// these are added.
 fn add_wanted(
     walk: &Walk<'_>,
     holders: Option<&Holders>,
@@ -100,8 +102,8 @@ fn add_wanted(
     Ok(())
 }
 
-/// The positions at which a rule that is alive has its state at a place, of those that may stand there, ascending. Others may be among
-/// them. Err only if memory is refused.
+/// The positions at which a rule that is alive has its state at a place, of those that may be
+/// there, ascending. Others may be among them. Err only if memory is refused.
 pub(crate) fn wanted_at(
     alloc: Global,
     walk: &Walk<'_>,

@@ -1,4 +1,4 @@
-//! The states that stand beside others in the right sides of rules.
+//! The states that are beside others in the right-hand sides of rules.
 
 ghost use Rattle.tib_grammar.specs.Forms.{AreNormal, IsNormalSide};
 
@@ -23,7 +23,7 @@ fn mark(rule: &Rule<u32>, wide: &mut Vec<bool>) -> Result<(), AllocError>
     Ok(())
 }
 
-/// For each state whether it stands beside another one in some rule; states behind the list do not.
+/// For each state whether it is beside another one in some rule; states after the list do not.
 pub(crate) fn wide_states(alloc: Global, rules: &[Rule<u32>]) -> Result<Vec<bool>, AllocError>
     requires { AreNormal rules.now }
 {

@@ -1,4 +1,4 @@
--- One edge more, and what whole lists of edges say.
+-- One more edge, and what whole lists of edges say.
 use Rattle.std.specs.Prelude.{◌≡◌, ℕ, ◌+◌, ◌<◌, ◌≤◌, List, [], ◌∷◌, ◌++◌, length, map, take, zip, refl, slice_index_or}
 use Rattle.std.proofs.Common.{suc, arith, ap, sym, ◌∙◌, subst, get_or, inl, inr, append_assoc}
 use Rattle.std.proofs.lemmas.List.{length-append, map_more}
@@ -26,12 +26,12 @@ use Rattle.tib_keyed.specs.Ends.{ends_from, key_at as pair_at}
 use Rattle.tib_keyed.proofs.Ends.{within_wider, place_stays, ends_within}
 
 module _ {K : Type 0} where
-  -- the element behind the first list
+  -- the element after the first list
   pub index_seam : (xs : List K) (y : K) (ys : List K) (d : K) → slice_index_or (xs ++ y ∷ ys) (length xs) d ≡ y
   index_seam [] y ys d = refl
   index_seam (x ∷ xs) y ys d = index_seam xs y ys d
 
-  -- the ends behind a list are read in order
+  -- the ends after a list are read in order
   pub reads_ends : (d : K) (order xs zs : List K) (n : ℕ) → n ≡ length xs → map (key_at d order (xs ++ zs)) (ends_from n (length zs)) ≡ zs
   reads_ends d order xs [] n e = refl
   reads_ends d order xs (z ∷ zs) n e =
@@ -51,7 +51,7 @@ reads_longer order xs ys r e h = record {
       ∙ h.read d;
 }
 
--- a rule over new ends behind the others
+-- a rule over new ends after the others
 pub reads_new :
     (order xs zs : List (ℕ × ℕ)) (n root rank cost : ℕ) (key : ℕ × ℕ) → n < length order → pair_at order n ≡ key → rank ≡ length zs →
     Reads order (xs ++ zs) (record { position = n; label = root; first_end = length xs; rank = rank; cost = cost }) (record { left = key; right = over root zs; cost = cost })
@@ -174,7 +174,7 @@ module _ (product : ℕ → ℕ → ℕ) (ones twos : List (Rule ℕ)) (order : 
       counted = passed.parts ∙ listed.counted;
     }
 
-    -- one origin more
+    -- one more origin
     pub listed_next : (l m : Listing) → l.position ≡ n → IsListed product ones twos order n tried l → IsNext product one two l m → IsListed product ones twos order n (tried ++ (i, j) ∷ []) m
     listed_next l m at listed next = elim next [ inl a ↦ listed_added l m at listed a | inr p ↦ listed_passed l m listed p ]
 
@@ -232,7 +232,7 @@ module _
 pub length-pairs : (one two : Rule ℕ) → Agree one two → length (pairs_of one two) ≡ length (states_of one)
 length-pairs one two agree = length-zip (states_of one) (states_of two) agree.rank
 
--- one rule more, with equal numbers
+-- one more rule, with equal numbers
 pub rules_are :
     (rules : List PairRule) (position root : ℕ) {first first' rank rank' cost cost' : ℕ} → first ≡ first' → rank ≡ rank' → cost ≡ cost' →
     rules ++ record { position = position; label = root; first_end = first; rank = rank; cost = cost } ∷ []

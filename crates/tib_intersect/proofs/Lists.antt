@@ -3,7 +3,7 @@ use Rattle.std.specs.Prelude.{◌≡◌, ℕ, ◌+◌, ◌<◌, ◌≤◌, List,
 use Rattle.std.proofs.Common.{zero, suc, arith, ap, sym, ◌∙◌, get_or, append_assoc}
 use Rattle.std.proofs.lemmas.List.{take_all}
 
--- one pair more of two lists side by side
+-- one more pair of two lists side by side
 pub zip_at :
     {A B C D : Type 0} (f : A → C) (g : B → D) (xs : List A) (ys : List B) (i : ℕ) (x : A) (y : B) → i < length xs → i < length ys →
     take (i + 1) (zip (map f xs) (map g ys)) ≡ take i (zip (map f xs) (map g ys)) ++ (f (get_or xs i x), g (get_or ys i y)) ∷ []

@@ -192,7 +192,7 @@ module _ (product : ℕ → ℕ → ℕ) (one two : List (Rule ℕ)) where
       empty [] e = refl
       empty (x ∷ xs) e = absurd (omega arith)
 
-  -- an edge of an order stands in each list of its edges
+  -- an edge of an order is in each list of its edges
   edge_stands : (order : List (ℕ × ℕ)) (es fs : List (Rule (ℕ × ℕ))) → AreEdges (intersection product one two) order (length order) es → AreEdges (intersection product one two) order (length order) fs → (e : Rule (ℕ × ℕ)) → Has es e → Has fs e
   edge_stands order es fs a b e h =
       let l = edges_below product one two order (length order) es a in

@@ -19,7 +19,7 @@ module _ (product : ℕ → ℕ → ℕ) (one two : List (Rule ℕ)) where
       op_laws pair_cmp (0, 0) (IsPairEdge product one two) (λ e. ends_of e) (key_parts (λ k. 2)) (λ e. edge_parts e) pair_total
       (λ k o e f a b. same_edge product one two k o e f a b)
 
-  -- no pair stands twice in an order
+  -- no pair occurs twice in an order
   pub order_once : (rounds expanded : ℕ) (order : List (ℕ × ℕ)) → AfterRounds (intersection product one two) rounds expanded order → Distinct order
   order_once rounds expanded order h =
       keyed_once pair_cmp (0, 0) (IsPairEdge product one two) (λ e. ends_of e) (key_parts (λ k. 2)) (λ e. edge_parts e) pair_total rounds expanded order h

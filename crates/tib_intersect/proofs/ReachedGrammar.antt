@@ -23,7 +23,7 @@ use Rattle.tib_grammar.specs.Positions.{positions_of}
 use Rattle.tib_grammar.proofs.Positions.{rules_in_range}
 use Rattle.tib_keyed.proofs.Limits.{each_counts}
 
--- right sides
+-- right-hand sides
 
 leaves_back : {P Q : Type 0} (g : P → Q) (s : Trees (Symbol ℕ P)) (qs : List Q) → relabel (symbol_map g) s ≡ leaves qs → (s ≡ leaves (holes s)) × (length (holes s) ≡ length qs)
 leaves_back g none [] e = (refl, refl)
@@ -96,7 +96,7 @@ module _ (product : ℕ → ℕ → ℕ) (near far left right : GrammarOf) (same
   reached_of order es h =
       subst (λ (x : GrammarOf). IsReachedSet (intersection product left.rules x.rules) order es) same_right (subst (λ (x : GrammarOf). IsReachedSet (intersection product x.rules far.rules) order es) same_left h)
 
-  -- the same of what is too large
+  -- the same for what is too large
   pub beyond_of : (limit : ℕ) → IsBeyond (intersection product near.rules far.rules) limit → IsBeyond (intersection product left.rules right.rules) limit
   beyond_of limit h =
       subst (λ (x : GrammarOf). IsBeyond (intersection product left.rules x.rules) limit) same_right (subst (λ (x : GrammarOf). IsBeyond (intersection product x.rules far.rules) limit) same_left h)

@@ -12,7 +12,7 @@ use Rattle.tib_keyed.specs.Ends.{ends_from}
 use Rattle.tib_intersect.specs.declared.pair_rule.PairRule.{PairRule}
 use Rattle.tib_intersect.specs.PairRules.{places_of, read_places}
 
--- the positions of ends that stand side by side
+-- the positions of adjacent ends
 drop_at : (ends : List ℕ) (i : ℕ) → i < length ends → drop i ends ≡ slice_index ends i ∷ drop (suc i) ends
 drop_at [] i h = absurd (omega arith)
 drop_at (x ∷ ends) zero h = refl

@@ -1,4 +1,4 @@
--- What `intersect` answers.
+-- What `intersect` returns.
 use Rattle.std.specs.Prelude.{◌≡◌, ℕ, ◌<◌, List, length, map}
 use Rattle.tib_grammar.specs.GrammarOf.{named_rule}
 use Rattle.tib_grammar.specs.Run.{rule_at}
@@ -26,6 +26,6 @@ module _ (product : ℕ → ℕ → ℕ) (one two : List (Rule ℕ)) where
   abbrev pub HasParts : Found (ℕ × ℕ) (Rule ℕ) → Type 0
   HasParts found = found.parts ≡ parts_of (intersection product one two) found.order.items (edges_of found)
 
--- the right side of each rule is a label of a rule of the list, over as many states as there
+-- the right-hand side of each rule is a label of a rule of the list, over as many states as there
 abbrev pub HaveRootsOf : List (Rule ℕ) → Found (ℕ × ℕ) (Rule ℕ) → Type 0
 HaveRootsOf rules found = (m : ℕ) → m < length found.rules.items → HasRootOf rules (rule_at found.rules.items m)

@@ -10,13 +10,13 @@ use Rattle.tib_keyed.specs.Keyed.{keyed}
 use Rattle.tib_hunt.specs.Numbered.{key_parts}
 use Rattle.tib_intersect.specs.PairEdges.{IsPairEdge, ends_of, edge_parts}
 
--- From the pair of the starts each pair leads on along each two rules that agree in label and rank. A pair has three
--- parts, and an edge one and the nodes of its right side.
+-- From the pair of the starts each pair leads on along each two rules that agree in label and rank.
+-- A pair has three parts, and an edge one and the nodes of its right-hand side.
 abbrev pub intersection : (ℕ → ℕ → ℕ) → List (Rule ℕ) → List (Rule ℕ) → Operation (ℕ × ℕ) (ℕ × ℕ) (Rule (ℕ × ℕ))
 intersection product one two =
     keyed pair_cmp (0, 0) (IsPairEdge product one two) (λ e. ends_of e) (key_parts (λ k. 2)) (λ e. edge_parts e)
 
--- the right side of the rule is the label of a rule of the list over as many states as there
+-- the right-hand side of the rule is the label of a rule of the list over as many states as there
 pub record HasRootOf (rules : List (Rule ℕ)) (r : Rule ℕ) : Type 0 where
   pub position : ℕ
   pub below : position < length rules
@@ -26,7 +26,8 @@ pub record HasRootOf (rules : List (Rule ℕ)) (r : Rule ℕ) : Type 0 where
   pub rank : length states ≡ length (holes (rule_at rules position).right.kids)
   pub right : r.right ≡ over root states
 
--- the reached set is the same for lists of rules that differ in their order alone, and have no rule twice
+-- the reached set is the same for lists of rules that differ in their order alone, and have no rule
+-- twice
 abbrev pub OrderIsFree : (ℕ → ℕ → ℕ) → Type 0
 OrderIsFree product =
     (one two three four : List (Rule ℕ)) → IsReordering one three → IsReordering two four → (order : List (ℕ × ℕ)) (edges : List (Rule (ℕ × ℕ))) →

@@ -29,7 +29,7 @@ pub record Agree (one two : Rule ℕ) : Type 0 where
   pub root : one.right.label ≡ two.right.label
   pub rank : length (states_of one) ≡ length (states_of two)
 
--- the list with the edge of two rules behind it
+-- the list with the edge of two rules appended
 pub record IsAdded (product : ℕ → ℕ → ℕ) (one two : Rule ℕ) (old new : Listing) : Type 0 where
   pub within : product one.cost two.cost ≤ most
   pub root : ℕ
@@ -64,8 +64,8 @@ pub record IsWithinBudget (l : Listing) : Type 0 where
   pub within : l.parts ≤ l.budget
   pub budget : l.budget ≤ most_parts
 
--- one is the rule i of the first grammar, and the rules of the second at these positions lead from the second state
--- of the pair at a position of the order
+-- one is the rule i of the first grammar, and the rules of the second at these positions lead from
+-- the second state of the pair at a position of the order
 pub record Stands (ones twos : List (Rule ℕ)) (order : List (ℕ × ℕ)) (i n : ℕ) (one : Rule ℕ) (positions : List ℕ) : Type 0 where
   pub below : i < length ones
   pub is : one ≡ rule_at ones i

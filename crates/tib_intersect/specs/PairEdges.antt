@@ -6,9 +6,10 @@ use Rattle.tib_grammar.specs.Run.{rule_at}
 use Rattle.tib_grammar.specs.declared.Rule.{Rule}
 use Rattle.tib_cost.specs.Semiring.{most}
 
--- An edge of a pair of states: a rule of the one grammar from the first state and a rule of the other from the second,
--- with the same label over as many states, put together. It leads to the pairs of their states, at the product of
--- their costs, which is at most the greatest cost. Its origin is the two positions.
+-- An edge of a pair of states: a rule of the one grammar from the first state and a rule of the
+-- other from the second, with the same label over as many states, put together. It leads to the
+-- pairs of their states, at the product of their costs, which is at most the greatest cost. Its
+-- origin is the two positions.
 pub record IsPairEdge (product : ℕ → ℕ → ℕ) (one two : List (Rule ℕ)) (key : ℕ × ℕ) (origin : ℕ × ℕ) (e : Rule (ℕ × ℕ)) : Type 0 where
   pub first : origin.0 < length one
   pub second : origin.1 < length two
@@ -26,6 +27,6 @@ pub record IsPairEdge (product : ℕ → ℕ → ℕ) (one two : List (Rule ℕ)
 abbrev pub ends_of : Rule (ℕ × ℕ) → List (ℕ × ℕ)
 ends_of e = holes_of e.right
 
--- the parts of an edge: one, and the nodes of its right side
+-- the parts of an edge: one, and the nodes of its right-hand side
 abbrev pub edge_parts : Rule (ℕ × ℕ) → ℕ
 edge_parts e = 1 + size e.right

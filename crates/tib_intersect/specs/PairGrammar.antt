@@ -17,9 +17,9 @@ module _ (product : ℕ → ℕ → ℕ) (one two : List (Rule ℕ)) where
   abbrev pub GivesEdge : List (ℕ × ℕ) → ℕ × (ℕ × ℕ) → Rule (ℕ × ℕ) → Type 0
   GivesEdge order from e = (from.0 < length order) × IsPairEdge product one two (pair_at order from.0) from.1 e
 
-  -- The order has the pair of the starts first, and no pair twice. The rules are over its positions and are, with the
-  -- pairs in place of these, exactly the edges of the pairs, each as often as origins give it. So each end of an edge
-  -- stands in the order.
+  -- The order has the pair of the starts first, and no pair twice. The rules are over its positions
+  -- and are, with the pairs in place of these, exactly the edges of the pairs, each as often as
+  -- origins give it. So each end of an edge is in the order.
   pub record IsPairGrammar (order : List (ℕ × ℕ)) (rules : List (Rule ℕ)) : Type 0 where
     pub long : 0 < length order
     pub start : pair_at order 0 ≡ (0, 0)
@@ -27,8 +27,8 @@ module _ (product : ℕ → ℕ → ℕ) (one two : List (Rule ℕ)) where
     pub in_range : AreInRange (length order) rules
     pub edges : Lists (GivesEdge order) (map (named_rule (pair_at order)) rules)
 
--- The grammar of the pairs gives each tree the product of its two costs, and none where either is none or the product
--- is above the greatest cost.
+-- The grammar of the pairs gives each tree the product of its two costs, and none where either is
+-- none or the product is above the greatest cost.
 abbrev pub PairsMean : (ℕ → ℕ → ℕ) → Type 0
 PairsMean product =
     (one two : List (Rule ℕ)) → AreNormal one → AreNormal two → (order : List (ℕ × ℕ)) (rules : List (Rule ℕ)) →

@@ -61,7 +61,7 @@ ends_below product ones twos a b key o e k one two is has =
       two o.1 k.1 is.second (subst (λ (xs : List ℕ). Has xs k.1) (sym (holes_of-label (rule_at twos o.1).right.label (rule_at twos o.1).right.kids is.root is.second_root)) both.1),
     )
 
--- all that the intersection owes of its pairs, edges and rules
+-- all laws of the intersection, for its pairs, edges and rules
 pub pairs_are_lawful :
     (product : ℕ → ℕ → ℕ) (one two : List (Rule ℕ)) (a b : ℕ) → 0 < a → 0 < b → StatesBelow a one → StatesBelow b two →
     IsLawful (intersection product one two) (λ k. (k.0 < a) × (k.1 < b)) pair_reading pair_cmp (λ k. 2)

@@ -1,4 +1,5 @@
-//! The rules of a grammar in normal form by their left states and the labels and ranks of their right sides.
+//! The rules of a grammar in normal form by their left states and the labels and ranks of their
+//! right-hand sides.
 
 ghost use Rattle.std.specs.Prelude.{◌≡◌, ℕ, ◌<◌, ◌^◌, IfOk, length};
 ghost use Rattle.tib_grammar.specs.Forms.{AreNormal, IsNormalSide};
@@ -19,7 +20,8 @@ fn shape_of(rule: &Rule<u32>) -> Shape
     (rule.left, label, rank)
 }
 
-/// The positions of rules by their shapes, ascending. Err only if memory is refused. Cost: one look-up by hash for each rule.
+/// The positions of rules by their shapes, ascending. Err only if memory is refused. Cost: one
+/// look-up by hash for each rule.
 pub(crate) fn index_rules(alloc: Global, rules: &[Rule<u32>]) -> Result<ShapeIndex, AllocError>
     requires few { length rules.now < 2 ^ 32 }
     requires normal { AreNormal rules.now }

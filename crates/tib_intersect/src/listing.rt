@@ -60,8 +60,8 @@ impl Listing {
         }
     }
 
-    /// Lists the edge of two rules, unless its cost is too great. `More` comes exactly where it has more parts than
-    /// the budget leaves.
+    /// Lists the edge of two rules, unless its cost is too great. `More` comes exactly where it has
+    /// more parts than the budget leaves.
     fn add_edge<S: Semiring>(&mut self, one: &Rule<u32>, two: &Rule<u32>) -> Result<(), ExpandError>
         requires one { IsNormalSide one.now.right }
         requires two { IsNormalSide two.now.right }
@@ -102,7 +102,9 @@ impl Listing {
         Ok(())
     }
 
-    /// Lists the edges of a rule and those at these positions among the others.
+    /// Lists the edges of a rule and those at these positions among the others. `More` only where
+    /// they have more parts than the budget leaves, otherwise `OutOfMemory`; some edges may then be
+    /// listed. Cost: one step for each state in these rules.
     pub fn add_matches<S: Semiring>(
         &mut self,
         one: &Rule<u32>,

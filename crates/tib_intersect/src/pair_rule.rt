@@ -3,7 +3,7 @@
 use tib_cost::Cost;
 use tib_tree::Label;
 
-/// An edge over places: from a position of the order, by a label, to ends that stand side by side in their list.
+/// An edge over places: from a position of the order, by a label, to adjacent ends in their list.
 #[derive(Clone, Copy, Debug, Drop)]
 pub struct PairRule {
     /// The position of the pair that the edge leads from.

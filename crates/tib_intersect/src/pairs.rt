@@ -15,7 +15,8 @@ use tib_hunt::ExpandError;
 use tib_keyed::{ShapeIndex, StatePair};
 use tib_normal::Normal;
 
-/// The pairs of a state of the one grammar and a state of the other, reached from the pair of the starts.
+/// The pairs of a state of the one grammar and a state of the other, reached from the pair of the
+/// starts.
 #[derive(Drop)]
 pub struct Pairs<'a, S> {
     /// The first grammar.
@@ -47,7 +48,7 @@ impl<'a, S: Semiring> Pairs<'a, S> {
         Ok(Pairs { left, right, index })
     }
 
-    /// The edges of a pair that stands at a position.
+    /// The edges of a pair at a position.
     pub(crate) fn list_edges(
         &self,
         alloc: Global,

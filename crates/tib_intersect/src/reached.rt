@@ -20,8 +20,8 @@ use tib_normal::Normal;
 /// its two costs. `TooMany` exactly where they have more parts than the limit, 1 to `MOST_PARTS` of
 /// tib_hunt; `OutOfMemory` if memory is refused. Calls `gate` once for each pair. Cost: for each
 /// pair the rules of its first state, each with one look-up by hash, and the edges that it makes,
-/// beside the hunt's own (`hunt_alone`). The product of tree automata is from Comon and others,
-/// 2007.
+/// in addition to the hunt's own (`hunt_alone`). The product of tree automata is from Comon and
+/// others, 2007.
 pub fn intersect<S: Semiring, G: Gate>(
     alloc: Global,
     left: &Normal<S>,
@@ -47,9 +47,9 @@ pub fn intersect<S: Semiring, G: Gate>(
     hunt_alone(alloc, &pairs, limit, gate)
 }
 
-/// What `intersect` answers, found by this number of workers, 1 to 16, whatever the order of their
-/// steps. It may wait for ever, as the hunt by several workers (`hunt` of tib_hunt). Errors are those
-/// of `intersect`, and so is the cost, but for pairs that are expanded again.
+/// What `intersect` returns, found by this number of workers, 1 to 16, whatever the order of their
+/// steps. It may wait forever, as the hunt by several workers (`hunt` of tib_hunt). Errors are
+/// those of `intersect`, and so is the cost, except for pairs that are expanded again.
 pub fn intersect_together<S: Semiring + Sync, R: Threads + Wait + Sync, G: Gate + Sync>(
     rt: &R,
     alloc: Global,
