@@ -105,7 +105,8 @@ pub run_values : (p : Part) (items : List Item) (rows : List Row) → all_values
 run_values p [] rows = sym (append-nil (all_values (id_of p) rows))
 run_values p (i ∷ items) rows = run_values p items (used_with i.0 i.1 rows) ∙ part_step p i.0 i.1 rows (values_of p items)
 
--- clap refuses exactly the words that `takes` refuses, and else gives each part the values that `takes` gives it
+-- clap refuses exactly the words that `takes` refuses, and else gives each part the values that
+-- `takes` gives it
 abbrev pub ReadsTo : Option (List Item) → Kinds → List Row → Type 0
 ReadsTo None kinds rows = kinds ≡ [] → ⊥
 ReadsTo (Some items) kinds rows = (kinds ≡ []) × ((p : Part) → all_values (id_of p) rows ≡ values_of p items)

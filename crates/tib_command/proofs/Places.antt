@@ -1,4 +1,4 @@
--- Where the walk stands, and a word that goes to the positional words.
+-- Where the walk is, and a word that goes to the positional words.
 use Rattle.std.proofs.Common.{◌≡◌, ◌∙◌, Bool, cond, codes, true, false, refl, ap, List, [], ◌∷◌, Option, Some, None}
 use Rattle.clap.specs.Walk.{Held, Row, Waiting, Walk, walked, idle, positional, option, settled, subcommand_met, word_met, value, pushed, after_step, is_pending}
 use Rattle.clap.specs.Kinds.{or_else}

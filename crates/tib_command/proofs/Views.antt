@@ -1,4 +1,4 @@
--- What one word is to clap, beside what it says in the word language.
+-- What one word is to clap, and what it says in the word language.
 use Rattle.std.proofs.Common.{◌≡◌, ◌∙◌, ◌<◌, ◌||◌, ◌==◌, ℕ, Bool, cond, codes, true, false, refl, sym, ap, subst, arith, List, [], ◌∷◌, Option, Some, None, true≢false, eqb-true, ne_eqb, eq-eqb}
 use Rattle.std.specs.Prelude.{slice_get, unwrap_or, option_map}
 use Rattle.std.specs.Char.{encode_utf8}

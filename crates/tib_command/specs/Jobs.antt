@@ -40,7 +40,7 @@ number_in digits least most text = option_and_then (within least most) (numeral_
 abbrev pub count_in : ℕ → Text → Option ℕ
 count_in most text = number_in 12 1 most text
 
--- an option that stands at most once, read from its values
+-- an option that occurs at most once, read from its values
 abbrev pub once : {X : Type 0} → X → (Text → Option X) → List Text → Option X
 once default read [] = Some default
 once default read (v ∷ []) = read v
@@ -81,12 +81,13 @@ word_count o.Check = 1
 word_count o.Prune = 1
 word_count o.Demo = 0
 
--- whether a number stands in place of file names
+-- whether a number takes the place of file names
 abbrev pub takes_number : Operation → Bool
 takes_number o.Demo = true
 takes_number operation = false
 
--- what the positional words say: the operation, its files, and the number of `demo`, which is 0 for the others
+-- what the positional words say: the operation, its files, and the number of `demo`, which is 0 for
+-- the others
 pub record Task : Type 0 where
   pub operation : Operation
   pub files : List Text
@@ -174,7 +175,7 @@ meaning job = record {
   };
 }
 
--- the texts behind what `clap` gives for an argument
+-- the texts that `clap` gives for an argument
 abbrev pub texts_of : Option (Bor (List (Bor Text))) → List Text
 texts_of values = unwrap_or (option_map (λ vs. map (λ v. v.now) vs.now) values) []
 

@@ -37,13 +37,17 @@ pub enum Operation {
     /// The canonical grammar of the trees that a transducer turns into those of a grammar, at the
     /// least products of both costs.
     Backward,
-    /// The canonical transducer that does what the first and then the second does, at the least products of both costs.
+    /// The canonical transducer that does what the first and then the second does, at the least
+    /// products of both costs.
     Compose,
-    /// The canonical grammar of all outputs of a transducer on the one tree of a file, each at its cost.
+    /// The canonical grammar of all outputs of a transducer on the one tree of a file, each at its
+    /// cost.
     Image,
-    /// The canonical grammar of the trees that a tree-to-string transducer turns into the one string of a file, each at its cost.
+    /// The canonical grammar of the trees that a tree-to-string transducer turns into the one
+    /// string of a file, each at its cost.
     Parse,
-    /// Whether two grammars have the same trees, and else the least tree that one of them alone has.
+    /// Whether two grammars have the same trees, and else the least tree that one of them alone
+    /// has.
     Compare,
     /// The canonical grammar in deterministic form with the series of a grammar.
     Determinize,
@@ -58,6 +62,7 @@ pub enum Operation {
 /// What the words ask for.
 #[derive(Drop)]
 pub struct Job {
+    /// How weights are read and combined.
     pub mode: Mode,
     /// How many trees are listed at most, from 1 to 10,000.
     pub k: u32,
@@ -67,6 +72,7 @@ pub struct Job {
     pub limit: u64,
     /// How far above the cheapest tree what is kept may cost, at most 10^15.
     pub beam: u64,
+    /// What is done with the files.
     pub operation: Operation,
     /// The names of the files, as many as the operation takes, none empty.
     pub files: Vec<String>,

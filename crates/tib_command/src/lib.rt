@@ -1,8 +1,8 @@
-//! The word language of the command line: options `-m`, `-k`, `-w`, `--limit` and `--beam` in all their
-//! forms, anywhere among the words and each at most once, then the operation and the names of its
-//! files, or the number of `demo`. `read_words` answers a job exactly where the words are of the language, for all lists of
-//! words. `clap` tells what each word belongs to, and takes each value as a text; this crate reads
-//! the texts and counts them and the files.
+//! The word language of the command line: options `-m`, `-k`, `-w`, `--limit` and `--beam` in all
+//! their forms, anywhere among the words and each at most once, then the operation and the names of
+//! its files, or the number of `demo`. `read_words` returns a job exactly where the words are of
+//! the language, for all lists of words. `clap` says what each word belongs to, and takes each
+//! value as a text; this crate reads the texts and counts them and the files.
 #![tactic(auto)]
 
 ghost use Rattle.std.specs.Prelude.{◌≡◌, ◌≤◌, IfOk, IfErr, None, Some, length, map};
@@ -44,7 +44,7 @@ pub fn words_have_limits()
     ensures demo { MOST_DEMO ≡ most_demo }
 {}
 
-/// The job that the words ask for, which are those behind the program's name. `Usage` comes exactly
+/// The job that the words ask for, which are those after the program's name. `Usage` comes exactly
 /// where they are not of the word language, `OutOfMemory` only if memory is refused. Cost: that of
 /// `clap` for these words, and a few passes over the values.
 pub fn read_words(alloc: Global, words: &[String]) -> Result<Job, CommandError>

@@ -1,4 +1,4 @@
-// The command of `clap`, which tells what each word belongs to and takes each value as a text.
+// The command of `clap`, which says what each word belongs to and takes each value as a text.
 ghost use Rattle.std.specs.Prelude.{◌≡◌, false, IfOk, IfErr, None, Some, List, map};
 ghost use Rattle.std.specs.String.{string_bytes};
 ghost use Rattle.clap.specs.Words.{app_of, found_of, rows_of, rule_of};
@@ -28,7 +28,7 @@ fn long<'a>(alloc: Global, name: &'a str) -> Arg<'a>
     Arg::new(alloc, name).long(name).action(ArgAction::Append)
 }
 
-// What stands by its place: the operation and its files.
+// The positional words: the operation and its files.
 fn places<'a>(alloc: Global) -> Arg<'a>
     ensures rule { rule_of result ≡ place_rule }
     ensures local { result.global ≡ false }

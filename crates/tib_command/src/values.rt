@@ -68,7 +68,7 @@ fn number_in(text: &str, digits: usize, least: u64, most: u64) -> Option<u64>
     }
 }
 
-/// The count of an option that stands at most once.
+/// The count of an option that occurs at most once.
 pub(crate) fn number_once(values: Option<&[&str]>, default: u64, most: u64) -> Option<u64>
     requires least { 1 ≤ default }
     requires most { default ≤ most }
@@ -83,7 +83,7 @@ pub(crate) fn number_once(values: Option<&[&str]>, default: u64, most: u64) -> O
     }
 }
 
-/// The beam, which stands at most once.
+/// The beam, which occurs at most once.
 pub(crate) fn beam_once(values: Option<&[&str]>) -> Option<u64>
     ensures bound { IfSome result (λ n. n ≤ most_beam) }
     ensures value { result ≡ once 0 beam_in (texts_of values.entry) }
@@ -95,7 +95,7 @@ pub(crate) fn beam_once(values: Option<&[&str]>) -> Option<u64>
     }
 }
 
-/// The mode, which stands at most once.
+/// The mode, which occurs at most once.
 pub(crate) fn mode_once(values: Option<&[&str]>) -> Option<Mode>
     ensures { result ≡ once MinPlus mode_in (texts_of values.entry) }
 {

@@ -1,4 +1,4 @@
--- The answer of the reached set of both grammars is their comparison.
+-- What the reached set of both grammars gives is their comparison.
 use Rattle.std.specs.Prelude.{◌≡◌, ◌⊎◌, ◌↔◌, ℕ, ◌+◌, ◌*◌, ◌<◌, ◌≤◌, max, List, [], ◌∷◌, length, map, Bool, true, false, Option, None, Some, refl}
 use Rattle.std.proofs.Common.{zero, suc, arith, ap, sym, ◌∙◌, subst, inl, inr, get_or, true≢false}
 use Rattle.std.specs.declared.cmp.Ordering.TheVariants.{Less}

@@ -1,4 +1,4 @@
--- From what the calls say to what a comparison answers.
+-- From what the calls say to the result of a comparison.
 use Rattle.std.specs.Prelude.{◌≡◌, ℕ, ◌<◌, max, List, length, map, Bool, true, false, Option, None, Some}
 use Rattle.std.proofs.Common.{arith, ap, sym, ◌∙◌, subst, get_or}
 use Rattle.tib_lex.proofs.Lists.{length_map}
@@ -44,7 +44,7 @@ pub told_from :
 told_from labels n order rules given marks o e r h =
     subst (λ (bs : List Bool). IsOfWanted labels (wanted bs rules) o) e (subst (λ (rs : List (Rule ℕ)). IsOfWanted labels (wanted marks rs) o) r h)
 
--- with the name of its grammar it is the answer
+-- with the name of its grammar it is the result
 pub named_answer :
     (labels : List (List ℕ)) (n : ℕ) (left : List (Rule ℕ)) (order : List VectorOf) (rules : List (Rule ℕ)) (o : Option (Tree ℕ)) → IsLeastTold labels n order rules o →
     (t : Tree ℕ) → o ≡ Some t → (a : Compared) → IsNamed left t a → IsAnswerOf labels n left order rules (Some a)

@@ -1,4 +1,4 @@
--- What runs to vectors tell: in which grammars a tree has a run.
+-- What runs to vectors say: in which grammars a tree has a run.
 use Rattle.std.specs.Prelude.{◌≡◌, ◌⊎◌, ℕ, ◌<◌, ◌≤◌, max, List, [], ◌∷◌, length, Bool, true, false, not, nat_eq, if◌then◌else◌, Option, None, Some, refl}
 use Rattle.std.proofs.Common.{arith, ap, sym, ◌∙◌, subst, inl, inr, true≢false}
 use Rattle.tib_lex.specs.Lists.{Has}
@@ -20,7 +20,7 @@ use Rattle.tib_compare.specs.Compared.{AreFree}
 use Rattle.tib_compare.specs.Wanted.{is_there, holds, differs}
 use Rattle.tib_compare.proofs.Bounds.{at_most, HasRun, run_free}
 
--- a state that is looked up stands in the vector, and the other way round
+-- a state that is looked up is in the vector, and the other way round
 pub held_has : (q : ℕ) (v : VectorOf) → holds q v ≡ true → (r : ℕ) × Has {A = ℕ × ℕ} v (q, r)
 held_has q [] e = absurd (cc)
 held_has q (x ∷ v) e = elim (nat_eq_cases x.0 q) [

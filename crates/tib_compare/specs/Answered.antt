@@ -1,4 +1,4 @@
--- What the reached set of both grammars side by side answers.
+-- What the reached set of both grammars side by side gives.
 use Rattle.std.specs.Prelude.{◌≡◌, ℕ, ◌<◌, List, length, map, true, false, Option, None, Some}
 use Rattle.tib_tree.specs.Trees.{Tree}
 use Rattle.tib_grammar.specs.declared.Rule.{Rule}
@@ -28,7 +28,7 @@ NoneDiffers second order = (k : ℕ) → k < length order → differs second (ve
 abbrev pub IsLeastTold : List (List ℕ) → ℕ → List VectorOf → List (Rule ℕ) → Option (Tree ℕ) → Type 0
 IsLeastTold labels second order rules o = IsOfWanted labels (wanted (map (differs second) order) rules) o
 
--- what they answer: that no vector tells them apart, or the least tree with its grammar, or that it
+-- what they give: that no vector tells them apart, or the least tree with its grammar, or that it
 -- is too large
 abbrev pub IsAnswerOf : List (List ℕ) → ℕ → List (Rule ℕ) → List VectorOf → List (Rule ℕ) → Option Compared → Type 0
 IsAnswerOf labels second left order rules None = SomeDiffers second order × IsLeastTold labels second order rules None

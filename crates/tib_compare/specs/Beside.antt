@@ -18,12 +18,12 @@ moved left by cost r =
 abbrev pub raised : ℕ → List (Rule ℕ) → List (Rule ℕ)
 raised by rules = map (λ (r : Rule ℕ). moved (by + r.left) by 0 r) rules
 
--- The rules of both, where the states of the second stand behind the first ones of the left.
+-- The rules of both, where the states of the second come after the first ones of the left.
 abbrev pub beside : ℕ → List (Rule ℕ) → List (Rule ℕ) → List (Rule ℕ)
 beside first left right = raised 0 left ++ raised first right
 
 -- Side by side each grammar has its series: that of the left at its states, that of the right at
--- those behind them.
+-- those after them.
 pub record KeepBoth (first : ℕ) (left right : List (Rule ℕ)) : Type 0 where
   pub of_left : (q : ℕ) → q < first → (t : Tree ℕ) (v : Option ℕ) →
       IsSeriesAt max left q t v ↔ IsSeriesAt max (beside first left right) q t v

@@ -1,4 +1,4 @@
--- What a comparison of the supports of two grammars answers.
+-- The result of a comparison of the supports of two grammars.
 use Rattle.std.specs.Prelude.{◌≡◌, ◌⊎◌, ◌↔◌, ℕ, ◌<◌, ◌≤◌, max, List, length, Some}
 use Rattle.std.specs.declared.cmp.Ordering.TheVariants.{Less}
 use Rattle.tib_tree.specs.Trees.{Tree, size, most_nodes}
@@ -50,14 +50,14 @@ abbrev pub IsTooLarge : List (Rule ℕ) → List (Rule ℕ) → Type 0
 IsTooLarge one two =
     ((t : Tree ℕ) × IsInOne one two t) × ((t : Tree ℕ) → IsInOne one two t → most_nodes < size t)
 
--- there is one answer
+-- there is one result
 abbrev pub HasOneAnswer : Type 0
 HasOneAnswer =
     (labels : List (List ℕ)) → AreDistinct labels → (one two : List (Rule ℕ)) →
     AreLabelled (length labels) one → AreLabelled (length labels) two → (a b : Compared) →
     IsCompared labels one two a → IsCompared labels one two b → a ≡ b
 
--- the tree of an answer is not too large
+-- the tree of a result is not too large
 abbrev pub IsSmall : Compared → Type 0
 IsSmall Same = Unit {0}
 IsSmall (First t) = size t ≤ most_nodes

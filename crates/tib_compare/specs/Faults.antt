@@ -21,7 +21,7 @@ abbrev pub IsWithin : GrammarOf → GrammarOf → ℕ → Type 0
 IsWithin left right limit =
     (order : List VectorOf) × (edges : List (Rule VectorOf)) × IsReachedSet (hunted left right) order edges × (parts_of (hunted left right) order edges ≤ limit)
 
--- why there is no answer
+-- why there is no result
 abbrev pub IsCause : GrammarOf → GrammarOf → ℕ → CompareError → Type 0
 IsCause left right limit (TooMany n) = (n ≡ limit) × IsBeyond (hunted left right) limit
 IsCause left right limit TreeTooLarge = IsWithin left right limit × IsTooLarge left.rules right.rules

@@ -12,11 +12,11 @@ abbrev pub is_there : Option ℕ → Bool
 is_there None = false
 is_there (Some r) = true
 
--- whether a state stands in a vector
+-- whether a state is in a vector
 abbrev pub holds : ℕ → VectorOf → Bool
 holds q v = is_there (residual_in q v)
 
--- whether exactly one of the two starts stands in a vector: 0, and the first state of the second
+-- whether exactly one of the two starts is in a vector: 0, and the first state of the second
 -- grammar
 abbrev pub differs : ℕ → VectorOf → Bool
 differs second v = if holds 0 v then not (holds second v) else holds second v

@@ -10,7 +10,7 @@ use tib_cost::{Boolean, Semiring};
 use tib_grammar::{Grammar, Rule};
 use tib_normal::Normal;
 
-// Puts the rules with all their states raised by a number behind others, at no cost.
+// Appends the rules with all their states raised by a number to others, at no cost.
 fn put_raised(
     alloc: Global,
     rules: &[Rule<u32>],
@@ -28,7 +28,7 @@ fn put_raised(
     Ok(())
 }
 
-// The rules of both, where the states of the second stand behind those of the first.
+// The rules of both, where the states of the second come after those of the first.
 fn rules_beside(
     alloc: Global,
     left: &[Rule<u32>],
@@ -45,7 +45,7 @@ fn rules_beside(
     Ok(all)
 }
 
-// These rules in normal form, over this number of states; want of memory where they are not in it.
+// These rules in normal form, over this number of states. Err also where they are not in it.
 fn normal_over(
     alloc: Global,
     states: u32,
@@ -67,10 +67,10 @@ fn normal_over(
     }
 }
 
-/// The two grammars as one: the states of the left one and behind them those of the right one, each
+/// The two grammars as one: the states of the left one and after them those of the right one, each
 /// rule of both with its states raised, at no cost. So the start of the left is 0, and that of the
-/// right is the number of states of the left. Only want of memory is an error, or of numbers for
-/// the states or rules of both. Worst case: a few passes over the rules.
+/// right is the number of states of the left. Err only if memory is refused, or the states or the
+/// rules of both are too many to be numbered. Worst case: a few passes over the rules.
 pub fn side_by_side(
     alloc: Global,
     left: &Normal<Boolean>,

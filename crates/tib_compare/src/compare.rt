@@ -35,8 +35,8 @@ fn name_of(alloc: Global, left: &Normal<Boolean>, tree: Tree) -> Result<Compared
     }
 }
 
-// What the reached set of both side by side answers: same where no vector tells them apart, and
-// else the least tree of those that do, unless it is too large.
+// What the reached set of both side by side gives: same where no vector tells them apart, and else
+// the least tree of those that do, unless it is too large.
 fn answer(
     alloc: Global,
     left: &Normal<Boolean>,
@@ -110,9 +110,10 @@ fn fault_of(error: HuntError) -> CompareError
 /// that has a cost in exactly one, and which one. `TooMany` comes only where the vectors of both
 /// side by side have more parts than the limit, 1 to `MOST_PARTS` of tib_hunt; `TreeTooLarge`
 /// exactly where they have no more, the supports differ and that least tree has more than 10,000
-/// nodes; `OutOfMemory` says nothing of the grammars. Calls `gate` once for each vector. Worst
-/// case: that of `determinize` over both, then O(r log r) comparisons of trees for r rules over
-/// vectors, and that of `weigh` for one tree. The order of first trees is from Knuth, 1977.
+/// nodes; `OutOfMemory` if memory is refused, which says nothing of the grammars. Calls `gate` once
+/// for each vector. Worst case: that of `determinize` over both, then O(r log r) comparisons of
+/// trees for r rules over vectors, and that of `weigh` for one tree. The order of first trees is
+/// from Knuth, 1977.
 pub fn compare_alone<G: Gate>(
     alloc: Global,
     left: &Normal<Boolean>,
@@ -141,9 +142,9 @@ pub fn compare_alone<G: Gate>(
     }
 }
 
-/// What `compare_alone` answers, found by this number of workers, 1 to 16, whatever the order of
-/// their steps. It may wait for ever, as the hunt by several workers (`hunt` of tib_hunt). Errors
-/// and cost are those of `compare_alone`, but for vectors that are expanded again.
+/// What `compare_alone` returns, found by this number of workers, 1 to 16, whatever the order of
+/// their steps. It may wait forever, as the hunt by several workers (`hunt` of tib_hunt). Errors
+/// and cost are those of `compare_alone`, except for vectors that are expanded again.
 pub fn compare_supports<R: Threads + Wait + Sync, G: Gate + Sync>(
     rt: &R,
     alloc: Global,

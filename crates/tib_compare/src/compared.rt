@@ -1,7 +1,7 @@
-// What a comparison answers.
+// The result of a comparison.
 use tib_tree::Tree;
 
-/// What a comparison of the supports of two grammars answers.
+/// The result of a comparison of the supports of two grammars.
 #[derive(Drop)]
 pub enum Compared {
     /// Every tree has a cost in both or in neither.

@@ -1,5 +1,5 @@
 // The faults of a comparison.
-/// Why a comparison has no answer.
+/// Why a comparison has no result.
 #[derive(Clone, Copy, Debug, PartialEq, Eq, Drop)]
 pub enum CompareError {
     /// The reached set of both grammars side by side has more parts than the limit.

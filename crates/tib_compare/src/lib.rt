@@ -1,5 +1,5 @@
 //! The comparison of the supports of two grammars: whether the same trees have a cost in both, or
-//! else the least tree, in the order of trees, that has one in exactly one of them. It stands on
+//! else the least tree, in the order of trees, that has one in exactly one of them. It builds on
 //! `tib_determinize`, which reaches the vectors of both grammars side by side, and on `tib_k_best`,
 //! which gives the least tree of the vectors that tell them apart.
 #![tactic(auto)]

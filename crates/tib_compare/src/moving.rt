@@ -8,7 +8,7 @@ use std::alloc::{AllocError, Global};
 use tib_cost::Cost;
 use tib_grammar::{Rule, Side};
 
-// The sum of two numbers of states; want of memory where it is no number of a state.
+// The sum of two numbers of states. Err where it is no number of a state.
 pub(crate) fn raised_state(by: u32, state: u32) -> Result<u32, AllocError>
     ensures { IfOk result (λ q. q ≡ by + state) }
 {
@@ -18,7 +18,7 @@ pub(crate) fn raised_state(by: u32, state: u32) -> Result<u32, AllocError>
     }
 }
 
-// How many states stand below a rule.
+// How many states are below a rule.
 fn count_of(rule: &Rule<u32>) -> usize
     requires { IsNormalSide rule.now.right }
     ensures many { result ≡ length (holes rule.now.right.kids) }

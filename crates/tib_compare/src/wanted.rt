@@ -19,7 +19,7 @@ use tib_tree::{Labels, Tree};
 // What a node costs: a ten-thousandth of the greatest cost.
 const NODE_COST: u64 = 100_000_000_000;
 
-// Whether a state stands in a vector.
+// Whether a state is in a vector.
 fn has_state(vector: &Vector, state: u32) -> bool
     ensures { result ≡ holds state vector.now }
 {
@@ -29,7 +29,7 @@ fn has_state(vector: &Vector, state: u32) -> bool
     }
 }
 
-// Whether exactly one of the two starts stands in a vector.
+// Whether exactly one of the two starts is in a vector.
 fn tells_apart(vector: &Vector, second: u32) -> bool
     ensures { result ≡ differs second vector.now }
 {
@@ -78,7 +78,7 @@ fn node_price() -> Result<Cost, AllocError>
     }
 }
 
-// Puts the rules over positions, each raised by one, behind others.
+// Appends the rules over positions, each raised by one, to others.
 fn put_all(
     alloc: Global,
     rules: &[Rule<u32>],
@@ -97,7 +97,7 @@ fn put_all(
     Ok(())
 }
 
-// Puts the rules of the marked positions, as rules of the start, behind others.
+// Appends the rules of the marked positions, as rules of the start, to others.
 fn put_marked(
     alloc: Global,
     rules: &[Rule<u32>],

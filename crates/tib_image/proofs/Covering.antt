@@ -26,7 +26,7 @@ pub record HasRuleTo (n : ℕ) (order : List (ℕ × ℕ × ℕ × ℕ)) (rules 
   pub costs : (rule_at rules position).cost ≡ c
 
 -- The rules over positions of an order of keys, the key of the start first, are edges; and each
--- rule of the transducer with a cut of its right side is one.
+-- rule of the transducer with a cut of its right-hand side is one.
 pub record CoversParse (moves : List (StringRule ℕ)) (string : List ℕ) (order : List (ℕ × ℕ × ℕ × ℕ)) (rules : List (Rule ℕ)) : Type 0 where
   pub long : 0 < length order
   pub start : key_at (length string) order 0 ≡ first_key (length string)

@@ -20,7 +20,7 @@ use Rattle.tib_strings.proofs.CutLists.{stands_is, is_standing, cut_listed, list
 use Rattle.tib_hunt.proofs.Members.{distinct_append}
 use Rattle.tib_keyed.proofs.Tagged.{has_tagged, tagged_has, tagged_once}
 
--- the label at the root of a left side that fits
+-- the label at the root of a left-hand side that fits
 pub root_of : (labels : List ℕ) (e : ℕ) (s : Symbol ℕ Variable) → admits_root labels e s ≡ true → (root : ℕ) × (s ≡ label root) × Admits labels e root
 root_of labels e (hole x) h = absurd (cc)
 root_of labels zero (label f) h = (f, refl, tt)

@@ -1,5 +1,5 @@
--- The edge of a key and a rule, told by the walk of the rule's left side, and the rules that may
--- have one.
+-- The edge of a key and a rule, determined by the walk of the rule's left-hand side, and the rules
+-- that may have one.
 use Rattle.std.specs.Prelude.{◌≡◌, ℕ, ◌<◌, ◌+◌, nat_eq, true, List, [], ◌∷◌, length, map, refl, None, Some}
 use Rattle.std.proofs.Common.{arith, ap, sym, ◌∙◌, subst, get_or}
 use Rattle.tib_lex.specs.Lists.{Has, Each, Distinct}
@@ -35,7 +35,7 @@ each_to : {n m : ℕ} → n ≡ m → (xs : List ℕ) → Each (λ v. v < n) xs 
 each_to e [] f = tt
 each_to e (v ∷ xs) f = (omega (arith, f.0), each_to e xs f.1)
 
--- a rule, whose left side is walked at the node of the key
+-- a rule, whose left-hand side is walked at the node of the key
 module _
     (moves : List (TransducerRule ℕ)) (t : Tree ℕ) (key : ℕ × ℕ) (m : ℕ) (below : m < length moves) (state : (transducer_rule moves m).state ≡ key.0) (inside : key.1 < size t)
     (shaped : IsShaped (transducer_rule moves m)) (leaves : EndsInHoles (transducer_rule moves m)) (r : TransducerRule ℕ) (is : r ≡ transducer_rule moves m) (nodes : List Node)
@@ -55,7 +55,7 @@ module _
       costs = ap (λ (x : TransducerRule ℕ). x.cost) is;
     }
 
-    -- the variables of its right side are among those found
+    -- the variables of its right-hand side are among those found
     pub known : Each (λ x. x.variable < length found) (holes_of r.right)
     known =
         let long : length (holes_of (transducer_rule moves m).left) ≡ length found =
@@ -80,7 +80,7 @@ module _
   passed w l order within at tried fresh listed =
       listed_passed (IsImageEdge moves t key) order tried m l (λ e g. no_match t nodes are key.1 inside (transducer_rule moves m).left leaves.0 pairs here w g.matches) listed
 
--- a left side that begins with a label matches trees with that label and as many children
+-- a left-hand side that begins with a label matches trees with that label and as many children
 root_match : (s : Symbol ℕ Variable) (kids : Trees (Symbol ℕ Variable)) (u : Tree ℕ) (root : ℕ) → s ≡ label root → Match (tree s kids none) (only u) → (s ≡ label u.label) × (count kids ≡ count u.kids)
 root_match (label f) kids u root e m = (ap label m.0, match_many kids u.kids m.1)
 root_match (hole x) kids u root e m = absurd (cc)
@@ -101,7 +101,7 @@ module _ (moves : List (TransducerRule ℕ)) (t : Tree ℕ) (key : ℕ × ℕ) (
       let third : nat_eq (count r.left.kids) rank ≡ true = ap (λ k. nat_eq k rank) (root.1 ∙ sym rank_is) ∙ nat_eq-itself rank in
       subst (λ qs. Has qs m) (sym is) (is_place (has_shape (state, f, rank)) moves m no_rule edge.below (and-both _ _ (and-both _ _ first second) third))
 
-  -- each stands once
+  -- each occurs once
   pub apart : Distinct ps
   apart = subst Distinct (sym is) (places_once (has_shape (state, f, rank)) moves no_rule)
 

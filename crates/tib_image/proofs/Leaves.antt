@@ -1,4 +1,4 @@
--- What stands at the variables of a left side and at the pairs of a list.
+-- What is at the variables of a left-hand side and at the pairs of a list.
 use Rattle.std.specs.Prelude.{◌≡◌, ℕ, List, [], ◌∷◌, length, map, refl}
 use Rattle.std.proofs.Common.{arith, ap, ◌∙◌, subst, inl, inr}
 use Rattle.tib_lex.specs.Lists.{Has, Distinct}

@@ -1,4 +1,4 @@
--- The edges of one position more.
+-- The edges of one more position.
 use Rattle.std.specs.Prelude.{◌≡◌, ℕ, ◌+◌, ◌<◌, ◌≤◌, List, [], ◌∷◌, ◌++◌, length, take}
 use Rattle.std.proofs.Common.{ap, sym, ◌∙◌, subst, get_or}
 use Rattle.tib_lex.specs.Lists.{Has, Distinct}
@@ -12,7 +12,7 @@ module _ (Gives : ℕ → Rule (ℕ × ℕ) → Type 0) (key : ℕ × ℕ) (orde
   untried : Has (take i ps) m → ⊥
   untried h = not_before ps i 0 once below (subst (Has (take i ps)) is h)
 
-  -- the edge of one origin more
+  -- the edge of one more origin
   pub key_next : (l n : Listing) → l.position < length order → key_of order l.position ≡ key → ListsOrigin Gives key m l n → IsListed Gives order (take i ps) l → IsListed Gives order (take (i + 1) ps) n
   key_next l n within at lists listed =
       subst (λ qs. IsListed Gives order qs n) (sym (take_next ps i 0 below ∙ ap (λ p. take i ps ++ p ∷ []) (sym is))) (lists order within at (take i ps) untried listed)

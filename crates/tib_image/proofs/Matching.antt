@@ -1,4 +1,4 @@
--- Left sides that match a subtree, and the trees that fill them.
+-- Left-hand sides that match a subtree, and the trees that fill them.
 use Rattle.std.specs.Prelude.{◌≡◌, ℕ, ◌+◌, ◌<◌, List, [], ◌∷◌, ◌++◌, length, map, refl}
 use Rattle.std.proofs.Common.{zero, suc, arith, ap, sym, ◌∙◌, subst, get_or}
 use Rattle.std.proofs.lemmas.List.{length-append}
@@ -108,7 +108,7 @@ fills_match t (tree (hole x) kids rest) (tree f us ts) n a s =
     let second = fills_match t rest ts (suc n + sizes us) a.1 s.2 in
     ((a.0, second.0), ap (λ (y : Tree ℕ). tree y.label y.kids (trees_at t (variable_nodes rest (fill rest ts) (suc n + sizes us)))) s.0.1 ∙ ap (tree f us) second.1)
 
--- the same of trees that are given
+-- the same for trees that are given
 pub given_match :
     (t : Tree ℕ) (ss : Trees (Symbol ℕ Variable)) (args us : Trees ℕ) (n : ℕ) → AreBound (holes ss) args → fill ss args ≡ us → Stand (IsAt t) us n →
     Match ss us × (trees_at t (variable_nodes ss us n) ≡ args)

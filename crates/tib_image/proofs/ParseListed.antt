@@ -1,4 +1,4 @@
--- Edges behind those that are listed.
+-- Edges after those that are listed.
 use Rattle.std.specs.Prelude.{◌≡◌, ℕ, ◌+◌, ◌<◌, List, [], ◌∷◌, ◌++◌, length, map, refl, OnOk}
 use Rattle.std.proofs.Common.{arith, ap, sym, ◌∙◌, subst, get_or, append_assoc, Ok, Err}
 use Rattle.std.specs.declared.result.Result.{Result}
@@ -49,7 +49,7 @@ module _ (key : ℕ × ℕ × ℕ × ℕ) where
     alike = record { position = b.alike.position ∙ a.alike.position; budget = b.alike.budget ∙ a.alike.budget };
   }
 
-  -- others are too much behind some edges
+  -- others are too much after some edges
   pub overruns_behind : (es fs : Edges) (old now : Listing) → Adds key es old now → Overruns fs now → Overruns (es ++ fs) old
   overruns_behind es fs old now a b = omega (arith, a.parts, a.alike.budget, b, total_append edge_parts es fs)
 
@@ -105,7 +105,7 @@ module _ (labels : List ℕ) (key : ℕ × ℕ × ℕ × ℕ) (r : StringRule �
   pub done_first : (cuts : List (List ℕ)) (l : Listing) → AreDone labels key r cuts cuts l l
   done_first cuts l = record { cuts = []; are = refl; adds = adds_none key l }
 
-  -- one cut more is done
+  -- one more cut is done
   pub done_next :
       (before now : List (List ℕ)) (places : List ℕ) (next : List (List ℕ)) (old l new : Listing) → now ≡ places ∷ next →
       AreDone labels key r before now old l → Adds key (cut_edge labels key r places ∷ []) l new → AreDone labels key r before next old new
@@ -115,7 +115,7 @@ module _ (labels : List ℕ) (key : ℕ × ℕ × ℕ × ℕ) (r : StringRule �
     adds = subst (λ es. Adds key es old new) (sym (map-append (cut_edge labels key r) d.cuts (places ∷ []))) (adds_both key (map (cut_edge labels key r) d.cuts) (cut_edge labels key r places ∷ []) old l new d.adds a);
   }
 
-  -- the edge of one cut more is too much
+  -- the edge of one more cut is too much
   pub done_overruns :
       (before now : List (List ℕ)) (places : List ℕ) (next : List (List ℕ)) (old l : Listing) → now ≡ places ∷ next →
       AreDone labels key r before now old l → Overruns (cut_edge labels key r places ∷ []) l → Overruns (map (cut_edge labels key r) before) old

@@ -78,7 +78,7 @@ module _
   prod_none [] e = refl
   prod_none (y ∷ ys) e = absurd (cc)
 
-  -- a rule of the transducer, a cut of its right side, and what is read at its variables
+  -- a rule of the transducer, a cut of its right-hand side, and what is read at its variables
   record OneParsed (key : ℕ × ℕ × ℕ × ℕ) (ts : Trees ℕ) (c : ℕ) : Type 0 where
     one : Tree ℕ
     is_one : ts ≡ only one

@@ -78,13 +78,13 @@ module _ (moves : List (StringRule ℕ)) (string : List ℕ) (key : ℕ × ℕ �
   all_both (n ∷ ns) ms =
       ap (λ es. edges_at moves string key n ++ es) (all_both ns ms) ∙ sym (append_assoc (edges_at moves string key n) (edges_at_all moves string key ns) (edges_at_all moves string key ms))
 
-  -- those with one rule more
+  -- those with one more rule
   pub all_next : (ps : List ℕ) (i p : ℕ) → i < length ps → p ≡ get_or ps i 0 → edges_at_all moves string key (take (i + 1) ps) ≡ edges_at_all moves string key (take i ps) ++ edges_at moves string key p
   all_next ps i p below is =
       ap (edges_at_all moves string key) (take_next ps i 0 below ∙ ap (λ q. take i ps ++ q ∷ []) (sym is)) ∙ all_both (take i ps) (p ∷ [])
       ∙ ap (λ es. edges_at_all moves string key (take i ps) ++ es) (append_nil (edges_at moves string key p))
 
-  -- the first of some rules, the one behind them, and others
+  -- the first of some rules, the one after them, and others
   pub all_split :
       (ps : List ℕ) (i p : ℕ) → i < length ps → p ≡ get_or ps i 0 →
       (rest : List (Rule (ℕ × ℕ × ℕ × ℕ))) × (edges_at_all moves string key ps ≡ (edges_at_all moves string key (take i ps) ++ edges_at moves string key p) ++ rest)

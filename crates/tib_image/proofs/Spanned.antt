@@ -1,5 +1,5 @@
--- The keys of the variables of a left side, by the states and the places of the pairs of its right
--- side.
+-- The keys of the variables of a left-hand side, by the states and the places of the pairs of its
+-- right-hand side.
 use Rattle.std.specs.Prelude.{◌≡◌, ℕ, ◌<◌, ◌≤◌, List, [], ◌∷◌, length, map, drop, refl, slice_set}
 use Rattle.std.proofs.Common.{zero, suc, arith, ap, sym, ◌∙◌, subst, get_or, inl, inr}
 use Rattle.std.proofs.lemmas.List.{get_or-set_same, get_or-set_other}
@@ -24,7 +24,7 @@ keys_same labels by pairs ss at (x ∷ xs) =
     ap (λ (s : ℕ × ℕ × ℕ). (s.0, s.1, s.2, restriction labels x.label) ∷ map (variable_key labels by) xs) (at x.number)
     ∙ ap (λ ks. parse_key labels pairs ss x ∷ ks) (keys_same labels by pairs ss at xs)
 
--- the tokens from a position on, where the first of all stands at i
+-- the tokens from a position on, where the first of all is at i
 abbrev pub AtFrom : List (Token ℕ) → ℕ → List ℕ → ℕ → List (ℕ × ℕ × ℕ) → Type 0
 AtFrom ws i ks n by = (v : ℕ) → get_or by v (0, 0, 0) ≡ span_at v (pairs_of (drop n ws)) (spans (drop n ws) (place_before i ks n) (drop n ks))
 
@@ -47,7 +47,7 @@ pair_at P (Hole y ∷ ws) zero x low is h = let same : y ≡ x = cc is in subst 
 pair_at P (Word f ∷ ws) (suc n) x low is h = pair_at P ws n x (omega arith) is h
 pair_at P (Hole y ∷ ws) (suc n) x low is h = pair_at P ws n x (omega arith) is h.1
 
--- behind the last token there is none
+-- after the last token there is none
 pub at_end : (ws : List (Token ℕ)) (i : ℕ) (ks : List ℕ) (n : ℕ) (by : List (ℕ × ℕ × ℕ)) → n ≡ length ws → ((v : ℕ) → get_or by v (0, 0, 0) ≡ (0, 0, 0)) → AtFrom ws i ks n by
 at_end ws i ks n by is empty v =
     empty v ∙ ap (λ (rest : List (Token ℕ)). span_at v (pairs_of rest) (spans rest (place_before i ks n) (drop n ks))) (sym (drop_past ws n (omega (arith, is))))

@@ -1,5 +1,5 @@
--- The walk of a left side beside the nodes of a tree finds whether it matches, and the nodes of its
--- variables.
+-- The walk of a left-hand side beside the nodes of a tree finds whether it matches, and the nodes
+-- of its variables.
 use Rattle.std.specs.Prelude.{◌≡◌, ℕ, ◌+◌, ◌<◌, ◌≤◌, ◌⊎◌, nat_eq, Bool, true, false, List, [], ◌∷◌, ◌++◌, length, drop, Option, None, Some, slice_get, if◌then◌else◌, refl}
 use Rattle.std.proofs.Common.{zero, suc, arith, ap, sym, ◌∙◌, subst, get_or, append_assoc, inl, inr}
 use Rattle.std.proofs.lemmas.List.{length-append}
@@ -34,7 +34,7 @@ seam : {A : Type 0} (xs : List A) (y : A) (ys : List A) → slice_get (xs ++ y �
 seam [] y ys = refl
 seam (x ∷ xs) y ys = seam xs y ys
 
--- trees whose nodes are those of a list from a number on stand there
+-- trees whose nodes are those of a list from a number on are there
 standing :
     (nodes : List Node) (d : ℕ) (ts : Trees ℕ) (xs ys : List Node) (n : ℕ) → n ≡ length xs → nodes ≡ xs ++ (nodes_at d ts ++ ys) → Stand (HasNode nodes) ts n
 standing nodes d none xs ys n at is = tt
@@ -177,7 +177,7 @@ module _ (nodes : List Node) where
       (subst (Binds x.label) h.label_is p.0, sound rest more (suc n + sizes us) xs outer.0 l s.2 (omega arith) outer.1)
   sound (tree (hole x) (tree y kids more) rest) (tree g us others) n xs found l s c w = absurd l
 
--- the walk of a left side at a node of a tree says whether it matches there
+-- the walk of a left-hand side at a node of a tree says whether it matches there
 module _ (t : Tree ℕ) (nodes : List Node) (are : nodes ≡ nodes_of_tree t) (n : ℕ) (below : n < size t) (left : SideFor ℕ Variable) (leaves : HolesAreLeaves (only left)) (pairs : List (Symbol ℕ Variable × ℕ)) (is : pairs ≡ preorder_of left) where
   whole : pairs ≡ preorder (only left) ++ []
   whole = is ∙ ap (λ xs. (left.label, count left.kids) ∷ xs) (sym (append_nil (preorder left.kids))) ∙ sym (append_nil (preorder (only left)))
@@ -200,7 +200,7 @@ module _ (t : Tree ℕ) (nodes : List Node) (are : nodes ≡ nodes_of_tree t) (n
   pub no_match : walk pairs nodes n ≡ None → MatchesAt left t n → ⊥
   no_match w m = let e : Some (nodes_of left t n) ≡ None = sym (matched m) ∙ w in cc
 
--- one item more of the walk
+-- one more item of the walk
 pub step-label :
     (nodes : List Node) (found : List ℕ) (n f rank : ℕ) (xs : List (Symbol ℕ Variable × ℕ)) (node : Node) → slice_get nodes n ≡ Some node → node.label ≡ f → node.rank ≡ rank →
     with_nodes found (walk ((label f, rank) ∷ xs) nodes n) ≡ with_nodes found (walk xs nodes (n + 1))
@@ -239,7 +239,7 @@ pub stop-hole :
 stop-hole nodes found n rank x xs node at e =
     ap (λ o. with_nodes found (past (hole x) rank o n (walk xs nodes (n + width (hole x) o)))) at ∙ rw e refl
 
--- the pairs of an item and of those behind it
+-- the pairs of an item and of those after it
 pub next_pairs : (items : List (Item Variable)) (i : ℕ) (d x : Item Variable) → i < length items → get_or items i d ≡ x → pairs_of (drop i items) ≡ pair_of x ∷ pairs_of (drop (i + 1) items)
 next_pairs [] i d x h e = absurd (omega arith)
 next_pairs (y ∷ items) zero d x h e = ap (λ z. pair_of z ∷ pairs_of items) e

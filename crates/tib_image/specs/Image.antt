@@ -24,13 +24,14 @@ use Rattle.tib_image.specs.Nodes.{MatchesAt, nodes_of}
 
 -- A key is a state of the transducer and a node of the tree.
 
--- the key of a pair of the right side, where the variables of the left side stand at these nodes
+-- the key of a pair of the right-hand side, where the variables of the left-hand side are at these
+-- nodes
 abbrev pub pair_key : List ℕ → Pair ℕ → ℕ × ℕ
 pair_key nodes x = (x.state, get_or nodes x.variable 0)
 
--- An edge of the key of a state and a node: a rule of the state whose left side matches the subtree
--- at the node. It leads to the right side, in which each pair is the key of its state and of the
--- node of its variable, at the cost of the rule. Its origin is the position of the rule.
+-- An edge of the key of a state and a node: a rule of the state whose left-hand side matches the
+-- subtree at the node. It leads to the right-hand side, in which each pair is the key of its state
+-- and of the node of its variable, at the cost of the rule. Its origin is the position of the rule.
 pub record IsImageEdge (moves : List (TransducerRule ℕ)) (t : Tree ℕ) (key : ℕ × ℕ) (origin : ℕ) (e : Rule (ℕ × ℕ)) : Type 0 where
   pub below : origin < length moves
   pub state : (transducer_rule moves origin).state ≡ key.0
@@ -47,7 +48,7 @@ key_cmp x y = ordering_then (nat_cmp x.0 y.0) (nat_cmp x.1 y.1)
 abbrev pub key_entries : ℕ × ℕ → ℕ
 key_entries k = 2
 
--- the parts of an edge: one, and the nodes of its right side
+-- the parts of an edge: one, and the nodes of its right-hand side
 abbrev pub edge_parts : Rule (ℕ × ℕ) → ℕ
 edge_parts e = 1 + size e.right
 
@@ -62,8 +63,7 @@ GivesEdge moves t order from e = (from.0 < length order) × IsImageEdge moves t 
 
 -- The grammar of the keys of an order: the order has the key of the start and the root first, and
 -- no key twice. The rules are over its positions and are, with the keys in place of these, exactly
--- the edges of the keys, each as often as origins give it. So each end of an edge stands in the
--- order.
+-- the edges of the keys, each as often as origins give it. So each end of an edge is in the order.
 pub record IsImageGrammar (moves : List (TransducerRule ℕ)) (t : Tree ℕ) (order : List (ℕ × ℕ)) (rules : List (Rule ℕ)) : Type 0 where
   pub long : 0 < length order
   pub start : key_at order 0 ≡ (0, 0)

@@ -52,7 +52,7 @@ ends_within moves t key o e k below is has =
 root_within : (t : Tree ℕ) (k : ℕ × ℕ) → k ≡ (0, 0) → k.1 < size t
 root_within t k e = let root : k.1 ≡ 0 = ap (λ (z : ℕ × ℕ). z.1) e in omega (arith, root)
 
--- all that the operation owes of its keys, edges and rules
+-- all laws of the operation, for its keys, edges and rules
 pub image_is_lawful : (moves : List (TransducerRule ℕ)) (t : Tree ℕ) → IsLawful (image_of moves t) (λ k. k.1 < size t) image_reading key_cmp key_entries
 image_is_lawful moves t = record {
   same_order = refl;

@@ -5,11 +5,11 @@ use Rattle.tib_transducer.specs.declared.Pair.{Pair}
 use Rattle.tib_keyed.specs.declared.side_listing.SideListing.{SideListing}
 use Rattle.tib_keyed.specs.Listing.{GetsOrigin, IsBeyond, HasEdges, AreBeyond}
 
--- a list of edges to right sides
+-- a list of edges to right-hand sides
 abbrev pub Listing : Type 0
 Listing = SideListing (ℕ × ℕ) (Pair ℕ)
 
--- where Gives tells which edge an origin gives the key
+-- where Gives says which edge an origin gives the key
 module _ (Gives : ℕ → Rule (ℕ × ℕ) → Type 0) (key : ℕ × ℕ) where
   -- the list gets the edge of an origin that was not tried yet, where it gives one
   abbrev pub ListsOrigin : ℕ → Listing → Listing → Type 0

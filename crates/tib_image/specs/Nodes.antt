@@ -1,4 +1,4 @@
--- The nodes of a tree, what a left side matches there, and the nodes of its variables.
+-- The nodes of a tree, what a left-hand side matches there, and the nodes of its variables.
 use Rattle.std.specs.Prelude.{◌≡◌, ℕ, ◌+◌, List, [], ◌∷◌, ◌++◌}
 use Rattle.std.proofs.Common.{suc, get_or}
 use Rattle.tib_tree.specs.Trees.{Tree, Trees, none, tree, only, sizes}
@@ -26,14 +26,14 @@ Match (tree (label f) kids rest) (tree g us more) = (f ≡ g) × Match kids us �
 Match (tree (hole x) kids rest) (tree g us more) = Binds x.label g × Match rest more
 
 -- the nodes at the variables of sides, in preorder, where the sides match trees of which the first
--- stands at node n
+-- is at node n
 abbrev pub variable_nodes : Trees (Symbol ℕ Variable) → Trees ℕ → ℕ → List ℕ
 variable_nodes none us n = []
 variable_nodes (tree s kids rest) none n = []
 variable_nodes (tree (label f) kids rest) (tree g us more) n = variable_nodes kids us (suc n) ++ variable_nodes rest more (suc n + sizes us)
 variable_nodes (tree (hole x) kids rest) (tree g us more) n = n ∷ variable_nodes rest more (suc n + sizes us)
 
--- the left side matches the subtree at a node of the tree
+-- the left-hand side matches the subtree at a node of the tree
 abbrev pub MatchesAt : SideFor ℕ Variable → Tree ℕ → ℕ → Type 0
 MatchesAt left t n = Match (only left) (only (subtree t n))
 

@@ -1,4 +1,4 @@
--- What `parse` answers.
+-- What `parse` returns.
 use Rattle.std.specs.Prelude.{◌≡◌, ◌↔◌, ℕ, List, length, map, Option}
 use Rattle.tib_tree.specs.Trees.{Tree}
 use Rattle.tib_grammar.specs.Series.{IsSeries}
@@ -34,13 +34,13 @@ HasParts moves string found = found.parts ≡ parts_of (parse moves string) foun
 abbrev pub AreOverOrder : Found (ℕ × ℕ × ℕ × ℕ) (Rule ℕ) → Type 0
 AreOverOrder found = AreInRange (length found.order.items) found.rules.items
 
--- the first rule that is not linear or not nondeleting, or want of memory
+-- the first rule that is not linear or not nondeleting, or out of memory
 abbrev pub IsStringFault : List (StringRule ℕ) → ClassError → Type 0
 IsStringFault moves (OfRule rule fault) = IsFirstFault moves rule fault
 IsStringFault moves OfMemory = Unit {0}
 
--- why nothing is answered: that rule; where there is none, a limit that each reached set passes; or
--- want of memory
+-- why nothing is returned: that rule; where there is none, a limit that each reached set passes; or
+-- out of memory
 abbrev pub IsParseFault : List (StringRule ℕ) → List ℕ → ℕ → ApplyError → Type 0
 IsParseFault moves string limit (Class rule fault) = IsFirstFault moves rule fault
 IsParseFault moves string limit (TooMany n) = (n ≡ limit) × AreLinear moves × AreNondeleting moves × IsBeyond (parse moves string) limit

@@ -12,13 +12,13 @@ use Rattle.tib_strings.specs.CutLists.{stands, cuts_of}
 use Rattle.tib_image.specs.Parsing.{parse_key, IsParseEdge}
 use Rattle.tib_strings.specs.declared.StringRule.{StringRule}
 
--- a left side with this at its root begins with a label that the restriction admits
+-- a left-hand side with this at its root begins with a label that the restriction admits
 abbrev pub admits_root : List ℕ → ℕ → Symbol ℕ Variable → Bool
 admits_root labels e (hole x) = false
 admits_root labels zero (label f) = true
 admits_root labels (suc n) (label f) = stands labels n f
 
--- the rule is one of the key's state, and its left side is admitted
+-- the rule is one of the key's state, and its left-hand side is admitted
 abbrev pub fits_key : List ℕ → ℕ × ℕ × ℕ × ℕ → StringRule ℕ → Bool
 fits_key labels key r = if nat_eq r.state key.0 then admits_root labels key.3 r.left.label else false
 

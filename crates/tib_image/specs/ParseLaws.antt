@@ -53,7 +53,7 @@ states_below n rules h m low = ((h m low).0, has_below n (states_in (string_rule
 pub within_from : (n : ℕ) (rules : List (StringRule ℕ)) → AreStatesBelow n rules → AreWithin n rules
 within_from n rules h m low = ((h m low).0, all_below n (states_in (string_rule rules m).right) (h m low).1)
 
--- all that parsing owes of its keys, edges and rules
+-- all laws of parsing, for its keys, edges and rules
 pub parse_is_lawful :
     (states : ℕ) → 0 < states → (moves : List (StringRule ℕ)) → AreWithin states moves → (string : List ℕ) →
     IsLawful (parse moves string) (IsKey states (length string) (length (restricted_labels moves))) parse_reading key_cmp key_entries

@@ -17,7 +17,7 @@ use Rattle.tib_image.specs.Parsing.{parse_key}
 use Rattle.tib_image.specs.ParseOperation.{edge_parts}
 use Rattle.tib_image.specs.ParseEdges.{origins_at, edge_of}
 
--- a list of edges to left sides
+-- a list of edges to left-hand sides
 abbrev pub Listing : Type 0
 Listing = SideListing (ℕ × ℕ × ℕ × ℕ) Variable
 
@@ -27,8 +27,8 @@ abbrev pub variable_key : List ℕ → List (ℕ × ℕ × ℕ) → Variable →
 variable_key labels spans x =
     ((get_or spans x.number (0, 0, 0)).0, (get_or spans x.number (0, 0, 0)).1, (get_or spans x.number (0, 0, 0)).2, restriction labels x.label)
 
--- the place before the token at a position, where the first token stands at i and these are the
--- places behind the tokens
+-- the place before the token at a position, where the first token is at i and these are the places
+-- after the tokens
 abbrev pub place_before : ℕ → List ℕ → ℕ → ℕ
 place_before i ks zero = i
 place_before i ks (suc n) = get_or ks n 0
@@ -41,7 +41,7 @@ pub record IsListed (key : ℕ × ℕ × ℕ × ℕ) (es : List (Rule (ℕ × �
   pub ends_are : l.ends.items ≡ all_ends es
   pub counted : l.parts ≡ total edge_parts es
 
--- these edges of the key come behind those that are listed
+-- these edges of the key come after those that are listed
 pub record Adds (key : ℕ × ℕ × ℕ × ℕ) (es : List (Rule (ℕ × ℕ × ℕ × ℕ))) (old new : Listing) : Type 0 where
   pub listed : (front : List (Rule (ℕ × ℕ × ℕ × ℕ))) → IsListed key front old → IsListed key (front ++ es) new
   pub parts : new.parts ≡ old.parts + total edge_parts es
@@ -76,6 +76,6 @@ pub record HasPlaces (count : ℕ) (r : StringRule ℕ) : Type 0 where
   pub left : Each (λ x. x.number < count) (holes_of r.left)
   pub right : Each (λ x. x.variable < count) (pairs_of r.right)
 
--- the restriction of the key admits the label with which the left side of the rule begins
+-- the restriction of the key admits the label with which the left-hand side of the rule begins
 abbrev pub AdmitsRule : List ℕ → ℕ × ℕ × ℕ × ℕ → StringRule ℕ → Type 0
 AdmitsRule labels key rule = (root : ℕ) × (rule.left.label ≡ label root) × Admits labels key.3 root

@@ -31,7 +31,7 @@ entries_with (suc e) = 4
 abbrev pub key_entries : ℕ × ℕ × ℕ × ℕ → ℕ
 key_entries k = entries_with k.3
 
--- the parts of an edge: one, and the nodes of its right side
+-- the parts of an edge: one, and the nodes of its right-hand side
 abbrev pub edge_parts : Rule (ℕ × ℕ × ℕ × ℕ) → ℕ
 edge_parts e = 1 + size e.right
 

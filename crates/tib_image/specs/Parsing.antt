@@ -31,21 +31,21 @@ first_key n = (0, 0, n, 0)
 abbrev pub key_at : ℕ → List (ℕ × ℕ × ℕ × ℕ) → ℕ → ℕ × ℕ × ℕ × ℕ
 key_at n order m = get_or order m (first_key n)
 
--- the state of the pair with the variable i, and the places before and behind it
+-- the state of the pair with the variable i, and the places before and after it
 abbrev pub span_at : ℕ → List (Pair ℕ) → List (ℕ × ℕ) → ℕ × ℕ × ℕ
 span_at i [] ss = (0, 0, 0)
 span_at i (x ∷ xs) [] = (0, 0, 0)
 span_at i (x ∷ xs) (s ∷ ss) = if nat_eq i x.variable then (x.state, s.0, s.1) else span_at i xs ss
 
--- the key of a variable, where pairs stand on the right between these places
+-- the key of a variable, where pairs are on the right between these places
 abbrev pub parse_key : List ℕ → List (Pair ℕ) → List (ℕ × ℕ) → Variable → ℕ × ℕ × ℕ × ℕ
 parse_key labels pairs ss x = ((span_at x.number pairs ss).0, (span_at x.number pairs ss).1, (span_at x.number pairs ss).2, restriction labels x.label)
 
--- An edge of the key of a state, two places and a restriction: a rule of the state whose left side
--- begins with a label that the restriction admits, and a cut of its right side from the first place
--- to the second. It leads to the left side, in which each variable is the key of the state of its
--- pair on the right, of the places before and behind that pair, and of its own restriction, at the
--- cost of the rule. Its origin is the position of the rule and the cut.
+-- An edge of the key of a state, two places and a restriction: a rule of the state whose left-hand
+-- side begins with a label that the restriction admits, and a cut of its right-hand side from the
+-- first place to the second. It leads to the left-hand side, in which each variable is the key of
+-- the state of its pair on the right, of the places before and after that pair, and of its own
+-- restriction, at the cost of the rule. Its origin is the position of the rule and the cut.
 pub record IsParseEdge (moves : List (StringRule ℕ)) (string : List ℕ) (key : ℕ × ℕ × ℕ × ℕ) (origin : ℕ × List ℕ) (e : Rule (ℕ × ℕ × ℕ × ℕ)) : Type 0 where
   pub below : origin.0 < length moves
   pub state : (string_rule moves origin.0).state ≡ key.0
@@ -59,10 +59,10 @@ pub record IsParseEdge (moves : List (StringRule ℕ)) (string : List ℕ) (key 
       ≡ side_map (parse_key (restricted_labels moves) (pairs_of (string_rule moves origin.0).right) (spans (string_rule moves origin.0).right key.1 origin.1)) (string_rule moves origin.0).left
   pub costs : e.cost ≡ (string_rule moves origin.0).cost
 
--- Where Edge tells of a key, an origin and an edge that the origin gives the key this edge: the
+-- Where Edge says of a key, an origin and an edge that the origin gives the key this edge: the
 -- order has the key of the start over a string of n words first, and no key twice. The rules are
 -- over its positions and are, with the keys in place of these, exactly the edges of the keys, each
--- as often as origins give it. So each end of an edge stands in the order.
+-- as often as origins give it. So each end of an edge is in the order.
 pub record IsKeyGrammar {O : Type 0} (n : ℕ) (Edge : ℕ × ℕ × ℕ × ℕ → O → Rule (ℕ × ℕ × ℕ × ℕ) → Type 0) (order : List (ℕ × ℕ × ℕ × ℕ)) (rules : List (Rule ℕ)) : Type 0 where
   pub long : 0 < length order
   pub start : key_at n order 0 ≡ first_key n

@@ -1,4 +1,4 @@
--- Where trees stand in a tree, by the numbers of their nodes.
+-- Where trees are in a tree, by the numbers of their nodes.
 use Rattle.std.specs.Prelude.{◌≡◌, ℕ, ◌+◌, ◌-◌, ◌<◌, List, [], ◌∷◌, ◌++◌, length, refl}
 use Rattle.std.proofs.Common.{zero, suc, arith, ap, sym, ◌∙◌, subst, inl, inr, get_or, append_assoc}
 use Rattle.std.proofs.lemmas.Bool.{cases_lt}
@@ -9,7 +9,7 @@ use Rattle.tib_grammar.specs.Sides.{Symbol, label, hole}
 use Rattle.tib_transducer.specs.declared.Variable.{Variable}
 use Rattle.tib_image.specs.Nodes.{subtrees, subtree, variable_nodes}
 
--- P holds of each node of some trees, of which the first stands at node n, and of its label and
+-- P holds of each node of some trees, of which the first is at node n, and of its label and
 -- children
 abbrev pub Stand : (ℕ → ℕ → Trees ℕ → Type 0) → Trees ℕ → ℕ → Type 0
 Stand P none n = Unit {0}
@@ -28,7 +28,7 @@ at_right : {A : Type 0} (xs ys : List A) (n : ℕ) (d : A) → get_or (xs ++ ys)
 at_right [] ys n d = let e : 0 + n ≡ n = omega arith in ap (λ m. get_or ys m d) e
 at_right (x ∷ xs) ys n d = let e : suc (length xs) + n ≡ suc (length xs + n) = omega arith in ap (λ m. get_or (x ∷ (xs ++ ys)) m d) e ∙ at_right xs ys n d
 
--- each subtree stands at its node
+-- each subtree is at its node
 pub descend : (P : ℕ → ℕ → Trees ℕ → Type 0) (ts : Trees ℕ) (k n : ℕ) (d : Tree ℕ) → Stand P ts k → n < sizes ts → Stand P (only (get_or (subtrees ts) n d)) (k + n)
 descend P none k n d s h = absurd (omega arith)
 descend P (tree f kids rest) k zero d s h = let e : k ≡ k + 0 = omega arith in subst (Stand P (tree f kids none)) e (s.0, s.1, tt)
@@ -47,11 +47,11 @@ descend P (tree f kids rest) k (suc n) d s h = elim (cases_lt n (sizes kids)) [
       subst (λ x. Stand P (only x) (k + suc n)) same (subst (Stand P (only (get_or (subtrees rest) m d))) e (descend P rest (suc k + sizes kids) m d s.2 (omega (arith, high))))
 ]
 
--- the node stands in the tree, and the subtree there has the label and the children
+-- the node is in the tree, and the subtree there has the label and the children
 abbrev pub IsAt : Tree ℕ → ℕ → ℕ → Trees ℕ → Type 0
 IsAt t n f kids = (n < size t) × (subtree t n ≡ record { label = f; kids = kids })
 
--- trees whose subtrees are those of the tree from a node on stand there
+-- trees whose subtrees are those of the tree from a node on are there
 standing : (t : Tree ℕ) (ts : Trees ℕ) (xs ys : List (Tree ℕ)) (n : ℕ) → n ≡ length xs → subtrees (only t) ≡ xs ++ (subtrees ts ++ ys) → Stand (IsAt t) ts n
 standing t none xs ys n at is = tt
 standing t (tree f kids rest) xs ys n at is =
@@ -71,7 +71,7 @@ standing t (tree f kids rest) xs ys n at is =
           (omega (arith, at, length-append xs (one ∷ []), length-append (xs ++ one ∷ []) (subtrees kids), length-subtrees kids)) second,
     )
 
--- each subtree of a tree stands in it at its node
+-- each subtree of a tree is in it at its node
 pub stands : (t : Tree ℕ) (n : ℕ) → n < size t → Stand (IsAt t) (only (subtree t n)) n
 stands t n h =
     let whole : subtrees (only t) ≡ [] ++ (subtrees (only t) ++ []) = sym (nothing (subtrees (only t))) in
@@ -86,7 +86,7 @@ each_both : {A : Type 0} (P : A → Type 0) (xs ys : List A) → Each P xs → E
 each_both P [] ys a b = b
 each_both P (x ∷ xs) ys a b = (a.0, each_both P xs ys a.1 b)
 
--- the nodes of variables stand in the tree
+-- the nodes of variables are in the tree
 pub nodes_within : (t : Tree ℕ) (ss : Trees (Symbol ℕ Variable)) (us : Trees ℕ) (n : ℕ) → Stand (IsAt t) us n → Each (λ m. m < size t) (variable_nodes ss us n)
 nodes_within t none us n s = tt
 nodes_within t (tree x kids rest) none n s = tt

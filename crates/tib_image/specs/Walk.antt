@@ -1,4 +1,4 @@
--- The preorder of a left side, walked beside the nodes of a tree.
+-- The preorder of a left-hand side, walked beside the nodes of a tree.
 use Rattle.std.specs.Prelude.{ℕ, ◌+◌, nat_eq, Bool, true, List, [], ◌∷◌, ◌++◌, Option, None, Some, slice_get, if◌then◌else◌}
 use Rattle.tib_tree.specs.declared.preorder.Node.{Node}
 use Rattle.tib_grammar.specs.Sides.{Symbol, label, hole}

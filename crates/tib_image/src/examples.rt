@@ -1,4 +1,4 @@
-// What the definitions give on a small transducer that copies, and one tree.
+//! What the definitions give on a small transducer that copies, and one tree.
 ghost use Rattle.std.specs.Prelude.{◌≡◌, List, [], ◌∷◌, ◌+◌, map, Some, None};
 ghost use Rattle.tib_hunt.specs.Reached.{parts_of};
 ghost use Rattle.tib_grammar.specs.GrammarOf.{named_rule};
@@ -8,8 +8,8 @@ ghost use Rattle.tib_image.specs.Nodes.{MatchesAt, nodes_of};
 ghost use Rattle.tib_image.specs.Image.{image_of};
 ghost use Rattle.tib_image.specs.Examples.{copying, one_tree, both, outputs};
 
-/// The first rule matches at the root, where its variable stands at the leaf, and not at the leaf;
-/// two keys with three edges have fourteen parts.
+/// The first rule matches at the root, where its variable is at the leaf, and not at the leaf; two
+/// keys with three edges have fourteen parts.
 pub fn images_compute()
     ensures root { MatchesAt (transducer_rule copying 0).left one_tree 0 }
     ensures nodes { nodes_of (transducer_rule copying 0).left one_tree 0 ≡ 1 ∷ [] }

@@ -1,5 +1,5 @@
-//! The rules of a transducer by their states and the labels and ranks at the roots of their left
-//! sides.
+//! The rules of a transducer by their states and the labels and ranks at the roots of their
+//! left-hand sides.
 
 ghost use Rattle.std.specs.Prelude.{◌≡◌, ℕ, IfOk};
 ghost use Rattle.tib_grammar.specs.ShapeBuckets.{same_shape};
@@ -12,7 +12,7 @@ use tib_grammar::Item;
 use tib_keyed::{Shape, ShapeIndex};
 use tib_transducer::{Transducer, TransducerRule};
 
-/// The shape of a rule: its state, and the label and the rank at the root of its left side.
+/// The shape of a rule: its state, and the label and the rank at the root of its left-hand side.
 fn shape_of(rule: &TransducerRule<u32>) -> Shape
     requires { IsShaped rule.now }
     ensures { (s : ℕ × ℕ × ℕ) → has_shape s rule.now ≡ same_shape result s }

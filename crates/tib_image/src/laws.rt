@@ -1,4 +1,4 @@
-// What holds of the image of one tree, in every semiring.
+//! What holds of the image of one tree, in every semiring.
 ghost use Rattle.tib_image.specs.Image.{ImageMeans, ImageIsReached, OneImageSet};
 
 use tib_cost::Semiring;

@@ -1,9 +1,9 @@
 //! What a transducer makes of one tree, and which trees it turns into one string. The outputs on a
 //! tree: keys of a state of the transducer and a node of the tree, reached along the rules whose
-//! left sides match at the node. The transducer may copy, delete, be extended and be labelled.
-//! `Image` is this as an operation for `tib_hunt`, and `image` answers the keys that are reached,
-//! with their rules, as does `image_together` by several workers. The trees of a string stand in
-//! `parse`. It stands on `tib_transducer`, `tib_hunt` and `tib_keyed`, which has the index of its
+//! left-hand sides match at the node. The transducer may copy, delete, be extended and be labelled.
+//! `Image` is this as an operation for `tib_hunt`, and `image` returns the keys that are reached,
+//! with their rules, as does `image_together` by several workers. The trees of a string are in
+//! `parse`. It builds on `tib_transducer`, `tib_hunt` and `tib_keyed`, which has the index of its
 //! rules and its edges over places, and for `parse` on `tib_strings`.
 #![tactic(auto)]
 

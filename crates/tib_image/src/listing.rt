@@ -16,7 +16,7 @@ use tib_hunt::ExpandError;
 use tib_keyed::SideListing;
 use tib_transducer::Pair;
 
-/// Appends the key of the pair that an item may carry, where the variables stand at these nodes.
+/// Appends the key of the pair that an item may carry, where the variables are at these nodes.
 fn push_end(item: &Item<Pair<u32>>, nodes: &[u32], ends: &mut Vec<Key>) -> Result<(), AllocError>
     requires { Each (λ x. x.variable < length nodes.now) (holes_in (item.now ∷ [])) }
     ensures { OnOk result (ends.new.items ≡
@@ -28,7 +28,7 @@ fn push_end(item: &Item<Pair<u32>>, nodes: &[u32], ends: &mut Vec<Key>) -> Resul
     Ok(())
 }
 
-/// Appends the keys of the pairs among some items, where the variables stand at these nodes.
+/// Appends the keys of the pairs among some items, where the variables are at these nodes.
 fn push_ends(
     items: &[Item<Pair<u32>>],
     nodes: &[u32],
@@ -47,8 +47,9 @@ fn push_ends(
 /// The edges of the key at a position, as far as they are listed, within a budget of parts.
 pub(crate) type Listing<'a> = SideListing<'a, Key, Pair<u32>>;
 
-/// Lists an edge to a right side, whose pairs lead to the keys of their states and of the nodes of
-/// their variables, at a cost. `More` comes exactly where it has more parts than the budget leaves.
+/// Lists an edge to a right-hand side, whose pairs lead to the keys of their states and of the
+/// nodes of their variables, at a cost. `More` comes exactly where it has more parts than the
+/// budget leaves.
 pub(crate) fn add_edge<'a>(
     listing: &mut Listing<'a>,
     right: &'a Side<Pair<u32>>,

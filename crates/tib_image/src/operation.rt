@@ -38,7 +38,7 @@ fn root_at(tree: &Tree, node: u32) -> (Label, u32)
 }
 
 /// A transducer and a tree, with the rules of the transducer by their states and the roots of their
-/// left sides.
+/// left-hand sides.
 #[derive(Drop)]
 pub struct Image<'a, S> {
     /// The transducer.
@@ -70,8 +70,8 @@ impl<'a, S> Image<'a, S> {
         })
     }
 
-    /// Lists the edge of a key and of the rule at a position, if the left side of the rule matches
-    /// at the node.
+    /// Lists the edge of a key and of the rule at a position, if the left-hand side of the rule
+    /// matches at the node.
     fn list_rule(
         &self,
         key: Key,
@@ -103,7 +103,7 @@ impl<'a, S> Image<'a, S> {
         }
     }
 
-    /// The edges of a key that stands at a position.
+    /// The edges of a key at a position.
     pub(crate) fn list_edges(
         &self,
         alloc: Global,

@@ -1,7 +1,7 @@
 //! Parsing by tree-to-string transducers: the trees that a linear and nondeleting transducer turns
 //! into one string, each at the least cost, as keys of a state, two places of the string and a
-//! restriction that are reached along edges. What is defined and proved of it stands here, for
-//! every semiring; `parse` finds the keys by one worker, `parse_together` by several. It stands on
+//! restriction that are reached along edges. What is defined and proved of it is here, for every
+//! semiring; `parse` finds the keys by one worker, `parse_together` by several. It builds on
 //! `tib_strings`, `tib_apply`, whose restrictions are the same, `tib_hunt` and `tib_keyed`.
 
 pub mod examples;

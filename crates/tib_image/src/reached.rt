@@ -22,9 +22,9 @@ use tib_tree::Tree;
 /// transducer may copy, delete, be extended and be labelled. `TooMany` exactly where they have more
 /// parts than the limit, 1 to `MOST_PARTS` of tib_hunt; `OutOfMemory` if memory is refused. Calls
 /// `gate` once for each key. Cost: for each key one look-up by hash, one step for each item of the
-/// left sides that begin with the label and the rank of its node, and the edges that are made,
-/// beside the hunt's own (`hunt_alone`). The image of a tree under a transducer is from Comon and
-/// others, 2007.
+/// left-hand sides that begin with the label and the rank of its node, and the edges that are made,
+/// in addition to the hunt's own (`hunt_alone`). The image of a tree under a transducer is from
+/// Comon and others, 2007.
 pub fn image<S: Semiring, G: Gate>(
     alloc: Global,
     transducer: &Transducer<S>,
@@ -49,9 +49,9 @@ pub fn image<S: Semiring, G: Gate>(
     hunt_alone(alloc, &problem, limit, gate)
 }
 
-/// What `image` answers, found by this number of workers, 1 to 16, whatever the order of their
-/// steps. It may wait for ever, as the hunt by several workers (`hunt` of tib_hunt). Errors are
-/// those of `image`, and so is the cost, but for keys that are expanded again.
+/// What `image` returns, found by this number of workers, 1 to 16, whatever the order of their
+/// steps. It may wait forever, as the hunt by several workers (`hunt` of tib_hunt). Errors are
+/// those of `image`, and so is the cost, except for keys that are expanded again.
 pub fn image_together<S: Semiring + Sync, R: Threads + Wait + Sync, G: Gate + Sync>(
     rt: &R,
     alloc: Global,

@@ -1,4 +1,4 @@
-//! The match of a left side at a node: its items are walked beside the nodes of the tree.
+//! The match of a left-hand side at a node: its items are walked beside the nodes of the tree.
 
 ghost use Rattle.std.specs.Prelude.{◌≡◌, ◌<◌, ◌^◌, length, Ok, true, false, Some, None};
 ghost use Rattle.tib_grammar.specs.Items.{pairs_of};
@@ -20,9 +20,9 @@ fn binds_root(label: Option<Label>, root: Label) -> bool
     }
 }
 
-/// Whether the left side with these items matches at the node with the number `first`. Then `found`
-/// has the nodes at its variables, in preorder. Err only if memory is refused. Cost: one step for
-/// each item, whatever the variables bind.
+/// Whether the left-hand side with these items matches at the node with the number `first`. Then
+/// `found` has the nodes at its variables, in preorder. Err only if memory is refused. Cost: one
+/// step for each item, whatever the variables bind.
 pub(crate) fn match_items(
     nodes: &[Node],
     first: u32,

@@ -1,4 +1,4 @@
-// What the definitions give on a small transducer and the string u u v.
+//! What the definitions give on a small transducer and the string u u v.
 ghost use Rattle.std.specs.Prelude.{◌≡◌, ℕ, ◌+◌, max, List, [], ◌∷◌};
 ghost use Rattle.tib_tree.specs.Trees.{only};
 ghost use Rattle.tib_grammar.specs.Sides.{over};

@@ -6,7 +6,7 @@ use std::marker::Model;
 use tib_hunt::TableKey;
 
 /// A state of the transducer, the places where its part of the string begins and ends, and a
-/// restriction: 0, or the number of the one label that may stand at the root.
+/// restriction: 0, or the number of the one label that may be at the root.
 #[derive(Clone, Copy, Debug, Drop, PartialEq, Eq, PartialOrd, Ord, Hash)]
 pub struct Key {
     state: u32,

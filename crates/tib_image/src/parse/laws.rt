@@ -1,4 +1,4 @@
-// What holds of parsing, in every semiring.
+//! What holds of parsing, in every semiring.
 ghost use Rattle.tib_image.specs.Parsing.{ParseMeans};
 ghost use Rattle.tib_image.specs.ParseOperation.{ParseIsReached, ReachedParses, OneParseSet, KeysAreWithin, EndsAreKeys};
 ghost use Rattle.tib_image.specs.ParseEdges.{EdgesAreListed};

@@ -54,14 +54,14 @@ fn push_ends(
     Ok(())
 }
 
-/// An edge over places: it leads to the left side of a rule of the transducer.
+/// An edge over places: it leads to the left-hand side of a rule of the transducer.
 pub type ParseRule<'a> = SideRule<'a, Variable>;
 
 /// The edges of the key at a position, as far as they are listed, within a budget of parts.
 pub(crate) type Listing<'a> = SideListing<'a, Key, Variable>;
 
-/// Lists an edge to a left side, whose variables lead to the keys of the states and the places of
-/// their pairs, at a cost. `More` comes exactly where it has more parts than the budget leaves.
+/// Lists an edge to a left-hand side, whose variables lead to the keys of the states and the places
+/// of their pairs, at a cost. `More` comes exactly where it has more parts than the budget leaves.
 pub(crate) fn add_edge<'a>(
     listing: &mut Listing<'a>,
     restrictions: &Restrictions,

@@ -65,7 +65,7 @@ fn admits(restrictions: &Restrictions, key: Key, rule: &StringRule<u32>) -> bool
     }
 }
 
-/// Lists the edge of a key with a rule and the cut of these places behind its tokens. `More` comes
+/// Lists the edge of a key with a rule and the cut of these places after its tokens. `More` comes
 /// exactly where it has more parts than the budget leaves.
 fn add_cut<'a>(
     restrictions: &Restrictions,
@@ -229,7 +229,7 @@ impl<'a, S> Parse<'a, S> {
         }
     }
 
-    /// The edges of a key that stands at a position.
+    /// The edges of a key at a position.
     pub(crate) fn list_edges(
         &self,
         alloc: Global,

@@ -25,8 +25,9 @@ use tib_tree::Label;
 /// nondeleting. `TooMany` exactly where it is and the keys and rules have more parts than the
 /// limit, 1 to `MOST_PARTS` of tib_hunt; `OutOfMemory` if memory is refused, or where the string
 /// has 2^32 words or more. Calls `gate` once for each key. Cost: for each key and each rule of its
-/// state one step for each token of its right side and each place between those of the key, and the
-/// search for its cuts (`Cuts` of tib_strings), beside the hunt's own (`hunt_alone`).
+/// state one step for each token of its right-hand side and each place between those of the key,
+/// and the search for its cuts (`Cuts` of tib_strings), in addition to the hunt's own
+/// (`hunt_alone`).
 pub fn parse<S: Semiring, G: Gate>(
     alloc: Global,
     transducer: &StringTransducer<S>,
@@ -54,9 +55,9 @@ pub fn parse<S: Semiring, G: Gate>(
     Ok(found)
 }
 
-/// What `parse` answers, found by this number of workers, 1 to 16, whatever the order of their
-/// steps. It may wait for ever, as the hunt by several workers (`hunt` of tib_hunt). Errors are
-/// those of `parse`, and so is the cost, but for keys that are expanded again.
+/// What `parse` returns, found by this number of workers, 1 to 16, whatever the order of their
+/// steps. It may wait forever, as the hunt by several workers (`hunt` of tib_hunt). Errors are
+/// those of `parse`, and so is the cost, except for keys that are expanded again.
 pub fn parse_together<S: Semiring + Sync, R: Threads + Wait + Sync, G: Gate + Sync>(
     rt: &R,
     alloc: Global,

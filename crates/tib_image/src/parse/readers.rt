@@ -28,7 +28,7 @@ fn copy_item(item: &Item<Variable>) -> Item<Variable>
     }
 }
 
-/// A copy of a left side. Err only if memory is refused.
+/// A copy of a left-hand side. Err only if memory is refused.
 fn copy_side(alloc: Global, side: &Side<Variable>) -> Result<Side<Variable>, AllocError>
     ensures { IfOk result (λ s. s ≡ side.now) }
 {
@@ -86,7 +86,7 @@ fn readers_of(
 }
 
 /// The restrictions of the variables of some rules. Err only if memory is refused. Its time is that
-/// of a few passes over the left sides.
+/// of a few passes over the left-hand sides.
 pub(crate) fn restrictions_of(
     alloc: Global,
     rules: &[StringRule<u32>],

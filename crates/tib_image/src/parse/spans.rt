@@ -11,7 +11,7 @@ ghost use Rattle.tib_image.specs.ParseListing.{place_before};
 use std::alloc::AllocError;
 use tib_strings::Word;
 
-/// The state of a pair, and the places before and behind it.
+/// The state of a pair, and the places before and after it.
 pub(crate) type Span = (u32, u32, u32);
 
 /// Makes room for the pairs of this many variables.
@@ -24,8 +24,8 @@ pub(crate) fn make_room(spans: &mut Vec<Span>, count: usize) -> Result<(), Alloc
     Ok(())
 }
 
-/// The place before the token at a position, where the first token stands at a place, and these are
-/// the places behind the tokens.
+/// The place before the token at a position, where the first token is at a place, and these are the
+/// places after the tokens.
 pub(crate) fn place_at(from: u32, places: &[u32], position: usize) -> u32
     requires { position ≤ length places.now }
     ensures { result ≡ place_before from places.now position }
@@ -48,8 +48,8 @@ fn clear(spans: &mut Vec<Span>)
 }
 
 /// Puts the state and the places of each pair at the number of its variable, the first of several,
-/// where the tokens of a list stand between these places. Where a variable has no pair, all three
-/// are 0.
+/// where the tokens of a list are between these places. Where a variable has no pair, all three are
+/// 0.
 pub(crate) fn put_spans(tokens: &[Word<u32>], from: u32, places: &[u32], spans: &mut Vec<Span>)
     requires as_many { length places.now ≡ length tokens.now }
     requires known { Each (λ x. x.variable < length spans.old.items) (pairs_of tokens.now) }

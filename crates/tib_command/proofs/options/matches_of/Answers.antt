@@ -21,7 +21,7 @@ accepted : (o : Option (List Item)) (kinds : Kinds) (rows : List Row) → ReadsT
 accepted None kinds rows h e = absurd (h e)
 accepted (Some items) kinds rows h e = (items, refl, h.1)
 
--- an error that is not for want of memory comes only where the words are refused
+-- an error other than out of memory comes only where the words are refused
 refused_by : (o : Option (List Item)) (kinds : Kinds) (rows : List Row) (k : ErrorKind) → ReadsTo o kinds rows → (k ≡ OutOfMemory → ⊥) → (k ≡ OutOfMemory) ⊎ IsAmong k kinds → o ≡ None
 refused_by None kinds rows k h other e = refl
 refused_by (Some items) kinds rows k h other e =
