@@ -1,4 +1,4 @@
--- A job that can be answered is answered, but for want of memory, where no count rose.
+-- A job that can be answered is answered, unless memory was refused, where no count rose.
 use Rattle.std.specs.Prelude.{◌≡◌, ℕ, ◌⊎◌, List, Option, Some, None, IfSome, refl}
 use Rattle.std.proofs.Common.{arith, subst, inl, inr}
 use Rattle.tib_lex.specs.declared.fault.FileFault.{FileFault}

@@ -102,7 +102,7 @@ forms_fault limit f g statuses.WriteFault h = h
 forms_fault limit f g (statuses.TooLong n) h = h
 forms_fault limit f g statuses.OutOfMemory h = h
 
--- what a comparison tells
+-- what a comparison says
 
 pub told_many : (one two : GrammarOf) (limit n : ℕ) (error : CompareError) → error ≡ TooMany n → IsCause one two limit error → IsBeyond (hunted one two) limit
 told_many one two limit n error is h = (subst (IsCause one two limit) is h).1
@@ -110,7 +110,7 @@ told_many one two limit n error is h = (subst (IsCause one two limit) is h).1
 pub told_large : (one two : GrammarOf) (limit : ℕ) (error : CompareError) → error ≡ TreeTooLarge → IsCause one two limit error → IsWithin one two limit × HasLargeLeast one two
 told_large one two limit error is h = subst (IsCause one two limit) is h
 
--- the labels of its tree stand in the table
+-- the labels of its tree are in the table
 pub answer_labelled :
     (labels : List (List ℕ)) (one two : List (Rule ℕ)) → AreLabelled (length labels) one → AreLabelled (length labels) two → (answer : Compared) → IsCompared labels one two answer →
     HasAnswerLabels labels answer

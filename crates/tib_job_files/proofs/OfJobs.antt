@@ -132,7 +132,7 @@ needs_met operations.Check product numbers m low = tt
 needs_met operations.Prune product numbers m low = m
 needs_met operations.Demo product numbers m low = (m, low)
 
--- the same of jobs
+-- the same for jobs
 
 module _ (asked : Asked) (held : List ℕ → Option (List ℕ)) where
   told_bytes : AreTold asked held → AreAllTold (kinds_of asked.task.operation) (bytes_of asked held)

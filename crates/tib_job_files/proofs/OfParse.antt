@@ -111,7 +111,7 @@ rules_printed scale labels t string order rules q reached range =
     found_over scale labels (record { problem = parse t.rules string; spare = first_key (length string); begins = at_first }) (parse_plain scale labels t q string (first_key (length string))) order rules reached range
 
 -- Rules over the positions of an order stand for the same edges, whatever key stands for the places
--- behind its end.
+-- after its end.
 module _ {K : Type 0} (n : ℕ) (f g : ℕ → K) (same : (q : ℕ) → q < n → f q ≡ g q) where
   trees_same : (ts : Trees (Symbol ℕ ℕ)) → Fit n ts → relabel (symbol_map {A = ℕ} f) ts ≡ relabel (symbol_map g) ts
   trees_same none h = refl

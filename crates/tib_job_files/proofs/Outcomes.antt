@@ -65,7 +65,7 @@ module _ {S : Type 0} (o : Operation) {by : Setting} {values : ValuesOf (kinds_o
   made_outcome (Ok text) met within is fault = text_outcome (Ok text) met within is tt
   made_outcome (Err s) met within is fault = text_outcome (Err s) tt tt tt (made_fault o by values met s fault)
 
-  -- the same of what is printed, of which the result is the text
+  -- the same for what is printed, of which the result is the text
   pub printed_outcome :
       {T : Type 0} (of : T → SinkThatGrows) (made : Result T Status) (result : Result SinkThatGrows Status) → result ≡ text_part of made → IsMet (demanded o values) →
       IfOk made (λ _. (makes o by.scale by.product by.numbers values).within) → IfOk made (λ h. IsResultOf o by.scale by.product by.numbers by.labels values (of h).bytes) →

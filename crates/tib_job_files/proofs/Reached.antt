@@ -78,7 +78,7 @@ before_first (Some asked) held (suc m) kind h e = absurd (omega (arith, h))
 pub some_kind : (a b : Kind) → (let o : Option Kind = Some a in o ≡ Some b) → a ≡ b
 some_kind a b e = cc e
 
--- and one file more is of its kind
+-- and one more file is of its kind
 pub before_more :
     (job : Option Asked) (held : List ℕ → Option (List ℕ)) (n : ℕ) (kind : Kind) → AreBefore job held n → kind_at job n ≡ Some kind → IfSome (bytes_at held (file_at job n)) (IsOfKind (scale_by job) kind) →
     AreBefore job held (suc n)

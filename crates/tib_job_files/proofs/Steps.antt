@@ -13,7 +13,7 @@ use Rattle.tib_job_files.proofs.Reached.{about_early, about_earlier, cause_earli
 pub leaves_all : (files : FilesSeen) → LeavesFiles files files
 leaves_all files = record { held = refl; sure = refl; counts = record { later = λ name. omega arith; calm = λ name sure below. refl } }
 
--- want of memory
+-- out of memory
 pub ends_short : (job : Option Asked) (before after : FilesSeen) → EndsRun job before after statuses.OutOfMemory
 ends_short job before after = record { cause = tt; earlier = tt; early = tt }
 

@@ -1,4 +1,4 @@
--- What a hunt that answered nothing tells.
+-- What a hunt that returned nothing says.
 use Rattle.std.specs.Prelude.{◌≡◌, ℕ, List}
 use Rattle.std.proofs.Common.{subst}
 use Rattle.tib_hunt.specs.Reached.{IsBeyond}

@@ -139,7 +139,7 @@ module _ (f : ℕ → ℕ) where
     parse_key_with labels pairs ss x =
         ap (λ (e : ℕ). ((span_at x.number pairs ss).0, (span_at x.number pairs ss).1, (span_at x.number pairs ss).2, e)) (restriction_with f apart labels x.label)
 
-    -- the left side of a rule over keys
+    -- the left-hand side of a rule over keys
     pub parse_side :
         (moves : List (StringRule ℕ)) (r : StringRule ℕ) (i : ℕ) (ks : List ℕ) →
         side_map (parse_key (restricted_labels (words_with f moves)) (pairs_of (map (token_with f) r.right)) (spans (map (token_with f) r.right) i ks)) (relabel_tree (left_with f) r.left)

@@ -1,4 +1,4 @@
--- A tree-to-string transducer that was read has its shape, and its left sides and costs can be
+-- A tree-to-string transducer that was read has its shape, and its left-hand sides and costs can be
 -- written.
 use Rattle.tib_cost.specs.declared.Scale.{Scale}
 use Rattle.std.proofs.Common.{ℕ, List, [], ◌∷◌, sym, subst, arith, zero, suc}

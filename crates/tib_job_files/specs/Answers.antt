@@ -145,7 +145,8 @@ DifferInLarge operation s t =
 abbrev pub AreOneStatus : Operation → Status → Status → Type 0
 AreOneStatus operation s t = (s ≡ t) ⊎ ((s ≡ statuses.OutOfMemory) ⊎ ((t ≡ statuses.OutOfMemory) ⊎ DifferInLarge operation s t))
 
--- a job that can be answered, in a run in which no count rose, was answered but for want of memory
+-- a job that can be answered, in a run in which no count rose, was answered unless memory was
+-- refused
 abbrev pub IsComplete : Option Asked → (List ℕ → Option (List ℕ)) → (List ℕ → ℕ) → (List ℕ → ℕ) → ℕ → ℕ → Status → Type 0
 IsComplete None held before now out_before out_now status = Unit {0}
 IsComplete (Some asked) held before now out_before out_now status =
@@ -156,8 +157,8 @@ abbrev pub HasRoom : Option ℕ → ℕ → Type 0
 HasRoom None needed = ⊥
 HasRoom (Some free) needed = needed ≤ free
 
--- the count of the output stands still where it is below its last value and there is room for each
--- text that answers the job
+-- the count of the output does not change where it is below its last value and there is room for
+-- each text that answers the job
 abbrev pub StandsStill : Option Asked → (List ℕ → Option (List ℕ)) → Option ℕ → ℕ → ℕ → Type 0
 StandsStill None held free before now = now ≡ before
 StandsStill (Some asked) held free before now = before < last_count → ((text : List ℕ) → IsAnswer asked held text → HasRoom free (length text)) → now ≡ before

@@ -231,7 +231,7 @@ HasWithin (Some asked) held = MakesWithin asked.task.operation (scale_of asked.m
 -- this run, a file that is too long, the first fault of a file that is not, the first rule outside
 -- the class that the operation demands, a normal form or a reached set with more parts than the
 -- limit of the job, or a tree that is too large among those that a state may have to give, or that
--- each tree by which two grammars differ is too large. Want of memory may stand at any place.
+-- each tree by which two grammars differ is too large. Out of memory may come at any place.
 abbrev pub HasCause : Option Asked → (List ℕ → Option (List ℕ)) → (List ℕ → ℕ) → (List ℕ → ℕ) → ℕ → ℕ → Status → Type 0
 HasCause job held before now out_before out_now statuses.Done = IsSome job
 HasCause job held before now out_before out_now statuses.Usage = job ≡ None
@@ -265,7 +265,7 @@ HasEarlier job held (statuses.TooMany limit) = AreBefore job held (file_count jo
 HasEarlier job held statuses.TreeTooLarge = AreBefore job held (file_count job + 1) × HasClass job held × HasWithin job held
 HasEarlier job held status = Unit {0}
 
--- an answer about one file, or want of memory
+-- an answer about one file, or out of memory
 abbrev pub IsAbout : ℕ → Status → Type 0
 IsAbout file (statuses.BadInput n fault) = n ≡ file
 IsAbout file (statuses.ReadFault n) = n ≡ file

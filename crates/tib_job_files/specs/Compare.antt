@@ -32,7 +32,7 @@ HasAnswerLabels labels Same = Unit {0}
 HasAnswerLabels labels (First t) = HasLabels labels t
 HasAnswerLabels labels (Second t) = HasLabels labels t
 
--- The text is the line of what the comparison of the two grammars answers, whose tree is not too
+-- The text is the line of what the comparison of the two grammars gives, whose tree is not too
 -- large.
 pub record HasCompareText (labels : List (List ℕ)) (f g : GrammarOf) (text : List ℕ) : Type 0 where
   pub answer : Compared
@@ -40,7 +40,7 @@ pub record HasCompareText (labels : List (List ℕ)) (f g : GrammarOf) (text : L
   pub small : IsSmall answer
   pub are : text ≡ answer_text labels answer
 
--- whatever the comparison of two grammars answers, its tree is not too large
+-- whatever the comparison of two grammars gives, its tree is not too large
 abbrev pub LeastIsSmall : List (List ℕ) → GrammarOf → GrammarOf → Type 0
 LeastIsSmall labels f g = (answer : Compared) → IsCompared labels f.rules g.rules answer → IsSmall answer
 
@@ -70,13 +70,13 @@ vectors_of_both limit f g = record {
 abbrev pub compare_makes : ℕ → GrammarOf → GrammarOf → Made
 compare_makes limit f g = and_then (normal_form max limit f) (and_then (normal_form max limit g) (vectors_of_both limit f g))
 
--- why there is no text: too many parts, or within the limit a least tree that is too large, or want
+-- why there is no text: too many parts, or within the limit a least tree that is too large, or out
 -- of memory
 abbrev pub IsCompareFault : ℕ → GrammarOf → GrammarOf → Status → Type 0
 IsCompareFault limit f g statuses.TreeTooLarge = (compare_makes limit f g).within × HasLargeLeast f g
 IsCompareFault limit f g status = IsMadeFault (compare_makes limit f g).more limit status
 
--- why the comparison of two grammars in normal form has no text, as the hunt tells it
+-- why the comparison of two grammars in normal form has no text, as the hunt reports it
 abbrev pub IsFormsFault : ℕ → GrammarOf → GrammarOf → Status → Type 0
 IsFormsFault limit one two statuses.TreeTooLarge = IsWithin one two limit × HasLargeLeast one two
 IsFormsFault limit one two status = IsMadeFault (IsBeyond (hunted one two) limit) limit status

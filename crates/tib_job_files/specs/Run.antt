@@ -79,13 +79,13 @@ pub record IsRunOf (job : Option Asked) (before after : FilesSeen) (old new : Si
   pub untouched : IsUntouched status old new
   -- the output's count of faults does not fall
   pub later : old.faults ≤ new.faults
-  -- and stands still where there is room for every answer
+  -- and does not change where there is room for every answer
   pub still : StandsStill job before.held old.free old.faults new.faults
   -- the files tell the same bytes
   pub held : after.held ≡ before.held
   -- the same names are sure
   pub sure : after.sure ≡ before.sure
-  -- no count of the files falls, and that of a sure name stands still
+  -- no count of the files falls, and that of a sure name does not change
   pub counts : GoesOn before.sure before.faults after.faults
   -- a job that can be answered is answered
   pub complete : IsComplete job before.held before.faults after.faults old.faults new.faults status
@@ -94,11 +94,11 @@ pub record IsRunOf (job : Option Asked) (before after : FilesSeen) (old new : Si
 pub record IsLogged (line : List ℕ) (old new : SinkSeen) : Type 0 where
   -- the log took a front of the line, and its room fell by the front's length
   pub front : TakesFront old.written new.written old.free new.free line
-  -- the whole line where its count, below the last value, stands still
+  -- the whole line where its count, below the last value, does not change
   pub whole : old.faults < last_count → new.faults ≡ old.faults → Takes old.written new.written old.free new.free line
   -- the log's count of faults does not fall
   pub later : old.faults ≤ new.faults
-  -- and stands still where there is room for the line
+  -- and does not change where there is room for the line
   pub still : Calm old.free (length line) old.faults new.faults
 
 -- two runs on the same words, over files that tell the same bytes, in which no count rises, end

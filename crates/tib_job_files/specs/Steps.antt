@@ -16,7 +16,7 @@ pub record LeavesFiles (before after : FilesSeen) : Type 0 where
   pub held : after.held ≡ before.held
   -- the same names are sure
   pub sure : after.sure ≡ before.sure
-  -- no count falls, and that of a sure name stands still
+  -- no count falls, and that of a sure name does not change
   pub counts : GoesOn before.sure before.faults after.faults
 
 -- What the status says with which the run of a job ends before anything is written.
@@ -32,7 +32,7 @@ pub record EndsRun (job : Option Asked) (before after : FilesSeen) (status : Sta
 pub record StopsAtFile (job : Option Asked) (file : ℕ) (before after : FilesSeen) (status : Status) : Type 0 where
   -- it comes only with its cause; no count of the output rises
   pub cause : HasCause job before.held before.faults after.faults 0 0 status
-  -- it names this file, or is want of memory
+  -- it names this file, or is `OutOfMemory`
   pub about : IsAbout file status
 
 -- the run is done: the text was taken whole, and the output is finished and did not fail
@@ -55,7 +55,7 @@ pub record IsWritten (text : List ℕ) (old new : SinkSeen) (status : Status) : 
   pub done : HasWritten text old new status ⊎ HasWrittenFront text old new status
   -- the count of faults does not fall
   pub later : old.faults ≤ new.faults
-  -- and stands still where there is room for the text
+  -- and does not change where there is room for the text
   pub still : Calm old.free (length text) old.faults new.faults
 
 -- a text is written, or the run ends with the status that is there in its place

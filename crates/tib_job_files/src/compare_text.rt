@@ -42,7 +42,7 @@ fn add_tree(text: &mut GrowingSink, tree: &Tree, labels: &Labels) -> Result<(), 
     print_tree::<GrowingSink>(tree, labels, text)
 }
 
-// The line of a word and a tree. It fails only for want of memory.
+// The line of a word and a tree. It fails only if memory is refused.
 fn line_of(alloc: Global, word: &[u8], tree: &Tree, labels: &Labels) -> Result<GrowingSink, Failed>
     requires { HasLabels labels.now tree.now }
     ensures { IfOk result (λ text. text.bytes ≡ tree_line word.now labels.now tree.now) }
@@ -54,7 +54,7 @@ fn line_of(alloc: Global, word: &[u8], tree: &Tree, labels: &Labels) -> Result<G
     Ok(text)
 }
 
-// The line that says that the supports are the same. It fails only for want of memory.
+// The line that says that the supports are the same. It fails only if memory is refused.
 fn same_line(alloc: Global) -> Result<GrowingSink, Failed>
     ensures { IfOk result (λ text. text.bytes ≡ codes "same\n") }
 {
@@ -63,7 +63,7 @@ fn same_line(alloc: Global) -> Result<GrowingSink, Failed>
     Ok(text)
 }
 
-// The line of an answer. It fails only for want of memory.
+// The line of a result. It fails only if memory is refused.
 fn answer_line(alloc: Global, answer: &Compared, labels: &Labels) -> Result<GrowingSink, Failed>
     requires { HasAnswerLabels labels.now answer.now }
     ensures { IfOk result (λ text. text.bytes ≡ answer_text labels.now answer.now) }
@@ -114,7 +114,7 @@ fn both_forms(
     Ok(Forms { one, two })
 }
 
-// The line of what the comparison of two grammars in normal form answered, or the status with which
+// The line of what the comparison of two grammars in normal form returned, or the status with which
 // the run ends.
 fn text_of(
     alloc: Global,
@@ -147,11 +147,11 @@ fn text_of(
     }
 }
 
-/// The line of what the comparison of the supports of two grammars answers: `same`, or `first` or
-/// `second` and the least tree that has a cost in exactly one of them; or the status with which the
-/// run ends: too many parts, a least tree of more than 10,000 nodes, or want of memory. The time is
-/// that of both normal forms and of the vectors of both side by side (`compare_alone` of
-/// tib_compare).
+/// The line of the result of comparing the supports of two grammars: `same`, or `first` or `second`
+/// and the least tree that has a cost in exactly one of them. `TooMany` only where a normal form or
+/// the reached set has more parts than the limit; `TreeTooLarge` only where that least tree has
+/// more than 10,000 nodes; otherwise `OutOfMemory`. The time is that of both normal forms and of
+/// the vectors of both side by side (`compare_alone` of tib_compare).
 pub fn comparison_of<G: Gate>(
     alloc: Global,
     left: &Grammar<Boolean>,
@@ -180,8 +180,9 @@ pub fn comparison_of<G: Gate>(
     }
 }
 
-/// What `comparison_of` answers, with the vectors hunted by this number of workers, 1 to 16,
-/// whatever the order of their steps. It may wait for ever, as the hunt by several workers.
+/// What `comparison_of` returns, with the vectors hunted by this number of workers, 1 to 16,
+/// whatever the order of their steps. It may wait forever, as the hunt by several workers. Errors
+/// are those of `comparison_of`.
 pub fn comparison_of_together<R: Threads + Wait + Sync, G: Gate + Sync>(
     rt: &R,
     alloc: Global,

@@ -28,8 +28,8 @@ pub trait FileValue {
     // It is read by this scale.
     ghost suits: { Scale → Type 0 };
 
-    /// The value of a file's bytes, or their first fault. Labels that are new go into the table,
-    /// also before a fault. The cost is that of the reader of the kind.
+    /// The value of a file's bytes. The error is their first fault, or `OutOfMemory`. New labels go
+    /// into the table, also on an error. The cost is that of the reader of the kind.
     fn read(alloc: Global, bytes: &[u8], labels: &mut Labels) -> Result<Self, ReadError>
         requires short { IsShort bytes.now }
         requires room { length labels.old + length bytes.now < 2 ^ 32 - 1 }
@@ -73,9 +73,9 @@ fn bytes_of<F: Files>(alloc: Global, job: &Job, file: u32, files: &mut F) -> Res
     }
 }
 
-/// The value of a file of the job, which counts from 1, or the status with which the run ends.
-/// Labels that are new go into the table, also where there is no value. The cost is that of reading
-/// the file and its text once.
+/// The value of a file of the job, which counts from 1. `ReadFault`, `TooLong` or `BadInput` names
+/// the file; otherwise `OutOfMemory`. New labels go into the table, also on an error. The cost is
+/// that of reading the file and its text once.
 pub fn value_in<V: FileValue, F: Files>(
     alloc: Global,
     job: &Job,

@@ -47,8 +47,8 @@ pub enum Values<S> {
 
 /// The values of the files of a job, read in order over one table of labels that is empty before,
 /// or the status with which the run ends: that of the first file that cannot be read, is too long
-/// or is not of its kind, or that memory was refused. No file is read twice. The cost is that of
-/// reading each file and its text once.
+/// or is not of its kind, or `OutOfMemory`. New labels go into the table, also on an error. No file
+/// is read twice. The cost is that of reading each file and its text once.
 pub fn values_of<S: Semiring + Drop, F: Files>(
     alloc: Global,
     job: &Job,

@@ -69,15 +69,15 @@ pub fn jobs_have_answers()
 {}
 
 /// A job whose files are told ends with one status in all runs in which no count rises and no
-/// memory is refused, but that of a job that lists trees the one may list them where the other
-/// meets a tree of more than 10,000 nodes at some state.
+/// memory is refused. Only where the job lists trees may one run list them and another meet a tree
+/// of more than 10,000 nodes at some state.
 pub fn statuses_are_one()
     ensures { StatusesAreOne }
 {}
 
-/// The same of the promise of `run`: two runs of a job whose files are told, over files that tell
-/// the same bytes, in which no count rises, end with one status but for want of memory, and for a
-/// list in the one and a tree that is too large in the other where the job lists trees.
+/// The same for the promise of `run`: two runs of a job whose files are told, over files that tell
+/// the same bytes, in which no count rises, end with one status, unless memory was refused, or the
+/// job lists trees and one run lists them where the other meets a tree that is too large.
 pub fn runs_end_alike()
     ensures { RunsEndAlike }
 {}

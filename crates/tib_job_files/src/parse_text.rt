@@ -21,7 +21,7 @@ use tib_operations::Status;
 use tib_strings::StringTransducer;
 use tib_tree::{Label, Labels};
 
-// The canonical form of the keys that a hunt answered, or the status with which the run ends.
+// The canonical form of the keys that a hunt returned, or the status with which the run ends.
 fn canonical_of_parse<S: Semiring + Drop>(
     alloc: Global,
     transducer: &StringTransducer<S>,
@@ -91,8 +91,9 @@ pub fn parse_of<S: Semiring + Drop, G: Gate>(
     canonical_of_parse::<S>(alloc, transducer, string, labels, limit, hunted)
 }
 
-/// What `parse_of` answers, with the keys hunted by this number of workers, 1 to 16, whatever the
-/// order of their steps. It may wait for ever, as the hunt by several workers.
+/// What `parse_of` returns, with the keys hunted by this number of workers, 1 to 16, whatever the
+/// order of their steps. It may wait forever, as the hunt by several workers. Errors are those of
+/// `parse_of`.
 pub fn parse_of_together<S: Semiring + Sync + Drop, R: Threads + Wait + Sync, G: Gate + Sync>(
     rt: &R,
     alloc: Global,

@@ -29,11 +29,11 @@ use Rattle.tib_k_best_lists.proofs.Ranks.{tree_below, one_k_best}
 use Rattle.tib_operations.specs.Text.{cost_text}
 use Rattle.tib_operations.specs.KBest.{costed_line, costed_lines, HasKBestText}
 
--- texts of which none stands twice have a number each
+-- texts of which none occurs twice have a number each
 pub texts_apart : (labels : List (List ℕ)) → Distinct labels → AreDistinct labels
 texts_apart labels d = record { once = λ m n t e f. number_same labels m n t d e f }
 
--- the labels of rules that agree by text stand in the second table
+-- the labels of rules that agree by text are in the second table
 module _ (labels others : List (List ℕ)) where
   shape_labelled : (ts us : Trees (Symbol ℕ ℕ)) → HaveOneShape (AgreeInSymbol labels others) ts us → SideLabelsBelow (length others) us
   shape_labelled none none h = tt

@@ -34,7 +34,7 @@ best_of_form product rules form same labels k xs b = record {
   others = λ y m new. b.others y ((same y.0 (Some y.1)).0 m) new;
 }
 
--- its labels stand in the table
+-- its labels are in the table
 pub labels_of_best : (product : ℕ → ℕ → ℕ) (rules : List (Rule ℕ)) (labels : List (List ℕ)) → AreLabelled (length labels) rules → (k : ℕ) (xs : List Costed) → IsKBest product rules labels k xs → Each (λ x. HasLabels labels x.0) xs
 labels_of_best product rules labels labelled k xs b =
     each_weaker (IsTreeAt product rules 0) (λ x. HasLabels labels x.0) xs (λ x m. tree_below labels product rules labelled 0 x m) b.members
@@ -70,7 +70,7 @@ pub costs_free :
 costs_free scale weighted weighs labels rules plain e n h =
     let cost : IsPlainIf false (rule_at rules n).cost = subst (λ (b : Bool). IsPlainIf b (rule_at rules n).cost) (sym weighs ∙ e) (plain n h).cost in cost
 
--- the lines of one tree more
+-- the lines of one more tree
 append_line : (scale : Scale) (labels : List (List ℕ)) (xs : List Costed) (x : Costed) → costed_lines scale labels (xs ++ x ∷ []) ≡ costed_lines scale labels xs ++ costed_line scale labels x
 append_line scale labels [] x = append_none (costed_line scale labels x)
   where

@@ -133,7 +133,7 @@ rule_no_feed : (m n : ℕ) (label : List ℕ) → HasNoFeed label → HasNoFeed 
 rule_no_feed m n label h =
     free_append (state m) (32 ∷ (45 ∷ (62 ∷ (32 ∷ (label ++ (40 ∷ (state n ++ 41 ∷ []))))))) (no_feed m) (free_append label (40 ∷ (state n ++ 41 ∷ [])) h (free_append (state n) (41 ∷ []) (no_feed n) refl))
 
--- it is what stands before the line feed of a step
+-- it is what comes before the line feed of a step
 step_is : (label : List ℕ) (i : ℕ) → step_line label i ≡ rule_bytes (suc i) label i ++ 10 ∷ []
 step_is label i =
     let upper : List ℕ = decimal (suc i) in

@@ -40,7 +40,7 @@ use Rattle.tib_operations.specs.KBest.{AreSmall, HasLargeTree, ListsSmall}
 use Rattle.tib_operations.proofs.BestExists.{larger_later, nat_cases, size_cases}
 use Rattle.tib_operations.proofs.DemoText.{state, reads, IsDemoLine}
 
--- what stands in a right side: a label alone, or a label over the state p alone
+-- what is in a right-hand side: a label alone, or a label over the state p alone
 
 abbrev IsAlone : Symbol ℕ ℕ → Trees (Symbol ℕ ℕ) → Type 0
 IsAlone (hole q) ks = ⊥

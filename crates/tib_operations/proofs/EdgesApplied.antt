@@ -29,8 +29,8 @@ use Rattle.tib_canon.proofs.Relabelled.{variable_with, node_with, left_with}
 use Rattle.tib_operations.proofs.TransducerTables.{right_with, rule_with as move_with, holes_noted, variables_with}
 use Rattle.tib_operations.proofs.MovesByText.{moves_with, move_at, pairs_with, admits_to, admits_from, forward_side, backward_side}
 
--- each rule of the one list stands in the other under the other numbers, and each of the other
--- comes from one
+-- each rule of the one list is in the other under the other numbers, and each of the other comes
+-- from one
 pub record AreMoved (f : ℕ → ℕ) (xs ys : List (Rule ℕ)) : Type 0 where
   pub to : (n : ℕ) → n < length xs → (m : ℕ) × (m < length ys) × (rule_at ys m ≡ rule_with f (rule_at xs n))
   pub from : (m : ℕ) → m < length ys → (n : ℕ) × (n < length xs) × (rule_at ys m ≡ rule_with f (rule_at xs n))

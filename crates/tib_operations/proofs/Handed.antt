@@ -1,4 +1,4 @@
--- What a call answers, handed on by the function that returns it as it is.
+-- What a call returns, handed on by the function that returns it as it is.
 use Rattle.std.specs.Prelude.{Err, Result, IfOk}
 use Rattle.std.proofs.Common.{Ok}
 

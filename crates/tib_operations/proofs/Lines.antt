@@ -23,7 +23,7 @@ take_long [] i h = absurd (omega arith)
 take_long (x ∷ xs) zero h = refl
 take_long (x ∷ xs) (suc i) h = ap suc (take_long xs i (omega arith))
 
--- the lines of one thing more
+-- the lines of one more thing
 pub lines_more : {A : Type 0} (line : A → Option ℕ → List ℕ) (xs : List A) (cs : List (Option ℕ)) (i : ℕ) (x : A) (c : Option ℕ) → i < length xs → length cs ≡ length xs →
     x ≡ get_or xs i x → c ≡ get_or cs i c → lines_of_all line (take (i + 1) xs) (take (i + 1) cs) ≡ lines_of_all line (take i xs) (take i cs) ++ line x c
 lines_more line xs cs i x c h e at there =
@@ -57,7 +57,7 @@ each_at P [] i x h l e = absurd (omega arith)
 each_at P (y ∷ ys) zero x h l e = subst P (sym e) h.0
 each_at P (y ∷ ys) (suc i) x h l e = each_at P ys i x h.1 (omega arith) e
 
--- four pieces that went into an empty text, one behind the other
+-- four pieces that went into an empty text, one after the other
 pub four_pieces :
     (start first second third last a b c d : List ℕ) → start ≡ [] → first ≡ start ++ a → second ≡ first ++ b → third ≡ second ++ c → last ≡ third ++ d →
     last ≡ a ++ (b ++ (c ++ d))

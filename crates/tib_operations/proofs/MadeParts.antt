@@ -58,7 +58,7 @@ module _ (P : Type 0) (limit : ℕ) where
   made_weaker Q f (statuses.TooLong n) h = h
   made_weaker Q f statuses.OutOfMemory h = h
 
--- what a hunt that found too much tells
+-- what a hunt that found too much says
 pub told_much : (limit n : ℕ) (P : Type 0) (error : HuntError) → error ≡ TooMany n → IfTooMany limit P error → P
 told_much limit n P error is h = (subst (IfTooMany limit P) is h).1
 

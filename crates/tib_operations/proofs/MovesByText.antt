@@ -58,7 +58,7 @@ map_same : {A : Type 0} (xs : List A) → map (λ x. x) xs ≡ xs
 map_same [] = refl
 map_same {A} (x ∷ xs) = ap (λ (ys : List A). x ∷ ys) (map_same xs)
 
--- the right side has the same pairs
+-- the right-hand side has the same pairs
 pub pairs_with : (f : ℕ → ℕ) (right : SideFor ℕ (Pair ℕ)) → holes_of (relabel_tree (right_with f) right) ≡ holes_of right
 pairs_with f right = holes_noted f (λ x. x) (only right) ∙ map_same (holes_of right)
 
@@ -161,7 +161,7 @@ module _ (f : ℕ → ℕ) (apart : (i j : ℕ) → f i ≡ f j → i ≡ j) whe
     pub side_keyed : (s : SideFor ℕ P) → side_map new (relabel_tree (node_with f r) s) ≡ relabel_tree (key_with f) (side_map old s)
     side_keyed s = tree_same (side_map new (relabel_tree (node_with f r) s)) (relabel_tree (key_with f) (side_map old s)) (trees_keyed (only s))
 
-  -- the right side of an edge of forward application
+  -- the right-hand side of an edge of forward application
   pub forward_side :
       (moves : List (TransducerRule ℕ)) (left : SideFor ℕ Variable) (right : SideFor ℕ (Pair ℕ)) (ss : List ℕ) →
       side_map (forward_key (restricted_labels (moves_with f moves)) (relabel_tree (left_with f) left) ss) (relabel_tree (right_with f) right)

@@ -83,7 +83,7 @@ module _ (labels others : List (List ℕ)) where
   abbrev used : Trees (Symbol ℕ (Pair ℕ)) → List ℕ
   used ts = map (λ x. x.variable) (holes ts)
 
-  -- what is used on the right of two lists of sides, one behind the other
+  -- what is used on the right of two lists of sides, one after the other
   used_more : (xs zs : List (Pair ℕ)) → map (λ x. x.variable) (xs ++ zs) ≡ map (λ x. x.variable) xs ++ map (λ x. x.variable) zs
   used_more [] zs = refl
   used_more (x ∷ xs) zs = ap (λ (ns : List ℕ). x.variable ∷ ns) (used_more xs zs)
@@ -101,7 +101,7 @@ module _ (labels others : List (List ℕ)) where
   used_same (tree (hole x) kids rest) (tree (label g) below more) h = absurd h.0
   used_same (tree (hole x) kids rest) (tree (hole y) below more) h = ap (λ (n : ℕ). n ∷ used rest) h.0.1 ∙ ap (λ (ns : List ℕ). y.variable ∷ ns) (used_same rest more h.2)
 
-  -- each variable stands among some numbers
+  -- each variable is among some numbers
   pub all_used : (ns : List ℕ) (xs ys : List Variable) → Along (AreOneVariable labels others) xs ys → Each (λ x. Has ns x.number) xs → Each (λ y. Has ns y.number) ys
   all_used ns [] [] a e = tt
   all_used ns [] (y ∷ ys) a e = absurd a

@@ -52,13 +52,13 @@ use Rattle.tib_operations.proofs.PairsByText.{differ}
 use Rattle.tib_operations.proofs.PrunedAlike.{kept_alike, kept_among}
 use Rattle.tib_operations.proofs.ReadSound.{IsSound}
 
--- what holds of each rule of a list holds of each of another list whose rules all stand in it
+-- what holds of each rule of a list holds of each of another list whose rules all are in it
 among : (P : Rule ℕ → Type 0) (rules some : List (Rule ℕ)) → ((r : Rule ℕ) → Has some r → Has rules r) → ((m : ℕ) → m < length rules → P (rule_at rules m)) → (m : ℕ) → m < length some → P (rule_at some m)
 among P rules some stands all m h =
     let at = at_has rules (rule_at some m) no_rule (stands (rule_at some m) (has_at some m no_rule h)) in
     subst P at.2 (all at.0 at.1)
 
--- nothing stands below a state in what is left
+-- nothing is below a state in what is left
 kept_leaves : (product : ℕ → ℕ → ℕ) (beam : ℕ) (g k : GrammarOf) → IsPrunedForm product beam g k → SidesEndInHoles k.rules
 kept_leaves product beam g k p =
     among (λ (r : Rule ℕ). HolesAreLeaves (only r.right)) p.form.rules k.rules (kept_among product p.form.rules beam k.rules p.pruned.rules)

@@ -39,7 +39,7 @@ use Rattle.tib_transducer_file.proofs.RulesHave.{file_has}
 use Rattle.tib_transducer_file.proofs.ShapesRead.{pair_rank, rules_shaped, left_ends, item_from, items_from}
 use Rattle.tib_operations.specs.Moves.{AreLabelsPlain, IsPlainMove, ArePlainMoves}
 
--- bytes without a line feed: their pieces, and what stands in quotes
+-- bytes without a line feed: their pieces, and what is in quotes
 
 free_parts : (xs ys : List ℕ) → HasNoFeed (xs ++ ys) → HasNoFeed xs × HasNoFeed ys
 free_parts xs ys h = and-true (list_all not_feed xs) (list_all not_feed ys) (sym (list_all-append not_feed xs ys) ∙ h)
@@ -136,7 +136,7 @@ items_free (head quoted text kids rest) h =
     let parts = each_parts IsFree (spell kids) (close ∷ spell rest) h.1.1 in
     (text_free quoted text h.0, each_append IsFreeItem (items kids) (items rest) (items_free kids parts.0) (items_free rest parts.1.1))
 
--- the items of a left side
+-- the items of a left-hand side
 pub left_free : (front : List Piece) (p : Parts) → IsTree (left_words front) (p.root ∷ p.below) → Each IsFreePiece front → Each IsFreeItem (p.root ∷ p.below)
 left_free front p left f = subst (Each IsFreeItem) left.nodes (items_free left.tree (subst (Each IsFree) (sym left.spelled) (joins_free true front f)))
 
@@ -193,7 +193,7 @@ module _ (names labels : List (List ℕ)) where
   left_side [] p h f = absurd h
   left_side (s ∷ ss) p h f = (root_node s (label_of p) p.root.kids h.0 (free_label p f.0), left_nodes ss p.below h.1 f.1)
 
-  -- a left side can be written
+  -- a left-hand side can be written
   pub left_plain : (s : SideFor ℕ Variable) (p : Parts) → IsLeftSide labels (preorder_of s) p → Each IsFreeItem (p.root ∷ p.below) → AreLabelsPlain labels (only s)
   left_plain s p h f = side_plain s (left_side (preorder_of s) p h f)
 
@@ -250,7 +250,7 @@ moves_grown scale early labels rules g p m h = record {
   cost = (p m h).cost;
 }
 
--- nothing stands below a variable or a pair
+-- nothing is below a variable or a pair
 
 module _ (names labels : List (List ℕ)) (numbers : List ℕ) where
   right_pair : (s : Symbol ℕ (Pair ℕ)) (rank : ℕ) (i : Item) (o : Option (List ℕ × ℕ)) → pair_in i ≡ o → IsRightSymbol names labels numbers s o i.text → rank ≡ rank_of i.kids → pair_of (item_from (s, rank)) ≡ (s, rank)

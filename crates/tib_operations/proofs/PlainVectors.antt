@@ -107,7 +107,7 @@ module _ {levelled weighed : Bool} {product : ℕ → ℕ → ℕ} (laws : Produ
   order_plain : (order : List VectorOf) → IsReached (determinization product rules) order → Each (IsPlain scale) order
   order_plain order reached = rounds_plain reached.0 reached.1 order reached.2
 
-  -- the vector of a seed stands in each order
+  -- the vector of a seed is in each order
   seed_stands : (rounds expanded : ℕ) (order : List VectorOf) → AfterRounds (determinization product rules) rounds expanded order → (v : VectorOf) → IsSeed product rules v → Has order v
   seed_stands zero expanded order (start, first) v s = (first.1 v).1 s
   seed_stands (suc rounds) expanded order (old, first, new, before, is, at, made) v s = subst (λ (l : List VectorOf). Has l v) (sym made) (has_left old new v (seed_stands rounds first old before v s))

@@ -120,7 +120,7 @@ module _ (f : ℕ → ℕ) (xs ys : List (Rule ℕ)) (alike : AreAlike (rules_wi
   states_with : (r : Rule ℕ) → holes_of (rule_with f r).right ≡ holes_of r.right
   states_with r = holes_with f (only r.right)
 
-  -- the rule under the other numbers stands in the other list
+  -- the rule under the other numbers is in the other list
   moved_at : (n : ℕ) → n < length xs → (p : ℕ) × (p < length ys) × (rule_at ys p ≡ rule_with f (rule_at xs n))
   moved_at n h = at_has ys (rule_with f (rule_at xs n)) no_rule (alike.to (rule_with f (rule_at xs n)) (mapped_has (rule_with f) xs (rule_at xs n) (has_at xs n no_rule h)))
 
@@ -176,7 +176,7 @@ module _ (f : ℕ → ℕ) (xs ys : List (Rule ℕ)) (alike : AreAlike (rules_wi
     pub kept_alike : AreAlike (rules_with f new) other
     kept_alike = record { to = kept_to; from = kept_from }
 
--- what is kept stands among the rules
+-- what is kept is among the rules
 pub kept_among : (product : ℕ → ℕ → ℕ) (rules : List (Rule ℕ)) (beam : ℕ) (new : List (Rule ℕ)) → ArePruned product rules beam new → (r : Rule ℕ) → Has new r → Has rules r
 kept_among product rules beam new a r h =
     let n = has_mapped (rule_at rules) a.positions r (subst (λ (rs : List (Rule ℕ)). Has rs r) a.are_rules h) in

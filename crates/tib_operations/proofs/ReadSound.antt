@@ -1,4 +1,4 @@
--- A grammar that was read has a start, its states are in range, and nothing stands below a state.
+-- A grammar that was read has a start, its states are in range, and nothing is below a state.
 use Rattle.tib_cost.specs.declared.Scale.{Scale}
 use Rattle.std.proofs.Common.{◌≡◌, ℕ, ◌<◌, ◌≤◌, List, [], ◌∷◌, length, ap, sym, subst, arith, zero, suc, inl, inr, length-append}
 use Rattle.std.specs.Prelude.{Some, slice_get}

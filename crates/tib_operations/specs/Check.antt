@@ -19,7 +19,7 @@ class_line none some None = none
 class_line none some (Some rule) = some ++ decimal rule ++ codes "\n"
 
 -- the lines of the classes, by the first rule that is not linear, that is not nondeleting, that is
--- extended, and that is labelled; whether a rule is labelled is told only where one is
+-- extended, and that is labelled; whether a rule is labelled is said only where one is
 abbrev pub class_lines : Option ℕ → Option ℕ → Option ℕ → Option ℕ → List ℕ
 class_lines not_linear not_nondeleting extended labelled =
     class_line (codes "linear yes\n") (codes "linear no ") not_linear

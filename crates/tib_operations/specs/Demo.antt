@@ -26,7 +26,7 @@ abbrev pub first_rules : List ℕ
 first_rules = codes "p0 -> e\np0 -> a(p0)\np0 -> b(p0)\np1 -> a(p0) # 1\n"
 
 -- The grammar file for n. Its start pn has the trees whose n-th label from the root is `a`, at the
--- cost 1. Read from the leaf up, the set of states that have a tree tells which of its n upper
+-- cost 1. Read from the leaf up, the set of states that have a tree says which of its n upper
 -- labels are `a`, so there are 2 ^ n such sets.
 abbrev pub demo_text : ℕ → List ℕ
 demo_text n = (codes "p" ++ decimal n ++ codes "\n") ++ (first_rules ++ steps_text (n - 1))
@@ -65,7 +65,7 @@ demo_makes scale product limit n = record {
 }
 
 -- why there are no three lines of a grammar: too many parts, or within the limit a tree that is too
--- large, or want of memory
+-- large, or out of memory
 abbrev pub IsSummaryFault : Bool → (ℕ → ℕ → ℕ) → ℕ → List (List ℕ) → GrammarOf → Status → Type 0
 IsSummaryFault levelled product limit labels g statuses.TreeTooLarge = (determinize_makes product limit g).within × HasLargeTree levelled product 1 labels g
 IsSummaryFault levelled product limit labels g status = IsMadeFault (determinize_makes product limit g).more limit status

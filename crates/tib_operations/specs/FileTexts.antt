@@ -17,7 +17,7 @@ IsShort bytes = length bytes ≤ most_bytes
 abbrev pub IsLong : List ℕ → Type 0
 IsLong bytes = most_bytes < length bytes
 
--- the grammar of the text, with no right side too large
+-- the grammar of the text, with no right-hand side too large
 abbrev pub IsRead : Scale → List (List ℕ) → GrammarOf → List ℕ → Type 0
 IsRead scale labels g bytes = IsShort bytes × ReadsAs scale labels bytes g
 

@@ -55,7 +55,7 @@ pub record HasLargeTree (levelled : Bool) (product : ℕ → ℕ → ℕ) (k : �
 abbrev pub kbest_makes : (ℕ → ℕ → ℕ) → ℕ → GrammarOf → Made
 kbest_makes product limit g = normal_form product limit g
 
--- why there is no text: too many parts, or within the limit a tree that is too large, or want of
+-- why there is no text: too many parts, or within the limit a tree that is too large, or out of
 -- memory
 abbrev pub IsKBestFault : Bool → (ℕ → ℕ → ℕ) → ℕ → ℕ → List (List ℕ) → GrammarOf → Status → Type 0
 IsKBestFault levelled product limit k labels g statuses.TreeTooLarge =

@@ -9,7 +9,7 @@ use Rattle.tib_grammar_file.specs.Printable.{IsPlainCost}
 use Rattle.tib_transducer.specs.Rules.{transducer_rule}
 use Rattle.tib_transducer.specs.declared.TransducerRule.{TransducerRule}
 
--- all labels of trees stand in the table, and none of them has a line feed
+-- all labels of trees are in the table, and none of them has a line feed
 abbrev pub AreLabelsPlain : {P : Type 0} → List (List ℕ) → Trees (Symbol ℕ P) → Type 0
 AreLabelsPlain labels none = Unit {0}
 AreLabelsPlain labels (tree (label f) kids rest) =

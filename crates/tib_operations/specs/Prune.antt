@@ -24,8 +24,8 @@ pub record IsPrunedForm (product : ℕ → ℕ → ℕ) (beam : ℕ) (g kept : G
 
 -- By the costs of the old rules, where within the beam is what costs at most the inside cost of
 -- their start and the beam: each tree within the beam has the same cost by the new rules, each tree
--- that has a cost by the new rules had one that is not greater, and each new rule stands in a run
--- of new rules from the start that is within the beam.
+-- that has a cost by the new rules had one that is not greater, and each new rule is in a run of
+-- new rules from the start that is within the beam.
 pub record KeepsWithin (product : ℕ → ℕ → ℕ) (rules : List (Rule ℕ)) (beam : ℕ) (new : List (Rule ℕ)) : Type 0 where
   pub cheap : KeepsCheapTrees product rules beam new
   pub costs : HadNoGreaterCosts product rules new

@@ -5,7 +5,7 @@ use Rattle.std.specs.Prelude.{ℕ, List, [], ◌∷◌, ◌++◌, Option, None, 
 use Rattle.tib_tree.specs.Trees.{Tree}
 use Rattle.tib_tree.specs.Printed.{tree_text}
 
--- what stands behind a tree or a state: the weight of its cost, which in Boolean is not printed, or
+-- what comes after a tree or a state: the weight of its cost, which in Boolean is not printed, or
 -- that it has none
 abbrev pub cost_text : Scale → Option ℕ → List ℕ
 cost_text scale None = codes " # none\n"

@@ -28,7 +28,7 @@ use tib_normal::Normal;
 use tib_transducer::Transducer;
 use tib_tree::Labels;
 
-// The canonical form of the keys that a hunt answered, of a linear and nondeleting transducer and a
+// The canonical form of the keys that a hunt returned, of a linear and nondeleting transducer and a
 // grammar.
 fn canonical_of_preimage<S: Semiring + Drop>(
     alloc: Global,
@@ -78,9 +78,9 @@ fn canonical_of_preimage<S: Semiring + Drop>(
     }
 }
 
-/// The canonical grammar of the inputs of a linear and nondeleting transducer, or the status with
-/// which the run ends: too many parts, or want of memory. The time is that of the normal form and
-/// of the edges of the keys that are reached.
+/// The canonical grammar of the inputs of a linear and nondeleting transducer. `TooMany` only where
+/// a normal form or the reached set has more parts than the limit, otherwise `OutOfMemory`. The
+/// time is that of the normal form and of the edges of the keys that are reached.
 pub fn preimage_of<S: Semiring + Drop, G: Gate>(
     alloc: Global,
     transducer: &Transducer<S>,
@@ -111,8 +111,9 @@ pub fn preimage_of<S: Semiring + Drop, G: Gate>(
     canonical_of_preimage::<S>(alloc, transducer, &form, labels, limit, hunted)
 }
 
-/// What `preimage_of` answers, with the keys hunted by this number of workers, 1 to 16, whatever
-/// the order of their steps. It may wait for ever, as the hunt by several workers.
+/// What `preimage_of` returns, with the keys hunted by this number of workers, 1 to 16, whatever
+/// the order of their steps. It may wait forever, as the hunt by several workers. Errors are those
+/// of `preimage_of`.
 pub fn preimage_of_together<S: Semiring + Sync + Drop, R: Threads + Wait + Sync, G: Gate + Sync>(
     rt: &R,
     alloc: Global,

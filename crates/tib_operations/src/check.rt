@@ -66,7 +66,7 @@ fn add_class(
     write_class::<GrowingSink>(text, none, some, rule)
 }
 
-/// The lines of the classes of a transducer. It fails only for want of memory. It goes over the
+/// The lines of the classes of a transducer. It fails only if memory is refused. It goes over the
 /// rules once for each class.
 pub fn classes_text<S>(alloc: Global, transducer: &Transducer<S>) -> Result<GrowingSink, Failed>
     ensures { IfOk result (λ text. HasClasses transducer.now text.bytes) }

@@ -6,8 +6,8 @@ ghost use Rattle.tib_operations.specs.Classes.{demanded_of, IsClassFault};
 use crate::status::Status;
 use tib_transducer::{Transducer, first_outside};
 
-/// Answers Ok where each rule of the transducer of a file, counted from 1, is linear and
-/// nondeleting, each where it is demanded; otherwise the status that names the first rule that is
+/// Returns Ok where each rule of the transducer of a file, counted from 1, is linear and
+/// nondeleting, each where it is demanded; otherwise `Class`, which names the first rule that is
 /// not. It takes no memory.
 pub fn demand<S>(
     transducer: &Transducer<S>,

@@ -21,8 +21,8 @@ use tib_keyed::StatePair;
 use tib_transducer::{Transducer, TransducerRule, first_outside};
 use tib_tree::Labels;
 
-/// Answers Ok where each rule of the transducer of a file, counted from 1, is linear, nondeleting,
-/// not extended and not labelled; otherwise the status that names the first rule that is not. It
+/// Returns Ok where each rule of the transducer of a file, counted from 1, is linear, nondeleting,
+/// not extended and not labelled; otherwise `Class`, which names the first rule that is not. It
 /// takes no memory.
 pub fn demand_plain<S>(transducer: &Transducer<S>, file: u32) -> Result<(), Status>
     ensures met { IfOk result (λ _. AllMeet plain transducer.now.rules) }
@@ -34,7 +34,7 @@ pub fn demand_plain<S>(transducer: &Transducer<S>, file: u32) -> Result<(), Stat
     }
 }
 
-// The canonical form of the pairs that a hunt answered, or the status with which the run ends.
+// The canonical form of the pairs that a hunt returned, or the status with which the run ends.
 fn canonical_of_moves<S: Semiring + Drop>(
     alloc: Global,
     first: &Transducer<S>,
@@ -77,8 +77,8 @@ fn canonical_of_moves<S: Semiring + Drop>(
 }
 
 /// The canonical composition of two transducers, of which the second is linear, nondeleting, not
-/// extended and not labelled; or the status with which the run ends: too many parts, or want of
-/// memory. The time is that of the edges of the pairs that are reached.
+/// extended and not labelled. `TooMany` only where the reached set has more parts than the limit,
+/// otherwise `OutOfMemory`. The time is that of the edges of the pairs that are reached.
 pub fn composition_of<S: Semiring + Drop, G: Gate>(
     alloc: Global,
     first: &Transducer<S>,
@@ -104,8 +104,9 @@ pub fn composition_of<S: Semiring + Drop, G: Gate>(
     canonical_of_moves::<S>(alloc, first, second, labels, limit, hunted)
 }
 
-/// What `composition_of` answers, with the pairs hunted by this number of workers, 1 to 16,
-/// whatever the order of their steps. It may wait for ever, as the hunt by several workers.
+/// What `composition_of` returns, with the pairs hunted by this number of workers, 1 to 16,
+/// whatever the order of their steps. It may wait forever, as the hunt by several workers. Errors
+/// are those of `composition_of`.
 pub fn composition_of_together<S: Semiring + Sync + Drop, R: Threads + Wait + Sync, G: Gate + Sync>(
     rt: &R,
     alloc: Global,

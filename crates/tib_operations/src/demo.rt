@@ -60,7 +60,7 @@ fn add_steps(text: &mut GrowingSink, state: u32) -> Result<(), Failed>
 
 /// The grammar file that `demo` makes for n from 1 to 16: its start has the trees of `a` and `b`
 /// over `e` whose n-th label from the root is `a`, and its determinization has 2 ^ n + 1 states. It
-/// fails only for want of memory. The time is that of the text.
+/// fails only if memory is refused. The time is that of the text.
 pub fn demo_text(alloc: Global, n: u32) -> Result<GrowingSink, Failed>
     requires { 1 ≤ n }
     ensures { IfOk result (λ text. text.bytes ≡ demo_text n) }
@@ -89,7 +89,7 @@ fn summary_text(alloc: Global, states: u32, rules: u32, line: &[u8]) -> Result<G
     Ok(text)
 }
 
-// The three lines of a grammar and of what its determinization answered, or the status with which
+// The three lines of a grammar and of what its determinization returned, or the status with which
 // the run ends.
 fn summary_of_determinized<S: Semiring + Drop>(
     alloc: Global,
@@ -128,9 +128,9 @@ fn summary_of_determinized<S: Semiring + Drop>(
 }
 
 /// How many states and rules the determinization of a grammar has, and the line of its cheapest
-/// tree; or the status with which the run ends: too many parts, a state that has a cheapest tree of
-/// more than 10,000 nodes, or want of memory. The time is that of the determinization and of the
-/// list of one tree.
+/// tree. `TooMany` only where a normal form or the reached set has more parts than the limit;
+/// `TreeTooLarge` only where some state has a cheapest tree of more than 10,000 nodes; otherwise
+/// `OutOfMemory`. The time is that of the determinization and of the list of one tree.
 pub fn summary_of<S: Semiring + Drop, G: Gate>(
     alloc: Global,
     grammar: &Grammar<S>,
@@ -149,8 +149,9 @@ pub fn summary_of<S: Semiring + Drop, G: Gate>(
     summary_of_determinized::<S>(alloc, grammar, labels, limit, determinized)
 }
 
-/// What `summary_of` answers, with the vectors hunted by this number of workers, 1 to 16, whatever
-/// the order of their steps. It may wait for ever, as the hunt by several workers.
+/// What `summary_of` returns, with the vectors hunted by this number of workers, 1 to 16, whatever
+/// the order of their steps. It may wait forever, as the hunt by several workers. Errors are those
+/// of `summary_of`.
 pub fn summary_of_together<S: Semiring + Sync + Drop, R: Threads + Wait + Sync, G: Gate + Sync>(
     rt: &R,
     alloc: Global,
@@ -174,7 +175,7 @@ pub fn summary_of_together<S: Semiring + Sync + Drop, R: Threads + Wait + Sync, 
     summary_of_determinized::<S>(alloc, grammar, labels, limit, determinized)
 }
 
-// The grammar that is made for n, read as a file is; it fails only for want of memory.
+// The grammar that is made for n, read as a file is; it fails only if memory is refused.
 fn demo_grammar<S: Semiring>(
     alloc: Global,
     n: u32,
@@ -201,10 +202,10 @@ fn demo_grammar<S: Semiring>(
     Ok(grammar)
 }
 
-/// The three lines of the grammar that is made for n from 1 to 16, which is read as a file is, or
-/// the status with which the run ends: too many parts, or out of memory. The status for a large
-/// tree never comes, since the cheapest tree of each state of this grammar is small. The time is
-/// that of a determinization with 2 ^ n + 1 states.
+/// The three lines of the grammar that is made for n from 1 to 16, which is read as a file is.
+/// `TooMany` only where a normal form or the reached set has more parts than the limit, otherwise
+/// `OutOfMemory`. `TreeTooLarge` never comes, since the cheapest tree of each state of this grammar
+/// is small. The time is that of a determinization with 2 ^ n + 1 states.
 pub fn demo_of<S: Semiring + Drop, G: Gate>(
     alloc: Global,
     n: u32,
@@ -225,8 +226,9 @@ pub fn demo_of<S: Semiring + Drop, G: Gate>(
     summary_of::<S, G>(alloc, &grammar, &labels, limit, gate)
 }
 
-/// What `demo_of` answers, with the vectors hunted by this number of workers, 1 to 16, whatever the
-/// order of their steps. It may wait for ever, as the hunt by several workers.
+/// What `demo_of` returns, with the vectors hunted by this number of workers, 1 to 16, whatever the
+/// order of their steps. It may wait forever, as the hunt by several workers. Errors are those of
+/// `demo_of`.
 pub fn demo_of_together<S: Semiring + Sync + Drop, R: Threads + Wait + Sync, G: Gate + Sync>(
     rt: &R,
     alloc: Global,

@@ -43,7 +43,7 @@ fn finals_of<S: Semiring>(
     Ok(Finals::new(pairs))
 }
 
-// The canonical form of the vectors of a trimmed form that a hunt answered, or the status with
+// The canonical form of the vectors of a trimmed form that a hunt returned, or the status with
 // which the run ends.
 fn canonical_of_vectors<S: Semiring + Drop>(
     alloc: Global,
@@ -90,9 +90,9 @@ fn canonical_of_vectors<S: Semiring + Drop>(
 }
 
 /// The canonical grammar of the vectors of a grammar's states with residuals, in deterministic form
-/// and with the series of the grammar, or the status with which the run ends: too many parts, or
-/// want of memory. The time is that of the normal form and of the edges of the vectors that are
-/// reached.
+/// and with the series of the grammar. `TooMany` only where a normal form or the reached set has
+/// more parts than the limit, otherwise `OutOfMemory`. The time is that of the normal form and of
+/// the edges of the vectors that are reached.
 pub fn determinization_of<S: Semiring + Drop, G: Gate>(
     alloc: Global,
     grammar: &Grammar<S>,
@@ -119,8 +119,9 @@ pub fn determinization_of<S: Semiring + Drop, G: Gate>(
     canonical_of_vectors::<S>(alloc, &form, labels, limit, hunted)
 }
 
-/// What `determinization_of` answers, with the vectors hunted by this number of workers, 1 to 16,
-/// whatever the order of their steps. It may wait for ever, as the hunt by several workers.
+/// What `determinization_of` returns, with the vectors hunted by this number of workers, 1 to 16,
+/// whatever the order of their steps. It may wait forever, as the hunt by several workers. Errors
+/// are those of `determinization_of`.
 pub fn determinization_of_together<
     S: Semiring + Sync + Drop,
     R: Threads + Wait + Sync,

@@ -25,7 +25,8 @@ pub(crate) fn product_has_laws<S: Semiring>()
     ensures { ProductLaws S.LEVELLED S.WEIGHTED S.product }
 {}
 
-/// The normal form of a grammar, or the status with which the run ends.
+/// The normal form of a grammar. `TooMany` only where it has more parts than the limit, otherwise
+/// `OutOfMemory`. Cost: that of `normalize`.
 pub fn normal_of<S: Semiring + Drop>(
     alloc: Global,
     grammar: &Grammar<S>,
@@ -48,8 +49,9 @@ pub fn normal_of<S: Semiring + Drop>(
     }
 }
 
-/// The trimmed normal form of a grammar and the inside costs of its states, or the status with
-/// which the run ends.
+/// The trimmed normal form of a grammar and the inside costs of its states. `TooMany` only where
+/// the normal form has more parts than the limit, otherwise `OutOfMemory`. Cost: that of
+/// `normal_of` and `trim_with_insides`.
 pub fn costed_form<S: Semiring + Drop>(
     alloc: Global,
     grammar: &Grammar<S>,
@@ -85,7 +87,7 @@ pub fn costed_form<S: Semiring + Drop>(
     }
 }
 
-/// The trimmed normal form of a grammar, or the status with which the run ends.
+/// The trimmed normal form of a grammar. Errors and cost are those of `costed_form`.
 pub fn trimmed_form<S: Semiring + Drop>(
     alloc: Global,
     grammar: &Grammar<S>,

@@ -29,7 +29,7 @@ use tib_normal::Normal;
 use tib_transducer::Transducer;
 use tib_tree::Labels;
 
-// The canonical form of the keys that a hunt answered, of a grammar and a linear transducer.
+// The canonical form of the keys that a hunt returned, of a grammar and a linear transducer.
 fn canonical_of_image<S: Semiring + Drop>(
     alloc: Global,
     grammar: &Normal<S>,
@@ -82,9 +82,9 @@ fn canonical_of_image<S: Semiring + Drop>(
     }
 }
 
-/// The canonical grammar of the outputs of a linear transducer, or the status with which the run
-/// ends: too many parts, or want of memory. The time is that of the normal form and of the edges of
-/// the keys that are reached.
+/// The canonical grammar of the outputs of a linear transducer. `TooMany` only where a normal form
+/// or the reached set has more parts than the limit, otherwise `OutOfMemory`. The time is that of
+/// the normal form and of the edges of the keys that are reached.
 pub fn image_of<S: Semiring + Drop, G: Gate>(
     alloc: Global,
     grammar: &Grammar<S>,
@@ -115,8 +115,9 @@ pub fn image_of<S: Semiring + Drop, G: Gate>(
     canonical_of_image::<S>(alloc, &form, transducer, labels, limit, hunted)
 }
 
-/// What `image_of` answers, with the keys hunted by this number of workers, 1 to 16, whatever the
-/// order of their steps. It may wait for ever, as the hunt by several workers.
+/// What `image_of` returns, with the keys hunted by this number of workers, 1 to 16, whatever the
+/// order of their steps. It may wait forever, as the hunt by several workers. Errors are those of
+/// `image_of`.
 pub fn image_of_together<S: Semiring + Sync + Drop, R: Threads + Wait + Sync, G: Gate + Sync>(
     rt: &R,
     alloc: Global,

@@ -20,7 +20,7 @@ use tib_image::{Key, image, image_together};
 use tib_transducer::Transducer;
 use tib_tree::{Labels, Tree};
 
-// The canonical form of the keys that a hunt answered, or the status with which the run ends.
+// The canonical form of the keys that a hunt returned, or the status with which the run ends.
 fn canonical_of_outputs<S: Semiring + Drop>(
     alloc: Global,
     tree: &Tree,
@@ -61,9 +61,9 @@ fn canonical_of_outputs<S: Semiring + Drop>(
     }
 }
 
-/// The canonical grammar of all outputs of a transducer on a tree, or the status with which the run
-/// ends: too many parts, or want of memory. No class of transducers is refused, and no normal form
-/// is made. The time is that of the edges of the keys that are reached.
+/// The canonical grammar of all outputs of a transducer on a tree. `TooMany` only where the reached
+/// set has more parts than the limit, otherwise `OutOfMemory`. No class of transducers is refused,
+/// and no normal form is made. The time is that of the edges of the keys that are reached.
 pub fn outputs_of<S: Semiring + Drop, G: Gate>(
     alloc: Global,
     tree: &Tree,
@@ -86,8 +86,9 @@ pub fn outputs_of<S: Semiring + Drop, G: Gate>(
     canonical_of_outputs::<S>(alloc, tree, transducer, labels, limit, hunted)
 }
 
-/// What `outputs_of` answers, with the keys hunted by this number of workers, 1 to 16, whatever the
-/// order of their steps. It may wait for ever, as the hunt by several workers.
+/// What `outputs_of` returns, with the keys hunted by this number of workers, 1 to 16, whatever the
+/// order of their steps. It may wait forever, as the hunt by several workers. Errors are those of
+/// `outputs_of`.
 pub fn outputs_of_together<S: Semiring + Sync + Drop, R: Threads + Wait + Sync, G: Gate + Sync>(
     rt: &R,
     alloc: Global,

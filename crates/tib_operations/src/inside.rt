@@ -37,7 +37,7 @@ fn add_state<S: Semiring>(
     print_state::<S, GrowingSink>(name, cost, text)
 }
 
-/// The lines of the states with their inside costs. It fails only for want of memory. The time is
+/// The lines of the states with their inside costs. It fails only if memory is refused. The time is
 /// that of the text.
 pub fn inside_text<S: Semiring>(
     alloc: Global,

@@ -29,7 +29,7 @@ use tib_keyed::StatePair;
 use tib_normal::Normal;
 use tib_tree::Labels;
 
-// The canonical form of the pairs of two trimmed forms that a hunt answered, or the status with
+// The canonical form of the pairs of two trimmed forms that a hunt returned, or the status with
 // which the run ends.
 fn canonical_of_pairs<S: Semiring + Drop>(
     alloc: Global,
@@ -75,9 +75,9 @@ fn canonical_of_pairs<S: Semiring + Drop>(
     }
 }
 
-/// The canonical intersection of two grammars, or the status with which the run ends: too many
-/// parts, or want of memory. The time is that of both normal forms and of the edges of the pairs
-/// that are reached.
+/// The canonical intersection of two grammars. `TooMany` only where a normal form or the reached
+/// set has more parts than the limit, otherwise `OutOfMemory`. The time is that of both normal
+/// forms and of the edges of the pairs that are reached.
 pub fn intersection_of<S: Semiring + Drop, G: Gate>(
     alloc: Global,
     first: &Grammar<S>,
@@ -112,8 +112,9 @@ pub fn intersection_of<S: Semiring + Drop, G: Gate>(
     canonical_of_pairs::<S>(alloc, &one, &two, labels, limit, hunted)
 }
 
-/// What `intersection_of` answers, with the pairs hunted by this number of workers, 1 to 16,
-/// whatever the order of their steps. It may wait for ever, as the hunt by several workers.
+/// What `intersection_of` returns, with the pairs hunted by this number of workers, 1 to 16,
+/// whatever the order of their steps. It may wait forever, as the hunt by several workers. Errors
+/// are those of `intersection_of`.
 pub fn intersection_of_together<
     S: Semiring + Sync + Drop,
     R: Threads + Wait + Sync,

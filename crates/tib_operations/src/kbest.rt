@@ -47,7 +47,7 @@ fn add_tree<S: Semiring>(
     }
 }
 
-// The lines of a list. It fails only for want of memory.
+// The lines of a list. It fails only if memory is refused.
 fn list_text<S: Semiring>(
     alloc: Global,
     list: &Ranked,
@@ -119,8 +119,8 @@ fn full_list(found: Option<Ranked>, k: u32, bound: u64) -> Option<Ranked>
     }
 }
 
-// The k cheapest trees of a trimmed normal form; none where a tree is too large. Only want of
-// memory is an error.
+// The k cheapest trees of a trimmed normal form; none where a tree is too large. Err only if memory
+// is refused.
 fn small_best<S: Semiring>(
     alloc: Global,
     form: &Normal<S>,
@@ -142,8 +142,8 @@ fn small_best<S: Semiring>(
     }
 }
 
-// The k cheapest trees of some rules that were kept; none where a tree is too large. Only want of
-// memory is an error.
+// The k cheapest trees of some rules that were kept; none where a tree is too large. Err only if
+// memory is refused.
 fn kept_best<S: Semiring + Drop>(
     alloc: Global,
     kept: Grammar<S>,
@@ -176,7 +176,7 @@ fn rules_for(k: u32) -> usize
 
 // The k cheapest trees of a trimmed normal form, found among the rules within a beam; none where
 // they are too few, or one of them costs more than the beam allows, so that others may be cheaper.
-// Only want of memory is an error.
+// Err only if memory is refused.
 fn narrow_best<S: Semiring + Drop>(
     alloc: Global,
     form: Normal<S>,
@@ -288,9 +288,10 @@ fn best_of<S: Semiring + Drop>(
     whole_best::<S>(alloc, grammar, labels, limit, k)
 }
 
-/// The lines of the k cheapest trees of a grammar, or the status with which the run ends: too many
-/// parts, a state that has a tree of more than 10,000 nodes among its k cheapest, or want of
-/// memory. The time is that of the normal form, of the list, and of the text.
+/// The lines of the k cheapest trees of a grammar, for k from 1. `TooMany` only where the normal
+/// form has more parts than the limit; `TreeTooLarge` only where some state has a tree of more than
+/// 10,000 nodes among its k cheapest; otherwise `OutOfMemory`. The time is that of the normal form,
+/// of the list, and of the text.
 pub fn kbest_text<S: Semiring + Drop>(
     alloc: Global,
     grammar: &Grammar<S>,

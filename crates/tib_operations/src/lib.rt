@@ -1,6 +1,6 @@
 //! What each operation of the program makes of the values of its files: the text of trees with
 //! their weights, of inside costs, of the classes of a transducer, or of a grammar in canonical
-//! form; or the status with which the run ends. It stands on all crates below it, and knows neither
+//! form; or the status with which the run ends. It builds on all crates below it, and knows neither
 //! words nor files.
 #![tactic(auto)]
 

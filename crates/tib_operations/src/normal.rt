@@ -13,8 +13,9 @@ use tib_grammar::Grammar;
 use tib_grammar_file::printable_is_labelled;
 use tib_tree::Labels;
 
-/// The canonical form of the grammar's normal form, or the status with which the run ends: too many
-/// parts, or want of memory. The time is that of the normal form, and of sorting its rules.
+/// The canonical form of the grammar's normal form. `TooMany` only where that has more parts than
+/// the limit, otherwise `OutOfMemory`. The time is that of the normal form, and of sorting its
+/// rules.
 pub fn canonical_normal<S: Semiring + Drop>(
     alloc: Global,
     grammar: &Grammar<S>,

@@ -5,7 +5,8 @@ ghost use Rattle.tib_tree.specs.Wrote.{Wrote};
 use itoa::Buffer;
 use tib_io::{Failed, Sink, write_whole};
 
-/// Writes a piece. It takes no memory. After a failure a front of the piece was written.
+/// Writes a piece. It takes no memory. It fails only where the output does; a front of the piece is
+/// then written.
 pub fn write_piece<W: Sink>(out: &mut W, piece: &[u8]) -> Result<(), Failed>
     ensures { Wrote (W.written out.old) (W.written out.new) (W.free out.old) (W.free out.new)
         (W.faults out.old) (W.faults out.new)
@@ -14,7 +15,8 @@ pub fn write_piece<W: Sink>(out: &mut W, piece: &[u8]) -> Result<(), Failed>
     write_whole(out, piece)
 }
 
-/// Writes two pieces. It takes no memory. After a failure a front of both was written.
+/// Writes two pieces. It takes no memory. It fails only where the output does; a front of both is
+/// then written.
 pub fn write_both<W: Sink>(out: &mut W, first: &[u8], second: &[u8]) -> Result<(), Failed>
     ensures { Wrote (W.written out.old) (W.written out.new) (W.free out.old) (W.free out.new)
         (W.faults out.old) (W.faults out.new)
@@ -26,8 +28,8 @@ pub fn write_both<W: Sink>(out: &mut W, first: &[u8], second: &[u8]) -> Result<(
     }
 }
 
-/// Writes a number between two pieces. It takes no memory. After a failure a front of the three was
-/// written.
+/// Writes a number between two pieces. It takes no memory. It fails only where the output does; a
+/// front of the three is then written.
 pub fn write_about<W: Sink>(
     out: &mut W,
     first: &[u8],

@@ -53,9 +53,10 @@ fn pruned_form<S: Semiring + Drop>(
     }
 }
 
-/// The canonical form of the part of a grammar that stays within a beam of its cheapest tree, or
-/// the status with which the run ends: too many parts, or want of memory. The time is that of the
-/// normal form, of inside and outside costs, and of sorting the rules that stay.
+/// The canonical form of the part of a grammar that stays within a beam of its cheapest tree.
+/// `TooMany` only where the normal form has more parts than the limit, otherwise `OutOfMemory`. The
+/// time is that of the normal form, of inside and outside costs, and of sorting the rules that
+/// stay.
 pub fn canonical_pruned<S: Semiring + Drop>(
     alloc: Global,
     grammar: &Grammar<S>,

@@ -15,7 +15,7 @@ use tib_tree::{Labels, Tree, print_tree};
 use tib_weigh::{LEAST_PIECE, halvings, middle_of};
 
 /// Writes what follows a tree or a state: its cost, which in Boolean is not printed, or that it has
-/// none.
+/// none. It fails only where the output does; a front of the text is then written.
 pub fn print_cost<S: Semiring, W: Sink>(cost: Option<Cost>, out: &mut W) -> Result<(), Failed>
     ensures { OnOk result (Takes (W.written out.old) (W.written out.new) (W.free out.old)
         (W.free out.new) (cost_text S.SCALE cost)) }
@@ -83,7 +83,7 @@ fn lines_of_each<S: Semiring>(
     Ok(text)
 }
 
-// Puts a text behind another one.
+// Appends a text to another one.
 fn add_text(text: &mut GrowingSink, rest: &GrowingSink) -> Result<(), Failed>
     ensures { OnOk result (text.new.bytes ≡ text.old.bytes ++ rest.now.bytes) }
 {
@@ -130,8 +130,8 @@ fn lines_of_halves<S: Semiring + Sync, R: Threads + Sync>(
     Ok(text)
 }
 
-/// The lines of the trees with their costs, printed in several threads. It fails only for want of
-/// memory. Worst case: one pass over the nodes, and each byte is moved once for each time that the
+/// The lines of the trees with their costs, printed in several threads. It fails only if memory is
+/// refused. Worst case: one pass over the nodes, and each byte is moved once for each time that the
 /// trees are parted, seven times at most.
 pub fn weighed_text<S: Semiring + Sync, R: Threads + Sync>(
     rt: &R,

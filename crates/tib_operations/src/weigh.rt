@@ -32,8 +32,8 @@ fn costs_by<S: Semiring + Sync, R: Threads + Sync>(
     }
 }
 
-/// The costs of the trees by the grammar, which is brought into normal form, or the status with
-/// which the run ends: too many parts, or out of memory. Threads share the trees, at most 32
+/// The costs of the trees by the grammar, which is brought into normal form. `TooMany` only where
+/// that has more parts than the limit, otherwise `OutOfMemory`. Threads share the trees, at most 32
 /// processors with four pieces each; the number of workers of a job plays no part. The time is that
 /// of the normal form, and then of the rules that match at each node.
 pub fn costs_of<S: Semiring + Sync + Drop, R: Threads + Sync>(

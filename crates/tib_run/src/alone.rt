@@ -17,7 +17,7 @@ use tib_job_files::{files_have_no_fault, values_of, within_or_too_many};
 use tib_operations::Status;
 use tib_tree::Labels;
 
-/// Writes a text, where there is one, and answers the status with which the run ends.
+/// Writes a text, where there is one, and returns the status with which the run ends.
 pub(crate) fn write_outcome<O: Sink>(out: &mut O, outcome: Result<GrowingSink, Status>) -> Status
     ensures { WritesOutcome outcome (sink_seen O.written O.free O.faults O.finished out.old)
         (sink_seen O.written O.free O.faults O.finished out.new) result }

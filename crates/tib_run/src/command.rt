@@ -38,13 +38,13 @@ pub fn run_alone<R: Threads + Sync, F: Files, O: Sink, E: Sink, G: Gate + Sync>(
     status
 }
 
-/// Does what the words ask for: `words` are those behind the program's name. With one worker, which
+/// Does what the words ask for: `words` are those after the program's name. With one worker, which
 /// is the default, it does what `run_alone` does, and returns. Several workers hunt, whatever the
-/// order of their steps, and then it may wait for ever, as their hunt (`hunt` of tib_hunt). It
-/// tells on the log why it did not end with `Done`. Each status comes only with its cause, and
+/// order of their steps, and then it may wait forever, as their hunt (`hunt` of tib_hunt). It
+/// reports on the log why it did not end with `Done`. Each status comes only with its cause, and
 /// after every status but `Done` and `WriteFault` the whole of `out` is as it was. After `Done` the
 /// whole answer was written, and `out` is finished; after `WriteFault` a front of it was. What was
-/// written on `out` and on the log is taken from the room that they tell.
+/// written on `out` and on the log is taken from the room that they report.
 pub fn run<R: Threads + Wait + Sync, F: Files, O: Sink, E: Sink, G: Gate + Sync>(
     rt: &R,
     alloc: Global,

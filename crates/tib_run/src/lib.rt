@@ -2,7 +2,7 @@
 //! numbers, and more. `run` is the one call that it makes: from words, files, an output and a log
 //! to a status, each of which comes only with its cause. The values of a job's files are read in
 //! order, then its whole text is made of them, by one worker or by those of the job, and then it is
-//! written. It stands on all crates below it.
+//! written. It builds on all crates below it.
 #![tactic(auto)]
 
 mod alone;

@@ -43,7 +43,7 @@ fn words_of_class(fault: ClassFault) -> &'static [u8]
     }
 }
 
-// Writes a number and two pieces behind it.
+// Writes a number and two pieces after it.
 fn write_behind<W: Sink>(
     out: &mut W,
     number: u32,
@@ -82,7 +82,7 @@ fn write_place<W: Sink>(
 }
 
 /// Writes the line of a status, and nothing for the one of a run that is done. It takes no memory.
-/// After a failure a front of the line was written.
+/// It fails only where the log does; a front of the line is then written.
 pub fn tell<W: Sink>(log: &mut W, status: &Status) -> Result<(), Failed>
     ensures { Wrote (W.written log.old) (W.written log.new) (W.free log.old) (W.free log.new)
         (W.faults log.old) (W.faults log.new)

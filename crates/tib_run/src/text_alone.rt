@@ -83,7 +83,7 @@ pub(crate) fn text_of<S: Semiring + Sync + Drop, R: Threads + Sync, G: Gate>(
     }
 }
 
-// The same of an operation that takes one grammar.
+// The same for an operation that takes one grammar.
 fn text_of_grammar<S: Semiring + Drop, G: Gate>(
     alloc: Global,
     job: &Job,

@@ -23,8 +23,8 @@ use tib_operations::{
 };
 use tib_tree::Labels;
 
-/// What `text_of` answers: an operation that hunts does so by the workers of the job, whatever the
-/// order of their steps, and may wait for ever, as their hunt; each other works as with one worker.
+/// What `text_of` returns: an operation that hunts does so by the workers of the job, whatever the
+/// order of their steps, and may wait forever, as their hunt; each other works as with one worker.
 pub(crate) fn text_together<S: Semiring + Sync + Drop, R: Threads + Wait + Sync, G: Gate + Sync>(
     rt: &R,
     alloc: Global,
