@@ -15,7 +15,7 @@ use tib_transducer::{Transducer, TransducerRule};
 /// The two states and the restriction of a key.
 pub type Numbers = (u32, u32, u32);
 
-/// A rule over positions: its position, its right side and its cost.
+/// A rule over positions: its position, its right-hand side and its cost.
 pub type Edge = (u32, &'static [Node], u64);
 
 /// The keys, the rules over their positions and the parts.
@@ -31,10 +31,10 @@ pub enum Direction {
     Backward,
 }
 
-/// The rules of a transducer and of a grammar, a limit, and what is answered.
+/// The rules of a transducer and of a grammar, a limit, and what is returned.
 pub type Case = (&'static [Move], &'static [Row], u64, Wanted);
 
-// What an application answers.
+// What an application returns.
 type Answer = Result<Found<Key, Rule<u32>>, ApplyError>;
 
 fn is_key(key: Key, wanted: Numbers) -> bool {
@@ -117,7 +117,7 @@ fn is_wanted(alloc: Global, answer: Answer, wanted: &Wanted) -> bool {
     }
 }
 
-// What an application in a direction answers.
+// What an application in a direction returns.
 fn applied(
     alloc: Global,
     direction: Direction,
@@ -163,7 +163,7 @@ fn answers_rows(
     }
 }
 
-/// Whether an application in a direction answers what a case wants; false where memory is refused,
+/// Whether an application in a direction returns what a case wants; false where memory is refused,
 /// too.
 pub fn reaches(alloc: Global, direction: Direction, case: &Case) -> bool {
     match transducer(alloc, case.0) {
@@ -177,7 +177,7 @@ fn is_filed(key: Key, numbers: Numbers, entries: u64, shelf: u32) -> bool {
     is_key(key, numbers) && key.entries() == entries && key.shelf() == shelf
 }
 
-// Whether this holds of a key with a restriction, and one without it has an entry less and stands
+// Whether this holds of a key with a restriction, and one without it has one entry less and comes
 // before.
 fn are_filed(restricted: Key, free: Key) -> bool {
     is_filed(restricted, (3, 4, 5), 3, 4) && free.entries() == 2 && free < restricted

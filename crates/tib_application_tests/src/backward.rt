@@ -51,7 +51,7 @@ const ASKS: [Move; 3] = [
     (0, &[B], &[C], 4),
 ];
 
-// a and b to c, one of them too dear
+// a and b to c, one of them too expensive
 const DEAR: [Move; 2] = [(0, &[A], &[C], MOST), (0, &[B], &[C], MOST - 1)];
 
 // f(x y) to k(y)

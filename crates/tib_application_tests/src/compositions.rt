@@ -167,7 +167,7 @@ static COMPOSITIONS: [Composition; 9] = [
             (2, 21, None),
         ],
     ),
-    // where a side stands twice below a label each is translated by itself
+    // where a side occurs twice below a label each is translated by itself
     (
         &COPIES_BELOW,
         &TWO_WAYS,
@@ -271,7 +271,7 @@ fn is_right_item(item: &Item<Pair<u32>>, node: Node) -> bool {
     }
 }
 
-// Each pair of a right side has a position and a variable.
+// Each pair of a right-hand side has a position and a variable.
 fn is_right(items: &[Item<Pair<u32>>], nodes: &[Node]) -> bool {
     if items.len() != nodes.len() {
         return false;
@@ -342,7 +342,7 @@ fn is_answer(alloc: Global, answer: Answer, wanted: &Composition, error: Option<
     }
 }
 
-// What is answered, by one worker or, where their number is not 0, by several.
+// What is returned, by one worker or, where their number is not 0, by several.
 fn composed<R: Threads + Wait + Sync>(
     rt: &R,
     alloc: Global,
@@ -451,8 +451,8 @@ const COSTS_AT_LAST: [Move; 6] = [
     (1, &[C0], &[C0], 1),
 ];
 
-// The labels H of a tower are read in 2^60 ways. None of them gives an edge: c is not read, or at too
-// great a cost. A search that finds this only at c never ends.
+// The labels H of a tower are read in 2^60 ways. None of them gives an edge: c is not read, or at
+// too great a cost. A search that finds this only at c never ends.
 static TOWERED: [Composition; 2] = [
     (
         &TOWERS,

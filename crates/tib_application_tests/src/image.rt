@@ -57,7 +57,7 @@ const COPYING: &[Move] = &[COPIES, TO_B, TO_C];
 const PASSING: &[Move] = &[PASSES, TO_B, TO_C];
 
 // The rules of a transducer, the labels and ranks of a tree in preorder, how many workers there
-// are, or 0 for a hunt without them, a limit, and what is answered.
+// are, or 0 for a hunt without them, a limit, and what is returned.
 type Case = (
     &'static [Move],
     &'static [(Label, u32)],

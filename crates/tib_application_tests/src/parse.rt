@@ -15,8 +15,8 @@ use tib_strings::{StringRule, StringTransducer, Word, Words};
 use tib_transducer::Pair;
 use tib_tree::Label;
 
-// A rule: its left side, its words, where those below 3 are pairs with the variable of this number,
-// and its cost.
+// A rule: its left-hand side, its words, where those below 3 are pairs with the variable of this
+// number, and its cost.
 type Row = (&'static [Node], &'static [Label], u64);
 
 const X0: Node = Node::Plain(0);
@@ -115,7 +115,7 @@ const ON_UVU: &str =
     "0-3.0 0-0.0 0-1.0 0-2.0 1-3.0 2-3.0 3-3.0 1-1.0 1-2.0 2-2.0 | 0 > 0 :1 :0 # 1; 0 > 0 :2 :4 # 1; 0 > 0 :3 :5 # 1; 0 > 0 :0 :6 # 1; 1 > 0 :1 :1 # 1; 2 > 0 :1 :2 # 1; 2 > 0 :2 :7 # 1; 2 > 1 # 0; 3 > 0 :1 :3 # 1; 3 > 0 :2 :8 # 1; 3 > 0 :3 :9 # 1; 3 > 2 # 2; 4 > 0 :7 :4 # 1; 4 > 0 :8 :5 # 1; 4 > 0 :4 :6 # 1; 5 > 0 :9 :5 # 1; 5 > 0 :5 :6 # 1; 5 > 1 # 0; 6 > 0 :6 :6 # 1; 7 > 0 :7 :7 # 1; 8 > 0 :7 :8 # 1; 8 > 0 :8 :9 # 1; 9 > 0 :9 :9 # 1; 126";
 
 // The rules of a transducer, a string, how many workers there are, or 0 for a hunt without them, a
-// limit, and what is answered.
+// limit, and what is returned.
 type Case = (&'static [Row], &'static [Label], u32, u64, &'static str);
 
 static CASES: [Case; 11] = [

@@ -11,14 +11,14 @@ pub fn is_text(text: Result<String, AllocError>, want: &str) -> bool {
     }
 }
 
-/// A mark, and behind it a number in decimal digits.
+/// A mark, and after it a number in decimal digits.
 pub fn write_marked(text: &mut String, mark: &str, number: u64) -> Result<(), AllocError> {
     text.push_str(mark)?;
     let digits = number.to_string(*text.allocator())?;
     text.push_str(digits.as_str())
 }
 
-/// Numbers with a full stop between them, and a blank behind them.
+/// Numbers with a full stop between them, and a blank after them.
 pub fn write_dotted(text: &mut String, first: u32, others: &[u32]) -> Result<(), AllocError> {
     write_marked(text, "", first as u64)?;
     for number in others {
@@ -55,7 +55,7 @@ fn write_rule(text: &mut String, rule: &Rule<u32>) -> Result<(), AllocError> {
     write_cost(text, rule.cost)
 }
 
-/// A bar, rules over positions as `0 > 7 :1 :2 # 5; `, and behind them the parts.
+/// A bar, rules over positions as `0 > 7 :1 :2 # 5; `, and after them the parts.
 pub fn write_rules(text: &mut String, rules: &[Rule<u32>], parts: u64) -> Result<(), AllocError> {
     text.push_str("| ")?;
     for rule in rules {

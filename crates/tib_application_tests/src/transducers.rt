@@ -45,7 +45,7 @@ fn right_item(node: Node) -> Option<Item<Pair<u32>>> {
     }
 }
 
-/// The left side of these items; none where memory is refused.
+/// The left-hand side of these items; none where memory is refused.
 pub fn left_side(alloc: Global, nodes: &[Node]) -> Option<Side<Variable>> {
     let mut items = Vec::new(alloc);
     for node in nodes {

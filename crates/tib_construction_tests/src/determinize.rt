@@ -39,7 +39,7 @@ static ENDLESS: [Row; 7] = [
     (2, 8, &[], 0),
 ];
 
-// q -> f(p) # 1, q -> f(r) # 3, p -> a # 2 and r -> b # 1: two vectors stand in the first round.
+// q -> f(p) # 1, q -> f(r) # 3, p -> a # 2 and r -> b # 1: two vectors are in the first round.
 static APART: [Row; 4] = [
     (0, 7, &[1], 1),
     (0, 7, &[2], 3),
@@ -180,7 +180,7 @@ fn residuals_are_kept(rt: HostRuntime) {
     assert!(rt; all_reach(rt.alloc()));
 }
 
-// Whether a limit is told where a grammar has more parts.
+// Whether a limit is reported where a grammar has more parts.
 fn stops<S: Semiring>(alloc: Global, normal: &Normal<S>, limit: u64) -> bool
     requires some { 1 ≤ limit }
     requires limit { limit ≤ 20000000 }
@@ -212,7 +212,7 @@ fn has_counts(found: &Found<Vector, Rule<u32>>) -> bool {
     found.order.len() == 3 && found.rules.len() == 4 && found.parts == 16
 }
 
-// The same of what this number of workers reaches of a grammar.
+// The same for what this number of workers reaches of a grammar.
 fn reaches_together<R: Threads + Wait + Sync>(
     rt: &R,
     alloc: Global,
@@ -228,7 +228,7 @@ fn reaches_together<R: Threads + Wait + Sync>(
     }
 }
 
-// The same of the grammar of which two vectors stand in the first round.
+// The same for the grammar of which two vectors are in the first round.
 fn apart_together<R: Threads + Wait + Sync>(rt: &R, alloc: Global, workers: u32) -> bool
     requires some { 1 ≤ workers }
     requires workers { workers ≤ 16 }
@@ -249,8 +249,8 @@ fn every_number_of_workers_reaches_the_same(rt: HostRuntime) {
 /// How many vectors have the state p, and how many rules have it beside the state r.
 const MANY: u32 = 1500;
 
-// For each number n below that q -> n # n + 1, p -> n # 0 and, from a state of its own, f(p r). Each
-// label n is reached by a vector of its own, which has p. No vector has r.
+// For each number n below that q -> n # n + 1, p -> n # 0 and, from a state of its own, f(p r).
+// Each label n is reached by a vector of its own, which has p. No vector has r.
 fn crowd(alloc: Global) -> Option<Vec<Rule<u32>>> {
     let mut rules = Vec::new(alloc);
     for n in 0..MANY {

@@ -104,7 +104,7 @@ fn over_keys(
     printed(alloc, &form, labels)
 }
 
-// The same of the rules of a text.
+// The same for the rules of a text.
 fn answer_over_keys(alloc: Global, text: &[u8], start: u32) -> Result<Vec<u8>, Fail> {
     let (grammar, labels) = read::<Boolean>(alloc, text)?;
     over_keys(alloc, grammar, &labels, start)

@@ -186,7 +186,7 @@ fn is_start(seeds: &Result<Edges<StatePair, PairRule>, ExpandError>) -> bool {
     }
 }
 
-// The same of those of the pairs of two grammars.
+// The same for those of the pairs of two grammars.
 fn is_seed(alloc: Global, pairs: &Pairs<MinPlus>) -> bool {
     let seeds = pairs.seeds(alloc, 0);
     is_start(&seeds)
@@ -242,7 +242,7 @@ fn a_key_has_two_entries_and_a_shelf(rt: HostRuntime) {
     assert!(rt; is_filed(StatePair::new(3, 4)) && StatePair::new(3, 9) < StatePair::new(4, 0));
 }
 
-// What is answered, by one worker or, where their number is not 0, by several.
+// What is returned, by one worker or, where their number is not 0, by several.
 fn reached<R: Threads + Wait + Sync>(
     rt: &R,
     alloc: Global,
@@ -274,7 +274,7 @@ fn is_all(found: &Found<StatePair, Rule<u32>>) -> bool {
         && are_rules(&found.rules, &ALL)
 }
 
-// Whether all of 19 parts was reached, or the limit is told where it is below them.
+// Whether all of 19 parts was reached, or the limit is reported where it is below them.
 fn is_answer(answer: &Result<Found<StatePair, Rule<u32>>, HuntError>, limit: u64) -> bool {
     match answer {
         Ok(found) => limit >= 19 && is_all(found),

@@ -195,7 +195,7 @@ fn costs_two<S: Semiring>(alloc: Global, grammar: &Normal<S>, side: &Side<u32>) 
     few_agree(alloc, grammar, 0, side, &[(&[3], 2)])
 }
 
-// The same of f(g(x) a); false where memory is refused.
+// The same for f(g(x) a); false where memory is refused.
 fn side_costs_two<S: Semiring>(alloc: Global, grammar: &Normal<S>) -> bool {
     match side(alloc, F_G_A) {
         Some(side) => costs_two(alloc, grammar, &side),

@@ -14,8 +14,9 @@ use Rattle.tib_normal.specs.Rows.{HasMoreParts}
 use Rattle.tib_example.specs.declared.Failure.{Failure}
 use Rattle.tib_example.specs.declared.Failure.TheVariants.{Read, Large, OutOfMemory}
 
--- The first bytes are the text of a grammar over a table of labels, and the second ones that of trees over this table or a longer one.
--- The costs are those that the grammar gives the trees: each the least sum of the costs of the rules of a run, or none.
+-- The first bytes are the text of a grammar over a table of labels, and the second ones that of
+-- trees over this table or a longer one. The costs are those that the grammar gives the trees: each
+-- the least sum of the costs of the rules of a run, or none.
 pub record AreCosts (grammar trees : List ℕ) (costs : List (Option ℕ)) : Type 0 where
   pub early : List (List ℕ)
   pub labels : List (List ℕ)
@@ -43,7 +44,8 @@ pub record IsLargeText (grammar : List ℕ) : Type 0 where
   pub reads : ReadsAs Plain labels grammar value
   pub large : IsLarge value
 
--- Why there are no costs: the first fault of one of the texts, or a grammar that is too large. Want of memory is free.
+-- Why there are no costs: the first fault of one of the texts, or a grammar that is too large.
+-- `OutOfMemory` says nothing.
 abbrev pub IsFailure : List ℕ → List ℕ → Failure → Type 0
 IsFailure grammar trees (Read (errors.Fault fault)) = IsFaultOfGrammar Plain grammar fault ⊎ IsFaultOfTrees trees fault
 IsFailure grammar trees (Read errors.OutOfMemory) = Unit {0}

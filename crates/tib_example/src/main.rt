@@ -1,5 +1,6 @@
-//! The crates as a library: a program of one's own that reads a grammar and some trees from texts, weighs the trees, and prints
-//! the costs. It stands among the crates so that it is proved and run with everything else.
+//! The crates as a library: a program that reads a grammar and some trees from texts, weighs the
+//! trees, and prints the costs. It is among the crates so that it is proved and run with everything
+//! else.
 #![tactic(auto)]
 
 ghost use Rattle.std.specs.Prelude.{◌≤◌, ◌+◌, length, IfErr, IfOk};

@@ -44,7 +44,8 @@ impl Tally {
         }
     }
 
-    // Whether so many items are drawn within a number of looks. After a worker gave up, none waits.
+    // Whether this many items are drawn within a number of looks. After a worker gave up, none
+    // waits.
     fn has_drawn(&self, count: u64) -> bool {
         for _ in 0..TURNS {
             if self.drawn.load(Ordering::SeqCst) >= count {
@@ -57,7 +58,7 @@ impl Tally {
         false
     }
 
-    // Whether so many items were drawn, each was performed once, and no worker gave up.
+    // Whether this many items were drawn, each was performed once, and no worker gave up.
     fn is_once_each(&self, count: u64) -> bool {
         if self.drawn.load(Ordering::SeqCst) != count {
             return false;
@@ -261,7 +262,7 @@ fn draws_by_two(items: &Items, seat: &mut Seat) -> bool
     items.count() == 2 && draw_by_two(items, seat) == Some((0, 1, None))
 }
 
-// The same of a new counter of two items.
+// The same for a new counter of two items.
 fn two_draw(alloc: Global) -> bool {
     match Items::open(alloc, 2) {
         Ok((items, mut seat)) => draws_by_two(&items, &mut seat),
@@ -338,7 +339,7 @@ fn threads_draw_both<R: Threads>(rt: &R, items: &Items, seat: Seat) -> bool
     gave_both(items, first, second)
 }
 
-// The same of a new counter of two items.
+// The same for a new counter of two items.
 fn two_threads_draw<R: Threads>(rt: &R, alloc: Global) -> bool {
     match Items::open(alloc, 2) {
         Ok((items, seat)) => threads_draw_both(rt, &items, seat),

@@ -204,7 +204,7 @@ fn a_round_of_the_one_seed(rt: HostRuntime) {
     assert!(rt; takes_the_seed(rt.alloc()));
 }
 
-// Whether so many keys and rules were found, with so many parts.
+// Whether this many keys and rules were found, with this many parts.
 pub(crate) fn has_sizes<K, R>(found: &Found<K, R>, keys: usize, rules: usize, parts: u64) -> bool {
     found.order.len() == keys && found.rules.len() == rules && found.parts == parts
 }

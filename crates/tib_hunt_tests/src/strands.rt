@@ -120,7 +120,7 @@ impl Expand for Strands {
     } };
 }
 
-// The edge to the two nodes behind a number.
+// The edge to the two nodes after a number.
 fn strand(alloc: Global, number: u32) -> Result<Edges<Node, (Place, Place)>, ExpandError>
     requires { number ≤ 200000 }
     ensures ends { IfOk result (λ r. r.ends.items ≡ record { number = number + 1 } ∷ record
@@ -144,7 +144,7 @@ fn strand(alloc: Global, number: u32) -> Result<Edges<Node, (Place, Place)>, Exp
 }
 
 // A gate that counts what passes, adds up the items, and counts the calls that one worker alone
-// does not make: he passes 0, 1, 2 and so on, as the worker 0.
+// does not make: it passes 0, 1, 2 and so on, as the worker 0.
 #[derive(Drop)]
 struct Counting {
     passes: AtomicU64,
@@ -162,7 +162,7 @@ impl Counting {
         }
     }
 
-    // Whether so many items passed, with this sum.
+    // Whether this many items passed, with this sum.
     fn counts_are(&self, passes: u64, sum: u64) -> bool {
         self.passes.load(Ordering::SeqCst) == passes && self.sum.load(Ordering::SeqCst) == sum
     }
@@ -178,7 +178,7 @@ impl Gate for Counting {
     }
 }
 
-// Whether strands are found that have so many keys and parts.
+// Whether strands are found that have this many keys and parts.
 fn finds(alloc: Global, strands: &Strands, gate: &Counting, keys: usize, parts: u64) -> bool {
     match hunt_alone(alloc, strands, MOST_PARTS, gate) {
         Ok(found) => found.order.len() == keys && found.parts == parts,
@@ -186,7 +186,7 @@ fn finds(alloc: Global, strands: &Strands, gate: &Counting, keys: usize, parts: 
     }
 }
 
-// Whether strands have so many keys and parts, and as many items pass in order, with this sum.
+// Whether strands have this many keys and parts, and as many items pass in order, with this sum.
 fn pass_once(alloc: Global, strands: &Strands, keys: usize, parts: u64, sum: u64) -> bool {
     let gate = Counting::new();
     finds(alloc, strands, &gate, keys, parts)
@@ -243,7 +243,7 @@ const FEW: Strands = Strands {
     length: 40,
 };
 
-// Whether a crew of so many workers finds what one worker found.
+// Whether a crew of this many workers finds what one worker found.
 fn finds_as_well<R: Threads + Wait + Sync>(
     rt: &R,
     alloc: Global,
@@ -258,7 +258,7 @@ fn finds_as_well<R: Threads + Wait + Sync>(
     agree(&found, plain)
 }
 
-// Whether a crew of so many workers and one worker alone give the same answer.
+// Whether a crew of this many workers and one worker alone give the same answer.
 fn crew_agrees<R: Threads + Wait + Sync>(rt: &R, alloc: Global, workers: u32, limit: u64) -> bool
     requires workers { (1 ≤ workers) × (workers ≤ 16) }
     requires limit { (1 ≤ limit) × (limit ≤ most_parts) }
@@ -276,7 +276,7 @@ fn crews_find_the_strands_that_one_worker_finds(rt: HostRuntime) {
     }
 }
 
-// Whether a crew of so many workers finds the 81 keys of a few strands through a gate.
+// Whether a crew of this many workers finds the 81 keys of a few strands through a gate.
 fn crew_finds<R: Threads + Wait + Sync>(
     rt: &R,
     alloc: Global,

@@ -141,7 +141,7 @@ struct Numbered {
     numbers: Vec<Number>,
 }
 
-// Whether a key gets a number, which is put behind the others.
+// Whether a key gets a number, which is put after the others.
 fn number_next<R: Wait>(
     rt: &R,
     table: &Table<AtMost>,
@@ -248,7 +248,7 @@ fn are_named_once(shelves: &mut Shelves<AtMost>, first: &[Number], second: &[Num
         && count_keys(shelves, 2 * KEYS) == KEYS
 }
 
-// The same of a table, which is closed with the seats of both threads.
+// The same for a table, which is closed with the seats of both threads.
 fn close_both<R: Wait>(rt: &R, table: Table<AtMost>, first: Numbered, second: Numbered) -> bool
     requires first { first.seats.table ≡ table }
     requires second { second.seats.table ≡ table }
@@ -259,7 +259,7 @@ fn close_both<R: Wait>(rt: &R, table: Table<AtMost>, first: Numbered, second: Nu
     are_named_once(&mut shelves, &numbers, &second.numbers)
 }
 
-// The same of a table that two threads fill.
+// The same for a table that two threads fill.
 fn two_threads_number<R: Threads + Wait + Sync>(
     rt: &R,
     alloc: Global,
@@ -275,7 +275,7 @@ fn two_threads_number<R: Threads + Wait + Sync>(
     close_both(rt, table, first, second)
 }
 
-// The same of a new table.
+// The same for a new table.
 fn number_together<R: Threads + Wait + Sync>(rt: &R, alloc: Global) -> bool {
     let Ok((table, mut seats)) = Table::open(alloc, AtMost { most: KEYS }) else {
         return false;
@@ -298,7 +298,7 @@ fn are_many(shelves: &mut Shelves<AtMost>, numbers: &[Number]) -> bool {
         && count_keys(shelves, MANY) == MANY
 }
 
-// The same of a table that one thread fills.
+// The same for a table that one thread fills.
 fn one_thread_numbers<R: Wait>(
     rt: &R,
     alloc: Global,
@@ -313,7 +313,7 @@ fn one_thread_numbers<R: Wait>(
     are_many(&mut shelves, &numbers)
 }
 
-// The same of a new table.
+// The same for a new table.
 fn number_many<R: Wait>(rt: &R, alloc: Global) -> bool {
     match Table::open(alloc, AtMost { most: MANY }) {
         Ok((table, seats)) => one_thread_numbers(rt, alloc, table, seats),

@@ -42,7 +42,7 @@ fn append_in_turn<R: Wait>(
     appended
 }
 
-// Whether just these numbers stand there, in order.
+// Whether just these numbers are there, in order.
 fn has_pushed(numbers: &Numbers, wanted: &[u64]) -> bool {
     numbers.list.as_slice() == wanted
 }
@@ -140,7 +140,7 @@ fn append_in_two_threads<R: Threads + Wait + Sync>(
     )
 }
 
-// Whether so many numbers stand there, with this sum.
+// Whether this many numbers are there, with this sum.
 fn count_and_sum_are(numbers: &[u64], count: usize, sum: u64) -> bool {
     let mut found = 0u64;
     for &n in numbers {
@@ -164,7 +164,7 @@ fn join_both(lock: &TurnLock<Numbers>, first: Held, second: Held) -> Held
     }
 }
 
-// The same of a lock to which two threads append their numbers.
+// The same for a lock to which two threads append their numbers.
 fn append_by_threads<R: Threads + Wait + Sync>(
     rt: &R,
     lock: &TurnLock<Numbers>,
@@ -195,7 +195,7 @@ fn two_threads_append<R: Threads + Wait + Sync>(
     appended && count_and_sum_are(&numbers.list, 2000, 1_999_000)
 }
 
-// The same of a new lock.
+// The same for a new lock.
 fn two_threads_push<R: Threads + Wait + Sync>(rt: &R, alloc: Global) -> bool {
     let list = Vec::new(alloc);
     match TurnLock::open(alloc, Numbers { list }) {

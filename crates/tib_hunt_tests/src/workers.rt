@@ -111,8 +111,8 @@ impl<'a> TableKey for Flagged<'a> {
 }
 
 /// An operation over numbers: the seeds 0 and 1, and from each number an edge, which ends at 2
-/// where it comes from 0, and else at no key. Where it is told to wait, 0 waits until 1 is being
-/// expanded, and 1 until 2 is numbered. The first expansions are refused, as many as it is told.
+/// where it comes from 0, and else at no key. If set to wait, 0 waits until 1 is being expanded,
+/// and 1 until 2 is numbered. The first expansions are refused, as many as it is given.
 #[derive(Drop)]
 struct Meeting<'a> {
     numbered: &'a AtomicU64,

@@ -1,5 +1,6 @@
-//! The program `tiburon`: weighs trees by weighted regular tree grammars over exact whole numbers. It fetches the words of its
-//! command line, lends the system's files and streams to the one call `tib_run::run`, and ends with the code of its status.
+//! The program `tiburon`: weighs trees by weighted regular tree grammars over exact whole numbers.
+//! It fetches the words of its command line, lends the system's files and streams to the one call
+//! `tib_run::run`, and ends with the code of its status.
 #![tactic(auto)]
 
 use std::io::BufWriter;
@@ -29,8 +30,8 @@ fn words_of(rt: &HostRuntime) -> Result<Vec<String>, Status> {
     }
 }
 
-// The run over the system's files and streams. A program that may start threads has them from its runtime, so it is lent
-// twice.
+// The run over the system's files and streams. A program that may start threads has them from its
+// runtime, so it is lent twice.
 fn outcome<R: Threads + Wait + Sync>(rt: &HostRuntime, threads: &R) -> Status {
     let mut log = HostSink::new(rt.stderr());
     let words = match words_of(rt) {
