@@ -21,7 +21,7 @@ impl Ranking for Plain {
     ghost total = { λ _. nat_cmp_total };
 }
 
-// What six draws give, of which the last four come behind another number; none where memory is
+// What six draws give, of which the last four come after another number; none where memory is
 // refused.
 fn drawn(alloc: Global) -> Option<[Option<u32>; 6]> {
     let mut heap = Vec::new(alloc);

@@ -34,7 +34,7 @@ fn is_best_of(alloc: Global, text: &str, want: &str) -> bool {
 
 // A grammar, and its best tree where costs are added.
 static SUMS: [(&str, &str); 6] = [
-    // a leaf is cheaper than what stands above it
+    // a leaf is cheaper than what is above it
     ("q\nq -> S(q q) # 1\nq -> a # 2\n", "1/0 # 2; "),
     // two runs give one tree
     (

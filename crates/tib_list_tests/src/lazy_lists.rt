@@ -192,13 +192,13 @@ const TOY: &str = "q\nq -> S(q q) # 1\nq -> a # 2\n";
 static LISTS: [(&str, u32, &str); 4] = [
     // one tree of one node, of one state
     (TOY, 1, "1/0 # 2; by 1"),
-    // each further tree is one entry more
+    // each further tree is one more entry
     (
         TOY,
         3,
         "1/0 # 2; 0/2 1/0 1/0 # 5; 0/2 1/0 0/2 1/0 1/0 # 8; by 3",
     ),
-    // b is asked of p, though it stands in no listed tree
+    // b is asked of p, though it is in no listed tree
     (
         "q\nq -> f(p r)\np -> a\np -> b # 5\nr -> c\nr -> d # 1\n",
         2,
@@ -220,7 +220,7 @@ fn lists_and_steps(rt: HostRuntime) {
 
 static TEXTS: [&str; 5] = [
     "q\nq -> S(q q) # 1\nq -> a # 2\n",
-    // a finite list, and a state that stands twice below a rule
+    // a finite list, and a state that occurs twice below a rule
     "q\nq -> f(p p)\np -> a\np -> b # 1\np -> c # 1\n",
     // states above each other at no cost
     "q\nq -> g(p)\nq -> a\nq -> f(q p)\np -> h(q)\np -> b\n",

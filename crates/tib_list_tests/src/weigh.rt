@@ -140,7 +140,7 @@ fn many_trees_are_weighed_in_order(rt: HostRuntime) -> Result<(), Fail> {
     Ok(())
 }
 
-// Whether seventy trees, which have 90 nodes, are parted behind 45 of these, and not where too much
+// Whether seventy trees, which have 90 nodes, are parted after 45 of these, and not where too much
 // is asked.
 fn are_parted(alloc: Global) -> Result<bool, Fail> {
     let trees = many_trees(alloc, 70)?;

@@ -1,4 +1,4 @@
-// The run over memory: words and files, and what is answered, written and told.
+// The run over memory: words and files, and what is returned and written on the output and the log.
 use std::alloc::{AllocError, Global};
 use std::sync::Wait;
 use std::thread::Threads;
@@ -221,7 +221,8 @@ fn runs<R: Threads + Wait + Sync>(rt: &R, alloc: Global, row: &Row, outside: &Ou
     ended(&ran, row.4, &ending_of(row, outside))
 }
 
-// Whether a row runs as it should where the read of this number fails, and where the call of the output does.
+// Whether a row runs as it should where the read of this number fails, and where the call of the
+// output does.
 fn runs_with_fault<R: Threads + Wait + Sync>(
     rt: &R,
     alloc: Global,
@@ -258,7 +259,8 @@ fn runs_throughout<R: Threads + Wait + Sync>(
     true
 }
 
-// Whether a front of a row's text of this many bytes was written, and the run failed where there is a text.
+// Whether a front of a row's text of this many bytes was written, and the run failed where there is
+// a text.
 fn has_front(row: &Row, ran: &Ran, bytes: usize) -> bool {
     if ran.calls.bytes != bytes {
         return false;
@@ -289,13 +291,13 @@ fn is_untold(row: &Row, ran: &Ran) -> bool {
     ran.out.bytes() == row.4.as_bytes()
 }
 
-// What stands outside of a run in which nothing can be told on the log.
+// What surrounds a run in which nothing can be written on the log.
 const UNTOLD: Outside = Outside {
     log_room: 0,
     ..SOUND
 };
 
-// Whether a row ends with its status, and writes its text, where nothing can be told on the log.
+// Whether a row ends with its status, and writes its text, where nothing can be written on the log.
 fn ends_untold<R: Threads + Wait + Sync>(rt: &R, alloc: Global, row: &Row) -> bool {
     let Ok(ran) = run_row(rt, alloc, row, &UNTOLD) else {
         return false;
@@ -312,7 +314,8 @@ fn runs_alone<R: Threads + Sync>(rt: &R, alloc: Global, row: &Row) -> bool {
     ended(&ran, row.4, &ending_of(row, &SOUND))
 }
 
-// What stands outside of runs in which nothing fails: one and two bytes go over at a time, or two, four and sixteen workers hunt.
+// What surrounds runs in which nothing fails: one and two bytes go over at a time, or two, four and
+// sixteen workers hunt.
 static OTHERWISE: [Outside; 5] = [
     Outside { most: 1, ..SOUND },
     Outside { most: 2, ..SOUND },
@@ -330,7 +333,8 @@ static OTHERWISE: [Outside; 5] = [
     },
 ];
 
-// Whether a row runs as it should one and two bytes at a time, by two, four and sixteen workers, and by one that hunts alone.
+// Whether a row runs as it should one and two bytes at a time, by two, four and sixteen workers,
+// and by one that hunts alone.
 fn runs_otherwise<R: Threads + Wait + Sync>(rt: &R, alloc: Global, row: &Row) -> bool {
     for outside in &OTHERWISE {
         if !runs(rt, alloc, row, outside) {
@@ -345,8 +349,8 @@ fn runs_with_faults<R: Threads + Wait + Sync>(rt: &R, alloc: Global, row: &Row) 
     runs_throughout(rt, alloc, row, 7) && runs_throughout(rt, alloc, row, SOUND.most)
 }
 
-// The first row that does not run as it should: whole and in pieces, with each call failing, by several workers, with room for
-// all its text or not, and with a log that takes nothing.
+// The first row that does not run as it should: whole and in pieces, with each call failing, by
+// several workers, with room for all its text or not, and with a log that takes nothing.
 fn first_wrong<R: Threads + Wait + Sync>(rt: &R, alloc: Global, rows: &[Row]) -> Option<usize> {
     for (number, row) in rows.iter().enumerate() {
         if !runs_with_faults(rt, alloc, row) || !runs_otherwise(rt, alloc, row) {
@@ -359,7 +363,8 @@ fn first_wrong<R: Threads + Wait + Sync>(rt: &R, alloc: Global, rows: &[Row]) ->
     None
 }
 
-// Each table stands in a function of its own: a proof is dear in which several are in view, or one of more than some 24 rows.
+// Each table is in a function of its own: a proof with several of them in view, or with one of more
+// than some 24 rows, is expensive.
 
 // The rows on `weigh`: costs, weights, and files that are no grammar.
 fn weighed() -> &'static [Row] {

@@ -4,7 +4,7 @@ use std::fs;
 use std::rt::Files as System;
 use tib_io::{Files, HostFiles, HostSink, write_and_finish};
 
-/// A read: the name, the place, how many bytes it gives, and what stands in the buffer then.
+/// A read: the name, the place, how many bytes it gives, and what is in the buffer then.
 type Row = (&'static str, u8, usize, &'static [u8; 4]);
 
 const FULL: &str = "tib_io_full";
@@ -48,12 +48,12 @@ fn is_made<R: System>(rt: &R, name: &str, bytes: &[u8]) -> bool {
     fs::write(rt, name, bytes).is_ok()
 }
 
-// Whether a file could be taken away.
+// Whether a file could be removed.
 fn is_removed<R: System>(rt: &R, name: &str) -> bool {
     fs::remove_file(rt, name).is_ok()
 }
 
-// Makes two files, reads them row by row, and takes them away.
+// Makes two files, reads them row by row, and removes them.
 fn are_read_by_rows<R: System + AllocGlobal>(rt: &R) -> bool {
     let made = is_made(rt, FULL, b"some bytes") & is_made(rt, EMPTY, b"");
     let read = give_all(&mut HostFiles::new(rt));
@@ -73,7 +73,7 @@ fn is_written<R: System>(rt: &R, name: &str, bytes: &[u8]) -> bool {
     }
 }
 
-// Writes a file of these bytes, reads it, and takes it away.
+// Writes a file of these bytes, reads it, and removes it.
 fn is_kept<R: System + AllocGlobal>(rt: &R, bytes: &[u8]) -> bool {
     let name = "tib_io_large";
     let written = is_written(rt, name, bytes);

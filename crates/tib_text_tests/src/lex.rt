@@ -68,7 +68,7 @@ fn a_token_is_read_behind_white_space(rt: HostRuntime) {
     }
 }
 
-// A line from its begin on, and that it ends without a token, or where its first token is bad.
+// A line from its start on, and that it ends without a token, or where its first token is bad.
 static ENDS: [(&[u8], Lexed); 3] = [
     (b"  % (", Lexed::End),
     (b" \"a\\n\"", Lexed::BadToken { at: 1 }),
@@ -99,7 +99,7 @@ fn ends_first(bytes: &[u8], end: u32) -> bool {
     }
 }
 
-// Whether a line of 70,000 names and of a quoted token with as many bytes ends behind them, and has
+// Whether a line of 70,000 names and of a quoted token with as many bytes ends after them, and has
 // just these tokens.
 fn reads_long_line(alloc: Global) -> bool {
     match long_line(alloc, 70_000) {
@@ -189,7 +189,7 @@ fn tokens_of(alloc: Global, line: &[u8]) -> Option<Vec<Token>>
     }
 }
 
-// Whether a line has so many tokens.
+// Whether a line has this many tokens.
 fn has_tokens(alloc: Global, line: &[u8], count: usize) -> bool {
     match tokens_of(alloc, line) {
         Some(tokens) => tokens.len() == count,
@@ -214,7 +214,7 @@ fn text_at(alloc: Global, line: &[u8], place: usize) -> Option<Vec<u8>> {
     token_text(alloc, line, &token).ok()
 }
 
-// Whether the text of the token at a place has so many bytes.
+// Whether the text of the token at a place has this many bytes.
 fn has_text_of_length(alloc: Global, line: &[u8], place: usize, length: usize) -> bool {
     match text_at(alloc, line, place) {
         Some(text) => text.len() == length,
@@ -247,7 +247,7 @@ fn a_quoted_text_loses_its_quotes(rt: HostRuntime) {
 // A place among the tokens of the line, and the name of the token there.
 static NAMED: [(usize, Option<&[u8]>); 2] = [(0, Some(b"f")), (2, None)];
 
-// Whether a token stands at a place, and has this name or none.
+// Whether a token is at a place, and has this name or none.
 fn is_named(alloc: Global, line: &[u8], place: usize, name: Option<&[u8]>) -> bool {
     match token_at(alloc, line, place) {
         Some(token) => name_text(line, token) == name,

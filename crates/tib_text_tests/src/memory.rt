@@ -55,7 +55,7 @@ fn a_file_is_read_whole_or_its_fault_is_told(rt: HostRuntime) {
     assert!(rt; is_one_read(rt.alloc()));
 }
 
-// The file "f" of so many bytes.
+// The file "f" of this many bytes.
 fn long_file(alloc: Global, length: usize) -> Result<MemoryFiles, AllocError> {
     let bytes = vec![in alloc; b'%'; length]?;
     Ok(MemoryFiles::new(one_file(alloc, bytes)?, Vec::new(alloc)))
@@ -69,7 +69,7 @@ fn length_read<F: Files>(alloc: Global, files: &mut F) -> Result<usize, FileErro
     }
 }
 
-// Whether reading a file of so many bytes answers this.
+// Whether reading a file of this many bytes returns this.
 fn is_length_read(alloc: Global, length: usize, want: Result<usize, FileError>) -> bool {
     match long_file(alloc, length) {
         Ok(mut files) => length_read(alloc, &mut files) == want,

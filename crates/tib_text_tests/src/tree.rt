@@ -25,7 +25,7 @@ static ROWS: [Row; 6] = [
     (b"\n) \"a", Err((2, FaultKind::BadToken))),
 ];
 
-// Whether so many trees were wanted.
+// Whether this many trees were wanted.
 fn are_wanted(count: usize, want: &Wanted) -> bool {
     match want {
         Ok(wanted) => count == *wanted,
@@ -74,7 +74,7 @@ fn a_tree_file_gives_its_trees_or_its_first_fault(rt: HostRuntime) {
 // How many children the only tree of a file has, and what is read of the file.
 static WIDE: [(u32, Wanted); 2] = [(9999, Ok(1)), (10000, Err((1, FaultKind::TooManyNodes)))];
 
-// Whether a file of one tree with so many children is read as it is wanted.
+// Whether a file of one tree with this many children is read as it is wanted.
 fn reads_wide(alloc: Global, children: u32, want: &Wanted) -> bool {
     match repeated(alloc, b"f(", b"a ", children, b")") {
         Ok(bytes) => reads(alloc, &bytes, want),
@@ -194,7 +194,7 @@ fn prints_from(alloc: Global, text: &[u8], labels: &mut Labels) -> bool
     }
 }
 
-// Whether the tree of a text is printed as the text, and has so many labels.
+// Whether the tree of a text is printed as the text, and has this many labels.
 fn prints_as_read(alloc: Global, text: &[u8], count: usize) -> bool {
     if text.len() > 8_388_608 {
         return false;

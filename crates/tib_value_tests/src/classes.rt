@@ -9,7 +9,7 @@ use tib_transducer::{
     not_nondeleting,
 };
 
-// What stands on the left, and on the right.
+// What is on the left, and on the right.
 type Row<'a> = (&'a [Left], &'a [Right]);
 
 // The transducer of these rules.
@@ -61,7 +61,7 @@ static RULES: [Row<'static>; 6] = [
         &[A, X0, Left::Variable(1, Some(2))],
         &[Right::Label(1, 2), T_X1, T_X0],
     ),
-    // once more all but the first: t.A(x0: x1:a a) -> B(t.x1 t.x1)
+    // all but the first again: t.A(x0: x1:a a) -> B(t.x1 t.x1)
     (
         &[
             Left::Label(0, 3),
@@ -92,7 +92,7 @@ static DEMANDS: [Demand; 5] = [
     ([false, false, false, false], None),
 ];
 
-// Whether the first rule outside of what is demanded is as it stands there.
+// Whether the first rule outside of what is demanded is as it is there.
 fn is_answered(t: &Transducer<MinPlus>, demand: &Demand) -> bool {
     let (demands, want) = demand;
     first_outside(t, demands[0], demands[1], demands[2], demands[3]) == *want
@@ -140,12 +140,12 @@ fn many_pairs(alloc: Global, rank: u32, more: &[Right]) -> Result<Vec<Right>, Al
     Ok(right)
 }
 
-// How many pairs stand on the right, those behind the first 129, and the rules that decide.
+// How many pairs are on the right, those after the first 129, and the rules that decide.
 type Many = (u32, &'static [Right], Deciding);
 
 static MANY: [Many; 3] = [
     (130, &[Right::Pair(0, 129)], [None, None, None, None]),
-    // the variable 64 stands twice, and then 129 is left out
+    // the variable 64 occurs twice, and then 129 is left out
     (
         131,
         &[Right::Pair(0, 129), Right::Pair(0, 64)],
@@ -158,7 +158,7 @@ static MANY: [Many; 3] = [
     ),
 ];
 
-// Whether the rules of the row decide where the left side has 130 variables.
+// Whether the rules of the row decide where the left-hand side has 130 variables.
 fn is_decided(alloc: Global, row: &Many) -> Result<bool, AllocError> {
     let left = many_variables(alloc)?;
     let right = many_pairs(alloc, row.0, row.1)?;

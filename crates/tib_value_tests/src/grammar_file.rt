@@ -115,7 +115,7 @@ fn any_name_is_a_weight_where_nothing_is_weighed(rt: HostRuntime) {
     assert!(rt; is_answered::<Boolean>(rt.alloc(), WEIGHTS, b"q\nq -> a\nq -> b\n"));
 }
 
-// Whether the grammar of one rule, whose label stands over this number of leaves, is answered so.
+// Whether the grammar of one rule, whose label is over this number of leaves, is answered so.
 fn are_leaves_answered(alloc: Global, leaves: u32, want: &[u8]) -> bool {
     match repeated(alloc, b"q\nq -> f(", b"a ", leaves, b")") {
         Ok(text) => is_answered::<MinPlus>(alloc, &text, want),
@@ -131,7 +131,7 @@ fn are_leaves_printed(alloc: Global) -> bool {
     }
 }
 
-// Whether a rule of 10,000 leaves, with its label, is told to have too many nodes.
+// Whether a rule of 10,000 leaves, with its label, is said to have too many nodes.
 fn are_leaves_too_many(alloc: Global) -> bool {
     are_leaves_answered(alloc, 10_000, b"line 2: too many nodes")
 }

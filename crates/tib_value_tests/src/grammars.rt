@@ -72,7 +72,7 @@ fn side_of_holes(alloc: Global, states: &[u32]) -> Option<Option<Side<u32>>> {
     Some(Side::from_preorder(items).ok())
 }
 
-// The same of a label over states, or of the states alone where there is no label.
+// The same for a label over states, or the states alone where there is no label.
 fn side(alloc: Global, root: Option<Label>, states: &[u32]) -> Option<Option<Side<u32>>> {
     if states.len() > 1000 {
         return None;
@@ -326,7 +326,7 @@ fn are_rules_renamed(rules: &mut [Rule<u32>], numbers: &[u32], want: &[Wanted]) 
     are_of(rules, want)
 }
 
-// The same of the rules of a grammar.
+// The same for the rules of a grammar.
 fn are_renamed(grammar: Grammar<MinPlus>, numbers: &[u32], want: &[Wanted]) -> bool {
     grammar.is_sound();
     let states = grammar.states() as usize;

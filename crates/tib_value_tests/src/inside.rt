@@ -16,7 +16,7 @@ fn are_insides<S: Semiring>(alloc: Global, grammar: &Grammar<S>, numbers: &[Opti
     }
 }
 
-/// The same of the grammar of a row.
+/// The same for the grammar of a row.
 fn has_insides<S: Semiring + Drop>(alloc: Global, row: &Inside) -> bool {
     match make_grammar::<S>(alloc, row.0, row.1) {
         Some(grammar) => are_insides(alloc, &grammar, row.2),
@@ -52,7 +52,7 @@ fn is_trimmed(alloc: Global, row: &Trimmed) -> bool {
     }
 }
 
-/// The same of rules in normal form.
+/// The same for rules in normal form.
 fn is_normal_trimmed(alloc: Global, row: &Trimmed) -> bool {
     let Some(normal) = make_normal::<MinPlus>(alloc, row.0, row.1) else {
         return false;
@@ -95,7 +95,7 @@ const WORKED: &[Row] = &[
     (3, &[LABEL_G1, (3, None)], 0),
 ];
 
-// Sides of several labels, a state that stands twice, chains, and a cycle of cost 0.
+// Sides of several labels, a state that occurs twice, chains, and a cycle of cost 0.
 const NESTED: &[Row] = &[
     (0, &[LABEL_F2, LABEL_G1, (1, None), (1, None)], 3),
     (1, &[(2, None)], 0),

@@ -17,7 +17,7 @@ fn is_wanted(answer: &Result<Normal<MinPlus>, NormalError>, want: &Option<&[Row]
     }
 }
 
-/// The same of the normal form of a grammar within the limit of a row.
+/// The same for the normal form of a grammar within the limit of a row.
 fn is_within(alloc: Global, grammar: &Grammar<MinPlus>, form: &Form) -> bool {
     if form.2 < 1 || form.2 > 20_000_000 {
         return false;
@@ -26,7 +26,7 @@ fn is_within(alloc: Global, grammar: &Grammar<MinPlus>, form: &Form) -> bool {
     is_wanted(&answer, &form.3)
 }
 
-/// The same of the grammar of a row.
+/// The same for the grammar of a row.
 fn has_form(alloc: Global, form: &Form) -> bool {
     match make_grammar::<MinPlus>(alloc, form.0, form.1) {
         Some(grammar) => is_within(alloc, &grammar, form),
@@ -34,8 +34,8 @@ fn has_form(alloc: Global, form: &Form) -> bool {
     }
 }
 
-// A right side of several labels, and a chain rule: 2 states, 2 of places, and rules of 4, 2, 2, 3
-// and 2 parts.
+// A right-hand side of several labels, and a chain rule: 2 states, 2 of places, and rules of 4, 2,
+// 2, 3 and 2 parts.
 const NESTED: &[Row] = &[
     (0, &[LABEL_F2, LABEL_G1, LABEL_A0, (0, None)], 3),
     (0, &[(1, None)], 1),
@@ -126,7 +126,7 @@ fn is_small_taken(alloc: Global) -> bool {
 
 const ONE_NESTED: &[Row] = &[(0, &[LABEL_G1, LABEL_A0], 1)];
 
-// Whether a grammar is told not to be in normal form.
+// Whether a grammar is said not to be in normal form.
 fn is_refused(alloc: Global, grammar: Grammar<MinPlus>) -> bool {
     match Normal::new(alloc, grammar) {
         Ok(made) => made.is_none(),
@@ -187,7 +187,7 @@ fn count_and_cost(rules: &[Rule<u32>]) -> Option<(usize, u64)> {
     }
 }
 
-// The same of the normal form within a limit; none where it has too many parts.
+// The same for the normal form within a limit; none where it has too many parts.
 fn measure_within(grammar: &Grammar<MinPlus>, alloc: Global, limit: u64) -> Option<(usize, u64)> {
     if limit < 1 || limit > 20_000_000 {
         return None;

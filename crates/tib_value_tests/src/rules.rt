@@ -4,10 +4,10 @@ use tib_cost::{Cost, MinPlus, Semiring};
 use tib_grammar::{Grammar, Item, Names, Rule, Side};
 use tib_normal::Normal;
 
-/// An item of a right side: a label with its rank, or a state.
+/// An item of a right-hand side: a label with its rank, or a state.
 pub type Part = (u32, Option<u32>);
 
-/// A rule: its left state, the items of its right side, and its cost.
+/// A rule: its left state, the items of its right-hand side, and its cost.
 pub type Row = (u32, &'static [Part], u64);
 
 /// The label f over two items.

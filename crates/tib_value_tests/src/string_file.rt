@@ -8,7 +8,7 @@ use tib_strings::{StringRule, StringTransducer, Word, read_string, read_string_t
 use tib_transducer::Pair;
 use tib_tree::{Label, Labels};
 
-// A file, and the texts of its words, each with a bar behind it, or what is printed of its fault.
+// A file, and the texts of its words, each with a bar after it, or what is printed of its fault.
 type Row = (&'static str, &'static str);
 
 static ROWS: [Row; 28] = [
@@ -55,7 +55,7 @@ fn push_word(labels: &Labels, word: Label, out: &mut Vec<u8>) -> Result<(), Allo
     out.extend_from_slice(b"|")
 }
 
-// The texts of words, each with a bar behind it.
+// The texts of words, each with a bar after it.
 fn texts_of(alloc: Global, words: &[Label], labels: &Labels) -> Result<Vec<u8>, AllocError> {
     let mut out = Vec::new(alloc);
     for word in words {
@@ -69,7 +69,7 @@ fn text_of_error(alloc: Global, error: ReadError) -> Result<Vec<u8>, AllocError>
     text.as_bytes().to_vec(alloc)
 }
 
-// What is told of a file.
+// What is reported of a file.
 fn told(alloc: Global, bytes: &[u8]) -> Result<Vec<u8>, AllocError> {
     if bytes.len() > 8_388_608 {
         return Err(AllocError);
@@ -81,7 +81,7 @@ fn told(alloc: Global, bytes: &[u8]) -> Result<Vec<u8>, AllocError> {
     }
 }
 
-// Whether this is what is told.
+// Whether this is what is reported.
 fn is_told(told: Result<Vec<u8>, AllocError>, want: &str) -> bool {
     match told {
         Ok(found) => found.as_slice() == want.as_bytes(),
@@ -93,7 +93,7 @@ fn rows() -> &'static [Row] {
     &ROWS
 }
 
-// The first of these files of which something else is told.
+// The first of these files of which something else is reported.
 fn first_wrong(alloc: Global, rows: &[Row]) -> Option<&'static str> {
     for (text, want) in rows {
         if !is_told(told(alloc, text.as_bytes()), want) {
@@ -125,7 +125,7 @@ fn a_string_has_ten_thousand_words_at_most(rt: HostRuntime) {
 }
 
 // A transducer file, and of each rule the name of its state and its words and pairs, each with a
-// bar behind it, a pair as the name of its state and the number of its variable; or what is printed
+// bar after it, a pair as the name of its state and the number of its variable; or what is printed
 // of the fault.
 static RULES: [Row; 34] = [
     ("q", ""),
@@ -242,7 +242,7 @@ fn describe_all(
     Ok(out)
 }
 
-// What is told of a transducer file.
+// What is reported of a transducer file.
 fn told_rules(alloc: Global, bytes: &[u8]) -> Result<Vec<u8>, AllocError> {
     if bytes.len() > 8_388_608 {
         return Err(AllocError);
@@ -258,7 +258,7 @@ fn rules() -> &'static [Row] {
     &RULES
 }
 
-// The first of these transducer files of which something else is told.
+// The first of these transducer files of which something else is reported.
 fn first_wrong_rules(alloc: Global, rows: &[Row]) -> Option<&'static str> {
     for (text, want) in rows {
         if !is_told(told_rules(alloc, text.as_bytes()), want) {

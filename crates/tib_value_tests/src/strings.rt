@@ -10,8 +10,8 @@ use tib_transducer::{ClassFault, Pair};
 // no rule where none lacks anything.
 type Lack = Option<Option<(u32, ClassFault)>>;
 
-// The names of the states, the left side, the state and the variable of each pair on the right,
-// which stand between words, and what the first rule lacks.
+// The names of the states, the left-hand side, the state and the variable of each pair on the
+// right, which are between words, and what the first rule lacks.
 type Row = (
     &'static [&'static str],
     &'static [Left],
@@ -56,9 +56,9 @@ static ROWS: [Row; 9] = [
     ),
     // the state p has no name
     (&["t"], &[Left::Label(0, 1), X0], &[(1, 0)], None),
-    // the left side lacks x1
+    // the left-hand side lacks x1
     (&["t"], &[Left::Label(0, 1), X0], &[(0, 1)], None),
-    // the left side numbers x1 before x0
+    // the left-hand side numbers x1 before x0
     (&["t"], &[Left::Label(0, 2), X1, X0], &[(0, 0)], None),
     // there is no state
     (&[], &[Left::Label(0, 0)], &[], None),

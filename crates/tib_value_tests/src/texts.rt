@@ -18,7 +18,7 @@ pub(crate) fn repeated(
     Ok(text)
 }
 
-/// Passes where there is no wrong row, and else tells the row's text.
+/// Passes where there is no wrong row, and else reports the row's text.
 pub(crate) fn no_wrong(row: Option<&'static str>) -> Result<(), Fail> {
     match row {
         Some(text) => Err(text.into()),

@@ -1,6 +1,6 @@
 // Small transducers, as written in comments: a label is a number here, 0 for A, 1 for B and 2 for
-// a. Where what a maker is given makes nothing, it answers as where memory is refused, so the test
-// fails.
+// a. Where what a maker is given makes nothing, it returns what it does where memory is refused, so
+// the test fails.
 use std::alloc::{AllocError, Global};
 use std::test::Fail;
 use tib_cost::{MinPlus, Semiring};
@@ -8,14 +8,15 @@ use tib_grammar::{Item, Names, Side};
 use tib_transducer::*;
 use tib_tree::Label;
 
-/// An item of a left side: a label with its rank, or a variable with the label that it asks for.
+/// An item of a left-hand side: a label with its rank, or a variable with the label that it asks
+/// for.
 #[derive(Clone, Copy)]
 pub(crate) enum Left {
     Label(Label, u32),
     Variable(u32, Option<Label>),
 }
 
-/// An item of a right side: a label with its rank, or a state and a variable.
+/// An item of a right-hand side: a label with its rank, or a state and a variable.
 #[derive(Clone, Copy)]
 pub(crate) enum Right {
     Label(Label, u32),
@@ -69,7 +70,7 @@ fn left_items(alloc: Global, left: &[Left]) -> Result<Vec<Item<Variable>>, Alloc
     Ok(items)
 }
 
-/// The left side of these items.
+/// The left-hand side of these items.
 pub(crate) fn left_side(alloc: Global, left: &[Left]) -> Result<Side<Variable>, AllocError> {
     let items = left_items(alloc, left)?;
     side_of(items)
@@ -107,7 +108,7 @@ fn rule_of(
     })
 }
 
-/// The rules of the state 0 with these left and right sides.
+/// The rules of the state 0 with these left-hand and right-hand sides.
 pub(crate) fn rules_of(
     alloc: Global,
     sides: &[(&[Left], &[Right])],
@@ -177,7 +178,7 @@ fn is_name(transducer: &Transducer<MinPlus>, state: u32, name: &[u8]) -> bool {
     state < transducer.states() && transducer.name(state) == name
 }
 
-// Whether this is the state of a rule, whose left side has three items.
+// Whether this is the state of a rule, whose left-hand side has three items.
 fn is_rule_of(transducer: &Transducer<MinPlus>, number: u32, state: u32) -> bool {
     if number == 0 || number > transducer.rules() {
         return false;
@@ -199,7 +200,7 @@ fn has_parts(transducer: &Transducer<MinPlus>) -> bool {
         && is_rule_of(transducer, 1, 0)
 }
 
-// The same of the transducer of the one rule above, and how many names and rules it is taken apart
+// The same for the transducer of the one rule above, and how many names and rules it is taken apart
 // into.
 fn parts_of_one(alloc: Global) -> Result<(bool, (u32, usize)), AllocError> {
     match of_one_rule(alloc, &["t", "p"], &LEFT, &RIGHT)? {
@@ -285,7 +286,7 @@ fn are_many_found(transducer: &Transducer<MinPlus>) -> bool {
         && is_rule_of(transducer, 65_537, 1)
 }
 
-// The same of the transducer above.
+// The same for the transducer above.
 fn is_last_found(alloc: Global) -> Result<bool, AllocError> {
     Ok(are_many_found(&of_many_rules(alloc, 65_537)?))
 }

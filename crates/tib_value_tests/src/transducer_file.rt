@@ -33,7 +33,7 @@ fn count_variables(side: &Side<Variable>) -> (u32, u32) {
     counts
 }
 
-// The same of all left sides.
+// The same for all left-hand sides.
 fn count_all_variables<S>(transducer: &Transducer<S>) -> (u32, u32) {
     let mut counts = (0, 0);
     for rule in transducer.rule_list() {
@@ -288,14 +288,14 @@ fn are_fronts_read(alloc: Global) -> bool {
     true
 }
 
-// A file that is cut off behind each of its bytes has rules, or a fault in its last line.
+// A file that is cut off after each of its bytes has rules, or a fault in its last line.
 #[test]
 fn each_front_of_a_file_is_read(rt: HostRuntime) {
     assert!(rt; are_fronts_read(rt.alloc()));
     assert!(rt; answer::<MinPlus>(rt.alloc(), FILE) == Ok((3, 5, 9, 5, 1)));
 }
 
-// What is answered where a front and a back stand about a number of leaves.
+// What is returned where a front and a back are put around a number of leaves.
 fn answer_about(
     alloc: Global,
     front: &[u8],

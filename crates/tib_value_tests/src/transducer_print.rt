@@ -26,7 +26,7 @@ fn text_of<S: Semiring>(
     sink.bytes().to_vec(alloc)
 }
 
-// What is printed of the transducer of a text, or want of memory where it is none.
+// What is printed of the transducer of a text, or out of memory where it is none.
 fn printed<S: Semiring + Drop>(alloc: Global, text: &[u8]) -> Result<Vec<u8>, AllocError> {
     if text.len() > 1_000_000 {
         return Err(AllocError);
@@ -109,7 +109,7 @@ fn weights_are_printed_where_they_are_kept(rt: HostRuntime) {
     assert!(rt; are_weights_printed(rt.alloc()));
 }
 
-// Whether what is printed of the transducer of a text is printed again as it stands.
+// Whether what is printed of the transducer of a text is printed again unchanged.
 fn stays(alloc: Global, text: &str) -> bool {
     match printed::<MinPlus>(alloc, text.as_bytes()) {
         Ok(once) => prints::<MinPlus>(alloc, &once, &once),

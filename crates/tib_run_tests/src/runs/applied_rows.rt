@@ -93,7 +93,7 @@ pub static FORWARD: [Row; 15] = [
         "q0\nq0 -> Z(q1) # 3\nq1 -> n # 1\nq1 -> v # 2\n",
         "",
     ),
-    // a left side of two labels
+    // a left-hand side of two labels
     (
         &["forward", "G", "T"],
         "q\nq -> A(B(q) q) # 2\nq -> a # 1\n",
@@ -115,7 +115,7 @@ pub static FORWARD: [Row; 15] = [
         "",
         "tiburon: file 2: rule 1: not linear\n",
     ),
-    // of two rules that are not linear the first is told; rules are counted, and not lines
+    // of two rules that are not linear the first is named; rules are counted, and not lines
     (
         &["forward", "G", "T"],
         BINARY,
@@ -238,7 +238,7 @@ pub static BACKWARD: [Row; 13] = [
         "q0\n",
         "",
     ),
-    // a left side of two labels
+    // a left-hand side of two labels
     (
         &["backward", "G", "T"],
         "t\nt.A(B(x0:) x1:) -> C(t.x1 t.x0) # 3\nt.a -> c # 4\n",
@@ -260,7 +260,7 @@ pub static BACKWARD: [Row; 13] = [
         "",
         "tiburon: file 1: rule 1: not nondeleting\n",
     ),
-    // of the two classes that a rule breaks the first is told
+    // of the two classes that a rule breaks the first is named
     (
         &["backward", "G", "T"],
         "t\nt.a -> b\nt.A(x0: x1:) -> B(t.x0 t.x0)\n",
@@ -286,7 +286,7 @@ pub static BACKWARD: [Row; 13] = [
         "",
         "tiburon: file 1: rule 1: not nondeleting\n",
     ),
-    // and behind the faults of both files
+    // and after the faults of both files
     (
         &["backward", "G", "T"],
         DELETING,

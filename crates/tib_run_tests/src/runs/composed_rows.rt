@@ -4,7 +4,7 @@ use tib_lex::{FaultKind, FileFault};
 use tib_operations::Status;
 use tib_transducer::ClassFault;
 
-/// A transducer whose right side has two labels.
+/// A transducer whose right-hand side has two labels.
 const TWO_LABELS: &str = "q\nq.A(x0:) -> B(C(q.x0)) # 1\nq.a -> b # 2\n";
 
 /// One that translates these labels.
@@ -16,7 +16,7 @@ const ERASING: &str = "q\nq.A(x0:) -> q.x0 # 1\nq.a -> b # 2\n";
 
 // The worked rows on `compose`.
 pub static COMPOSED: [Row; 8] = [
-    // a right side of two labels is translated by two rules
+    // a right-hand side of two labels is translated by two rules
     (
         &["compose", "G", "T"],
         TWO_LABELS,
@@ -34,7 +34,7 @@ pub static COMPOSED: [Row; 8] = [
         "q0\nq0.A(B(x0:) x1:) -> G(q0.x0 q0.x0) # 2\nq0.a -> c # 2\n",
         "",
     ),
-    // a right side without a label is not translated
+    // a right-hand side without a label is not translated
     (
         &["compose", "G", "T"],
         ERASING,

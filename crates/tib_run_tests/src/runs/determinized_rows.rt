@@ -97,7 +97,7 @@ pub static DETERMINIZED: [Row; 14] = [
         "q0\n",
         "",
     ),
-    // the start stands in two vectors, in one of them with a residual
+    // the start is in two vectors, in one of them with a residual
     (
         &["determinize", "G"],
         "q\nq -> a # 3\nq -> f(p) # 0\np -> a # 1\n",

@@ -2,7 +2,8 @@
 use std::sync::atomic::{AtomicU64, Ordering};
 use tib_hunt::Gate;
 
-/// What is done with the items that pass. It is one type, so that each operation is compiled for one gate alone.
+/// What is done with the items that pass. It is one type, so that each operation is compiled for
+/// one gate alone.
 #[derive(Drop)]
 pub enum Watch {
     /// Nothing is done.
@@ -14,7 +15,7 @@ pub enum Watch {
 }
 
 impl Watch {
-    /// Whether it counted so many items, with this sum.
+    /// Whether it counted this many items, with this sum.
     pub fn counts_are(&self, passes: u64, items: u64) -> bool {
         match self {
             Watch::Count(counting) => counting.counts_are(passes, items),
@@ -22,7 +23,7 @@ impl Watch {
         }
     }
 
-    /// Whether workers met so often.
+    /// Whether workers met this often.
     pub fn meetings_are(&self, times: u64) -> bool {
         match self {
             Watch::Meet(meeting) => meeting.met.load(Ordering::SeqCst) == times,
@@ -63,7 +64,7 @@ impl Counting {
         self.items.fetch_add(u64::from(item), Ordering::SeqCst);
     }
 
-    // Whether so many items passed, with this sum.
+    // Whether this many items passed, with this sum.
     fn counts_are(&self, passes: u64, items: u64) -> bool {
         self.passes.load(Ordering::SeqCst) == passes && self.items.load(Ordering::SeqCst) == items
     }

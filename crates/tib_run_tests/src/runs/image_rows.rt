@@ -91,7 +91,7 @@ pub static IMAGED: [Row; 16] = [
         "q0\nq0 -> B(q1 q1)\nq1 -> b\nq1 -> c\n",
         "",
     ),
-    // several trees: the second is told
+    // several trees: the second is reported
     (
         &["image", "G", "T"],
         "A(a)\na",
@@ -120,7 +120,7 @@ pub static IMAGED: [Row; 16] = [
         "",
         "tiburon: file 1: line 6: bad tree\n",
     ),
-    // but a fault of a line comes first, wherever it stands
+    // but a fault of a line comes first, wherever it is
     (
         &["image", "G", "T"],
         "a\nb\n(",

@@ -3,10 +3,10 @@ use crate::runs::rows::{BINARY, FOREST, READINGS_WEIGHED, Row, TWO_WAYS};
 use tib_lex::{FaultKind, FileFault};
 use tib_operations::Status;
 
-// Of the least greatest costs that of the small tree is not less, and it stands first.
+// Of the least greatest costs that of the small tree is not less, and it is first.
 const SMALL_AT_COST: &str = "q\nq -> f(p r) # 0\np -> g(g(e)) # 0\np -> c # 4\nr -> d # 5\n";
 
-// Two trees of the start are cheap, and what stands below the third has a large second tree.
+// Two trees of the start are cheap, and what is below the third has a large second tree.
 const LARGE_UNASKED: &str =
     "q\nq -> a # 1\nq -> b # 2\nq -> h(p) # 5\np -> f(y t0)\ny -> c\ny -> k(t0)\nt0 -> g(t1 t1)\nt1 -> g(t2 t2)\nt2 -> g(t3 t3)\nt3 -> g(t4 t4)\nt4 -> g(t5 t5)\nt5 -> g(t6 t6)\nt6 -> g(t7 t7)\nt7 -> g(t8 t8)\nt8 -> g(t9 t9)\nt9 -> g(t10 t10)\nt10 -> g(t11 t11)\nt11 -> g(t12 t12)\nt12 -> e\n";
 
@@ -93,7 +93,7 @@ pub static LISTED: [Row; 15] = [
         "f(a) # 0\na # 3\n",
         "",
     ),
-    // of the least weights the greatest stands first
+    // of the least weights the greatest is first
     (
         &["-m", "widest", "kbest", "-k", "3", "G"],
         SEVERAL,

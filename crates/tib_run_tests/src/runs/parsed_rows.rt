@@ -100,7 +100,7 @@ pub static PARSED: [Row; 16] = [
         "q0\nq0 -> S(q2 q1) # 1\nq1 -> a # 0\nq2 -> N # 0\n",
         "",
     ),
-    // a left side of several labels
+    // a left-hand side of several labels
     (
         &["parse", "G", "T"],
         "q\nq.S(x0: B(C)) -> q.x0 u # 1\nq.a -> v # 3\n",

@@ -11,7 +11,7 @@ use std::thread::Threads;
 // The numbers of workers.
 static CREWS: [&str; 4] = ["1", "2", "4", "16"];
 
-// The run of a row through this gate, by so many workers; where no number is given, by one that
+// The run of a row through this gate, by this many workers; where no number is given, by one that
 // hunts alone.
 fn run_counting<R: Threads + Wait + Sync>(
     rt: &R,

@@ -2,7 +2,7 @@
 use tib_lex::{FaultKind, FileFault};
 use tib_operations::Status;
 
-// The words, the files `G` and `T`, and what the run answers, writes and tells.
+// The words, the files `G` and `T`, and what the run returns and writes on the output and the log.
 pub type Row = (
     &'static [&'static str],
     &'static str,
@@ -119,7 +119,7 @@ pub static WEIGHED: [Row; 13] = [
         "",
         "tiburon: file 1: line 2: weight too large\n",
     ),
-    // zeros behind the point
+    // zeros after the point
     (
         &["weigh", "G", "T"],
         "q\nq -> S(q q) # 1\nq -> a # 2.000\n",
@@ -152,7 +152,7 @@ pub static WEIGHED: [Row; 13] = [
         "a\n",
         "",
     ),
-    // a right side that is no tree
+    // a right-hand side that is no tree
     (
         &["weigh", "G", "T"],
         "q\nq -> S(q",
@@ -186,7 +186,7 @@ pub static WEIGHED: [Row; 13] = [
 
 // Those on rules of every form, limits, labels and both files, and words that are no command.
 pub static WEIGHED_OTHERS: [Row; 14] = [
-    // a nested right side
+    // a nested right-hand side
     (
         &["weigh", "G", "T"],
         "q\nq -> f(a)\n",
@@ -290,7 +290,7 @@ pub static WEIGHED_OTHERS: [Row; 14] = [
         "",
         "tiburon: file 1: line 2: bad rule\n",
     ),
-    // options behind the operation, workers accepted
+    // options after the operation, workers accepted
     (
         &["-w", "4", "weigh", "-k", "3", "G", "T"],
         BINARY,
@@ -489,7 +489,8 @@ pub static ONE_FILE: [Row; 22] = [
         "",
         "tiburon: file 1: line 2: bad token\n",
     ),
-    // equal rules keep the least cost; a state that no run uses, and a rule that costs too much, are left out
+    // equal rules keep the least cost; a state that no run uses, and a rule that costs too much,
+    // are left out
     (
         &["normal", "G"],
         "q\nq -> a # 5\nq -> a # 2\nq -> f(r) # 1000000000000000\nr -> b # 1\nu -> f(u)\n",
@@ -498,7 +499,7 @@ pub static ONE_FILE: [Row; 22] = [
         "q0\nq0 -> a # 2\n",
         "",
     ),
-    // rules of one state stand by the bytes of their lines
+    // rules of one state are sorted by the bytes of their lines
     (
         &["normal", "G"],
         "q\nq -> a(q)\nq -> a # 10\nq -> B\n",
@@ -547,7 +548,7 @@ pub static PRUNED: [Row; 16] = [
         "q0\nq0 -> f(q1) # 1\nq1 -> a # 2\n",
         "",
     ),
-    // a beam of what the other one costs more
+    // a beam of what the other one more costs
     (
         &["--beam", "1", "prune", "G"],
         TWO_WAYS,
@@ -583,7 +584,7 @@ pub static PRUNED: [Row; 16] = [
         "q0\n",
         "",
     ),
-    // the same in bottleneck, where a run costs its dearest rule
+    // the same in bottleneck, where a run costs its most expensive rule
     (
         &["-mbottleneck", "prune", "G"],
         TWO_WAYS,

@@ -8,8 +8,9 @@ use tib_io::{MemoryFiles, MemorySink};
 use tib_operations::Status;
 use tib_run::{run, run_alone};
 
-/// How many workers hunt where the words do not say it, the number of the read that fails, and of the call of the output that
-/// fails, the room of the output and of the log, and how many bytes go over at a time.
+/// How many workers hunt where the words do not say it, the number of the read that fails, and of
+/// the call of the output that fails, the room of the output and of the log, and how many bytes go
+/// over at a time.
 #[derive(Clone, Copy)]
 pub struct Outside {
     pub workers: Option<&'static str>,
@@ -30,7 +31,8 @@ pub const SOUND: Outside = Outside {
     most: 1_000_000,
 };
 
-/// How many bytes of the output were written, and how often the files were read and the output was written to and finished.
+/// How many bytes of the output were written, and how often the files were read and the output was
+/// written to and finished.
 #[derive(Clone, Copy, PartialEq)]
 pub struct Calls {
     pub bytes: usize,
@@ -118,7 +120,7 @@ struct Given {
     log: MemorySink,
 }
 
-// These words, the files `G` and `T`, and what stands outside.
+// These words, the files `G` and `T`, and what surrounds the run.
 fn prepare(
     alloc: Global,
     asked: &[&str],

@@ -21,7 +21,7 @@ pub static CHECKED: [Row; 24] = [
         PLAIN,
         "",
     ),
-    // a label that a variable asks for is told in a fourth line
+    // a label that a variable asks for is reported in a fourth line
     (
         &["check", "G"],
         "q\nq.A(x0:NP) -> B(q.x0)\n",
@@ -48,7 +48,7 @@ pub static CHECKED: [Row; 24] = [
         "linear yes\nnondeleting no 2\nextended yes 2\n",
         "",
     ),
-    // rules are counted, and not lines; the first that decides is told
+    // rules are counted, and not lines; the first that decides is named
     (
         &["check", "G"],
         "q\n% a copy\n\nq.a -> b # 1\nq.A(x0:) -> B(q.x0 q.x0) # 2\nq.B(x0: x1:\"V P\") -> B(r.x0 q.x0)\nr.B(a(x7:) x2:) -> q.x2\n",
@@ -83,7 +83,7 @@ pub static CHECKED: [Row; 24] = [
         PLAIN,
         "",
     ),
-    // each fault, behind a good rule
+    // each fault, after a good rule
     (
         &["check", "G"],
         "q\nq.x0: -> a\n",

@@ -1,10 +1,11 @@
-// Files and sinks of which a number of bytes at most goes over at a time, and whose calls are counted.
+// Files and sinks of which a number of bytes at most goes over at a time, and whose calls are
+// counted.
 ghost use Rattle.std.specs.Prelude.{◌≤◌};
 
 use tib_io::{Failed, Files, NotRead, Sink};
 
-/// Files that give, or a sink that takes, at most `most` bytes at a time, and at least one where there is one. It counts
-/// the reads or writes, and the calls of `finish`.
+/// Files that give, or a sink that takes, at most `most` bytes at a time, and at least one where
+/// there is one. It counts the reads or writes, and the calls of `finish`.
 #[derive(Drop)]
 pub struct Watched<T> {
     inner: T,
@@ -25,7 +26,8 @@ impl<T> Watched<T> {
         }
     }
 
-    /// The files, or the sink, with the number of reads or writes and that of the calls of `finish`.
+    /// The files, or the sink, with the number of reads or writes and that of the calls of
+    /// `finish`.
     pub fn into_parts(self) -> (T, u64, u64) {
         let Watched {
             inner,
