@@ -11,7 +11,7 @@ use Rattle.tib_transducer.specs.declared.error.ClassError.TheVariants.{Class as 
 use Rattle.tib_apply.specs.Applied.{IsApplyFault}
 use Rattle.tib_apply.specs.Faults.{class_error, hunt_error}
 
--- the first rule outside the classes is told
+-- the first rule outside the classes is named
 pub class_fault :
     (demanded : Demands) (moves : List (TransducerRule ℕ)) (limit : ℕ) (Beyond : Type 0) (e : ClassError) → IsClassFault demanded moves e → IsApplyFault demanded moves limit Beyond (class_error e)
 class_fault demanded moves limit Beyond (OfRule rule fault) h = h

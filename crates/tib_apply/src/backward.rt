@@ -28,7 +28,7 @@ use tib_match::{Match, Within, matches_within};
 use tib_normal::Normal;
 use tib_transducer::{ClassError, StateIndex, Transducer, TransducerRule, first_outside};
 
-/// A linear and nondeleting transducer and a grammar, with what is looked up of them.
+/// A linear and nondeleting transducer and a grammar, with what is looked up in them.
 #[derive(Drop)]
 pub struct Backward<'a, S> {
     /// The transducer.

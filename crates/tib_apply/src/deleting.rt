@@ -75,7 +75,7 @@ fn total_of<S: Semiring>(insides: &[Option<Cost>], states: &[Item<u32>]) -> Opti
     total
 }
 
-/// Counts a rule in at its state and label.
+/// Counts a rule at its state and label.
 fn add_begun<S: Semiring>(
     begun: &mut HashMap<(u32, Label), Cost>,
     rule: &Rule<u32>,

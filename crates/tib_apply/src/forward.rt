@@ -30,7 +30,7 @@ use tib_match::{Match, Within, few_matches, partial_matches, search_matches};
 use tib_normal::Normal;
 use tib_transducer::{ClassError, StateIndex, Transducer, TransducerRule, first_outside};
 
-/// A grammar and a linear transducer, with what is looked up of them.
+/// A grammar and a linear transducer, with what is looked up in them.
 #[derive(Drop)]
 pub struct Forward<'a, S> {
     /// The grammar.

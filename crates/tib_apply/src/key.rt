@@ -4,8 +4,8 @@ ghost use Rattle.std.specs.Prelude.{◌≡◌};
 use std::marker::Model;
 use tib_hunt::TableKey;
 
-/// A state of the grammar and a state of the transducer, the one of what is read first, and a
-/// restriction: 0, or the number of the one label that may be at the root.
+/// A state of the grammar and a state of the transducer, that of what is read first before the
+/// other, and a restriction: 0, or the number of the one label that may be at the root.
 #[derive(Clone, Copy, Debug, Drop, PartialEq, Eq, PartialOrd, Ord, Hash)]
 pub struct Key {
     first: u32,

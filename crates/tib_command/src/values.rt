@@ -150,14 +150,14 @@ fn word_count(operation: Operation) -> usize
     }
 }
 
-/// The operation takes a number in place of files.
+/// Whether the operation takes a number in place of files.
 fn takes_number(operation: Operation) -> bool
     ensures { result ≡ takes_number operation }
 {
     matches!(operation, Operation::Demo)
 }
 
-/// One of the words is empty.
+/// Whether one of the words is empty.
 fn has_empty(words: &[&str]) -> bool
     ensures { result ≡ list_any (λ w. length w == 0) (map (λ w. w.now) words.now) }
 {
@@ -169,7 +169,7 @@ fn has_empty(words: &[&str]) -> bool
     false
 }
 
-/// The words are as many file names as the operation takes.
+/// Whether the words are as many file names as the operation takes.
 fn are_files(operation: Operation, words: &[&str]) -> bool
     ensures test { result ≡ are_files operation (map (λ w. w.now) words.now) }
     ensures many { IsTrue result → length words.now ≡ word_count operation }

@@ -11,7 +11,7 @@ use Rattle.tib_transducer.specs.declared.error.ClassError.TheVariants.{Class as 
 use Rattle.tib_compose.specs.Composed.{IsComposeFault}
 use Rattle.tib_compose.specs.Faults.{class_error, hunt_error}
 
--- the first rule outside the classes is told
+-- the first rule outside the classes is named
 pub class_fault : (two : List (TransducerRule ℕ)) (limit : ℕ) (Beyond : Type 0) (e : ClassError) → IsClassFault (demands true true true true) two e → IsComposeFault two limit Beyond (class_error e)
 class_fault two limit Beyond (OfRule rule fault) h = h
 class_fault two limit Beyond OfMemory h = h

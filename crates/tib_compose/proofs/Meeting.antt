@@ -25,6 +25,6 @@ flat_from rules shaped all n h =
     let over = is_over rules shaped (plain_from rules all) n h in
     record { root = over.0; is_root = over.1.root; variables = over.1.variables }
 
--- states in range, told by functions
+-- states in range, stated by functions
 pub below_from : (n : ℕ) (rules : List (TransducerRule ℕ)) → AreWithin n rules → StatesBelow n rules
 below_from n rules w = (λ m h. (w m h).0, λ m q h has. below_has n (states_in (transducer_rule rules m).right) q (w m h).1 has)

@@ -62,7 +62,7 @@ reads_rule {P} {Q} r f g h =
     ∙ ap (λ z. record { state = g r.state; left = r.left; right = record { label = z; kids = relabel (symbol_map (named_pair f)) r.right.kids }; cost = r.cost }) root
     ∙ ap (λ z. record { state = g r.state; left = r.left; right = record { label = symbol_map (named_pair g) r.right.label; kids = z }; cost = r.cost }) kids
 
--- the states of the rules are below n, told by functions into facts
+-- the states of the rules are below n, stated by functions into facts
 abbrev pub StatesBelow : ℕ → List (TransducerRule ℕ) → Type 0
 StatesBelow n rules =
     ((m : ℕ) → m < length rules → (transducer_rule rules m).state < n) × ((m q : ℕ) → m < length rules → Has (states_in (transducer_rule rules m).right) q → q < n)

@@ -17,7 +17,7 @@ use tib_cost::{Cost, Semiring};
 use tib_grammar::Item;
 use tib_transducer::Pair;
 
-/// The lesser of two bounds, where none is above the greatest cost.
+/// The lesser of two bounds, where `None` is more than the greatest cost.
 fn lesser_of(one: Option<Cost>, two: Option<Cost>) -> Option<Cost>
     ensures first { (n : ℕ) → IsAtLeast one n → IsAtLeast result n }
     ensures second { (n : ℕ) → IsAtLeast two n → IsAtLeast result n }
@@ -178,8 +178,9 @@ impl<'a, S: Semiring> Composite<'a, S> {
     }
 
     /// Sets the bounds of all nodes and states that a search from the root by a state may come to.
-    /// A side of one label needs none: each rule that reads it gives a translation. Cost: for each
-    /// of them and each rule that reads the label there one pass over the rule's right-hand side.
+    /// A right-hand side of one label needs none: each rule that reads it gives a translation.
+    /// Cost: for each of them and each rule that reads the label there one pass over the rule's
+    /// right-hand side.
     pub(crate) fn set_bounds(
         &self,
         alloc: Global,

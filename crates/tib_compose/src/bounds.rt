@@ -40,7 +40,7 @@ impl Bounds {
         }
     }
 
-    /// The bound of a piece; a label that is put out has 0.
+    /// The bound of a piece; a label that is put out has 0. Cost: one look-up by hash.
     pub fn of_piece(&self, piece: &Piece) -> Option<Cost>
         ensures { (product : ℕ → ℕ → ℕ) → (two : List (RuleOf ℕ)) →
             (pairs : List (Symbol ℕ (PairOf ℕ) × ℕ)) → AreBounds product two pairs self.now →

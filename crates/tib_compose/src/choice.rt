@@ -1,4 +1,4 @@
-//! Where an edge of a pair comes from, beside a rule of the first transducer.
+//! Where an edge of a pair comes from, besides a rule of the first transducer.
 
 use std::marker::Model;
 

@@ -37,8 +37,8 @@ pub struct Search {
 }
 
 impl Search {
-    /// The search for the translations of a whole side by a state, at a cost. Err only if memory is
-    /// refused.
+    /// The search for the translations of a whole right-hand side by a state, at a cost. Err only
+    /// if memory is refused.
     pub fn new<S: Semiring>(alloc: Global, cost: Cost, state: u32) -> Result<Search, AllocError>
         ensures begins { IfOk result (Begins S.product cost state) }
     {

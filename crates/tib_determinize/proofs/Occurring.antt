@@ -27,7 +27,7 @@ use Rattle.tib_determinize.proofs.PositionsTried.{taken_more}
 same_or_below : (j i : ℕ) → i < j + 1 → (j ≡ i) ⊎ (i < j)
 same_or_below j i h = grind arith
 
--- a place of a rule, told by the rule's own label and states
+-- a place of a rule, given by the rule's own label and states
 pub own_held :
     (rules : List (Rule ℕ)) (many m j f b q : ℕ) (lists : List (Vec Occurrence)) → (rule_at rules m).right.label ≡ label f → b ≡ bucket f many → q ≡ get_or (states_of rules m) j 0 →
     Has (held lists q) (record { bucket = b; place = j; rule = m }) → IsHeld rules many lists m j

@@ -76,7 +76,7 @@ labelled_has f (ps ∷ pss) o h = elim h [
 ]
 
 module _ (product : ℕ → ℕ → ℕ) {levelled weighted : Bool} (laws : ProductLaws levelled weighted product) (rules : List (Rule ℕ)) (normal : AreNormal rules) (order : List VectorOf) (f k : ℕ) where
-  -- the rules that are alive still, where the vector at p is at the place i
+  -- the rules that are still alive, where the vector at p is at the place i
   module _ (i p : ℕ) (ps : List ℕ) (low : i < k) (rises : Rises (vector_at order p)) where
     kept_alive :
         (a : Alive) → IsAlive product rules order f k (suc i) ps a → (w : ℕ) → weight_with product rules i (vector_at order p) a ≡ Some w →

@@ -25,7 +25,7 @@ with_alive m (Some w) more = record { rule = m; weight = w } ∷ more
 abbrev pub weight_with : (ℕ → ℕ → ℕ) → List (Rule ℕ) → ℕ → List (ℕ × ℕ) → Alive → Option ℕ
 weight_with product rules i v a = times product (residual_in (get_or (states_of rules a.rule) i 0) v) (Some a.weight)
 
--- the rules that are alive still, where a vector is at the place before
+-- the rules that are still alive, where a vector is at the place before
 abbrev pub narrowed : (ℕ → ℕ → ℕ) → List (Rule ℕ) → ℕ → List (ℕ × ℕ) → List Alive → List Alive
 narrowed product rules i v [] = []
 narrowed product rules i v (a ∷ alive) = with_alive a.rule (weight_with product rules i v a) (narrowed product rules i v alive)

@@ -116,7 +116,7 @@ fn weight<S: Semiring>(
     }
 }
 
-/// The rules that are alive still, where a vector is at the place before.
+/// The rules that are still alive, where a vector is at the place before.
 pub(crate) fn narrow<S: Semiring>(
     alloc: Global,
     rules: &[Rule<u32>],

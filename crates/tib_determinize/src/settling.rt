@@ -61,7 +61,7 @@ fn least_costs(alloc: Global, costs: Vec<(u32, Cost)>) -> Result<Vec<(u32, Cost)
     Ok(kept)
 }
 
-// The residuals of some costs over a cost that is none of them above.
+// The residuals of some costs over a cost that is above none of them.
 fn residuals<S: Semiring>(
     alloc: Global,
     costs: &[(u32, Cost)],

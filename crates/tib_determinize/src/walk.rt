@@ -69,7 +69,7 @@ fn range_at(walk: &Walk<'_>, place: u32) -> (usize, usize)
 }
 
 impl Level {
-    /// The level of a place. Err only if memory is refused.
+    /// The level of a place. Err only if memory is refused. Cost: that of `wanted_at`.
     pub fn new(
         alloc: Global,
         walk: &Walk<'_>,

@@ -35,8 +35,8 @@ fn count_below(positions: &[u32], least: usize) -> usize
     low
 }
 
-/// The first of some positions, which ascend, that is at least `next`; `end` where none below that
-/// is, or where `next` is not below it. They are halved.
+/// The first of some positions, which ascend, that is at least `next` and below `end`; `end` where
+/// there is none, and `next` where that is not below `end`. Cost: a search by halving.
 pub(crate) fn next_wanted(wanted: &[u32], next: usize, end: usize) -> usize
     requires { AreAscending wanted.now }
     ensures from { next ≤ result }
@@ -103,7 +103,8 @@ fn add_wanted(
 }
 
 /// The positions at which a rule that is alive has its state at a place, of those that may be
-/// there, ascending. Others may be among them. Err only if memory is refused.
+/// there, ascending. Others may be among them. Err only if memory is refused. Cost: a sort of the
+/// positions that each of these rules adds.
 pub(crate) fn wanted_at(
     alloc: Global,
     walk: &Walk<'_>,

@@ -49,12 +49,12 @@ module _ (moves : StringTransducerOf) (string : List ℕ) where
     pub beyond_of : (limit : ℕ) → IsBeyond (parse near.rules other) limit → IsBeyond (parse moves.rules string) limit
     beyond_of limit h = subst (λ w. IsBeyond (parse moves.rules w) limit) is (subst (λ (x : StringTransducerOf). IsBeyond (parse x.rules other) limit) same h)
 
--- the first rule that is not linear or not nondeleting is told
+-- the first rule that is not linear or not nondeleting is named
 pub class_fault : (moves : List (StringRule ℕ)) (string : List ℕ) (limit : ℕ) (e : ClassError) → IsStringFault moves e → IsParseFault moves string limit (class_error e)
 class_fault moves string limit (OfRule rule fault) h = h
 class_fault moves string limit OfMemory h = h
 
--- that there are too many parts is told, with what follows from what a hunt promises of it
+-- that there are too many parts is reported, with what follows from what a hunt promises of it
 pub hunt_fault :
     (moves : List (StringRule ℕ)) (string : List ℕ) (limit : ℕ) (Found : Type 0) → AreLinear moves → AreNondeleting moves → (Found → IsBeyond (parse moves string) limit) → (e : HuntError) →
     IfTooMany limit Found e → IsParseFault moves string limit (hunt_error e)

@@ -1,4 +1,4 @@
-//! A transducer and a tree, with what is looked up of them, and the edges of a key.
+//! A transducer and a tree, with what is looked up in them, and the edges of a key.
 
 ghost use Rattle.std.specs.Prelude.{◌≡◌, ℕ, ◌<◌, ◌≤◌, ◌^◌, length, IfOk, OnOk, Err};
 ghost use Rattle.tib_tree.specs.Trees.{size, count};

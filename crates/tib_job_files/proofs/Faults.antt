@@ -18,7 +18,7 @@ use Rattle.tib_tree.specs.OneTreeLaws.{TextsHaveNone as TreesHaveNone}
 use Rattle.tib_tree.proofs.Exact.{no_fault as no_tree_fault, one_fault as one_tree_fault}
 use Rattle.tib_job_files.specs.Kinds.{Kind, of_grammar, of_support, of_trees, of_one_tree, of_transducer, of_string_transducer, of_string, bytes_at, OfName, Told, HasFault, KindsHaveNoFault}
 
--- what holds of the bytes of a file where they are told, and that they are told
+-- what holds of the bytes of a file where they are known, and that they are known
 pub told_both : (held : List ℕ → Option (List ℕ)) (o : Option (List ℕ)) (P Q : List ℕ → Type 0) → OfName o (Told held P) → OfName (bytes_at held o) Q → (x : List ℕ) × P x × Q x
 told_both held None P Q a b = absurd a
 told_both held (Some name) P Q a b = both (held name) a b

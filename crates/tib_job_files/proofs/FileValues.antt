@@ -29,7 +29,7 @@ use Rattle.tib_job_files.proofs.OneString.{one_string}
 use Rattle.tib_job_files.proofs.WordsRead.{IsSoundStringTransducer, string_transducer_sound}
 use Rattle.tib_operations.proofs.Tables.{none_distinct, read_over, lists_over, reads_grown, lists_grown}
 
--- a value of a file, where its bytes are told, over a table to which another has grown
+-- a value of a file, where its bytes are known, over a table to which another has grown
 record IsTextOver (scale : Scale) (early : List (List ℕ)) (kind : Kind) (bytes : Option (List ℕ)) : Type 0 where
   labels : List (List ℕ)
   value : ValueOf kind
@@ -141,7 +141,7 @@ told_agrees :
 told_agrees scale labels others kind value other None told t u = absurd (cc told)
 told_agrees scale labels others kind value other (Some bytes) told t u = text_agrees scale labels others kind value other bytes t u
 
--- values of the same told files agree
+-- values of the same known files agree
 pub values_agree :
     (scale : Scale) (labels others : List (List ℕ)) (kinds : List Kind) (bytes : ℕ → Option (List ℕ)) (values more : ValuesOf kinds) → AreAllTold kinds bytes →
     AreTextsOf scale labels bytes kinds values → AreTextsOf scale others bytes kinds more → AllAgree labels others kinds values more
@@ -151,7 +151,7 @@ values_agree scale labels others (kind ∷ kinds) bytes values more told t u = (
   values_agree scale labels others kinds (λ n. bytes (suc n)) values.1 more.1 (λ n k e. told (suc n) k e) t.1 u.1,
 )
 
--- files that are the texts of values are of their kinds, where they are told
+-- files that are the texts of values are of their kinds, where they are known
 pub kinds_told :
     (scale : Scale) (labels : List (List ℕ)) (kinds : List Kind) (bytes : ℕ → Option (List ℕ)) (values : ValuesOf kinds) → AreTextsOf scale labels bytes kinds values → (n : ℕ) (kind : Kind) →
     slice_get kinds n ≡ Some kind → IfSome (bytes n) (IsOfKind scale kind)
@@ -166,7 +166,7 @@ kinds_told scale labels (k ∷ kinds) bytes values t zero kind e = subst (λ (z 
     of_kind (Some x) t = (labels, values.0, t)
 kinds_told scale labels (k ∷ kinds) bytes values t (suc n) kind e = kinds_told scale labels kinds (λ m. bytes (suc m)) values.1 t.1 n kind e
 
--- a value that was read over told bytes is sound, and can be printed
+-- a value that was read over known bytes is sound, and can be printed
 abbrev pub IsSoundValue : Scale → List (List ℕ) → (kind : Kind) → ValueOf kind → Type 0
 IsSoundValue scale labels of_grammar g = IsSound g × ArePrintable scale labels g.rules
 IsSoundValue scale labels of_support g = IsSound g × ArePrintable Unweighted labels g.rules

@@ -17,7 +17,7 @@ use Rattle.tib_job_files.proofs.FileValues.{values_there, values_agree, all_soun
 use Rattle.tib_job_files.proofs.FilesAsked.{demo_asked, limit_asked}
 use Rattle.tib_job_files.proofs.OfOperations.{one_demand, demand_decided, makes_either, makes_by_text, large_or_listed, result_once, result_there}
 
--- told files are told
+-- where P holds of the bytes of a file, they are known
 is_told : (o : Option (List ℕ)) (P : List ℕ → Type 0) → OfName o P → IsSome o
 is_told None P h = absurd h
 is_told (Some x) P h = refl
@@ -31,7 +31,7 @@ module _ (o : Operation) (scale : Scale) (bytes : ℕ → Option (List ℕ)) whe
   pub class_apart : (file : ℕ) (x : ℕ × ClassFault) → StaysInClass o scale bytes → BreaksClass o scale bytes file x → ⊥
   class_apart file x inside b = (demand_decided o b.values).apart file x (inside b.labels b.values b.texts) b.broken
 
-  -- where the files are told it is kept over each table of labels
+  -- where the files are known it is kept over each table of labels
   pub class_told : AreAllTold (kinds_of o) bytes → MeetsClass o scale bytes → StaysInClass o scale bytes
   class_told told m labels values texts =
       (one_demand m.labels labels o m.values values (values_agree scale m.labels labels (kinds_of o) bytes m.values values told m.texts.texts texts.texts)).met m.met
@@ -78,7 +78,7 @@ module _ (o : Operation) (scale : Scale) (product : ℕ → ℕ → ℕ) (number
       makes_by_text scale product numbers a.labels labels (distinct_texts a.labels a.texts.distinct) (distinct_texts labels texts.distinct) o a.values values
       (values_agree scale a.labels labels (kinds_of o) bytes a.values values told a.texts.texts texts.texts) a.within
 
-  -- where the files are told, what is within the limit over one table of labels is within it over
+  -- where the files are known, what is within the limit over one table of labels is within it over
   -- each
   pub within_stays : AreAllTold (kinds_of o) bytes → MakesWithin o scale product numbers bytes → StaysWithin o scale product numbers bytes
   within_stays told a labels values texts =

@@ -1,4 +1,4 @@
--- A job whose files are told ends with one status in runs in which no count rises, unless memory
+-- A job whose files are known ends with one status in runs in which no count rises, unless memory
 -- was refused.
 use Rattle.tib_cost.specs.declared.Scale.{Scale}
 use Rattle.std.specs.Prelude.{◌≡◌, ℕ, ◌+◌, ◌<◌, ◌⊎◌, List, [], ◌∷◌, length, Option, Some, None, IfSome, IsSome, slice_get, refl}

@@ -88,7 +88,7 @@ abbrev pub IsAnswer : Asked → (List ℕ → Option (List ℕ)) → List ℕ �
 IsAnswer asked held text =
     IsAnswerOf asked.task.operation (scale_of asked.mode) (product_of asked.mode) (numbers_of asked) (bytes_of asked held) text
 
--- the bytes of each file of the job are told
+-- the bytes of each file of the job are known
 abbrev pub AreTold : Asked → (List ℕ → Option (List ℕ)) → Type 0
 AreTold asked held = (n : ℕ) (kind : Kind) → kind_at (Some asked) n ≡ Some kind → IsSome (bytes_at held (file_at (Some asked) n))
 
@@ -96,12 +96,12 @@ AreTold asked held = (n : ℕ) (kind : Kind) → kind_at (Some asked) n ≡ Some
 abbrev pub WithinIsNotTooMuch : Type 0
 WithinIsNotTooMuch = (asked : Asked) (held : List ℕ → Option (List ℕ)) → IsWithin asked held → IsTooMuch asked held → ⊥
 
--- each file of the job is told, and is of its kind, and so not too long
+-- each file of the job is known, and is of its kind, and so not too long
 abbrev pub AreOfTheirKinds : Asked → (List ℕ → Option (List ℕ)) → Type 0
 AreOfTheirKinds asked held =
     (n : ℕ) (kind : Kind) → kind_at (Some asked) n ≡ Some kind → OfName (bytes_at held (file_at (Some asked) n)) (IsOfKind (scale_of asked.mode) kind)
 
--- Each file of a job is told, not too long and of its kind, and of the class that the operation
+-- Each file of a job is known, not too long and of its kind, and of the class that the operation
 -- demands, what the job makes is within the limit, and no state has a tree that is too large among
 -- those that the job may ask of it. Of two grammars that are compared, the least tree by which they
 -- differ, where there is one, is not too large.
@@ -152,7 +152,7 @@ IsComplete None held before now out_before out_now status = Unit {0}
 IsComplete (Some asked) held before now out_before out_now status =
     IsAnswerable asked held → IsCalm asked before now out_before out_now → (status ≡ statuses.Done) ⊎ (status ≡ statuses.OutOfMemory)
 
--- the output has told room for this many bytes
+-- the output has reported room for this many bytes
 abbrev pub HasRoom : Option ℕ → ℕ → Type 0
 HasRoom None needed = ⊥
 HasRoom (Some free) needed = needed ≤ free

@@ -174,7 +174,7 @@ StaysInClass operation scale bytes =
     (labels : List (List ℕ)) (values : ValuesOf (kinds_of operation)) → AreTexts scale labels bytes (kinds_of operation) values →
     IsMet (demanded operation values)
 
--- the bytes of the files of a job, counted from 0, where they are told
+-- the bytes of the files of a job, counted from 0, where they are known
 abbrev pub bytes_of : Asked → (List ℕ → Option (List ℕ)) → ℕ → Option (List ℕ)
 bytes_of asked held n = bytes_at held (file_at (Some asked) (suc n))
 
@@ -245,7 +245,7 @@ HasCause job held before now out_before out_now statuses.WriteFault = IsSome job
 HasCause job held before now out_before out_now (statuses.TooLong file) = OfFile job file (Told held IsLong)
 HasCause job held before now out_before out_now statuses.OutOfMemory = Unit {0}
 
--- the files of a job before the n-th are of their kinds, where they are told
+-- the files of a job before the n-th are of their kinds, where they are known
 abbrev pub AreBefore : Option Asked → (List ℕ → Option (List ℕ)) → ℕ → Type 0
 AreBefore job held n = (m : ℕ) (kind : Kind) → m < n → kind_at job m ≡ Some kind → IfSome (bytes_at held (file_at job m)) (IsOfKind (scale_by job) kind)
 

@@ -64,7 +64,7 @@ file_at None n = None
 file_at (Some asked) zero = None
 file_at (Some asked) (suc n) = slice_get asked.task.files n
 
--- the bytes of a file, where they are told
+-- the bytes of a file, where they are known
 abbrev pub bytes_at : (List ℕ → Option (List ℕ)) → Option (List ℕ) → Option (List ℕ)
 bytes_at held None = None
 bytes_at held (Some name) = held name
@@ -77,7 +77,7 @@ OfName (Some name) P = P name
 abbrev pub OfFile : Option Asked → ℕ → (List ℕ → Type 0) → Type 0
 OfFile job n P = OfName (file_at job n) P
 
--- where the bytes of a file are told, P holds of them
+-- where the bytes of a file are known, P holds of them
 abbrev pub Told : (List ℕ → Option (List ℕ)) → (List ℕ → Type 0) → List ℕ → Type 0
 Told held P name = IfSome (held name) P
 
@@ -123,7 +123,7 @@ abbrev pub ValuesOf : List Kind → Type 0
 ValuesOf [] = Unit {0}
 ValuesOf (kind ∷ kinds) = ValueOf kind × ValuesOf kinds
 
--- files, where their bytes are told, are the texts of these values over one table of labels; files
+-- files, where their bytes are known, are the texts of these values over one table of labels; files
 -- are counted from 0
 abbrev pub AreTextsOf : Scale → List (List ℕ) → (ℕ → Option (List ℕ)) → (kinds : List Kind) → ValuesOf kinds → Type 0
 AreTextsOf scale labels bytes [] values = Unit {0}
@@ -136,11 +136,11 @@ pub record AreTexts (scale : Scale) (labels : List (List ℕ)) (bytes : ℕ → 
   pub distinct : AreDistinct labels
   pub texts : AreTextsOf scale labels bytes kinds values
 
--- each file is told, and is of its kind
+-- each file is known, and is of its kind
 abbrev pub AreOfKinds : Scale → List Kind → (ℕ → Option (List ℕ)) → Type 0
 AreOfKinds scale kinds bytes = (n : ℕ) (kind : Kind) → slice_get kinds n ≡ Some kind → OfName (bytes n) (IsOfKind scale kind)
 
--- each file is told
+-- each file is known
 abbrev pub AreAllTold : List Kind → (ℕ → Option (List ℕ)) → Type 0
 AreAllTold kinds bytes = (n : ℕ) (kind : Kind) → slice_get kinds n ≡ Some kind → IsSome (bytes n)
 

@@ -9,7 +9,7 @@ use Rattle.tib_job_files.specs.Causes.{Numbers, StaysInClass, StaysWithin, Stays
 use Rattle.tib_job_files.specs.Answers.{IsAnswerOf, NeedsOf, IsAnswer, AreTold, AreOfTheirKinds, EndsCalmly, AreOneStatus}
 use Rattle.tib_operations.specs.declared.status.Status.{Status}
 
--- over told files the text of each operation is one
+-- over known files the text of each operation is one
 abbrev pub TextsAreOne : Type 0
 TextsAreOne =
     (operation : Operation) (scale : Scale) (product : ℕ → ℕ → ℕ) (numbers : Numbers) (bytes : ℕ → Option (List ℕ)) (text other : List ℕ) →
@@ -26,7 +26,7 @@ TextsExist =
     StaysWithin operation scale product numbers bytes → StaysSmall operation scale product numbers bytes →
     ((text : List ℕ) → IsAnswerOf operation scale product numbers bytes text → ⊥) → ⊥
 
--- where the files of a job are told, one text answers it
+-- where the files of a job are known, one text answers it
 abbrev pub AnswersAreOne : Type 0
 AnswersAreOne =
     (asked : Asked) (held : List ℕ → Option (List ℕ)) (text other : List ℕ) → AreTold asked held → IsAnswer asked held text →
@@ -96,9 +96,9 @@ JobsHaveNotOutside =
     (asked : Asked) (held : List ℕ → Option (List ℕ)) (text : List ℕ) (file : ℕ) (found : ℕ × ClassFault) → AreOfTheirKinds asked held →
     IsAnswer asked held text → IsOutOfClass asked held file found → ⊥
 
--- a job whose files are told ends with one status in all runs in which no count rises and no memory
--- is refused, or, where it lists trees, with a list in the one and a tree that is too large in the
--- other
+-- a job whose files are known ends with one status in all runs in which no count rises and no
+-- memory is refused, or, where it lists trees, with a list in the one and a tree that is too large
+-- in the other
 abbrev pub StatusesAreOne : Type 0
 StatusesAreOne =
     (words : List (List ℕ)) (asked : Asked) (held : List ℕ → Option (List ℕ)) (one other : Status) → job_of words ≡ Some asked →

@@ -8,15 +8,15 @@ use Rattle.tib_operations.specs.declared.status.Status.TheVariants as statuses
 use Rattle.tib_job_files.specs.Answers.{IsAnswer, IsComplete, StandsStill, AreTold, IsCalm, AreOneStatus}
 use Rattle.tib_job_files.specs.Causes.{HasCause, HasEarlier}
 
--- what is known of files: the bytes that are told, the names of which no read fails, and how often
--- reads of a name failed
+-- what is seen of files: their bytes, where these are known, the names of which no read fails, and
+-- how often reads of a name failed
 pub record FilesSeen : Type 0 where
   pub held : List ℕ → Option (List ℕ)
   pub sure : List ℕ → Bool
   pub faults : List ℕ → ℕ
 
--- what is known of a sink: the bytes that it took and how many it still takes, where these are
--- told, how often it failed, and whether it is finished
+-- what is seen of a sink: the bytes that it took and how many it still takes, where these are
+-- known, how often it failed, and whether it is finished
 pub record SinkSeen : Type 0 where
   pub written : Option (List ℕ)
   pub free : Option ℕ
@@ -81,7 +81,7 @@ pub record IsRunOf (job : Option Asked) (before after : FilesSeen) (old new : Si
   pub later : old.faults ≤ new.faults
   -- and does not change where there is room for every answer
   pub still : StandsStill job before.held old.free old.faults new.faults
-  -- the files tell the same bytes
+  -- the files report the same bytes
   pub held : after.held ≡ before.held
   -- the same names are sure
   pub sure : after.sure ≡ before.sure
@@ -101,7 +101,7 @@ pub record IsLogged (line : List ℕ) (old new : SinkSeen) : Type 0 where
   -- and does not change where there is room for the line
   pub still : Calm old.free (length line) old.faults new.faults
 
--- two runs on the same words, over files that tell the same bytes, in which no count rises, end
+-- two runs on the same words, over files that report the same bytes, in which no count rises, end
 -- with one status
 abbrev pub RunsEndAlike : Type 0
 RunsEndAlike =

@@ -12,7 +12,7 @@ pub use Rattle.tib_job_files.specs.Run.{FilesSeen, SinkSeen, files_seen, sink_se
 
 -- What a step leaves of the files.
 pub record LeavesFiles (before after : FilesSeen) : Type 0 where
-  -- they tell the same bytes
+  -- they report the same bytes
   pub held : after.held ≡ before.held
   -- the same names are sure
   pub sure : after.sure ≡ before.sure

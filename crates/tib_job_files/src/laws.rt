@@ -7,19 +7,19 @@ ghost use Rattle.tib_job_files.specs.Run.{RunsEndAlike};
 use tib_grammar_file::faults_have_no_text;
 use tib_tree::{one_tree_or_fault, texts_mean_one};
 
-/// Over told files the text of each operation is one, whatever the tables of labels and the normal
-/// forms by which it is told.
+/// Over known files the text of each operation is one, whatever the tables of labels and the normal
+/// forms by which it is defined.
 pub fn texts_are_one()
     ensures { TextsAreOne }
 {}
 
-/// Where the bytes of each file of a job are told, one text answers it.
+/// Where the bytes of each file of a job are known, one text answers it.
 pub fn answers_are_one()
     ensures { AnswersAreOne }
 {}
 
-/// Where the bytes of each file of a job are told, an answer is within the limit of the job: a text
-/// that answers it and too many parts exclude each other.
+/// Where the bytes of each file of a job are known, an answer is within the limit of the job: a
+/// text that answers it and too many parts exclude each other.
 pub fn answers_exclude_too_many()
     ensures within { AnswersAreWithin }
     ensures apart { AnswersAreNotTooMuch }
@@ -68,16 +68,16 @@ pub fn jobs_have_answers()
     ensures outside { JobsHaveNotOutside }
 {}
 
-/// A job whose files are told ends with one status in all runs in which no count rises and no
+/// A job whose files are known ends with one status in all runs in which no count rises and no
 /// memory is refused. Only where the job lists trees may one run list them and another meet a tree
 /// of more than 10,000 nodes at some state.
 pub fn statuses_are_one()
     ensures { StatusesAreOne }
 {}
 
-/// The same for the promise of `run`: two runs of a job whose files are told, over files that tell
-/// the same bytes, in which no count rises, end with one status, unless memory was refused, or the
-/// job lists trees and one run lists them where the other meets a tree that is too large.
+/// The same for the promise of `run`: two runs of a job whose files are known, over files that
+/// report the same bytes, in which no count rises, end with one status, unless memory was refused,
+/// or the job lists trees and one run lists them where the other meets a tree that is too large.
 pub fn runs_end_alike()
     ensures { RunsEndAlike }
 {}

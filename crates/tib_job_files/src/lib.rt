@@ -1,5 +1,5 @@
 //! What a run of the program promises, over the words, the files, the output and the log that it
-//! sees, with the laws of its answers: a job whose files are told is answered by one text and ends
+//! sees, with the laws of its answers: a job whose files are known is answered by one text and ends
 //! with one status; and the values of a command's files, or the status with which the run ends:
 //! each kind of file, and all files of each operation that hunts. All labels of a command are in
 //! one table. Two operations are added to those of `tib_operations`, whose forms, statuses and

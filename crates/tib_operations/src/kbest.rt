@@ -63,7 +63,7 @@ fn list_text<S: Semiring>(
     Ok(text)
 }
 
-// The lines of a list, or the status of a run that finds no memory for them.
+// The lines of a list, or `OutOfMemory`.
 fn text_of_list<S: Semiring>(
     alloc: Global,
     list: &Ranked,

@@ -48,7 +48,7 @@ pub enum Status {
 }
 
 impl Status {
-    /// The status with which the program ends.
+    /// The exit code of the program: 0 for `Done`, otherwise from 2 to 10.
     pub fn code(&self) -> u8
         ensures { result ≡ code_of self.now }
     {

@@ -15,7 +15,8 @@ use tib_io::{Files, Sink};
 use tib_operations::Status;
 
 /// Does what the words ask for with one worker, whatever they say of workers, and returns. Its
-/// clauses are those of `run`.
+/// clauses are those of `run`. Cost: that of reading the files, of the operation, and of writing
+/// its text.
 pub fn run_alone<R: Threads + Sync, F: Files, O: Sink, E: Sink, G: Gate + Sync>(
     rt: &R,
     alloc: Global,

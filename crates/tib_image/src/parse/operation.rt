@@ -1,4 +1,4 @@
-//! A transducer and a string, with what is looked up of them, and the edges of a key.
+//! A transducer and a string, with what is looked up in them, and the edges of a key.
 
 ghost use Rattle.std.specs.Prelude.{
   ◌≡◌,
@@ -130,7 +130,7 @@ fn add_cuts<'a>(
     Ok(())
 }
 
-/// A linear and nondeleting transducer and a string, with what is looked up of them.
+/// A linear and nondeleting transducer and a string, with what is looked up in them.
 #[derive(Drop)]
 pub struct Parse<'a, S> {
     /// The transducer.
