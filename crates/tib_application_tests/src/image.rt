@@ -6,8 +6,9 @@ use std::sync::Wait;
 use std::thread::Threads;
 use tib_cost::MinPlus;
 use tib_grammar::Rule;
-use tib_hunt::{Found, HuntError, Open, TableKey};
-use tib_image::{Key, image, image_together};
+use tib_expand::{Found, HuntError, Open, TableKey};
+use tib_image::Key;
+use tib_reached::{image, image_together};
 use tib_transducer::Transducer;
 use tib_tree::{Label, Tree};
 

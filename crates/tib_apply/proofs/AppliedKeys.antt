@@ -10,9 +10,9 @@ use Rattle.tib_grammar.specs.Run.{rule_at, no_rule}
 use Rattle.tib_grammar.specs.Range.{AllBelow, AreInRange}
 use Rattle.tib_grammar.specs.GrammarOf.{GrammarOf, named_rule}
 use Rattle.tib_grammar.specs.declared.Rule.{Rule}
-use Rattle.tib_hunt.specs.Reached.{IsReachedSet, IsBeyond, parts_of}
-use Rattle.tib_hunt.specs.Rows.{AreBelow}
-use Rattle.tib_hunt.specs.Numbered.{key_parts}
+use Rattle.tib_expand.specs.Reached.{IsReachedSet, IsBeyond, parts_of}
+use Rattle.tib_expand.specs.Reading.{AreBelow}
+use Rattle.tib_expand.specs.Keys.{key_parts}
 use Rattle.tib_keyed.proofs.Limits.{each_counts}
 use Rattle.tib_transducer.specs.TransducerOf.{TransducerOf}
 use Rattle.tib_apply.specs.KeyGrammars.{key_at}

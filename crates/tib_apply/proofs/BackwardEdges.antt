@@ -20,8 +20,8 @@ use Rattle.tib_grammar.specs.declared.Item.{Item}
 use Rattle.tib_grammar.specs.declared.Rule.{Rule}
 use Rattle.tib_grammar.proofs.Holes.{holes_of_items, holes_fit}
 use Rattle.tib_grammar.proofs.Sides.{holes-relabel}
-use Rattle.tib_hunt.specs.Reached.{most_parts}
-use Rattle.tib_hunt.proofs.Reaching.{apart}
+use Rattle.tib_expand.specs.Reached.{most_parts}
+use Rattle.tib_expand.proofs.Reaching.{apart}
 use Rattle.tib_transducer.specs.Rules.{transducer_rule, variables_of, variables_in}
 use Rattle.tib_transducer.specs.Range.{AreNumbered, IsShaped}
 use Rattle.tib_transducer.specs.declared.Variable.{Variable}

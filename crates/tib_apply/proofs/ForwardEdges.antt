@@ -22,7 +22,7 @@ use Rattle.tib_cost.specs.Least.{times}
 use Rattle.tib_cost.proofs.Least.{IsLeast-unique, cut-cases}
 use Rattle.tib_cost.proofs.Times.{cut-some, cut-within}
 use Rattle.tib_lex.proofs.Places.{take_next, take_whole}
-use Rattle.tib_hunt.proofs.Reaching.{apart}
+use Rattle.tib_expand.proofs.Reaching.{apart}
 use Rattle.tib_transducer.specs.Rules.{transducer_rule, variables_of, variables_in}
 use Rattle.tib_transducer.specs.Range.{IsShaped, AreNumbered}
 use Rattle.tib_transducer.specs.declared.Variable.{Variable}

@@ -8,10 +8,10 @@ use Rattle.tib_cost.specs.Semiring.{ProductLaws}
 use Rattle.tib_cost.specs.Least.{IsLeast}
 use Rattle.tib_cost.proofs.Least.{IsLeast-one, IsLeast-products, IsLeast-unique}
 use Rattle.tib_lex.proofs.Lists.{length_map}
-use Rattle.tib_hunt.specs.Reached.{AfterRounds, IsNew, AreEdges, IsReachedSet, IsBeyond}
-use Rattle.tib_hunt.specs.Numbered.{key_parts}
+use Rattle.tib_expand.specs.Reached.{AfterRounds, IsNew, AreEdges, IsReachedSet, IsBeyond}
+use Rattle.tib_expand.specs.Keys.{key_parts}
 use Rattle.tib_keyed.proofs.Limits.{each_counts}
-use Rattle.tib_hunt.proofs.Members.{Lists-to}
+use Rattle.tib_expand.proofs.Members.{Lists-to}
 use Rattle.tib_transducer.specs.TransducerOf.{TransducerOf}
 use Rattle.tib_transducer.specs.Rules.{transducer_rule, variables_of, variables_in}
 use Rattle.tib_transducer.specs.declared.TransducerRule.{TransducerRule}

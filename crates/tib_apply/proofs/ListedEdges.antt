@@ -12,8 +12,8 @@ use Rattle.tib_lex.proofs.Places.{index_append, index_get}
 use Rattle.tib_grammar.specs.Sides.{holes_of, side_map}
 use Rattle.tib_grammar.specs.declared.Rule.{Rule}
 use Rattle.tib_grammar.proofs.Positions.{all_ends-more}
-use Rattle.tib_hunt.specs.declared.place.Place.TheVariants.{End}
-use Rattle.tib_hunt.specs.EdgeLists.{IsWithin, IsEnd, Exceeds, AreListed, key_at as key_in}
+use Rattle.tib_expand.specs.declared.place.Place.TheVariants.{End}
+use Rattle.tib_expand.specs.EdgeLists.{IsWithin, IsEnd, Exceeds, AreListed, key_at as key_in}
 use Rattle.tib_apply.specs.KeyGrammars.{key_at}
 use Rattle.tib_apply.specs.Operations.{edge_parts}
 use Rattle.tib_apply.specs.KeyRules.{carried, places_of, read_places, end_at, Reads}

@@ -8,8 +8,8 @@ use Rattle.tib_tree.specs.Trees.{Trees, none, tree, only, relabel}
 use Rattle.tib_grammar.specs.Sides.{Symbol, label, hole, Side as SideFor, symbol_map, side_map, holes, holes_of, HolesAreLeaves}
 use Rattle.tib_grammar.specs.declared.Rule.{Rule}
 use Rattle.tib_grammar.specs.GrammarOf.{named_rule}
-use Rattle.tib_hunt.specs.declared.place.Place.TheVariants.{End}
-use Rattle.tib_hunt.specs.EdgeLists.{IsWithin, position_of}
+use Rattle.tib_expand.specs.declared.place.Place.TheVariants.{End}
+use Rattle.tib_expand.specs.EdgeLists.{IsWithin, position_of}
 use Rattle.std.specs.Prelude.{slice_index}
 use Rattle.tib_keyed.proofs.MappedSides.{side_twice}
 use Rattle.tib_apply.specs.KeyRules.{carried, places_of, read_places, positions_of}

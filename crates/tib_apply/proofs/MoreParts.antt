@@ -12,7 +12,7 @@ use Rattle.tib_lex.specs.Lists.{Has, Each, Distinct, Ascends, total}
 use Rattle.tib_lex.proofs.Lists.{has_mapped}
 use Rattle.tib_lex.proofs.Members.{each_has}
 use Rattle.tib_grammar.specs.declared.Rule.{Rule}
-use Rattle.tib_hunt.proofs.Reaching.{apart}
+use Rattle.tib_expand.proofs.Reaching.{apart}
 use Rattle.tib_apply.specs.Operations.{edge_parts}
 
 -- the origins of ascending matches are apart

@@ -9,8 +9,8 @@ use Rattle.tib_grammar.specs.GrammarOf.{named_rule}
 use Rattle.tib_grammar.specs.declared.Rule.{Rule}
 use Rattle.tib_cost.proofs.Least.{IsLeast-unique}
 use Rattle.tib_lex.proofs.Lists.{some_is}
-use Rattle.tib_hunt.specs.Reached.{IsReachedSet}
-use Rattle.tib_hunt.specs.Numbered.{key_parts}
+use Rattle.tib_expand.specs.Reached.{IsReachedSet}
+use Rattle.tib_expand.specs.Keys.{key_parts}
 use Rattle.tib_transducer.specs.Rules.{transducer_rule}
 use Rattle.tib_transducer.specs.declared.TransducerRule.{TransducerRule}
 use Rattle.tib_apply.specs.KeyGrammars.{key_at, IsKeyGrammar}

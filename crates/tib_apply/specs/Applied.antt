@@ -3,8 +3,8 @@ use Rattle.std.specs.Prelude.{◌≡◌, ℕ, List, length, map}
 use Rattle.tib_grammar.specs.GrammarOf.{named_rule}
 use Rattle.tib_grammar.specs.Range.{AreInRange}
 use Rattle.tib_grammar.specs.declared.Rule.{Rule}
-use Rattle.tib_hunt.specs.Reached.{Operation, IsReachedSet, parts_of}
-use Rattle.tib_hunt.specs.declared.found.Found.{Found}
+use Rattle.tib_expand.specs.Reached.{Operation, IsReachedSet, parts_of}
+use Rattle.tib_expand.specs.declared.found.Found.{Found}
 use Rattle.tib_transducer.specs.declared.TransducerRule.{TransducerRule}
 use Rattle.tib_transducer.specs.Outside.{Demands, AllMeet, IsFirstOutside}
 use Rattle.tib_apply.specs.KeyGrammars.{key_at}

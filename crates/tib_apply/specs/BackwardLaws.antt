@@ -12,7 +12,7 @@ use Rattle.tib_lex.proofs.Members.{has_left}
 use Rattle.tib_lex.proofs.Numbers.{nat_eq_cases}
 use Rattle.tib_lex.proofs.Lists.{some_is}
 use Rattle.tib_grammar.specs.Range.{StatesBelow}
-use Rattle.tib_hunt.specs.Lawful.{IsLawful}
+use Rattle.tib_expand.specs.Lawful.{IsLawful}
 use Rattle.tib_transducer.specs.Rules.{transducer_rule}
 use Rattle.tib_transducer.specs.declared.Pair.{Pair}
 use Rattle.tib_transducer.specs.declared.Variable.{Variable}

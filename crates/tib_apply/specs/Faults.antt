@@ -1,6 +1,5 @@
 -- Which error of an application comes of an error of the test of classes, and of one of a hunt.
-use Rattle.tib_hunt.specs.Reached.{HuntError}
-use Rattle.tib_hunt.specs.Reached.{TooMany as OfParts, OutOfMemory as OfHuntMemory}
+use Rattle.tib_expand.specs.Reached.{HuntError, TooMany as OfParts, OutOfMemory as OfHuntMemory}
 use Rattle.tib_transducer.specs.declared.error.ClassError.{ClassError}
 use Rattle.tib_transducer.specs.declared.error.ClassError.TheVariants.{Class as OfRule, OutOfMemory as OfMemory}
 use Rattle.tib_apply.specs.declared.error.ApplyError.{ApplyError}

@@ -10,7 +10,7 @@ use Rattle.tib_grammar.specs.Run.{rule_at}
 use Rattle.tib_grammar.specs.declared.Rule.{Rule}
 use Rattle.tib_grammar.proofs.Sides.{holes-relabel, holes_of-label}
 use Rattle.tib_cost.proofs.Least.{IsLeast-unique}
-use Rattle.tib_hunt.specs.Lawful.{IsLawful}
+use Rattle.tib_expand.specs.Lawful.{IsLawful}
 use Rattle.tib_transducer.specs.Rules.{transducer_rule}
 use Rattle.tib_transducer.specs.declared.TransducerRule.{TransducerRule}
 use Rattle.tib_match.specs.Matches.{IsMatchCost}

@@ -1,7 +1,7 @@
 -- Edges of forward application over places, and lists of these.
 use Rattle.std.specs.Prelude.{ℕ}
 use Rattle.tib_grammar.specs.declared.Rule.{Rule}
-use Rattle.tib_hunt.specs.Reading.{Reading}
+use Rattle.tib_expand.specs.Reading.{Reading}
 use Rattle.tib_transducer.specs.declared.Pair.{Pair}
 use Rattle.tib_keyed.specs.declared.side_rule.SideRule.{SideRule}
 use Rattle.tib_keyed.specs.declared.side_listing.SideListing.{SideListing}

@@ -7,9 +7,9 @@ use Rattle.tib_tree.specs.Trees.{Trees, none, tree, relabel, only}
 use Rattle.tib_grammar.specs.Sides.{Symbol, label, hole, symbol_map, side_map, holes_of}
 use Rattle.tib_grammar.specs.GrammarOf.{named_rule}
 use Rattle.tib_grammar.specs.declared.Rule.{Rule}
-use Rattle.tib_hunt.specs.declared.place.Place.{Place}
-use Rattle.tib_hunt.specs.declared.place.Place.TheVariants.{Known, End}
-use Rattle.tib_hunt.specs.Lawful.{IsLawful}
+use Rattle.tib_expand.specs.declared.place.Place.{Place}
+use Rattle.tib_expand.specs.declared.place.Place.TheVariants.{Known, End}
+use Rattle.tib_expand.specs.Lawful.{IsLawful}
 use Rattle.tib_keyed.proofs.KeyOrders.{key_stays}
 use Rattle.tib_apply.specs.KeyGrammars.{key_at}
 use Rattle.tib_apply.specs.Operations.{key_cmp, key_entries, key_operation}

@@ -5,7 +5,7 @@ use Rattle.tib_cost.specs.Semiring.{most}
 use Rattle.tib_grammar.specs.Sides.{holes_of}
 use Rattle.tib_grammar.specs.declared.Rule.{Rule}
 use Rattle.tib_grammar.specs.Positions.{all_ends}
-use Rattle.tib_hunt.specs.Reached.{most_parts}
+use Rattle.tib_expand.specs.Reached.{most_parts}
 use Rattle.tib_apply.specs.Operations.{edge_parts}
 use Rattle.tib_apply.specs.KeyRules.{Reads}
 use Rattle.tib_apply.specs.declared.edge_list.EdgeList.{EdgeList}

@@ -9,9 +9,9 @@ use Rattle.tib_grammar.specs.Sides.{holes_of}
 use Rattle.tib_grammar.specs.Range.{AreInRange}
 use Rattle.tib_grammar.specs.GrammarOf.{named_rule}
 use Rattle.tib_grammar.specs.declared.Rule.{Rule}
-use Rattle.tib_hunt.specs.Reached.{Operation, IsReachedSet}
+use Rattle.tib_expand.specs.Reached.{Operation, IsReachedSet}
 use Rattle.tib_keyed.specs.Keyed.{keyed}
-use Rattle.tib_hunt.specs.Numbered.{key_parts}
+use Rattle.tib_expand.specs.Keys.{key_parts}
 use Rattle.tib_transducer.specs.declared.TransducerRule.{TransducerRule}
 use Rattle.tib_apply.specs.KeyGrammars.{key_at, IsKeyGrammar}
 use Rattle.tib_apply.specs.Forward.{IsForwardEdge}

@@ -3,7 +3,7 @@ use Rattle.std.specs.Prelude.{◌≡◌, ◌↔◌, ℕ, ◌<◌, ◌≤◌, Lis
 use Rattle.tib_grammar.specs.Sides.{label, side_map}
 use Rattle.tib_grammar.specs.declared.Rule.{Rule}
 use Rattle.tib_cost.specs.Semiring.{most}
-use Rattle.tib_hunt.specs.Reached.{Operation, IsReachedSet}
+use Rattle.tib_expand.specs.Reached.{Operation, IsReachedSet}
 use Rattle.tib_transducer.specs.Rules.{transducer_rule, variables_of, variables_in}
 use Rattle.tib_transducer.specs.declared.TransducerRule.{TransducerRule}
 use Rattle.tib_match.specs.Matches.{IsMatch}

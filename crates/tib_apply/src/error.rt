@@ -1,6 +1,6 @@
 // What can go wrong in applying a transducer.
 use thiserror::Error;
-use tib_hunt::HuntError;
+use tib_expand::HuntError;
 use tib_transducer::{ClassError, ClassFault};
 
 /// Why a transducer was not applied to a grammar.

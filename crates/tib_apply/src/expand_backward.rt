@@ -8,7 +8,7 @@ use std::alloc::{AllocError, Global};
 use std::collections::LinkedList;
 use tib_cost::Semiring;
 use tib_grammar::Rule;
-use tib_hunt::{Edges, Expand, ExpandError};
+use tib_expand::{Edges, Expand, ExpandError};
 
 impl<'a, S: Semiring> Expand for Backward<'a, S> {
     ghost use Rattle.std.specs.Prelude.{◌<◌, length};

@@ -7,7 +7,7 @@ use std::alloc::{AllocError, Global};
 use std::collections::LinkedList;
 use tib_cost::Semiring;
 use tib_grammar::Rule;
-use tib_hunt::{Edges, Expand, ExpandError};
+use tib_expand::{Edges, Expand, ExpandError};
 use tib_keyed::settled_side;
 
 impl<'a, S: Semiring> Expand for Forward<'a, S> {

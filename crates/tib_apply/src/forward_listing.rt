@@ -12,7 +12,7 @@ use crate::key::Key;
 use std::alloc::AllocError;
 use tib_cost::Cost;
 use tib_grammar::Side;
-use tib_hunt::ExpandError;
+use tib_expand::ExpandError;
 use tib_keyed::{SideListing, SideRule};
 use tib_transducer::Pair;
 

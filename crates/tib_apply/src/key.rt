@@ -2,7 +2,7 @@
 ghost use Rattle.std.specs.Prelude.{◌≡◌};
 
 use std::marker::Model;
-use tib_hunt::TableKey;
+use tib_expand::TableKey;
 
 /// A state of the grammar and a state of the transducer, that of what is read first before the
 /// other, and a restriction: 0, or the number of the one label that may be at the root.

@@ -15,18 +15,14 @@ mod forward;
 mod forward_expand;
 mod forward_listing;
 mod forward_plan;
-mod image;
 mod key;
 pub mod laws;
 mod placing;
-mod preimage;
 mod restrictions;
 
 pub use backward::Backward;
 pub use error::ApplyError;
 pub use forward::Forward;
 pub use forward_listing::ForwardRule;
-pub use image::{apply_forward, apply_forward_together};
 pub use key::Key;
-pub use preimage::{apply_backward, apply_backward_together};
 pub use restrictions::Restrictions;

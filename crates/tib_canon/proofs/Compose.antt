@@ -13,8 +13,8 @@ use Rattle.tib_cost.specs.Semiring.{ProductLaws}
 use Rattle.tib_lex.specs.PairOrder.{pair_cmp}
 use Rattle.tib_grammar.specs.Sides.{Symbol, label, hole, holes, holes_of, HolesAreLeaves}
 use Rattle.tib_grammar_file.specs.Printable.{IsPlainCost}
-use Rattle.tib_hunt.specs.Numbered.{key_parts}
-use Rattle.tib_hunt.specs.Reached.{IsReached, IsReachedSet}
+use Rattle.tib_expand.specs.Keys.{key_parts}
+use Rattle.tib_expand.specs.Reached.{IsReached, IsReachedSet}
 use Rattle.tib_keyed.proofs.KeyOrders.{order_begins}
 use Rattle.tib_transducer.specs.Range.{AreNumbered, IsShaped, AreShaped}
 use Rattle.tib_transducer.specs.Rules.{transducer_rule, no_rule, states_in, variables_in, variables_of}

@@ -8,7 +8,7 @@ use Rattle.tib_tree.specs.Trees.{Tree, Trees, none, tree, join, only, count, fir
 use Rattle.tib_tree.proofs.Counts.{count-relabel}
 use Rattle.tib_grammar.specs.Sides.{Symbol, label, hole, Side, holes, AreHoles}
 use Rattle.tib_grammar_file.proofs.Renumbering.{Renumbers, renumbering}
-use Rattle.tib_hunt.specs.Reached.{IsReachedSet}
+use Rattle.tib_expand.specs.Reached.{IsReachedSet}
 use Rattle.tib_transducer.specs.Rules.{transducer_rule, no_rule, states_in, variables_in}
 use Rattle.tib_transducer.specs.Run.{tree_at, pick}
 use Rattle.tib_transducer.specs.TransducerOf.{TransducerOf}

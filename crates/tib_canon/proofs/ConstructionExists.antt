@@ -15,8 +15,8 @@ use Rattle.tib_grammar.specs.declared.Rule.{Rule}
 use Rattle.tib_grammar_file.specs.GrammarText.{GrammarText}
 use Rattle.tib_grammar_file.specs.Printable.{HavePlainLabels, IsPlainCost, IsPrintable, ArePrintable}
 use Rattle.tib_grammar_file.specs.Printed.{grammar_text}
-use Rattle.tib_hunt.specs.Reached.{IsReached, IsReachedSet, parts_of}
-use Rattle.tib_hunt.proofs.Reaching.{Laws}
+use Rattle.tib_expand.specs.Reached.{IsReached, IsReachedSet, parts_of}
+use Rattle.tib_expand.proofs.Reaching.{Laws}
 use Rattle.tib_canon.specs.Constructions.{Construction, edges_over, HasReachedWithin, AreRulesOver, IsCanonicalOf}
 use Rattle.tib_canon.specs.Keys.{IsCanonicalOverKeys, started_rules}
 use Rattle.tib_canon.specs.declared.begin.Begin.{Begin}

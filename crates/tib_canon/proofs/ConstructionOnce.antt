@@ -16,8 +16,8 @@ use Rattle.tib_grammar_file.specs.Printable.{HavePlainLabels, ArePrintable}
 use Rattle.tib_grammar_file.specs.Printed.{grammar_text}
 use Rattle.tib_grammar_file.proofs.Relabelled.{trees_with, rule_with, rules_with}
 use Rattle.tib_grammar_file.proofs.Renumbering.{Renumbers}
-use Rattle.tib_hunt.specs.Reached.{IsReachedSet}
-use Rattle.tib_hunt.proofs.Reaching.{Laws}
+use Rattle.tib_expand.specs.Reached.{IsReachedSet}
+use Rattle.tib_expand.proofs.Reaching.{Laws}
 use Rattle.tib_canon.specs.Constructions.{Construction, edges_over, AreRulesOver, IsCanonicalOf}
 use Rattle.tib_canon.specs.Keys.{IsOverKeys, IsBegun, behind_fresh, chain_to, started_rules}
 use Rattle.tib_canon.specs.declared.begin.Begin.{Begin}

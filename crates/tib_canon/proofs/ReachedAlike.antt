@@ -5,8 +5,8 @@ use Rattle.std.specs.declared.cmp.Ordering.{Ordering}
 use Rattle.std.specs.declared.cmp.Ordering.TheVariants.{Less}
 use Rattle.tib_lex.specs.Lists.{Has, Ascends, Along, Distinct}
 use Rattle.tib_lex.proofs.Lists.{has_mapped, mapped_has}
-use Rattle.tib_hunt.specs.EdgeLists.{Lists}
-use Rattle.tib_hunt.specs.Reached.{Operation, IsNew, AreAscending, AfterRounds, AreEdges, IsReachedSet}
+use Rattle.tib_expand.specs.EdgeLists.{Lists}
+use Rattle.tib_expand.specs.Reached.{Operation, IsNew, AreAscending, AfterRounds, AreEdges, IsReachedSet}
 
 -- The edges that `Gives` gives and those that `Tells` gives correspond under f: an edge of the one
 -- goes to one of the other, with the same origin, and each of the other comes from one.

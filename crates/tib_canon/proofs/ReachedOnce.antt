@@ -3,11 +3,11 @@ use Rattle.std.proofs.Common.{◌≡◌, ◌⊎◌, ℕ, zero, suc, ◌+◌, ◌
 use Rattle.std.specs.declared.cmp.Ordering.{Ordering}
 use Rattle.std.specs.declared.cmp.Ordering.TheVariants.{Less, Equal, Greater}
 use Rattle.std.specs.Ordering.{ordering_reverse}
-use Rattle.tib_hunt.proofs.Members.{distinct_append}
+use Rattle.tib_expand.proofs.Members.{distinct_append}
 use Rattle.tib_lex.specs.Lists.{Has, Distinct, Ascends, Along}
-use Rattle.tib_hunt.specs.EdgeLists.{Lists}
-use Rattle.tib_hunt.specs.Reached.{Operation, AfterRounds, IsReached, AreEdges, IsReachedSet}
-use Rattle.tib_hunt.proofs.Reaching.{Laws, apart, in_reached}
+use Rattle.tib_expand.specs.EdgeLists.{Lists}
+use Rattle.tib_expand.specs.Reached.{Operation, AfterRounds, IsReached, AreEdges, IsReachedSet}
+use Rattle.tib_expand.proofs.Reaching.{Laws, apart, in_reached}
 use Rattle.tib_lex.proofs.Members.{each_has, has_either, has_left, has_right}
 
 -- values that are listed by their origins

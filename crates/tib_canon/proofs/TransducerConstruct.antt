@@ -17,8 +17,8 @@ use Rattle.tib_grammar.specs.Sides.{Symbol, label, hole, symbol_map, side_map}
 use Rattle.tib_grammar.proofs.Below.{below_has}
 use Rattle.tib_grammar_file.specs.Printable.{IsPlainCost}
 use Rattle.tib_grammar_file.proofs.Renumbering.{Renumbers}
-use Rattle.tib_hunt.specs.Reached.{Operation, AfterRounds, IsReached, AreEdges, IsReachedSet, parts_of}
-use Rattle.tib_hunt.proofs.Reaching.{Laws}
+use Rattle.tib_expand.specs.Reached.{Operation, AfterRounds, IsReached, AreEdges, IsReachedSet, parts_of}
+use Rattle.tib_expand.proofs.Reaching.{Laws}
 use Rattle.tib_inside.proofs.Chosen.{distinct_at}
 use Rattle.tib_transducer.specs.Range.{IsWithin, AreWithin, IsShaped, EndsInHoles, EndInHoles}
 use Rattle.tib_transducer.specs.Rules.{transducer_rule, no_rule, variables_of, states_in}

@@ -2,7 +2,7 @@
 use Rattle.tib_cost.specs.declared.Scale.{Scale}
 use Rattle.std.specs.Prelude.{◌≡◌, ℕ, ◌≤◌, List, length, map}
 use Rattle.std.proofs.Common.{get_or}
-use Rattle.tib_hunt.specs.Reached.{Operation, IsReachedSet, parts_of}
+use Rattle.tib_expand.specs.Reached.{Operation, IsReachedSet, parts_of}
 use Rattle.tib_transducer.specs.TransducerOf.{TransducerOf}
 use Rattle.tib_transducer.specs.declared.TransducerRule.{TransducerRule}
 use Rattle.tib_transducer_file.specs.ByName.{ReadsBack}

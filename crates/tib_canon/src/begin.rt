@@ -15,8 +15,8 @@ use std::alloc::{AllocError, Global};
 use std::marker::Model;
 use tib_cost::{Cost, Semiring};
 use tib_grammar::{Item, Rule, Side, rename_rules};
-use tib_hunt::Found;
-use tib_table::TableKey;
+use tib_expand::Found;
+use tib_expand::TableKey;
 use tib_tree::Labels;
 
 /// Positions of an order, each with a cost: where the chain rules of a fresh start lead, and what

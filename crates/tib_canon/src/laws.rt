@@ -2,7 +2,7 @@
 ghost use Rattle.tib_canon.specs.Laws.{FreshKeepsSeries, TrimmingKeepsDeterministic, OrderKeepsDeterministic, CanonicalKeepsDeterministic, FreshKeepsDeterministic, OrderIsOne, CanonicalIsOne, FormsHaveOneCanonical, OrderKeepsSeries, KeysKeepSeries, TrimmedFormsHaveSameRules, KeysHaveOneCanonical, FormsArePrintable, TrimmedIsPrintable, CanonicalIsPrintable, OverKeysArePrintable, CanonicalTextsAreRead, FormTextsAreRead, OverKeysTextsAreRead, CanonicalTextIsOne, InsidesAreOneByText, CanonicalFormsExist, OverKeysHaveCanonical};
 
 use tib_cost::Semiring;
-use tib_table::TableKey;
+use tib_expand::TableKey;
 
 /// A grammar has at most one form with canonical names in canonical order.
 pub fn order_is_one()

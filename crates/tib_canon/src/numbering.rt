@@ -8,7 +8,7 @@ ghost use Rattle.tib_canon.specs.Keys.{marked, behind_fresh, AreByKeys};
 ghost use Rattle.tib_grammar.specs.Range.{AreBelow};
 
 use std::alloc::{AllocError, Global};
-use tib_table::TableKey;
+use tib_expand::TableKey;
 
 // Each key with its position, and whether it is not the start.
 fn marked_keys<K: TableKey + Drop>(

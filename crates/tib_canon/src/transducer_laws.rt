@@ -2,7 +2,7 @@
 ghost use Rattle.tib_canon.specs.TransducerLaws.{KeysHaveOneTransducer, KeysKeepTransducerSeries, KeysHaveTransducer, TransducerTextsAreRead, TransducerTextIsOne, CompositionsHaveTexts, CompositionTextIsOne, CompositionsHaveSeries, SeriesIsOneByName, TextHasOneTransducer};
 
 use tib_cost::Semiring;
-use tib_table::TableKey;
+use tib_expand::TableKey;
 
 /// Rules over the positions of an order have one canonical transducer over its keys, whatever their
 /// order and however often one of them occurs.

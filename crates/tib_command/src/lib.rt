@@ -27,7 +27,7 @@ pub const MOST_TREES: u64 = 10_000;
 pub const MOST_WORKERS: u64 = 16;
 
 /// The greatest limit on parts (`--limit`), that of a hunt, which holds where none is given.
-pub const MOST_PARTS: u64 = tib_hunt::MOST_PARTS;
+pub const MOST_PARTS: u64 = tib_expand::MOST_PARTS;
 
 /// The greatest beam (`--beam`), which is the greatest cost.
 pub const MOST_BEAM: u64 = tib_cost::MOST;

@@ -5,9 +5,7 @@ use Rattle.tib_lex.proofs.Lists.{length_map}
 use Rattle.tib_tree.specs.Trees.{Tree}
 use Rattle.tib_grammar.specs.GrammarOf.{GrammarOf}
 use Rattle.tib_grammar.specs.declared.Rule.{Rule}
-use Rattle.tib_hunt.specs.Reached.{IfTooMany, IsBeyond}
-use Rattle.tib_hunt.specs.Reached.{HuntError}
-use Rattle.tib_hunt.specs.Reached.{TooMany, OutOfMemory}
+use Rattle.tib_expand.specs.Reached.{IfTooMany, IsBeyond, HuntError, TooMany, OutOfMemory}
 use Rattle.tib_determinize.specs.Vectors.{VectorOf}
 use Rattle.tib_determinize.specs.Determinization.{determinization}
 use Rattle.tib_compare.specs.Compared.{HasCost}

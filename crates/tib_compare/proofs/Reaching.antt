@@ -12,7 +12,7 @@ use Rattle.tib_grammar.specs.declared.Rule.{Rule}
 use Rattle.tib_grammar.proofs.NormalRuns.{IsLeast-no_states, merge_all}
 use Rattle.tib_grammar.proofs.Opening.{close_cost}
 use Rattle.tib_cost.specs.Semiring.{boolean_laws}
-use Rattle.tib_hunt.specs.Reached.{AfterRounds}
+use Rattle.tib_expand.specs.Reached.{AfterRounds}
 use Rattle.tib_determinize.specs.Vectors.{VectorOf, IsStep, vector_at, vectors_at}
 use Rattle.tib_determinize.specs.Determinization.{determinization, IsVectorEdge}
 use Rattle.tib_determinize.specs.VectorGrammar.{IsVectorGrammar}

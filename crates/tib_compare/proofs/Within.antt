@@ -3,8 +3,8 @@ use Rattle.std.specs.Prelude.{◌≡◌, ℕ, ◌≤◌, max, List, length}
 use Rattle.std.proofs.Common.{arith, subst}
 use Rattle.tib_grammar.specs.GrammarOf.{GrammarOf}
 use Rattle.tib_grammar.specs.declared.Rule.{Rule}
-use Rattle.tib_hunt.specs.Reached.{IsReachedSet, parts_of}
-use Rattle.tib_hunt.specs.declared.found.Found.{Found}
+use Rattle.tib_expand.specs.Reached.{IsReachedSet, parts_of}
+use Rattle.tib_expand.specs.declared.found.Found.{Found}
 use Rattle.tib_determinize.specs.Answered.{edges_of, IsAnswer, HasParts}
 use Rattle.tib_determinize.specs.Vectors.{VectorOf}
 use Rattle.tib_determinize.specs.Determinization.{determinization}

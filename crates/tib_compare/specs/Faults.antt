@@ -2,9 +2,7 @@
 use Rattle.std.specs.Prelude.{◌≡◌, ℕ, ◌≤◌, max, List, length}
 use Rattle.tib_grammar.specs.GrammarOf.{GrammarOf}
 use Rattle.tib_grammar.specs.declared.Rule.{Rule}
-use Rattle.tib_hunt.specs.Reached.{Operation, IsReachedSet, IsBeyond, parts_of}
-use Rattle.tib_hunt.specs.Reached.{HuntError}
-use Rattle.tib_hunt.specs.Reached.{TooMany as HuntedTooMany, OutOfMemory as HuntedOutOfMemory}
+use Rattle.tib_expand.specs.Reached.{Operation, IsReachedSet, IsBeyond, parts_of, HuntError, TooMany as HuntedTooMany, OutOfMemory as HuntedOutOfMemory}
 use Rattle.tib_determinize.specs.Vectors.{VectorOf}
 use Rattle.tib_determinize.specs.Determinization.{determinization}
 use Rattle.tib_compare.specs.Beside.{beside}

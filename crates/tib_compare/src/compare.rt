@@ -1,26 +1,23 @@
-// The comparison of the supports of two grammars.
+// What the vectors of two grammars side by side say of their supports.
 ghost use Rattle.std.specs.Prelude.{◌≡◌, ◌≤◌, ◌<◌, ◌^◌, length, IfOk, IfErr, max};
 ghost use Rattle.tib_grammar.specs.Forms.{AreNormal};
 ghost use Rattle.tib_grammar.specs.Range.{AreInRange};
 ghost use Rattle.tib_grammar_file.specs.Printed.{AreLabelled};
-ghost use Rattle.tib_hunt.specs.Reached.{most_parts};
+ghost use Rattle.tib_expand.specs.Reached.{most_parts};
 ghost use Rattle.tib_determinize.specs.VectorGrammar.{IsDeterminized};
 ghost use Rattle.tib_compare.specs.Beside.{beside};
 ghost use Rattle.tib_compare.specs.Compared.{AreFree, IsCompared, IsSmall, IsTooLarge};
 ghost use Rattle.tib_compare.specs.Faults.{IsCause, IsFaultOf, IsWithin};
 ghost use Rattle.tib_compare.specs.Answered.{IsAnswerOf, IsNamed};
 
-use crate::beside::side_by_side;
 use crate::compared::Compared;
 use crate::error::CompareError;
 use crate::wanted::{is_some_marked, least_wanted, marks_of};
 use std::alloc::{AllocError, Global};
-use std::sync::Wait;
-use std::thread::Threads;
 use tib_cost::Boolean;
-use tib_determinize::{Vector, determinize, determinize_together};
+use tib_determinize::Vector;
 use tib_grammar::Rule;
-use tib_hunt::{Found, Gate, HuntError};
+use tib_expand::{Found, HuntError};
 use tib_normal::Normal;
 use tib_tree::{Labels, Tree};
 use tib_weigh::weigh;
@@ -62,8 +59,13 @@ fn answer(
     }
 }
 
-// The comparison that the reached set of both side by side gives.
-fn finish(
+/// The comparison that the vectors of both side by side give, as a determinization finds them:
+/// `Same` exactly where every tree has a cost in both or in neither; else the least tree, in the
+/// order of trees, that has a cost in exactly one, and which one. `TreeTooLarge` exactly where that
+/// tree has more than 10,000 nodes; `OutOfMemory` if memory is refused. Worst case: O(r log r)
+/// comparisons of trees for r rules over vectors, and `weigh` of one tree. The order of first trees
+/// is from Knuth, 1977.
+pub fn compare_vectors(
     alloc: Global,
     left: &Normal<Boolean>,
     right: &Normal<Boolean>,
@@ -95,83 +97,12 @@ fn finish(
     }
 }
 
-// The fault of a hunt as one of a comparison.
-fn fault_of(error: HuntError) -> CompareError
+/// The fault of a hunt as one of a comparison.
+pub fn fault_of(error: HuntError) -> CompareError
     ensures { IsFaultOf error result }
 {
     match error {
         HuntError::TooMany { limit } => CompareError::TooMany { limit },
         HuntError::OutOfMemory => CompareError::OutOfMemory,
-    }
-}
-
-/// Compares the supports of two grammars without costs, over one table of labels: `Same` exactly
-/// where every tree has a cost in both or in neither; else the least tree, in the order of trees,
-/// that has a cost in exactly one, and which one. `TooMany` comes only where the vectors of both
-/// side by side have more parts than the limit, 1 to `MOST_PARTS` of tib_hunt; `TreeTooLarge`
-/// exactly where they have no more, the supports differ and that least tree has more than 10,000
-/// nodes; `OutOfMemory` if memory is refused, which says nothing of the grammars. Calls `gate` once
-/// for each vector. Worst case: that of `determinize` over both, then O(r log r) comparisons of
-/// trees for r rules over vectors, and that of `weigh` for one tree. The order of first trees is
-/// from Knuth, 1977.
-pub fn compare_alone<G: Gate>(
-    alloc: Global,
-    left: &Normal<Boolean>,
-    right: &Normal<Boolean>,
-    labels: &Labels,
-    limit: u64,
-    gate: &G,
-) -> Result<Compared, CompareError>
-    requires some { 1 ≤ limit }
-    requires limit { limit ≤ most_parts }
-    requires left_free { AreFree left.now.rules }
-    requires right_free { AreFree right.now.rules }
-    requires left_labelled { AreLabelled (length labels.now) left.now.rules }
-    requires right_labelled { AreLabelled (length labels.now) right.now.rules }
-    ensures compared { IfOk result (IsCompared labels.now left.now.rules right.now.rules) }
-    ensures small { IfOk result IsSmall }
-    ensures within { IfOk result (λ _. IsWithin left.now right.now limit) }
-    ensures cause { IfErr result (IsCause left.now right.now limit) }
-{
-    let Ok(both) = side_by_side(alloc, left, right) else {
-        return Err(CompareError::OutOfMemory);
-    };
-    match determinize::<Boolean, G>(alloc, &both, limit, gate) {
-        Ok(found) => finish(alloc, left, right, labels, limit, &found),
-        Err(error) => Err(fault_of(error)),
-    }
-}
-
-/// What `compare_alone` returns, found by this number of workers, 1 to 16, whatever the order of
-/// their steps. It may wait forever, as the hunt by several workers (`hunt` of tib_hunt). Errors
-/// and cost are those of `compare_alone`, except for vectors that are expanded again.
-pub fn compare_supports<R: Threads + Wait + Sync, G: Gate + Sync>(
-    rt: &R,
-    alloc: Global,
-    left: &Normal<Boolean>,
-    right: &Normal<Boolean>,
-    labels: &Labels,
-    workers: u32,
-    limit: u64,
-    gate: &G,
-) -> Result<Compared, CompareError>
-    requires workers { (1 ≤ workers) × (workers ≤ 16) }
-    requires some { 1 ≤ limit }
-    requires limit { limit ≤ most_parts }
-    requires left_free { AreFree left.now.rules }
-    requires right_free { AreFree right.now.rules }
-    requires left_labelled { AreLabelled (length labels.now) left.now.rules }
-    requires right_labelled { AreLabelled (length labels.now) right.now.rules }
-    ensures compared { IfOk result (IsCompared labels.now left.now.rules right.now.rules) }
-    ensures small { IfOk result IsSmall }
-    ensures within { IfOk result (λ _. IsWithin left.now right.now limit) }
-    ensures cause { IfErr result (IsCause left.now right.now limit) }
-{
-    let Ok(both) = side_by_side(alloc, left, right) else {
-        return Err(CompareError::OutOfMemory);
-    };
-    match determinize_together::<Boolean, R, G>(rt, alloc, &both, workers, limit, gate) {
-        Ok(found) => finish(alloc, left, right, labels, limit, &found),
-        Err(error) => Err(fault_of(error)),
     }
 }

@@ -13,6 +13,6 @@ mod moving;
 mod wanted;
 
 pub use beside::side_by_side;
-pub use compare::{compare_alone, compare_supports};
+pub use compare::{compare_vectors, fault_of};
 pub use compared::Compared;
 pub use error::CompareError;

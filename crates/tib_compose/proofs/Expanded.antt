@@ -5,7 +5,7 @@ use Rattle.tib_lex.specs.Lists.{Has, Each, total}
 use Rattle.tib_lex.proofs.Members.{has_left, has_right, has_either}
 use Rattle.tib_lex.proofs.Alongs.{along_of, along_back, total_fewer}
 use Rattle.tib_tree.specs.Trees.{Trees}
-use Rattle.tib_hunt.specs.EdgeLists.{Lists, AreListed, IsEnd, Exceeds}
+use Rattle.tib_expand.specs.EdgeLists.{Lists, AreListed, IsEnd, Exceeds}
 use Rattle.tib_keyed.specs.Ends.{key_at}
 use Rattle.tib_transducer.specs.Range.{AreShaped}
 use Rattle.tib_transducer.specs.declared.TransducerRule.{TransducerRule}

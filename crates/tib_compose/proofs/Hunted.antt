@@ -8,9 +8,9 @@ use Rattle.tib_lex.proofs.Lists.{each_left, each_right}
 use Rattle.tib_tree.specs.Trees.{Trees, none, tree, only}
 use Rattle.tib_grammar.specs.Sides.{Symbol, label, hole, holes}
 use Rattle.tib_grammar.specs.Range.{AllBelow}
-use Rattle.tib_hunt.specs.Reached.{IsReachedSet, IsBeyond, parts_of}
-use Rattle.tib_hunt.specs.Rows.{AreBelow}
-use Rattle.tib_hunt.specs.Numbered.{key_parts}
+use Rattle.tib_expand.specs.Reached.{IsReachedSet, IsBeyond, parts_of}
+use Rattle.tib_expand.specs.Reading.{AreBelow}
+use Rattle.tib_expand.specs.Keys.{key_parts}
 use Rattle.tib_keyed.specs.Ends.{key_at}
 use Rattle.tib_keyed.proofs.Limits.{each_counts}
 use Rattle.tib_transducer.specs.Rules.{transducer_rule, no_rule, states_in}

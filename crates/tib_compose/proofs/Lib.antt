@@ -11,6 +11,6 @@ mod Steps
 mod Whole
 mod FlatEdges
 mod Expanded
-mod Hunted
+pub mod Hunted
 mod Bounded
-mod Faults
+pub mod Faults

@@ -12,9 +12,9 @@ use Rattle.tib_grammar.specs.Items.{pairs_of, pair_of, holes_in}
 use Rattle.tib_grammar.specs.declared.Item.{Item}
 use Rattle.tib_grammar.specs.declared.Item.TheVariants.{Label, Hole}
 use Rattle.tib_grammar.proofs.Holes.{holes_of_items}
-use Rattle.tib_hunt.specs.EdgeLists.{IsWithin, key_at}
-use Rattle.tib_hunt.specs.declared.place.Place.{Place}
-use Rattle.tib_hunt.specs.declared.place.Place.TheVariants.{Known}
+use Rattle.tib_expand.specs.EdgeLists.{IsWithin, key_at}
+use Rattle.tib_expand.specs.declared.place.Place.{Place}
+use Rattle.tib_expand.specs.declared.place.Place.TheVariants.{Known}
 use Rattle.tib_keyed.proofs.Ends.{within_wider, place_stays}
 use Rattle.tib_transducer.specs.Rules.{states_in}
 use Rattle.tib_transducer.specs.declared.Pair.{Pair}

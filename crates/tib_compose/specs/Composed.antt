@@ -2,8 +2,8 @@
 use Rattle.std.specs.Prelude.{◌≡◌, ℕ, ◌≤◌, List, length, map, true}
 use Rattle.tib_lex.specs.Lists.{Each}
 use Rattle.tib_cost.specs.Semiring.{most}
-use Rattle.tib_hunt.specs.Reached.{IsReachedSet, parts_of}
-use Rattle.tib_hunt.specs.declared.found.Found.{Found}
+use Rattle.tib_expand.specs.Reached.{IsReachedSet, parts_of}
+use Rattle.tib_expand.specs.declared.found.Found.{Found}
 use Rattle.tib_keyed.specs.Ends.{key_at}
 use Rattle.tib_transducer.specs.Range.{AreShaped, AreWithin}
 use Rattle.tib_transducer.specs.Rules.{transducer_rule}

@@ -12,10 +12,10 @@ use Rattle.tib_transducer.specs.Rules.{transducer_rule, states_in}
 use Rattle.tib_keyed.specs.Named.{named_transducer_rule}
 use Rattle.tib_transducer.specs.Range.{AreWithin}
 use Rattle.tib_keyed.specs.Composing.{IsComposeEdge}
-use Rattle.tib_hunt.specs.Lawful.{IsLawful}
-use Rattle.tib_hunt.specs.Reading.{Reading}
-use Rattle.tib_hunt.specs.declared.place.Place.{Place}
-use Rattle.tib_hunt.specs.declared.place.Place.TheVariants.{Known}
+use Rattle.tib_expand.specs.Lawful.{IsLawful}
+use Rattle.tib_expand.specs.Reading.{Reading}
+use Rattle.tib_expand.specs.declared.place.Place.{Place}
+use Rattle.tib_expand.specs.declared.place.Place.TheVariants.{Known}
 use Rattle.tib_compose.specs.declared.placed_rule.PlacedRule.{PlacedRule}
 use Rattle.tib_keyed.specs.Ends.{key_at}
 use Rattle.tib_keyed.proofs.KeyOrders.{key_stays}

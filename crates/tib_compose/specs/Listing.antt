@@ -7,10 +7,10 @@ use Rattle.tib_grammar.specs.Sides.{Symbol, label, Side as SideFor}
 use Rattle.tib_grammar.specs.Items.{pairs_of}
 use Rattle.tib_grammar.specs.declared.Item.{Item}
 use Rattle.tib_grammar.specs.declared.Item.TheVariants.{Label, Hole}
-use Rattle.tib_hunt.specs.EdgeLists.{IsWithin, key_at}
-use Rattle.tib_hunt.specs.Reached.{most_parts}
-use Rattle.tib_hunt.specs.declared.place.Place.{Place}
-use Rattle.tib_hunt.specs.declared.place.Place.TheVariants.{End}
+use Rattle.tib_expand.specs.EdgeLists.{IsWithin, key_at}
+use Rattle.tib_expand.specs.Reached.{most_parts}
+use Rattle.tib_expand.specs.declared.place.Place.{Place}
+use Rattle.tib_expand.specs.declared.place.Place.TheVariants.{End}
 use Rattle.tib_transducer.specs.Rules.{states_in}
 use Rattle.tib_transducer.specs.declared.Pair.{Pair}
 use Rattle.tib_transducer.specs.declared.Variable.{Variable}

@@ -2,7 +2,7 @@
 //! the rule's right-hand side.
 
 ghost use Rattle.std.specs.Prelude.{◌≡◌, ◌<◌, ◌≤◌, length, IfOk, OnOk, Err};
-ghost use Rattle.tib_hunt.specs.Reached.{most_parts};
+ghost use Rattle.tib_expand.specs.Reached.{most_parts};
 ghost use Rattle.tib_compose.specs.KeyEdges.{IsSourceOf, KeyOverruns, ListsKey, ListsRule, RuleOverruns};
 ghost use Rattle.tib_compose.specs.Listing.{IsWithinBudget};
 
@@ -16,7 +16,7 @@ use crate::source::Source;
 use crate::translating::go_on;
 use std::alloc::{AllocError, Global};
 use tib_cost::Semiring;
-use tib_hunt::ExpandError;
+use tib_expand::ExpandError;
 use tib_keyed::StatePair;
 use tib_transducer::TransducerRule;
 

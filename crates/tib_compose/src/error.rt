@@ -1,7 +1,7 @@
 //! What can go wrong in composing two transducers.
 
 use thiserror::Error;
-use tib_hunt::HuntError;
+use tib_expand::HuntError;
 use tib_transducer::{ClassError, ClassFault};
 
 /// Why two transducers were not composed.

@@ -7,7 +7,7 @@ use crate::placed_rule::PlacedRule;
 use crate::settling::settled_rule;
 use std::alloc::{AllocError, Global};
 use tib_cost::Semiring;
-use tib_hunt::{Edges, Expand, ExpandError};
+use tib_expand::{Edges, Expand, ExpandError};
 use tib_keyed::StatePair;
 use tib_transducer::TransducerRule;
 

@@ -23,7 +23,7 @@ use crate::listing::Listing;
 use std::alloc::{AllocError, Global};
 use tib_cost::{Cost, Semiring};
 use tib_grammar::{Item, Side};
-use tib_hunt::ExpandError;
+use tib_expand::ExpandError;
 use tib_keyed::StatePair;
 use tib_transducer::{Pair, TransducerRule, Variable};
 use tib_tree::Label;

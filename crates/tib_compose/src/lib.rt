@@ -7,7 +7,6 @@ mod bounding;
 mod bounds;
 mod branch;
 mod choice;
-mod composing;
 mod composite;
 mod edges;
 mod ends;
@@ -25,7 +24,6 @@ mod source;
 mod translating;
 
 pub use choice::Choice;
-pub use composing::{compose, compose_together};
 pub use composite::Composite;
 pub use error::ComposeError;
 pub use placed_rule::PlacedRule;

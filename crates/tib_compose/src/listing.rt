@@ -3,14 +3,14 @@
 ghost use Rattle.std.specs.Prelude.{◌≡◌, ℕ, ◌+◌, ◌<◌, ◌≤◌, ◌++◌, ◌^◌, length, IfOk, OnOk, Err, []};
 ghost use Rattle.tib_grammar.specs.Items.{pairs_of};
 ghost use Rattle.tib_tree.specs.Trees.{preorder_of};
-ghost use Rattle.tib_hunt.specs.Reached.{most_parts};
+ghost use Rattle.tib_expand.specs.Reached.{most_parts};
 ghost use Rattle.tib_compose.specs.Listing.{IsAdded, IsPlacedRule, IsTooMuch, IsWithinBudget, keys_in, placed};
 
 use crate::placed_rule::PlacedRule;
 use std::alloc::{AllocError, Global};
 use tib_cost::Cost;
 use tib_grammar::{Item, Side};
-use tib_hunt::{Edges, ExpandError, Place};
+use tib_expand::{Edges, ExpandError, Place};
 use tib_keyed::StatePair;
 use tib_transducer::{Pair, Variable};
 

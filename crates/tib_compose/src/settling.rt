@@ -5,7 +5,7 @@ ghost use Rattle.tib_lex.specs.Lists.{Each};
 ghost use Rattle.tib_tree.specs.Trees.{IsOneTree, only, preorder_of};
 ghost use Rattle.tib_grammar.specs.Items.{pairs_of};
 ghost use Rattle.tib_grammar.specs.Sides.{side_map};
-ghost use Rattle.tib_hunt.specs.EdgeLists.{IsWithin, position_of};
+ghost use Rattle.tib_expand.specs.EdgeLists.{IsWithin, position_of};
 ghost use Rattle.tib_transducer.specs.NamedPairs.{named_pair, named_item};
 ghost use Rattle.tib_keyed.specs.Named.{named_transducer_rule};
 ghost use Rattle.tib_compose.specs.EdgeLaws.{all_states, places_of, rule_of};
@@ -14,7 +14,7 @@ ghost use Rattle.tib_compose.specs.NamedItems.{IsItemWithin, HolesAreWithin};
 use crate::placed_rule::PlacedRule;
 use std::alloc::{AllocError, Global};
 use tib_grammar::{Item, Side};
-use tib_hunt::Place;
+use tib_expand::Place;
 use tib_transducer::{Pair, TransducerRule, Variable};
 use tib_tree::ShapeError;
 

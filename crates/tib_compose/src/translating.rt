@@ -14,7 +14,7 @@ use crate::source::Source;
 use std::alloc::{AllocError, Global};
 use tib_cost::Semiring;
 use tib_grammar::Side;
-use tib_hunt::ExpandError;
+use tib_expand::ExpandError;
 use tib_transducer::Variable;
 
 /// Goes on with the branch of a search up to the next label that is read, and turns there; where

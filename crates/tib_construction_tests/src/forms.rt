@@ -9,9 +9,9 @@ use tib_canon::{Begin, Printed, canonical, to_grammar};
 use tib_cost::{Boolean, MinPlus, Semiring};
 use tib_grammar::Grammar;
 use tib_grammar_file::{print_grammar, read_grammar};
-use tib_hunt::Found;
+use tib_expand::Found;
 use tib_io::GrowingSink;
-use tib_table::TableKey;
+use tib_expand::TableKey;
 use tib_tree::Labels;
 
 /// A number as a key.

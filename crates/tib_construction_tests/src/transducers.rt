@@ -8,7 +8,7 @@ use std::alloc::{AllocError, Global};
 use std::test::Fail;
 use tib_canon::{PrintedTransducer, to_transducer};
 use tib_cost::{MinPlus, Semiring};
-use tib_hunt::Found;
+use tib_expand::Found;
 use tib_io::GrowingSink;
 use tib_keyed::StatePair;
 use tib_transducer::TransducerRule;

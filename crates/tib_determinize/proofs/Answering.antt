@@ -10,7 +10,7 @@ use Rattle.tib_grammar.specs.declared.Rule.{Rule}
 use Rattle.tib_cost.specs.Semiring.{ProductLaws}
 use Rattle.tib_lex.proofs.Alongs.{along_of, total_fewer}
 use Rattle.tib_lex.proofs.Numbers.{nat_eq_cases}
-use Rattle.tib_hunt.specs.EdgeLists.{Lists, AreListed, Exceeds, IsEnd}
+use Rattle.tib_expand.specs.EdgeLists.{Lists, AreListed, Exceeds, IsEnd}
 use Rattle.tib_determinize.specs.declared.vector_rule.VectorRule.{VectorRule}
 use Rattle.tib_determinize.specs.declared.listing.Listing.{Listing}
 use Rattle.tib_determinize.specs.Vectors.{VectorOf, Rises, IsWeight, IsStepCost, IsStep}

@@ -8,8 +8,8 @@ use Rattle.tib_grammar.specs.declared.Rule.{Rule}
 use Rattle.tib_cost.specs.Semiring.{ProductLaws}
 use Rattle.tib_lex.proofs.Alongs.{along_of}
 use Rattle.tib_grammar.specs.Positions.{states_in}
-use Rattle.tib_hunt.specs.EdgeLists.{Lists, AreListed, IsEnd, IsWithin, key_at}
-use Rattle.tib_hunt.specs.declared.place.Place.TheVariants.{Known, End}
+use Rattle.tib_expand.specs.EdgeLists.{Lists, AreListed, IsEnd, IsWithin, key_at}
+use Rattle.tib_expand.specs.declared.place.Place.TheVariants.{Known, End}
 use Rattle.tib_determinize.specs.declared.vector_rule.VectorRule.{VectorRule}
 use Rattle.tib_determinize.specs.declared.listing.Listing.{Listing}
 use Rattle.tib_determinize.specs.Vectors.{VectorOf, Rises, vector_at, vectors_at}

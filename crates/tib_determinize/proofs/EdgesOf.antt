@@ -4,7 +4,7 @@ use Rattle.std.proofs.Common.{ap, sym, ◌∙◌, subst, inl, inr}
 use Rattle.tib_lex.specs.Lists.{Has, Each, Distinct, Along}
 use Rattle.tib_grammar.specs.Sides.{over}
 use Rattle.tib_grammar.specs.declared.Rule.{Rule}
-use Rattle.tib_hunt.specs.EdgeLists.{Lists}
+use Rattle.tib_expand.specs.EdgeLists.{Lists}
 use Rattle.tib_determinize.specs.Vectors.{VectorOf, IsStep, vectors_at}
 use Rattle.tib_determinize.specs.Determinization.{IsVectorSeed, IsVectorEdge}
 use Rattle.tib_determinize.specs.Candidates.{IsCandidate, AreCandidates}

@@ -17,16 +17,16 @@ use Rattle.tib_cost.specs.Semiring.{ProductLaws}
 use Rattle.tib_lex.proofs.Lists.{each_append, length_map}
 use Rattle.tib_lex.proofs.Places.{distinct_at, get_map}
 use Rattle.tib_lex.proofs.Alongs.{along_has, along_append, along_of}
-use Rattle.tib_hunt.specs.EdgeLists.{Lists}
-use Rattle.tib_hunt.specs.Reached.{AfterRounds, AreEdges}
-use Rattle.tib_hunt.proofs.Reaching.{apart}
+use Rattle.tib_expand.specs.EdgeLists.{Lists}
+use Rattle.tib_expand.specs.Reached.{AfterRounds, AreEdges}
+use Rattle.tib_expand.proofs.Reaching.{apart}
 use Rattle.tib_determinize.specs.Vectors.{VectorOf, Rises, IsStep, vector_at, vectors_at}
 use Rattle.tib_determinize.specs.Determinization.{vector_cmp, IsVectorSeed, IsVectorEdge, determinization}
 use Rattle.tib_determinize.specs.VectorGrammar.{IsVectorGrammar, IsDeterminized}
 use Rattle.tib_determinize.specs.ListLemmas.{order_of, each_map, along_get}
 use Rattle.tib_determinize.specs.OneStep.{vector_total}
 use Rattle.tib_determinize.proofs.Stepping.{step_or_none, lefts_below}
-use Rattle.tib_hunt.proofs.Members.{distinct_append}
+use Rattle.tib_expand.proofs.Members.{distinct_append}
 
 -- right-hand sides over positions
 

@@ -6,7 +6,7 @@ use Rattle.tib_grammar.specs.Sides.{holes, over}
 use Rattle.tib_grammar.specs.Run.{rule_at}
 use Rattle.tib_grammar.specs.declared.Rule.{Rule}
 use Rattle.tib_grammar.proofs.Members.{each_has, each_of, has_at}
-use Rattle.tib_hunt.specs.EdgeLists.{Lists}
+use Rattle.tib_expand.specs.EdgeLists.{Lists}
 use Rattle.tib_determinize.specs.Vectors.{VectorOf, Rises, IsWeight, IsStepCost, IsStep, vector_at, vectors_at}
 use Rattle.tib_determinize.specs.Determinization.{IsVectorSeed, IsVectorEdge}
 use Rattle.tib_determinize.specs.Candidates.{AreHeld, IsCandidate, AreCandidates, AreMatched, AreLeafLabels, IsStepOf, ComputesSteps, edge_before, edges_from}

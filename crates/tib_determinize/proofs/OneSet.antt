@@ -4,8 +4,8 @@ use Rattle.std.proofs.Common.{arith, ap, sym, ◌∙◌, subst, length-append, a
 use Rattle.tib_lex.specs.Lists.{Has}
 use Rattle.tib_lex.proofs.Alongs.{along_of}
 use Rattle.tib_grammar.specs.declared.Rule.{Rule}
-use Rattle.tib_hunt.specs.Reached.{IsReached, AreEdges}
-use Rattle.tib_hunt.proofs.Reaching.{in_reached}
+use Rattle.tib_expand.specs.Reached.{IsReached, AreEdges}
+use Rattle.tib_expand.proofs.Reaching.{in_reached}
 use Rattle.tib_determinize.specs.Vectors.{VectorOf, vectors_at}
 use Rattle.tib_determinize.specs.Determinization.{determinization, IsOneSet}
 use Rattle.tib_determinize.specs.ListLemmas.{along_back}

@@ -4,8 +4,8 @@ use Rattle.std.proofs.Common.{ap, sym, ◌∙◌}
 use Rattle.tib_grammar.specs.Sides.{Side, label, over}
 use Rattle.tib_grammar.specs.GrammarOf.{named_rule}
 use Rattle.tib_grammar.specs.Positions.{positions_of}
-use Rattle.tib_hunt.specs.EdgeLists.{position_of}
-use Rattle.tib_hunt.specs.declared.place.Place.TheVariants.{Known}
+use Rattle.tib_expand.specs.EdgeLists.{position_of}
+use Rattle.tib_expand.specs.declared.place.Place.TheVariants.{Known}
 use Rattle.tib_determinize.specs.declared.vector_rule.VectorRule.{VectorRule}
 use Rattle.tib_determinize.specs.VectorRules.{places_of, read_places}
 use Rattle.tib_determinize.proofs.Edges.{map_leaves, states_over_are}

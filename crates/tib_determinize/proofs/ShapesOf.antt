@@ -12,7 +12,7 @@ use Rattle.tib_grammar.proofs.Sides.{length-holes}
 use Rattle.tib_determinize.specs.Keys.{same_entry, entry_is, is_entry}
 use Rattle.tib_determinize.specs.Candidates.{AreShapes}
 use Rattle.tib_determinize.specs.Shapes.{root_label, root_of, shapes_in}
-use Rattle.tib_hunt.proofs.Members.{distinct_append}
+use Rattle.tib_expand.proofs.Members.{distinct_append}
 
 abbrev Pairs : Type 0
 Pairs = List (ℕ × ℕ)

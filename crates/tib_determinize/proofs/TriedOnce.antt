@@ -11,7 +11,7 @@ use Rattle.tib_determinize.specs.Tries.{first_at, many_at, span, under, by_last,
 use Rattle.tib_determinize.specs.Candidates.{IsCandidate, AreCandidates, AreShapes}
 use Rattle.tib_determinize.proofs.Walked.{span_has, labelled_has}
 use Rattle.tib_determinize.proofs.Tried.{under_is, is_under, span_at, AreAllowed, allowed_long, allowed_up_to, allowed_stands, one_last, some_last}
-use Rattle.tib_hunt.proofs.Members.{distinct_append}
+use Rattle.tib_expand.proofs.Members.{distinct_append}
 
 labelled_to : (f : ℕ) (pss : List (List ℕ)) (ps : List ℕ) → Has pss ps → Has {A = ℕ × List ℕ} (behind_label f pss) (f, ps)
 labelled_to f [] ps h = absurd h

@@ -11,7 +11,7 @@ use Rattle.tib_grammar.specs.declared.Rule.{Rule}
 use Rattle.tib_grammar.proofs.Members.{each_of, has_left, has_right, has_either}
 use Rattle.tib_determinize.specs.Vectors.{VectorOf, vector_at, vectors_at}
 use Rattle.tib_determinize.specs.Candidates.{AreHeld, HasMatch, IsCandidate, AreMatched, holds, alive, at_each, at_last, walks, is_root, states_over, tagged, candidates, walks_first, walks_by_first, candidates_by_first, AreShapes}
-use Rattle.tib_hunt.proofs.Members.{distinct_append}
+use Rattle.tib_expand.proofs.Members.{distinct_append}
 
 -- lists
 

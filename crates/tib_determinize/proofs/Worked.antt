@@ -7,8 +7,8 @@ use Rattle.tib_grammar.specs.Run.{rule_at}
 use Rattle.tib_grammar.specs.Range.{AreInRange}
 use Rattle.tib_grammar.specs.declared.Rule.{Rule}
 use Rattle.tib_cost.specs.Least.{IsLeast}
-use Rattle.tib_hunt.specs.EdgeLists.{Lists}
-use Rattle.tib_hunt.specs.Reached.{IsNew}
+use Rattle.tib_expand.specs.EdgeLists.{Lists}
+use Rattle.tib_expand.specs.Reached.{IsNew}
 use Rattle.tib_determinize.specs.Vectors.{VectorOf, IsWeight, IsStepCost, IsSomeCost, IsStep, vectors_at}
 use Rattle.tib_determinize.specs.Determinization.{IsVectorSeed, IsVectorEdge, determinization}
 use Rattle.tib_determinize.specs.VectorGrammar.{IsDeterminized}

@@ -2,8 +2,8 @@
 use Rattle.std.specs.Prelude.{◌≡◌, ℕ, List, map}
 use Rattle.tib_grammar.specs.GrammarOf.{named_rule}
 use Rattle.tib_grammar.specs.declared.Rule.{Rule}
-use Rattle.tib_hunt.specs.Reached.{parts_of}
-use Rattle.tib_hunt.specs.declared.found.Found.{Found}
+use Rattle.tib_expand.specs.Reached.{parts_of}
+use Rattle.tib_expand.specs.declared.found.Found.{Found}
 use Rattle.tib_determinize.specs.Vectors.{VectorOf, vector_at}
 use Rattle.tib_determinize.specs.Determinization.{determinization}
 use Rattle.tib_determinize.specs.VectorGrammar.{IsDeterminized}

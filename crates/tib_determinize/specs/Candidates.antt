@@ -5,7 +5,7 @@ use Rattle.tib_lex.specs.Lists.{Has, Each, Distinct, Along}
 use Rattle.tib_grammar.specs.Sides.{Symbol, label, hole, holes, over}
 use Rattle.tib_grammar.specs.Run.{rule_at}
 use Rattle.tib_grammar.specs.declared.Rule.{Rule}
-use Rattle.tib_hunt.specs.EdgeLists.{Lists}
+use Rattle.tib_expand.specs.EdgeLists.{Lists}
 use Rattle.tib_cost.specs.Semiring.{most}
 use Rattle.tib_determinize.specs.Vectors.{VectorOf, Rises, IsSomeCost, IsStep, vector_at, vectors_at}
 use Rattle.tib_determinize.specs.Determinization.{IsVectorSeed, IsVectorEdge}

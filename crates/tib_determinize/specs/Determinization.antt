@@ -8,8 +8,8 @@ use Rattle.tib_tree.specs.Trees.{size}
 use Rattle.tib_grammar.specs.Sides.{over}
 use Rattle.tib_grammar.specs.Run.{rule_at}
 use Rattle.tib_grammar.specs.declared.Rule.{Rule}
-use Rattle.tib_hunt.specs.Reached.{Operation, operation, IsReachedSet}
-use Rattle.tib_hunt.specs.Numbered.{key_parts}
+use Rattle.tib_expand.specs.Reached.{Operation, operation, IsReachedSet}
+use Rattle.tib_expand.specs.Keys.{key_parts}
 use Rattle.tib_determinize.specs.Vectors.{VectorOf, Rises, IsStep, vectors_at}
 
 abbrev pub vector_cmp : VectorOf → VectorOf → Ordering

@@ -9,7 +9,7 @@ use Rattle.tib_grammar.specs.declared.Rule.{Rule}
 use Rattle.tib_grammar.proofs.Members.{each_of}
 use Rattle.tib_cost.specs.Semiring.{IsResidual}
 use Rattle.tib_cost.proofs.Least.{IsLeast-unique}
-use Rattle.tib_hunt.proofs.Reaching.{Laws}
+use Rattle.tib_expand.proofs.Reaching.{Laws}
 use Rattle.tib_determinize.specs.Vectors.{VectorOf, Rises, IsStepCost, IsSomeCost, IsStep, vectors_at}
 use Rattle.tib_determinize.specs.Determinization.{vector_cmp, IsVectorSeed, IsVectorEdge, IsVector, determinization, KeepsItsLaws, LeftsBelow}
 use Rattle.tib_determinize.specs.ListLemmas.{each_map}

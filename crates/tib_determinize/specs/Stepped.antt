@@ -3,7 +3,7 @@ use Rattle.std.specs.Prelude.{◌≡◌, ℕ, ◌+◌, ◌<◌, ◌≤◌, ◌�
 use Rattle.std.proofs.Common.{suc}
 use Rattle.tib_lex.specs.Lists.{total}
 use Rattle.tib_grammar.specs.declared.Rule.{Rule}
-use Rattle.tib_hunt.specs.Reached.{most_parts}
+use Rattle.tib_expand.specs.Reached.{most_parts}
 use Rattle.tib_cost.specs.Semiring.{most}
 use Rattle.tib_determinize.specs.VectorRules.{PlacedRule, placed_rule}
 use Rattle.tib_determinize.specs.declared.listing.Listing.{Listing}

@@ -10,7 +10,7 @@ use Rattle.tib_grammar.specs.Range.{AreInRange, AllBelow, SidesEndInHoles}
 use Rattle.tib_grammar.specs.GrammarOf.{named_rule}
 use Rattle.tib_grammar.specs.declared.Rule.{Rule}
 use Rattle.tib_cost.specs.Semiring.{most, cut}
-use Rattle.tib_hunt.specs.Reached.{IsReachedSet}
+use Rattle.tib_expand.specs.Reached.{IsReachedSet}
 use Rattle.tib_determinize.specs.Vectors.{VectorOf, IsStepCost, IsStep, vector_at, vectors_at}
 use Rattle.tib_determinize.specs.Determinization.{determinization}
 

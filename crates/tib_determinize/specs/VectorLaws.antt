@@ -5,9 +5,9 @@ use Rattle.tib_lex.specs.Lists.{Each}
 use Rattle.tib_grammar.specs.Sides.{label, over}
 use Rattle.tib_grammar.specs.declared.Rule.{Rule}
 use Rattle.tib_grammar.proofs.Positions.{reads_positions}
-use Rattle.tib_hunt.specs.Lawful.{IsLawful}
-use Rattle.tib_hunt.specs.declared.place.Place.{Place}
-use Rattle.tib_hunt.specs.declared.place.Place.TheVariants.{Known, End}
+use Rattle.tib_expand.specs.Lawful.{IsLawful}
+use Rattle.tib_expand.specs.declared.place.Place.{Place}
+use Rattle.tib_expand.specs.declared.place.Place.TheVariants.{Known, End}
 use Rattle.tib_determinize.specs.declared.vector_rule.VectorRule.{VectorRule}
 use Rattle.tib_determinize.specs.Determinization.{vector_cmp, determinization, IsVector, KeepsItsLaws, LeftsBelow}
 use Rattle.tib_determinize.specs.VectorRules.{places_of, read_places, vector_reading}

@@ -4,9 +4,9 @@ use Rattle.tib_grammar.specs.Sides.{label, over}
 use Rattle.tib_grammar.specs.GrammarOf.{named_rule}
 use Rattle.tib_grammar.specs.declared.Rule.{Rule}
 use Rattle.tib_grammar.specs.Positions.{positions_of}
-use Rattle.tib_hunt.specs.Reading.{Reading}
-use Rattle.tib_hunt.specs.declared.place.Place.{Place}
-use Rattle.tib_hunt.specs.declared.place.Place.TheVariants.{Known, End}
+use Rattle.tib_expand.specs.Reading.{Reading}
+use Rattle.tib_expand.specs.declared.place.Place.{Place}
+use Rattle.tib_expand.specs.declared.place.Place.TheVariants.{Known, End}
 use Rattle.tib_determinize.specs.Vectors.{VectorOf}
 use Rattle.tib_determinize.specs.declared.vector_rule.VectorRule.{VectorRule}
 

@@ -10,7 +10,7 @@ use crate::vector_rule::VectorRule;
 use std::alloc::{AllocError, Global};
 use tib_cost::Semiring;
 use tib_grammar::{Rule, Side};
-use tib_hunt::{Edges, Expand, ExpandError};
+use tib_expand::{Edges, Expand, ExpandError};
 
 impl<'a, S: Semiring> Expand for Residuals<'a, S> {
     ghost use Rattle.std.specs.Prelude.{length};

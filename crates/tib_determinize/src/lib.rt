@@ -12,7 +12,6 @@ pub mod laws;
 mod listing;
 mod occurrences;
 mod origin;
-mod reached;
 mod residuals;
 mod settling;
 mod shapes;
@@ -23,7 +22,6 @@ mod wanted;
 mod wide;
 
 pub use origin::Origin;
-pub use reached::{determinize, determinize_together};
 pub use residuals::Residuals;
 pub use vector::Vector;
 pub use vector_rule::VectorRule;

@@ -1,14 +1,14 @@
 //! The edges of a position, listed one after another within a budget of parts.
 
 ghost use Rattle.std.specs.Prelude.{◌≡◌, ◌+◌, ◌<◌, ◌≤◌, ◌^◌, length, IfOk, OnOk, Err};
-ghost use Rattle.tib_hunt.specs.Reached.{most_parts};
+ghost use Rattle.tib_expand.specs.Reached.{most_parts};
 ghost use Rattle.tib_determinize.specs.Stepped.{IsAdded, IsWithinBudget};
 
 use crate::settling::Step;
 use crate::vector::Vector;
 use crate::vector_rule::VectorRule;
 use std::alloc::{AllocError, Global};
-use tib_hunt::{Edges, ExpandError};
+use tib_expand::{Edges, ExpandError};
 use tib_tree::Label;
 
 // The same positions.

@@ -3,7 +3,7 @@
 ghost use Rattle.std.specs.Prelude.{◌≡◌, ℕ, ◌+◌, ◌<◌, ◌≤◌, ◌^◌, [], length, IfOk, IfSome, OnOk, Err};
 ghost use Rattle.tib_determinize.specs.Holders.{HoldAll};
 ghost use Rattle.tib_lex.specs.Lists.{Each};
-ghost use Rattle.tib_hunt.specs.Reached.{most_parts};
+ghost use Rattle.tib_expand.specs.Reached.{most_parts};
 ghost use Rattle.tib_determinize.specs.Shapes.{shapes_in};
 ghost use Rattle.tib_determinize.specs.Determinization.{LeftsBelow};
 ghost use Rattle.tib_determinize.specs.Started.{finals, start_in, with_final};
@@ -22,7 +22,7 @@ use crate::walk::{Walk, list, list_all};
 use crate::wide::wide_states;
 use std::alloc::{AllocError, Global};
 use tib_cost::{Cost, Semiring};
-use tib_hunt::ExpandError;
+use tib_expand::ExpandError;
 use tib_normal::Normal;
 use tib_tree::Label;
 

@@ -11,7 +11,7 @@ use std::cmp::Ordering;
 use std::hash::{Hash, Hasher};
 use std::marker::Model;
 use tib_cost::Cost;
-use tib_hunt::TableKey;
+use tib_expand::TableKey;
 
 /// States, ascending, each with its residual.
 #[derive(Drop)]

@@ -6,7 +6,7 @@
 ghost use Rattle.std.specs.Prelude.{◌≤◌, ◌+◌, length, IfErr, IfOk};
 ghost use Rattle.std.specs.List.{AllZip};
 ghost use Rattle.std.specs.Thread.{IsSync};
-ghost use Rattle.tib_io.specs.Reads.{most_bytes};
+ghost use Rattle.tib_lex.specs.Limits.{most_bytes};
 ghost use Rattle.tib_grammar.specs.Series.{IsSeries};
 ghost use Rattle.tib_example.specs.Costs.{AreCosts, IsFailure, IsUnweighed};
 

@@ -36,7 +36,7 @@ use Rattle.tib_grammar_file.proofs.Meanings.{side_means, meant_side, meant_count
 use Rattle.tib_grammar_file.proofs.FirstFaults.{faults_exact}
 use Rattle.tib_grammar_file.proofs.RowsRead.{IsRow, IsFew, begun_back, begun_forth}
 use Rattle.tib_grammar_file.proofs.WholeWeights.{cost_back, cost_forth}
-use Rattle.tib_io.specs.Reads.{most_bytes}
+use Rattle.tib_lex.specs.Limits.{most_bytes}
 use Rattle.tib_grammar.proofs.Below.{below_append}
 use Rattle.tib_lex.proofs.Members.{has_contains}
 

@@ -6,7 +6,7 @@ use Rattle.tib_grammar_file.specs.Rule.{RuleLine}
 use Rattle.tib_grammar_file.specs.Value.{left_of}
 use Rattle.tib_grammar_file.specs.Resolve.{IsRawGrammarOf}
 use Rattle.tib_grammar_file.specs.declared.raw.RawRules.{RawRules}
-use Rattle.tib_io.specs.Reads.{most_bytes}
+use Rattle.tib_lex.specs.Limits.{most_bytes}
 
 -- the rules over the tables of names and texts are those of a start and of lines
 pub record IsSource (names texts : List (List ℕ)) (raw : RawRules) (start : List ℕ)

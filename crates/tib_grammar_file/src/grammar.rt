@@ -10,7 +10,7 @@ ghost use Rattle.tib_grammar_file.specs.Faults.{IsCause};
 ghost use Rattle.tib_grammar_file.specs.Read.{ReadsAs};
 ghost use Rattle.tib_grammar_file.specs.Rule.{RuleLine};
 ghost use Rattle.tib_grammar_file.specs.Value.{IsGrammarOf};
-ghost use Rattle.tib_io.specs.Reads.{most_bytes};
+ghost use Rattle.tib_lex.specs.Limits.{most_bytes};
 
 use crate::raw::RawRules;
 use crate::resolve::resolve_rules;

@@ -8,7 +8,7 @@ ghost use Rattle.tib_grammar_file.specs.Reading.{rules_from};
 ghost use Rattle.tib_grammar_file.specs.Raw.{IsRaw, AddsLine, AddsNodes};
 ghost use Rattle.tib_grammar_file.specs.RawFile.{IsRawFile};
 ghost use Rattle.tib_grammar_file.specs.Rule.{rule_line};
-ghost use Rattle.tib_io.specs.Reads.{most_bytes};
+ghost use Rattle.tib_lex.specs.Limits.{most_bytes};
 
 use crate::rule::{read_cost, read_parts};
 use std::alloc::{AllocError, Global};

@@ -6,13 +6,13 @@ use Rattle.std.specs.declared.cmp.Ordering.{Ordering}
 use Rattle.std.specs.declared.cmp.Ordering.TheVariants.{Less}
 use Rattle.indexmap.specs.IndexSet.{insert_all}
 use Rattle.tib_lex.specs.Lists.{Has, Distinct, Ascends, total}
-use Rattle.tib_hunt.specs.EdgeLists.{AreListed, IsEnd, Exceeds, key_at}
-use Rattle.tib_hunt.specs.Reached.{Operation, IsNew, AfterRounds, IsReached, AreEdges, IsBeyond}
-use Rattle.tib_hunt.specs.Numbered.{key_parts, Name, HaveMore, IsInOrder, moved_to}
-use Rattle.tib_hunt.specs.Reading.{Reading}
+use Rattle.tib_expand.specs.EdgeLists.{AreListed, IsEnd, Exceeds, key_at}
+use Rattle.tib_expand.specs.Reached.{Operation, IsNew, AfterRounds, IsReached, AreEdges, IsBeyond, Leads}
+use Rattle.tib_hunt.specs.Numbered.{Name, HaveMore, IsInOrder, moved_to}
+use Rattle.tib_expand.specs.Keys.{key_parts}
+use Rattle.tib_expand.specs.Reading.{Reading}
 use Rattle.tib_hunt.specs.Rows.{NumberedRow, read_rows}
-use Rattle.tib_hunt.specs.Held.{Leads}
-use Rattle.tib_hunt.proofs.Reaching.{IsHunt, edges_stay, beyond, beyond_more, in_reached, seeds_reached}
+use Rattle.tib_expand.proofs.Reaching.{IsHunt, edges_stay, beyond, beyond_more, in_reached, seeds_reached}
 use Rattle.tib_table.proofs.Sights.{take_front, total_least}
 use Rattle.tib_hunt.proofs.Settling.{Settled}
 use Rattle.tib_hunt.proofs.Holding.{edges_so_far, IsHeld, IsBetween, IsWithinRound, added, more_edges, finished, settled_edges, round_done, leads_on}

@@ -3,13 +3,14 @@ use Rattle.std.proofs.Common.{◌≡◌, ℕ, ◌+◌, ◌<◌, ◌≤◌, ◌�
 use Rattle.std.specs.declared.cmp.Ordering.{Ordering}
 use Rattle.indexmap.specs.IndexSet.{insert_all}
 use Rattle.tib_lex.specs.Lists.{Has, Each, total}
-use Rattle.tib_hunt.specs.EdgeLists.{AreListed}
-use Rattle.tib_hunt.specs.Reached.{Operation, IsReachedSet, AreEdges, parts_of}
-use Rattle.tib_hunt.specs.Numbered.{key_parts, Name, IsInOrder, moved_to}
-use Rattle.tib_hunt.specs.Reading.{Reading}
-use Rattle.tib_hunt.specs.Rows.{NumberedRow, read_rows, ReadAs, StayBelow, AreBelow}
+use Rattle.tib_expand.specs.EdgeLists.{AreListed}
+use Rattle.tib_expand.specs.Reached.{Operation, IsReachedSet, AreEdges, parts_of}
+use Rattle.tib_hunt.specs.Numbered.{Name, IsInOrder, moved_to}
+use Rattle.tib_expand.specs.Keys.{key_parts}
+use Rattle.tib_expand.specs.Reading.{Reading, AreBelow}
+use Rattle.tib_hunt.specs.Rows.{NumberedRow, read_rows, ReadAs, StayBelow}
 use Rattle.tib_hunt.specs.Held.{at}
-use Rattle.tib_hunt.proofs.Reaching.{IsHunt}
+use Rattle.tib_expand.proofs.Reaching.{IsHunt}
 use Rattle.tib_hunt.proofs.Holding.{IsHeld, IsBetween, IsWithinRound}
 use Rattle.tib_table.proofs.Sights.{take_front, drop_front}
 use Rattle.tib_hunt.proofs.Advancing.{round_ends, hunt_begins, seeds_held}

@@ -10,17 +10,17 @@ use Rattle.tib_table.specs.declared.number.Number.{Number}
 use Rattle.tib_crew.specs.Rows.{NameOn, AreRowsFrom, IsSlot, AreSlots, LeaveTooLittle, parts_in, slot_parts, parts_of_slots}
 use Rattle.tib_crew.specs.declared.row.Row.{Row}
 use Rattle.tib_crew.proofs.Rowing.{parts_append}
-use Rattle.tib_hunt.specs.EdgeLists.{Lists, Exceeds, IsEnd, key_at}
-use Rattle.tib_hunt.specs.Reached.{Operation, AreEdges, IsBeyond}
-use Rattle.tib_hunt.specs.Reading.{Reading}
+use Rattle.tib_expand.specs.EdgeLists.{Lists, Exceeds, IsEnd, key_at}
+use Rattle.tib_expand.specs.Reached.{Operation, AreEdges, IsBeyond, Leads}
+use Rattle.tib_expand.specs.Reading.{Reading}
 use Rattle.tib_hunt.specs.Known.{NameEnds}
 use Rattle.tib_hunt.specs.declared.known.Ruled.{Ruled}
-use Rattle.tib_hunt.specs.Held.{Leads, IsBetween, edges_so_far}
+use Rattle.tib_hunt.specs.Held.{IsBetween, edges_so_far}
 use Rattle.tib_hunt.specs.Shelved.{IsKnownRow, edges_of_rows, AreWorked, AreApart}
 use Rattle.tib_hunt.specs.Jobs.{items_in, IsLackedEnd, GivesEdges, ItemExceeds}
-use Rattle.tib_hunt.proofs.Reaching.{Laws, later, later_is, fewer_parts, more_parts}
+use Rattle.tib_expand.proofs.Reaching.{Laws, later, later_is, fewer_parts, more_parts}
 use Rattle.tib_hunt.proofs.Holding.{leads_on}
-use Rattle.tib_hunt.proofs.Members.{Lists-parts, Lists-to, total_fewer}
+use Rattle.tib_expand.proofs.Members.{Lists-parts, Lists-to, total_fewer}
 use Rattle.tib_hunt.proofs.OnShelves.{got_has}
 use Rattle.tib_hunt.proofs.KnownEnds.{named_of, split_named, split_either}
 

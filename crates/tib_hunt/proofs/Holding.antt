@@ -6,16 +6,16 @@ use Rattle.std.proofs.lemmas.Option.{get_or_from_slice_get, slice_get_within}
 use Rattle.std.specs.declared.cmp.Ordering.{Ordering}
 use Rattle.indexmap.specs.IndexSet.{insert_key, insert_all}
 use Rattle.tib_lex.specs.Lists.{Has, Each, Distinct, total}
-use Rattle.tib_hunt.specs.EdgeLists.{AreListed, IsWithin, position_of, key_at}
-use Rattle.tib_hunt.specs.Reached.{Operation, IsNew, AfterRounds, IsReached}
+use Rattle.tib_expand.specs.EdgeLists.{AreListed, IsWithin, position_of, key_at}
+use Rattle.tib_expand.specs.Reached.{Operation, IsNew, AfterRounds, IsReached, Leads}
 use Rattle.tib_hunt.specs.Numbered.{Name, IsInOrder, moved_to}
-use Rattle.tib_hunt.specs.Reading.{Reading}
-use Rattle.tib_hunt.specs.Rows.{NumberedRow, read_row, read_rows, IsRowBelow, AreBelow}
-use Rattle.tib_hunt.specs.declared.place.Place.{Place}
-use Rattle.tib_hunt.specs.declared.place.Place.TheVariants.{Known, End}
-use Rattle.tib_hunt.specs.Held.{at, Leads, edges_so_far as all_edges, IsHeld as Held, IsBetween as Between, IsWithinRound as WithinRound}
-use Rattle.tib_hunt.proofs.Members.{total_fewer}
-use Rattle.tib_hunt.proofs.Reaching.{Laws, IsHunt, in_reached}
+use Rattle.tib_expand.specs.Reading.{Reading, AreBelow}
+use Rattle.tib_hunt.specs.Rows.{NumberedRow, read_row, read_rows, IsRowBelow}
+use Rattle.tib_expand.specs.declared.place.Place.{Place}
+use Rattle.tib_expand.specs.declared.place.Place.TheVariants.{Known, End}
+use Rattle.tib_hunt.specs.Held.{at, edges_so_far as all_edges, IsHeld as Held, IsBetween as Between, IsWithinRound as WithinRound}
+use Rattle.tib_expand.proofs.Members.{total_fewer}
+use Rattle.tib_expand.proofs.Reaching.{Laws, IsHunt, in_reached}
 use Rattle.tib_hunt.proofs.Settling.{Settled, each_at, stays_low, goes}
 use Rattle.tib_lex.proofs.Members.{each_of, each_has, has_either, has_left, has_right}
 use Rattle.tib_lex.proofs.Lists.{total_append, each_weaker, each_append}

@@ -1,8 +1,5 @@
 pub mod Runs
 pub mod Rounds
-pub mod EdgeLemmas
-pub mod Members
-pub mod Reaching
 mod Settling
 mod Pieces
 mod Holding

@@ -8,11 +8,11 @@ use Rattle.indexmap.specs.IndexSet.{insert_key}
 use Rattle.tib_lex.specs.Lists.{Has, total}
 use Rattle.tib_table.specs.Known.{on, Names}
 use Rattle.tib_table.specs.declared.number.Number.{Number}
-use Rattle.tib_hunt.specs.Reached.{IfTooMany}
+use Rattle.tib_expand.specs.Reached.{IfTooMany}
 use Rattle.tib_hunt.specs.RoundModel.{Core, with_key}
 use Rattle.tib_hunt.specs.Shelved.{all_on, with_keys, NameOn, ShelvesHaveMore}
-use Rattle.tib_table.specs.declared.error.HuntError.{HuntError}
-use Rattle.tib_hunt.proofs.Reaching.{IfTooMany-weaker}
+use Rattle.tib_expand.specs.declared.error.HuntError.{HuntError}
+use Rattle.tib_expand.proofs.Reaching.{IfTooMany-weaker}
 use Rattle.tib_table.proofs.Inserted.{not_any}
 use Rattle.tib_table.proofs.Sights.{along_snoc, get_left}
 use Rattle.tib_lex.proofs.Lists.{total_append}

@@ -7,11 +7,11 @@ use Rattle.tib_crew.specs.declared.row.Row.{Row as ItemRow}
 use Rattle.tib_hunt.specs.Divided.{MayBePlaced, AddsRules}
 use Rattle.tib_hunt.specs.Known.{AreOn}
 use Rattle.tib_hunt.specs.Numbered.{moved_to}
-use Rattle.tib_hunt.specs.Reading.{Reading}
+use Rattle.tib_expand.specs.Reading.{Reading}
 use Rattle.tib_hunt.specs.Rows.{NumberedRow, IsRowBelow, read_row, read_rows}
 use Rattle.tib_hunt.specs.Shelved.{placed_row}
 use Rattle.tib_hunt.specs.declared.known.Ruled.{Ruled}
-use Rattle.tib_hunt.specs.declared.place.Place.{Place}
+use Rattle.tib_expand.specs.declared.place.Place.{Place}
 use Rattle.tib_hunt.proofs.Settling.{map_both}
 
 rows_of_both : {R K E : Type 0} (read : (Place → K) → R → E) (at : ℕ → K) (xs ys : List (NumberedRow R)) → read_rows read at (xs ++ ys) ≡ read_rows read at xs ++ read_rows read at ys

@@ -7,10 +7,11 @@ use Rattle.indexmap.specs.IndexSet.{insert_all}
 use Rattle.tib_lex.specs.Lists.{Has, Each, Distinct, Along, total}
 use Rattle.tib_table.specs.Known.{on, Names}
 use Rattle.tib_table.specs.declared.number.Number.{Number}
-use Rattle.tib_hunt.specs.EdgeLists.{IsEnd, IsWithin, key_at, position_of}
-use Rattle.tib_hunt.specs.Reached.{IfTooMany, Operation, AreEdges, IsBeyond}
-use Rattle.tib_hunt.specs.Numbered.{key_parts, Name, HaveMore}
-use Rattle.tib_hunt.specs.Reading.{Reading}
+use Rattle.tib_expand.specs.EdgeLists.{IsEnd, IsWithin, key_at, position_of}
+use Rattle.tib_expand.specs.Reached.{IfTooMany, Operation, AreEdges, IsBeyond, Leads}
+use Rattle.tib_hunt.specs.Numbered.{Name, HaveMore}
+use Rattle.tib_expand.specs.Keys.{key_parts}
+use Rattle.tib_expand.specs.Reading.{Reading}
 use Rattle.tib_hunt.specs.Rows.{read_rows, IsRowBelow}
 use Rattle.tib_crew.specs.Rows.{NameOn}
 use Rattle.tib_hunt.specs.Known.{NameAt, NameEnds, position_on, IsOn, positions_at, HavePositionsAt, end_positions, AreOn}
@@ -18,11 +19,11 @@ use Rattle.tib_hunt.specs.Shelved.{all_on, IsKnownRow, edges_of_rows, placed_row
 use Rattle.tib_hunt.specs.declared.known.EndAt.{EndAt}
 use Rattle.tib_hunt.specs.declared.known.EndAt.TheVariants.{Position, Numbered}
 use Rattle.tib_hunt.specs.declared.known.Ruled.{Ruled}
-use Rattle.tib_hunt.specs.Held.{at, Leads, IsBetween as Between, IsWithinRound as WithinRound, edges_so_far as all_edges}
-use Rattle.tib_table.specs.declared.error.HuntError.{HuntError}
-use Rattle.tib_hunt.specs.declared.place.Place.{Place}
+use Rattle.tib_hunt.specs.Held.{at, IsBetween as Between, IsWithinRound as WithinRound, edges_so_far as all_edges}
+use Rattle.tib_expand.specs.declared.error.HuntError.{HuntError}
+use Rattle.tib_expand.specs.declared.place.Place.{Place}
 use Rattle.tib_crew.specs.declared.row.Row.{Row as ItemRow}
-use Rattle.tib_hunt.proofs.Reaching.{IfTooMany-weaker, IsHunt, beyond}
+use Rattle.tib_expand.proofs.Reaching.{IfTooMany-weaker, IsHunt, beyond}
 use Rattle.tib_hunt.proofs.Holding.{same_place, named_below, as_many, rules_same, leads_on}
 use Rattle.tib_table.proofs.Inserted.{Inserted, inserted}
 use Rattle.tib_hunt.proofs.KnownEnds.{got_left}

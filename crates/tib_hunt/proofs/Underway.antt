@@ -7,21 +7,21 @@ use Rattle.std.proofs.lemmas.Bool.Decides.{nat_tests}
 use Rattle.tib_lex.specs.Lists.{Has, Distinct, Along, total}
 use Rattle.tib_table.specs.Known.{on}
 use Rattle.tib_table.specs.declared.number.Number.{Number}
-use Rattle.tib_hunt.specs.EdgeLists.{IsEnd, key_at}
-use Rattle.tib_hunt.specs.Reached.{IfTooMany, Operation, AfterRounds, IsReached, AreEdges, IsBeyond}
-use Rattle.tib_hunt.specs.Expanded.{IsEndAt}
-use Rattle.tib_hunt.specs.Numbered.{key_parts}
-use Rattle.tib_hunt.specs.Reading.{Reading}
+use Rattle.tib_expand.specs.EdgeLists.{IsEnd, key_at}
+use Rattle.tib_expand.specs.Reached.{IfTooMany, Operation, AfterRounds, IsReached, AreEdges, IsBeyond}
+use Rattle.tib_expand.specs.Expanded.{IsEndAt}
+use Rattle.tib_expand.specs.Keys.{key_parts}
+use Rattle.tib_expand.specs.Reading.{Reading}
 use Rattle.tib_hunt.specs.RoundModel.{Core, opened, IsItem, next_item, with_draw, with_key, with_filed}
 use Rattle.tib_hunt.specs.declared.event.Event.TheVariants.{Draw, File}
 use Rattle.tib_hunt.specs.RoundLaw.{IsKept}
 use Rattle.tib_hunt.specs.Shelved.{all_on, with_keys, NameOn, ShelvesHaveMore, IsShelvedRow, edges_of_rows, IsWorked, IsTooMuch, IsUnderway as Underway, IsKnownRow, AreWorked}
 use Rattle.tib_hunt.specs.Held.{IsBetween as Between, edges_so_far as all_edges}
-use Rattle.tib_table.specs.declared.error.HuntError.{HuntError}
+use Rattle.tib_expand.specs.declared.error.HuntError.{HuntError}
 use Rattle.tib_crew.specs.declared.row.Row.{Row as ItemRow}
 use Rattle.tib_hunt.specs.Known.{NameEnds}
 use Rattle.tib_hunt.specs.declared.known.Ruled.{Ruled}
-use Rattle.tib_hunt.proofs.Reaching.{IfTooMany-weaker, IsHunt, beyond, beyond_more, in_reached}
+use Rattle.tib_expand.proofs.Reaching.{IfTooMany-weaker, IsHunt, beyond, beyond_more, in_reached}
 use Rattle.tib_hunt.proofs.Holding.{leads_on}
 use Rattle.tib_table.proofs.Inserted.{any_has, not_any}
 use Rattle.tib_table.proofs.Sights.{along_snoc}

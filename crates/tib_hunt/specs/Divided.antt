@@ -3,7 +3,7 @@ use Rattle.std.specs.Prelude.{ℕ, ◌+◌, List, length, map}
 use Rattle.tib_lex.specs.Lists.{Each}
 use Rattle.tib_crew.specs.declared.row.Row.{Row as ItemRow}
 use Rattle.tib_hunt.specs.Known.{AreOn}
-use Rattle.tib_hunt.specs.Reading.{Reading}
+use Rattle.tib_expand.specs.Reading.{Reading}
 use Rattle.tib_hunt.specs.Rows.{IsRowBelow, ReadAs, StayBelow}
 use Rattle.tib_hunt.specs.Shelved.{placed_row}
 use Rattle.tib_hunt.specs.declared.known.Ruled.{Ruled}

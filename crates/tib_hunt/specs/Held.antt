@@ -1,19 +1,14 @@
 -- What is held while an operation is hunted.
 use Rattle.std.specs.Prelude.{◌≡◌, ℕ, ◌+◌, ◌<◌, ◌≤◌, List, [], ◌++◌, length, map, slice_index_or}
 use Rattle.tib_lex.specs.Lists.{Has, Each, Distinct, total}
-use Rattle.tib_hunt.specs.EdgeLists.{IsEnd}
-use Rattle.tib_hunt.specs.Reached.{Operation, IsNew, AfterRounds, IsReached, AreEdges}
-use Rattle.tib_hunt.specs.Reading.{Reading}
-use Rattle.tib_hunt.specs.Rows.{NumberedRow, read_rows, IsRowBelow, AreBelow}
+use Rattle.tib_expand.specs.EdgeLists.{IsEnd}
+use Rattle.tib_expand.specs.Reached.{Operation, IsNew, AfterRounds, IsReached, AreEdges}
+use Rattle.tib_expand.specs.Reading.{Reading, AreBelow}
+use Rattle.tib_hunt.specs.Rows.{NumberedRow, read_rows, IsRowBelow}
 
 -- the key of a number, where the numbers are indexes in a list of keys
 abbrev pub at : {K : Type 0} → K → List K → ℕ → K
 at d keys n = slice_index_or keys n d
-
--- `order` is the front of each reached order, and all `keys` are in that
-pub record Leads {K O E : Type 0} (p : Operation K O E) (order keys : List K) : Type 0 where
-  pub front : (whole : List K) → IsReached p whole → (rest : List K) × (whole ≡ order ++ rest)
-  pub stand : (whole : List K) → IsReached p whole → (k : K) → Has keys k → Has whole k
 
 module _ {K O E R T : Type 0} (p : Operation K O E) (admits : K → Type 0) (reading : Reading K E R T) where
   -- the edges of the settled rules, and then those of the rows

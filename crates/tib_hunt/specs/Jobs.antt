@@ -5,13 +5,13 @@ use Rattle.std.specs.List.{All}
 use Rattle.std.proofs.Common.{arith}
 use Rattle.tib_lex.specs.Lists.{Has, Each}
 use Rattle.tib_lex.proofs.Members.{has_at}
-use Rattle.tib_hunt.specs.EdgeLists.{AreListed, Exceeds}
-use Rattle.tib_hunt.specs.Expanded.{IsEndAt}
+use Rattle.tib_expand.specs.EdgeLists.{AreListed, Exceeds}
+use Rattle.tib_expand.specs.Expanded.{IsEndAt}
 use Rattle.tib_hunt.specs.Known.{AreSplit, split_has, split_lacks}
 use Rattle.tib_hunt.specs.declared.known.EndAt.{EndAt}
 use Rattle.tib_hunt.specs.declared.known.Ruled.{Ruled}
-use Rattle.tib_hunt.specs.Reached.{Operation}
-use Rattle.tib_hunt.specs.Reading.{Reading}
+use Rattle.tib_expand.specs.Reached.{Operation}
+use Rattle.tib_expand.specs.Reading.{Reading}
 use Rattle.tib_hunt.specs.RoundModel.{IsItem}
 
 -- The data of a round are its problem, the order, and the first position that is not expanded. Its

@@ -1,12 +1,6 @@
-pub mod EdgeLists
-pub mod Reached
-pub mod Reading
-pub mod Expanded
 pub mod Numbered
-pub mod Lawful
 pub mod Rows
 pub mod Held
-pub mod Found
 pub mod RoundModel
 pub mod Known
 pub mod RoundLaw

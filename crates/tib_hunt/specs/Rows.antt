@@ -1,10 +1,10 @@
 -- Rows of rules whose ends have numbers.
 use Rattle.std.specs.Prelude.{◌≡◌, ℕ, ◌<◌, ◌≤◌, List, [], ◌∷◌, ◌++◌, map, length}
 use Rattle.tib_lex.specs.Lists.{Each}
-use Rattle.tib_hunt.specs.EdgeLists.{position_of, IsWithin}
+use Rattle.tib_expand.specs.EdgeLists.{position_of, IsWithin}
 use Rattle.tib_hunt.specs.Numbered.{moved_to}
-use Rattle.tib_hunt.specs.Reading.{Reading}
-use Rattle.tib_hunt.specs.declared.place.Place.{Place}
+use Rattle.tib_expand.specs.Reading.{Reading}
+use Rattle.tib_expand.specs.declared.place.Place.{Place}
 use Rattle.tib_hunt.specs.declared.row.Row.{Row}
 
 -- a row: its rules, one for each edge, and the numbers of its ends
@@ -30,10 +30,6 @@ module _ {R K E : Type 0} (read : (Place → K) → R → E) (at : ℕ → K) wh
 -- bound
 abbrev pub IsRowBelow : {R : Type 0} → (R → List Place) → ℕ → ℕ → NumberedRow R → Type 0
 IsRowBelow places first bound row = Each (λ rule. Each (IsWithin first (length row.ends)) (places rule)) row.rules × Each (λ n. n < bound) row.ends
-
--- each position in the rules is below the bound
-abbrev pub AreBelow : {T : Type 0} → (T → List ℕ) → ℕ → List T → Type 0
-AreBelow positions bound rules = Each (λ rule. Each (λ n. n < bound) (positions rule)) rules
 
 -- the new rules are the old ones and then those over places, in which each end has its position
 pub record Settles {K E R T : Type 0} (reading : Reading K E R T) (ends : List ℕ) (old : List T) (over : List R) (new : List T) : Type 0 where

@@ -6,15 +6,15 @@ use Rattle.tib_table.specs.Known.{on}
 use Rattle.tib_crew.specs.declared.row.Row.{Row as ItemRow}
 pub use Rattle.tib_crew.specs.Rows.{NameOn}
 pub use Rattle.tib_table.specs.Numbered.{all_on}
-use Rattle.tib_hunt.specs.EdgeLists.{AreListed, Exceeds, IsEnd, IsWithin, key_at}
-use Rattle.tib_hunt.specs.Reached.{Operation, AreEdges}
-use Rattle.tib_hunt.specs.Reading.{Reading}
+use Rattle.tib_expand.specs.EdgeLists.{AreListed, Exceeds, IsEnd, IsWithin, key_at}
+use Rattle.tib_expand.specs.Reached.{Operation, AreEdges}
+use Rattle.tib_expand.specs.Reading.{Reading}
 use Rattle.tib_hunt.specs.Known.{NameEnds, end_positions}
 use Rattle.tib_hunt.specs.declared.known.Ruled.{Ruled}
 use Rattle.tib_hunt.specs.Rows.{NumberedRow}
 use Rattle.tib_hunt.specs.RoundModel.{Core, with_key, with_filed}
 use Rattle.tib_hunt.specs.RoundLaw.{IsKept}
-use Rattle.tib_hunt.specs.declared.place.Place.{Place}
+use Rattle.tib_expand.specs.declared.place.Place.{Place}
 
 module _ {K : Type 0} where
   -- no key on the shelves is one of the order

@@ -2,8 +2,8 @@
 use Rattle.std.specs.Prelude.{◌≡◌, ℕ, Bool, List, [], ◌∷◌, ◌++◌, length, map}
 use Rattle.std.specs.declared.cmp.Ordering.{Ordering}
 use Rattle.tib_lex.specs.Lists.{Each, Along}
-use Rattle.tib_hunt.specs.Reached.{Operation}
-use Rattle.tib_hunt.specs.Reading.{Reading}
+use Rattle.tib_expand.specs.Reached.{Operation}
+use Rattle.tib_expand.specs.Reading.{Reading}
 use Rattle.tib_hunt.specs.Numbered.{Name, IsInOrder}
 use Rattle.tib_hunt.specs.Rows.{NumberedRow, ReadAs, StayBelow}
 use Rattle.tib_hunt.specs.Held.{IsBetween, IsWithinRound}
@@ -12,7 +12,7 @@ use Rattle.tib_hunt.specs.Shelved.{placed_row, IsWorked, AreWorked, AreApart}
 use Rattle.tib_hunt.specs.RoundModel.{Core}
 use Rattle.tib_hunt.specs.declared.hunting.HuntState.{HuntState}
 use Rattle.tib_hunt.specs.declared.hunting.TakenIn.{TakenIn}
-use Rattle.tib_hunt.specs.declared.place.Edges.{Edges}
+use Rattle.tib_expand.specs.declared.place.Edges.{Edges}
 use Rattle.tib_hunt.specs.declared.row.Row.{Row}
 use Rattle.tib_hunt.specs.declared.working.Work.{Work}
 use Rattle.tib_hunt.specs.declared.working.Worked.{Worked}

@@ -9,7 +9,7 @@ ghost use Rattle.tib_hunt.specs.Rows.{IsRowBelow, ReadAs, StayBelow};
 ghost use Rattle.tib_hunt.specs.Known.{AreOn};
 ghost use Rattle.tib_hunt.specs.Shelved.{placed_row};
 
-use crate::expand::Expand;
+use tib_expand::Expand;
 use crate::known::Ruled;
 use crate::placing::place_rows;
 use std::alloc::{AllocError, Global};

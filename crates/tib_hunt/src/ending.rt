@@ -3,19 +3,20 @@
 
 ghost use Rattle.std.specs.Prelude.{◌≡◌, ◌≤◌, ◌<◌, ◌^◌, ◌++◌, [], length, IfErr, OnOk};
 ghost use Rattle.tib_lex.specs.Lists.{Each, Distinct};
-ghost use Rattle.tib_hunt.specs.Reached.{IfTooMany, IsBeyond, most_parts};
+ghost use Rattle.tib_expand.specs.Reached.{IfTooMany, IsBeyond, most_parts};
 ghost use Rattle.tib_hunt.specs.Numbered.{placed, keys_of};
 ghost use Rattle.tib_hunt.specs.Rows.{IsRowBelow};
 ghost use Rattle.tib_hunt.specs.States.{AreSettled, IsBetweenRounds, WorksRound, HavePositions, LacksAll, rows_in};
 
 use crate::dividing::place_together;
-use crate::expand::Expand;
+use tib_expand::Expand;
 use crate::hunting::{HuntState, TakenIn};
 use crate::placing::place_rows;
 use crate::working::Worked;
 use std::alloc::{AllocError, Global};
 use std::thread::Threads;
-use tib_table::{HuntError, Lookup, put_fresh, put_fresh_together};
+use tib_expand::HuntError;
+use tib_table::{Lookup, put_fresh, put_fresh_together};
 
 impl<E: Expand> HuntState<E> {
     // Appends the fresh keys in ascending order, and settles the rules of the rows.

@@ -1,16 +1,16 @@
 //! A round of few items, on one list of keys: it opens no shelves.
 
 ghost use Rattle.std.specs.Prelude.{◌≡◌, ◌≤◌, [], length, map, IfErr, OnOk};
-ghost use Rattle.tib_hunt.specs.Reached.{IfTooMany, IsBeyond, most_parts};
+ghost use Rattle.tib_expand.specs.Reached.{IfTooMany, IsBeyond, most_parts};
 ghost use Rattle.tib_hunt.specs.Rows.{numbered};
 ghost use Rattle.tib_hunt.specs.States.{IsBetweenRounds, IsExpanded};
 
-use crate::expand::Expand;
-use crate::found::Gate;
+use tib_expand::Expand;
+use tib_expand::Gate;
 use crate::hunting::HuntState;
-use crate::place::ExpandError;
+use tib_expand::ExpandError;
 use std::alloc::Global;
-use tib_table::{HuntError, TableKey};
+use tib_expand::{HuntError, TableKey};
 
 // Expands the positions of the order from `first` on. Their ends are numbered on from the order, as
 // they are found.

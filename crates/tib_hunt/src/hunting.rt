@@ -5,23 +5,23 @@ ghost use Rattle.std.specs.Prelude.{◌≡◌, ◌+◌, ◌≤◌, ◌<◌, ◌^
 ghost use Rattle.indexmap.specs.IndexSet.{insert_all};
 ghost use Rattle.tib_lex.specs.Lists.{Has, Each, Distinct, total};
 ghost use Rattle.tib_table.specs.Lookups.{IsNeedless};
-ghost use Rattle.tib_hunt.specs.Reached.{IfTooMany, IsBeyond, most_parts};
-ghost use Rattle.tib_hunt.specs.Numbered.{key_parts, HaveMore, AddsParts, placed, keys_of};
+ghost use Rattle.tib_expand.specs.Reached.{IfTooMany, IsBeyond, most_parts};
+ghost use Rattle.tib_hunt.specs.Numbered.{HaveMore, AddsParts, placed, keys_of};
+ghost use Rattle.tib_expand.specs.Keys.{key_parts};
 ghost use Rattle.tib_hunt.specs.Rows.{numbered, IsRowBelow};
 ghost use Rattle.tib_hunt.specs.Shelved.{all_on};
 ghost use Rattle.tib_hunt.specs.States.{AddsEdges, AreSettled, IsBetweenRounds, IsExpanded, WorksRound, shelves_of, ArePlaced, HavePositions, LacksAll, rows_in};
 
-use crate::expand::Expand;
+use tib_expand::Expand;
 use crate::known::Ruled;
-use crate::place::{Edges, ExpandError};
+use tib_expand::{Edges, ExpandError};
 use crate::row::{Row, settle_rows};
 use crate::working::Worked;
 use indexmap::IndexSet;
 use std::alloc::{AllocError, Global};
 use tib_crew::Row as ItemRow;
-use tib_table::{
-    HuntError, Lookup, TableKey, count_keys, find_shelves, number_ends, put_fresh, sort_new,
-};
+use tib_expand::{HuntError, TableKey};
+use tib_table::{Lookup, count_keys, find_shelves, number_ends, put_fresh, sort_new};
 
 /// The keys so far, the rules over their positions, the rows of the round, and the parts of all.
 #[derive(Drop)]

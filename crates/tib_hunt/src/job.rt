@@ -2,10 +2,10 @@
 
 ghost use Rattle.std.specs.Prelude.{◌≤◌, ◌<◌, ◌^◌, length};
 
-use crate::expand::Expand;
-use crate::found::Gate;
+use tib_expand::Expand;
+use tib_expand::Gate;
 use crate::known::{Ruled, split_ends};
-use crate::place::ExpandError;
+use tib_expand::ExpandError;
 use indexmap::IndexSet;
 use std::alloc::Global;
 use std::collections::LinkedList;

@@ -6,7 +6,8 @@ ghost use Rattle.tib_hunt.specs.Known.{AreSplit};
 
 use indexmap::IndexSet;
 use std::alloc::{AllocError, Global};
-use tib_table::{TableKey, find_position};
+use tib_expand::TableKey;
+use tib_table::find_position;
 
 /// Where an end of an item is: at a position of the order, or it has the next of the numbers on the
 /// shelves.

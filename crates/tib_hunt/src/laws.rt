@@ -3,7 +3,7 @@
 ghost use Rattle.std.specs.Prelude.{length, ◌-◌};
 ghost use Rattle.tib_hunt.specs.RoundLaw.{EveryRun, TwoRuns};
 
-use crate::expand::Expand;
+use tib_expand::Expand;
 use crate::round_of::RoundOf;
 
 /// After every complete run of a round's events each item was drawn once and filed once, and the

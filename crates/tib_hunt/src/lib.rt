@@ -7,15 +7,12 @@
 mod dividing;
 mod ending;
 mod event;
-mod expand;
 mod few;
-mod found;
 mod hunting;
 mod itemized;
 mod job;
 mod known;
 pub mod laws;
-mod place;
 mod placing;
 mod reach;
 mod round;
@@ -27,11 +24,7 @@ mod working;
 mod works;
 
 pub use event::{Answer, Event};
-pub use expand::Expand;
-pub use found::{Found, Gate, Open};
 pub use itemized::Itemized;
-pub use place::{Edges, ExpandError, Place};
-pub use reach::{MOST_PARTS, hunt, hunt_alone, hunts_have_a_limit};
+pub use reach::{hunt, hunt_alone};
 pub use round::Round;
 pub use round_of::RoundOf;
-pub use tib_table::{HuntError, TableKey};

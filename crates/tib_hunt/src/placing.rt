@@ -8,7 +8,7 @@ ghost use Rattle.tib_hunt.specs.Rows.{IsRowBelow, ReadsRow, ReadAs, StayBelow};
 ghost use Rattle.tib_hunt.specs.Known.{position_on, IsOn, positions_at, HavePositionsAt, end_positions, AreOn};
 ghost use Rattle.tib_hunt.specs.Shelved.{placed_row};
 
-use crate::expand::Expand;
+use tib_expand::Expand;
 use crate::known::{EndAt, Ruled};
 use crate::row::{move_end, settle_rules};
 use std::alloc::{AllocError, Global};

@@ -1,26 +1,18 @@
 //! The reached set of an operation, found round by round.
 
 ghost use Rattle.std.specs.Prelude.{◌≡◌, ◌≤◌, ℕ, [], length, IfOk, IfErr};
-ghost use Rattle.tib_hunt.specs.Found.{IsFound, AreWithinOrder, HasParts};
-ghost use Rattle.tib_hunt.specs.Reached.{IfTooMany, IsBeyond, most_parts};
+ghost use Rattle.tib_expand.specs.Found.{IsFound, AreWithinOrder, HasParts};
+ghost use Rattle.tib_expand.specs.Reached.{IfTooMany, IsBeyond, most_parts};
 ghost use Rattle.tib_hunt.specs.States.{IsBetweenRounds};
 
-use crate::expand::Expand;
-use crate::found::{Found, Gate};
+use tib_expand::Expand;
+use tib_expand::{Found, Gate};
 use crate::hunting::{HuntState, list_keys};
 use crate::works::{round_alone, round_together};
 use std::alloc::{AllocError, Global};
 use std::sync::Wait;
 use std::thread::Threads;
-use tib_table::HuntError;
-
-/// The greatest limit of parts.
-pub const MOST_PARTS: u64 = 20_000_000;
-
-/// Law: this constant is the limit that clauses cite.
-pub fn hunts_have_a_limit()
-    ensures { MOST_PARTS ≡ most_parts }
-{}
+use tib_expand::HuntError;
 
 /// A round of at least this many items opens shelves. There are as many shelves.
 const MANY: usize = 16;

@@ -11,7 +11,8 @@ use crate::event::{Answer, Event};
 use crate::itemized::Itemized;
 use std::alloc::{AllocError, Global};
 use std::marker::Model;
-use tib_table::{Number, Shelf, TableKey};
+use tib_expand::TableKey;
+use tib_table::{Number, Shelf};
 
 /// How many shelves a round has.
 const SHELVES: u32 = 16;

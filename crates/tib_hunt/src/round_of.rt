@@ -2,7 +2,7 @@
 
 ghost use Rattle.std.specs.Prelude.{◌≤◌, ◌<◌, ◌^◌, length};
 
-use crate::expand::Expand;
+use tib_expand::Expand;
 use crate::itemized::Itemized;
 use std::collections::LinkedList;
 use tib_table::Problem;
@@ -23,7 +23,7 @@ pub struct RoundOf<'a, E: Expand> {
 
 impl<'a, E: Expand> Problem for RoundOf<'a, E> {
     ghost use Rattle.std.specs.Prelude.{ℕ, ◌-◌, length};
-    ghost use Rattle.tib_hunt.specs.Expanded.{IsEndAt};
+    ghost use Rattle.tib_expand.specs.Expanded.{IsEndAt};
     ghost use Rattle.tib_hunt.specs.RoundModel.{IsItem};
 
     type Key = E::Key;
@@ -37,7 +37,7 @@ impl<'a, E: Expand> Problem for RoundOf<'a, E> {
 
 impl<'a, E: Expand> Itemized for RoundOf<'a, E> {
     ghost use Rattle.std.specs.Prelude.{◌-◌, length};
-    ghost use Rattle.tib_hunt.specs.Expanded.{IsEndAt};
+    ghost use Rattle.tib_expand.specs.Expanded.{IsEndAt};
 
     ghost first_of = { λ d. d.2 };
 

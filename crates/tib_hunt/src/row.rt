@@ -2,11 +2,11 @@
 
 ghost use Rattle.std.specs.Prelude.{◌≡◌, ◌+◌, ◌<◌, ℕ, length, map, OnOk};
 ghost use Rattle.tib_lex.specs.Lists.{Each};
-ghost use Rattle.tib_hunt.specs.EdgeLists.{IsWithin};
+ghost use Rattle.tib_expand.specs.EdgeLists.{IsWithin};
 ghost use Rattle.tib_hunt.specs.Numbered.{moved_to};
 ghost use Rattle.tib_hunt.specs.Rows.{numbered, IsRowBelow, Settles, ReadsRow, ReadAs, StayBelow};
 
-use crate::expand::Expand;
+use tib_expand::Expand;
 use std::alloc::{AllocError, Global};
 
 /// Edges whose ends have numbers, and no positions yet.

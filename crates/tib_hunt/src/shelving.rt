@@ -3,8 +3,8 @@
 ghost use Rattle.std.specs.Prelude.{◌≡◌, ℕ, ◌≤◌, ◌<◌, length, IfOk, IfErr, OnOk};
 ghost use Rattle.tib_lex.specs.Lists.{Has, total};
 ghost use Rattle.tib_table.specs.Known.{Names, on};
-ghost use Rattle.tib_hunt.specs.Numbered.{key_parts};
-ghost use Rattle.tib_hunt.specs.Reached.{IfTooMany, most_parts};
+ghost use Rattle.tib_expand.specs.Keys.{key_parts};
+ghost use Rattle.tib_expand.specs.Reached.{IfTooMany, most_parts};
 ghost use Rattle.tib_hunt.specs.RoundModel.{IsItem, next_item, with_draw, with_key, with_filed};
 ghost use Rattle.tib_hunt.specs.Shelved.{all_on, with_keys, NameOn, ShelvesHaveMore};
 
@@ -12,7 +12,8 @@ use crate::event::{Answer, Event};
 use crate::itemized::Itemized;
 use crate::round::Round;
 use std::alloc::{AllocError, Global};
-use tib_table::{HuntError, Number, TableKey};
+use tib_expand::{HuntError, TableKey};
+use tib_table::Number;
 
 /// Draws the next item of a round, or None if all are drawn. Err if memory is refused.
 pub(crate) fn draw_item<P: Itemized>(round: &mut Round<P>) -> Result<Option<u32>, AllocError>

@@ -4,11 +4,11 @@
 ghost use Rattle.std.specs.Prelude.{◌≡◌, ◌≤◌, List, IfOk, IfErr};
 ghost use Rattle.tib_crew.specs.Rows.{parts_in};
 ghost use Rattle.tib_hunt.specs.Held.{IsBetween};
-ghost use Rattle.tib_hunt.specs.Reached.{IfTooMany, IsBeyond, most_parts};
+ghost use Rattle.tib_expand.specs.Reached.{IfTooMany, IsBeyond, most_parts};
 ghost use Rattle.tib_hunt.specs.States.{WorksRound, LacksAll};
 
-use crate::expand::Expand;
-use crate::found::Gate;
+use tib_expand::Expand;
+use tib_expand::Gate;
 use crate::job::JobOf;
 use crate::working::Worked;
 use indexmap::IndexSet;
@@ -16,7 +16,7 @@ use std::alloc::Global;
 use std::sync::Wait;
 use std::thread::Threads;
 use tib_crew::{Gathered, Row, Unperformed, perform_all};
-use tib_table::HuntError;
+use tib_expand::HuntError;
 
 // The parts of all rows.
 fn count_parts<T>(rows: &[Row<T>]) -> u64

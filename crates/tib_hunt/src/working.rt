@@ -3,25 +3,25 @@
 
 ghost use Rattle.std.specs.Prelude.{◌≡◌, ◌-◌, ◌≤◌, List, length, IfOk, IfErr, OnOk};
 ghost use Rattle.tib_lex.specs.Lists.{Has, Each, total};
-ghost use Rattle.tib_hunt.specs.Expanded.{IsEndAt};
+ghost use Rattle.tib_expand.specs.Expanded.{IsEndAt};
 ghost use Rattle.tib_hunt.specs.Held.{IsBetween};
-ghost use Rattle.tib_hunt.specs.Numbered.{key_parts};
-ghost use Rattle.tib_hunt.specs.Reached.{IfTooMany, IsBeyond, most_parts};
+ghost use Rattle.tib_expand.specs.Keys.{key_parts};
+ghost use Rattle.tib_expand.specs.Reached.{IfTooMany, IsBeyond, most_parts};
 ghost use Rattle.tib_hunt.specs.RoundLaw.{IsKept};
 ghost use Rattle.tib_hunt.specs.RoundModel.{IsItem};
 ghost use Rattle.tib_hunt.specs.Shelved.{all_on, IsTooMuch};
 ghost use Rattle.tib_hunt.specs.States.{WorksItem, WorksRound};
 
-use crate::expand::Expand;
-use crate::found::Gate;
+use tib_expand::Expand;
+use tib_expand::Gate;
 use crate::known::Ruled;
-use crate::place::ExpandError;
+use tib_expand::ExpandError;
 use crate::round::Round;
 use crate::round_of::RoundOf;
 use crate::shelving::{draw_item, file_item, shelve_ends};
 use std::alloc::Global;
 use tib_crew::Row;
-use tib_table::{HuntError, TableKey};
+use tib_expand::{HuntError, TableKey};
 
 /// What a round makes: the keys on its shelves, the rows of its items, and the parts of all that
 /// was there before and of these rows.

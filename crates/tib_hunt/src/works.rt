@@ -1,19 +1,19 @@
 //! One round of a hunt, from its first item to its keys in order, by one worker or by several.
 
 ghost use Rattle.std.specs.Prelude.{◌≡◌, ◌≤◌, [], length, IfErr, OnOk};
-ghost use Rattle.tib_hunt.specs.Reached.{IfTooMany, IsBeyond, most_parts};
+ghost use Rattle.tib_expand.specs.Reached.{IfTooMany, IsBeyond, most_parts};
 ghost use Rattle.tib_hunt.specs.States.{IsBetweenRounds};
 
-use crate::expand::Expand;
+use tib_expand::Expand;
 use crate::few::round_of_few;
-use crate::found::Gate;
+use tib_expand::Gate;
 use crate::hunting::HuntState;
 use crate::together::work_together;
 use crate::working::work_round;
 use std::alloc::Global;
 use std::sync::Wait;
 use std::thread::Threads;
-use tib_table::HuntError;
+use tib_expand::HuntError;
 
 /// Works the round that begins at the position `first` by one worker, on shelves if it has at least
 /// `many` items, and otherwise on one list. The outcome is the same. `TooMany` only if the reached

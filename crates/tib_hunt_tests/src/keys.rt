@@ -1,7 +1,7 @@
 // A key of two numbers, the first of which says the shelf.
 ghost use Rattle.std.specs.Prelude.{◌≡◌};
 
-use tib_table::TableKey;
+use tib_expand::TableKey;
 
 #[derive(Clone, Copy, Debug, Drop, PartialEq, Eq, PartialOrd, Ord, Hash)]
 pub(crate) struct Pair {

@@ -2,18 +2,17 @@
 ghost use Rattle.std.specs.Prelude.{◌≡◌, ◌<◌, ◌≤◌, ◌+◌, ◌-◌, ℕ, [], ◌∷◌, length, IfOk, IfErr, OnOk};
 ghost use Rattle.tib_lex.specs.Lists.{Has};
 ghost use Rattle.tib_table.specs.Known.{on};
-ghost use Rattle.tib_hunt.specs.EdgeLists.{IsWithin, position_of};
-ghost use Rattle.tib_hunt.specs.Reached.{most_parts};
+ghost use Rattle.tib_expand.specs.EdgeLists.{IsWithin, position_of};
+ghost use Rattle.tib_expand.specs.Reached.{most_parts};
 ghost use Rattle.tib_hunt.specs.RoundModel.{opened};
-ghost use Rattle.tib_hunt.specs.declared.place.Place.{Place};
+ghost use Rattle.tib_expand.specs.declared.place.Place.{Place};
 ghost use Rattle.std.proofs.Common.{◌∙◌, sym};
 
 use std::alloc::{AllocError, Global};
-use tib_hunt::{
-    Answer, Edges, Event, Expand, ExpandError, Found, HuntError, Itemized, Open, Place, Round,
-    RoundOf, hunt_alone,
-};
-use tib_table::{Number, Problem, TableKey};
+use tib_expand::{Edges, Expand, ExpandError, Found, HuntError, Open, Place};
+use tib_hunt::{Answer, Event, Itemized, Round, RoundOf, hunt_alone};
+use tib_expand::TableKey;
+use tib_table::{Number, Problem};
 
 #[derive(Clone, Copy, Debug, Drop, PartialEq, Eq, PartialOrd, Ord, Hash)]
 pub(crate) struct Node {
@@ -46,8 +45,8 @@ struct Sevens;
 
 impl Expand for Sevens {
     ghost use Rattle.std.specs.Prelude.{◌≡◌, [], ◌∷◌, refl};
-    ghost use Rattle.tib_hunt.specs.Numbered.{key_parts};
-    ghost use Rattle.tib_hunt.specs.Reached.{operation};
+    ghost use Rattle.tib_expand.specs.Keys.{key_parts};
+    ghost use Rattle.tib_expand.specs.Reached.{operation};
 
     type Key = Node;
 
@@ -245,8 +244,8 @@ struct Fans;
 
 impl Expand for Fans {
     ghost use Rattle.std.specs.Prelude.{◌≡◌, ◌<◌, ◌+◌, ◌-◌, [], ◌∷◌, refl};
-    ghost use Rattle.tib_hunt.specs.Numbered.{key_parts};
-    ghost use Rattle.tib_hunt.specs.Reached.{operation};
+    ghost use Rattle.tib_expand.specs.Keys.{key_parts};
+    ghost use Rattle.tib_expand.specs.Reached.{operation};
 
     type Key = Node;
 

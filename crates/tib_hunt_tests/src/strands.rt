@@ -2,8 +2,8 @@
 //! passes of their gate; and hunts that must agree: on shelves and on one list, by one worker and
 //! by several.
 ghost use Rattle.std.specs.Prelude.{◌≡◌, ◌<◌, ◌≤◌, ◌+◌, ◌*◌, [], ◌∷◌, IfOk, IfErr};
-ghost use Rattle.tib_hunt.specs.Reached.{most_parts};
-ghost use Rattle.tib_hunt.specs.declared.place.Place.{Place};
+ghost use Rattle.tib_expand.specs.Reached.{most_parts};
+ghost use Rattle.tib_expand.specs.declared.place.Place.{Place};
 ghost use Rattle.std.proofs.Common.{◌∙◌, sym};
 
 use crate::small::{Node, position_at};
@@ -11,10 +11,9 @@ use std::alloc::{AllocError, Global};
 use std::sync::Wait;
 use std::sync::atomic::{AtomicU64, Ordering};
 use std::thread::Threads;
-use tib_hunt::{
-    Edges, Expand, ExpandError, Found, Gate, HuntError, MOST_PARTS, Open, Place, hunt, hunt_alone,
-};
-use tib_table::TableKey;
+use tib_expand::{Edges, Expand, ExpandError, Found, Gate, HuntError, MOST_PARTS, Open, Place};
+use tib_hunt::{hunt, hunt_alone};
+use tib_expand::TableKey;
 
 /// An operation whose seed is the node 0, and of which each position n below the length has one
 /// edge, to the nodes `times` * n + 1 and `times` * n + 2. So the order is that of all numbers; at
@@ -29,8 +28,8 @@ struct Strands {
 
 impl Expand for Strands {
     ghost use Rattle.std.specs.Prelude.{◌≡◌, ◌<◌, ◌+◌, ◌*◌, [], ◌∷◌, refl};
-    ghost use Rattle.tib_hunt.specs.Numbered.{key_parts};
-    ghost use Rattle.tib_hunt.specs.Reached.{operation};
+    ghost use Rattle.tib_expand.specs.Keys.{key_parts};
+    ghost use Rattle.tib_expand.specs.Reached.{operation};
 
     type Key = Node;
 

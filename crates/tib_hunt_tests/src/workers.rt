@@ -16,8 +16,9 @@ use std::marker::Model;
 use std::sync::Wait;
 use std::sync::atomic::{AtomicU64, Ordering};
 use std::thread::Threads;
-use tib_hunt::{Edges, Expand, ExpandError, Open, hunt};
-use tib_table::TableKey;
+use tib_expand::{Edges, Expand, ExpandError, Open};
+use tib_hunt::hunt;
+use tib_expand::TableKey;
 
 /// How often a worker looks for another before it gives up.
 const TURNS: u32 = 200_000_000;
@@ -181,8 +182,8 @@ impl<'a> Meeting<'a> {
 impl<'a> Expand for Meeting<'a> {
     ghost use Rattle.std.specs.Prelude.{refl};
     ghost use Rattle.tib_lex.specs.Lists.{Has};
-    ghost use Rattle.tib_hunt.specs.Numbered.{key_parts};
-    ghost use Rattle.tib_hunt.specs.Reached.{operation};
+    ghost use Rattle.tib_expand.specs.Keys.{key_parts};
+    ghost use Rattle.tib_expand.specs.Reached.{operation};
 
     type Key = Flagged<'a>;
 

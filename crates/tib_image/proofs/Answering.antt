@@ -5,8 +5,8 @@ use Rattle.std.proofs.lemmas.List.{length-map}
 use Rattle.tib_tree.specs.Trees.{Tree}
 use Rattle.tib_grammar.specs.GrammarOf.{named_rule}
 use Rattle.tib_grammar.specs.declared.Rule.{Rule}
-use Rattle.tib_hunt.specs.Reached.{IsReachedSet, IsBeyond, parts_of}
-use Rattle.tib_hunt.specs.Numbered.{key_parts}
+use Rattle.tib_expand.specs.Reached.{IsReachedSet, IsBeyond, parts_of}
+use Rattle.tib_expand.specs.Keys.{key_parts}
 use Rattle.tib_keyed.specs.Ends.{key_at}
 use Rattle.tib_keyed.proofs.Limits.{each_counts}
 use Rattle.tib_transducer.specs.TransducerOf.{TransducerOf}

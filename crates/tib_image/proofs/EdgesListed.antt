@@ -5,7 +5,7 @@ use Rattle.std.proofs.lemmas.Bool.{cases_lt}
 use Rattle.tib_lex.specs.Lists.{Has, Distinct, Along}
 use Rattle.tib_grammar.specs.Sides.{Symbol, label, hole}
 use Rattle.tib_grammar.proofs.Members.{has_left, has_right, has_either}
-use Rattle.tib_hunt.specs.EdgeLists.{Lists}
+use Rattle.tib_expand.specs.EdgeLists.{Lists}
 use Rattle.tib_transducer.specs.declared.Variable.{Variable}
 use Rattle.tib_strings.specs.Rules.{string_rule}
 use Rattle.tib_apply.specs.Restrictions.{Admits}
@@ -17,7 +17,7 @@ use Rattle.tib_strings.specs.declared.StringRule.{StringRule}
 use Rattle.tib_lex.proofs.Numbers.{nat_eq_cases}
 use Rattle.tib_lex.proofs.Booleans.{bool_cases}
 use Rattle.tib_strings.proofs.CutLists.{stands_is, is_standing, cut_listed, listed_cut, cuts_once}
-use Rattle.tib_hunt.proofs.Members.{distinct_append}
+use Rattle.tib_expand.proofs.Members.{distinct_append}
 use Rattle.tib_keyed.proofs.Tagged.{has_tagged, tagged_has, tagged_once}
 
 -- the label at the root of a left-hand side that fits

@@ -3,8 +3,8 @@ use Rattle.std.specs.Prelude.{ℕ, ◌<◌, List, length}
 use Rattle.std.proofs.Common.{arith}
 use Rattle.tib_lex.specs.Lists.{Has}
 use Rattle.tib_grammar.specs.Sides.{holes_of}
-use Rattle.tib_hunt.specs.Reached.{IsReached}
-use Rattle.tib_hunt.specs.Numbered.{key_parts}
+use Rattle.tib_expand.specs.Reached.{IsReached}
+use Rattle.tib_expand.specs.Keys.{key_parts}
 use Rattle.tib_strings.specs.Range.{AreWithin}
 use Rattle.tib_image.specs.Restrictions.{restricted_labels}
 use Rattle.tib_image.specs.Parsing.{first_key, IsParseEdge}

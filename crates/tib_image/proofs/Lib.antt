@@ -9,7 +9,7 @@ pub mod Leaves
 pub mod Listed
 pub mod Matching
 pub mod Meaning
-mod ParseAnswering
+pub mod ParseAnswering
 mod ParseListed
 pub mod Parses
 pub mod ReachedParses

@@ -8,8 +8,8 @@ use Rattle.tib_grammar.specs.Sides.{holes_of}
 use Rattle.tib_grammar.specs.Range.{AreInRange}
 use Rattle.tib_grammar.specs.GrammarOf.{named_rule}
 use Rattle.tib_grammar.specs.declared.Rule.{Rule}
-use Rattle.tib_hunt.specs.Reached.{IsReachedSet}
-use Rattle.tib_hunt.specs.Numbered.{key_parts}
+use Rattle.tib_expand.specs.Reached.{IsReachedSet}
+use Rattle.tib_expand.specs.Keys.{key_parts}
 use Rattle.tib_image.specs.Parsing.{first_key, key_at, IsParseEdge, IsParseGrammar}
 use Rattle.tib_image.specs.ParseOperation.{key_cmp, key_entries, edge_parts, parse}
 use Rattle.tib_image.specs.ParseLaws.{same_edge}

@@ -5,7 +5,7 @@ use Rattle.tib_lex.specs.Lists.{Has, Along, total}
 use Rattle.tib_lex.proofs.Alongs.{along_of, total_fewer}
 use Rattle.tib_grammar.specs.Sides.{holes_of}
 use Rattle.tib_grammar.specs.declared.Rule.{Rule}
-use Rattle.tib_hunt.specs.EdgeLists.{IsEnd, Exceeds, AreListed, Lists}
+use Rattle.tib_expand.specs.EdgeLists.{IsEnd, Exceeds, AreListed, Lists}
 use Rattle.tib_strings.specs.declared.StringRule.{StringRule}
 use Rattle.tib_keyed.specs.declared.side_rule.SideRule.{SideRule}
 use Rattle.tib_keyed.specs.SideRules.{places_of, read_places, Reads}

@@ -10,9 +10,9 @@ use Rattle.tib_grammar.specs.Range.{AreInRange}
 use Rattle.tib_grammar.specs.GrammarOf.{named_rule}
 use Rattle.tib_grammar.specs.Series.{IsSeries}
 use Rattle.tib_grammar.specs.declared.Rule.{Rule}
-use Rattle.tib_hunt.specs.EdgeLists.{Lists}
-use Rattle.tib_hunt.specs.Reached.{Operation, IsReachedSet}
-use Rattle.tib_hunt.specs.Numbered.{key_parts}
+use Rattle.tib_expand.specs.EdgeLists.{Lists}
+use Rattle.tib_expand.specs.Reached.{Operation, IsReachedSet}
+use Rattle.tib_expand.specs.Keys.{key_parts}
 use Rattle.tib_keyed.specs.Keyed.{keyed}
 use Rattle.tib_keyed.specs.Ends.{key_at}
 use Rattle.tib_transducer.specs.Rules.{transducer_rule}

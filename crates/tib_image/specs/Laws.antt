@@ -8,8 +8,8 @@ use Rattle.tib_tree.specs.Trees.{Tree, size, only}
 use Rattle.tib_grammar.specs.Sides.{holes_of}
 use Rattle.tib_grammar.specs.declared.Rule.{Rule}
 use Rattle.tib_grammar.proofs.Sides.{holes-relabel}
-use Rattle.tib_hunt.specs.Lawful.{IsLawful}
-use Rattle.tib_hunt.specs.Reading.{Reading}
+use Rattle.tib_expand.specs.Lawful.{IsLawful}
+use Rattle.tib_expand.specs.Reading.{Reading}
 use Rattle.tib_keyed.specs.Ends.{key_at}
 use Rattle.tib_keyed.proofs.KeyOrders.{key_stays}
 use Rattle.tib_transducer.specs.Rules.{transducer_rule}

@@ -6,8 +6,8 @@ use Rattle.tib_strings.specs.Series.{IsStringSeries}
 use Rattle.tib_grammar.specs.GrammarOf.{named_rule}
 use Rattle.tib_grammar.specs.Range.{AreInRange}
 use Rattle.tib_grammar.specs.declared.Rule.{Rule}
-use Rattle.tib_hunt.specs.Reached.{IsReachedSet, IsBeyond, parts_of}
-use Rattle.tib_hunt.specs.declared.found.Found.{Found}
+use Rattle.tib_expand.specs.Reached.{IsReachedSet, IsBeyond, parts_of}
+use Rattle.tib_expand.specs.declared.found.Found.{Found}
 use Rattle.tib_transducer.specs.declared.error.ClassError.{ClassError}
 use Rattle.tib_transducer.specs.declared.error.ClassError.TheVariants.{Class as OfRule, OutOfMemory as OfMemory}
 use Rattle.tib_strings.specs.Faults.{IsFirstFault}

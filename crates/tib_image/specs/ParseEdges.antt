@@ -3,7 +3,7 @@ use Rattle.std.specs.Prelude.{ℕ, List, [], ◌++◌, length, map, Bool, true, 
 use Rattle.std.proofs.Common.{zero, suc}
 use Rattle.tib_grammar.specs.Sides.{Symbol, label, hole, side_map}
 use Rattle.tib_grammar.specs.declared.Rule.{Rule}
-use Rattle.tib_hunt.specs.EdgeLists.{Lists}
+use Rattle.tib_expand.specs.EdgeLists.{Lists}
 use Rattle.tib_transducer.specs.declared.Variable.{Variable}
 use Rattle.tib_strings.specs.Rules.{string_rule, pairs_of}
 use Rattle.tib_image.specs.Restrictions.{restricted_labels}

@@ -4,8 +4,8 @@ use Rattle.std.proofs.Common.{arith, ap, sym, ◌∙◌, subst, inl, inr}
 use Rattle.tib_lex.specs.Lists.{Has}
 use Rattle.tib_lex.proofs.Members.{each_has, has_at}
 use Rattle.tib_grammar.specs.declared.Rule.{Rule}
-use Rattle.tib_hunt.specs.Lawful.{IsLawful}
-use Rattle.tib_hunt.specs.Reading.{Reading}
+use Rattle.tib_expand.specs.Lawful.{IsLawful}
+use Rattle.tib_expand.specs.Reading.{Reading}
 use Rattle.tib_keyed.proofs.KeyOrders.{key_stays}
 use Rattle.tib_grammar.specs.Range.{AllBelow}
 use Rattle.tib_transducer.specs.declared.Variable.{Variable}

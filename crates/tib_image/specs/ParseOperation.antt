@@ -10,9 +10,9 @@ use Rattle.tib_grammar.specs.Range.{AreInRange}
 use Rattle.tib_grammar.specs.Series.{IsSeries}
 use Rattle.tib_grammar.specs.GrammarOf.{named_rule}
 use Rattle.tib_grammar.specs.declared.Rule.{Rule}
-use Rattle.tib_hunt.specs.Reached.{Operation, IsReached, IsReachedSet}
+use Rattle.tib_expand.specs.Reached.{Operation, IsReached, IsReachedSet}
 use Rattle.tib_keyed.specs.Keyed.{keyed}
-use Rattle.tib_hunt.specs.Numbered.{key_parts}
+use Rattle.tib_expand.specs.Keys.{key_parts}
 use Rattle.tib_strings.specs.Range.{AreWithin, AreShaped, AreLinear, AreNondeleting}
 use Rattle.tib_strings.specs.Series.{IsStringSeries}
 use Rattle.tib_image.specs.Restrictions.{restricted_labels}

@@ -9,7 +9,7 @@ use Rattle.tib_grammar.specs.Range.{AreInRange}
 use Rattle.tib_grammar.specs.GrammarOf.{named_rule}
 use Rattle.tib_grammar.specs.Series.{IsSeries}
 use Rattle.tib_grammar.specs.declared.Rule.{Rule}
-use Rattle.tib_hunt.specs.EdgeLists.{Lists}
+use Rattle.tib_expand.specs.EdgeLists.{Lists}
 use Rattle.tib_transducer.specs.declared.Variable.{Variable}
 use Rattle.tib_transducer.specs.declared.Pair.{Pair}
 use Rattle.tib_strings.specs.Rules.{string_rule, pairs_of}

@@ -1,6 +1,6 @@
 //! What the definitions give on a small transducer that copies, and one tree.
 ghost use Rattle.std.specs.Prelude.{◌≡◌, List, [], ◌∷◌, ◌+◌, map, Some, None};
-ghost use Rattle.tib_hunt.specs.Reached.{parts_of};
+ghost use Rattle.tib_expand.specs.Reached.{parts_of};
 ghost use Rattle.tib_grammar.specs.GrammarOf.{named_rule};
 ghost use Rattle.tib_keyed.specs.Ends.{key_at};
 ghost use Rattle.tib_transducer.specs.Rules.{transducer_rule};

@@ -5,7 +5,7 @@ use crate::operation::Image;
 use std::alloc::{AllocError, Global};
 use tib_cost::Semiring;
 use tib_grammar::Rule;
-use tib_hunt::{Edges, Expand, ExpandError};
+use tib_expand::{Edges, Expand, ExpandError};
 use tib_keyed::{SideRule, settled_side};
 use tib_transducer::Pair;
 

@@ -3,7 +3,7 @@
 ghost use Rattle.std.specs.Prelude.{◌≡◌};
 
 use std::marker::Model;
-use tib_hunt::TableKey;
+use tib_expand::TableKey;
 
 /// A state of the transducer and a node of the tree, by its number in preorder from 0.
 #[derive(Clone, Copy, Debug, Drop, PartialEq, Eq, PartialOrd, Ord, Hash)]

@@ -15,9 +15,7 @@ pub mod laws;
 mod listing;
 mod operation;
 pub mod parse;
-mod reached;
 mod walk;
 
 pub use key::Key;
 pub use operation::Image;
-pub use reached::{image, image_together};

@@ -2,7 +2,7 @@
 
 ghost use Rattle.std.specs.Prelude.{◌≡◌, ℕ, ◌<◌, ◌≤◌, ◌^◌, length, IfOk, OnOk, Err};
 ghost use Rattle.tib_tree.specs.Trees.{size, count};
-ghost use Rattle.tib_hunt.specs.Reached.{most_parts};
+ghost use Rattle.tib_expand.specs.Reached.{most_parts};
 ghost use Rattle.tib_transducer.specs.Rules.{transducer_rule};
 ghost use Rattle.tib_image.specs.Image.{IsImageEdge};
 ghost use Rattle.tib_image.specs.Nodes.{subtree};
@@ -15,7 +15,7 @@ use crate::key::Key;
 use crate::listing::{Listing, add_edge};
 use crate::walk::match_items;
 use std::alloc::{AllocError, Global};
-use tib_hunt::ExpandError;
+use tib_expand::ExpandError;
 use tib_keyed::ShapeIndex;
 use tib_transducer::Transducer;
 use tib_tree::{Label, Tree};

@@ -11,11 +11,9 @@ pub mod laws;
 mod listing;
 mod moves;
 mod operation;
-mod reached;
 mod readers;
 mod spans;
 
 pub use key::Key;
 pub use listing::ParseRule;
 pub use operation::Parse;
-pub use reached::{parse, parse_together};

@@ -11,7 +11,7 @@ use Rattle.tib_grammar.specs.Forms.{IsNormalSide}
 use Rattle.tib_grammar.proofs.NormalRuns.{label_named}
 use Rattle.tib_grammar.specs.declared.Rule.{Rule}
 use Rattle.tib_grammar.proofs.Sides.{holes_of-over}
-use Rattle.tib_hunt.specs.EdgeLists.{IsWithin, key_at}
+use Rattle.tib_expand.specs.EdgeLists.{IsWithin, key_at}
 use Rattle.tib_intersect.specs.declared.listing.Listing.{Listing}
 use Rattle.tib_intersect.specs.declared.pair_rule.PairRule.{PairRule}
 use Rattle.tib_intersect.specs.PairEdges.{IsPairEdge, ends_of, edge_parts}

@@ -5,9 +5,9 @@ use Rattle.tib_lex.specs.Lists.{Has, Distinct, Along, IsReordering}
 use Rattle.tib_grammar.specs.Sides.{holes, over}
 use Rattle.tib_grammar.specs.Run.{rule_at, no_rule}
 use Rattle.tib_grammar.specs.declared.Rule.{Rule}
-use Rattle.tib_hunt.specs.EdgeLists.{Lists}
-use Rattle.tib_hunt.specs.Reached.{IsNew, AfterRounds, IsReached, AreEdges, IsReachedSet}
-use Rattle.tib_hunt.proofs.Reaching.{in_reached}
+use Rattle.tib_expand.specs.EdgeLists.{Lists}
+use Rattle.tib_expand.specs.Reached.{IsNew, AfterRounds, IsReached, AreEdges, IsReachedSet}
+use Rattle.tib_expand.proofs.Reaching.{in_reached}
 use Rattle.tib_keyed.specs.Ends.{key_at as pair_at}
 use Rattle.tib_intersect.specs.PairEdges.{IsPairEdge}
 use Rattle.tib_intersect.specs.PairGrammar.{GivesEdge}

@@ -4,9 +4,9 @@ use Rattle.tib_lex.specs.Lists.{Distinct}
 use Rattle.tib_lex.specs.PairOrder.{pair_cmp}
 use Rattle.tib_lex.proofs.PairOrder.{pair_total}
 use Rattle.tib_grammar.specs.declared.Rule.{Rule}
-use Rattle.tib_hunt.specs.Reached.{AfterRounds}
-use Rattle.tib_hunt.specs.Numbered.{key_parts}
-use Rattle.tib_hunt.proofs.Reaching.{Laws}
+use Rattle.tib_expand.specs.Reached.{AfterRounds}
+use Rattle.tib_expand.specs.Keys.{key_parts}
+use Rattle.tib_expand.proofs.Reaching.{Laws}
 use Rattle.tib_keyed.proofs.KeyOrders.{order_begins as keyed_begins, order_once as keyed_once, op_laws}
 use Rattle.tib_intersect.specs.PairEdges.{IsPairEdge, ends_of, edge_parts}
 use Rattle.tib_intersect.specs.PairLaws.{same_edge}

@@ -6,9 +6,9 @@ use Rattle.tib_grammar.specs.Sides.{Symbol, label, hole, holes, symbol_map, leav
 use Rattle.tib_grammar.specs.Run.{rule_at, no_rule}
 use Rattle.tib_grammar.specs.GrammarOf.{GrammarOf, named_rule}
 use Rattle.tib_grammar.specs.declared.Rule.{Rule}
-use Rattle.tib_hunt.specs.Reached.{IsReachedSet, IsBeyond, parts_of}
-use Rattle.tib_hunt.specs.Rows.{AreBelow}
-use Rattle.tib_hunt.specs.Numbered.{key_parts}
+use Rattle.tib_expand.specs.Reached.{IsReachedSet, IsBeyond, parts_of}
+use Rattle.tib_expand.specs.Reading.{AreBelow}
+use Rattle.tib_expand.specs.Keys.{key_parts}
 use Rattle.tib_keyed.specs.Ends.{key_at as pair_at}
 use Rattle.tib_intersect.specs.PairEdges.{IsPairEdge, edge_parts}
 use Rattle.tib_intersect.specs.PairGrammar.{IsPairGrammar, GivesEdge}

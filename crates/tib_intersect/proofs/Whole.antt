@@ -4,7 +4,7 @@ use Rattle.std.proofs.Common.{arith, ap, sym, ◌∙◌, subst, inl, inr}
 use Rattle.tib_lex.specs.Lists.{Has, Each, Along, total}
 use Rattle.tib_grammar.specs.Sides.{over}
 use Rattle.tib_grammar.specs.declared.Rule.{Rule}
-use Rattle.tib_hunt.specs.EdgeLists.{key_at, IsWithin, IsEnd, Exceeds, AreListed}
+use Rattle.tib_expand.specs.EdgeLists.{key_at, IsWithin, IsEnd, Exceeds, AreListed}
 use Rattle.tib_intersect.specs.declared.listing.Listing.{Listing}
 use Rattle.tib_intersect.specs.declared.pair_rule.PairRule.{PairRule}
 use Rattle.tib_keyed.specs.Ends.{key_at as pair_at}

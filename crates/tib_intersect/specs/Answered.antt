@@ -3,8 +3,8 @@ use Rattle.std.specs.Prelude.{◌≡◌, ℕ, ◌<◌, List, length, map}
 use Rattle.tib_grammar.specs.GrammarOf.{named_rule}
 use Rattle.tib_grammar.specs.Run.{rule_at}
 use Rattle.tib_grammar.specs.declared.Rule.{Rule}
-use Rattle.tib_hunt.specs.Reached.{IsReachedSet, parts_of}
-use Rattle.tib_hunt.specs.declared.found.Found.{Found}
+use Rattle.tib_expand.specs.Reached.{IsReachedSet, parts_of}
+use Rattle.tib_expand.specs.declared.found.Found.{Found}
 use Rattle.tib_keyed.specs.Ends.{key_at as pair_at}
 use Rattle.tib_intersect.specs.PairGrammar.{IsPairGrammar}
 use Rattle.tib_intersect.specs.Intersection.{intersection, HasRootOf}

@@ -5,9 +5,9 @@ use Rattle.tib_grammar.specs.Run.{rule_at}
 use Rattle.tib_grammar.specs.declared.Rule.{Rule}
 use Rattle.tib_lex.specs.Lists.{Has, IsReordering}
 use Rattle.tib_lex.specs.PairOrder.{pair_cmp}
-use Rattle.tib_hunt.specs.Reached.{Operation, IsReachedSet}
+use Rattle.tib_expand.specs.Reached.{Operation, IsReachedSet}
 use Rattle.tib_keyed.specs.Keyed.{keyed}
-use Rattle.tib_hunt.specs.Numbered.{key_parts}
+use Rattle.tib_expand.specs.Keys.{key_parts}
 use Rattle.tib_intersect.specs.PairEdges.{IsPairEdge, ends_of, edge_parts}
 
 -- From the pair of the starts each pair leads on along each two rules that agree in label and rank.

@@ -5,7 +5,7 @@ use Rattle.tib_cost.specs.Semiring.{most}
 use Rattle.tib_grammar.specs.Sides.{label, holes}
 use Rattle.tib_grammar.specs.Run.{rule_at}
 use Rattle.tib_grammar.specs.declared.Rule.{Rule}
-use Rattle.tib_hunt.specs.Reached.{most_parts}
+use Rattle.tib_expand.specs.Reached.{most_parts}
 use Rattle.tib_intersect.specs.declared.listing.Listing.{Listing}
 use Rattle.tib_keyed.specs.Ends.{key_at as pair_at}
 use Rattle.tib_intersect.specs.PairEdges.{IsPairEdge, ends_of, edge_parts}

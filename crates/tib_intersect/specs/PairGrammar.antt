@@ -8,7 +8,7 @@ use Rattle.tib_grammar.specs.Forms.{AreNormal}
 use Rattle.tib_grammar.specs.GrammarOf.{named_rule}
 use Rattle.tib_grammar.specs.declared.Rule.{Rule}
 use Rattle.tib_cost.specs.Least.{times}
-use Rattle.tib_hunt.specs.EdgeLists.{Lists}
+use Rattle.tib_expand.specs.EdgeLists.{Lists}
 use Rattle.tib_keyed.specs.Ends.{key_at as pair_at}
 use Rattle.tib_intersect.specs.PairEdges.{IsPairEdge}
 

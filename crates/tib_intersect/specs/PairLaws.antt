@@ -10,11 +10,11 @@ use Rattle.tib_grammar.specs.declared.Rule.{Rule}
 use Rattle.tib_grammar.specs.Range.{StatesBelow}
 use Rattle.tib_grammar.proofs.Sides.{holes_of-label, holes_of-over, one_label}
 use Rattle.tib_grammar.proofs.Positions.{reads_positions}
-use Rattle.tib_hunt.specs.declared.place.Place.{Place}
-use Rattle.tib_hunt.specs.declared.place.Place.TheVariants.{Known}
+use Rattle.tib_expand.specs.declared.place.Place.{Place}
+use Rattle.tib_expand.specs.declared.place.Place.TheVariants.{Known}
 use Rattle.tib_intersect.specs.declared.pair_rule.PairRule.{PairRule}
 use Rattle.tib_intersect.specs.PairEdges.{IsPairEdge, ends_of}
-use Rattle.tib_hunt.specs.Lawful.{IsLawful}
+use Rattle.tib_expand.specs.Lawful.{IsLawful}
 use Rattle.tib_keyed.specs.Ends.{ends_from, key_at as pair_at}
 use Rattle.tib_keyed.proofs.KeyOrders.{key_stays}
 use Rattle.tib_keyed.proofs.Pairs.{seed_within}

@@ -2,7 +2,7 @@
 
 ghost use Rattle.std.specs.Prelude.{◌≡◌, ℕ, ◌<◌, ◌^◌, length, map};
 ghost use Rattle.tib_lex.specs.Lists.{Each};
-ghost use Rattle.tib_hunt.specs.EdgeLists.{IsWithin, position_of};
+ghost use Rattle.tib_expand.specs.EdgeLists.{IsWithin, position_of};
 ghost use Rattle.tib_keyed.specs.Ends.{ends_from};
 ghost use Rattle.tib_intersect.specs.PairRules.{places_of};
 
@@ -11,7 +11,7 @@ use crate::pairs::Pairs;
 use std::alloc::{AllocError, Global};
 use tib_cost::Semiring;
 use tib_grammar::{Rule, Side};
-use tib_hunt::{Edges, Expand, ExpandError};
+use tib_expand::{Edges, Expand, ExpandError};
 use tib_keyed::StatePair;
 
 /// The positions of the ends of a rule.

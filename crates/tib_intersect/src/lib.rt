@@ -10,8 +10,6 @@ pub mod laws;
 mod listing;
 mod pair_rule;
 mod pairs;
-mod reached;
 
 pub use pair_rule::PairRule;
 pub use pairs::Pairs;
-pub use reached::{intersect, intersect_together};

@@ -12,7 +12,7 @@ use crate::pair_rule::PairRule;
 use std::alloc::{AllocError, Global};
 use tib_cost::Semiring;
 use tib_grammar::{Item, Rule};
-use tib_hunt::{Edges, ExpandError};
+use tib_expand::{Edges, ExpandError};
 use tib_keyed::StatePair;
 
 /// Appends the pairs of the states of the items to the ends.

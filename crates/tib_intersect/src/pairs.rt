@@ -2,7 +2,7 @@
 
 ghost use Rattle.std.specs.Prelude.{◌≡◌, ℕ, ◌<◌, ◌≤◌, List, length, IfOk, Err};
 ghost use Rattle.tib_grammar.specs.Range.{StatesBelow};
-ghost use Rattle.tib_hunt.specs.Reached.{most_parts};
+ghost use Rattle.tib_expand.specs.Reached.{most_parts};
 ghost use Rattle.tib_intersect.specs.IsIndex.{IsIndex};
 ghost use Rattle.tib_intersect.specs.Listing.{IsWithinBudget, ListsPair, PairOverruns};
 
@@ -11,7 +11,7 @@ use crate::listing::Listing;
 use crate::pair_rule::PairRule;
 use std::alloc::{AllocError, Global};
 use tib_cost::Semiring;
-use tib_hunt::ExpandError;
+use tib_expand::ExpandError;
 use tib_keyed::{ShapeIndex, StatePair};
 use tib_normal::Normal;
 

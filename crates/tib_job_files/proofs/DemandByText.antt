@@ -18,7 +18,7 @@ use Rattle.tib_strings.specs.ByText.{AgreeOnRight, AreOneStringRule, AreOneStrin
 use Rattle.tib_strings.specs.RuleValue.{nodes_of}
 use Rattle.tib_operations.proofs.ClassesByText.{IsOneDemand, IsDecided}
 use Rattle.tib_operations.proofs.OfCheck.{variables_along, all_used, all_used_back}
-use Rattle.tib_job_files.specs.Parse.{parse_demands}
+use Rattle.tib_operations.specs.Parse.{parse_demands}
 
 -- one rule over two tables of labels
 

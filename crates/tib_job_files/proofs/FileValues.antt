@@ -24,9 +24,9 @@ use Rattle.tib_operations.proofs.TransducerTables.{transducer_over, transducer_g
 use Rattle.tib_strings.specs.ByText.{AreOneStringTransducer}
 use Rattle.tib_strings.proofs.OneByText.{one_by_text as one_string_transducer}
 use Rattle.tib_strings.proofs.OverTables.{string_over, string_grown, string_transducer_over, string_transducer_grown}
-use Rattle.tib_job_files.specs.ByText.{AreOneString}
-use Rattle.tib_job_files.proofs.OneString.{one_string}
-use Rattle.tib_job_files.proofs.WordsRead.{IsSoundStringTransducer, string_transducer_sound}
+use Rattle.tib_operations.specs.ByText.{AreOneString}
+use Rattle.tib_operations.proofs.OneString.{one_string}
+use Rattle.tib_operations.proofs.WordsRead.{IsSoundStringTransducer, string_transducer_sound}
 use Rattle.tib_operations.proofs.Tables.{none_distinct, read_over, lists_over, reads_grown, lists_grown}
 
 -- a value of a file, where its bytes are known, over a table to which another has grown

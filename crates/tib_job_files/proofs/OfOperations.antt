@@ -37,8 +37,8 @@ use Rattle.tib_operations.proofs.OfCheck.{classes_once, classes_there}
 use Rattle.tib_operations.proofs.OfDemo.{demo_once, demo_either, demo_there}
 use Rattle.tib_operations.proofs.OfPrune.{prune_once, prune_there}
 use Rattle.tib_job_files.proofs.DemandByText.{parse_demand_once, parse_demand_decided}
-use Rattle.tib_job_files.proofs.OfParse.{parse_either, parse_by_text, parse_once, parse_there}
-use Rattle.tib_job_files.proofs.OfCompare.{compare_once as compare_text_once, compare_there as compare_text_there, compare_either as comparison_either, compare_by_text as comparison_by_text, large_by_text, large_apart}
+use Rattle.tib_operations.proofs.OfParse.{parse_either, parse_by_text, parse_once, parse_there}
+use Rattle.tib_operations.proofs.OfCompare.{compare_once as compare_text_once, compare_there as compare_text_there, compare_either as comparison_either, compare_by_text as comparison_by_text, large_by_text, large_apart}
 use Rattle.tib_operations.proofs.OfDeterminize.{determinized_once, determinized_there}
 use Rattle.tib_operations.proofs.VectorsByText.{vectors_by_text}
 

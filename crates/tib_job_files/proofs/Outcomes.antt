@@ -18,10 +18,10 @@ use Rattle.tib_operations.specs.declared.status.Status.{Status}
 use Rattle.tib_operations.specs.declared.status.Status.TheVariants as statuses
 use Rattle.tib_job_files.specs.Answers.{IsResultOf, IsAnswer}
 use Rattle.tib_job_files.specs.Causes.{HasCause, HasEarlier, AreBefore, IsEarly, MeetsClass, makes, demanded, bytes_of, file_count, scale_of, product_of, levelled_of}
-use Rattle.tib_job_files.specs.Compare.{HasCompareText, IsCompareFault, compare_makes}
+use Rattle.tib_operations.specs.Compare.{HasCompareText, IsCompareFault, compare_makes}
 use Rattle.tib_job_files.specs.Kinds.{kinds_of, ValuesOf, AreTexts}
 use Rattle.tib_job_files.specs.Outcomes.{Setting, setting_of, HasText, HasTextFault, IsOutcome, text_part}
-use Rattle.tib_job_files.specs.Parse.{HasParseText, IsParseTextFault, parse_demands, parse_makes}
+use Rattle.tib_operations.specs.Parse.{HasParseText, IsParseTextFault, parse_demands, parse_makes}
 use Rattle.tib_job_files.specs.Run.{FilesSeen}
 use Rattle.tib_job_files.specs.Steps.{EndsRun}
 use Rattle.tib_job_files.specs.Values.{AreValuesOf, values_as}

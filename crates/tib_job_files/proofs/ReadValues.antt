@@ -17,7 +17,7 @@ use Rattle.tib_job_files.specs.Kinds.{Kind, of_grammar, of_support, of_trees, of
 use Rattle.tib_job_files.specs.Values.{AreValuesOf, IsPrintableValue, values_as}
 use Rattle.tib_job_files.specs.declared.job_values.Values.{Values}
 use Rattle.tib_job_files.specs.declared.job_values.Values.TheVariants as those
-use Rattle.tib_job_files.proofs.WordsRead.{words_grown}
+use Rattle.tib_operations.proofs.WordsRead.{words_grown}
 
 -- what holds by one scale holds by one that is the same
 pub by_scale : (P : Scale → Type 0) (own scale : Scale) → own ≡ scale → P own → P scale

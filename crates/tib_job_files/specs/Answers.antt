@@ -25,8 +25,8 @@ use Rattle.tib_operations.specs.Determinize.{HasDeterminizedText}
 use Rattle.tib_operations.specs.Demo.{HasDemoText}
 use Rattle.tib_operations.specs.Check.{HasClasses}
 use Rattle.tib_operations.specs.Prune.{HasPruneText}
-use Rattle.tib_job_files.specs.Parse.{HasParseText}
-use Rattle.tib_job_files.specs.Compare.{HasCompareText}
+use Rattle.tib_operations.specs.Parse.{HasParseText}
+use Rattle.tib_operations.specs.Compare.{HasCompareText}
 
 -- the text answers the operation on these values of its files
 abbrev pub IsResultOf : (operation : Operation) → Scale → (ℕ → ℕ → ℕ) → Numbers → List (List ℕ) → ValuesOf (kinds_of operation) → List ℕ → Type 0

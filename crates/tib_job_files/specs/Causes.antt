@@ -27,8 +27,8 @@ use Rattle.tib_operations.specs.Demo.{demo_makes}
 use Rattle.tib_operations.specs.Check.{check_makes}
 use Rattle.tib_operations.specs.Prune.{prune_makes}
 use Rattle.tib_operations.specs.Classes.{Demanded, nothing_demanded, IsMet, IsBroken}
-use Rattle.tib_job_files.specs.Parse.{parse_makes, parse_demands}
-use Rattle.tib_job_files.specs.Compare.{compare_makes, LeastIsSmall, HasLargeLeast}
+use Rattle.tib_operations.specs.Parse.{parse_makes, parse_demands}
+use Rattle.tib_operations.specs.Compare.{compare_makes, LeastIsSmall, HasLargeLeast}
 use Rattle.tib_operations.specs.declared.status.Status.{Status}
 use Rattle.tib_operations.specs.declared.status.Status.TheVariants as statuses
 

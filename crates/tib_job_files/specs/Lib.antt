@@ -1,12 +1,8 @@
 pub mod Answers
-pub mod ByText
 pub mod Causes
-pub mod Compare
 pub mod Kinds
 pub mod Laws
 pub mod Outcomes
-pub mod Parse
 pub mod Run
 pub mod Steps
 pub mod Values
-pub mod Words

@@ -9,7 +9,7 @@ use Rattle.tib_canon.specs.TransducerKeys.{AreMovesOver}
 use Rattle.tib_command.specs.declared.job.Operation.{Operation}
 use Rattle.tib_operations.specs.Moves.{ArePlainMoves}
 use Rattle.tib_job_files.specs.Kinds.{Kind, of_grammar, of_support, of_trees, of_one_tree, of_transducer, of_string_transducer, of_string, ValueOf, ValuesOf, AreTexts, kinds_of}
-use Rattle.tib_job_files.specs.Words.{ArePlainWords}
+use Rattle.tib_operations.specs.Words.{ArePlainWords}
 use Rattle.tib_job_files.specs.declared.job_values.Values.{Values}
 use Rattle.tib_job_files.specs.declared.job_values.Values.TheVariants as those
 

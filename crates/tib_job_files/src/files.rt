@@ -1,7 +1,7 @@
 // The value of one file of a command.
 ghost use Rattle.std.specs.Prelude.{◌≡◌, ◌≤◌, ◌<◌, ◌+◌, ◌-◌, ◌^◌, ℕ, List, length, Some, IfOk, IfErr};
 ghost use Rattle.tib_cost.specs.declared.Scale.{Scale};
-ghost use Rattle.tib_io.specs.Reads.{most_bytes};
+ghost use Rattle.tib_lex.specs.Limits.{most_bytes};
 ghost use Rattle.tib_command.specs.Jobs.{meaning};
 ghost use Rattle.tib_job_files.specs.Kinds.{Kind, ValueOf, IsReadError, IsTextOf, OfFile, Told, file_at, kind_at};
 ghost use Rattle.tib_job_files.specs.Causes.{scale_of};

@@ -9,19 +9,15 @@
 //! without costs, or names the least tree that has one in exactly one of them.
 #![tactic(auto)]
 
-mod compare_text;
 mod files;
 mod job_values;
 mod laws;
-mod parse_text;
 mod values;
 
-pub use compare_text::{comparison_of, comparison_of_together};
 pub use job_values::{Values, values_of};
 pub use laws::{
     answers_are_one, answers_exclude_too_many, answers_exist, files_have_no_fault,
     in_class_or_outside, jobs_have_answers, runs_end_alike, statuses_are_one, texts_are_one,
     within_or_too_many,
 };
-pub use parse_text::{parse_of, parse_of_together};
 pub use values::Support;

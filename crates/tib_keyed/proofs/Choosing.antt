@@ -18,7 +18,7 @@ use Rattle.tib_transducer.specs.declared.TransducerRule.{TransducerRule}
 use Rattle.tib_keyed.proofs.Filling.{one_of}
 use Rattle.tib_keyed.proofs.Permuted.{tree_at-one}
 use Rattle.tib_keyed.proofs.Translating.{over_long}
-use Rattle.tib_hunt.proofs.Members.{distinct_append}
+use Rattle.tib_expand.proofs.Members.{distinct_append}
 
 -- lists
 

@@ -7,7 +7,7 @@ use Rattle.tib_grammar.specs.Sides.{label}
 use Rattle.tib_lex.proofs.Numbers.{nat_eq_cases, nat_eq-true, nat_le_cases}
 use Rattle.tib_lex.proofs.Members.{has_left, has_right, has_either}
 use Rattle.tib_cost.specs.Semiring.{most}
-use Rattle.tib_hunt.specs.EdgeLists.{Lists}
+use Rattle.tib_expand.specs.EdgeLists.{Lists}
 use Rattle.tib_transducer.specs.Rules.{transducer_rule}
 use Rattle.tib_transducer.specs.Range.{AreShaped}
 use Rattle.tib_keyed.specs.Translations.{translated, choice_cost}
@@ -15,7 +15,7 @@ use Rattle.tib_keyed.specs.Composing.{IsComposeEdge}
 use Rattle.tib_keyed.specs.Choices.{choices_of, edge_from, cheap, origins_of, edges_of}
 use Rattle.tib_transducer.specs.declared.TransducerRule.{TransducerRule}
 use Rattle.tib_keyed.proofs.Translating.{count-translated}
-use Rattle.tib_hunt.proofs.Members.{distinct_append}
+use Rattle.tib_expand.proofs.Members.{distinct_append}
 use Rattle.tib_keyed.proofs.Choosing.{has_if, if_has, if_once, number_same, choices_once, choices_are}
 
 only_first : {A : Type 0} (d : A) (ts : Trees A) → count ts ≡ 1 → only (first_of d ts) ≡ ts

@@ -3,9 +3,9 @@ use Rattle.std.specs.Prelude.{◌≡◌, ℕ, ◌+◌, ◌<◌, ◌≤◌, List,
 use Rattle.std.proofs.Common.{zero, suc, arith}
 use Rattle.tib_lex.specs.Lists.{Each}
 use Rattle.tib_lex.proofs.Places.{index_append}
-use Rattle.tib_hunt.specs.declared.place.Place.{Place}
-use Rattle.tib_hunt.specs.declared.place.Place.TheVariants.{Known, End}
-use Rattle.tib_hunt.specs.EdgeLists.{IsWithin, key_at}
+use Rattle.tib_expand.specs.declared.place.Place.{Place}
+use Rattle.tib_expand.specs.declared.place.Place.TheVariants.{Known, End}
+use Rattle.tib_expand.specs.EdgeLists.{IsWithin, key_at}
 use Rattle.tib_keyed.specs.Ends.{ends_from}
 
 -- a place stays within where more ends are there

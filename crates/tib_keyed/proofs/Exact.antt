@@ -8,9 +8,9 @@ use Rattle.tib_lex.proofs.Alongs.{along_at, along_has}
 use Rattle.tib_lex.proofs.Places.{distinct_at}
 use Rattle.tib_lex.proofs.PairOrder.{pair_total}
 use Rattle.tib_tree.specs.Trees.{Trees, only}
-use Rattle.tib_hunt.specs.Reached.{IsReachedSet}
-use Rattle.tib_hunt.specs.Numbered.{key_parts}
-use Rattle.tib_hunt.proofs.Reaching.{Laws}
+use Rattle.tib_expand.specs.Reached.{IsReachedSet}
+use Rattle.tib_expand.specs.Keys.{key_parts}
+use Rattle.tib_expand.proofs.Reaching.{Laws}
 use Rattle.tib_keyed.specs.Ends.{key_at}
 use Rattle.tib_transducer.specs.Rules.{transducer_rule, no_rule}
 use Rattle.tib_keyed.specs.Named.{named_transducer_rule}

@@ -10,10 +10,10 @@ use Rattle.tib_lex.specs.Lists.{Has, Distinct, Ascends, Along}
 use Rattle.tib_lex.proofs.Members.{each_has, has_left, has_right}
 use Rattle.tib_lex.proofs.Places.{take_at}
 use Rattle.tib_lex.proofs.Alongs.{along_of, along_back, along_append, along_map}
-use Rattle.tib_hunt.specs.EdgeLists.{Lists}
-use Rattle.tib_hunt.specs.Reached.{Operation, AfterRounds, IsReached, AreEdges, IsReachedSet}
-use Rattle.tib_hunt.proofs.Members.{distinct_append}
-use Rattle.tib_hunt.proofs.Reaching.{Laws, apart, in_reached}
+use Rattle.tib_expand.specs.EdgeLists.{Lists}
+use Rattle.tib_expand.specs.Reached.{Operation, AfterRounds, IsReached, AreEdges, IsReachedSet}
+use Rattle.tib_expand.proofs.Members.{distinct_append}
+use Rattle.tib_expand.proofs.Reaching.{Laws, apart, in_reached}
 use Rattle.tib_keyed.specs.Keyed.{keyed, GivesBelow}
 use Rattle.tib_keyed.proofs.Tagged.{no_edges, has_tagged, tagged_has, tagged_once, along_tagged}
 

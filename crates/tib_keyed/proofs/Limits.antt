@@ -2,9 +2,7 @@
 use Rattle.std.specs.Prelude.{◌≡◌, ℕ, ◌<◌, ◌≤◌, List, [], ◌∷◌, length}
 use Rattle.std.proofs.Common.{subst, arith}
 use Rattle.tib_lex.specs.Lists.{total}
-use Rattle.tib_hunt.specs.Reached.{IfTooMany}
-use Rattle.tib_hunt.specs.Reached.{HuntError}
-use Rattle.tib_hunt.specs.Reached.{TooMany}
+use Rattle.tib_expand.specs.Reached.{IfTooMany, HuntError, TooMany}
 
 -- too many is the limit, and what is promised of it holds
 pub too_many : (limit n : ℕ) (P : Type 0) (e : HuntError) → e ≡ TooMany n → IfTooMany limit P e → (n ≡ limit) × P

@@ -11,7 +11,7 @@ use Rattle.tib_grammar.specs.declared.Rule.{Rule}
 use Rattle.tib_grammar.specs.Positions.{all_ends}
 use Rattle.tib_grammar.proofs.Sides.{holes-relabel}
 use Rattle.tib_grammar.proofs.Positions.{all_ends-more}
-use Rattle.tib_hunt.specs.EdgeLists.{IsEnd, Exceeds, AreListed}
+use Rattle.tib_expand.specs.EdgeLists.{IsEnd, Exceeds, AreListed}
 use Rattle.tib_keyed.specs.declared.side_rule.SideRule.{SideRule}
 use Rattle.tib_keyed.specs.declared.side_listing.SideListing.{SideListing}
 use Rattle.tib_keyed.specs.SideRules.{places_of, read_places, Reads}

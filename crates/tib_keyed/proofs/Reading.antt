@@ -11,7 +11,7 @@ use Rattle.tib_grammar.specs.Sides.{Symbol, label, hole, Side as SideFor, holes,
 use Rattle.tib_grammar.specs.declared.Rule.{Rule}
 use Rattle.tib_grammar.specs.Positions.{all_ends}
 use Rattle.tib_grammar.proofs.Positions.{has_end, end_has}
-use Rattle.tib_hunt.specs.EdgeLists.{IsWithin, key_at, IsEnd}
+use Rattle.tib_expand.specs.EdgeLists.{IsWithin, key_at, IsEnd}
 use Rattle.tib_keyed.specs.Ends.{ends_from}
 use Rattle.tib_keyed.proofs.Ends.{within_wider, place_stays, ends_within}
 use Rattle.tib_keyed.specs.declared.side_rule.SideRule.{SideRule}

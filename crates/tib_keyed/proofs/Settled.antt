@@ -13,10 +13,10 @@ use Rattle.tib_grammar.specs.Items.{pairs_of}
 use Rattle.tib_grammar.specs.declared.Item.{Item}
 use Rattle.tib_grammar.specs.Positions.{states_in}
 use Rattle.tib_grammar.proofs.Holes.{side_same}
-use Rattle.tib_hunt.specs.declared.place.Place.TheVariants.{End}
-use Rattle.tib_hunt.specs.EdgeLists.{IsWithin, position_of}
+use Rattle.tib_expand.specs.declared.place.Place.TheVariants.{End}
+use Rattle.tib_expand.specs.EdgeLists.{IsWithin, position_of}
 use Rattle.tib_keyed.proofs.Ends.{ends_fit}
-use Rattle.tib_hunt.specs.Reading.{ReadsAlike, HasPositions}
+use Rattle.tib_expand.specs.Reading.{ReadsAlike, HasPositions}
 use Rattle.tib_keyed.specs.declared.side_rule.SideRule.{SideRule}
 use Rattle.tib_keyed.specs.SideRules.{numbered, numbered_root, numbered_side, places_of, side_reading}
 use Rattle.tib_keyed.specs.SideRuleLaws.{side_numbers, map_append}

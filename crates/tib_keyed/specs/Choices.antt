@@ -5,7 +5,7 @@ use Rattle.tib_lex.specs.Lists.{Has, Distinct}
 use Rattle.tib_tree.specs.Trees.{Trees, none, tree, only, count, join, first_of}
 use Rattle.tib_grammar.specs.Sides.{Symbol, label, hole, Side as SideFor, holes_of, is_label}
 use Rattle.tib_cost.specs.Semiring.{most}
-use Rattle.tib_hunt.specs.EdgeLists.{Lists}
+use Rattle.tib_expand.specs.EdgeLists.{Lists}
 use Rattle.tib_transducer.specs.Rules.{transducer_rule}
 use Rattle.tib_transducer.specs.Range.{AreShaped}
 use Rattle.tib_keyed.specs.Translations.{AreTranslations, translated, choice_cost}

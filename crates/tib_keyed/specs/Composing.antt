@@ -5,7 +5,7 @@ use Rattle.tib_lex.specs.Lists.{Distinct}
 use Rattle.tib_tree.specs.Trees.{Tree, Trees, only}
 use Rattle.tib_cost.specs.Semiring.{most}
 use Rattle.tib_cost.specs.Least.{IsLeast, Products, times}
-use Rattle.tib_hunt.specs.EdgeLists.{Lists}
+use Rattle.tib_expand.specs.EdgeLists.{Lists}
 use Rattle.tib_keyed.specs.Ends.{key_at}
 use Rattle.tib_transducer.specs.Rules.{transducer_rule}
 use Rattle.tib_transducer.specs.Series.{IsTransducerCost, IsTransducerSeries}

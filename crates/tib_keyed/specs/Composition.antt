@@ -3,9 +3,9 @@ use Rattle.std.specs.Prelude.{◌≡◌, ℕ, ◌+◌, ◌<◌, List, length, ma
 use Rattle.tib_lex.specs.Lists.{Has}
 use Rattle.tib_lex.specs.PairOrder.{pair_cmp}
 use Rattle.tib_tree.specs.Trees.{Trees, size}
-use Rattle.tib_hunt.specs.Reached.{Operation, IsReachedSet}
+use Rattle.tib_expand.specs.Reached.{Operation, IsReachedSet}
 use Rattle.tib_keyed.specs.Keyed.{keyed}
-use Rattle.tib_hunt.specs.Numbered.{key_parts}
+use Rattle.tib_expand.specs.Keys.{key_parts}
 use Rattle.tib_keyed.specs.Ends.{key_at}
 use Rattle.tib_transducer.specs.Rules.{states_in}
 use Rattle.tib_keyed.specs.Named.{named_transducer_rule}

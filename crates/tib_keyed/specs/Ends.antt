@@ -1,8 +1,8 @@
 -- Ends of edges as places, and the pair at a position.
 use Rattle.std.specs.Prelude.{ℕ, List, [], ◌∷◌}
 use Rattle.std.proofs.Common.{zero, suc, get_or}
-use Rattle.tib_hunt.specs.declared.place.Place.{Place}
-use Rattle.tib_hunt.specs.declared.place.Place.TheVariants.{End}
+use Rattle.tib_expand.specs.declared.place.Place.{Place}
+use Rattle.tib_expand.specs.declared.place.Place.TheVariants.{End}
 
 -- n ends side by side, from number i on
 abbrev pub ends_from : ℕ → ℕ → List Place

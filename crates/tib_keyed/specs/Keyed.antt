@@ -4,8 +4,8 @@ use Rattle.std.proofs.Common.{get_or}
 use Rattle.std.specs.declared.cmp.Ordering.{Ordering}
 use Rattle.std.specs.Cmp.{IsTotalOrder}
 use Rattle.tib_lex.specs.Lists.{Has, Distinct}
-use Rattle.tib_hunt.specs.EdgeLists.{Lists}
-use Rattle.tib_hunt.specs.Reached.{Operation, operation, AfterRounds, AreEdges, IsReachedSet}
+use Rattle.tib_expand.specs.EdgeLists.{Lists}
+use Rattle.tib_expand.specs.Reached.{Operation, operation, AfterRounds, AreEdges, IsReachedSet}
 
 -- A keyed operation has one start, no edges of seeds, and at each position the edges of the key
 -- that is there.

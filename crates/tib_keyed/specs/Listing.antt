@@ -6,7 +6,7 @@ use Rattle.tib_tree.specs.Trees.{size}
 use Rattle.tib_grammar.specs.Sides.{Side as SideFor}
 use Rattle.tib_grammar.specs.declared.Rule.{Rule}
 use Rattle.tib_grammar.specs.Positions.{all_ends}
-use Rattle.tib_hunt.specs.Reached.{most_parts}
+use Rattle.tib_expand.specs.Reached.{most_parts}
 use Rattle.tib_keyed.specs.declared.side_rule.SideRule.{SideRule}
 use Rattle.tib_keyed.specs.declared.side_listing.SideListing.{SideListing}
 use Rattle.tib_keyed.specs.SideRules.{Reads}

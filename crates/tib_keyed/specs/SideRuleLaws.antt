@@ -10,8 +10,8 @@ use Rattle.tib_grammar.specs.GrammarOf.{named_rule}
 use Rattle.tib_grammar.specs.declared.Rule.{Rule}
 use Rattle.tib_grammar.specs.Positions.{states_in, positions_of}
 use Rattle.tib_grammar.proofs.Positions.{symbol_same, kids_same}
-use Rattle.tib_hunt.specs.declared.place.Place.{Place}
-use Rattle.tib_hunt.specs.declared.place.Place.TheVariants.{Known, End}
+use Rattle.tib_expand.specs.declared.place.Place.{Place}
+use Rattle.tib_expand.specs.declared.place.Place.TheVariants.{Known, End}
 use Rattle.tib_keyed.specs.Ends.{ends_from}
 use Rattle.tib_keyed.specs.declared.side_rule.SideRule.{SideRule}
 use Rattle.tib_keyed.specs.SideRules.{numbered, numbered_root, numbered_side, places_of, read_places}

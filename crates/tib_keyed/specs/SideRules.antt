@@ -7,10 +7,10 @@ use Rattle.tib_grammar.specs.Sides.{Symbol, label, hole, Side as SideFor, holes,
 use Rattle.tib_grammar.specs.GrammarOf.{named_rule}
 use Rattle.tib_grammar.specs.declared.Rule.{Rule}
 use Rattle.tib_grammar.specs.Positions.{positions_of}
-use Rattle.tib_hunt.specs.declared.place.Place.{Place}
-use Rattle.tib_hunt.specs.declared.place.Place.TheVariants.{Known, End}
-use Rattle.tib_hunt.specs.EdgeLists.{IsWithin, key_at}
-use Rattle.tib_hunt.specs.Reading.{Reading}
+use Rattle.tib_expand.specs.declared.place.Place.{Place}
+use Rattle.tib_expand.specs.declared.place.Place.TheVariants.{Known, End}
+use Rattle.tib_expand.specs.EdgeLists.{IsWithin, key_at}
+use Rattle.tib_expand.specs.Reading.{Reading}
 use Rattle.tib_keyed.specs.Ends.{ends_from}
 use Rattle.tib_keyed.specs.declared.side_rule.SideRule.{SideRule}
 

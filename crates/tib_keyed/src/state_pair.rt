@@ -3,7 +3,7 @@
 ghost use Rattle.std.specs.Prelude.{◌≡◌};
 
 use std::marker::Model;
-use tib_hunt::TableKey;
+use tib_expand::TableKey;
 
 /// A state of a first grammar or transducer and a state of a second one.
 #[derive(Clone, Copy, Debug, Drop, PartialEq, Eq, PartialOrd, Ord, Hash)]

@@ -3,7 +3,7 @@ ghost use Rattle.std.specs.Prelude.{◌≡◌, ◌≤◌, ◌<◌, ◌+◌, ℕ,
 ghost use Rattle.std.specs.List.{prefix_len};
 ghost use Rattle.tib_lex.specs.Lines.{not_feed};
 ghost use Rattle.tib_lex.specs.NextLine.{IsNextLine};
-ghost use Rattle.tib_io.specs.Reads.{most_bytes};
+ghost use Rattle.tib_lex.specs.Limits.{most_bytes};
 
 /// A line of a file: its number, where its bytes begin and end, and where the next line begins.
 #[derive(Clone, Copy, Debug, PartialEq, Eq)]

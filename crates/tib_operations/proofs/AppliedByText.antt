@@ -15,8 +15,8 @@ use Rattle.tib_grammar_file.proofs.Renumbering.{Renumbers, renumbering}
 use Rattle.tib_transducer.specs.TransducerOf.{TransducerOf}
 use Rattle.tib_transducer.specs.declared.TransducerRule.{TransducerRule}
 use Rattle.tib_transducer_file.specs.ByText.{AreOneTransducer}
-use Rattle.tib_hunt.specs.Reached.{IsReachedSet, IsBeyond}
-use Rattle.tib_hunt.specs.Numbered.{key_parts}
+use Rattle.tib_expand.specs.Reached.{IsReachedSet, IsBeyond}
+use Rattle.tib_expand.specs.Keys.{key_parts}
 use Rattle.tib_apply.specs.KeyGrammars.{key_at}
 use Rattle.tib_apply.specs.Operations.{key_entries, edge_parts, forward_image, inverse_image}
 use Rattle.tib_canon.specs.TrimmedForms.{IsTrimmedForm}

@@ -4,7 +4,7 @@ use Rattle.std.proofs.Common.{◌≡◌, ℕ, ◌<◌, ◌≤◌, Bool, List, le
 use Rattle.tib_lex.specs.Lists.{Distinct}
 use Rattle.tib_cost.specs.Semiring.{ProductLaws}
 use Rattle.tib_lex.specs.PairOrder.{pair_cmp}
-use Rattle.tib_hunt.specs.Reached.{IsReachedSet, parts_of}
+use Rattle.tib_expand.specs.Reached.{IsReachedSet, parts_of}
 use Rattle.tib_transducer.specs.Range.{AreWithin}
 use Rattle.tib_transducer.specs.TransducerOf.{TransducerOf}
 use Rattle.tib_transducer.specs.declared.TransducerRule.{TransducerRule}

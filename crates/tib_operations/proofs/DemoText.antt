@@ -17,7 +17,7 @@ use Rattle.tib_lex.specs.declared.fault.FileFault.{FileFault}
 use Rattle.tib_lex.specs.declared.fault.ReadError.{ReadError}
 use Rattle.tib_lex.specs.declared.fault.ReadError.TheVariants.{Fault}
 use Rattle.tib_lex.proofs.Numbers.{below_suc_cases}
-use Rattle.tib_io.specs.Reads.{most_bytes}
+use Rattle.tib_lex.specs.Limits.{most_bytes}
 use Rattle.tib_lex.proofs.HasLines.{lines_read}
 use Rattle.tib_lex.proofs.HasWords.{words_read, has_first_word, after_space, no_words}
 use Rattle.tib_lex.proofs.Lists.{append_nil, each_append}

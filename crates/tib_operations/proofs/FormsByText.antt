@@ -9,7 +9,7 @@ use Rattle.tib_grammar_file.proofs.Renumbering.{renumbering}
 use Rattle.tib_grammar_file.proofs.RunsByText.{rules_given}
 use Rattle.tib_normal.specs.NormalForm.{IsNormalForm, rule_parts}
 use Rattle.tib_normal.specs.Rows.{HasFormWithin}
-use Rattle.tib_hunt.specs.Numbered.{key_parts}
+use Rattle.tib_expand.specs.Keys.{key_parts}
 use Rattle.tib_intersect.specs.PairEdges.{edge_parts}
 use Rattle.tib_canon.proofs.EdgesByText.{key_with, edge_with}
 use Rattle.tib_canon.proofs.NormalByText.{form_with}

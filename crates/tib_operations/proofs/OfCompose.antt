@@ -12,8 +12,8 @@ use Rattle.tib_tree.specs.Grows.{Grows}
 use Rattle.tib_tree.specs.Trees.{preorder_of}
 use Rattle.tib_grammar.specs.Sides.{Symbol, label, hole}
 use Rattle.tib_grammar_file.proofs.Renumbering.{renumbering}
-use Rattle.tib_hunt.specs.Reached.{IsReachedSet, parts_of}
-use Rattle.tib_hunt.specs.Numbered.{key_parts}
+use Rattle.tib_expand.specs.Reached.{IsReachedSet, parts_of}
+use Rattle.tib_expand.specs.Keys.{key_parts}
 use Rattle.tib_transducer.specs.TransducerOf.{TransducerOf}
 use Rattle.tib_transducer.specs.declared.Variable.{Variable}
 use Rattle.tib_transducer.specs.declared.Pair.{Pair}

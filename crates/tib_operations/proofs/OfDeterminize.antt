@@ -13,7 +13,7 @@ use Rattle.tib_grammar_file.specs.ByText.{AgreeByText}
 use Rattle.tib_grammar_file.specs.Printable.{ArePrintable}
 use Rattle.tib_grammar_file.specs.Printed.{grammar_text}
 use Rattle.tib_grammar_file.proofs.Renumbering.{renumbering}
-use Rattle.tib_hunt.specs.Reached.{IsReachedSet}
+use Rattle.tib_expand.specs.Reached.{IsReachedSet}
 use Rattle.tib_canon.specs.Constructions.{AreRulesOver, edges_over, IsCanonicalOf}
 use Rattle.tib_canon.specs.Keys.{IsCanonicalOverKeys}
 use Rattle.tib_canon.specs.TrimmedForms.{IsTrimmedForm}

@@ -17,9 +17,9 @@ use Rattle.tib_grammar_file.specs.Printable.{IsPlainCost, HavePlainLabels}
 use Rattle.tib_grammar_file.specs.Printed.{grammar_text}
 use Rattle.tib_grammar_file.proofs.Renumbering.{renumbering}
 use Rattle.tib_grammar_file.proofs.Shapes.{shape_relabelled}
-use Rattle.tib_hunt.specs.Numbered.{key_parts}
-use Rattle.tib_hunt.specs.Reached.{IsReached, IsReachedSet}
-use Rattle.tib_hunt.proofs.Reaching.{Laws}
+use Rattle.tib_expand.specs.Keys.{key_parts}
+use Rattle.tib_expand.specs.Reached.{IsReached, IsReachedSet}
+use Rattle.tib_expand.proofs.Reaching.{Laws}
 use Rattle.tib_keyed.specs.Ends.{key_at}
 use Rattle.tib_keyed.proofs.KeyOrders.{op_laws, order_begins}
 use Rattle.tib_transducer.specs.Range.{AreShaped, EndInHoles}

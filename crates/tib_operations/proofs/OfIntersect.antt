@@ -20,7 +20,7 @@ use Rattle.tib_grammar_file.specs.Printable.{IsPlainCost, HavePlainLabels, ArePr
 use Rattle.tib_grammar_file.specs.Printed.{grammar_text}
 use Rattle.tib_grammar_file.proofs.Renumbering.{renumbering}
 use Rattle.tib_normal.proofs.Forming.{form_range, form_normal}
-use Rattle.tib_hunt.specs.Reached.{IsReached, IsReachedSet}
+use Rattle.tib_expand.specs.Reached.{IsReached, IsReachedSet}
 use Rattle.tib_inside.proofs.StillNormal.{still_normal}
 use Rattle.tib_canon.specs.Constructions.{AreRulesOver, IsCanonicalOf}
 use Rattle.tib_canon.specs.Keys.{IsCanonicalOverKeys}

@@ -11,7 +11,7 @@ use Rattle.tib_grammar_file.specs.ByText.{AgreeByText}
 use Rattle.tib_grammar_file.proofs.Relabelled.{symbol_with, rule_with, rules_with, at_with, holes_with}
 use Rattle.tib_grammar_file.proofs.Renumbering.{Renumbers}
 use Rattle.tib_grammar_file.proofs.RunsByText.{rules_given}
-use Rattle.tib_hunt.specs.Reached.{IsReachedSet}
+use Rattle.tib_expand.specs.Reached.{IsReachedSet}
 use Rattle.tib_normal.specs.NormalForm.{IsNormalForm}
 use Rattle.tib_canon.specs.TrimmedForms.{IsTrimmedForm}
 use Rattle.tib_canon.proofs.EdgesByText.{key_with, edge_with, holes_kept, over_kept}

@@ -13,9 +13,9 @@ use Rattle.tib_grammar.specs.GrammarOf.{GrammarOf}
 use Rattle.tib_grammar.specs.Run.{rule_at, AreRuns, cost}
 use Rattle.tib_grammar.specs.declared.Rule.{Rule}
 use Rattle.tib_grammar_file.specs.Printable.{IsPlainCost, HavePlainLabels, ArePrintable}
-use Rattle.tib_hunt.specs.Reached.{IsReached, IsReachedSet}
-use Rattle.tib_hunt.specs.Numbered.{key_parts}
-use Rattle.tib_hunt.proofs.Reaching.{Laws}
+use Rattle.tib_expand.specs.Reached.{IsReached, IsReachedSet}
+use Rattle.tib_expand.specs.Keys.{key_parts}
+use Rattle.tib_expand.proofs.Reaching.{Laws}
 use Rattle.tib_match.specs.Matches.{IsMatchCost}
 use Rattle.tib_transducer.specs.Range.{EndInHoles}
 use Rattle.tib_transducer.specs.Rules.{transducer_rule, variables_of, variables_in}

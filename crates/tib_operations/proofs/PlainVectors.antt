@@ -16,7 +16,7 @@ use Rattle.tib_grammar.specs.Range.{AllBelow}
 use Rattle.tib_grammar.specs.declared.Rule.{Rule}
 use Rattle.tib_grammar.proofs.Sides.{holes_of-over}
 use Rattle.tib_grammar_file.specs.Printable.{IsPlainCost, HavePlainLabels, ArePrintable}
-use Rattle.tib_hunt.specs.Reached.{AfterRounds, IsReached, IsReachedSet}
+use Rattle.tib_expand.specs.Reached.{AfterRounds, IsReached, IsReachedSet}
 use Rattle.tib_canon.proofs.ConstructionExists.{IsEdgeOver, HasPlainEdges, IsPlainFresh}
 use Rattle.tib_canon.proofs.ReachedOnce.{edge_given, ends_stand}
 use Rattle.tib_determinize.specs.Determinization.{IsSeed, IsVectorSeed, IsVectorEdge, vector_cmp, determinization}

@@ -14,8 +14,8 @@ use Rattle.tib_grammar.specs.declared.Rule.{Rule}
 use Rattle.tib_grammar_file.specs.ByText.{AgreeByText}
 use Rattle.tib_grammar_file.proofs.Relabelled.{symbol_with, rule_with, rules_with, holes_with}
 use Rattle.tib_grammar_file.proofs.Renumbering.{Renumbers, renumbering}
-use Rattle.tib_hunt.specs.Numbered.{key_parts}
-use Rattle.tib_hunt.specs.Reached.{IsReachedSet, IsBeyond}
+use Rattle.tib_expand.specs.Keys.{key_parts}
+use Rattle.tib_expand.specs.Reached.{IsReachedSet, IsBeyond}
 use Rattle.tib_canon.specs.TrimmedForms.{IsTrimmedForm}
 use Rattle.tib_canon.proofs.EdgesByText.{key_with, edge_with, over_kept}
 use Rattle.tib_canon.proofs.NormalByText.{label_found}

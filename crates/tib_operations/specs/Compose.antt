@@ -1,7 +1,7 @@
 -- `compose`: the transducer that does what the first and then the second does.
 use Rattle.tib_cost.specs.declared.Scale.{Scale}
 use Rattle.std.specs.Prelude.{◌≡◌, ℕ, List, true}
-use Rattle.tib_hunt.specs.Reached.{IsBeyond}
+use Rattle.tib_expand.specs.Reached.{IsBeyond}
 use Rattle.tib_transducer.specs.TransducerOf.{TransducerOf}
 use Rattle.tib_transducer.specs.Outside.{Demands, demands}
 use Rattle.tib_canon.specs.Constructions.{HasReachedWithin}

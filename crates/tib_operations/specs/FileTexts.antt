@@ -1,5 +1,5 @@
 -- When the bytes of a file are the text of a value.
-pub use Rattle.tib_io.specs.Reads.{most_bytes}
+pub use Rattle.tib_lex.specs.Limits.{most_bytes}
 use Rattle.tib_cost.specs.declared.Scale.{Scale}
 use Rattle.std.specs.Prelude.{ℕ, ◌<◌, ◌≤◌, List, length}
 use Rattle.tib_lex.specs.Lists.{Each}

@@ -18,3 +18,7 @@ pub mod Demo
 pub mod Check
 pub mod Prune
 pub mod Compose
+pub mod Words
+pub mod ByText
+pub mod Parse
+pub mod Compare

@@ -1,9 +1,9 @@
 -- What an operation makes, and the limit on its parts.
 use Rattle.std.specs.Prelude.{◌≡◌, ◌≤◌, ℕ, ◌⊎◌, length}
-pub use Rattle.tib_hunt.specs.Reached.{most_parts}
+pub use Rattle.tib_expand.specs.Reached.{most_parts}
 use Rattle.tib_grammar.specs.GrammarOf.{GrammarOf}
 use Rattle.tib_normal.specs.Rows.{HasMoreParts, HasFormWithin}
-use Rattle.tib_hunt.specs.Reached.{IsBeyond}
+use Rattle.tib_expand.specs.Reached.{IsBeyond}
 use Rattle.tib_canon.specs.Constructions.{Construction, HasReachedWithin}
 use Rattle.tib_operations.specs.declared.status.Status.{Status}
 use Rattle.tib_operations.specs.declared.status.Status.TheVariants as statuses

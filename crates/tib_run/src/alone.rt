@@ -11,7 +11,7 @@ use std::alloc::Global;
 use std::thread::Threads;
 use tib_command::{CommandError, Job, Mode, read_words};
 use tib_cost::{Boolean, Bottleneck, MinPlus, Semiring, Widest};
-use tib_hunt::Gate;
+use tib_expand::Gate;
 use tib_io::{Failed, Files, GrowingSink, Sink, write_and_finish};
 use tib_job_files::{files_have_no_fault, values_of, within_or_too_many};
 use tib_operations::Status;

@@ -10,7 +10,7 @@ use crate::together::perform_together;
 use std::alloc::Global;
 use std::sync::Wait;
 use std::thread::Threads;
-use tib_hunt::Gate;
+use tib_expand::Gate;
 use tib_io::{Files, Sink};
 use tib_operations::Status;
 

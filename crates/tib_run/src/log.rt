@@ -6,7 +6,8 @@ ghost use Rattle.tib_run.specs.Log.{class_words, kind_words, line_of, plain_line
 use itoa::Buffer;
 use tib_io::{Failed, Sink};
 use tib_lex::FaultKind;
-use tib_operations::{Status, write_about, write_both, write_piece};
+use tib_operations::Status;
+use tib_texts::{write_about, write_both, write_piece};
 use tib_transducer::ClassFault;
 
 // The words of a fault, with the end of their line.

@@ -12,13 +12,13 @@ use std::thread::Threads;
 use tib_command::{Job, Operation};
 use tib_cost::Semiring;
 use tib_grammar::Grammar;
-use tib_hunt::Gate;
+use tib_expand::Gate;
 use tib_io::GrowingSink;
-use tib_job_files::{Values, comparison_of, parse_of};
-use tib_operations::{
-    Status, canonical_normal, canonical_pruned, composition_of, demand, demand_plain, demo_of,
-    determinization_of, image_of, intersection_of, kbest_text, outputs_of, preimage_of,
-};
+use tib_job_files::Values;
+use tib_hunted_texts::{comparison_of, parse_of};
+use tib_operations::Status;
+use tib_texts::{canonical_normal, canonical_pruned, demand, demand_plain, kbest_text};
+use tib_hunted_texts::{composition_of, demo_of, determinization_of, image_of, intersection_of, outputs_of, preimage_of};
 use tib_tree::Labels;
 
 /// The whole text of a job by one worker, of the values of its files over their table of labels, or

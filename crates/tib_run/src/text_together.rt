@@ -13,14 +13,13 @@ use std::sync::Wait;
 use std::thread::Threads;
 use tib_command::{Job, Operation};
 use tib_cost::Semiring;
-use tib_hunt::Gate;
+use tib_expand::Gate;
 use tib_io::GrowingSink;
-use tib_job_files::{Values, comparison_of_together, parse_of_together};
-use tib_operations::{
-    Status, composition_of_together, demand, demand_plain, demo_of_together,
-    determinization_of_together, image_of_together, intersection_of_together, outputs_of_together,
-    preimage_of_together,
-};
+use tib_job_files::Values;
+use tib_hunted_texts::{comparison_of_together, parse_of_together};
+use tib_operations::Status;
+use tib_hunted_texts::{composition_of_together, demo_of_together, determinization_of_together, image_of_together, intersection_of_together, outputs_of_together, preimage_of_together};
+use tib_texts::{demand, demand_plain};
 use tib_tree::Labels;
 
 /// What `text_of` returns: an operation that hunts does so by the workers of the job, whatever the

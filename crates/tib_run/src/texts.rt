@@ -15,7 +15,8 @@ use tib_cost::Semiring;
 use tib_grammar::Grammar;
 use tib_inside::inside;
 use tib_io::{Failed, GrowingSink};
-use tib_operations::{Status, classes_text, costs_of, inside_text, weighed_text};
+use tib_operations::Status;
+use tib_texts::{classes_text, costs_of, inside_text, weighed_text};
 use tib_transducer::Transducer;
 use tib_tree::{Labels, Tree};
 

@@ -12,7 +12,7 @@ use std::sync::Wait;
 use std::thread::Threads;
 use tib_command::{CommandError, Job, Mode, read_words};
 use tib_cost::{Boolean, Bottleneck, MinPlus, Semiring, Widest};
-use tib_hunt::Gate;
+use tib_expand::Gate;
 use tib_io::{Files, Sink};
 use tib_job_files::{files_have_no_fault, values_of, within_or_too_many};
 use tib_operations::Status;

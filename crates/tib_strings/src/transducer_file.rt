@@ -1,6 +1,6 @@
 // Reads tree-to-string transducer files.
 ghost use Rattle.std.specs.Prelude.{◌≡◌, ◌≤◌, ◌<◌, ◌+◌, ◌-◌, ◌^◌, length, IfOk, IfErr};
-ghost use Rattle.tib_io.specs.Reads.{most_bytes};
+ghost use Rattle.tib_lex.specs.Limits.{most_bytes};
 ghost use Rattle.tib_tree.specs.Grows.{Grows};
 ghost use Rattle.tib_strings.specs.Range.{AreWithin, AreShaped};
 ghost use Rattle.tib_strings.specs.Labelled.{AreLabelled};

@@ -2,7 +2,6 @@ pub mod Closing
 pub mod FreshKeys
 pub mod Inserted
 pub mod Joining
-pub mod Limits
 pub mod Logs
 pub mod Passes
 pub mod Placed

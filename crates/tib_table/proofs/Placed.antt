@@ -4,10 +4,10 @@ use Rattle.std.proofs.lemmas.List.{take_more}
 use Rattle.indexmap.specs.IndexSet.{insert_key, insert_all}
 use Rattle.tib_lex.specs.Lists.{Has, Along, total}
 use Rattle.tib_table.specs.Numbered.{Name, HaveMore}
-use Rattle.tib_table.specs.Limits.{IfTooMany}
+use Rattle.tib_expand.specs.Limits.{IfTooMany}
 use Rattle.tib_table.specs.Numbered.{all_on}
-use Rattle.tib_table.specs.declared.error.HuntError.{HuntError}
-use Rattle.tib_table.proofs.Limits.{IfTooMany-weaker}
+use Rattle.tib_expand.specs.declared.error.HuntError.{HuntError}
+use Rattle.tib_expand.proofs.Limits.{IfTooMany-weaker}
 use Rattle.tib_table.proofs.Inserted.{inserted}
 use Rattle.tib_table.proofs.Sights.{along_snoc, get_left}
 use Rattle.tib_lex.proofs.Members.{has_either, has_left, has_right}

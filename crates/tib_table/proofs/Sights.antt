@@ -5,10 +5,11 @@ use Rattle.std.proofs.lemmas.Grind.{reverse_onto}
 use Rattle.std.proofs.lemmas.List.Sums.{fold_push}
 use Rattle.indexmap.specs.IndexSet.{insert_key, insert_all}
 use Rattle.tib_lex.specs.Lists.{Has, Along, total}
-use Rattle.tib_table.specs.Limits.{IfTooMany}
-use Rattle.tib_table.specs.declared.error.HuntError.{HuntError}
-use Rattle.tib_table.specs.Numbered.{key_parts, Name, HaveMore, placed}
-use Rattle.tib_table.proofs.Limits.{IfTooMany-weaker}
+use Rattle.tib_expand.specs.Limits.{IfTooMany}
+use Rattle.tib_expand.specs.declared.error.HuntError.{HuntError}
+use Rattle.tib_table.specs.Numbered.{Name, HaveMore, placed}
+use Rattle.tib_expand.specs.Keys.{key_parts}
+use Rattle.tib_expand.proofs.Limits.{IfTooMany-weaker}
 use Rattle.tib_lex.proofs.Lists.{total_append}
 use Rattle.tib_lex.proofs.Members.{has_left}
 

@@ -2,7 +2,6 @@
 -- in the order of first sight and in ascending order.
 pub mod Kept
 pub mod Known
-pub mod Limits
 pub mod Lookups
 pub mod Numbered
 pub mod Seated

@@ -3,7 +3,7 @@ ghost use Rattle.std.specs.Prelude.{◌≡◌, ◌<◌, ◌++◌, [], ◌∷◌,
 ghost use Rattle.std.specs.List.{IsDistinct, All};
 ghost use Rattle.indexmap.specs.IndexSet.{insert_key};
 
-use crate::key::TableKey;
+use tib_expand::TableKey;
 use crate::problem::{Entry, Problem};
 use crate::shelf::Shelf;
 use std::alloc::{AllocError, Global};

@@ -5,14 +5,15 @@ ghost use Rattle.std.specs.Prelude.{◌≡◌, ℕ, ◌+◌, ◌-◌, ◌≤◌,
 ghost use Rattle.indexmap.specs.IndexSet.{insert_key, insert_all};
 ghost use Rattle.tib_lex.specs.Lists.{Has, Distinct, Along, total};
 ghost use Rattle.tib_lex.specs.Limits.{most_parts};
-ghost use Rattle.tib_table.specs.Limits.{IfTooMany};
-ghost use Rattle.tib_table.specs.Numbered.{key_parts, Name, HaveMore, KeyExceeds, AddsParts, placed, keys_of, IsInOrder};
+ghost use Rattle.tib_expand.specs.Limits.{IfTooMany};
+ghost use Rattle.tib_table.specs.Numbered.{Name, HaveMore, KeyExceeds, AddsParts, placed, keys_of, IsInOrder};
+ghost use Rattle.tib_expand.specs.Keys.{key_parts};
 ghost use Rattle.tib_table.specs.Numbered.{all_on};
 ghost use Rattle.tib_table.specs.Lookups.{IsNeedless};
 
-use crate::error::HuntError;
+use tib_expand::HuntError;
 use crate::halves::sort_by_halves;
-use crate::key::TableKey;
+use tib_expand::TableKey;
 use crate::numbering::put_new;
 use indexmap::IndexSet;
 use std::alloc::{AllocError, Global};

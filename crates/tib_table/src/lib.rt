@@ -8,10 +8,8 @@
 #![tactic(auto)]
 
 mod board;
-mod error;
 mod fresh;
 mod halves;
-mod key;
 mod number;
 mod numbering;
 mod problem;
@@ -20,9 +18,7 @@ mod shelves;
 mod table;
 mod turns;
 
-pub use error::HuntError;
 pub use fresh::{Lookup, count_keys, find_position, find_shelves, put_fresh, put_fresh_together};
-pub use key::TableKey;
 pub use number::Number;
 pub use numbering::{number_ends, sort_new};
 pub use problem::{Entry, Problem};

@@ -4,11 +4,12 @@ ghost use Rattle.std.specs.Prelude.{◌≡◌, ℕ, ◌+◌, ◌≤◌, ◌<◌,
 ghost use Rattle.indexmap.specs.IndexSet.{insert_key, insert_all};
 ghost use Rattle.tib_lex.specs.Lists.{Has, Each, Distinct, total};
 ghost use Rattle.tib_lex.specs.Limits.{most_parts};
-ghost use Rattle.tib_table.specs.Limits.{IfTooMany};
-ghost use Rattle.tib_table.specs.Numbered.{key_parts, Name, HaveMore, KeyExceeds, AddsParts, placed, keys_of, Moved, IsInOrder};
+ghost use Rattle.tib_expand.specs.Limits.{IfTooMany};
+ghost use Rattle.tib_table.specs.Numbered.{Name, HaveMore, KeyExceeds, AddsParts, placed, keys_of, Moved, IsInOrder};
+ghost use Rattle.tib_expand.specs.Keys.{key_parts};
 
-use crate::error::HuntError;
-use crate::key::TableKey;
+use tib_expand::HuntError;
+use tib_expand::TableKey;
 use indexmap::IndexSet;
 use std::alloc::{AllocError, Global};
 

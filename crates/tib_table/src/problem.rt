@@ -1,5 +1,5 @@
 // What a table is asked to hold: a type of keys, and which of them it may hold.
-use crate::key::TableKey;
+use tib_expand::TableKey;
 
 /// What the keys of a table belong to. Its data alone decide which keys it may hold.
 pub trait Problem: Drop {

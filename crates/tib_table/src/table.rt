@@ -3,7 +3,7 @@ ghost use Rattle.std.specs.Prelude.{◌≡◌, [], replicate, length, IfOk, IfEr
 ghost use Rattle.tib_table.specs.Known.{Names, GoOn, KeepNames, longest, IsNumbering, AreShelves};
 
 use crate::board::Board;
-use crate::key::TableKey;
+use tib_expand::TableKey;
 use crate::number::Number;
 use crate::problem::Problem;
 use crate::shelves::Shelves;

@@ -7,7 +7,7 @@ ghost use Rattle.tib_table.specs.Kept.{shelf_log};
 ghost use Rattle.tib_table.specs.Seated.{IsLogOf, known_of, lock_of, Closes, AreOpened};
 
 use crate::board::Board;
-use crate::key::TableKey;
+use tib_expand::TableKey;
 use crate::problem::Problem;
 use std::alloc::{AllocError, Global};
 use std::sync::Wait;

@@ -1,6 +1,6 @@
 // Files of one tree, of none and of several.
 ghost use Rattle.std.specs.Prelude.{◌≡◌, ◌≤◌, [], length};
-ghost use Rattle.tib_io.specs.Reads.{most_bytes};
+ghost use Rattle.tib_lex.specs.Limits.{most_bytes};
 
 use std::alloc::Global;
 use tib_lex::{FaultKind, FileFault, ReadError};

@@ -1,6 +1,6 @@
 // Tree files that are read, refused and printed.
 ghost use Rattle.std.specs.Prelude.{◌≡◌, ◌≤◌, [], length};
-ghost use Rattle.tib_io.specs.Reads.{most_bytes};
+ghost use Rattle.tib_lex.specs.Limits.{most_bytes};
 ghost use Rattle.tib_lex.specs.Lists.{Each};
 ghost use Rattle.tib_tree.specs.Growth.{HasLabels};
 

@@ -1,6 +1,6 @@
 // Reads transducer files with any kind of right sides.
 ghost use Rattle.std.specs.Prelude.{◌≤◌, ◌<◌, ◌+◌, ◌-◌, ◌^◌, length, IfOk, IfErr};
-ghost use Rattle.tib_io.specs.Reads.{most_bytes};
+ghost use Rattle.tib_lex.specs.Limits.{most_bytes};
 ghost use Rattle.tib_tree.specs.Grows.{Grows};
 ghost use Rattle.tib_transducer_file.specs.FileHeld.{FileReadBy};
 ghost use Rattle.tib_transducer_file.specs.Faults.{IsCauseBy};

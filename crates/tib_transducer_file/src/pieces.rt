@@ -1,6 +1,6 @@
 // The tokens of a line.
 ghost use Rattle.std.specs.Prelude.{◌≡◌, ◌≤◌, length, IfOk, Some, None, if◌then◌else◌, All};
-ghost use Rattle.tib_io.specs.Reads.{most_bytes};
+ghost use Rattle.tib_lex.specs.Limits.{most_bytes};
 ghost use Rattle.tib_lex.specs.Line.{Lies};
 ghost use Rattle.tib_transducer_file.specs.Pieces.{pieces_of, pieces_at};
 

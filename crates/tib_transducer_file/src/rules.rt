@@ -1,7 +1,7 @@
 // The rules of a file, with any kind of right sides.
 ghost use Rattle.std.specs.Prelude.{◌≤◌, ◌<◌, ◌+◌, ◌-◌, ◌^◌, length, drop, IfOk};
 ghost use Rattle.indexmap.specs.IndexSet.{keys};
-ghost use Rattle.tib_io.specs.Reads.{most_bytes};
+ghost use Rattle.tib_lex.specs.Limits.{most_bytes};
 ghost use Rattle.tib_cost.specs.declared.Scale.{Scale};
 ghost use Rattle.tib_lex.specs.Lines.{lines_of, each_line, HasNoFeed};
 ghost use Rattle.tib_tree.specs.Grows.{Grows};

@@ -1,6 +1,6 @@
 // The start of a transducer file, and what follows it.
 ghost use Rattle.std.specs.Prelude.{◌≤◌, ◌<◌, ◌-◌, ◌^◌, length};
-ghost use Rattle.tib_io.specs.Reads.{most_bytes};
+ghost use Rattle.tib_lex.specs.Limits.{most_bytes};
 ghost use Rattle.tib_transducer_file.specs.Begins.{IsBegun};
 
 use std::alloc::Global;

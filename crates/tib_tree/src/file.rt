@@ -8,7 +8,7 @@ ghost use Rattle.tib_tree.specs.TreesText.{ReadsTrees};
 ghost use Rattle.tib_tree.specs.Growth.{HasLabels, label_texts};
 ghost use Rattle.tib_lex.specs.Lines.{HasNoFeed};
 ghost use Rattle.tib_lex.specs.Lists.{Each};
-ghost use Rattle.tib_io.specs.Reads.{most_bytes};
+ghost use Rattle.tib_lex.specs.Limits.{most_bytes};
 
 use crate::labels::Labels;
 use crate::preorder::Tree;

@@ -1,6 +1,6 @@
 // The one tree of a tree file.
 ghost use Rattle.std.specs.Prelude.{◌≡◌, ◌<◌, ◌+◌, ◌-◌, ◌^◌, ◌≤◌, length, OnOk};
-ghost use Rattle.tib_io.specs.Reads.{most_bytes};
+ghost use Rattle.tib_lex.specs.Limits.{most_bytes};
 ghost use Rattle.tib_lex.specs.Lines.{HasNoFeed};
 ghost use Rattle.tib_tree.specs.Grows.{Grows, AddsAll};
 ghost use Rattle.tib_tree.specs.Lines.{tree_line, texts_in};

@@ -9,7 +9,7 @@ ghost use Rattle.tib_tree.specs.Trees.{most_nodes};
 ghost use Rattle.tib_tree.specs.Pairs.{pair_of, pairs_of};
 ghost use Rattle.tib_tree.specs.Shape.{item_at, items_back, PlaceLies};
 ghost use Rattle.tib_tree.specs.Shaped.{blank, blank_of, blanks_back};
-ghost use Rattle.tib_io.specs.Reads.{most_bytes};
+ghost use Rattle.tib_lex.specs.Limits.{most_bytes};
 
 use crate::labels::Labels;
 use crate::preorder::{Node, Tree, tree_of};

@@ -8,7 +8,7 @@ use std::process::ExitCode;
 use std::sync::Wait;
 use std::thread::Threads;
 use std::{env, io};
-use tib_hunt::Open;
+use tib_expand::Open;
 use tib_io::{HostFiles, HostSink};
 use tib_run::{Status, run, tell};
 

@@ -3,7 +3,7 @@
 ghost use Rattle.std.specs.Prelude.{◌≡◌};
 
 use std::marker::Model;
-use tib_hunt::TableKey;
+use tib_expand::TableKey;
 
 /// A state of the transducer, the places where its part of the string begins and ends, and a
 /// restriction: 0, or the number of the one label that may be at the root.

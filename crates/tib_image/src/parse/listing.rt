@@ -14,7 +14,7 @@ use std::alloc::AllocError;
 use tib_apply::Restrictions;
 use tib_cost::Cost;
 use tib_grammar::{Item, Side};
-use tib_hunt::ExpandError;
+use tib_expand::ExpandError;
 use tib_keyed::{SideListing, SideRule};
 use tib_transducer::Variable;
 

@@ -17,7 +17,7 @@ ghost use Rattle.std.specs.Prelude.{
   Err,
 };
 ghost use Rattle.tib_lex.specs.Lists.{total};
-ghost use Rattle.tib_hunt.specs.Reached.{most_parts};
+ghost use Rattle.tib_expand.specs.Reached.{most_parts};
 ghost use Rattle.tib_strings.specs.Rules.{string_rule};
 ghost use Rattle.tib_strings.specs.Range.{AreLinear, AreNondeleting};
 ghost use Rattle.tib_strings.specs.Remaining.{IsSearch, GoesTo, remaining};
@@ -46,7 +46,7 @@ use crate::parse::spans::{Span, make_room, put_spans};
 use std::alloc::Global;
 use tib_apply::Restrictions;
 use tib_grammar::Item;
-use tib_hunt::ExpandError;
+use tib_expand::ExpandError;
 use tib_strings::{Cuts, StringRule, StringTransducer, string_outside};
 use tib_transducer::ClassError;
 use tib_tree::Label;

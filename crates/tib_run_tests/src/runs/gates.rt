@@ -1,6 +1,6 @@
 // The gate of all runs here.
 use std::sync::atomic::{AtomicU64, Ordering};
-use tib_hunt::Gate;
+use tib_expand::Gate;
 
 /// What is done with the items that pass. It is one type, so that each operation is compiled for
 /// one gate alone.

@@ -1,5 +1,5 @@
 use Rattle.std.proofs.Common.{◌≡◌, take, map}
-use Rattle.tib_hunt.specs.EdgeLists.{position_of}
+use Rattle.tib_expand.specs.EdgeLists.{position_of}
 use Rattle.tib_transducer.specs.NamedPairs.{named_item}
 use Rattle.tib_compose.proofs.settling.settled_items.Given as goal
 

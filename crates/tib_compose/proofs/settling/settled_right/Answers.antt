@@ -2,7 +2,7 @@ use Rattle.std.proofs.Common.{arith, ap, ◌∙◌, length}
 use Rattle.std.proofs.lemmas.Result.{IfOk-weaker}
 use Rattle.tib_grammar.specs.Items.{pairs_of}
 use Rattle.tib_grammar.specs.Sides.{side_map}
-use Rattle.tib_hunt.specs.EdgeLists.{position_of}
+use Rattle.tib_expand.specs.EdgeLists.{position_of}
 use Rattle.tib_transducer.specs.NamedPairs.{named_pair}
 use Rattle.tib_transducer.proofs.NamedItems.{one_tree, preorder-named}
 use Rattle.tib_compose.proofs.Settled.{tree_same, right_within}

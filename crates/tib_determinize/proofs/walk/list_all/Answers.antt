@@ -1,5 +1,5 @@
 use Rattle.std.proofs.Common.{◌≡◌, refl, ◌+◌, ◌-◌, ◌<◌, ◌++◌, List, [], ◌∷◌, length, suc, arith, ap, sym, ◌∙◌, subst}
-use Rattle.tib_hunt.specs.declared.place.ExpandError.{ExpandError}
+use Rattle.tib_expand.specs.declared.place.ExpandError.{ExpandError}
 use Rattle.tib_determinize.specs.declared.walk.Level.{Level}
 use Rattle.tib_lex.specs.Lists.{Each}
 use Rattle.tib_determinize.proofs.Walked.{have_place}

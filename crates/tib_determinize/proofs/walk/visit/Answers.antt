@@ -11,7 +11,7 @@ use Rattle.tib_determinize.specs.Vectors.{vector_at}
 use Rattle.tib_determinize.proofs.Remaining.{left_are_alive}
 use Rattle.tib_determinize.specs.Tries.{under, behind_label}
 use Rattle.tib_determinize.specs.Stepped.{AddsSteps, IsUnderway, StepsOverrun}
-use Rattle.tib_hunt.specs.declared.place.ExpandError.{ExpandError}
+use Rattle.tib_expand.specs.declared.place.ExpandError.{ExpandError}
 use Rattle.tib_determinize.proofs.Results.{err_is}
 use Rattle.tib_determinize.proofs.Underway.{underway_begins}
 use Rattle.tib_determinize.proofs.Visits.{adds_nothing, alive_next, nothing_next, level_below, tries_fresh, leaf_is, nothing_left, fits, in_order, long}

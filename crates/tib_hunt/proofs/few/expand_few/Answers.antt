@@ -1,8 +1,8 @@
 use Rattle.std.proofs.Common.{◌+◌, ◌-◌, ◌∷◌, ◌∙◌, [], map, refl, sym, ap, subst, arith}
-use Rattle.tib_hunt.specs.Expanded.{ListsEdges, EdgesExceed, HasEnds, IsEndAt}
+use Rattle.tib_expand.specs.Expanded.{ListsEdges, EdgesExceed, HasEnds, IsEndAt}
 use Rattle.tib_hunt.specs.Held.{IsWithinRound}
 use Rattle.tib_hunt.specs.Rows.{numbered}
-use Rattle.tib_hunt.proofs.Reaching.{IfTooMany-weaker, hunt_of}
+use Rattle.tib_expand.proofs.Reaching.{IfTooMany-weaker, hunt_of}
 use Rattle.tib_hunt.proofs.Settling.{map_both}
 use Rattle.tib_hunt.proofs.Advancing.{few_keys, keys_counted, too_many_edges, too_many_ends, expanded, end_admitted, slice_is}
 use Rattle.tib_hunt.proofs.few.expand_few.Goals as goal

@@ -1,6 +1,6 @@
 use Rattle.std.proofs.Common.{map, arith}
 use Rattle.tib_hunt.specs.Rows.{numbered}
-use Rattle.tib_hunt.proofs.Reaching.{hunt_of}
+use Rattle.tib_expand.proofs.Reaching.{hunt_of}
 use Rattle.tib_hunt.proofs.Advancing.{few_keys}
 use Rattle.tib_hunt.proofs.Finding.{round_ends_at}
 use Rattle.tib_hunt.proofs.few.round_of_few.Goals as goal

@@ -1,7 +1,7 @@
 use Rattle.std.proofs.Common.{◌∙◌, map, sym, ap, subst}
 use Rattle.std.proofs.lemmas.Result.{on_ok_weaker}
 use Rattle.tib_lex.specs.Lists.{Each}
-use Rattle.tib_hunt.specs.EdgeLists.{IsWithin}
+use Rattle.tib_expand.specs.EdgeLists.{IsWithin}
 use Rattle.tib_hunt.specs.Known.{end_positions}
 use Rattle.tib_hunt.specs.Numbered.{moved_to}
 use Rattle.tib_hunt.specs.Rows.{Settles}

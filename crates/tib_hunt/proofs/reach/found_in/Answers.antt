@@ -1,5 +1,5 @@
 use Rattle.std.proofs.Common.{length, arith}
-use Rattle.tib_hunt.proofs.Reaching.{hunt_of}
+use Rattle.tib_expand.proofs.Reaching.{hunt_of}
 use Rattle.tib_hunt.proofs.Finding.{all_found, all_counted}
 use Rattle.tib_hunt.proofs.reach.found_in.Goals as goal
 

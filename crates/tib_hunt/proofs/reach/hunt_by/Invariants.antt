@@ -1,6 +1,6 @@
 use Rattle.std.proofs.Common.{◌≡◌, ◌+◌, ◌-◌, []}
 use Rattle.tib_hunt.specs.Held.{IsBetween}
-use Rattle.tib_hunt.specs.Reached.{most_parts}
+use Rattle.tib_expand.specs.Reached.{most_parts}
 use Rattle.tib_hunt.proofs.reach.hunt_by.Given as goal
 
 abbrev pub invariant-loop-first : goal.invariant-loop-first

@@ -1,6 +1,6 @@
 use Rattle.std.proofs.Common.{◌≡◌, length, subst, arith}
 use Rattle.tib_hunt.specs.Held.{IsBetween}
-use Rattle.tib_hunt.proofs.Reaching.{hunt_of}
+use Rattle.tib_expand.proofs.Reaching.{hunt_of}
 use Rattle.tib_hunt.proofs.Advancing.{few_keys}
 use Rattle.tib_hunt.proofs.reach.hunt_together.Goals as goal
 

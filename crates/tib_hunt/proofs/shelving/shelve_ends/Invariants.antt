@@ -1,6 +1,6 @@
 use Rattle.std.proofs.Common.{◌≡◌}
 use Rattle.std.specs.Vec.Iter.{into_iter_items}
-use Rattle.tib_hunt.specs.Numbered.{key_parts}
+use Rattle.tib_expand.specs.Keys.{key_parts}
 use Rattle.tib_hunt.proofs.OnShelves.{ShelvedSoFar}
 use Rattle.tib_hunt.proofs.shelving.shelve_ends.Given as goal
 

@@ -1,5 +1,5 @@
 use Rattle.std.proofs.Common.{◌∙◌, refl, sym, arith}
-use Rattle.tib_hunt.specs.Numbered.{key_parts}
+use Rattle.tib_expand.specs.Keys.{key_parts}
 use Rattle.tib_hunt.proofs.OnShelves.{key_grew, key_stayed}
 use Rattle.tib_hunt.proofs.shelving.shelve_key.Goals as goal
 

@@ -1,6 +1,6 @@
 use Rattle.std.proofs.Common.{◌∙◌, ap, arith, refl}
 use Rattle.tib_crew.specs.Rows.{parts_in}
-use Rattle.tib_hunt.proofs.Reaching.{hunt_of}
+use Rattle.tib_expand.proofs.Reaching.{hunt_of}
 use Rattle.tib_hunt.proofs.Advancing.{few_keys}
 use Rattle.tib_hunt.proofs.GatheredRows.{gathered_whole, gathered_apart, too_little_beyond}
 use Rattle.tib_hunt.proofs.together.work_together.Goals as goal

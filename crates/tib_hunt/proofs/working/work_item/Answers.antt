@@ -1,7 +1,7 @@
 use Rattle.std.proofs.Common.{◌∙◌, None, refl, sym, ap, subst, arith}
 use Rattle.tib_hunt.specs.RoundModel.{Core, with_filed}
 use Rattle.tib_hunt.specs.Shelved.{NameOn}
-use Rattle.tib_hunt.proofs.Reaching.{hunt_of}
+use Rattle.tib_expand.proofs.Reaching.{hunt_of}
 use Rattle.tib_hunt.proofs.Underway.{told_shelves, ends_drawn, file_drawn, file_once, file_ends}
 use Rattle.tib_hunt.proofs.working.work_item.Goals as goal
 

@@ -1,8 +1,8 @@
 use Rattle.std.proofs.Common.{◌≡◌, ◌∙◌, length, map, sym, ap, subst, arith}
-use Rattle.tib_hunt.specs.Numbered.{key_parts}
+use Rattle.tib_expand.specs.Keys.{key_parts}
 use Rattle.tib_hunt.specs.Shelved.{all_on, IsUnderway, IsWorked, IsTooMuch}
-use Rattle.tib_hunt.specs.Reached.{IfTooMany}
-use Rattle.tib_hunt.proofs.Reaching.{hunt_of}
+use Rattle.tib_expand.specs.Reached.{IfTooMany}
+use Rattle.tib_expand.proofs.Reaching.{hunt_of}
 use Rattle.tib_hunt.proofs.Advancing.{few_keys}
 use Rattle.tib_hunt.proofs.Underway.{underway_none, next_under, next_at, next_is, underway_more, more_at, told_much, underway_worked}
 use Rattle.tib_lex.specs.Lists.{total}

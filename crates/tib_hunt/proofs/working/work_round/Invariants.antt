@@ -1,5 +1,5 @@
 use Rattle.std.proofs.Common.{◌≡◌, ◌≤◌, ◌+◌}
-use Rattle.tib_hunt.specs.Numbered.{key_parts}
+use Rattle.tib_expand.specs.Keys.{key_parts}
 use Rattle.tib_hunt.specs.Shelved.{all_on, IsUnderway}
 use Rattle.tib_lex.specs.Lists.{total}
 use Rattle.tib_hunt.proofs.working.work_round.Given as goal

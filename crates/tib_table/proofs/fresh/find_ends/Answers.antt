@@ -1,6 +1,7 @@
 use Rattle.std.proofs.Common.{◌++◌, ◌∷◌, [], subst, sym}
 use Rattle.std.specs.Vec.Iter.{into_iter_items}
-use Rattle.tib_table.specs.Numbered.{key_parts, keys_of}
+use Rattle.tib_table.specs.Numbered.{keys_of}
+use Rattle.tib_expand.specs.Keys.{key_parts}
 use Rattle.tib_table.proofs.Sights.{SoFar, step, told}
 use Rattle.tib_table.proofs.FreshKeys.{next_apart, next_has}
 use Rattle.tib_table.proofs.fresh.find_ends.Goals as goal

@@ -1,9 +1,10 @@
 use Rattle.std.proofs.Common.{◌≡◌, ◌∙◌, ◌++◌, ◌∷◌, ◌+◌, Some, [], length-append, append_assoc, slice_get, sym, ap, subst, arith}
 use Rattle.std.proofs.lemmas.Option.{slice_get_within}
-use Rattle.tib_table.specs.Numbered.{key_parts, keys_of}
+use Rattle.tib_table.specs.Numbered.{keys_of}
+use Rattle.tib_expand.specs.Keys.{key_parts}
 use Rattle.tib_table.proofs.Sights.{total_least, get_left}
 use Rattle.tib_table.proofs.FreshKeys.{many, known, unknown, last_at}
-use Rattle.tib_table.proofs.Limits.{IfTooMany-weaker}
+use Rattle.tib_expand.proofs.Limits.{IfTooMany-weaker}
 use Rattle.tib_lex.specs.Lists.{total}
 use Rattle.tib_lex.proofs.Lists.{total_append}
 use Rattle.tib_table.proofs.fresh.find_key.Goals as goal

@@ -1,6 +1,7 @@
 use Rattle.std.proofs.Common.{◌++◌, ap, map}
 use Rattle.std.specs.Vec.Iter.{into_iter_items}
-use Rattle.tib_table.specs.Numbered.{key_parts, keys_of}
+use Rattle.tib_table.specs.Numbered.{keys_of}
+use Rattle.tib_expand.specs.Keys.{key_parts}
 use Rattle.tib_table.proofs.Placed.{shelf_told, shelf_placed}
 use Rattle.tib_table.proofs.FreshKeys.{shelf_once, shelf_apart, shelf_has}
 use Rattle.tib_table.proofs.fresh.find_shelves.Goals as goal

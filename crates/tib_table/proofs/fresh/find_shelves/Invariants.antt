@@ -1,6 +1,7 @@
 use Rattle.std.proofs.Common.{◌≡◌, ◌++◌, map}
 use Rattle.std.specs.Vec.Iter.{into_iter_items}
-use Rattle.tib_table.specs.Numbered.{key_parts, placed, keys_of}
+use Rattle.tib_table.specs.Numbered.{placed, keys_of}
+use Rattle.tib_expand.specs.Keys.{key_parts}
 use Rattle.tib_table.proofs.Placed.{PlacedSoFar}
 use Rattle.tib_table.proofs.fresh.find_shelves.Given as goal
 

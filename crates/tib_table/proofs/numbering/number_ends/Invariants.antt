@@ -1,5 +1,5 @@
 use Rattle.std.specs.Vec.Iter.{into_iter_items}
-use Rattle.tib_table.specs.Numbered.{key_parts}
+use Rattle.tib_expand.specs.Keys.{key_parts}
 use Rattle.tib_table.proofs.Sights.{SoFar}
 use Rattle.tib_table.proofs.numbering.number_ends.Given as goal
 

@@ -1,5 +1,5 @@
 use Rattle.std.proofs.Common.{refl, ap, arith}
-use Rattle.tib_table.specs.Numbered.{key_parts}
+use Rattle.tib_expand.specs.Keys.{key_parts}
 use Rattle.tib_table.proofs.Sights.{total_new, total_old, total_least}
 use Rattle.tib_table.proofs.numbering.number_key.Goals.{then-added+else-size-limit, else-added}
 use Rattle.tib_lex.specs.Lists.{total}

@@ -1,7 +1,7 @@
 use Rattle.std.proofs.Common.{◌≡◌, ◌∙◌, ap, subst, take, ℕ, List, length, get_or, arith, Err}
 use Rattle.std.proofs.lemmas.List.{take_all}
 use Rattle.std.specs.declared.result.Result.{Result}
-use Rattle.tib_hunt.specs.declared.place.ExpandError.{ExpandError}
+use Rattle.tib_expand.specs.declared.place.ExpandError.{ExpandError}
 use Rattle.tib_transducer.specs.Moves.{moves_of}
 use Rattle.tib_apply.specs.declared.edge_list.EdgeList.{EdgeList}
 use Rattle.tib_apply.specs.Backward.{IsBackwardEdge}

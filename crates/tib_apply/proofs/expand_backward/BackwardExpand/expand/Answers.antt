@@ -2,7 +2,7 @@ use Rattle.std.proofs.Common.{◌≡◌, ◌∙◌, ◌<◌, ap, sym, subst, ref
 use Rattle.std.specs.declared.result.Result.{Result}
 use Rattle.std.proofs.lemmas.List.{get_or_read}
 use Rattle.tib_lex.proofs.Members.{each_has, has_at}
-use Rattle.tib_hunt.specs.declared.place.ExpandError.{ExpandError}
+use Rattle.tib_expand.specs.declared.place.ExpandError.{ExpandError}
 use Rattle.tib_apply.specs.Backward.{IsBackwardEdge}
 use Rattle.tib_apply.specs.BackwardLaws.{one_backward_edge}
 use Rattle.tib_apply.specs.KeyGrammars.{key_at}

@@ -5,7 +5,7 @@ use Rattle.tib_apply.specs.ForwardLaws.{same_table_edge}
 use Rattle.tib_keyed.specs.Listing.{AreListedFrom, Overruns}
 use Rattle.tib_apply.specs.TableEdges.{IsTableEdge}
 use Rattle.tib_keyed.proofs.Listed.{whole_listed, whole_ends, overruns_exceeds}
-use Rattle.tib_hunt.specs.declared.place.ExpandError.{ExpandError}
+use Rattle.tib_expand.specs.declared.place.ExpandError.{ExpandError}
 use Rattle.tib_apply.specs.ForwardRules.{ForwardListing}
 use Rattle.std.specs.declared.result.Result.{Result}
 use Rattle.tib_apply.proofs.forward_expand.ForwardExpand.expand.Goals as goal

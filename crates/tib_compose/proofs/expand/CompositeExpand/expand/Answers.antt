@@ -5,7 +5,7 @@ use Rattle.tib_keyed.specs.Choices.{edges_of}
 use Rattle.tib_keyed.specs.Composition.{edge_parts}
 use Rattle.tib_compose.specs.Listing.{IsListing}
 use Rattle.tib_compose.proofs.Expanded.{whole_listed, whole_ends, overruns_exceeds}
-use Rattle.tib_hunt.specs.declared.place.ExpandError.{ExpandError}
+use Rattle.tib_expand.specs.declared.place.ExpandError.{ExpandError}
 use Rattle.tib_compose.specs.declared.listing.Listing.{Listing}
 use Rattle.std.specs.declared.result.Result.{Result}
 use Rattle.tib_keyed.specs.Ends.{key_at}

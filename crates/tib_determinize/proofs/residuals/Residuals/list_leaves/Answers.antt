@@ -1,5 +1,5 @@
 use Rattle.std.proofs.Common.{◌≡◌, ℕ, ◌+◌, List, [], drop, get_or, sym, ◌∙◌, subst, refl}
-use Rattle.tib_hunt.specs.declared.place.ExpandError.{ExpandError}
+use Rattle.tib_expand.specs.declared.place.ExpandError.{ExpandError}
 use Rattle.tib_determinize.specs.Shapes.{shapes_in}
 use Rattle.tib_determinize.specs.Stepped.{HasSteps, IsUnderway, StepsExceed}
 use Rattle.tib_determinize.specs.Tries.{leaf_try, leaf_tries}

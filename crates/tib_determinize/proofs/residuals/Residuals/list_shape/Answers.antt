@@ -1,7 +1,7 @@
 use Rattle.std.proofs.Common.{◌≡◌, ℕ, ◌+◌, ◌-◌, List, [], ap, sym, ◌∙◌, subst}
 use Rattle.tib_grammar.specs.GrammarOf.{GrammarOf}
 use Rattle.tib_grammar.specs.declared.Rule.{Rule}
-use Rattle.tib_hunt.specs.declared.place.ExpandError.{ExpandError}
+use Rattle.tib_expand.specs.declared.place.ExpandError.{ExpandError}
 use Rattle.tib_lex.specs.Lists.{Each}
 use Rattle.tib_determinize.specs.Vectors.{vector_at}
 use Rattle.tib_determinize.specs.Alive.{AreLeft}

@@ -1,7 +1,8 @@
 use Rattle.std.proofs.Common.{◌∙◌, ◌++◌, ◌+◌, [], ◌∷◌, map, refl, ap, subst, arith}
-use Rattle.tib_hunt.specs.Numbered.{key_parts, HaveMore}
+use Rattle.tib_hunt.specs.Numbered.{HaveMore}
+use Rattle.tib_expand.specs.Keys.{key_parts}
 use Rattle.tib_hunt.specs.Rows.{numbered}
-use Rattle.tib_hunt.proofs.Reaching.{IfTooMany-weaker, hunt_of}
+use Rattle.tib_expand.proofs.Reaching.{IfTooMany-weaker, hunt_of}
 use Rattle.tib_hunt.proofs.Advancing.{few_keys, seeds_exceed, too_many_seeds}
 use Rattle.tib_hunt.proofs.Finding.{begun, begins_at, no_keys}
 use Rattle.tib_hunt.proofs.hunting.HuntState.begin.Goals as goal

@@ -3,7 +3,7 @@ use Rattle.tib_lex.specs.Lists.{Each, Distinct}
 use Rattle.tib_hunt.specs.Numbered.{keys_of}
 use Rattle.tib_hunt.specs.Rows.{IsRowBelow}
 use Rattle.tib_hunt.specs.Shelved.{placed_row}
-use Rattle.tib_hunt.proofs.Reaching.{hunt_of}
+use Rattle.tib_expand.proofs.Reaching.{hunt_of}
 use Rattle.tib_hunt.proofs.Advancing.{few_keys}
 use Rattle.tib_hunt.proofs.Finding.{fresh_round_ends}
 use Rattle.tib_hunt.proofs.hunting.HuntState.end_round_together.Goals as goal

@@ -1,7 +1,8 @@
 use Rattle.std.proofs.Common.{◌≡◌, ◌++◌, ◌≤◌, ◌<◌, ℕ, map, subst}
 use Rattle.tib_lex.specs.Lists.{Each}
 use Rattle.tib_hunt.specs.Numbered.{moved_to}
-use Rattle.tib_hunt.specs.Rows.{numbered, read_rows, AreBelow}
+use Rattle.tib_hunt.specs.Rows.{numbered, read_rows}
+use Rattle.tib_expand.specs.Reading.{AreBelow}
 use Rattle.tib_hunt.proofs.hunting.HuntState.settle.Goals as goal
 
 pub returns-clause-settled : goal.returns-clause-settled

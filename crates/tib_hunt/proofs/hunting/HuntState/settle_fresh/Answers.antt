@@ -1,7 +1,8 @@
 use Rattle.std.proofs.Common.{◌≡◌, ◌++◌, ◌≤◌, ◌<◌, ◌+◌, ℕ, length, length-append, map, subst, sym, ap, arith}
 use Rattle.tib_lex.specs.Lists.{Each}
 use Rattle.tib_hunt.specs.Numbered.{keys_of, moved_to}
-use Rattle.tib_hunt.specs.Rows.{read_rows, IsRowBelow, AreBelow}
+use Rattle.tib_hunt.specs.Rows.{read_rows, IsRowBelow}
+use Rattle.tib_expand.specs.Reading.{AreBelow}
 use Rattle.tib_hunt.specs.Known.{AreOn}
 use Rattle.tib_hunt.specs.Shelved.{placed_row}
 use Rattle.tib_table.proofs.FreshKeys.{moved_bound}

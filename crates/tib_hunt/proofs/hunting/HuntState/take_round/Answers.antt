@@ -4,7 +4,7 @@ use Rattle.tib_hunt.specs.Numbered.{keys_of}
 use Rattle.tib_hunt.specs.Held.{IsWithinRound}
 use Rattle.tib_hunt.specs.Known.{AreOn}
 use Rattle.tib_hunt.specs.Shelved.{placed_row}
-use Rattle.tib_hunt.proofs.Reaching.{hunt_of}
+use Rattle.tib_expand.proofs.Reaching.{hunt_of}
 use Rattle.tib_hunt.proofs.Advancing.{end_admitted}
 use Rattle.tib_hunt.proofs.Underway.{all_somewhere}
 use Rattle.tib_hunt.proofs.Taken.{all_placed, once_there, enough_there, told_new, within_round}

@@ -1,8 +1,8 @@
 use Rattle.std.proofs.Common.{◌+◌, refl, subst}
 use Rattle.std.specs.Prelude.{◌↔◌}
 use Rattle.tib_lex.specs.Lists.{Has}
-use Rattle.tib_hunt.specs.EdgeLists.{AreListed}
-use Rattle.tib_hunt.specs.Expanded.{IsEndAt}
+use Rattle.tib_expand.specs.EdgeLists.{AreListed}
+use Rattle.tib_expand.specs.Expanded.{IsEndAt}
 use Rattle.tib_hunt.proofs.job.JobOfTask.perform.Goals as goal
 
 pub returns-clause-given : goal.returns-clause-given

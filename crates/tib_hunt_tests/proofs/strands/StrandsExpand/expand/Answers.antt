@@ -1,5 +1,5 @@
 use Rattle.std.proofs.Common.{◌+◌, ◌*◌, arith, refl}
-use Rattle.tib_hunt.proofs.EdgeLemmas.{Lists-one, Lists-some}
+use Rattle.tib_expand.proofs.EdgeLemmas.{Lists-one, Lists-some}
 use Rattle.tib_hunt_tests.proofs.strands.StrandsExpand.expand.Goals as goal
 
 pub returns-then-budget-eq0-clause-more : goal.returns-then-budget-eq0-clause-more

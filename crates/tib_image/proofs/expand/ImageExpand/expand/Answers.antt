@@ -5,7 +5,7 @@ use Rattle.tib_image.specs.Laws.{same_edge}
 use Rattle.tib_image.specs.Listing.{Listing}
 use Rattle.tib_keyed.specs.Listing.{AreListedFrom, Overruns}
 use Rattle.tib_keyed.proofs.Listed.{whole_listed, whole_ends, overruns_exceeds}
-use Rattle.tib_hunt.specs.declared.place.ExpandError.{ExpandError}
+use Rattle.tib_expand.specs.declared.place.ExpandError.{ExpandError}
 use Rattle.std.specs.declared.result.Result.{Result}
 use Rattle.tib_keyed.specs.Ends.{key_at}
 use Rattle.tib_image.proofs.expand.ImageExpand.expand.Goals as goal

@@ -2,7 +2,7 @@ use Rattle.std.proofs.Common.{◌≡◌, ◌<◌, ℕ, List, ◌+◌, take, get_
 use Rattle.tib_grammar.specs.declared.Rule.{Rule}
 use Rattle.std.proofs.Common.{Err}
 use Rattle.std.specs.declared.result.Result.{Result}
-use Rattle.tib_hunt.specs.declared.place.ExpandError.{ExpandError}
+use Rattle.tib_expand.specs.declared.place.ExpandError.{ExpandError}
 use Rattle.tib_grammar.specs.GrammarOf.{GrammarOf}
 use Rattle.tib_grammar.specs.Forms.{AreNormal}
 use Rattle.tib_intersect.specs.Matching.{positions_with}

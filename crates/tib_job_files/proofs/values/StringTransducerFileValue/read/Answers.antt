@@ -2,7 +2,7 @@ use Rattle.std.proofs.lemmas.Result.{IfOk-weaker}
 use Rattle.tib_job_files.specs.Kinds.{of_string_transducer, IsTextOf}
 use Rattle.tib_job_files.specs.Values.{IsPrintableValue}
 use Rattle.tib_job_files.proofs.ReadValues.{by_scale}
-use Rattle.tib_job_files.proofs.WordsRead.{words_plain}
+use Rattle.tib_operations.proofs.WordsRead.{words_plain}
 use Rattle.tib_job_files.proofs.values.StringTransducerFileValue.read.Goals as goal
 
 pub returns-clause-text : goal.returns-clause-text

@@ -2,8 +2,8 @@ use Rattle.std.proofs.Common.{◌≡◌, Err, ap, sym, ◌∙◌, subst, length,
 use Rattle.std.proofs.lemmas.List.{get_or_read}
 use Rattle.std.specs.declared.result.Result.{Result}
 use Rattle.tib_lex.proofs.Members.{each_has, has_at}
-use Rattle.tib_hunt.specs.EdgeLists.{AreListed, Exceeds, IsEnd}
-use Rattle.tib_hunt.specs.declared.place.ExpandError.{ExpandError}
+use Rattle.tib_expand.specs.EdgeLists.{AreListed, Exceeds, IsEnd}
+use Rattle.tib_expand.specs.declared.place.ExpandError.{ExpandError}
 use Rattle.tib_lex.specs.Lists.{Has}
 use Rattle.std.specs.Prelude.{◌↔◌}
 use Rattle.tib_grammar.specs.Sides.{holes_of}

@@ -1,0 +1,4 @@
+pub mod EdgeLemmas
+pub mod Limits
+pub mod Members
+pub mod Reaching

@@ -1,4 +1,0 @@
-use Rattle.tib_operations.proofs.forms.product_has_laws.Goals as goal
-
-pub returns : goal.returns
-returns g c = g.met.S.Semiring.laws

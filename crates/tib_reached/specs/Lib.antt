@@ -1,0 +1,1 @@
+-- There are no definitions here: those of the crates below state what a hunt finds.

@@ -1,0 +1,90 @@
+// Forward application: the keys that are reached, with their rules.
+ghost use Rattle.std.specs.Prelude.{◌≤◌, length, IfOk, IfErr, true, false};
+ghost use Rattle.tib_transducer.specs.Outside.{demands, AllMeet};
+ghost use Rattle.tib_expand.specs.Reached.{most_parts, IsBeyond};
+ghost use Rattle.tib_apply.specs.Applied.{IsReachedBy, HasPartsOf, AreOverOrder, IsApplyFault};
+ghost use Rattle.tib_apply.specs.Operations.{forward_image};
+
+use tib_apply::ApplyError;
+use tib_apply::Forward;
+use tib_apply::Key;
+use std::alloc::Global;
+use std::sync::Wait;
+use std::thread::Threads;
+use tib_cost::Semiring;
+use tib_grammar::Rule;
+use tib_expand::{Found, Gate};
+use tib_hunt::{hunt, hunt_alone};
+use tib_normal::Normal;
+use tib_transducer::Transducer;
+
+/// The keys that forward application reaches from the key of the starts, in the order by rounds,
+/// and the rules over their positions. As a grammar whose start is position 0 they give each tree
+/// the least cost of putting it out from a tree of the grammar (`laws::forward_means`). `Class`
+/// exactly where the transducer is not linear; `TooMany` exactly where it is and they have more
+/// parts than the limit, 1 to `MOST_PARTS` of tib_expand; `OutOfMemory` if memory is refused. Calls
+/// `gate` once for each key. Cost: that of `Forward::new`, and for each key the matches of the
+/// left-hand sides of the rules of its state and the edges that they make, in addition to the
+/// hunt's own (`hunt_alone`). The image of a grammar under a linear transducer is from Comon and
+/// others, 2007.
+pub fn apply_forward<S: Semiring, G: Gate>(
+    alloc: Global,
+    grammar: &Normal<S>,
+    transducer: &Transducer<S>,
+    limit: u64,
+    gate: &G,
+) -> Result<Found<Key, Rule<u32>>, ApplyError>
+    requires some { 1 ≤ limit }
+    requires limit { limit ≤ most_parts }
+    ensures class { IfOk result (λ _. AllMeet (demands true false false false)
+        transducer.now.rules) }
+    ensures reached { IfOk result (IsReachedBy (forward_image S.product grammar.now.rules
+        transducer.now.rules)) }
+    ensures range { IfOk result AreOverOrder }
+    ensures parts { IfOk result (HasPartsOf (forward_image S.product grammar.now.rules
+        transducer.now.rules)) }
+    ensures within { IfOk result (λ f. f.parts ≤ limit) }
+    ensures few { IfOk result (λ f. length f.order.items ≤ limit) }
+    ensures few_rules { IfOk result (λ f. length f.rules.items ≤ limit) }
+    ensures fault { let hunted = forward_image S.product grammar.now.rules transducer.now.rules in
+        IfErr result (IsApplyFault (demands true false false false) transducer.now.rules limit
+        (IsBeyond hunted limit)) }
+{
+    let forward = Forward::new(alloc, grammar, transducer)?;
+    let found = hunt_alone(alloc, &forward, limit, gate)?;
+    Ok(found)
+}
+
+/// What `apply_forward` returns, found by this number of workers, 1 to 16, whatever the order of
+/// their steps. It may wait forever, as the hunt by several workers (`hunt` of tib_hunt). Errors
+/// are those of `apply_forward`, and so is the cost, except for keys that are expanded again.
+pub fn apply_forward_together<S: Semiring + Sync, R: Threads + Wait + Sync, G: Gate + Sync>(
+    rt: &R,
+    alloc: Global,
+    grammar: &Normal<S>,
+    transducer: &Transducer<S>,
+    workers: u32,
+    limit: u64,
+    gate: &G,
+) -> Result<Found<Key, Rule<u32>>, ApplyError>
+    requires workers { (1 ≤ workers) × (workers ≤ 16) }
+    requires some { 1 ≤ limit }
+    requires limit { limit ≤ most_parts }
+    ensures class { IfOk result (λ _. AllMeet (demands true false false false)
+        transducer.now.rules) }
+    ensures reached { IfOk result (IsReachedBy (forward_image S.product grammar.now.rules
+        transducer.now.rules)) }
+    ensures range { IfOk result AreOverOrder }
+    ensures parts { IfOk result (HasPartsOf (forward_image S.product grammar.now.rules
+        transducer.now.rules)) }
+    ensures within { IfOk result (λ f. f.parts ≤ limit) }
+    ensures few { IfOk result (λ f. length f.order.items ≤ limit) }
+    ensures few_rules { IfOk result (λ f. length f.rules.items ≤ limit) }
+    ensures fault { let hunted = forward_image S.product grammar.now.rules transducer.now.rules in
+        IfErr result (IsApplyFault (demands true false false false) transducer.now.rules limit
+        (IsBeyond hunted limit)) }
+{
+    let forward = Forward::new(alloc, grammar, transducer)?;
+    let found = hunt(rt, alloc, &forward, workers, limit, gate)?;
+    Ok(found)
+}

@@ -1,0 +1,4 @@
+pub mod Lines
+pub mod FormSeries
+pub mod BestOf
+pub mod NarrowBest

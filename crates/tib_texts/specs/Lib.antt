@@ -1,0 +1,1 @@
+-- There are no definitions here: those of tib_operations state what each text is.
