@@ -51,7 +51,8 @@ without (z ∷ ys) y (inr h) =
       still = λ x k n. elim k [ inl d ↦ inl d | inr j ↦ inr (w.still x j n) ];
     }
 
--- the candidate before each that was taken, with its last rank that is not 0 one lower, was taken
+-- the candidate before each that was taken, with its last rank that is not 0 lowered by one, was
+-- taken
 module _ (taken : List pass.Candidate) (n : ℕ) (closed : (front : List ℕ) (j : ℕ) (back : List ℕ) → Has taken (n, front ++ suc j ∷ zeros back) → Has taken (n, front ++ j ∷ zeros back)) where
   lower_rank : (front : List ℕ) (j : ℕ) (back : List ℕ) → Has taken (n, front ++ j ∷ zeros back) → (i : ℕ) → i ≤ j → Has taken (n, front ++ i ∷ zeros back)
   lower_rank front zero back h i l = let e : 0 ≡ i = omega arith in subst (λ (m : ℕ). Has taken (n, front ++ m ∷ zeros back)) e h

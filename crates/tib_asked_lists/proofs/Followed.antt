@@ -19,7 +19,7 @@ pub zeros_long : (qs : List ℕ) → length (zeros qs) ≡ length qs
 zeros_long [] = refl
 zeros_long (q ∷ qs) = ap suc (zeros_long qs)
 
--- a rank one higher names an entry where there is one
+-- a rank raised by one names an entry where there is one
 raise_names : (entries : Entries) (qs js : List ℕ) (i : ℕ) → AreRanks entries qs js → i < length qs → get_or js i 0 + 1 < length (entries (get_or qs i 0)) → AreRanks entries qs (raise i js)
 raise_names entries [] js i r l h = absurd (omega arith)
 raise_names entries (q ∷ qs) [] i r l h = absurd r

@@ -49,7 +49,7 @@ pub record HasNew (x : ListsOf) (ts : List (Tree ℕ)) (n : ℕ) (t : Tree ℕ) 
   pub only : (m : ℕ) → m < length ts → (m < length x.trees) ⊎ (tree_at ts m ≡ tree_at ts n)
 
 module _ (x : ListsOf) (s : IsSound x) (ts : List (Tree ℕ)) (n : ℕ) (t : Tree ℕ) (h : HasNew x ts n t) (small : size t ≤ most_nodes) (labelled : LabelsBelow (length x.labels) (only t)) where
-  -- what holds of each tree that was there, and of the new one, holds of each
+  -- what holds for each tree that was there, and for the new one, holds for each
   each_tree : (P : Tree ℕ → Type 0) → ((i : ℕ) → i < length x.trees → P (tree_at x.trees i)) → P t → (i : ℕ) → i < length ts → P (tree_at ts i)
   each_tree P old new i l = elim (h.only i l) [
     | inl b ↦ subst P (sym (h.still.same i b)) (old i b)
@@ -119,7 +119,7 @@ module _ (x : ListsOf) (s : IsSound x) (ts : List (Tree ℕ)) (n : ℕ) (t : Tre
     pub long_here : length (list_of z u) ≡ length (list_of x u) + 1
     long_here = omega (arith, ap (λ (es : List Entry). length es) list_here, length-append (list_of x u) (e ∷ []))
 
-    -- what holds of each entry that was there, and of the new one, holds of each
+    -- what holds for each entry that was there, and for the new one, holds for each
     each_entry : (P : ℕ → ℕ → Entry → Type 0) → ((p j : ℕ) → j < length (list_of x p) → P p j (entry_at x p j)) → P u (length (list_of x u)) e → (p j : ℕ) → j < length (list_of z p) → P p j (entry_at z p j)
     each_entry P old new p j l = elim (same_or p u) [
       | inr o ↦

@@ -112,7 +112,7 @@ module _ (product : ℕ → ℕ → ℕ) (k : ℕ) (x : ListsOf) (lists : AreSou
       paired : ℕ → List ℕ → pass.Candidate
       paired n js = (n, js)
 
--- a list with a rank one higher
+-- a list with a rank raised by one
 
 raise_front : (front back : List ℕ) (j : ℕ) → raise (length front) (front ++ j ∷ back) ≡ front ++ suc j ∷ back
 raise_front [] back j = refl

@@ -22,7 +22,7 @@ use Rattle.tib_canon.proofs.NormalForms.{one_of_forms}
 use Rattle.tib_canon.proofs.TrimmedByText.{grammar_with, EachLabel, EachLabelIn, KeepsText, trimmed_with, grammar_printed, order_with}
 use Rattle.tib_lex.proofs.Members.{has_at, at_has, has_either}
 
--- what holds of each label of a grammar holds of each label of its normal, trimmed and canonical
+-- what holds for each label of a grammar holds for each label of its normal, trimmed and canonical
 -- forms
 module _ (P : ℕ → Type 0) where
   heads_labels : (s : ℕ) (k : Trees (Symbol ℕ ℕ)) → EachLabel P (heads s k)

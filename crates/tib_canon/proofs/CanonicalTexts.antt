@@ -65,7 +65,7 @@ trimmed_leaves product g h t leaves m k =
     leaves_back (λ i. get_or t.states i 0) (only (rule_at h.rules m).right)
     (subst (λ (r : Rule ℕ). HolesAreLeaves (only r.right)) (sym (named_at product g h t m k)) (leaves position live.0.below))
 
--- what holds of the rules of one list holds of those of another whose rules all are in it
+-- what holds for the rules of one list holds for those of another whose rules all are in it
 of_members : (P : Rule ℕ → Type 0) (rules others : List (Rule ℕ)) → ((r : Rule ℕ) → Has others r → Has rules r) → ((m : ℕ) → m < length rules → P (rule_at rules m)) → (m : ℕ) → m < length others → P (rule_at others m)
 of_members P rules others kept f m h =
     let at = at_has rules (rule_at others m) no_rule (kept (rule_at others m) (has_at others m no_rule h)) in

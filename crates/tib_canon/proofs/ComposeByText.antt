@@ -187,7 +187,7 @@ module _ (f : ℕ → ℕ) (apart : (i j : ℕ) → f i ≡ f j → i ≡ j) whe
         ∙ ap (λ c. product (product (transducer_rule two r).cost c) (choice_cost product (moves_with f two) more)) (cost_same product below (states_in (transducer_rule two r).right) (pick kids (variables_in (transducer_rule two r).right)) t.3)
         ∙ ap (product (product (transducer_rule two r).cost (choice_cost product two below))) (cost_same product more ps rest t.4)
 
-  -- a list of trees that is one tree under the other numbers is one tree
+  -- a list of trees that is one tree with the other numbers is one tree
   one_back : {A B : Type 0} (g : A → B) (d : A) (ts : Trees A) (s : Tree B) → relabel g ts ≡ only s → ts ≡ only (first_of d ts)
   one_back g d none s e = absurd (cc e)
   one_back g d (tree x kids none) s e = refl

@@ -57,7 +57,7 @@ rules_stand {K} spare order once xs ys range leaves reach ends stand r h =
     let its = fit_rules (length order) ys reach ends s.0 s.1 in
     subst (Has ys) (rule_told (length order) p (λ i j l m e. distinct_at order i j spare once l m e) s.0 r its.left mine.left its.right mine.right s.2) s.1
 
--- started rules under the other numbers
+-- started rules with the other numbers
 
 chains_with : (f : ℕ → ℕ) (finals : List (ℕ × ℕ)) → map (rule_with f) (map chain_to finals) ≡ map chain_to finals
 chains_with f [] = refl
@@ -69,7 +69,7 @@ started_with f finals rules =
     ∙ ap (λ (rs : List (Rule ℕ)). rs ++ rules_with f (map (named_rule suc) rules)) (chains_with f finals)
     ∙ ap (λ (rs : List (Rule ℕ)). map chain_to finals ++ rs) (sym (rules_commute suc f rules))
 
--- a grammar that begins there begins there under the other numbers
+-- a grammar that begins there begins there with the other numbers
 begun_with :
     {K : Type 0} (cmp : K → K → Ordering) (order : List K) (rules : List (Rule ℕ)) (begin : Begin) (g : GrammarOf) (f : ℕ → ℕ) → IsBegun cmp order rules begin g →
     IsBegun cmp order (rules_with f rules) begin (grammar_with f g)
@@ -79,7 +79,7 @@ begun_with cmp order rules (Fresh finals) g f o =
     (over_with (option_cmp cmp) (behind_fresh order) (started_rules finals rules) 0 g f o)
 begun_with cmp order rules Empty g f e = ap (grammar_with f) e
 
--- what holds of each label of the rules holds of each label of the grammar over keys
+-- what holds for each label of the rules holds for each label of the grammar over keys
 
 labels_on : (P : ℕ → Type 0) (f : ℕ → ℕ) (ts : Trees (Symbol ℕ ℕ)) → EachLabel P ts → EachLabel P (relabel (symbol_map f) ts)
 labels_on P f none h = tt

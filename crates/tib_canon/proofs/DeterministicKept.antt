@@ -1,4 +1,4 @@
--- Deterministic form under new numbers of states, of some of the rules.
+-- Deterministic form with new numbers of states, of some of the rules.
 use Rattle.std.specs.Prelude.{◌≡◌, ℕ, ◌<◌, List, length, map, refl}
 use Rattle.std.proofs.Common.{ap, sym, ◌∙◌, subst, inl, inr}
 use Rattle.tib_lex.specs.Lists.{Has}
@@ -33,7 +33,7 @@ lone_back g s p e = by s.label s.kids (ap (λ (t : SideFor ℕ ℕ). t.label) e)
     by (hole q) none h k = record { state = q; is = refl }
     by (hole q) (tree s more rest) h k = absurd (cc)
 
--- Each new rule is an old one under new numbers, at a place of its own, and the start keeps its
+-- Each new rule is an old one with new numbers, at a place of its own, and the start keeps its
 -- number.
 pub record AreSomeOf (g : ℕ → ℕ) (place : ℕ → ℕ) (old new : List (Rule ℕ)) : Type 0 where
   pub below : (j : ℕ) → j < length new → place j < length old

@@ -58,7 +58,7 @@ module _ {K : Type 0} (p : ℕ → K) (f : ℕ → ℕ) where
       ap (λ (x : Side ℕ K). record { left = p r.left; right = x; cost = r.cost } ∷ map (edge_with f) (map (named_rule p) rules)) (sym (side_commutes r.right))
       ∙ ap (λ (xs : List (Rule K)). named_rule p (rule_with f r) ∷ xs) (edges_commute rules)
 
--- nothing is below a state, with the other numbers either
+-- nothing is below a state with the other numbers either
 ends_with : (f : ℕ → ℕ) (ts : Trees (Symbol ℕ ℕ)) → HolesAreLeaves ts → HolesAreLeaves (trees_with f ts)
 ends_with f none h = tt
 ends_with f (tree (label g) kids rest) h = (ends_with f kids h.0, ends_with f rest h.1)

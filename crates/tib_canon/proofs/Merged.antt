@@ -67,7 +67,7 @@ module _ (rules : List (TransducerRule ℕ)) (positions : List ℕ) (c : AreChea
   pub few_merged : (merged : List (TransducerRule ℕ)) → merged ≡ map rule_of positions → length merged ≤ length rules
   few_merged merged e = omega (arith, ap length e, length-map positions rule_of, c.few)
 
--- what holds of the rules of one list holds of those of another whose rules all are in it
+-- what holds for the rules of one list holds for those of another whose rules all are in it
 pub of_members : (P : TransducerRule ℕ → Type 0) (rules others : List (TransducerRule ℕ)) → ((r : TransducerRule ℕ) → Has others r → Has rules r) → ((m : ℕ) → m < length rules → P (transducer_rule rules m)) → (m : ℕ) → m < length others → P (transducer_rule others m)
 of_members P rules others kept f m h =
     let at = at_has rules (transducer_rule others m) no_rule (kept (transducer_rule others m) (has_at others m no_rule h)) in

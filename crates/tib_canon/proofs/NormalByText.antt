@@ -78,7 +78,7 @@ label_found f (label g) n e = (g, refl, sym (label_is (f g) n e))
     label_is g h e = cc
 label_found f (hole q) n e = absurd (cc)
 
--- a cost of a side under the other numbers is that of a side under the old ones
+-- a cost of a side with the other numbers is that of a side with the old ones
 record HasOld (Cost : Side ℕ ℕ → ℕ → Type 0) (f : ℕ → ℕ) (side : Side ℕ ℕ) (c : ℕ) : Type 0 where
   old : Side ℕ ℕ
   is : side ≡ side_with f old
@@ -114,7 +114,7 @@ module _ (product : ℕ → ℕ → ℕ) (f : ℕ → ℕ) (apart : (i j : ℕ) 
   chain_same q (n ∷ ns) r h =
       ap (λ (x : Rule ℕ). product x.cost (chain_cost product others ns)) (at_with f rules n h.0) ∙ ap (product (rule_at rules n).cost) (chain_same h.2.0 ns r h.2.2)
 
-  -- the side of a rule, under the other numbers
+  -- the side of a rule, with the other numbers
   rule_side : (n g : ℕ) → n < length rules → ◌≡◌ {A = Side ℕ ℕ} (record { label = label (f g); kids = heads (first_inner states others n) (rule_at others n).right.kids }) (side_with f (record { label = label g; kids = heads (first_inner states rules n) (rule_at rules n).right.kids }))
   rule_side n g h =
       ap (λ (m : ℕ). record { label = label (f g); kids = heads m (rule_at others n).right.kids }) (first_with f states rules n)

@@ -99,7 +99,7 @@ module _ (scale : Scale) (names labels : List (List ℕ)) where
         piece = ap (λ (s : List ℕ). take (get_or ends n 0 - 1 - get_or (0 ∷ ends) n 0) (drop (get_or (0 ∷ ends) n 0) s)) whole ∙ cut_out a b c (get_or (0 ∷ ends) n 0) (get_or ends n 0) begin end some;
       }
 
--- one value more under a function
+-- one more value under a function
 pub mapped_more : {A B : Type 0} (f : A → B) (xs : List A) (d : A) (n : ℕ) → n < length xs → map f (take (n + 1) xs) ≡ map f (take n xs) ++ f (get_or xs n d) ∷ []
 mapped_more f xs d n h = ap (map f) (take_more xs n d h) ∙ map-append f (take n xs) (get_or xs n d ∷ [])
 

@@ -1,4 +1,4 @@
--- Rules under new numbers of their states.
+-- Rules with new numbers of their states.
 use Rattle.std.proofs.Common.{◌≡◌, ℕ, ◌<◌, ◌≤◌, ◌++◌, List, [], ◌∷◌, length, map, take, drop, get_or, ap, sym, ◌∙◌, subst, arith, zero, suc, refl}
 use Rattle.tib_tree.specs.Trees.{preorder_of}
 use Rattle.tib_grammar.specs.Sides.{Side as SideFor}

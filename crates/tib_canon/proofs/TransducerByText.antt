@@ -93,7 +93,7 @@ ascends_mapped g R T (x ∷ xs) h a = (
 )
 
 module _ (labels others : List (List ℕ)) (f : ℕ → ℕ) (n : Renumbers labels others f) where
-  -- canonical order under the other numbers
+  -- canonical order with the other numbers
   module _ (scale : Scale) (t h : TransducerOf) (o : IsTransducerInOrder scale labels t h) (keeps : (r : TransducerRule ℕ) → Has h.rules r → KeepsTexts labels others f n r) where
     kept_with : (r : TransducerRule ℕ) → Has (moves_with f h.rules) r → Has (moves_with f t.rules) r
     kept_with r k = let s = has_mapped (move_with f) h.rules r k in subst (Has (moves_with f t.rules)) s.2 (mapped_has (move_with f) t.rules s.0 (o.kept s.0 s.1))

@@ -1,4 +1,4 @@
--- What holds of any construction of a transducer.
+-- What holds for any construction of a transducer.
 use Rattle.tib_cost.specs.declared.Scale.{Scale}
 use Rattle.std.proofs.Common.{◌≡◌, ◌⊎◌, ℕ, ◌<◌, ◌≤◌, List, [], ◌∷◌, ◌++◌, length, map, get_or, refl, ap, sym, ◌∙◌, subst, arith, inl, inr, zero, suc, Option, append_assoc, append-nil, length-append}
 use Rattle.std.specs.Prelude.{Some, None}

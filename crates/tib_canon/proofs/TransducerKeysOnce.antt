@@ -84,7 +84,7 @@ module _ {Q : Type 0} (n : ℕ) (f : ℕ → Q) (tells : (i j : ℕ) → i < n �
       (side_told r.right s.right (fit_from n (only r.right) a.1 l.1) (fit_from n (only s.right) b.1 k.1) (ap (λ (x : TransducerRule Q). x.right) e))
       ∙ ap (λ x. record { state = s.state; left = s.left; right = s.right; cost = x }) (ap (λ (x : TransducerRule Q). x.cost) e)
 
--- what holds of each rule by its place holds of each member
+-- what holds for each rule by its place holds for each member
 pub member_is : (P : TransducerRule ℕ → Type 0) (rules : List (TransducerRule ℕ)) → ((m : ℕ) → m < length rules → P (transducer_rule rules m)) → (r : TransducerRule ℕ) → Has rules r → P r
 member_is P rules f r h = let at = at_has rules r no_rule h in subst P at.2 (f at.0 at.1)
 

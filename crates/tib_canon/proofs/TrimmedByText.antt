@@ -29,13 +29,13 @@ use Rattle.tib_lex.proofs.Lists.{has_mapped, mapped_has}
 abbrev pub grammar_with : (ℕ → ℕ) → GrammarOf → GrammarOf
 grammar_with f g = record { names = g.names; rules = rules_with f g.rules }
 
--- P holds of each label
+-- P holds for each label
 abbrev pub EachLabel : (ℕ → Type 0) → Trees (Symbol ℕ ℕ) → Type 0
 EachLabel P none = Unit {0}
 EachLabel P (tree (label f) kids rest) = P f × EachLabel P kids × EachLabel P rest
 EachLabel P (tree (hole q) kids rest) = EachLabel P kids × EachLabel P rest
 
--- P holds of each label in the right-hand sides
+-- P holds for each label in the right-hand sides
 abbrev pub EachLabelIn : (ℕ → Type 0) → List (Rule ℕ) → Type 0
 EachLabelIn P rules = (r : Rule ℕ) → Has rules r → EachLabel P (only r.right)
 
@@ -68,14 +68,14 @@ positions_with f rules [] e = refl
 positions_with f rules (n ∷ positions) e =
     ap (λ (x : Rule ℕ). x ∷ rules_with f (map (rule_at rules) positions)) (sym (at_with f rules n e.0)) ∙ ap (λ (xs : List (Rule ℕ)). rule_at (rules_with f rules) n ∷ xs) (positions_with f rules positions e.1)
 
--- rules in range under the other numbers
+-- rules in range with the other numbers
 pub range_with : (f : ℕ → ℕ) (n : ℕ) (rules : List (Rule ℕ)) → AreInRange n rules → AreInRange n (rules_with f rules)
 range_with f n rules range m k =
     let e : DifferInLabels rules (rules_with f rules) = differ_with f rules in
     let below : m < length rules = omega (arith, k, e.long) in
     (subst (λ (q : ℕ). q < n) (e.left m below) (range m below).0, subst (AllBelow n) (e.states m below) (range m below).1)
 
--- the grammar over the keys of an order under the other numbers
+-- the grammar over the keys of an order with the other numbers
 pub over_with :
     {K : Type 0} (cmp : K → K → Ordering) (order : List K) (rules : List (Rule ℕ)) (start : ℕ) (g : GrammarOf) (f : ℕ → ℕ) → IsOverKeys cmp order rules start g →
     IsOverKeys cmp order (rules_with f rules) start (grammar_with f g)

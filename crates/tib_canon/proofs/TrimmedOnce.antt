@@ -91,7 +91,7 @@ module _ {Q : Type 0} (n : ℕ) (f : ℕ → Q) (tells : (i j : ℕ) → i < n �
 abbrev pub place_in : List ℕ → ℕ → ℕ
 place_in states i = get_or states i 0
 
--- a rule that is kept, under new numbers, is the one at its position
+-- a rule that is kept, with new numbers, is the one at its position
 record IsKept (rules : List (Rule ℕ)) (states positions : List ℕ) (r : Rule ℕ) (m : ℕ) : Type 0 where
   left : r.left < length states
   right : Fit (length states) (only r.right)

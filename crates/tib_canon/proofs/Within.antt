@@ -41,14 +41,14 @@ rules_safe n labels rules range leaves labelled m h within =
     let r : IsInRange (length (names_of n)) (rule_at rules m) = subst (λ k. IsInRange k (rule_at rules m)) (sym (length-names_of n)) (range m h) in
     record { left = r.0; right = fits_of (length (names_of n)) (length labels) (only (rule_at rules m).right) (leaves m h) (labelled m h) r.1; within = within }
 
--- the grammar of some rules over this many states, under canonical names
+-- the grammar of some rules over this many states, with canonical names
 abbrev pub over : ℕ → List (Rule ℕ) → GrammarOf
 over count rules = record { names = names_of count; rules = rules }
 
 over_range : (count : ℕ) (rules : List (Rule ℕ)) → AreInRange count rules → AreInRange (length (names_of count)) rules
 over_range count rules range = subst (λ k. AreInRange k rules) (sym (length-names_of count)) range
 
--- each rule can be printed under the new names
+-- each rule can be printed with the new names
 pub rules_printed :
     (names labels : List (List ℕ)) (rules part : List (Rule ℕ)) (count : ℕ) → part ≡ rules → names ≡ names_of count → AreInRange count rules → SidesEndInHoles rules →
     AreLabelled (length labels) rules → (m : ℕ) → m < length part → IsRuleWithin names labels (rule_at part m)

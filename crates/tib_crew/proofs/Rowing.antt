@@ -32,7 +32,7 @@ module _ {K : Type 0} where
   named_snoc known (x ∷ xs) [] k n a b = absurd a
   named_snoc known (x ∷ xs) (m ∷ ns) k n a b = (a.0, named_snoc known xs ns k n a.1 b)
 
-  -- one key more was numbered
+  -- one more key was numbered
   pub named_next : (old new : List (List K)) → GoOn old new → (done : List K) (ns ns' : List Number) (k : K) (n : Number) → NameOn old done ns → NameOn new (k ∷ []) (n ∷ []) → ns' ≡ ns ++ n ∷ [] → NameOn new (done ++ k ∷ []) ns'
   named_next old new more done ns ns' k n a b e = subst (NameOn new (done ++ k ∷ [])) (sym e) (named_snoc new done ns k n (names_stay old new (names_kept old new more) done ns a) b)
 

@@ -240,9 +240,9 @@ where
 }
 
 /// Performs all items by this number of workers, 1 to 16. No more workers begin than there are
-/// items. They share the room equally, at most 20,000,000 parts. The caller performs an item after
-/// the workers if it has more parts than a worker's share still has, or if a worker is refused
-/// memory for it. It then has what the rows leave of the room. `More` comes only where an item has
+/// items. They share the room equally, at most 20,000,000 parts. An item that has more parts than
+/// is left of a worker's share, or for which a worker is refused memory, is performed by the caller
+/// after the workers, within what the rows leave of the room. `More` comes only where an item has
 /// more parts than the rows of other items leave of the room; `OutOfMemory` only if memory is
 /// refused to the caller. After an error no row is left. It may wait forever, while a turn of a
 /// shelf is held. Cost: each item is performed at most twice; each of its ends takes one turn of

@@ -11,7 +11,7 @@ use Rattle.tib_hunt.specs.Rows.{NumberedRow, Settles, read_row, read_rows, IsRow
 use Rattle.tib_expand.specs.declared.place.Place.{Place}
 use Rattle.tib_expand.specs.declared.place.Place.TheVariants.{Known, End}
 
--- what holds all along holds of the element at an index
+-- what holds all along holds for the element at an index
 pub each_at : {A : Type 0} (P : A → Type 0) (xs : List A) (i : ℕ) (d : A) → Each P xs → i < length xs → P (get_or xs i d)
 each_at P [] i d e l = absurd (omega arith)
 each_at P (x ∷ xs) zero d e l = e.0
@@ -139,7 +139,7 @@ pub still_within : {R : Type 0} (places : R → List Place) (first bound : ℕ) 
 still_within places first bound moved row low ends same =
     subst (λ (n : ℕ). Each (λ rule. Each (IsWithin first n) (places rule)) row.rules) (sym (ap length same ∙ length_moved (moved_to first moved) row.ends)) low.0
 
--- what holds of all that is made of some values holds of what is made of each
+-- what holds for all that is made of some values holds for what is made of each
 pub each_back : {A B : Type 0} (P : B → Type 0) (f : A → B) (xs : List A) → Each P (map f xs) → Each (λ x. P (f x)) xs
 each_back P f [] e = tt
 each_back P f (x ∷ xs) e = (e.0, each_back P f xs e.1)
@@ -148,7 +148,7 @@ each_back P f (x ∷ xs) e = (e.0, each_back P f xs e.1)
 pub each_made : {A B : Type 0} (P : B → Type 0) (f : A → B) (xs : List A) (i : ℕ) (x : A) → Each P (map f xs) → i < length xs → x ≡ get_or xs i x → P (f x)
 each_made P f xs i x e l is = subst (λ y. P (f y)) (sym is) (each_at (λ y. P (f y)) xs i x (each_back P f xs e) l)
 
--- what holds of all holds of the next one
+-- what holds for all holds for the next one
 pub each_next : {A : Type 0} (P : A → Type 0) (all done rest : List A) (x : A) (rest' : List A) → Each P all → all ≡ done ++ rest → rest ≡ x ∷ rest' → P x
 each_next {A = A} P all done rest x rest' e is next = go done (subst (Each P) (is ∙ ap (λ l. done ++ l) next) e)
   where

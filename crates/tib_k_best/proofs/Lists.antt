@@ -6,7 +6,7 @@ use Rattle.tib_lex.proofs.Members.{each_has, each_of, has_left, has_right}
 pub use Rattle.tib_lex.proofs.Lists.{mapped_has as map_has}
 pub use Rattle.std.proofs.lemmas.List.{map-append as map_append}
 
--- what holds of the values of a function
+-- what holds for the values of a function
 pub each_map : {A B : Type 0} (f : A → B) (P : B → Type 0) (xs : List A) → ((x : A) → Has xs x → P (f x)) → Each P (map f xs)
 each_map f P [] h = tt
 each_map f P (x ∷ xs) h = (h x (inl refl), each_map f P xs (λ y m. h y (inr m)))

@@ -254,7 +254,7 @@ module _ {levelled weighted : Bool} {product : ℕ → ℕ → ℕ} (laws : Prod
   tree_is_labelled : LabelsBelow (length x.labels) (only tree)
   tree_is_labelled = tree_labelled x k.sound c.rule (ranks_of x c) (k.made m (k.below m t.takes.stands)).is.tuple
 
-  -- what holds of each tree that was there, and of the new one, holds of each
+  -- what holds for each tree that was there, and for the new one, holds for each
   each_tree : (P : Tree ℕ → Type 0) → ((i : ℕ) → i < length x.trees → P (tree_at x.trees i)) → P tree → (i : ℕ) → i < length ts → P (tree_at ts i)
   each_tree P old new i h = elim (l.has.only i h) [
     | inl b ↦ subst P (sym (l.has.still.same i b)) (old i b)

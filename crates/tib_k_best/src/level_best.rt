@@ -54,7 +54,8 @@ fn rest_of<S: Semiring>(
     Ok(rest)
 }
 
-// The places of the trees below the cost, by their costs, and of those that cost as much, k in all.
+// The places of the trees below the cost, by their costs, and of those that cost as much, k in
+// total.
 fn places<S: Semiring>(
     alloc: Global,
     normal: &Normal<S>,
@@ -77,7 +78,7 @@ fn places<S: Semiring>(
     Ok((first, rest))
 }
 
-// The trees below the cost, by their costs, and then those that cost as much, k in all.
+// The trees below the cost, by their costs, and then those that cost as much, k in total.
 fn rank<S: Semiring>(
     alloc: Global,
     normal: &Normal<S>,

@@ -122,7 +122,7 @@ read_child x s rule start i q j t h rules er items r es eq ranks ek d ej =
 pub rule_read : (x : ListsOf) (rules : List (Rule ℕ)) (n : ℕ) (d : Rule ℕ) → rules ≡ x.rules → n < length x.rules → get_or rules n d ≡ rule_at x.rules n
 rule_read x rules n d e h = ap (λ (rs : List (Rule ℕ)). get_or rs n d) e ∙ get_or-default x.rules n d no_rule h
 
--- ranks that stand from a place on end within all ranks
+-- ranks from a place on end within all ranks
 pub ranks_within : (x : ListsOf) (rule start i m : ℕ) → IsTuple x rule (ranks_from x rule start) → i < length (states_of (rule_at x.rules rule)) → m ≡ length (states_of (rule_at x.rules rule)) → start + m ≤ length x.ranks
 ranks_within x rule start i m t h e =
     let n : ℕ = length (states_of (rule_at x.rules rule)) in

@@ -30,7 +30,7 @@ lists (suc q) = leaf 1 2 ∷ leaf 2 5 ∷ []
 first_candidate : offer ◌+◌ small lists 0 (zeros_at small 0) ≡ (record { label = 0; kids = tree 1 none (tree 1 none none) }, 5)
 first_candidate = refl
 
--- with a rank one higher at the second place it is f(a b), at 1 + 2 + 5
+-- with the rank at the second place raised by one it is f(a b), at 1 + 2 + 5
 next_candidate : offer ◌+◌ small lists 0 (0 ∷ 1 ∷ []) ≡ (record { label = 0; kids = tree 1 none (tree 2 none none) }, 8)
 next_candidate = refl
 

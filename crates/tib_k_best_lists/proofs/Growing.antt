@@ -18,7 +18,7 @@ use Rattle.tib_k_best_lists.specs.declared.lists.Entry.{Entry}
 use Rattle.tib_k_best_lists.specs.declared.lists.Candidate.{Candidate}
 use Rattle.tib_k_best_lists.proofs.Offering.{ranks_long}
 
--- entries that are put behind others change no rank
+-- entries that are appended change no rank
 
 abbrev pub AreMoreEntries : Entries → Entries → Type 0
 AreMoreEntries before now = (q : ℕ) → (more : List (Tree ℕ × ℕ)) × (now q ≡ before q ++ more)

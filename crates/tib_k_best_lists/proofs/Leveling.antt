@@ -199,7 +199,7 @@ module _ {levelled weighted : Bool} {product : ℕ → ℕ → ℕ} (laws : Prod
   cost_stands : (rules : List (Rule ℕ)) (q : ℕ) (y : Tree ℕ × ℕ) → IsTreeAt product rules q y → Stands rules y.1
   cost_stands rules q y s = let r = s.attained.0 in subst (Stands rules) r.costs (of_run rules q r.runs r.are_runs)
 
--- what holds of the trees that are added
+-- what holds for the trees that are added
 added_all :
     (P : Tree ℕ × ℕ → Type 0) (xs : List (Tree ℕ × ℕ)) (c : ℕ) (ys zs : List (Tree ℕ × ℕ)) → AreAdded xs c ys zs →
     ((y : Tree ℕ × ℕ) → Has ys y → (HasTree xs y.0 → ⊥) → P (y.0, c)) → Each P zs

@@ -1,4 +1,4 @@
--- Ranks that are put behind others, and the children that they name.
+-- Ranks that are appended, and the children that they name.
 use Rattle.std.specs.Prelude.{◌≡◌, ◌⊎◌, ℕ, ◌+◌, ◌<◌, ◌≤◌, List, [], ◌∷◌, ◌++◌, length, take, drop, replicate, map, refl}
 use Rattle.std.proofs.Common.{zero, suc, arith, ap, sym, ◌∙◌, subst, inl, inr, get_or, append_assoc}
 use Rattle.tib_lex.specs.Lists.{Has}

@@ -38,7 +38,8 @@ fn push_raised(ranks: &mut Vec<u32>, start: usize, count: usize, i: usize) -> Re
 
 impl<'a> Lists<'a> {
     /// Appends the ranks of a rule's first candidate, and returns where they begin. Err if memory
-    /// is refused; part of the ranks may then be there.
+    /// is refused; part of the ranks may then be there. Linear in the number of states below the
+    /// rule.
     pub fn zeros(&mut self, rule: u32) -> Result<usize, AllocError>
         requires sound { IsSound self.old }
         requires rule { rule < length self.old.rules }
@@ -54,7 +55,7 @@ impl<'a> Lists<'a> {
 
     /// Makes a candidate of a rule with the ranks from `start` on, and returns its number, or none
     /// if it costs more than the greatest cost. Err if memory is refused or there are 4,294,967,295
-    /// candidates; no candidate is then added.
+    /// candidates; no candidate is then added. Linear in the number of states below the rule.
     pub fn make<S: Semiring>(&mut self, rule: u32, start: usize) -> Result<Option<u32>, AllocError>
         requires sound { IsSound self.old }
         requires tuple { IsTuple self.old rule (ranks_from self.old rule start) }
@@ -94,7 +95,8 @@ impl<'a> Lists<'a> {
     }
 
     /// Appends a copy of the ranks from `start` on, with the i-th one raised by one, and returns
-    /// where the copy begins. Err if memory is refused; part of the copy may then be there.
+    /// where the copy begins. Err if memory is refused; part of the copy may then be there. Linear
+    /// in the number of states below the rule.
     pub fn raised(&mut self, rule: u32, start: usize, i: usize) -> Result<usize, AllocError>
         requires sound { IsSound self.old }
         requires tuple { IsTuple self.old rule (ranks_from self.old rule start) }
@@ -111,7 +113,8 @@ impl<'a> Lists<'a> {
         Ok(new)
     }
 
-    /// The last place whose rank is not 0, or 0 if there is none.
+    /// The last place whose rank is not 0, or 0 if there is none. Linear in the number of states
+    /// below the rule.
     pub fn last(&self, rule: u32, start: usize) -> usize
         requires sound { IsSound self.now }
         requires tuple { IsTuple self.now rule (ranks_from self.now rule start) }
@@ -129,6 +132,7 @@ impl<'a> Lists<'a> {
 
     /// The number of the tree that a rule makes of the entries whose ranks are from `start` on. Err
     /// only if memory is refused or there are 4,294,967,295 trees; the trees are then unchanged.
+    /// Cost: one look-up by hash, of as many numbers as the rule has states and one.
     pub fn tree_of(&mut self, alloc: Global, rule: u32, start: usize) -> Result<u32, AllocError>
         requires sound { IsSound self.old }
         requires tuple { IsTuple self.old rule (ranks_from self.old rule start) }

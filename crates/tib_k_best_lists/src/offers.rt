@@ -38,7 +38,7 @@ impl<'a> Lists<'a> {
     }
 
     /// The cost of the tree that a rule makes of the entries whose ranks are from `start` on. None
-    /// if it is more than the greatest cost. Linear in the number of states.
+    /// if it is more than the greatest cost. Linear in the number of states below the rule.
     pub fn cost_of<S: Semiring>(&self, rule: u32, start: usize) -> Option<Cost>
         requires sound { IsSound self.now }
         requires tuple { IsTuple self.now rule (ranks_from self.now rule start) }
@@ -58,7 +58,7 @@ impl<'a> Lists<'a> {
         S::times(self.rules[rule as usize].cost, total)
     }
 
-    /// How many nodes that tree has. Linear in the number of states.
+    /// How many nodes that tree has. Linear in the number of states below the rule.
     pub fn size_of(&self, rule: u32, start: usize) -> u64
         requires sound { IsSound self.now }
         requires tuple { IsTuple self.now rule (ranks_from self.now rule start) }

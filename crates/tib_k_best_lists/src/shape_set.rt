@@ -45,7 +45,7 @@ impl ShapeSet {
         self.shapes.len()
     }
 
-    /// The number of a shape, if the set has it. It takes no memory.
+    /// The number of a shape, if the set has it. It takes no memory. Cost: one look-up by hash.
     pub fn find(&self, shape: &[u32]) -> Option<u32>
         ensures found { IfSome result (λ n. slice_get self.now n ≡ Some shape.now) }
         ensures none { result ≡ None → Contains self.now shape.now → ⊥ }
@@ -56,7 +56,8 @@ impl ShapeSet {
         }
     }
 
-    /// Appends a new shape. Err only if memory is refused; the set is then unchanged.
+    /// Appends a new shape. Err only if memory is refused; the set is then unchanged. Cost: one
+    /// look-up by hash, and a copy of the shape.
     pub fn add(&mut self, shape: &[u32]) -> Result<(), AllocError>
         requires new { Contains self.old shape.now → ⊥ }
         requires room { length self.old < 2 ^ 32 - 1 }

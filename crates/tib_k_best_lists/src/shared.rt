@@ -65,7 +65,8 @@ impl Shared {
     }
 
     /// The number of a tree. A new tree is appended. Err only if memory is refused or there are
-    /// 4,294,967,295 trees; the trees are then unchanged.
+    /// 4,294,967,295 trees; the trees are then unchanged. Cost: one look-up by hash of c + 1
+    /// numbers for c children.
     pub fn insert(&mut self, label: Label, children: &[u32]) -> Result<u32, AllocError>
         requires { NumbersBelow (length self.old) children.now }
         ensures inserts { IfOk result (λ n. Inserts self.old label children.now n self.new) }
@@ -74,7 +75,8 @@ impl Shared {
         self.trees.insert(label, children)
     }
 
-    /// The order of two trees. The first has fewer than 2^32 - 1 nodes. It takes no memory.
+    /// The order of two trees. The first has fewer than 2^32 - 1 nodes. It takes no memory. Worst
+    /// case: O(d c) steps for trees of depth d and c children of a node.
     pub fn compare(&self, labels: &Labels, ranks: &[u32], one: u32, other: u32) -> Ordering
         requires one { one < length self.now }
         requires other { other < length self.now }

@@ -50,7 +50,7 @@ each_below n [] h = tt
 each_below n (x ∷ xs) h = (h.0, each_below n xs h.1)
 
 module _ {levelled weighted : Bool} {product : ℕ → ℕ → ℕ} (laws : ProductLaws levelled weighted product) (R : ℕ × Trees ℕ → Tree ℕ → ℕ → Type 0) where
-  -- what holds of the runs below a rule, as what fills the rule's right-hand side
+  -- what holds for the runs below a rule, as what fills the rule's right-hand side
   of_side :
       (rules : List (TransducerRule ℕ)) (n : ℕ) (runs args : Trees ℕ) (u : Tree ℕ) → AreTransducerRuns rules (states_in (transducer_rule rules n).right) runs →
       Reads rules runs (pick args (variables_in (transducer_rule rules n).right)) → fill (only (transducer_rule rules n).right) (outputs rules runs) ≡ only u →
@@ -67,7 +67,7 @@ module _ {levelled weighted : Bool} {product : ℕ → ℕ → ℕ} (laws : Prod
       (x : ℕ × Trees ℕ) (xs : List (ℕ × Trees ℕ)) (u : Tree ℕ) (us vs : Trees ℕ) (a b : ℕ) → us ≡ only u → R x u a → AllOf product R xs vs b → AllOf product R (x ∷ xs) (join us vs) (product a b)
   more_of x xs u us vs a b e one all = subst (λ z. AllOf product R (x ∷ xs) (join z vs) (product a b)) (sym e) (a, b, one, all, refl)
 
-  -- what holds of one run
+  -- what holds for one run
   only_one : (x : ℕ × Trees ℕ) (u : Tree ℕ) (us : Trees ℕ) (a c : ℕ) → us ≡ only u → a ≡ c → AllOf product R (x ∷ []) us a → R x u c
   only_one x u us a c e d all =
       let h : AllOf product R (x ∷ []) (only u) c = subst (λ z. AllOf product R (x ∷ []) z c) e (subst (AllOf product R (x ∷ []) us) d all) in

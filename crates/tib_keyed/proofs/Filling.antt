@@ -305,7 +305,7 @@ module _ {levelled weighted : Bool} {product : ℕ → ℕ → ℕ} (laws : Prod
     filled_unnamed (tree (label x) kids rest) (tree f us more) c h = (h.0, h.1, (h.2.0, filled_unnamed kids us h.0 h.2.1), filled_unnamed rest more h.1 h.3, h.4)
     filled_unnamed (tree (hole x) kids rest) (tree f us more) c h = (h.0, h.1, h.2, filled_unnamed rest more h.1 h.3, h.4)
 
-  -- what holds of each part that costs little enough
+  -- what holds for each part that costs little enough
   module _ {A : Type 0} (R Q : A → Tree ℕ → ℕ → Type 0) (P : A → Type 0) (m : ℕ) (to : (x : A) (t : Tree ℕ) (a : ℕ) → P x → R x t a → a ≤ m → Q x t a) where
     -- what fills the sides by the one relation does so by the other, where the cost is small
     pub filled_to : (s : Trees (Symbol ℕ A)) (us : Trees ℕ) (c : ℕ) → Each P (holes s) → Filled product R s us c → c ≤ m → Filled product Q s us c

@@ -5,7 +5,7 @@ use Rattle.tib_lex.specs.Lists.{Has, Distinct}
 use Rattle.tib_keyed.specs.Places.{places_from}
 
 module _ {A : Type 0} (test : A → Bool) where
-  -- one value more
+  -- one more value
   pub places-more :
       (xs : List A) (k i : ℕ) (d : A) → i < length xs →
       places_from k test (take (suc i) xs) ≡ (if test (get_or xs i d) then places_from k test (take i xs) ++ (k + i) ∷ [] else places_from k test (take i xs))

@@ -20,7 +20,7 @@ use Rattle.tib_transducer.specs.NamedPairs.{named_pair}
 use Rattle.tib_keyed.proofs.Exact.{exact}
 
 module _ {A : Type 0} (Q : A → Type 0) where
-  -- what holds of the holes of sides
+  -- what holds for the holes of sides
 
   holes_join : (s t : Trees (Symbol ℕ A)) → Each Q (holes s) → Each Q (holes t) → Each Q (holes (join s t))
   holes_join none t a b = b
@@ -60,7 +60,7 @@ module _ {A : Type 0} (Q : A → Type 0) where
   holes_plug (tree (hole p) kids rest) (tree (label f) below us) a = each_append Q (holes below) (holes (plug rest us)) (each_left Q (holes below) (holes us) a) (holes_plug rest us (each_right Q (holes below) (holes us) a))
   holes_plug (tree (hole p) kids rest) (tree (hole x) below us) a = (a.0, holes_plug rest us a.1)
 
--- what holds of the variables of sides holds of those of their translations
+-- what holds for the variables of sides holds for those of their translations
 pub variables_translated :
     {P : Type 0} (Q : ℕ → Type 0) (two : List (TransducerRule ℕ)) (choice : Trees (Option ℕ)) (ps : List ℕ) (sides : Trees (Symbol ℕ (Pair P))) →
     Each (λ x. Q x.variable) (holes sides) → Each (λ x. Q x.variable) (holes (translated two ps sides choice))
@@ -79,7 +79,7 @@ variables_translated {P} Q two (tree (Some n) below more) (p ∷ ps) (tree (labe
     (holes_pick (λ (x : Pair P). Q x.variable) kids (variables_in (transducer_rule two n).right) (each_left (λ (x : Pair P). Q x.variable) (holes kids) (holes rest) a))))
     (variables_translated Q two more ps rest (each_right (λ (x : Pair P). Q x.variable) (holes kids) (holes rest) a))
 
--- what holds of each variable of pairs holds of each pair by its variable
+-- what holds for each variable of pairs holds for each pair by its variable
 pub variables_each : {P : Type 0} (Q : ℕ → Type 0) (xs : List (Pair P)) → Each Q (map (λ x. x.variable) xs) → Each (λ x. Q x.variable) xs
 variables_each Q [] a = tt
 variables_each Q (x ∷ xs) a = (a.0, variables_each Q xs a.1)

@@ -1,4 +1,4 @@
--- Transducers under new numbers of states.
+-- Transducers with new numbers of states.
 use Rattle.std.specs.Prelude.{◌≡◌, ◌↔◌, ℕ, ◌<◌, List, length, map, Option}
 use Rattle.std.proofs.Common.{get_or}
 use Rattle.tib_lex.specs.Lists.{Distinct}

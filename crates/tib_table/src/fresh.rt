@@ -242,8 +242,8 @@ pub fn put_fresh<K: TableKey + Drop>(
     put_new(alloc, keys, fresh)
 }
 
-/// The same as `put_fresh`, but the fresh keys are halved `times` times, and each half is sorted in
-/// a thread of its own.
+/// The same as `put_fresh`, with the same errors, but the fresh keys are halved `times` times, and
+/// each half is sorted in a thread of its own.
 pub fn put_fresh_together<R: Threads + Sync, K: TableKey + Drop + Send>(
     rt: &R,
     alloc: Global,

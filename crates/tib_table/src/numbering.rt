@@ -103,7 +103,7 @@ fn take_new<K: TableKey + Drop>(
 }
 
 /// Appends the keys. Returns the new position for each index. Err if memory is refused; the keys
-/// that were not appended are then gone.
+/// that were not appended are then gone. Cost: one look-up by hash for each key.
 pub fn put_new<K: TableKey + Drop>(
     alloc: Global,
     keys: &mut IndexSet<K>,

@@ -38,7 +38,8 @@ pub fn open_lock<P: Problem>(
 }
 
 /// Numbers the key in one turn of a shelf. The pass then knows it at that place. Only if memory is
-/// refused does the key come back.
+/// refused does the key come back. It may wait forever, while another turn is held. Cost: one turn,
+/// and one look-up by hash.
 pub fn number_in_turn<P: Problem, R: Wait>(
     rt: &R,
     lock: &TurnLock<Board<P>>,
